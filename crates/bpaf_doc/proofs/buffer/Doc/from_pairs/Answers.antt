@@ -1,0 +1,7 @@
+use Rattle.std.proofs.Common.{[], refl, take}
+use Rattle.bpaf_doc.specs.Parts.{nothing}
+use Rattle.bpaf_doc.proofs.Nesting.{IsWellNested-pairs}
+use Rattle.bpaf_doc.proofs.buffer.Doc.from_pairs.Goals as goal
+
+pub returns-clause-nested : goal.returns-clause-nested
+returns-clause-nested g c = rw c.loop-text.invariant (IsWellNested-pairs (take c.loop-text.text-index c.args.pairs.now) [] (nothing refl))

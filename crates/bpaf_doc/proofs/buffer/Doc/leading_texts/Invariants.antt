@@ -1,0 +1,6 @@
+use Rattle.std.proofs.Common.{◌≡◌, ◌++◌}
+use Rattle.bpaf_doc.specs.FirstLine.{leading_texts}
+use Rattle.bpaf_doc.proofs.buffer.Doc.leading_texts.Given as goal
+
+abbrev pub invariant-loop-part : goal.invariant-loop-part
+invariant-loop-part g l = l.line ++ leading_texts l.part-iterator ≡ leading_texts l.fn.self

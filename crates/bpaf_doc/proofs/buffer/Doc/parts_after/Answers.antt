@@ -1,0 +1,48 @@
+use Rattle.std.proofs.Common.{◌≡◌, ℕ, ◌-◌, ◌≤◌, List, length, string_bytes, arith}
+use Rattle.std.proofs.lemmas.Str.{IsCharBoundary-from_take}
+use Rattle.bpaf_doc.specs.declared.buffer.PartEnd.{PartEnd}
+use Rattle.bpaf_doc.specs.Ends.{end_before, parts_from}
+use Rattle.bpaf_doc.proofs.EndsLaws.{AreEnds-drop, IsUtf8-AreEnds, IsUtf8-before, end_before-bounds, length-parts_from, parts_from-drop}
+use Rattle.bpaf_doc.proofs.buffer.Doc.parts_after.Goals as goal
+
+-- the count is within the ends
+within : (es : List PartEnd) (bytes : List ℕ) (count : ℕ) → count ≤ length (parts_from 0 es bytes) → count ≤ length es
+within es bytes count le = omega (arith, le, length-parts_from 0 es bytes)
+
+pub start_of-start-requires : goal.start_of-start-requires
+start_of-start-requires g c =
+    let doc = c.self.inside in
+    rw c.as_slice.ensures.value (within doc.ends.items (string_bytes doc.payload) c.args.count (rw c.self.view_is c.requires))
+
+pub split_at-requires : goal.split_at-requires
+split_at-requires g c =
+    let doc = c.self.inside in
+    let bytes = string_bytes doc.payload in
+    let start = end_before 0 doc.ends.items c.args.count in
+    let whole : start - 0 ≡ start = omega arith in
+    rw (c.as_str.ensures.value, c.start_of-start.ensures, c.as_slice.ensures.value)
+    (IsCharBoundary-from_take bytes start (IsUtf8-AreEnds 0 doc.ends.items bytes c.self.invariant) (omega (arith, (end_before-bounds 0 doc.ends.items bytes c.args.count c.self.invariant).1))
+    (rw whole at (IsUtf8-before 0 doc.ends.items bytes c.args.count c.self.invariant)))
+
+pub split_at-requires-2 : goal.split_at-requires-2
+split_at-requires-2 g c =
+    let doc = c.self.inside in
+    rw c.as_slice-2.ensures.value (within doc.ends.items (string_bytes doc.payload) c.args.count (rw c.self.view_is c.requires))
+
+pub invariant_of-result : goal.invariant_of-result
+invariant_of-result g c =
+    let doc = c.self.inside in
+    let bytes = string_bytes doc.payload in
+    let start = end_before 0 doc.ends.items c.args.count in
+    let whole : start - 0 ≡ start = omega arith in
+    rw (c.split_at.ensures.back, c.split_at-2.ensures.back, c.as_str.ensures.value, c.as_slice-2.ensures.value, c.start_of-start.ensures, c.as_slice.ensures.value)
+    (rw whole at (AreEnds-drop 0 doc.ends.items bytes c.args.count (within doc.ends.items bytes c.args.count (rw c.self.view_is c.requires)) c.self.invariant))
+
+pub returns : goal.returns
+returns g c =
+    let doc = c.self.inside in
+    let bytes = string_bytes doc.payload in
+    let start = end_before 0 doc.ends.items c.args.count in
+    let whole : start - 0 ≡ start = omega arith in
+    rw (c.split_at.ensures.back, c.split_at-2.ensures.back, c.as_str.ensures.value, c.as_slice-2.ensures.value, c.start_of-start.ensures, c.as_slice.ensures.value, ← c.self.view_is)
+    (rw whole at (parts_from-drop 0 doc.ends.items bytes c.args.count c.self.invariant))

@@ -1,0 +1,34 @@
+use Rattle.std.proofs.Common.{◌≡◌, ◌+◌, ◌-◌, ◌++◌, map, length, string_bytes, arith, ap, length-append, ◌∙◌, subst}
+use Rattle.bpaf_doc.specs.Ends.{AreEnds, moved, parts_from}
+use Rattle.bpaf_doc.proofs.EndsLaws.{AreEnds-append, AreEnds-moved, CanMove-AreEnds, parts_from-append, parts_from-moved}
+use Rattle.bpaf_doc.proofs.buffer.Doc.push_parts.Goals as goal
+
+pub push_moved-requires-clause-fits : goal.push_moved-requires-clause-fits
+push_moved-requires-clause-fits g c =
+    let parts = c.parts.inside in
+    let bytes = string_bytes c.self.inside.payload in
+    let written = c.in_ok-push_str.ensures.bytes in
+    CanMove-AreEnds parts.start c.len-start.result parts.start parts.ends.now parts.text.now (omega arith) c.parts.invariant
+    (omega (arith, c.len-start.ensures, ap length written, length-append bytes parts.text.now, c.push_str.new.self.bytes.small, c.push_str.new.self.bytes.ok))
+
+pub invariant_of-self-2 : goal.invariant_of-self-2
+invariant_of-self-2 g c =
+    let doc = c.self.inside in
+    let parts = c.parts.inside in
+    let bytes = string_bytes doc.payload in
+    let at_end : parts.start - parts.start + c.len-start.result ≡ 0 + length bytes = omega (arith, c.len-start.ensures) in
+    let also = subst (λ start. AreEnds start (map (moved parts.start c.len-start.result) parts.ends.now) parts.text.now) at_end
+    (AreEnds-moved parts.start c.len-start.result parts.start parts.ends.now parts.text.now (omega arith) c.parts.invariant) in
+    rw (c.push_moved.ensures, c.reserve.ensures.items, c.in_ok-push_str.ensures.bytes)
+    (AreEnds-append 0 doc.ends.items (map (moved parts.start c.len-start.result) parts.ends.now) bytes parts.text.now c.self.invariant also)
+
+pub returns-clause-ok : goal.returns-clause-ok
+returns-clause-ok g c =
+    let doc = c.self.inside in
+    let parts = c.parts.inside in
+    let bytes = string_bytes doc.payload in
+    let at_end : parts.start - parts.start + c.len-start.result ≡ 0 + length bytes = omega (arith, c.len-start.ensures) in
+    let also = subst (λ start. parts_from start (map (moved parts.start c.len-start.result) parts.ends.now) parts.text.now ≡ parts_from parts.start parts.ends.now parts.text.now) at_end
+    (parts_from-moved parts.start c.len-start.result parts.start parts.ends.now parts.text.now (omega arith) c.parts.invariant) in
+    rw (c.push_moved.ensures, c.reserve.ensures.items, c.in_ok-push_str.ensures.bytes, ← c.self.view_is, ← c.parts.view_is)
+    (parts_from-append 0 doc.ends.items (map (moved parts.start c.len-start.result) parts.ends.now) bytes parts.text.now c.self.invariant ∙ ap (λ ps. parts_from 0 doc.ends.items bytes ++ ps) also)

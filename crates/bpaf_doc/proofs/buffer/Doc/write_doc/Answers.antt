@@ -1,0 +1,16 @@
+use Rattle.std.proofs.Common.{[], ◌∷◌, ◌++◌, ap, ◌∙◌}
+use Rattle.std.proofs.lemmas.Result.{on_err_weaker}
+use Rattle.bpaf_doc.specs.declared.buffer.Block.TheVariants.{InlineBlock}
+use Rattle.bpaf_doc.specs.Writes.{start, parts}
+use Rattle.bpaf_doc.specs.Parts.{Start}
+use Rattle.bpaf_doc.proofs.Growing.{on_err}
+use Rattle.bpaf_doc.proofs.buffer.Doc.write_doc.Goals as goal
+
+pub returns-in_err-push_parts-clause-err : goal.returns-in_err-push_parts-clause-err
+returns-in_err-push_parts-clause-err g c = on_err c.from_residual-in_err-push_parts.result (start InlineBlock ∷ [], c.in_err-push_parts.ensures.err ∙ c.in_ok-push_empty.ensures.ok)
+
+pub returns-clause-err : goal.returns-clause-err
+returns-clause-err g c =
+    on_err_weaker c.push_empty-2.result
+    (λ same. (start InlineBlock ∷ parts c.args.other.now ∷ [], same ∙ c.in_ok-push_parts.ensures.ok ∙ ap (λ ps. ps ++ c.parts.result) c.in_ok-push_empty.ensures.ok ∙ ap (λ ps. (c.args.self.now ++ Start InlineBlock ∷ []) ++ ps) c.parts.ensures.parts))
+    c.push_empty-2.ensures.err

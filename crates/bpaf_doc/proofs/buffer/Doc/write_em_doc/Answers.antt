@@ -1,0 +1,17 @@
+use Rattle.std.proofs.Common.{[], ◌∷◌}
+use Rattle.std.proofs.lemmas.Result.{on_err_weaker}
+use Rattle.bpaf_doc.specs.declared.buffer.Block.TheVariants.{InlineBlock}
+use Rattle.bpaf_doc.specs.Writes as write
+use Rattle.bpaf_doc.specs.Writes.{titled}
+use Rattle.bpaf_doc.proofs.Growing.{Grows-more, Grows-grown, on_err}
+use Rattle.bpaf_doc.proofs.buffer.Doc.write_em_doc.Goals as goal
+
+pub returns-in_err-write_titled-clause-err : goal.returns-in_err-write_titled-clause-err
+returns-in_err-write_titled-clause-err g c =
+    on_err c.from_residual-in_err-write_titled.result (Grows-grown _ _ _ (write.start InlineBlock ∷ [], c.in_ok-push_empty.ensures.ok) c.in_err-write_titled.ensures.err)
+
+pub returns-clause-err : goal.returns-clause-err
+returns-clause-err g c =
+    on_err_weaker c.push_empty-2.result
+    (λ same. Grows-more _ _ _ [] (Grows-grown _ _ _ (write.start InlineBlock ∷ [], c.in_ok-push_empty.ensures.ok) (titled c.args.other.now, c.in_ok-write_titled.ensures.ok)) same)
+    c.push_empty-2.ensures.err

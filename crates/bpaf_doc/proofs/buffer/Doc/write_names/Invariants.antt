@@ -1,0 +1,6 @@
+use Rattle.std.proofs.Common.{◌≡◌, map, take, string_bytes}
+use Rattle.bpaf_doc.specs.Writes.{path_writes, with_writes}
+use Rattle.bpaf_doc.proofs.buffer.Doc.write_names.Given as goal
+
+abbrev pub invariant-loop-name : goal.invariant-loop-name
+invariant-loop-name g l = l.self ≡ with_writes l.fn.self (path_writes (map string_bytes (take l.name-index l.path)))

@@ -1,0 +1,6 @@
+use Rattle.std.proofs.Common.{◌≡◌}
+use Rattle.bpaf_doc.specs.Equality.{document_cmp}
+use Rattle.bpaf_doc.proofs.buffer.compare.DocOrd.cmp.Given as goal
+
+abbrev pub invariant-loop-part : goal.invariant-loop-part
+invariant-loop-part g l = document_cmp l.part-iterator l.others ≡ document_cmp l.fn.self l.fn.other

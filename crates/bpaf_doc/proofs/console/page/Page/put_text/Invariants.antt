@@ -1,0 +1,15 @@
+use Rattle.std.proofs.Common.{◌≡◌, ◌++◌, string_bytes}
+use Rattle.bpaf_doc.specs.Parts.{ink}
+use Rattle.bpaf_doc.specs.Chunks.{chunks_of}
+use Rattle.bpaf_doc.specs.ConsoleSteps.{shown_ink, hides}
+use Rattle.bpaf_doc.specs.ConsolePage.{sheet_of, text_put}
+use Rattle.bpaf_doc.proofs.ConsoleInk.{IsTextLeft}
+use Rattle.bpaf_doc.proofs.console.page.Page.put_text.Given as goal
+
+abbrev pub invariant-loop-chunk : goal.invariant-loop-chunk
+invariant-loop-chunk g l = record {
+  left :
+      IsTextLeft l.full (hides l.full (chunks_of l.text)) (string_bytes l.self.out)
+      (ink (string_bytes l.fn.self.out) ++ shown_ink l.full (chunks_of l.text)) l.chunk-iterator;
+  same_page : text_put l.full l.chunk-iterator (sheet_of l.self) ≡ text_put l.full (chunks_of l.text) (sheet_of l.fn.self);
+}

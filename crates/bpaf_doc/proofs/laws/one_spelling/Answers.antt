@@ -1,0 +1,5 @@
+use Rattle.bpaf_doc.proofs.ChunkFacts.{spelled_once}
+use Rattle.bpaf_doc.proofs.laws.one_spelling.Goals as goal
+
+pub returns : goal.returns
+returns c = spelled_once

@@ -1,0 +1,10 @@
+use Rattle.std.proofs.Common.{sym, subst, lit<}
+use Rattle.std.proofs.lemmas.Str.Pattern.{strip_prefix_char}
+use Rattle.bpaf_doc.specs.Chunks.{IsPastNewline}
+use Rattle.bpaf_doc.proofs.ChunkCuts.{past_newline_is}
+use Rattle.bpaf_doc.proofs.splitter.past_newline.Goals as goal
+
+pub returns : goal.returns
+returns c =
+    subst (λ next. IsPastNewline c.args.rest.now next.now) (sym c.unwrap_or.ensures)
+    (past_newline_is c.strip_prefix.result c.args.rest c.requires (strip_prefix_char 10 c.args.rest.now c.strip_prefix.result c.strip_prefix.ensures.cases (lit< tt)))

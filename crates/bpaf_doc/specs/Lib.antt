@@ -1,0 +1,15 @@
+pub mod Parts
+pub mod PartView
+pub mod Writes
+pub mod Chunks
+pub mod ChunkView
+pub mod ChunkPromises
+pub mod Shown
+pub mod Ends
+pub mod Marks
+pub mod Growth
+pub mod FirstLine
+pub mod Equality
+pub mod ConsoleSteps
+pub mod ConsolePage
+pub mod ConsoleText

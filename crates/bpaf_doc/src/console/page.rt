@@ -1,0 +1,321 @@
+//! A console text while it is written.
+ghost use Rattle.std.specs.Prelude.{◌≡◌, ◌++◌, IfOk, OnOk, string_bytes, replicate};
+ghost use Rattle.std.specs.Str.{trim_end};
+ghost use Rattle.bpaf_doc.specs.Parts.{ink};
+ghost use Rattle.bpaf_doc.specs.Chunks.{chunks_of};
+ghost use Rattle.bpaf_doc.specs.Shown.{mark_bytes};
+ghost use Rattle.bpaf_doc.specs.ConsoleSteps.{shown_ink, hides};
+ghost use Rattle.bpaf_doc.specs.ConsolePage.{sheet_of, blank_sheet, text_put, opened, closed, finished, raw_put, wraps, room_made, placed, asked_put, lacks_newline, lacks_blank_line, wrapped, padded, blanks_put, newline_put, marked, margin_pushed, margin_of, columns_of, asked_by_start, asked_by_end, indent_of};
+
+use super::tabs::MAX_TAB;
+use crate::buffer::Block;
+use crate::splitter::{Chunk, split};
+use std::alloc::{AllocError, Allocator};
+use unicode_width::UnicodeWidthStr;
+
+/// What has to stand before the next text.
+#[derive(Clone, Copy, PartialEq, Eq)]
+pub enum Asked {
+    Nothing,
+    NewLine,
+    BlankLine,
+}
+
+/// The text so far, and what the next one has to keep to.
+#[derive(Drop)]
+pub struct Page<B: Allocator> {
+    out: String<B>,
+    // The columns of the last line.
+    column: usize,
+    width: usize,
+    tab_stop: usize,
+    margins: Vec<usize, B>,
+    asked: Asked,
+    // An item's body starts at the next text.
+    at_body: bool,
+}
+
+impl<B: Allocator + Copy> Page<B> {
+    /// An empty page of lines of at most `width` columns.
+    pub fn new(alloc: B, width: usize, tab_stop: usize) -> Self
+        ensures { sheet_of result ≡ blank_sheet width tab_stop }
+    {
+        Page {
+            out: String::new(alloc),
+            column: 0,
+            width,
+            tab_stop,
+            margins: Vec::new(alloc),
+            asked: Asked::Nothing,
+            at_body: false,
+        }
+    }
+}
+
+impl<B: Allocator> Page<B> {
+    /// Writes the chunks of a text, in brief up to the first paragraph break. Answers whether that break hides what follows.
+    pub fn put_text(&mut self, text: &str, full: bool) -> Result<bool, AllocError>
+        ensures page { OnOk result (sheet_of self.new ≡ text_put full (chunks_of text.now) (sheet_of self.old)) }
+        ensures hides { IfOk result (λ hidden. hidden ≡ hides full (chunks_of text.now)) }
+        ensures ink { OnOk result (ink (string_bytes self.new.out) ≡ ink (string_bytes self.old.out) ++ shown_ink full (chunks_of text.now)) }
+    {
+        for chunk in split(text) {
+            match chunk {
+                Chunk::Raw(raw, weight) => self.put_raw(raw, weight)?,
+                Chunk::LineBreak => self.put_newline()?,
+                Chunk::Paragraph => {
+                    self.put_newline()?;
+                    if !full {
+                        return Ok(true);
+                    }
+                }
+            }
+        }
+        Ok(false)
+    }
+
+    /// Takes the start of a block in. `adjacent` tells of a Section4 whether an empty Block pair follows its end.
+    #[tactic(auto, unfolding(crate::specs::ConsolePage::opened))]
+    pub fn open(&mut self, block: Block, adjacent: bool) -> Result<(), AllocError>
+        ensures page { OnOk result (sheet_of self.new ≡ opened block adjacent (sheet_of self.old)) }
+        ensures ink { OnOk result (ink (string_bytes self.new.out) ≡ ink (string_bytes self.old.out) ++ mark_bytes block) }
+    {
+        self.asked = asked_by_start(self.asked, block);
+        self.at_body = self.at_body || block == Block::ItemBody;
+        self.push_margin(indent_of(block, self.tab_stop, adjacent))?;
+        self.put_mark(block)
+    }
+
+    /// Takes the end of a block in.
+    #[tactic(auto, unfolding(crate::specs::ConsolePage::closed))]
+    pub fn close(&mut self, block: Block) -> Result<(), AllocError>
+        ensures page { OnOk result (sheet_of self.new ≡ closed block (sheet_of self.old)) }
+        ensures ink { OnOk result (ink (string_bytes self.new.out) ≡ ink (string_bytes self.old.out) ++ mark_bytes block) }
+    {
+        let _ = self.margins.pop();
+        self.asked = asked_by_end(self.asked, block);
+        self.at_body = self.at_body && block != Block::ItemBody;
+        self.put_mark(block)
+    }
+
+    /// The whole text, with a last newline where one is still asked for.
+    pub fn finish(self) -> Result<String<B>, AllocError>
+        ensures text { IfOk result (λ text. string_bytes text ≡ finished (sheet_of self)) }
+        ensures ink { IfOk result (λ text. ink (string_bytes text) ≡ ink (string_bytes self.out)) }
+    {
+        let Page { mut out, asked, .. } = self;
+        if asked != Asked::Nothing {
+            out.push('\n')?;
+        }
+        Ok(out)
+    }
+
+    // Writes a Raw chunk. A blank that does not fit its line is left out.
+    #[tactic(auto, unfolding(crate::specs::ConsolePage::raw_put))]
+    fn put_raw(&mut self, raw: &str, weight: usize) -> Result<(), AllocError>
+        ensures page { OnOk result (sheet_of self.new ≡ raw_put raw.now weight (sheet_of self.old)) }
+        ensures ink { OnOk result (ink (string_bytes self.new.out) ≡ ink (string_bytes self.old.out) ++ ink raw.now) }
+    {
+        if self.make_room(columns_of(raw, weight))? && raw == " " {
+            return Ok(());
+        }
+        self.place(raw, weight)
+    }
+
+    // Breaks the line where that is asked for or these columns do not fit. Answers whether they did not.
+    fn make_room(&mut self, columns: usize) -> Result<bool, AllocError>
+        ensures page { OnOk result (sheet_of self.new ≡ room_made columns (sheet_of self.old)) }
+        ensures wraps { IfOk result (λ too_wide. too_wide ≡ wraps columns (sheet_of self.old)) }
+        ensures ink { OnOk result (ink (string_bytes self.new.out) ≡ ink (string_bytes self.old.out)) }
+    {
+        if self.out.is_empty() {
+            return Ok(false);
+        }
+        self.put_asked()?;
+        if self.column.saturating_add(columns) <= self.width {
+            return Ok(false);
+        }
+        self.wrap()?;
+        Ok(true)
+    }
+
+    // Writes a Raw chunk to its line, from its margin on.
+    fn place(&mut self, raw: &str, weight: usize) -> Result<(), AllocError>
+        ensures page { OnOk result (sheet_of self.new ≡ placed raw.now weight (sheet_of self.old)) }
+        ensures ink { OnOk result (ink (string_bytes self.new.out) ≡ ink (string_bytes self.old.out) ++ ink raw.now) }
+    {
+        self.put_padding()?;
+        self.asked = Asked::Nothing;
+        self.at_body = false;
+        self.out.push_str(raw)?;
+        self.column = self.column.saturating_add(weight);
+        Ok(())
+    }
+
+    // Ends the line, and writes an empty one, where that is asked for.
+    fn put_asked(&mut self) -> Result<(), AllocError>
+        ensures page { OnOk result (sheet_of self.new ≡ asked_put (sheet_of self.old)) }
+        ensures ink { OnOk result (ink (string_bytes self.new.out) ≡ ink (string_bytes self.old.out)) }
+    {
+        if self.lacks_newline() {
+            self.put_newline()?;
+        }
+        if self.lacks_blank_line() {
+            self.out.push('\n')?;
+        }
+        Ok(())
+    }
+
+    // A line break is asked for, and the text does not end in one.
+    fn lacks_newline(&self) -> bool
+        ensures { result ≡ lacks_newline (sheet_of self.now) }
+    {
+        self.asked != Asked::Nothing && !self.out.as_bytes().ends_with(b"\n")
+    }
+
+    // An empty line is asked for, and the text does not end in one.
+    fn lacks_blank_line(&self) -> bool
+        ensures { result ≡ lacks_blank_line (sheet_of self.now) }
+    {
+        self.asked == Asked::BlankLine && !self.out.as_bytes().ends_with(b"\n\n")
+    }
+
+    // Starts a new line in place of the White_Space at the end.
+    fn wrap(&mut self) -> Result<(), AllocError>
+        ensures page { OnOk result (sheet_of self.new ≡ wrapped (sheet_of self.old)) }
+        ensures ink { OnOk result (ink (string_bytes self.new.out) ≡ ink (string_bytes self.old.out)) }
+    {
+        trim_end(&mut self.out);
+        self.put_newline()
+    }
+
+    // Blanks up to the margin; before an item's body, beyond the tab stop, at least two.
+    fn put_padding(&mut self) -> Result<(), AllocError>
+        ensures page { OnOk result (sheet_of self.new ≡ padded (sheet_of self.old)) }
+        ensures ink { OnOk result (ink (string_bytes self.new.out) ≡ ink (string_bytes self.old.out)) }
+    {
+        let missing = self.margin().saturating_sub(self.column);
+        self.put_blanks(missing)?;
+        if self.at_body && self.column >= MAX_TAB + 4 {
+            self.put_blanks(2usize.saturating_sub(missing))?;
+        }
+        Ok(())
+    }
+
+    fn put_blanks(&mut self, count: usize) -> Result<(), AllocError>
+        ensures page { OnOk result (sheet_of self.new ≡ blanks_put count (sheet_of self.old)) }
+        ensures ink { OnOk result (ink (string_bytes self.new.out) ≡ ink (string_bytes self.old.out)) }
+    {
+        push_blanks(&mut self.out, count)?;
+        self.column = self.column.saturating_add(count);
+        Ok(())
+    }
+
+    fn put_newline(&mut self) -> Result<(), AllocError>
+        ensures page { OnOk result (sheet_of self.new ≡ newline_put (sheet_of self.old)) }
+        ensures ink { OnOk result (ink (string_bytes self.new.out) ≡ ink (string_bytes self.old.out)) }
+    {
+        self.out.push('\n')?;
+        self.column = 0;
+        Ok(())
+    }
+
+    // The backquote of a term reference.
+    fn put_mark(&mut self, block: Block) -> Result<(), AllocError>
+        ensures page { OnOk result (sheet_of self.new ≡ marked block (sheet_of self.old)) }
+        ensures ink { OnOk result (ink (string_bytes self.new.out) ≡ ink (string_bytes self.old.out) ++ mark_bytes block) }
+    {
+        if block == Block::TermRef {
+            self.out.push('`')?;
+            self.column = self.column.saturating_add(1);
+        }
+        Ok(())
+    }
+
+    // Pushes the margin in force and so many columns more.
+    fn push_margin(&mut self, indent: Option<usize>) -> Result<(), AllocError>
+        ensures { OnOk result (sheet_of self.new ≡ margin_pushed indent (sheet_of self.old)) }
+    {
+        if let Some(indent) = indent {
+            let margin = self.margin().saturating_add(indent);
+            self.margins.push(margin)?;
+        }
+        Ok(())
+    }
+
+    // The margin in force.
+    fn margin(&self) -> usize
+        ensures { result ≡ margin_of (sheet_of self.now) }
+    {
+        self.margins.last().copied().unwrap_or(0)
+    }
+}
+
+// Takes the White_Space at the end of the text away.
+fn trim_end<B: Allocator>(out: &mut String<B>)
+    ensures bytes { string_bytes out.new ≡ trim_end (string_bytes out.old) }
+    ensures ink { ink (string_bytes out.new) ≡ ink (string_bytes out.old) }
+{
+    let kept = out.as_str().trim_end().len();
+    out.truncate(kept);
+}
+
+fn push_blanks<B: Allocator>(out: &mut String<B>, count: usize) -> Result<(), AllocError>
+    ensures bytes { OnOk result (string_bytes out.new ≡ string_bytes out.old ++ replicate count 32) }
+    ensures ink { OnOk result (ink (string_bytes out.new) ≡ ink (string_bytes out.old)) }
+{
+    for _ in 0..count {
+        out.push(' ')?;
+    }
+    Ok(())
+}
+
+// The columns of a Raw chunk: its weight, unless it is a code or fence line.
+fn columns_of(raw: &str, weight: usize) -> usize
+    ensures { result ≡ columns_of raw.now weight }
+{
+    if weight < Chunk::CODE {
+        weight
+    } else {
+        raw.width()
+    }
+}
+
+// What has to stand before the next text, after the start of a block.
+fn asked_by_start(asked: Asked, block: Block) -> Asked
+    ensures { result ≡ asked_by_start asked block }
+{
+    match block {
+        Block::Header | Block::Section2 | Block::Section3 | Block::Section4 | Block::ItemTerm =>
+            match asked {
+                Asked::Nothing => Asked::NewLine,
+                Asked::NewLine | Asked::BlankLine => asked,
+            },
+        _ => asked,
+    }
+}
+
+// The same after the end of a block.
+fn asked_by_end(asked: Asked, block: Block) -> Asked
+    ensures { result ≡ asked_by_end asked block }
+{
+    match block {
+        Block::Block => Asked::BlankLine,
+        _ => asked,
+    }
+}
+
+// How far the start of a block moves the margin; None where it pushes none.
+fn indent_of(block: Block, tab_stop: usize, adjacent: bool) -> Option<usize>
+    ensures { result ≡ indent_of block tab_stop adjacent }
+{
+    match block {
+        Block::Header | Block::Section2 | Block::Block => Some(0),
+        Block::Section3 => Some(2),
+        Block::Section4 => Some(if adjacent { 4 } else { 2 }),
+        Block::ItemTerm => Some(4),
+        Block::ItemBody => Some(tab_stop.saturating_add(2)),
+        Block::DefinitionList | Block::InlineBlock | Block::TermRef | Block::Meta | Block::Mono =>
+            None,
+    }
+}

@@ -1,0 +1,39 @@
+//! Laws of the definitions that the contracts cite: nothing to call, but statements that the check proves.
+
+ghost use Rattle.bpaf_doc.specs.ChunkPromises.{EachTextIsSpelledOnce, ChunksKeepInk, ChunksAreLines, ChunksStandInOrder, ChunksAreTexts};
+ghost use Rattle.bpaf_doc.specs.Equality.{IsEqualityOfParts};
+
+/// Each text is spelled by exactly one list of chunks, the one that `split` gives.
+pub fn one_spelling()
+    ensures { EachTextIsSpelledOnce }
+{}
+
+/// The chunks of a text have together its ink, in order.
+#[tactic(auto, using(crate::proofs::ChunkFacts::ink_of_chunks))]
+pub fn chunks_keep_ink()
+    ensures { ChunksKeepInk }
+{}
+
+/// No chunk has a newline in it.
+#[tactic(auto, using(crate::proofs::ChunkFacts::one_line_chunks))]
+pub fn chunks_are_lines()
+    ensures { ChunksAreLines }
+{}
+
+/// Each chunk has a place in the text, in order: a Raw is the slice there, or the blank for the newline there.
+#[tactic(auto, using(crate::proofs::ChunkFacts::chunks_in_order))]
+pub fn chunks_stand_in_order()
+    ensures { ChunksStandInOrder }
+{}
+
+/// Each Raw of a UTF-8 text is UTF-8.
+#[tactic(auto, using(crate::proofs::ChunkFacts::text_chunks))]
+pub fn chunks_are_texts()
+    ensures { ChunksAreTexts }
+{}
+
+/// Two documents are equal exactly where they have the same parts.
+#[tactic(auto, using(crate::proofs::EqualityLaws::equality_of_parts))]
+pub fn equality_of_parts()
+    ensures { IsEqualityOfParts }
+{}

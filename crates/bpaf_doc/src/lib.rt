@@ -1,0 +1,7 @@
+//! Help documents: styled text in nested blocks, and the pages that show it.
+#![tactic(auto)]
+
+pub mod buffer;
+pub mod console;
+pub mod laws;
+pub mod splitter;

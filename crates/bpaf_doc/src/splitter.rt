@@ -1,0 +1,213 @@
+//! A text into chunks: words, blanks, line breaks, paragraph breaks and code lines.
+
+ghost use Rattle.std.specs.Prelude.{◌≡◌, ◌≢◌, [], ◌∷◌, ◌++◌, IsTrue};
+ghost use Rattle.std.specs.Iterator.{YieldsFirstBy, item_count};
+ghost use Rattle.std.specs.List.{All, flat_map, list_all};
+ghost use Rattle.bpaf_doc.specs.Chunks.{Paragraph, Plain, Opening, Later, Spells, IsLine, IsLineEnd, IsPastNewline, IsWordEnd, chunk_ink, chunks_in, chunks_of, is_word_byte};
+ghost use Rattle.bpaf_doc.specs.ChunkPromises.{IsOneLine, StandInOrder};
+ghost use Rattle.bpaf_doc.specs.Parts.{ink};
+ghost use Rattle.bpaf_doc.specs.ChunkView.{chunk_of};
+
+use std::marker::Model;
+use unicode_width::UnicodeWidthStr;
+
+/// One piece of a text.
+#[derive(Clone, Copy, Debug, PartialEq, Eq)]
+pub enum Chunk<'a> {
+    /// A slice of the text with its weight: the columns of a word or a blank, or the mark of a code line or of a line of a
+    /// fence. A newline that stands for a blank is `" "`.
+    Raw(&'a str, usize),
+    /// An empty line: what follows is another paragraph.
+    Paragraph,
+    /// A newline and a blank after it: what follows begins a line of its own.
+    LineBreak,
+}
+
+impl Chunk<'_> {
+    /// The weight of a code line. A word of so many columns has it too.
+    pub const CODE: usize = 1_000_000;
+
+    /// The weight of a line of a fence. A word of so many columns has it too.
+    pub const TICKED_CODE: usize = 1_000_001;
+}
+
+/// How what is left of a text is read.
+#[derive(Clone, Copy, Debug, PartialEq, Eq)]
+enum Form {
+    /// Outside of a fence.
+    Plain,
+    /// From the opening line of a fence on.
+    Opening,
+    /// From a later line of a fence on.
+    Later,
+}
+
+/// The chunks of a text, in order: an iterator that `split` makes.
+#[derive(Debug, Drop)]
+pub struct Splitter<'a> {
+    rest: &'a str,
+    form: Form,
+}
+
+impl<'a> Model for Splitter<'a> {
+    ghost use Rattle.std.specs.Prelude.{List};
+    ghost use Rattle.bpaf_doc.specs.Chunks.{Chunk, chunks_in};
+    ghost use Rattle.bpaf_doc.specs.ChunkView.{form_of};
+
+    ghost Value = { List Chunk };
+
+    ghost view = { λ s. chunks_in (form_of s.form) s.rest.now };
+}
+
+/// The chunks of the text, in order. All of them together take time in proportion to the text's bytes, and no memory.
+pub fn split(text: &str) -> Splitter<'_>
+    ensures value { result ≡ chunks_of text.now }
+    ensures spelled { Spells Plain result text.now }
+
+    // No ink is lost, moved or added.
+    ensures ink { flat_map chunk_ink result ≡ ink text.now }
+    ensures one_line { All IsOneLine result }
+    ensures in_order { StandInOrder text.now 0 result }
+{
+    Splitter {
+        rest: text,
+        form: Form::Plain,
+    }
+}
+
+impl<'a> Iterator for Splitter<'a> {
+    type Item = Chunk<'a>;
+
+    ghost next_gives = { YieldsFirstBy chunk_of (λ left. left) };
+
+    ghost remaining = { item_count (λ left. left) };
+
+    fn next(&mut self) -> Option<Chunk<'a>> {
+        if self.rest.is_empty() {
+            return None;
+        }
+        let (chunk, left) = match self.form {
+            Form::Plain => next_plain(self.rest),
+            Form::Opening => next_opening(self.rest),
+            Form::Later => next_later(self.rest),
+        };
+        *self = left;
+        Some(chunk)
+    }
+}
+
+// The first chunk of a text outside of a fence, and those after it.
+fn next_plain(text: &str) -> (Chunk<'_>, Splitter<'_>)
+    requires { text.now ≢ [] }
+    ensures { chunks_in Plain text.now ≡ chunk_of result.0 ∷ result.1 }
+{
+    if let Some(rest) = text.strip_prefix('\n') {
+        after_newline(rest)
+    } else if let Some(rest) = text.strip_prefix(' ') {
+        (Chunk::Raw(" ", 1), split(rest))
+    } else {
+        let (word, rest) = cut_word(text);
+        (Chunk::Raw(word, word.width()), split(rest))
+    }
+}
+
+// The first chunk of a newline and this text, outside of a fence, and those after it.
+fn after_newline(text: &str) -> (Chunk<'_>, Splitter<'_>)
+    ensures { chunks_in Plain (10 ∷ text.now) ≡ chunk_of result.0 ∷ result.1 }
+{
+    if let Some(code) = text.strip_prefix("    ") {
+        let (line, rest) = cut_line(code);
+        (Chunk::Raw(line, Chunk::CODE), split(rest))
+    } else if let Some(rest) = text.strip_prefix('\n') {
+        (Chunk::Paragraph, after_paragraph(text, rest))
+    } else if let Some(rest) = text.strip_prefix(' ') {
+        (Chunk::LineBreak, split(rest))
+    } else {
+        (Chunk::Raw(" ", 1), split(text))
+    }
+}
+
+// What is left of two newlines and the text after their paragraph break. `line` is the second newline and the text.
+fn after_paragraph<'a>(line: &'a str, text: &'a str) -> Splitter<'a>
+    requires { line.now ≡ 10 ∷ text.now }
+    ensures { chunks_in Plain (10 ∷ line.now) ≡ Paragraph ∷ result }
+{
+    if text.starts_with("```") {
+        Splitter {
+            rest: text,
+            form: Form::Opening,
+        }
+    } else if text.starts_with("    ") {
+        split(line)
+    } else {
+        split(text)
+    }
+}
+
+// The opening line of a fence, which this text begins with, and the chunks after it.
+fn next_opening(text: &str) -> (Chunk<'_>, Splitter<'_>)
+    requires { text.now ≢ [] }
+    ensures { chunks_in Opening text.now ≡ chunk_of result.0 ∷ result.1 }
+{
+    let (line, rest) = cut_line(text);
+    let left = Splitter {
+        rest: past_newline(rest),
+        form: Form::Later,
+    };
+    (Chunk::Raw(line, Chunk::TICKED_CODE), left)
+}
+
+// A later line of a fence, which this text begins with, and the chunks after it.
+fn next_later(text: &str) -> (Chunk<'_>, Splitter<'_>)
+    requires { text.now ≢ [] }
+    ensures { chunks_in Later text.now ≡ chunk_of result.0 ∷ result.1 }
+{
+    let (line, rest) = cut_line(text);
+    let chunk = Chunk::Raw(line, Chunk::TICKED_CODE);
+    if !line.starts_with("```") {
+        let left = Splitter {
+            rest: past_newline(rest),
+            form: Form::Later,
+        };
+        (chunk, left)
+    } else if rest.starts_with("\n\n") {
+        (chunk, split(rest))
+    } else {
+        (chunk, split(past_newline(rest)))
+    }
+}
+
+// The text up to its first newline, and the rest.
+fn cut_line(text: &str) -> (&str, &str)
+    ensures whole { text.now ≡ result.0.now ++ result.1.now }
+    ensures line { IsLine result.0.now }
+    ensures end { IsLineEnd result.1.now }
+{
+    match text.find('\n') {
+        Some(end) => text.split_at(end),
+        None => (text, ""),
+    }
+}
+
+// The text up to its first newline or blank, and the rest.
+fn cut_word(text: &str) -> (&str, &str)
+    ensures whole { text.now ≡ result.0.now ++ result.1.now }
+    ensures word { IsTrue (list_all is_word_byte result.0.now) }
+    ensures end { IsWordEnd result.1.now }
+{
+    match text.find(['\n', ' ']) {
+        Some(end) => text.split_at(end),
+        None => (text, ""),
+    }
+}
+
+// The rest after a line, without the newline in front.
+fn past_newline(rest: &str) -> &str
+    requires { IsLineEnd rest.now }
+    ensures { IsPastNewline rest.now result.now }
+{
+    rest.strip_prefix('\n').unwrap_or(rest)
+}
+
+#[cfg(test)]
+mod tests;

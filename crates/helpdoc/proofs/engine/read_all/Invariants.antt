@@ -1,0 +1,13 @@
+use Rattle.std.proofs.Common.{◌≡◌, ◌-◌, ◌^◌, false, vec_len}
+use Rattle.std.specs.Io.KnownBytes.{Consumes}
+use Rattle.helpdoc.proofs.engine.read_all.Given as goal
+
+-- the bytes so far are what was read, and no read has failed
+abbrev pub invariant-loop-bytes : goal.invariant-loop-bytes
+invariant-loop-bytes g l =
+    (l.reader.marked ≡ false)
+    × Consumes (g.R.Read.remaining l.initial.reader.end) (g.R.Read.remaining l.reader.end) l.bytes.items
+
+-- how many bytes more a vector could hold
+abbrev pub decreases-loop-bytes : goal.decreases-loop-bytes
+decreases-loop-bytes g l = 2 ^ 63 - vec_len l.bytes

@@ -1,0 +1,15 @@
+-- The words that choose what the program does.
+use Rattle.std.specs.Prelude.{ℕ, List, [], ◌∷◌, codes}
+use Rattle.helpdoc.specs.declared.words.Form.{Form}
+use Rattle.helpdoc.specs.declared.words.Form.TheVariants.{Full, Brief}
+use Rattle.helpdoc.specs.declared.words.Choice.{Choice}
+use Rattle.helpdoc.specs.declared.words.Choice.TheVariants.{Text}
+
+-- the word for a form
+abbrev pub form_word : Form → List ℕ
+form_word Full = codes "full"
+form_word Brief = codes "brief"
+
+-- the words for a choice
+abbrev pub spelling : Choice → List (List ℕ)
+spelling (Text form) = codes "text" ∷ form_word form ∷ []

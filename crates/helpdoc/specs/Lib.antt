@@ -1,0 +1,4 @@
+pub mod Watched
+pub mod Choice
+pub mod Rendering
+pub mod Runs

@@ -1,0 +1,24 @@
+-- A reader or a writer that remembers whether a call on it has failed.
+use Rattle.std.specs.Prelude.{◌≡◌, ℕ, Bool, true, false, not, ◌&&◌, ◌==◌, List, length, Result, Ok, Err, IsTrue, refl}
+use Rattle.std.specs.Coded.{Coded, code_by, coded×, coded_bool}
+
+-- the reader or the writer, and the mark that a call on it has failed
+pub record Watch (E : Type 0) : Type 0 where
+  pub end : E
+  pub marked : Bool
+
+-- it is stored as the pair of its fields
+abbrev pub watch_code : {E : Type 0} → Coded E → Coded (Watch E)
+watch_code {E} code =
+    code_by (E × Bool) (coded× code coded_bool) (λ w. (w.end, w.marked)) (λ p. record { end = p.0; marked = p.1 }) (λ _. refl)
+
+abbrev pub IsMarked : {E : Type 0} → Watch E → Type 0
+IsMarked w = IsTrue w.marked
+
+abbrev pub IsUnmarked : {E : Type 0} → Watch E → Type 0
+IsUnmarked w = w.marked ≡ false
+
+-- a write of these bytes failed: it answered an error, or took none where there were some
+abbrev pub is_failed_write : {F : Type 0} → Result ℕ F → List ℕ → Bool
+is_failed_write (Ok taken) bytes = taken == 0 && not (length bytes == 0)
+is_failed_write (Err error) bytes = true

@@ -1,0 +1,123 @@
+//! What the program does, over any reader and any writer.
+
+ghost use Rattle.std.specs.Prelude.{◌≡◌, ◌≢◌, ◌↔◌, ◌⊎◌, [], List, ℕ, IsUtf8, IsOk, IfOk, IfErr, OnOk, OnErr, IsErrOf, string_bytes};
+ghost use Rattle.std.specs.Io.KnownBytes.{Appends};
+ghost use Rattle.helpdoc.specs.Watched.{IsMarked, IsUnmarked};
+ghost use Rattle.helpdoc.specs.Rendering.{IsRendering, document_of_text};
+ghost use Rattle.helpdoc.specs.Runs.{ReadsAll, ReadsText, ReadsNoText, WritesPage, WritesBeginning, WritesAllBut};
+
+use crate::ends::Watched;
+use crate::faults::Fault;
+use crate::words::Form;
+use bpaf_doc::buffer::Doc;
+use bpaf_doc::console::MAX_WIDTH;
+use std::alloc::{AllocError, Allocator};
+use std::io::{Read, Write};
+
+// How many bytes a read asks for.
+const CHUNK: usize = 64 * 1024;
+
+/// Reads all that the reader has left, as one text, and writes its page and nothing more. The whole
+/// page is made before the first write, so that an error other than `Write` leaves the writer as it
+/// was.
+///
+/// `Read` comes exactly where a read failed, `Write` exactly where a write failed or took nothing,
+/// and `NotUtf8` only where all was read and is no text. `Memory` comes only where a growth was
+/// refused, which no clause can say. `Misplaced` never comes.
+pub fn run_text<A: Allocator + Copy, R: Read, W: Write>(
+    alloc: A,
+    form: Form,
+    reader: &mut Watched<R>,
+    writer: &mut Watched<W>,
+) -> Result<(), Fault>
+    requires reader { IsUnmarked reader.old }
+    requires writer { IsUnmarked writer.old }
+
+    // Over all ends: when each fault comes, and what it leaves.
+    ensures read { IsErrOf result Fault.Read ↔ IsMarked reader.new }
+    ensures write { IsErrOf result Fault.Write ↔ IsMarked writer.new }
+    ensures not_misplaced { ¬ IsErrOf result Fault.Misplaced }
+    ensures untouched { IfErr result (λ fault.
+        fault ≢ Fault.Write → writer.new ≡ writer.old) }
+
+    // Over ends that tell their bytes: which are read and written.
+    ensures ok { OnOk result (
+        ReadsText (R.remaining reader.old.end) (R.remaining reader.new.end) (λ input.
+        WritesPage form (document_of_text input)
+        (W.contents writer.old.end) (W.contents writer.new.end))) }
+    ensures cut_short { IsErrOf result Fault.Write →
+        ReadsText (R.remaining reader.old.end) (R.remaining reader.new.end) (λ input.
+        WritesBeginning form (document_of_text input)
+        (W.contents writer.old.end) (W.contents writer.new.end)) }
+    ensures not_utf8 { IsErrOf result Fault.NotUtf8 →
+        ReadsNoText (R.remaining reader.old.end) (R.remaining reader.new.end) }
+{
+    let bytes = read_all(alloc, reader)?;
+    let input = text_of(bytes)?;
+    let page = page_of(alloc, form, input.as_str())?;
+    write_all(writer, page.as_str())
+}
+
+// All that the reader has left. Each turn but the last makes the bytes more, so that a reader which
+// never ends meets `Memory`.
+fn read_all<A: Allocator, R: Read>(alloc: A, reader: &mut Watched<R>) -> Result<Vec<u8, A>, Fault>
+    requires { IsUnmarked reader.old }
+    ensures ok { IfOk result (λ bytes.
+        ReadsAll (R.remaining reader.old.end) (R.remaining reader.new.end) bytes.items) }
+    ensures read { IsErrOf result Fault.Read ↔ IsMarked reader.new }
+    ensures fault { IfErr result (λ fault. (fault ≡ Fault.Read) ⊎ (fault ≡ Fault.Memory)) }
+{
+    let mut chunk = [0; CHUNK];
+    let mut bytes = Vec::new(alloc);
+    loop {
+        match reader.read(&mut chunk) {
+            Ok(0) => return Ok(bytes),
+            Ok(taken) => bytes.extend_from_slice(&chunk[..taken])?,
+            Err(_) => return Err(Fault::Read),
+        }
+    }
+}
+
+// The bytes as a text, without a copy.
+fn text_of<A: Allocator>(bytes: Vec<u8, A>) -> Result<String<A>, Fault>
+    ensures ok { IfOk result (λ text. string_bytes text ≡ bytes.items) }
+    ensures succeeds { IsOk result ↔ IsUtf8 bytes.items }
+    ensures fault { IfErr result (λ fault. fault ≡ Fault.NotUtf8) }
+{
+    String::from_utf8(bytes).map_err(|_| Fault::NotUtf8)
+}
+
+// The page of the document of one text.
+fn page_of<A: Allocator + Copy>(alloc: A, form: Form, text: &str) -> Result<String<A>, AllocError>
+    ensures { IfOk result (λ page.
+        IsRendering form (document_of_text text.now) (string_bytes page)) }
+{
+    let document = Doc::from_text(alloc, text)?;
+    match form {
+        Form::Full => document.render_console(alloc, true, MAX_WIDTH),
+        Form::Brief => document.render_console(alloc, false, MAX_WIDTH),
+    }
+}
+
+// Writes all of the text. Where a write fails, or takes nothing, a rest of it was not taken.
+fn write_all<W: Write>(writer: &mut Watched<W>, text: &str) -> Result<(), Fault>
+    requires { IsUnmarked writer.old }
+    ensures ok { OnOk result (
+        Appends (W.contents writer.old.end) (W.contents writer.new.end) text.now) }
+    ensures err { OnErr result ((rest : List ℕ) × (rest ≢ [])
+        × WritesAllBut text.now rest (W.contents writer.old.end) (W.contents writer.new.end)) }
+    ensures write { IsErrOf result Fault.Write ↔ IsMarked writer.new }
+    ensures fault { IfErr result (λ fault. fault ≡ Fault.Write) }
+{
+    let mut rest = text.as_bytes();
+    while !rest.is_empty() {
+        let Ok(taken) = writer.write(rest) else {
+            return Err(Fault::Write);
+        };
+        if taken == 0 {
+            return Err(Fault::Write);
+        }
+        rest = &rest[taken..];
+    }
+    Ok(())
+}

@@ -1,0 +1,35 @@
+//! Why a run of the program fails.
+
+ghost use Rattle.std.specs.Prelude.{◌≡◌};
+ghost use Rattle.helpdoc.specs.declared.faults.Fault.TheVariants.{Memory};
+
+use std::alloc::AllocError;
+use thiserror::Error;
+
+/// Why a run fails. It is shown as the line that the program writes on standard error.
+#[derive(Clone, Copy, Debug, PartialEq, Eq, Error)]
+pub enum Fault {
+    /// What was read is no text.
+    #[error("helpdoc: input is not UTF-8")]
+    NotUtf8,
+    /// A read failed.
+    #[error("helpdoc: read failed")]
+    Read,
+    /// A write failed, or took nothing.
+    #[error("helpdoc: write failed")]
+    Write,
+    /// A growth was refused, or the arguments could not be read.
+    #[error("helpdoc: no memory")]
+    Memory,
+    /// A named item stands after a positional one.
+    #[error("helpdoc: misplaced item")]
+    Misplaced,
+}
+
+impl From<AllocError> for Fault {
+    ghost from_gives = { λ _ fault. fault ≡ Memory };
+
+    fn from(_error: AllocError) -> Fault {
+        Fault::Memory
+    }
+}
