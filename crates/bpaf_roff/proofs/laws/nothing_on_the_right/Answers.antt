@@ -1,0 +1,5 @@
+use Rattle.bpaf_roff.proofs.EqualityLaws.{right_equal}
+use Rattle.bpaf_roff.proofs.laws.nothing_on_the_right.Goals as goal
+
+pub returns-clause-equal : goal.returns-clause-equal
+returns-clause-equal g c = right_equal g.met.T.Eq.laws

@@ -1,0 +1,24 @@
+use Rattle.std.proofs.Common.{◌≡◌, ◌-◌, ◌∙◌, take, string_bytes, ap, arith}
+use Rattle.bpaf_roff.specs.Labels.{end_of}
+use Rattle.bpaf_roff.proofs.LabelLaws.{labelled, pieces_of-take, Cuts-take, cut_at}
+use Rattle.bpaf_roff.proofs.monoid.FreeMonoid.truncate.Goals as goal
+
+pub truncate-requires-2 : goal.truncate-requires-2
+truncate-requires-2 g c =
+    let m = c.self.inside in
+    let end : c.end_of_last-end.result ≡ end_of 0 (take c.args.count m.labels.items) = c.end_of_last-end.ensures ∙ ap (end_of 0) (c.as_slice.ensures.value ∙ c.truncate.ensures.items) in
+    let cut = cut_at c.args.count m.labels.items (string_bytes m.payload) c.self.invariant in
+    rw end (λ _. (cut.0, λ _. cut.1))
+
+pub invariant_of-self : goal.invariant_of-self
+invariant_of-self g c =
+    let m = c.self.inside in
+    let end : c.end_of_last-end.result ≡ end_of 0 (take c.args.count m.labels.items) - 0 = rw (c.end_of_last-end.ensures, c.as_slice.ensures.value, c.truncate.ensures.items) (omega arith) in
+    rw (c.truncate-2.ensures.bytes, c.truncate.ensures.items, end) (Cuts-take c.args.count m.labels.items 0 (string_bytes m.payload) c.self.invariant)
+
+pub returns : goal.returns
+returns g c =
+    let m = c.self.inside in
+    let end : c.end_of_last-end.result ≡ end_of 0 (take c.args.count m.labels.items) - 0 = rw (c.end_of_last-end.ensures, c.as_slice.ensures.value, c.truncate.ensures.items) (omega arith) in
+    rw (c.truncate-2.ensures.bytes, c.truncate.ensures.items, end, ← c.self.view_is)
+    (ap (labelled m.squash) (pieces_of-take c.args.count m.labels.items 0 (string_bytes m.payload) c.self.invariant))

@@ -1,0 +1,31 @@
+-- When two monoids are equal: the same pieces, and the same setting.
+use Rattle.std.specs.Prelude.{◌≡◌, IsTrue, Bool, nat_eq}
+use Rattle.std.specs.Bool.{beq}
+use Rattle.std.specs.Ordering.{on, eq_of_both}
+use Rattle.std.specs.Cmp.{IsPartialEquivalence, IsEquivalence, partial_equiv_from_equiv, on_per, and_per, bool_eq_equiv}
+use Rattle.std.specs.Cmp.Lexicographic.{pointwise, lists_per}
+use Rattle.std.proofs.lemmas.Cmp.{on_equiv, and_equiv, lists_equiv, nat_list_eq_equiv}
+use Rattle.bpaf_roff.specs.Pieces.{Piece, Labelled}
+
+module _ {L : Type 0} where
+  -- the labels are equal, and the texts are the same
+  abbrev pub IsSamePiece : (L → L → Bool) → Piece L → Piece L → Type 0
+  IsSamePiece eq p q = IsTrue (eq p.label q.label) × (p.text ≡ q.text)
+
+  -- whether they are
+  abbrev pub piece_eq : (L → L → Bool) → Piece L → Piece L → Bool
+  piece_eq eq = eq_of_both (on (λ (p : Piece L). p.label) eq) (on (λ (p : Piece L). p.text) (pointwise nat_eq))
+
+  -- as many pieces, each equal to the one in its place, and the same setting
+  abbrev pub labelled_eq : (L → L → Bool) → Labelled L → Labelled L → Bool
+  labelled_eq eq = eq_of_both (on (λ (m : Labelled L). m.squash) beq) (on (λ (m : Labelled L). m.pieces) (pointwise (piece_eq eq)))
+
+  pub labelled_per : {eq : L → L → Bool} → IsPartialEquivalence eq → IsPartialEquivalence (labelled_eq eq)
+  labelled_per per =
+      and_per (on_per (λ (m : Labelled L). m.squash) (partial_equiv_from_equiv bool_eq_equiv))
+      (on_per (λ (m : Labelled L). m.pieces) (lists_per (and_per (on_per (λ (p : Piece L). p.label) per) (on_per (λ (p : Piece L). p.text) (partial_equiv_from_equiv nat_list_eq_equiv)))))
+
+  pub labelled_equiv : {eq : L → L → Bool} → IsEquivalence eq → IsEquivalence (labelled_eq eq)
+  labelled_equiv equiv =
+      and_equiv (on_equiv (λ (m : Labelled L). m.squash) bool_eq_equiv)
+      (on_equiv (λ (m : Labelled L). m.pieces) (lists_equiv (and_equiv (on_equiv (λ (p : Piece L). p.label) equiv) (on_equiv (λ (p : Piece L). p.text) nat_list_eq_equiv))))

@@ -1,0 +1,168 @@
+//! The bytes that labelled pieces are escaped to.
+
+ghost use Rattle.std.specs.Prelude.{◌≡◌, ◌++◌, [], ◌∷◌, List, ℕ, map, IfOk, OnOk, OnErr, IsUtf8};
+ghost use Rattle.std.specs.Borrow.{Bor};
+ghost use Rattle.std.specs.Iterator.{IsFinite, Drains};
+ghost use Rattle.std.specs.List.{AllByRecursion};
+ghost use Rattle.bpaf_roff.specs.Pieces.{Piece, piece_at};
+ghost use Rattle.bpaf_roff.specs.Roff.{piece};
+ghost use Rattle.bpaf_roff.specs.Escaping.{is_line_start, newline_as_blank, guard, special_text, spaces_text, byte_text, breaks, signs_of, text_after, escaped};
+ghost use Rattle.bpaf_roff.specs.Output.{KeepsFront, written};
+
+use crate::escape::{Apostrophes, Escape};
+use std::alloc::{AllocError, Allocator};
+
+const APOSTROPHE: &str = "\\*(Aq";
+
+// Whether the output is at a line start after a byte, whatever was written before.
+fn ends_line(label: Escape, byte: u8) -> bool
+    ensures { (apostrophes : Apostrophes) (before : List ℕ)
+        → result ≡ is_line_start (before ++ byte_text apostrophes before label byte) }
+{
+    match label {
+        Escape::UnescapedAtNewline | Escape::Special | Escape::Unescaped => byte == b'\n',
+        Escape::Spaces | Escape::SpecialNoNewline => false,
+    }
+}
+
+fn write_spaces<A: Allocator>(out: &mut Vec<u8, A>, byte: u8) -> Result<(), AllocError>
+    ensures ok { OnOk result (out.new.items ≡ out.old.items ++ spaces_text byte) }
+    ensures kept { KeepsFront out.old.items out.new.items }
+{
+    match byte {
+        b' ' | b'\n' => out.extend_from_slice(b"\\ ")?,
+        b'\\' => out.extend_from_slice(b"\\\\")?,
+        _ => out.push(byte)?,
+    }
+    Ok(())
+}
+
+fn write_special<A: Allocator>(
+    out: &mut Vec<u8, A>,
+    apostrophes: Apostrophes,
+    at_line_start: bool,
+    byte: u8,
+) -> Result<(), AllocError>
+    ensures ok { OnOk result (out.new.items
+        ≡ out.old.items ++ (guard (written at_line_start) byte ++ special_text apostrophes byte)) }
+    ensures kept { KeepsFront out.old.items out.new.items }
+{
+    if at_line_start && (byte == b'.' || byte == b'\'') {
+        out.extend_from_slice(b"\\&")?;
+    }
+    if byte == b'\\' || byte == b'-' {
+        out.extend_from_slice(&[b'\\', byte])?;
+    } else if byte == b'\'' && apostrophes == Apostrophes::Handle {
+        out.extend_from_slice(APOSTROPHE.as_bytes())?;
+    } else {
+        out.push(byte)?;
+    }
+    Ok(())
+}
+
+fn write_byte<A: Allocator>(
+    out: &mut Vec<u8, A>,
+    apostrophes: Apostrophes,
+    at_line_start: bool,
+    label: Escape,
+    byte: u8,
+) -> Result<(), AllocError>
+    ensures ok { OnOk result (out.new.items
+        ≡ out.old.items ++ byte_text apostrophes (written at_line_start) label byte) }
+    ensures kept { KeepsFront out.old.items out.new.items }
+{
+    match label {
+        Escape::UnescapedAtNewline | Escape::Unescaped => {
+            out.push(byte)?;
+            Ok(())
+        }
+        Escape::Spaces => write_spaces(out, byte),
+        Escape::Special => write_special(out, apostrophes, at_line_start, byte),
+        Escape::SpecialNoNewline => {
+            let shown = if byte == b'\n' { b' ' } else { byte };
+            write_special(out, apostrophes, at_line_start, shown)
+        }
+    }
+}
+
+// The newline before a piece that begins a line. Answers whether a line starts there.
+fn write_break<A: Allocator>(
+    out: &mut Vec<u8, A>,
+    at_line_start: bool,
+    label: Escape,
+) -> Result<bool, AllocError>
+    ensures ok { OnOk result ((apostrophes : Apostrophes)
+        → out.new.items ≡ out.old.items
+        ++ text_after apostrophes (written at_line_start) (breaks label)) }
+    ensures line_start { IfOk result (λ after. (apostrophes : Apostrophes)
+        → after ≡ is_line_start (written at_line_start
+        ++ text_after apostrophes (written at_line_start) (breaks label))) }
+    ensures kept { KeepsFront out.old.items out.new.items }
+{
+    match label {
+        Escape::UnescapedAtNewline => {
+            if !at_line_start {
+                out.push(b'\n')?;
+            }
+            Ok(true)
+        }
+        Escape::Spaces | Escape::Special | Escape::SpecialNoNewline | Escape::Unescaped => {
+            Ok(at_line_start)
+        }
+    }
+}
+
+// Answers whether a line starts after the piece.
+fn write_piece<A: Allocator>(
+    out: &mut Vec<u8, A>,
+    apostrophes: Apostrophes,
+    at_line_start: bool,
+    label: Escape,
+    text: &str,
+) -> Result<bool, AllocError>
+    ensures ok { OnOk result (out.new.items
+        ≡ out.old.items ++ text_after apostrophes (written at_line_start) (signs_of (piece label text.now))) }
+    ensures line_start { IfOk result (λ after. after
+        ≡ is_line_start (written at_line_start
+        ++ text_after apostrophes (written at_line_start) (signs_of (piece label text.now)))) }
+    ensures kept { KeepsFront out.old.items out.new.items }
+    ensures utf8 { IsUtf8 text.now }
+{
+    let mut line_start = write_break(out, at_line_start, label)?;
+    for byte in text.as_bytes() {
+        write_byte(out, apostrophes, line_start, label, *byte)?;
+        line_start = ends_line(label, *byte);
+    }
+    Ok(line_start)
+}
+
+/// Puts the bytes of each piece last, as from a line start. An error comes where a growth was
+/// refused, and the bytes are then those that were there.
+pub fn escape<'a, I: Iterator<Item = (&'a Escape, &'a str)> + Drop, A: Allocator>(
+    items: I,
+    out: &mut Vec<u8, A>,
+    apostrophes: Apostrophes,
+) -> Result<(), AllocError>
+    requires can { I.can_next items }
+    requires ends { IsFinite (I.remaining items) }
+    ensures ok { OnOk result ((xs : List (Bor Escape × Bor (List ℕ))) × Drains I.next_gives items xs
+        × (out.new.items ≡ out.old.items ++ escaped apostrophes (map piece_at xs))) }
+    ensures text { OnOk result (IsUtf8 out.old.items → IsUtf8 out.new.items) }
+    ensures err { OnErr result (out.new.items ≡ out.old.items) }
+{
+    let start = out.len();
+    let mut at_line_start = true;
+    for (label, text) in items {
+        match write_piece(out, apostrophes, at_line_start, *label, text) {
+            Ok(after) => at_line_start = after,
+            Err(refused) => {
+                out.truncate(start);
+                return Err(refused);
+            }
+        }
+    }
+    Ok(())
+}
+
+#[cfg(test)]
+mod tests;

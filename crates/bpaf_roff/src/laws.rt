@@ -1,0 +1,98 @@
+//! Laws of the definitions that the contracts cite. Each function is a law: it holds where the
+//! function is proved, and calling it does nothing.
+
+ghost use Rattle.std.specs.Prelude.{◌≡◌, ◌++◌, ◌↔◌, ◌∷◌, [], List, ℕ, IsTrue, IsUtf8, false};
+ghost use Rattle.std.specs.List.{AllByRecursion, AllZip};
+ghost use Rattle.bpaf_roff.specs.Pieces.{Piece, Labelled, no_pieces, sum_of, with_texts};
+ghost use Rattle.bpaf_roff.specs.Equality.{labelled_eq, IsSamePiece};
+ghost use Rattle.bpaf_roff.specs.Escaping.{signs, text_after, escaped};
+ghost use Rattle.bpaf_roff.specs.Roff.{Script, script_sum, no_script, font_escape, restore_font, preamble, rendering};
+
+use crate::escape::{APOSTROPHE_PREABMLE, Apostrophes, Escape};
+use crate::roff::RESTORE_FONT;
+
+/// Sums of monoids are associative.
+#[tactic(auto, using(crate::proofs::Sums::sum_of_assoc))]
+pub fn sums_associate<T>()
+    ensures { (left middle right : Labelled T)
+        → sum_of (sum_of left middle) right ≡ sum_of left (sum_of middle right) }
+{}
+
+/// Nothing on the right changes nothing.
+pub fn nothing_on_the_right<T: Eq>()
+    ensures same { (left : Labelled T) → sum_of left no_pieces ≡ left }
+    ensures equal { (left : Labelled T)
+        → IsTrue (labelled_eq T.PartialEq.eq (sum_of left no_pieces) left) }
+{}
+
+/// Nothing on the left changes no piece. It turns squashing off, so it gives back an equal value
+/// exactly where that is off.
+pub fn nothing_on_the_left<T: Eq>()
+    ensures pieces { (right : Labelled T) → (sum_of no_pieces right).pieces ≡ right.pieces }
+    ensures same { (right : Labelled T) → (sum_of no_pieces right ≡ right)
+        ↔ (right.squash ≡ false) }
+    ensures equal { (right : Labelled T)
+        → IsTrue (labelled_eq T.PartialEq.eq (sum_of no_pieces right) right)
+        ↔ (right.squash ≡ false) }
+{}
+
+/// A sum has the pieces of both, with nothing joined, and the setting of the left one.
+pub fn sums_join<T>()
+    ensures pieces { (left right : Labelled T)
+        → (sum_of left right).pieces ≡ left.pieces ++ right.pieces }
+    ensures setting { (left right : Labelled T) → (sum_of left right).squash ≡ left.squash }
+{}
+
+/// Two monoids are equal where they have the same setting and as many pieces, each with a label
+/// equal to the one in its place and the same text.
+pub fn equality_is_of_pieces<T: PartialEq>()
+    ensures { (left right : Labelled T) → IsTrue (labelled_eq T.eq left right)
+        ↔ ((left.squash ≡ right.squash) × AllZip (IsSamePiece T.eq) left.pieces right.pieces) }
+{}
+
+/// Where equal labels are the same, as characters and `Escape` are, equal monoids are the same.
+pub fn equality_is_exact<T: PartialEq>()
+    requires { (x y : T) → IsTrue (T.eq x y) ↔ (x ≡ y) }
+    ensures { (left right : Labelled T) → IsTrue (labelled_eq T.eq left right) ↔ (left ≡ right) }
+{}
+
+/// To put texts last in two goes is to put them last in one.
+pub fn texts_follow<T: PartialEq>()
+    ensures { (m : Labelled T) (some more : List (T × List ℕ))
+        → with_texts T.eq m (some ++ more) ≡ with_texts T.eq (with_texts T.eq m some) more }
+{}
+
+/// Sums of roffs are associative.
+pub fn roff_sums_associate()
+    ensures { (left middle right : Script)
+        → script_sum (script_sum left middle) right ≡ script_sum left (script_sum middle right) }
+{}
+
+/// A sum of roffs has the pieces of both, and the setting of the right one.
+pub fn roff_sums_join()
+    ensures pieces { (left right : Script)
+        → (script_sum left right).pieces ≡ left.pieces ++ right.pieces }
+    ensures setting { (left right : Script)
+        → (script_sum left right).strip_newlines ≡ right.strip_newlines }
+{}
+
+/// What pieces are rendered to goes on with more pieces after them: these are escaped as after the
+/// bytes before.
+pub fn renderings_go_on()
+    ensures { (apostrophes : Apostrophes) (pieces more : List (Piece Escape))
+        → rendering apostrophes (pieces ++ more)
+        ≡ rendering apostrophes pieces
+        ++ text_after apostrophes (escaped apostrophes pieces) (signs more) }
+{}
+
+/// Pieces of text are escaped to text.
+pub fn escaped_text_is_text()
+    ensures { (apostrophes : Apostrophes) (pieces : List (Piece Escape))
+        → AllByRecursion (λ p. IsUtf8 p.text) pieces → IsUtf8 (escaped apostrophes pieces) }
+{}
+
+/// The constants are what the definitions say.
+pub fn constants_are_as_said()
+    ensures restore_font { RESTORE_FONT.now ≡ restore_font }
+    ensures preamble { APOSTROPHE_PREABMLE.now ≡ preamble }
+{}

@@ -1,0 +1,9 @@
+//! Labelled pieces of text, their escaping, and roff.
+#![tactic(auto)]
+
+pub mod escape;
+pub mod laws;
+pub mod monoid;
+pub mod roff;
+#[cfg(test)]
+mod tests;
