@@ -1,20 +1,17 @@
 -- The ink that the console's steps leave is the console ink of the document.
-use Rattle.std.specs.Prelude.{◌≡◌, ◌≢◌, ℕ, zero, suc, ◌+◌, ◌-◌, ◌<◌, ◌≤◌, Bool, true, false, not, ◌&&◌, ◌||◌, ◌==◌, IsTrue, ◌⊎◌, List, [], ◌∷◌, ◌++◌, refl, length, drop, take, map, filter, count_by, flat_map, nat_le, if◌then◌else◌}
+use Rattle.std.specs.Prelude.{◌≡◌, ◌≢◌, ℕ, suc, ◌+◌, ◌-◌, ◌≤◌, Bool, true, false, not, ◌&&◌, ◌==◌, List, [], ◌∷◌, ◌++◌, refl, length, drop, take, filter, flat_map, String, string_bytes, Result, Ok, Err, IfOk, if◌then◌else◌}
 use Rattle.std.specs.Char.{is_not_whitespace, encode_utf8}
-use Rattle.std.specs.Prelude.{String, string_bytes, Result, Ok, Err, IfOk}
-use Rattle.std.specs.List.{list_any, list_all, enumerate_from, position_or_len}
-use Rattle.std.specs.Str.{chars, IsUtf8, IsCharBoundary, IsTrimEnd, NonePass, NoCharPasses}
-use Rattle.std.proofs.Common.{sym, ◌∙◌, ap, subst, inl, inr, arith, append_assoc}
-use Rattle.std.proofs.lemmas.Str.{chars-append, chars-nil, chars_from_encodes, IsCharBoundary-from_take, IsUtf8-drop, encodes-chars, encode_ascii, IsUtf8-string_bytes}
+use Rattle.std.specs.List.{enumerate_from, position_or_len}
+use Rattle.std.specs.Str.{chars, IsUtf8, IsCharBoundary, IsTrimEnd, NonePass}
+use Rattle.std.proofs.Common.{sym, ◌∙◌, ap, subst, arith, append_assoc}
+use Rattle.std.proofs.lemmas.Str.{chars-append, chars-nil, chars_from_encodes, IsCharBoundary-from_take, IsUtf8-drop, encode_ascii, IsUtf8-string_bytes}
 use Rattle.std.proofs.lemmas.List.{take-append-drop, append-nil, length-append}
 use Rattle.std.proofs.lemmas.List.Elements.{filter-append}
 use Rattle.std.proofs.lemmas.Bool.Decides.{nat_tests}
-use Rattle.bpaf_doc.specs.declared.buffer.Block.TheVariants as blocks
-use Rattle.bpaf_doc.specs.declared.buffer.Block.{Block}
 use Rattle.bpaf_doc.specs.declared.buffer.Style.{Style}
 use Rattle.bpaf_doc.specs.Parts.{Part, Text, Start, End, ink}
 use Rattle.bpaf_doc.specs.Chunks.{Chunk, Raw, Paragraph, LineBreak, chunks_of, chunk_ink, is_paragraph}
-use Rattle.bpaf_doc.specs.Shown.{numbered, fronts, stays_open, is_inline_start, is_inline_end, breaks_off, is_hidden, through_paragraph, shown_chunks, mark_bytes, shown_part_ink, console_ink}
+use Rattle.bpaf_doc.specs.Shown.{through_paragraph, shown_part_ink, console_ink}
 use Rattle.bpaf_doc.specs.ConsoleSteps.{shown_ink, hides, is_inline, hidden_after, ink_at, ink_from}
 use Rattle.bpaf_doc.proofs.Hiding.{Counts, Counts-nil, Counts-more, is_hidden-Counts}
 

@@ -1,12 +1,12 @@
 -- What a loop over the parts keeps of the page that it writes.
-use Rattle.std.specs.Prelude.{◌≡◌, ◌≢◌, ℕ, ◌+◌, ◌<◌, Bool, true, false, ◌&&◌, ◌==◌, List, [], ◌∷◌, refl, length, if◌then◌else◌, String, string_bytes, Result, Ok, Err, IfOk}
-use Rattle.std.proofs.Common.{sym, ◌∙◌, ap, subst, arith}
+use Rattle.std.specs.Prelude.{◌≡◌, ◌≢◌, ℕ, ◌+◌, Bool, true, false, ◌&&◌, ◌==◌, List, [], ◌∷◌, refl, length, if◌then◌else◌, String, string_bytes, Result, Ok, Err, IfOk}
+use Rattle.std.proofs.Common.{sym, ◌∙◌, ap, arith}
 use Rattle.std.proofs.lemmas.Bool.Decides.{nat_tests}
 use Rattle.bpaf_doc.specs.declared.buffer.Block.TheVariants as blocks
 use Rattle.bpaf_doc.specs.declared.buffer.Block.{Block}
 use Rattle.bpaf_doc.specs.declared.buffer.Style.{Style}
 use Rattle.bpaf_doc.specs.declared.console.pairs.Pairs.{Pairs}
-use Rattle.bpaf_doc.specs.Parts.{Part, Text, Start, End}
+use Rattle.bpaf_doc.specs.Parts.{Part, Text}
 use Rattle.bpaf_doc.specs.Chunks.{chunks_of}
 use Rattle.bpaf_doc.specs.Shown.{mark_bytes}
 use Rattle.bpaf_doc.specs.ConsoleSteps.{hides, hidden_after}

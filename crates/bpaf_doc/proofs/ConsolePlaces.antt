@@ -1,7 +1,7 @@
 -- The first Section4 end of what follows a place, found by looking at one part after another.
-use Rattle.std.specs.Prelude.{◌≡◌, ℕ, zero, suc, ◌+◌, ◌<◌, ◌≤◌, Bool, true, false, Some, List, [], ◌∷◌, refl, length, drop}
+use Rattle.std.specs.Prelude.{◌≡◌, ℕ, zero, suc, ◌+◌, ◌<◌, true, false, Some, List, [], ◌∷◌, refl, length, drop}
 use Rattle.std.specs.List.{slice_get, position_or_len}
-use Rattle.std.proofs.Common.{sym, ◌∙◌, ap, arith}
+use Rattle.std.proofs.Common.{◌∙◌, ap, arith}
 use Rattle.bpaf_doc.specs.Parts.{Part}
 use Rattle.bpaf_doc.specs.ConsoleText.{is_section4_end}
 
@@ -23,9 +23,3 @@ first_end-later (p ∷ parts) (suc at) within e =
     first_end-later parts at (omega arith) e ∙ ap (λ n. 1 + first_end (drop n (p ∷ parts))) (next at) where
       next : (at : ℕ) → suc (at + 1) ≡ suc at + 1
       next at = omega arith
-
-pub first_end-none : (parts : List Part) (at : ℕ) → length parts ≤ at → first_end (drop at parts) ≡ 0
-first_end-none [] zero past = refl
-first_end-none [] (suc at) past = refl
-first_end-none (p ∷ parts) zero past = absurd (omega arith)
-first_end-none (p ∷ parts) (suc at) past = first_end-none parts at (omega arith)

@@ -9,7 +9,7 @@ use Rattle.bpaf_doc.specs.declared.console.page.Asked.TheVariants as asked
 use Rattle.bpaf_doc.specs.declared.console.page.Asked.{Asked}
 use Rattle.bpaf_doc.specs.declared.console.page.Page.{Page}
 use Rattle.bpaf_doc.specs.Chunks.{Chunk, Raw, Paragraph, LineBreak, columns}
-use Rattle.bpaf_doc.specs.Shown.{is_term_ref, mark_bytes}
+use Rattle.bpaf_doc.specs.Shown.{is_term_ref}
 
 -- what a page says, without where it lies in memory
 pub record Sheet : Type 0 where

@@ -1,6 +1,6 @@
--- A console text, part by part, as the private functions leave it. Nothing here has to be believed: that such a text has the
--- console's ink is proved, and each further promise on it is to be.
-use Rattle.std.specs.Prelude.{ℕ, ◌+◌, ◌-◌, ◌==◌, Bool, true, false, not, ◌&&◌, ◌||◌, List, [], ◌∷◌, Option, Some, None, drop, max, nat_le, nat_lt, if◌then◌else◌}
+-- A console text, part by part, as the private functions leave it. Nothing here has to be believed: that such a text is a
+-- layout of its document, with the console's ink, is proved.
+use Rattle.std.specs.Prelude.{ℕ, ◌+◌, ◌-◌, ◌==◌, Bool, true, false, ◌&&◌, List, [], ◌∷◌, Option, Some, drop, max, nat_le, nat_lt, if◌then◌else◌}
 use Rattle.std.specs.List.{slice_get, position_or_len}
 use Rattle.bpaf_doc.specs.declared.buffer.Block.TheVariants as blocks
 use Rattle.bpaf_doc.specs.declared.buffer.Block.{Block}

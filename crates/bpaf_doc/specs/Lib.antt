@@ -13,3 +13,17 @@ pub mod Equality
 pub mod ConsoleSteps
 pub mod ConsolePage
 pub mod ConsoleText
+pub mod RoffReader
+pub mod PageEvents
+pub mod Page
+pub mod PageDraft
+pub mod Margin
+pub mod Layout
+pub mod ConsolePairs
+pub mod Fragments
+pub mod Html
+pub mod Markdown
+pub mod Walk
+pub mod HtmlSteps
+pub mod HtmlView
+pub mod MarkdownSteps

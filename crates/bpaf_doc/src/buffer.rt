@@ -449,6 +449,11 @@ impl<A: Allocator> Doc<A> {
         self.ends.len()
     }
 
+    // The allocator that its memory comes from.
+    pub(crate) fn allocator(&self) -> &A {
+        self.payload.allocator()
+    }
+
     /// The parts, in order.
     pub fn parts(&self) -> Parts<'_>
         ensures parts { result ≡ self.now }

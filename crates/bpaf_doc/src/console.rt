@@ -1,12 +1,14 @@
-//! A document as lines of at most a width.
+//! A document as text on a console, its lines broken where they would pass a width.
 ghost use Rattle.std.specs.Prelude.{◌≡◌, ◌+◌, ◌^◌, ◌<◌, IfOk, string_bytes};
-ghost use Rattle.bpaf_doc.specs.Parts.{ink};
+ghost use Rattle.bpaf_doc.specs.Layout.{IsLayout};
+ghost use Rattle.bpaf_doc.specs.Parts.{ink, HasUtf8Texts};
 ghost use Rattle.bpaf_doc.specs.Shown.{console_ink};
 ghost use Rattle.bpaf_doc.specs.ConsoleSteps.{hidden_from_start, hidden_from_end};
 ghost use Rattle.bpaf_doc.specs.ConsoleText.{console_text};
 
 use crate::buffer::{Block, Doc, Part};
 use std::alloc::{AllocError, Allocator};
+use std::fmt;
 
 mod page;
 mod pairs;
@@ -21,21 +23,30 @@ use tabs::tab_stop;
 /// The columns of a line where no width is given.
 pub const MAX_WIDTH: usize = 100;
 
+// The most parts of a page: their margins add up to a `usize`. No memory of today holds as many.
+const MOST_PARTS: usize = 1 << 58;
+
 impl<A: Allocator> Doc<A> {
-    /// The document as lines of at most `max_width` columns, in full or in brief, as a text in `alloc`.
+    /// The document as lines that break before a chunk that would pass `max_width` columns, in full or in brief, as a text in
+    /// `alloc`.
     ///
-    /// Proved: each character of a shown text that is not White_Space stands there once and in order, with one backquote for
-    /// each mark of a term reference. Where lines break, margins and blanks are only tested.
+    /// Each character of a shown text that is not White_Space stands there once and in order, with one backquote for each mark
+    /// of a term reference. Lines break where a mark or a break chunk asks for it and otherwise only where a chunk would pass
+    /// the width, and are indented by the margin of their block: `docs/console.md` says each rule.
     ///
-    /// An error comes only where a growth was refused.
+    /// `AllocError` where a growth was refused, or where the document has more than 2^58 parts.
     pub fn render_console<B: Allocator + Copy>(
         &self,
         alloc: B,
         full: bool,
         max_width: usize,
     ) -> Result<String<B>, AllocError>
-        ensures { IfOk result (λ text. ink (string_bytes text) ≡ console_ink full self.now) }
+        ensures ink { IfOk result (λ text. ink (string_bytes text) ≡ console_ink full self.now) }
+        ensures layout { IfOk result (λ text. IsLayout self.now full max_width (string_bytes text)) }
     {
+        if self.len() > MOST_PARTS {
+            return Err(AllocError);
+        }
         self.lay_out(alloc, full, max_width)
     }
 
@@ -45,7 +56,8 @@ impl<A: Allocator> Doc<A> {
         alloc: B,
         full: bool,
     ) -> Result<String<B>, AllocError>
-        ensures { IfOk result (λ text. ink (string_bytes text) ≡ console_ink full self.now) }
+        ensures ink { IfOk result (λ text. ink (string_bytes text) ≡ console_ink full self.now) }
+        ensures layout { IfOk result (λ text. IsLayout self.now full 100 (string_bytes text)) }
     {
         self.render_console(alloc, full, MAX_WIDTH)
     }
@@ -57,6 +69,7 @@ impl<A: Allocator> Doc<A> {
         full: bool,
         width: usize,
     ) -> Result<String<B>, AllocError>
+        ensures utf8 { HasUtf8Texts self.now }
         ensures text { IfOk result (λ text. string_bytes text ≡ console_text full width self.now) }
         ensures ink { IfOk result (λ text. ink (string_bytes text) ≡ console_ink full self.now) }
     {
@@ -87,6 +100,15 @@ impl<A: Allocator> Doc<A> {
             }
         }
         page.finish()
+    }
+}
+
+// The page takes a `&` to the document's own allocator, so that no second handle is asked for.
+impl<A: Allocator> fmt::Display for Doc<A> {
+    /// The full text at `MAX_WIDTH` columns, made in the document's own allocator. A refused growth is a `fmt::Error`.
+    fn fmt<W: fmt::Write>(&self, f: &mut fmt::Formatter<W>) -> fmt::Result {
+        let text = self.monochrome(self.allocator(), true)?;
+        f.write_str(text.as_str())
     }
 }
 

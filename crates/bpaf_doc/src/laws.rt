@@ -2,6 +2,8 @@
 
 ghost use Rattle.bpaf_doc.specs.ChunkPromises.{EachTextIsSpelledOnce, ChunksKeepInk, ChunksAreLines, ChunksStandInOrder, ChunksAreTexts};
 ghost use Rattle.bpaf_doc.specs.Equality.{IsEqualityOfParts};
+ghost use Rattle.bpaf_doc.specs.RoffReader.{IsReadInOneWay};
+ghost use Rattle.bpaf_doc.specs.Page.{TitlePageTakesDocument, TitledPageIsManualPage};
 
 /// Each text is spelled by exactly one list of chunks, the one that `split` gives.
 pub fn one_spelling()
@@ -36,4 +38,17 @@ pub fn chunks_are_texts()
 #[tactic(auto, using(crate::proofs::EqualityLaws::equality_of_parts))]
 pub fn equality_of_parts()
     ensures { IsEqualityOfParts }
+{}
+
+/// A roff text is read as at most one list of events.
+#[tactic(auto, using(crate::proofs::OneReading::one_reading))]
+pub fn one_reading()
+    ensures { IsReadInOneWay }
+{}
+
+/// A page that holds a title line takes a document, and is then a manual page with that title.
+#[tactic(auto, using(crate::proofs::PageRead::title_page_takes_document, crate::proofs::PageRead::titled_page_is_manual_page))]
+pub fn titled_page()
+    ensures takes { TitlePageTakesDocument }
+    ensures manual { TitledPageIsManualPage }
 {}

@@ -3,5 +3,7 @@
 
 pub mod buffer;
 pub mod console;
+pub mod html;
 pub mod laws;
+pub mod manpage;
 pub mod splitter;

@@ -82,6 +82,8 @@ impl<'a> Iterator for Splitter<'a> {
 
     ghost remaining = { item_count (λ left. left) };
 
+    // A call hands a chunk on through memory, which costs more than the chunk.
+    #[inline(always)]
     fn next(&mut self) -> Option<Chunk<'a>> {
         if self.rest.is_empty() {
             return None;

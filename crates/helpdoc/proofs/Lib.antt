@@ -1,2 +1,3 @@
-mod Texts
 mod Fronts
+mod Pages
+mod Texts

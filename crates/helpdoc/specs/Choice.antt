@@ -1,7 +1,7 @@
 -- The words that choose what the program does.
 use Rattle.std.specs.Prelude.{ℕ, List, [], ◌∷◌, codes}
 use Rattle.helpdoc.specs.declared.words.Form.{Form}
-use Rattle.helpdoc.specs.declared.words.Form.TheVariants.{Full, Brief}
+use Rattle.helpdoc.specs.declared.words.Form.TheVariants.{Full, Brief, Html, Markdown, Man}
 use Rattle.helpdoc.specs.declared.words.Choice.{Choice}
 use Rattle.helpdoc.specs.declared.words.Choice.TheVariants.{Text}
 
@@ -9,6 +9,9 @@ use Rattle.helpdoc.specs.declared.words.Choice.TheVariants.{Text}
 abbrev pub form_word : Form → List ℕ
 form_word Full = codes "full"
 form_word Brief = codes "brief"
+form_word Html = codes "html"
+form_word Markdown = codes "markdown"
+form_word Man = codes "man"
 
 -- the words for a choice
 abbrev pub spelling : Choice → List (List ℕ)

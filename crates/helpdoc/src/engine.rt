@@ -3,7 +3,8 @@
 ghost use Rattle.std.specs.Prelude.{◌≡◌, ◌≢◌, ◌↔◌, ◌⊎◌, [], List, ℕ, IsUtf8, IsOk, IfOk, IfErr, OnOk, OnErr, IsErrOf, string_bytes};
 ghost use Rattle.std.specs.Io.KnownBytes.{Appends};
 ghost use Rattle.helpdoc.specs.Watched.{IsMarked, IsUnmarked};
-ghost use Rattle.helpdoc.specs.Rendering.{IsRendering, document_of_text};
+ghost use Rattle.bpaf_doc.specs.Page.{title_page};
+ghost use Rattle.helpdoc.specs.Rendering.{IsRendering, document_of_text, title_words};
 ghost use Rattle.helpdoc.specs.Runs.{ReadsAll, ReadsText, ReadsNoText, WritesPage, WritesBeginning, WritesAllBut};
 
 use crate::ends::Watched;
@@ -11,8 +12,12 @@ use crate::faults::Fault;
 use crate::words::Form;
 use bpaf_doc::buffer::Doc;
 use bpaf_doc::console::MAX_WIDTH;
+use bpaf_roff::roff::Roff;
 use std::alloc::{AllocError, Allocator};
 use std::io::{Read, Write};
+
+// The section of a manual page for programs.
+const SECTION: &str = "1";
 
 // How many bytes a read asks for.
 const CHUNK: usize = 64 * 1024;
@@ -96,7 +101,19 @@ fn page_of<A: Allocator + Copy>(alloc: A, form: Form, text: &str) -> Result<Stri
     match form {
         Form::Full => document.render_console(alloc, true, MAX_WIDTH),
         Form::Brief => document.render_console(alloc, false, MAX_WIDTH),
+        Form::Html => document.render_html(alloc, true, false),
+        Form::Markdown => document.render_markdown(alloc, true),
+        Form::Man => document.render_roff(titled(alloc)?),
     }
+}
+
+// A manual page that has its title line and nothing else.
+fn titled<A: Allocator + Copy>(alloc: A) -> Result<Roff<A>, AllocError>
+    ensures { IfOk result (λ page. page ≡ title_page title_words) }
+{
+    let mut page = Roff::new(alloc);
+    page.append_control("TH", &["helpdoc", SECTION, "-", "-", ""])?;
+    Ok(page)
 }
 
 // Writes all of the text. Where a write fails, or takes nothing, a rest of it was not taken.

@@ -1,5 +1,5 @@
-//! `helpdoc text FORM` reads standard input as one text and writes its page; FORM is `full` or
-//! `brief`.
+//! `helpdoc text FORM` reads standard input as one text and writes its page; FORM is `full`, `brief`,
+//! `html`, `markdown` or `man`.
 #![tactic(auto)]
 
 mod ends;

@@ -23,6 +23,13 @@ const INPUT: &[u8] = b"hello\n world\n";
 
 const PAGE: &[u8] = b"hello\nworld ";
 
+const HTML: &[u8] = b"hello<br>\nworld ";
+
+const MANUAL_PAGE: &[u8] =
+    b".ie \\n(.g .ds Aq \\(aq\n.el .ds Aq '\n.TH helpdoc 1 - - \"\"\n\\fRhello\n world\n\\fP";
+
+const PARAGRAPHS: &[u8] = b"shown\n\nmore <b>";
+
 // A page in memory. The engine's promises over ends that tell their bytes say which page it is.
 fn page_of(alloc: Global, form: Form, input: &[u8]) -> Result<Vec<u8>, Fault>
     ensures { IfOk result (λ page. IsPage form (document_of_text input.now) page.items) }
@@ -35,10 +42,20 @@ fn page_of(alloc: Global, form: Form, input: &[u8]) -> Result<Vec<u8>, Fault>
 
 #[test]
 fn shows_a_text(rt: HostRuntime) -> Result<(), Fail> {
-    let rows: [(&[u8], Form, Result<&[u8], Fault>); 5] = [
+    let rows: [(&[u8], Form, Result<&[u8], Fault>); 15] = [
         (INPUT, Form::Full, Ok(PAGE)),
+        (INPUT, Form::Brief, Ok(PAGE)),
+        (INPUT, Form::Html, Ok(HTML)),
+        (INPUT, Form::Markdown, Ok(PAGE)),
+        (INPUT, Form::Man, Ok(MANUAL_PAGE)),
+        (PARAGRAPHS, Form::Full, Ok(b"shown\nmore <b>")),
+        (PARAGRAPHS, Form::Brief, Ok(b"shown\n")),
+        (PARAGRAPHS, Form::Html, Ok(b"shown<br>\nmore &lt;b&gt;")),
+        (PARAGRAPHS, Form::Markdown, Ok(b"shown\n\nmore <b>")),
         (b"", Form::Full, Ok(b"")),
         (b"", Form::Brief, Ok(b"")),
+        (b"", Form::Html, Ok(b"")),
+        (b"", Form::Markdown, Ok(b"")),
         (b"\xff", Form::Full, Err(Fault::NotUtf8)),
         (b"hello \xff", Form::Brief, Err(Fault::NotUtf8)),
     ];
@@ -92,9 +109,13 @@ fn answers_a_status(rt: HostRuntime) -> Result<(), Fail> {
 
 #[test]
 fn chooses_by_two_words(rt: HostRuntime) -> Result<(), Fail> {
-    let rows: [(&[&str], Option<Choice>); 7] = [
+    let rows: [(&[&str], Option<Choice>); 11] = [
         (&["text", "full"], Some(Choice::Text(Form::Full))),
         (&["text", "brief"], Some(Choice::Text(Form::Brief))),
+        (&["text", "html"], Some(Choice::Text(Form::Html))),
+        (&["text", "markdown"], Some(Choice::Text(Form::Markdown))),
+        (&["text", "man"], Some(Choice::Text(Form::Man))),
+        (&["sample", "man"], None),
         (&[], None),
         (&["text"], None),
         (&["text", "full", "full"], None),
@@ -212,18 +233,17 @@ fn passes_calls_on_and_keeps_the_mark(rt: HostRuntime) -> Result<(), Fail> {
 }
 
 // Each budget refuses the first growth that does not fit it; the budgets rise until one suffices.
-#[test]
-fn a_refused_growth_writes_nothing(rt: HostRuntime) -> Result<(), Fail> {
+fn refuses_until(rt: &(impl Abort + AllocGlobal), form: Form, page: &[u8]) -> Result<(), Fail> {
     let mut refused = 0u32;
     for budget in 1..1024usize {
         let heap = LocalHeap::new(rt.alloc(), budget * 16)?;
         let mut reader = Watched::new(Given::new(INPUT, Plan::BYTES));
         let mut writer = Watched::new(Taken::new(rt.alloc(), Plan::WHOLE));
-        let result = run_text(&heap, Form::Full, &mut reader, &mut writer);
+        let result = run_text(&heap, form, &mut reader, &mut writer);
         assert!(rt; !reader.failed() && !writer.failed(), "{budget}");
         let taken = writer.into_inner();
         if result == Ok(()) {
-            assert!(rt; taken.bytes.as_slice() == PAGE && refused > 0);
+            assert!(rt; taken.bytes.as_slice() == page && refused > 0);
             return Ok(());
         }
         assert!(rt;
@@ -233,6 +253,15 @@ fn a_refused_growth_writes_nothing(rt: HostRuntime) -> Result<(), Fail> {
         refused = refused.saturating_add(1);
     }
     panic!(rt; "never succeeds")
+}
+
+#[test]
+fn a_refused_growth_writes_nothing(rt: HostRuntime) -> Result<(), Fail> {
+    refuses_until(&rt, Form::Full, PAGE)?;
+    refuses_until(&rt, Form::Brief, PAGE)?;
+    refuses_until(&rt, Form::Html, HTML)?;
+    refuses_until(&rt, Form::Markdown, PAGE)?;
+    refuses_until(&rt, Form::Man, MANUAL_PAGE)
 }
 
 // The same over a whole run of the program, whose words take memory too.

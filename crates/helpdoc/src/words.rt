@@ -12,6 +12,12 @@ pub enum Form {
     Full,
     /// On a console, each text up to its first paragraph break.
     Brief,
+    /// As HTML, in full and without a style sheet.
+    Html,
+    /// As markdown, in full.
+    Markdown,
+    /// As a manual page.
+    Man,
 }
 
 /// What the program does.
@@ -43,6 +49,9 @@ fn form_of(word: &str) -> Option<Form>
     match word {
         "full" => Some(Form::Full),
         "brief" => Some(Form::Brief),
+        "html" => Some(Form::Html),
+        "markdown" => Some(Form::Markdown),
+        "man" => Some(Form::Man),
         _ => None,
     }
 }

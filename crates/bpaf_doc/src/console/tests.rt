@@ -1,6 +1,7 @@
 use crate::buffer::{Block, Doc, Token};
 use linked_list_allocator::LocalHeap;
 use std::alloc::{AllocError, Allocator, Global};
+use std::fmt::Write;
 use std::process::Abort;
 use std::test::Fail;
 
@@ -257,5 +258,39 @@ fn a_refused_growth_changes_nothing(rt: HostRuntime) -> Result<(), Fail> {
         }
     }
     assert!(rt; 0 < refused && refused < 1023);
+    Ok(())
+}
+
+#[test]
+fn display_is_the_full_text(rt: HostRuntime) -> Result<(), Fail> {
+    let doc = many_parts(rt.alloc())?;
+    let want = doc.monochrome(rt.alloc(), true)?;
+    let got = format!(in rt.alloc(); "{doc}")?;
+    assert_eq!(rt; got.as_str(), want.as_str());
+    Ok(())
+}
+
+#[test]
+fn a_refused_growth_is_an_error_of_display(rt: HostRuntime) -> Result<(), Fail> {
+    let words = "one two three four five six seven eight nine ten ";
+    let (mut refused, mut shown) = (0u64, 0u64);
+    for budget in 1..128usize {
+        let heap = LocalHeap::new(rt.alloc(), budget * 16)?;
+        let Ok(doc) = Doc::from_text(&heap, words) else {
+            continue;
+        };
+        let mut out = String::new(rt.alloc());
+        match write!(out, "{doc}") {
+            Err(AllocError) => {
+                refused = refused.saturating_add(1);
+                assert_eq!(rt; out.as_str(), "", "at {budget}");
+            }
+            Ok(()) => {
+                shown = shown.saturating_add(1);
+                assert_eq!(rt; out.as_str(), words, "at {budget}");
+            }
+        }
+    }
+    assert!(rt; 0 < refused && 0 < shown);
     Ok(())
 }

@@ -1,4 +1,4 @@
-use Rattle.std.proofs.Common.{string_bytes, ◌≡◌, ◌∙◌, ap, sym, subst, length, take}
+use Rattle.std.proofs.Common.{string_bytes, ◌∙◌, ap, sym, subst}
 use Rattle.std.specs.Str.{trim_end, IsTrimEnd}
 use Rattle.std.proofs.lemmas.Str.{IsUtf8-string_bytes}
 use Rattle.bpaf_doc.specs.Parts.{ink}

@@ -1,0 +1,8 @@
+use Rattle.std.proofs.Common.{◌≡◌}
+use Rattle.bpaf_doc.specs.Fragments.{shown_fragments}
+use Rattle.bpaf_doc.specs.MarkdownSteps.{blank_text, marked_after_all}
+use Rattle.bpaf_doc.proofs.buffer.Doc.render_markdown.Given as goal
+
+-- the text so far with what is left comes to the whole
+abbrev pub invariant-loop-fragment : goal.invariant-loop-fragment
+invariant-loop-fragment g l = marked_after_all l.page l.fragment-iterator ≡ marked_after_all blank_text (shown_fragments l.full l.self)

@@ -1,0 +1,15 @@
+-- A chunk that is shown is the first of what is left of its text.
+use Rattle.std.proofs.Common.{sym, ◌∙◌, inl, inr}
+use Rattle.bpaf_doc.specs.ChunkView.{chunk_of}
+use Rattle.bpaf_doc.proofs.Walking.{left_more, IsVisible}
+use Rattle.bpaf_doc.proofs.html.fragments.FragmentsIterator.next.Goals as goal
+use Rattle.bpaf_doc.proofs.html.fragments.FragmentsIterator.next.Goals.{else-not-self-via-then-not-self+else-is_paragraph, else-not-self-via-else-not-self}
+
+pub returns-else-not-self-clause-steps : goal.returns-else-not-self-clause-steps
+returns-else-not-self-clause-steps c =
+    let visible : IsVisible c.self.inside.full (chunk_of c.in-Some.chunk) = elim c.else-not-self.branch [
+      | else-not-self-via-then-not-self+else-is_paragraph w ↦ inr (sym w.is_paragraph.ensures ∙ w.if-is_paragraph.false)
+      | else-not-self-via-else-not-self w ↦ inl w.if-not-self.false
+    ] in
+    left_more c.args.self.now c.self.inside.full c.self.inside.in_text c.self.inside.style (chunk_of c.in-Some.chunk) c.self.inside.chunks c.next.new.self c.self.inside.depth c.self.inside.parts
+    c.self.view_is c.if-self.true c.in-Some.ensures.steps visible

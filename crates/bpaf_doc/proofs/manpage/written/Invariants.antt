@@ -1,0 +1,6 @@
+use Rattle.std.proofs.Common.{◌≡◌}
+use Rattle.bpaf_doc.specs.PageDraft.{after_parts, draft_on}
+use Rattle.bpaf_doc.proofs.manpage.written.Given as goal
+
+abbrev pub invariant-loop-part : goal.invariant-loop-part
+invariant-loop-part g l = after_parts l.writer l.part-iterator ≡ after_parts (draft_on l.fn.page) l.fn.parts

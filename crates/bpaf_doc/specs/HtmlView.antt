@@ -1,0 +1,39 @@
+-- Fragments, styles and languages of the code, as the definitions name them.
+use Rattle.std.specs.Prelude.{ℕ, Bool, true, false, List, if◌then◌else◌, []}
+use Rattle.bpaf_doc.specs.declared.buffer.Style.{Style}
+use Rattle.bpaf_doc.specs.declared.buffer.Style.TheVariants as style
+use Rattle.bpaf_doc.specs.declared.html.Styles.{Styles}
+use Rattle.bpaf_doc.specs.declared.html.Language.{Language}
+use Rattle.bpaf_doc.specs.declared.html.Language.TheVariants as language
+use Rattle.bpaf_doc.specs.declared.html.fragments.Fragment as declared
+use Rattle.bpaf_doc.specs.declared.html.fragments.Fragment.TheVariants as handed
+use Rattle.bpaf_doc.specs.ChunkView.{chunk_of}
+use Rattle.bpaf_doc.specs.Fragments.{Fragment, TextStart, Shown, TextEnd, Hidden, Start, End}
+use Rattle.bpaf_doc.specs.Html.{escaped_character}
+use Rattle.bpaf_doc.specs.Markdown.{escaped_character as markdown_character}
+
+-- the fragment that was handed out
+abbrev pub fragment_of : declared.Fragment → Fragment
+fragment_of (handed.TextStart style) = TextStart style
+fragment_of (handed.Shown style chunk) = Shown style (chunk_of chunk)
+fragment_of (handed.TextEnd style) = TextEnd style
+fragment_of handed.Hidden = Hidden
+fragment_of (handed.Start block) = Start block
+fragment_of (handed.End block) = End block
+
+-- what a style turns on
+abbrev pub styles_of : Style → Styles
+styles_of style.Text = record { mono = false; bold = false; italic = false }
+styles_of style.Emphasis = record { mono = false; bold = true; italic = false }
+styles_of style.Literal = record { mono = true; bold = true; italic = false }
+styles_of style.Metavar = record { mono = true; bold = false; italic = true }
+styles_of style.Invalid = record { mono = false; bold = true; italic = false }
+
+-- how a language writes a byte of a text
+abbrev pub spelling_of : Language → ℕ → List ℕ
+spelling_of language.Html byte = escaped_character byte
+spelling_of language.Markdown byte = markdown_character byte
+
+-- the bytes where it is turned on, and else none
+abbrev pub when : Bool → List ℕ → List ℕ
+when on bytes = if on then bytes else []

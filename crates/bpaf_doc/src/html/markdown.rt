@@ -1,0 +1,303 @@
+//! Markdown: a text that grows by one fragment after another.
+ghost use Rattle.std.specs.Prelude.{◌≡◌, ◌++◌, if◌then◌else◌, OnOk, IfOk, string_bytes};
+ghost use Rattle.bpaf_doc.specs.ChunkView.{chunk_of};
+ghost use Rattle.bpaf_doc.specs.Markdown.{IsMarkdownOf};
+ghost use Rattle.bpaf_doc.specs.HtmlView.{fragment_of};
+ghost use Rattle.bpaf_doc.specs.MarkdownSteps.{blank_text, put, with_new_line, with_blank_line, with_item, opening_marks, closing_marks, with_line, open_code, close_code, with_words, with_raw, with_chunk, text_ended, header_started, body_started, started, ended, is_term_end, marked_after};
+
+use super::fragments::{Fragment, fragments_of};
+use super::{Language, Styles, push_spelled, when};
+use crate::buffer::{Block, Doc, Style};
+use crate::splitter::Chunk;
+use std::alloc::{AllocError, Allocator};
+use std::marker::Model;
+
+/// The text so far, and what the next marks depend on.
+#[derive(Drop)]
+struct Markdown<B: Allocator> {
+    text: String<B>,
+    // Whether a heading was written.
+    headed: bool,
+    // Whether the last mark of a definition list was a start.
+    in_list: bool,
+    // Whether an item was begun, whose dash waits for the next fragment, and whether the last one was empty.
+    pending: bool,
+    empty_item: bool,
+    // How many Mono starts and ends came.
+    mono_starts: usize,
+    mono_ends: usize,
+    // Whether a code block is open.
+    in_code: bool,
+}
+
+impl<B: Allocator> Model for Markdown<B> {
+    ghost use Rattle.std.specs.Prelude.{string_bytes};
+    ghost use Rattle.bpaf_doc.specs.MarkdownSteps.{Marked};
+
+    ghost Value = { Marked };
+
+    ghost view = { λ m. record { bytes = string_bytes m.text; headed = m.headed; in_list = m.in_list; pending = m.pending; empty_item = m.empty_item; starts = m.mono_starts; ends = m.mono_ends; in_code = m.in_code } };
+}
+
+fn is_term_end(fragment: Fragment<'_>) -> bool
+    ensures { result ≡ is_term_end (fragment_of fragment.entry) }
+{
+    matches!(fragment, Fragment::End(Block::ItemTerm))
+}
+
+impl<B: Allocator> Markdown<B> {
+    fn new(alloc: B) -> Self
+        ensures { result ≡ blank_text }
+    {
+        Markdown {
+            text: String::new(alloc),
+            headed: false,
+            in_list: false,
+            pending: false,
+            empty_item: false,
+            mono_starts: 0,
+            mono_ends: 0,
+            in_code: false,
+        }
+    }
+
+    fn into_text(self) -> String<B>
+        ensures { string_bytes result ≡ self.bytes }
+    {
+        let Markdown { text, .. } = self;
+        text
+    }
+
+    // Writes marks or a text as it stands.
+    fn put(&mut self, text: &str) -> Result<(), AllocError>
+        ensures { OnOk result (self.new ≡ put self.old text.now) }
+    {
+        self.text.push_str(text)
+    }
+
+    // Goes to the start of a line, where the text is at none.
+    fn new_line(&mut self) -> Result<(), AllocError>
+        ensures { OnOk result (self.new ≡ with_new_line self.old) }
+    {
+        if !self.text.is_empty() && !self.text.as_bytes().ends_with(b"\n") {
+            self.put("\n")?;
+        }
+        Ok(())
+    }
+
+    // Ends the line and leaves an empty one, where the text ends in none.
+    fn blank_line(&mut self) -> Result<(), AllocError>
+        ensures { OnOk result (self.new ≡ with_blank_line self.old) }
+    {
+        if !self.text.is_empty() && !self.text.as_bytes().ends_with(b"\n\n") {
+            self.put("\n\n")?;
+        }
+        Ok(())
+    }
+
+    // The dash of an item that was begun, or blanks in its place where its term is empty.
+    fn item(&mut self, empty: bool) -> Result<(), AllocError>
+        ensures { OnOk result (self.new ≡ with_item self.old empty) }
+    {
+        if self.pending {
+            self.put(if empty { "  " } else { "- " })?;
+            self.empty_item = empty;
+            self.pending = false;
+        }
+        Ok(())
+    }
+
+    // Writes the marks of a text's style before it.
+    fn open_text(&mut self, style: Style) -> Result<(), AllocError>
+        ensures { OnOk result (self.new ≡ put self.old (opening_marks style)) }
+    {
+        let styles = Styles::from(style);
+        self.put(when(styles.italic, "_"))?;
+        self.put(when(styles.bold, "**"))?;
+        self.put(when(styles.mono, "`"))
+    }
+
+    // And after it, in the other order.
+    fn close_styles(&mut self, style: Style) -> Result<(), AllocError>
+        ensures { OnOk result (self.new ≡ put self.old (closing_marks style)) }
+    {
+        let styles = Styles::from(style);
+        self.put(when(styles.mono, "`"))?;
+        self.put(when(styles.bold, "**"))?;
+        self.put(when(styles.italic, "_"))
+    }
+
+    // A line of code, alone on its line.
+    fn line(&mut self, text: &str) -> Result<(), AllocError>
+        ensures { OnOk result (self.new ≡ with_line self.old text.now) }
+    {
+        self.put("  ")?;
+        self.put(text)?;
+        self.put("\n")
+    }
+
+    // A line of a code block, which it opens where none is open.
+    fn code_line(&mut self, text: &str) -> Result<(), AllocError>
+        ensures { OnOk result (self.new ≡ with_line (open_code self.old) text.now) }
+    {
+        if !self.in_code {
+            self.put("\n\n  ```text\n")?;
+            self.in_code = true;
+        }
+        self.line(text)
+    }
+
+    // Words, outside of a code block.
+    fn words(&mut self, text: &str) -> Result<(), AllocError>
+        ensures { OnOk result (self.new ≡ with_words self.old text.now) }
+    {
+        if self.in_code {
+            self.put("\n  ```\n")?;
+            self.in_code = false;
+        }
+        if self.mono_starts > self.mono_ends {
+            push_spelled(&mut self.text, text, Language::Markdown)
+        } else {
+            self.put(text)
+        }
+    }
+
+    fn raw(&mut self, text: &str, weight: usize) -> Result<(), AllocError>
+        ensures { OnOk result (self.new ≡ with_raw self.old text.now weight) }
+    {
+        if weight == Chunk::TICKED_CODE {
+            self.new_line()?;
+            self.line(text)
+        } else if weight == Chunk::CODE {
+            self.code_line(text)
+        } else {
+            self.words(text)
+        }
+    }
+
+    fn chunk(&mut self, chunk: Chunk<'_>) -> Result<(), AllocError>
+        ensures { OnOk result (self.new ≡ with_chunk self.old (chunk_of chunk.entry)) }
+    {
+        match chunk {
+            Chunk::Raw(text, weight) => self.raw(text, weight),
+            Chunk::Paragraph => self.put(if self.in_list { "\n\n  " } else { "\n\n" }),
+            Chunk::LineBreak => self.put("\n"),
+        }
+    }
+
+    // The end of a text ends its code block and its style.
+    fn end_text(&mut self, style: Style) -> Result<(), AllocError>
+        ensures { OnOk result (self.new ≡ text_ended self.old style) }
+    {
+        if self.in_code {
+            self.put("  ```\n")?;
+            self.in_code = false;
+        }
+        self.close_styles(style)
+    }
+
+    // The first header of a document is above the others.
+    fn header(&mut self) -> Result<(), AllocError>
+        ensures { OnOk result (self.new ≡ header_started self.old) }
+    {
+        self.blank_line()?;
+        self.put(if self.headed { "## " } else { "# " })?;
+        self.headed = true;
+        Ok(())
+    }
+
+    // In a definition list a body follows the dash of its item.
+    fn body(&mut self) -> Result<(), AllocError>
+        ensures { OnOk result (self.new ≡ body_started self.old) }
+    {
+        if self.in_list {
+            self.put(if self.empty_item { " " } else { " &mdash; " })?;
+        }
+        self.new_line()?;
+        self.put("  ")
+    }
+
+    fn start(&mut self, block: Block) -> Result<(), AllocError>
+        ensures { OnOk result (self.new ≡ started self.old block) }
+    {
+        match block {
+            Block::Header => self.header(),
+            Block::Section3 => self.put("### "),
+            Block::Section4 | Block::ItemTerm => {
+                self.new_line()?;
+                self.pending = true;
+                Ok(())
+            }
+            Block::ItemBody => self.body(),
+            Block::DefinitionList => {
+                self.in_list = true;
+                Ok(())
+            }
+            Block::Block => self.put("\n"),
+            Block::Mono => {
+                self.mono_starts = self.mono_starts.saturating_add(1);
+                Ok(())
+            }
+            Block::Section2 | Block::InlineBlock | Block::TermRef | Block::Meta => Ok(()),
+        }
+    }
+
+    fn end(&mut self, block: Block) -> Result<(), AllocError>
+        ensures { OnOk result (self.new ≡ ended self.old block) }
+    {
+        match block {
+            Block::Header | Block::Section2 | Block::Section3 | Block::Section4 | Block::Block => {
+                self.put("\n")
+            }
+            Block::ItemBody => self.put(if self.in_list { "\n" } else { "" }),
+            Block::DefinitionList => {
+                self.in_list = false;
+                self.put("\n")
+            }
+            Block::Mono => {
+                self.mono_ends = self.mono_ends.saturating_add(1);
+                Ok(())
+            }
+            Block::ItemTerm | Block::InlineBlock | Block::TermRef | Block::Meta => Ok(()),
+        }
+    }
+
+    fn fragment(&mut self, fragment: Fragment<'_>) -> Result<(), AllocError>
+        ensures { OnOk result (self.new ≡ marked_after self.old (fragment_of fragment.entry)) }
+    {
+        self.item(is_term_end(fragment))?;
+        match fragment {
+            Fragment::TextStart(style) => self.open_text(style),
+            Fragment::Shown(_, chunk) => self.chunk(chunk),
+            Fragment::TextEnd(style) => self.end_text(style),
+            Fragment::Hidden => Ok(()),
+            Fragment::Start(block) => self.start(block),
+            Fragment::End(block) => self.end(block),
+        }
+    }
+}
+
+impl<A: Allocator> Doc<A> {
+    /// The document as markdown, as a text in `alloc`: all of it where `full`, and else without what brief hides.
+    ///
+    /// Proved, for each document, well nested or not: the texts stand in it in order, each between the marks of its style, with
+    /// the marks of headings and lists, code in fences and on lines of its own, and newlines where breaks were asked for.
+    ///
+    /// An error comes only where a growth was refused.
+    pub fn render_markdown<B: Allocator>(
+        &self,
+        alloc: B,
+        full: bool,
+    ) -> Result<String<B>, AllocError>
+        ensures { IfOk result (λ answer. IsMarkdownOf self.now full (string_bytes answer)) }
+    {
+        // The marks can be counted: there are at most as many as parts.
+        let _count = self.len();
+        let mut page = Markdown::new(alloc);
+        for fragment in fragments_of(self, full) {
+            page.fragment(fragment)?;
+        }
+        page.item(false)?;
+        Ok(page.into_text())
+    }
+}

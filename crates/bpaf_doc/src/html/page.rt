@@ -1,0 +1,246 @@
+//! HTML: a page that grows by one fragment after another.
+ghost use Rattle.std.specs.Prelude.{◌≡◌, ◌++◌, [], if◌then◌else◌, OnOk, IfOk, string_bytes, filter};
+ghost use Rattle.bpaf_doc.specs.Parts.{IsWellNested};
+ghost use Rattle.bpaf_doc.specs.ChunkView.{chunk_of};
+ghost use Rattle.bpaf_doc.specs.Html.{IsHtmlPageOf, IsHtmlTextPageOf, is_definition_list};
+ghost use Rattle.bpaf_doc.specs.HtmlView.{fragment_of};
+ghost use Rattle.bpaf_doc.specs.HtmlSteps.{blank_page, with_text, with_break, with_words, with_heading, is_header, start_tag, end_tag, opening_tags, closing_tags, started, ended, chunk_page, page_after};
+
+use super::fragments::{Fragment, fragments_of};
+use super::{Language, Styles, push_spelled, when};
+use crate::buffer::{Block, Doc, Style};
+use crate::splitter::Chunk;
+use std::alloc::{AllocError, Allocator};
+use std::marker::Model;
+
+const BREAK: &str = "<br>\n";
+
+const STYLE_SHEET: &str = "
+<style>
+div.bpaf-doc {
+    padding: 14px;
+    background-color:var(--code-block-background-color);
+    font-family: \"Source Code Pro\", monospace;
+    margin-bottom: 0.75em;
+}
+div.bpaf-doc dt { margin-left: 1em; }
+div.bpaf-doc dd { margin-left: 3em; }
+div.bpaf-doc dl { margin-top: 0; padding-left: 1em; }
+div.bpaf-doc  { padding-left: 1em; }
+</style>";
+
+/// The page so far, and what the next tags depend on.
+#[derive(Drop)]
+struct Page<B: Allocator> {
+    text: String<B>,
+    // Whether the text is empty or ends in a break.
+    fresh: bool,
+    // Whether the innermost open block is a definition list, and the same of the blocks around it.
+    in_list: bool,
+    outer: Vec<bool, B>,
+}
+
+impl<B: Allocator> Model for Page<B> {
+    ghost use Rattle.std.specs.Prelude.{reverse, string_bytes};
+    ghost use Rattle.bpaf_doc.specs.HtmlSteps.{Written};
+
+    ghost Value = { Written };
+
+    ghost view = { λ page. record { bytes = string_bytes page.text; fresh = page.fresh; in_list = page.in_list; outer = reverse page.outer.items } };
+}
+
+// What the start of a block writes.
+fn start_tag(block: Block, in_list: bool) -> &'static str
+    ensures { result.now ≡ start_tag block in_list }
+{
+    match block {
+        Block::Header => "# ",
+        Block::Section2 => "<div>\n",
+        Block::Section3 | Block::Section4 => "<div style='padding-left: 0.5em'>",
+        Block::ItemTerm => "<dt>",
+        Block::ItemBody => { if in_list { "<dd>" } else { "<li>" } }
+        Block::DefinitionList => "<dl>",
+        Block::Block => "<p>",
+        Block::InlineBlock | Block::TermRef | Block::Meta | Block::Mono => "",
+    }
+}
+
+// What the end of a block writes.
+fn end_tag(block: Block, in_list: bool) -> &'static str
+    ensures { result.now ≡ end_tag block in_list }
+{
+    match block {
+        Block::Section2 | Block::Section3 | Block::Section4 => "</div>",
+        Block::ItemTerm => "</dt>\n",
+        Block::ItemBody => { if in_list { "</dd>\n" } else { "</li>\n" } }
+        Block::DefinitionList => "</dl>\n",
+        Block::Block => "</p>",
+        Block::Header | Block::InlineBlock | Block::TermRef | Block::Meta | Block::Mono => "",
+    }
+}
+
+fn is_header(block: Block) -> bool
+    ensures { result ≡ is_header block }
+{
+    matches!(block, Block::Header)
+}
+
+fn is_list(block: Block) -> bool
+    ensures { result ≡ is_definition_list block }
+{
+    matches!(block, Block::DefinitionList)
+}
+
+impl<B: Allocator + Copy> Page<B> {
+    fn new(alloc: B) -> Self
+        ensures { result ≡ blank_page }
+    {
+        Page {
+            text: String::new(alloc),
+            fresh: true,
+            in_list: false,
+            outer: Vec::new(alloc),
+        }
+    }
+}
+
+impl<B: Allocator> Page<B> {
+    fn into_text(self) -> String<B>
+        ensures { string_bytes result ≡ self.bytes }
+    {
+        let Page {
+            text,
+            fresh: _,
+            in_list: _,
+            outer: _,
+        } = self;
+        text
+    }
+
+    // Writes tags or a text as it stands.
+    fn put(&mut self, text: &str) -> Result<(), AllocError>
+        ensures { OnOk result (self.new ≡ with_text self.old text.now) }
+    {
+        self.text.push_str(text)?;
+        self.fresh = self.fresh && text.is_empty();
+        Ok(())
+    }
+
+    // Writes a break.
+    fn put_break(&mut self) -> Result<(), AllocError>
+        ensures { OnOk result (self.new ≡ with_break self.old) }
+    {
+        self.text.push_str(BREAK)?;
+        self.fresh = true;
+        Ok(())
+    }
+
+    // Writes a text with its angles as entities.
+    fn put_words(&mut self, text: &str) -> Result<(), AllocError>
+        ensures { OnOk result (self.new ≡ with_words self.old text.now) }
+    {
+        push_spelled(&mut self.text, text, Language::Html)?;
+        self.fresh = self.fresh && text.is_empty();
+        Ok(())
+    }
+
+    // A break before and after a heading, unless there is one.
+    fn head(&mut self, block: Block) -> Result<(), AllocError>
+        ensures { OnOk result (self.new ≡ with_heading self.old block) }
+    {
+        if is_header(block) && !self.fresh {
+            self.put_break()?;
+        }
+        Ok(())
+    }
+
+    // Opens the tags of a text's style.
+    fn open_text(&mut self, style: Style) -> Result<(), AllocError>
+        ensures { OnOk result (self.new ≡ with_text self.old (opening_tags style)) }
+    {
+        let styles = Styles::from(style);
+        self.put(when(styles.mono, "<tt>"))?;
+        self.put(when(styles.bold, "<b>"))?;
+        self.put(when(styles.italic, "<i>"))
+    }
+
+    // Closes them, in the other order.
+    fn close_text(&mut self, style: Style) -> Result<(), AllocError>
+        ensures { OnOk result (self.new ≡ with_text self.old (closing_tags style)) }
+    {
+        let styles = Styles::from(style);
+        self.put(when(styles.italic, "</i>"))?;
+        self.put(when(styles.bold, "</b>"))?;
+        self.put(when(styles.mono, "</tt>"))
+    }
+
+    // The start of a block: its tag, and what it means for the blocks in it.
+    fn start(&mut self, block: Block) -> Result<(), AllocError>
+        ensures { OnOk result (self.new ≡ started self.old block) }
+    {
+        self.head(block)?;
+        self.put(start_tag(block, self.in_list))?;
+        self.outer.push(self.in_list)?;
+        self.in_list = is_list(block);
+        Ok(())
+    }
+
+    // The end of a block: its tag, and again what held before its start.
+    fn end(&mut self, block: Block) -> Result<(), AllocError>
+        ensures { OnOk result (self.new ≡ ended self.old block) }
+    {
+        self.in_list = self.outer.pop().unwrap_or(false);
+        self.head(block)?;
+        self.put(end_tag(block, self.in_list))
+    }
+
+    fn chunk(&mut self, chunk: Chunk<'_>) -> Result<(), AllocError>
+        ensures { OnOk result (self.new ≡ chunk_page self.old (chunk_of chunk.entry)) }
+    {
+        match chunk {
+            Chunk::Raw(text, _) => self.put_words(text),
+            Chunk::Paragraph | Chunk::LineBreak => self.put_break(),
+        }
+    }
+
+    fn fragment(&mut self, fragment: Fragment<'_>) -> Result<(), AllocError>
+        ensures { OnOk result (self.new ≡ page_after self.old (fragment_of fragment.entry)) }
+    {
+        match fragment {
+            Fragment::TextStart(style) => self.open_text(style),
+            Fragment::Shown(_, chunk) => self.chunk(chunk),
+            Fragment::TextEnd(style) => self.close_text(style),
+            Fragment::Hidden => Ok(()),
+            Fragment::Start(block) => self.start(block),
+            Fragment::End(block) => self.end(block),
+        }
+    }
+}
+
+impl<A: Allocator> Doc<A> {
+    /// The document as HTML, as a text in `alloc`: all of it where `full`, and else without what brief hides. With
+    /// `include_css` the style sheet follows it.
+    ///
+    /// Proved: for a well-nested document the HTML is well nested, with the tags of its styles and blocks in their places,
+    /// and a `<br>` where a break was asked for. For each document it has, its tags and newlines taken out, the shown texts
+    /// and nothing else, with `<` and `>` as entities and `# ` at each header.
+    ///
+    /// An error comes only where a growth was refused, of the text or of the list of open blocks.
+    pub fn render_html<B: Allocator + Copy>(
+        &self,
+        alloc: B,
+        full: bool,
+        include_css: bool,
+    ) -> Result<String<B>, AllocError>
+        ensures html { IfOk result (λ answer. IsWellNested self.now → IsHtmlPageOf self.now full include_css (string_bytes answer)) }
+        ensures text { IfOk result (λ answer. IsHtmlTextPageOf self.now full include_css (string_bytes answer)) }
+    {
+        let mut page = Page::new(alloc);
+        for fragment in fragments_of(self, full) {
+            page.fragment(fragment)?;
+        }
+        let mut text = page.into_text();
+        text.push_str(when(include_css, STYLE_SHEET))?;
+        Ok(text)
+    }
+}
