@@ -1,0 +1,13 @@
+pub mod Keeps
+pub mod Shaped
+pub mod Plain
+pub mod Twice
+pub mod Late
+pub mod Views
+pub mod Parts
+pub mod Marks
+pub mod Among
+pub mod Found
+pub mod Lines
+pub mod Written
+pub mod NestedWrites
