@@ -23,6 +23,7 @@ mod ReadBack
 pub mod PageRead
 mod LookingBack
 mod PageDrafts
+mod Printable
 mod PageRows
 pub mod LayoutState
 pub mod LayoutBack

@@ -1,5 +1,5 @@
 -- Fragments, styles and languages of the code, as the definitions name them.
-use Rattle.std.specs.Prelude.{ℕ, Bool, true, false, List, if◌then◌else◌, []}
+use Rattle.std.specs.Prelude.{◌≡◌, ◌≢◌, ℕ, ◌<◌, Bool, true, false, List, if◌then◌else◌, [], ◌∷◌, length, take, slice_index, flat_map}
 use Rattle.bpaf_doc.specs.declared.buffer.Style.{Style}
 use Rattle.bpaf_doc.specs.declared.buffer.Style.TheVariants as style
 use Rattle.bpaf_doc.specs.declared.html.Styles.{Styles}
@@ -33,6 +33,15 @@ styles_of style.Invalid = record { mono = false; bold = true; italic = false }
 abbrev pub spelling_of : Language → ℕ → List ℕ
 spelling_of language.Html byte = escaped_character byte
 spelling_of language.Markdown byte = markdown_character byte
+
+-- each of these bytes stays as it is
+abbrev pub IsPlain : Language → List ℕ → Type 0
+IsPlain language bytes = flat_map (spelling_of language) bytes ≡ bytes
+
+-- the text is plain up to this place, where an ASCII character stands that is written in another way
+abbrev pub IsFirstSpelled : Language → List ℕ → ℕ → Type 0
+IsFirstSpelled language text at =
+    (at < length text) × IsPlain language (take at text) × (slice_index text at < 128) × (spelling_of language (slice_index text at) ≢ slice_index text at ∷ [])
 
 -- the bytes where it is turned on, and else none
 abbrev pub when : Bool → List ℕ → List ℕ

@@ -1,10 +1,11 @@
 //! A document as HTML and as markdown. `fragments` says for both what is shown, one piece after another; `page` writes the
 //! pieces as HTML, and `markdown` as markdown.
-ghost use Rattle.std.specs.Prelude.{◌≡◌, ◌<◌, ◌∷◌, ◌++◌, [], MatchOption, OnOk, string_bytes};
+ghost use Rattle.std.specs.Prelude.{◌≡◌, ◌≢◌, ◌∷◌, ◌++◌, [], MatchOption, OnOk, string_bytes};
 ghost use Rattle.std.specs.List.{flat_map};
-ghost use Rattle.bpaf_doc.specs.HtmlView.{styles_of, spelling_of, when};
+ghost use Rattle.bpaf_doc.specs.HtmlView.{styles_of, spelling_of, when, IsPlain, IsFirstSpelled};
 
 use crate::buffer::Style;
+use memchr::memchr2;
 use std::alloc::{AllocError, Allocator};
 
 mod fragments;
@@ -61,16 +62,26 @@ enum Language {
 }
 
 impl Language {
-    // What stands for the character with this byte, if it has another spelling.
-    fn spelling(self, byte: u8) -> Option<&'static str>
-        ensures { MatchOption result (spelling_of self byte ≡ byte ∷ []) (λ spelling. (byte < 128) × (spelling_of self byte ≡ spelling.now)) }
+    // Where the first character with another spelling stands.
+    fn find(self, text: &str) -> Option<usize>
+        ensures { MatchOption result (IsPlain self text.now) (λ at. IsFirstSpelled self text.now at) }
+    {
+        match self {
+            Language::Html => memchr2(b'<', b'>', text.as_bytes()),
+            Language::Markdown => memchr2(b'[', b']', text.as_bytes()),
+        }
+    }
+
+    // The other spelling of a character that has one.
+    fn spelling(self, byte: u8) -> &'static str
+        requires { spelling_of self byte ≢ byte ∷ [] }
+        ensures { result.now ≡ spelling_of self byte }
     {
         match (self, byte) {
-            (Language::Html, b'<') => Some("&lt;"),
-            (Language::Html, b'>') => Some("&gt;"),
-            (Language::Markdown, b'[') => Some("\\["),
-            (Language::Markdown, b']') => Some("\\]"),
-            _ => None,
+            (Language::Html, b'<') => "&lt;",
+            (Language::Html, _) => "&gt;",
+            (Language::Markdown, b'[') => "\\[",
+            (Language::Markdown, _) => "\\]",
         }
     }
 }
@@ -83,13 +94,11 @@ fn push_spelled<B: Allocator>(
 ) -> Result<(), AllocError>
     ensures { OnOk result (string_bytes out.new ≡ string_bytes out.old ++ flat_map (spelling_of language) text.now) }
 {
-    let mut from = 0;
-    for (at, byte) in text.as_bytes().iter().enumerate() {
-        if let Some(spelling) = language.spelling(*byte) {
-            out.push_str(&text[from..at])?;
-            out.push_str(spelling)?;
-            from = at + 1;
-        }
+    let mut rest = text;
+    while let Some(at) = language.find(rest) {
+        out.push_str(&rest[..at])?;
+        out.push_str(language.spelling(rest.as_bytes()[at]))?;
+        rest = &rest[at + 1..];
     }
-    out.push_str(&text[from..])
+    out.push_str(rest)
 }

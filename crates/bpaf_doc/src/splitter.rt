@@ -1,13 +1,15 @@
 //! A text into chunks: words, blanks, line breaks, paragraph breaks and code lines.
 
-ghost use Rattle.std.specs.Prelude.{◌≡◌, ◌≢◌, [], ◌∷◌, ◌++◌, IsTrue};
+ghost use Rattle.std.specs.Prelude.{◌≡◌, ◌≢◌, ◌≤◌, [], ◌∷◌, ◌++◌, length, take, IsTrue};
+ghost use Rattle.std.specs.Char.{is_ascii_graphic};
 ghost use Rattle.std.specs.Iterator.{YieldsFirstBy, item_count};
 ghost use Rattle.std.specs.List.{All, flat_map, list_all};
-ghost use Rattle.bpaf_doc.specs.Chunks.{Paragraph, Plain, Opening, Later, Spells, IsLine, IsLineEnd, IsPastNewline, IsWordEnd, chunk_ink, chunks_in, chunks_of, is_word_byte};
+ghost use Rattle.bpaf_doc.specs.Chunks.{Paragraph, Plain, Opening, Later, Spells, IsLine, IsLineEnd, IsPastNewline, IsWordEnd, chunk_ink, chunks_in, chunks_of, columns, is_word_byte};
 ghost use Rattle.bpaf_doc.specs.ChunkPromises.{IsOneLine, StandInOrder};
 ghost use Rattle.bpaf_doc.specs.Parts.{ink};
 ghost use Rattle.bpaf_doc.specs.ChunkView.{chunk_of};
 
+use memchr::memchr;
 use std::marker::Model;
 use unicode_width::UnicodeWidthStr;
 
@@ -82,7 +84,7 @@ impl<'a> Iterator for Splitter<'a> {
 
     ghost remaining = { item_count (λ left. left) };
 
-    // A call hands a chunk on through memory, which costs more than the chunk.
+    // This and what it calls is inlined: a call hands a chunk on through memory, which costs more than cutting it.
     #[inline(always)]
     fn next(&mut self) -> Option<Chunk<'a>> {
         if self.rest.is_empty() {
@@ -99,6 +101,7 @@ impl<'a> Iterator for Splitter<'a> {
 }
 
 // The first chunk of a text outside of a fence, and those after it.
+#[inline(always)]
 fn next_plain(text: &str) -> (Chunk<'_>, Splitter<'_>)
     requires { text.now ≢ [] }
     ensures { chunks_in Plain text.now ≡ chunk_of result.0 ∷ result.1 }
@@ -108,12 +111,13 @@ fn next_plain(text: &str) -> (Chunk<'_>, Splitter<'_>)
     } else if let Some(rest) = text.strip_prefix(' ') {
         (Chunk::Raw(" ", 1), split(rest))
     } else {
-        let (word, rest) = cut_word(text);
-        (Chunk::Raw(word, word.width()), split(rest))
+        let (word, columns, rest) = cut_word(text);
+        (Chunk::Raw(word, columns), split(rest))
     }
 }
 
 // The first chunk of a newline and this text, outside of a fence, and those after it.
+#[inline(always)]
 fn after_newline(text: &str) -> (Chunk<'_>, Splitter<'_>)
     ensures { chunks_in Plain (10 ∷ text.now) ≡ chunk_of result.0 ∷ result.1 }
 {
@@ -130,6 +134,7 @@ fn after_newline(text: &str) -> (Chunk<'_>, Splitter<'_>)
 }
 
 // What is left of two newlines and the text after their paragraph break. `line` is the second newline and the text.
+#[inline(always)]
 fn after_paragraph<'a>(line: &'a str, text: &'a str) -> Splitter<'a>
     requires { line.now ≡ 10 ∷ text.now }
     ensures { chunks_in Plain (10 ∷ line.now) ≡ Paragraph ∷ result }
@@ -147,6 +152,7 @@ fn after_paragraph<'a>(line: &'a str, text: &'a str) -> Splitter<'a>
 }
 
 // The opening line of a fence, which this text begins with, and the chunks after it.
+#[inline(always)]
 fn next_opening(text: &str) -> (Chunk<'_>, Splitter<'_>)
     requires { text.now ≢ [] }
     ensures { chunks_in Opening text.now ≡ chunk_of result.0 ∷ result.1 }
@@ -160,6 +166,7 @@ fn next_opening(text: &str) -> (Chunk<'_>, Splitter<'_>)
 }
 
 // A later line of a fence, which this text begins with, and the chunks after it.
+#[inline(always)]
 fn next_later(text: &str) -> (Chunk<'_>, Splitter<'_>)
     requires { text.now ≢ [] }
     ensures { chunks_in Later text.now ≡ chunk_of result.0 ∷ result.1 }
@@ -180,19 +187,70 @@ fn next_later(text: &str) -> (Chunk<'_>, Splitter<'_>)
 }
 
 // The text up to its first newline, and the rest.
+#[inline(always)]
 fn cut_line(text: &str) -> (&str, &str)
     ensures whole { text.now ≡ result.0.now ++ result.1.now }
     ensures line { IsLine result.0.now }
     ensures end { IsLineEnd result.1.now }
 {
-    match text.find('\n') {
+    match memchr(b'\n', text.as_bytes()) {
         Some(end) => text.split_at(end),
         None => (text, ""),
     }
 }
 
+// The text up to its first newline or blank, the columns of that, and the rest. Each printable ASCII character takes a
+// column, so that most words are read once.
+#[inline(always)]
+fn cut_word(text: &str) -> (&str, usize, &str)
+    ensures whole { text.now ≡ result.0.now ++ result.2.now }
+    ensures word { IsTrue (list_all is_word_byte result.0.now) }
+    ensures columns { result.1 ≡ columns result.0.now }
+    ensures end { IsWordEnd result.2.now }
+{
+    let printable = printable_len(text);
+    let (word, rest) = text.split_at(printable);
+    if is_word_end(rest) {
+        return (word, printable, rest);
+    }
+    cut_any_word(text)
+}
+
+// The same for a word with any characters in it.
+#[inline(always)]
+fn cut_any_word(text: &str) -> (&str, usize, &str)
+    ensures whole { text.now ≡ result.0.now ++ result.2.now }
+    ensures word { IsTrue (list_all is_word_byte result.0.now) }
+    ensures columns { result.1 ≡ columns result.0.now }
+    ensures end { IsWordEnd result.2.now }
+{
+    let (word, rest) = split_word(text);
+    (word, word.width(), rest)
+}
+
+// How many printable ASCII characters the text begins with, blanks left out.
+fn printable_len(text: &str) -> usize
+    ensures len { result ≤ length text.now }
+    ensures printable { IsTrue (list_all is_ascii_graphic (take result text.now)) }
+{
+    let bytes = text.as_bytes();
+    let mut len = 0;
+    'printable: while len < bytes.len() && bytes[len].is_ascii_graphic() {
+        len += 1;
+    }
+    len
+}
+
+// Whether a newline, a blank or the end comes next.
+fn is_word_end(rest: &str) -> bool
+    ensures { IsTrue result → IsWordEnd rest.now }
+{
+    matches!(rest.as_bytes(), [] | [b'\n' | b' ', ..])
+}
+
 // The text up to its first newline or blank, and the rest.
-fn cut_word(text: &str) -> (&str, &str)
+#[inline(always)]
+fn split_word(text: &str) -> (&str, &str)
     ensures whole { text.now ≡ result.0.now ++ result.1.now }
     ensures word { IsTrue (list_all is_word_byte result.0.now) }
     ensures end { IsWordEnd result.1.now }

@@ -2,7 +2,9 @@
 ghost use Rattle.std.specs.Prelude.{◌≡◌, ◌++◌, IfOk, OnOk, string_bytes, replicate};
 ghost use Rattle.std.specs.Str.{trim_end};
 ghost use Rattle.bpaf_doc.specs.Parts.{ink};
-ghost use Rattle.bpaf_doc.specs.Chunks.{chunks_of};
+ghost use Rattle.std.specs.Int.{is_in_range};
+ghost use Rattle.std.specs.List.{list_all};
+ghost use Rattle.bpaf_doc.specs.Chunks.{chunks_of, columns};
 ghost use Rattle.bpaf_doc.specs.Shown.{mark_bytes};
 ghost use Rattle.bpaf_doc.specs.ConsoleSteps.{shown_ink, hides};
 ghost use Rattle.bpaf_doc.specs.ConsolePage.{sheet_of, blank_sheet, text_put, opened, closed, finished, raw_put, wraps, room_made, placed, asked_put, lacks_newline, lacks_blank_line, wrapped, padded, blanks_put, newline_put, marked, margin_pushed, margin_of, columns_of, asked_by_start, asked_by_end, indent_of};
@@ -277,8 +279,30 @@ fn columns_of(raw: &str, weight: usize) -> usize
     if weight < Chunk::CODE {
         weight
     } else {
-        raw.width()
+        line_columns(raw)
     }
+}
+
+// The columns of a line. Each printable ASCII character takes one, and most lines hold no other.
+fn line_columns(line: &str) -> usize
+    ensures { result ≡ columns line.now }
+{
+    if is_printable(line.as_bytes()) {
+        line.len()
+    } else {
+        line.width()
+    }
+}
+
+// Whether all of these are printable ASCII. It looks at each, whatever came before, so that it looks at many at once.
+fn is_printable(bytes: &[u8]) -> bool
+    ensures { result ≡ list_all (is_in_range 0x20 0x7E) bytes.now }
+{
+    let mut printable = true;
+    for byte in bytes {
+        printable &= (0x20..=0x7E).contains(byte);
+    }
+    printable
 }
 
 // What has to stand before the next text, after the start of a block.

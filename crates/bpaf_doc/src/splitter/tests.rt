@@ -64,6 +64,19 @@ fn wide_characters(rt: HostRuntime) {
     assert_chunks(&rt, text, &[Chunk::Raw(text, 2)]);
 }
 
+// A word that begins with printable ASCII and goes on with something else.
+#[test]
+fn other_characters(rt: HostRuntime) {
+    let expected = [
+        Chunk::Raw("n\u{e9}\tx", 4),
+        Chunk::Raw(" ", 1),
+        Chunk::Raw("y\u{7f}z", 3),
+        Chunk::Raw(" ", 1),
+        Chunk::Raw("ab\u{65e5}", 4),
+    ];
+    assert_chunks(&rt, "n\u{e9}\tx y\u{7f}z\nab\u{65e5}", &expected);
+}
+
 // One text for each line of the rules, where no row above has it.
 #[test]
 fn breaks(rt: HostRuntime) {

@@ -37,6 +37,8 @@ fn write_spaces<A: Allocator>(out: &mut Vec<u8, A>, byte: u8) -> Result<(), Allo
     Ok(())
 }
 
+// Inlined, since a call for each byte costs more than the byte.
+#[inline(always)]
 fn write_special<A: Allocator>(
     out: &mut Vec<u8, A>,
     apostrophes: Apostrophes,

@@ -1,12 +1,15 @@
-use Rattle.std.proofs.Common.{◌≡◌, ◌≤◌, ◌++◌, take, drop}
+use Rattle.std.proofs.Common.{◌≡◌, ◌++◌, length}
 use Rattle.std.specs.Prelude.{string_bytes}
 use Rattle.std.specs.List.{flat_map}
-use Rattle.std.specs.Str.{IsCharBoundary}
+use denote.Text.{Utf8}
+use denote.Shadow.{shadow}
 use Rattle.bpaf_doc.specs.HtmlView.{spelling_of}
 use Rattle.bpaf_doc.proofs.html.push_spelled.Given as goal
 
--- what is written, and the run that is not yet, is the text so far in its spelling
+-- what is written and the rest in its spelling are the whole text in its spelling
 abbrev pub invariant-loop-at : goal.invariant-loop-at
-invariant-loop-at g l =
-    (l.from ≤ l.at) × IsCharBoundary l.text l.from
-    × (string_bytes l.out ++ drop l.from (take l.at l.text) ≡ string_bytes l.initial.out ++ flat_map (spelling_of l.language) (take l.at l.text))
+invariant-loop-at g l = shadow (Utf8 l.rest)
+    × (string_bytes l.out ++ flat_map (spelling_of l.language) l.rest ≡ string_bytes l.initial.out ++ flat_map (spelling_of l.language) l.text)
+
+abbrev pub decreases-loop-at : goal.decreases-loop-at
+decreases-loop-at g l = length l.rest

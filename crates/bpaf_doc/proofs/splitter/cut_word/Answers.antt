@@ -1,18 +1,17 @@
-use Rattle.std.proofs.Common.{IsTrue, sym, subst, refl}
+use Rattle.std.proofs.Common.{sym, ◌∙◌, subst, ◌≡◌, true}
 use Rattle.std.specs.List.{list_all}
-use Rattle.bpaf_doc.specs.Chunks.{is_word_byte, IsWordEnd}
-use Rattle.bpaf_doc.proofs.ChunkCuts.{is_cut, word_from_no_cut, word_end_at}
+use Rattle.std.specs.Char.{is_ascii_graphic}
+use Rattle.bpaf_doc.proofs.Printable.{printable_word, printable_columns, printable_cut}
 use Rattle.bpaf_doc.proofs.splitter.cut_word.Goals as goal
 
-pub returns-in-Some-clause-word : goal.returns-in-Some-clause-word
-returns-in-Some-clause-word c =
-    subst (λ word. IsTrue (list_all is_word_byte word)) (sym c.split_at.ensures.front)
-    (word_from_no_cut _ (c.in-Some.ensures.cases.1 is_cut (λ _. refl)).0)
+pub split_at-requires : goal.split_at-requires
+split_at-requires c = printable_cut c.args.text.now c.printable_len-printable.result c.utf8.text c.printable_len-printable.ensures.len c.printable_len-printable.ensures.printable
 
-pub returns-in-Some-clause-end : goal.returns-in-Some-clause-end
-returns-in-Some-clause-end c =
-    subst (λ rest. IsWordEnd rest) (sym c.split_at.ensures.back)
-    (word_end_at c.args.text.now c.in-Some.end _ (c.in-Some.ensures.cases.1 is_cut (λ _. refl)).1)
+pub returns-then-is_word_end-clause-word : goal.returns-then-is_word_end-clause-word
+returns-then-is_word_end-clause-word c =
+    printable_word c.split_at.result.0.now (subst (λ bytes. list_all is_ascii_graphic bytes ≡ true) (sym c.split_at.ensures.front) c.printable_len-printable.ensures.printable)
 
-pub returns-in-None-clause-word : goal.returns-in-None-clause-word
-returns-in-None-clause-word c = word_from_no_cut c.args.text.now (c.in-None.ensures.cases is_cut (λ _. refl))
+pub returns-then-is_word_end-clause-columns : goal.returns-then-is_word_end-clause-columns
+returns-then-is_word_end-clause-columns c =
+    sym c.split_at.ensures.front_len
+    ∙ printable_columns c.split_at.result.0.now (subst (λ bytes. list_all is_ascii_graphic bytes ≡ true) (sym c.split_at.ensures.front) c.printable_len-printable.ensures.printable)

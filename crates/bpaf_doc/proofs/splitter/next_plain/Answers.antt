@@ -10,7 +10,7 @@ returns-in-Some-strip_prefix c =
 
 pub returns-in_default-strip_prefix : goal.returns-in_default-strip_prefix
 returns-in_default-strip_prefix c =
-    word_first c.args.text.now c.cut_word.result.0.now c.cut_word.result.1.now c.width.result c.split-in_default-strip_prefix.result c.requires
+    word_first c.args.text.now c.cut_word-columns.result.0.now c.cut_word-columns.result.2.now c.cut_word-columns.result.1 c.split-in_default-strip_prefix.result c.requires
     (strip_prefix_char 10 c.args.text.now None c.in_default.ensures.cases (lit< tt))
     (strip_prefix_char 32 c.args.text.now None c.in_default-strip_prefix.ensures.cases (lit< tt))
-    c.cut_word.ensures.whole c.cut_word.ensures.word c.cut_word.ensures.end c.width.ensures.value c.split-in_default-strip_prefix.ensures.value
+    c.cut_word-columns.ensures.whole c.cut_word-columns.ensures.word c.cut_word-columns.ensures.end c.cut_word-columns.ensures.columns c.split-in_default-strip_prefix.ensures.value
