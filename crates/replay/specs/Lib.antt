@@ -1,0 +1,4 @@
+pub mod Encoding
+pub mod Progress
+pub mod Replay
+pub mod Words

@@ -1,0 +1,41 @@
+-- How far a run has come within a line. The bytes of a line are written as they are read.
+use Rattle.std.specs.Prelude.{◌≡◌, ◌≢◌, ℕ, suc, Bool, Option, Some, None, List, [], ◌++◌, length, MatchBool}
+use Rattle.std.specs.Borrow.{Bor}
+use Rattle.std.specs.List.{slice_split}
+use Rattle.std.specs.Io.KnownBytes.{Appends}
+use Rattle.replay.specs.Replay.{IsOneLine, Replies, is_comma}
+
+-- what is kept of the bytes of a line: all of them, or that memory did not last
+abbrev pub Keeps : List ℕ → Bool → List ℕ → Type 0
+Keeps kept lost line = MatchBool lost (line ≢ []) (kept ≡ line)
+
+-- From within a line to within another one: the bytes were read and the output was written. Whatever completes the second line
+-- completes the first.
+pub record Goes (line bytes output next : List ℕ) : Type 0 where
+  pub done : List ℕ
+  pub written : line ++ output ≡ done ++ next
+  pub completed : (rest others : List ℕ) → Replies (next ++ rest) others → Replies (line ++ (bytes ++ rest)) (done ++ others)
+  pub one_line : IsOneLine next
+
+-- the bytes were read within this line, and the writer and what is kept went along
+pub record GoesOn (bytes line kept : List ℕ) (lost : Bool) (held now : Option (List ℕ)) : Type 0 where
+  pub output : List ℕ
+  pub next : List ℕ
+  pub goes : Goes line bytes output next
+  pub keeps : Keeps kept lost next
+  pub appended : Appends held now output
+
+-- the input ended within this line
+pub record Ends (line : List ℕ) (held now : Option (List ℕ)) : Type 0 where
+  pub output : List ℕ
+  pub replies : Replies line (line ++ output)
+  pub appended : Appends held now output
+
+-- the widths that are left of a line's, between commas
+abbrev pub widths_left : Option (Bor (List ℕ)) → List (List ℕ)
+widths_left None = []
+widths_left (Some text) = slice_split is_comma text.now
+
+abbrev pub left_len : Option (Bor (List ℕ)) → ℕ
+left_len None = 0
+left_len (Some text) = suc (length text.now)

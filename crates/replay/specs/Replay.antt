@@ -1,0 +1,94 @@
+-- What a run writes of what it reads: each line with its answers.
+use Rattle.std.specs.Prelude.{◌≡◌, ◌≢◌, ◌⊎◌, ℕ, ◌==◌, Bool, false, Option, Some, List, [], ◌∷◌, ◌++◌, codes, flat_map, slice_index}
+use Rattle.std.specs.List.{list_any, slice_split}
+use Rattle.std.specs.Io.KnownBytes.{Appends, Consumes, IsAtEnd}
+use Rattle.replay.specs.Words.{after_word, next_word}
+
+abbrev pub is_newline : ℕ → Bool
+is_newline b = b == 10
+
+-- the bytes have no newline
+abbrev pub IsOneLine : List ℕ → Type 0
+IsOneLine bytes = list_any is_newline bytes ≡ false
+
+-- ---- answers
+
+-- the line of an answer
+abbrev pub answer_line : List ℕ → List ℕ → List ℕ
+answer_line key text = codes "= " ++ key ++ codes " " ++ text ++ codes "\n"
+
+-- the new bytes are the old ones, and then an answer for each key, in order
+abbrev pub AddsAnswers : List (List ℕ) → List ℕ → List ℕ → Type 0
+AddsAnswers [] old new = new ≡ old
+AddsAnswers (key ∷ keys) old new = (text : List ℕ) × IsOneLine text × AddsAnswers keys (old ++ answer_line key text) new
+
+-- ---- keys
+
+abbrev pub is_comma : ℕ → Bool
+is_comma b = b == 44
+
+-- the two console pages at each width
+abbrev pub console_keys : List (List ℕ) → List (List ℕ)
+console_keys widths = flat_map (λ width. (codes "cf" ++ width) ∷ (codes "cb" ++ width) ∷ []) widths
+
+abbrev pub page_keys : List (List ℕ)
+page_keys = codes "hf" ∷ codes "hb" ∷ codes "mf" ∷ codes "mb" ∷ codes "rf" ∷ codes "fl" ∷ []
+
+-- the keys for all of a document, with its widths between commas
+abbrev pub document_keys : List ℕ → List (List ℕ)
+document_keys widths = console_keys (slice_split is_comma widths) ++ page_keys
+
+abbrev pub tree_keys : List (List ℕ)
+tree_keys =
+    codes "n1" ∷ codes "u1" ∷ codes "um1" ∷ codes "n0" ∷ codes "u0" ∷ codes "um0" ∷ codes "ck" ∷ codes "sh" ∷ codes "fi" ∷ codes "se" ∷ codes "fg" ∷ []
+
+abbrev pub help_keys : List (List ℕ)
+help_keys = codes "hf" ∷ codes "hb" ∷ []
+
+abbrev pub application_keys : List (List ℕ)
+application_keys = codes "gr" ∷ codes "ah" ∷ codes "am" ∷ codes "mn" ∷ []
+
+-- the keys that the answers to a line may have
+pub data HasKeys : List ℕ → List (List ℕ) → Type 0 where
+  -- the line is no request, or memory did not last
+  bad : {line : List ℕ} {keys : List (List ℕ)} → keys ≡ codes "BAD" ∷ [] → HasKeys line keys
+  document : {line : List ℕ} {keys : List (List ℕ)} (widths : List ℕ) → next_word line ≡ Some (codes "alldoc") → next_word (after_word line) ≡ Some widths
+      → keys ≡ document_keys widths → HasKeys line keys
+  tree : {line : List ℕ} {keys : List (List ℕ)} → next_word line ≡ Some (codes "alltree") → keys ≡ tree_keys ++ help_keys ++ application_keys → HasKeys line keys
+  -- a tree with a misplaced item has no help page
+  misplaced : {line : List ℕ} {keys : List (List ℕ)} → next_word line ≡ Some (codes "alltree") → keys ≡ tree_keys ++ application_keys → HasKeys line keys
+  -- any other request has one answer
+  single : {line : List ℕ} {keys : List (List ℕ)} (word : List ℕ) → next_word line ≡ Some word → word ≢ codes "alldoc" → word ≢ codes "alltree"
+      → keys ≡ word ∷ [] → HasKeys line keys
+
+-- ---- lines
+
+-- an empty line, or one that begins with `#`
+abbrev pub IsPassedOver : List ℕ → Type 0
+IsPassedOver line = (line ≡ []) ⊎ (slice_index line 0 ≡ 35)
+
+-- what stands below a line: nothing, or answers with its keys
+abbrev pub IsAnswered : List ℕ → List ℕ → Type 0
+IsAnswered line answers = (IsPassedOver line × (answers ≡ [])) ⊎ ((keys : List (List ℕ)) × HasKeys line keys × AddsAnswers keys [] answers)
+
+-- the line, a newline, and its answers
+abbrev pub IsReply : List ℕ → List ℕ → Type 0
+IsReply line reply = (answers : List ℕ) × (reply ≡ line ++ 10 ∷ answers) × IsAnswered line answers
+
+-- the output has, for the lines of the input in order, each line with its answers
+pub data Replies : List ℕ → List ℕ → Type 0 where
+  nothing : {input output : List ℕ} → input ≡ [] → output ≡ [] → Replies input output
+  -- a last line may lack its newline
+  last : {input output : List ℕ} → input ≢ [] → IsOneLine input → IsReply input output → Replies input output
+  line : {input output : List ℕ} (first rest reply others : List ℕ) → input ≡ first ++ 10 ∷ rest → IsOneLine first → output ≡ reply ++ others
+      → IsReply first reply → Replies rest others → Replies input output
+
+-- All that the reader had left was read, and the replies to it were written. A reader tells which bytes it has left and a writer which
+-- it holds, here before and after the run; one that doesn't tell is `None` in both places, and then nothing is said of its bytes.
+pub record Replays (left after held now : Option (List ℕ)) : Type 0 where
+  pub input : List ℕ
+  pub output : List ℕ
+  pub given : Consumes left after input
+  pub ended : IsAtEnd after
+  pub replies : Replies input output
+  pub written : Appends held now output

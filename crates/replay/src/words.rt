@@ -1,0 +1,120 @@
+//! The words of a line.
+
+ghost use Rattle.std.specs.Prelude.{◌≡◌, ◌<◌, ◌≤◌, Some, None, IfOk, IfErr, OnOk, length};
+ghost use Rattle.std.specs.Option.{option_map};
+ghost use Rattle.std.specs.List.{after_first};
+ghost use Rattle.replay.specs.Words.{after_blanks, after_word, first_word, is_blank, next_word};
+
+use crate::fault::Bad;
+use std::marker::Model;
+
+const ENDS_EARLY: &str = "the line ends early";
+
+/// What is left of a line. Blanks stand between words, and no word is empty.
+#[derive(Drop)]
+pub struct Words<'a> {
+    rest: &'a str,
+}
+
+impl<'a> Model for Words<'a> {
+    ghost use Rattle.std.specs.Prelude.{ℕ, List};
+
+    ghost Value = { List ℕ };
+
+    ghost view = { λ words. words.rest.now };
+}
+
+impl<'a> Words<'a> {
+    /// The words of a line, from the first on.
+    pub fn new(line: &'a str) -> Words<'a>
+        ensures { result ≡ line.now }
+    {
+        Words { rest: line }
+    }
+
+    /// The next word, which stays.
+    pub fn peek(&self) -> Option<&'a str>
+        ensures { option_map (λ word. word.now) result ≡ next_word self.now }
+    {
+        let text = after_blanks(self.rest);
+        if text.is_empty() {
+            return None;
+        }
+        Some(cut(text).0)
+    }
+
+    /// Takes the next word.
+    pub fn word(&mut self) -> Result<&'a str, Bad>
+        ensures ok { IfOk result (λ word. next_word self.old ≡ Some word.now) }
+        ensures taken { OnOk result (self.new ≡ after_word self.old) }
+        ensures shorter { OnOk result (length self.new < length self.old) }
+        ensures end { IfErr result (λ _. next_word self.old ≡ None) }
+        ensures no_longer { length self.new ≤ length self.old }
+    {
+        let text = after_blanks(self.rest);
+        if text.is_empty() {
+            return Err(Bad::Words(ENDS_EARLY));
+        }
+        let (word, rest) = cut(text);
+        self.rest = rest;
+        Ok(word)
+    }
+
+    /// Takes the next word, which is to be this one.
+    pub fn expect(&mut self, word: &str) -> Result<(), Bad>
+        ensures ok { OnOk result (next_word self.old ≡ Some word.now) }
+        ensures shorter { OnOk result (length self.new < length self.old) }
+        ensures no_longer { length self.new ≤ length self.old }
+    {
+        if self.word()? != word {
+            return Err(Bad::Words("another word was expected"));
+        }
+        Ok(())
+    }
+
+    /// No word is left.
+    pub fn end(&self) -> Result<(), Bad>
+        ensures { OnOk result (next_word self.now ≡ None) }
+    {
+        match self.peek() {
+            None => Ok(()),
+            Some(_) => Err(Bad::Words("words are left over")),
+        }
+    }
+
+    /// Takes a word that is 0 or 1.
+    pub fn flag(&mut self) -> Result<bool, Bad>
+        ensures shorter { OnOk result (length self.new < length self.old) }
+        ensures no_longer { length self.new ≤ length self.old }
+    {
+        match self.word()? {
+            "0" => Ok(false),
+            "1" => Ok(true),
+            _ => Err(Bad::Words("0 or 1 was expected")),
+        }
+    }
+}
+
+// The text from its first byte that is no blank on.
+fn after_blanks(text: &str) -> &str
+    ensures { result.now ≡ after_blanks text.now }
+{
+    let mut rest = text;
+    while let Some(after) = rest.strip_prefix(' ') {
+        rest = after;
+    }
+    rest
+}
+
+// The text up to its first blank, and what follows that blank.
+fn cut(text: &str) -> (&str, &str)
+    requires { 0 < length text.now }
+    ensures word { first_word text.now ≡ Some result.0.now }
+    ensures rest { result.1.now ≡ after_first is_blank text.now }
+    ensures shorter { length result.1.now < length text.now }
+{
+    match text.split_once(' ') {
+        Some(parts) => parts,
+        None => (text, ""),
+    }
+}
