@@ -1,4 +1,3 @@
-pub mod Watched
 pub mod Choice
 pub mod Rendering
 pub mod Runs

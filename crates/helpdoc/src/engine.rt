@@ -2,12 +2,11 @@
 
 ghost use Rattle.std.specs.Prelude.{◌≡◌, ◌≢◌, ◌↔◌, ◌⊎◌, [], List, ℕ, IsUtf8, IsOk, IfOk, IfErr, OnOk, OnErr, IsErrOf, string_bytes};
 ghost use Rattle.std.specs.Io.KnownBytes.{Appends};
-ghost use Rattle.helpdoc.specs.Watched.{IsMarked, IsUnmarked};
+ghost use Rattle.watched.specs.Watched.{IsMarked, IsUnmarked};
 ghost use Rattle.bpaf_doc.specs.Page.{title_page};
 ghost use Rattle.helpdoc.specs.Rendering.{IsRendering, document_of_text, title_words};
 ghost use Rattle.helpdoc.specs.Runs.{ReadsAll, ReadsText, ReadsNoText, WritesPage, WritesBeginning, WritesAllBut};
 
-use crate::ends::Watched;
 use crate::faults::Fault;
 use crate::words::Form;
 use bpaf_doc::buffer::Doc;
@@ -15,6 +14,7 @@ use bpaf_doc::console::MAX_WIDTH;
 use bpaf_roff::roff::Roff;
 use std::alloc::{AllocError, Allocator};
 use std::io::{Read, Write};
+use watched::Watched;
 
 // The section of a manual page for programs.
 const SECTION: &str = "1";

@@ -2,19 +2,18 @@
 //! `html`, `markdown` or `man`.
 #![tactic(auto)]
 
-mod ends;
 mod engine;
 mod faults;
 #[cfg(test)]
 mod tests;
 mod words;
 
-use ends::Watched;
 use engine::run_text;
 use faults::Fault;
 use std::process::ExitCode;
 use std::rt::Env;
 use std::{env, io};
+use watched::Watched;
 use words::{Choice, choose};
 
 /// The line for words that choose nothing.

@@ -6,7 +6,6 @@ ghost use Rattle.helpdoc.specs.Rendering.{IsPage, document_of_text};
 mod desk;
 mod fakes;
 
-use crate::ends::Watched;
 use crate::engine::run_text;
 use crate::faults::Fault;
 use crate::words::{Choice, Form, choose};
@@ -18,6 +17,7 @@ use std::alloc::Global;
 use std::io;
 use std::process::{Abort, ExitCode};
 use std::test::Fail;
+use watched::Watched;
 
 const INPUT: &[u8] = b"hello\n world\n";
 

@@ -5,7 +5,8 @@ use Rattle.std.specs.List.{onto_first, position_or_len, slice_split}
 use Rattle.std.proofs.lemmas.Bool.{cases_eq, eq-eqb, ne_eqb}
 use Rattle.std.proofs.lemmas.List.Splits.{slice_split-cons_no}
 use Rattle.std.proofs.lemmas.List.Concat.{flat_map-append}
-use Rattle.replay.specs.Replay.{AddsAnswers, answer_line, console_keys, is_comma}
+use Rattle.replay.specs.Replay.{AddsAnswers, answer_line, console_keys}
+use Rattle.replay.specs.Words.{is_comma}
 
 pub AddsAnswers-then : (keys others : List (List ℕ)) (a b c : List ℕ) → AddsAnswers keys a b → AddsAnswers others b c → AddsAnswers (keys ++ others) a c
 AddsAnswers-then [] others a b c h k = subst (λ x. AddsAnswers others x c) h k

@@ -1,10 +1,14 @@
 -- A run, step by step.
-use Rattle.std.specs.Prelude.{◌≡◌, ◌≢◌, ℕ, Bool, true, false, Option, List, [], ◌∷◌, ◌++◌, codes, Result, Ok, Err, OnOk, refl}
-use Rattle.std.proofs.Common.{ap, sym, ◌∙◌, subst, inr, append_assoc, append-nil}
+use Rattle.std.specs.Prelude.{◌≡◌, ◌≢◌, ℕ, Bool, true, false, Option, List, [], ◌∷◌, ◌++◌, codes, Result, Ok, Err, OnOk, IfErr, refl}
+use Rattle.std.proofs.Common.{arith, ap, sym, ◌∙◌, subst, inr, append_assoc, append-nil, ◌+◌, ◌-◌, ◌≤◌, length, take, drop, take-append-drop, inl}
+use Rattle.std.proofs.lemmas.List.{length-append, length-take-le, take_rest}
 use Rattle.std.proofs.KnownBytes.{Appends-nil, Appends-trans, Consumes-trans}
 use Rattle.std.specs.Io.KnownBytes.{Appends, Consumes, IsAtEnd}
+use Rattle.replay.specs.declared.fault.Bad.{Bad}
+use Rattle.replay.specs.declared.fault.Bad.TheVariants.{Memory}
+use Rattle.replay.specs.Grammar.{IsRequest, OnlyIf}
 use Rattle.replay.specs.Progress.{Ends, GoesOn, Keeps}
-use Rattle.replay.specs.Replay.{HasKeys, IsAnswered, IsOneLine, Replays, Replies}
+use Rattle.replay.specs.Replay.{IsAnswered, IsOneLine, Replays, Replies}
 use Rattle.replay.proofs.OneLines.{one_line-append}
 
 -- nothing was read yet
@@ -107,16 +111,24 @@ Replays-end input kept lost left after a b c given ended g last =
     }
 
 -- a line that has no answer
-pub answered_bad : (why : List ℕ) (a b c d : Option (List ℕ)) → IsOneLine why → Appends a b (codes "= BAD ") → Appends b c why → Appends c d (codes "\n")
-    → (text : List ℕ) → (answers : List ℕ) × IsAnswered text answers × Appends a d answers
-answered_bad why a b c d one x y z text =
-    ((codes "= BAD " ++ why) ++ codes "\n", inr (codes "BAD" ∷ [], HasKeys.bad refl, (why, one, refl)), Appends-trans a c d (codes "= BAD " ++ why) (codes "\n") (Appends-trans a b c (codes "= BAD ") why x y) z)
+pub answered_bad : (why : List ℕ) (bad : Bad) (a b c d : Option (List ℕ)) → IsOneLine why → (bad ≡ Memory → why ≡ codes "no memory") → Appends a b (codes "= BAD ") → Appends b c why
+    → Appends c d (codes "\n") → (text : List ℕ) → OnlyIf (¬ IsRequest text) bad → (answers : List ℕ) × IsAnswered text answers × Appends a d answers
+answered_bad why bad a b c d one memory x y z text only =
+    ((codes "= BAD " ++ why) ++ codes "\n", as_said only, Appends-trans a c d (codes "= BAD " ++ why) (codes "\n") (Appends-trans a b c (codes "= BAD ") why x y) z)
+  where
+    as_said : OnlyIf (¬ IsRequest text) bad → IsAnswered text ((codes "= BAD " ++ why) ++ codes "\n")
+    as_said (inl e) = IsAnswered.no_memory (ap (λ said. (codes "= BAD " ++ said) ++ codes "\n") (memory e))
+    as_said (inr n) = IsAnswered.no_request why n one refl
 
 -- ---- what the calls answer
 
 pub on_ok_two : {T E P Q R : Type 0} (r : Result T E) → (P → Q → R) → OnOk r P → OnOk r Q → OnOk r R
 on_ok_two (Ok x) f p q = f p q
 on_ok_two (Err e) f p q = tt
+
+pub if_err : {T E : Type 0} {P Q : E → Type 0} (r : Result T E) → ((error : E) → P error → Q error) → IfErr r P → IfErr r Q
+if_err (Ok value) f p = tt
+if_err (Err error) f p = f error p
 
 pub kept_text : (kept text : List ℕ) (lost : Bool) → lost ≡ false → Keeps kept lost text → kept ≡ text
 kept_text kept text true e k = let other : true ≡ false = e in absurd cc
@@ -126,6 +138,19 @@ kept_text kept text false e k = k
 pub take_line : (front taken rest behind bytes : List ℕ) → bytes ≡ front ++ rest → rest ≡ taken ++ 10 ∷ behind → bytes ≡ ((front ++ taken) ++ 10 ∷ []) ++ behind
 take_line front taken rest behind bytes e f =
     e ∙ ap (λ x. front ++ x) f ∙ sym (append_assoc front taken (10 ∷ behind)) ∙ sym (append_assoc (front ++ taken) (10 ∷ []) behind)
+
+-- a write that takes n bytes of the rest leaves what stands after them
+pub written_front : (bytes front rest : List ℕ) (n : ℕ) → bytes ≡ front ++ rest → bytes ≡ (front ++ take n rest) ++ take (length rest - n) (drop n rest)
+written_front bytes front rest n split =
+    split ∙ ap (λ l. front ++ l) (sym (take-append-drop n rest) ∙ ap (λ l. take n rest ++ l) (sym (take_rest rest n)))
+    ∙ sym (append_assoc front (take n rest) (take (length rest - n) (drop n rest)))
+
+-- a read that gives bytes makes one read more, and at least one byte more
+pub counted_read : (input buf : List ℕ) (count n : ℕ) → count ≤ length input → n ≢ 0 → n ≤ length buf → count + 1 ≤ length (input ++ take n buf)
+counted_read input buf count n before some fits =
+    let joined = length-append input (take n buf) in
+    let given = length-take-le n buf fits in
+    omega arith
 
 -- a read that gives nothing
 pub Consumes-end : (a b c : Option (List ℕ)) (input : List ℕ) → Consumes a b input → Consumes b c [] → Consumes a c input

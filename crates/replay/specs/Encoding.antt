@@ -44,7 +44,7 @@ abbrev pub hex_digits : ℕ → ℕ → List ℕ
 hex_digits zero number = []
 hex_digits (suc count) number = hex_digits count (number / 16) ++ digit_char (number % 16) ∷ []
 
--- a control or white space that has no letter
+-- a control or white space; those that have no letter are spelled by their code
 abbrev pub is_hidden : ℕ → Bool
 is_hidden character = is_control character || is_whitespace character
 

@@ -3,7 +3,8 @@ use Rattle.std.specs.Prelude.{◌≡◌, ◌≢◌, ℕ, suc, Bool, Option, Some
 use Rattle.std.specs.Borrow.{Bor}
 use Rattle.std.specs.List.{slice_split}
 use Rattle.std.specs.Io.KnownBytes.{Appends}
-use Rattle.replay.specs.Replay.{IsOneLine, Replies, is_comma}
+use Rattle.replay.specs.Replay.{IsOneLine, Replies}
+use Rattle.replay.specs.Words.{is_comma}
 
 -- what is kept of the bytes of a line: all of them, or that memory did not last
 abbrev pub Keeps : List ℕ → Bool → List ℕ → Type 0
@@ -17,7 +18,7 @@ pub record Goes (line bytes output next : List ℕ) : Type 0 where
   pub completed : (rest others : List ℕ) → Replies (next ++ rest) others → Replies (line ++ (bytes ++ rest)) (done ++ others)
   pub one_line : IsOneLine next
 
--- the bytes were read within this line, and the writer and what is kept went along
+-- from within this line the bytes were read, and the writer and what is kept went along
 pub record GoesOn (bytes line kept : List ℕ) (lost : Bool) (held now : Option (List ℕ)) : Type 0 where
   pub output : List ℕ
   pub next : List ℕ
@@ -31,7 +32,7 @@ pub record Ends (line : List ℕ) (held now : Option (List ℕ)) : Type 0 where
   pub replies : Replies line (line ++ output)
   pub appended : Appends held now output
 
--- the widths that are left of a line's, between commas
+-- the widths that are left, between commas
 abbrev pub widths_left : Option (Bor (List ℕ)) → List (List ℕ)
 widths_left None = []
 widths_left (Some text) = slice_split is_comma text.now

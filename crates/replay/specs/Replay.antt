@@ -1,8 +1,9 @@
 -- What a run writes of what it reads: each line with its answers.
-use Rattle.std.specs.Prelude.{◌≡◌, ◌≢◌, ◌⊎◌, ℕ, ◌==◌, Bool, false, Option, Some, List, [], ◌∷◌, ◌++◌, codes, flat_map, slice_index}
+use Rattle.std.specs.Prelude.{◌≡◌, ◌≢◌, ◌⊎◌, ℕ, ◌==◌, ◌-◌, ◌^◌, ◌≤◌, Bool, false, Option, List, [], ◌∷◌, ◌++◌, length, codes, flat_map, slice_index}
 use Rattle.std.specs.List.{list_any, slice_split}
 use Rattle.std.specs.Io.KnownBytes.{Appends, Consumes, IsAtEnd}
-use Rattle.replay.specs.Words.{after_word, next_word}
+use Rattle.replay.specs.Grammar.{IsRequest, Word}
+use Rattle.replay.specs.Words.{is_comma, words_of}
 
 abbrev pub is_newline : ℕ → Bool
 is_newline b = b == 10
@@ -23,9 +24,6 @@ AddsAnswers [] old new = new ≡ old
 AddsAnswers (key ∷ keys) old new = (text : List ℕ) × IsOneLine text × AddsAnswers keys (old ++ answer_line key text) new
 
 -- ---- keys
-
-abbrev pub is_comma : ℕ → Bool
-is_comma b = b == 44
 
 -- the two console pages at each width
 abbrev pub console_keys : List (List ℕ) → List (List ℕ)
@@ -48,18 +46,18 @@ help_keys = codes "hf" ∷ codes "hb" ∷ []
 abbrev pub application_keys : List (List ℕ)
 application_keys = codes "gr" ∷ codes "ah" ∷ codes "am" ∷ codes "mn" ∷ []
 
--- the keys that the answers to a line may have
-pub data HasKeys : List ℕ → List (List ℕ) → Type 0 where
-  -- the line is no request, or memory did not last
-  bad : {line : List ℕ} {keys : List (List ℕ)} → keys ≡ codes "BAD" ∷ [] → HasKeys line keys
-  document : {line : List ℕ} {keys : List (List ℕ)} (widths : List ℕ) → next_word line ≡ Some (codes "alldoc") → next_word (after_word line) ≡ Some widths
-      → keys ≡ document_keys widths → HasKeys line keys
-  tree : {line : List ℕ} {keys : List (List ℕ)} → next_word line ≡ Some (codes "alltree") → keys ≡ tree_keys ++ help_keys ++ application_keys → HasKeys line keys
-  -- a tree with a misplaced item has no help page
-  misplaced : {line : List ℕ} {keys : List (List ℕ)} → next_word line ≡ Some (codes "alltree") → keys ≡ tree_keys ++ application_keys → HasKeys line keys
+-- the keys of the answers to a request with these words
+pub data HasKeys : List Word → List (List ℕ) → Type 0 where
+  document : {words : List Word} {keys : List (List ℕ)} (widths : Word) (others : List Word) → words ≡ codes "alldoc" ∷ widths ∷ others
+      → keys ≡ document_keys widths → HasKeys words keys
+  tree : {words : List Word} {keys : List (List ℕ)} (others : List Word) → words ≡ codes "alltree" ∷ others → keys ≡ tree_keys ++ help_keys ++ application_keys
+      → HasKeys words keys
+  -- a tree with a misplaced item has no help page; which tree has one is not said here
+  misplaced : {words : List Word} {keys : List (List ℕ)} (others : List Word) → words ≡ codes "alltree" ∷ others → keys ≡ tree_keys ++ application_keys
+      → HasKeys words keys
   -- any other request has one answer
-  single : {line : List ℕ} {keys : List (List ℕ)} (word : List ℕ) → next_word line ≡ Some word → word ≢ codes "alldoc" → word ≢ codes "alltree"
-      → keys ≡ word ∷ [] → HasKeys line keys
+  single : {words : List Word} {keys : List (List ℕ)} (word : Word) (others : List Word) → words ≡ word ∷ others → word ≢ codes "alldoc" → word ≢ codes "alltree"
+      → keys ≡ word ∷ [] → HasKeys words keys
 
 -- ---- lines
 
@@ -67,9 +65,13 @@ pub data HasKeys : List ℕ → List (List ℕ) → Type 0 where
 abbrev pub IsPassedOver : List ℕ → Type 0
 IsPassedOver line = (line ≡ []) ⊎ (slice_index line 0 ≡ 35)
 
--- what stands below a line: nothing, or answers with its keys
-abbrev pub IsAnswered : List ℕ → List ℕ → Type 0
-IsAnswered line answers = (IsPassedOver line × (answers ≡ [])) ⊎ ((keys : List (List ℕ)) × HasKeys line keys × AddsAnswers keys [] answers)
+-- what stands below a line
+pub data IsAnswered (line answers : List ℕ) : Type 0 where
+  passed_over : IsPassedOver line → answers ≡ [] → IsAnswered line answers
+  request : (keys : List (List ℕ)) → IsRequest line → HasKeys (words_of line) keys → AddsAnswers keys [] answers → IsAnswered line answers
+  no_request : (why : List ℕ) → ¬ IsRequest line → IsOneLine why → answers ≡ answer_line (codes "BAD") why → IsAnswered line answers
+  -- of any line
+  no_memory : answers ≡ answer_line (codes "BAD") (codes "no memory") → IsAnswered line answers
 
 -- the line, a newline, and its answers
 abbrev pub IsReply : List ℕ → List ℕ → Type 0
@@ -92,3 +94,7 @@ pub record Replays (left after held now : Option (List ℕ)) : Type 0 where
   pub ended : IsAtEnd after
   pub replies : Replies input output
   pub written : Appends held now output
+
+-- The reader gave at least 2^64 - 1 bytes. Of one that doesn't tell its bytes nothing is said.
+abbrev pub GivesMany : Option (List ℕ) → Option (List ℕ) → Type 0
+GivesMany left after = (input : List ℕ) × Consumes left after input × (2 ^ 64 - 1 ≤ length input)

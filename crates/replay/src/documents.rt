@@ -1,10 +1,14 @@
 //! Documents, read and printed.
 
-ghost use Rattle.std.specs.Prelude.{◌<◌, ◌≤◌, OnOk, length};
+ghost use Rattle.std.specs.Prelude.{◌<◌, ◌≤◌, OnOk, length, string_bytes, ◌≢◌, [], ◌∷◌, codes, IfErr, OnErr};
+ghost use Rattle.replay.specs.Printers.{WritesInLine};
+ghost use Rattle.replay.specs.Replay.{IsOneLine};
+ghost use Rattle.replay.specs.Grammar.{IsLetter, IsPlainPart, Leads, OnlyIf, Reads, Refuses, Slot};
 
 use crate::encoding::{read_text, write_text};
 use crate::fault::Bad;
 use crate::names::Names;
+use crate::printer::put;
 use crate::trees::{deeper, read_call, read_texts};
 use crate::words::Words;
 use bpaf_doc::buffer::{Block, Doc, Part, Style, Token};
@@ -18,7 +22,9 @@ pub fn read_document<A: Allocator + Copy>(
     names: &mut Names,
     depth: usize,
 ) -> Result<Doc<A>, Bad>
-    ensures { OnOk result (length words.new < length words.old) }
+    ensures reads { OnOk result (Reads (Slot.document depth ∷ []) words.old words.new) }
+    ensures refuses { IfErr result (OnlyIf (Refuses (Slot.document depth ∷ []) words.old)) }
+    ensures shorter { OnOk result (length words.new < length words.old) }
 {
     let depth = deeper(depth)?;
     words.expect("[")?;
@@ -32,6 +38,7 @@ pub fn read_document<A: Allocator + Copy>(
     }
 }
 
+// Takes the words of a part behind its first one, and writes the part.
 #[cycle(read)]
 fn read_part<A: Allocator + Copy>(
     alloc: A,
@@ -41,7 +48,10 @@ fn read_part<A: Allocator + Copy>(
     document: &mut Doc<A>,
     depth: usize,
 ) -> Result<(), Bad>
-    ensures { OnOk result (length words.new ≤ length words.old) }
+    requires { word.now ≢ codes "]" }
+    ensures reads { OnOk result (Leads (Slot.parts depth ∷ []) (word.now ∷ words.old) (Slot.parts depth ∷ []) words.new) }
+    ensures refuses { IfErr result (OnlyIf (Refuses (Slot.parts depth ∷ []) (word.now ∷ words.old))) }
+    ensures no_longer { OnOk result (length words.new ≤ length words.old) }
 {
     match word {
         "doc" => Ok(document.doc(&read_document(alloc, words, names, depth)?)?),
@@ -56,7 +66,11 @@ fn read_part<A: Allocator + Copy>(
     }
 }
 
-fn read_plain<A: Allocator + Copy>(alloc: A, word: &str, document: &mut Doc<A>) -> Result<(), Bad> {
+// A part that is one word: a text in a style, or a block's start or end.
+fn read_plain<A: Allocator + Copy>(alloc: A, word: &str, document: &mut Doc<A>) -> Result<(), Bad>
+    ensures ok { OnOk result (IsPlainPart word.now) }
+    ensures err { IfErr result (OnlyIf (¬ IsPlainPart word.now)) }
+{
     if let Some(code) = word.strip_prefix('<') {
         return Ok(document.token(Token::BlockStart(block_of(code)?))?);
     }
@@ -71,7 +85,10 @@ fn read_plain<A: Allocator + Copy>(alloc: A, word: &str, document: &mut Doc<A>) 
     Ok(document.write_str(text.as_str(), style)?)
 }
 
-fn block_of(code: &str) -> Result<Block, Bad> {
+fn block_of(code: &str) -> Result<Block, Bad>
+    ensures ok { OnOk result (IsLetter (codes "H234tbdBirmo") code.now) }
+    ensures err { OnErr result (¬ IsLetter (codes "H234tbdBirmo") code.now) }
+{
     match code {
         "H" => Ok(Block::Header),
         "2" => Ok(Block::Section2),
@@ -89,7 +106,10 @@ fn block_of(code: &str) -> Result<Block, Bad> {
     }
 }
 
-fn style_of(code: &str) -> Result<Style, Bad> {
+fn style_of(code: &str) -> Result<Style, Bad>
+    ensures ok { OnOk result (IsLetter (codes "TELMI") code.now) }
+    ensures err { OnErr result (¬ IsLetter (codes "TELMI") code.now) }
+{
     match code {
         "T" => Ok(Style::Text),
         "E" => Ok(Style::Emphasis),
@@ -101,36 +121,41 @@ fn style_of(code: &str) -> Result<Style, Bad> {
 }
 
 /// Prints a document.
+#[tactic(auto, using(crate::proofs::PrintedLines::printer_lemmas))]
 pub fn write_document<A: Allocator>(
     out: &mut String<A>,
     document: &Doc<A>,
-) -> Result<(), AllocError> {
-    out.push_str("[")?;
+) -> Result<(), AllocError>
+    ensures { OnOk result (WritesInLine (string_bytes out.old) (string_bytes out.new)) }
+{
+    put(out, "[")?;
     let mut last = None;
     for part in document.parts() {
         match part {
             Part::Text(text, style) => {
-                out.push_str(if last == Some(style) { " ," } else { " " })?;
-                out.push_str(style_code(style))?;
+                put(out, if last == Some(style) { " ," } else { " " })?;
+                put(out, style_code(style))?;
                 write_text(out, text)?;
                 last = Some(style);
             }
             Part::Start(block) => {
-                out.push_str(" <")?;
-                out.push_str(block_code(block))?;
+                put(out, " <")?;
+                put(out, block_code(block))?;
                 last = None;
             }
             Part::End(block) => {
-                out.push_str(" >")?;
-                out.push_str(block_code(block))?;
+                put(out, " >")?;
+                put(out, block_code(block))?;
                 last = None;
             }
         }
     }
-    out.push_str(" ]")
+    put(out, " ]")
 }
 
-fn style_code(style: Style) -> &'static str {
+fn style_code(style: Style) -> &'static str
+    ensures { IsOneLine result.now }
+{
     match style {
         Style::Text => "T",
         Style::Emphasis => "E",
@@ -140,7 +165,9 @@ fn style_code(style: Style) -> &'static str {
     }
 }
 
-fn block_code(block: Block) -> &'static str {
+fn block_code(block: Block) -> &'static str
+    ensures { IsOneLine result.now }
+{
     match block {
         Block::Header => "H",
         Block::Section2 => "2",

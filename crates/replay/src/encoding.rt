@@ -1,8 +1,11 @@
 //! The printed form of texts.
 
-ghost use Rattle.std.specs.Prelude.{◌≡◌, ◌⊎◌, ◌+◌, ◌<◌, ◌≤◌, ◌∷◌, ◌++◌, ◌^◌, ℕ, List, Some, IfOk, IfErr, IfSome, OnOk, length, string_bytes};
+ghost use Rattle.std.specs.Prelude.{◌≡◌, ◌⊎◌, ◌+◌, ◌<◌, ◌≤◌, ◌∷◌, ◌++◌, ◌^◌, ℕ, List, [], Some, IfOk, IfErr, IfSome, OnOk, length, string_bytes};
 ghost use Rattle.std.specs.Option.{option_map};
 ghost use Rattle.replay.specs.Encoding.{Spells, character_spelling, code_at, escape_at, hex_digits, letter_character, spelling};
+ghost use Rattle.replay.specs.Grammar.{OnlyIf, Reads, Refuses, Slot};
+ghost use Rattle.replay.specs.Printers.{WritesInLine};
+ghost use Rattle.replay.specs.Replay.{IsOneLine};
 
 use crate::fault::Bad;
 use crate::words::Words;
@@ -65,7 +68,7 @@ fn read_code(word: &str) -> Option<(char, &str)>
 {
     let mut characters = word.chars();
     let mut code = 0;
-    for place in 0..6u32 {
+    'digits: for _ in 0..6u32 {
         let digit = characters.next()?.to_digit(16)?;
         code = code * 16 + digit;
     }
@@ -74,8 +77,9 @@ fn read_code(word: &str) -> Option<(char, &str)>
 
 /// Writes a quote mark and the text behind it.
 pub fn write_text<A: Allocator>(out: &mut String<A>, text: &str) -> Result<(), AllocError>
-    ensures { OnOk result (string_bytes out.new
+    ensures exact { OnOk result (string_bytes out.new
         ≡ string_bytes out.old ++ 39 ∷ spelling text.now) }
+    ensures in_line { OnOk result (WritesInLine (string_bytes out.old) (string_bytes out.new)) }
 {
     out.push('\'')?;
     for character in text.chars() {
@@ -86,7 +90,8 @@ pub fn write_text<A: Allocator>(out: &mut String<A>, text: &str) -> Result<(), A
 
 /// The quote mark and the text's spelling behind it, as a text of its own.
 pub fn spelled<A: Allocator>(alloc: A, text: &str) -> Result<String<A>, AllocError>
-    ensures { IfOk result (λ word. string_bytes word ≡ 39 ∷ spelling text.now) }
+    ensures exact { IfOk result (λ word. string_bytes word ≡ 39 ∷ spelling text.now) }
+    ensures one_line { IfOk result (λ word. IsOneLine (string_bytes word)) }
 {
     let mut word = String::new(alloc);
     write_text(&mut word, text)?;
@@ -95,8 +100,9 @@ pub fn spelled<A: Allocator>(alloc: A, text: &str) -> Result<String<A>, AllocErr
 
 /// Writes one character as it stands in a text.
 pub fn write_character<A: Allocator>(out: &mut String<A>, character: char) -> Result<(), AllocError>
-    ensures { OnOk result (string_bytes out.new
+    ensures exact { OnOk result (string_bytes out.new
         ≡ string_bytes out.old ++ character_spelling character) }
+    ensures in_line { OnOk result (WritesInLine (string_bytes out.old) (string_bytes out.new)) }
 {
     match character {
         '\\' => out.push_str("\\\\"),
@@ -129,6 +135,10 @@ fn write_digits<A: Allocator>(out: &mut String<A>, code: u32, count: u32) -> Res
 impl Words<'_> {
     /// Takes a word that is a text, with its quote mark.
     pub fn text<A: Allocator>(&mut self, alloc: A) -> Result<String<A>, Bad>
+        ensures spelled { IfOk result (λ text. (marks : List ℕ)
+            × (self.old ≡ (39 ∷ marks) ∷ self.new) × Spells marks (string_bytes text)) }
+        ensures reads { OnOk result (Reads (Slot.text ∷ []) self.old self.new) }
+        ensures refuses { IfErr result (OnlyIf (Refuses (Slot.text ∷ []) self.old)) }
         ensures shorter { OnOk result (length self.new < length self.old) }
         ensures no_longer { length self.new ≤ length self.old }
     {

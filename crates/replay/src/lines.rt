@@ -1,9 +1,8 @@
 //! Answer lines.
 
 ghost use Rattle.std.specs.Prelude.{◌≡◌, ℕ, List, [], ◌∷◌, ◌++◌, OnOk, codes, string_bytes};
-ghost use Rattle.replay.specs.Replay.{AddsAnswers, answer_line};
+ghost use Rattle.replay.specs.Replay.{AddsAnswers, IsOneLine, answer_line};
 
-use crate::fault::Bad;
 use std::alloc::{AllocError, Allocator};
 use std::marker::Model;
 
@@ -39,13 +38,11 @@ impl<A: Allocator> Lines<A> {
         }
     }
 
-    /// Adds the line of an answer, which is to have no newline.
-    pub fn add(&mut self, key: &str, answer: String<A>) -> Result<(), Bad>
+    /// Adds the line of an answer.
+    pub fn add(&mut self, key: &str, answer: String<A>) -> Result<(), AllocError>
+        requires one_line { IsOneLine (string_bytes answer) }
         ensures { OnOk result (AddsAnswers (key.now ∷ []) self.old self.new) }
     {
-        if answer.as_bytes().contains(&b'\n') {
-            return Err(Bad::Words("an answer has a newline"));
-        }
         if self.repeats(answer.as_str()) {
             write_line(&mut self.text, key, SAME)?;
         } else {

@@ -9,6 +9,7 @@ mod laws;
 mod lines;
 mod names;
 mod pieces;
+mod printer;
 mod requests;
 mod run;
 #[cfg(test)]
@@ -21,6 +22,7 @@ use names::Names;
 use run::{Stop, run};
 use std::io;
 use std::process::ExitCode;
+use watched::Watched;
 
 fn main(rt: HostRuntime) -> ExitCode {
     replay(&rt)
@@ -29,12 +31,13 @@ fn main(rt: HostRuntime) -> ExitCode {
 // Answers the status, and says on standard error why the run stopped, where it did.
 fn replay<R: AllocGlobal + Input + Print + Eprint>(rt: &R) -> ExitCode {
     let mut names = Names::new(rt.alloc());
-    let mut reader = rt.reader();
-    let mut writer = io::writer(rt);
+    let mut reader = Watched::new(rt.reader());
+    let mut writer = Watched::new(io::writer(rt));
     let why = match run(rt.alloc(), &mut names, &mut reader, &mut writer) {
         Ok(()) => return ExitCode::SUCCESS,
         Err(Stop::Read) => "a read failed",
         Err(Stop::Write) => "a write failed",
+        Err(Stop::Endless) => "the input does not end",
     };
     let _ = eprintln!(rt; "replay: {why}");
     ExitCode::FAILURE

@@ -1,9 +1,11 @@
 //! What the program does, over any reader and any writer.
 
-ghost use Rattle.std.specs.Prelude.{◌≡◌, ◌≢◌, ◌++◌, ◌∷◌, [], ℕ, List, OnOk, IsTrue, MatchOption, position, true, false};
+ghost use Rattle.std.specs.Prelude.{◌≡◌, ◌≢◌, ◌↔◌, ◌++◌, ◌∷◌, [], ℕ, List, OnOk, IfErr, codes, IsErrOf, IsTrue, MatchOption, position, true, false};
 ghost use Rattle.std.specs.Io.KnownBytes.{Appends};
+ghost use Rattle.replay.specs.Grammar.{IsRequest, OnlyIf};
 ghost use Rattle.replay.specs.Progress.{Ends, GoesOn, Keeps};
-ghost use Rattle.replay.specs.Replay.{IsAnswered, IsOneLine, IsPassedOver, Replays, is_newline};
+ghost use Rattle.replay.specs.Replay.{GivesMany, IsAnswered, IsOneLine, IsPassedOver, Replays, is_newline};
+ghost use Rattle.watched.specs.Watched.{IsMarked, IsUnmarked};
 
 use crate::fault::Bad;
 use crate::lines::Lines;
@@ -12,6 +14,7 @@ use crate::requests::add_answers;
 use std::alloc::Allocator;
 use std::io::{Read, Write};
 use std::str;
+use watched::Watched;
 
 // How many bytes a read asks for.
 const CHUNK: usize = 64 * 1024;
@@ -21,31 +24,42 @@ const CHUNK: usize = 64 * 1024;
 pub enum Stop {
     /// A read failed.
     Read,
-    /// A write failed.
+    /// A write failed, or took nothing.
     Write,
+    /// The reader gave 2^64 - 1 pieces and has not come to its end.
+    Endless,
 }
 
 /// Reads lines up to the end, and writes each with its answers. A line is kept until it is answered, and no longer; a line
 /// for which memory does not last is written nevertheless, and its answer says so.
+///
+/// `Read` comes exactly where a read failed, `Write` exactly where a write failed or took nothing, and `Endless` only after 2^64 - 1
+/// reads that gave bytes.
 pub fn run<A: Allocator + Copy, R: Read, W: Write>(
     alloc: A,
     names: &mut Names,
-    reader: &mut R,
-    writer: &mut W,
+    reader: &mut Watched<R>,
+    writer: &mut Watched<W>,
 ) -> Result<(), Stop>
-    ensures { OnOk result (Replays (R.remaining reader.old) (R.remaining reader.new)
-        (W.contents writer.old) (W.contents writer.new)) }
+    requires reader { IsUnmarked reader.old }
+    requires writer { IsUnmarked writer.old }
+    ensures ok { OnOk result (Replays (R.remaining reader.old.end) (R.remaining reader.new.end)
+        (W.contents writer.old.end) (W.contents writer.new.end)) }
+    ensures read { IsErrOf result Stop.Read ↔ IsMarked reader.new }
+    ensures write { IsErrOf result Stop.Write ↔ IsMarked writer.new }
+    ensures endless { IsErrOf result Stop.Endless →
+        GivesMany (R.remaining reader.old.end) (R.remaining reader.new.end) }
 {
     let mut chunk = [0; CHUNK];
     let mut line = Line::new(alloc);
-    'reads: for _ in 0..u64::MAX {
+    'reads: for _count in 0..u64::MAX {
         match reader.read(&mut chunk) {
             Ok(0) => return end_input(alloc, names, &mut line, writer),
             Ok(taken) => take(alloc, names, &mut line, &chunk[..taken], writer)?,
             Err(_) => return Err(Stop::Read),
         }
     }
-    Err(Stop::Read)
+    Err(Stop::Endless)
 }
 
 // The bytes of a line that were read so far, which are all written.
@@ -104,10 +118,13 @@ fn take<A: Allocator + Copy, W: Write>(
     names: &mut Names,
     line: &mut Line<A>,
     bytes: &[u8],
-    writer: &mut W,
+    writer: &mut Watched<W>,
 ) -> Result<(), Stop>
-    ensures { OnOk result ((text : List ℕ) → IsOneLine text → Keeps line.old.kept.items line.old.lost text
-        → GoesOn bytes.now text line.new.kept.items line.new.lost (W.contents writer.old) (W.contents writer.new)) }
+    requires { IsUnmarked writer.old }
+    ensures ok { OnOk result ((text : List ℕ) → IsOneLine text → Keeps line.old.kept.items line.old.lost text
+        → GoesOn bytes.now text line.new.kept.items line.new.lost (W.contents writer.old.end) (W.contents writer.new.end)) }
+    ensures write { IsErrOf result Stop.Write ↔ IsMarked writer.new }
+    ensures fault { IfErr result (λ stop. stop ≡ Stop.Write) }
 {
     let mut rest = bytes;
     while let Some((front, behind)) = cut_line(rest) {
@@ -138,12 +155,15 @@ fn first_newline(bytes: &[u8]) -> Option<usize>
 fn take_bytes<A: Allocator, W: Write>(
     line: &mut Line<A>,
     bytes: &[u8],
-    writer: &mut W,
+    writer: &mut Watched<W>,
 ) -> Result<(), Stop>
-    requires { IsOneLine bytes.now }
+    requires bytes { IsOneLine bytes.now }
+    requires writer { IsUnmarked writer.old }
     ensures kept { OnOk result ((text : List ℕ) → Keeps line.old.kept.items line.old.lost text
         → Keeps line.new.kept.items line.new.lost (text ++ bytes.now)) }
-    ensures written { OnOk result (Appends (W.contents writer.old) (W.contents writer.new) bytes.now) }
+    ensures written { OnOk result (Appends (W.contents writer.old.end) (W.contents writer.new.end) bytes.now) }
+    ensures write { IsErrOf result Stop.Write ↔ IsMarked writer.new }
+    ensures fault { IfErr result (λ stop. stop ≡ Stop.Write) }
 {
     if bytes.is_empty() {
         return Ok(());
@@ -157,10 +177,13 @@ fn end_input<A: Allocator + Copy, W: Write>(
     alloc: A,
     names: &mut Names,
     line: &mut Line<A>,
-    writer: &mut W,
+    writer: &mut Watched<W>,
 ) -> Result<(), Stop>
-    ensures { OnOk result ((text : List ℕ) → IsOneLine text → Keeps line.old.kept.items line.old.lost text
-        → Ends text (W.contents writer.old) (W.contents writer.new)) }
+    requires { IsUnmarked writer.old }
+    ensures ok { OnOk result ((text : List ℕ) → IsOneLine text → Keeps line.old.kept.items line.old.lost text
+        → Ends text (W.contents writer.old.end) (W.contents writer.new.end)) }
+    ensures write { IsErrOf result Stop.Write ↔ IsMarked writer.new }
+    ensures fault { IfErr result (λ stop. stop ≡ Stop.Write) }
 {
     if line.has_none() {
         return Ok(());
@@ -173,12 +196,15 @@ fn end_line<A: Allocator + Copy, W: Write>(
     alloc: A,
     names: &mut Names,
     line: &mut Line<A>,
-    writer: &mut W,
+    writer: &mut Watched<W>,
 ) -> Result<(), Stop>
+    requires { IsUnmarked writer.old }
     ensures cleared { OnOk result (Keeps line.new.kept.items line.new.lost []) }
     ensures answered { OnOk result ((text : List ℕ) → Keeps line.old.kept.items line.old.lost text
         → (answers : List ℕ) × IsAnswered text answers
-        × Appends (W.contents writer.old) (W.contents writer.new) (10 ∷ answers)) }
+        × Appends (W.contents writer.old.end) (W.contents writer.new.end) (10 ∷ answers)) }
+    ensures write { IsErrOf result Stop.Write ↔ IsMarked writer.new }
+    ensures fault { IfErr result (λ stop. stop ≡ Stop.Write) }
 {
     written(writer, b"\n")?;
     write_answers(alloc, names, line, writer)?;
@@ -190,11 +216,14 @@ fn write_answers<A: Allocator + Copy, W: Write>(
     alloc: A,
     names: &mut Names,
     line: &Line<A>,
-    writer: &mut W,
+    writer: &mut Watched<W>,
 ) -> Result<(), Stop>
-    ensures { OnOk result ((text : List ℕ) → Keeps line.now.kept.items line.now.lost text
+    requires { IsUnmarked writer.old }
+    ensures ok { OnOk result ((text : List ℕ) → Keeps line.now.kept.items line.now.lost text
         → (answers : List ℕ) × IsAnswered text answers
-        × Appends (W.contents writer.old) (W.contents writer.new) answers) }
+        × Appends (W.contents writer.old.end) (W.contents writer.new.end) answers) }
+    ensures write { IsErrOf result Stop.Write ↔ IsMarked writer.new }
+    ensures fault { IfErr result (λ stop. stop ≡ Stop.Write) }
 {
     let mut lines = Lines::new(alloc);
     match answer(alloc, names, line, &mut lines) {
@@ -210,8 +239,10 @@ fn answer<A: Allocator + Copy>(
     lines: &mut Lines<A>,
 ) -> Result<(), Bad>
     requires { lines.old ≡ [] }
-    ensures { OnOk result ((text : List ℕ) → Keeps line.now.kept.items line.now.lost text
+    ensures answered { OnOk result ((text : List ℕ) → Keeps line.now.kept.items line.now.lost text
         → IsAnswered text lines.new) }
+    ensures no_request { IfErr result (λ bad. (text : List ℕ) → Keeps line.now.kept.items line.now.lost text
+        → OnlyIf (¬ IsRequest text) bad) }
 {
     if line.lost {
         return Err(Bad::Memory);
@@ -229,7 +260,8 @@ fn answer_text<A: Allocator + Copy>(
     lines: &mut Lines<A>,
 ) -> Result<(), Bad>
     requires { lines.old ≡ [] }
-    ensures { OnOk result (IsAnswered text.now lines.new) }
+    ensures answered { OnOk result (IsAnswered text.now lines.new) }
+    ensures no_request { IfErr result (OnlyIf (¬ IsRequest text.now)) }
 {
     if is_passed_over(text.as_bytes()) {
         return Ok(());
@@ -244,9 +276,13 @@ fn is_passed_over(line: &[u8]) -> bool
 }
 
 // Writes why a line has no answer.
-fn write_bad<W: Write>(bad: Bad, writer: &mut W) -> Result<(), Stop>
-    ensures { OnOk result ((text : List ℕ) → (answers : List ℕ) × IsAnswered text answers
-        × Appends (W.contents writer.old) (W.contents writer.new) answers) }
+fn write_bad<W: Write>(bad: Bad, writer: &mut Watched<W>) -> Result<(), Stop>
+    requires { IsUnmarked writer.old }
+    ensures ok { OnOk result ((text : List ℕ) → OnlyIf (¬ IsRequest text) bad
+        → (answers : List ℕ) × IsAnswered text answers
+        × Appends (W.contents writer.old.end) (W.contents writer.new.end) answers) }
+    ensures write { IsErrOf result Stop.Write ↔ IsMarked writer.new }
+    ensures fault { IfErr result (λ stop. stop ≡ Stop.Write) }
 {
     written(writer, b"= BAD ")?;
     written(writer, reason(bad).as_bytes())?;
@@ -254,7 +290,8 @@ fn write_bad<W: Write>(bad: Bad, writer: &mut W) -> Result<(), Stop>
 }
 
 fn reason(bad: Bad) -> &'static str
-    ensures { IsOneLine result.now }
+    ensures one_line { IsOneLine result.now }
+    ensures memory { bad ≡ Bad.Memory → result.now ≡ codes "no memory" }
 {
     match bad {
         Bad::Memory => "no memory",
@@ -272,8 +309,22 @@ fn first_line(text: &str) -> &str
     }
 }
 
-fn written<W: Write>(writer: &mut W, bytes: &[u8]) -> Result<(), Stop>
-    ensures { OnOk result (Appends (W.contents writer.old) (W.contents writer.new) bytes.now) }
+// Writes all of the bytes. Where a write fails, or takes nothing, the rest is not written.
+fn written<W: Write>(writer: &mut Watched<W>, bytes: &[u8]) -> Result<(), Stop>
+    requires { IsUnmarked writer.old }
+    ensures ok { OnOk result (Appends (W.contents writer.old.end) (W.contents writer.new.end) bytes.now) }
+    ensures write { IsErrOf result Stop.Write ↔ IsMarked writer.new }
+    ensures fault { IfErr result (λ stop. stop ≡ Stop.Write) }
 {
-    writer.write_all(bytes).map_err(|_| Stop::Write)
+    let mut rest = bytes;
+    while !rest.is_empty() {
+        let Ok(taken) = writer.write(rest) else {
+            return Err(Stop::Write);
+        };
+        if taken == 0 {
+            return Err(Stop::Write);
+        }
+        rest = &rest[taken..];
+    }
+    Ok(())
 }

@@ -10,6 +10,7 @@ use linked_list_allocator::LocalHeap;
 use std::alloc::Global;
 use std::process::Abort;
 use std::test::Fail;
+use watched::Watched;
 
 // A line, and its answers.
 const ROWS: [(&str, &str); 36] = [
@@ -80,13 +81,27 @@ fn show(out: &mut Vec<u8>, line: &str, answers: &str) -> Result<(), Fail> {
     Ok(())
 }
 
-// What a run writes of bytes that come and go by the plans.
-fn replay(alloc: Global, input: &[u8], reads: Plan, writes: Plan) -> (Result<(), Stop>, Vec<u8>) {
+// What a run answers and writes, and which of its ends have failed.
+#[derive(Drop)]
+struct Ran {
+    result: Result<(), Stop>,
+    reader_failed: bool,
+    writer_failed: bool,
+    output: Vec<u8>,
+}
+
+// Runs over bytes that come and go by the plans.
+fn replay(alloc: Global, input: &[u8], reads: Plan, writes: Plan) -> Ran {
     let mut names = Names::new(alloc);
-    let mut reader = Given::new(input, reads);
-    let mut writer = Taken::new(alloc, writes);
+    let mut reader = Watched::new(Given::new(input, reads));
+    let mut writer = Watched::new(Taken::new(alloc, writes));
     let result = run(alloc, &mut names, &mut reader, &mut writer);
-    (result, writer.bytes)
+    Ran {
+        result,
+        reader_failed: reader.failed(),
+        writer_failed: writer.failed(),
+        output: writer.into_inner().bytes,
+    }
 }
 
 #[test]
@@ -97,9 +112,9 @@ fn answers_requests(rt: HostRuntime) -> Result<(), Fail> {
         input.extend_from_slice(b"\n")?;
         let mut want = Vec::new(rt.alloc());
         show(&mut want, line, answers)?;
-        let (result, output) = replay(rt.alloc(), &input, Plan::WHOLE, Plan::WHOLE);
+        let ran = replay(rt.alloc(), &input, Plan::WHOLE, Plan::WHOLE);
         assert!(rt;
-            result == Ok(()) && output.as_slice() == want.as_slice(),
+            ran.result == Ok(()) && ran.output.as_slice() == want.as_slice(),
             "{line}"
         );
     }
@@ -118,8 +133,9 @@ fn moves_a_byte_at_a_time(rt: HostRuntime) -> Result<(), Fail> {
         (Plan::BYTES, Plan::WHOLE),
         (Plan::WHOLE, Plan::BYTES),
     ] {
-        let (result, output) = replay(rt.alloc(), LINES, reads, writes);
-        assert!(rt; result == Ok(()) && output.as_slice() == REPLIES);
+        let ran = replay(rt.alloc(), LINES, reads, writes);
+        assert!(rt; ran.result == Ok(()) && ran.output.as_slice() == REPLIES);
+        assert!(rt; !ran.reader_failed && !ran.writer_failed);
     }
     Ok(())
 }
@@ -127,8 +143,9 @@ fn moves_a_byte_at_a_time(rt: HostRuntime) -> Result<(), Fail> {
 #[test]
 fn stops_at_a_failed_read(rt: HostRuntime) -> Result<(), Fail> {
     for call in 0..=LINES.len() {
-        let (result, _) = replay(rt.alloc(), LINES, Plan::failing(call), Plan::WHOLE);
-        assert!(rt; result == Err(Stop::Read), "{call}");
+        let ran = replay(rt.alloc(), LINES, Plan::failing(call), Plan::WHOLE);
+        assert!(rt; ran.result == Err(Stop::Read), "{call}");
+        assert!(rt; ran.reader_failed && !ran.writer_failed, "{call}");
     }
     Ok(())
 }
@@ -136,12 +153,14 @@ fn stops_at_a_failed_read(rt: HostRuntime) -> Result<(), Fail> {
 #[test]
 fn stops_at_a_failed_write(rt: HostRuntime) -> Result<(), Fail> {
     for call in 0..REPLIES.len() {
-        let (result, output) = replay(rt.alloc(), LINES, Plan::WHOLE, Plan::failing(call));
-        assert!(rt; result == Err(Stop::Write), "{call}");
-        assert!(rt; output.as_slice() == &REPLIES[..call], "{call}");
+        let ran = replay(rt.alloc(), LINES, Plan::WHOLE, Plan::failing(call));
+        assert!(rt; ran.result == Err(Stop::Write), "{call}");
+        assert!(rt; ran.writer_failed && !ran.reader_failed, "{call}");
+        assert!(rt; ran.output.as_slice() == &REPLIES[..call], "{call}");
     }
-    let (result, output) = replay(rt.alloc(), LINES, Plan::WHOLE, Plan::NONE);
-    assert!(rt; result == Err(Stop::Write) && output.is_empty());
+    let ran = replay(rt.alloc(), LINES, Plan::WHOLE, Plan::NONE);
+    assert!(rt; ran.result == Err(Stop::Write) && ran.writer_failed);
+    assert!(rt; ran.output.is_empty());
     Ok(())
 }
 
@@ -154,15 +173,16 @@ fn refuses_until(rt: &(impl Abort + AllocGlobal), line: &str, answers: &str) -> 
     for budget in 1..4096usize {
         let heap = LocalHeap::new(rt.alloc(), budget * 16)?;
         let mut names = Names::new(rt.alloc());
-        let mut reader = Given::new(line.as_bytes(), Plan::WHOLE);
-        let mut writer = Taken::new(rt.alloc(), Plan::WHOLE);
+        let mut reader = Watched::new(Given::new(line.as_bytes(), Plan::WHOLE));
+        let mut writer = Watched::new(Taken::new(rt.alloc(), Plan::WHOLE));
         let result = run(&heap, &mut names, &mut reader, &mut writer);
         assert!(rt; result == Ok(()), "{line}");
-        if writer.bytes.as_slice() == want.as_slice() {
+        let taken = writer.into_inner();
+        if taken.bytes.as_slice() == want.as_slice() {
             assert!(rt; budget > 1, "{line}");
             return Ok(());
         }
-        assert!(rt; writer.bytes.as_slice() == bad.as_slice(), "{line}");
+        assert!(rt; taken.bytes.as_slice() == bad.as_slice(), "{line}");
     }
     panic!(rt; "never succeeds")
 }
@@ -198,9 +218,9 @@ fn refuses_a_deep_line(rt: HostRuntime) -> Result<(), Fail> {
     for _ in 0..1_001 {
         line.push_str(" [ doc")?;
     }
-    let (result, output) = replay(rt.alloc(), line.as_bytes(), Plan::WHOLE, Plan::WHOLE);
+    let ran = replay(rt.alloc(), line.as_bytes(), Plan::WHOLE, Plan::WHOLE);
     let mut want = Vec::new(rt.alloc());
     show(&mut want, line.as_str(), "= BAD nested too deep\n")?;
-    assert!(rt; result == Ok(()) && output.as_slice() == want.as_slice());
+    assert!(rt; ran.result == Ok(()) && ran.output.as_slice() == want.as_slice());
     Ok(())
 }

@@ -1,40 +1,43 @@
 //! The words of a line.
 
-ghost use Rattle.std.specs.Prelude.{◌≡◌, ◌<◌, ◌≤◌, Some, None, IfOk, IfErr, OnOk, length};
-ghost use Rattle.std.specs.Option.{option_map};
-ghost use Rattle.std.specs.List.{after_first};
-ghost use Rattle.replay.specs.Words.{after_blanks, after_word, first_word, is_blank, next_word};
+ghost use Rattle.std.specs.Prelude.{◌≡◌, ◌≢◌, ◌<◌, ◌≤◌, [], ◌∷◌, List, IfOk, IfSome, IfNone, OnOk, OnErr, length};
+ghost use Rattle.std.specs.List.{after_first, before_first};
+ghost use Rattle.replay.specs.Grammar.{Reads, Refuses, Slot, Word, flag_word};
+ghost use Rattle.replay.specs.Words.{after_blanks, is_blank, words_of};
 
 use crate::fault::Bad;
 use std::marker::Model;
 
 const ENDS_EARLY: &str = "the line ends early";
 
-/// What is left of a line. Blanks stand between words, and no word is empty.
+/// The words that are left of a line. Blanks stand between words, and no word is empty.
 #[derive(Drop)]
 pub struct Words<'a> {
     rest: &'a str,
 }
 
 impl<'a> Model for Words<'a> {
-    ghost use Rattle.std.specs.Prelude.{ℕ, List};
+    ghost use Rattle.std.specs.Prelude.{List};
+    ghost use Rattle.replay.specs.Grammar.{Word};
+    ghost use Rattle.replay.specs.Words.{words_of};
 
-    ghost Value = { List ℕ };
+    ghost Value = { List Word };
 
-    ghost view = { λ words. words.rest.now };
+    ghost view = { λ words. words_of words.rest.now };
 }
 
 impl<'a> Words<'a> {
     /// The words of a line, from the first on.
     pub fn new(line: &'a str) -> Words<'a>
-        ensures { result ≡ line.now }
+        ensures { result ≡ words_of line.now }
     {
         Words { rest: line }
     }
 
     /// The next word, which stays.
     pub fn peek(&self) -> Option<&'a str>
-        ensures { option_map (λ word. word.now) result ≡ next_word self.now }
+        ensures some { IfSome result (λ word. (rest : List Word) × (self.now ≡ word.now ∷ rest)) }
+        ensures none { IfNone result (self.now ≡ []) }
     {
         let text = after_blanks(self.rest);
         if text.is_empty() {
@@ -45,10 +48,8 @@ impl<'a> Words<'a> {
 
     /// Takes the next word.
     pub fn word(&mut self) -> Result<&'a str, Bad>
-        ensures ok { IfOk result (λ word. next_word self.old ≡ Some word.now) }
-        ensures taken { OnOk result (self.new ≡ after_word self.old) }
-        ensures shorter { OnOk result (length self.new < length self.old) }
-        ensures end { IfErr result (λ _. next_word self.old ≡ None) }
+        ensures ok { IfOk result (λ word. self.old ≡ word.now ∷ self.new) }
+        ensures end { OnErr result (self.old ≡ []) }
         ensures no_longer { length self.new ≤ length self.old }
     {
         let text = after_blanks(self.rest);
@@ -62,8 +63,8 @@ impl<'a> Words<'a> {
 
     /// Takes the next word, which is to be this one.
     pub fn expect(&mut self, word: &str) -> Result<(), Bad>
-        ensures ok { OnOk result (next_word self.old ≡ Some word.now) }
-        ensures shorter { OnOk result (length self.new < length self.old) }
+        ensures ok { OnOk result (self.old ≡ word.now ∷ self.new) }
+        ensures err { OnErr result ((rest : List Word) → self.old ≢ word.now ∷ rest) }
         ensures no_longer { length self.new ≤ length self.old }
     {
         if self.word()? != word {
@@ -74,7 +75,8 @@ impl<'a> Words<'a> {
 
     /// No word is left.
     pub fn end(&self) -> Result<(), Bad>
-        ensures { OnOk result (next_word self.now ≡ None) }
+        ensures ok { OnOk result (self.now ≡ []) }
+        ensures err { OnErr result (self.now ≢ []) }
     {
         match self.peek() {
             None => Ok(()),
@@ -84,7 +86,9 @@ impl<'a> Words<'a> {
 
     /// Takes a word that is 0 or 1.
     pub fn flag(&mut self) -> Result<bool, Bad>
-        ensures shorter { OnOk result (length self.new < length self.old) }
+        ensures ok { IfOk result (λ flag. self.old ≡ flag_word flag ∷ self.new) }
+        ensures reads { OnOk result (Reads (Slot.flag ∷ []) self.old self.new) }
+        ensures refuses { OnErr result (Refuses (Slot.flag ∷ []) self.old) }
         ensures no_longer { length self.new ≤ length self.old }
     {
         match self.word()? {
@@ -109,9 +113,8 @@ fn after_blanks(text: &str) -> &str
 // The text up to its first blank, and what follows that blank.
 fn cut(text: &str) -> (&str, &str)
     requires { 0 < length text.now }
-    ensures word { first_word text.now ≡ Some result.0.now }
+    ensures word { result.0.now ≡ before_first is_blank text.now }
     ensures rest { result.1.now ≡ after_first is_blank text.now }
-    ensures shorter { length result.1.now < length text.now }
 {
     match text.split_once(' ') {
         Some(parts) => parts,

@@ -1,7 +1,8 @@
 //! What an item has beside its documents, read.
 
-ghost use Rattle.std.specs.Prelude.{◌<◌, ◌≤◌, IfOk, OnOk, length};
-ghost use Rattle.std.specs.Bool.{OnTrue};
+ghost use Rattle.std.specs.Prelude.{◌≡◌, ◌≢◌, ◌<◌, [], ◌∷◌, List, IfErr, OnOk, codes, length};
+ghost use Rattle.std.specs.Bool.{OnFalse, OnTrue};
+ghost use Rattle.replay.specs.Grammar.{OnlyIf, Reads, Refuses, Slot, Word};
 
 use crate::encoding::read_text;
 use crate::fault::Bad;
@@ -18,7 +19,9 @@ pub fn read_name<A: Allocator>(
     words: &mut Words<'_>,
     names: &mut Names,
 ) -> Result<ShortLong, Bad>
-    ensures { OnOk result (length words.new < length words.old) }
+    ensures reads { OnOk result (Reads (Slot.name ∷ []) words.old words.new) }
+    ensures refuses { IfErr result (OnlyIf (Refuses (Slot.name ∷ []) words.old)) }
+    ensures shorter { OnOk result (length words.new < length words.old) }
 {
     let word = words.word()?;
     let Some((kind, spelled)) = word.split_once('\'') else {
@@ -37,7 +40,10 @@ pub fn read_name<A: Allocator>(
 }
 
 // The first character, and the rest as a long name.
-fn read_both(text: &str, names: &mut Names) -> Result<ShortLong, Bad> {
+fn read_both(text: &str, names: &mut Names) -> Result<ShortLong, Bad>
+    ensures ok { OnOk result (text.now ≢ []) }
+    ensures empty { IfErr result (OnlyIf (text.now ≡ [])) }
+{
     let mut characters = text.chars();
     match characters.next() {
         Some(short) => Ok(ShortLong::Both(short, names.get(characters.as_str())?)),
@@ -50,15 +56,25 @@ pub fn read_texts<A: Allocator + Copy>(
     alloc: A,
     words: &mut Words<'_>,
 ) -> Result<Vec<String<A>, A>, Bad>
-    ensures { OnOk result (length words.new < length words.old) }
+    ensures reads { OnOk result (Reads (Slot.texts ∷ []) words.old words.new) }
+    ensures refuses { IfErr result (OnlyIf (Refuses (Slot.texts ∷ []) words.old)) }
+    ensures shorter { OnOk result (length words.new < length words.old) }
 {
     words.expect("(")?;
     let mut texts = Vec::new(alloc);
-    while words.peek() != Some(")") {
+    while !is_closed(words) {
         texts.push(words.text(alloc)?)?;
     }
     words.expect(")")?;
     Ok(texts)
+}
+
+// The next word closes a list.
+pub(super) fn is_closed(words: &Words<'_>) -> bool
+    ensures closed { OnTrue result ((rest : List Word) × (words.now ≡ codes ")" ∷ rest)) }
+    ensures another { OnFalse result ((rest : List Word) → words.now ≢ codes ")" ∷ rest) }
+{
+    words.peek() == Some(")")
 }
 
 // Takes a text that is kept for good.
@@ -67,7 +83,9 @@ pub(super) fn read_kept<A: Allocator>(
     words: &mut Words<'_>,
     names: &mut Names,
 ) -> Result<&'static str, Bad>
-    ensures { OnOk result (length words.new < length words.old) }
+    ensures reads { OnOk result (Reads (Slot.text ∷ []) words.old words.new) }
+    ensures refuses { IfErr result (OnlyIf (Refuses (Slot.text ∷ []) words.old)) }
+    ensures shorter { OnOk result (length words.new < length words.old) }
 {
     let text = words.text(alloc)?;
     Ok(names.get(text.as_str())?)
@@ -79,9 +97,11 @@ pub(super) fn read_environment_name<A: Allocator>(
     words: &mut Words<'_>,
     names: &mut Names,
 ) -> Result<Option<&'static str>, Bad>
-    ensures { OnOk result (length words.new < length words.old) }
+    ensures reads { OnOk result (Reads (Slot.maybe_text ∷ []) words.old words.new) }
+    ensures refuses { IfErr result (OnlyIf (Refuses (Slot.maybe_text ∷ []) words.old)) }
+    ensures shorter { OnOk result (length words.new < length words.old) }
 {
-    if read_dash(words)? {
+    if read_dash(words) {
         return Ok(None);
     }
     Ok(Some(read_kept(alloc, words, names)?))
@@ -89,9 +109,11 @@ pub(super) fn read_environment_name<A: Allocator>(
 
 // Takes `-`, or a text of which the first character counts.
 pub(super) fn read_short<A: Allocator>(alloc: A, words: &mut Words<'_>) -> Result<Option<char>, Bad>
-    ensures { OnOk result (length words.new < length words.old) }
+    ensures reads { OnOk result (Reads (Slot.maybe_text ∷ []) words.old words.new) }
+    ensures refuses { IfErr result (OnlyIf (Refuses (Slot.maybe_text ∷ []) words.old)) }
+    ensures shorter { OnOk result (length words.new < length words.old) }
 {
-    if read_dash(words)? {
+    if read_dash(words) {
         return Ok(None);
     }
     let text = words.text(alloc)?;
@@ -103,20 +125,23 @@ pub(super) fn read_characters<A: Allocator + Copy>(
     alloc: A,
     words: &mut Words<'_>,
 ) -> Result<Vec<char, A>, Bad>
-    ensures { OnOk result (length words.new < length words.old) }
+    ensures reads { OnOk result (Reads (Slot.text ∷ []) words.old words.new) }
+    ensures refuses { IfErr result (OnlyIf (Refuses (Slot.text ∷ []) words.old)) }
+    ensures shorter { OnOk result (length words.new < length words.old) }
 {
     let text = words.text(alloc)?;
     Ok(text.as_str().chars().collect(alloc)?)
 }
 
 // Takes the next word if it is `-`, and answers whether it was.
-pub(super) fn read_dash(words: &mut Words<'_>) -> Result<bool, Bad>
-    ensures taken { IfOk result (λ is_dash. OnTrue is_dash (length words.new < length words.old)) }
-    ensures no_longer { OnOk result (length words.new ≤ length words.old) }
+pub(super) fn read_dash(words: &mut Words<'_>) -> bool
+    ensures taken { OnTrue result (words.old ≡ codes "-" ∷ words.new) }
+    ensures kept { OnFalse result (words.new ≡ words.old) }
+    ensures not_there { OnFalse result ((rest : List Word) → words.old ≢ codes "-" ∷ rest) }
 {
     let is_dash = words.peek() == Some("-");
     if is_dash {
-        words.expect("-")?;
+        let _ = words.word();
     }
-    Ok(is_dash)
+    is_dash
 }

@@ -1,7 +1,13 @@
 //! Trees, items and names, printed.
+#![tactic(auto, using(crate::proofs::PrintedLines::printer_lemmas))]
+
+ghost use Rattle.std.specs.Prelude.{OnOk, string_bytes};
+ghost use Rattle.replay.specs.Printers.{WritesInLine};
+ghost use Rattle.replay.specs.Replay.{IsOneLine};
 
 use crate::documents::write_document;
 use crate::encoding::{write_character, write_text};
+use crate::printer::put;
 use bpaf_doc::buffer::Doc;
 use bpaf_help::item::{Item, ShortLong};
 use bpaf_help::meta::Meta;
@@ -10,7 +16,9 @@ use std::alloc::{AllocError, Allocator};
 
 /// Prints a tree.
 #[cycle(write)]
-pub fn write_tree<A: Allocator>(out: &mut String<A>, tree: &Meta<A>) -> Result<(), AllocError> {
+pub fn write_tree<A: Allocator>(out: &mut String<A>, tree: &Meta<A>) -> Result<(), AllocError>
+    ensures { OnOk result (WritesInLine (string_bytes out.old) (string_bytes out.new)) }
+{
     match tree {
         Meta::And(parts) => write_parts(out, "and (", parts),
         Meta::Or(parts) => write_parts(out, "or (", parts),
@@ -23,7 +31,7 @@ pub fn write_tree<A: Allocator>(out: &mut String<A>, tree: &Meta<A>) -> Result<(
         Meta::Subsection(inner, title) => write_noted(out, "sub ", title, inner),
         Meta::Suffix(inner, note) => write_noted(out, "suf ", note, inner),
         Meta::CustomUsage(inner, usage) => write_noted(out, "cu ", usage, inner),
-        Meta::Skip => out.push_str("skip"),
+        Meta::Skip => put(out, "skip"),
     }
 }
 
@@ -32,8 +40,11 @@ fn write_inner<A: Allocator>(
     out: &mut String<A>,
     word: &str,
     inner: &Box<Meta<A>, A>,
-) -> Result<(), AllocError> {
-    out.push_str(word)?;
+) -> Result<(), AllocError>
+    requires one_line { IsOneLine word.now }
+    ensures { OnOk result (WritesInLine (string_bytes out.old) (string_bytes out.new)) }
+{
+    put(out, word)?;
     write_tree(out, inner)
 }
 
@@ -43,10 +54,13 @@ fn write_noted<A: Allocator>(
     word: &str,
     note: &Box<Doc<A>, A>,
     inner: &Box<Meta<A>, A>,
-) -> Result<(), AllocError> {
-    out.push_str(word)?;
+) -> Result<(), AllocError>
+    requires one_line { IsOneLine word.now }
+    ensures { OnOk result (WritesInLine (string_bytes out.old) (string_bytes out.new)) }
+{
+    put(out, word)?;
     write_document(out, note)?;
-    out.push_str(" ")?;
+    put(out, " ")?;
     write_tree(out, inner)
 }
 
@@ -55,33 +69,38 @@ fn write_parts<A: Allocator>(
     out: &mut String<A>,
     opening: &str,
     parts: &Vec<Meta<A>, A>,
-) -> Result<(), AllocError> {
-    out.push_str(opening)?;
+) -> Result<(), AllocError>
+    requires one_line { IsOneLine opening.now }
+    ensures { OnOk result (WritesInLine (string_bytes out.old) (string_bytes out.new)) }
+{
+    put(out, opening)?;
     for part in parts {
-        out.push_str(" ")?;
+        put(out, " ")?;
         write_tree(out, part)?;
     }
-    out.push_str(" )")
+    put(out, " )")
 }
 
 /// Prints an item.
 #[cycle(write)]
-pub fn write_item<A: Allocator>(out: &mut String<A>, item: &Item<A>) -> Result<(), AllocError> {
+pub fn write_item<A: Allocator>(out: &mut String<A>, item: &Item<A>) -> Result<(), AllocError>
+    ensures { OnOk result (WritesInLine (string_bytes out.old) (string_bytes out.new)) }
+{
     match item {
         Item::Any {
             metavar,
             anywhere,
             help,
         } => {
-            out.push_str("any ")?;
+            put(out, "any ")?;
             write_document(out, metavar)?;
-            out.push_str(if *anywhere { " 1 " } else { " 0 " })?;
+            put(out, if *anywhere { " 1 " } else { " 0 " })?;
             write_help(out, help)
         }
         Item::Positional { metavar, help } => {
-            out.push_str("pos ")?;
+            put(out, "pos ")?;
             write_text(out, metavar.0)?;
-            out.push_str(" ")?;
+            put(out, " ")?;
             write_help(out, help)
         }
         Item::Command {
@@ -91,13 +110,13 @@ pub fn write_item<A: Allocator>(out: &mut String<A>, item: &Item<A>) -> Result<(
             meta,
             info,
         } => {
-            out.push_str("cmd ")?;
+            put(out, "cmd ")?;
             write_text(out, *name)?;
             write_short(out, *short)?;
             write_help(out, help)?;
-            out.push_str(" ")?;
+            put(out, " ")?;
             write_tree(out, meta)?;
-            out.push_str(" ")?;
+            put(out, " ")?;
             write_info(out, info)
         }
         Item::Flag {
@@ -106,7 +125,7 @@ pub fn write_item<A: Allocator>(out: &mut String<A>, item: &Item<A>) -> Result<(
             env,
             help,
         } => {
-            out.push_str("flag ")?;
+            put(out, "flag ")?;
             write_named(out, name, shorts)?;
             write_environment_name(out, *env)?;
             write_help(out, help)
@@ -118,9 +137,9 @@ pub fn write_item<A: Allocator>(out: &mut String<A>, item: &Item<A>) -> Result<(
             env,
             help,
         } => {
-            out.push_str("arg ")?;
+            put(out, "arg ")?;
             write_named(out, name, shorts)?;
-            out.push_str(" ")?;
+            put(out, " ")?;
             write_text(out, metavar.0)?;
             write_environment_name(out, *env)?;
             write_help(out, help)
@@ -129,14 +148,16 @@ pub fn write_item<A: Allocator>(out: &mut String<A>, item: &Item<A>) -> Result<(
 }
 
 #[cycle(write)]
-fn write_info<A: Allocator>(out: &mut String<A>, info: &Box<Info<A>, A>) -> Result<(), AllocError> {
+fn write_info<A: Allocator>(out: &mut String<A>, info: &Box<Info<A>, A>) -> Result<(), AllocError>
+    ensures { OnOk result (WritesInLine (string_bytes out.old) (string_bytes out.new)) }
+{
     if is_default(info) {
-        return out.push_str("-");
+        return put(out, "-");
     }
-    out.push_str("info ")?;
+    put(out, "info ")?;
     for text in [&info.descr, &info.header, &info.footer, &info.usage] {
         write_help(out, text)?;
-        out.push_str(" ")?;
+        put(out, " ")?;
     }
     write_tree(out, &info.help)
 }
@@ -154,33 +175,39 @@ fn is_default<A: Allocator>(info: &Info<A>) -> bool {
     }
 }
 
-fn write_help<A: Allocator>(out: &mut String<A>, help: &Option<Doc<A>>) -> Result<(), AllocError> {
+fn write_help<A: Allocator>(out: &mut String<A>, help: &Option<Doc<A>>) -> Result<(), AllocError>
+    ensures { OnOk result (WritesInLine (string_bytes out.old) (string_bytes out.new)) }
+{
     match help {
-        None => out.push_str("-"),
+        None => put(out, "-"),
         Some(help) => write_document(out, help),
     }
 }
 
 /// Prints a name.
-pub fn write_name<A: Allocator>(out: &mut String<A>, name: &ShortLong) -> Result<(), AllocError> {
+pub fn write_name<A: Allocator>(out: &mut String<A>, name: &ShortLong) -> Result<(), AllocError>
+    ensures { OnOk result (WritesInLine (string_bytes out.old) (string_bytes out.new)) }
+{
     match *name {
         ShortLong::Short(short) => {
-            out.push_str("s'")?;
+            put(out, "s'")?;
             write_character(out, short)
         }
         ShortLong::Long(long) => {
-            out.push_str("l")?;
+            put(out, "l")?;
             write_text(out, long)
         }
         ShortLong::Both(short, long) => {
-            out.push_str("b'")?;
+            put(out, "b'")?;
             write_character(out, short)?;
             write_characters(out, long)
         }
     }
 }
 
-fn write_characters<A: Allocator>(out: &mut String<A>, text: &str) -> Result<(), AllocError> {
+fn write_characters<A: Allocator>(out: &mut String<A>, text: &str) -> Result<(), AllocError>
+    ensures { OnOk result (WritesInLine (string_bytes out.old) (string_bytes out.new)) }
+{
     for character in text.chars() {
         write_character(out, character)?;
     }
@@ -192,15 +219,19 @@ fn write_named<A: Allocator>(
     out: &mut String<A>,
     name: &ShortLong,
     shorts: &[char],
-) -> Result<(), AllocError> {
+) -> Result<(), AllocError>
+    ensures { OnOk result (WritesInLine (string_bytes out.old) (string_bytes out.new)) }
+{
     write_name(out, name)?;
-    out.push_str(" ")?;
+    put(out, " ")?;
     write_shorts(out, shorts)
 }
 
 /// Prints characters as a text.
-pub fn write_shorts<A: Allocator>(out: &mut String<A>, shorts: &[char]) -> Result<(), AllocError> {
-    out.push('\'')?;
+pub fn write_shorts<A: Allocator>(out: &mut String<A>, shorts: &[char]) -> Result<(), AllocError>
+    ensures { OnOk result (WritesInLine (string_bytes out.old) (string_bytes out.new)) }
+{
+    put(out, "'")?;
     for short in shorts {
         write_character(out, *short)?;
     }
@@ -208,13 +239,15 @@ pub fn write_shorts<A: Allocator>(out: &mut String<A>, shorts: &[char]) -> Resul
 }
 
 // Between blanks.
-fn write_short<A: Allocator>(out: &mut String<A>, short: Option<char>) -> Result<(), AllocError> {
+fn write_short<A: Allocator>(out: &mut String<A>, short: Option<char>) -> Result<(), AllocError>
+    ensures { OnOk result (WritesInLine (string_bytes out.old) (string_bytes out.new)) }
+{
     match short {
-        None => out.push_str(" - "),
+        None => put(out, " - "),
         Some(short) => {
-            out.push_str(" '")?;
+            put(out, " '")?;
             write_character(out, short)?;
-            out.push_str(" ")
+            put(out, " ")
         }
     }
 }
@@ -223,13 +256,15 @@ fn write_short<A: Allocator>(out: &mut String<A>, short: Option<char>) -> Result
 fn write_environment_name<A: Allocator>(
     out: &mut String<A>,
     name: Option<&str>,
-) -> Result<(), AllocError> {
+) -> Result<(), AllocError>
+    ensures { OnOk result (WritesInLine (string_bytes out.old) (string_bytes out.new)) }
+{
     match name {
-        None => out.push_str(" - "),
+        None => put(out, " - "),
         Some(name) => {
-            out.push_str(" ")?;
+            put(out, " ")?;
             write_text(out, name)?;
-            out.push_str(" ")
+            put(out, " ")
         }
     }
 }

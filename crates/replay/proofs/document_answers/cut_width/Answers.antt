@@ -1,6 +1,6 @@
 use Rattle.std.proofs.Common.{arith}
 use Rattle.std.proofs.lemmas.List.Splits.{slice_split_first}
-use Rattle.replay.specs.Replay.{is_comma}
+use Rattle.replay.specs.Words.{is_comma}
 use Rattle.replay.proofs.AnswerLaws.{one_width}
 use Rattle.replay.proofs.document_answers.cut_width.Goals as goal
 

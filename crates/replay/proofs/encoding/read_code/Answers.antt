@@ -5,36 +5,36 @@ use Rattle.replay.proofs.encoding.read_code.Goals as goal
 
 pub returns-in_err-next-clause-found : goal.returns-in_err-next-clause-found
 returns-in_err-next-clause-found c =
-    rw c.from_residual.ensures (code_ends c.loop-place.place c.loop-place.code (chars_rest c.loop-place.characters) c.args.word.now c.loop-place-test.true c.loop-place.invariant.1 c.in_err-next.ensures.steps.0.0)
+    rw c.from_residual.ensures (code_ends c.digits.counter c.digits.code (chars_rest c.digits.characters) c.args.word.now c.digits-test.true c.digits.invariant.1 c.in_err-next.ensures.steps.0.0)
 
 pub returns-in_err-digit-clause-found : goal.returns-in_err-digit-clause-found
 returns-in_err-digit-clause-found c =
     rw c.from_residual-in_err-digit.ensures
-    (code_stops c.loop-place.place c.loop-place.code c.in_ok-next.field-0 (chars_rest c.loop-place.characters) (chars_rest c.next.new.self) c.args.word.now c.loop-place-test.true c.loop-place.invariant.1 c.in_ok-next.ensures.steps.0 c.in_err-digit.ensures.value)
+    (code_stops c.digits.counter c.digits.code c.in_ok-next.field-0 (chars_rest c.digits.characters) (chars_rest c.next.new.self) c.args.word.now c.digits-test.true c.digits.invariant.1 c.in_ok-next.ensures.steps.0 c.in_err-digit.ensures.value)
 
 pub overflow_mul-code : goal.overflow_mul-code
-overflow_mul-code c = omega (arith, code_grows c.loop-place.place c.loop-place.code 0 c.loop-place-test.true c.loop-place.invariant.0 (omega arith))
+overflow_mul-code c = omega (arith, code_grows c.digits.counter c.digits.code 0 c.digits-test.true c.digits.invariant.0 (omega arith))
 
 pub overflow_add-code : goal.overflow_add-code
 overflow_add-code c =
     let digit : c.in_ok-digit.digit < 16 = omega (arith, c.in_ok-digit.ensures.value.0, c.in_ok-digit.ensures.value.1) in
-    let bound = code_grows c.loop-place.place c.loop-place.code c.in_ok-digit.digit c.loop-place-test.true c.loop-place.invariant.0 digit in
+    let bound = code_grows c.digits.counter c.digits.code c.in_ok-digit.digit c.digits-test.true c.digits.invariant.0 digit in
     omega (arith, bound.1)
 
-pub loop-place-preserved : goal.loop-place-preserved
-loop-place-preserved c =
+pub digits-preserved : goal.digits-preserved
+digits-preserved c =
     let digit : c.in_ok-digit.digit < 16 = omega (arith, c.in_ok-digit.ensures.value.0, c.in_ok-digit.ensures.value.1) in
-    let bound = code_grows c.loop-place.place c.loop-place.code c.in_ok-digit.digit c.loop-place-test.true c.loop-place.invariant.0 digit in (
+    let bound = code_grows c.digits.counter c.digits.code c.in_ok-digit.digit c.digits-test.true c.digits.invariant.0 digit in (
       bound.0,
-      code_goes c.loop-place.place c.loop-place.code c.in_ok-next.field-0 c.in_ok-digit.digit (chars_rest c.loop-place.characters) (chars_rest c.next.new.self) c.args.word.now c.loop-place-test.true c.loop-place.invariant.1 c.in_ok-next.ensures.steps.0 c.in_ok-digit.ensures.value.0 c.in_ok-digit.ensures.value.1,
+      code_goes c.digits.counter c.digits.code c.in_ok-next.field-0 c.in_ok-digit.digit (chars_rest c.digits.characters) (chars_rest c.next.new.self) c.args.word.now c.digits-test.true c.digits.invariant.1 c.in_ok-next.ensures.steps.0 c.in_ok-digit.ensures.value.0 c.in_ok-digit.ensures.value.1,
       search rules,
     )
 
 pub returns-in_err-from_u32-clause-found : goal.returns-in_err-from_u32-clause-found
 returns-in_err-from_u32-clause-found c =
-    rw c.from_residual-in_err-from_u32.ensures (code_none c.loop-place.place c.loop-place.code (chars_rest c.loop-place.characters) c.args.word.now c.loop-place-test.false c.loop-place.invariant.1 c.in_err-from_u32.ensures.value)
+    rw c.from_residual-in_err-from_u32.ensures (code_none c.digits.counter c.digits.code (chars_rest c.digits.characters) c.args.word.now c.digits-test.false c.digits.invariant.1 c.in_err-from_u32.ensures.value)
 
 pub returns-clause-found : goal.returns-clause-found
 returns-clause-found c =
     rw c.as_str.ensures
-    (code_some c.loop-place.place c.loop-place.code c.in_ok-from_u32.field-0 (chars_rest c.loop-place.characters) c.args.word.now c.loop-place-test.false c.loop-place.invariant.1 c.in_ok-from_u32.ensures.value.0 c.in_ok-from_u32.ensures.value.1)
+    (code_some c.digits.counter c.digits.code c.in_ok-from_u32.field-0 (chars_rest c.digits.characters) c.args.word.now c.digits-test.false c.digits.invariant.1 c.in_ok-from_u32.ensures.value.0 c.in_ok-from_u32.ensures.value.1)

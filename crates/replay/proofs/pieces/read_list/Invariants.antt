@@ -1,8 +1,9 @@
-use Rattle.std.proofs.Common.{◌≤◌, length}
+use Rattle.std.proofs.Common.{◌≤◌, length, [], ◌∷◌}
+use Rattle.replay.specs.Grammar.{Leads, Slot}
 use Rattle.replay.proofs.pieces.read_list.Given as goal
 
-abbrev pub invariant-loop-alloc : goal.invariant-loop-alloc
-invariant-loop-alloc g l = length l.words ≤ length l.fn.words
+abbrev pub invariant-loop-list : goal.invariant-loop-list
+invariant-loop-list g l = (length l.words ≤ length l.fn.words) × Leads (Slot.flag ∷ Slot.more_pieces ∷ []) l.fn.words (Slot.more_pieces ∷ []) l.words
 
-abbrev pub decreases-loop-alloc : goal.decreases-loop-alloc
-decreases-loop-alloc g l = length l.words
+abbrev pub decreases-loop-list : goal.decreases-loop-list
+decreases-loop-list g l = length l.words

@@ -3,15 +3,15 @@ use Rattle.std.specs.Io.KnownBytes.{Appends}
 use Rattle.std.proofs.lemmas.Result.{on_ok_weaker}
 use Rattle.replay.proofs.run.write_answers.Goals as goal
 
-pub returns-in-Ok : goal.returns-in-Ok
-returns-in-Ok g c =
+pub returns-in-Ok-clause-ok : goal.returns-in-Ok-clause-ok
+returns-in-Ok-clause-ok g c =
     on_ok_weaker c.written.result
     (λ last text k. (
       c.answer.new.lines,
-      c.in-Ok.ensures text k,
-      subst (λ bytes. Appends (g.W.Write.contents c.args.writer.now) (g.W.Write.contents c.written.new.writer) bytes) (c.as_bytes.ensures.value ∙ c.as_str.ensures) last,
+      c.in-Ok.ensures.answered text k,
+      subst (λ bytes. Appends (g.W.Write.contents c.args.writer.now.end) (g.W.Write.contents c.written.new.writer.end) bytes) (c.as_bytes.ensures.value ∙ c.as_str.ensures) last,
     ))
-    c.written.ensures
+    c.written.ensures.ok
 
-pub returns : goal.returns
-returns g c = on_ok_weaker c.write_bad.result (λ h text k. h text) c.write_bad.ensures
+pub returns-clause-ok : goal.returns-clause-ok
+returns-clause-ok g c = on_ok_weaker c.write_bad.result (λ h text k. h text (c.in-Err.ensures.no_request text k)) c.write_bad.ensures.ok

@@ -1,0 +1,16 @@
+use Rattle.std.proofs.Common.{◌∷◌, []}
+use Rattle.replay.specs.Grammar.{Slot, deepest}
+use Rattle.replay.proofs.Slots.{fails, fails_first, fails_then, fits_then, passed_up}
+use Rattle.replay.proofs.document_answers.console_answer.Goals as goal
+
+pub returns-in_err-full-clause-fails : goal.returns-in_err-full-clause-fails
+returns-in_err-full-clause-fails g c = fails c.from_residual.result (fails_first (Slot.width ∷ Slot.document deepest ∷ []) c.in_err-full.ensures.refuses)
+
+pub returns-in_err-width-clause-fails : goal.returns-in_err-width-clause-fails
+returns-in_err-width-clause-fails g c = fails c.from_residual-in_err-width.result (fails_then (Slot.width ∷ Slot.document deepest ∷ []) c.in_ok-full.ensures.reads (fails_first (Slot.document deepest ∷ []) c.in_err-width.ensures.refuses))
+
+pub returns-in_err-document-clause-fails : goal.returns-in_err-document-clause-fails
+returns-in_err-document-clause-fails g c = passed_up c.from_residual-in_err-document.result c.in_err-document.field-0.0 (λ n. fails_then (Slot.width ∷ Slot.document deepest ∷ []) c.in_ok-full.ensures.reads (fails_then (Slot.document deepest ∷ []) c.in_ok-width.ensures.reads (n))) c.from_residual-in_err-document.ensures.1 c.in_err-document.ensures.fails
+
+pub returns-clause-fits : goal.returns-clause-fits
+returns-clause-fits g c = fits_then (Slot.width ∷ Slot.document deepest ∷ []) c.in_ok-full.ensures.reads (fits_then (Slot.document deepest ∷ []) c.in_ok-width.ensures.reads (c.in_ok-document.ensures.fits))

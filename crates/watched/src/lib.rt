@@ -1,0 +1,90 @@
+//! Readers and writers that remember whether a call on them has failed.
+#![tactic(auto)]
+
+ghost use Rattle.std.specs.Prelude.{◌≡◌, ◌||◌, is_err};
+ghost use Rattle.std.specs.Io.{ReadsAtMost, WritesAtMost};
+ghost use Rattle.std.specs.Io.KnownBytes.{ReadConsumes, WriteAppends};
+ghost use Rattle.watched.specs.Watched.{IsUnmarked, is_failed_write};
+
+use std::io;
+use std::io::{Read, Write};
+use std::marker::Model;
+
+/// An end, a reader or a writer, with a mark that a call on it has failed. Only `read` and `write`
+/// set the mark, and nothing clears it.
+#[derive(Drop)]
+pub struct Watched<E> {
+    inner: E,
+    has_failed: bool,
+}
+
+impl<E> Model for Watched<E> {
+    ghost use Rattle.watched.specs.Watched.{Watch, watch_code};
+
+    ghost Value = { Watch E };
+
+    ghost coded = { watch_code E.code };
+
+    ghost view = { λ w. record { end = w.inner; marked = w.has_failed } };
+}
+
+impl<E> Watched<E> {
+    /// The end, without a mark.
+    pub fn new(end: E) -> Watched<E>
+        ensures end { result.end ≡ end }
+        ensures unmarked { IsUnmarked result }
+    {
+        Watched {
+            inner: end,
+            has_failed: false,
+        }
+    }
+
+    /// Whether a call on the end has failed.
+    pub fn failed(&self) -> bool
+        ensures { result ≡ self.now.marked }
+    {
+        self.has_failed
+    }
+
+    /// The end itself.
+    pub fn into_inner(self) -> E
+        ensures { result ≡ self.end }
+    {
+        self.inner
+    }
+}
+
+impl<R: Read> Watched<R> {
+    /// Reads into the buffer, and answers what the reader answers. An error sets the mark, of
+    /// whatever kind it is.
+    pub fn read(&mut self, buf: &mut [u8]) -> io::Result<usize>
+        ensures bound { ReadsAtMost result buf.new }
+        ensures bytes { ReadConsumes (R.remaining self.old.end) (R.remaining self.new.end)
+            result buf.new }
+        ensures mark { self.new.marked ≡ (self.old.marked || is_err result) }
+    {
+        let result = self.inner.read(buf);
+        self.has_failed |= result.is_err();
+        result
+    }
+}
+
+impl<W: Write> Watched<W> {
+    /// Writes some of the bytes, and answers what the writer answers. An error sets the mark, of
+    /// whatever kind it is, and so does a write of at least one byte that takes none: its answer is
+    /// `Ok(0)`, and yet it has failed.
+    pub fn write(&mut self, buf: &[u8]) -> io::Result<usize>
+        ensures bound { WritesAtMost result buf.now }
+        ensures bytes { WriteAppends (W.contents self.old.end) (W.contents self.new.end)
+            result buf.now }
+        ensures mark { self.new.marked ≡ (self.old.marked || is_failed_write result buf.now) }
+    {
+        let result = self.inner.write(buf);
+        self.has_failed |= match result {
+            Ok(taken) => taken == 0 && !buf.is_empty(),
+            Err(_) => true,
+        };
+        result
+    }
+}
