@@ -1,3 +1,2 @@
-mod Fronts
 mod Pages
 mod Texts

@@ -1,7 +1,8 @@
 -- What a run reads and writes. A reader tells which bytes it has left and a writer which it holds, here before and after the run;
 -- one that doesn't tell is `None` in both places, and then nothing is said of its bytes.
-use Rattle.std.specs.Prelude.{◌≡◌, ◌≢◌, ℕ, List, [], ◌++◌, Option, IsUtf8}
+use Rattle.std.specs.Prelude.{ℕ, List, Option, IsUtf8}
 use Rattle.std.specs.Io.KnownBytes.{Consumes, IsAtEnd, Appends}
+use Rattle.watched.specs.Watched.{AppendsPart}
 use Rattle.bpaf_doc.specs.Parts.{Part}
 use Rattle.helpdoc.specs.declared.words.Form.{Form}
 use Rattle.helpdoc.specs.Rendering.{IsPage}
@@ -19,12 +20,6 @@ ReadsText before after Fact = (input : List ℕ) × ReadsAll before after input 
 abbrev pub ReadsNoText : Option (List ℕ) → Option (List ℕ) → Type 0
 ReadsNoText before after = (input : List ℕ) × ReadsAll before after input × ¬ IsUtf8 input
 
--- the writer was given the text but for this rest of it
-pub record WritesAllBut (text rest : List ℕ) (before after : Option (List ℕ)) : Type 0 where
-  pub front : List ℕ
-  pub split : text ≡ front ++ rest
-  pub written : Appends before after front
-
 -- the writer was given a page of the document, and nothing more
 pub record WritesPage (form : Form) (document : List Part) (before after : Option (List ℕ)) : Type 0 where
   pub page : List ℕ
@@ -35,6 +30,4 @@ pub record WritesPage (form : Form) (document : List Part) (before after : Optio
 pub record WritesBeginning (form : Form) (document : List Part) (before after : Option (List ℕ)) : Type 0 where
   pub page : List ℕ
   pub whole : IsPage form document page
-  pub rest : List ℕ
-  pub missing : rest ≢ []
-  pub written : WritesAllBut page rest before after
+  pub written : AppendsPart before after page

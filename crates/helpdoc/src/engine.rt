@@ -1,11 +1,11 @@
 //! What the program does, over any reader and any writer.
 
-ghost use Rattle.std.specs.Prelude.{◌≡◌, ◌≢◌, ◌↔◌, ◌⊎◌, [], List, ℕ, IsUtf8, IsOk, IfOk, IfErr, OnOk, OnErr, IsErrOf, string_bytes};
+ghost use Rattle.std.specs.Prelude.{◌≡◌, ◌≢◌, ◌↔◌, ◌⊎◌, IsUtf8, IsOk, IfOk, IfErr, OnOk, OnErr, IsErrOf, string_bytes};
 ghost use Rattle.std.specs.Io.KnownBytes.{Appends};
-ghost use Rattle.watched.specs.Watched.{IsMarked, IsUnmarked};
+ghost use Rattle.watched.specs.Watched.{AppendsPart, IsMarked, IsUnmarked};
 ghost use Rattle.bpaf_doc.specs.Page.{title_page};
 ghost use Rattle.helpdoc.specs.Rendering.{IsRendering, document_of_text, title_words};
-ghost use Rattle.helpdoc.specs.Runs.{ReadsAll, ReadsText, ReadsNoText, WritesPage, WritesBeginning, WritesAllBut};
+ghost use Rattle.helpdoc.specs.Runs.{ReadsAll, ReadsText, ReadsNoText, WritesPage, WritesBeginning};
 
 use crate::faults::Fault;
 use crate::words::Form;
@@ -121,20 +121,10 @@ fn write_all<W: Write>(writer: &mut Watched<W>, text: &str) -> Result<(), Fault>
     requires { IsUnmarked writer.old }
     ensures ok { OnOk result (
         Appends (W.contents writer.old.end) (W.contents writer.new.end) text.now) }
-    ensures err { OnErr result ((rest : List ℕ) × (rest ≢ [])
-        × WritesAllBut text.now rest (W.contents writer.old.end) (W.contents writer.new.end)) }
+    ensures cut_short { OnErr result (
+        AppendsPart (W.contents writer.old.end) (W.contents writer.new.end) text.now) }
     ensures write { IsErrOf result Fault.Write ↔ IsMarked writer.new }
     ensures fault { IfErr result (λ fault. fault ≡ Fault.Write) }
 {
-    let mut rest = text.as_bytes();
-    while !rest.is_empty() {
-        let Ok(taken) = writer.write(rest) else {
-            return Err(Fault::Write);
-        };
-        if taken == 0 {
-            return Err(Fault::Write);
-        }
-        rest = &rest[taken..];
-    }
-    Ok(())
+    writer.write_all(text.as_bytes()).map_err(|_| Fault::Write)
 }

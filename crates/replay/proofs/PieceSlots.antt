@@ -1,23 +1,12 @@
 -- What the readers of texts and pieces take, step by step.
 use Rattle.std.specs.Prelude.{◌≡◌, ◌≢◌, ⊤, ℕ, true, false, Option, Some, None, IfNone, is_some, List, [], ◌∷◌, ◌++◌, bytes_eq, codes, encode_utf8, refl}
-use Rattle.std.proofs.Common.{◌∙◌, ap, subst, sym, append_assoc, append-nil}
+use Rattle.std.proofs.Common.{◌∙◌, subst, sym, append-nil}
 use Rattle.std.proofs.lemmas.Str.{encode_same}
 use Rattle.replay.specs.Encoding.{Spells}
-use Rattle.replay.specs.Grammar.{Word, Slot, IsAmong, IsLabelled, IsSpelled, choice, forms, may_end, page_calls, piece_requests, Fits, FitsForm, FailsForm, Leads, Reads, Refuses, ReadsForm, RefusesForm}
-use Rattle.replay.proofs.Slots.{choice_each, choice_each_none, leads_form, leads_other, leads_refuses, leads_then, refuses_other}
+use Rattle.replay.specs.Grammar.{Word, Slot, IsAmong, IsLabelled, IsSpelled, choice, forms, may_end, page_calls, Fits, Leads, Reads, Refuses, ReadsForm, RefusesForm}
+use Rattle.replay.proofs.Slots.{choice_each, choice_each_none, leads_form, leads_other, leads_refuses, leads_then, reads_front, refuses_front, refuses_other}
 
--- ---- slots in front of others
-
-pub reads_front : (opened left : List Slot) {words rest : List Word} → Reads opened words rest → Leads (opened ++ left) words left rest
-reads_front opened left {words} h =
-    record {
-      same = λ others.
-          let same : (opened ++ left) ++ others ≡ opened ++ (left ++ others) = append_assoc opened left others in
-          (λ f. (h.same (left ++ others)).0 (subst (λ slots. Fits slots words) same f), λ f. subst (λ slots. Fits slots words) (sym same) ((h.same (left ++ others)).1 f));
-    }
-
-pub refuses_front : (opened left : List Slot) {words : List Word} → Refuses opened words → Refuses (opened ++ left) words
-refuses_front opened left {words} h = record { none = λ others f. h.none (left ++ others) (subst (λ slots. Fits slots words) (append_assoc opened left others) f) }
+-- ---- what is left at the end
 
 -- the line ends at a slot that may be left
 pub fits_end : {slots : List Slot} {words rest : List Word} (slot : Slot) → Leads slots words (slot ∷ []) rest → rest ≡ [] → may_end slot ≡ true → Fits slots words
@@ -78,7 +67,7 @@ call_form word opened ne among = rw ne (choice_each word Slot.calls page_calls o
 pub call_step : {words behind rest : List Word} (word : Word) → words ≡ word ∷ behind → bytes_eq word (codes "+") ≡ false → ReadsForm page_calls word behind rest
     → Leads (Slot.calls ∷ []) words (Slot.calls ∷ []) rest
 call_step word e ne h =
-    leads_then (leads_form Slot.calls (h.opened ++ Slot.calls ∷ []) word e (call_form word h.opened ne h.among)) (reads_front h.opened (Slot.calls ∷ []) h.reads)
+    leads_then (leads_form Slot.calls (h.opened ++ Slot.calls ∷ []) word e (call_form word h.opened ne h.among)) (reads_front (Slot.calls ∷ []) h.reads)
 
 pub call_stops : {words behind : List Word} (word : Word) → words ≡ word ∷ behind → bytes_eq word (codes "+") ≡ false → RefusesForm page_calls word behind → Refuses (Slot.calls ∷ []) words
 call_stops {words} {behind} word e ne h = by (choice word page_calls) refl where
@@ -87,7 +76,7 @@ call_stops {words} {behind} word e ne h = by (choice word page_calls) refl where
       let no : choice word (forms Slot.calls) ≡ None = rw ne (choice_each_none word Slot.calls page_calls none) in
       refuses_other Slot.calls word e no (λ h. h)
   by (Some opened) among =
-      leads_refuses (leads_form Slot.calls (opened ++ Slot.calls ∷ []) word e (call_form word opened ne among)) (refuses_front opened (Slot.calls ∷ []) (h.refuses opened among))
+      leads_refuses (leads_form Slot.calls (opened ++ Slot.calls ∷ []) word e (call_form word opened ne among)) (refuses_front (Slot.calls ∷ []) (h.refuses opened among))
 
 -- ---- pieces of a monoid
 
@@ -100,12 +89,12 @@ no_list word e = rw e refl
 pub list_step : {words behind rest : List Word} (word : Word) → words ≡ word ∷ behind → bytes_eq word (codes "(") ≡ true → Reads (Slot.flag ∷ Slot.more_pieces ∷ []) behind rest
     → Leads (Slot.pieces ∷ []) words (Slot.pieces ∷ []) rest
 list_step word e is h =
-    leads_then (leads_form Slot.pieces (Slot.flag ∷ Slot.more_pieces ∷ Slot.pieces ∷ []) word e (list_form word is)) (reads_front (Slot.flag ∷ Slot.more_pieces ∷ []) (Slot.pieces ∷ []) h)
+    leads_then (leads_form Slot.pieces (Slot.flag ∷ Slot.more_pieces ∷ Slot.pieces ∷ []) word e (list_form word is)) (reads_front (Slot.pieces ∷ []) h)
 
 pub list_stops : {words behind : List Word} (word : Word) → words ≡ word ∷ behind → bytes_eq word (codes "(") ≡ true → Refuses (Slot.flag ∷ Slot.more_pieces ∷ []) behind
     → Refuses (Slot.pieces ∷ []) words
 list_stops word e is h =
-    leads_refuses (leads_form Slot.pieces (Slot.flag ∷ Slot.more_pieces ∷ Slot.pieces ∷ []) word e (list_form word is)) (refuses_front (Slot.flag ∷ Slot.more_pieces ∷ []) (Slot.pieces ∷ []) h)
+    leads_refuses (leads_form Slot.pieces (Slot.flag ∷ Slot.more_pieces ∷ Slot.pieces ∷ []) word e (list_form word is)) (refuses_front (Slot.pieces ∷ []) h)
 
 pub piece_step : {words rest : List Word} (word : Word) → words ≡ word ∷ rest → bytes_eq word (codes "(") ≡ false → IsLabelled (λ _. ⊤) word → Leads (Slot.pieces ∷ []) words (Slot.pieces ∷ []) rest
 piece_step word e ne h = leads_other Slot.pieces word e (no_list word ne) h
@@ -125,11 +114,3 @@ escaped_stops word marks label e is other = refuses_other Slot.escaped word e re
 
 pub escaped_none : {words rest : List Word} (word : Word) → words ≡ word ∷ rest → ¬ IsLabelled (λ _. ⊤) word → Refuses (Slot.escaped ∷ []) words
 escaped_none word e none = refuses_other Slot.escaped word e refl (λ h. none (h.0, h.1, tt, h.3, h.4))
-
--- ---- requests on pieces
-
-pub piece_fits : (opened : List Slot) {word key : Word} (words : List Word) → word ≡ key → choice key piece_requests ≡ Some opened → Fits opened words → FitsForm piece_requests word words
-piece_fits opened words e among fits = record { opened = opened; among = ap (λ w. choice w piece_requests) e ∙ among; fits = fits }
-
-pub piece_fails : (opened : List Slot) {word key : Word} (words : List Word) → word ≡ key → choice key piece_requests ≡ Some opened → ¬ Fits opened words → FailsForm piece_requests word words
-piece_fails opened words e among fails = record { opened = opened; among = ap (λ w. choice w piece_requests) e ∙ among; fails = fails }

@@ -1,6 +1,7 @@
 -- How far the words of a line fill slots, step by step.
-use Rattle.std.specs.Prelude.{◌≡◌, ◌≢◌, ⊤, Bool, true, false, cond, Some, None, List, [], ◌∷◌, ◌++◌, bytes_eq, ℕ, Option, MatchOption, codes, Result, Ok, Err, IfErr, IsErrAnd, refl}
-use Rattle.std.proofs.Common.{ap, ◌∙◌, subst, sym, inl, inr, append-nil}
+use Rattle.std.specs.Prelude.{◌≡◌, ◌≢◌, ◌↔◌, ⊤, Bool, true, false, cond, Some, None, List, [], ◌∷◌, ◌++◌, bytes_eq, ℕ, Option, MatchOption, codes, Result, Ok, Err, IfErr, IsErrAnd, refl}
+use Rattle.std.proofs.Common.{ap, ◌∙◌, subst, sym, inl, inr, append_assoc, append-nil}
+use Rattle.std.proofs.lemmas.Result.{IfErr-weaker}
 use Rattle.std.proofs.lemmas.Slice.Eq.{bytes_eq-Decides}
 use Rattle.std.specs.List.{slice_split}
 use Rattle.replay.specs.Words.{is_comma, words_of}
@@ -24,6 +25,13 @@ reads_first left h = record { same = λ others. h.same (left ++ others) }
 
 pub refuses_first : {slot : Slot} {w : List Word} (left : List Slot) → Refuses (slot ∷ []) w → Refuses (slot ∷ left) w
 refuses_first left r = record { none = λ others. r.none (left ++ others) }
+
+-- slots in front of others
+pub reads_front : {slots : List Slot} {w x : List Word} (left : List Slot) → Reads slots w x → Leads (slots ++ left) w left x
+reads_front {slots} {w} {x} left h = record { same = λ others. subst (λ all. Fits all w ↔ Fits (left ++ others) x) (sym (append_assoc slots left others)) (h.same (left ++ others)) }
+
+pub refuses_front : {slots : List Slot} {w : List Word} (left : List Slot) → Refuses slots w → Refuses (slots ++ left) w
+refuses_front {slots} {w} left r = record { none = λ others f. r.none (left ++ others) (subst (λ all. Fits all w) (append_assoc slots left others) f) }
 
 -- ---- a word at a slot
 
@@ -165,6 +173,9 @@ anything_fits (word ∷ words) = (tt, anything_fits words)
 pub only_if : {Fact Other : Type 0} {bad : Bad} → (Fact → Other) → OnlyIf Fact bad → OnlyIf Other bad
 only_if f (inl memory) = inl memory
 only_if f (inr fact) = inr (f fact)
+
+pub if_err : {T Fact Other : Type 0} (result : Result T Bad) → (Fact → Other) → IfErr result (OnlyIf Fact) → IfErr result (OnlyIf Other)
+if_err {T} {Fact} {Other} result f h = IfErr-weaker result (OnlyIf Fact) (OnlyIf Other) (λ bad. only_if f) h
 
 -- an error that is passed up
 pub passed_up : {T Fact Other : Type 0} (result : Result T Bad) (bad : Bad) → (Fact → Other) → IsErrAnd result (λ error. error ≡ bad) → OnlyIf Fact bad → IfErr result (OnlyIf Other)

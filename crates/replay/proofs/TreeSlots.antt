@@ -1,5 +1,5 @@
 -- Slots that another slot stands for, by the word that comes next.
-use Rattle.std.specs.Prelude.{◌≡◌, ◌≢◌, ◌⊎◌, ℕ, suc, ◌↔◌, Bool, true, false, not, ◌==◌, ◌<◌, ◌+◌, Option, Some, None, MatchOption, List, [], ◌∷◌, ◌++◌, codes, encode_utf8, Result, Ok, Err, OnOk, IfErr, refl}
+use Rattle.std.specs.Prelude.{◌≡◌, ◌≢◌, ◌⊎◌, ℕ, suc, ◌↔◌, Bool, true, false, not, ◌==◌, ◌<◌, ◌+◌, Option, Some, None, MatchOption, List, [], ◌∷◌, ◌++◌, codes, encode_utf8, refl}
 use Rattle.std.proofs.Common.{◌∙◌, sym, ap, subst, inl, inr, arith, length, get_or, append_assoc, length-append}
 use Rattle.std.proofs.lemmas.Bool.{ne_eqb, cases_eq}
 use Rattle.std.proofs.lemmas.List.Sums.{split_at_first, prefix_len_stops}
@@ -8,7 +8,7 @@ use Rattle.std.proofs.lemmas.Str.{length-encode, len_utf8_bounds}
 use Rattle.replay.specs.declared.fault.Bad.{Bad}
 use Rattle.replay.specs.Encoding.{Spells}
 use Rattle.replay.specs.Grammar.{Word, Slot, text, name, more_texts, document, parts, tree, more_trees, Form, IsOther, forms, each_then, choice, Fits, Leads, Reads, Refuses, OnlyIf, ReadsForm, RefusesForm, IsName, IsLetter, IsPlainPart, IsAmong, tree_forms, item_forms, part_forms, call_forms}
-use Rattle.replay.proofs.Slots.{leads_then, leads_refuses, leads_form, leads_other, refuses_other, choice_not, choice_each, choice_each_none, differs, only_if}
+use Rattle.replay.proofs.Slots.{leads_then, leads_refuses, leads_form, leads_other, reads_front, refuses_front, refuses_other, choice_not, choice_each, choice_each_none, differs}
 
 -- the next word is not this one
 abbrev pub IsNotNext : Word → List Word → Type 0
@@ -88,10 +88,6 @@ abbrev first_byte : List ℕ → ℕ
 first_byte [] = 0
 first_byte (b ∷ bs) = b
 
-pub no_bytes : (bs : List ℕ) → length bs ≡ 0 → bs ≡ []
-no_bytes [] e = refl
-no_bytes (b ∷ bs) e = absurd (omega (arith, e))
-
 abbrev past_two : List ℕ → List ℕ
 past_two (a ∷ b ∷ bs) = bs
 past_two other = []
@@ -110,16 +106,6 @@ name_empty words rest word marks spelled e (inr f) s none = refuses_other name w
   no (others, _, inr (ne, inl short)) = let same : 98 ≡ 115 = ap first_byte (sym f ∙ short) in absurd (omega (arith, same))
   no (others, _, inr (ne, inr both)) = let same : others ≡ marks = ap past_two (sym both ∙ f) in ne (same ∙ spelled_nothing s none)
 
--- ---- what calls answer
-
-pub on_ok : {T E P Q : Type 0} (r : Result T E) → (P → Q) → OnOk r P → OnOk r Q
-on_ok (Ok x) f p = f p
-on_ok (Err e) f p = tt
-
-pub if_err : {T P Q : Type 0} (r : Result T Bad) → (P → Q) → IfErr r (OnlyIf P) → IfErr r (OnlyIf Q)
-if_err (Ok x) f p = tt
-if_err (Err e) f p = only_if f p
-
 -- ---- forms
 
 pub form_reads : {all : List Form} {word : Word} {opened : List Slot} {words rest : List Word} → choice word all ≡ Some opened → Reads opened words rest → ReadsForm all word words rest
@@ -132,13 +118,6 @@ form_refuses {all} {word} {opened} {words} e r = record {
       let same : opened ≡ other = cc in
       subst (λ slots. Refuses slots words) same r;
 }
-
--- the first of many, where it opens many
-pub reads_front : {slots : List Slot} {words rest : List Word} (left : List Slot) → Reads slots words rest → Leads (slots ++ left) words left rest
-reads_front {slots} {words} {rest} left h = record { same = λ others. subst (λ all. Fits all words ↔ Fits (left ++ others) rest) (sym (append_assoc slots left others)) (h.same (left ++ others)) }
-
-pub refuses_front : {slots : List Slot} {words : List Word} (left : List Slot) → Refuses slots words → Refuses (slots ++ left) words
-refuses_front {slots} {words} left r = record { none = λ others f. r.none (left ++ others) (subst (λ all. Fits all words) (append_assoc slots left others) f) }
 
 -- the forms of a slot are, for this word, these
 pub slot_reads : (slot : Slot) (all : List Form) (word : Word) {words rest after : List Word} → words ≡ word ∷ rest → choice word (forms slot) ≡ choice word all → ReadsForm all word rest after

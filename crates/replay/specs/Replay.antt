@@ -2,6 +2,7 @@
 use Rattle.std.specs.Prelude.{◌≡◌, ◌≢◌, ◌⊎◌, ℕ, ◌==◌, ◌-◌, ◌^◌, ◌≤◌, Bool, false, Option, List, [], ◌∷◌, ◌++◌, length, codes, flat_map, slice_index}
 use Rattle.std.specs.List.{list_any, slice_split}
 use Rattle.std.specs.Io.KnownBytes.{Appends, Consumes, IsAtEnd}
+use Rattle.watched.specs.Watched.{AppendsPart}
 use Rattle.replay.specs.Grammar.{IsRequest, Word}
 use Rattle.replay.specs.Words.{is_comma, words_of}
 
@@ -77,16 +78,34 @@ pub data IsAnswered (line answers : List ℕ) : Type 0 where
 abbrev pub IsReply : List ℕ → List ℕ → Type 0
 IsReply line reply = (answers : List ℕ) × (reply ≡ line ++ 10 ∷ answers) × IsAnswered line answers
 
--- the output has, for the lines of the input in order, each line with its answers
-pub data Replies : List ℕ → List ℕ → Type 0 where
-  nothing : {input output : List ℕ} → input ≡ [] → output ≡ [] → Replies input output
-  -- a last line may lack its newline
-  last : {input output : List ℕ} → input ≢ [] → IsOneLine input → IsReply input output → Replies input output
-  line : {input output : List ℕ} (first rest reply others : List ℕ) → input ≡ first ++ 10 ∷ rest → IsOneLine first → output ≡ reply ++ others
-      → IsReply first reply → Replies rest others → Replies input output
+-- for lines, each with its newline, the replies to them in order
+pub data RepliesToLines : List ℕ → List ℕ → Type 0 where
+  none : {lines replies : List ℕ} → lines ≡ [] → replies ≡ [] → RepliesToLines lines replies
+  line : {lines replies : List ℕ} (first rest reply others : List ℕ) → lines ≡ first ++ 10 ∷ rest → IsOneLine first → replies ≡ reply ++ others
+      → IsReply first reply → RepliesToLines rest others → RepliesToLines lines replies
 
--- All that the reader had left was read, and the replies to it were written. A reader tells which bytes it has left and a writer which
--- it holds, here before and after the run; one that doesn't tell is `None` in both places, and then nothing is said of its bytes.
+-- The output has, for the lines of the input in order, each line with its answers.
+pub data Replies (input output : List ℕ) : Type 0 where
+  whole : RepliesToLines input output → Replies input output
+  -- a last line lacks its newline
+  last : (lines replies line reply : List ℕ) → input ≡ lines ++ line → output ≡ replies ++ reply → RepliesToLines lines replies → line ≢ [] → IsOneLine line
+      → IsReply line reply → Replies input output
+
+-- The same of an input that goes on: of the line that is begun, the output has the bytes.
+pub record RepliesSoFar (input output begun : List ℕ) : Type 0 where
+  pub lines : List ℕ
+  pub replies : List ℕ
+  pub read : input ≡ lines ++ begun
+  pub written : output ≡ replies ++ begun
+  pub answered : RepliesToLines lines replies
+  pub one_line : IsOneLine begun
+
+-- ---- runs
+
+-- A reader tells which bytes it has left and a writer which it holds, here before and after the run; one that doesn't tell is `None`
+-- in both places, and then nothing is said of its bytes.
+
+-- all that the reader had left was read, and the replies to it were written
 pub record Replays (left after held now : Option (List ℕ)) : Type 0 where
   pub input : List ℕ
   pub output : List ℕ
@@ -95,6 +114,26 @@ pub record Replays (left after held now : Option (List ℕ)) : Type 0 where
   pub replies : Replies input output
   pub written : Appends held now output
 
--- The reader gave at least 2^64 - 1 bytes. Of one that doesn't tell its bytes nothing is said.
+-- the replies to what was read so far were written
+pub record ReplaysSoFar (left after held now : Option (List ℕ)) : Type 0 where
+  pub input : List ℕ
+  pub output : List ℕ
+  pub begun : List ℕ
+  pub given : Consumes left after input
+  pub replies : RepliesSoFar input output begun
+  pub written : Appends held now output
+
+-- of the replies to what was read, or to a front of it, a beginning was written, and not all of them
+pub record ReplaysPart (left after held now : Option (List ℕ)) : Type 0 where
+  pub input : List ℕ
+  pub front : List ℕ
+  pub rest : List ℕ
+  pub output : List ℕ
+  pub given : Consumes left after input
+  pub split : input ≡ front ++ rest
+  pub replies : Replies front output
+  pub written : AppendsPart held now output
+
+-- the reader gave at least 2^64 - 1 bytes
 abbrev pub GivesMany : Option (List ℕ) → Option (List ℕ) → Type 0
 GivesMany left after = (input : List ℕ) × Consumes left after input × (2 ^ 64 - 1 ≤ length input)

@@ -1,11 +1,11 @@
 //! What the program does, over any reader and any writer.
 
-ghost use Rattle.std.specs.Prelude.{◌≡◌, ◌≢◌, ◌↔◌, ◌++◌, ◌∷◌, [], ℕ, List, OnOk, IfErr, codes, IsErrOf, IsTrue, MatchOption, position, true, false};
+ghost use Rattle.std.specs.Prelude.{◌≡◌, ◌≢◌, ◌↔◌, ◌++◌, ◌∷◌, [], ℕ, List, OnOk, OnErr, IfErr, codes, IsErrOf, IsTrue, MatchOption, position, true, false};
 ghost use Rattle.std.specs.Io.KnownBytes.{Appends};
 ghost use Rattle.replay.specs.Grammar.{IsRequest, OnlyIf};
-ghost use Rattle.replay.specs.Progress.{Ends, GoesOn, Keeps};
-ghost use Rattle.replay.specs.Replay.{GivesMany, IsAnswered, IsOneLine, IsPassedOver, Replays, is_newline};
-ghost use Rattle.watched.specs.Watched.{IsMarked, IsUnmarked};
+ghost use Rattle.replay.specs.Progress.{Breaks, Ends, GoesOn, Keeps};
+ghost use Rattle.replay.specs.Replay.{GivesMany, IsAnswered, IsOneLine, IsPassedOver, Replays, ReplaysPart, ReplaysSoFar, is_newline};
+ghost use Rattle.watched.specs.Watched.{AppendsPart, IsMarked, IsUnmarked};
 
 use crate::fault::Bad;
 use crate::lines::Lines;
@@ -34,7 +34,8 @@ pub enum Stop {
 /// for which memory does not last is written nevertheless, and its answer says so.
 ///
 /// `Read` comes exactly where a read failed, `Write` exactly where a write failed or took nothing, and `Endless` only after 2^64 - 1
-/// reads that gave bytes.
+/// reads that gave bytes. At `Read` and at `Endless` the lines that were read have their answers, and the bytes behind the last
+/// newline are written too; at `Write` the writer has a beginning of the replies to what was read.
 pub fn run<A: Allocator + Copy, R: Read, W: Write>(
     alloc: A,
     names: &mut Names,
@@ -49,6 +50,12 @@ pub fn run<A: Allocator + Copy, R: Read, W: Write>(
     ensures write { IsErrOf result Stop.Write ↔ IsMarked writer.new }
     ensures endless { IsErrOf result Stop.Endless →
         GivesMany (R.remaining reader.old.end) (R.remaining reader.new.end) }
+    ensures so_far { IfErr result (λ stop. stop ≢ Stop.Write →
+        ReplaysSoFar (R.remaining reader.old.end) (R.remaining reader.new.end)
+        (W.contents writer.old.end) (W.contents writer.new.end)) }
+    ensures cut_short { IsErrOf result Stop.Write →
+        ReplaysPart (R.remaining reader.old.end) (R.remaining reader.new.end)
+        (W.contents writer.old.end) (W.contents writer.new.end) }
 {
     let mut chunk = [0; CHUNK];
     let mut line = Line::new(alloc);
@@ -123,6 +130,8 @@ fn take<A: Allocator + Copy, W: Write>(
     requires { IsUnmarked writer.old }
     ensures ok { OnOk result ((text : List ℕ) → IsOneLine text → Keeps line.old.kept.items line.old.lost text
         → GoesOn bytes.now text line.new.kept.items line.new.lost (W.contents writer.old.end) (W.contents writer.new.end)) }
+    ensures cut_short { OnErr result ((text : List ℕ) → IsOneLine text → Keeps line.old.kept.items line.old.lost text
+        → Breaks bytes.now text (W.contents writer.old.end) (W.contents writer.new.end)) }
     ensures write { IsErrOf result Stop.Write ↔ IsMarked writer.new }
     ensures fault { IfErr result (λ stop. stop ≡ Stop.Write) }
 {
@@ -162,6 +171,7 @@ fn take_bytes<A: Allocator, W: Write>(
     ensures kept { OnOk result ((text : List ℕ) → Keeps line.old.kept.items line.old.lost text
         → Keeps line.new.kept.items line.new.lost (text ++ bytes.now)) }
     ensures written { OnOk result (Appends (W.contents writer.old.end) (W.contents writer.new.end) bytes.now) }
+    ensures cut_short { OnErr result (AppendsPart (W.contents writer.old.end) (W.contents writer.new.end) bytes.now) }
     ensures write { IsErrOf result Stop.Write ↔ IsMarked writer.new }
     ensures fault { IfErr result (λ stop. stop ≡ Stop.Write) }
 {
@@ -182,6 +192,8 @@ fn end_input<A: Allocator + Copy, W: Write>(
     requires { IsUnmarked writer.old }
     ensures ok { OnOk result ((text : List ℕ) → IsOneLine text → Keeps line.old.kept.items line.old.lost text
         → Ends text (W.contents writer.old.end) (W.contents writer.new.end)) }
+    ensures cut_short { OnErr result ((text : List ℕ) → IsOneLine text → Keeps line.old.kept.items line.old.lost text
+        → Breaks [] text (W.contents writer.old.end) (W.contents writer.new.end)) }
     ensures write { IsErrOf result Stop.Write ↔ IsMarked writer.new }
     ensures fault { IfErr result (λ stop. stop ≡ Stop.Write) }
 {
@@ -203,6 +215,9 @@ fn end_line<A: Allocator + Copy, W: Write>(
     ensures answered { OnOk result ((text : List ℕ) → Keeps line.old.kept.items line.old.lost text
         → (answers : List ℕ) × IsAnswered text answers
         × Appends (W.contents writer.old.end) (W.contents writer.new.end) (10 ∷ answers)) }
+    ensures cut_short { OnErr result ((text : List ℕ) → Keeps line.old.kept.items line.old.lost text
+        → (answers : List ℕ) × IsAnswered text answers
+        × AppendsPart (W.contents writer.old.end) (W.contents writer.new.end) (10 ∷ answers)) }
     ensures write { IsErrOf result Stop.Write ↔ IsMarked writer.new }
     ensures fault { IfErr result (λ stop. stop ≡ Stop.Write) }
 {
@@ -222,6 +237,9 @@ fn write_answers<A: Allocator + Copy, W: Write>(
     ensures ok { OnOk result ((text : List ℕ) → Keeps line.now.kept.items line.now.lost text
         → (answers : List ℕ) × IsAnswered text answers
         × Appends (W.contents writer.old.end) (W.contents writer.new.end) answers) }
+    ensures cut_short { OnErr result ((text : List ℕ) → Keeps line.now.kept.items line.now.lost text
+        → (answers : List ℕ) × IsAnswered text answers
+        × AppendsPart (W.contents writer.old.end) (W.contents writer.new.end) answers) }
     ensures write { IsErrOf result Stop.Write ↔ IsMarked writer.new }
     ensures fault { IfErr result (λ stop. stop ≡ Stop.Write) }
 {
@@ -281,6 +299,9 @@ fn write_bad<W: Write>(bad: Bad, writer: &mut Watched<W>) -> Result<(), Stop>
     ensures ok { OnOk result ((text : List ℕ) → OnlyIf (¬ IsRequest text) bad
         → (answers : List ℕ) × IsAnswered text answers
         × Appends (W.contents writer.old.end) (W.contents writer.new.end) answers) }
+    ensures cut_short { OnErr result ((text : List ℕ) → OnlyIf (¬ IsRequest text) bad
+        → (answers : List ℕ) × IsAnswered text answers
+        × AppendsPart (W.contents writer.old.end) (W.contents writer.new.end) answers) }
     ensures write { IsErrOf result Stop.Write ↔ IsMarked writer.new }
     ensures fault { IfErr result (λ stop. stop ≡ Stop.Write) }
 {
@@ -313,18 +334,9 @@ fn first_line(text: &str) -> &str
 fn written<W: Write>(writer: &mut Watched<W>, bytes: &[u8]) -> Result<(), Stop>
     requires { IsUnmarked writer.old }
     ensures ok { OnOk result (Appends (W.contents writer.old.end) (W.contents writer.new.end) bytes.now) }
+    ensures cut_short { OnErr result (AppendsPart (W.contents writer.old.end) (W.contents writer.new.end) bytes.now) }
     ensures write { IsErrOf result Stop.Write ↔ IsMarked writer.new }
     ensures fault { IfErr result (λ stop. stop ≡ Stop.Write) }
 {
-    let mut rest = bytes;
-    while !rest.is_empty() {
-        let Ok(taken) = writer.write(rest) else {
-            return Err(Stop::Write);
-        };
-        if taken == 0 {
-            return Err(Stop::Write);
-        }
-        rest = &rest[taken..];
-    }
-    Ok(())
+    writer.write_all(bytes).map_err(|_| Stop::Write)
 }

@@ -146,7 +146,13 @@ fn stops_at_a_failed_read(rt: HostRuntime) -> Result<(), Fail> {
         let ran = replay(rt.alloc(), LINES, Plan::failing(call), Plan::WHOLE);
         assert!(rt; ran.result == Err(Stop::Read), "{call}");
         assert!(rt; ran.reader_failed && !ran.writer_failed, "{call}");
+        assert!(rt;
+            REPLIES.starts_with(ran.output.as_slice()) && ran.output.len() >= call,
+            "{call}"
+        );
     }
+    let ran = replay(rt.alloc(), LINES, Plan::failing(LINES.len()), Plan::WHOLE);
+    assert!(rt; REPLIES.strip_prefix(ran.output.as_slice()) == Some(b"\n= split [ ]\n".as_slice()));
     Ok(())
 }
 

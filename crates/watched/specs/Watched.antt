@@ -1,6 +1,7 @@
 -- A reader or a writer that remembers whether a call on it has failed.
-use Rattle.std.specs.Prelude.{◌≡◌, ℕ, Bool, true, false, not, ◌&&◌, ◌==◌, List, length, Result, Ok, Err, IsTrue, refl}
+use Rattle.std.specs.Prelude.{◌≡◌, ◌≢◌, ℕ, Bool, true, false, not, ◌&&◌, ◌==◌, Option, List, [], ◌++◌, length, Result, Ok, Err, IsTrue, refl}
 use Rattle.std.specs.Coded.{Coded, code_by, coded×, coded_bool}
+use Rattle.std.specs.Io.KnownBytes.{Appends}
 
 -- the reader or the writer, and the mark that a call on it has failed
 pub record Watch (E : Type 0) : Type 0 where
@@ -22,3 +23,12 @@ IsUnmarked w = w.marked ≡ false
 abbrev pub is_failed_write : {F : Type 0} → Result ℕ F → List ℕ → Bool
 is_failed_write (Ok taken) bytes = taken == 0 && not (length bytes == 0)
 is_failed_write (Err error) bytes = true
+
+-- A beginning of the bytes was written, and not all of them. A writer tells which bytes it holds, here before and after; of one
+-- that doesn't tell, nothing is said.
+pub record AppendsPart (before after : Option (List ℕ)) (bytes : List ℕ) : Type 0 where
+  pub front : List ℕ
+  pub rest : List ℕ
+  pub split : bytes ≡ front ++ rest
+  pub missing : rest ≢ []
+  pub written : Appends before after front

@@ -1,13 +1,13 @@
 //! Readers and writers that remember whether a call on them has failed.
 #![tactic(auto)]
 
-ghost use Rattle.std.specs.Prelude.{◌≡◌, ◌||◌, is_err};
+ghost use Rattle.std.specs.Prelude.{◌≡◌, ◌||◌, OnErr, OnOk, is_err};
 ghost use Rattle.std.specs.Io.{ReadsAtMost, WritesAtMost};
-ghost use Rattle.std.specs.Io.KnownBytes.{ReadConsumes, WriteAppends};
-ghost use Rattle.watched.specs.Watched.{IsUnmarked, is_failed_write};
+ghost use Rattle.std.specs.Io.KnownBytes.{Appends, ReadConsumes, WriteAppends};
+ghost use Rattle.watched.specs.Watched.{AppendsPart, IsUnmarked, is_failed_write};
 
 use std::io;
-use std::io::{Read, Write};
+use std::io::{ErrorKind, Read, Write};
 use std::marker::Model;
 
 /// An end, a reader or a writer, with a mark that a call on it has failed. Only `read` and `write`
@@ -86,5 +86,26 @@ impl<W: Write> Watched<W> {
             Err(_) => true,
         };
         result
+    }
+
+    /// Writes all of the bytes, in as many writes as the writer takes. The first that fails ends it, of
+    /// whatever kind its error is, and then the writer has a beginning of the bytes, and not all of them.
+    /// A write that takes none answers `WriteZero`.
+    pub fn write_all(&mut self, buf: &[u8]) -> io::Result<()>
+        ensures ok { OnOk result (
+            Appends (W.contents self.old.end) (W.contents self.new.end) buf.now) }
+        ensures cut_short { OnErr result (
+            AppendsPart (W.contents self.old.end) (W.contents self.new.end) buf.now) }
+        ensures mark { self.new.marked ≡ (self.old.marked || is_err result) }
+    {
+        let mut rest = buf;
+        while !rest.is_empty() {
+            let taken = self.write(rest)?;
+            if taken == 0 {
+                return Err(ErrorKind::WriteZero.into());
+            }
+            rest = &rest[taken..];
+        }
+        Ok(())
     }
 }

@@ -2,8 +2,8 @@
 use Rattle.std.proofs.Common.{◌≢◌, [], ◌∷◌, ◌∙◌, codes, refl, ap, sym, subst, inr, length, rules, arith}
 use Rattle.std.proofs.lemmas.Bool.{OnFalse_at, OnTrue_at}
 use Rattle.replay.specs.Grammar.{flag, text, maybe_text, name, texts, document, parts, maybe_document, tree, trees, more_trees, info, item_forms, call_forms, part_forms, choice, OnlyIf, Refuses, RefusesForm}
-use Rattle.replay.proofs.Slots.{leads_then, leads_refuses, leads_form, reads_first, refuses_first, only_if}
-use Rattle.replay.proofs.TreeSlots.{IsCallWord, document_opens, form_reads, form_refuses, if_err, more_trees_is, only_two, part_call, part_opens, part_other, part_refuses, tree_item, tree_no_item, tree_opens}
+use Rattle.replay.proofs.Slots.{leads_then, leads_refuses, leads_form, reads_first, refuses_first, if_err, only_if}
+use Rattle.replay.proofs.TreeSlots.{IsCallWord, document_opens, form_reads, form_refuses, more_trees_is, only_two, part_call, part_opens, part_other, part_refuses, tree_item, tree_no_item, tree_opens}
 use Rattle.replay.proofs.+read.Goals as goal
 
 pub documents::read_document-loop-document-init :

@@ -1,8 +1,8 @@
 use Rattle.std.proofs.Common.{◌∙◌, subst}
-use Rattle.std.proofs.lemmas.Result.{on_ok_weaker}
+use Rattle.std.proofs.lemmas.Result.{IfErr-weaker, on_ok_weaker}
 use Rattle.replay.specs.Grammar.{IsRequest, OnlyIf}
 use Rattle.replay.specs.Replay.{IsAnswered}
-use Rattle.replay.proofs.Steps.{if_err, kept_text}
+use Rattle.replay.proofs.Steps.{kept_text}
 use Rattle.replay.proofs.run.answer.Goals as goal
 
 pub returns-in-Ok-clause-answered : goal.returns-in-Ok-clause-answered
@@ -14,7 +14,7 @@ returns-in-Ok-clause-answered g c =
 
 pub returns-in-Ok-clause-no_request : goal.returns-in-Ok-clause-no_request
 returns-in-Ok-clause-no_request g c =
-    if_err c.answer_text.result
+    IfErr-weaker c.answer_text.result _ _
     (λ bad only text k. subst (λ t. OnlyIf (¬ IsRequest t) bad)
     (c.in-Ok.ensures.cases.0 ∙ c.deref.ensures.value ∙ kept_text c.args.line.now.kept.items text c.args.line.now.lost c.if-line.false k) only)
     c.answer_text.ensures.no_request
