@@ -3,8 +3,8 @@ use Rattle.std.specs.Prelude.{ℕ, ◌+◌, Bool, true, false, ◌&&◌, ◌||�
 use Rattle.std.specs.List.{list_any, list_all, enumerate_from, position_or_len}
 use Rattle.bpaf_doc.specs.declared.buffer.Block.TheVariants as blocks
 use Rattle.bpaf_doc.specs.declared.buffer.Block.{Block}
-use Rattle.bpaf_doc.specs.Parts.{Part, Text, Start, End}
-use Rattle.bpaf_doc.specs.Chunks.{Chunk, chunks_of, chunk_ink, is_paragraph}
+use Rattle.bpaf_doc.specs.Buffer.Parts.{Part, Text, Start, End}
+use Rattle.bpaf_doc.specs.Splitter.Chunks.{Chunk, chunks_of, chunk_ink, is_paragraph}
 
 -- the parts of a document in order, each with its place
 abbrev pub numbered : List Part → List (ℕ × Part)

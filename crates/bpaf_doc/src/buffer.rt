@@ -3,13 +3,13 @@
 ghost use Rattle.std.specs.Prelude.{◌≡◌, ◌+◌, ◌^◌, ◌<◌, ◌≤◌, ◌==◌, [], ◌∷◌, ◌++◌, All, Bool, true, false, drop, map, length, IfOk, IfSome, MatchOption, OnOk, OnErr, encode_utf8, slice_get, string_bytes, vec_len, vec_capacity};
 ghost use Rattle.std.specs.List.{list_any};
 ghost use Rattle.std.specs.Option.{option_map};
-ghost use Rattle.bpaf_doc.specs.Ends.{CanMove, end_before, is_text_of, moved, part_with, with_last_end, with_text_end};
-ghost use Rattle.bpaf_doc.specs.Growth.{Grows, IsCheckpointOf, RollsBack, WasAt};
-ghost use Rattle.bpaf_doc.specs.Marks.{IsMark, mark_parts};
-ghost use Rattle.bpaf_doc.specs.PartView.{part_of};
-ghost use Rattle.bpaf_doc.specs.Parts.{HasUtf8Texts, IsWellNested, document_bytes};
-ghost use Rattle.bpaf_doc.specs.FirstLine.{IsSplitLine, first_line_of, leading_texts};
-ghost use Rattle.bpaf_doc.specs.Writes.{doc_writes, document_of, em_doc_writes, is_newline, pair_write, path_writes, title_writes, titled, with_text, with_writes};
+ghost use Rattle.bpaf_doc.specs.Buffer.Steps.Ends.{CanMove, end_before, is_text_of, moved, part_with, with_last_end, with_text_end};
+ghost use Rattle.bpaf_doc.specs.Buffer.Growth.{Grows, IsCheckpointOf, RollsBack, WasAt};
+ghost use Rattle.bpaf_doc.specs.Buffer.Marks.{IsMark, mark_parts};
+ghost use Rattle.bpaf_doc.specs.Buffer.View.{part_of};
+ghost use Rattle.bpaf_doc.specs.Buffer.Parts.{HasUtf8Texts, IsWellNested, document_bytes};
+ghost use Rattle.bpaf_doc.specs.Buffer.FirstLine.{IsSplitLine, first_line_of, leading_texts};
+ghost use Rattle.bpaf_doc.specs.Buffer.Writes.{doc_writes, document_of, em_doc_writes, is_newline, pair_write, path_writes, title_writes, titled, with_text, with_writes};
 
 use std::alloc::{AllocError, Allocator, Global};
 use std::marker::Model;
@@ -110,8 +110,8 @@ pub struct Doc<A: Allocator = Global> {
 
 impl<A: Allocator> Model for Doc<A> {
     ghost use Rattle.std.specs.Prelude.{List, string_bytes};
-    ghost use Rattle.bpaf_doc.specs.Ends.{parts_from, AreEnds};
-    ghost use Rattle.bpaf_doc.specs.Parts.{Part};
+    ghost use Rattle.bpaf_doc.specs.Buffer.Steps.Ends.{parts_from, AreEnds};
+    ghost use Rattle.bpaf_doc.specs.Buffer.Parts.{Part};
 
     ghost Value = { List Part };
 
@@ -557,8 +557,8 @@ pub struct Parts<'a> {
 
 impl<'a> Model for Parts<'a> {
     ghost use Rattle.std.specs.Prelude.{List};
-    ghost use Rattle.bpaf_doc.specs.Ends.{parts_from, AreEnds};
-    ghost use Rattle.bpaf_doc.specs.Parts.{Part};
+    ghost use Rattle.bpaf_doc.specs.Buffer.Steps.Ends.{parts_from, AreEnds};
+    ghost use Rattle.bpaf_doc.specs.Buffer.Parts.{Part};
 
     ghost Value = { List Part };
 
@@ -569,7 +569,7 @@ impl<'a> Model for Parts<'a> {
 
 impl<'a> Iterator for Parts<'a> {
     ghost use Rattle.std.specs.Iterator.{YieldsFirstBy, item_count};
-    ghost use Rattle.bpaf_doc.specs.PartView.{part_of};
+    ghost use Rattle.bpaf_doc.specs.Buffer.View.{part_of};
 
     type Item = Part<'a>;
 

@@ -2,7 +2,8 @@
 //! pieces as HTML, and `markdown` as markdown.
 ghost use Rattle.std.specs.Prelude.{◌≡◌, ◌≢◌, ◌∷◌, ◌++◌, [], MatchOption, OnOk, string_bytes};
 ghost use Rattle.std.specs.List.{flat_map};
-ghost use Rattle.bpaf_doc.specs.HtmlView.{styles_of, spelling_of, when, IsPlain, IsFirstSpelled};
+ghost use Rattle.bpaf_doc.specs.Html.Styles.{styles_of};
+ghost use Rattle.bpaf_doc.specs.Html.Steps.View.{spelling_of, when, IsPlain, IsFirstSpelled};
 
 use crate::buffer::Style;
 use memchr::memchr2;

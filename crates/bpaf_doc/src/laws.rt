@@ -1,9 +1,9 @@
 //! Laws of the definitions that the contracts cite: nothing to call, but statements that the check proves.
 
-ghost use Rattle.bpaf_doc.specs.ChunkPromises.{EachTextIsSpelledOnce, ChunksKeepInk, ChunksAreLines, ChunksStandInOrder, ChunksAreTexts};
-ghost use Rattle.bpaf_doc.specs.Equality.{IsEqualityOfParts};
-ghost use Rattle.bpaf_doc.specs.RoffReader.{IsReadInOneWay};
-ghost use Rattle.bpaf_doc.specs.Page.{TitlePageTakesDocument, TitledPageIsManualPage};
+ghost use Rattle.bpaf_doc.specs.Splitter.Promises.{EachTextIsSpelledOnce, ChunksKeepInk, ChunksAreLines, ChunksStandInOrder, ChunksAreTexts};
+ghost use Rattle.bpaf_doc.specs.Buffer.Equality.{IsEqualityOfParts};
+ghost use Rattle.bpaf_doc.specs.Manpage.Reader.{IsReadInOneWay};
+ghost use Rattle.bpaf_doc.specs.Manpage.Page.{TitlePageTakesDocument, TitledPageIsManualPage};
 
 /// Each text is spelled by exactly one list of chunks, the one that `split` gives.
 pub fn one_spelling()
@@ -11,43 +11,43 @@ pub fn one_spelling()
 {}
 
 /// The chunks of a text have together its ink, in order.
-#[tactic(auto, using(crate::proofs::ChunkFacts::ink_of_chunks))]
+#[tactic(auto, using(crate::proofs::lemmas::Splitter::Facts::ink_of_chunks))]
 pub fn chunks_keep_ink()
     ensures { ChunksKeepInk }
 {}
 
 /// No chunk has a newline in it.
-#[tactic(auto, using(crate::proofs::ChunkFacts::one_line_chunks))]
+#[tactic(auto, using(crate::proofs::lemmas::Splitter::Facts::one_line_chunks))]
 pub fn chunks_are_lines()
     ensures { ChunksAreLines }
 {}
 
 /// Each chunk has a place in the text, in order: a Raw is the slice there, or the blank for the newline there.
-#[tactic(auto, using(crate::proofs::ChunkFacts::chunks_in_order))]
+#[tactic(auto, using(crate::proofs::lemmas::Splitter::Facts::chunks_in_order))]
 pub fn chunks_stand_in_order()
     ensures { ChunksStandInOrder }
 {}
 
 /// Each Raw of a UTF-8 text is UTF-8.
-#[tactic(auto, using(crate::proofs::ChunkFacts::text_chunks))]
+#[tactic(auto, using(crate::proofs::lemmas::Splitter::Facts::text_chunks))]
 pub fn chunks_are_texts()
     ensures { ChunksAreTexts }
 {}
 
 /// Two documents are equal exactly where they have the same parts.
-#[tactic(auto, using(crate::proofs::EqualityLaws::equality_of_parts))]
+#[tactic(auto, using(crate::proofs::lemmas::Buffer::Equality::equality_of_parts))]
 pub fn equality_of_parts()
     ensures { IsEqualityOfParts }
 {}
 
 /// A roff text is read as at most one list of events.
-#[tactic(auto, using(crate::proofs::OneReading::one_reading))]
+#[tactic(auto, using(crate::proofs::lemmas::Manpage::OneReading::one_reading))]
 pub fn one_reading()
     ensures { IsReadInOneWay }
 {}
 
 /// A page that holds a title line takes a document, and is then a manual page with that title.
-#[tactic(auto, using(crate::proofs::PageRead::title_page_takes_document, crate::proofs::PageRead::titled_page_is_manual_page))]
+#[tactic(auto, using(crate::proofs::lemmas::Manpage::PageRead::title_page_takes_document, crate::proofs::lemmas::Manpage::PageRead::titled_page_is_manual_page))]
 pub fn titled_page()
     ensures takes { TitlePageTakesDocument }
     ensures manual { TitledPageIsManualPage }

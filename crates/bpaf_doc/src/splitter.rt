@@ -4,10 +4,10 @@ ghost use Rattle.std.specs.Prelude.{◌≡◌, ◌≢◌, ◌≤◌, [], ◌∷�
 ghost use Rattle.std.specs.Char.{is_ascii_graphic};
 ghost use Rattle.std.specs.Iterator.{YieldsFirstBy, item_count};
 ghost use Rattle.std.specs.List.{All, flat_map, list_all};
-ghost use Rattle.bpaf_doc.specs.Chunks.{Paragraph, Plain, Opening, Later, Spells, IsLine, IsLineEnd, IsPastNewline, IsWordEnd, chunk_ink, chunks_in, chunks_of, columns, is_word_byte};
-ghost use Rattle.bpaf_doc.specs.ChunkPromises.{IsOneLine, StandInOrder};
-ghost use Rattle.bpaf_doc.specs.Parts.{ink};
-ghost use Rattle.bpaf_doc.specs.ChunkView.{chunk_of};
+ghost use Rattle.bpaf_doc.specs.Splitter.Chunks.{Paragraph, Plain, Opening, Later, Spells, IsLine, IsLineEnd, IsPastNewline, IsWordEnd, chunk_ink, chunks_in, chunks_of, columns, is_word_byte};
+ghost use Rattle.bpaf_doc.specs.Splitter.Promises.{IsOneLine, StandInOrder};
+ghost use Rattle.bpaf_doc.specs.Buffer.Parts.{ink};
+ghost use Rattle.bpaf_doc.specs.Splitter.View.{chunk_of};
 
 use memchr::memchr;
 use std::marker::Model;
@@ -53,8 +53,8 @@ pub struct Splitter<'a> {
 
 impl<'a> Model for Splitter<'a> {
     ghost use Rattle.std.specs.Prelude.{List};
-    ghost use Rattle.bpaf_doc.specs.Chunks.{Chunk, chunks_in};
-    ghost use Rattle.bpaf_doc.specs.ChunkView.{form_of};
+    ghost use Rattle.bpaf_doc.specs.Splitter.Chunks.{Chunk, chunks_in};
+    ghost use Rattle.bpaf_doc.specs.Splitter.Steps.Forms.{form_of};
 
     ghost Value = { List Chunk };
 

@@ -1,13 +1,5 @@
 pub mod Content
 pub mod View
 pub mod Names
-pub mod Normal
-pub mod Alternatives
-pub mod Passes
-pub mod Sequences
-pub mod Shape
-pub mod Misplaced
-pub mod Walk
-pub mod Shorts
+pub mod Meta
 pub mod Usage
-pub mod Nested

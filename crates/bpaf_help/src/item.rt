@@ -5,8 +5,8 @@ ghost use Rattle.std.specs.Result.{result_ok};
 ghost use Rattle.bpaf_help.specs.Content.{item, optional};
 ghost use Rattle.bpaf_help.specs.View.{name_of, leaf_of, tree_of, text_of};
 ghost use Rattle.bpaf_help.specs.Names.{short_text, long_text, short_name, long_name, IsFormOf, first_names};
-ghost use Rattle.bpaf_help.specs.Normal.{name_form, item_form};
-ghost use Rattle.bpaf_help.specs.Misplaced.{is_positional};
+ghost use Rattle.bpaf_help.specs.Meta.Normal.{name_form, item_form};
+ghost use Rattle.bpaf_help.specs.Meta.Misplaced.{is_positional};
 
 use crate::meta::{Meta, clone_boxed};
 use crate::meta_help::{Info, Metavar, clone_help, clone_info};

@@ -3,11 +3,11 @@ ghost use Rattle.std.specs.Prelude.{◌≡◌, ◌↔◌, true, IfOk, IfNone};
 ghost use Rattle.std.specs.Option.{option_map};
 ghost use Rattle.bpaf_help.specs.Content.{item as item_of, skip, no_trees, tree};
 ghost use Rattle.bpaf_help.specs.View.{tree_of, trees_of, leaf_of};
-ghost use Rattle.bpaf_help.specs.Normal.{is_command_tree, normalized};
-ghost use Rattle.bpaf_help.specs.Sequences.{is_hidden, ShowsSame};
-ghost use Rattle.bpaf_help.specs.Shape.{HasUsageShape, HasStrict, KeepsStrict};
-ghost use Rattle.bpaf_help.specs.Alternatives.{alternatives, choice_form, either_form};
-ghost use Rattle.bpaf_help.specs.Misplaced.{first_item};
+ghost use Rattle.bpaf_help.specs.Meta.Normal.{is_command_tree, normalized};
+ghost use Rattle.bpaf_help.specs.Meta.Sequences.{is_hidden, ShowsSame};
+ghost use Rattle.bpaf_help.specs.Meta.Shape.{HasUsageShape, HasStrict, KeepsStrict};
+ghost use Rattle.bpaf_help.specs.Meta.Alternatives.{alternatives, choice_form, either_form};
+ghost use Rattle.bpaf_help.specs.Meta.Misplaced.{first_item};
 
 mod check;
 mod normal;
@@ -210,7 +210,7 @@ impl<A: Allocator + Copy> Meta<A> {
 impl<A: Allocator + Copy> Meta<A> {
     /// The alternatives of both: an `Or` gives its parts, `Skip` none, any other tree itself. None is `Skip`, one stands
     /// alone, more are an `Or`.
-    #[tactic(auto, using(crate::proofs::Parts::trees_of_append))]
+    #[tactic(auto, using(crate::proofs::lemmas::Normal::Parts::trees_of_append))]
     pub fn or(self, other: Meta<A>) -> Result<Meta<A>, AllocError>
         ensures { IfOk result (λ m. tree_of m ≡ either_form (tree_of self) (tree_of other)) }
     {

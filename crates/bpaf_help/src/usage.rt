@@ -1,13 +1,13 @@
 //! Names, items and trees, written into documents as a usage line shows them.
 ghost use Rattle.std.specs.Prelude.{◌≡◌, [], ◌∷◌, ◌++◌, if◌then◌else◌, OnOk, OnErr, chars};
 ghost use Rattle.std.specs.List.{list_all};
-ghost use Rattle.bpaf_doc.specs.Growth.{Grows};
-ghost use Rattle.bpaf_doc.specs.Parts.{IsWellNested};
-ghost use Rattle.bpaf_doc.specs.Writes.{plain, literal, inside, with_writes};
+ghost use Rattle.bpaf_doc.specs.Buffer.Growth.{Grows};
+ghost use Rattle.bpaf_doc.specs.Buffer.Parts.{IsWellNested};
+ghost use Rattle.bpaf_doc.specs.Buffer.Writes.{plain, literal, inside, with_writes};
 ghost use Rattle.bpaf_help.specs.View.{name_of, leaf_of, tree_of, trees_of};
 ghost use Rattle.bpaf_help.specs.Names.{short_text, long_text};
-ghost use Rattle.bpaf_help.specs.Nested.{HasNestedDoc, HasNestedDocs};
-ghost use Rattle.bpaf_help.specs.Usage.{is_bare_character, metavar_writes, name_writes, item_writes, separated, tree_writes, part_writes, usage_writes};
+ghost use Rattle.bpaf_help.specs.Usage.Nested.{HasNestedDoc, HasNestedDocs};
+ghost use Rattle.bpaf_help.specs.Usage.Writes.{is_bare_character, metavar_writes, name_writes, item_writes, separated, tree_writes, part_writes, usage_writes};
 
 use crate::item::{Item, ShortLong};
 use crate::meta::{Meta, MetaInfo};

@@ -12,7 +12,7 @@ use crate::escape::{APOSTROPHE_PREABMLE, Apostrophes, Escape};
 use crate::roff::RESTORE_FONT;
 
 /// Sums of monoids are associative.
-#[tactic(auto, using(crate::proofs::Sums::sum_of_assoc))]
+#[tactic(auto, using(crate::proofs::lemmas::Sums::sum_of_assoc))]
 pub fn sums_associate<T>()
     ensures { (left middle right : Labelled T)
         → sum_of (sum_of left middle) right ≡ sum_of left (sum_of middle right) }

@@ -4,7 +4,7 @@ ghost use Rattle.std.specs.Prelude.{◌≡◌, ◌+◌, ◌<◌, ◌≤◌, ◌^
 ghost use Rattle.std.specs.Borrow.{Bor};
 ghost use Rattle.std.specs.Iterator.{IsFinite, Drains};
 ghost use Rattle.bpaf_roff.specs.Pieces.{no_pieces, with_text, with_texts, sum_of, payload_len, labelled_text};
-ghost use Rattle.bpaf_roff.specs.Labels.{with_label, ending_at, shifted, end_of};
+ghost use Rattle.bpaf_roff.specs.Steps.Labels.{with_label, ending_at, shifted, end_of};
 
 use std::alloc::{AllocError, Allocator, Global};
 use std::marker::Model;
@@ -29,7 +29,7 @@ pub struct FreeMonoid<T, A: Allocator = Global> {
 impl<T, A: Allocator> Model for FreeMonoid<T, A> {
     ghost use Rattle.std.specs.Prelude.{string_bytes};
     ghost use Rattle.bpaf_roff.specs.Pieces.{Labelled};
-    ghost use Rattle.bpaf_roff.specs.Labels.{pieces_of, Cuts};
+    ghost use Rattle.bpaf_roff.specs.Steps.Labels.{pieces_of, Cuts};
 
     ghost Value = { Labelled T };
 
@@ -300,7 +300,7 @@ pub struct AnnotatedSlicesIter<'a, T> {
 impl<'a, T> Model for AnnotatedSlicesIter<'a, T> {
     ghost use Rattle.std.specs.Prelude.{List};
     ghost use Rattle.bpaf_roff.specs.Pieces.{Piece};
-    ghost use Rattle.bpaf_roff.specs.Labels.{pieces_of, Cuts};
+    ghost use Rattle.bpaf_roff.specs.Steps.Labels.{pieces_of, Cuts};
 
     ghost Value = { List (Piece T) };
 

@@ -5,7 +5,7 @@ ghost use Rattle.std.specs.Borrow.{Bor};
 ghost use Rattle.std.specs.Iterator.{IsFinite, Drains};
 ghost use Rattle.bpaf_roff.specs.Pieces.{labelled_text};
 ghost use Rattle.bpaf_roff.specs.Roff.{Script, no_script, with_pieces, script_sum, scripts_sum, script_at, piece, font_escape, font_change, text_at, argument_word, argument_pieces, control_pieces, linebreak_pieces, escape_pieces, plaintext_pieces, text_pieces, preamble_for, rendering};
-ghost use Rattle.bpaf_roff.specs.Output.{OnlyAdds};
+ghost use Rattle.bpaf_roff.specs.Steps.Output.{OnlyAdds};
 
 use crate::escape::bytes::escape;
 use crate::escape::{APOSTROPHE_PREABMLE, Apostrophes, Escape};

@@ -7,17 +7,17 @@ use Rattle.ucd_derived.specs.UppercaseRanges.{uppercase_ranges}
 use lib.Utf8.{encode}
 use Rattle.bpaf_doc.specs.declared.buffer.Style.TheVariants as style
 use Rattle.bpaf_doc.specs.declared.buffer.Block.TheVariants as block
-use Rattle.bpaf_doc.specs.Parts.{Part, Text, Start, End}
-use Rattle.bpaf_doc.specs.Writes.{document_of, em_doc_writes}
+use Rattle.bpaf_doc.specs.Buffer.Parts.{Part, Text, Start, End}
+use Rattle.bpaf_doc.specs.Buffer.Writes.{document_of, em_doc_writes}
 use Rattle.bpaf_help.specs.Content.{short, both, Tree, and_of, or_of, optional, required, adjacent, item, many, subsection, skip, custom_usage, strict, Trees, no_trees, tree, positional, command, flag, argument, Head, head}
-use Rattle.bpaf_help.specs.Normal.{normalized}
-use Rattle.bpaf_help.specs.Alternatives.{either_form}
-use Rattle.bpaf_help.specs.Shorts.{flag_shorts, argument_shorts}
-use Rattle.bpaf_help.specs.Misplaced.{misplaced_items}
-use Rattle.bpaf_help.specs.Usage.{usage_writes}
+use Rattle.bpaf_help.specs.Meta.Normal.{normalized}
+use Rattle.bpaf_help.specs.Meta.Alternatives.{either_form}
+use Rattle.bpaf_help.specs.Meta.Shorts.{flag_shorts, argument_shorts}
+use Rattle.bpaf_help.specs.Meta.Misplaced.{misplaced_items}
+use Rattle.bpaf_help.specs.Usage.Writes.{usage_writes}
 use Rattle.std.proofs.Common.{inl}
-use Rattle.bpaf_help.specs.Shape.{HasUsageShape}
-use Rattle.bpaf_help.specs.Sequences.{Shows, symbol_of, once, again}
+use Rattle.bpaf_help.specs.Meta.Shape.{HasUsageShape}
+use Rattle.bpaf_help.specs.Meta.Sequences.{Shows, symbol_of, once, again}
 
 abbrev a : Tree
 a = item (flag (short 97) [] None None)

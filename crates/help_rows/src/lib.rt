@@ -4,9 +4,9 @@
 #![tactic(auto)]
 
 ghost use Rattle.std.specs.Prelude.{◌≡◌, true, IfOk};
-ghost use Rattle.bpaf_doc.specs.Writes.{document_of};
+ghost use Rattle.bpaf_doc.specs.Buffer.Writes.{document_of};
 ghost use Rattle.bpaf_help.specs.View.{tree_of};
-ghost use Rattle.bpaf_help.specs.Usage.{usage_writes};
+ghost use Rattle.bpaf_help.specs.Usage.Writes.{usage_writes};
 
 use bpaf_doc::buffer::Doc;
 use bpaf_help::meta::Meta;

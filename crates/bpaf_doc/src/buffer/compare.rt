@@ -1,8 +1,8 @@
 //! Documents are equal, and come one before the other, as their lists of parts do.
 
 ghost use Rattle.std.specs.Prelude.{◌≡◌};
-ghost use Rattle.bpaf_doc.specs.Equality.{part_cmp, same_part};
-ghost use Rattle.bpaf_doc.specs.PartView.{part_of};
+ghost use Rattle.bpaf_doc.specs.Buffer.Equality.{part_cmp, same_part};
+ghost use Rattle.bpaf_doc.specs.Buffer.View.{part_of};
 
 use crate::buffer::{Doc, Part};
 use std::alloc::Allocator;
@@ -36,7 +36,7 @@ fn is_same(left: &Part<'_>, right: &Part<'_>) -> bool
 
 impl<A: Allocator> PartialEq for Doc<A> {
     ghost use Rattle.std.specs.Cmp.{partial_equiv_from_equiv};
-    ghost use Rattle.bpaf_doc.specs.Equality.{documents_equiv, same_document};
+    ghost use Rattle.bpaf_doc.specs.Buffer.Equality.{documents_equiv, same_document};
 
     ghost eq = { same_document };
 
@@ -59,7 +59,7 @@ impl<A: Allocator> PartialEq for Doc<A> {
 }
 
 impl<A: Allocator> Eq for Doc<A> {
-    ghost use Rattle.bpaf_doc.specs.Equality.{documents_equiv};
+    ghost use Rattle.bpaf_doc.specs.Buffer.Equality.{documents_equiv};
 
     ghost laws = { documents_equiv };
 }
@@ -86,7 +86,7 @@ fn part_order(left: &Part<'_>, right: &Part<'_>) -> Ordering
 
 impl<A: Allocator> PartialOrd for Doc<A> {
     ghost use Rattle.std.specs.Ordering.{as_partial_cmp};
-    ghost use Rattle.bpaf_doc.specs.Equality.{document_cmp, documents_partial};
+    ghost use Rattle.bpaf_doc.specs.Buffer.Equality.{document_cmp, documents_partial};
 
     ghost partial_cmp = { as_partial_cmp document_cmp };
 
@@ -99,7 +99,7 @@ impl<A: Allocator> PartialOrd for Doc<A> {
 
 impl<A: Allocator> Ord for Doc<A> {
     ghost use Rattle.std.proofs.Common.{refl};
-    ghost use Rattle.bpaf_doc.specs.Equality.{document_cmp, documents_tied, documents_total};
+    ghost use Rattle.bpaf_doc.specs.Buffer.Equality.{document_cmp, documents_tied, documents_total};
 
     ghost cmp = { document_cmp };
 

@@ -1,9 +1,9 @@
 //! What HTML and markdown have of a document, one piece after another: the same for both, in full and in brief.
 ghost use Rattle.std.specs.Prelude.{◌≡◌};
-ghost use Rattle.bpaf_doc.specs.Fragments.{shown_fragments};
-ghost use Rattle.bpaf_doc.specs.Chunks.{is_paragraph};
-ghost use Rattle.bpaf_doc.specs.ChunkView.{chunk_of};
-ghost use Rattle.bpaf_doc.specs.Walk.{is_inline};
+ghost use Rattle.bpaf_doc.specs.Html.Fragments.{shown_fragments};
+ghost use Rattle.bpaf_doc.specs.Splitter.Chunks.{is_paragraph};
+ghost use Rattle.bpaf_doc.specs.Splitter.View.{chunk_of};
+ghost use Rattle.bpaf_doc.specs.Html.Steps.Walk.{is_inline};
 
 use crate::buffer::{Block, Doc, Part, Parts, Style};
 use crate::splitter::{Chunk, Splitter, split};
@@ -36,8 +36,8 @@ pub(super) struct Fragments<'a> {
 
 impl<'a> Model for Fragments<'a> {
     ghost use Rattle.std.specs.Prelude.{◌≡◌, ◌+◌, ◌<◌, ◌^◌, ◌++◌, List, length, true, if◌then◌else◌};
-    ghost use Rattle.bpaf_doc.specs.Fragments.{Fragment};
-    ghost use Rattle.bpaf_doc.specs.Walk.{walk, text_rest, depth_after_text};
+    ghost use Rattle.bpaf_doc.specs.Html.Fragments.{Fragment};
+    ghost use Rattle.bpaf_doc.specs.Html.Steps.Walk.{walk, text_rest, depth_after_text};
 
     ghost Value = { List Fragment };
 
@@ -76,7 +76,7 @@ fn is_paragraph(chunk: Chunk<'_>) -> bool
 
 impl<'a> Iterator for Fragments<'a> {
     ghost use Rattle.std.specs.Iterator.{YieldsFirstBy, item_count};
-    ghost use Rattle.bpaf_doc.specs.HtmlView.{fragment_of};
+    ghost use Rattle.bpaf_doc.specs.Html.Steps.View.{fragment_of};
 
     type Item = Fragment<'a>;
 

@@ -1,7 +1,7 @@
 use Rattle.std.proofs.Common.{ap, map, take, [], ◌∷◌, arith}
 use Rattle.std.proofs.lemmas.List.{take_more, map-append}
 use Rattle.bpaf_help.specs.View.{tree_of}
-use Rattle.bpaf_help.proofs.Views.{view-Command}
+use Rattle.bpaf_help.proofs.lemmas.Views.{view-Command}
 use Rattle.bpaf_help.proofs.+copy.Goals as goal
 
 pub item::Item::clone-returns-in_ok-clone_info-in-Command : goal.item::Item::clone-returns-in_ok-clone_info-in-Command

@@ -1,9 +1,9 @@
 //! The check that no named item stands after a positional one.
 ghost use Rattle.std.specs.Prelude.{◌≡◌, OnOk, IfErr};
 ghost use Rattle.bpaf_help.specs.View.{tree_of, trees_of, leaf_of};
-ghost use Rattle.bpaf_help.specs.Misplaced.{IsWellPlaced, IsFirstMisplaced};
+ghost use Rattle.bpaf_help.specs.Meta.Misplaced.{IsWellPlaced, IsFirstMisplaced};
 ghost use Rattle.bpaf_help.specs.Content.{item as item_of};
-ghost use Rattle.bpaf_help.specs.Walk.{check_of, walked, walked_within, walked_parts, walked_branches};
+ghost use Rattle.bpaf_help.specs.Meta.Steps.Walk.{check_of, walked, walked_within, walked_parts, walked_branches};
 
 use crate::item::Item;
 use crate::meta::Meta;

@@ -2,9 +2,9 @@
 ghost use Rattle.std.specs.Prelude.{◌≡◌, IfOk, OnOk};
 ghost use Rattle.bpaf_help.specs.Content.{Trees, skip};
 ghost use Rattle.bpaf_help.specs.View.{tree_of, trees_of, leaf_of};
-ghost use Rattle.bpaf_help.specs.Normal.{normal_form, state_out, and_form, or_form, optional_form, optional_many_form, required_form, many_form, custom_usage_form, outer_form, strict_if_push, item_form, guarded, state_after, strict_state, shown_trees, and_parts, or_parts, or_state, with_first_command, normalized};
-ghost use Rattle.bpaf_help.specs.Alternatives.{trees_then};
-ghost use Rattle.bpaf_help.specs.Passes.{state_of, is_skip_tree, with_shown, after_commands, sees_command, bracketed_or};
+ghost use Rattle.bpaf_help.specs.Meta.Normal.{normal_form, state_out, and_form, or_form, optional_form, optional_many_form, required_form, many_form, custom_usage_form, outer_form, strict_if_push, item_form, guarded, state_after, strict_state, shown_trees, and_parts, or_parts, or_state, with_first_command, normalized};
+ghost use Rattle.bpaf_help.specs.Meta.Alternatives.{trees_then};
+ghost use Rattle.bpaf_help.specs.Meta.Steps.Passes.{state_of, is_skip_tree, with_shown, after_commands, sees_command, bracketed_or};
 
 use crate::item::Item;
 use crate::meta::{Meta, clone_doc};
@@ -180,7 +180,7 @@ fn guard<A: Allocator + Copy>(
 }
 
 // Puts a part last, unless it is `Skip`.
-#[tactic(auto, using(crate::proofs::Parts::parts_lemmas))]
+#[tactic(auto, using(crate::proofs::lemmas::Normal::Parts::parts_lemmas))]
 fn keep<A: Allocator>(kept: &mut Vec<Meta<A>, A>, part: Meta<A>) -> Result<(), AllocError>
     ensures { OnOk result (trees_of kept.new.items ≡ trees_then (trees_of kept.old.items) (with_shown (tree_of part))) }
 {
@@ -191,7 +191,7 @@ fn keep<A: Allocator>(kept: &mut Vec<Meta<A>, A>, part: Meta<A>) -> Result<(), A
 }
 
 // Puts a part last, unless it is `Skip` or a command after a command. Answers whether a command was seen.
-#[tactic(auto, using(crate::proofs::Parts::parts_lemmas))]
+#[tactic(auto, using(crate::proofs::lemmas::Normal::Parts::parts_lemmas))]
 fn keep_alternative<A: Allocator>(
     kept: &mut Vec<Meta<A>, A>,
     seen_command: bool,
@@ -217,7 +217,7 @@ fn is_skip<A: Allocator>(meta: &Meta<A>) -> bool
 }
 
 // None is `Skip`, one stands alone, more are an `And`.
-#[tactic(auto, using(crate::proofs::Parts::parts_lemmas))]
+#[tactic(auto, using(crate::proofs::lemmas::Normal::Parts::parts_lemmas))]
 fn make_and<A: Allocator>(mut parts: Vec<Meta<A>, A>) -> Meta<A>
     ensures { tree_of result ≡ and_form (trees_of parts.items) }
 {
@@ -231,7 +231,7 @@ fn make_and<A: Allocator>(mut parts: Vec<Meta<A>, A>) -> Meta<A>
 }
 
 // None is `Skip`, one stands alone, more are an `Or` in a `Required`.
-#[tactic(auto, using(crate::proofs::Parts::parts_lemmas))]
+#[tactic(auto, using(crate::proofs::lemmas::Normal::Parts::parts_lemmas))]
 fn make_or<A: Allocator + Copy>(mut parts: Vec<Meta<A>, A>) -> Result<Meta<A>, AllocError>
     ensures { IfOk result (λ m. tree_of m ≡ or_form (trees_of parts.items)) }
 {

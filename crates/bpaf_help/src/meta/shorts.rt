@@ -2,7 +2,7 @@
 ghost use Rattle.std.specs.Prelude.{◌≡◌, ◌∷◌, ◌++◌, OnOk, OnErr};
 ghost use Rattle.bpaf_help.specs.View.{tree_of, trees_of, leaf_of};
 ghost use Rattle.std.specs.List.{flat_map};
-ghost use Rattle.bpaf_help.specs.Shorts.{flag_shorts, argument_shorts, shorts_of_flag, shorts_of_argument, open_items_of_parts, open_items_within, IsFront};
+ghost use Rattle.bpaf_help.specs.Meta.Shorts.{flag_shorts, argument_shorts, shorts_of_flag, shorts_of_argument, open_items_of_parts, open_items_within, IsFront};
 
 use crate::item::Item;
 use crate::meta::Meta;

@@ -7,7 +7,7 @@ ghost use Rattle.std.specs.List.{AllByRecursion};
 ghost use Rattle.bpaf_roff.specs.Pieces.{Piece, piece_at};
 ghost use Rattle.bpaf_roff.specs.Roff.{piece};
 ghost use Rattle.bpaf_roff.specs.Escaping.{is_line_start, newline_as_blank, guard, special_text, spaces_text, byte_text, breaks, signs_of, text_after, escaped};
-ghost use Rattle.bpaf_roff.specs.Output.{KeepsFront, written};
+ghost use Rattle.bpaf_roff.specs.Steps.Output.{KeepsFront, written};
 
 use crate::escape::{Apostrophes, Escape};
 use std::alloc::{AllocError, Allocator};

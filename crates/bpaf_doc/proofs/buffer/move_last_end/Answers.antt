@@ -1,5 +1,5 @@
 use Rattle.std.proofs.Common.{sym, ◌∙◌}
-use Rattle.bpaf_doc.proofs.EndsLaws.{with_last_end-popped}
+use Rattle.bpaf_doc.proofs.lemmas.Buffer.Ends.{with_last_end-popped}
 use Rattle.bpaf_doc.proofs.buffer.move_last_end.Goals as goal
 
 pub returns-in-Some : goal.returns-in-Some

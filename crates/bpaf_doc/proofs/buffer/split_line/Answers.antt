@@ -1,4 +1,4 @@
-use Rattle.bpaf_doc.proofs.Lines.{split_line-from}
+use Rattle.bpaf_doc.proofs.lemmas.Buffer.Lines.{split_line-from}
 use Rattle.bpaf_doc.proofs.buffer.split_line.Goals as goal
 
 pub returns : goal.returns

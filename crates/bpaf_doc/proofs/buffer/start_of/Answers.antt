@@ -1,6 +1,6 @@
 use Rattle.std.proofs.Common.{◌≡◌, suc, ◌-◌, sym, ap, ◌∙◌, arith}
-use Rattle.bpaf_doc.specs.Ends.{end_before}
-use Rattle.bpaf_doc.proofs.EndsLaws.{end_before-read}
+use Rattle.bpaf_doc.specs.Buffer.Steps.Ends.{end_before}
+use Rattle.bpaf_doc.proofs.lemmas.Buffer.Ends.{end_before-read}
 use Rattle.bpaf_doc.proofs.buffer.start_of.Goals as goal
 
 pub returns-else-index-eq0 : goal.returns-else-index-eq0

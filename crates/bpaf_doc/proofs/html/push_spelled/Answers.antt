@@ -3,8 +3,8 @@ use Rattle.std.proofs.Common.{◌≡◌, ◌++◌, sym, ap, subst, ◌∙◌, �
 use Rattle.std.specs.Prelude.{string_bytes}
 use Rattle.std.specs.List.{flat_map}
 use Rattle.std.proofs.lemmas.Str.{IsCharBoundary-after_ascii}
-use Rattle.bpaf_doc.specs.HtmlView.{spelling_of}
-use Rattle.bpaf_doc.proofs.Spelled.{spelled_on}
+use Rattle.bpaf_doc.specs.Html.Steps.View.{spelling_of}
+use Rattle.bpaf_doc.proofs.lemmas.Html.Spelled.{spelled_on}
 use Rattle.bpaf_doc.proofs.html.push_spelled.Goals as goal
 
 pub range_from-rest-requires : goal.range_from-rest-requires

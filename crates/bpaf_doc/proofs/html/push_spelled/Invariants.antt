@@ -3,7 +3,7 @@ use Rattle.std.specs.Prelude.{string_bytes}
 use Rattle.std.specs.List.{flat_map}
 use denote.Text.{Utf8}
 use denote.Shadow.{shadow}
-use Rattle.bpaf_doc.specs.HtmlView.{spelling_of}
+use Rattle.bpaf_doc.specs.Html.Steps.View.{spelling_of}
 use Rattle.bpaf_doc.proofs.html.push_spelled.Given as goal
 
 -- what is written and the rest in its spelling are the whole text in its spelling

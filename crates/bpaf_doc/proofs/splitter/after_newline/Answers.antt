@@ -1,6 +1,6 @@
 use Rattle.std.proofs.Common.{codes, ap, ◌∙◌, ◌++◌, Some, None, lit<}
 use Rattle.std.proofs.lemmas.Str.Pattern.{strip_prefix_char}
-use Rattle.bpaf_doc.proofs.ChunkSteps.{stripped, lacks_front, code_line_first, line_break_first, newline_first}
+use Rattle.bpaf_doc.proofs.lemmas.Splitter.FirstChunk.{stripped, lacks_front, code_line_first, line_break_first, newline_first}
 use Rattle.bpaf_doc.proofs.splitter.after_newline.Goals as goal
 
 pub returns-in-Some : goal.returns-in-Some

@@ -1,6 +1,6 @@
 use Rattle.std.proofs.Common.{codes, ap, ◌∙◌, ◌∷◌}
-use Rattle.bpaf_doc.specs.Chunks.{chunks_in, chunks_of, Plain}
-use Rattle.bpaf_doc.proofs.ChunkSteps.{begins, begins_not, fence_first, before_code_first, paragraph_first}
+use Rattle.bpaf_doc.specs.Splitter.Chunks.{chunks_in, chunks_of, Plain}
+use Rattle.bpaf_doc.proofs.lemmas.Splitter.FirstChunk.{begins, begins_not, fence_first, before_code_first, paragraph_first}
 use Rattle.bpaf_doc.proofs.splitter.after_paragraph.Goals as goal
 
 pub returns-then-starts_with : goal.returns-then-starts_with

@@ -1,7 +1,7 @@
 use Rattle.std.proofs.Common.{sym, subst, ℕ, List, length}
 use Rattle.memchr.specs.Find.{NoneBefore, Nowhere, Passes, is_byte}
-use Rattle.bpaf_doc.specs.Chunks.{IsLine}
-use Rattle.bpaf_doc.proofs.ChunkCuts.{line_from_no_newline, line_before_newline, newline_cut}
+use Rattle.bpaf_doc.specs.Splitter.Chunks.{IsLine}
+use Rattle.bpaf_doc.proofs.lemmas.Splitter.Cuts.{line_from_no_newline, line_before_newline, newline_cut}
 use Rattle.bpaf_doc.proofs.splitter.cut_line.Goals as goal
 
 abbrev IsFound : List ℕ → ℕ → Type 0

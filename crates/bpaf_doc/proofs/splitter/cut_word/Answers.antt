@@ -1,7 +1,7 @@
 use Rattle.std.proofs.Common.{sym, ◌∙◌, subst, ◌≡◌, true}
 use Rattle.std.specs.List.{list_all}
 use Rattle.std.specs.Char.{is_ascii_graphic}
-use Rattle.bpaf_doc.proofs.Printable.{printable_word, printable_columns, printable_cut}
+use Rattle.bpaf_doc.proofs.lemmas.Splitter.Printable.{printable_word, printable_columns, printable_cut}
 use Rattle.bpaf_doc.proofs.splitter.cut_word.Goals as goal
 
 pub split_at-requires : goal.split_at-requires

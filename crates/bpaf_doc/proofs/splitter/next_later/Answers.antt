@@ -1,5 +1,5 @@
 use Rattle.std.proofs.Common.{codes}
-use Rattle.bpaf_doc.proofs.ChunkSteps.{begins, begins_not, later_first, closing_first, closing_paragraph_first}
+use Rattle.bpaf_doc.proofs.lemmas.Splitter.FirstChunk.{begins, begins_not, later_first, closing_first, closing_paragraph_first}
 use Rattle.bpaf_doc.proofs.splitter.next_later.Goals as goal
 
 pub returns-then-not-starts_with : goal.returns-then-not-starts_with

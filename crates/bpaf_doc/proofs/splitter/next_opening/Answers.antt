@@ -1,4 +1,4 @@
-use Rattle.bpaf_doc.proofs.ChunkSteps.{opening_first}
+use Rattle.bpaf_doc.proofs.lemmas.Splitter.FirstChunk.{opening_first}
 use Rattle.bpaf_doc.proofs.splitter.next_opening.Goals as goal
 
 pub returns : goal.returns

@@ -1,6 +1,6 @@
 use Rattle.std.proofs.Common.{Some, None, lit<}
 use Rattle.std.proofs.lemmas.Str.Pattern.{strip_prefix_char}
-use Rattle.bpaf_doc.proofs.ChunkSteps.{blank_first, word_first}
+use Rattle.bpaf_doc.proofs.lemmas.Splitter.FirstChunk.{blank_first, word_first}
 use Rattle.bpaf_doc.proofs.splitter.next_plain.Goals as goal
 
 pub returns-in-Some-strip_prefix : goal.returns-in-Some-strip_prefix

@@ -1,11 +1,11 @@
 -- A text is first read as plain text.
 use Rattle.std.proofs.Common.{◌∙◌, ap, sym, subst}
 use Rattle.std.specs.List.{All, flat_map}
-use Rattle.bpaf_doc.specs.Chunks.{chunk_ink, Plain}
-use Rattle.bpaf_doc.specs.ChunkPromises.{IsOneLine, StandInOrder}
-use Rattle.bpaf_doc.proofs.ChunkLaws.{spells_in}
-use Rattle.bpaf_doc.proofs.ChunkFacts.{ink_of_chunks, one_line_chunks, chunks_in_order}
-use Rattle.bpaf_doc.proofs.ChunkSteps.{chunks_of-plain}
+use Rattle.bpaf_doc.specs.Splitter.Chunks.{chunk_ink, Plain}
+use Rattle.bpaf_doc.specs.Splitter.Promises.{IsOneLine, StandInOrder}
+use Rattle.bpaf_doc.proofs.lemmas.Splitter.Spelling.{spells_in}
+use Rattle.bpaf_doc.proofs.lemmas.Splitter.Facts.{ink_of_chunks, one_line_chunks, chunks_in_order}
+use Rattle.bpaf_doc.proofs.lemmas.Splitter.FirstChunk.{chunks_of-plain}
 use Rattle.bpaf_doc.proofs.splitter.split.Goals as goal
 
 pub returns-clause-value : goal.returns-clause-value

@@ -1,6 +1,6 @@
 use Rattle.std.proofs.Common.{sym, ◌∙◌, arith}
-use Rattle.bpaf_help.proofs.Views.{view-Or}
-use Rattle.bpaf_help.proofs.Parts.{choice_several}
+use Rattle.bpaf_help.proofs.lemmas.Views.{view-Or}
+use Rattle.bpaf_help.proofs.lemmas.Normal.Parts.{choice_several}
 use Rattle.bpaf_help.proofs.meta.one_of.Goals as goal
 
 pub returns-then-len-gt1 : goal.returns-then-len-gt1

@@ -1,12 +1,12 @@
 use Rattle.std.proofs.Common.{List, [], ◌∷◌, ◌+◌, drop, ap, sym, ◌∙◌, arith}
 use Rattle.std.specs.Prelude.{codes}
 use Rattle.std.proofs.lemmas.List.{at_drop_more}
-use Rattle.bpaf_doc.specs.Writes.{plain, literal, with_writes, doc_writes}
+use Rattle.bpaf_doc.specs.Buffer.Writes.{plain, literal, with_writes, doc_writes}
 use Rattle.bpaf_help.specs.View.{tree_of, trees_of}
 use Rattle.bpaf_help.specs.declared.meta.Meta.{Meta}
-use Rattle.bpaf_help.specs.Usage.{tree_writes, part_writes}
-use Rattle.bpaf_help.proofs.Written.{OnOk-map, Grows-then, Grows-call, with_writes-append, rest_of_line, written_turn}
-use Rattle.bpaf_help.proofs.Views.{view-Many}
+use Rattle.bpaf_help.specs.Usage.Writes.{tree_writes, part_writes}
+use Rattle.bpaf_help.proofs.lemmas.Usage.Written.{OnOk-map, Grows-then, Grows-call, with_writes-append, rest_of_line, written_turn}
+use Rattle.bpaf_help.proofs.lemmas.Views.{view-Many}
 use Rattle.bpaf_help.proofs.usage.+put.Goals as goal
 
 pub put_between-returns-in_err-put_tree-clause-grows : goal.put_between-returns-in_err-put_tree-clause-grows

@@ -1,9 +1,9 @@
 use Rattle.std.proofs.Common.{◌≡◌, true, drop}
-use Rattle.bpaf_doc.specs.Growth.{Grows}
-use Rattle.bpaf_doc.specs.Writes.{with_writes}
+use Rattle.bpaf_doc.specs.Buffer.Growth.{Grows}
+use Rattle.bpaf_doc.specs.Buffer.Writes.{with_writes}
 use Rattle.bpaf_help.specs.View.{trees_of}
-use Rattle.bpaf_help.specs.Usage.{part_writes}
-use Rattle.bpaf_help.proofs.Written.{rest_of_line}
+use Rattle.bpaf_help.specs.Usage.Writes.{part_writes}
+use Rattle.bpaf_help.proofs.lemmas.Usage.Written.{rest_of_line}
 use Rattle.bpaf_help.proofs.usage.+put.Given as goal
 
 abbrev pub invariant-put_parts-loop-part : goal.invariant-put_parts-loop-part

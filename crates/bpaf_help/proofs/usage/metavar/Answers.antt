@@ -1,6 +1,6 @@
 use Rattle.std.proofs.Common.{sym, ◌∙◌}
-use Rattle.bpaf_doc.proofs.Growing.{without_err}
-use Rattle.bpaf_help.proofs.NestedWrites.{metavar_keeps}
+use Rattle.bpaf_doc.proofs.lemmas.Buffer.Growing.{without_err}
+use Rattle.bpaf_help.proofs.lemmas.Usage.Nested.{metavar_keeps}
 use Rattle.bpaf_help.proofs.usage.metavar.Goals as goal
 
 pub returns-else-is_err-clause-nested : goal.returns-else-is_err-clause-nested

@@ -1,11 +1,11 @@
 use Rattle.std.proofs.Common.{[], ◌∷◌, ap, sym, ◌∙◌}
 use Rattle.std.specs.Prelude.{codes}
 use Rattle.bpaf_doc.specs.declared.buffer.Style.TheVariants as style
-use Rattle.bpaf_doc.specs.Writes.{text, plain, with_writes, doc_writes}
-use Rattle.bpaf_help.proofs.Written.{OnOk-map, Grows-then, Grows-call}
+use Rattle.bpaf_doc.specs.Buffer.Writes.{text, plain, with_writes, doc_writes}
+use Rattle.bpaf_help.proofs.lemmas.Usage.Written.{OnOk-map, Grows-then, Grows-call}
 use Rattle.bpaf_help.specs.View.{leaf_of}
-use Rattle.bpaf_help.specs.Usage.{item_writes}
-use Rattle.bpaf_help.proofs.Views.{view-Command}
+use Rattle.bpaf_help.specs.Usage.Writes.{item_writes}
+use Rattle.bpaf_help.proofs.lemmas.Views.{view-Command}
 use Rattle.bpaf_help.proofs.usage.put_item.Goals as goal
 
 pub returns-in-Any-clause-grows : goal.returns-in-Any-clause-grows

@@ -1,8 +1,8 @@
 use Rattle.std.proofs.Common.{[], ◌∷◌}
 use Rattle.std.specs.Prelude.{codes}
 use Rattle.bpaf_doc.specs.declared.buffer.Style.TheVariants as style
-use Rattle.bpaf_doc.specs.Writes.{text}
-use Rattle.bpaf_help.proofs.Written.{Grows-then, Grows-call}
+use Rattle.bpaf_doc.specs.Buffer.Writes.{text}
+use Rattle.bpaf_help.proofs.lemmas.Usage.Written.{Grows-then, Grows-call}
 use Rattle.bpaf_help.proofs.usage.put_metavar.Goals as goal
 
 pub returns-then-is_bare-clause-grows : goal.returns-then-is_bare-clause-grows

@@ -1,6 +1,6 @@
 use Rattle.std.proofs.Common.{[], ◌∷◌}
-use Rattle.bpaf_doc.specs.Writes.{plain}
-use Rattle.bpaf_help.proofs.Written.{Grows-call}
+use Rattle.bpaf_doc.specs.Buffer.Writes.{plain}
+use Rattle.bpaf_help.proofs.lemmas.Usage.Written.{Grows-call}
 use Rattle.bpaf_help.proofs.usage.put_separator.Goals as goal
 
 pub returns-else-is_first-clause-grows : goal.returns-else-is_first-clause-grows

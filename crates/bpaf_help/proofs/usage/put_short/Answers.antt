@@ -1,8 +1,8 @@
 use Rattle.std.proofs.Common.{[], ◌∷◌, ap, ◌∙◌}
 use Rattle.std.specs.Prelude.{codes, encode_utf8}
 use Rattle.bpaf_doc.specs.declared.buffer.Style.TheVariants as style
-use Rattle.bpaf_doc.specs.Writes.{literal, with_text}
-use Rattle.bpaf_help.proofs.Written.{OnOk-map, Grows-then, Grows-call, with_text_twice}
+use Rattle.bpaf_doc.specs.Buffer.Writes.{literal, with_text}
+use Rattle.bpaf_help.proofs.lemmas.Usage.Written.{OnOk-map, Grows-then, Grows-call, with_text_twice}
 use Rattle.bpaf_help.proofs.usage.put_short.Goals as goal
 
 pub returns-clause-ok : goal.returns-clause-ok

@@ -1,7 +1,7 @@
 use Rattle.std.proofs.Common.{[], ◌∷◌}
 use Rattle.bpaf_doc.specs.declared.buffer.Block.TheVariants.{Mono}
-use Rattle.bpaf_doc.specs.Writes.{start, end}
-use Rattle.bpaf_help.proofs.Written.{Grows-then, Grows-call}
+use Rattle.bpaf_doc.specs.Buffer.Writes.{start, end}
+use Rattle.bpaf_help.proofs.lemmas.Usage.Written.{Grows-then, Grows-call}
 use Rattle.bpaf_help.proofs.usage.put_usage.Goals as goal
 
 pub returns-in_err-put_tree-clause-grows : goal.returns-in_err-put_tree-clause-grows

@@ -1,7 +1,7 @@
 use Rattle.std.proofs.Common.{sym, ◌∙◌}
-use Rattle.bpaf_doc.proofs.Growing.{without_err}
+use Rattle.bpaf_doc.proofs.lemmas.Buffer.Growing.{without_err}
 use Rattle.bpaf_help.specs.View.{leaf_of}
-use Rattle.bpaf_help.proofs.NestedWrites.{item_keeps}
+use Rattle.bpaf_help.proofs.lemmas.Usage.Nested.{item_keeps}
 use Rattle.bpaf_help.proofs.usage.write_item.Goals as goal
 
 pub returns-else-is_err-clause-nested : goal.returns-else-is_err-clause-nested

@@ -1,7 +1,7 @@
 use Rattle.std.proofs.Common.{sym, subst}
 use Rattle.bpaf_help.specs.View.{tree_of}
-use Rattle.bpaf_help.specs.Nested.{HasNestedDocs}
-use Rattle.bpaf_help.proofs.NestedWrites.{normalized_nested}
+use Rattle.bpaf_help.specs.Usage.Nested.{HasNestedDocs}
+use Rattle.bpaf_help.proofs.lemmas.Usage.Nested.{normalized_nested}
 use Rattle.bpaf_help.proofs.usage.write_meta.Goals as goal
 
 pub returns-clause-nested : goal.returns-clause-nested

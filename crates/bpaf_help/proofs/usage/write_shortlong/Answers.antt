@@ -1,7 +1,7 @@
 use Rattle.std.proofs.Common.{sym, ◌∙◌}
-use Rattle.bpaf_doc.proofs.Growing.{without_err}
+use Rattle.bpaf_doc.proofs.lemmas.Buffer.Growing.{without_err}
 use Rattle.bpaf_help.specs.View.{name_of}
-use Rattle.bpaf_help.proofs.NestedWrites.{name_keeps}
+use Rattle.bpaf_help.proofs.lemmas.Usage.Nested.{name_keeps}
 use Rattle.bpaf_help.proofs.usage.write_shortlong.Goals as goal
 
 pub returns-else-is_err-clause-nested : goal.returns-else-is_err-clause-nested

@@ -1,4 +1,4 @@
-use Rattle.bpaf_roff.proofs.EqualityLaws.{labelled_eq_exact}
+use Rattle.bpaf_roff.proofs.lemmas.Equality.{labelled_eq_exact}
 use Rattle.bpaf_roff.proofs.laws.equality_is_exact.Goals as goal
 
 pub returns : goal.returns

@@ -1,4 +1,4 @@
-use Rattle.bpaf_roff.proofs.EqualityLaws.{left_equal}
+use Rattle.bpaf_roff.proofs.lemmas.Equality.{left_equal}
 use Rattle.bpaf_roff.proofs.laws.nothing_on_the_left.Goals as goal
 
 pub returns-clause-equal : goal.returns-clause-equal

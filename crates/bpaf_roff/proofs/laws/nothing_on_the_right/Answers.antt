@@ -1,4 +1,4 @@
-use Rattle.bpaf_roff.proofs.EqualityLaws.{right_equal}
+use Rattle.bpaf_roff.proofs.lemmas.Equality.{right_equal}
 use Rattle.bpaf_roff.proofs.laws.nothing_on_the_right.Goals as goal
 
 pub returns-clause-equal : goal.returns-clause-equal

@@ -1,4 +1,4 @@
-use Rattle.bpaf_roff.proofs.Sums.{with_texts-append}
+use Rattle.bpaf_roff.proofs.lemmas.Sums.{with_texts-append}
 use Rattle.bpaf_roff.proofs.laws.texts_follow.Goals as goal
 
 pub returns : goal.returns

@@ -1,5 +1,5 @@
 use Rattle.std.proofs.Common.{◌≡◌, ◌+◌, ◌≤◌, ◌++◌, length, take, vec_len, vec_capacity}
-use Rattle.bpaf_roff.specs.Labels.{shifted}
+use Rattle.bpaf_roff.specs.Steps.Labels.{shifted}
 use Rattle.bpaf_roff.proofs.monoid.append_labels.Given as goal
 
 abbrev pub invariant-loop-next : goal.invariant-loop-next

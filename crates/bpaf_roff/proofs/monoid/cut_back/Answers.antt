@@ -1,6 +1,6 @@
 use Rattle.std.proofs.Common.{◌∙◌, sym, ap}
-use Rattle.bpaf_roff.specs.Labels.{ending_at}
-use Rattle.bpaf_roff.proofs.LabelLaws.{ending_at-push}
+use Rattle.bpaf_roff.specs.Steps.Labels.{ending_at}
+use Rattle.bpaf_roff.proofs.lemmas.Labels.{ending_at-push}
 use Rattle.bpaf_roff.proofs.monoid.cut_back.Goals as goal
 
 pub returns-in-Some : goal.returns-in-Some

@@ -1,6 +1,6 @@
 use Rattle.std.proofs.Common.{◌∙◌, sym, ap}
-use Rattle.bpaf_roff.specs.Labels.{end_of}
-use Rattle.bpaf_roff.proofs.LabelLaws.{end_of-push}
+use Rattle.bpaf_roff.specs.Steps.Labels.{end_of}
+use Rattle.bpaf_roff.proofs.lemmas.Labels.{end_of-push}
 use Rattle.bpaf_roff.proofs.monoid.end_of_last.Goals as goal
 
 pub returns-in-Some : goal.returns-in-Some

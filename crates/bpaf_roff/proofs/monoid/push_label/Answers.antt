@@ -1,5 +1,5 @@
 use Rattle.std.proofs.Common.{◌∷◌, [], ◌++◌, ◌∙◌, ap, sym, append_assoc}
-use Rattle.bpaf_roff.proofs.LabelLaws.{with_label-popped, followed_by-same, followed_by-other}
+use Rattle.bpaf_roff.proofs.lemmas.Labels.{with_label-popped, followed_by-same, followed_by-other}
 use Rattle.bpaf_roff.proofs.monoid.push_label.Goals as goal
 
 pub returns-then-joins : goal.returns-then-joins

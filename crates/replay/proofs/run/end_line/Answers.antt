@@ -1,6 +1,6 @@
 use Rattle.std.proofs.Common.{◌∷◌, []}
 use Rattle.std.proofs.KnownBytes.{Appends-trans}
-use Rattle.bpaf_doc.proofs.Growing.{on_err}
+use Rattle.bpaf_doc.proofs.lemmas.Buffer.Growing.{on_err}
 use Rattle.watched.proofs.Fronts.{AppendsPart-after}
 use Rattle.replay.proofs.Steps.{stops_answering}
 use Rattle.replay.proofs.run.end_line.Goals as goal

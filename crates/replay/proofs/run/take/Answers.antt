@@ -2,7 +2,7 @@ use Rattle.std.proofs.Common.{◌++◌, ◌∷◌, [], ◌∙◌, ap, append_ass
 use Rattle.replay.specs.Progress.{Breaks, GoesOn}
 use Rattle.replay.proofs.Steps.{Breaks-after, Breaks-bytes, Breaks-more, Breaks-newline, GoesOn-bytes, GoesOn-newline, GoesOn-start, on_ok_two, take_line}
 use Rattle.std.proofs.lemmas.Result.{on_err_weaker}
-use Rattle.bpaf_doc.proofs.Growing.{on_err}
+use Rattle.bpaf_doc.proofs.lemmas.Buffer.Growing.{on_err}
 use Rattle.replay.proofs.run.take.Goals as goal
 
 pub loop-front-init : goal.loop-front-init

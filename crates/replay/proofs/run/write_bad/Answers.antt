@@ -1,6 +1,6 @@
 use Rattle.std.proofs.lemmas.Result.{on_err_weaker, on_ok_weaker}
 use Rattle.replay.proofs.Steps.{answered_bad, bad_end_part, bad_key_part, bad_reason_part}
-use Rattle.bpaf_doc.proofs.Growing.{on_err}
+use Rattle.bpaf_doc.proofs.lemmas.Buffer.Growing.{on_err}
 use Rattle.replay.proofs.run.write_bad.Goals as goal
 
 pub returns-clause-ok : goal.returns-clause-ok

@@ -1,7 +1,7 @@
 use Rattle.std.proofs.Common.{sym, ◌∙◌}
 use Rattle.bpaf_doc.specs.declared.buffer.Block.TheVariants.{InlineBlock}
-use Rattle.bpaf_doc.proofs.Growing.{without_err}
-use Rattle.bpaf_doc.proofs.Nesting.{IsWellNested-in_block}
+use Rattle.bpaf_doc.proofs.lemmas.Buffer.Growing.{without_err}
+use Rattle.bpaf_doc.proofs.lemmas.Buffer.Nesting.{IsWellNested-in_block}
 use Rattle.bpaf_doc.proofs.buffer.Doc.doc.Goals as goal
 
 pub returns-else-is_err-clause-nested : goal.returns-else-is_err-clause-nested

@@ -1,6 +1,6 @@
 use Rattle.std.proofs.Common.{sym, ◌∙◌}
-use Rattle.bpaf_doc.proofs.Growing.{without_err}
-use Rattle.bpaf_doc.proofs.Nesting.{IsWellNested-em_doc}
+use Rattle.bpaf_doc.proofs.lemmas.Buffer.Growing.{without_err}
+use Rattle.bpaf_doc.proofs.lemmas.Buffer.Nesting.{IsWellNested-em_doc}
 use Rattle.bpaf_doc.proofs.buffer.Doc.em_doc.Goals as goal
 
 pub returns-else-is_err-clause-nested : goal.returns-else-is_err-clause-nested

@@ -1,4 +1,4 @@
-use Rattle.bpaf_doc.proofs.Nesting.{IsWellNested-leading_texts}
+use Rattle.bpaf_doc.proofs.lemmas.Buffer.Nesting.{IsWellNested-leading_texts}
 use Rattle.bpaf_doc.proofs.buffer.Doc.first_line.Goals as goal
 
 pub returns-clause-nested : goal.returns-clause-nested

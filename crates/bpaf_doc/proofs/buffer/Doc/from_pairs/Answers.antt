@@ -1,6 +1,6 @@
 use Rattle.std.proofs.Common.{[], refl, take}
-use Rattle.bpaf_doc.specs.Parts.{nothing}
-use Rattle.bpaf_doc.proofs.Nesting.{IsWellNested-pairs}
+use Rattle.bpaf_doc.specs.Buffer.Parts.{nothing}
+use Rattle.bpaf_doc.proofs.lemmas.Buffer.Nesting.{IsWellNested-pairs}
 use Rattle.bpaf_doc.proofs.buffer.Doc.from_pairs.Goals as goal
 
 pub returns-clause-nested : goal.returns-clause-nested

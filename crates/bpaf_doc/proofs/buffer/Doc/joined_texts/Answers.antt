@@ -1,6 +1,6 @@
 use Rattle.std.proofs.Common.{string_bytes, sym, ◌∙◌, subst}
-use Rattle.bpaf_doc.specs.Parts.{HasUtf8Texts}
-use Rattle.bpaf_doc.proofs.EndsLaws.{HasUtf8Texts-parts_from, document_bytes-parts_from}
+use Rattle.bpaf_doc.specs.Buffer.Parts.{HasUtf8Texts}
+use Rattle.bpaf_doc.proofs.lemmas.Buffer.Ends.{HasUtf8Texts-parts_from, document_bytes-parts_from}
 use Rattle.bpaf_doc.proofs.buffer.Doc.joined_texts.Goals as goal
 
 pub returns-clause-joined : goal.returns-clause-joined

@@ -1,5 +1,5 @@
 use Rattle.std.proofs.Common.{◌≡◌, length, vec_len, string_bytes, arith}
-use Rattle.bpaf_doc.proofs.EndsLaws.{length-parts_from}
+use Rattle.bpaf_doc.proofs.lemmas.Buffer.Ends.{length-parts_from}
 use Rattle.bpaf_doc.proofs.buffer.Doc.len.Goals as goal
 
 pub returns : goal.returns

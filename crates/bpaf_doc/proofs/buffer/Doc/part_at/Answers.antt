@@ -1,6 +1,6 @@
 use Rattle.std.proofs.Common.{sym, arith}
 use Rattle.std.proofs.lemmas.Option.{slice_get_past}
-use Rattle.bpaf_doc.proofs.EndsLaws.{slice_get-next}
+use Rattle.bpaf_doc.proofs.lemmas.Buffer.Ends.{slice_get-next}
 use Rattle.bpaf_doc.proofs.buffer.Doc.part_at.Goals as goal
 
 pub returns-then-index-len : goal.returns-then-index-len

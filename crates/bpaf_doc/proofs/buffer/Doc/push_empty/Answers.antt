@@ -1,5 +1,5 @@
 use Rattle.std.proofs.Common.{◌≡◌, ◌+◌, length, string_bytes, arith}
-use Rattle.bpaf_doc.proofs.EndsLaws.{AreEnds-push_empty, parts_from-push_empty}
+use Rattle.bpaf_doc.proofs.lemmas.Buffer.Ends.{AreEnds-push_empty, parts_from-push_empty}
 use Rattle.bpaf_doc.proofs.buffer.Doc.push_empty.Goals as goal
 
 pub invariant_of-self-2 : goal.invariant_of-self-2

@@ -1,6 +1,6 @@
 use Rattle.std.proofs.Common.{◌≡◌, ◌+◌, ◌-◌, ◌++◌, map, length, string_bytes, arith, ap, length-append, ◌∙◌, subst}
-use Rattle.bpaf_doc.specs.Ends.{AreEnds, moved, parts_from}
-use Rattle.bpaf_doc.proofs.EndsLaws.{AreEnds-append, AreEnds-moved, CanMove-AreEnds, parts_from-append, parts_from-moved}
+use Rattle.bpaf_doc.specs.Buffer.Steps.Ends.{AreEnds, moved, parts_from}
+use Rattle.bpaf_doc.proofs.lemmas.Buffer.Ends.{AreEnds-append, AreEnds-moved, CanMove-AreEnds, parts_from-append, parts_from-moved}
 use Rattle.bpaf_doc.proofs.buffer.Doc.push_parts.Goals as goal
 
 pub push_moved-requires-clause-fits : goal.push_moved-requires-clause-fits

@@ -1,5 +1,5 @@
 use Rattle.std.proofs.Common.{arith}
-use Rattle.bpaf_doc.proofs.SheetWhole.{IfOk-layout}
+use Rattle.bpaf_doc.proofs.lemmas.Console.Exact.Whole.{IfOk-layout}
 use Rattle.bpaf_doc.proofs.buffer.Doc.render_console.Goals as goal
 
 pub returns-clause-layout : goal.returns-clause-layout

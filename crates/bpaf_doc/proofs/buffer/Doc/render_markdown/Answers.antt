@@ -1,9 +1,9 @@
 -- The text after all fragments, with the dash of a last item, meets the promises.
 use Rattle.std.proofs.Common.{◌≡◌, ◌<◌, ◌^◌, false, length, sym, ◌∙◌, ap, arith}
 use Rattle.std.specs.Prelude.{string_bytes}
-use Rattle.bpaf_doc.specs.Fragments.{shown_fragments}
-use Rattle.bpaf_doc.specs.MarkdownSteps.{blank_text, with_item, marked_after_all}
-use Rattle.bpaf_doc.proofs.MarkdownMeets.{markdown_meets}
+use Rattle.bpaf_doc.specs.Html.Fragments.{shown_fragments}
+use Rattle.bpaf_doc.specs.Markdown.Exact.{blank_text, with_item, marked_after_all}
+use Rattle.bpaf_doc.proofs.lemmas.Markdown.Meets.{markdown_meets}
 use Rattle.bpaf_doc.proofs.buffer.Doc.render_markdown.Goals as goal
 
 pub returns : goal.returns

@@ -1,8 +1,8 @@
 use Rattle.std.proofs.Common.{◌≡◌, ◌-◌, sym, subst, arith, string_bytes}
 use Rattle.std.proofs.lemmas.Str.{IsCharBoundary-from_take}
-use Rattle.bpaf_doc.specs.Growth.{Grows}
-use Rattle.bpaf_doc.proofs.EndsLaws.{IsUtf8-AreEnds}
-use Rattle.bpaf_doc.proofs.RollBack.{is_cut}
+use Rattle.bpaf_doc.specs.Buffer.Growth.{Grows}
+use Rattle.bpaf_doc.proofs.lemmas.Buffer.Ends.{IsUtf8-AreEnds}
+use Rattle.bpaf_doc.proofs.lemmas.Buffer.RollBack.{is_cut}
 use Rattle.bpaf_doc.proofs.buffer.Doc.roll_back.Goals as goal
 
 pub truncate-requires : goal.truncate-requires

@@ -1,7 +1,7 @@
 use Rattle.std.proofs.Common.{◌≡◌, ◌+◌, length, string_bytes, arith, ap, length-append, encode_utf8}
 use Rattle.std.proofs.lemmas.Str.{IsUtf8-encode}
-use Rattle.bpaf_doc.proofs.EndsLaws.{AreEnds-with_text_end, parts_from-with_text_end}
-use Rattle.bpaf_doc.proofs.Nesting.{IsWellNested-with_text}
+use Rattle.bpaf_doc.proofs.lemmas.Buffer.Ends.{AreEnds-with_text_end, parts_from-with_text_end}
+use Rattle.bpaf_doc.proofs.lemmas.Buffer.Nesting.{IsWellNested-with_text}
 use Rattle.bpaf_doc.proofs.buffer.Doc.write_char.Goals as goal
 
 pub invariant_of-self-2 : goal.invariant_of-self-2

@@ -1,9 +1,9 @@
 use Rattle.std.proofs.Common.{[], ◌∷◌, ◌++◌, ap, ◌∙◌}
 use Rattle.std.proofs.lemmas.Result.{on_err_weaker}
 use Rattle.bpaf_doc.specs.declared.buffer.Block.TheVariants.{InlineBlock}
-use Rattle.bpaf_doc.specs.Writes.{start, parts}
-use Rattle.bpaf_doc.specs.Parts.{Start}
-use Rattle.bpaf_doc.proofs.Growing.{on_err}
+use Rattle.bpaf_doc.specs.Buffer.Writes.{start, parts}
+use Rattle.bpaf_doc.specs.Buffer.Parts.{Start}
+use Rattle.bpaf_doc.proofs.lemmas.Buffer.Growing.{on_err}
 use Rattle.bpaf_doc.proofs.buffer.Doc.write_doc.Goals as goal
 
 pub returns-in_err-push_parts-clause-err : goal.returns-in_err-push_parts-clause-err

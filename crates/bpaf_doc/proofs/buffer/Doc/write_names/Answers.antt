@@ -1,6 +1,6 @@
 use Rattle.std.proofs.Common.{[], ◌∷◌, map, take, ◌∙◌, string_bytes}
-use Rattle.bpaf_doc.specs.Writes.{literal, path_writes}
-use Rattle.bpaf_doc.proofs.Growing.{Grows-more, on_err}
+use Rattle.bpaf_doc.specs.Buffer.Writes.{literal, path_writes}
+use Rattle.bpaf_doc.proofs.lemmas.Buffer.Growing.{Grows-more, on_err}
 use Rattle.bpaf_doc.proofs.buffer.Doc.write_names.Goals as goal
 
 pub returns-in_err-text-clause-err : goal.returns-in_err-text-clause-err

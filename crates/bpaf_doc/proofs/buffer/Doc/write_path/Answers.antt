@@ -1,6 +1,6 @@
 use Rattle.std.proofs.Common.{sym, ◌∙◌, map, string_bytes}
-use Rattle.bpaf_doc.proofs.Growing.{without_err}
-use Rattle.bpaf_doc.proofs.Nesting.{IsWellNested-path}
+use Rattle.bpaf_doc.proofs.lemmas.Buffer.Growing.{without_err}
+use Rattle.bpaf_doc.proofs.lemmas.Buffer.Nesting.{IsWellNested-path}
 use Rattle.bpaf_doc.proofs.buffer.Doc.write_path.Goals as goal
 
 pub returns-else-is_err-clause-nested : goal.returns-else-is_err-clause-nested

@@ -1,6 +1,6 @@
 use Rattle.std.proofs.Common.{◌≡◌, ◌+◌, length, string_bytes, arith, ap, length-append}
-use Rattle.bpaf_doc.proofs.EndsLaws.{AreEnds-with_text_end, parts_from-with_text_end}
-use Rattle.bpaf_doc.proofs.Nesting.{IsWellNested-with_text}
+use Rattle.bpaf_doc.proofs.lemmas.Buffer.Ends.{AreEnds-with_text_end, parts_from-with_text_end}
+use Rattle.bpaf_doc.proofs.lemmas.Buffer.Nesting.{IsWellNested-with_text}
 use Rattle.bpaf_doc.proofs.buffer.Doc.write_str.Goals as goal
 
 pub invariant_of-self-2 : goal.invariant_of-self-2

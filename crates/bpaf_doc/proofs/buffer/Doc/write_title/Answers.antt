@@ -1,10 +1,10 @@
 use Rattle.std.proofs.Common.{[], ◌∷◌, ◌∙◌}
 use Rattle.std.proofs.lemmas.Result.{on_err_weaker}
 use Rattle.bpaf_doc.specs.declared.buffer.Block.TheVariants.{Section3}
-use Rattle.bpaf_doc.specs.Growth.{Grows}
-use Rattle.bpaf_doc.specs.Writes as write
-use Rattle.bpaf_doc.specs.Writes.{emphasis, plain}
-use Rattle.bpaf_doc.proofs.Growing.{Grows-more, on_err}
+use Rattle.bpaf_doc.specs.Buffer.Growth.{Grows}
+use Rattle.bpaf_doc.specs.Buffer.Writes as write
+use Rattle.bpaf_doc.specs.Buffer.Writes.{emphasis, plain}
+use Rattle.bpaf_doc.proofs.lemmas.Buffer.Growing.{Grows-more, on_err}
 use Rattle.bpaf_doc.proofs.buffer.Doc.write_title.Goals as goal
 
 pub returns-in_err-push_empty-in-Some-clause-err : goal.returns-in_err-push_empty-in-Some-clause-err

@@ -1,7 +1,7 @@
 use Rattle.std.proofs.Common.{subst}
 use Rattle.std.proofs.lemmas.Str.{IsCharBoundary-from_take}
-use Rattle.bpaf_doc.specs.Ends.{AreEnds}
-use Rattle.bpaf_doc.proofs.EndsLaws.{IsUtf8-AreEnds}
+use Rattle.bpaf_doc.specs.Buffer.Steps.Ends.{AreEnds}
+use Rattle.bpaf_doc.proofs.lemmas.Buffer.Ends.{IsUtf8-AreEnds}
 use Rattle.bpaf_doc.proofs.buffer.PartsIterator.next.Goals as goal
 
 pub split_at-requires : goal.split_at-requires

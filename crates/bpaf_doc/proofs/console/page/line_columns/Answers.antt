@@ -1,7 +1,7 @@
 use Rattle.std.proofs.Common.{sym, ◌∙◌, ap}
 use Rattle.std.specs.Int.{is_in_range}
 use Rattle.std.specs.List.{list_all}
-use Rattle.bpaf_doc.proofs.Printable.{line_columns_are}
+use Rattle.bpaf_doc.proofs.lemmas.Splitter.Printable.{line_columns_are}
 use Rattle.bpaf_doc.proofs.console.page.line_columns.Goals as goal
 
 pub returns-then-is_printable : goal.returns-then-is_printable

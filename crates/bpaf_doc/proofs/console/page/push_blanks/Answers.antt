@@ -2,7 +2,7 @@ use Rattle.std.proofs.Common.{◌++◌, string_bytes, replicate, ap, ◌∙◌, 
 use Rattle.std.specs.Char.{encode_utf8}
 use Rattle.std.proofs.lemmas.Str.{encode_ascii}
 use Rattle.std.proofs.lemmas.List.{replicate-append-replicate}
-use Rattle.bpaf_doc.proofs.ConsoleInk.{ink-push_blank}
+use Rattle.bpaf_doc.proofs.lemmas.Console.Ink.{ink-push_blank}
 use Rattle.bpaf_doc.proofs.console.page.push_blanks.Goals as goal
 
 pub loop-preserved : goal.loop-preserved

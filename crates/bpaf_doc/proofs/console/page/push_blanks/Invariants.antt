@@ -1,5 +1,5 @@
 use Rattle.std.proofs.Common.{◌≡◌, ◌++◌, string_bytes, replicate}
-use Rattle.bpaf_doc.specs.Parts.{ink}
+use Rattle.bpaf_doc.specs.Buffer.Parts.{ink}
 use Rattle.bpaf_doc.proofs.console.page.push_blanks.Given as goal
 
 abbrev pub invariant-loop : goal.invariant-loop

@@ -1,8 +1,8 @@
 use Rattle.std.proofs.Common.{string_bytes, ◌∙◌, ap, sym, subst}
 use Rattle.std.specs.Str.{trim_end, IsTrimEnd}
 use Rattle.std.proofs.lemmas.Str.{IsUtf8-string_bytes}
-use Rattle.bpaf_doc.specs.Parts.{ink}
-use Rattle.bpaf_doc.proofs.ConsoleInk.{ink-trim, trim-cut, trim-boundary}
+use Rattle.bpaf_doc.specs.Buffer.Parts.{ink}
+use Rattle.bpaf_doc.proofs.lemmas.Console.Ink.{ink-trim, trim-cut, trim-boundary}
 use Rattle.bpaf_doc.proofs.console.page.trim_end.Goals as goal
 
 pub truncate-requires : goal.truncate-requires

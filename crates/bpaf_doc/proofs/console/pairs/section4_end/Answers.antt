@@ -1,7 +1,7 @@
 use Rattle.std.proofs.Common.{◌≡◌, true, false, ap, sym, ◌∙◌, arith}
 use Rattle.std.specs.List.{slice_get}
-use Rattle.bpaf_doc.specs.ConsoleText.{is_section4_end}
-use Rattle.bpaf_doc.proofs.ConsolePlaces.{first_end-here, first_end-later}
+use Rattle.bpaf_doc.specs.Console.Exact.{is_section4_end}
+use Rattle.bpaf_doc.proofs.lemmas.Console.Places.{first_end-here, first_end-later}
 use Rattle.bpaf_doc.proofs.console.pairs.section4_end.Goals as goal
 
 pub returns-then-is_section4_end : goal.returns-then-is_section4_end

@@ -1,5 +1,5 @@
 use Rattle.std.proofs.Common.{◌≡◌, ◌+◌, drop}
-use Rattle.bpaf_doc.proofs.ConsolePlaces.{first_end}
+use Rattle.bpaf_doc.proofs.lemmas.Console.Places.{first_end}
 use Rattle.bpaf_doc.proofs.console.pairs.section4_end.Given as goal
 
 abbrev pub invariant-loop-at : goal.invariant-loop-at

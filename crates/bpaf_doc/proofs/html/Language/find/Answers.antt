@@ -1,6 +1,6 @@
 use Rattle.std.proofs.Common.{sym, subst}
 use Rattle.memchr.specs.Find.{IsFirstByte, is_byte2}
-use Rattle.bpaf_doc.proofs.Spelled.{FindsSpelled, finds_html, finds_markdown}
+use Rattle.bpaf_doc.proofs.lemmas.Html.Spelled.{FindsSpelled, finds_html, finds_markdown}
 use Rattle.bpaf_doc.proofs.html.Language.find.Goals as goal
 
 pub returns-in-Html : goal.returns-in-Html

@@ -1,7 +1,7 @@
 -- The walk over the parts gives the fragments of the document.
 use Rattle.std.proofs.Common.{◌∙◌, ap}
-use Rattle.bpaf_doc.specs.Walk.{walk}
-use Rattle.bpaf_doc.proofs.Walking.{walked}
+use Rattle.bpaf_doc.specs.Html.Steps.Walk.{walk}
+use Rattle.bpaf_doc.proofs.lemmas.Html.Fragments.Walking.{walked}
 use Rattle.bpaf_doc.proofs.html.fragments.fragments_of.Goals as goal
 
 pub returns : goal.returns

@@ -1,6 +1,6 @@
 use Rattle.std.proofs.Common.{sym, ◌∙◌}
-use Rattle.bpaf_doc.specs.ChunkView.{form_of}
-use Rattle.bpaf_doc.proofs.ChunkSteps.{nothing_left}
+use Rattle.bpaf_doc.specs.Splitter.Steps.Forms.{form_of}
+use Rattle.bpaf_doc.proofs.lemmas.Splitter.FirstChunk.{nothing_left}
 use Rattle.bpaf_doc.proofs.splitter.SplitterIterator.next.Goals as goal
 
 pub returns-then-is_empty-clause-steps : goal.returns-then-is_empty-clause-steps

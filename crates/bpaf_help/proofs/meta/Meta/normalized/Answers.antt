@@ -3,14 +3,14 @@ use Rattle.std.specs.declared.alloc.AllocError.{AllocError}
 use Rattle.bpaf_help.specs.Content.{Tree, skip}
 use Rattle.bpaf_help.specs.View.{tree_of}
 use Rattle.bpaf_help.specs.declared.meta.Meta.{Meta}
-use Rattle.bpaf_help.specs.Normal.{normalized}
-use Rattle.bpaf_help.specs.Sequences.{is_hidden, ShowsSame}
-use Rattle.bpaf_help.specs.Shape.{HasStrict, HasUsageShape, KeepsStrict}
-use Rattle.bpaf_help.proofs.Keeps.{normalized_shows}
-use Rattle.bpaf_help.proofs.Shaped.{normalized_shape}
-use Rattle.bpaf_help.proofs.Plain.{normalized_skip}
-use Rattle.bpaf_help.proofs.Twice.{normalized_twice}
-use Rattle.bpaf_help.proofs.Marks.{normalized_strict}
+use Rattle.bpaf_help.specs.Meta.Normal.{normalized}
+use Rattle.bpaf_help.specs.Meta.Sequences.{is_hidden, ShowsSame}
+use Rattle.bpaf_help.specs.Meta.Shape.{HasStrict, HasUsageShape, KeepsStrict}
+use Rattle.bpaf_help.proofs.lemmas.Normal.Keeps.{normalized_shows}
+use Rattle.bpaf_help.proofs.lemmas.Normal.Shaped.{normalized_shape}
+use Rattle.bpaf_help.proofs.lemmas.Normal.Plain.{normalized_skip}
+use Rattle.bpaf_help.proofs.lemmas.Normal.Twice.{normalized_twice}
+use Rattle.bpaf_help.proofs.lemmas.Normal.Marks.{normalized_strict}
 use Rattle.bpaf_help.proofs.meta.Meta.normalized.Goals as goal
 
 -- what holds of the tree of the table holds of the answer

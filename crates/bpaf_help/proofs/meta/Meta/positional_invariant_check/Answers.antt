@@ -1,6 +1,6 @@
 use Rattle.std.proofs.Common.{sym}
 use Rattle.bpaf_help.specs.View.{tree_of, leaf_of}
-use Rattle.bpaf_help.proofs.Lines.{well_placed, first_misplaced}
+use Rattle.bpaf_help.proofs.lemmas.Misplaced.Lines.{well_placed, first_misplaced}
 use Rattle.bpaf_help.proofs.meta.Meta.positional_invariant_check.Goals as goal
 
 pub returns-in-Ok-clause-ok : goal.returns-in-Ok-clause-ok

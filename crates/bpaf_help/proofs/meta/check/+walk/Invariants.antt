@@ -1,6 +1,6 @@
 use Rattle.std.proofs.Common.{◌≡◌, drop}
 use Rattle.bpaf_help.specs.View.{trees_of}
-use Rattle.bpaf_help.specs.Walk.{walked_parts, walked_branches}
+use Rattle.bpaf_help.specs.Meta.Steps.Walk.{walked_parts, walked_branches}
 use Rattle.bpaf_help.proofs.meta.check.+walk.Given as goal
 
 abbrev pub invariant-walk_parts-loop-part : goal.invariant-walk_parts-loop-part

@@ -2,9 +2,9 @@ use Rattle.std.proofs.Common.{List, ◌+◌, drop, arith}
 use Rattle.std.proofs.lemmas.List.{at_drop_all, at_drop_more}
 use Rattle.bpaf_help.specs.View.{tree_of, trees_of}
 use Rattle.bpaf_help.specs.declared.meta.Meta.{Meta}
-use Rattle.bpaf_help.specs.Normal.{state_out, state_after, shown_trees, and_parts, or_parts, or_state}
-use Rattle.bpaf_help.specs.Passes.{state_of, after_commands}
-use Rattle.bpaf_help.proofs.Parts.{trees_then_none, after_none, and_turn, or_turn}
+use Rattle.bpaf_help.specs.Meta.Normal.{state_out, state_after, shown_trees, and_parts, or_parts, or_state}
+use Rattle.bpaf_help.specs.Meta.Steps.Passes.{state_of, after_commands}
+use Rattle.bpaf_help.proofs.lemmas.Normal.Parts.{trees_then_none, after_none, and_turn, or_turn}
 use Rattle.bpaf_help.proofs.meta.normal.+normal.Goals as goal
 
 pub normalize_and-loop-part-preserved : goal.normalize_and-loop-part-preserved

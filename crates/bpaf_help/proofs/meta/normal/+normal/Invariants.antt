@@ -1,8 +1,8 @@
 use Rattle.std.proofs.Common.{◌≡◌, drop}
 use Rattle.bpaf_help.specs.View.{trees_of}
-use Rattle.bpaf_help.specs.Normal.{shown_trees, and_parts, or_parts, or_state, with_first_command}
-use Rattle.bpaf_help.specs.Alternatives.{trees_then}
-use Rattle.bpaf_help.specs.Passes.{state_of, after_commands}
+use Rattle.bpaf_help.specs.Meta.Normal.{shown_trees, and_parts, or_parts, or_state, with_first_command}
+use Rattle.bpaf_help.specs.Meta.Alternatives.{trees_then}
+use Rattle.bpaf_help.specs.Meta.Steps.Passes.{state_of, after_commands}
 use Rattle.bpaf_help.proofs.meta.normal.+normal.Given as goal
 
 abbrev pub invariant-normalize_and-loop-part : goal.invariant-normalize_and-loop-part

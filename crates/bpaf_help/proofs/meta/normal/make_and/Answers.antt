@@ -1,6 +1,6 @@
 use Rattle.std.proofs.Common.{sym, ◌∙◌, arith}
-use Rattle.bpaf_help.proofs.Views.{view-And}
-use Rattle.bpaf_help.proofs.Parts.{and_several}
+use Rattle.bpaf_help.proofs.lemmas.Views.{view-And}
+use Rattle.bpaf_help.proofs.lemmas.Normal.Parts.{and_several}
 use Rattle.bpaf_help.proofs.meta.normal.make_and.Goals as goal
 
 pub returns-then-len-gt1 : goal.returns-then-len-gt1

@@ -1,8 +1,8 @@
 use Rattle.std.proofs.Common.{sym, ap, ◌∙◌, arith}
 use Rattle.bpaf_help.specs.Content.{required}
 use Rattle.bpaf_help.specs.View.{tree_of}
-use Rattle.bpaf_help.proofs.Views.{view-Or, view-Required}
-use Rattle.bpaf_help.proofs.Parts.{or_several}
+use Rattle.bpaf_help.proofs.lemmas.Views.{view-Or, view-Required}
+use Rattle.bpaf_help.proofs.lemmas.Normal.Parts.{or_several}
 use Rattle.bpaf_help.proofs.meta.normal.make_or.Goals as goal
 
 pub returns-then-len-gt1 : goal.returns-then-len-gt1

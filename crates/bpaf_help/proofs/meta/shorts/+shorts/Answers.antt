@@ -4,7 +4,7 @@ use Rattle.std.proofs.lemmas.List.{at_drop_more, append-nil}
 use Rattle.std.proofs.lemmas.Grind.{flat_map-append}
 use Rattle.bpaf_help.specs.View.{tree_of, trees_of}
 use Rattle.bpaf_help.specs.declared.meta.Meta.{Meta}
-use Rattle.bpaf_help.specs.Shorts.{shorts_of_flag, shorts_of_argument, open_items, open_items_of_parts, IsFront}
+use Rattle.bpaf_help.specs.Meta.Shorts.{shorts_of_flag, shorts_of_argument, open_items, open_items_of_parts, IsFront}
 use Rattle.bpaf_help.proofs.meta.shorts.+shorts.Goals as goal
 
 front_whole : (xs : List ℕ) → IsFront xs xs

@@ -1,7 +1,7 @@
 use Rattle.std.proofs.Common.{◌≡◌, ◌++◌, drop}
 use Rattle.std.specs.List.{flat_map}
 use Rattle.bpaf_help.specs.View.{trees_of}
-use Rattle.bpaf_help.specs.Shorts.{shorts_of_flag, shorts_of_argument, open_items_of_parts, IsFront}
+use Rattle.bpaf_help.specs.Meta.Shorts.{shorts_of_flag, shorts_of_argument, open_items_of_parts, IsFront}
 use Rattle.bpaf_help.proofs.meta.shorts.+shorts.Given as goal
 
 abbrev pub invariant-gather_parts-loop-part : goal.invariant-gather_parts-loop-part

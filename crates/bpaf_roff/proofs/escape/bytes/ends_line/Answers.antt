@@ -1,4 +1,4 @@
-use Rattle.bpaf_roff.proofs.LineStarts.{newline_ends, nothing_ends}
+use Rattle.bpaf_roff.proofs.lemmas.LineStarts.{newline_ends, nothing_ends}
 use Rattle.bpaf_roff.proofs.escape.bytes.ends_line.Goals as goal
 
 pub returns-in-UnescapedAtNewline : goal.returns-in-UnescapedAtNewline

@@ -4,11 +4,11 @@ use Rattle.std.proofs.lemmas.Str.{IsUtf8-append}
 use Rattle.std.specs.Str.{IsUtf8}
 use Rattle.bpaf_roff.specs.Pieces.{Piece, piece_at}
 use Rattle.bpaf_roff.specs.Escaping.{escaped}
-use Rattle.bpaf_roff.specs.Output.{KeepsFront}
+use Rattle.bpaf_roff.specs.Steps.Output.{KeepsFront}
 use Rattle.bpaf_roff.specs.declared.escape.Escape.{Escape}
-use Rattle.bpaf_roff.proofs.EscapedText.{pieces_text}
-use Rattle.bpaf_roff.proofs.Fronts.{KeepsFront-later}
-use Rattle.bpaf_roff.proofs.Written.{piece_items_more, piece_line_start_more, AllByRecursion-push}
+use Rattle.bpaf_roff.proofs.lemmas.EscapedText.{pieces_text}
+use Rattle.bpaf_roff.proofs.lemmas.Fronts.{KeepsFront-later}
+use Rattle.bpaf_roff.proofs.lemmas.Written.{piece_items_more, piece_line_start_more, AllByRecursion-push}
 use Rattle.bpaf_roff.proofs.escape.bytes.escape.Goals as goal
 
 pub loop-label-preserved : goal.loop-label-preserved

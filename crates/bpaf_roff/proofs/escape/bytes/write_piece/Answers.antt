@@ -1,8 +1,8 @@
 use Rattle.std.proofs.Common.{◌++◌, ◌∙◌, ap, subst, arith}
 use Rattle.bpaf_roff.specs.Escaping.{is_line_start, text_after}
-use Rattle.bpaf_roff.specs.Output.{KeepsFront, written}
-use Rattle.bpaf_roff.proofs.Fronts.{KeepsFront-later}
-use Rattle.bpaf_roff.proofs.Written.{front_text, items_more, line_start_more, front_all}
+use Rattle.bpaf_roff.specs.Steps.Output.{KeepsFront, written}
+use Rattle.bpaf_roff.proofs.lemmas.Fronts.{KeepsFront-later}
+use Rattle.bpaf_roff.proofs.lemmas.Written.{front_text, items_more, line_start_more, front_all}
 use Rattle.bpaf_roff.proofs.escape.bytes.write_piece.Goals as goal
 
 pub returns-in_err-write_byte-clause-kept : goal.returns-in_err-write_byte-clause-kept

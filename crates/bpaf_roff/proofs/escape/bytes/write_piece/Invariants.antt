@@ -1,6 +1,6 @@
 use Rattle.std.proofs.Common.{◌≡◌, ◌≤◌, ◌++◌, length, map, take}
 use Rattle.bpaf_roff.specs.Escaping.{is_line_start, breaks, Byte, text_after}
-use Rattle.bpaf_roff.specs.Output.{written}
+use Rattle.bpaf_roff.specs.Steps.Output.{written}
 use Rattle.bpaf_roff.proofs.escape.bytes.write_piece.Given as goal
 
 abbrev pub invariant-loop-byte : goal.invariant-loop-byte

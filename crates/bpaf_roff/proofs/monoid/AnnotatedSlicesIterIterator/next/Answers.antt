@@ -1,6 +1,6 @@
 use Rattle.std.proofs.Common.{subst}
-use Rattle.bpaf_roff.specs.Labels.{Cuts}
-use Rattle.bpaf_roff.proofs.LabelLaws.{first_cut}
+use Rattle.bpaf_roff.specs.Steps.Labels.{Cuts}
+use Rattle.bpaf_roff.proofs.lemmas.Labels.{first_cut}
 use Rattle.bpaf_roff.proofs.monoid.AnnotatedSlicesIterIterator.next.Goals as goal
 
 pub split_at-requires : goal.split_at-requires

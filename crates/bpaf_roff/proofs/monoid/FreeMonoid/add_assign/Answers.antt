@@ -1,6 +1,6 @@
 use Rattle.std.proofs.Common.{◌≡◌, ◌+◌, ◌^◌, ◌++◌, ◌∙◌, string_bytes, length, ap, arith}
-use Rattle.bpaf_roff.specs.Labels.{shifted, pieces_of}
-use Rattle.bpaf_roff.proofs.LabelLaws.{labelled, ends_fit, pieces_of-append, Cuts-append, pieces_of-shifted, Cuts-shifted}
+use Rattle.bpaf_roff.specs.Steps.Labels.{shifted, pieces_of}
+use Rattle.bpaf_roff.proofs.lemmas.Labels.{labelled, ends_fit, pieces_of-append, Cuts-append, pieces_of-shifted, Cuts-shifted}
 use Rattle.bpaf_roff.proofs.monoid.FreeMonoid.add_assign.Goals as goal
 
 pub append_labels-requires-clause-fits : goal.append_labels-requires-clause-fits

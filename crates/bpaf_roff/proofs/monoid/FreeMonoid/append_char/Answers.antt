@@ -2,7 +2,7 @@ use Rattle.std.proofs.Common.{◌≡◌, ◌+◌, length, string_bytes, ap, subs
 use Rattle.std.proofs.lemmas.Str.{IsUtf8-string_bytes}
 use Rattle.std.specs.Prelude.{encode_utf8}
 use Rattle.std.specs.Str.{IsUtf8}
-use Rattle.bpaf_roff.proofs.LabelLaws.{labelled-with_label, Cuts-with_label, IsUtf8-added}
+use Rattle.bpaf_roff.proofs.lemmas.Labels.{labelled-with_label, Cuts-with_label, IsUtf8-added}
 use Rattle.bpaf_roff.proofs.monoid.FreeMonoid.append_char.Goals as goal
 
 pub invariant_of-self-2 : goal.invariant_of-self-2

@@ -1,5 +1,5 @@
 use Rattle.std.proofs.Common.{◌≡◌, ◌+◌, length, string_bytes, ap, arith, length-append}
-use Rattle.bpaf_roff.proofs.LabelLaws.{labelled-with_label, Cuts-with_label}
+use Rattle.bpaf_roff.proofs.lemmas.Labels.{labelled-with_label, Cuts-with_label}
 use Rattle.bpaf_roff.proofs.monoid.FreeMonoid.append_str.Goals as goal
 
 pub invariant_of-self-2 : goal.invariant_of-self-2

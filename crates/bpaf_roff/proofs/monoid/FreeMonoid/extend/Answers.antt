@@ -4,8 +4,8 @@ use Rattle.std.proofs.lemmas.Grind.{common_steps}
 use Rattle.std.proofs.lemmas.Str.{IsCharBoundary-from_take, IsUtf8-string_bytes}
 use Rattle.std.specs.Str.{IsUtf8}
 use Rattle.bpaf_roff.specs.Pieces.{with_text, labelled_text}
-use Rattle.bpaf_roff.specs.Labels.{with_label}
-use Rattle.bpaf_roff.proofs.LabelLaws.{ending_at-same, ending_at-with_label, length-with_label, Cuts-with_label, labelled-with_label, with_texts-push, IsUtf8-added}
+use Rattle.bpaf_roff.specs.Steps.Labels.{with_label}
+use Rattle.bpaf_roff.proofs.lemmas.Labels.{ending_at-same, ending_at-with_label, length-with_label, Cuts-with_label, labelled-with_label, with_texts-push, IsUtf8-added}
 use Rattle.bpaf_roff.proofs.monoid.FreeMonoid.extend.Goals as goal
 use Rattle.bpaf_roff.proofs.monoid.FreeMonoid.extend.Goals.{then-is_err-via-then-is_err, then-is_err-via-else-is_err+then-is_err-2}
 

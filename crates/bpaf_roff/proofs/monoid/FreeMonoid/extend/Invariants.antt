@@ -1,7 +1,7 @@
 use Rattle.std.proofs.Common.{◌≡◌, ◌≤◌, length, map, take, string_bytes}
 use Rattle.bpaf_roff.specs.Pieces.{with_texts, labelled_text}
-use Rattle.bpaf_roff.specs.Labels.{Cuts, pieces_of, ending_at}
-use Rattle.bpaf_roff.proofs.LabelLaws.{labelled}
+use Rattle.bpaf_roff.specs.Steps.Labels.{Cuts, pieces_of, ending_at}
+use Rattle.bpaf_roff.proofs.lemmas.Labels.{labelled}
 use Rattle.bpaf_roff.proofs.monoid.FreeMonoid.extend.Given as goal
 
 abbrev pub invariant-loop-label : goal.invariant-loop-label

@@ -1,5 +1,5 @@
 use Rattle.std.proofs.Common.{string_bytes, arith}
-use Rattle.bpaf_roff.proofs.LabelLaws.{length-pieces_of}
+use Rattle.bpaf_roff.proofs.lemmas.Labels.{length-pieces_of}
 use Rattle.bpaf_roff.proofs.monoid.FreeMonoid.len.Goals as goal
 
 pub returns : goal.returns

@@ -1,5 +1,5 @@
 use Rattle.std.proofs.Common.{string_bytes, arith}
-use Rattle.bpaf_roff.proofs.LabelLaws.{payload_len-pieces_of}
+use Rattle.bpaf_roff.proofs.lemmas.Labels.{payload_len-pieces_of}
 use Rattle.bpaf_roff.proofs.monoid.FreeMonoid.payload_size.Goals as goal
 
 pub returns : goal.returns

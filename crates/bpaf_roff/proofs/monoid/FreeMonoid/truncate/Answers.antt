@@ -1,6 +1,6 @@
 use Rattle.std.proofs.Common.{◌≡◌, ◌-◌, ◌∙◌, take, string_bytes, ap, arith}
-use Rattle.bpaf_roff.specs.Labels.{end_of}
-use Rattle.bpaf_roff.proofs.LabelLaws.{labelled, pieces_of-take, Cuts-take, cut_at}
+use Rattle.bpaf_roff.specs.Steps.Labels.{end_of}
+use Rattle.bpaf_roff.proofs.lemmas.Labels.{labelled, pieces_of-take, Cuts-take, cut_at}
 use Rattle.bpaf_roff.proofs.monoid.FreeMonoid.truncate.Goals as goal
 
 pub truncate-requires-2 : goal.truncate-requires-2

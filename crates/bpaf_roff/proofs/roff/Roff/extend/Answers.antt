@@ -1,8 +1,8 @@
 use Rattle.std.proofs.Common.{◌∙◌, map, ap, sym, rules}
 use Rattle.std.proofs.lemmas.List.{map-append}
 use Rattle.bpaf_roff.specs.Roff.{script_at, script_sum}
-use Rattle.bpaf_roff.proofs.Fronts.{KeepsFront-more}
-use Rattle.bpaf_roff.proofs.Scripts.{scripts_sum-push}
+use Rattle.bpaf_roff.proofs.lemmas.Fronts.{KeepsFront-more}
+use Rattle.bpaf_roff.proofs.lemmas.Scripts.{scripts_sum-push}
 use Rattle.bpaf_roff.proofs.roff.Roff.extend.Goals as goal
 
 pub loop-other-preserved : goal.loop-other-preserved

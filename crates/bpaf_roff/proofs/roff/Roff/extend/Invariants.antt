@@ -1,6 +1,6 @@
 use Rattle.std.proofs.Common.{◌≡◌, length, map}
 use Rattle.bpaf_roff.specs.Roff.{scripts_sum, script_at}
-use Rattle.bpaf_roff.specs.Output.{KeepsFront}
+use Rattle.bpaf_roff.specs.Steps.Output.{KeepsFront}
 use Rattle.bpaf_roff.proofs.roff.Roff.extend.Given as goal
 
 abbrev pub invariant-loop-other : goal.invariant-loop-other

@@ -1,4 +1,4 @@
-use Rattle.bpaf_roff.proofs.Scripts.{script_of-with_text}
+use Rattle.bpaf_roff.proofs.lemmas.Scripts.{script_of-with_text}
 use Rattle.bpaf_roff.proofs.roff.Roff.put.Goals as goal
 
 pub returns-clause-ok : goal.returns-clause-ok

@@ -1,7 +1,7 @@
 use Rattle.std.proofs.Common.{◌≡◌, ◌++◌, ◌∙◌, ap, string_bytes}
 use Rattle.bpaf_roff.specs.Escaping.{escaped}
 use Rattle.bpaf_roff.specs.Roff.{preamble_for}
-use Rattle.bpaf_roff.proofs.Scripts.{drained}
+use Rattle.bpaf_roff.proofs.lemmas.Scripts.{drained}
 use Rattle.bpaf_roff.proofs.roff.Roff.render.Goals as goal
 
 pub returns : goal.returns

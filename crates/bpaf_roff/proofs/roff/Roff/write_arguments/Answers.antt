@@ -1,7 +1,7 @@
 use Rattle.std.proofs.Common.{map, take}
 use Rattle.std.specs.Prelude.{flat_map}
 use Rattle.bpaf_roff.specs.Roff.{argument_pieces, text_at}
-use Rattle.bpaf_roff.proofs.Scripts.{only_adds_later}
+use Rattle.bpaf_roff.proofs.lemmas.Scripts.{only_adds_later}
 use Rattle.bpaf_roff.proofs.roff.Roff.write_arguments.Goals as goal
 
 pub returns-in_err-write_argument-clause-kept : goal.returns-in_err-write_argument-clause-kept

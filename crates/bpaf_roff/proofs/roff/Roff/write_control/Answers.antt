@@ -1,7 +1,7 @@
 use Rattle.std.proofs.Common.{[], ◌∷◌, ◌∙◌, ap, codes}
 use Rattle.bpaf_roff.specs.Roff.{with_pieces, piece}
 use Rattle.bpaf_roff.specs.declared.escape.Escape.TheVariants.{UnescapedAtNewline, Unescaped}
-use Rattle.bpaf_roff.proofs.Scripts.{only_adds_later, with_pieces-with_pieces}
+use Rattle.bpaf_roff.proofs.lemmas.Scripts.{only_adds_later, with_pieces-with_pieces}
 use Rattle.bpaf_roff.proofs.roff.Roff.write_control.Goals as goal
 
 pub returns-in_err-write_arguments-clause-kept : goal.returns-in_err-write_arguments-clause-kept

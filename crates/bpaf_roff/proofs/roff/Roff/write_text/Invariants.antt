@@ -1,7 +1,7 @@
 use Rattle.std.proofs.Common.{◌≡◌, ◌≤◌, length, map, drop}
 use Rattle.bpaf_roff.specs.Pieces.{labelled_text}
 use Rattle.bpaf_roff.specs.Roff.{with_pieces, items_pieces, text_pieces}
-use Rattle.bpaf_roff.specs.Output.{OnlyAdds}
+use Rattle.bpaf_roff.specs.Steps.Output.{OnlyAdds}
 use Rattle.bpaf_roff.proofs.roff.Roff.write_text.Given as goal
 
 abbrev pub invariant-loop-font : goal.invariant-loop-font

@@ -1,6 +1,6 @@
 use Rattle.std.proofs.Common.{string_bytes, ◌∙◌, ap}
-use Rattle.bpaf_doc.specs.Parts.{ink}
-use Rattle.bpaf_doc.proofs.ConsoleInk.{ink-push_newline}
+use Rattle.bpaf_doc.specs.Buffer.Parts.{ink}
+use Rattle.bpaf_doc.proofs.lemmas.Console.Ink.{ink-push_newline}
 use Rattle.bpaf_doc.proofs.console.page.Page.finish.Goals as goal
 use Rattle.bpaf_doc.proofs.console.page.Page.finish.Goals.{then-ne+in_ok-push, else-ne}
 

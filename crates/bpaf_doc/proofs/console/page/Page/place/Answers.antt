@@ -1,6 +1,6 @@
 use Rattle.std.proofs.Common.{◌++◌, string_bytes, ◌∙◌, ap}
-use Rattle.bpaf_doc.specs.Parts.{ink}
-use Rattle.bpaf_doc.proofs.ConsoleInk.{ink-push_str}
+use Rattle.bpaf_doc.specs.Buffer.Parts.{ink}
+use Rattle.bpaf_doc.proofs.lemmas.Console.Ink.{ink-push_str}
 use Rattle.bpaf_doc.proofs.console.page.Page.place.Goals as goal
 
 pub returns-clause-ink : goal.returns-clause-ink

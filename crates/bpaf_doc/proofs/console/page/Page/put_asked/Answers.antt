@@ -1,6 +1,6 @@
 use Rattle.std.proofs.Common.{string_bytes, ◌∙◌, ap}
-use Rattle.bpaf_doc.specs.Parts.{ink}
-use Rattle.bpaf_doc.proofs.ConsoleInk.{ink-push_newline}
+use Rattle.bpaf_doc.specs.Buffer.Parts.{ink}
+use Rattle.bpaf_doc.proofs.lemmas.Console.Ink.{ink-push_newline}
 use Rattle.bpaf_doc.proofs.console.page.Page.put_asked.Goals as goal
 use Rattle.bpaf_doc.proofs.console.page.Page.put_asked.Goals.{then-lacks_newline+in_ok-put_newline, else-lacks_newline}
 

@@ -1,10 +1,10 @@
 use Rattle.std.proofs.Common.{◌≡◌, ◌++◌, string_bytes, sym, ◌∙◌, ap, rules}
 use denote.Enum.Bare.{same_true}
 use Rattle.bpaf_doc.specs.declared.buffer.Block.TheVariants as blocks
-use Rattle.bpaf_doc.specs.Parts.{ink}
+use Rattle.bpaf_doc.specs.Buffer.Parts.{ink}
 use Rattle.bpaf_doc.specs.Shown.{mark_bytes}
 use Rattle.bpaf_doc.specs.contracts.buffer.Block.{the_type}
-use Rattle.bpaf_doc.proofs.ConsoleInk.{ink-push_backquote}
+use Rattle.bpaf_doc.proofs.lemmas.Console.Ink.{ink-push_backquote}
 use Rattle.bpaf_doc.proofs.console.page.Page.put_mark.Goals as goal
 
 pub returns-in_ok-push-clause-ink : goal.returns-in_ok-push-clause-ink

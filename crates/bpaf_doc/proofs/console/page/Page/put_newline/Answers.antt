@@ -1,5 +1,5 @@
 use Rattle.std.proofs.Common.{string_bytes}
-use Rattle.bpaf_doc.proofs.ConsoleInk.{ink-push_newline}
+use Rattle.bpaf_doc.proofs.lemmas.Console.Ink.{ink-push_newline}
 use Rattle.bpaf_doc.proofs.console.page.Page.put_newline.Goals as goal
 
 pub returns-clause-ink : goal.returns-clause-ink

@@ -1,8 +1,8 @@
 use Rattle.std.proofs.Common.{◌≡◌, ◌∷◌, [], ◌++◌, string_bytes, sym, ◌∙◌, ap}
 use Rattle.std.proofs.lemmas.List.{append-nil}
 use Rattle.std.proofs.lemmas.Slice.Eq.{bytes_eq-Decides}
-use Rattle.bpaf_doc.specs.Parts.{ink}
-use Rattle.bpaf_doc.proofs.ConsoleInk.{ink-blank}
+use Rattle.bpaf_doc.specs.Buffer.Parts.{ink}
+use Rattle.bpaf_doc.proofs.lemmas.Console.Ink.{ink-blank}
 use Rattle.bpaf_doc.proofs.console.page.Page.put_raw.Goals as goal
 
 -- a dropped blank has no ink

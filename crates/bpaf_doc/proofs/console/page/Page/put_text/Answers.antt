@@ -1,10 +1,11 @@
 use Rattle.std.proofs.Common.{◌≡◌, ◌∷◌, ◌++◌, string_bytes, ap, ◌∙◌, sym, if◌then◌else◌}
-use Rattle.bpaf_doc.specs.Parts.{ink}
-use Rattle.bpaf_doc.specs.Chunks.{chunks_of}
-use Rattle.bpaf_doc.specs.ChunkView.{chunk_of}
-use Rattle.bpaf_doc.specs.ConsoleSteps.{shown_ink, hides}
-use Rattle.bpaf_doc.specs.ConsolePage.{sheet_of, text_put, newline_put}
-use Rattle.bpaf_doc.proofs.ConsoleInk.{IsTextLeft-raw, IsTextLeft-line_break, IsTextLeft-paragraph, IsTextLeft-hides, IsTextLeft-none}
+use Rattle.bpaf_doc.specs.Buffer.Parts.{ink}
+use Rattle.bpaf_doc.specs.Splitter.Chunks.{chunks_of}
+use Rattle.bpaf_doc.specs.Splitter.View.{chunk_of}
+use Rattle.bpaf_doc.specs.Console.Exact.Hiding.{hides}
+use Rattle.bpaf_doc.specs.Console.Steps.Ink.{shown_ink}
+use Rattle.bpaf_doc.specs.Console.Exact.Page.{sheet_of, text_put, newline_put}
+use Rattle.bpaf_doc.proofs.lemmas.Console.Ink.{IsTextLeft-raw, IsTextLeft-line_break, IsTextLeft-paragraph, IsTextLeft-hides, IsTextLeft-none}
 use Rattle.bpaf_doc.proofs.console.page.Page.put_text.Goals as goal
 
 pub loop-chunk-init : goal.loop-chunk-init

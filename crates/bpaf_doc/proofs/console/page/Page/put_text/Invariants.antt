@@ -1,9 +1,10 @@
 use Rattle.std.proofs.Common.{◌≡◌, ◌++◌, string_bytes}
-use Rattle.bpaf_doc.specs.Parts.{ink}
-use Rattle.bpaf_doc.specs.Chunks.{chunks_of}
-use Rattle.bpaf_doc.specs.ConsoleSteps.{shown_ink, hides}
-use Rattle.bpaf_doc.specs.ConsolePage.{sheet_of, text_put}
-use Rattle.bpaf_doc.proofs.ConsoleInk.{IsTextLeft}
+use Rattle.bpaf_doc.specs.Buffer.Parts.{ink}
+use Rattle.bpaf_doc.specs.Splitter.Chunks.{chunks_of}
+use Rattle.bpaf_doc.specs.Console.Exact.Hiding.{hides}
+use Rattle.bpaf_doc.specs.Console.Steps.Ink.{shown_ink}
+use Rattle.bpaf_doc.specs.Console.Exact.Page.{sheet_of, text_put}
+use Rattle.bpaf_doc.proofs.lemmas.Console.Ink.{IsTextLeft}
 use Rattle.bpaf_doc.proofs.console.page.Page.put_text.Given as goal
 
 abbrev pub invariant-loop-chunk : goal.invariant-loop-chunk

@@ -1,7 +1,7 @@
 -- A chunk that is shown is the first of what is left of its text.
 use Rattle.std.proofs.Common.{sym, ◌∙◌, inl, inr}
-use Rattle.bpaf_doc.specs.ChunkView.{chunk_of}
-use Rattle.bpaf_doc.proofs.Walking.{left_more, IsVisible}
+use Rattle.bpaf_doc.specs.Splitter.View.{chunk_of}
+use Rattle.bpaf_doc.proofs.lemmas.Html.Fragments.Walking.{left_more, IsVisible}
 use Rattle.bpaf_doc.proofs.html.fragments.FragmentsIterator.next.Goals as goal
 use Rattle.bpaf_doc.proofs.html.fragments.FragmentsIterator.next.Goals.{else-not-self-via-then-not-self+else-is_paragraph, else-not-self-via-else-not-self}
 

@@ -1,0 +1,8 @@
+-- Lemmas about documents.
+pub mod Ends
+pub mod RollBack
+pub mod Growing
+pub mod Nesting
+pub mod Lines
+pub mod Equality
+mod Rows

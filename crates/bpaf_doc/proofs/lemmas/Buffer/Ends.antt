@@ -1,0 +1,337 @@
+-- What the running ends give: the parts, their texts, and what is added behind them.
+use Rattle.std.proofs.Common.{◌≡◌, ℕ, zero, suc, ◌+◌, ◌-◌, ◌^◌, ◌<◌, ◌≤◌, Bool, true, false, List, [], ◌∷◌, ◌++◌, All, map, length, get_or, take, drop, sym, refl, ap, ◌∙◌, arith, length-append, length-drop, take_all, append_assoc, append-nil, take-append-drop, subst, add-zero}
+use Rattle.std.proofs.Math.Seq.{take-add}
+use Rattle.std.proofs.lemmas.List.{drop-drop, drop_all}
+use Rattle.std.specs.Prelude.{if◌then◌else◌, Option, Some, None, option_to_list}
+use Rattle.std.specs.Iterator.{YieldsFirstBy}
+use Rattle.std.specs.List.{slice_get}
+use Rattle.std.specs.Option.{option_map}
+use Rattle.std.specs.Str.{IsUtf8}
+use Rattle.std.proofs.lemmas.List.{take-append-le, drop-append-le}
+use Rattle.std.proofs.lemmas.List.Elements.{All-nil, All-cons}
+use Rattle.std.proofs.lemmas.Str.{IsUtf8-append, IsUtf8-nil}
+use Rattle.bpaf_doc.specs.declared.buffer.Style.{Style}
+use Rattle.bpaf_doc.specs.declared.buffer.Kind.{Kind}
+use Rattle.bpaf_doc.specs.declared.buffer.Kind.TheVariants as kind
+use Rattle.bpaf_doc.specs.declared.buffer.PartEnd.{PartEnd}
+use Rattle.bpaf_doc.specs.Buffer.Steps.Ends.{AreEnds, CanMove, IsEnd, MayTake, end_before, end_then_text, is_text_of, moved, part_with, parts_from, text_end, with_last_end, with_text_end}
+use Rattle.bpaf_doc.specs.declared.buffer.Part as handed
+use Rattle.bpaf_doc.specs.Buffer.View.{part_of}
+use Rattle.bpaf_doc.specs.Buffer.Parts.{Part, Text, Start, End, HasUtf8Texts, document_bytes, part_bytes}
+use Rattle.bpaf_doc.specs.Buffer.Writes.{part_then_text, same_style, with_text}
+
+pub length-parts_from : (start : ℕ) (es : List PartEnd) (rest : List ℕ) → length (parts_from start es rest) ≡ length es
+length-parts_from start [] rest = refl
+length-parts_from start (e ∷ es) rest = ap suc (length-parts_from e.end es (drop (e.end - start) rest))
+
+-- the bytes behind the first end
+left_over : (start : ℕ) (e : PartEnd) (rest : List ℕ) → IsEnd start e rest → e.end + length (drop (e.end - start) rest) ≡ start + length rest
+left_over start e rest is = omega (arith, length-drop (e.end - start) rest, is.not_below, is.within)
+
+-- ---- the texts
+
+taken_bytes : (k : Kind) (n : ℕ) (rest : List ℕ) → MayTake k n → part_bytes (part_with k (take n rest)) ≡ take n rest
+taken_bytes (kind.Text style) n rest may = refl
+taken_bytes (kind.Start b) n rest may = rw may refl
+taken_bytes (kind.End b) n rest may = rw may refl
+
+-- the texts joined are the payload
+pub document_bytes-parts_from : (start : ℕ) (es : List PartEnd) (rest : List ℕ) → AreEnds start es rest → document_bytes (parts_from start es rest) ≡ rest
+document_bytes-parts_from start [] rest are = sym are
+document_bytes-parts_from start (e ∷ es) rest are =
+    let n = e.end - start in
+    ap (λ bytes. bytes ++ document_bytes (parts_from e.end es (drop n rest))) (taken_bytes e.kind n rest are.0.taken)
+    ∙ ap (λ bytes. take n rest ++ bytes) (document_bytes-parts_from e.end es (drop n rest) are.1)
+    ∙ take-append-drop n rest
+
+pub HasUtf8Texts-parts_from : (start : ℕ) (es : List PartEnd) (rest : List ℕ) → AreEnds start es rest → HasUtf8Texts (parts_from start es rest)
+HasUtf8Texts-parts_from start [] rest are = All-nil (λ part. IsUtf8 (part_bytes part))
+HasUtf8Texts-parts_from start (e ∷ es) rest are =
+    let n = e.end - start in
+    All-cons (λ part. IsUtf8 (part_bytes part)) (part_with e.kind (take n rest)) (parts_from e.end es (drop n rest))
+    (subst IsUtf8 (sym (taken_bytes e.kind n rest are.0.taken)) are.0.utf8)
+    (HasUtf8Texts-parts_from e.end es (drop n rest) are.1)
+
+-- what is cut is a text
+pub IsUtf8-AreEnds : (start : ℕ) (es : List PartEnd) (rest : List ℕ) → AreEnds start es rest → IsUtf8 rest
+IsUtf8-AreEnds start [] rest are = subst IsUtf8 (sym are) IsUtf8-nil
+IsUtf8-AreEnds start (e ∷ es) rest are =
+    let n = e.end - start in
+    subst IsUtf8 (take-append-drop n rest) (IsUtf8-append (take n rest) (drop n rest) are.0.utf8 (IsUtf8-AreEnds e.end es (drop n rest) are.1))
+
+-- ---- more ends, and more of the payload
+
+pub parts_from-append : (start : ℕ) (es fs : List PartEnd) (rest more : List ℕ) → AreEnds start es rest
+    → parts_from start (es ++ fs) (rest ++ more) ≡ parts_from start es rest ++ parts_from (start + length rest) fs more
+parts_from-append start [] fs [] more are = rw add-zero refl
+parts_from-append start [] fs (x ∷ rest) more are = cc
+parts_from-append start (e ∷ es) fs rest more are =
+    let n = e.end - start in
+    rw (take-append-le n rest more are.0.within, drop-append-le n rest more are.0.within)
+    (ap (λ ps. part_with e.kind (take n rest) ∷ ps)
+    (parts_from-append e.end es fs (drop n rest) more are.1
+    ∙ ap (λ s. parts_from e.end es (drop n rest) ++ parts_from s fs more) (left_over start e rest are.0)))
+
+is_end_more : (start : ℕ) (e : PartEnd) (rest more : List ℕ) → IsEnd start e rest → IsEnd start e (rest ++ more)
+is_end_more start e rest more is = record {
+  not_below = is.not_below;
+  within = omega (arith, length-append rest more, is.within);
+  utf8 = rw (take-append-le (e.end - start) rest more is.within) is.utf8;
+  taken = is.taken;
+}
+
+pub AreEnds-append : (start : ℕ) (es fs : List PartEnd) (rest more : List ℕ) → AreEnds start es rest → AreEnds (start + length rest) fs more → AreEnds start (es ++ fs) (rest ++ more)
+AreEnds-append start [] fs [] more are also = rw add-zero at also
+AreEnds-append start [] fs (x ∷ rest) more are also = cc
+AreEnds-append start (e ∷ es) fs rest more are also =
+    let n = e.end - start in (
+      is_end_more start e rest more are.0,
+      rw (drop-append-le n rest more are.0.within) (AreEnds-append e.end es fs (drop n rest) more are.1 (subst (λ s. AreEnds s fs more) (sym (left_over start e rest are.0)) also)),
+    )
+
+-- ---- a part without bytes
+
+take_none : (n : ℕ) → take n (let none : List ℕ = [] in none) ≡ []
+take_none n = take_all n [] (omega arith)
+
+empty_is_end : (k : Kind) (end : ℕ) → MayTake k 0 → IsEnd end (record { kind = k; end = end }) []
+empty_is_end k end may =
+    let none : end - end ≡ 0 = omega arith in
+    record {
+      not_below = omega arith;
+      within = omega arith;
+      utf8 = rw none IsUtf8-nil;
+      taken = rw none may;
+    }
+
+may_take_none : (k : Kind) → MayTake k 0
+may_take_none (kind.Text style) = tt
+may_take_none (kind.Start b) = refl
+may_take_none (kind.End b) = refl
+
+module _ (start : ℕ) (es : List PartEnd) (rest : List ℕ) (k : Kind) where
+  -- behind the other ends
+  abbrev empty_end : PartEnd
+  empty_end = record { kind = k; end = start + length rest }
+
+  pub parts_from-push_empty : AreEnds start es rest → parts_from start (es ++ empty_end ∷ []) rest ≡ parts_from start es rest ++ part_with k [] ∷ []
+  parts_from-push_empty are =
+      ap (λ bytes. parts_from start (es ++ empty_end ∷ []) bytes) (sym (append-nil rest))
+      ∙ parts_from-append start es (empty_end ∷ []) rest [] are
+      ∙ ap (λ bytes. parts_from start es rest ++ part_with k bytes ∷ []) (take_none (start + length rest - (start + length rest)))
+
+  pub AreEnds-push_empty : AreEnds start es rest → AreEnds start (es ++ empty_end ∷ []) rest
+  AreEnds-push_empty are =
+      subst (λ bytes. AreEnds start (es ++ empty_end ∷ []) bytes) (append-nil rest)
+      (AreEnds-append start es (empty_end ∷ []) rest [] are (empty_is_end k (start + length rest) (may_take_none k), drop_none (start + length rest - (start + length rest)))) where
+        drop_none : (n : ℕ) → drop n (let none : List ℕ = [] in none) ≡ []
+        drop_none n = drop_all n [] (omega arith)
+
+-- ---- parts of another payload
+
+module _ (from to : ℕ) where
+  pub parts_from-moved : (start : ℕ) (es : List PartEnd) (rest : List ℕ) → from ≤ start → AreEnds start es rest
+      → parts_from (start - from + to) (map (moved from to) es) rest ≡ parts_from start es rest
+  parts_from-moved start [] rest le are = refl
+  parts_from-moved start (e ∷ es) rest le are =
+      let n = e.end - start in
+      let width : e.end - from + to - (start - from + to) ≡ e.end - start = omega (arith, are.0.not_below) in
+      rw width (ap (λ ps. part_with e.kind (take n rest) ∷ ps) (parts_from-moved e.end es (drop n rest) (omega (arith, are.0.not_below)) are.1))
+
+  pub AreEnds-moved : (start : ℕ) (es : List PartEnd) (rest : List ℕ) → from ≤ start → AreEnds start es rest → AreEnds (start - from + to) (map (moved from to) es) rest
+  AreEnds-moved start [] rest le are = are
+  AreEnds-moved start (e ∷ es) rest le are =
+      let width : e.end - from + to - (start - from + to) ≡ e.end - start = omega (arith, are.0.not_below) in (
+        record {
+          not_below = omega (arith, are.0.not_below);
+          within = omega (arith, width, are.0.within);
+          utf8 = rw width are.0.utf8;
+          taken = rw width are.0.taken;
+        },
+        rw width (AreEnds-moved e.end es (drop (e.end - start) rest) (omega (arith, are.0.not_below)) are.1),
+      )
+
+  pub CanMove-AreEnds : (start : ℕ) (es : List PartEnd) (rest : List ℕ) → from ≤ start → AreEnds start es rest → start - from + length rest + to < 2 ^ 64 → All (CanMove from to) es
+  CanMove-AreEnds start [] rest le are fits = All-nil (CanMove from to)
+  CanMove-AreEnds start (e ∷ es) rest le are fits =
+      let left = left_over start e rest are.0 in
+      All-cons (CanMove from to) e es (omega (arith, are.0.not_below), omega (arith, are.0.not_below, are.0.within))
+      (CanMove-AreEnds e.end es (drop (e.end - start) rest) (omega (arith, are.0.not_below)) are.1 (omega (arith, left, are.0.not_below)))
+
+-- ---- a text behind the others
+
+-- where a last text of its style is taken off, the text takes its place
+pub with_text_end-push : (es : List PartEnd) (e : PartEnd) (style : Style) (end : ℕ) → with_text_end (es ++ e ∷ []) style end ≡ es ++ end_then_text e style end
+with_text_end-push [] e style end = refl
+with_text_end-push (f ∷ []) e style end = refl
+with_text_end-push (f ∷ g ∷ es) e style end = ap (λ fs. f ∷ fs) (with_text_end-push (g ∷ es) e style end)
+
+-- the last end was taken off, and put back unless it is a text of that style
+pub with_text_end-kept : (es fs : List PartEnd) (o : Option PartEnd) (e : PartEnd) (style : Style) (end : ℕ) → es ≡ fs ++ option_to_list o → o ≡ Some e → is_text_of e.kind style ≡ false
+    → with_text_end es style end ≡ (fs ++ e ∷ []) ++ text_end style end ∷ []
+with_text_end-kept es fs o e style end was is other =
+    rw (was, is) (with_text_end-push fs e style end)
+    ∙ ap (λ b. fs ++ (if b then text_end style end ∷ [] else e ∷ text_end style end ∷ [])) other
+    ∙ sym (append_assoc fs (e ∷ []) (text_end style end ∷ []))
+
+pub with_text_end-replaced : (es fs : List PartEnd) (o : Option PartEnd) (e : PartEnd) (style : Style) (end : ℕ) → es ≡ fs ++ option_to_list o → o ≡ Some e → is_text_of e.kind style ≡ true
+    → with_text_end es style end ≡ fs ++ text_end style end ∷ []
+with_text_end-replaced es fs o e style end was is same =
+    rw (was, is) (with_text_end-push fs e style end) ∙ ap (λ b. fs ++ (if b then text_end style end ∷ [] else e ∷ text_end style end ∷ [])) same
+
+pub with_text_end-none : (es fs : List PartEnd) (o : Option PartEnd) (style : Style) (end : ℕ) → es ≡ fs ++ option_to_list o → o ≡ None → length fs ≤ 0
+    → with_text_end es style end ≡ fs ++ text_end style end ∷ []
+with_text_end-none es [] o style end was is none = rw (was, is) refl
+with_text_end-none es (f ∷ fs) o style end was is none = absurd (omega (arith, none))
+
+module _ (style : Style) (text : List ℕ) where
+  -- a text alone
+  pub text_alone : (start end : ℕ) → end ≡ start + length text → parts_from start (text_end style end ∷ []) text ≡ Text text style ∷ []
+  text_alone start end is = ap (λ bytes. Text bytes style ∷ []) (take_all (end - start) text (omega arith))
+
+  pub alone_are : IsUtf8 text → (start end : ℕ) → end ≡ start + length text → AreEnds start (text_end style end ∷ []) text
+  alone_are utf8 start end is = (
+    record {
+      not_below = omega arith;
+      within = omega arith;
+      utf8 = rw (take_all (end - start) text (omega arith)) utf8;
+      taken = tt;
+    },
+    drop_all (end - start) text (omega arith),
+  )
+
+  -- after a part that is the whole of the rest
+  module _ (start end last : ℕ) (rest : List ℕ) (is : end ≡ start + (length rest + length text)) where
+    joined_parts : (b : Bool) (other : Style) → AreEnds start (text_end other last ∷ []) rest
+        → parts_from start (if b then text_end style end ∷ [] else text_end other last ∷ text_end style end ∷ []) (rest ++ text)
+        ≡ (if b then Text (take (last - start) rest ++ text) style ∷ [] else Text (take (last - start) rest) other ∷ Text text style ∷ [])
+    joined_parts true other are =
+        let front : take (last - start) rest ≡ rest = take_all (last - start) rest (omega (arith, length-drop (last - start) rest, ap length are.1)) in
+        rw front (ap (λ bytes. Text bytes style ∷ []) (take_all (end - start) (rest ++ text) (omega (arith, length-append rest text))))
+    joined_parts false other are =
+        parts_from-append start (text_end other last ∷ []) (text_end style end ∷ []) rest text are
+        ∙ ap (λ ps. Text (take (last - start) rest) other ∷ ps) (text_alone (start + length rest) end (omega arith))
+
+    joined_are : IsUtf8 text → (b : Bool) (other : Style) → AreEnds start (text_end other last ∷ []) rest
+        → AreEnds start (if b then text_end style end ∷ [] else text_end other last ∷ text_end style end ∷ []) (rest ++ text)
+    joined_are utf8 true other are =
+        let bytes = rest ++ text in
+        let count : length bytes ≡ length rest + length text = length-append rest text in
+        let front : take (last - start) rest ≡ rest = take_all (last - start) rest (omega (arith, length-drop (last - start) rest, ap length are.1)) in
+        let before : IsUtf8 rest = rw front at are.0.utf8 in (
+          record {
+            not_below = omega arith;
+            within = omega arith;
+            utf8 = rw (take_all (end - start) bytes (omega arith)) (IsUtf8-append rest text before utf8);
+            taken = tt;
+          },
+          drop_all (end - start) bytes (omega arith),
+        )
+    joined_are utf8 false other are = AreEnds-append start (text_end other last ∷ []) (text_end style end ∷ []) rest text are (alone_are utf8 (start + length rest) end (omega arith))
+
+    -- after a last part
+    text_after : (k : Kind) → AreEnds start (record { kind = k; end = last } ∷ []) rest
+        → parts_from start (end_then_text (record { kind = k; end = last }) style end) (rest ++ text) ≡ part_then_text (part_with k (take (last - start) rest)) text style
+    text_after (kind.Text other) are = joined_parts (same_style other style) other are
+    text_after (kind.Start b) are =
+        parts_from-append start (record { kind = kind.Start b; end = last } ∷ []) (text_end style end ∷ []) rest text are
+        ∙ ap (λ ps. Start b ∷ ps) (text_alone (start + length rest) end (omega arith))
+    text_after (kind.End b) are =
+        parts_from-append start (record { kind = kind.End b; end = last } ∷ []) (text_end style end ∷ []) rest text are
+        ∙ ap (λ ps. End b ∷ ps) (text_alone (start + length rest) end (omega arith))
+
+    after_are : IsUtf8 text → (k : Kind) → AreEnds start (record { kind = k; end = last } ∷ []) rest
+        → AreEnds start (end_then_text (record { kind = k; end = last }) style end) (rest ++ text)
+    after_are utf8 (kind.Text other) are = joined_are utf8 (same_style other style) other are
+    after_are utf8 (kind.Start b) are = AreEnds-append start (record { kind = kind.Start b; end = last } ∷ []) (text_end style end ∷ []) rest text are (alone_are utf8 (start + length rest) end (omega arith))
+    after_are utf8 (kind.End b) are = AreEnds-append start (record { kind = kind.End b; end = last } ∷ []) (text_end style end ∷ []) rest text are (alone_are utf8 (start + length rest) end (omega arith))
+
+  pub parts_from-with_text_end : (start end : ℕ) (es : List PartEnd) (rest : List ℕ) → end ≡ start + (length rest + length text) → AreEnds start es rest
+      → parts_from start (with_text_end es style end) (rest ++ text) ≡ with_text (parts_from start es rest) text style
+  parts_from-with_text_end start end [] [] is are = text_alone start end (omega arith)
+  parts_from-with_text_end start end [] (x ∷ rest) is are = cc
+  parts_from-with_text_end start end (e ∷ []) rest is are = text_after start end e.end rest is e.kind are
+  parts_from-with_text_end start end (e ∷ f ∷ es) rest is are =
+      let n = e.end - start in
+      rw (take-append-le n rest text are.0.within, drop-append-le n rest text are.0.within)
+      (ap (λ ps. part_with e.kind (take n rest) ∷ ps) (parts_from-with_text_end e.end end (f ∷ es) (drop n rest) (omega (arith, left_over start e rest are.0)) are.1))
+
+  pub AreEnds-with_text_end : IsUtf8 text → (start end : ℕ) (es : List PartEnd) (rest : List ℕ) → end ≡ start + (length rest + length text) → AreEnds start es rest
+      → AreEnds start (with_text_end es style end) (rest ++ text)
+  AreEnds-with_text_end utf8 start end [] [] is are = alone_are utf8 start end (omega arith)
+  AreEnds-with_text_end utf8 start end [] (x ∷ rest) is are = cc
+  AreEnds-with_text_end utf8 start end (e ∷ []) rest is are = after_are start end e.end rest is utf8 e.kind are
+  AreEnds-with_text_end utf8 start end (e ∷ f ∷ es) rest is are =
+      let n = e.end - start in (
+        is_end_more start e rest text are.0,
+        rw (drop-append-le n rest text are.0.within) (AreEnds-with_text_end utf8 e.end end (f ∷ es) (drop n rest) (omega (arith, left_over start e rest are.0)) are.1),
+      )
+
+-- ---- the parts behind a place
+
+pub end_before-bounds : (start : ℕ) (es : List PartEnd) (rest : List ℕ) (i : ℕ) → AreEnds start es rest → (start ≤ end_before start es i) × (end_before start es i ≤ start + length rest)
+end_before-bounds start es rest zero are = (omega arith, omega arith)
+end_before-bounds start [] rest (suc i) are = (omega arith, omega arith)
+end_before-bounds start (e ∷ es) rest (suc i) are =
+    let n = e.end - start in
+    let behind : (e.end ≤ end_before e.end es i) × (end_before e.end es i ≤ e.end + length (drop n rest)) = end_before-bounds e.end es (drop n rest) i are.1 in
+    (omega (arith, are.0.not_below, behind.0), omega (arith, left_over start e rest are.0, behind.1))
+
+-- the bytes before it are a text
+pub IsUtf8-before : (start : ℕ) (es : List PartEnd) (rest : List ℕ) (i : ℕ) → AreEnds start es rest → IsUtf8 (take (end_before start es i - start) rest)
+IsUtf8-before start es rest zero are = let none : start - start ≡ 0 = omega arith in rw none IsUtf8-nil
+IsUtf8-before start [] rest (suc i) are = let none : start - start ≡ 0 = omega arith in rw none IsUtf8-nil
+IsUtf8-before start (e ∷ es) rest (suc i) are =
+    let n = e.end - start in
+    let m = end_before e.end es i - e.end in
+    let behind = end_before-bounds e.end es (drop n rest) i are.1 in
+    let both : end_before e.end es i - start ≡ n + m = omega (arith, are.0.not_below, behind.0) in
+    rw (both, take-add n m rest) (IsUtf8-append (take n rest) (take m (drop n rest)) are.0.utf8 (IsUtf8-before e.end es (drop n rest) i are.1))
+
+pub parts_from-drop : (start : ℕ) (es : List PartEnd) (rest : List ℕ) (i : ℕ) → AreEnds start es rest
+    → parts_from (end_before start es i) (drop i es) (drop (end_before start es i - start) rest) ≡ drop i (parts_from start es rest)
+parts_from-drop start es rest zero are = let none : start - start ≡ 0 = omega arith in rw none refl
+parts_from-drop start [] rest (suc i) are = refl
+parts_from-drop start (e ∷ es) rest (suc i) are =
+    let n = e.end - start in
+    let m = end_before e.end es i - e.end in
+    let behind = end_before-bounds e.end es (drop n rest) i are.1 in
+    let both : end_before e.end es i - start ≡ n + m = omega (arith, are.0.not_below, behind.0) in
+    rw (both, ← drop-drop m n rest) (parts_from-drop e.end es (drop n rest) i are.1)
+
+pub AreEnds-drop : (start : ℕ) (es : List PartEnd) (rest : List ℕ) (i : ℕ) → i ≤ length es → AreEnds start es rest
+    → AreEnds (end_before start es i) (drop i es) (drop (end_before start es i - start) rest)
+AreEnds-drop start es rest zero le are = let none : start - start ≡ 0 = omega arith in rw none are
+AreEnds-drop start [] rest (suc i) le are = absurd (omega (arith, le))
+AreEnds-drop start (e ∷ es) rest (suc i) le are =
+    let n = e.end - start in
+    let m = end_before e.end es i - e.end in
+    let behind = end_before-bounds e.end es (drop n rest) i are.1 in
+    let both : end_before e.end es i - start ≡ n + m = omega (arith, are.0.not_below, behind.0) in
+    rw (both, ← drop-drop m n rest) (AreEnds-drop e.end es (drop n rest) i (omega (arith, le)) are.1)
+
+-- the end before a place, as it is read from the ends
+pub end_before-read : (start : ℕ) (es : List PartEnd) (i : ℕ) (d : PartEnd) → i < length es → end_before start es (suc i) ≡ (get_or es i d).end
+end_before-read start [] i d lt = absurd (omega (arith, lt))
+end_before-read start (e ∷ es) zero d lt = refl
+end_before-read start (e ∷ es) (suc i) d lt = end_before-read e.end es i d (omega (arith, lt))
+
+-- what `next` gives of a list without its first parts
+pub slice_get-next : (s t ps : List Part) (r : Option handed.Part) (i : ℕ) → s ≡ drop i ps → i < length ps → YieldsFirstBy part_of (λ left. left) s r t
+    → option_map part_of r ≡ slice_get ps i
+slice_get-next s t [] r i is lt yields = absurd (omega (arith, lt))
+slice_get-next s t (p ∷ ps) None zero is lt yields = absurd (let e : [] ≡ p ∷ ps = sym yields.0 ∙ is in cc)
+slice_get-next s t (p ∷ ps) (Some x) zero is lt yields = let e : part_of x ∷ t ≡ p ∷ ps = sym yields ∙ is in cc
+slice_get-next s t (p ∷ ps) r (suc i) is lt yields = slice_get-next s t ps r i is (omega (arith, lt)) yields
+
+-- ---- the last end moved
+
+with_last_end-push : (es : List PartEnd) (e : PartEnd) (end : ℕ) → with_last_end (es ++ e ∷ []) end ≡ es ++ record { kind = e.kind; end = end } ∷ []
+with_last_end-push [] e end = refl
+with_last_end-push (f ∷ []) e end = refl
+with_last_end-push (f ∷ g ∷ es) e end = ap (λ fs. f ∷ fs) (with_last_end-push (g ∷ es) e end)
+
+-- the last end was taken off, and one of its kind is put back
+pub with_last_end-popped : (es fs : List PartEnd) (o : Option PartEnd) (e : PartEnd) (end : ℕ) → es ≡ fs ++ option_to_list o → o ≡ Some e
+    → with_last_end es end ≡ fs ++ record { kind = e.kind; end = end } ∷ []
+with_last_end-popped es fs o e end was is = rw (was, is) (with_last_end-push fs e end)

@@ -1,0 +1,129 @@
+-- What is written into a well-nested document leaves it well nested.
+use Rattle.std.proofs.Common.{◌≡◌, ℕ, Bool, true, false, List, [], ◌∷◌, ◌++◌, map, sym, refl, ap, ◌∙◌, append_assoc, append-nil, subst}
+use Rattle.std.specs.Prelude.{if◌then◌else◌}
+use Rattle.std.specs.Borrow.{Bor}
+use Rattle.std.specs.List.{list_any, before_first, after_first}
+use Rattle.std.proofs.lemmas.List.Sums.{fold-append}
+use Rattle.bpaf_doc.specs.declared.buffer.Style.{Style}
+use Rattle.bpaf_doc.specs.declared.buffer.Style.TheVariants as style
+use Rattle.bpaf_doc.specs.declared.buffer.Block.{Block}
+use Rattle.bpaf_doc.specs.declared.buffer.Block.TheVariants as block
+use Rattle.bpaf_doc.specs.Buffer.FirstLine.{leading_texts}
+use Rattle.bpaf_doc.specs.Buffer.Parts.{Part, Text, Start, End, IsWellNested, nothing, text, enclosed, joined}
+use Rattle.bpaf_doc.specs.Buffer.Writes as write
+use Rattle.bpaf_doc.specs.Buffer.Writes.{Write, document_of, emphasis, inside, is_newline, pair_write, part_then_text, path_writes, plain, same_style, title_writes, titled, with_text, with_write, with_writes}
+
+-- a text leaves all parts but the last one
+pub with_text-append : (ps : List Part) (q : Part) (qs : List Part) (bytes : List ℕ) (style : Style) → with_text (ps ++ q ∷ qs) bytes style ≡ ps ++ with_text (q ∷ qs) bytes style
+with_text-append [] q qs bytes style = refl
+with_text-append (p ∷ []) q qs bytes style = refl
+with_text-append (p ∷ p' ∷ ps) q qs bytes style = ap (λ rs. p ∷ rs) (with_text-append (p' ∷ ps) q qs bytes style)
+
+one_or_two : (b : Bool) (before bytes : List ℕ) (kind style : Style) → IsWellNested (if b then Text (before ++ bytes) style ∷ [] else Text before kind ∷ Text bytes style ∷ [])
+one_or_two true before bytes kind style = text (before ++ bytes) style refl
+one_or_two false before bytes kind style = joined (Text before kind ∷ []) (Text bytes style ∷ []) refl (text before kind refl) (text bytes style refl)
+
+pub IsWellNested-with_text : (bytes : List ℕ) (style : Style) {ps : List Part} → IsWellNested ps → IsWellNested (with_text ps bytes style)
+IsWellNested-with_text bytes style (nothing is) = rw is (text bytes style refl)
+IsWellNested-with_text bytes style (text before kind is) = rw is (one_or_two (same_style kind style) before bytes kind style)
+IsWellNested-with_text bytes style {ps} (enclosed b inner is nested) =
+    let block = Start b ∷ (inner ++ End b ∷ []) in
+    rw is
+    (subst IsWellNested (sym (with_text-append (Start b ∷ inner) (End b) [] bytes style))
+    (joined block (Text bytes style ∷ []) (sym (append_assoc (Start b ∷ inner) (End b ∷ []) (Text bytes style ∷ []))) (enclosed b inner refl nested) (text bytes style refl)))
+IsWellNested-with_text bytes style (joined front [] is nested empty) = rw (is, append-nil front) (IsWellNested-with_text bytes style nested)
+IsWellNested-with_text bytes style (joined front (q ∷ qs) is nested also) =
+    rw is (joined front (with_text (q ∷ qs) bytes style) (with_text-append front q qs bytes style) nested (IsWellNested-with_text bytes style also))
+
+-- parts in a block, as they are written: its start, what it holds, its end
+pub IsWellNested-in_block : (b : Block) (ps inner : List Part) → IsWellNested ps → IsWellNested inner → IsWellNested (((ps ++ Start b ∷ []) ++ inner) ++ End b ∷ [])
+IsWellNested-in_block b ps inner nested also =
+    joined ps (Start b ∷ (inner ++ End b ∷ [])) (append_assoc (ps ++ Start b ∷ []) inner (End b ∷ []) ∙ append_assoc ps (Start b ∷ []) (inner ++ End b ∷ [])) nested (enclosed b inner refl also)
+
+-- ---- writes between the marks of a block
+
+-- a start joins no text, so what is written behind it does not depend on what stands before
+module _ (ps : List Part) (b : Block) where
+  with_text-behind_start : (qs : List Part) (bytes : List ℕ) (style : Style) → with_text ((ps ++ Start b ∷ []) ++ qs) bytes style ≡ (ps ++ Start b ∷ []) ++ with_text qs bytes style
+  with_text-behind_start [] bytes style =
+      ap (λ rs. with_text rs bytes style) (append-nil (ps ++ Start b ∷ [])) ∙ with_text-append ps (Start b) [] bytes style ∙ sym (append_assoc ps (Start b ∷ []) (Text bytes style ∷ []))
+  with_text-behind_start (q ∷ qs) bytes style = with_text-append (ps ++ Start b ∷ []) q qs bytes style
+
+  with_writes-behind_start : (qs : List Part) (ws : List Write) → with_writes ((ps ++ Start b ∷ []) ++ qs) ws ≡ (ps ++ Start b ∷ []) ++ with_writes qs ws
+  with_writes-behind_start qs [] = refl
+  with_writes-behind_start qs (w ∷ ws) = ap (λ rs. with_writes rs ws) (one w) ∙ with_writes-behind_start (with_write qs w) ws where
+    one : (w : Write) → with_write ((ps ++ Start b ∷ []) ++ qs) w ≡ (ps ++ Start b ∷ []) ++ with_write qs w
+    one (write.text bytes style) = with_text-behind_start qs bytes style
+    one (write.start c) = append_assoc (ps ++ Start b ∷ []) qs (Start c ∷ [])
+    one (write.end c) = append_assoc (ps ++ Start b ∷ []) qs (End c ∷ [])
+    one (write.parts rs) = append_assoc (ps ++ Start b ∷ []) qs rs
+
+  -- the start, the document that was written between, the end
+  pub with_writes-inside : (ws : List Write) → with_writes ps (inside b ws) ≡ ((ps ++ Start b ∷ []) ++ document_of ws) ++ End b ∷ []
+  with_writes-inside ws =
+      fold-append with_write (ps ++ Start b ∷ []) ws (write.end b ∷ [])
+      ∙ ap (λ rs. with_writes rs ws ++ End b ∷ []) (sym (append-nil (ps ++ Start b ∷ [])))
+      ∙ ap (λ rs. rs ++ End b ∷ []) (with_writes-behind_start [] ws)
+
+pub IsWellNested-inside : (b : Block) (ps : List Part) (ws : List Write) → IsWellNested ps → IsWellNested (document_of ws) → IsWellNested (with_writes ps (inside b ws))
+IsWellNested-inside b ps ws nested also = rw (with_writes-inside ps b ws) (IsWellNested-in_block b ps (document_of ws) nested also)
+
+-- ---- the other calls
+
+-- what follows a first text
+IsWellNested-behind_text : {qs : List Part} → IsWellNested qs → (bytes : List ℕ) (style : Style) (ps : List Part) → qs ≡ Text bytes style ∷ ps → IsWellNested ps
+IsWellNested-behind_text (nothing none) bytes style ps is = let e : [] ≡ Text bytes style ∷ ps = sym none ∙ is in cc
+IsWellNested-behind_text (text before kind one) bytes style ps is = let e : Text before kind ∷ [] ≡ Text bytes style ∷ ps = sym one ∙ is in let f : ps ≡ [] = cc in nothing f
+IsWellNested-behind_text (enclosed b inner block nested) bytes style ps is = let e : Start b ∷ (inner ++ End b ∷ []) ≡ Text bytes style ∷ ps = sym block ∙ is in cc
+IsWellNested-behind_text (joined [] back both nested also) bytes style ps is = IsWellNested-behind_text also bytes style ps (sym both ∙ is)
+IsWellNested-behind_text (joined (Text before kind ∷ front) back both nested also) bytes style ps is =
+    let e : Text before kind ∷ (front ++ back) ≡ Text bytes style ∷ ps = sym both ∙ is in
+    let f : ps ≡ front ++ back = cc in
+    joined front back f (IsWellNested-behind_text nested before kind front refl) also
+IsWellNested-behind_text (joined (Start b ∷ front) back both nested also) bytes style ps is = let e : Start b ∷ (front ++ back) ≡ Text bytes style ∷ ps = sym both ∙ is in cc
+IsWellNested-behind_text (joined (End b ∷ front) back both nested also) bytes style ps is = let e : End b ∷ (front ++ back) ≡ Text bytes style ∷ ps = sym both ∙ is in cc
+
+-- a text, and then others
+text_and_others : (bytes : List ℕ) (style : Style) (others : List Part) → IsWellNested others → IsWellNested (Text bytes style ∷ others)
+text_and_others bytes style others nested = joined (Text bytes style ∷ []) others refl (text bytes style refl) nested
+
+IsWellNested-title : (bytes : List ℕ) (others : List Part) → IsWellNested others → IsWellNested (document_of (title_writes bytes others))
+IsWellNested-title bytes others nested = either (list_any is_newline bytes) where
+  either : (some : Bool)
+      → IsWellNested (document_of (if some then emphasis (before_first is_newline bytes) ∷ inside block.Section3 (plain (after_first is_newline bytes) ∷ write.parts others ∷ []) else emphasis bytes ∷ write.parts others ∷ []))
+  either true =
+      IsWellNested-inside block.Section3 (Text (before_first is_newline bytes) style.Emphasis ∷ []) (plain (after_first is_newline bytes) ∷ write.parts others ∷ []) (text (before_first is_newline bytes) style.Emphasis refl)
+      (text_and_others (after_first is_newline bytes) style.Text others nested)
+  either false = text_and_others bytes style.Emphasis others nested
+
+IsWellNested-titled : (d : List Part) → IsWellNested d → IsWellNested (document_of (titled d))
+IsWellNested-titled [] nested = nested
+IsWellNested-titled (Text bytes style.Text ∷ others) nested = IsWellNested-title bytes others (IsWellNested-behind_text nested bytes style.Text others refl)
+IsWellNested-titled (Text bytes style.Emphasis ∷ others) nested = nested
+IsWellNested-titled (Text bytes style.Literal ∷ others) nested = nested
+IsWellNested-titled (Text bytes style.Metavar ∷ others) nested = nested
+IsWellNested-titled (Text bytes style.Invalid ∷ others) nested = nested
+IsWellNested-titled (Start b ∷ others) nested = nested
+IsWellNested-titled (End b ∷ others) nested = nested
+
+pub IsWellNested-em_doc : (ps d : List Part) → IsWellNested ps → IsWellNested d → IsWellNested (with_writes ps (inside block.InlineBlock (titled d)))
+IsWellNested-em_doc ps d nested also = IsWellNested-inside block.InlineBlock ps (titled d) nested (IsWellNested-titled d also)
+
+pub IsWellNested-path : (names : List (List ℕ)) (ps : List Part) → IsWellNested ps → IsWellNested (with_writes ps (path_writes names))
+IsWellNested-path [] ps nested = nested
+IsWellNested-path (name ∷ names) ps nested =
+    IsWellNested-path names (with_text (with_text ps name style.Literal) (32 ∷ []) style.Text) (IsWellNested-with_text (32 ∷ []) style.Text (IsWellNested-with_text name style.Literal nested))
+
+pub IsWellNested-pairs : (pairs : List (Bor (List ℕ) × Style)) (ps : List Part) → IsWellNested ps → IsWellNested (with_writes ps (map pair_write pairs))
+IsWellNested-pairs [] ps nested = nested
+IsWellNested-pairs (pair ∷ pairs) ps nested = IsWellNested-pairs pairs (with_text ps pair.0.now pair.1) (IsWellNested-with_text pair.0.now pair.1 nested)
+
+line_and_others : (some : Bool) (front bytes : List ℕ) (style : Style) (others : List Part) → IsWellNested others → IsWellNested (if some then Text front style ∷ [] else Text bytes style ∷ others)
+line_and_others true front bytes style others nested = text front style refl
+line_and_others false front bytes style others nested = text_and_others bytes style others nested
+
+pub IsWellNested-leading_texts : (ps : List Part) → IsWellNested (leading_texts ps)
+IsWellNested-leading_texts [] = nothing refl
+IsWellNested-leading_texts (Text bytes style ∷ ps) = line_and_others (list_any is_newline bytes) (before_first is_newline bytes) bytes style (leading_texts ps) (IsWellNested-leading_texts ps)
+IsWellNested-leading_texts (Start b ∷ ps) = nothing refl
+IsWellNested-leading_texts (End b ∷ ps) = nothing refl

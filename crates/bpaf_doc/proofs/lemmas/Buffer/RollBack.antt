@@ -1,0 +1,202 @@
+-- What was written is taken off again.
+use Rattle.std.proofs.Common.{◌≡◌, ℕ, ◌+◌, ◌-◌, ◌≤◌, Bool, true, false, List, [], ◌∷◌, ◌++◌, length, take, drop, sym, refl, ap, ◌∙◌, arith, rules, length-append, length-drop, length-take, append_assoc, append-nil, subst}
+use Rattle.std.specs.Prelude.{if◌then◌else◌}
+use Rattle.std.specs.Str.{IsUtf8}
+use Rattle.std.proofs.lemmas.List.{drop-take, drop_all, length-take-le, take-take, take_at}
+use Rattle.std.proofs.lemmas.List.Elements.{All-head, All-tail}
+use denote.Enum.Bare.{same_true}
+use Rattle.bpaf_doc.specs.declared.buffer.Style.{Style}
+use Rattle.bpaf_doc.specs.contracts.buffer.Style.{the_type}
+use Rattle.bpaf_doc.specs.declared.buffer.Kind.{Kind}
+use Rattle.bpaf_doc.specs.declared.buffer.Kind.TheVariants as kind
+use Rattle.bpaf_doc.specs.declared.buffer.PartEnd.{PartEnd}
+use Rattle.bpaf_doc.specs.Buffer.Steps.Ends.{AreEnds, IsEnd, MayTake, part_with, parts_from, with_last_end}
+use Rattle.bpaf_doc.specs.declared.buffer.Checkpoint.{Checkpoint}
+use Rattle.bpaf_doc.specs.Buffer.Growth.{Grows, IsCheckpointOf}
+use Rattle.bpaf_doc.specs.Buffer.Parts.{Part, Text, Start, End, HasUtf8Texts, document_bytes, part_bytes}
+use Rattle.bpaf_doc.specs.Buffer.Writes as write
+use Rattle.bpaf_doc.specs.Buffer.Writes.{Write, part_then_text, same_style, with_text, with_write, with_writes}
+
+-- a part now is the part before, or a text that became longer
+IsLonger : Part → Part → Type 0
+IsLonger (Text bytes style) now = (more : List ℕ) × (now ≡ Text (bytes ++ more) style)
+IsLonger (Start b) now = now ≡ Start b
+IsLonger (End b) now = now ≡ End b
+
+-- the last part before may have become longer, and others may stand behind it
+abbrev Extends : List Part → List Part → Type 0
+Extends [] now = Unit {0}
+Extends (p ∷ ps) [] = ⊥
+Extends (p ∷ []) (q ∷ qs) = IsLonger p q
+Extends (p ∷ p' ∷ ps) (q ∷ qs) = (q ≡ p) × Extends (p' ∷ ps) qs
+
+IsLonger-refl : (p : Part) → IsLonger p p
+unfolding IsLonger
+IsLonger-refl (Text bytes style) = ([], ap (λ b. Text b style) (sym (append-nil bytes)))
+IsLonger-refl (Start b) = refl
+IsLonger-refl (End b) = refl
+
+Extends-refl : (ps : List Part) → Extends ps ps
+Extends-refl [] = tt
+Extends-refl (p ∷ []) = IsLonger-refl p
+Extends-refl (p ∷ p' ∷ ps) = (refl, Extends-refl (p' ∷ ps))
+
+Extends-append : (ps qs rs : List Part) → Extends ps qs → Extends ps (qs ++ rs)
+Extends-append [] qs rs h = tt
+Extends-append (p ∷ ps) [] rs h = absurd h
+Extends-append (p ∷ []) (q ∷ qs) rs h = h
+Extends-append (p ∷ p' ∷ ps) (q ∷ qs) rs h = (h.0, Extends-append (p' ∷ ps) qs rs h.1)
+
+same_style-is : (a b : Style) → same_style a b ≡ true → a ≡ b
+same_style-is a b same = same_true the_type (search rules) a b same
+
+-- a longer part stays longer as a text joins it
+longer_still : (p : Part) (before bytes : List ℕ) (style : Style) → IsLonger p (Text before style) → IsLonger p (Text (before ++ bytes) style)
+unfolding IsLonger
+longer_still (Text had kind) before bytes style (more, is) =
+    let b : before ≡ had ++ more = cc in
+    let s : style ≡ kind = cc in
+    (more ++ bytes, rw (b, s) (ap (λ t. Text t kind) (append_assoc had more bytes)))
+longer_still (Start b) before bytes style is = cc
+longer_still (End b) before bytes style is = cc
+
+Extends-joined : (p : Part) (b : Bool) (before : List ℕ) (kind : Style) (bytes : List ℕ) (style : Style) → same_style kind style ≡ b → IsLonger p (Text before kind)
+    → Extends (p ∷ []) (if b then Text (before ++ bytes) style ∷ [] else Text before kind ∷ Text bytes style ∷ [])
+Extends-joined p true before kind bytes style same is = rw (← same_style-is kind style same) (longer_still p before bytes kind is)
+Extends-joined p false before kind bytes style same is = is
+
+Extends-part_then_text : (p q : Part) (bytes : List ℕ) (style : Style) → IsLonger p q → Extends (p ∷ []) (part_then_text q bytes style)
+Extends-part_then_text p (Text before kind) bytes style is = Extends-joined p (same_style kind style) before kind bytes style refl is
+Extends-part_then_text p (Start b) bytes style is = is
+Extends-part_then_text p (End b) bytes style is = is
+
+Extends-with_text : (ps qs : List Part) (bytes : List ℕ) (style : Style) → Extends ps qs → Extends ps (with_text qs bytes style)
+Extends-with_text [] qs bytes style h = tt
+Extends-with_text (p ∷ ps) [] bytes style h = absurd h
+Extends-with_text (p ∷ []) (q ∷ []) bytes style h = Extends-part_then_text p q bytes style h
+Extends-with_text (p ∷ []) (q ∷ r ∷ qs) bytes style h = h
+Extends-with_text (p ∷ p' ∷ ps) (q ∷ []) bytes style h = absurd h.1
+Extends-with_text (p ∷ p' ∷ ps) (q ∷ r ∷ qs) bytes style h = (h.0, Extends-with_text (p' ∷ ps) (r ∷ qs) bytes style h.1)
+
+Extends-with_write : (ps qs : List Part) (w : Write) → Extends ps qs → Extends ps (with_write qs w)
+Extends-with_write ps qs (write.text bytes style) h = Extends-with_text ps qs bytes style h
+Extends-with_write ps qs (write.start b) h = Extends-append ps qs (Start b ∷ []) h
+Extends-with_write ps qs (write.end b) h = Extends-append ps qs (End b ∷ []) h
+Extends-with_write ps qs (write.parts rs) h = Extends-append ps qs rs h
+
+Extends-with_writes : (ps qs : List Part) (ws : List Write) → Extends ps qs → Extends ps (with_writes qs ws)
+Extends-with_writes ps qs [] h = h
+Extends-with_writes ps qs (w ∷ ws) h = Extends-with_writes ps (with_write qs w) ws (Extends-with_write ps qs w h)
+
+Extends-Grows : (ps qs : List Part) → Grows ps qs → Extends ps qs
+Extends-Grows ps qs (ws, is) = subst (λ rs. Extends ps rs) (sym is) (Extends-with_writes ps ps ws (Extends-refl ps))
+
+-- ---- the ends of a document that grew, cut back to those before
+
+-- what a longer part is cut back to
+module _ (k : Kind) (n : ℕ) (rest : List ℕ) where
+  pub IsCutBack : Part → Type 0
+  IsCutBack p = (length (part_bytes p) ≤ n) × (part_with k (take (length (part_bytes p)) rest) ≡ p) × (take (length (part_bytes p)) rest ≡ part_bytes p) × MayTake k (length (part_bytes p))
+
+text_kind : (k : Kind) (n : ℕ) (rest bytes : List ℕ) (style : Style) → part_with k (take n rest) ≡ Text bytes style → (k ≡ kind.Text style) × (take n rest ≡ bytes)
+text_kind (kind.Text other) n rest bytes style is = (let e : other ≡ style = cc in ap (λ s. kind.Text s) e, cc)
+text_kind (kind.Start b) n rest bytes style is = cc
+text_kind (kind.End b) n rest bytes style is = cc
+
+front_is : (n : ℕ) (rest bytes more : List ℕ) → take n rest ≡ bytes ++ more → (length bytes ≤ n) × (take (length bytes) rest ≡ bytes)
+front_is n rest bytes more is =
+    let le : length bytes ≤ n = omega (arith, ap length is, length-append bytes more, length-take n rest) in
+    (le, sym (take-take (length bytes) n rest le) ∙ ap (λ l. take (length bytes) l) is ∙ take_at bytes more (length bytes) refl)
+
+cut_back : (k : Kind) (n : ℕ) (rest : List ℕ) (p : Part) → IsLonger p (part_with k (take n rest)) → IsCutBack k n rest p
+unfolding IsLonger IsCutBack
+cut_back k n rest (Text bytes style) (more, is) =
+    let t = text_kind k n rest (bytes ++ more) style is in
+    let front = front_is n rest bytes more t.1 in
+    (front.0, rw (t.0, front.1) refl, front.1, rw t.0 tt)
+cut_back (kind.Text other) n rest (Start b) is = cc
+cut_back (kind.Start c) n rest (Start b) is = (omega arith, is, refl, refl)
+cut_back (kind.End c) n rest (Start b) is = cc
+cut_back (kind.Text other) n rest (End b) is = cc
+cut_back (kind.Start c) n rest (End b) is = cc
+cut_back (kind.End c) n rest (End b) is = (omega arith, is, refl, refl)
+
+-- the bytes of a part that is as it was
+same_bytes : (k : Kind) (n : ℕ) (rest : List ℕ) (p : Part) → MayTake k n → n ≤ length rest → part_with k (take n rest) ≡ p → length (part_bytes p) ≡ n
+same_bytes (kind.Text style) n rest p may le is = ap (λ q. length (part_bytes q)) (sym is) ∙ length-take-le n rest le
+same_bytes (kind.Start b) n rest p may le is = ap (λ q. length (part_bytes q)) (sym is) ∙ sym may
+same_bytes (kind.End b) n rest p may le is = ap (λ q. length (part_bytes q)) (sym is) ∙ sym may
+
+-- the ends and the payload cut back to a document, of which `last` is the end
+pub record IsCut (start last : ℕ) (es : List PartEnd) (rest : List ℕ) (ps : List Part) : Type 0 where
+  pub within : last - start ≤ length rest
+  pub shows : parts_from start (with_last_end (take (length ps) es) last) (take (last - start) rest) ≡ ps
+  pub are : AreEnds start (with_last_end (take (length ps) es) last) (take (last - start) rest)
+
+cut_last : (start last : ℕ) (e : PartEnd) (es : List PartEnd) (rest : List ℕ) (p : Part) → last ≡ start + length (document_bytes (p ∷ []))
+    → IsEnd start e rest → IsUtf8 (part_bytes p) → IsCutBack e.kind (e.end - start) rest p → IsCut start last (e ∷ es) rest (p ∷ [])
+unfolding IsCutBack
+cut_last start last e es rest p at is utf8 cut =
+    let m = length (part_bytes p) in
+    let width : last - start ≡ m = omega (arith, at, length-append (part_bytes p) []) in
+    let again : take m (take m rest) ≡ take m rest = take-take m m rest (omega arith) in
+    let count : length (take m rest) ≡ m = length-take-le m rest (omega (arith, cut.0, is.within)) in
+    record {
+      within = omega (arith, width, cut.0, is.within);
+      shows = rw (width, again) (ap (λ q. q ∷ []) cut.1);
+      are = rw width (
+        record {
+          not_below = omega (arith, at);
+          within = omega (arith, width, count);
+          utf8 = rw (width, again, cut.2) utf8;
+          taken = rw width cut.3;
+        },
+        drop_all m (take m rest) (omega (arith, count)),
+      );
+    }
+
+cut_next : (start last : ℕ) (e f : PartEnd) (es : List PartEnd) (rest : List ℕ) (p q : Part) (ps : List Part) → last ≡ start + length (document_bytes (p ∷ q ∷ ps))
+    → IsEnd start e rest → part_with e.kind (take (e.end - start) rest) ≡ p → IsCut e.end last (f ∷ es) (drop (e.end - start) rest) (q ∷ ps) → IsCut start last (e ∷ f ∷ es) rest (p ∷ q ∷ ps)
+cut_next start last e f es rest p q ps at is shown cut =
+    let n = e.end - start in
+    let back = last - e.end in
+    let bytes : length (part_bytes p) ≡ n = same_bytes e.kind n rest p is.taken is.within shown in
+    let width : last - start ≡ n + back = omega (arith, at, bytes, is.not_below, length-append (part_bytes p) (document_bytes (q ∷ ps))) in
+    let left : length (drop n rest) ≡ length rest - n = length-drop n rest in
+    let front : take n (take (n + back) rest) ≡ take n rest = take-take n (n + back) rest (omega arith) in
+    let behind : drop n (take (n + back) rest) ≡ take back (drop n rest) = drop-take n back rest in
+    record {
+      within = omega (arith, width, cut.within, is.within);
+      shows = rw (width, front, behind) (ap (λ x. x ∷ parts_from e.end (with_last_end (take (length (q ∷ ps)) (f ∷ es)) last) (take back (drop n rest))) shown ∙ ap (λ xs. p ∷ xs) cut.shows);
+      are = rw (width, behind) (
+        record {
+          not_below = is.not_below;
+          within = omega (arith, length-take-le (n + back) rest (omega (arith, left, cut.within, is.within)));
+          utf8 = rw front is.utf8;
+          taken = is.taken;
+        },
+        cut.are,
+      );
+    }
+
+cut_all : (ps : List Part) (start last : ℕ) (es : List PartEnd) (rest : List ℕ) → last ≡ start + length (document_bytes ps)
+    → AreEnds start es rest → HasUtf8Texts ps → Extends ps (parts_from start es rest) → IsCut start last es rest ps
+cut_all [] start last es rest at are utf8 h =
+    let width : last - start ≡ 0 = omega (arith, at) in
+    record { within = omega (arith, width); shows = refl; are = rw width refl }
+cut_all (p ∷ ps) start last [] rest at are utf8 h = absurd h
+cut_all (p ∷ []) start last (e ∷ es) rest at are utf8 h =
+    cut_last start last e es rest p at are.0 (All-head (λ part. IsUtf8 (part_bytes part)) p [] utf8) (cut_back e.kind (e.end - start) rest p h)
+cut_all (p ∷ q ∷ ps) start last (e ∷ []) rest at are utf8 h = absurd h.1
+cut_all (p ∷ q ∷ ps) start last (e ∷ f ∷ es) rest at are utf8 h =
+    let n = e.end - start in
+    let bytes : length (part_bytes p) ≡ n = same_bytes e.kind n rest p are.0.taken are.0.within h.0 in
+    cut_next start last e f es rest p q ps at are.0 h.0
+    (cut_all (q ∷ ps) e.end last (f ∷ es) (drop n rest) (omega (arith, at, bytes, are.0.not_below, length-append (part_bytes p) (document_bytes (q ∷ ps)))) are.1
+    (All-tail (λ part. IsUtf8 (part_bytes part)) p (q ∷ ps) utf8) h.1)
+
+-- a document that only grew since the checkpoint, cut back
+pub is_cut : (es : List PartEnd) (payload : List ℕ) (before : List Part) (at : Checkpoint) → AreEnds 0 es payload → IsCheckpointOf before at → Grows before (parts_from 0 es payload)
+    → IsCut 0 at.bytes es payload before
+is_cut es payload before at are was grows =
+    cut_all before 0 at.bytes es payload (omega (arith, was.bytes)) are was.utf8 (Extends-Grows before (parts_from 0 es payload) grows)

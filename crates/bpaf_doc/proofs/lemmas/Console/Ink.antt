@@ -1,0 +1,274 @@
+-- The ink that the console's steps leave is the console ink of the document.
+use Rattle.std.specs.Prelude.{◌≡◌, ◌≢◌, ℕ, suc, ◌+◌, ◌-◌, ◌≤◌, Bool, true, false, not, ◌&&◌, ◌==◌, List, [], ◌∷◌, ◌++◌, refl, length, drop, take, filter, flat_map, String, string_bytes, Result, Ok, Err, IfOk, if◌then◌else◌}
+use Rattle.std.specs.Char.{is_not_whitespace, encode_utf8}
+use Rattle.std.specs.List.{enumerate_from, position_or_len}
+use Rattle.std.specs.Str.{chars, IsUtf8, IsCharBoundary, IsTrimEnd, NonePass}
+use Rattle.std.proofs.Common.{sym, ◌∙◌, ap, subst, arith, append_assoc}
+use Rattle.std.proofs.lemmas.Str.{chars-append, chars-nil, chars_from_encodes, IsCharBoundary-from_take, IsUtf8-drop, encode_ascii, IsUtf8-string_bytes}
+use Rattle.std.proofs.lemmas.List.{take-append-drop, append-nil, length-append}
+use Rattle.std.proofs.lemmas.List.Elements.{filter-append}
+use Rattle.std.proofs.lemmas.Bool.Decides.{nat_tests}
+use Rattle.bpaf_doc.specs.declared.buffer.Style.{Style}
+use Rattle.bpaf_doc.specs.Buffer.Parts.{Part, Text, Start, End, ink}
+use Rattle.bpaf_doc.specs.Splitter.Chunks.{Chunk, Raw, Paragraph, LineBreak, chunks_of, chunk_ink, is_paragraph}
+use Rattle.bpaf_doc.specs.Shown.{through_paragraph, shown_part_ink, console_ink}
+use Rattle.bpaf_doc.specs.Console.Exact.Hiding.{hides, is_inline, hidden_after}
+use Rattle.bpaf_doc.specs.Console.Steps.Ink.{shown_ink, ink_at, ink_from}
+use Rattle.bpaf_doc.proofs.lemmas.Console.Hiding.{Counts, Counts-nil, Counts-more, is_hidden-Counts}
+
+-- ---- the ink of what is put after a text
+
+pub ink-append : (front back : List ℕ) → IsUtf8 front → ink (front ++ back) ≡ ink front ++ ink back
+ink-append front back u = ap (filter is_not_whitespace) (chars-append front back u) ∙ filter-append is_not_whitespace (chars front) (chars back)
+
+pub ink-newline : ink (10 ∷ []) ≡ []
+unfolding chars
+ink-newline = refl
+
+pub ink-blank : ink (32 ∷ []) ≡ []
+unfolding chars
+ink-blank = refl
+
+pub ink-backquote : ink (96 ∷ []) ≡ 96 ∷ []
+unfolding chars
+ink-backquote = refl
+
+-- what adds no ink
+pub ink-more : (front back : List ℕ) → IsUtf8 front → ink back ≡ [] → ink (front ++ back) ≡ ink front
+ink-more front back u e = ink-append front back u ∙ ap (λ more. ink front ++ more) e ∙ append-nil (ink front)
+
+none_left : (cs : List ℕ) → NonePass is_not_whitespace cs → filter is_not_whitespace cs ≡ []
+none_left [] n = refl
+none_left (c ∷ cs) n = rw n.0 (none_left cs n.1)
+
+-- what stays of a text without its blank end is a front of it, cut between characters
+pub trim-cut : (text kept : List ℕ) → IsTrimEnd text kept → kept ≡ take (length kept) text
+trim-cut text kept (n, same, blank, ends, len, within) = same ∙ ap (λ k. take k text) (sym len)
+
+pub trim-boundary : (text kept : List ℕ) → IsUtf8 text → IsUtf8 kept → IsTrimEnd text kept → IsCharBoundary text (length kept)
+trim-boundary text kept u v (n, same, blank, ends, len, within) =
+    subst (λ k. IsCharBoundary text k) (sym len) (IsCharBoundary-from_take text n u within (subst (λ xs. IsUtf8 xs) same v))
+
+-- and has the same ink
+pub ink-trim : (text kept : List ℕ) → IsUtf8 text → IsUtf8 kept → IsTrimEnd text kept → ink kept ≡ ink text
+ink-trim text kept u v (n, same, blank, ends, len, within) =
+    let front : IsUtf8 (take n text) = subst (λ xs. IsUtf8 xs) same v in
+    let back : IsUtf8 (drop n text) = IsUtf8-drop text n u (IsCharBoundary-from_take text n u within front) in
+    let none : ink (drop n text) ≡ [] =
+    ap (filter is_not_whitespace) (sym (chars_from_encodes blank.0 (drop n text) back blank.1)) ∙ none_left blank.0 blank.2 in
+    ap ink same ∙ sym (ink-more (take n text) (drop n text) front none) ∙ ap ink (take-append-drop n text)
+
+-- ---- the ink of the chunks that are shown
+
+pub shown_ink-full : (chunks : List Chunk) → flat_map chunk_ink chunks ≡ shown_ink true chunks
+shown_ink-full [] = refl
+shown_ink-full (Raw bytes weight ∷ chunks) = ap (λ more. ink bytes ++ more) (shown_ink-full chunks)
+shown_ink-full (Paragraph ∷ chunks) = shown_ink-full chunks
+shown_ink-full (LineBreak ∷ chunks) = shown_ink-full chunks
+
+one_more : (chunk : Chunk) (chunks : List Chunk) → is_paragraph chunk ≡ false → through_paragraph (chunk ∷ chunks) ≡ chunk ∷ through_paragraph chunks
+one_more chunk chunks e = rw (e, next (position_or_len is_paragraph chunks)) refl where
+  next : (n : ℕ) → 1 + n + 1 ≡ suc (n + 1)
+  next n = omega arith
+
+pub shown_ink-brief : (chunks : List Chunk) → flat_map chunk_ink (through_paragraph chunks) ≡ shown_ink false chunks
+shown_ink-brief [] = refl
+shown_ink-brief (Raw bytes weight ∷ chunks) =
+    ap (λ cs. flat_map chunk_ink cs) (one_more (Raw bytes weight) chunks refl) ∙ ap (λ more. ink bytes ++ more) (shown_ink-brief chunks)
+shown_ink-brief (Paragraph ∷ chunks) = refl
+shown_ink-brief (LineBreak ∷ chunks) = ap (λ cs. flat_map chunk_ink cs) (one_more LineBreak chunks refl) ∙ shown_ink-brief chunks
+
+-- ---- the ink of the parts, one after another
+
+both : (a b c d : List ℕ) → a ≡ c → b ≡ d → a ++ b ≡ c ++ d
+both a b c d e f = cc
+
+shown_at : (hidden : ℕ) (before : List Part) (part : Part) → Counts hidden before → shown_part_ink false before part ≡ ink_at false hidden part
+shown_at hidden before (Text bytes style) counts = rw (is_hidden-Counts hidden before counts) (at (hidden == 0)) where
+  at : (b : Bool) → flat_map chunk_ink (if not b then [] else through_paragraph (chunks_of bytes)) ≡ (if b then shown_ink false (chunks_of bytes) else [])
+  at true = shown_ink-brief (chunks_of bytes)
+  at false = refl
+shown_at hidden before (Start b) counts = refl
+shown_at hidden before (End b) counts = refl
+
+take_front : {A : Type 0} (front back : List A) → take (length front) (front ++ back) ≡ front
+take_front [] back = refl
+take_front (x ∷ front) back = ap (λ xs. x ∷ xs) (take_front front back)
+
+abbrev brief_part : List Part → ℕ × Part → List ℕ
+brief_part document = λ (k, part). shown_part_ink false (take k document) part
+
+brief_from : (document before parts : List Part) (hidden : ℕ) → document ≡ before ++ parts → Counts hidden before
+    → flat_map (brief_part document) (enumerate_from (length before) parts) ≡ ink_from false hidden parts
+brief_from document before [] hidden same counts = refl
+brief_from document before (part ∷ parts) hidden same counts =
+    both (brief_part document (length before, part)) (flat_map (brief_part document) (enumerate_from (length before + 1) parts))
+    (ink_at false hidden part) (ink_from false (hidden_after false hidden part) parts)
+    (ap (λ d. shown_part_ink false (take (length before) d) part) same ∙ ap (λ d. shown_part_ink false d part) (take_front before (part ∷ parts))
+    ∙ shown_at hidden before part counts)
+    (ap (λ k. flat_map (brief_part document) (enumerate_from k parts)) (sym (length-append before (part ∷ [])))
+    ∙ brief_from document (before ++ part ∷ []) parts (hidden_after false hidden part) (same ∙ sym (append_assoc before (part ∷ []) parts)) (Counts-more hidden before part counts))
+
+full_stays : (part : Part) → hidden_after true 0 part ≡ 0
+full_stays (Text bytes style) = refl
+full_stays (Start b) = refl
+full_stays (End b) = at (is_inline b) 0 where
+  at : (c : Bool) (n : ℕ) → (if c then n else n) ≡ n
+  at true n = refl
+  at false n = refl
+
+full_at : (before : List Part) (part : Part) → shown_part_ink true before part ≡ ink_at true 0 part
+full_at before (Text bytes style) = shown_ink-full (chunks_of bytes)
+full_at before (Start b) = refl
+full_at before (End b) = refl
+
+full_from : (document parts : List Part) (k : ℕ) → flat_map (λ (k, part). shown_part_ink true (take k document) part) (enumerate_from k parts) ≡ ink_from true 0 parts
+full_from document [] k = refl
+full_from document (part ∷ parts) k =
+    both (shown_part_ink true (take k document) part) (flat_map (λ (k, part). shown_part_ink true (take k document) part) (enumerate_from (k + 1) parts))
+    (ink_at true 0 part) (ink_from true (hidden_after true 0 part) parts) (full_at (take k document) part)
+    (full_from document parts (k + 1) ∙ ap (λ n. ink_from true n parts) (sym (full_stays part)))
+
+-- from the start on it is the console ink
+pub ink_from-console_ink : (full : Bool) (document : List Part) → ink_from full 0 document ≡ console_ink full document
+ink_from-console_ink true document = sym (full_from document document 0)
+ink_from-console_ink false document = sym (brief_from document [] document 0 refl Counts-nil)
+
+-- ---- the ink of a text after one character more
+
+pub ink-push_newline : {Z : Type 0} (old : String Z) (new : List ℕ) → new ≡ string_bytes old ++ encode_utf8 10 → ink new ≡ ink (string_bytes old)
+ink-push_newline old new e = ap ink e ∙ ink-more (string_bytes old) (encode_utf8 10) (IsUtf8-string_bytes old) (ap ink (encode_ascii 10 (omega arith)) ∙ ink-newline)
+
+pub ink-push_blank : {Z : Type 0} (old : String Z) (new : List ℕ) → new ≡ string_bytes old ++ encode_utf8 32 → ink new ≡ ink (string_bytes old)
+ink-push_blank old new e = ap ink e ∙ ink-more (string_bytes old) (encode_utf8 32) (IsUtf8-string_bytes old) (ap ink (encode_ascii 32 (omega arith)) ∙ ink-blank)
+
+pub ink-push_backquote : {Z : Type 0} (old : String Z) (new : List ℕ) → new ≡ string_bytes old ++ encode_utf8 96 → ink new ≡ ink (string_bytes old) ++ 96 ∷ []
+ink-push_backquote old new e =
+    ap ink e ∙ ink-append (string_bytes old) (encode_utf8 96) (IsUtf8-string_bytes old)
+    ∙ ap (λ more. ink (string_bytes old) ++ more) (ap ink (encode_ascii 96 (omega arith)) ∙ ink-backquote)
+
+pub ink-push_str : {Z : Type 0} (old : String Z) (new text : List ℕ) → new ≡ string_bytes old ++ text → ink new ≡ ink (string_bytes old) ++ ink text
+ink-push_str old new text e = ap ink e ∙ ink-append (string_bytes old) text (IsUtf8-string_bytes old)
+
+pub ink-nil : ink [] ≡ []
+ink-nil = ap (filter is_not_whitespace) chars-nil
+
+-- ---- a loop over the parts
+
+hidden_after-le : (full : Bool) (hidden : ℕ) (part : Part) → hidden_after full hidden part ≤ hidden + 1
+hidden_after-le full hidden (Text bytes style) = at ((hidden == 0) && hides full (chunks_of bytes)) where
+  at : (b : Bool) → (if b then 1 else hidden) ≤ hidden + 1
+  at true = omega arith
+  at false = omega arith
+hidden_after-le full hidden (Start b) = at (not (hidden == 0) && is_inline b) where
+  at : (c : Bool) → (if c then hidden + 1 else hidden) ≤ hidden + 1
+  at true = omega arith
+  at false = omega arith
+hidden_after-le full hidden (End b) = at (is_inline b) where
+  at : (c : Bool) → (if c then hidden - 1 else hidden) ≤ hidden + 1
+  at true = omega arith
+  at false = omega arith
+
+-- At this count of hidden blocks, out and the parts that are left have all the ink, and the count stays in range.
+pub record IsLeft (full : Bool) (count hidden : ℕ) (out all : List ℕ) (parts : List Part) : Type 0 where
+  pub same_ink : ink out ++ ink_from full hidden parts ≡ all
+  pub in_range : hidden + length parts ≤ count
+
+-- one part is written
+pub IsLeft-more : (full : Bool) (count hidden next : ℕ) (out new all : List ℕ) (part : Part) (parts rest : List Part)
+    → IsLeft full count hidden out all parts → parts ≡ part ∷ rest → next ≡ hidden_after full hidden part
+    → ink new ≡ ink out ++ ink_at full hidden part → IsLeft full count next new all rest
+IsLeft-more full count hidden next out new all part parts rest left first counted wrote = record {
+  same_ink =
+      both (ink new) (ink_from full next rest) (ink out ++ ink_at full hidden part) (ink_from full (hidden_after full hidden part) rest) wrote
+      (ap (λ n. ink_from full n rest) counted)
+      ∙ append_assoc (ink out) (ink_at full hidden part) (ink_from full (hidden_after full hidden part) rest)
+      ∙ ap (λ ps. ink out ++ ink_from full hidden ps) (sym first) ∙ left.same_ink;
+  in_range = omega (arith, left.in_range, ap length first, counted, hidden_after-le full hidden part);
+}
+
+-- the whole document is left
+pub IsLeft-all : (full : Bool) (count : ℕ) (document : List Part) → length document ≡ count → IsLeft full count 0 [] (console_ink full document) document
+IsLeft-all full count document len = record {
+  same_ink = ap (λ before. before ++ ink_from full 0 document) ink-nil ∙ ink_from-console_ink full document;
+  in_range = omega (arith, len);
+}
+
+-- nothing is left
+pub IsLeft-none : (full : Bool) (count hidden : ℕ) (out all : List ℕ) (parts : List Part) → IsLeft full count hidden out all parts → parts ≡ [] → ink out ≡ all
+IsLeft-none full count hidden out all parts left none =
+    sym (append-nil (ink out)) ∙ ap (λ ps. ink out ++ ink_from full hidden ps) (sym none) ∙ left.same_ink
+
+-- a text that is shown, with and without a Paragraph that hides what follows, and one that is hidden
+pub IsLeft-shown : (full : Bool) (count hidden : ℕ) (out new all bytes : List ℕ) (style : Style) (parts rest : List Part)
+    → IsLeft full count hidden out all parts → parts ≡ Text bytes style ∷ rest → hidden ≡ 0
+    → ink new ≡ ink out ++ shown_ink full (chunks_of bytes) → IsLeft full count (if hides full (chunks_of bytes) then 1 else 0) new all rest
+IsLeft-shown full count hidden out new all bytes style parts rest left first none wrote =
+    IsLeft-more full count 0 (if hides full (chunks_of bytes) then 1 else 0) out new all (Text bytes style) parts rest
+    (subst (λ n. IsLeft full count n out all parts) none left) first refl wrote
+
+pub IsLeft-hidden : (full : Bool) (count hidden : ℕ) (out all bytes : List ℕ) (style : Style) (parts rest : List Part)
+    → IsLeft full count hidden out all parts → parts ≡ Text bytes style ∷ rest → hidden ≢ 0 → IsLeft full count hidden out all rest
+IsLeft-hidden full count hidden out all bytes style parts rest left first some =
+    let e : (hidden == 0) ≡ false = not_none hidden some in
+    IsLeft-more full count hidden hidden out out all (Text bytes style) parts rest left first (rw e refl)
+    (rw e (sym (append-nil (ink out)))) where
+      not_none : (hidden : ℕ) → hidden ≢ 0 → (hidden == 0) ≡ false
+      not_none hidden some = grind (arith, nat_tests)
+
+-- an Ok text with this ink has that ink
+pub IfOk-ink : {Z E : Type 0} (r : Result (String Z) E) (this that : List ℕ) → this ≡ that
+    → IfOk r (λ text. ink (string_bytes text) ≡ this) → IfOk r (λ text. ink (string_bytes text) ≡ that)
+IfOk-ink (Ok text) this that e h = h ∙ e
+IfOk-ink (Err error) this that e h = tt
+
+-- ---- a loop over the chunks of a text
+
+-- Out and the chunks that are left have all the ink, and the chunks that are left tell what is hidden after the text.
+pub record IsTextLeft (full hidden : Bool) (out all : List ℕ) (chunks : List Chunk) : Type 0 where
+  pub same_ink : ink out ++ shown_ink full chunks ≡ all
+  pub same_hiding : hides full chunks ≡ hidden
+
+pub IsTextLeft-raw : (full hidden : Bool) (out new all bytes : List ℕ) (weight : ℕ) (chunks rest : List Chunk)
+    → IsTextLeft full hidden out all chunks → chunks ≡ Raw bytes weight ∷ rest → ink new ≡ ink out ++ ink bytes → IsTextLeft full hidden new all rest
+IsTextLeft-raw full hidden out new all bytes weight chunks rest left first wrote = record {
+  same_ink =
+      ap (λ before. before ++ shown_ink full rest) wrote ∙ append_assoc (ink out) (ink bytes) (shown_ink full rest)
+      ∙ ap (λ cs. ink out ++ shown_ink full cs) (sym first) ∙ left.same_ink;
+  same_hiding = ap (hides full) (sym first) ∙ left.same_hiding;
+}
+
+pub IsTextLeft-line_break : (full hidden : Bool) (out new all : List ℕ) (chunks rest : List Chunk)
+    → IsTextLeft full hidden out all chunks → chunks ≡ LineBreak ∷ rest → ink new ≡ ink out → IsTextLeft full hidden new all rest
+IsTextLeft-line_break full hidden out new all chunks rest left first wrote = record {
+  same_ink = ap (λ before. before ++ shown_ink full rest) wrote ∙ ap (λ cs. ink out ++ shown_ink full cs) (sym first) ∙ left.same_ink;
+  same_hiding = ap (hides full) (sym first) ∙ left.same_hiding;
+}
+
+-- in full a paragraph break is a line break
+pub IsTextLeft-paragraph : (full hidden : Bool) (out new all : List ℕ) (chunks rest : List Chunk) → full ≡ true
+    → IsTextLeft full hidden out all chunks → chunks ≡ Paragraph ∷ rest → ink new ≡ ink out → IsTextLeft full hidden new all rest
+IsTextLeft-paragraph true hidden out new all chunks rest e left first wrote = record {
+  same_ink = ap (λ before. before ++ shown_ink true rest) wrote ∙ ap (λ cs. ink out ++ shown_ink true cs) (sym first) ∙ left.same_ink;
+  same_hiding = ap (hides true) (sym first) ∙ left.same_hiding;
+}
+IsTextLeft-paragraph false hidden out new all chunks rest e left first wrote = absurd cc
+
+-- in brief it hides the rest
+pub IsTextLeft-hides : (full hidden : Bool) (out new all : List ℕ) (chunks rest : List Chunk) → full ≡ false
+    → IsTextLeft full hidden out all chunks → chunks ≡ Paragraph ∷ rest → ink new ≡ ink out → (ink new ≡ all) × (true ≡ hidden)
+IsTextLeft-hides false hidden out new all chunks rest e left first wrote = (
+  wrote ∙ sym (append-nil (ink out)) ∙ ap (λ cs. ink out ++ shown_ink false cs) (sym first) ∙ left.same_ink,
+  ap (hides false) (sym first) ∙ left.same_hiding,
+)
+IsTextLeft-hides true hidden out new all chunks rest e left first wrote = absurd cc
+
+pub IsTextLeft-none : (full hidden : Bool) (out all : List ℕ) (chunks : List Chunk) → IsTextLeft full hidden out all chunks → chunks ≡ []
+    → (ink out ≡ all) × (false ≡ hidden)
+IsTextLeft-none full hidden out all chunks left none = (
+  sym (append-nil (ink out)) ∙ ap (λ cs. ink out ++ shown_ink full cs) (sym none) ∙ left.same_ink,
+  at full ∙ ap (hides full) (sym none) ∙ left.same_hiding,
+) where
+  at : (b : Bool) → false ≡ hides b []
+  at true = refl
+  at false = refl

@@ -1,0 +1,201 @@
+-- The first inked chunk of a line stands at its margin, where only marks or one blank stand before it.
+use Rattle.std.specs.Prelude.{◌≡◌, ℕ, zero, suc, ◌+◌, ◌<◌, Bool, true, false, not, ◌&&◌, ◌==◌, List, [], ◌∷◌, length, codes, refl, ◌⊎◌}
+use Rattle.std.specs.List.{list_any}
+use Rattle.std.proofs.Common.{sym, subst, ap, arith, inl, inr, ◌∙◌}
+use Rattle.bpaf_doc.specs.declared.buffer.Block.{Block}
+use Rattle.bpaf_doc.specs.Splitter.Chunks.{Chunk, Raw, is_inked}
+use Rattle.bpaf_doc.specs.Shown.{is_term_ref, mark_bytes}
+use Rattle.bpaf_doc.specs.Console.Layout.{Event, Shows, Opens, Closes, Stretch, Gap, Placed, Passed, Place, chunk_at, event_bytes, is_inked_stretch, is_raw_or_ref}
+use Rattle.bpaf_doc.specs.declared.console.page.Asked.TheVariants.{Nothing, NewLine, BlankLine}
+use Rattle.bpaf_doc.proofs.lemmas.Console.Layout.State.{State, Piece, Lines, none_asked, line_there, line_put, blank_there, second_put, both_put, Pads, to_margin, after_term, Begins, first, stays, wraps, places, drops, Next, raw, mark, Grows, placing, breaking, passing, padded, trimmed, has_text, put, Suits, raw_suits, paragraph_suits, line_break_suits, open_suits, close_suits}
+use Rattle.bpaf_doc.proofs.lemmas.Console.Layout.Back.{by_cases, EachPlace, each_grows, place_of, fits_of}
+use Rattle.bpaf_doc.proofs.lemmas.Console.Layout.Columns.{Fills, column_back, column_padded, Agrees}
+use Rattle.bpaf_doc.proofs.lemmas.Console.Layout.Text.{EachPassed, NoInk, ink_text, IsStarting, begins_column, begins_margin, or_false_right}
+use Rattle.bpaf_doc.proofs.lemmas.Console.Layout.Pads.{pads_back, HasNoPads, pads_begins}
+use Rattle.bpaf_doc.proofs.lemmas.Console.Layout.Split.{events_back, events_padded, Cut, FirstOrLater, here, later, cut_cons, AfterGap, cut_gap, AfterPassed, cut_passed, AfterPads, cut_padded, has_newline, newline_padded, inked_line, inked_line_padded, inked_since, ink_at}
+
+-- ---- only marks since the last ink
+
+-- no chunk and no TermRef mark stands since the last inked chunk, or since the start
+abbrev pub is_quiet : List Stretch → Bool
+is_quiet [] = true
+is_quiet (Gap b ∷ r) = is_quiet r
+is_quiet (Placed e ∷ r) = is_inked (chunk_at e)
+is_quiet (Passed event ∷ r) = not (is_raw_or_ref event) && is_quiet r
+
+quiet_padded : (n : ℕ) (r : List Stretch) → is_quiet (padded n r) ≡ is_quiet r
+quiet_padded zero r = refl
+quiet_padded (suc n) r = quiet_padded n r
+
+no_backquote : (b : Block) → is_term_ref b ≡ false → length (mark_bytes b) ≡ 0
+no_backquote b h = rw h refl
+
+bare_event : (event : Event) → is_raw_or_ref event ≡ false → length (event_bytes event) ≡ 0
+bare_event (Shows k chunk) h = refl
+bare_event (Opens b) h = no_backquote b h
+bare_event (Closes b) h = no_backquote b h
+
+quiet_column : (r : List Stretch) → is_quiet r ≡ true → inked_line r ≡ false → pads_back r ≡ 0 → column_back r ≡ 0
+quiet_column [] q i p = refl
+quiet_column (Gap b ∷ r) q i p = at (by_cases (b == 10)) where
+  at : ((b == 10) ≡ true) ⊎ ((b == 10) ≡ false) → column_back (Gap b ∷ r) ≡ 0
+  at (inl e) = rw e refl
+  at (inr e) = let some : 1 + pads_back r ≡ 0 = rw e at p in absurd (omega arith)
+quiet_column (Placed e ∷ r) q i p = let some : true ≡ false = rw q at i in absurd cc
+quiet_column (Passed event ∷ r) q i p = at (by_cases (is_raw_or_ref event)) (quiet_column r) where
+  at : (is_raw_or_ref event ≡ true) ⊎ (is_raw_or_ref event ≡ false) → (is_quiet r ≡ true → inked_line r ≡ false → pads_back r ≡ 0 → column_back r ≡ 0) → column_back (Passed event ∷ r) ≡ 0
+  at (inl x) ih = let no : false ≡ true = rw x at q in absurd cc
+  at (inr x) ih =
+      let rest : is_quiet r ≡ true = rw x at q in
+      let none : length (event_bytes event) ≡ 0 = bare_event event x in
+      let pads : pads_back r ≡ 0 = omega arith in
+      let tail : column_back r ≡ 0 = ih rest (or_false_right (is_inked_stretch (Passed event)) (inked_line r) i) pads in
+      omega arith
+
+-- ---- one blank since the last ink
+
+-- nothing stands after an inked chunk that no event follows
+abbrev pub IsLast : State → Type 0
+IsLast st = (m before : List Stretch) (e : Place) → Cut st.back m e before → is_inked (chunk_at e) ≡ true → events_back m ≡ [] → (m ≡ []) × (st.asked ≡ Nothing)
+
+pub last_grows : {width : ℕ} {st after : State} {next : Next} → Grows width st next after → IsLast st → IsLast after
+last_grows (placing p e (places base n b d a)) h = subst IsLast (sym a) (λ m before g there i none. at m before g none (cut_cons (Placed (place_of p)) (padded n base.back) m g before there)) where
+  at : (m before : List Stretch) (g : Place) → events_back m ≡ [] → FirstOrLater (Placed (place_of p)) (padded n base.back) m g before → (m ≡ []) × (Nothing ≡ Nothing)
+  at m before g none (here is x r) = (is, refl)
+  at m before g none (later rest is r) = let some : Shows p.part (chunk_at (place_of p)) ∷ events_back rest ≡ [] = sym (ap events_back is) ∙ none in absurd cc
+last_grows (placing p e (drops t mid l w b a)) h = subst IsLast (sym a) (λ m before g there i none.
+    let found : AfterPassed (Shows p.part (Raw p.bytes p.weight)) (Gap 10 ∷ trimmed mid.back) m g before = cut_passed (Shows p.part (Raw p.bytes p.weight)) (Gap 10 ∷ trimmed mid.back) m g before there in
+    let some : Shows p.part (Raw p.bytes p.weight) ∷ events_back found.rest ≡ [] = sym (ap events_back found.is) ∙ none in absurd cc)
+last_grows {st = st} (breaking k chunk e a) h = subst IsLast (sym a) (λ m before g there i none.
+    let gap : AfterGap 10 (Passed (Shows k chunk) ∷ st.back) m g before = cut_gap 10 (Passed (Shows k chunk) ∷ st.back) m g before there in
+    let found : AfterPassed (Shows k chunk) st.back gap.rest g before = cut_passed (Shows k chunk) st.back gap.rest g before gap.there in
+    let some : Shows k chunk ∷ events_back found.rest ≡ [] = sym (ap events_back gap.is ∙ ap events_back found.is) ∙ none in absurd cc)
+last_grows {st = st} (passing event margin e a) h = subst IsLast (sym a) (λ m before g there i none.
+    let found : AfterPassed event st.back m g before = cut_passed event st.back m g before there in
+    let some : event ∷ events_back found.rest ≡ [] = sym (ap events_back found.is) ∙ none in absurd cc)
+
+-- after one blank and a newline the column is 0
+abbrev pub IsAtStart : State → Type 0
+IsAtStart st = (m before : List Stretch) (e : Place) (k : ℕ) → Cut st.back m e before → is_inked (chunk_at e) ≡ true → events_back m ≡ Shows k (Raw (codes " ") 1) ∷ []
+    → has_newline m ≡ true → column_back st.back ≡ 0
+
+no_place_first : (st : State) → EachPlace Fills st.back → EachPassed NoInk st.back → has_text st.back ≡ false → (m before : List Stretch) (e : Place) → Cut st.back m e before → is_inked (chunk_at e) ≡ true → ⊥
+no_place_first st f q none m before e there i =
+    let ink : list_any is_inked_stretch st.back ≡ true = subst (λ x. list_any is_inked_stretch x ≡ true) (sym there) (ink_at m e before i) in
+    let text : has_text st.back ≡ true = ink_text st.back f q ink in cc
+
+-- after what was asked for, directly after an inked chunk, nothing was written
+last_lines : {st mid : State} → IsLast st → Lines st mid → (m before : List Stretch) (e : Place) → Cut mid.back m e before → is_inked (chunk_at e) ≡ true → events_back m ≡ [] → m ≡ []
+last_lines {st} h (none_asked a s) m before e there i none = (h m before e (subst (λ (x : State). Cut x.back m e before) s there) i none).0
+last_lines {st} h (line_there a b s) m before e there i none = (h m before e (subst (λ (x : State). Cut x.back m e before) s there) i none).0
+last_lines {st} h (line_put a s) m before e there i none =
+    let found : AfterGap 10 st.back m e before = cut_gap 10 st.back m e before (subst (λ (x : State). Cut x.back m e before) s there) in
+    let asked : st.asked ≡ Nothing = (h found.rest before e found.there i (sym (ap events_back found.is) ∙ none)).1 in
+    let no : NewLine ≡ Nothing = sym a ∙ asked in absurd cc
+last_lines {st} h (blank_there a b s) m before e there i none = (h m before e (subst (λ (x : State). Cut x.back m e before) s there) i none).0
+last_lines {st} h (second_put a b s) m before e there i none =
+    let found : AfterGap 10 st.back m e before = cut_gap 10 st.back m e before (subst (λ (x : State). Cut x.back m e before) s there) in
+    let asked : st.asked ≡ Nothing = (h found.rest before e found.there i (sym (ap events_back found.is) ∙ none)).1 in
+    let no : BlankLine ≡ Nothing = sym a ∙ asked in absurd cc
+last_lines {st} h (both_put a s) m before e there i none =
+    let found : AfterGap 10 (Gap 10 ∷ st.back) m e before = cut_gap 10 (Gap 10 ∷ st.back) m e before (subst (λ (x : State). Cut x.back m e before) s there) in
+    let next : AfterGap 10 st.back found.rest e before = cut_gap 10 st.back found.rest e before found.there in
+    let asked : st.asked ≡ Nothing = (h next.rest before e next.there i (sym (ap events_back found.is ∙ ap events_back next.is) ∙ none)).1 in
+    let no : BlankLine ≡ Nothing = sym a ∙ asked in absurd cc
+
+start_put : {width : ℕ} {st : State} (p : Piece) (base : State) (n : ℕ) → EachPlace Fills st.back → EachPassed NoInk st.back → IsLast st → Begins width st p base
+    → IsAtStart (put n p.part p.bytes p.weight base)
+start_put {width} {st} p base n f q h b = λ m before e k there i blank line. at m before e k i blank line (cut_cons (Placed (place_of p)) (padded n base.back) m e before there) where
+  at : (m before : List Stretch) (e : Place) (k : ℕ) → is_inked (chunk_at e) ≡ true → events_back m ≡ Shows k (Raw (codes " ") 1) ∷ [] → has_newline m ≡ true
+      → FirstOrLater (Placed (place_of p)) (padded n base.back) m e before → column_back (put n p.part p.bytes p.weight base).back ≡ 0
+  at m before e k i blank line (here is x r) = let no : [] ≡ Shows k (Raw (codes " ") 1) ∷ [] = sym (ap events_back is) ∙ blank in absurd cc
+  at m before e k i blank line (later rest is there) =
+      let events : Shows p.part (chunk_at (place_of p)) ∷ events_back rest ≡ Shows k (Raw (codes " ") 1) ∷ [] = sym (ap events_back is) ∙ blank in
+      let none : events_back rest ≡ [] = cc in
+      let found : AfterPads n base.back rest e before = cut_padded n base.back rest e before there in
+      let none_found : events_back found.rest ≡ [] = sym (ap events_back found.is ∙ events_padded n found.rest) ∙ none in
+      let bytes : p.bytes ≡ codes " " = cc in
+      let same_line : has_newline m ≡ has_newline found.rest = ap has_newline is ∙ ap has_newline found.is ∙ newline_padded n found.rest in
+      let some : has_newline found.rest ≡ true = sym same_line ∙ line in
+      absurd (begins found.rest some none_found found.there bytes b) where
+        begins : (rest : List Stretch) → has_newline rest ≡ true → events_back rest ≡ [] → Cut base.back rest e before → p.bytes ≡ codes " " → Begins width st p base → ⊥
+        begins rest some none there bytes (first t s) = no_place_first st f q t rest before e (subst (λ (x : State). Cut x.back rest e before) s there) i
+        begins rest some none there bytes (stays t l w) =
+            let nothing : rest ≡ [] = last_lines h l rest before e there i none in
+            let no : false ≡ true = sym (ap has_newline nothing) ∙ some in cc
+        begins rest some none there bytes (wraps t mid l w other s) = other bytes
+
+not_shown : {margin_of : ℕ → ℕ} (st : State) (next : Next) (event : Event) (margin k : ℕ) (chunk : Chunk) → Suits margin_of st next → next ≡ mark event margin → event ≡ Shows k chunk → ⊥
+not_shown st next event margin k chunk (raw_suits q f g) e h = cc
+not_shown st next event margin k chunk (paragraph_suits j f l m) e h = cc
+not_shown st next event margin k chunk (line_break_suits j f l m) e h = cc
+not_shown st next event margin k chunk (open_suits b n f l u) e h = let same : event ≡ Opens b = cc in cc
+not_shown st next event margin k chunk (close_suits b n f l u) e h = let same : event ≡ Closes b = cc in cc
+
+pub start_grows : {width : ℕ} {margin_of : ℕ → ℕ} {st after : State} {next : Next} → EachPlace Fills st.back → EachPassed NoInk st.back → IsLast st → Suits margin_of st next
+    → Grows width st next after → IsAtStart st → IsAtStart after
+start_grows f q l suits (placing p e (places base n b d a)) h = subst IsAtStart (sym a) (start_put p base n f q l b)
+start_grows f q l suits (placing p e (drops t mid y w b a)) h = subst IsAtStart (sym a) (λ m before g k there i blank line. refl)
+start_grows f q l suits (breaking k chunk e a) h = subst IsAtStart (sym a) (λ m before g j there i blank line. refl)
+start_grows {st = st} {next = next} f q l suits (passing event margin e a) h = subst IsAtStart (sym a) (λ m before g k there i blank line.
+    let found : AfterPassed event st.back m g before = cut_passed event st.back m g before there in
+    let events : event ∷ events_back found.rest ≡ Shows k (Raw (codes " ") 1) ∷ [] = sym (ap events_back found.is) ∙ blank in
+    let same : event ≡ Shows k (Raw (codes " ") 1) = cc in
+    absurd (not_shown st next event margin k (Raw (codes " ") 1) suits e same))
+
+-- ---- the law
+
+-- an inked chunk, and since then one blank of the same text
+pub record AfterBlank (r : List Stretch) (part : ℕ) : Type 0 where
+  pub rest : List Stretch
+  pub before : List Stretch
+  pub place : Place
+  pub there : Cut r rest place before
+  pub inked : is_inked (chunk_at place) ≡ true
+  pub blank : events_back rest ≡ Shows part (Raw (codes " ") 1) ∷ []
+
+module _ (margin_of : ℕ → ℕ) where
+  abbrev pub IsExact : List Stretch → Place → Type 0
+  IsExact r f = inked_line r ≡ false → (is_quiet r ≡ true) ⊎ AfterBlank r f.part → column_back r ≡ margin_of f.part
+
+  exact_pads : (n : ℕ) (base : State) (m : ℕ) → base.margin ≡ m → base.column ≡ 0 → Pads base n → n ≡ m
+  exact_pads n base m a c (to_margin e) = omega arith
+  exact_pads n base m a c (after_term t wide few e) = absurd (omega arith)
+
+  lines_start : {st mid : State} → IsAtStart st → Lines st mid → (m before : List Stretch) (e : Place) (k : ℕ) → Cut mid.back m e before → is_inked (chunk_at e) ≡ true
+      → events_back m ≡ Shows k (Raw (codes " ") 1) ∷ [] → has_newline m ≡ true → column_back mid.back ≡ 0
+  lines_start h (none_asked a s) m before e k there i blank line = ap (λ (x : State). column_back x.back) s ∙ h m before e k (subst (λ (x : State). Cut x.back m e before) s there) i blank line
+  lines_start h (line_there a b s) m before e k there i blank line = ap (λ (x : State). column_back x.back) s ∙ h m before e k (subst (λ (x : State). Cut x.back m e before) s there) i blank line
+  lines_start h (line_put a s) m before e k there i blank line = ap (λ (x : State). column_back x.back) s
+  lines_start h (blank_there a b s) m before e k there i blank line = ap (λ (x : State). column_back x.back) s ∙ h m before e k (subst (λ (x : State). Cut x.back m e before) s there) i blank line
+  lines_start h (second_put a b s) m before e k there i blank line = ap (λ (x : State). column_back x.back) s
+  lines_start h (both_put a s) m before e k there i blank line = ap (λ (x : State). column_back x.back) s
+
+  pub exact_grows : {width : ℕ} {st after : State} {next : Next} → width < 1_000_000 → EachPlace Fills st.back → EachPassed NoInk st.back → IsStarting st → Agrees st → HasNoPads st → IsAtStart st
+      → Suits margin_of st next → Grows width st next after → EachPlace IsExact st.back → EachPlace IsExact after.back
+  exact_grows {width} {st} {after} {next} small f q start agrees none h suits g all = each_grows IsExact (λ r p i x. x) core g all where
+    core : (p : Piece) (base : State) (n : ℕ) → next ≡ raw p → Begins width st p base → Pads base n → IsExact (padded n base.back) (place_of p)
+    core p base n is b d = λ line kind.
+        let here_line : inked_line base.back ≡ false = sym (inked_line_padded n base.back) ∙ line in
+        let back_zero : column_back base.back ≡ 0 = zero_at here_line kind in
+        let column : base.column ≡ 0 = begins_column small f start agrees b ∙ back_zero in
+        let in_force : base.margin ≡ margin_of p.part = (begins_margin b).0 ∙ (fits_of suits is).margin_is in
+        let pads : n ≡ margin_of p.part = exact_pads n base (margin_of p.part) in_force column d in
+        let total : column_back (padded n base.back) ≡ n + column_back base.back = column_padded n base.back in
+        omega arith where
+          after_blank : inked_line base.back ≡ false → (found : AfterBlank (padded n base.back) p.part) → AfterPads n base.back found.rest found.place found.before → Begins width st p base → column_back base.back ≡ 0
+          after_blank clear found cut_there (first t s) =
+              absurd (no_place_first st f q t cut_there.rest found.before found.place (subst (λ (x : State). Cut x.back cut_there.rest found.place found.before) s cut_there.there) found.inked)
+          after_blank clear found cut_there (stays t l w) = at (by_cases (has_newline cut_there.rest)) where
+            blank : events_back cut_there.rest ≡ Shows p.part (Raw (codes " ") 1) ∷ []
+            blank = sym (ap events_back cut_there.is ∙ events_padded n cut_there.rest) ∙ found.blank
+
+            at : (has_newline cut_there.rest ≡ true) ⊎ (has_newline cut_there.rest ≡ false) → column_back base.back ≡ 0
+            at (inl y) = lines_start h l cut_there.rest found.before found.place p.part cut_there.there found.inked blank y
+            at (inr y) =
+                let some : inked_line base.back ≡ true = subst (λ x. inked_line x ≡ true) (sym cut_there.there) (inked_since cut_there.rest found.place found.before found.inked y) in absurd cc
+          after_blank clear found cut_there (wraps t mid l w x s) = ap (λ (y : State). column_back y.back) s
+
+          zero_at : inked_line base.back ≡ false → (is_quiet (padded n base.back) ≡ true) ⊎ AfterBlank (padded n base.back) p.part → column_back base.back ≡ 0
+          zero_at clear (inl y) = quiet_column base.back (sym (quiet_padded n base.back) ∙ y) clear (pads_begins b none)
+          zero_at clear (inr y) = after_blank clear y (cut_padded n base.back y.rest y.place y.before y.there) b

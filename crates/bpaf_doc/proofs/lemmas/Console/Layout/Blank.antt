@@ -1,0 +1,342 @@
+-- A blank line stands where one is asked for.
+use Rattle.std.specs.Prelude.{◌≡◌, ℕ, zero, suc, ◌≤◌, Bool, true, false, ◌&&◌, ◌||◌, ◌==◌, List, [], ◌∷◌, ◌++◌, reverse, length, codes, refl, if◌then◌else◌, ◌⊎◌}
+use Rattle.std.specs.List.{list_any}
+use Rattle.std.proofs.Common.{sym, subst, ap, arith, inl, inr, ◌∙◌, append_assoc}
+use Rattle.std.proofs.lemmas.List.{reverse-append, append-nil}
+use Rattle.std.proofs.lemmas.Grind.{flat_map-append}
+use Rattle.std.proofs.lemmas.Bool.Decides.{nat_tests}
+use Rattle.bpaf_doc.specs.Splitter.Chunks.{Chunk, Paragraph, LineBreak, columns, is_inked, has_some}
+use Rattle.bpaf_doc.specs.Console.Layout.{Event, Shows, Stretch, Gap, Placed, Passed, Place, chunk_at, event_bytes, stretch_bytes, is_inked_stretch, asks_newline, asks_blank_line, is_raw_event, text_of, HasBlankLine}
+use Rattle.bpaf_doc.specs.declared.console.page.Asked.{Asked}
+use Rattle.bpaf_doc.specs.declared.console.page.Asked.TheVariants.{Nothing, NewLine, BlankLine}
+use Rattle.bpaf_doc.proofs.lemmas.Console.Layout.State.{State, Piece, Lines, none_asked, line_there, line_put, blank_there, second_put, both_put, Pads, Begins, first, stays, wraps, places, drops, Next, raw, break, Grows, placing, breaking, passing, padded, trimmed, has_text, ends_line, ends_blank, passed, at_least_line, Suits, raw_suits, paragraph_suits, line_break_suits, open_suits, close_suits}
+use Rattle.bpaf_doc.proofs.lemmas.Console.Layout.Back.{by_cases, EachPlace, each_grows, trimmed_inked, trimmed_plain, trimmed_bytes, trimmed_bare, place_of}
+use Rattle.bpaf_doc.proofs.lemmas.Console.Layout.Columns.{Fills, inked_some, fills_begins}
+use Rattle.bpaf_doc.proofs.lemmas.Console.Layout.Text.{EachPassed, NoInk, ink_text, or_true_right, or_false_left, or_false_right}
+use Rattle.bpaf_doc.proofs.lemmas.Console.Layout.Split.{events_back, events_padded, Cut, AfterPads, cut_padded, ink_at}
+use Rattle.bpaf_doc.proofs.lemmas.Console.Layout.Asked.{blank_line_ends}
+
+-- the last Raw chunk is inked
+abbrev pub last_raw_inked : List Stretch → Bool
+last_raw_inked [] = false
+last_raw_inked (Gap b ∷ r) = last_raw_inked r
+last_raw_inked (Placed e ∷ r) = is_inked (chunk_at e)
+last_raw_inked (Passed event ∷ r) = if is_raw_event event then false else last_raw_inked r
+
+-- a blank line is asked for since it
+abbrev pub owes_blank : List Stretch → Bool
+owes_blank [] = false
+owes_blank (Gap b ∷ r) = owes_blank r
+owes_blank (Placed e ∷ r) = false
+owes_blank (Passed event ∷ r) = if is_raw_event event then false else ((asks_blank_line event && last_raw_inked r) || owes_blank r)
+
+abbrev pub IsAskedBlank : State → Type 0
+IsAskedBlank st = owes_blank st.back ≡ true → st.asked ≡ BlankLine
+
+-- the text ends in a newline, and no chunk stands after it
+abbrev pub is_fresh : List Stretch → Bool
+is_fresh [] = false
+is_fresh (Gap b ∷ r) = b == 10
+is_fresh (Placed e ∷ r) = false
+is_fresh (Passed event ∷ r) = if has_some (event_bytes event) then false else is_fresh r
+
+abbrev pub IsFreshAtZero : State → Type 0
+IsFreshAtZero st = is_fresh st.back ≡ true → st.column ≡ 0
+
+pub fresh_grows : {width : ℕ} {st after : State} {next : Next} → Grows width st next after → IsFreshAtZero st → IsFreshAtZero after
+fresh_grows (placing p e (places base n b d a)) h = subst IsFreshAtZero (sym a) (λ o. absurd cc)
+fresh_grows (placing p e (drops t mid l w b a)) h = subst IsFreshAtZero (sym a) (λ o. refl)
+fresh_grows (breaking k chunk e a) h = subst IsFreshAtZero (sym a) (λ o. refl)
+fresh_grows {st = st} (passing event margin e a) h = subst IsFreshAtZero (sym a) (at (by_cases (has_some (event_bytes event)))) where
+  no_length : (xs : List ℕ) → has_some xs ≡ false → length xs ≡ 0
+  no_length [] h = refl
+  no_length (x ∷ xs) h = absurd cc
+
+  at : (has_some (event_bytes event) ≡ true) ⊎ (has_some (event_bytes event) ≡ false) → IsFreshAtZero (passed event margin st)
+  at (inl s) = λ o. let no : false ≡ true = rw s at o in absurd cc
+  at (inr s) = λ o.
+      let rest : is_fresh st.back ≡ true = rw s at o in
+      let none : length (event_bytes event) ≡ 0 = no_length (event_bytes event) s in
+      let here : st.column ≡ 0 = h rest in omega arith
+
+last_fresh : (r : List Stretch) → EachPlace Fills r → last_raw_inked r ≡ true → ends_line r ≡ true → is_fresh r ≡ true
+last_fresh [] f i h = h
+last_fresh (Gap b ∷ r) f i h = h
+last_fresh (Placed e ∷ r) f i h = let some : has_some e.shown ≡ true = f.0 ∙ inked_some e.bytes i in let no : false ≡ true = rw some at h in absurd cc
+last_fresh (Passed event ∷ r) f i h = at (by_cases (is_raw_event event)) (by_cases (has_some (event_bytes event))) (last_fresh r f) where
+  at : (is_raw_event event ≡ true) ⊎ (is_raw_event event ≡ false) → (has_some (event_bytes event) ≡ true) ⊎ (has_some (event_bytes event) ≡ false)
+      → (last_raw_inked r ≡ true → ends_line r ≡ true → is_fresh r ≡ true) → is_fresh (Passed event ∷ r) ≡ true
+  at (inl x) s ih = let no : false ≡ true = rw x at i in absurd cc
+  at (inr x) (inl s) ih = let no : false ≡ true = rw s at h in absurd cc
+  at (inr x) (inr s) ih = let rest : ends_line r ≡ true = rw s at h in let last : last_raw_inked r ≡ true = rw x at i in rw s (ih last rest)
+
+pub owes_fresh : (r : List Stretch) → EachPlace Fills r → owes_blank r ≡ true → ends_line r ≡ true → is_fresh r ≡ true
+owes_fresh [] f o h = h
+owes_fresh (Gap b ∷ r) f o h = h
+owes_fresh (Placed e ∷ r) f o h = absurd cc
+owes_fresh (Passed event ∷ r) f o h = at (by_cases (is_raw_event event)) (by_cases (has_some (event_bytes event))) (by_cases (owes_blank r)) (owes_fresh r f) where
+  or_left : (a b : Bool) → (a || b) ≡ true → b ≡ false → a ≡ true
+  or_left true b h f = refl
+  or_left false b h f = absurd cc
+
+  and_right : (a b : Bool) → (a && b) ≡ true → b ≡ true
+  and_right true b h = h
+  and_right false b h = absurd cc
+
+  at : (is_raw_event event ≡ true) ⊎ (is_raw_event event ≡ false) → (has_some (event_bytes event) ≡ true) ⊎ (has_some (event_bytes event) ≡ false)
+      → (owes_blank r ≡ true) ⊎ (owes_blank r ≡ false) → (owes_blank r ≡ true → ends_line r ≡ true → is_fresh r ≡ true) → is_fresh (Passed event ∷ r) ≡ true
+  at (inl x) s y ih = let no : false ≡ true = rw x at o in absurd cc
+  at (inr x) (inl s) y ih = let no : false ≡ true = rw s at h in absurd cc
+  at (inr x) (inr s) (inl y) ih = let rest : ends_line r ≡ true = rw s at h in rw s (ih y rest)
+  at (inr x) (inr s) (inr y) ih =
+      let both : ((asks_blank_line event && last_raw_inked r) || owes_blank r) ≡ true = rw x at o in
+      let last : (asks_blank_line event && last_raw_inked r) ≡ true = or_left (asks_blank_line event && last_raw_inked r) (owes_blank r) both y in
+      let rest : ends_line r ≡ true = rw s at h in
+      rw s (last_fresh r f (and_right (asks_blank_line event) (last_raw_inked r) last) rest)
+
+-- ---- what is owed is asked for
+
+at_least_blank : (a : Asked) → a ≡ BlankLine → at_least_line a ≡ BlankLine
+at_least_blank a h = rw h refl
+
+asked_blank_passed : (event : Event) (margin : ℕ) (st : State) → IsAskedBlank st → IsAskedBlank (passed event margin st)
+asked_blank_passed event margin st h = at (by_cases (is_raw_event event)) (by_cases (asks_blank_line event)) (by_cases (asks_newline event)) where
+  at : (is_raw_event event ≡ true) ⊎ (is_raw_event event ≡ false) → (asks_blank_line event ≡ true) ⊎ (asks_blank_line event ≡ false)
+      → (asks_newline event ≡ true) ⊎ (asks_newline event ≡ false) → IsAskedBlank (passed event margin st)
+  at (inl x) b n = λ o. let no : false ≡ true = rw x at o in absurd cc
+  at (inr x) (inl b) n = λ o. rw b refl
+  at (inr x) (inr b) (inl n) = λ o. let rest : owes_blank st.back ≡ true = rw (x, b) at o in rw (b, n) (at_least_blank st.asked (h rest))
+  at (inr x) (inr b) (inr n) = λ o. let rest : owes_blank st.back ≡ true = rw (x, b) at o in rw (b, n) (h rest)
+
+asked_blank_broken : {margin_of : ℕ → ℕ} (st : State) (next : Next) (k : ℕ) (chunk : Chunk) → Suits margin_of st next → next ≡ break k chunk
+    → (is_raw_event (Shows k chunk) ≡ false) × (asks_blank_line (Shows k chunk) ≡ false)
+asked_blank_broken st next k chunk (raw_suits q f g) e = absurd cc
+asked_blank_broken st next k chunk (paragraph_suits j f l m) e = let same : chunk ≡ Paragraph = cc in (rw same refl, refl)
+asked_blank_broken st next k chunk (line_break_suits j f l m) e = let same : chunk ≡ LineBreak = cc in (rw same refl, refl)
+asked_blank_broken st next k chunk (open_suits b margin f l u) e = absurd cc
+asked_blank_broken st next k chunk (close_suits b margin f l u) e = absurd cc
+
+pub asked_blank_grows : {width : ℕ} {margin_of : ℕ → ℕ} {st after : State} {next : Next} → Suits margin_of st next
+    → Grows width st next after → IsAskedBlank st → IsAskedBlank after
+asked_blank_grows suits (placing p e (places base n b d a)) h = subst IsAskedBlank (sym a) (λ o. absurd cc)
+asked_blank_grows suits (placing p e (drops t mid l w b a)) h = subst IsAskedBlank (sym a) (λ o. absurd cc)
+asked_blank_grows {st = st} {next = next} suits (breaking k chunk e a) h =
+    let plain : (is_raw_event (Shows k chunk) ≡ false) × (asks_blank_line (Shows k chunk) ≡ false) = asked_blank_broken st next k chunk suits e in
+    let r : is_raw_event (Shows k chunk) ≡ false = plain.0 in
+    subst IsAskedBlank (sym a) (λ o. let rest : owes_blank st.back ≡ true = rw r at o in h rest)
+asked_blank_grows {st = st} suits (passing event margin e a) h = subst IsAskedBlank (sym a) (asked_blank_passed event margin st h)
+
+-- ---- the text between
+
+abbrev pub text_back : List Stretch → List ℕ
+text_back m = text_of (reverse m)
+
+pub text_back_cons : (x : Stretch) (m : List Stretch) → text_back (x ∷ m) ≡ text_back m ++ stretch_bytes x
+text_back_cons x m =
+    let turned : reverse (x ∷ m) ≡ reverse m ++ x ∷ [] = reverse-append (x ∷ []) m in
+    ap text_of turned ∙ flat_map-append stretch_bytes (reverse m) (x ∷ []) ∙ ap (λ t. text_back m ++ t) (append-nil (stretch_bytes x))
+
+some_none : (xs : List ℕ) → has_some xs ≡ false → xs ≡ []
+some_none [] h = refl
+some_none (x ∷ xs) h = absurd cc
+
+-- the text ends in a newline
+abbrev EndsLine : List Stretch → Type 0
+EndsLine m = (front : List ℕ) × (text_back m ≡ front ++ codes "\n")
+
+-- no Raw chunk stands there
+abbrev pub HasNoRaw : List Stretch → Type 0
+HasNoRaw m = list_any is_raw_event (events_back m) ≡ false
+
+line_between : (m : List Stretch) (e : Place) (before : List Stretch) → HasNoRaw m → has_some e.shown ≡ true → ends_line (m ++ Placed e ∷ before) ≡ true → EndsLine m
+line_between [] e before none some h = let no : false ≡ true = rw some at h in absurd cc
+line_between (Gap b ∷ m) e before none some h =
+    let ten : b ≡ 10 = is_ten b h in
+    (text_back m, text_back_cons (Gap b) m ∙ ap (λ c. text_back m ++ c ∷ []) ten) where
+      is_ten : (b : ℕ) → (b == 10) ≡ true → b ≡ 10
+      is_ten b e = grind (arith, nat_tests)
+line_between (Placed g ∷ m) e before none some h = absurd cc
+line_between (Passed event ∷ m) e before none some h = at (by_cases (has_some (event_bytes event))) (line_between m e before (or_false_right (is_raw_event event) _ none) some) where
+  at : (has_some (event_bytes event) ≡ true) ⊎ (has_some (event_bytes event) ≡ false) → (ends_line (m ++ Placed e ∷ before) ≡ true → EndsLine m) → EndsLine (Passed event ∷ m)
+  at (inl s) ih = let no : false ≡ true = rw s at h in absurd cc
+  at (inr s) ih =
+      let rest : ends_line (m ++ Placed e ∷ before) ≡ true = rw s at h in
+      let found : EndsLine m = ih rest in
+      let same : text_back (Passed event ∷ m) ≡ text_back m = text_back_cons (Passed event) m ∙ ap (λ t. text_back m ++ t) (some_none (event_bytes event) s) ∙ append-nil (text_back m) in
+      (found.0, same ∙ found.1)
+
+blank_between : (m : List Stretch) (e : Place) (before : List Stretch) → HasNoRaw m → has_some e.shown ≡ true → ends_blank (m ++ Placed e ∷ before) ≡ true → HasBlankLine (text_back m)
+blank_between [] e before none some h = let no : false ≡ true = rw some at h in absurd cc
+blank_between (Gap b ∷ m) e before none some h =
+    let ten : b ≡ 10 = is_ten b (and_left (b == 10) _ h) in
+    let line : EndsLine m = line_between m e before none some (and_right (b == 10) _ h) in
+    (line.0, [], text_back_cons (Gap b) m ∙ ap (λ t. t ++ b ∷ []) line.1 ∙ ap (λ c. (line.0 ++ codes "\n") ++ c ∷ []) ten ∙ append_assoc line.0 (codes "\n") (codes "\n") ∙ sym (append-nil (line.0 ++ codes "\n\n"))) where
+      is_ten : (b : ℕ) → (b == 10) ≡ true → b ≡ 10
+      is_ten b e = grind (arith, nat_tests)
+
+      and_left : (a b : Bool) → (a && b) ≡ true → a ≡ true
+      and_left true b h = refl
+      and_left false b h = absurd cc
+
+      and_right : (a b : Bool) → (a && b) ≡ true → b ≡ true
+      and_right true b h = h
+      and_right false b h = absurd cc
+blank_between (Placed g ∷ m) e before none some h = absurd cc
+blank_between (Passed event ∷ m) e before none some h = at (by_cases (has_some (event_bytes event))) (blank_between m e before (or_false_right (is_raw_event event) _ none) some) where
+  at : (has_some (event_bytes event) ≡ true) ⊎ (has_some (event_bytes event) ≡ false) → (ends_blank (m ++ Placed e ∷ before) ≡ true → HasBlankLine (text_back m)) → HasBlankLine (text_back (Passed event ∷ m))
+  at (inl s) ih = let no : false ≡ true = rw s at h in absurd cc
+  at (inr s) ih =
+      let rest : ends_blank (m ++ Placed e ∷ before) ≡ true = rw s at h in
+      let same : text_back (Passed event ∷ m) ≡ text_back m = text_back_cons (Passed event) m ∙ ap (λ t. text_back m ++ t) (some_none (event_bytes event) s) ∙ append-nil (text_back m) in
+      subst (λ t. HasBlankLine t) (sym same) (ih rest)
+
+blank_longer : (m : List Stretch) (x : Stretch) → HasBlankLine (text_back m) → HasBlankLine (text_back (x ∷ m))
+blank_longer m x h =
+    (h.0, h.1 ++ stretch_bytes x, text_back_cons x m ∙ ap (λ t. t ++ stretch_bytes x) h.2 ∙ append_assoc (h.0 ++ codes "\n\n") h.1 (stretch_bytes x))
+
+blank_padded : (n : ℕ) (m : List Stretch) → HasBlankLine (text_back m) → HasBlankLine (text_back (padded n m))
+blank_padded zero m h = h
+blank_padded (suc n) m h = blank_longer (padded n m) (Gap 32) (blank_padded n m h)
+
+-- ---- the law
+
+owes_padded : (n : ℕ) (r : List Stretch) → owes_blank (padded n r) ≡ owes_blank r
+owes_padded zero r = refl
+owes_padded (suc n) r = owes_padded n r
+
+raw_padded : (n : ℕ) (m : List Stretch) → HasNoRaw (padded n m) → HasNoRaw m
+raw_padded n m h = subst (λ es. list_any is_raw_event es ≡ false) (events_padded n m) h
+
+last_between : (m : List Stretch) (e : Place) (before : List Stretch) → HasNoRaw m → is_inked (chunk_at e) ≡ true → last_raw_inked (m ++ Placed e ∷ before) ≡ true
+last_between [] e before none i = i
+last_between (Gap b ∷ m) e before none i = last_between m e before none i
+last_between (Placed g ∷ m) e before none i = absurd cc
+last_between (Passed event ∷ m) e before none i =
+    let plain : is_raw_event event ≡ false = or_false_left (is_raw_event event) (list_any is_raw_event (events_back m)) none in
+    rw plain (last_between m e before (or_false_right (is_raw_event event) (list_any is_raw_event (events_back m)) none) i)
+
+owes_between : (m : List Stretch) (e : Place) (before : List Stretch) → HasNoRaw m → is_inked (chunk_at e) ≡ true → list_any asks_blank_line (events_back m) ≡ true
+    → owes_blank (m ++ Placed e ∷ before) ≡ true
+owes_between [] e before none i a = absurd cc
+owes_between (Gap b ∷ m) e before none i a = owes_between m e before none i a
+owes_between (Placed g ∷ m) e before none i a = absurd cc
+owes_between (Passed event ∷ m) e before none i a = at (by_cases (asks_blank_line event)) (owes_between m e before (or_false_right (is_raw_event event) (list_any is_raw_event (events_back m)) none) i) where
+  plain : is_raw_event event ≡ false
+  plain = or_false_left (is_raw_event event) (list_any is_raw_event (events_back m)) none
+
+  at : (asks_blank_line event ≡ true) ⊎ (asks_blank_line event ≡ false) → (list_any asks_blank_line (events_back m) ≡ true → owes_blank (m ++ Placed e ∷ before) ≡ true)
+      → owes_blank (Passed event ∷ (m ++ Placed e ∷ before)) ≡ true
+  at (inl b) ih =
+      let last : last_raw_inked (m ++ Placed e ∷ before) ≡ true = last_between m e before (or_false_right (is_raw_event event) (list_any is_raw_event (events_back m)) none) i in
+      rw (plain, b, last) refl
+  at (inr b) ih = let rest : list_any asks_blank_line (events_back m) ≡ true = rw b at a in rw plain (or_true_right (asks_blank_line event && last_raw_inked (m ++ Placed e ∷ before)) _ (ih rest))
+
+module _ (width : ℕ) where
+  abbrev pub HasBlankBefore : List Stretch → Place → Type 0
+  HasBlankBefore r f = (m before : List Stretch) (e : Place) → Cut r m e before → is_inked (chunk_at e) ≡ true → HasNoRaw m
+      → list_any asks_blank_line (events_back m) ≡ true → columns f.bytes ≤ width → HasBlankLine (text_back m)
+
+  lines_blank : {st mid : State} → IsAskedBlank st → owes_blank st.back ≡ true → Lines st mid → ends_blank mid.back ≡ true
+  lines_blank h o (none_asked a e) = let b : Nothing ≡ BlankLine = sym a ∙ h o in absurd cc
+  lines_blank h o (line_there a b e) = let c : NewLine ≡ BlankLine = sym a ∙ h o in absurd cc
+  lines_blank h o (line_put a e) = let c : NewLine ≡ BlankLine = sym a ∙ h o in absurd cc
+  lines_blank h o (blank_there a b e) = subst (λ (s : State). ends_blank s.back ≡ true) (sym e) b
+  lines_blank h o (second_put a b e) = subst (λ (s : State). ends_blank s.back ≡ true) (sym e) b
+  lines_blank h o (both_put a e) = subst (λ (s : State). ends_blank s.back ≡ true) (sym e) refl
+
+  owes_lines : {st mid : State} → Lines st mid → owes_blank mid.back ≡ owes_blank st.back
+  owes_lines (none_asked a e) = ap (λ (s : State). owes_blank s.back) e
+  owes_lines (line_there a b e) = ap (λ (s : State). owes_blank s.back) e
+  owes_lines (line_put a e) = ap (λ (s : State). owes_blank s.back) e
+  owes_lines (blank_there a b e) = ap (λ (s : State). owes_blank s.back) e
+  owes_lines (second_put a b e) = ap (λ (s : State). owes_blank s.back) e
+  owes_lines (both_put a e) = ap (λ (s : State). owes_blank s.back) e
+
+  -- after a blank line was written the column is 0
+  lines_zero : {st mid : State} → EachPlace Fills st.back → IsAskedBlank st → IsFreshAtZero st → owes_blank st.back ≡ true → Lines st mid → mid.column ≡ 0
+  lines_zero f h z o (none_asked a e) = let b : Nothing ≡ BlankLine = sym a ∙ h o in absurd cc
+  lines_zero f h z o (line_there a b e) = let c : NewLine ≡ BlankLine = sym a ∙ h o in absurd cc
+  lines_zero f h z o (line_put a e) = let c : NewLine ≡ BlankLine = sym a ∙ h o in absurd cc
+  lines_zero {st} f h z o (blank_there a b e) = ap (λ (s : State). s.column) e ∙ z (owes_fresh st.back f o (blank_line_ends st.back b))
+  lines_zero {st} f h z o (second_put a b e) = ap (λ (s : State). s.column) e ∙ z (owes_fresh st.back f o b)
+  lines_zero f h z o (both_put a e) = ap (λ (s : State). s.column) e
+
+  last_trimmed : (r : List Stretch) → last_raw_inked (trimmed r) ≡ true → last_raw_inked r ≡ true
+  last_trimmed [] h = h
+  last_trimmed (Gap b ∷ r) h = last_trimmed r h
+  last_trimmed (Placed e ∷ r) h = at (by_cases (is_inked (chunk_at e))) where
+    at : (is_inked (chunk_at e) ≡ true) ⊎ (is_inked (chunk_at e) ≡ false) → is_inked (chunk_at e) ≡ true
+    at (inl i) = i
+    at (inr i) = let no : false ≡ true = subst (λ x. last_raw_inked x ≡ true) (trimmed_plain e r i) h in absurd cc
+  last_trimmed (Passed event ∷ r) h = at (by_cases (has_some (event_bytes event))) (by_cases (is_raw_event event)) (last_trimmed r) where
+    at : (has_some (event_bytes event) ≡ true) ⊎ (has_some (event_bytes event) ≡ false) → (is_raw_event event ≡ true) ⊎ (is_raw_event event ≡ false)
+        → (last_raw_inked (trimmed r) ≡ true → last_raw_inked r ≡ true) → last_raw_inked (Passed event ∷ r) ≡ true
+    at (inl i) x ih = subst (λ y. last_raw_inked y ≡ true) (trimmed_bytes event r i) h
+    at (inr i) (inl x) ih = let g : last_raw_inked (Passed event ∷ trimmed r) ≡ true = subst (λ y. last_raw_inked y ≡ true) (trimmed_bare event r i) h in let no : false ≡ true = rw x at g in absurd cc
+    at (inr i) (inr x) ih = let g : last_raw_inked (Passed event ∷ trimmed r) ≡ true = subst (λ y. last_raw_inked y ≡ true) (trimmed_bare event r i) h in let rest : last_raw_inked (trimmed r) ≡ true = rw x at g in rw x (ih rest)
+
+  owes_trimmed : (r : List Stretch) → owes_blank (trimmed r) ≡ true → owes_blank r ≡ true
+  owes_trimmed [] h = h
+  owes_trimmed (Gap b ∷ r) h = owes_trimmed r h
+  owes_trimmed (Placed e ∷ r) h = at (by_cases (is_inked (chunk_at e))) where
+    at : (is_inked (chunk_at e) ≡ true) ⊎ (is_inked (chunk_at e) ≡ false) → false ≡ true
+    at (inl i) = subst (λ x. owes_blank x ≡ true) (trimmed_inked e r i) h
+    at (inr i) = subst (λ x. owes_blank x ≡ true) (trimmed_plain e r i) h
+  owes_trimmed (Passed event ∷ r) h = at (by_cases (has_some (event_bytes event))) (by_cases (is_raw_event event)) (by_cases (owes_blank (trimmed r))) (owes_trimmed r) where
+    or_left : (a b : Bool) → (a || b) ≡ true → b ≡ false → a ≡ true
+    or_left true b h f = refl
+    or_left false b h f = absurd cc
+
+    and_left : (a b : Bool) → (a && b) ≡ true → a ≡ true
+    and_left true b h = refl
+    and_left false b h = absurd cc
+
+    and_right : (a b : Bool) → (a && b) ≡ true → b ≡ true
+    and_right true b h = h
+    and_right false b h = absurd cc
+
+    at : (has_some (event_bytes event) ≡ true) ⊎ (has_some (event_bytes event) ≡ false) → (is_raw_event event ≡ true) ⊎ (is_raw_event event ≡ false)
+        → (owes_blank (trimmed r) ≡ true) ⊎ (owes_blank (trimmed r) ≡ false) → (owes_blank (trimmed r) ≡ true → owes_blank r ≡ true) → owes_blank (Passed event ∷ r) ≡ true
+    at (inl i) x y ih = subst (λ z. owes_blank z ≡ true) (trimmed_bytes event r i) h
+    at (inr i) (inl x) y ih = let g : owes_blank (Passed event ∷ trimmed r) ≡ true = subst (λ z. owes_blank z ≡ true) (trimmed_bare event r i) h in let no : false ≡ true = rw x at g in absurd cc
+    at (inr i) (inr x) (inl y) ih = rw x (or_true_right (asks_blank_line event && last_raw_inked r) (owes_blank r) (ih y))
+    at (inr i) (inr x) (inr y) ih =
+        let g : owes_blank (Passed event ∷ trimmed r) ≡ true = subst (λ z. owes_blank z ≡ true) (trimmed_bare event r i) h in
+        let both : ((asks_blank_line event && last_raw_inked (trimmed r)) || owes_blank (trimmed r)) ≡ true = rw x at g in
+        let last : (asks_blank_line event && last_raw_inked (trimmed r)) ≡ true = or_left _ (owes_blank (trimmed r)) both y in
+        let asks : asks_blank_line event ≡ true = and_left (asks_blank_line event) (last_raw_inked (trimmed r)) last in
+        let inked : last_raw_inked r ≡ true = last_trimmed r (and_right (asks_blank_line event) (last_raw_inked (trimmed r)) last) in
+        rw (x, asks, inked) refl
+
+  blank_begins : {st : State} {p : Piece} {base : State} → EachPlace Fills st.back → EachPassed NoInk st.back → IsAskedBlank st → IsFreshAtZero st
+      → Begins width st p base → columns p.bytes ≤ width → (m before : List Stretch) (e : Place) → Cut base.back m e before → is_inked (chunk_at e) ≡ true
+      → owes_blank base.back ≡ true → ends_blank base.back ≡ true
+  blank_begins {st = st} f q h z (first t s) c m before e there i o =
+      let ink : list_any is_inked_stretch st.back ≡ true = subst (λ (x : State). list_any is_inked_stretch x.back ≡ true) s (subst (λ x. list_any is_inked_stretch x ≡ true) (sym there) (ink_at m e before i)) in
+      let text : has_text st.back ≡ true = ink_text st.back f q ink in absurd cc
+  blank_begins f q h z (stays t l w) c m before e there i o = lines_blank h (sym (owes_lines l) ∙ o) l
+  blank_begins {st = st} f q h z (wraps t mid l w b s) c m before e there i o =
+      let kept : owes_blank (trimmed mid.back) ≡ true = subst (λ (x : State). owes_blank x.back ≡ true) s o in
+      let owed : owes_blank st.back ≡ true = sym (owes_lines l) ∙ owes_trimmed mid.back kept in
+      let zero_column : mid.column ≡ 0 = lines_zero f h z owed l in
+      absurd (omega arith)
+
+  pub blank_before_grows : {st after : State} {next : Next} → EachPlace Fills st.back → EachPassed NoInk st.back → IsAskedBlank st → IsFreshAtZero st
+      → Grows width st next after → EachPlace HasBlankBefore st.back → EachPlace HasBlankBefore after.back
+  blank_before_grows {st} {after} {next} f q h z g e = each_grows HasBlankBefore (λ r p i x. x) core g e where
+    core : (p : Piece) (base : State) (n : ℕ) → next ≡ raw p → Begins width st p base → Pads base n → HasBlankBefore (padded n base.back) (place_of p)
+    core p base n is b d = λ m before e there i none asks fits.
+        let cut_there : AfterPads n base.back m e before = cut_padded n base.back m e before there in
+        let rest : List Stretch = cut_there.rest in
+        let bare : HasNoRaw cut_there.rest = raw_padded n cut_there.rest (subst HasNoRaw cut_there.is none) in
+        let asked : list_any asks_blank_line (events_back cut_there.rest) ≡ true = subst (λ es. list_any asks_blank_line es ≡ true) (ap events_back cut_there.is ∙ events_padded n cut_there.rest) asks in
+        let owed : owes_blank base.back ≡ true = subst (λ x. owes_blank x ≡ true) (sym cut_there.there) (owes_between cut_there.rest e before bare i asked) in
+        let ends : ends_blank base.back ≡ true = blank_begins f q h z b fits cut_there.rest before e cut_there.there i owed in
+        let shown : has_some e.shown ≡ true = inked_shown cut_there.rest e before (subst (λ x. EachPlace Fills x) cut_there.there (fills_begins b f)) i in
+        let line : HasBlankLine (text_back cut_there.rest) = blank_between cut_there.rest e before bare shown (subst (λ x. ends_blank x ≡ true) cut_there.there ends) in
+        subst (λ x. HasBlankLine (text_back x)) (sym cut_there.is) (blank_padded n cut_there.rest line) where
+          inked_shown : (m : List Stretch) (e : Place) (before : List Stretch) → EachPlace Fills (m ++ Placed e ∷ before) → is_inked (chunk_at e) ≡ true → has_some e.shown ≡ true
+          inked_shown [] e before f i = f.0 ∙ inked_some e.bytes i
+          inked_shown (Gap b ∷ m) e before f i = inked_shown m e before f i
+          inked_shown (Placed g ∷ m) e before f i = inked_shown m e before f.1 i
+          inked_shown (Passed event ∷ m) e before f i = inked_shown m e before f i

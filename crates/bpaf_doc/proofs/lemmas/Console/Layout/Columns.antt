@@ -1,0 +1,177 @@
+-- The column of a page as it grows, and whether something is written.
+use Rattle.std.specs.Prelude.{◌≡◌, ℕ, zero, suc, ◌+◌, ◌<◌, ◌≤◌, true, false, not, ◌&&◌, ◌==◌, List, [], ◌∷◌, length, filter, chars, refl, if◌then◌else◌, ◌⊎◌}
+use Rattle.std.specs.Str.{trim_end, drop_trailing_whitespace, chars, encode_utf8_all}
+use Rattle.std.specs.Char.{is_whitespace, is_not_whitespace}
+use Rattle.std.proofs.Common.{sym, subst, arith, inl, inr, ◌∙◌}
+use Rattle.std.proofs.lemmas.Bool.{cases_lt}
+use Rattle.std.proofs.lemmas.Str.{length-le-encodes}
+use Rattle.std.proofs.lemmas.Bool.Decides.{nat_tests}
+use Rattle.unicode_width.specs.Width.{str_width}
+use Rattle.bpaf_doc.specs.Buffer.Parts.{ink}
+use Rattle.bpaf_doc.specs.Splitter.Chunks.{Raw, columns, is_ordinary, IsOrdinary, has_some, code_weight, fence_weight}
+use Rattle.bpaf_doc.specs.Console.Layout.{Stretch, Gap, Placed, Passed, Place, event_bytes, stretch_columns, is_newline}
+use Rattle.bpaf_doc.proofs.lemmas.Console.Layout.State.{State, Piece, Lines, none_asked, line_there, line_put, blank_there, second_put, both_put, Begins, first, stays, wraps, places, drops, Next, Grows, placing, breaking, passing, padded, has_text, ends_line, sat, put, passed, Suits}
+use Rattle.bpaf_doc.proofs.lemmas.Console.Layout.Back.{by_cases, EachPlace, KeepsCut, each_begins, each_grows, fits_of}
+
+-- ---- a chunk with ink keeps some bytes when its blank end is cut
+
+trim_some : (cs : List ℕ) → has_some (filter is_not_whitespace cs) ≡ true → 0 < length (drop_trailing_whitespace cs)
+trim_some [] h = absurd cc
+trim_some (c ∷ cs) h = at (by_cases (is_whitespace c)) (trim_some cs) where
+  at : (is_whitespace c ≡ true) ⊎ (is_whitespace c ≡ false) → (has_some (filter is_not_whitespace cs) ≡ true → 0 < length (drop_trailing_whitespace cs))
+      → 0 < length (drop_trailing_whitespace (c ∷ cs))
+  at (inl w) ih =
+      let tail : has_some (filter is_not_whitespace cs) ≡ true = rw w at h in
+      let some : 0 < length (drop_trailing_whitespace cs) = ih tail in
+      let no : (length (drop_trailing_whitespace cs) == 0) ≡ false = grind (arith, nat_tests) in
+      rw (w, no) (omega arith)
+  at (inr w) ih = rw w (omega arith)
+
+some_of_length : (xs : List ℕ) → 0 < length xs → has_some xs ≡ true
+some_of_length [] h = absurd (omega arith)
+some_of_length (x ∷ xs) h = refl
+
+pub inked_trim : (bytes : List ℕ) → has_some (ink bytes) ≡ true → has_some (trim_end bytes) ≡ true
+unfolding trim_end
+inked_trim bytes h =
+    let some : 0 < length (drop_trailing_whitespace (chars bytes)) = trim_some (chars bytes) h in
+    some_of_length (encode_utf8_all (drop_trailing_whitespace (chars bytes))) (omega (arith, length-le-encodes (drop_trailing_whitespace (chars bytes))))
+
+pub inked_some : (bytes : List ℕ) → has_some (ink bytes) ≡ true → has_some bytes ≡ true
+unfolding chars
+inked_some [] h = absurd cc
+inked_some (b ∷ bytes) h = refl
+
+-- ---- what is shown of a chunk is empty only where the chunk is
+
+abbrev pub Fills : List Stretch → Place → Type 0
+Fills r f = has_some f.shown ≡ has_some f.bytes
+
+fills_cut : KeepsCut Fills
+fills_cut r f i h = inked_trim f.bytes i ∙ sym (inked_some f.bytes i)
+
+pub fills_grows : {width : ℕ} {st after : State} {next : Next} → Grows width st next after → EachPlace Fills st.back → EachPlace Fills after.back
+fills_grows g h = each_grows Fills fills_cut (λ p base n e b d. refl) g h
+
+pub fills_begins : {width : ℕ} {st : State} {p : Piece} {base : State} → Begins width st p base → EachPlace Fills st.back → EachPlace Fills base.back
+fills_begins b h = each_begins Fills fills_cut b h
+
+-- ---- the column in the last line
+
+abbrev pub column_back : List Stretch → ℕ
+column_back [] = 0
+column_back (x ∷ r) = if is_newline x then 0 else (stretch_columns x + column_back r)
+
+pub column_padded : (n : ℕ) (r : List Stretch) → column_back (padded n r) ≡ n + column_back r
+column_padded zero r = omega arith
+column_padded (suc n) r = let ih : column_back (padded n r) ≡ n + column_back r = column_padded n r in omega arith
+
+no_columns : columns [] ≡ 0
+unfolding chars str_width
+no_columns = refl
+
+empty_columns : (bytes : List ℕ) → has_some bytes ≡ false → columns bytes ≡ 0
+empty_columns [] h = no_columns
+empty_columns (b ∷ bytes) h = absurd cc
+
+no_bytes : (xs : List ℕ) → has_some xs ≡ false → length xs ≡ 0
+no_bytes [] h = refl
+no_bytes (x ∷ xs) h = absurd cc
+
+-- a page that ends in a newline is at column 0
+pub ends_line_column : (r : List Stretch) → EachPlace Fills r → ends_line r ≡ true → column_back r ≡ 0
+ends_line_column [] f h = refl
+ends_line_column (Gap b ∷ r) f h = at (by_cases (b == 10)) where
+  at : ((b == 10) ≡ true) ⊎ ((b == 10) ≡ false) → column_back (Gap b ∷ r) ≡ 0
+  at (inl e) = rw e refl
+  at (inr e) = absurd cc
+ends_line_column (Placed e ∷ r) f h = at (by_cases (has_some e.shown)) (ends_line_column r f.1) where
+  at : (has_some e.shown ≡ true) ⊎ (has_some e.shown ≡ false) → (ends_line r ≡ true → column_back r ≡ 0) → column_back (Placed e ∷ r) ≡ 0
+  at (inl s) ih = let no : false ≡ true = rw s at h in absurd cc
+  at (inr s) ih =
+      let rest : ends_line r ≡ true = rw s at h in
+      let none : columns e.bytes ≡ 0 = empty_columns e.bytes (sym f.0 ∙ s) in
+      let tail : column_back r ≡ 0 = ih rest in
+      omega arith
+ends_line_column (Passed event ∷ r) f h = at (by_cases (has_some (event_bytes event))) (ends_line_column r f) where
+  at : (has_some (event_bytes event) ≡ true) ⊎ (has_some (event_bytes event) ≡ false) → (ends_line r ≡ true → column_back r ≡ 0) → column_back (Passed event ∷ r) ≡ 0
+  at (inl s) ih = let no : false ≡ true = rw s at h in absurd cc
+  at (inr s) ih =
+      let rest : ends_line r ≡ true = rw s at h in
+      let none : length (event_bytes event) ≡ 0 = no_bytes (event_bytes event) s in
+      let tail : column_back r ≡ 0 = ih rest in
+      omega arith
+
+-- a page without text is at column 0
+pub no_text_column : (r : List Stretch) → EachPlace Fills r → has_text r ≡ false → column_back r ≡ 0
+no_text_column [] f h = refl
+no_text_column (Gap b ∷ r) f h = absurd cc
+no_text_column (Placed e ∷ r) f h = at (by_cases (has_some e.shown)) (no_text_column r f.1) where
+  at : (has_some e.shown ≡ true) ⊎ (has_some e.shown ≡ false) → (has_text r ≡ false → column_back r ≡ 0) → column_back (Placed e ∷ r) ≡ 0
+  at (inl s) ih = let no : true ≡ false = rw s at h in absurd cc
+  at (inr s) ih =
+      let rest : has_text r ≡ false = rw s at h in
+      let none : columns e.bytes ≡ 0 = empty_columns e.bytes (sym f.0 ∙ s) in
+      let tail : column_back r ≡ 0 = ih rest in
+      omega arith
+no_text_column (Passed event ∷ r) f h = at (by_cases (has_some (event_bytes event))) (no_text_column r f) where
+  at : (has_some (event_bytes event) ≡ true) ⊎ (has_some (event_bytes event) ≡ false) → (has_text r ≡ false → column_back r ≡ 0) → column_back (Passed event ∷ r) ≡ 0
+  at (inl s) ih = let no : true ≡ false = rw s at h in absurd cc
+  at (inr s) ih =
+      let rest : has_text r ≡ false = rw s at h in
+      let none : length (event_bytes event) ≡ 0 = no_bytes (event_bytes event) s in
+      let tail : column_back r ≡ 0 = ih rest in
+      omega arith
+
+-- ---- the column that is kept
+
+-- the column that is kept is the page's, or no chunk fits after it
+abbrev pub Agrees : State → Type 0
+Agrees st = (st.column ≡ column_back st.back) ⊎ (1_000_000 ≤ st.column)
+
+agrees_zero : (st : State) → st.column ≡ 0 → column_back st.back ≡ 0 → Agrees st
+agrees_zero st a b = inl (a ∙ sym b)
+
+pub agrees_lines : {st mid : State} → EachPlace Fills st.back → Lines st mid → Agrees st → Agrees mid
+agrees_lines f (none_asked a e) h = subst Agrees (sym e) h
+agrees_lines f (line_there a b e) h = subst Agrees (sym e) h
+agrees_lines f (line_put a e) h = subst Agrees (sym e) (inl refl)
+agrees_lines f (blank_there a b e) h = subst Agrees (sym e) h
+agrees_lines {st} f (second_put a b e) h = subst Agrees (sym e) (at h) where
+  at : (st.column ≡ column_back st.back) ⊎ (1_000_000 ≤ st.column) → Agrees (record st { back = Gap 10 ∷ st.back })
+  at (inl c) = inl (c ∙ ends_line_column st.back f b)
+  at (inr c) = inr c
+agrees_lines f (both_put a e) h = subst Agrees (sym e) (inl refl)
+
+pub agrees_begins : {width : ℕ} {st : State} {p : Piece} {base : State} → EachPlace Fills st.back → Begins width st p base → Agrees st → Agrees base
+agrees_begins f (first t e) h = subst Agrees (sym e) h
+agrees_begins f (stays t l w) h = agrees_lines f l h
+agrees_begins f (wraps t mid l w b e) h = subst Agrees (sym e) (inl refl)
+
+heavy : (weight : ℕ) → (not (weight == code_weight) && not (weight == fence_weight)) ≡ false → 1_000_000 ≤ weight
+heavy weight o = grind (arith, nat_tests)
+
+pub sat_agrees : (a b : ℕ) → a ≡ b → (sat a ≡ b) ⊎ (1_000_000 ≤ sat a)
+sat_agrees a b e = at (cases_lt a 18446744073709551616) where
+  at : (a < 18446744073709551616) ⊎ (18446744073709551616 ≤ a) → (sat a ≡ b) ⊎ (1_000_000 ≤ sat a)
+  at (inl l) = inl (omega arith)
+  at (inr l) = inr (omega arith)
+
+pub agrees_put : (n : ℕ) (p : Piece) (base : State) → (IsOrdinary (Raw p.bytes p.weight) → p.weight ≡ columns p.bytes) → Agrees base → Agrees (put n p.part p.bytes p.weight base)
+agrees_put n p base weighed h = at (by_cases (is_ordinary (Raw p.bytes p.weight))) h where
+  at : (is_ordinary (Raw p.bytes p.weight) ≡ true) ⊎ (is_ordinary (Raw p.bytes p.weight) ≡ false) → Agrees base → Agrees (put n p.part p.bytes p.weight base)
+  at (inl o) (inl c) =
+      let w : p.weight ≡ columns p.bytes = weighed o in
+      sat_agrees (base.column + n + p.weight) (columns p.bytes + column_back (padded n base.back)) (omega (arith, column_padded n base.back))
+  at (inl o) (inr c) = inr (omega arith)
+  at (inr o) _ = let w : 1_000_000 ≤ p.weight = heavy p.weight o in inr (omega arith)
+
+pub agrees_grows : {width : ℕ} {margin_of : ℕ → ℕ} {st after : State} {next : Next} → Suits margin_of st next → EachPlace Fills st.back
+    → Grows width st next after → Agrees st → Agrees after
+agrees_grows suits f (placing p e (places base n b d a)) h = subst Agrees (sym a) (agrees_put n p base (fits_of suits e).weighed (agrees_begins f b h))
+agrees_grows suits f (placing p e (drops t mid l w b a)) h = subst Agrees (sym a) (inl refl)
+agrees_grows suits f (breaking k chunk e a) h = subst Agrees (sym a) (inl refl)
+agrees_grows {st = st} suits f (passing event margin e a) h = subst Agrees (sym a) (at h) where
+  at : Agrees st → Agrees (passed event margin st)
+  at (inl c) = sat_agrees (st.column + length (event_bytes event)) (length (event_bytes event) + column_back st.back) (omega arith)
+  at (inr c) = inr (omega arith)

@@ -1,0 +1,270 @@
+-- Between neighbouring inked chunks of one line nothing is cut or left out, and within one text nothing is added.
+use Rattle.std.specs.Prelude.{◌≡◌, ◌≢◌, ℕ, zero, suc, ◌+◌, ◌<◌, ◌≤◌, ⊤, true, false, ◌||◌, List, [], ◌∷◌, ◌++◌, refl, ◌⊎◌}
+use Rattle.std.specs.List.{list_any}
+use Rattle.std.proofs.Common.{sym, subst, ap, arith, inl, inr, ◌∙◌}
+use Rattle.bpaf_doc.specs.Splitter.Chunks.{Chunk, Raw, is_inked}
+use Rattle.bpaf_doc.specs.Console.Layout.{Event, Shows, Opens, Closes, Stretch, Gap, Placed, Passed, Place, chunk_at, is_inked_stretch, is_inked_event, is_raw_event}
+use Rattle.bpaf_doc.proofs.lemmas.Console.Layout.State.{State, Piece, Lines, none_asked, line_there, line_put, blank_there, second_put, both_put, Pads, to_margin, after_term, Begins, first, stays, wraps, places, drops, Next, raw, break, Grows, placing, breaking, passing, padded, trimmed, sat, wrapped, put, passed, dropped, Suits, raw_suits, paragraph_suits, line_break_suits, open_suits, close_suits}
+use Rattle.bpaf_doc.proofs.lemmas.Console.Layout.Back.{by_cases, EachPlace, each_grows, each_begins, each_padded, each_trimmed, each_lines, place_of, fits_of}
+use Rattle.bpaf_doc.proofs.lemmas.Console.Layout.Text.{or_false_right, begins_margin, lines_margin, no_ink_blank}
+use Rattle.bpaf_doc.proofs.lemmas.Console.Layout.Split.{Cut, FirstOrLater, here, later, cut_cons, AfterGap, cut_gap, AfterPassed, cut_passed, AfterPads, cut_padded, has_newline, newline_padded, inked_line, inked_since}
+
+-- ---- parts come in order
+
+abbrev pub NotAfter : ℕ → List Stretch → Place → Type 0
+NotAfter latest r f = f.part ≤ latest
+
+each_later : (a b : ℕ) → a ≤ b → (r : List Stretch) → EachPlace (NotAfter a) r → EachPlace (NotAfter b) r
+each_later a b l [] h = h
+each_later a b l (Gap c ∷ r) h = each_later a b l r h
+each_later a b l (Passed event ∷ r) h = each_later a b l r h
+each_later a b l (Placed e ∷ r) h = (omega arith, each_later a b l r h.1)
+
+abbrev pub InOrder : State → Type 0
+InOrder st = EachPlace (NotAfter st.latest) st.back
+
+broken_order : {margin_of : ℕ → ℕ} (st : State) (next : Next) (k : ℕ) (chunk : Chunk) → Suits margin_of st next → next ≡ break k chunk → st.latest ≤ k
+broken_order st next k chunk (raw_suits q f g) e = absurd cc
+broken_order st next k chunk (paragraph_suits j f l m) e = let same : j ≡ k = cc in omega arith
+broken_order st next k chunk (line_break_suits j f l m) e = let same : j ≡ k = cc in omega arith
+broken_order st next k chunk (open_suits b margin f l u) e = absurd cc
+broken_order st next k chunk (close_suits b margin f l u) e = absurd cc
+
+pub order_grows : {width : ℕ} {margin_of : ℕ → ℕ} {st after : State} {next : Next} → Suits margin_of st next → Grows width st next after → InOrder st → InOrder after
+order_grows {st = st} suits (placing p e (places base n b d a)) h = subst InOrder (sym a)
+    (omega arith, each_padded (NotAfter p.part) n base.back (each_begins (NotAfter p.part) (λ r f i x. x) b (each_later st.latest p.part (fits_of suits e).order st.back h)))
+order_grows {st = st} suits (placing p e (drops t mid l w b a)) h = subst InOrder (sym a)
+    (each_trimmed (NotAfter p.part) (λ r f i x. x) mid.back (each_lines (NotAfter p.part) l (each_later st.latest p.part (fits_of suits e).order st.back h)))
+order_grows {st = st} {next = next} suits (breaking k chunk e a) h = subst InOrder (sym a) (each_later st.latest k (broken_order st next k chunk suits e) st.back h)
+order_grows suits (passing event margin e a) h = subst InOrder (sym a) h
+
+-- ---- where a chunk was placed last, its margin is reached
+
+abbrev pub IsSettled : State → Type 0
+IsSettled st = st.settled ≡ true → (st.margin ≤ st.column) × (st.pending ≡ false)
+
+-- else its line has no ink yet, or a mark came since
+abbrev pub IsUnsettled : State → Type 0
+IsUnsettled st = st.settled ≡ false → (inked_line st.back ≡ false) ⊎ (st.marked ≡ true)
+
+abbrev pub IsSmall : State → Type 0
+IsSmall st = st.margin ≤ 18446744073709551615
+
+pub small_grows : {width : ℕ} {margin_of : ℕ → ℕ} {st after : State} {next : Next} → Suits margin_of st next → Grows width st next after → IsSmall st → IsSmall after
+small_grows suits (placing p e (places base n b d a)) h = subst IsSmall (sym a) (subst (λ (m : ℕ). m ≤ 18446744073709551615) (sym (begins_margin b).0) h)
+small_grows suits (placing p e (drops t mid l w b a)) h = subst IsSmall (sym a) (subst (λ (m : ℕ). m ≤ 18446744073709551615) (sym (lines_margin l).0) h)
+small_grows suits (breaking k chunk e a) h = subst IsSmall (sym a) h
+small_grows {margin_of = margin_of} {st = st} {next = next} suits (passing event margin e a) h = subst IsSmall (sym a) (at suits) where
+  at : Suits margin_of st next → margin ≤ 18446744073709551615
+  at (raw_suits q f g) = absurd cc
+  at (paragraph_suits j f l m) = absurd cc
+  at (line_break_suits j f l m) = absurd cc
+  at (open_suits b n f l u) = let same : n ≡ margin = cc in omega arith
+  at (close_suits b n f l u) = let same : n ≡ margin = cc in omega arith
+
+settled_put : (n : ℕ) (p : Piece) (base : State) → IsSmall base → Pads base n → base.margin ≤ sat (base.column + n + p.weight)
+settled_put n p base small (to_margin e) = omega arith
+settled_put n p base small (after_term t wide few e) = omega arith
+
+pub settled_grows : {width : ℕ} {st after : State} {next : Next} → IsSmall st → Grows width st next after → IsSettled st → IsSettled after
+settled_grows {st = st} small (placing p e (places base n b d a)) h =
+    let here : base.margin ≤ 18446744073709551615 = subst (λ (m : ℕ). m ≤ 18446744073709551615) (sym (begins_margin b).0) small in
+    subst IsSettled (sym a) (λ o. (settled_put n p base here d, refl))
+settled_grows small (placing p e (drops t mid l w b a)) h = subst IsSettled (sym a) (λ o. absurd cc)
+settled_grows small (breaking k chunk e a) h = subst IsSettled (sym a) (λ o. absurd cc)
+settled_grows small (passing event margin e a) h = subst IsSettled (sym a) (λ o. absurd cc)
+
+pub unsettled_grows : {width : ℕ} {st after : State} {next : Next} → Grows width st next after → IsUnsettled st → IsUnsettled after
+unsettled_grows (placing p e (places base n b d a)) h = subst IsUnsettled (sym a) (λ o. absurd cc)
+unsettled_grows {width} {st} {after} {next} (placing p e (drops t mid l w b a)) h = subst IsUnsettled (sym a) (λ o. inl (plain (no_ink_blank p.part p.weight p.bytes b))) where
+  plain : is_inked_event (Shows p.part (Raw p.bytes p.weight)) ≡ false → inked_line (dropped p.part p.bytes p.weight (wrapped mid)).back ≡ false
+  plain i = rw i refl
+unsettled_grows (breaking k chunk e a) h = subst IsUnsettled (sym a) (λ o. inl refl)
+unsettled_grows (passing event margin e a) h = subst IsUnsettled (sym a) (λ o. inr refl)
+
+-- ---- what stands since the last inked chunk of the line
+
+-- kept whole; a byte outside the places only where it may be added
+abbrev pub AllKept : Type 0 → List Stretch → Type 0
+AllKept may_add [] = ⊤
+AllKept may_add (Gap b ∷ m) = may_add × AllKept may_add m
+AllKept may_add (Placed e ∷ m) = (e.shown ≡ e.bytes) × AllKept may_add m
+AllKept may_add (Passed event ∷ m) = (is_raw_event event ≡ false) × AllKept may_add m
+
+kept_weaker : {A B : Type 0} → (A → B) → (m : List Stretch) → AllKept A m → AllKept B m
+kept_weaker f [] h = h
+kept_weaker f (Gap b ∷ m) h = (f h.0, kept_weaker f m h.1)
+kept_weaker f (Placed e ∷ m) h = (h.0, kept_weaker f m h.1)
+kept_weaker f (Passed event ∷ m) h = (h.0, kept_weaker f m h.1)
+
+kept_padded : {A : Type 0} (n : ℕ) (m : List Stretch) → A → AllKept A m → AllKept A (padded n m)
+kept_padded zero m a h = h
+kept_padded (suc n) m a h = (a, kept_padded n m a h)
+
+abbrev HasInk : List Stretch → Type 0
+HasInk m = list_any is_inked_stretch m ≡ true
+
+-- neighbouring inked chunks of one line: e, then nothing inked and no newline
+abbrev pub IsNeighbour : List Stretch → List Stretch → Place → List Stretch → Type 0
+IsNeighbour r m e before = Cut r m e before × (is_inked (chunk_at e) ≡ true) × (list_any is_inked_stretch m ≡ false) × (has_newline m ≡ false)
+
+abbrev pub IsKeptSince : State → Type 0
+IsKeptSince st = (m before : List Stretch) (e : Place) → IsNeighbour st.back m e before → (e.shown ≡ e.bytes) × AllKept (e.part < st.latest) m
+
+no_ink_padded : (n : ℕ) (m : List Stretch) → list_any is_inked_stretch (padded n m) ≡ list_any is_inked_stretch m
+no_ink_padded zero m = refl
+no_ink_padded (suc n) m = no_ink_padded n m
+
+part_before : (latest : ℕ) (m : List Stretch) (e : Place) (before : List Stretch) → EachPlace (NotAfter latest) (m ++ Placed e ∷ before) → e.part ≤ latest
+part_before latest [] e before h = h.0
+part_before latest (Gap b ∷ m) e before h = part_before latest m e before h
+part_before latest (Placed g ∷ m) e before h = part_before latest m e before h.1
+part_before latest (Passed event ∷ m) e before h = part_before latest m e before h
+
+-- no blank is added where a chunk was placed last
+no_pads : (st : State) (n : ℕ) → IsSettled st → st.settled ≡ true → Pads st n → n ≡ 0
+no_pads st n h s (to_margin e) = let here : st.margin ≤ st.column = (h s).0 in omega arith
+no_pads st n h s (after_term t wide few e) = let none : st.pending ≡ false = (h s).1 in absurd cc
+
+kept_same : (st : State) (k n : ℕ) → IsSettled st → IsUnsettled st → InOrder st → IsKeptSince st → st.latest ≤ k → (st.marked ≡ true → st.latest < k) → Pads st n
+    → (m before : List Stretch) (e : Place) → IsNeighbour (padded n st.back) m e before → (e.shown ≡ e.bytes) × AllKept (e.part < k) m
+kept_same st k n settled unsettled order h o moved d m before e there =
+    at (by_cases st.settled) where
+      found : AfterPads n st.back m e before
+      found = cut_padded n st.back m e before there.0
+
+      near : IsNeighbour st.back found.rest e before
+      near = (
+        found.there,
+        there.1,
+        sym (no_ink_padded n found.rest) ∙ subst (λ x. list_any is_inked_stretch x ≡ false) found.is there.2,
+        sym (newline_padded n found.rest) ∙ subst (λ x. has_newline x ≡ false) found.is there.3,
+      )
+
+      since : (e.shown ≡ e.bytes) × AllKept (e.part < st.latest) found.rest
+      since = h found.rest before e near
+
+      wider : AllKept (e.part < k) found.rest
+      wider = kept_weaker (λ (l : e.part < st.latest). below e.part st.latest k l o) found.rest since.1 where
+        below : (a b c : ℕ) → a < b → b ≤ c → a < c
+        below a b c x y = omega arith
+
+      earlier : e.part ≤ st.latest
+      earlier = part_before st.latest found.rest e before (subst (λ x. EachPlace (NotAfter st.latest) x) found.there order)
+
+      strict : (inked_line st.back ≡ false) ⊎ (st.marked ≡ true) → e.part < k
+      strict (inl i) =
+          let some : inked_line st.back ≡ true = subst (λ x. inked_line x ≡ true) (sym found.there) (inked_since found.rest e before near.1 near.3) in absurd cc
+      strict (inr t) = let l : st.latest < k = moved t in let p : e.part ≤ st.latest = earlier in omega arith
+
+      at : (st.settled ≡ true) ⊎ (st.settled ≡ false) → (e.shown ≡ e.bytes) × AllKept (e.part < k) m
+      at (inl s) =
+          let none : n ≡ 0 = no_pads st n settled s d in
+          let same : m ≡ found.rest = found.is ∙ ap (λ (i : ℕ). padded i found.rest) none in
+          (since.0, subst (λ x. AllKept (e.part < k) x) (sym same) wider)
+      at (inr s) = (since.0, subst (λ x. AllKept (e.part < k) x) (sym found.is) (kept_padded n found.rest (strict (unsettled s)) wider))
+
+-- no neighbour stands before a newline
+no_neighbour : (r m : List Stretch) (e : Place) (before : List Stretch) → IsNeighbour (Gap 10 ∷ r) m e before → ⊥
+no_neighbour r m e before there =
+    let found : AfterGap 10 r m e before = cut_gap 10 r m e before there.0 in
+    let line : true ≡ false = subst (λ x. has_newline x ≡ false) found.is there.3 in cc
+
+no_neighbour_padded : (n : ℕ) (r m : List Stretch) (e : Place) (before : List Stretch) → IsNeighbour (padded n (Gap 10 ∷ r)) m e before → ⊥
+no_neighbour_padded n r m e before there =
+    let found : AfterPads n (Gap 10 ∷ r) m e before = cut_padded n (Gap 10 ∷ r) m e before there.0 in
+    no_neighbour r found.rest e before (
+      found.there,
+      there.1,
+      sym (no_ink_padded n found.rest) ∙ subst (λ x. list_any is_inked_stretch x ≡ false) found.is there.2,
+      sym (newline_padded n found.rest) ∙ subst (λ x. has_newline x ≡ false) found.is there.3,
+    )
+
+record Ready (st : State) (k : ℕ) : Type 0 where
+  settled : IsSettled st
+  unsettled : IsUnsettled st
+  order : InOrder st
+  since : IsKeptSince st
+  later_part : st.latest ≤ k
+  moved : st.marked ≡ true → st.latest < k
+
+kept_lines : {st mid : State} (k n : ℕ) → Ready st k → Lines st mid → Pads mid n
+    → (m before : List Stretch) (e : Place) → IsNeighbour (padded n mid.back) m e before → (e.shown ≡ e.bytes) × AllKept (e.part < k) m
+kept_lines {st} {mid} k n y (none_asked a s) d m before e there =
+    kept_same st k n y.settled y.unsettled y.order y.since y.later_part y.moved (subst (λ (x : State). Pads x n) s d) m before e (subst (λ (x : State). IsNeighbour (padded n x.back) m e before) s there)
+kept_lines {st} {mid} k n y (line_there a b s) d m before e there =
+    kept_same st k n y.settled y.unsettled y.order y.since y.later_part y.moved (subst (λ (x : State). Pads x n) s d) m before e (subst (λ (x : State). IsNeighbour (padded n x.back) m e before) s there)
+kept_lines {st} {mid} k n y (line_put a s) d m before e there = absurd (no_neighbour_padded n st.back m e before (subst (λ (x : State). IsNeighbour (padded n x.back) m e before) s there))
+kept_lines {st} {mid} k n y (blank_there a b s) d m before e there =
+    kept_same st k n y.settled y.unsettled y.order y.since y.later_part y.moved (subst (λ (x : State). Pads x n) s d) m before e (subst (λ (x : State). IsNeighbour (padded n x.back) m e before) s there)
+kept_lines {st} {mid} k n y (second_put a b s) d m before e there = absurd (no_neighbour_padded n st.back m e before (subst (λ (x : State). IsNeighbour (padded n x.back) m e before) s there))
+kept_lines {st} {mid} k n y (both_put a s) d m before e there = absurd (no_neighbour_padded n (Gap 10 ∷ st.back) m e before (subst (λ (x : State). IsNeighbour (padded n x.back) m e before) s there))
+
+kept_begins : {width : ℕ} {st : State} {p : Piece} {base : State} (n : ℕ) → Ready st p.part → Begins width st p base → Pads base n
+    → (m before : List Stretch) (e : Place) → IsNeighbour (padded n base.back) m e before → (e.shown ≡ e.bytes) × AllKept (e.part < p.part) m
+kept_begins {st = st} {p = p} n y (first t s) d m before e there =
+    kept_same st p.part n y.settled y.unsettled y.order y.since y.later_part y.moved (subst (λ (x : State). Pads x n) s d) m before e (subst (λ (x : State). IsNeighbour (padded n x.back) m e before) s there)
+kept_begins {p = p} n y (stays t l w) d m before e there = kept_lines p.part n y l d m before e there
+kept_begins n y (wraps t mid l w b s) d m before e there = absurd (no_neighbour_padded n (trimmed mid.back) m e before (subst (λ (x : State). IsNeighbour (padded n x.back) m e before) s there))
+
+ready : {margin_of : ℕ → ℕ} {st : State} {next : Next} {p : Piece} → Suits margin_of st next → next ≡ raw p → IsSettled st → IsUnsettled st → InOrder st → IsKeptSince st → Ready st p.part
+ready suits e a b c d = record { settled = a; unsettled = b; order = c; since = d; later_part = (fits_of suits e).order; moved = (fits_of suits e).moved }
+
+kept_put : {width : ℕ} {st : State} (p : Piece) (base : State) (n : ℕ) → Ready st p.part → Begins width st p base → Pads base n → IsKeptSince (put n p.part p.bytes p.weight base)
+kept_put p base n y b d = λ m before e there. at m before e there (cut_cons (Placed (place_of p)) (padded n base.back) m e before there.0) where
+  at : (m before : List Stretch) (e : Place) → IsNeighbour (Placed (place_of p) ∷ padded n base.back) m e before → FirstOrLater (Placed (place_of p)) (padded n base.back) m e before
+      → (e.shown ≡ e.bytes) × AllKept (e.part < p.part) m
+  at m before e there (here none is rest) =
+      let same : place_of p ≡ e = cc in
+      (subst (λ (x : Place). x.shown ≡ x.bytes) same refl, subst (λ x. AllKept (e.part < p.part) x) (sym none) tt)
+  at m before e there (later rest is cut_there) =
+      let plain : (is_inked_stretch (Placed (place_of p)) || list_any is_inked_stretch rest) ≡ false = subst (λ x. list_any is_inked_stretch x ≡ false) is there.2 in
+      let bare : has_newline rest ≡ false = subst (λ x. has_newline x ≡ false) is there.3 in
+      let found : (e.shown ≡ e.bytes) × AllKept (e.part < p.part) rest = kept_begins n y b d rest before e
+      (cut_there, there.1, or_false_right (is_inked_stretch (Placed (place_of p))) (list_any is_inked_stretch rest) plain, bare) in
+      (found.0, subst (λ x. AllKept (e.part < p.part) x) (sym is) (refl, found.1))
+
+kept_passed : (event : Event) (margin : ℕ) (st : State) → is_raw_event event ≡ false → IsKeptSince st → IsKeptSince (passed event margin st)
+kept_passed event margin st plain_mark h = λ m before e there. at m before e there (cut_passed event st.back m e before there.0) where
+  at : (m before : List Stretch) (e : Place) → IsNeighbour (Passed event ∷ st.back) m e before → AfterPassed event st.back m e before → (e.shown ≡ e.bytes) × AllKept (e.part < st.latest) m
+  at m before e there found =
+      let plain : (is_inked_stretch (Passed event) || list_any is_inked_stretch found.rest) ≡ false = subst (λ x. list_any is_inked_stretch x ≡ false) found.is there.2 in
+      let bare : has_newline found.rest ≡ false = subst (λ x. has_newline x ≡ false) found.is there.3 in
+      let since : (e.shown ≡ e.bytes) × AllKept (e.part < st.latest) found.rest = h found.rest before e
+      (found.there, there.1, or_false_right (is_inked_stretch (Passed event)) (list_any is_inked_stretch found.rest) plain, bare) in
+      (since.0, subst (λ x. AllKept (e.part < st.latest) x) (sym found.is) (plain_mark, since.1))
+
+pub kept_since_grows : {width : ℕ} {margin_of : ℕ → ℕ} {st after : State} {next : Next} → Suits margin_of st next → IsSettled st → IsUnsettled st → InOrder st
+    → Grows width st next after → IsKeptSince st → IsKeptSince after
+kept_since_grows suits s u o (placing p e (places base n b d a)) h = subst IsKeptSince (sym a) (kept_put p base n (ready suits e s u o h) b d)
+kept_since_grows suits s u o (placing p e (drops t mid l w b a)) h = subst IsKeptSince (sym a) (λ m before f there. absurd (none m before f there)) where
+  none : (m before : List Stretch) (f : Place) → IsNeighbour (Passed (Shows p.part (Raw p.bytes p.weight)) ∷ Gap 10 ∷ trimmed mid.back) m f before → ⊥
+  none m before f there =
+      let found : AfterPassed (Shows p.part (Raw p.bytes p.weight)) (Gap 10 ∷ trimmed mid.back) m f before = cut_passed _ (Gap 10 ∷ trimmed mid.back) m f before there.0 in
+      let plain : (is_inked_stretch (Passed (Shows p.part (Raw p.bytes p.weight))) || list_any is_inked_stretch found.rest) ≡ false = subst (λ x. list_any is_inked_stretch x ≡ false) found.is there.2 in
+      no_neighbour (trimmed mid.back) found.rest f before
+      (found.there, there.1, or_false_right (is_inked_stretch (Passed (Shows p.part (Raw p.bytes p.weight)))) (list_any is_inked_stretch found.rest) plain, subst (λ x. has_newline x ≡ false) found.is there.3)
+kept_since_grows {st = st} suits s u o (breaking k chunk e a) h =
+    subst IsKeptSince (sym a) (λ m before f there. absurd (no_neighbour (Passed (Shows k chunk) ∷ st.back) m f before there))
+kept_since_grows {margin_of = margin_of} {st = st} {next = next} suits s u o (passing event margin e a) h = subst IsKeptSince (sym a) (kept_passed event margin st (at suits) h) where
+  at : Suits margin_of st next → is_raw_event event ≡ false
+  at (raw_suits q f g) = absurd cc
+  at (paragraph_suits j f l m) = absurd cc
+  at (line_break_suits j f l m) = absurd cc
+  at (open_suits b n f l v) = let same : event ≡ Opens b = cc in rw same refl
+  at (close_suits b n f l v) = let same : event ≡ Closes b = cc in rw same refl
+
+-- ---- the law
+
+abbrev pub KeepsBefore : List Stretch → Place → Type 0
+KeepsBefore r f = (m before : List Stretch) (e : Place) → IsNeighbour r m e before → (e.shown ≡ e.bytes) × AllKept (e.part ≢ f.part) m
+
+pub keeps_before_grows : {width : ℕ} {margin_of : ℕ → ℕ} {st after : State} {next : Next} → Suits margin_of st next → IsSettled st → IsUnsettled st → InOrder st → IsKeptSince st
+    → Grows width st next after → EachPlace KeepsBefore st.back → EachPlace KeepsBefore after.back
+keeps_before_grows {width} {margin_of} {st} {after} {next} suits s u o h g all = each_grows KeepsBefore (λ r p i x. x) core g all where
+  core : (p : Piece) (base : State) (n : ℕ) → next ≡ raw p → Begins width st p base → Pads base n → KeepsBefore (padded n base.back) (place_of p)
+  core p base n is b d = λ m before e there.
+      let found : (e.shown ≡ e.bytes) × AllKept (e.part < p.part) m = kept_begins n (ready suits is s u o h) b d m before e there in
+      (found.0, kept_weaker (λ (l : e.part < p.part). apart e.part p.part l) m found.1) where
+        apart : (a b : ℕ) → a < b → a ≢ b
+        apart a b l = λ same. absurd (omega arith)

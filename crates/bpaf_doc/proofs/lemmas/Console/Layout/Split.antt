@@ -1,0 +1,198 @@
+-- A page cut before one of its places.
+use Rattle.std.specs.Prelude.{◌≡◌, ℕ, zero, suc, Bool, true, false, ◌||◌, List, [], ◌∷◌, ◌++◌, refl, if◌then◌else◌, ◌⊎◌}
+use Rattle.std.specs.List.{list_any}
+use Rattle.std.proofs.Common.{sym, subst, ap, inl, inr, ◌∙◌}
+use Rattle.bpaf_doc.specs.Splitter.Chunks.{is_inked, has_some}
+use Rattle.bpaf_doc.specs.Console.Layout.{Event, Shows, Stretch, Gap, Placed, Passed, Place, chunk_at, event_bytes, is_newline, is_inked_stretch}
+use Rattle.bpaf_doc.proofs.lemmas.Console.Layout.State.{padded, trimmed, cut}
+use Rattle.bpaf_doc.proofs.lemmas.Console.Layout.Back.{by_cases, trimmed_inked, trimmed_plain, trimmed_bytes, trimmed_bare}
+
+-- ---- the events, newest first
+
+abbrev pub events_back : List Stretch → List Event
+events_back [] = []
+events_back (Gap b ∷ r) = events_back r
+events_back (Placed e ∷ r) = Shows e.part (chunk_at e) ∷ events_back r
+events_back (Passed event ∷ r) = event ∷ events_back r
+
+pub events_padded : (n : ℕ) (r : List Stretch) → events_back (padded n r) ≡ events_back r
+events_padded zero r = refl
+events_padded (suc n) r = events_padded n r
+
+pub events_trimmed : (r : List Stretch) → events_back (trimmed r) ≡ events_back r
+events_trimmed [] = refl
+events_trimmed (Gap b ∷ r) = events_trimmed r
+events_trimmed (Placed e ∷ r) = at (by_cases (is_inked (chunk_at e))) (events_trimmed r) where
+  at : (is_inked (chunk_at e) ≡ true) ⊎ (is_inked (chunk_at e) ≡ false) → events_back (trimmed r) ≡ events_back r → events_back (trimmed (Placed e ∷ r)) ≡ events_back (Placed e ∷ r)
+  at (inl i) ih = subst (λ x. events_back x ≡ events_back (Placed e ∷ r)) (sym (trimmed_inked e r i)) refl
+  at (inr i) ih = subst (λ x. events_back x ≡ events_back (Placed e ∷ r)) (sym (trimmed_plain e r i)) (ap (λ es. Shows e.part (chunk_at e) ∷ es) ih)
+events_trimmed (Passed event ∷ r) = at (by_cases (has_some (event_bytes event))) (events_trimmed r) where
+  at : (has_some (event_bytes event) ≡ true) ⊎ (has_some (event_bytes event) ≡ false) → events_back (trimmed r) ≡ events_back r → events_back (trimmed (Passed event ∷ r)) ≡ events_back (Passed event ∷ r)
+  at (inl i) ih = subst (λ x. events_back x ≡ events_back (Passed event ∷ r)) (sym (trimmed_bytes event r i)) refl
+  at (inr i) ih = subst (λ x. events_back x ≡ events_back (Passed event ∷ r)) (sym (trimmed_bare event r i)) (ap (λ es. event ∷ es) ih)
+
+-- ---- cuts
+
+-- the page is what came before e, then e, then m, newest first
+abbrev pub Cut : List Stretch → List Stretch → Place → List Stretch → Type 0
+Cut r m e before = r ≡ m ++ Placed e ∷ before
+
+pub data FirstOrLater (x : Stretch) (r m : List Stretch) (e : Place) (before : List Stretch) : Type 0 where
+  here : m ≡ [] → x ≡ Placed e → r ≡ before → FirstOrLater x r m e before
+  later : (rest : List Stretch) → m ≡ x ∷ rest → Cut r rest e before → FirstOrLater x r m e before
+
+pub cut_cons : (x : Stretch) (r m : List Stretch) (e : Place) (before : List Stretch) → Cut (x ∷ r) m e before → FirstOrLater x r m e before
+cut_cons x r [] e before h = let a : x ≡ Placed e = cc in let b : r ≡ before = cc in here refl a b
+cut_cons x r (y ∷ m) e before h = let same : x ≡ y = cc in let c : Cut r m e before = cc in later m (ap (λ z. z ∷ m) (sym same)) c
+
+-- a byte outside the places is no place
+pub record AfterGap (b : ℕ) (r m : List Stretch) (e : Place) (before : List Stretch) : Type 0 where
+  pub rest : List Stretch
+  pub is : m ≡ Gap b ∷ rest
+  pub there : Cut r rest e before
+
+pub cut_gap : (b : ℕ) (r m : List Stretch) (e : Place) (before : List Stretch) → Cut (Gap b ∷ r) m e before → AfterGap b r m e before
+cut_gap b r m e before h = at (cut_cons (Gap b) r m e before h) where
+  at : FirstOrLater (Gap b) r m e before → AfterGap b r m e before
+  at (here a x c) = absurd cc
+  at (later rest a c) = record { rest = rest; is = a; there = c }
+
+pub record AfterPassed (event : Event) (r m : List Stretch) (e : Place) (before : List Stretch) : Type 0 where
+  pub rest : List Stretch
+  pub is : m ≡ Passed event ∷ rest
+  pub there : Cut r rest e before
+
+pub cut_passed : (event : Event) (r m : List Stretch) (e : Place) (before : List Stretch) → Cut (Passed event ∷ r) m e before → AfterPassed event r m e before
+cut_passed event r m e before h = at (cut_cons (Passed event) r m e before h) where
+  at : FirstOrLater (Passed event) r m e before → AfterPassed event r m e before
+  at (here a x c) = absurd cc
+  at (later rest a c) = record { rest = rest; is = a; there = c }
+
+pub record AfterPads (n : ℕ) (r m : List Stretch) (e : Place) (before : List Stretch) : Type 0 where
+  pub rest : List Stretch
+  pub is : m ≡ padded n rest
+  pub there : Cut r rest e before
+
+pub cut_padded : (n : ℕ) (r m : List Stretch) (e : Place) (before : List Stretch) → Cut (padded n r) m e before → AfterPads n r m e before
+cut_padded zero r m e before h = record { rest = m; is = refl; there = h }
+cut_padded (suc n) r m e before h =
+    let first : AfterGap 32 (padded n r) m e before = cut_gap 32 (padded n r) m e before h in
+    let others : AfterPads n r first.rest e before = cut_padded n r first.rest e before first.there in
+    record { rest = others.rest; is = first.is ∙ ap (λ x. Gap 32 ∷ x) others.is; there = others.there }
+
+-- a cut of the trimmed page comes from one of the page, with the same chunk and the same events
+pub record FromTrimmed (r m : List Stretch) (e : Place) (before : List Stretch) : Type 0 where
+  pub rest : List Stretch
+  pub place : Place
+  pub there : Cut r rest place before
+  pub part : place.part ≡ e.part
+  pub bytes : place.bytes ≡ e.bytes
+  pub weight : place.weight ≡ e.weight
+  pub events : events_back rest ≡ events_back m
+
+same_cut : (r m : List Stretch) (e : Place) (before : List Stretch) → Cut r m e before → FromTrimmed r m e before
+same_cut r m e before h = record { rest = m; place = e; there = h; part = refl; bytes = refl; weight = refl; events = refl }
+
+past : (x : Stretch) (y : Stretch) (r m : List Stretch) (e : Place) (before : List Stretch)
+    → ((rest others : List Stretch) → events_back rest ≡ events_back others → events_back (x ∷ rest) ≡ events_back (y ∷ others))
+    → (rest : List Stretch) → m ≡ y ∷ rest → FromTrimmed r rest e before → FromTrimmed (x ∷ r) m e before
+past x y r m e before both rest is f = record {
+  rest = x ∷ f.rest;
+  place = f.place;
+  there = ap (λ z. x ∷ z) f.there;
+  part = f.part;
+  bytes = f.bytes;
+  weight = f.weight;
+  events = both f.rest rest f.events ∙ ap events_back (sym is);
+}
+
+pub cut_trimmed : (r m : List Stretch) (e : Place) (before : List Stretch) → Cut (trimmed r) m e before → FromTrimmed r m e before
+cut_trimmed [] m e before h = same_cut [] m e before h
+cut_trimmed (Gap b ∷ r) m e before h = let f : FromTrimmed r m e before = cut_trimmed r m e before h in
+    record { rest = Gap b ∷ f.rest; place = f.place; there = ap (λ z. Gap b ∷ z) f.there; part = f.part; bytes = f.bytes; weight = f.weight; events = f.events }
+cut_trimmed (Placed g ∷ r) m e before h = at (by_cases (is_inked (chunk_at g))) (cut_trimmed r) where
+  inked : Cut (Placed (cut g) ∷ r) m e before → FromTrimmed (Placed g ∷ r) m e before
+  inked c = each (cut_cons (Placed (cut g)) r m e before c) where
+    each : FirstOrLater (Placed (cut g)) r m e before → FromTrimmed (Placed g ∷ r) m e before
+    each (here a x b) =
+        let same : cut g ≡ e = cc in
+        record {
+          rest = [];
+          place = g;
+          there = ap (λ z. Placed g ∷ z) b;
+          part = ap (λ (p : Place). p.part) same;
+          bytes = ap (λ (p : Place). p.bytes) same;
+          weight = ap (λ (p : Place). p.weight) same;
+          events = ap events_back (sym a);
+        }
+    each (later rest a b) = past (Placed g) (Placed (cut g)) r m e before (λ x y s. ap (λ z. Shows g.part (chunk_at g) ∷ z) s) rest a (same_cut r rest e before b)
+
+  plain : Cut (Passed (Shows g.part (chunk_at g)) ∷ trimmed r) m e before → ((m : List Stretch) (e : Place) (before : List Stretch) → Cut (trimmed r) m e before → FromTrimmed r m e before)
+      → FromTrimmed (Placed g ∷ r) m e before
+  plain c ih =
+      let next : AfterPassed (Shows g.part (chunk_at g)) (trimmed r) m e before = cut_passed (Shows g.part (chunk_at g)) (trimmed r) m e before c in
+      past (Placed g) (Passed (Shows g.part (chunk_at g))) r m e before (λ x y s. ap (λ z. Shows g.part (chunk_at g) ∷ z) s) next.rest next.is (ih next.rest e before next.there)
+
+  at : (is_inked (chunk_at g) ≡ true) ⊎ (is_inked (chunk_at g) ≡ false) → ((m : List Stretch) (e : Place) (before : List Stretch) → Cut (trimmed r) m e before → FromTrimmed r m e before)
+      → FromTrimmed (Placed g ∷ r) m e before
+  at (inl i) ih = inked (subst (λ x. Cut x m e before) (trimmed_inked g r i) h)
+  at (inr i) ih = plain (subst (λ x. Cut x m e before) (trimmed_plain g r i) h) ih
+cut_trimmed (Passed event ∷ r) m e before h = at (by_cases (has_some (event_bytes event))) (cut_trimmed r) where
+  bare : Cut (Passed event ∷ trimmed r) m e before → ((m : List Stretch) (e : Place) (before : List Stretch) → Cut (trimmed r) m e before → FromTrimmed r m e before)
+      → FromTrimmed (Passed event ∷ r) m e before
+  bare c ih =
+      let next : AfterPassed event (trimmed r) m e before = cut_passed event (trimmed r) m e before c in
+      past (Passed event) (Passed event) r m e before (λ x y s. ap (λ z. event ∷ z) s) next.rest next.is (ih next.rest e before next.there)
+
+  at : (has_some (event_bytes event) ≡ true) ⊎ (has_some (event_bytes event) ≡ false) → ((m : List Stretch) (e : Place) (before : List Stretch) → Cut (trimmed r) m e before → FromTrimmed r m e before)
+      → FromTrimmed (Passed event ∷ r) m e before
+  at (inl i) ih = same_cut (Passed event ∷ r) m e before (subst (λ x. Cut x m e before) (trimmed_bytes event r i) h)
+  at (inr i) ih = bare (subst (λ x. Cut x m e before) (trimmed_bare event r i) h) ih
+
+-- ---- a newline since a place
+
+abbrev pub has_newline : List Stretch → Bool
+has_newline r = list_any is_newline r
+
+abbrev pub inked_line : List Stretch → Bool
+inked_line [] = false
+inked_line (x ∷ r) = if is_newline x then false else (is_inked_stretch x || inked_line r)
+
+pub newline_padded : (n : ℕ) (r : List Stretch) → has_newline (padded n r) ≡ has_newline r
+newline_padded zero r = refl
+newline_padded (suc n) r = newline_padded n r
+
+pub inked_line_padded : (n : ℕ) (r : List Stretch) → inked_line (padded n r) ≡ inked_line r
+inked_line_padded zero r = refl
+inked_line_padded (suc n) r = inked_line_padded n r
+
+-- without a newline since an inked place, its line has ink
+pub inked_since : (m : List Stretch) (e : Place) (before : List Stretch) → is_inked (chunk_at e) ≡ true → has_newline m ≡ false → inked_line (m ++ Placed e ∷ before) ≡ true
+inked_since [] e before i n = rw i refl
+inked_since (x ∷ m) e before i n =
+    let first : is_newline x ≡ false = or_left (is_newline x) (has_newline m) n in
+    let ih : inked_line (m ++ Placed e ∷ before) ≡ true = inked_since m e before i (or_right (is_newline x) (has_newline m) n) in
+    rw first (or_true (is_inked_stretch x) ih) where
+      or_left : (a b : Bool) → (a || b) ≡ false → a ≡ false
+      or_left true b h = absurd cc
+      or_left false b h = h0 where
+        h0 : false ≡ false
+        h0 = refl
+
+      or_right : (a b : Bool) → (a || b) ≡ false → b ≡ false
+      or_right true b h = absurd cc
+      or_right false b h = h
+
+      or_true : (a : Bool) → inked_line (m ++ Placed e ∷ before) ≡ true → (a || inked_line (m ++ Placed e ∷ before)) ≡ true
+      or_true true t = refl
+      or_true false t = t
+
+-- ---- the page where a chunk begins
+
+-- a place with ink is ink
+pub ink_at : (m : List Stretch) (e : Place) (before : List Stretch) → is_inked (chunk_at e) ≡ true → list_any is_inked_stretch (m ++ Placed e ∷ before) ≡ true
+ink_at [] e before i = rw i refl
+ink_at (x ∷ m) e before i = or_true (is_inked_stretch x) (ink_at m e before i) where
+  or_true : (a : Bool) → list_any is_inked_stretch (m ++ Placed e ∷ before) ≡ true → (a || list_any is_inked_stretch (m ++ Placed e ∷ before)) ≡ true
+  or_true true t = refl
+  or_true false t = t

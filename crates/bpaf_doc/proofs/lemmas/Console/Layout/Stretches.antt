@@ -1,0 +1,405 @@
+-- What the text of a page shows of its stretches, and what it is without its blank end.
+use Rattle.std.specs.Prelude.{◌≡◌, ◌≢◌, ℕ, zero, suc, ◌+◌, ◌<◌, Bool, true, false, ◌&&◌, ◌||◌, ◌==◌, List, [], ◌∷◌, ◌++◌, length, filter, refl, if◌then◌else◌, ◌⊎◌, IsUtf8}
+use Rattle.std.specs.List.{list_all}
+use Rattle.std.specs.Str.{trim_end, drop_trailing_whitespace, chars, encode_utf8_all}
+use Rattle.std.specs.Char.{is_whitespace, is_not_whitespace}
+use Rattle.std.proofs.Common.{rules, sym, subst, ap, arith, inl, inr, ◌∙◌, append_assoc}
+use Rattle.std.proofs.lemmas.List.{append-nil}
+use Rattle.std.proofs.lemmas.Str.{chars-append, encodes-chars, chars-encodes, scalars-chars, encodes-append, IsUtf8-append, IsUtf8-nil, IsUtf8-from_ascii}
+use Rattle.std.proofs.Math.Utf8.{encodes, scalars, scalar}
+use Rattle.std.proofs.lemmas.Bool.Decides.{nat_tests}
+use Rattle.bpaf_doc.specs.Buffer.Parts.{ink}
+use Rattle.bpaf_doc.specs.Splitter.Chunks.{is_inked, has_some, IsLine, is_line_byte}
+use Rattle.bpaf_doc.specs.Shown.{is_term_ref}
+use Rattle.bpaf_doc.specs.Console.Layout.{Event, Shows, Opens, Closes, Stretch, Gap, Placed, Passed, Place, chunk_at, event_bytes, stretch_bytes}
+use Rattle.bpaf_doc.proofs.lemmas.Console.Layout.State.{has_text, ends_line, ends_blank, padded, trimmed, cut, IsLegible}
+use Rattle.bpaf_doc.proofs.lemmas.Console.Layout.Back.{by_cases, trimmed_inked, trimmed_plain, trimmed_bytes, trimmed_bare}
+use Rattle.bpaf_doc.proofs.lemmas.Console.Layout.Blank.{text_back, text_back_cons}
+
+-- ---- trimming
+
+-- the characters without the white space at their end
+white : (ds : List ℕ) → has_some (filter is_not_whitespace ds) ≡ false → drop_trailing_whitespace ds ≡ []
+white [] h = refl
+white (d ∷ ds) h = at (by_cases (is_whitespace d)) (white ds) where
+  at : (is_whitespace d ≡ true) ⊎ (is_whitespace d ≡ false) → (has_some (filter is_not_whitespace ds) ≡ false → drop_trailing_whitespace ds ≡ []) → drop_trailing_whitespace (d ∷ ds) ≡ []
+  at (inl w) ih = let rest : has_some (filter is_not_whitespace ds) ≡ false = rw w at h in let none : drop_trailing_whitespace ds ≡ [] = ih rest in rw (none, w) refl
+  at (inr w) ih = let no : true ≡ false = rw w at h in absurd cc
+
+dropped_white : (cs ds : List ℕ) → has_some (filter is_not_whitespace ds) ≡ false → drop_trailing_whitespace (cs ++ ds) ≡ drop_trailing_whitespace cs
+dropped_white [] ds h = white ds h
+dropped_white (c ∷ cs) ds h = let ih : drop_trailing_whitespace (cs ++ ds) ≡ drop_trailing_whitespace cs = dropped_white cs ds h in rw ih refl
+
+some_left : (ds : List ℕ) → has_some (filter is_not_whitespace ds) ≡ true → 0 < length (drop_trailing_whitespace ds)
+some_left [] h = absurd cc
+some_left (d ∷ ds) h = at (by_cases (is_whitespace d)) (some_left ds) where
+  at : (is_whitespace d ≡ true) ⊎ (is_whitespace d ≡ false) → (has_some (filter is_not_whitespace ds) ≡ true → 0 < length (drop_trailing_whitespace ds)) → 0 < length (drop_trailing_whitespace (d ∷ ds))
+  at (inl w) ih =
+      let rest : has_some (filter is_not_whitespace ds) ≡ true = rw w at h in
+      let some : 0 < length (drop_trailing_whitespace ds) = ih rest in
+      let no : (length (drop_trailing_whitespace ds) == 0) ≡ false = grind (arith, nat_tests) in
+      rw (w, no) (omega arith)
+  at (inr w) ih = rw w (omega arith)
+
+dropped_some : (cs ds : List ℕ) → has_some (filter is_not_whitespace ds) ≡ true → drop_trailing_whitespace (cs ++ ds) ≡ cs ++ drop_trailing_whitespace ds
+dropped_some [] ds h = refl
+dropped_some (c ∷ cs) ds h =
+    let ih : drop_trailing_whitespace (cs ++ ds) ≡ cs ++ drop_trailing_whitespace ds = dropped_some cs ds h in
+    let some : 0 < length (drop_trailing_whitespace ds) = some_left ds h in
+    rw ih (at (is_whitespace c) (no_end cs (drop_trailing_whitespace ds) some)) where
+      no_end : (cs es : List ℕ) → 0 < length es → (length (cs ++ es) == 0) ≡ false
+      no_end [] es h = grind (arith, nat_tests)
+      no_end (c ∷ cs) es h = grind (arith, nat_tests)
+
+      at : (w : Bool) → (length (cs ++ drop_trailing_whitespace ds) == 0) ≡ false
+          → (if (w && (length (cs ++ drop_trailing_whitespace ds) == 0)) then [] else (c ∷ (cs ++ drop_trailing_whitespace ds))) ≡ c ∷ (cs ++ drop_trailing_whitespace ds)
+      at true e = rw e refl
+      at false e = refl
+
+pub trim_white : (front back : List ℕ) → IsUtf8 front → has_some (ink back) ≡ false → trim_end (front ++ back) ≡ trim_end front
+unfolding trim_end
+trim_white front back u h =
+    ap (λ cs. encode_utf8_all (drop_trailing_whitespace cs)) (chars-append front back u) ∙ ap encode_utf8_all (dropped_white (chars front) (chars back) h)
+
+pub trim_some : (front back : List ℕ) → IsUtf8 front → has_some (ink back) ≡ true → trim_end (front ++ back) ≡ front ++ trim_end back
+unfolding trim_end
+trim_some front back u h =
+    ap (λ cs. encode_utf8_all (drop_trailing_whitespace cs)) (chars-append front back u) ∙ ap encode_utf8_all (dropped_some (chars front) (chars back) h)
+    ∙ encodes-append (chars front) (drop_trailing_whitespace (chars back)) ∙ ap (λ bs. bs ++ encode_utf8_all (drop_trailing_whitespace (chars back))) (encodes-chars front u)
+
+-- what is dropped is a front
+kept_front : (cs : List ℕ) → (rest : List ℕ) × (cs ≡ drop_trailing_whitespace cs ++ rest)
+kept_front [] = ([], refl)
+kept_front (c ∷ cs) = at (by_cases (is_whitespace c && (length (drop_trailing_whitespace cs) == 0))) (kept_front cs) where
+  at : ((is_whitespace c && (length (drop_trailing_whitespace cs) == 0)) ≡ true) ⊎ ((is_whitespace c && (length (drop_trailing_whitespace cs) == 0)) ≡ false)
+      → ((rest : List ℕ) × (cs ≡ drop_trailing_whitespace cs ++ rest)) → (rest : List ℕ) × (c ∷ cs ≡ drop_trailing_whitespace (c ∷ cs) ++ rest)
+  at (inl t) ih = (c ∷ cs, rw t refl)
+  at (inr t) ih = (ih.0, rw t (ap (λ xs. c ∷ xs) ih.1))
+
+twice_chars : (cs : List ℕ) → drop_trailing_whitespace (drop_trailing_whitespace cs) ≡ drop_trailing_whitespace cs
+twice_chars [] = refl
+twice_chars (c ∷ cs) = at (by_cases (is_whitespace c && (length (drop_trailing_whitespace cs) == 0))) (twice_chars cs) where
+  at : ((is_whitespace c && (length (drop_trailing_whitespace cs) == 0)) ≡ true) ⊎ ((is_whitespace c && (length (drop_trailing_whitespace cs) == 0)) ≡ false)
+      → drop_trailing_whitespace (drop_trailing_whitespace cs) ≡ drop_trailing_whitespace cs → drop_trailing_whitespace (drop_trailing_whitespace (c ∷ cs)) ≡ drop_trailing_whitespace (c ∷ cs)
+  at (inl t) ih = rw t refl
+  at (inr t) ih = rw t (rw ih (rw t refl))
+
+scalars_front : (cs ds : List ℕ) → scalars (cs ++ ds) ≡ true → scalars cs ≡ true
+scalars_front [] ds h = refl
+scalars_front (c ∷ cs) ds h = both (scalar c) h (scalars_front cs ds) where
+  both : (t : Bool) → (t && scalars (cs ++ ds)) ≡ true → (scalars (cs ++ ds) ≡ true → scalars cs ≡ true) → (t && scalars cs) ≡ true
+  both true h ih = ih h
+  both false h ih = absurd cc
+
+kept_scalars : (text : List ℕ) → IsUtf8 text → scalars (drop_trailing_whitespace (chars text)) ≡ true
+kept_scalars text u =
+    let front : (rest : List ℕ) × (chars text ≡ drop_trailing_whitespace (chars text) ++ rest) = kept_front (chars text) in
+    scalars_front (drop_trailing_whitespace (chars text)) front.0 (subst (λ cs. scalars cs ≡ true) front.1 (scalars-chars text u))
+
+-- a text without its blank end is a text
+pub trim_utf8 : (text : List ℕ) → IsUtf8 text → IsUtf8 (trim_end text)
+unfolding trim_end
+trim_utf8 text u = (drop_trailing_whitespace (chars text), (kept_scalars text u, refl))
+
+pub trim_twice : (text : List ℕ) → IsUtf8 text → trim_end (trim_end text) ≡ trim_end text
+unfolding trim_end
+trim_twice text u =
+    ap (λ cs. encode_utf8_all (drop_trailing_whitespace cs)) (chars-encodes (drop_trailing_whitespace (chars text)) (kept_scalars text u)) ∙ ap encode_utf8_all (twice_chars (chars text))
+
+-- a text without its blank end begins the text
+pub trim_front : (text : List ℕ) → IsUtf8 text → (rest : List ℕ) × (text ≡ trim_end text ++ rest)
+unfolding trim_end
+trim_front text u =
+    let front : (rest : List ℕ) × (chars text ≡ drop_trailing_whitespace (chars text) ++ rest) = kept_front (chars text) in
+    (encode_utf8_all front.0, sym (encodes-chars text u) ∙ ap encode_utf8_all front.1 ∙ encodes-append (drop_trailing_whitespace (chars text)) front.0)
+
+line_front : (front rest : List ℕ) → IsLine (front ++ rest) → IsLine front
+line_front [] rest h = refl
+line_front (b ∷ front) rest h = both (is_line_byte b) h (line_front front rest) where
+  both : (t : Bool) → (t && list_all is_line_byte (front ++ rest)) ≡ true → (IsLine (front ++ rest) → IsLine front) → (t && list_all is_line_byte front) ≡ true
+  both true h ih = ih h
+  both false h ih = absurd cc
+
+pub trim_line : (text : List ℕ) → IsUtf8 text → IsLine text → IsLine (trim_end text)
+trim_line text u l = let front : (rest : List ℕ) × (text ≡ trim_end text ++ rest) = trim_front text u in line_front (trim_end text) front.0 (subst IsLine front.1 l)
+
+-- ---- the text of a page
+
+utf8_blank : IsUtf8 (32 ∷ [])
+utf8_blank = IsUtf8-from_ascii (32 ∷ []) (search rules)
+
+utf8_newline : IsUtf8 (10 ∷ [])
+utf8_newline = IsUtf8-from_ascii (10 ∷ []) (search rules)
+
+utf8_backquote : IsUtf8 (96 ∷ [])
+utf8_backquote = IsUtf8-from_ascii (96 ∷ []) (search rules)
+
+pub event_utf8 : (event : Event) → IsUtf8 (event_bytes event)
+event_utf8 (Shows k chunk) = IsUtf8-nil
+event_utf8 (Opens b) = at (is_term_ref b) where
+  at : (t : Bool) → IsUtf8 (if t then 96 ∷ [] else [])
+  at true = utf8_backquote
+  at false = IsUtf8-nil
+event_utf8 (Closes b) = at (is_term_ref b) where
+  at : (t : Bool) → IsUtf8 (if t then 96 ∷ [] else [])
+  at true = utf8_backquote
+  at false = IsUtf8-nil
+
+gap_utf8 : (b : ℕ) → (b ≡ 32) ⊎ (b ≡ 10) → IsUtf8 (b ∷ [])
+gap_utf8 b (inl e) = subst (λ (c : ℕ). IsUtf8 (c ∷ [])) (sym e) utf8_blank
+gap_utf8 b (inr e) = subst (λ (c : ℕ). IsUtf8 (c ∷ [])) (sym e) utf8_newline
+
+shown_utf8 : (e : Place) → IsUtf8 e.bytes → (e.shown ≡ e.bytes) ⊎ (e.shown ≡ trim_end e.bytes) → IsUtf8 e.shown
+shown_utf8 e u (inl s) = subst IsUtf8 (sym s) u
+shown_utf8 e u (inr s) = subst IsUtf8 (sym s) (trim_utf8 e.bytes u)
+
+pub text_utf8 : (r : List Stretch) → IsLegible r → IsUtf8 (text_back r)
+text_utf8 [] h = IsUtf8-nil
+text_utf8 (Gap b ∷ r) h = subst IsUtf8 (sym (text_back_cons (Gap b) r)) (IsUtf8-append (text_back r) (b ∷ []) (text_utf8 r h.1) (gap_utf8 b h.0))
+text_utf8 (Placed e ∷ r) h = subst IsUtf8 (sym (text_back_cons (Placed e) r)) (IsUtf8-append (text_back r) e.shown (text_utf8 r h.1) (shown_utf8 e h.0.0 h.0.2))
+text_utf8 (Passed event ∷ r) h = subst IsUtf8 (sym (text_back_cons (Passed event) r)) (IsUtf8-append (text_back r) (event_bytes event) (text_utf8 r h) (event_utf8 event))
+
+-- ---- where the text ends
+
+snoc_some : (xs : List ℕ) (ys : List ℕ) → has_some ys ≡ true → xs ++ ys ≢ []
+snoc_some [] ys h = λ none. let no : false ≡ true = ap has_some (sym none) ∙ h in absurd cc
+snoc_some (x ∷ xs) ys h = λ none. absurd cc
+
+some_none : (xs : List ℕ) → has_some xs ≡ false → xs ≡ []
+some_none [] h = refl
+some_none (x ∷ xs) h = absurd cc
+
+-- a page without bytes has an empty text, and only such a page
+pub no_text : (r : List Stretch) → has_text r ≡ false → text_back r ≡ []
+no_text [] h = refl
+no_text (x ∷ r) h =
+    let none : stretch_bytes x ≡ [] = some_none (stretch_bytes x) (or_left (has_some (stretch_bytes x)) (has_text r) h) in
+    text_back_cons x r ∙ ap (λ t. t ++ stretch_bytes x) (no_text r (or_right (has_some (stretch_bytes x)) (has_text r) h)) ∙ none where
+      or_left : (a b : Bool) → (a || b) ≡ false → a ≡ false
+      or_left true b h = absurd cc
+      or_left false b h = refl
+
+      or_right : (a b : Bool) → (a || b) ≡ false → b ≡ false
+      or_right true b h = absurd cc
+      or_right false b h = h
+
+pub some_text : (r : List Stretch) → has_text r ≡ true → text_back r ≢ []
+some_text [] h = λ e. absurd cc
+some_text (x ∷ r) h = at (by_cases (has_some (stretch_bytes x))) (some_text r) where
+  at : (has_some (stretch_bytes x) ≡ true) ⊎ (has_some (stretch_bytes x) ≡ false) → (has_text r ≡ true → text_back r ≢ []) → text_back (x ∷ r) ≢ []
+  at (inl s) ih = λ e. snoc_some (text_back r) (stretch_bytes x) s (sym (text_back_cons x r) ∙ e)
+  at (inr s) ih = λ e. let rest : has_text r ≡ true = rw s at h in
+      ih rest (sym (append-nil (text_back r)) ∙ ap (λ t. text_back r ++ t) (sym (some_none (stretch_bytes x) s)) ∙ sym (text_back_cons x r) ∙ e)
+
+-- lists that are equal with one last element each have equal ends
+last_same : (xs ys : List ℕ) (a b : ℕ) → xs ++ a ∷ [] ≡ ys ++ b ∷ [] → a ≡ b
+last_same [] [] a b e = cc
+last_same [] (y ∷ []) a b e = absurd cc
+last_same [] (y ∷ z ∷ ys) a b e = absurd cc
+last_same (x ∷ []) [] a b e = absurd cc
+last_same (x ∷ z ∷ xs) [] a b e = absurd cc
+last_same (x ∷ xs) (y ∷ ys) a b e = let rest : xs ++ a ∷ [] ≡ ys ++ b ∷ [] = cc in last_same xs ys a b rest
+
+front_same : (xs ys : List ℕ) (a b : ℕ) → xs ++ a ∷ [] ≡ ys ++ b ∷ [] → xs ≡ ys
+front_same [] [] a b e = refl
+front_same [] (y ∷ []) a b e = absurd cc
+front_same [] (y ∷ z ∷ ys) a b e = absurd cc
+front_same (x ∷ []) [] a b e = absurd cc
+front_same (x ∷ z ∷ xs) [] a b e = absurd cc
+front_same (x ∷ xs) (y ∷ ys) a b e =
+    let rest : xs ++ a ∷ [] ≡ ys ++ b ∷ [] = cc in let first : x ≡ y = cc in ap (λ (c : ℕ). c ∷ xs) first ∙ ap (λ zs. y ∷ zs) (front_same xs ys a b rest)
+
+-- a list of some bytes ends in one of them
+record LastByte (xs : List ℕ) : Type 0 where
+  front : List ℕ
+  last : ℕ
+  is : xs ≡ front ++ last ∷ []
+
+last_byte : (xs : List ℕ) → has_some xs ≡ true → LastByte xs
+last_byte [] h = absurd cc
+last_byte (x ∷ []) h = record { front = []; last = x; is = refl }
+last_byte (x ∷ y ∷ xs) h = let rest : LastByte (y ∷ xs) = last_byte (y ∷ xs) refl in record { front = x ∷ rest.front; last = rest.last; is = ap (λ ys. x ∷ ys) rest.is }
+
+line_end_lem : (front : List ℕ) → IsLine (front ++ 10 ∷ []) → ⊥
+line_end_lem [] h = cc
+line_end_lem (b ∷ front) h = both (is_line_byte b) h (line_end_lem front) where
+  both : (t : Bool) → (t && list_all is_line_byte (front ++ 10 ∷ [])) ≡ true → (IsLine (front ++ 10 ∷ []) → ⊥) → ⊥
+  both true h ih = ih h
+  both false h ih = cc
+
+shown_line : (e : Place) → IsUtf8 e.bytes → IsLine e.bytes → (e.shown ≡ e.bytes) ⊎ (e.shown ≡ trim_end e.bytes) → IsLine e.shown
+shown_line e u l (inl s) = subst IsLine (sym s) l
+shown_line e u l (inr s) = subst IsLine (sym s) (trim_line e.bytes u l)
+
+event_line : (event : Event) → IsLine (event_bytes event)
+event_line (Shows k chunk) = refl
+event_line (Opens b) = at (is_term_ref b) where
+  at : (t : Bool) → IsLine (if t then 96 ∷ [] else [])
+  at true = refl
+  at false = refl
+event_line (Closes b) = at (is_term_ref b) where
+  at : (t : Bool) → IsLine (if t then 96 ∷ [] else [])
+  at true = refl
+  at false = refl
+
+ends_in : (r : List Stretch) (x : Stretch) (front : List ℕ) → has_some (stretch_bytes x) ≡ true → text_back (x ∷ r) ≡ front ++ 10 ∷ [] → (back : List ℕ) × (stretch_bytes x ≡ back ++ 10 ∷ [])
+ends_in r x front s e =
+    let last : LastByte (stretch_bytes x) = last_byte (stretch_bytes x) s in
+    let whole : (text_back r ++ last.front) ++ last.last ∷ [] ≡ front ++ 10 ∷ [] =
+    append_assoc (text_back r) last.front (last.last ∷ []) ∙ ap (λ t. text_back r ++ t) (sym last.is) ∙ sym (text_back_cons x r) ∙ e in
+    (last.front, last.is ∙ ap (λ (b : ℕ). last.front ++ b ∷ []) (last_same (text_back r ++ last.front) front last.last 10 whole))
+
+bare_text : (r : List Stretch) (x : Stretch) → has_some (stretch_bytes x) ≡ false → text_back (x ∷ r) ≡ text_back r
+bare_text r x s = text_back_cons x r ∙ ap (λ t. text_back r ++ t) (some_none (stretch_bytes x) s) ∙ append-nil (text_back r)
+
+-- a text that ends in a newline is one of a page that does
+pub text_ends_line : (r : List Stretch) (front : List ℕ) → IsLegible r → text_back r ≡ front ++ 10 ∷ [] → ends_line r ≡ true
+text_ends_line [] front h e = absurd (snoc_some front (10 ∷ []) refl (sym e))
+text_ends_line (Gap b ∷ r) front h e =
+    let found : (back : List ℕ) × (b ∷ [] ≡ back ++ 10 ∷ []) = ends_in r (Gap b) front refl e in
+    let ten : b ≡ 10 = last_same [] found.0 b 10 found.1 in rw ten refl
+text_ends_line (Placed p ∷ r) front h e = at (by_cases (has_some p.shown)) (text_ends_line r front h.1) where
+  at : (has_some p.shown ≡ true) ⊎ (has_some p.shown ≡ false) → (text_back r ≡ front ++ 10 ∷ [] → ends_line r ≡ true) → ends_line (Placed p ∷ r) ≡ true
+  at (inl s) ih =
+      let found : (back : List ℕ) × (p.shown ≡ back ++ 10 ∷ []) = ends_in r (Placed p) front s e in
+      absurd (line_end_lem found.0 (subst IsLine found.1 (shown_line p h.0.0 h.0.1 h.0.2)))
+  at (inr s) ih = rw s (ih (sym (bare_text r (Placed p) s) ∙ e))
+text_ends_line (Passed event ∷ r) front h e = at (by_cases (has_some (event_bytes event))) (text_ends_line r front h) where
+  at : (has_some (event_bytes event) ≡ true) ⊎ (has_some (event_bytes event) ≡ false) → (text_back r ≡ front ++ 10 ∷ [] → ends_line r ≡ true) → ends_line (Passed event ∷ r) ≡ true
+  at (inl s) ih =
+      let found : (back : List ℕ) × (event_bytes event ≡ back ++ 10 ∷ []) = ends_in r (Passed event) front s e in
+      absurd (line_end_lem found.0 (subst IsLine found.1 (event_line event)))
+  at (inr s) ih = rw s (ih (sym (bare_text r (Passed event) s) ∙ e))
+
+pub text_ends_blank : (r : List Stretch) (front : List ℕ) → IsLegible r → text_back r ≡ (front ++ 10 ∷ []) ++ 10 ∷ [] → ends_blank r ≡ true
+text_ends_blank [] front h e = absurd (snoc_some (front ++ 10 ∷ []) (10 ∷ []) refl (sym e))
+text_ends_blank (Gap b ∷ r) front h e =
+    let whole : text_back r ++ b ∷ [] ≡ (front ++ 10 ∷ []) ++ 10 ∷ [] = sym (text_back_cons (Gap b) r) ∙ e in
+    let ten : b ≡ 10 = last_same (text_back r) (front ++ 10 ∷ []) b 10 whole in
+    let rest : text_back r ≡ front ++ 10 ∷ [] = front_same (text_back r) (front ++ 10 ∷ []) b 10 whole in
+    let line : ends_line r ≡ true = text_ends_line r front h.1 rest in rw (ten, line) refl
+text_ends_blank (Placed p ∷ r) front h e = at (by_cases (has_some p.shown)) (text_ends_blank r front h.1) where
+  at : (has_some p.shown ≡ true) ⊎ (has_some p.shown ≡ false) → (text_back r ≡ (front ++ 10 ∷ []) ++ 10 ∷ [] → ends_blank r ≡ true) → ends_blank (Placed p ∷ r) ≡ true
+  at (inl s) ih =
+      let found : (back : List ℕ) × (p.shown ≡ back ++ 10 ∷ []) = ends_in r (Placed p) (front ++ 10 ∷ []) s e in
+      absurd (line_end_lem found.0 (subst IsLine found.1 (shown_line p h.0.0 h.0.1 h.0.2)))
+  at (inr s) ih = rw s (ih (sym (bare_text r (Placed p) s) ∙ e))
+text_ends_blank (Passed event ∷ r) front h e = at (by_cases (has_some (event_bytes event))) (text_ends_blank r front h) where
+  at : (has_some (event_bytes event) ≡ true) ⊎ (has_some (event_bytes event) ≡ false) → (text_back r ≡ (front ++ 10 ∷ []) ++ 10 ∷ [] → ends_blank r ≡ true) → ends_blank (Passed event ∷ r) ≡ true
+  at (inl s) ih =
+      let found : (back : List ℕ) × (event_bytes event ≡ back ++ 10 ∷ []) = ends_in r (Passed event) (front ++ 10 ∷ []) s e in
+      absurd (line_end_lem found.0 (subst IsLine found.1 (event_line event)))
+  at (inr s) ih = rw s (ih (sym (bare_text r (Passed event) s) ∙ e))
+
+-- ---- the trimmed page
+
+gap_plain : (b : ℕ) → (b ≡ 32) ⊎ (b ≡ 10) → has_some (ink (b ∷ [])) ≡ false
+unfolding chars
+gap_plain b (inl e) = rw e refl
+gap_plain b (inr e) = rw e refl
+
+backquote_ink : has_some (ink (96 ∷ [])) ≡ true
+unfolding chars
+backquote_ink = refl
+
+event_ink : (event : Event) → has_some (event_bytes event) ≡ true → has_some (ink (event_bytes event)) ≡ true
+event_ink (Shows k chunk) h = absurd cc
+event_ink (Opens b) h = at (is_term_ref b) h where
+  at : (t : Bool) → has_some (if t then 96 ∷ [] else []) ≡ true → has_some (ink (if t then 96 ∷ [] else [])) ≡ true
+  at true h = backquote_ink
+  at false h = absurd cc
+event_ink (Closes b) h = at (is_term_ref b) h where
+  at : (t : Bool) → has_some (if t then 96 ∷ [] else []) ≡ true → has_some (ink (if t then 96 ∷ [] else [])) ≡ true
+  at true h = backquote_ink
+  at false h = absurd cc
+
+event_trim : (event : Event) → has_some (event_bytes event) ≡ true → trim_end (event_bytes event) ≡ event_bytes event
+unfolding chars trim_end lib.Utf8.encode
+event_trim (Shows k chunk) h = absurd cc
+event_trim (Opens b) h = at (is_term_ref b) h where
+  at : (t : Bool) → has_some (if t then 96 ∷ [] else []) ≡ true → trim_end (if t then 96 ∷ [] else []) ≡ (if t then 96 ∷ [] else [])
+  at true h = refl
+  at false h = absurd cc
+event_trim (Closes b) h = at (is_term_ref b) h where
+  at : (t : Bool) → has_some (if t then 96 ∷ [] else []) ≡ true → trim_end (if t then 96 ∷ [] else []) ≡ (if t then 96 ∷ [] else [])
+  at true h = refl
+  at false h = absurd cc
+
+plain_trim : (text : List ℕ) → has_some (ink text) ≡ false → trim_end text ≡ []
+unfolding trim_end
+plain_trim text h = ap encode_utf8_all (white (chars text) h)
+
+no_ink_nil : has_some (ink []) ≡ false
+unfolding chars
+no_ink_nil = refl
+
+shown_ink_same : (e : Place) → IsUtf8 e.bytes → (e.shown ≡ e.bytes) ⊎ (e.shown ≡ trim_end e.bytes) → is_inked (chunk_at e) ≡ false → has_some (ink e.shown) ≡ false
+shown_ink_same e u (inl s) i = subst (λ xs. has_some (ink xs) ≡ false) (sym s) i
+shown_ink_same e u (inr s) i = let none : trim_end e.bytes ≡ [] = plain_trim e.bytes i in subst (λ xs. has_some (ink xs) ≡ false) (sym (s ∙ none)) no_ink_nil
+
+shown_trim : (e : Place) → IsUtf8 e.bytes → (e.shown ≡ e.bytes) ⊎ (e.shown ≡ trim_end e.bytes) → trim_end e.shown ≡ trim_end e.bytes
+shown_trim e u (inl s) = ap trim_end s
+shown_trim e u (inr s) = ap trim_end s ∙ trim_twice e.bytes u
+
+kept_ink : (cs : List ℕ) → filter is_not_whitespace (drop_trailing_whitespace cs) ≡ filter is_not_whitespace cs
+kept_ink [] = refl
+kept_ink (c ∷ cs) = at (by_cases (is_whitespace c)) (by_cases (length (drop_trailing_whitespace cs) == 0)) (kept_ink cs) where
+  none_of : (xs : List ℕ) → (length xs == 0) ≡ true → xs ≡ []
+  none_of [] h = refl
+  none_of (x ∷ xs) h = absurd (let no : 1 + length xs ≡ 0 = grind (arith, nat_tests) in omega arith)
+
+  at : (is_whitespace c ≡ true) ⊎ (is_whitespace c ≡ false) → ((length (drop_trailing_whitespace cs) == 0) ≡ true) ⊎ ((length (drop_trailing_whitespace cs) == 0) ≡ false)
+      → filter is_not_whitespace (drop_trailing_whitespace cs) ≡ filter is_not_whitespace cs
+      → filter is_not_whitespace (drop_trailing_whitespace (c ∷ cs)) ≡ filter is_not_whitespace (c ∷ cs)
+  at (inl w) (inl n) ih =
+      let none : drop_trailing_whitespace cs ≡ [] = none_of (drop_trailing_whitespace cs) n in
+      let rest : [] ≡ filter is_not_whitespace cs = sym (ap (λ xs. filter is_not_whitespace xs) none) ∙ ih in
+      rw (w, n) rest
+  at (inl w) (inr n) ih = rw (w, n) (rw w ih)
+  at (inr w) n ih = rw w (rw w (ap (λ xs. c ∷ xs) ih))
+
+pub trim_ink : (text : List ℕ) → IsUtf8 text → ink (trim_end text) ≡ ink text
+unfolding trim_end
+trim_ink text u = ap (λ cs. filter is_not_whitespace cs) (chars-encodes (drop_trailing_whitespace (chars text)) (kept_scalars text u)) ∙ kept_ink (chars text)
+
+shown_inked : (e : Place) → IsUtf8 e.bytes → (e.shown ≡ e.bytes) ⊎ (e.shown ≡ trim_end e.bytes) → is_inked (chunk_at e) ≡ true → has_some (ink e.shown) ≡ true
+shown_inked e u (inl s) i = subst (λ xs. has_some (ink xs) ≡ true) (sym s) i
+shown_inked e u (inr s) i = subst (λ xs. has_some (ink xs) ≡ true) (sym s) (ap has_some (trim_ink e.bytes u) ∙ i)
+
+pub trim_text : (r : List Stretch) → IsLegible r → trim_end (text_back r) ≡ text_back (trimmed r)
+trim_text [] h = plain_trim [] no_ink_nil
+trim_text (Gap b ∷ r) h = ap trim_end (text_back_cons (Gap b) r) ∙ trim_white (text_back r) (b ∷ []) (text_utf8 r h.1) (gap_plain b h.0) ∙ trim_text r h.1
+trim_text (Placed e ∷ r) h = at (by_cases (is_inked (chunk_at e))) (trim_text r h.1) where
+  at : (is_inked (chunk_at e) ≡ true) ⊎ (is_inked (chunk_at e) ≡ false) → trim_end (text_back r) ≡ text_back (trimmed r) → trim_end (text_back (Placed e ∷ r)) ≡ text_back (trimmed (Placed e ∷ r))
+  at (inl i) ih =
+      ap trim_end (text_back_cons (Placed e) r) ∙ trim_some (text_back r) e.shown (text_utf8 r h.1) (shown_inked e h.0.0 h.0.2 i)
+      ∙ ap (λ xs. text_back r ++ xs) (shown_trim e h.0.0 h.0.2) ∙ sym (text_back_cons (Placed (cut e)) r) ∙ ap text_back (sym (trimmed_inked e r i))
+  at (inr i) ih =
+      ap trim_end (text_back_cons (Placed e) r) ∙ trim_white (text_back r) e.shown (text_utf8 r h.1) (shown_ink_same e h.0.0 h.0.2 i)
+      ∙ ih ∙ sym (bare_text (trimmed r) (Passed (Shows e.part (chunk_at e))) refl) ∙ ap text_back (sym (trimmed_plain e r i))
+trim_text (Passed event ∷ r) h = at (by_cases (has_some (event_bytes event))) (trim_text r h) where
+  at : (has_some (event_bytes event) ≡ true) ⊎ (has_some (event_bytes event) ≡ false) → trim_end (text_back r) ≡ text_back (trimmed r)
+      → trim_end (text_back (Passed event ∷ r)) ≡ text_back (trimmed (Passed event ∷ r))
+  at (inl s) ih =
+      ap trim_end (text_back_cons (Passed event) r) ∙ trim_some (text_back r) (event_bytes event) (text_utf8 r h) (event_ink event s)
+      ∙ ap (λ xs. text_back r ++ xs) (event_trim event s) ∙ sym (text_back_cons (Passed event) r) ∙ ap text_back (sym (trimmed_bytes event r s))
+  at (inr s) ih =
+      ap trim_end (bare_text r (Passed event) s) ∙ ih ∙ sym (bare_text (trimmed r) (Passed event) s) ∙ ap text_back (sym (trimmed_bare event r s))
+
+-- ---- what may be read stays so
+
+pub legible_trimmed : (r : List Stretch) → IsLegible r → IsLegible (trimmed r)
+legible_trimmed [] h = h
+legible_trimmed (Gap b ∷ r) h = legible_trimmed r h.1
+legible_trimmed (Placed e ∷ r) h = at (by_cases (is_inked (chunk_at e))) (legible_trimmed r h.1) where
+  at : (is_inked (chunk_at e) ≡ true) ⊎ (is_inked (chunk_at e) ≡ false) → IsLegible (trimmed r) → IsLegible (trimmed (Placed e ∷ r))
+  at (inl i) ih = subst IsLegible (sym (trimmed_inked e r i)) ((h.0.0, h.0.1, inr refl), h.1)
+  at (inr i) ih = subst IsLegible (sym (trimmed_plain e r i)) ih
+legible_trimmed (Passed event ∷ r) h = at (by_cases (has_some (event_bytes event))) (legible_trimmed r h) where
+  at : (has_some (event_bytes event) ≡ true) ⊎ (has_some (event_bytes event) ≡ false) → IsLegible (trimmed r) → IsLegible (trimmed (Passed event ∷ r))
+  at (inl i) ih = subst IsLegible (sym (trimmed_bytes event r i)) h
+  at (inr i) ih = subst IsLegible (sym (trimmed_bare event r i)) ih
+
+pub legible_padded : (n : ℕ) (r : List Stretch) → IsLegible r → IsLegible (padded n r)
+legible_padded zero r h = h
+legible_padded (suc n) r h = (inl refl, legible_padded n r h)

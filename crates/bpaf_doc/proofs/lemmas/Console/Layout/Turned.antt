@@ -1,0 +1,275 @@
+-- A page newest first and the stretches in order: what the definitions say of the one, said of the other.
+use Rattle.std.specs.Prelude.{◌≡◌, ℕ, suc, ◌+◌, ◌-◌, ◌≤◌, Bool, true, false, not, ◌&&◌, ◌||◌, List, [], ◌∷◌, ◌++◌, length, take, drop, reverse, sum_by, count_by, flat_map, All, refl, if◌then◌else◌, ◌⊎◌, cond}
+use Rattle.std.specs.List.{list_any, list_all, after_last, slice_split, prefix_len, suffix_len}
+use Rattle.std.proofs.Common.{sym, subst, ap, arith, inl, inr, ◌∙◌, append_assoc}
+use Rattle.std.proofs.lemmas.List.{reverse-append, reverse-reverse, length-reverse, append-nil, take-append-drop, length-drop}
+use Rattle.std.proofs.lemmas.List.Sums.{sum_by-append, sum_by-cons}
+use Rattle.std.proofs.lemmas.List.Folds.{list_any-append, list_all-append}
+use Rattle.std.proofs.lemmas.Grind.{flat_map-append}
+use Rattle.std.proofs.lemmas.List.Elements.{All-cons, All-nil}
+use Rattle.std.proofs.Math.Seq.{drop-append_seam}
+use Rattle.bpaf_doc.specs.Splitter.Chunks.{is_inked}
+use Rattle.bpaf_doc.specs.Console.Layout.{Shows, Stretch, Gap, Placed, Passed, Place, chunk_at, stretch_events, stretch_columns, events_of, is_newline, is_placed, is_gap, is_inked_event, is_inked_stretch, line_before, column, padding, stretch_lines, opens_body, is_raw_or_ref, events_since_ink}
+use Rattle.bpaf_doc.proofs.lemmas.Console.Layout.Back.{by_cases, EachPlace}
+use Rattle.bpaf_doc.proofs.lemmas.Console.Layout.Columns.{column_back}
+use Rattle.bpaf_doc.proofs.lemmas.Console.Layout.Text.{EachPassed, NoInk}
+use Rattle.bpaf_doc.proofs.lemmas.Console.Layout.Bound.{EachFront, whole_front}
+use Rattle.bpaf_doc.proofs.lemmas.Console.Layout.Pads.{pads_back, body_back}
+use Rattle.bpaf_doc.proofs.lemmas.Console.Layout.Split.{events_back, inked_line}
+use Rattle.bpaf_doc.proofs.lemmas.Console.Layout.AtMargin.{is_quiet}
+
+pub reverse_cons : {A : Type 0} (x : A) (xs : List A) → reverse (x ∷ xs) ≡ reverse xs ++ x ∷ []
+reverse_cons x xs = reverse-append (x ∷ []) xs
+
+-- ---- tests over a turned list
+
+or_comm : (a b : Bool) → (a || (b || false)) ≡ (b || a)
+or_comm true true = refl
+or_comm true false = refl
+or_comm false true = refl
+or_comm false false = refl
+
+and_comm : (a b : Bool) → (a && (b && true)) ≡ (b && a)
+and_comm true true = refl
+and_comm true false = refl
+and_comm false true = refl
+and_comm false false = refl
+
+pub any_turned : {A : Type 0} (p : A → Bool) (xs : List A) → list_any p (reverse xs) ≡ list_any p xs
+any_turned p [] = refl
+any_turned p (x ∷ xs) = ap (λ ys. list_any p ys) (reverse_cons x xs) ∙ list_any-append p (reverse xs) (x ∷ []) ∙ ap (λ (b : Bool). b || (p x || false)) (any_turned p xs) ∙ or_comm (list_any p xs) (p x)
+
+pub all_turned : {A : Type 0} (p : A → Bool) (xs : List A) → list_all p (reverse xs) ≡ list_all p xs
+all_turned p [] = refl
+all_turned p (x ∷ xs) = ap (λ ys. list_all p ys) (reverse_cons x xs) ∙ list_all-append p (reverse xs) (x ∷ []) ∙ ap (λ (b : Bool). b && (p x && true)) (all_turned p xs) ∙ and_comm (list_all p xs) (p x)
+
+pub sum_turned : {A : Type 0} (f : A → ℕ) (xs : List A) → sum_by f (reverse xs) ≡ sum_by f xs
+sum_turned f [] = refl
+sum_turned f (x ∷ xs) =
+    let a : sum_by f (reverse (x ∷ xs)) ≡ sum_by f (reverse xs ++ x ∷ []) = ap (λ ys. sum_by f ys) (reverse_cons x xs) in
+    let b : sum_by f (reverse xs ++ x ∷ []) ≡ sum_by f (reverse xs) + sum_by f (x ∷ []) = sum_by-append f (reverse xs) (x ∷ []) in
+    let c : sum_by f (x ∷ []) ≡ f x + sum_by f [] = sum_by-cons f x [] in
+    let d : sum_by f [] ≡ 0 = refl in
+    let e : sum_by f (x ∷ xs) ≡ f x + sum_by f xs = sum_by-cons f x xs in
+    let ih : sum_by f (reverse xs) ≡ sum_by f xs = sum_turned f xs in
+    omega arith
+
+-- ---- the events and the text
+
+pub events_turned : (r : List Stretch) → events_of (reverse r) ≡ reverse (events_back r)
+events_turned [] = refl
+events_turned (x ∷ r) = ap events_of (reverse_cons x r) ∙ flat_map-append stretch_events (reverse r) (x ∷ []) ∙ at x (events_turned r) where
+  at : (x : Stretch) → events_of (reverse r) ≡ reverse (events_back r) → events_of (reverse r) ++ flat_map stretch_events (x ∷ []) ≡ reverse (events_back (x ∷ r))
+  at (Gap b) ih = append-nil (events_of (reverse r)) ∙ ih
+  at (Placed e) ih = ap (λ es. es ++ Shows e.part (chunk_at e) ∷ []) ih ∙ sym (reverse_cons (Shows e.part (chunk_at e)) (events_back r))
+  at (Passed event) ih = ap (λ es. es ++ event ∷ []) ih ∙ sym (reverse_cons event (events_back r))
+
+-- the events of what stands between, which is turned
+pub events_between : (m : List Stretch) → events_back (reverse m) ≡ reverse (events_of m)
+events_between m = sym (reverse-reverse (events_back (reverse m))) ∙ ap (λ es. reverse es) (sym (events_turned (reverse m)) ∙ ap events_of (reverse-reverse m))
+
+-- ---- what stands since
+
+-- up to the last stretch that passes, newest first
+abbrev pub since : (Stretch → Bool) → List Stretch → List Stretch
+since p [] = []
+since p (x ∷ r) = if p x then [] else (x ∷ since p r)
+
+since_take : (p : Stretch → Bool) (r : List Stretch) → take (prefix_len (λ x. not (p x)) r) r ≡ since p r
+since_take p [] = refl
+since_take p (x ∷ r) = at (by_cases (p x)) (since_take p r) where
+  at : (p x ≡ true) ⊎ (p x ≡ false) → take (prefix_len (λ x. not (p x)) r) r ≡ since p r → take (prefix_len (λ x. not (p x)) (x ∷ r)) (x ∷ r) ≡ since p (x ∷ r)
+  at (inl t) ih = rw t refl
+  at (inr t) ih = rw t (step (prefix_len (λ x. not (p x)) r) ih) where
+    step : (k : ℕ) → take k r ≡ since p r → take (1 + k) (x ∷ r) ≡ x ∷ since p r
+    step k e = let s : 1 + k ≡ suc k = omega arith in rw s (ap (λ ys. x ∷ ys) e)
+
+prefix_le : (p : Stretch → Bool) (r : List Stretch) → prefix_len p r ≤ length r
+prefix_le p [] = omega arith
+prefix_le p (x ∷ r) = at (by_cases (p x)) (prefix_le p r) where
+  at : (p x ≡ true) ⊎ (p x ≡ false) → prefix_len p r ≤ length r → prefix_len p (x ∷ r) ≤ length (x ∷ r)
+  at (inl t) ih = rw t (omega arith)
+  at (inr t) ih = rw t (omega arith)
+
+drop_turned : (k : ℕ) (r : List Stretch) → k ≤ length r → drop (length r - k) (reverse r) ≡ reverse (take k r)
+drop_turned k r h =
+    let cut : reverse r ≡ reverse (drop k r) ++ reverse (take k r) = ap (λ ys. reverse ys) (sym (take-append-drop k r)) ∙ reverse-append (take k r) (drop k r) in
+    let size : length (reverse (drop k r)) ≡ length r - k = length-reverse (drop k r) ∙ length-drop k r in
+    ap (λ (n : ℕ). drop n (reverse r)) (sym size) ∙ ap (λ ys. drop (length (reverse (drop k r))) ys) cut ∙ drop-append_seam (reverse (drop k r)) (reverse (take k r))
+
+pub after_last_turned : (p : Stretch → Bool) (r : List Stretch) → after_last p (reverse r) ≡ reverse (since p r)
+after_last_turned p r =
+    let k : ℕ = prefix_len (λ x. not (p x)) r in
+    let size : length (reverse r) ≡ length r = length-reverse r in
+    let turned : suffix_len (λ x. not (p x)) (reverse r) ≡ prefix_len (λ x. not (p x)) r = ap (λ ys. prefix_len (λ x. not (p x)) ys) (reverse-reverse r) in
+    ap (λ (n : ℕ). drop (n - suffix_len (λ x. not (p x)) (reverse r)) (reverse r)) size
+    ∙ ap (λ (n : ℕ). drop (length r - n) (reverse r)) turned
+    ∙ drop_turned (prefix_len (λ x. not (p x)) r) r (prefix_le (λ x. not (p x)) r)
+    ∙ ap (λ ys. reverse ys) (since_take p r)
+
+-- ---- columns and lines
+
+sum_since : (r : List Stretch) → sum_by stretch_columns (since is_newline r) ≡ column_back r
+sum_since [] = refl
+sum_since (x ∷ r) = at (by_cases (is_newline x)) (sum_since r) where
+  at : (is_newline x ≡ true) ⊎ (is_newline x ≡ false) → sum_by stretch_columns (since is_newline r) ≡ column_back r → sum_by stretch_columns (since is_newline (x ∷ r)) ≡ column_back (x ∷ r)
+  at (inl t) ih = rw t refl
+  at (inr t) ih = rw t (sum_by-cons stretch_columns x (since is_newline r) ∙ ap (λ (n : ℕ). stretch_columns x + n) ih)
+
+pub column_turned : (r : List Stretch) → column (reverse r) ≡ column_back r
+column_turned r = ap (λ ys. sum_by stretch_columns ys) (after_last_turned is_newline r) ∙ sum_turned stretch_columns (since is_newline r) ∙ sum_since r
+
+any_since_line : (r : List Stretch) → list_any is_inked_stretch (since is_newline r) ≡ inked_line r
+any_since_line [] = refl
+any_since_line (x ∷ r) = at (by_cases (is_newline x)) (any_since_line r) where
+  at : (is_newline x ≡ true) ⊎ (is_newline x ≡ false) → list_any is_inked_stretch (since is_newline r) ≡ inked_line r → list_any is_inked_stretch (since is_newline (x ∷ r)) ≡ inked_line (x ∷ r)
+  at (inl t) ih = rw t refl
+  at (inr t) ih = rw t (ap (λ (b : Bool). is_inked_stretch x || b) ih)
+
+pub inked_line_turned : (r : List Stretch) → list_any is_inked_stretch (line_before (reverse r)) ≡ inked_line r
+inked_line_turned r = ap (λ ys. list_any is_inked_stretch ys) (after_last_turned is_newline r) ∙ any_turned is_inked_stretch (since is_newline r) ∙ any_since_line r
+
+-- the blanks since the last place in the line
+count_since : (r : List Stretch) → count_by is_gap (since is_placed (since is_newline r)) ≡ pads_back r
+count_since [] = refl
+count_since (x ∷ r) = at (by_cases (is_newline x)) (by_cases (is_placed x)) (count_since r) where
+  cost : Stretch → ℕ
+  cost y = cond (is_gap y) 1 0
+
+  at : (is_newline x ≡ true) ⊎ (is_newline x ≡ false) → (is_placed x ≡ true) ⊎ (is_placed x ≡ false) → count_by is_gap (since is_placed (since is_newline r)) ≡ pads_back r
+      → count_by is_gap (since is_placed (since is_newline (x ∷ r))) ≡ pads_back (x ∷ r)
+  at (inl t) s ih = rw t refl
+  at (inr t) (inl s) ih = rw (t, s) refl
+  at (inr t) (inr s) ih = rw (t, s) (sum_by-cons (λ y. cond (is_gap y) 1 0) x (since is_placed (since is_newline r)) ∙ ap (λ (n : ℕ). cond (is_gap x) 1 0 + n) ih)
+
+pub padding_turned : (r : List Stretch) → padding (reverse r) ≡ pads_back r
+padding_turned r =
+    ap (λ ys. count_by is_gap (after_last is_placed ys)) (after_last_turned is_newline r)
+    ∙ ap (λ ys. count_by is_gap ys) (after_last_turned is_placed (since is_newline r))
+    ∙ sum_turned (λ y. cond (is_gap y) 1 0) (since is_placed (since is_newline r))
+    ∙ count_since r
+
+any_since_place : (r : List Stretch) → list_any opens_body (events_back (since is_placed r)) ≡ body_back r
+any_since_place [] = refl
+any_since_place (Gap b ∷ r) = any_since_place r
+any_since_place (Placed e ∷ r) = refl
+any_since_place (Passed event ∷ r) = ap (λ (b : Bool). opens_body event || b) (any_since_place r)
+
+pub body_turned : (r : List Stretch) → list_any opens_body (events_of (after_last is_placed (reverse r))) ≡ body_back r
+body_turned r =
+    ap (λ ys. list_any opens_body (events_of ys)) (after_last_turned is_placed r)
+    ∙ ap (λ es. list_any opens_body es) (events_turned (since is_placed r))
+    ∙ any_turned opens_body (events_back (since is_placed r)) ∙ any_since_place r
+
+-- ---- since the last ink
+
+quiet_since : (r : List Stretch) → EachPassed NoInk r → list_any is_raw_or_ref (events_back (since is_inked_stretch r)) ≡ not (is_quiet r)
+quiet_since [] q = refl
+quiet_since (Gap b ∷ r) q = quiet_since r q
+quiet_since (Placed e ∷ r) q = at (by_cases (is_inked (chunk_at e))) where
+  at : (is_inked (chunk_at e) ≡ true) ⊎ (is_inked (chunk_at e) ≡ false) → list_any is_raw_or_ref (events_back (since is_inked_stretch (Placed e ∷ r))) ≡ not (is_quiet (Placed e ∷ r))
+  at (inl i) = rw i refl
+  at (inr i) = rw i refl
+quiet_since (Passed event ∷ r) q = at q.0 (quiet_since r q.1) where
+  at : is_inked_event event ≡ false → list_any is_raw_or_ref (events_back (since is_inked_stretch r)) ≡ not (is_quiet r)
+      → list_any is_raw_or_ref (events_back (since is_inked_stretch (Passed event ∷ r))) ≡ not (is_quiet (Passed event ∷ r))
+  at i ih = rw i (ap (λ (b : Bool). is_raw_or_ref event || b) ih ∙ both (is_raw_or_ref event) (is_quiet r)) where
+    both : (a b : Bool) → (a || not b) ≡ not (not a && b)
+    both true b = refl
+    both false b = refl
+
+pub quiet_turned : (r : List Stretch) → EachPassed NoInk r → list_any is_raw_or_ref (events_since_ink (reverse r)) ≡ not (is_quiet r)
+quiet_turned r q =
+    ap (λ ys. list_any is_raw_or_ref (events_of ys)) (after_last_turned is_inked_stretch r)
+    ∙ ap (λ es. list_any is_raw_or_ref es) (events_turned (since is_inked_stretch r))
+    ∙ any_turned is_raw_or_ref (events_back (since is_inked_stretch r)) ∙ quiet_since r q
+
+-- ---- the lines
+
+-- the column after some stretches that begin at a column
+abbrev ahead : ℕ → List Stretch → ℕ
+ahead c [] = c
+ahead c (x ∷ xs) = ahead (if is_newline x then 0 else (c + stretch_columns x)) xs
+
+record LinesWithin (c bound : ℕ) (lines : List (List Stretch)) : Type 0 where
+  line : List Stretch
+  others : List (List Stretch)
+  is : lines ≡ line ∷ others
+  front : c + sum_by stretch_columns line ≤ bound
+  rest : All (λ l. sum_by stretch_columns l ≤ bound) others
+
+lines_within : (bound c : ℕ) (xs : List Stretch) → ((a b : List Stretch) → xs ≡ a ++ b → ahead c a ≤ bound) → LinesWithin c bound (slice_split is_newline xs)
+lines_within bound c [] h = record { line = []; others = []; is = refl; front = let start : c ≤ bound = h [] [] refl in let none : sum_by stretch_columns [] ≡ 0 = refl in omega arith; rest = All-nil (λ l. sum_by stretch_columns l ≤ bound) }
+lines_within bound c (x ∷ xs) h =
+    at (by_cases (is_newline x)) (lines_within bound 0 xs) (lines_within bound (c + stretch_columns x) xs) where
+      at : (is_newline x ≡ true) ⊎ (is_newline x ≡ false)
+          → (((a b : List Stretch) → xs ≡ a ++ b → ahead 0 a ≤ bound) → LinesWithin 0 bound (slice_split is_newline xs))
+          → (((a b : List Stretch) → xs ≡ a ++ b → ahead (c + stretch_columns x) a ≤ bound) → LinesWithin (c + stretch_columns x) bound (slice_split is_newline xs))
+          → LinesWithin c bound (slice_split is_newline (x ∷ xs))
+      at (inl t) zero_ih ih =
+          let found : LinesWithin 0 bound (slice_split is_newline xs) = zero_ih (λ a b s. let l : ahead c (x ∷ a) ≤ bound = h (x ∷ a) b (ap (λ ys. x ∷ ys) s) in rw t at l) in
+          let start : c ≤ bound = h [] (x ∷ xs) refl in
+          let none : sum_by stretch_columns [] ≡ 0 = refl in
+          let first_line : sum_by stretch_columns found.line ≤ bound = let f : 0 + sum_by stretch_columns found.line ≤ bound = found.front in omega arith in
+          record {
+            line = [];
+            others = slice_split is_newline xs;
+            is = rw t refl;
+            front = omega arith;
+            rest = subst (λ ls. All (λ l. sum_by stretch_columns l ≤ bound) ls) (sym found.is) (All-cons (λ l. sum_by stretch_columns l ≤ bound) found.line found.others first_line found.rest);
+          }
+      at (inr t) zero_ih ih =
+          let found : LinesWithin (c + stretch_columns x) bound (slice_split is_newline xs) = ih (λ a b s. let l : ahead c (x ∷ a) ≤ bound = h (x ∷ a) b (ap (λ ys. x ∷ ys) s) in rw t at l) in
+          let more : sum_by stretch_columns (x ∷ found.line) ≡ stretch_columns x + sum_by stretch_columns found.line = sum_by-cons stretch_columns x found.line in
+          let f : c + stretch_columns x + sum_by stretch_columns found.line ≤ bound = found.front in
+          record { line = x ∷ found.line; others = found.others; is = rw (t, found.is) refl; front = omega arith; rest = found.rest }
+
+ahead_snoc : (c : ℕ) (a : List Stretch) (x : Stretch) → ahead c (a ++ x ∷ []) ≡ (if is_newline x then 0 else (ahead c a + stretch_columns x))
+ahead_snoc c [] x = refl
+ahead_snoc c (y ∷ a) x = ahead_snoc (if is_newline y then 0 else (c + stretch_columns y)) a x
+
+ahead_back : (r : List Stretch) → ahead 0 (reverse r) ≡ column_back r
+ahead_back [] = refl
+ahead_back (x ∷ r) = ap (λ ys. ahead 0 ys) (reverse_cons x r) ∙ ahead_snoc 0 (reverse r) x ∙ at (by_cases (is_newline x)) (ahead_back r) where
+  at : (is_newline x ≡ true) ⊎ (is_newline x ≡ false) → ahead 0 (reverse r) ≡ column_back r → (if is_newline x then 0 else (ahead 0 (reverse r) + stretch_columns x)) ≡ column_back (x ∷ r)
+  at (inl t) ih = rw t refl
+  at (inr t) ih = rw t (omega arith)
+
+front_at : (Q : List Stretch → Type 0) (m r : List Stretch) → EachFront Q (m ++ r) → Q r
+front_at Q [] r h = whole_front Q r h
+front_at Q (x ∷ m) r h = front_at Q m r h.1
+
+pub lines_bounded : (bound : ℕ) (back : List Stretch) → EachFront (λ r. column_back r ≤ bound) back → All (λ line. sum_by stretch_columns line ≤ bound) (stretch_lines (reverse back))
+lines_bounded bound back h =
+    let found : LinesWithin 0 bound (stretch_lines (reverse back)) = lines_within bound 0 (reverse back) each in
+    let first_line : sum_by stretch_columns found.line ≤ bound = let f : 0 + sum_by stretch_columns found.line ≤ bound = found.front in omega arith in
+    subst (λ ls. All (λ l. sum_by stretch_columns l ≤ bound) ls) (sym found.is) (All-cons (λ l. sum_by stretch_columns l ≤ bound) found.line found.others first_line found.rest) where
+      each : (a b : List Stretch) → reverse back ≡ a ++ b → ahead 0 a ≤ bound
+      each a b s =
+          let turned : back ≡ reverse b ++ reverse a = sym (reverse-reverse back) ∙ ap (λ ys. reverse ys) s ∙ reverse-append a b in
+          let at_a : column_back (reverse a) ≤ bound = front_at (λ r. column_back r ≤ bound) (reverse b) (reverse a) (subst (λ ys. EachFront (λ r. column_back r ≤ bound) ys) turned h) in
+          let same : ahead 0 a ≡ column_back (reverse a) = ap (λ ys. ahead 0 ys) (sym (reverse-reverse a)) ∙ ahead_back (reverse a) in
+          omega arith
+
+-- ---- a place in order
+
+-- the stretches in order, cut at a place, are the page newest first, cut at it
+pub turned_at : (back before after : List Stretch) (x : Stretch) → reverse back ≡ before ++ x ∷ after → back ≡ reverse after ++ x ∷ reverse before
+turned_at back before after x s =
+    sym (reverse-reverse back) ∙ ap (λ ys. reverse ys) s ∙ reverse-append before (x ∷ after) ∙ ap (λ ys. ys ++ reverse before) (reverse_cons x after)
+    ∙ append_assoc (reverse after) (x ∷ []) (reverse before)
+
+-- two places in order
+pub turned_between : (before between after : List Stretch) (x y : Stretch)
+    → reverse (before ++ x ∷ (between ++ y ∷ after)) ≡ reverse after ++ y ∷ (reverse between ++ x ∷ reverse before)
+turned_between before between after x y =
+    reverse-append before (x ∷ (between ++ y ∷ after)) ∙ ap (λ ys. ys ++ reverse before) (reverse_cons x (between ++ y ∷ after))
+    ∙ append_assoc (reverse (between ++ y ∷ after)) (x ∷ []) (reverse before)
+    ∙ ap (λ ys. ys ++ x ∷ reverse before) (reverse-append between (y ∷ after) ∙ ap (λ ys. ys ++ reverse between) (reverse_cons y after) ∙ append_assoc (reverse after) (y ∷ []) (reverse between))
+    ∙ append_assoc (reverse after) (y ∷ reverse between) (x ∷ reverse before)
+
+pub place_at : (P : List Stretch → Place → Type 0) (m r : List Stretch) (f : Place) → EachPlace P (m ++ Placed f ∷ r) → P r f
+place_at P [] r f h = h.0
+place_at P (Gap b ∷ m) r f h = place_at P m r f h
+place_at P (Placed g ∷ m) r f h = place_at P m r f h.1
+place_at P (Passed event ∷ m) r f h = place_at P m r f h

@@ -1,0 +1,647 @@
+-- A page that grows by the rules is a layout of its document.
+use Rattle.std.specs.Prelude.{◌≡◌, ◌≢◌, ℕ, suc, ◌+◌, ◌<◌, ◌≤◌, max, ⊤, Bool, true, false, not, ◌&&◌, ◌||◌, ◌==◌, List, [], ◌∷◌, ◌++◌, take, reverse, map, fold, sum_by, All, codes, refl, if◌then◌else◌, ◌⊎◌, IsTrue}
+use Rattle.std.specs.List.{list_any, list_all, before_first, after_last, position_or_len}
+use Rattle.std.specs.Str.{trim_end}
+use Rattle.std.proofs.Common.{sym, subst, ap, arith, inl, inr, ◌∙◌, append_assoc}
+use Rattle.std.proofs.lemmas.List.{reverse-append, reverse-reverse, append-nil}
+use Rattle.std.proofs.lemmas.List.Elements.{All-append, All-cons, All-nil}
+use Rattle.std.proofs.lemmas.List.Sums.{sum_by-cons}
+use Rattle.std.proofs.lemmas.Bool.Decides.{nat_tests}
+use Rattle.bpaf_doc.specs.declared.buffer.Block.{Block}
+use Rattle.bpaf_doc.specs.Buffer.Parts.{Part, ink}
+use Rattle.bpaf_doc.specs.Splitter.Chunks.{Raw, Paragraph, LineBreak, columns, is_inked, is_ordinary, has_some, starts}
+use Rattle.bpaf_doc.specs.Shown.{console_ink, is_term_ref}
+use Rattle.bpaf_doc.specs.Console.Margin.{margin, greatest_margin}
+use Rattle.bpaf_doc.specs.Console.Layout.{Event, Shows, Opens, Closes, Stretch, Gap, Placed, Passed, Place, chunk_at, event_bytes, event_columns, stretch_columns, text_of, events_of, shown_events, is_newline, is_placed, is_passed, is_inked_event, is_inked_stretch, is_empty_code, is_raw_event, is_ref, asks_newline, asks_blank_line, is_light, is_light_mark, opens_body, column, padding, line_before, stretch_lines, MayStand, BreaksWhereAsked, KeepsBlanks, IsKept, BeginsClear, IsFirstInLine, events_since_ink, is_raw_or_ref, FollowsBlank, KeepsMargin, WrapsOnlyIfNeeded, IsBounded, FitsWidth, PadsToMargin, HasBlankLine, widest, IsLayout}
+use Rattle.bpaf_doc.proofs.lemmas.Console.Layout.State.{State, Piece, Next, raw, break, mark, Grows, placing, breaking, passing, places, drops, Begins, first, stays, wraps, Lines, none_asked, line_there, line_put, blank_there, second_put, both_put, Suits, IsClear, blank_page, Written, nothing, more, Ends, as_is, with_newline}
+use Rattle.bpaf_doc.proofs.lemmas.Console.Layout.Back.{by_cases, EachPlace}
+use Rattle.bpaf_doc.proofs.lemmas.Console.Layout.Columns.{Fills, fills_grows, Agrees, agrees_grows, column_back, inked_some}
+use Rattle.bpaf_doc.proofs.lemmas.Console.Layout.Text.{EachPassed, NoInk, no_ink_grows, IsStarting, starting_grows, begins_margin, lines_margin}
+use Rattle.bpaf_doc.proofs.lemmas.Console.Layout.Margin.{AtMargin, at_margin_grows}
+use Rattle.bpaf_doc.proofs.lemmas.Console.Layout.Bound.{EachFront, Within, IsBare, WritesNone, IsNarrow, bare_grows, bound, within_grows}
+use Rattle.bpaf_doc.proofs.lemmas.Console.Layout.Pads.{Touches, touches_grows, HasNoPads, no_pads_grows, IsPending, pending_grows, PadsOnly, pads_only_grows, pads_back, body_back}
+use Rattle.bpaf_doc.proofs.lemmas.Console.Layout.Split.{events_back, events_padded, events_trimmed, Cut, has_newline, inked_line, inked_since}
+use Rattle.bpaf_doc.proofs.lemmas.Console.Layout.Asked.{IsAskedLine, asked_line_grows, IsFreeOfDebt, free_of_debt_grows, owes_line}
+use Rattle.bpaf_doc.proofs.lemmas.Console.Layout.Blank.{IsAskedBlank, asked_blank_grows, IsFreshAtZero, fresh_grows, HasBlankBefore, blank_before_grows, text_back, text_back_cons}
+use Rattle.bpaf_doc.proofs.lemmas.Console.Layout.Kept.{InOrder, order_grows, IsSettled, settled_grows, IsUnsettled, unsettled_grows, IsSmall, small_grows, IsKeptSince, kept_since_grows, KeepsBefore, keeps_before_grows, AllKept}
+use Rattle.bpaf_doc.proofs.lemmas.Console.Layout.Needed.{IsReached, reached_grows, IsMarked, marked_grows, IsNeededBefore, needed_before_grows, reach, chunk_columns}
+use Rattle.bpaf_doc.proofs.lemmas.Console.Layout.AtMargin.{IsLast, last_grows, IsAtStart, start_grows, AfterBlank, IsExact, exact_grows, is_quiet}
+use Rattle.bpaf_doc.proofs.lemmas.Console.Layout.Cuts.{MayEnd, IsWhole, whole_grows, may_end_line}
+use Rattle.bpaf_doc.proofs.lemmas.Console.Layout.Turned.{reverse_cons, any_turned, all_turned, sum_turned, events_turned, events_between, column_turned, inked_line_turned, padding_turned, body_turned, quiet_turned, lines_bounded, turned_at, turned_between, place_at}
+
+-- ---- the events of a page
+
+abbrev pub next_event : Next → Event
+next_event (raw p) = Shows p.part (Raw p.bytes p.weight)
+next_event (break k chunk) = Shows k chunk
+next_event (mark event level) = event
+
+events_lines : {st mid : State} → Lines st mid → events_back mid.back ≡ events_back st.back
+events_lines (none_asked a e) = ap (λ (s : State). events_back s.back) e
+events_lines (line_there a b e) = ap (λ (s : State). events_back s.back) e
+events_lines (line_put a e) = ap (λ (s : State). events_back s.back) e
+events_lines (blank_there a b e) = ap (λ (s : State). events_back s.back) e
+events_lines (second_put a b e) = ap (λ (s : State). events_back s.back) e
+events_lines (both_put a e) = ap (λ (s : State). events_back s.back) e
+
+events_begins : {width : ℕ} {st : State} {p : Piece} {base : State} → Begins width st p base → events_back base.back ≡ events_back st.back
+events_begins (first t e) = ap (λ (s : State). events_back s.back) e
+events_begins (stays t l w) = events_lines l
+events_begins (wraps t mid l w b e) = ap (λ (s : State). events_back s.back) e ∙ events_trimmed mid.back ∙ events_lines l
+
+events_grows : {width : ℕ} {st after : State} {next : Next} → Grows width st next after → events_back after.back ≡ next_event next ∷ events_back st.back
+events_grows {st = st} (placing p e (places base n b d a)) =
+    ap (λ (s : State). events_back s.back) a ∙ ap (λ es. Shows p.part (Raw p.bytes p.weight) ∷ es) (events_padded n base.back ∙ events_begins b) ∙ ap (λ (x : Next). next_event x ∷ events_back st.back) (sym e)
+events_grows {st = st} (placing p e (drops t mid l w b a)) =
+    ap (λ (s : State). events_back s.back) a ∙ ap (λ es. Shows p.part (Raw p.bytes p.weight) ∷ es) (events_trimmed mid.back ∙ events_lines l) ∙ ap (λ (x : Next). next_event x ∷ events_back st.back) (sym e)
+events_grows {st = st} (breaking k chunk e a) = ap (λ (s : State). events_back s.back) a ∙ ap (λ (x : Next). next_event x ∷ events_back st.back) (sym e)
+events_grows {st = st} (passing event level e a) = ap (λ (s : State). events_back s.back) a ∙ ap (λ (x : Next). next_event x ∷ events_back st.back) (sym e)
+
+map_snoc : (xs : List Next) (x : Next) → map next_event (xs ++ x ∷ []) ≡ map next_event xs ++ next_event x ∷ []
+map_snoc [] x = refl
+map_snoc (y ∷ xs) x = ap (λ es. next_event y ∷ es) (map_snoc xs x)
+
+module _ {width : ℕ} {margin_of : ℕ → ℕ} {clear : State → Next → Type 0} where
+  pub written_events : {nexts : List Next} {st : State} → Written width margin_of clear nexts st → events_back st.back ≡ reverse (map next_event nexts)
+  written_events (nothing e s) = ap (λ (x : State). events_back x.back) s ∙ sym (ap (λ ns. reverse (map next_event ns)) e)
+  written_events (more earlier before next e w suits c g) =
+      events_grows g ∙ ap (λ es. next_event next ∷ es) (written_events w)
+      ∙ sym (ap (λ ns. reverse (map next_event ns)) e ∙ ap (λ es. reverse es) (map_snoc earlier next) ∙ reverse-append (map next_event earlier) (next_event next ∷ []))
+
+-- ---- what always holds
+
+pub record Base (width : ℕ) (st : State) : Type 0 where
+  pub fills : EachPlace Fills st.back
+  pub no_ink : EachPassed NoInk st.back
+  pub agrees : Agrees st
+  pub whole : IsWhole st
+  pub order : InOrder st
+  pub small : IsSmall st
+  pub settled : IsSettled st
+  pub unsettled : IsUnsettled st
+  pub since : IsKeptSince st
+  pub asked_line : IsAskedLine st
+  pub asked_blank : IsAskedBlank st
+  pub fresh : IsFreshAtZero st
+  pub pads : HasNoPads st
+  pub pending : IsPending st
+  pub last : IsLast st
+  pub start : IsAtStart st
+  pub debt : EachPlace IsFreeOfDebt st.back
+  pub blank : EachPlace (HasBlankBefore width) st.back
+  pub keeps : EachPlace KeepsBefore st.back
+
+nothing_cut : {A : Type 0} (m before : List Stretch) (e : Place) → Cut [] m e before → A
+nothing_cut [] before e h = absurd cc
+nothing_cut (x ∷ m) before e h = absurd cc
+
+base_blank : (width : ℕ) → Base width blank_page
+base_blank width = record {
+  fills = tt;
+  no_ink = tt;
+  agrees = inl refl;
+  whole = tt;
+  order = tt;
+  small = omega arith;
+  settled = λ s. absurd cc;
+  unsettled = λ s. inl refl;
+  since = λ m before e h. nothing_cut m before e h.0;
+  asked_line = λ o. absurd cc;
+  asked_blank = λ o. absurd cc;
+  fresh = λ o. refl;
+  pads = refl;
+  pending = λ o. absurd cc;
+  last = λ m before e h i n. nothing_cut m before e h;
+  start = λ m before e k h i b l. nothing_cut m before e h;
+  debt = tt;
+  blank = tt;
+  keeps = tt;
+}
+
+base_grows : {width : ℕ} {margin_of : ℕ → ℕ} {st after : State} {next : Next} → Suits margin_of st next → Grows width st next after → Base width st → Base width after
+base_grows {width} suits g b = record {
+  fills = fills_grows g b.fills;
+  no_ink = no_ink_grows suits g b.no_ink;
+  agrees = agrees_grows suits b.fills g b.agrees;
+  whole = whole_grows b.fills g b.whole;
+  order = order_grows suits g b.order;
+  small = small_grows suits g b.small;
+  settled = settled_grows b.small g b.settled;
+  unsettled = unsettled_grows g b.unsettled;
+  since = kept_since_grows suits b.settled b.unsettled b.order g b.since;
+  asked_line = asked_line_grows b.fills b.no_ink g b.asked_line;
+  asked_blank = asked_blank_grows suits g b.asked_blank;
+  fresh = fresh_grows g b.fresh;
+  pads = no_pads_grows g b.pads;
+  pending = pending_grows g b.pending;
+  last = last_grows g b.last;
+  start = start_grows b.fills b.no_ink b.last suits g b.start;
+  debt = free_of_debt_grows b.fills b.no_ink b.asked_line g b.debt;
+  blank = blank_before_grows width b.fills b.no_ink b.asked_blank b.fresh g b.blank;
+  keeps = keeps_before_grows suits b.settled b.unsettled b.order b.since g b.keeps;
+}
+
+-- ---- what holds where no empty line of code comes first
+
+pub record Clearly (width : ℕ) (margin_of : ℕ → ℕ) (st : State) : Type 0 where
+  pub starting : IsStarting st
+  pub reached : IsReached width st
+  pub marked : IsMarked width st
+  pub at_margin : EachPlace (AtMargin margin_of) st.back
+  pub exact : EachPlace (IsExact margin_of) st.back
+  pub touches : EachPlace (Touches width) st.back
+  pub pads_only : EachPlace (PadsOnly margin_of) st.back
+  pub needed : EachPlace (IsNeededBefore width) st.back
+
+clearly_blank : (width : ℕ) (margin_of : ℕ → ℕ) → Clearly width margin_of blank_page
+clearly_blank width margin_of = record {
+  starting = λ o. (refl, refl);
+  reached = λ m before e h p l. nothing_cut m before e h;
+  marked = λ m before e h p l. nothing_cut m before e h;
+  at_margin = tt;
+  exact = tt;
+  touches = tt;
+  pads_only = tt;
+  needed = tt;
+}
+
+clearly_grows : {width : ℕ} {margin_of : ℕ → ℕ} {st after : State} {next : Next} → width < 1_000_000 → Suits margin_of st next → IsClear st next → Grows width st next after
+    → Base width st → Clearly width margin_of st → Clearly width margin_of after
+clearly_grows {width} {margin_of} small suits clear g b c = record {
+  starting = starting_grows b.fills b.no_ink suits clear g c.starting;
+  reached = reached_grows width small b.fills b.no_ink c.starting b.agrees suits g c.reached;
+  marked = marked_grows width small b.fills c.starting b.agrees suits g c.marked;
+  at_margin = at_margin_grows margin_of small b.fills c.starting b.agrees suits g c.at_margin;
+  exact = exact_grows margin_of small b.fills b.no_ink c.starting b.agrees b.pads b.start suits g c.exact;
+  touches = touches_grows width small b.fills c.starting b.agrees g c.touches;
+  pads_only = pads_only_grows margin_of small b.fills c.starting b.agrees suits b.pads b.pending g c.pads_only;
+  needed = needed_before_grows width b.fills b.no_ink c.reached c.marked g c.needed;
+}
+
+-- no empty line of code stands before the first ink
+abbrev clear_front : List Event → Bool
+clear_front [] = true
+clear_front (x ∷ xs) = if is_inked_event x then true else (not (is_empty_code x) && clear_front xs)
+
+empty_plain : (event : Event) → is_empty_code event ≡ true → is_inked_event event ≡ true → ⊥
+empty_plain (Shows k (Raw bytes weight)) e i =
+    let some : has_some bytes ≡ true = inked_some bytes i in
+    let no : (not true && not (is_ordinary (Raw bytes weight))) ≡ true = subst (λ (b : Bool). (not b && not (is_ordinary (Raw bytes weight))) ≡ true) some e in cc
+empty_plain (Shows k Paragraph) e i = cc
+empty_plain (Shows k LineBreak) e i = cc
+empty_plain (Opens b) e i = cc
+empty_plain (Closes b) e i = cc
+
+clear_snoc : (xs : List Event) (x : Event) → clear_front (xs ++ x ∷ []) ≡ true → (clear_front xs ≡ true) × (is_empty_code x ≡ true → list_any is_inked_event xs ≡ true)
+clear_snoc [] x h = (refl, λ e. absurd (at e (by_cases (is_inked_event x)))) where
+  at : is_empty_code x ≡ true → (is_inked_event x ≡ true) ⊎ (is_inked_event x ≡ false) → ⊥
+  at e (inl i) = empty_plain x e i
+  at e (inr i) = let no : false ≡ true = rw (i, e) at h in cc
+clear_snoc (y ∷ xs) x h = at (by_cases (is_inked_event y)) (by_cases (is_empty_code y)) (clear_snoc xs x) where
+  at : (is_inked_event y ≡ true) ⊎ (is_inked_event y ≡ false) → (is_empty_code y ≡ true) ⊎ (is_empty_code y ≡ false)
+      → (clear_front (xs ++ x ∷ []) ≡ true → (clear_front xs ≡ true) × (is_empty_code x ≡ true → list_any is_inked_event xs ≡ true))
+      → (clear_front (y ∷ xs) ≡ true) × (is_empty_code x ≡ true → list_any is_inked_event (y ∷ xs) ≡ true)
+  at (inl i) e ih = (rw i refl, λ t. rw i refl)
+  at (inr i) (inl e) ih = let no : false ≡ true = rw (i, e) at h in absurd cc
+  at (inr i) (inr e) ih = let rest : clear_front (xs ++ x ∷ []) ≡ true = rw (i, e) at h in (rw (i, e) (ih rest).0, λ t. rw i ((ih rest).1 t))
+
+clear_begins : (events : List Event) → BeginsClear events → clear_front events ≡ true
+clear_begins [] h = refl
+clear_begins (x ∷ xs) h = at (by_cases (is_inked_event x)) (by_cases (is_empty_code x)) (clear_begins xs) where
+  step : (k : ℕ) → take (1 + k) (x ∷ xs) ≡ x ∷ take k xs
+  step k = let s : 1 + k ≡ suc k = omega arith in rw s refl
+
+  at : (is_inked_event x ≡ true) ⊎ (is_inked_event x ≡ false) → (is_empty_code x ≡ true) ⊎ (is_empty_code x ≡ false) → (BeginsClear xs → clear_front xs ≡ true) → clear_front (x ∷ xs) ≡ true
+  at (inl i) e ih = rw i refl
+  at (inr i) e ih =
+      let g : not (list_any is_empty_code (take (1 + position_or_len is_inked_event xs) (x ∷ xs))) ≡ true = rw i at h in
+      let s : not (is_empty_code x || list_any is_empty_code (before_first is_inked_event xs)) ≡ true = subst (λ ys. not (list_any is_empty_code ys) ≡ true) (step (position_or_len is_inked_event xs)) g in
+      rw i (both e s ih) where
+        both : (is_empty_code x ≡ true) ⊎ (is_empty_code x ≡ false) → not (is_empty_code x || list_any is_empty_code (before_first is_inked_event xs)) ≡ true → (BeginsClear xs → clear_front xs ≡ true)
+            → (not (is_empty_code x) && clear_front xs) ≡ true
+        both (inl e) s ih = let no : false ≡ true = rw e at s in absurd cc
+        both (inr e) s ih = let rest : not (list_any is_empty_code (before_first is_inked_event xs)) ≡ true = rw e at s in rw e (ih rest)
+
+ink_events : (r : List Stretch) → list_any is_inked_stretch r ≡ list_any is_inked_event (events_back r)
+ink_events [] = refl
+ink_events (Gap b ∷ r) = ink_events r
+ink_events (Placed e ∷ r) = any_one (is_inked (chunk_at e)) (ink_events r) where
+  any_one : (b : Bool) → list_any is_inked_stretch r ≡ list_any is_inked_event (events_back r) → ((b || false) || list_any is_inked_stretch r) ≡ (b || list_any is_inked_event (events_back r))
+  any_one true e = refl
+  any_one false e = e
+ink_events (Passed event ∷ r) = any_one (is_inked_event event) (ink_events r) where
+  any_one : (b : Bool) → list_any is_inked_stretch r ≡ list_any is_inked_event (events_back r) → ((b || false) || list_any is_inked_stretch r) ≡ (b || list_any is_inked_event (events_back r))
+  any_one true e = refl
+  any_one false e = e
+
+clear_next : (earlier : List Next) (before : State) (next : Next) → events_back before.back ≡ reverse (map next_event earlier)
+    → (is_empty_code (next_event next) ≡ true → list_any is_inked_event (map next_event earlier) ≡ true) → IsClear before next
+clear_next earlier before (raw p) events h = λ t. ink_events before.back ∙ ap (λ es. list_any is_inked_event es) events ∙ any_turned is_inked_event (map next_event earlier) ∙ h t
+clear_next earlier before (break k chunk) events h = tt
+clear_next earlier before (mark event level) events h = tt
+
+module _ {width : ℕ} {margin_of : ℕ → ℕ} {clear : State → Next → Type 0} where
+  pub written_base : {nexts : List Next} {st : State} → Written width margin_of clear nexts st → Base width st
+  written_base (nothing e s) = subst (Base width) (sym s) (base_blank width)
+  written_base (more earlier before next e w suits c g) = base_grows suits g (written_base w)
+
+  pub written_clearly : {nexts : List Next} {st : State} → width < 1_000_000 → Written width margin_of clear nexts st → clear_front (map next_event nexts) ≡ true → Clearly width margin_of st
+  written_clearly small (nothing e s) h = subst (Clearly width margin_of) (sym s) (clearly_blank width margin_of)
+  written_clearly small (more earlier before next e w suits c g) h =
+      let parts : clear_front (map next_event earlier ++ next_event next ∷ []) ≡ true = subst (λ es. clear_front es ≡ true) (ap (λ ns. map next_event ns) e ∙ map_snoc earlier next) h in
+      let both : (clear_front (map next_event earlier) ≡ true) × (is_empty_code (next_event next) ≡ true → list_any is_inked_event (map next_event earlier) ≡ true) =
+      clear_snoc (map next_event earlier) (next_event next) parts in
+      clearly_grows small suits (clear_next earlier before next (written_events w) both.1) g (written_base w) (written_clearly small w both.0)
+
+-- ---- the bound
+
+-- each margin that comes is at most this
+abbrev pub IsShallow : ℕ → Next → Type 0
+IsShallow deepest (raw p) = ⊤
+IsShallow deepest (break k chunk) = ⊤
+IsShallow deepest (mark event level) = level ≤ deepest
+
+abbrev pub EachNext : (Next → Type 0) → List Next → Type 0
+EachNext Q [] = ⊤
+EachNext Q (x ∷ xs) = Q x × EachNext Q xs
+
+each_snoc : (Q : Next → Type 0) (xs : List Next) (x : Next) → EachNext Q (xs ++ x ∷ []) → EachNext Q xs × Q x
+each_snoc Q [] x h = (tt, h.0)
+each_snoc Q (y ∷ xs) x h = let rest : EachNext Q xs × Q x = each_snoc Q xs x h.1 in ((h.0, rest.0), rest.1)
+
+abbrev pub IsSlim : ℕ → ℕ → Next → Type 0
+IsSlim deepest most next = IsShallow deepest next × IsNarrow most next × WritesNone next
+
+shallow_grows : {width deepest : ℕ} {st after : State} {next : Next} → IsShallow deepest next → Grows width st next after → st.margin ≤ deepest → after.margin ≤ deepest
+shallow_grows {deepest = deepest} shallow (placing p e (places base n b d a)) h = subst (λ (s : State). s.margin ≤ deepest) (sym a) (subst (λ (k : ℕ). k ≤ deepest) (sym (begins_margin b).0) h)
+shallow_grows {deepest = deepest} shallow (placing p e (drops t mid l w b a)) h = subst (λ (s : State). s.margin ≤ deepest) (sym a) (subst (λ (k : ℕ). k ≤ deepest) (sym (lines_margin l).0) h)
+shallow_grows {deepest = deepest} shallow (breaking k chunk e a) h = subst (λ (s : State). s.margin ≤ deepest) (sym a) h
+shallow_grows {deepest = deepest} shallow (passing event level e a) h = subst (λ (s : State). s.margin ≤ deepest) (sym a) (subst (λ (x : Next). IsShallow deepest x) e shallow)
+
+record Slim (width deepest most : ℕ) (st : State) : Type 0 where
+  bare : EachPassed IsBare st.back
+  margin : st.margin ≤ deepest
+  lines : EachFront (Within (bound width deepest most)) st.back
+
+module _ {width : ℕ} {margin_of : ℕ → ℕ} {clear : State → Next → Type 0} where
+  written_slim : {nexts : List Next} {st : State} (deepest most : ℕ) → width < 1_000_000 → Written width margin_of clear nexts st → EachNext (IsSlim deepest most) nexts → Slim width deepest most st
+  written_slim deepest most small (nothing e s) h = subst (Slim width deepest most) (sym s) (record { bare = tt; margin = omega arith; lines = omega arith })
+  written_slim deepest most small (more earlier before next e w suits c g) h =
+      let parts : EachNext (IsSlim deepest most) earlier × IsSlim deepest most next = each_snoc (IsSlim deepest most) earlier next (subst (λ ns. EachNext (IsSlim deepest most) ns) e h) in
+      let b : Base width before = written_base w in
+      let ih : Slim width deepest most before = written_slim deepest most small w parts.0 in
+      record {
+        bare = bare_grows parts.1.2 g ih.bare;
+        margin = shallow_grows parts.1.0 g ih.margin;
+        lines = within_grows width deepest most small b.fills ih.bare b.agrees ih.margin parts.1.2 parts.1.1 g ih.lines;
+      }
+
+-- ---- the end of the page
+
+ends_places : (P : List Stretch → Place → Type 0) {st : State} {final : List Stretch} → Ends st final → EachPlace P st.back → EachPlace P final
+ends_places P (as_is e) h = subst (λ r. EachPlace P r) (sym e) h
+ends_places P (with_newline e) h = subst (λ r. EachPlace P r) (sym e) h
+
+ends_passed : (Q : Event → Type 0) {st : State} {final : List Stretch} → Ends st final → EachPassed Q st.back → EachPassed Q final
+ends_passed Q (as_is e) h = subst (λ r. EachPassed Q r) (sym e) h
+ends_passed Q (with_newline e) h = subst (λ r. EachPassed Q r) (sym e) h
+
+ends_events : {st : State} {final : List Stretch} → Ends st final → events_back final ≡ events_back st.back
+ends_events (as_is e) = ap events_back e
+ends_events (with_newline e) = ap events_back e
+
+-- ---- what may stand
+
+-- what is known of the text after a stretch
+record KnownEnd (m : List Stretch) (x : Stretch) (r : List Stretch) (rest : List ℕ) : Type 0 where
+  line : Bool
+  there : MayEnd line (x ∷ r)
+  after : line ≡ true → starts (text_back m ++ rest) (codes "\n") ≡ true
+
+known_end : (m : List Stretch) (line : Bool) (x : Stretch) (r : List Stretch) (rest : List ℕ) → (line ≡ true → starts rest (codes "\n") ≡ true) → MayEnd line (m ++ x ∷ r) → KnownEnd m x r rest
+known_end [] line x r rest a h = record { line = line; there = h; after = a }
+known_end (Gap b ∷ m) line x r rest a h =
+    let found : KnownEnd m x r (b ∷ rest) = known_end m (b == 10) x r (b ∷ rest) (λ t. ten b t) h.1 in
+    record { line = found.line; there = found.there; after = λ t. subst (λ ys. starts ys (codes "\n") ≡ true) (sym (ap (λ ys. ys ++ rest) (text_back_cons (Gap b) m) ∙ append_assoc (text_back m) (b ∷ []) rest)) (found.after t) } where
+      ten : (b : ℕ) → (b == 10) ≡ true → starts (b ∷ rest) (codes "\n") ≡ true
+      ten b t = let same : b ≡ 10 = is_ten b t in rw same refl where
+        is_ten : (b : ℕ) → (b == 10) ≡ true → b ≡ 10
+        is_ten b t = grind (arith, nat_tests)
+known_end (Placed e ∷ m) line x r rest a h =
+    let found : KnownEnd m x r (e.shown ++ rest) = known_end m (if has_some e.shown then false else line) x r (e.shown ++ rest) (further e.shown) h.1 in
+    record { line = found.line; there = found.there; after = λ t. subst (λ ys. starts ys (codes "\n") ≡ true) (sym (ap (λ ys. ys ++ rest) (text_back_cons (Placed e) m) ∙ append_assoc (text_back m) e.shown rest)) (found.after t) } where
+      further : (xs : List ℕ) → (if has_some xs then false else line) ≡ true → starts (xs ++ rest) (codes "\n") ≡ true
+      further [] t = a t
+      further (y ∷ xs) t = absurd cc
+known_end (Passed event ∷ m) line x r rest a h =
+    let found : KnownEnd m x r (event_bytes event ++ rest) = known_end m (if has_some (event_bytes event) then false else line) x r (event_bytes event ++ rest) (further (event_bytes event)) h in
+    record { line = found.line; there = found.there; after = λ t. subst (λ ys. starts ys (codes "\n") ≡ true) (sym (ap (λ ys. ys ++ rest) (text_back_cons (Passed event) m) ∙ append_assoc (text_back m) (event_bytes event) rest)) (found.after t) } where
+      further : (xs : List ℕ) → (if has_some xs then false else line) ≡ true → starts (xs ++ rest) (codes "\n") ≡ true
+      further [] t = a t
+      further (y ∷ xs) t = absurd cc
+
+passed_at : (Q : Event → Type 0) (m r : List Stretch) (event : Event) → EachPassed Q (m ++ Passed event ∷ r) → Q event
+passed_at Q [] r event h = h.0
+passed_at Q (Gap b ∷ m) r event h = passed_at Q m r event h
+passed_at Q (Placed g ∷ m) r event h = passed_at Q m r event h
+passed_at Q (Passed f ∷ m) r event h = passed_at Q m r event h.1
+
+may_stand : (m r : List Stretch) (x : Stretch) → MayEnd false (m ++ x ∷ r) → EachPassed NoInk (m ++ x ∷ r) → MayStand x (reverse m)
+may_stand m r x h q = at x (known_end m false x r [] (λ t. absurd cc) h) q where
+  at : (x : Stretch) → KnownEnd m x r [] → EachPassed NoInk (m ++ x ∷ r) → MayStand x (reverse m)
+  at (Gap b) k q = k.there.0
+  at (Placed e) k q = kind k.there.0 where
+    kind : (e.shown ≡ e.bytes) ⊎ ((e.shown ≡ trim_end e.bytes) × (k.line ≡ true)) → MayStand (Placed e) (reverse m)
+    kind (inl whole) = inl whole
+    kind (inr cut) = inr (cut.0, subst (λ ys. starts ys (codes "\n") ≡ true) (append-nil (text_back m)) (k.after cut.1))
+  at (Passed event) k q = let none : is_inked_event event ≡ false = passed_at NoInk m r event q in rw none refl
+
+-- ---- the laws
+
+all_kept : (may_add : Type 0) (m : List Stretch) → AllKept may_add m → All (IsKept may_add) (reverse m)
+all_kept may_add [] h = All-nil (IsKept may_add)
+all_kept may_add (x ∷ m) h = subst (λ ys. All (IsKept may_add) ys) (sym (reverse_cons x m)) (at x h (all_kept may_add m)) where
+  one : (y : Stretch) → IsKept may_add y → All (IsKept may_add) (reverse m) → All (IsKept may_add) (reverse m ++ y ∷ [])
+  one y k rest = All-append (IsKept may_add) (reverse m) (y ∷ []) rest (All-cons (IsKept may_add) y [] k (All-nil (IsKept may_add)))
+
+  at : (x : Stretch) → AllKept may_add (x ∷ m) → (AllKept may_add m → All (IsKept may_add) (reverse m)) → All (IsKept may_add) (reverse m ++ x ∷ [])
+  at (Gap b) h ih = one (Gap b) h.0 (ih h.1)
+  at (Placed e) h ih = one (Placed e) h.0 (ih h.1)
+  at (Passed event) h ih = let none : is_raw_event event ≡ false = h.0 in one (Passed event) (rw none refl) (ih h.1)
+
+-- a newline stands between an inked place and a place that owes none
+debt_paid : (m before : List Stretch) (e : Place) → EachPlace IsFreeOfDebt (m ++ Placed e ∷ before) → owes_line (m ++ Placed e ∷ before) ≡ false → is_inked (chunk_at e) ≡ true
+    → list_any asks_newline (events_back m) ≡ true → has_newline m ≡ true
+debt_paid [] before e f o i a = absurd cc
+debt_paid (Gap b ∷ m) before e f o i a = at (by_cases (b == 10)) (debt_paid m before e f) where
+  at : ((b == 10) ≡ true) ⊎ ((b == 10) ≡ false)
+      → (owes_line (m ++ Placed e ∷ before) ≡ false → is_inked (chunk_at e) ≡ true → list_any asks_newline (events_back m) ≡ true → has_newline m ≡ true) → has_newline (Gap b ∷ m) ≡ true
+  at (inl t) ih = rw t refl
+  at (inr t) ih = let rest : owes_line (m ++ Placed e ∷ before) ≡ false = rw t at o in rw t (ih rest i a)
+debt_paid (Placed g ∷ m) before e f o i a = debt_paid m before e f.1 f.0 i a
+debt_paid (Passed event ∷ m) before e f o i a = at (by_cases (asks_newline event)) (by_cases (has_newline m)) (debt_paid m before e f) where
+  or_left : (a b : Bool) → (a || b) ≡ false → a ≡ false
+  or_left true b h = absurd cc
+  or_left false b h = refl
+
+  or_right : (a b : Bool) → (a || b) ≡ false → b ≡ false
+  or_right true b h = absurd cc
+  or_right false b h = h
+
+  at : (asks_newline event ≡ true) ⊎ (asks_newline event ≡ false) → (has_newline m ≡ true) ⊎ (has_newline m ≡ false)
+      → (owes_line (m ++ Placed e ∷ before) ≡ false → is_inked (chunk_at e) ≡ true → list_any asks_newline (events_back m) ≡ true → has_newline m ≡ true) → has_newline (Passed event ∷ m) ≡ true
+  at (inl t) (inl n) ih = n
+  at (inl t) (inr n) ih =
+      let line : inked_line (m ++ Placed e ∷ before) ≡ true = inked_since m e before i n in
+      let none : (asks_newline event && inked_line (m ++ Placed e ∷ before)) ≡ false = or_left _ (owes_line (m ++ Placed e ∷ before)) o in
+      let no : true ≡ false = rw (t, line) at none in absurd cc
+  at (inr t) n ih =
+      let rest : owes_line (m ++ Placed e ∷ before) ≡ false = or_right (asks_newline event && inked_line (m ++ Placed e ∷ before)) _ o in
+      let asks : list_any asks_newline (events_back m) ≡ true = rw t at a in ih rest i asks
+
+sum_columns : (es : List Event) → chunk_columns es ≡ sum_by event_columns es
+sum_columns [] = refl
+sum_columns (x ∷ es) = ap (λ (n : ℕ). event_columns x + n) (sum_columns es) ∙ sym (sum_by-cons event_columns x es)
+
+module _ (width : ℕ) (document : List Part) (st : State) (final : List Stretch) (ends : Ends st final) (base : Base width st) where
+  abbrev stretches : List Stretch
+  stretches = reverse final
+
+  -- the page newest first, cut at two places
+  apart_at : (before between after : List Stretch) (e f : Place) → stretches ≡ before ++ Placed e ∷ (between ++ Placed f ∷ after)
+      → final ≡ reverse after ++ Placed f ∷ (reverse between ++ Placed e ∷ reverse before)
+  apart_at before between after e f s = sym (reverse-reverse final) ∙ ap (λ ys. reverse ys) s ∙ turned_between before between after (Placed e) (Placed f)
+
+  law_at : (P : List Stretch → Place → Type 0) → EachPlace P st.back → (before between after : List Stretch) (e f : Place) → stretches ≡ before ++ Placed e ∷ (between ++ Placed f ∷ after)
+      → P (reverse between ++ Placed e ∷ reverse before) f
+  law_at P h before between after e f s =
+      place_at P (reverse after) (reverse between ++ Placed e ∷ reverse before) f (subst (λ ys. EachPlace P ys) (apart_at before between after e f s) (ends_places P ends h))
+
+  one_at : (P : List Stretch → Place → Type 0) → EachPlace P st.back → (before after : List Stretch) (f : Place) → stretches ≡ before ++ Placed f ∷ after → P (reverse before) f
+  one_at P h before after f s = place_at P (reverse after) (reverse before) f (subst (λ ys. EachPlace P ys) (turned_at final before after (Placed f) s) (ends_places P ends h))
+
+  events_any : (p : Event → Bool) (between : List Stretch) → list_any p (events_back (reverse between)) ≡ list_any p (events_of between)
+  events_any p between = ap (λ es. list_any p es) (events_between between) ∙ any_turned p (events_of between)
+
+  events_all : (p : Event → Bool) (between : List Stretch) → list_all p (events_back (reverse between)) ≡ list_all p (events_of between)
+  events_all p between = ap (λ es. list_all p es) (events_between between) ∙ all_turned p (events_of between)
+
+  place_fronts : (P : List Stretch → Place → Type 0) (m r : List Stretch) (f : Place) → EachPlace P (m ++ Placed f ∷ r) → EachPlace P r
+  place_fronts P [] r f h = h.1
+  place_fronts P (Gap b ∷ m) r f h = place_fronts P m r f h
+  place_fronts P (Placed g ∷ m) r f h = place_fronts P m r f h.1
+  place_fronts P (Passed event ∷ m) r f h = place_fronts P m r f h
+
+  asked_law : BreaksWhereAsked width stretches
+  asked_law = record {
+    newline = λ before between e f h asks.
+        let whole : EachPlace IsFreeOfDebt final = ends_places IsFreeOfDebt ends base.debt in
+        let split : EachPlace IsFreeOfDebt (reverse h.after ++ Placed f ∷ (reverse between ++ Placed e ∷ reverse before)) = subst (λ ys. EachPlace IsFreeOfDebt ys) (apart_at before between h.after e f h.order) whole in
+        sym (any_turned is_newline between) ∙ debt_paid (reverse between) (reverse before) e
+        (place_fronts IsFreeOfDebt (reverse h.after) (reverse between ++ Placed e ∷ reverse before) f split)
+        (law_at IsFreeOfDebt base.debt before between h.after e f h.order) h.first_inked (events_any asks_newline between ∙ asks);
+    blank_line = λ before between e f h asks none fits.
+        let line : HasBlankLine (text_back (reverse between)) = law_at (HasBlankBefore width) base.blank before between h.after e f h.order (reverse between) (reverse before) e refl h.first_inked
+        (events_any is_raw_event between ∙ not_true (list_any is_raw_event (events_of between)) none) (events_any asks_blank_line between ∙ asks) fits in
+        subst (λ ys. HasBlankLine (text_of ys)) (reverse-reverse between) line;
+  } where
+    not_true : (b : Bool) → IsTrue (not b) → b ≡ false
+    not_true true h = absurd cc
+    not_true false h = refl
+
+  kept_law : KeepsBlanks stretches
+  kept_law = λ before between e f h plain bare.
+      let found : (e.shown ≡ e.bytes) × AllKept (e.part ≢ f.part) (reverse between) = law_at KeepsBefore base.keeps before between h.after e f h.order (reverse between) (reverse before) e
+      (refl, h.first_inked, any_turned is_inked_stretch between ∙ not_true (list_any is_inked_stretch between) plain, any_turned is_newline between ∙ not_true (list_any is_newline between) bare) in
+      (found.0, subst (λ ys. All (IsKept (e.part ≢ f.part)) ys) (reverse-reverse between) (all_kept (e.part ≢ f.part) (reverse between) found.1)) where
+        not_true : (b : Bool) → IsTrue (not b) → b ≡ false
+        not_true true h = absurd cc
+        not_true false h = refl
+
+  no_ink_final : EachPassed NoInk final
+  no_ink_final = ends_passed NoInk ends base.no_ink
+
+  whole_final : MayEnd false final
+  whole_final = at ends where
+    at : Ends st final → MayEnd false final
+    at (as_is e) = subst (λ r. MayEnd false r) (sym e) base.whole
+    at (with_newline e) = subst (λ r. MayEnd false r) (sym e) (inr refl, may_end_line st.back base.whole)
+
+  stand_law : (before after : List Stretch) (x : Stretch) → stretches ≡ before ++ x ∷ after → MayStand x after
+  stand_law before after x s =
+      let split : final ≡ reverse after ++ x ∷ reverse before = turned_at final before after x s in
+      subst (λ ys. MayStand x ys) (reverse-reverse after)
+      (may_stand (reverse after) (reverse before) x (subst (λ ys. MayEnd false ys) split whole_final) (subst (λ ys. EachPassed NoInk ys) split no_ink_final))
+
+  module _ (clearly : Clearly width (margin document) st) where
+    no_ink_front : (before after : List Stretch) (f : Place) → stretches ≡ before ++ Placed f ∷ after → EachPassed NoInk (reverse before)
+    no_ink_front before after f s = back (reverse after) (subst (λ ys. EachPassed NoInk ys) (turned_at final before after (Placed f) s) no_ink_final) where
+      back : (m : List Stretch) → EachPassed NoInk (m ++ Placed f ∷ reverse before) → EachPassed NoInk (reverse before)
+      back [] h = h
+      back (Gap b ∷ m) h = back m h
+      back (Placed g ∷ m) h = back m h
+      back (Passed event ∷ m) h = back m h.1
+
+    column_is : (before : List Stretch) → column before ≡ column_back (reverse before)
+    column_is before = ap column (sym (reverse-reverse before)) ∙ column_turned (reverse before)
+
+    margin_law : KeepsMargin document stretches
+    margin_law = record {
+      at_least = λ before after f s i. subst (λ (n : ℕ). margin document f.part ≤ n) (sym (column_is before)) (one_at (AtMargin (margin document)) clearly.at_margin before after f s);
+      exact = λ before after f s i line kind. column_is before ∙ one_at (IsExact (margin document)) clearly.exact before after f s (clear_line before line) (kind_of before after f s kind);
+    } where
+      not_true : (b : Bool) → IsTrue (not b) → b ≡ false
+      not_true true h = absurd cc
+      not_true false h = refl
+
+      not_not : (b : Bool) → not b ≡ false → b ≡ true
+      not_not true h = refl
+      not_not false h = absurd cc
+
+      clear_line : (before : List Stretch) → IsFirstInLine before → inked_line (reverse before) ≡ false
+      clear_line before h = sym (inked_line_turned (reverse before)) ∙ ap (λ ys. list_any is_inked_stretch (line_before ys)) (reverse-reverse before) ∙ not_true (list_any is_inked_stretch (line_before before)) h
+
+      kind_of : (before after : List Stretch) (f : Place) → stretches ≡ before ++ Placed f ∷ after → IsTrue (not (list_any is_raw_or_ref (events_since_ink before))) ⊎ FollowsBlank before f
+          → (is_quiet (reverse before) ≡ true) ⊎ AfterBlank (reverse before) f.part
+      kind_of before after f s (inl h) =
+          inl (not_not (is_quiet (reverse before)) (sym (quiet_turned (reverse before) (no_ink_front before after f s)) ∙ ap (λ ys. list_any is_raw_or_ref (events_since_ink ys)) (reverse-reverse before) ∙ not_true (list_any is_raw_or_ref (events_since_ink before)) h))
+      kind_of before after f s (inr h) = inr (record {
+        rest = reverse h.between;
+        before = reverse h.front;
+        place = h.e;
+        there = ap (λ ys. reverse ys) h.order ∙ reverse-append h.front (Placed h.e ∷ h.between) ∙ ap (λ ys. ys ++ reverse h.front) (reverse_cons (Placed h.e) h.between) ∙ append_assoc (reverse h.between) (Placed h.e ∷ []) (reverse h.front);
+        inked = h.inked;
+        blank = events_between h.between ∙ ap (λ es. reverse es) h.one_blank;
+      })
+
+    needed_law : WrapsOnlyIfNeeded width stretches
+    needed_law = λ before between e f h first_plain second_plain light line.
+        let over : width < reach (reverse between) e (reverse before) + columns f.bytes = law_at (IsNeededBefore width) clearly.needed before between h.after e f h.order (reverse between) (reverse before) e refl
+        (first_plain, h.first_inked) (kind between light) (any_turned is_newline between ∙ line) in
+        let here : column before ≡ column_back (reverse before) = column_is before in
+        let sums : chunk_columns (events_back (reverse between)) ≡ sum_by event_columns (events_of between) =
+        sum_columns (events_back (reverse between)) ∙ ap (λ es. sum_by event_columns es) (events_between between) ∙ sum_turned event_columns (events_of between) in
+        omega arith where
+          kind : (between : List Stretch) → IsTrue (list_all is_light (events_of between)) ⊎ IsTrue (list_all is_light_mark (events_of between))
+              → (list_all is_light (events_back (reverse between)) ≡ true) ⊎ (list_all is_light_mark (events_back (reverse between)) ≡ true)
+          kind between (inl l) = inl (events_all is_light between ∙ l)
+          kind between (inr l) = inr (events_all is_light_mark between ∙ l)
+
+    fits_law : FitsWidth width stretches
+    fits_law = λ before between after e f s passed_all.
+        let fits : column_back (reverse between ++ Placed e ∷ reverse before) + columns f.bytes ≤ width =
+        law_at (Touches width) clearly.touches before between after e f s (reverse between) (reverse before) e refl (all_turned is_passed between ∙ passed_all) in
+        let turned : reverse (before ++ Placed e ∷ between) ≡ reverse between ++ Placed e ∷ reverse before =
+        reverse-append before (Placed e ∷ between) ∙ ap (λ ys. ys ++ reverse before) (reverse_cons (Placed e) between) ∙ append_assoc (reverse between) (Placed e ∷ []) (reverse before) in
+        let here : column (before ++ Placed e ∷ between) ≡ column_back (reverse between ++ Placed e ∷ reverse before) = column_is (before ++ Placed e ∷ between) ∙ ap column_back turned in
+        omega arith
+
+    padded_law : PadsToMargin document stretches
+    padded_law = λ before after f s some. at before (one_at (PadsOnly (margin document)) clearly.pads_only before after f s (more_than_none before some)) where
+      padding_is : (before : List Stretch) → padding before ≡ pads_back (reverse before)
+      padding_is before = ap padding (sym (reverse-reverse before)) ∙ padding_turned (reverse before)
+
+      more_than_none : (before : List Stretch) → 0 < padding before → 0 < pads_back (reverse before)
+      more_than_none before h = subst (λ (n : ℕ). 0 < n) (padding_is before) h
+
+      at : (before : List Stretch) {m : ℕ} → (column_back (reverse before) ≡ m) ⊎ ((pads_back (reverse before) ≡ 2) × (body_back (reverse before) ≡ true))
+          → (column before ≡ m) ⊎ ((padding before ≡ 2) × IsTrue (list_any opens_body (events_of (after_last is_placed before))))
+      at before (inl h) = inl (column_is before ∙ h)
+      at before (inr h) =
+          inr (padding_is before ∙ h.0, ap (λ ys. list_any opens_body (events_of (after_last is_placed ys))) (sym (reverse-reverse before)) ∙ body_turned (reverse before) ∙ h.1)
+
+-- ---- the whole
+
+more_than_widest : (xs : List ℕ) (a : ℕ) → a ≤ fold max a xs
+more_than_widest [] a = omega arith
+more_than_widest (x ∷ xs) a = let rest : max a x ≤ fold max (max a x) xs = more_than_widest xs (max a x) in omega arith
+
+fold_more : (xs : List ℕ) (a b : ℕ) → a ≤ b → fold max a xs ≤ fold max b xs
+fold_more [] a b l = l
+fold_more (x ∷ xs) a b l = fold_more xs (max a x) (max b x) (omega arith)
+
+-- each chunk that comes is at most as wide as the widest
+narrow_each : (nexts : List Next) (most : ℕ) → widest (map next_event nexts) ≤ most → EachNext (IsNarrow most) nexts
+narrow_each [] most l = tt
+narrow_each (x ∷ xs) most l = (at x (first_le x xs l), narrow_each xs most (rest_le x xs l)) where
+  first_le : (x : Next) (xs : List Next) → widest (map next_event (x ∷ xs)) ≤ most → event_columns (next_event x) ≤ most
+  first_le x xs l = let more : max 0 (event_columns (next_event x)) ≤ fold max (max 0 (event_columns (next_event x))) (map event_columns (map next_event xs)) = more_than_widest (map event_columns (map next_event xs)) (max 0 (event_columns (next_event x))) in omega arith
+
+  rest_le : (x : Next) (xs : List Next) → widest (map next_event (x ∷ xs)) ≤ most → widest (map next_event xs) ≤ most
+  rest_le x xs l = let more : fold max 0 (map event_columns (map next_event xs)) ≤ fold max (max 0 (event_columns (next_event x))) (map event_columns (map next_event xs)) =
+      fold_more (map event_columns (map next_event xs)) 0 (max 0 (event_columns (next_event x))) (omega arith) in omega arith
+
+  at : (x : Next) → event_columns (next_event x) ≤ most → IsNarrow most x
+  at (raw p) l = l
+  at (break k chunk) l = tt
+  at (mark event level) l = tt
+
+-- no mark is one of a term reference
+bare_each : (nexts : List Next) → list_any is_ref (map next_event nexts) ≡ false → EachNext WritesNone nexts
+bare_each [] h = tt
+bare_each (x ∷ xs) h = (at x (or_left (is_ref (next_event x)) _ h), bare_each xs (or_right (is_ref (next_event x)) _ h)) where
+  or_left : (a b : Bool) → (a || b) ≡ false → a ≡ false
+  or_left true b h = absurd cc
+  or_left false b h = refl
+
+  or_right : (a b : Bool) → (a || b) ≡ false → b ≡ false
+  or_right true b h = absurd cc
+  or_right false b h = h
+
+  none : (b : Block) → is_term_ref b ≡ false → has_some (event_bytes (Opens b)) ≡ false
+  none b h = rw h refl
+
+  at : (x : Next) → is_ref (next_event x) ≡ false → WritesNone x
+  at (raw p) h = tt
+  at (break k chunk) h = tt
+  at (mark (Shows k chunk) level) h = refl
+  at (mark (Opens b) level) h = none b h
+  at (mark (Closes b) level) h = none b h
+
+slim_each : (deepest most : ℕ) (nexts : List Next) → EachNext (IsShallow deepest) nexts → EachNext (IsNarrow most) nexts → EachNext WritesNone nexts → EachNext (IsSlim deepest most) nexts
+slim_each deepest most [] a b c = tt
+slim_each deepest most (x ∷ xs) a b c = ((a.0, b.0, c.0), slim_each deepest most xs a.1 b.1 c.1)
+
+pub layout_of_page : {clear : State → Next → Type 0} (document : List Part) (full : Bool) (width : ℕ) (nexts : List Next) (st : State) (final : List Stretch)
+    → Written width (margin document) clear nexts st → map next_event nexts ≡ shown_events full document → EachNext (IsShallow (greatest_margin document)) nexts
+    → Ends st final → ink (text_of (reverse final)) ≡ console_ink full document → IsLayout document full width (text_of (reverse final))
+layout_of_page document full width nexts st final w events shallow ends same = record {
+  same_ink = same;
+  stretches = reverse final;
+  placing = record {
+    whole_text = refl;
+    all_events = events_turned final ∙ ap (λ es. reverse es) (ends_events ends ∙ written_events w) ∙ reverse-reverse (map next_event nexts) ∙ events;
+    each_stretch = λ before after x s. stand_law width document st final ends base before after x s;
+  };
+  asked = asked_law width document st final ends base;
+  kept = kept_law width document st final ends base;
+  margin = λ small clear. margin_law width document st final ends base (clearly small clear);
+  needed = λ small clear. needed_law width document st final ends base (clearly small clear);
+  fits = λ small clear. fits_law width document st final ends base (clearly small clear);
+  padded = λ small clear. padded_law width document st final ends base (clearly small clear);
+  bound = λ small refs. bounded small refs;
+} where
+  base : Base width st
+  base = written_base w
+
+  clearly : width < 1_000_000 → BeginsClear (shown_events full document) → Clearly width (margin document) st
+  clearly small clear = written_clearly small w (clear_begins (map next_event nexts) (subst BeginsClear (sym events) clear))
+
+  not_true : (b : Bool) → IsTrue (not b) → b ≡ false
+  not_true true h = absurd cc
+  not_true false h = refl
+
+  bounded : width < 1_000_000 → IsTrue (not (list_any is_ref (shown_events full document))) → IsBounded document width (reverse final)
+  bounded small refs =
+      let none : list_any is_ref (map next_event nexts) ≡ false = ap (λ es. list_any is_ref es) events ∙ not_true (list_any is_ref (shown_events full document)) refs in
+      let slim : Slim width (greatest_margin document) (widest (map next_event nexts)) st =
+      written_slim (greatest_margin document) (widest (map next_event nexts)) small w
+      (slim_each (greatest_margin document) (widest (map next_event nexts)) nexts shallow (narrow_each nexts (widest (map next_event nexts)) (omega arith)) (bare_each nexts none)) in
+      let fronts : EachFront (Within (bound width (greatest_margin document) (widest (map next_event nexts)))) final = ends_lines (bound width (greatest_margin document) (widest (map next_event nexts))) ends slim.lines in
+      let same_widest : widest (events_of (reverse final)) ≡ widest (map next_event nexts) =
+      ap widest (events_turned final ∙ ap (λ es. reverse es) (ends_events ends ∙ written_events w) ∙ reverse-reverse (map next_event nexts)) in
+      subst (λ (n : ℕ). All (λ line. sum_by stretch_columns line ≤ greatest_margin document + 2 + max width n) (stretch_lines (reverse final))) (sym same_widest)
+      (lines_bounded (bound width (greatest_margin document) (widest (map next_event nexts))) final fronts) where
+        ends_lines : (limit : ℕ) → Ends st final → EachFront (Within limit) st.back → EachFront (Within limit) final
+        ends_lines limit (as_is e) h = subst (λ r. EachFront (Within limit) r) (sym e) h
+        ends_lines limit (with_newline e) h = subst (λ r. EachFront (Within limit) r) (sym e) (omega arith, h)

@@ -1,0 +1,90 @@
+-- What a loop over the parts keeps of the page that it writes.
+use Rattle.std.specs.Prelude.{◌≡◌, ◌≢◌, ℕ, ◌+◌, Bool, true, false, ◌&&◌, ◌==◌, List, [], ◌∷◌, refl, length, if◌then◌else◌, String, string_bytes, Result, Ok, Err, IfOk}
+use Rattle.std.proofs.Common.{sym, ◌∙◌, ap, arith}
+use Rattle.std.proofs.lemmas.Bool.Decides.{nat_tests}
+use Rattle.bpaf_doc.specs.declared.buffer.Block.TheVariants as blocks
+use Rattle.bpaf_doc.specs.declared.buffer.Block.{Block}
+use Rattle.bpaf_doc.specs.declared.buffer.Style.{Style}
+use Rattle.bpaf_doc.specs.declared.console.pairs.Pairs.{Pairs}
+use Rattle.bpaf_doc.specs.Buffer.Parts.{Part, Text}
+use Rattle.bpaf_doc.specs.Splitter.Chunks.{chunks_of}
+use Rattle.bpaf_doc.specs.Shown.{mark_bytes}
+use Rattle.bpaf_doc.specs.Console.Exact.Hiding.{hides, hidden_after}
+use Rattle.bpaf_doc.specs.Console.Exact.Page.{Sheet, text_put, opened, closed, finished}
+use Rattle.bpaf_doc.specs.Console.Exact.{is_block, is_adjacent, skips, pairs_after, start_put, end_put, part_put, parts_put}
+
+-- The parts that are left, from this place on, make the page whole.
+pub record IsPageLeft (full : Bool) (document : List Part) (whole : Sheet) (index : ℕ) (pairs : Pairs) (hidden : ℕ) (parts : List Part) (page : Sheet) : Type 0 where
+  pub same_page : parts_put full document index pairs hidden parts page ≡ whole
+  pub in_place : index + length parts ≡ length document
+
+-- one part is written
+pub IsPageLeft-more : (full : Bool) (document : List Part) (whole : Sheet) (index more : ℕ) (pairs next : Pairs) (hidden after : ℕ) (part : Part) (parts rest : List Part) (page new : Sheet)
+    → IsPageLeft full document whole index pairs hidden parts page → parts ≡ part ∷ rest → more ≡ index + 1
+    → next ≡ pairs_after document index pairs part → after ≡ hidden_after full hidden part → new ≡ part_put full document index pairs hidden part page
+    → IsPageLeft full document whole more next after rest new
+IsPageLeft-more full document whole index more pairs next hidden after part parts rest page new left first counted known still wrote = record {
+  same_page =
+      ap (λ i. parts_put full document i next after rest new) counted
+      ∙ ap (λ p. parts_put full document (index + 1) p after rest new) known
+      ∙ ap (λ h. parts_put full document (index + 1) (pairs_after document index pairs part) h rest new) still
+      ∙ ap (λ s. parts_put full document (index + 1) (pairs_after document index pairs part) (hidden_after full hidden part) rest s) wrote
+      ∙ ap (λ ps. parts_put full document index pairs hidden ps page) (sym first) ∙ left.same_page;
+  in_place = omega (arith, left.in_place, ap length first, counted);
+}
+
+-- a text that is shown, and one that is hidden
+pub text-shown : (full : Bool) (document : List Part) (index : ℕ) (pairs : Pairs) (hidden : ℕ) (bytes : List ℕ) (style : Style) (page new : Sheet)
+    → hidden ≡ 0 → new ≡ text_put full (chunks_of bytes) page → new ≡ part_put full document index pairs hidden (Text bytes style) page
+text-shown full document index pairs hidden bytes style page new none wrote =
+    wrote ∙ sym (ap (λ h. part_put full document index pairs h (Text bytes style) page) none)
+
+not_none : (hidden : ℕ) → hidden ≢ 0 → (hidden == 0) ≡ false
+not_none hidden some = grind (arith, nat_tests)
+
+pub text-hidden : (full : Bool) (document : List Part) (index : ℕ) (pairs : Pairs) (hidden : ℕ) (bytes : List ℕ) (style : Style) (page : Sheet)
+    → hidden ≢ 0 → page ≡ part_put full document index pairs hidden (Text bytes style) page
+text-hidden full document index pairs hidden bytes style page some =
+    sym (ap (λ b. if b then text_put full (chunks_of bytes) page else page) (not_none hidden some))
+
+pub hidden-shown : (full : Bool) (hidden : ℕ) (bytes : List ℕ) (style : Style) (broke : Bool) → hidden ≡ 0 → broke ≡ hides full (chunks_of bytes)
+    → (if broke then 1 else 0) ≡ hidden_after full hidden (Text bytes style)
+hidden-shown full hidden bytes style broke none says = ap (λ b. if b then 1 else 0) says ∙ sym (ap (λ h. hidden_after full h (Text bytes style)) none)
+
+pub hidden-still : (full : Bool) (hidden : ℕ) (bytes : List ℕ) (style : Style) → hidden ≢ 0 → hidden ≡ hidden_after full hidden (Text bytes style)
+hidden-still full hidden bytes style some = sym (ap (λ b. if b && hides full (chunks_of bytes) then 1 else hidden) (not_none hidden some))
+
+-- a mark, and one that is passed over
+pub start-shown : (pairs : Pairs) (index : ℕ) (b : Block) (adjacent : Bool) (page new : Sheet) → false ≡ skips pairs index b → adjacent ≡ is_adjacent b pairs
+    → new ≡ opened b adjacent page → new ≡ start_put pairs index b page
+start-shown pairs index b adjacent page new shown says wrote =
+    wrote ∙ ap (λ a. opened b a page) says ∙ ap (λ t. if t then page else opened b (is_adjacent b pairs) page) shown
+
+pub start-skipped : (pairs : Pairs) (index : ℕ) (b : Block) (page : Sheet) → true ≡ skips pairs index b → page ≡ start_put pairs index b page
+start-skipped pairs index b page skipped = ap (λ t. if t then page else opened b (is_adjacent b pairs) page) skipped
+
+pub end-shown : (pairs : Pairs) (index : ℕ) (b : Block) (page new : Sheet) → false ≡ skips pairs index b → new ≡ closed b page → new ≡ end_put pairs index b page
+end-shown pairs index b page new shown wrote = wrote ∙ ap (λ t. if t then page else closed b page) shown
+
+pub end-skipped : (pairs : Pairs) (index : ℕ) (b : Block) (page : Sheet) → true ≡ skips pairs index b → page ≡ end_put pairs index b page
+end-skipped pairs index b page skipped = ap (λ t. if t then page else closed b page) skipped
+
+-- what is passed over has no ink
+pub skips-mark_bytes : (pairs : Pairs) (index : ℕ) (b : Block) → true ≡ skips pairs index b → mark_bytes b ≡ []
+skips-mark_bytes pairs index b skipped = quiet b (middle pairs.has_pair (is_block b) _ (sym skipped)) where
+  middle : (x y z : Bool) → ((x && y) && z) ≡ true → y ≡ true
+  middle true true z h = refl
+  middle true false z h = h
+  middle false y z h = absurd cc
+
+  quiet : (b : Block) → is_block b ≡ true → mark_bytes b ≡ []
+  quiet blocks.TermRef e = absurd cc
+  quiet _ e = refl
+
+-- nothing is left
+pub IsPageLeft-none : {Z E : Type 0} (r : Result (String Z) E) (full : Bool) (document : List Part) (whole : Sheet) (index : ℕ) (pairs : Pairs) (hidden : ℕ) (parts : List Part) (page : Sheet)
+    → IsPageLeft full document whole index pairs hidden parts page → parts ≡ []
+    → IfOk r (λ text. string_bytes text ≡ finished page) → IfOk r (λ text. string_bytes text ≡ finished whole)
+IsPageLeft-none (Ok text) full document whole index pairs hidden parts page left none h =
+    h ∙ ap finished (ap (λ ps. parts_put full document index pairs hidden ps page) (sym none) ∙ left.same_page)
+IsPageLeft-none (Err error) full document whole index pairs hidden parts page left none h = tt

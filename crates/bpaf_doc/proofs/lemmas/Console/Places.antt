@@ -1,0 +1,25 @@
+-- The first Section4 end of what follows a place, found by looking at one part after another.
+use Rattle.std.specs.Prelude.{◌≡◌, ℕ, zero, suc, ◌+◌, ◌<◌, true, false, Some, List, [], ◌∷◌, refl, length, drop}
+use Rattle.std.specs.List.{slice_get, position_or_len}
+use Rattle.std.proofs.Common.{◌∙◌, ap, arith}
+use Rattle.bpaf_doc.specs.Buffer.Parts.{Part}
+use Rattle.bpaf_doc.specs.Console.Exact.{is_section4_end}
+
+-- how many parts stand before it
+abbrev pub first_end : List Part → ℕ
+first_end parts = position_or_len (λ part. is_section4_end (Some part)) parts
+
+pub first_end-here : (parts : List Part) (at : ℕ) → is_section4_end (slice_get parts at) ≡ true → first_end (drop at parts) ≡ 0
+first_end-here [] zero e = refl
+first_end-here [] (suc at) e = refl
+first_end-here (p ∷ parts) zero e = rw e refl
+first_end-here (p ∷ parts) (suc at) e = first_end-here parts at e
+
+pub first_end-later : (parts : List Part) (at : ℕ) → at < length parts → is_section4_end (slice_get parts at) ≡ false
+    → first_end (drop at parts) ≡ 1 + first_end (drop (at + 1) parts)
+first_end-later [] at within e = absurd (omega arith)
+first_end-later (p ∷ parts) zero within e = rw e refl
+first_end-later (p ∷ parts) (suc at) within e =
+    first_end-later parts at (omega arith) e ∙ ap (λ n. 1 + first_end (drop n (p ∷ parts))) (next at) where
+      next : (at : ℕ) → suc (at + 1) ≡ suc at + 1
+      next at = omega arith

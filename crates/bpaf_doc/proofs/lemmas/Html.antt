@@ -1,0 +1,10 @@
+-- Lemmas about HTML pages. `Fragments`: what HTML and markdown are made of.
+pub mod Fragments
+pub mod Spelled
+pub mod Cut
+pub mod Text
+pub mod Breaks
+pub mod Nests
+pub mod Meets
+mod Rows
+mod Examples

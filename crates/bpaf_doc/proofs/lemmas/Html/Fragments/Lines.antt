@@ -1,0 +1,74 @@
+-- No chunk of a text has a newline in it, so no fragment of a document has.
+use Rattle.std.proofs.Common.{◌≡◌, ℕ, zero, suc, Bool, true, false, List, [], ◌∷◌, map, take, refl, ap, ◌∙◌}
+use Rattle.std.specs.Prelude.{not, ◌&&◌, ◌==◌}
+use Rattle.std.specs.List.{list_all, position_or_len}
+use Rattle.std.proofs.lemmas.List.Folds.{list_all-append, list_all-map}
+use Rattle.std.proofs.lemmas.Bool.{and_parts, and_from}
+use Rattle.bpaf_doc.specs.Buffer.Parts.{Part, Text, Start as PartStart, End as PartEnd}
+use Rattle.bpaf_doc.specs.Splitter.Chunks.{Chunk, Raw, Paragraph, LineBreak, is_line_byte, is_word_byte, is_paragraph, Form, Spells, nothing, code_line, fence, before_code, paragraph, line_break, newline, blank, word, opening, later, closing, closing_paragraph, chunks_of}
+use Rattle.bpaf_doc.specs.Html.Fragments.{Fragment, Shown, TextEnd}
+use Rattle.bpaf_doc.specs.Html.Steps.Walk.{visible, part_walk, walk, depth_after}
+use Rattle.bpaf_doc.proofs.lemmas.Splitter.Spelling.{spells_its_chunks}
+
+-- no newline in it
+abbrev pub chunk_is_line : Chunk → Bool
+chunk_is_line (Raw bytes weight) = list_all is_line_byte bytes
+chunk_is_line Paragraph = true
+chunk_is_line LineBreak = true
+
+abbrev pub fragment_is_line : Fragment → Bool
+fragment_is_line (Shown style chunk) = chunk_is_line chunk
+fragment_is_line _ = true
+
+word_is_line : (bytes : List ℕ) → list_all is_word_byte bytes ≡ true → list_all is_line_byte bytes ≡ true
+word_is_line [] h = refl
+word_is_line (b ∷ bs) h =
+    let parts : (is_word_byte b ≡ true) × (list_all is_word_byte bs ≡ true) = and_parts (is_word_byte b) (list_all is_word_byte bs) h in
+    and_from (is_line_byte b) (list_all is_line_byte bs) (and_parts (not (b == 10)) (not (b == 32)) parts.0).0 (word_is_line bs parts.1)
+
+one_more_line : (c : Chunk) (chunks others : List Chunk) → chunks ≡ c ∷ others → chunk_is_line c ≡ true → list_all chunk_is_line others ≡ true → list_all chunk_is_line chunks ≡ true
+one_more_line c chunks others e h more = ap (list_all chunk_is_line) e ∙ and_from (chunk_is_line c) (list_all chunk_is_line others) h more
+
+spelled_lines : {form : Form} {chunks : List Chunk} {text : List ℕ} → Spells form chunks text → list_all chunk_is_line chunks ≡ true
+spelled_lines (nothing e t) = ap (list_all chunk_is_line) e
+spelled_lines (code_line line rest others e t h k more) = one_more_line _ _ others e h (spelled_lines more)
+spelled_lines (fence rest others e t h more) = one_more_line _ _ others e refl (spelled_lines more)
+spelled_lines (before_code rest others e t h more) = one_more_line _ _ others e refl (spelled_lines more)
+spelled_lines (paragraph rest others e t h k more) = one_more_line _ _ others e refl (spelled_lines more)
+spelled_lines (line_break rest others e t h more) = one_more_line _ _ others e refl (spelled_lines more)
+spelled_lines (newline rest others e t h k more) = one_more_line _ _ others e refl (spelled_lines more)
+spelled_lines (blank rest others e t more) = one_more_line _ _ others e refl (spelled_lines more)
+spelled_lines (word bytes rest others e t h k more) = one_more_line _ _ others e (word_is_line bytes h.1) (spelled_lines more)
+spelled_lines (opening line rest next others e t n h k more) = one_more_line _ _ others e h (spelled_lines more)
+spelled_lines (later line rest next others e t n h s k more) = one_more_line _ _ others e h (spelled_lines more)
+spelled_lines (closing line rest next others e t h s n k more) = one_more_line _ _ others e h (spelled_lines more)
+spelled_lines (closing_paragraph line rest others e t h s k more) = one_more_line _ _ others e h (spelled_lines more)
+
+pub lines_of : (text : List ℕ) → list_all chunk_is_line (chunks_of text) ≡ true
+lines_of text = spelled_lines (spells_its_chunks text)
+
+list_all-take : {X : Type 0} (p : X → Bool) (n : ℕ) (xs : List X) → list_all p xs ≡ true → list_all p (take n xs) ≡ true
+list_all-take p zero xs h = refl
+list_all-take p (suc n) [] h = refl
+list_all-take p (suc n) (x ∷ xs) h =
+    let parts : (p x ≡ true) × (list_all p xs ≡ true) = and_parts (p x) (list_all p xs) h in
+    and_from (p x) (list_all p (take n xs)) parts.0 (list_all-take p n xs parts.1)
+
+visible_lines : (full : Bool) (chunks : List Chunk) → list_all chunk_is_line chunks ≡ true → list_all chunk_is_line (visible full chunks) ≡ true
+visible_lines true chunks h = h
+visible_lines false chunks h = list_all-take chunk_is_line (position_or_len is_paragraph chunks) chunks h
+
+part_lines : (full : Bool) (part : Part) (depth : ℕ) → list_all fragment_is_line (part_walk full part depth) ≡ true
+part_lines full (Text bytes style) zero =
+    list_all-append fragment_is_line (map (Shown style) (visible full (chunks_of bytes))) (TextEnd style ∷ [])
+    ∙ ap (λ b. b && true) (list_all-map fragment_is_line (Shown style) (visible full (chunks_of bytes)) ∙ visible_lines full (chunks_of bytes) (lines_of bytes))
+part_lines full (Text bytes style) (suc depth) = refl
+part_lines full (PartStart b) depth = refl
+part_lines full (PartEnd b) depth = refl
+
+-- no fragment of a document has a newline in it
+pub walk_lines : (full : Bool) (depth : ℕ) (parts : List Part) → list_all fragment_is_line (walk full depth parts) ≡ true
+walk_lines full depth [] = refl
+walk_lines full depth (part ∷ parts) =
+    list_all-append fragment_is_line (part_walk full part depth) (walk full (depth_after full part depth) parts)
+    ∙ and_from _ _ (part_lines full part depth) (walk_lines full (depth_after full part depth) parts)

@@ -1,0 +1,47 @@
+-- The pages that the code writes are what `IsHtmlOf` promises.
+use Rattle.std.proofs.Common.{◌≡◌, ℕ, Bool, true, List, sym, ap, ◌∙◌, subst}
+use Rattle.std.specs.Prelude.{filter, flat_map}
+use Rattle.std.specs.List.{list_all}
+use Rattle.bpaf_doc.specs.Buffer.Parts.{Part, IsWellNested}
+use Rattle.bpaf_doc.specs.Splitter.Chunks.{is_line_byte}
+use Rattle.bpaf_doc.specs.Html.Fragments.{Fragment, shown_fragments}
+use Rattle.bpaf_doc.specs.Html.Page.{IsHtmlOf, IsWellNestedHtml, erased, html_text, fragment_text}
+use Rattle.bpaf_doc.specs.Html.Exact.{blank_page, page_after_all}
+use Rattle.bpaf_doc.proofs.lemmas.Html.Fragments.Walking.{walked}
+use Rattle.bpaf_doc.proofs.lemmas.Html.Fragments.Lines.{fragment_is_line, walk_lines}
+use Rattle.bpaf_doc.proofs.lemmas.Html.Fragments.Nests.{Nests, walk_nests}
+use Rattle.bpaf_doc.proofs.lemmas.Html.Cut.{spelled, cut_from, page-spelled, cut-fragments, cut-styles}
+use Rattle.bpaf_doc.proofs.lemmas.Html.Text.{plain_spelled}
+use Rattle.bpaf_doc.proofs.lemmas.Html.Breaks.{breaks_of, touching_of}
+use Rattle.bpaf_doc.proofs.lemmas.Html.Nests.{nests_html, nests_tags}
+
+shown_nests : (document : List Part) (full : Bool) → IsWellNested document → Nests (shown_fragments full document)
+shown_nests document full nested = subst Nests (walked full document) (walk_nests nested full 0)
+
+shown_lines : (document : List Part) (full : Bool) → list_all fragment_is_line (shown_fragments full document) ≡ true
+shown_lines document full = ap (list_all fragment_is_line) (sym (walked full document)) ∙ walk_lines full 0 document
+
+-- without tags and newlines a page is the HTML text, of every document
+pub page_text : (document : List Part) (full : Bool) (answer : List ℕ) → answer ≡ (page_after_all blank_page (shown_fragments full document)).bytes → filter is_line_byte (erased answer) ≡ html_text document full
+page_text document full answer e =
+    let fs : List Fragment = shown_fragments full document in
+    ap (λ x. filter is_line_byte (erased x)) (e ∙ page-spelled blank_page fs)
+    ∙ plain_spelled (cut_from blank_page fs) (ap (list_all fragment_is_line) (cut-fragments blank_page fs) ∙ shown_lines document full)
+    ∙ ap (λ x. flat_map fragment_text x) (cut-fragments blank_page fs)
+
+-- the page of a well-nested document
+pub page_meets : (document : List Part) (full : Bool) (answer : List ℕ) → IsWellNested document → answer ≡ (page_after_all blank_page (shown_fragments full document)).bytes → IsHtmlOf document full answer
+page_meets document full answer nested e =
+    let fs : List Fragment = shown_fragments full document in
+    let whole : answer ≡ spelled (cut_from blank_page fs) = e ∙ page-spelled blank_page fs in
+    record {
+      nested = subst IsWellNestedHtml (sym whole) (nests_html (shown_nests document full nested) blank_page);
+      text = page_text document full answer e;
+      cut = cut_from blank_page fs;
+      spelling = whole;
+      fragments = cut-fragments blank_page fs;
+      breaks = breaks_of blank_page fs;
+      touching = touching_of blank_page fs;
+      tags = nests_tags (shown_nests document full nested) blank_page;
+      styles = cut-styles blank_page fs;
+    }

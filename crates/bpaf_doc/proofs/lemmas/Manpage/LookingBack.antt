@@ -1,0 +1,49 @@
+-- What looking back from a place gives after one more part: what a loop over the parts keeps.
+use Rattle.std.specs.Prelude.{◌≡◌, Bool, true, false, not, List, [], ◌∷◌, ◌++◌, ◌+◌, ◌-◌, Option, Some, find, reverse, length, drop, flat_map, if◌then◌else◌, refl}
+use Rattle.std.specs.List.{after_last, prefix_len}
+use Rattle.std.proofs.Common.{ap, ◌∙◌, sym, append_assoc, arith}
+use Rattle.std.proofs.lemmas.List.{append-nil, reverse-append, drop-append-le, drop_all, length-append}
+use Rattle.bpaf_doc.specs.Buffer.Parts.{Part}
+use Rattle.bpaf_doc.specs.Manpage.Events.{places, is_start, last_is_start, is_section_end, captured_text, captured_texts}
+
+is_start-choice : (x : Bool) (o n : Option Part) → is_start (if x then o else n) ≡ (if x then is_start o else is_start n)
+is_start-choice true o n = refl
+is_start-choice false o n = refl
+
+-- the last mark, after one more part
+pub last_is_start-append : (marks : Part → Bool) (before : List Part) (part : Part) → last_is_start marks (before ++ part ∷ []) ≡ (if marks part then is_start (Some part) else last_is_start marks before)
+last_is_start-append marks before part = ap (λ parts. is_start (find marks parts)) (reverse-append before (part ∷ [])) ∙ is_start-choice (marks part) (Some part) (find marks (reverse before))
+
+-- the places, after one more part
+pub places-append : (done before : List Part) (part : Part) → places done (before ++ part ∷ []) ≡ places done before ++ (done ++ before, part) ∷ []
+places-append done [] part = rw (append-nil done) refl
+places-append done (p ∷ before) part = rw (places-append (done ++ p ∷ []) before part, append_assoc done (p ∷ []) before) refl
+
+-- what stands after the last that passes, after one more
+pub after_last-append : {X : Type 0} (p : X → Bool) (xs : List X) (x : X) → after_last p (xs ++ x ∷ []) ≡ (if p x then [] else after_last p xs ++ x ∷ [])
+after_last-append {X = X} p xs x = ap (λ ys. drop (length (xs ++ x ∷ []) - prefix_len fails ys) (xs ++ x ∷ [])) (reverse-append xs (x ∷ [])) ∙ by (p x) refl
+  where
+    fails : X → Bool
+    fails y = not (p y)
+
+    by : (t : Bool) → p x ≡ t → drop (length (xs ++ x ∷ []) - prefix_len fails (x ∷ reverse xs)) (xs ++ x ∷ []) ≡ (if p x then [] else after_last p xs ++ x ∷ [])
+    by true e = rw e (drop_all _ (xs ++ x ∷ []) (omega arith))
+    by false e = rw e (ap (λ n. drop n (xs ++ x ∷ [])) fewer ∙ drop-append-le (length xs - prefix_len fails (reverse xs)) xs (x ∷ []) (omega arith))
+      where
+        fewer : length (xs ++ x ∷ []) - (1 + prefix_len fails (reverse xs)) ≡ length xs - prefix_len fails (reverse xs)
+        fewer = omega (arith, length-append xs (x ∷ []))
+
+pub flat_map-append : {X A : Type 0} (f : X → List A) (xs ys : List X) → flat_map f (xs ++ ys) ≡ flat_map f xs ++ flat_map f ys
+flat_map-append f [] ys = refl
+flat_map-append f (x ∷ xs) ys = rw (flat_map-append f xs ys) (sym (append_assoc (f x) (flat_map f xs) (flat_map f ys)))
+
+-- the captured texts since the last section end, after one more part
+pub captured_texts-append : (before : List Part) (part : Part) → captured_texts (before ++ part ∷ []) ≡ (if is_section_end part then [] else captured_texts before ++ captured_text (before, part))
+captured_texts-append before part = ap (λ ps. flat_map captured_text (after_last ends ps)) (places-append [] before part) ∙ ap (flat_map captured_text) (after_last-append ends (places [] before) (before, part)) ∙ by (is_section_end part)
+  where
+    ends : List Part × Part → Bool
+    ends place = is_section_end place.1
+
+    by : (x : Bool) → flat_map captured_text (if x then [] else after_last ends (places [] before) ++ (before, part) ∷ []) ≡ (if x then [] else captured_texts before ++ captured_text (before, part))
+    by true = refl
+    by false = flat_map-append captured_text (after_last ends (places [] before)) ((before, part) ∷ []) ∙ ap (λ t. captured_texts before ++ t) (append-nil (captured_text (before, part)))

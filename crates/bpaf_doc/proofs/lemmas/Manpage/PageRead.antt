@@ -1,0 +1,137 @@
+-- The calls of a roff that show a document are read as its events.
+use Rattle.std.specs.Prelude.{◌≡◌, ◌≢◌, ℕ, Bool, true, false, List, [], ◌∷◌, ◌++◌, Option, Some, None, map, flat_map, codes, if◌then◌else◌, Result, IfOk, refl}
+use Rattle.std.specs.List.{AllByRecursion}
+use Rattle.std.specs.Str.{str_to_ascii_uppercase}
+use Rattle.std.proofs.lemmas.Result.{IfOk-weaker}
+use Rattle.std.proofs.Common.{ap, ◌∙◌, sym, subst, append_assoc, arith}
+use Rattle.bpaf_roff.specs.Escaping.{is_line_start, signs, text_after, escaped}
+use Rattle.bpaf_roff.specs.Roff.{Script, control_pieces, preamble, rendering}
+use Rattle.bpaf_roff.specs.declared.escape.Apostrophes.TheVariants.{Handle}
+use Rattle.bpaf_doc.specs.Buffer.Parts.{Part, Text, Start, End}
+use Rattle.bpaf_doc.specs.Manpage.Reader.{Control, IsName, Reads, AtLineStart}
+use Rattle.bpaf_doc.specs.Manpage.Events.{Step, start_steps, end_steps, places, place_steps, page_steps, page_events, events_of_steps, captured_texts, word_of, last_is_start, is_section_mark, is_term_mark, font_of}
+use Rattle.bpaf_doc.specs.Manpage.Page.{TakesDocument, IsPageOf, IsManualPageOf, title_page}
+use Rattle.bpaf_doc.specs.declared.buffer.Style.{Style}
+use Rattle.bpaf_doc.specs.declared.buffer.Style.TheVariants as style
+use Rattle.bpaf_doc.specs.declared.buffer.Block.{Block}
+use Rattle.bpaf_doc.specs.declared.buffer.Block.TheVariants as block
+use Rattle.bpaf_doc.specs.Manpage.Exact.{Call, ControlCall, TextCall, pieces_of, control_calls, start_name, end_name, heading_name, style_name, break_calls}
+use Rattle.bpaf_doc.proofs.lemmas.Manpage.ReadBack.{IsCall, step_of, calls_read, signs-append, control_written, control_read, control_ends}
+use Rattle.bpaf_roff.proofs.lemmas.EscapedText.{text_after-append}
+
+-- the calls that show the end of a block, with the heading of what stands before
+abbrev pub end_calls : List Part → Block → Option (List ℕ) → List Call
+end_calls before b None = break_calls b ++ control_calls (end_name b)
+end_calls before b (Some name) = ControlCall name (str_to_ascii_uppercase (captured_texts before) ∷ []) ∷ []
+
+-- the calls that show a part
+abbrev pub place_calls : List Part × Part → List Call
+place_calls (before, Text bytes how) = if last_is_start is_section_mark before then [] else control_calls (style_name how) ++ TextCall (last_is_start is_term_mark before) (font_of how) bytes ∷ []
+place_calls (before, Start b) = control_calls (start_name b)
+place_calls (before, End b) = end_calls before b (heading_name b)
+
+text_steps : (before : List Part) (bytes : List ℕ) (how : Style) → map step_of (place_calls (before, Text bytes how)) ≡ place_steps (before, Text bytes how)
+text_steps before bytes how = by how (last_is_start is_section_mark before) refl
+  where
+    by : (how : Style) (x : Bool) → last_is_start is_section_mark before ≡ x → map step_of (place_calls (before, Text bytes how)) ≡ place_steps (before, Text bytes how)
+    by how true e = rw e refl
+    by style.Text false e = rw e refl
+    by style.Emphasis false e = rw e refl
+    by style.Literal false e = rw e refl
+    by style.Metavar false e = rw e refl
+    by style.Invalid false e = rw e refl
+
+steps_of_start : (b : Block) → map step_of (control_calls (start_name b)) ≡ start_steps b
+steps_of_start block.ItemTerm = refl
+steps_of_start _ = refl
+
+steps_of_end : (before : List Part) (b : Block) → map step_of (end_calls before b (heading_name b)) ≡ end_steps before b
+steps_of_end before block.Header = refl
+steps_of_end before _ = refl
+
+steps_of_calls : (place : List Part × Part) → map step_of (place_calls place) ≡ place_steps place
+steps_of_calls (before, Text bytes how) = text_steps before bytes how
+steps_of_calls (before, Start b) = steps_of_start b
+steps_of_calls (before, End b) = steps_of_end before b
+
+map-append : (cs ds : List Call) → map step_of (cs ++ ds) ≡ map step_of cs ++ map step_of ds
+map-append [] ds = refl
+map-append (c ∷ cs) ds = ap (λ ys. step_of c ∷ ys) (map-append cs ds)
+
+-- what the calls of the places say is what the places give
+all_steps : (ps : List (List Part × Part)) → map step_of (flat_map place_calls ps) ≡ flat_map place_steps ps
+all_steps [] = refl
+all_steps (place ∷ ps) = map-append (place_calls place) (flat_map place_calls ps) ∙ ap (λ ys. ys ++ map step_of (flat_map place_calls ps)) (steps_of_calls place) ∙ ap (λ ys. place_steps place ++ ys) (all_steps ps)
+
+-- the calls of a document that is shown as a page
+abbrev pub page_calls : List Part → List Call
+page_calls document = flat_map place_calls (places [] document)
+
+AreCalls-append : (cs ds : List Call) → AllByRecursion IsCall cs → AllByRecursion IsCall ds → AllByRecursion IsCall (cs ++ ds)
+AreCalls-append [] ds h k = k
+AreCalls-append (c ∷ cs) ds h k = (h.0, AreCalls-append cs ds h.1 k)
+
+two_letters : (b c : ℕ) → b ≢ 32 → b ≢ 10 → c ≢ 32 → c ≢ 10 → IsName (b ∷ c ∷ [])
+two_letters b c b32 b10 c32 c10 = ((b32, b10), ((c32, c10), tt))
+
+are_start_calls : (b : Block) → AllByRecursion IsCall (control_calls (start_name b))
+are_start_calls block.ItemTerm = (two_letters 84 80 (omega arith) (omega arith) (omega arith) (omega arith), tt)
+are_start_calls block.Block = (two_letters 80 80 (omega arith) (omega arith) (omega arith) (omega arith), tt)
+are_start_calls block.Meta = (two_letters 110 102 (omega arith) (omega arith) (omega arith) (omega arith), tt)
+are_start_calls _ = tt
+
+are_end_calls : (before : List Part) (b : Block) → AllByRecursion IsCall (end_calls before b (heading_name b))
+are_end_calls before block.Header = (two_letters 83 72 (omega arith) (omega arith) (omega arith) (omega arith), tt)
+are_end_calls before block.Section2 = (two_letters 83 83 (omega arith) (omega arith) (omega arith) (omega arith), tt)
+are_end_calls before block.Section3 = (two_letters 83 83 (omega arith) (omega arith) (omega arith) (omega arith), tt)
+are_end_calls before block.Section4 = (two_letters 83 83 (omega arith) (omega arith) (omega arith) (omega arith), tt)
+are_end_calls before block.ItemTerm = (tt, tt)
+are_end_calls before block.ItemBody = (two_letters 80 80 (omega arith) (omega arith) (omega arith) (omega arith), tt)
+are_end_calls before block.Meta = (two_letters 102 105 (omega arith) (omega arith) (omega arith) (omega arith), tt)
+are_end_calls before _ = tt
+
+are_style_calls : (how : Style) → AllByRecursion IsCall (control_calls (style_name how))
+are_style_calls style.Emphasis = (two_letters 83 83 (omega arith) (omega arith) (omega arith) (omega arith), tt)
+are_style_calls _ = tt
+
+are_place_calls : (place : List Part × Part) → AllByRecursion IsCall (place_calls place)
+are_place_calls (before, Text bytes how) = by (last_is_start is_section_mark before) refl
+  where
+    by : (x : Bool) → last_is_start is_section_mark before ≡ x → AllByRecursion IsCall (place_calls (before, Text bytes how))
+    by true e = rw e tt
+    by false e = rw e (AreCalls-append (control_calls (style_name how)) (TextCall (last_is_start is_term_mark before) (font_of how) bytes ∷ []) (are_style_calls how) (tt, tt))
+are_place_calls (before, Start b) = are_start_calls b
+are_place_calls (before, End b) = are_end_calls before b
+
+are_calls : (ps : List (List Part × Part)) → AllByRecursion IsCall (flat_map place_calls ps)
+are_calls [] = tt
+are_calls (place ∷ ps) = AreCalls-append (place_calls place) (flat_map place_calls ps) (are_place_calls place) (are_calls ps)
+
+-- A page that takes a document, with the pieces of the document's calls after its own, is rendered to the page of the document.
+pub page_read : (page : Script) → TakesDocument page → (document : List Part) → IsPageOf page document (rendering Handle (page.pieces ++ flat_map pieces_of (page_calls document)))
+page_read page takes document = record { body = text_after Handle (escaped Handle page.pieces) (signs (flat_map pieces_of (page_calls document))); joined = rw (signs-append page.pieces (flat_map pieces_of (page_calls document)), text_after-append Handle [] (signs page.pieces) (signs (flat_map pieces_of (page_calls document)))) (sym (append_assoc preamble (escaped Handle page.pieces) _)); reads = reads }
+  where
+    reads : Reads AtLineStart (text_after Handle (escaped Handle page.pieces) (signs (flat_map pieces_of (page_calls document)))) (page_events document)
+    reads = rw (← all_steps (places [] document)) (calls_read (page_calls document) (are_calls (places [] document)) (escaped Handle page.pieces) true takes.at_line_start)
+
+-- A page with a title line takes a document.
+pub title_page_takes_document : (arguments : List (List ℕ)) → TakesDocument (title_page arguments)
+title_page_takes_document arguments = record { keeps_newlines = refl; at_line_start = at_line_start }
+  where
+    at_line_start : is_line_start (escaped Handle (control_pieces (codes "TH") arguments)) ≡ true
+    at_line_start = rw (control_written (codes "TH") arguments [] (two_letters 84 72 (omega arith) (omega arith) (omega arith) (omega arith))) (control_ends (codes "TH") arguments [])
+
+-- the title line is read as the title
+title_read : (arguments : List (List ℕ)) (steps : List Step) (t : List ℕ) → Reads AtLineStart t (events_of_steps steps) → Reads AtLineStart (escaped Handle (control_pieces (codes "TH") arguments) ++ t) (Control (codes "TH") (map word_of arguments) ∷ events_of_steps steps)
+title_read arguments steps t r = subst (λ line. Reads AtLineStart (line ++ t) (Control (codes "TH") (map word_of arguments) ∷ events_of_steps steps)) (sym (control_written (codes "TH") arguments [] named)) (control_read (codes "TH") arguments [] true refl named steps t r)
+  where
+    named : IsName (codes "TH")
+    named = two_letters 84 72 (omega arith) (omega arith) (omega arith) (omega arith)
+
+-- A page with a title line and a document is a manual page.
+pub titled_page_is_manual_page : (arguments : List (List ℕ)) (document : List Part) (text : List ℕ) → IsPageOf (title_page arguments) document text → IsManualPageOf (Control (codes "TH") (map word_of arguments)) document text
+titled_page_is_manual_page arguments document text p = record { body = escaped Handle (control_pieces (codes "TH") arguments) ++ p.body; joined = p.joined ∙ append_assoc preamble (escaped Handle (control_pieces (codes "TH") arguments)) p.body; reads = title_read arguments (page_steps document) p.body p.reads }
+
+-- What `render_roff` ensures of a page that holds the title line, said of the manual page.
+pub manual_page : {X E : Type 0} (bytes : X → List ℕ) (result : Result X E) (page : Script) (arguments : List (List ℕ)) (document : List Part) → page ≡ title_page arguments → (TakesDocument page → IfOk result (λ text. IsPageOf page document (bytes text))) → IfOk result (λ text. IsManualPageOf (Control (codes "TH") (map word_of arguments)) document (bytes text))
+manual_page bytes result page arguments document e rendered = IfOk-weaker result (λ text. IsPageOf (title_page arguments) document (bytes text)) (λ text. IsManualPageOf (Control (codes "TH") (map word_of arguments)) document (bytes text)) (λ text. titled_page_is_manual_page arguments document (bytes text)) ((rw e at rendered) (title_page_takes_document arguments))

@@ -1,0 +1,9 @@
+-- Lemmas about markdown pages.
+pub mod Cut
+pub mod Kept
+pub mod Mind
+pub mod Fences
+pub mod Breaks
+pub mod Lines
+pub mod Meets
+mod Examples

@@ -1,0 +1,472 @@
+-- The snippets that make up a markdown text, and what it keeps in mind between fragments.
+use Rattle.std.proofs.Common.{◌≡◌, ℕ, Bool, true, false, List, [], ◌∷◌, ◌++◌, map, refl, sym, ap, ◌∙◌, append_assoc, append-nil, nat_lt}
+use Rattle.std.specs.Prelude.{not, ◌&&◌, ◌==◌, flat_map, reverse, codes, if◌then◌else◌}
+use Rattle.bpaf_doc.specs.declared.buffer.Style.{Style}
+use Rattle.bpaf_doc.specs.declared.buffer.Style.TheVariants as styles
+use Rattle.bpaf_doc.specs.declared.buffer.Block.{Block}
+use Rattle.bpaf_doc.specs.declared.buffer.Block.TheVariants as blocks
+use Rattle.bpaf_doc.specs.Splitter.Chunks.{Raw, Paragraph, LineBreak, code_weight, fence_weight, is_ordinary}
+use Rattle.bpaf_doc.specs.Html.Fragments.{Fragment, TextStart, Shown, TextEnd, Hidden, Start, End}
+use Rattle.bpaf_doc.specs.Markdown.Page.{TextFence, Fence, Heading, SecondHeading, ThirdHeading, Dash, LongDash, Blank, Newline, mark_text, MarkdownSnippet, Put, Of, fragments_in, is_in_mono, escaped_character, fragment_text, snippet_text, flat_map_places_from, style_marks, is_header_start, is_item_start, is_mono_start, is_mono_end}
+use Rattle.bpaf_doc.specs.Markdown.Exact.{Marked, put, starts_line, starts_paragraph, with_new_line, with_blank_line, with_item, with_line, open_code, close_code, with_words, with_raw, closing_marks, own_after, is_term_end, marked_after, one_more}
+
+abbrev pub blanks : List MarkdownSnippet
+blanks = Put Blank ∷ Put Blank ∷ []
+
+abbrev pub new_line_snippets : List ℕ → List MarkdownSnippet
+new_line_snippets bytes = if starts_line bytes then [] else (Put Newline ∷ [])
+
+abbrev pub blank_line_snippets : List ℕ → List MarkdownSnippet
+blank_line_snippets bytes = if starts_paragraph bytes then [] else (Put Newline ∷ Put Newline ∷ [])
+
+-- the dash of an item that waits for it, or blanks
+abbrev pub item_snippets : Bool → Bool → List MarkdownSnippet
+item_snippets pending empty = if pending then (if empty then blanks else (Put Dash ∷ [])) else []
+
+abbrev pub open_snippets : Bool → List MarkdownSnippet
+open_snippets in_code = if in_code then [] else (Put Newline ∷ Put Newline ∷ Put Blank ∷ Put Blank ∷ Put TextFence ∷ Put Newline ∷ [])
+
+abbrev pub close_snippets : Bool → List MarkdownSnippet
+close_snippets in_code = if in_code then (Put Newline ∷ Put Blank ∷ Put Blank ∷ Put Fence ∷ Put Newline ∷ []) else []
+
+abbrev pub end_code_snippets : Bool → List MarkdownSnippet
+end_code_snippets in_code = if in_code then (Put Blank ∷ Put Blank ∷ Put Fence ∷ Put Newline ∷ []) else []
+
+abbrev pub line_snippets : Fragment → List MarkdownSnippet
+line_snippets f = Put Blank ∷ Put Blank ∷ Of f ∷ Put Newline ∷ []
+
+abbrev pub raw_snippets : Marked → Style → List ℕ → ℕ → List MarkdownSnippet
+raw_snippets p style bytes weight =
+    if weight == fence_weight then new_line_snippets p.bytes ++ line_snippets (Shown style (Raw bytes weight))
+    else (if weight == code_weight then open_snippets p.in_code ++ line_snippets (Shown style (Raw bytes weight))
+    else (close_snippets p.in_code ++ Of (Shown style (Raw bytes weight)) ∷ []))
+
+abbrev pub body_dash : Marked → List MarkdownSnippet
+body_dash p = if p.in_list then (if p.empty_item then (Put Blank ∷ []) else (Put LongDash ∷ [])) else []
+
+abbrev pub body_bytes : Marked → List ℕ
+body_bytes p = (if p.in_list then put p (if p.empty_item then codes " " else codes " &mdash; ") else p).bytes
+
+abbrev pub start_snippets : Marked → Block → List MarkdownSnippet
+start_snippets p blocks.Header = Of (Start blocks.Header) ∷ (blank_line_snippets p.bytes ++ Put (if p.headed then SecondHeading else Heading) ∷ [])
+start_snippets p blocks.Section3 = Of (Start blocks.Section3) ∷ Put ThirdHeading ∷ []
+start_snippets p blocks.Section4 = Of (Start blocks.Section4) ∷ new_line_snippets p.bytes
+start_snippets p blocks.ItemTerm = Of (Start blocks.ItemTerm) ∷ new_line_snippets p.bytes
+start_snippets p blocks.ItemBody = Of (Start blocks.ItemBody) ∷ (body_dash p ++ (new_line_snippets (body_bytes p) ++ blanks))
+start_snippets p blocks.Block = Of (Start blocks.Block) ∷ Put Newline ∷ []
+start_snippets p b = Of (Start b) ∷ []
+
+abbrev pub end_snippets : Marked → Block → List MarkdownSnippet
+end_snippets p blocks.Header = Of (End blocks.Header) ∷ Put Newline ∷ []
+end_snippets p blocks.Section2 = Of (End blocks.Section2) ∷ Put Newline ∷ []
+end_snippets p blocks.Section3 = Of (End blocks.Section3) ∷ Put Newline ∷ []
+end_snippets p blocks.Section4 = Of (End blocks.Section4) ∷ Put Newline ∷ []
+end_snippets p blocks.Block = Of (End blocks.Block) ∷ Put Newline ∷ []
+end_snippets p blocks.ItemBody = Of (End blocks.ItemBody) ∷ (if p.in_list then (Put Newline ∷ []) else [])
+end_snippets p blocks.DefinitionList = Of (End blocks.DefinitionList) ∷ Put Newline ∷ []
+end_snippets p b = Of (End b) ∷ []
+
+abbrev pub own_snippets : Marked → Fragment → List MarkdownSnippet
+own_snippets p (TextStart style) = Of (TextStart style) ∷ map Put (style_marks style)
+own_snippets p (Shown style (Raw bytes weight)) = raw_snippets p style bytes weight
+own_snippets p (Shown style Paragraph) = Of (Shown style Paragraph) ∷ Put Newline ∷ Put Newline ∷ (if p.in_list then blanks else [])
+own_snippets p (Shown style LineBreak) = Of (Shown style LineBreak) ∷ Put Newline ∷ []
+own_snippets p (TextEnd style) = end_code_snippets p.in_code ++ (map Put (reverse (style_marks style)) ++ Of (TextEnd style) ∷ [])
+own_snippets p Hidden = Of Hidden ∷ []
+own_snippets p (Start b) = start_snippets p b
+own_snippets p (End b) = end_snippets p b
+
+-- the snippets that a fragment adds
+abbrev pub snippets_of : Marked → Fragment → List MarkdownSnippet
+snippets_of p f = item_snippets p.pending (is_term_end f) ++ own_snippets (with_item p (is_term_end f)) f
+
+-- those of all of some, and the dash of a last item
+abbrev pub cut_from : Marked → List Fragment → List MarkdownSnippet
+cut_from p [] = item_snippets p.pending false
+cut_from p (f ∷ fs) = snippets_of p f ++ cut_from (marked_after p f) fs
+
+-- ---- their text
+
+-- the text of snippets that these fragments stand before
+abbrev pub spelled : List Fragment → List MarkdownSnippet → List ℕ
+spelled before [] = []
+spelled before (Put mark ∷ snippets) = mark_text mark ++ spelled before snippets
+spelled before (Of f ∷ snippets) = fragment_text before f ++ spelled (before ++ f ∷ []) snippets
+
+pub fragments-append : (xs ys : List MarkdownSnippet) → fragments_in (xs ++ ys) ≡ fragments_in xs ++ fragments_in ys
+fragments-append [] ys = refl
+fragments-append (Put mark ∷ xs) ys = fragments-append xs ys
+fragments-append (Of f ∷ xs) ys = ap (λ fs. f ∷ fs) (fragments-append xs ys)
+
+pub places-spelled : (before snippets : List MarkdownSnippet) → flat_map_places_from snippet_text before snippets ≡ spelled (fragments_in before) snippets
+places-spelled before [] = refl
+places-spelled before (Put mark ∷ snippets) =
+    ap (λ x. mark_text mark ++ x) (places-spelled (before ++ Put mark ∷ []) snippets
+    ∙ ap (λ fs. spelled fs snippets) (fragments-append before (Put mark ∷ []) ∙ append-nil (fragments_in before)))
+places-spelled before (Of f ∷ snippets) =
+    ap (λ x. fragment_text (fragments_in before) f ++ x) (places-spelled (before ++ Of f ∷ []) snippets
+    ∙ ap (λ fs. spelled fs snippets) (fragments-append before (Of f ∷ [])))
+
+pub spelled-append : (before : List Fragment) (xs ys : List MarkdownSnippet) → spelled before (xs ++ ys) ≡ spelled before xs ++ spelled (before ++ fragments_in xs) ys
+spelled-append before [] ys = ap (λ fs. spelled fs ys) (sym (append-nil before))
+spelled-append before (Put mark ∷ xs) ys = ap (λ x. mark_text mark ++ x) (spelled-append before xs ys) ∙ sym (append_assoc (mark_text mark) (spelled before xs) (spelled (before ++ fragments_in xs) ys))
+spelled-append before (Of f ∷ xs) ys =
+    ap (λ x. fragment_text before f ++ x) (spelled-append (before ++ f ∷ []) xs ys)
+    ∙ sym (append_assoc (fragment_text before f) (spelled (before ++ f ∷ []) xs) (spelled (before ++ f ∷ [] ++ fragments_in xs) ys))
+    ∙ ap (λ fs. (fragment_text before f ++ spelled (before ++ f ∷ []) xs) ++ spelled fs ys) (append_assoc before (f ∷ []) (fragments_in xs))
+
+-- ---- what is kept in mind
+
+pub record Flags : Type 0 where
+  pub headed : Bool
+  pub in_list : Bool
+  pub pending : Bool
+  pub empty_item : Bool
+  pub starts : ℕ
+  pub ends : ℕ
+
+abbrev pub flags : Marked → Flags
+flags p = record { headed = p.headed; in_list = p.in_list; pending = p.pending; empty_item = p.empty_item; starts = p.starts; ends = p.ends }
+
+abbrev pub item_flags : Flags → Bool → Flags
+item_flags s empty = record s { pending = false; empty_item = if s.pending then empty else s.empty_item }
+
+abbrev pub is_list_start : Fragment → Bool
+is_list_start (Start blocks.DefinitionList) = true
+is_list_start _ = false
+
+abbrev pub is_list_end : Fragment → Bool
+is_list_end (End blocks.DefinitionList) = true
+is_list_end _ = false
+
+abbrev pub own_flags : Flags → Fragment → Flags
+own_flags s f = record {
+  headed = if is_header_start f then true else s.headed;
+  in_list = if is_list_start f then true else (if is_list_end f then false else s.in_list);
+  pending = if is_item_start f then true else s.pending;
+  empty_item = s.empty_item;
+  starts = if is_mono_start f then one_more s.starts else s.starts;
+  ends = if is_mono_end f then one_more s.ends else s.ends;
+}
+
+abbrev pub flags_next : Flags → Fragment → Flags
+flags_next s f = own_flags (item_flags s (is_term_end f)) f
+
+pub item-flags : (p : Marked) (empty : Bool) → flags (with_item p empty) ≡ item_flags (flags p) empty
+item-flags p empty =
+    (elim (p.pending) as (λ b. p.pending ≡ b → flags (if b then record p { bytes = p.bytes ++ (if empty then codes "  " else codes "- "); pending = false; empty_item = empty } else p) ≡ record (flags p) { pending = false; empty_item = if b then empty else p.empty_item }) [
+      | true ↦ λ e. refl
+      | false ↦ λ e. ap (λ b. record (flags p) { pending = b }) e
+    ]) refl
+
+new_line-flags : (p : Marked) → flags (with_new_line p) ≡ flags p
+new_line-flags p = elim (starts_line p.bytes) as (λ b. flags (if b then p else put p (codes "\n")) ≡ flags p) [ true ↦ refl | false ↦ refl ]
+
+blank_line-flags : (p : Marked) → flags (with_blank_line p) ≡ flags p
+blank_line-flags p = elim (starts_paragraph p.bytes) as (λ b. flags (if b then p else put p (codes "\n\n")) ≡ flags p) [ true ↦ refl | false ↦ refl ]
+
+open_code-flags : (p : Marked) → flags (open_code p) ≡ flags p
+open_code-flags p = elim (p.in_code) as (λ b. flags (if b then p else record p { bytes = p.bytes ++ codes "\n\n  ```text\n"; in_code = true }) ≡ flags p) [ true ↦ refl | false ↦ refl ]
+
+close_code-flags : (p : Marked) (fence : List ℕ) → flags (close_code p fence) ≡ flags p
+close_code-flags p fence = elim (p.in_code) as (λ b. flags (if b then record p { bytes = p.bytes ++ fence; in_code = false } else p) ≡ flags p) [ true ↦ refl | false ↦ refl ]
+
+raw-flags : (p : Marked) (bytes : List ℕ) (weight : ℕ) → flags (with_raw p bytes weight) ≡ flags p
+raw-flags p bytes weight =
+    elim (weight == fence_weight) as (λ t. flags (if t then with_line (with_new_line p) bytes else (if weight == code_weight then with_line (open_code p) bytes else with_words p bytes)) ≡ flags p) [
+      | true ↦ new_line-flags p
+      | false ↦ elim (weight == code_weight) as (λ t. flags (if t then with_line (open_code p) bytes else with_words p bytes) ≡ flags p) [
+        | true ↦ open_code-flags p
+        | false ↦ close_code-flags p (codes "\n  ```\n")
+      ]
+    ]
+
+start-flags : (p : Marked) (b : Block) → flags (own_after p (Start b)) ≡ own_flags (flags p) (Start b)
+start-flags p blocks.Header = ap (λ (s : Flags). record s { headed = true }) (blank_line-flags p)
+start-flags p blocks.Section4 = ap (λ (s : Flags). record s { pending = true }) (new_line-flags p)
+start-flags p blocks.ItemTerm = ap (λ (s : Flags). record s { pending = true }) (new_line-flags p)
+start-flags p blocks.ItemBody =
+    elim (p.in_list) as (λ b. flags (with_new_line (if b then put p (if p.empty_item then codes " " else codes " &mdash; ") else p)) ≡ flags p) [
+      | true ↦ new_line-flags (put p (if p.empty_item then codes " " else codes " &mdash; "))
+      | false ↦ new_line-flags p
+    ]
+start-flags p _ = refl
+
+own-flags : (p : Marked) (f : Fragment) → flags (own_after p f) ≡ own_flags (flags p) f
+own-flags p (TextStart style) = refl
+own-flags p (Shown style (Raw bytes weight)) = raw-flags p bytes weight
+own-flags p (Shown style Paragraph) = refl
+own-flags p (Shown style LineBreak) = refl
+own-flags p (TextEnd style) = close_code-flags p (codes "  ```\n")
+own-flags p Hidden = refl
+own-flags p (Start b) = start-flags p b
+own-flags p (End blocks.ItemBody) = refl
+own-flags p (End _) = refl
+
+pub step-flags : (p : Marked) (f : Fragment) → flags (marked_after p f) ≡ flags_next (flags p) f
+step-flags p f = own-flags (with_item p (is_term_end f)) f ∙ ap (λ s. own_flags s f) (item-flags p (is_term_end f))
+
+-- whether a code block is open after a fragment
+abbrev pub code_next : Bool → Fragment → Bool
+code_next in_code (Shown style (Raw bytes weight)) = if weight == fence_weight then in_code else (if weight == code_weight then true else false)
+code_next in_code (TextEnd style) = false
+code_next in_code f = in_code
+
+pub item-code : (p : Marked) (empty : Bool) → (with_item p empty).in_code ≡ p.in_code
+item-code p empty = elim (p.pending) as (λ b. (if b then record p { bytes = p.bytes ++ (if empty then codes "  " else codes "- "); pending = false; empty_item = empty } else p).in_code ≡ p.in_code) [ true ↦ refl | false ↦ refl ]
+
+new_line-code : (p : Marked) → (with_new_line p).in_code ≡ p.in_code
+new_line-code p = elim (starts_line p.bytes) as (λ b. (if b then p else put p (codes "\n")).in_code ≡ p.in_code) [ true ↦ refl | false ↦ refl ]
+
+pub close-code : (p : Marked) (fence : List ℕ) → (close_code p fence).in_code ≡ false
+close-code p fence = (elim (p.in_code) as (λ b. p.in_code ≡ b → (if b then record p { bytes = p.bytes ++ fence; in_code = false } else p).in_code ≡ false) [ true ↦ λ e. refl | false ↦ λ e. e ]) refl
+
+open-code : (p : Marked) → (open_code p).in_code ≡ true
+open-code p = (elim (p.in_code) as (λ b. p.in_code ≡ b → (if b then p else record p { bytes = p.bytes ++ codes "\n\n  ```text\n"; in_code = true }).in_code ≡ true) [ true ↦ λ e. e | false ↦ λ e. refl ]) refl
+
+own-code : (p : Marked) (f : Fragment) → (own_after p f).in_code ≡ code_next p.in_code f
+own-code p (TextStart style) = refl
+own-code p (Shown style (Raw bytes weight)) =
+    elim (weight == fence_weight) as (λ t. (if t then with_line (with_new_line p) bytes else (if weight == code_weight then with_line (open_code p) bytes else with_words p bytes)).in_code ≡ (if t then p.in_code else (if weight == code_weight then true else false))) [
+      | true ↦ new_line-code p
+      | false ↦ elim (weight == code_weight) as (λ t. (if t then with_line (open_code p) bytes else with_words p bytes).in_code ≡ (if t then true else false)) [
+        | true ↦ open-code p
+        | false ↦ close-code p (codes "\n  ```\n")
+      ]
+    ]
+own-code p (Shown style Paragraph) = refl
+own-code p (Shown style LineBreak) = refl
+own-code p (TextEnd style) = close-code p (codes "  ```\n")
+own-code p Hidden = refl
+own-code p (Start blocks.Header) = elim (starts_paragraph p.bytes) as (λ b. (if b then p else put p (codes "\n\n")).in_code ≡ p.in_code) [ true ↦ refl | false ↦ refl ]
+own-code p (Start blocks.Section4) = new_line-code p
+own-code p (Start blocks.ItemTerm) = new_line-code p
+own-code p (Start blocks.ItemBody) =
+    elim (p.in_list) as (λ b. (with_new_line (if b then put p (if p.empty_item then codes " " else codes " &mdash; ") else p)).in_code ≡ p.in_code) [
+      | true ↦ new_line-code (put p (if p.empty_item then codes " " else codes " &mdash; "))
+      | false ↦ new_line-code p
+    ]
+own-code p (Start _) = refl
+own-code p (End blocks.ItemBody) = refl
+own-code p (End _) = refl
+
+pub step-code : (p : Marked) (f : Fragment) → (marked_after p f).in_code ≡ code_next p.in_code f
+step-code p f = own-code (with_item p (is_term_end f)) f ∙ ap (λ c. code_next c f) (item-code p (is_term_end f))
+
+-- ---- its bytes
+
+-- inside Mono, by the fragments before and by what is kept in mind
+abbrev pub SameMono : List Fragment → Marked → Type 0
+SameMono before p = is_in_mono before ≡ nat_lt p.ends p.starts
+
+and-false : (b : Bool) → (b && false) ≡ false
+and-false true = refl
+and-false false = refl
+
+and-true : (b : Bool) → (b && true) ≡ b
+and-true true = refl
+and-true false = refl
+
+whole_text : (before : List Fragment) (style : Style) (bytes : List ℕ) (weight : ℕ) → is_ordinary (Raw bytes weight) ≡ false → fragment_text before (Shown style (Raw bytes weight)) ≡ bytes
+whole_text before style bytes weight e =
+    ap (λ o. if (is_in_mono before && o) then flat_map escaped_character bytes else bytes) e ∙ ap (λ t. if t then flat_map escaped_character bytes else bytes) (and-false (is_in_mono before))
+
+words_text : (before : List Fragment) (style : Style) (bytes : List ℕ) (weight : ℕ) → is_ordinary (Raw bytes weight) ≡ true
+    → fragment_text before (Shown style (Raw bytes weight)) ≡ (if is_in_mono before then flat_map escaped_character bytes else bytes)
+words_text before style bytes weight e =
+    ap (λ o. if (is_in_mono before && o) then flat_map escaped_character bytes else bytes) e ∙ ap (λ t. if t then flat_map escaped_character bytes else bytes) (and-true (is_in_mono before))
+
+pub fence_is_whole : (bytes : List ℕ) (weight : ℕ) → (weight == fence_weight) ≡ true → is_ordinary (Raw bytes weight) ≡ false
+fence_is_whole bytes weight e = ap (λ t. not (weight == code_weight) && not t) e ∙ and-false (not (weight == code_weight))
+
+pub code_is_whole : (bytes : List ℕ) (weight : ℕ) → (weight == code_weight) ≡ true → is_ordinary (Raw bytes weight) ≡ false
+code_is_whole bytes weight e = ap (λ t. not t && not (weight == fence_weight)) e
+
+pub others_are_ordinary : (bytes : List ℕ) (weight : ℕ) → (weight == fence_weight) ≡ false → (weight == code_weight) ≡ false → is_ordinary (Raw bytes weight) ≡ true
+others_are_ordinary bytes weight e h = ap (λ t. not t && not (weight == fence_weight)) h ∙ ap not e
+
+pub new_line-spelled : (before : List Fragment) (p : Marked) → (with_new_line p).bytes ≡ p.bytes ++ spelled before (new_line_snippets p.bytes)
+new_line-spelled before p = elim (starts_line p.bytes) as (λ b. (if b then p else put p (codes "\n")).bytes ≡ p.bytes ++ spelled before (if b then [] else (Put Newline ∷ []))) [
+  | true ↦ sym (append-nil p.bytes)
+  | false ↦ refl
+]
+
+-- marks before a fragment are spelled alike wherever they stand
+line-spelled : (before : List Fragment) (f : Fragment) (bytes text : List ℕ) → fragment_text before f ≡ text → ((bytes ++ codes "  ") ++ text) ++ codes "\n" ≡ bytes ++ spelled before (line_snippets f)
+line-spelled before f bytes text e =
+    append_assoc (bytes ++ codes "  ") text (codes "\n") ∙ append_assoc bytes (codes "  ") (text ++ codes "\n") ∙ ap (λ x. bytes ++ (codes "  " ++ (x ++ codes "\n"))) (sym e)
+
+pub marks_then : (before : List Fragment) (marks rest : List MarkdownSnippet) → fragments_in marks ≡ [] → spelled before (marks ++ rest) ≡ spelled before marks ++ spelled before rest
+marks_then before marks rest e = spelled-append before marks rest ∙ ap (λ fs. spelled before marks ++ spelled (before ++ fs) rest) e ∙ ap (λ fs. spelled before marks ++ spelled fs rest) (append-nil before)
+
+pub new_line_marks : (bytes : List ℕ) → fragments_in (new_line_snippets bytes) ≡ []
+new_line_marks bytes = elim (starts_line bytes) as (λ b. fragments_in (if b then [] else (Put Newline ∷ [])) ≡ []) [ true ↦ refl | false ↦ refl ]
+
+pub open_marks : (in_code : Bool) → fragments_in (open_snippets in_code) ≡ []
+open_marks true = refl
+open_marks false = refl
+
+pub close_marks : (in_code : Bool) → fragments_in (close_snippets in_code) ≡ []
+close_marks true = refl
+close_marks false = refl
+
+end_code_marks : (in_code : Bool) → fragments_in (end_code_snippets in_code) ≡ []
+end_code_marks true = refl
+end_code_marks false = refl
+
+pub open-spelled : (before : List Fragment) (p : Marked) → (open_code p).bytes ≡ p.bytes ++ spelled before (open_snippets p.in_code)
+open-spelled before p = elim (p.in_code) as (λ b. (if b then p else record p { bytes = p.bytes ++ codes "\n\n  ```text\n"; in_code = true }).bytes ≡ p.bytes ++ spelled before (open_snippets b)) [
+  | true ↦ sym (append-nil p.bytes)
+  | false ↦ refl
+]
+
+close-spelled : (before : List Fragment) (p : Marked) → (close_code p (codes "\n  ```\n")).bytes ≡ p.bytes ++ spelled before (close_snippets p.in_code)
+close-spelled before p = elim (p.in_code) as (λ b. (if b then record p { bytes = p.bytes ++ codes "\n  ```\n"; in_code = false } else p).bytes ≡ p.bytes ++ spelled before (close_snippets b)) [
+  | true ↦ refl
+  | false ↦ sym (append-nil p.bytes)
+]
+
+end_code-spelled : (before : List Fragment) (p : Marked) → (close_code p (codes "  ```\n")).bytes ≡ p.bytes ++ spelled before (end_code_snippets p.in_code)
+end_code-spelled before p = elim (p.in_code) as (λ b. (if b then record p { bytes = p.bytes ++ codes "  ```\n"; in_code = false } else p).bytes ≡ p.bytes ++ spelled before (end_code_snippets b)) [
+  | true ↦ refl
+  | false ↦ sym (append-nil p.bytes)
+]
+
+raw-spelled : (before : List Fragment) (p : Marked) (style : Style) (bytes : List ℕ) (weight : ℕ) → SameMono before p → (with_raw p bytes weight).bytes ≡ p.bytes ++ spelled before (raw_snippets p style bytes weight)
+raw-spelled before p style bytes weight mono =
+    let f : Fragment = Shown style (Raw bytes weight) in
+    (elim (weight == fence_weight) as (λ t. (weight == fence_weight) ≡ t
+    → (if t then with_line (with_new_line p) bytes else (if weight == code_weight then with_line (open_code p) bytes else with_words p bytes)).bytes
+    ≡ p.bytes ++ spelled before (if t then new_line_snippets p.bytes ++ line_snippets f else (if weight == code_weight then open_snippets p.in_code ++ line_snippets f else (close_snippets p.in_code ++ Of f ∷ [])))) [
+      | true ↦ λ e.
+          line-spelled before f (with_new_line p).bytes bytes (whole_text before style bytes weight (fence_is_whole bytes weight e))
+          ∙ ap (λ x. x ++ spelled before (line_snippets f)) (new_line-spelled before p)
+          ∙ append_assoc p.bytes (spelled before (new_line_snippets p.bytes)) (spelled before (line_snippets f))
+          ∙ ap (λ x. p.bytes ++ x) (sym (marks_then before (new_line_snippets p.bytes) (line_snippets f) (new_line_marks p.bytes)))
+      | false ↦ λ e. (elim (weight == code_weight) as (λ t. (weight == code_weight) ≡ t
+          → (if t then with_line (open_code p) bytes else with_words p bytes).bytes
+          ≡ p.bytes ++ spelled before (if t then open_snippets p.in_code ++ line_snippets f else (close_snippets p.in_code ++ Of f ∷ []))) [
+            | true ↦ λ h.
+                line-spelled before f (open_code p).bytes bytes (whole_text before style bytes weight (code_is_whole bytes weight h))
+                ∙ ap (λ x. x ++ spelled before (line_snippets f)) (open-spelled before p)
+                ∙ append_assoc p.bytes (spelled before (open_snippets p.in_code)) (spelled before (line_snippets f))
+                ∙ ap (λ x. p.bytes ++ x) (sym (marks_then before (open_snippets p.in_code) (line_snippets f) (open_marks p.in_code)))
+            | false ↦ λ h.
+                let q : Marked = close_code p (codes "\n  ```\n") in
+                ap (λ t. q.bytes ++ (if t then flat_map escaped_character bytes else bytes)) (sym mono)
+                ∙ ap (λ x. q.bytes ++ x) (sym (words_text before style bytes weight (others_are_ordinary bytes weight e h)))
+                ∙ ap (λ x. x ++ fragment_text before f) (close-spelled before p)
+                ∙ append_assoc p.bytes (spelled before (close_snippets p.in_code)) (fragment_text before f)
+                ∙ ap (λ x. p.bytes ++ (spelled before (close_snippets p.in_code) ++ x)) (sym (append-nil (fragment_text before f)))
+                ∙ ap (λ x. p.bytes ++ x) (sym (marks_then before (close_snippets p.in_code) (Of f ∷ []) (close_marks p.in_code)))
+          ]) refl
+    ]) refl
+
+blank_line_marks : (bytes : List ℕ) → fragments_in (blank_line_snippets bytes) ≡ []
+blank_line_marks bytes = elim (starts_paragraph bytes) as (λ b. fragments_in (if b then [] else (Put Newline ∷ Put Newline ∷ [])) ≡ []) [ true ↦ refl | false ↦ refl ]
+
+blank_line-spelled : (before : List Fragment) (p : Marked) → (with_blank_line p).bytes ≡ p.bytes ++ spelled before (blank_line_snippets p.bytes)
+blank_line-spelled before p = elim (starts_paragraph p.bytes) as (λ b. (if b then p else put p (codes "\n\n")).bytes ≡ p.bytes ++ spelled before (if b then [] else (Put Newline ∷ Put Newline ∷ []))) [
+  | true ↦ sym (append-nil p.bytes)
+  | false ↦ refl
+]
+
+body_dash_marks : (p : Marked) → fragments_in (body_dash p) ≡ []
+body_dash_marks p = elim (p.in_list) as (λ l. fragments_in (if l then (if p.empty_item then (Put Blank ∷ []) else (Put LongDash ∷ [])) else []) ≡ []) [
+  | true ↦ elim (p.empty_item) as (λ t. fragments_in (if t then (Put Blank ∷ []) else (Put LongDash ∷ [])) ≡ []) [ true ↦ refl | false ↦ refl ]
+  | false ↦ refl
+]
+
+body_dash-spelled : (before : List Fragment) (p : Marked) → body_bytes p ≡ p.bytes ++ spelled before (body_dash p)
+body_dash-spelled before p =
+    elim (p.in_list) as (λ l. (if l then put p (if p.empty_item then codes " " else codes " &mdash; ") else p).bytes ≡ p.bytes ++ spelled before (if l then (if p.empty_item then (Put Blank ∷ []) else (Put LongDash ∷ [])) else [])) [
+      | true ↦ elim (p.empty_item) as (λ t. p.bytes ++ (if t then codes " " else codes " &mdash; ") ≡ p.bytes ++ spelled before (if t then (Put Blank ∷ []) else (Put LongDash ∷ []))) [ true ↦ refl | false ↦ refl ]
+      | false ↦ sym (append-nil p.bytes)
+    ]
+
+start-spelled : (before : List Fragment) (p : Marked) (b : Block) → (own_after p (Start b)).bytes ≡ p.bytes ++ spelled before (start_snippets p b)
+start-spelled before p blocks.Header =
+    let next : List Fragment = before ++ Start blocks.Header ∷ [] in
+    let line : List MarkdownSnippet = blank_line_snippets p.bytes in
+    let mark : List MarkdownSnippet = Put (if p.headed then SecondHeading else Heading) ∷ [] in
+    ap (λ x. x ++ (if p.headed then codes "## " else codes "# ")) (blank_line-spelled next p)
+    ∙ append_assoc p.bytes (spelled next line) (if p.headed then codes "## " else codes "# ")
+    ∙ ap (λ x. p.bytes ++ (spelled next line ++ x)) (heading next p.headed)
+    ∙ ap (λ x. p.bytes ++ x) (sym (marks_then next line mark (blank_line_marks p.bytes)))
+  where
+    heading : (next : List Fragment) (headed : Bool) → (if headed then codes "## " else codes "# ") ≡ spelled next (Put (if headed then SecondHeading else Heading) ∷ [])
+    heading next true = refl
+    heading next false = refl
+start-spelled before p blocks.Section3 = refl
+start-spelled before p blocks.Section4 = new_line-spelled (before ++ Start blocks.Section4 ∷ []) p
+start-spelled before p blocks.ItemTerm = new_line-spelled (before ++ Start blocks.ItemTerm ∷ []) p
+start-spelled before p blocks.ItemBody =
+    let next : List Fragment = before ++ Start blocks.ItemBody ∷ [] in
+    let r : Marked = if p.in_list then put p (if p.empty_item then codes " " else codes " &mdash; ") else p in
+    let line : List MarkdownSnippet = new_line_snippets (body_bytes p) in
+    ap (λ x. x ++ codes "  ") (new_line-spelled next r)
+    ∙ append_assoc r.bytes (spelled next line) (codes "  ")
+    ∙ ap (λ x. x ++ (spelled next line ++ codes "  ")) (body_dash-spelled next p)
+    ∙ append_assoc p.bytes (spelled next (body_dash p)) (spelled next line ++ codes "  ")
+    ∙ ap (λ x. p.bytes ++ (spelled next (body_dash p) ++ x)) (sym (marks_then next line blanks (new_line_marks (body_bytes p))))
+    ∙ ap (λ x. p.bytes ++ x) (sym (marks_then next (body_dash p) (line ++ blanks) (body_dash_marks p)))
+start-spelled before p blocks.Block = refl
+start-spelled before p _ = sym (append-nil p.bytes)
+
+end-spelled : (before : List Fragment) (p : Marked) (b : Block) → (own_after p (End b)).bytes ≡ p.bytes ++ spelled before (end_snippets p b)
+end-spelled before p blocks.ItemBody = elim (p.in_list) as (λ l. p.bytes ++ (if l then codes "\n" else []) ≡ p.bytes ++ spelled before (Of (End blocks.ItemBody) ∷ (if l then (Put Newline ∷ []) else []))) [ true ↦ refl | false ↦ refl ]
+end-spelled before p blocks.ItemTerm = sym (append-nil p.bytes)
+end-spelled before p blocks.InlineBlock = sym (append-nil p.bytes)
+end-spelled before p blocks.TermRef = sym (append-nil p.bytes)
+end-spelled before p blocks.Meta = sym (append-nil p.bytes)
+end-spelled before p blocks.Mono = sym (append-nil p.bytes)
+end-spelled before p _ = refl
+
+text_end-spelled : (before : List Fragment) (p : Marked) (style : Style) → (own_after p (TextEnd style)).bytes ≡ p.bytes ++ spelled before (own_snippets p (TextEnd style))
+text_end-spelled before p style =
+    let rest : List MarkdownSnippet = map Put (reverse (style_marks style)) ++ Of (TextEnd style) ∷ [] in
+    ap (λ x. x ++ closing_marks style) (end_code-spelled before p)
+    ∙ append_assoc p.bytes (spelled before (end_code_snippets p.in_code)) (closing_marks style)
+    ∙ ap (λ x. p.bytes ++ (spelled before (end_code_snippets p.in_code) ++ x)) (closing style)
+    ∙ ap (λ x. p.bytes ++ x) (sym (marks_then before (end_code_snippets p.in_code) rest (end_code_marks p.in_code)))
+  where
+    closing : (style : Style) → closing_marks style ≡ spelled before (map Put (reverse (style_marks style)) ++ Of (TextEnd style) ∷ [])
+    closing styles.Text = refl
+    closing styles.Emphasis = refl
+    closing styles.Literal = refl
+    closing styles.Metavar = refl
+    closing styles.Invalid = refl
+
+own-spelled : (before : List Fragment) (p : Marked) (f : Fragment) → SameMono before p → (own_after p f).bytes ≡ p.bytes ++ spelled before (own_snippets p f)
+own-spelled before p (TextStart styles.Text) mono = refl
+own-spelled before p (TextStart styles.Emphasis) mono = refl
+own-spelled before p (TextStart styles.Literal) mono = refl
+own-spelled before p (TextStart styles.Metavar) mono = refl
+own-spelled before p (TextStart styles.Invalid) mono = refl
+own-spelled before p (Shown style (Raw bytes weight)) mono = raw-spelled before p style bytes weight mono
+own-spelled before p (Shown style Paragraph) mono = elim (p.in_list) as (λ l. p.bytes ++ (if l then codes "\n\n  " else codes "\n\n") ≡ p.bytes ++ spelled before (Of (Shown style Paragraph) ∷ Put Newline ∷ Put Newline ∷ (if l then blanks else []))) [ true ↦ refl | false ↦ refl ]
+own-spelled before p (Shown style LineBreak) mono = refl
+own-spelled before p (TextEnd style) mono = text_end-spelled before p style
+own-spelled before p Hidden mono = sym (append-nil p.bytes)
+own-spelled before p (Start b) mono = start-spelled before p b
+own-spelled before p (End b) mono = end-spelled before p b
+
+pub item-spelled : (before : List Fragment) (p : Marked) (empty : Bool) → (with_item p empty).bytes ≡ p.bytes ++ spelled before (item_snippets p.pending empty)
+item-spelled before p empty = elim (p.pending) as (λ b. (if b then record p { bytes = p.bytes ++ (if empty then codes "  " else codes "- "); pending = false; empty_item = empty } else p).bytes ≡ p.bytes ++ spelled before (item_snippets b empty)) [
+  | true ↦ elim empty as (λ t. p.bytes ++ (if t then codes "  " else codes "- ") ≡ p.bytes ++ spelled before (item_snippets true t)) [ true ↦ refl | false ↦ refl ]
+  | false ↦ sym (append-nil p.bytes)
+]
+
+pub item_marks : (pending empty : Bool) → fragments_in (item_snippets pending empty) ≡ []
+item_marks true true = refl
+item_marks true false = refl
+item_marks false empty = refl
+
+pub step-spelled : (before : List Fragment) (p : Marked) (f : Fragment) → SameMono before p → (marked_after p f).bytes ≡ p.bytes ++ spelled before (snippets_of p f)
+step-spelled before p f mono =
+    let q : Marked = with_item p (is_term_end f) in
+    let first : List MarkdownSnippet = item_snippets p.pending (is_term_end f) in
+    own-spelled before q f (mono ∙ sym (ap (λ s. nat_lt s.ends s.starts) (item-flags p (is_term_end f))))
+    ∙ ap (λ x. x ++ spelled before (own_snippets q f)) (item-spelled before p (is_term_end f))
+    ∙ append_assoc p.bytes (spelled before first) (spelled before (own_snippets q f))
+    ∙ ap (λ x. p.bytes ++ x) (sym (marks_then before first (own_snippets q f) (item_marks p.pending (is_term_end f))))

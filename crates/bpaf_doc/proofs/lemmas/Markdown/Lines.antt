@@ -1,0 +1,246 @@
+-- A whole line of a markdown text stands alone on its line.
+use Rattle.std.proofs.Common.{◌≡◌, ℕ, ◌+◌, ◌-◌, Bool, true, false, cond, List, [], ◌∷◌, ◌++◌, length, take, drop, refl, sym, ap, ◌∙◌, subst, arith, append_assoc, append-nil, length-append}
+use Rattle.std.specs.Prelude.{not, ◌&&◌, ◌||◌, ◌==◌, if◌then◌else◌, IsTrue, codes, nat_eq}
+use Rattle.std.specs.List.{list_all, after_last, suffix_len, prefix_len}
+use lib.Pointwise.{pointwise}
+use Rattle.std.proofs.lemmas.List.{reverse-append, drop-append-le, drop_all, take-append-drop}
+use Rattle.std.proofs.lemmas.List.Sums.{AllPass-from_list_all, list_all-from_AllPass}
+use Rattle.std.proofs.lemmas.List.Folds.{list_all-append}
+use Rattle.std.proofs.lemmas.Bool.{false≢true, and_parts, eqb-true}
+use Rattle.bpaf_doc.specs.declared.buffer.Style.{Style}
+use Rattle.bpaf_doc.specs.Splitter.Chunks.{Chunk, Raw, Paragraph, LineBreak, code_weight, fence_weight, is_whole_line}
+use Rattle.bpaf_doc.specs.Html.Fragments.{Fragment, TextStart, Shown, TextEnd, Hidden, Start, End, shows}
+use Rattle.bpaf_doc.specs.Markdown.Page.{mark_text, MarkdownSnippet, Put, Of, fragments_in, fragment_text, EndsInBlankLine, is_item_start}
+use Rattle.bpaf_doc.specs.Markdown.Exact.{Marked, put, starts_line, with_new_line, open_code, with_line, with_words, with_raw, with_chunk, marked_after}
+use Rattle.bpaf_doc.proofs.lemmas.Markdown.Cut.{spelled, own_snippets, snippets_of, cut_from, item_snippets, open_snippets, close_snippets, line_snippets, new_line_snippets, flags, step-flags, step-code, item_marks, step-spelled, new_line-spelled, open-spelled, new_line_marks, open_marks, close-code}
+use Rattle.bpaf_doc.proofs.lemmas.Markdown.Kept.{step-fragments}
+use Rattle.bpaf_doc.proofs.lemmas.Markdown.Breaks.{first_or, without_first}
+use Rattle.bpaf_doc.proofs.lemmas.Markdown.Mind.{Agrees, Room, agrees_after, rooms_next, same_mono}
+
+-- ---- texts that end in a line of blanks
+
+suffix-push : (q : ℕ → Bool) (xs : List ℕ) (x : ℕ) → suffix_len q (xs ++ x ∷ []) ≡ cond (q x) (1 + suffix_len q xs) 0
+suffix-push q xs x = ap (λ ys. prefix_len q ys) (reverse-append xs (x ∷ []))
+
+abbrev last_line : List ℕ → List ℕ
+last_line text = after_last (λ c. c == 10) text
+
+last_line-newline : (text : List ℕ) → last_line (text ++ codes "\n") ≡ []
+last_line-newline text =
+    let none : suffix_len (λ c. not (c == 10)) (text ++ 10 ∷ []) ≡ 0 = suffix-push (λ c. not (c == 10)) text 10 in
+    drop_all (length (text ++ 10 ∷ []) - suffix_len (λ c. not (c == 10)) (text ++ 10 ∷ [])) (text ++ 10 ∷ []) (omega arith)
+
+last_line-blank : (text : List ℕ) → last_line (text ++ 32 ∷ []) ≡ last_line text ++ 32 ∷ []
+last_line-blank text =
+    let more : suffix_len (λ c. not (c == 10)) (text ++ 32 ∷ []) ≡ 1 + suffix_len (λ c. not (c == 10)) text = suffix-push (λ c. not (c == 10)) text 32 in
+    let same : length (text ++ 32 ∷ []) - suffix_len (λ c. not (c == 10)) (text ++ 32 ∷ []) ≡ length text - suffix_len (λ c. not (c == 10)) text = omega (arith, length-append text (32 ∷ [])) in
+    ap (λ n. drop n (text ++ 32 ∷ [])) same ∙ drop-append-le (length text - suffix_len (λ c. not (c == 10)) text) text (32 ∷ []) (omega arith)
+
+blank_newline : (text : List ℕ) → EndsInBlankLine (text ++ codes "\n")
+blank_newline text = AllPass-from_list_all (λ c. c == 32) (last_line (text ++ codes "\n")) (ap (list_all (λ c. c == 32)) (last_line-newline text))
+
+one_blank : (text : List ℕ) → EndsInBlankLine text → EndsInBlankLine (text ++ 32 ∷ [])
+one_blank text h =
+    AllPass-from_list_all (λ c. c == 32) (last_line (text ++ 32 ∷ []))
+    (ap (list_all (λ c. c == 32)) (last_line-blank text) ∙ list_all-append (λ c. c == 32) (last_line text) (32 ∷ []) ∙ ap (λ b. b && true) (list_all-from_AllPass (λ c. c == 32) (last_line text) h))
+
+two_blanks : (text : List ℕ) → EndsInBlankLine text → EndsInBlankLine (text ++ codes "  ")
+two_blanks text h = subst EndsInBlankLine (append_assoc text (32 ∷ []) (32 ∷ [])) (one_blank (text ++ 32 ∷ []) (one_blank text h))
+
+nothing_blank : EndsInBlankLine []
+nothing_blank = AllPass-from_list_all (λ c. c == 32) [] refl
+
+one_newline : (d : List ℕ) → pointwise nat_eq (10 ∷ []) d ≡ true → d ≡ 10 ∷ []
+one_newline [] h = absurd (false≢true h)
+one_newline (x ∷ []) h = ap (λ n. n ∷ []) (sym (eqb-true 10 x (and_parts (nat_eq 10 x) true h).0))
+one_newline (x ∷ y ∷ d) h = absurd (false≢true (and_parts (nat_eq 10 x) false h).1)
+
+line_is_blank : (bytes : List ℕ) → starts_line bytes ≡ true → EndsInBlankLine bytes
+line_is_blank [] h = nothing_blank
+line_is_blank (b ∷ bs) h =
+    let n : ℕ = length (b ∷ bs) - 1 in
+    let last : drop n (b ∷ bs) ≡ 10 ∷ [] = one_newline (drop n (b ∷ bs)) h in
+    subst EndsInBlankLine (ap (λ x. take n (b ∷ bs) ++ x) (sym last) ∙ take-append-drop n (b ∷ bs)) (blank_newline (take n (b ∷ bs)))
+
+new_line_blank : (p : Marked) → EndsInBlankLine (with_new_line p).bytes
+new_line_blank p = (elim (starts_line p.bytes) as (λ b. starts_line p.bytes ≡ b → EndsInBlankLine (if b then p else put p (codes "\n")).bytes) [
+  | true ↦ λ e. line_is_blank p.bytes e
+  | false ↦ λ e. blank_newline p.bytes
+]) refl
+
+open_blank : (p : Marked) → (p.in_code ≡ true → EndsInBlankLine p.bytes) → EndsInBlankLine (open_code p).bytes
+open_blank p h = (elim (p.in_code) as (λ b. p.in_code ≡ b → EndsInBlankLine (if b then p else record p { bytes = p.bytes ++ codes "\n\n  ```text\n"; in_code = true }).bytes) [
+  | true ↦ λ e. h e
+  | false ↦ λ e. subst EndsInBlankLine (append_assoc p.bytes (codes "\n\n  ```text") (codes "\n")) (blank_newline (p.bytes ++ codes "\n\n  ```text"))
+]) refl
+
+-- ---- each whole line comes after such a text
+
+abbrev LinesStand : List Fragment → List ℕ → List MarkdownSnippet → Type 0
+LinesStand before text [] = Unit {0}
+LinesStand before text (Put mark ∷ ss) = LinesStand before (text ++ mark_text mark) ss
+LinesStand before text (Of f ∷ ss) = (shows is_whole_line f ≡ true → EndsInBlankLine text) × LinesStand (before ++ f ∷ []) (text ++ fragment_text before f) ss
+
+lines_both : (before : List Fragment) (text : List ℕ) (xs ys : List MarkdownSnippet) → LinesStand before text xs → LinesStand (before ++ fragments_in xs) (text ++ spelled before xs) ys → LinesStand before text (xs ++ ys)
+lines_both before text [] ys h k = subst (λ fs. LinesStand fs text ys) (append-nil before) (subst (λ t. LinesStand (before ++ []) t ys) (append-nil text) k)
+lines_both before text (Put mark ∷ xs) ys h k =
+    lines_both before (text ++ mark_text mark) xs ys h (subst (λ t. LinesStand (before ++ fragments_in xs) t ys) (sym (append_assoc text (mark_text mark) (spelled before xs))) k)
+lines_both before text (Of f ∷ xs) ys h k = (
+  h.0,
+  lines_both (before ++ f ∷ []) (text ++ fragment_text before f) xs ys h.1
+      (subst (λ fs. LinesStand fs ((text ++ fragment_text before f) ++ spelled (before ++ f ∷ []) xs) ys) (sym (append_assoc before (f ∷ []) (fragments_in xs)))
+      (subst (λ t. LinesStand (before ++ f ∷ fragments_in xs) t ys) (sym (append_assoc text (fragment_text before f) (spelled (before ++ f ∷ []) xs))) k)),
+)
+
+lines_at : (before : List Fragment) (text : List ℕ) (xs after : List MarkdownSnippet) (a : Fragment) → LinesStand before text (xs ++ Of a ∷ after) → shows is_whole_line a ≡ true → EndsInBlankLine (text ++ spelled before xs)
+lines_at before text [] after a h whole = subst EndsInBlankLine (sym (append-nil text)) (h.0 whole)
+lines_at before text (Put mark ∷ xs) after a h whole = subst EndsInBlankLine (append_assoc text (mark_text mark) (spelled before xs)) (lines_at before (text ++ mark_text mark) xs after a h whole)
+lines_at before text (Of f ∷ xs) after a h whole = subst EndsInBlankLine (append_assoc text (fragment_text before f) (spelled (before ++ f ∷ []) xs)) (lines_at (before ++ f ∷ []) (text ++ fragment_text before f) xs after a h.1 whole)
+
+marks_stand : (before : List Fragment) (text : List ℕ) (ss : List MarkdownSnippet) → fragments_in ss ≡ [] → LinesStand before text ss
+marks_stand before text [] none = tt
+marks_stand before text (Put mark ∷ ss) none = marks_stand before (text ++ mark_text mark) ss none
+marks_stand before text (Of f ∷ ss) none = cc
+
+other_stands : (before : List Fragment) (text : List ℕ) (ss : List MarkdownSnippet) (f : Fragment) → fragments_in ss ≡ f ∷ [] → shows is_whole_line f ≡ false → LinesStand before text ss
+other_stands before text [] f e o = tt
+other_stands before text (Put mark ∷ ss) f e o = other_stands before (text ++ mark_text mark) ss f e o
+other_stands before text (Of g ∷ ss) f e o = (
+  λ whole. absurd (false≢true (sym (ap (shows is_whole_line) (ap (first_or f) e) ∙ o) ∙ whole)),
+  marks_stand (before ++ g ∷ []) (text ++ fragment_text before g) ss (ap without_first e),
+)
+
+-- a line after a text that ends in blanks
+line_stands : (before : List Fragment) (text : List ℕ) (f : Fragment) → EndsInBlankLine text → LinesStand before text (line_snippets f)
+line_stands before text f h = (λ _. one_blank (text ++ 32 ∷ []) (one_blank text h), tt)
+
+raw_stands : (before : List Fragment) (p : Marked) (style : Style) (bytes : List ℕ) (weight : ℕ) → (p.in_code ≡ true → EndsInBlankLine p.bytes) → LinesStand before p.bytes (own_snippets p (Shown style (Raw bytes weight)))
+raw_stands before p style bytes weight h =
+    let f : Fragment = Shown style (Raw bytes weight) in
+    (elim (weight == fence_weight) as (λ t. (weight == fence_weight) ≡ t
+    → LinesStand before p.bytes (if t then new_line_snippets p.bytes ++ line_snippets f else (if weight == code_weight then open_snippets p.in_code ++ line_snippets f else (close_snippets p.in_code ++ Of f ∷ [])))) [
+      | true ↦ λ e. after_marks (new_line_snippets p.bytes) (new_line_marks p.bytes) (subst EndsInBlankLine (new_line-spelled before p) (new_line_blank p))
+      | false ↦ λ e. (elim (weight == code_weight) as (λ t. (weight == code_weight) ≡ t → LinesStand before p.bytes (if t then open_snippets p.in_code ++ line_snippets f else (close_snippets p.in_code ++ Of f ∷ []))) [
+        | true ↦ λ k. after_marks (open_snippets p.in_code) (open_marks p.in_code) (subst EndsInBlankLine (open-spelled before p) (open_blank p h))
+        | false ↦ λ k. other_stands before p.bytes (close_snippets p.in_code ++ Of f ∷ []) f (words_in p.in_code) (ap (λ c. c || (weight == fence_weight)) k ∙ e)
+      ]) refl
+    ]) refl
+  where
+    after_marks : (marks : List MarkdownSnippet) → fragments_in marks ≡ [] → EndsInBlankLine (p.bytes ++ spelled before marks) → LinesStand before p.bytes (marks ++ line_snippets (Shown style (Raw bytes weight)))
+    after_marks marks none k =
+        lines_both before p.bytes marks (line_snippets (Shown style (Raw bytes weight))) (marks_stand before p.bytes marks none)
+        (line_stands (before ++ fragments_in marks) (p.bytes ++ spelled before marks) (Shown style (Raw bytes weight)) k)
+
+    words_in : (in_code : Bool) → fragments_in (close_snippets in_code ++ Of (Shown style (Raw bytes weight)) ∷ []) ≡ Shown style (Raw bytes weight) ∷ []
+    words_in true = refl
+    words_in false = refl
+
+-- ---- texts of a document: where chunks stand between a start and an end
+
+abbrev pub well_formed : Bool → List Fragment → Bool
+well_formed in_text [] = true
+well_formed false (TextStart style ∷ fs) = well_formed true fs
+well_formed true (Shown style chunk ∷ fs) = well_formed true fs
+well_formed true (TextEnd style ∷ fs) = well_formed false fs
+well_formed false (Hidden ∷ fs) = well_formed false fs
+well_formed false (Start b ∷ fs) = well_formed false fs
+well_formed false (End b ∷ fs) = well_formed false fs
+well_formed _ _ = false
+
+-- outside of texts no code block is open; inside no item waits, and an open block's last line is blank
+abbrev Keeps : Bool → Marked → Type 0
+Keeps false p = p.in_code ≡ false
+Keeps true p = (p.pending ≡ false) × (p.in_code ≡ true → EndsInBlankLine p.bytes)
+
+never : {X : Type 0} (b : Bool) → b ≡ false → b ≡ true → X
+never b e h = absurd (false≢true (sym e ∙ h))
+
+with_line_blank : (p : Marked) (text : List ℕ) → EndsInBlankLine (with_line p text).bytes
+with_line_blank p text = blank_newline ((p.bytes ++ codes "  ") ++ text)
+
+raw_keeps : (p : Marked) (bytes : List ℕ) (weight : ℕ) → (with_raw p bytes weight).in_code ≡ true → EndsInBlankLine (with_raw p bytes weight).bytes
+raw_keeps p bytes weight =
+    elim (weight == fence_weight) as (λ t. (if t then with_line (with_new_line p) bytes else (if weight == code_weight then with_line (open_code p) bytes else with_words p bytes)).in_code ≡ true
+    → EndsInBlankLine (if t then with_line (with_new_line p) bytes else (if weight == code_weight then with_line (open_code p) bytes else with_words p bytes)).bytes) [
+      | true ↦ λ _. with_line_blank (with_new_line p) bytes
+      | false ↦ elim (weight == code_weight) as (λ t. (if t then with_line (open_code p) bytes else with_words p bytes).in_code ≡ true → EndsInBlankLine (if t then with_line (open_code p) bytes else with_words p bytes).bytes) [
+        | true ↦ λ _. with_line_blank (open_code p) bytes
+        | false ↦ λ h. never (with_words p bytes).in_code (close-code p (codes "\n  ```\n")) h
+      ]
+    ]
+
+chunk_keeps : (p : Marked) (chunk : Chunk) → (with_chunk p chunk).in_code ≡ true → EndsInBlankLine (with_chunk p chunk).bytes
+chunk_keeps p (Raw bytes weight) = raw_keeps p bytes weight
+chunk_keeps p Paragraph = λ _. elim (p.in_list) as (λ l. EndsInBlankLine (p.bytes ++ (if l then codes "\n\n  " else codes "\n\n"))) [
+  | true ↦ subst EndsInBlankLine (ap (λ x. x ++ codes "  ") (append_assoc p.bytes (codes "\n") (codes "\n")) ∙ append_assoc p.bytes (codes "\n\n") (codes "  ")) (two_blanks ((p.bytes ++ codes "\n") ++ codes "\n") (blank_newline (p.bytes ++ codes "\n")))
+  | false ↦ subst EndsInBlankLine (append_assoc p.bytes (codes "\n") (codes "\n")) (blank_newline (p.bytes ++ codes "\n"))
+]
+chunk_keeps p LineBreak = λ _. blank_newline p.bytes
+
+-- what the step of a chunk is where no item waits
+chunk_step : (p : Marked) (style : Style) (chunk : Chunk) → p.pending ≡ false → marked_after p (Shown style chunk) ≡ with_chunk p chunk
+chunk_step p style chunk e = ap (λ b. with_chunk (if b then record p { bytes = p.bytes ++ codes "- "; pending = false; empty_item = false } else p) chunk) e
+
+pending_after : (p : Marked) (f : Fragment) → is_item_start f ≡ false → (marked_after p f).pending ≡ false
+pending_after p f e = ap (λ s. s.pending) (step-flags p f) ∙ ap (λ b. if b then true else false) e
+
+chunk_stands : (before : List Fragment) (p : Marked) (style : Style) (chunk : Chunk) → Keeps true p → LinesStand before p.bytes (snippets_of p (Shown style chunk))
+chunk_stands before p style (Raw bytes weight) keeps =
+    subst (λ ss. LinesStand before p.bytes ss) (ap (λ b. item_snippets b false ++ own_snippets (if b then record p { bytes = p.bytes ++ codes "- "; pending = false; empty_item = false } else p) (Shown style (Raw bytes weight))) (sym keeps.0))
+    (raw_stands before p style bytes weight keeps.1)
+chunk_stands before p style Paragraph keeps = other_stands before p.bytes (snippets_of p (Shown style Paragraph)) (Shown style Paragraph) (step-fragments p (Shown style Paragraph)) refl
+chunk_stands before p style LineBreak keeps = other_stands before p.bytes (snippets_of p (Shown style LineBreak)) (Shown style LineBreak) (step-fragments p (Shown style LineBreak)) refl
+
+chunk_next : (p : Marked) (style : Style) (chunk : Chunk) → Keeps true p → Keeps true (marked_after p (Shown style chunk))
+chunk_next p style chunk keeps = (
+  pending_after p (Shown style chunk) refl,
+  subst (λ q. q.in_code ≡ true → EndsInBlankLine q.bytes) (sym (chunk_step p style chunk keeps.0)) (chunk_keeps p chunk),
+)
+
+-- a step that leaves whole lines out
+other_step : (before : List Fragment) (p : Marked) (f : Fragment) → shows is_whole_line f ≡ false → LinesStand before p.bytes (snippets_of p f)
+other_step before p f o = other_stands before p.bytes (snippets_of p f) f (step-fragments p f) o
+
+go_on : (t : Bool) (before : List Fragment) (p : Marked) (f : Fragment) (fs : List Fragment) → LinesStand before p.bytes (snippets_of p f) → Agrees before (flags p)
+    → LinesStand (before ++ f ∷ []) (marked_after p f).bytes (cut_from (marked_after p f) fs) → LinesStand before p.bytes (snippets_of p f ++ cut_from (marked_after p f) fs)
+go_on t before p f fs here agrees later =
+    lines_both before p.bytes (snippets_of p f) (cut_from (marked_after p f) fs) here
+    (subst (λ gs. LinesStand (before ++ gs) (p.bytes ++ spelled before (snippets_of p f)) (cut_from (marked_after p f) fs)) (sym (step-fragments p f))
+    (subst (λ text. LinesStand (before ++ f ∷ []) text (cut_from (marked_after p f) fs)) (step-spelled before p f (same_mono before p agrees)) later))
+
+lines_stand : (t : Bool) (before : List Fragment) (p : Marked) (fs : List Fragment) → well_formed t fs ≡ true → Keeps t p → Agrees before (flags p) → Room before fs → LinesStand before p.bytes (cut_from p fs)
+lines_stand t before p [] form keeps agrees room = marks_stand before p.bytes (item_snippets p.pending false) (item_marks p.pending false)
+lines_stand false before p (TextStart style ∷ fs) form keeps agrees room =
+    go_on false before p (TextStart style) fs (other_step before p (TextStart style) refl) agrees
+    (lines_stand true (before ++ TextStart style ∷ []) (marked_after p (TextStart style)) fs form
+    (pending_after p (TextStart style) refl, never (marked_after p (TextStart style)).in_code (step-code p (TextStart style) ∙ keeps))
+    (agrees_after before p (TextStart style) fs agrees room) (rooms_next before (TextStart style) fs room))
+lines_stand true before p (Shown style chunk ∷ fs) form keeps agrees room =
+    go_on true before p (Shown style chunk) fs (chunk_stands before p style chunk keeps) agrees
+    (lines_stand true (before ++ Shown style chunk ∷ []) (marked_after p (Shown style chunk)) fs form (chunk_next p style chunk keeps)
+    (agrees_after before p (Shown style chunk) fs agrees room) (rooms_next before (Shown style chunk) fs room))
+lines_stand true before p (TextEnd style ∷ fs) form keeps agrees room =
+    go_on true before p (TextEnd style) fs (other_step before p (TextEnd style) refl) agrees
+    (lines_stand false (before ++ TextEnd style ∷ []) (marked_after p (TextEnd style)) fs form (step-code p (TextEnd style))
+    (agrees_after before p (TextEnd style) fs agrees room) (rooms_next before (TextEnd style) fs room))
+lines_stand false before p (Hidden ∷ fs) form keeps agrees room =
+    go_on false before p Hidden fs (other_step before p Hidden refl) agrees
+    (lines_stand false (before ++ Hidden ∷ []) (marked_after p Hidden) fs form (step-code p Hidden ∙ keeps) (agrees_after before p Hidden fs agrees room) (rooms_next before Hidden fs room))
+lines_stand false before p (Start b ∷ fs) form keeps agrees room =
+    go_on false before p (Start b) fs (other_step before p (Start b) refl) agrees
+    (lines_stand false (before ++ Start b ∷ []) (marked_after p (Start b)) fs form (step-code p (Start b) ∙ keeps) (agrees_after before p (Start b) fs agrees room) (rooms_next before (Start b) fs room))
+lines_stand false before p (End b ∷ fs) form keeps agrees room =
+    go_on false before p (End b) fs (other_step before p (End b) refl) agrees
+    (lines_stand false (before ++ End b ∷ []) (marked_after p (End b)) fs form (step-code p (End b) ∙ keeps) (agrees_after before p (End b) fs agrees room) (rooms_next before (End b) fs room))
+lines_stand false before p (Shown style chunk ∷ fs) form keeps agrees room = absurd (false≢true form)
+lines_stand false before p (TextEnd style ∷ fs) form keeps agrees room = absurd (false≢true form)
+lines_stand true before p (TextStart style ∷ fs) form keeps agrees room = absurd (false≢true form)
+lines_stand true before p (Hidden ∷ fs) form keeps agrees room = absurd (false≢true form)
+lines_stand true before p (Start b ∷ fs) form keeps agrees room = absurd (false≢true form)
+lines_stand true before p (End b ∷ fs) form keeps agrees room = absurd (false≢true form)
+
+-- the text before a whole line ends in a line of blanks
+pub blank_before : (p : Marked) (fs : List Fragment) → well_formed false fs ≡ true → p.in_code ≡ false → Agrees [] (flags p) → Room [] fs
+    → (before after : List MarkdownSnippet) (a : Fragment) → cut_from p fs ≡ before ++ Of a ∷ after → IsTrue (shows is_whole_line a) → EndsInBlankLine (p.bytes ++ spelled [] before)
+blank_before p fs form none agrees room before after a e whole =
+    lines_at [] p.bytes before after a (subst (λ ss. LinesStand [] p.bytes ss) e (lines_stand false [] p fs form none agrees room)) whole

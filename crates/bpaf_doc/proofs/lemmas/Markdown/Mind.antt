@@ -1,0 +1,194 @@
+-- What a markdown text keeps in mind is what looking back at the fragments before says.
+use Rattle.std.proofs.Common.{◌≡◌, ℕ, ◌+◌, ◌-◌, ◌^◌, ◌<◌, Bool, true, false, cond, List, [], ◌∷◌, ◌++◌, length, drop, map, refl, sym, ap, ◌∙◌, subst, arith, append_assoc, append-nil, length-append, nat_lt}
+use Rattle.std.specs.Prelude.{not, ◌&&◌, ◌||◌, filter, reverse, count_by, if◌then◌else◌}
+use Rattle.std.specs.List.{list_any, after_last, suffix_len, prefix_len}
+use Rattle.std.proofs.lemmas.List.{reverse-append, drop-append-le, drop_all, map-append}
+use Rattle.std.proofs.lemmas.List.Folds.{list_any-append}
+use Rattle.bpaf_doc.specs.declared.buffer.Block.TheVariants as blocks
+use Rattle.bpaf_doc.specs.Html.Fragments.{Fragment, TextStart, Shown, TextEnd, Hidden, Start, End}
+use Rattle.bpaf_doc.specs.Markdown.Page.{Mark, Heading, SecondHeading, LongDash, MarkdownSnippet, Put, Of, is_mono_start, is_mono_end, is_header_start, is_list_mark, is_item_start, begins_with_list_start, begins_with_term_end, is_in_list, is_after_empty_item, headings_of, headed_snippets, flat_map_places_from, is_heading_or_fragment}
+use Rattle.bpaf_doc.specs.Markdown.Exact.{Marked, with_item, is_term_end, marked_after, marked_after_all, one_more}
+use Rattle.bpaf_doc.proofs.lemmas.Lists.Counting.{one_if, count_by-cons, count_by-push}
+use Rattle.bpaf_doc.proofs.lemmas.Html.Cut.{filter-append}
+use Rattle.bpaf_doc.proofs.lemmas.Markdown.Cut.{Flags, flags, flags_next, item-flags, step-flags, is_list_start, is_list_end, SameMono, spelled, spelled-append, step-spelled, cut_from, snippets_of, item-spelled}
+use Rattle.bpaf_doc.proofs.lemmas.Markdown.Kept.{own_heading, item_heading, item-headings, step-headings, step-fragments}
+
+-- ---- one fragment more before
+
+any-push : (p : Fragment → Bool) (fs : List Fragment) (f : Fragment) → list_any p (fs ++ f ∷ []) ≡ (if p f then true else list_any p fs)
+any-push p fs f = list_any-append p fs (f ∷ []) ∙ swapped (list_any p fs) (p f)
+  where
+    swapped : (a b : Bool) → (a || (b || false)) ≡ (if b then true else a)
+    swapped true true = refl
+    swapped true false = refl
+    swapped false true = refl
+    swapped false false = refl
+
+suffix-push : (q : Fragment → Bool) (fs : List Fragment) (f : Fragment) → suffix_len q (fs ++ f ∷ []) ≡ cond (q f) (1 + suffix_len q fs) 0
+suffix-push q fs f = ap (λ xs. prefix_len q xs) (reverse-append fs (f ∷ []))
+
+-- what stands after the last that passes
+after_last-at : (p : Fragment → Bool) (fs : List Fragment) (f : Fragment) → p f ≡ true → after_last p (fs ++ f ∷ []) ≡ []
+after_last-at p fs f e =
+    let none : suffix_len (λ x. not (p x)) (fs ++ f ∷ []) ≡ 0 = suffix-push (λ x. not (p x)) fs f ∙ ap (λ b. cond (not b) (1 + suffix_len (λ x. not (p x)) fs) 0) e in
+    drop_all (length (fs ++ f ∷ []) - suffix_len (λ x. not (p x)) (fs ++ f ∷ [])) (fs ++ f ∷ []) (omega arith)
+
+after_last-past : (p : Fragment → Bool) (fs : List Fragment) (f : Fragment) → p f ≡ false → after_last p (fs ++ f ∷ []) ≡ after_last p fs ++ f ∷ []
+after_last-past p fs f e =
+    let more : suffix_len (λ x. not (p x)) (fs ++ f ∷ []) ≡ 1 + suffix_len (λ x. not (p x)) fs = suffix-push (λ x. not (p x)) fs f ∙ ap (λ b. cond (not b) (1 + suffix_len (λ x. not (p x)) fs) 0) e in
+    let same : length (fs ++ f ∷ []) - suffix_len (λ x. not (p x)) (fs ++ f ∷ []) ≡ length fs - suffix_len (λ x. not (p x)) fs = omega (arith, length-append fs (f ∷ [])) in
+    ap (λ n. drop n (fs ++ f ∷ [])) same ∙ drop-append-le (length fs - suffix_len (λ x. not (p x)) fs) fs (f ∷ []) (omega arith)
+
+-- ---- items
+
+-- no item came; one was begun last; or one was begun and these came after it
+pub data Item : List Fragment → Bool → Bool → Type 0 where
+  none : {before : List Fragment} {pending empty : Bool} → list_any is_item_start before ≡ false → pending ≡ false → empty ≡ false → Item before pending empty
+  waiting : {before : List Fragment} {pending empty : Bool} → list_any is_item_start before ≡ true → after_last is_item_start before ≡ [] → pending ≡ true → Item before pending empty
+  past : {before : List Fragment} {pending empty : Bool} (g : Fragment) (rest : List Fragment) → list_any is_item_start before ≡ true → after_last is_item_start before ≡ g ∷ rest → pending ≡ false → empty ≡ is_term_end g → Item before pending empty
+
+begins_is : (g : Fragment) (rest : List Fragment) → begins_with_term_end (g ∷ rest) ≡ is_term_end g
+begins_is (End blocks.ItemTerm) rest = refl
+begins_is (End _) rest = refl
+begins_is (TextStart style) rest = refl
+begins_is (Shown style chunk) rest = refl
+begins_is (TextEnd style) rest = refl
+begins_is Hidden rest = refl
+begins_is (Start b) rest = refl
+
+after_empty_is : {before : List Fragment} {pending empty : Bool} → Item before pending empty → is_after_empty_item before ≡ (if pending then false else empty)
+after_empty_is {before} {pending} {empty} (none any p e) =
+    ap (λ b. b && begins_with_term_end (after_last is_item_start before)) any ∙ sym (ap (λ b. if b then false else empty) p ∙ e)
+after_empty_is {before} {pending} {empty} (waiting any last p) =
+    ap (λ b. b && begins_with_term_end (after_last is_item_start before)) any ∙ ap begins_with_term_end last ∙ sym (ap (λ b. if b then false else empty) p)
+after_empty_is {before} {pending} {empty} (past g rest any last p e) =
+    ap (λ b. b && begins_with_term_end (after_last is_item_start before)) any ∙ ap begins_with_term_end last ∙ begins_is g rest ∙ sym (ap (λ b. if b then false else empty) p ∙ e)
+
+item_next : {before : List Fragment} {pending empty : Bool} (f : Fragment) → Item before pending empty → Item (before ++ f ∷ []) (if is_item_start f then true else false) (if pending then is_term_end f else empty)
+item_next {before} {pending} {empty} f item =
+    (elim (is_item_start f) as (λ b. is_item_start f ≡ b → Item (before ++ f ∷ []) (if b then true else false) (if pending then is_term_end f else empty)) [
+      | true ↦ λ e. waiting (any-push is_item_start before f ∙ ap (λ b. if b then true else list_any is_item_start before) e) (after_last-at is_item_start before f e) refl
+      | false ↦ λ e. stays e item
+    ]) refl
+  where
+    any_same : is_item_start f ≡ false → list_any is_item_start (before ++ f ∷ []) ≡ list_any is_item_start before
+    any_same e = any-push is_item_start before f ∙ ap (λ b. if b then true else list_any is_item_start before) e
+
+    stays : is_item_start f ≡ false → Item before pending empty → Item (before ++ f ∷ []) false (if pending then is_term_end f else empty)
+    stays e (none any p h) = none (any_same e ∙ any) refl (ap (λ b. if b then is_term_end f else empty) p ∙ h)
+    stays e (waiting any last p) = past f [] (any_same e ∙ any) (after_last-past is_item_start before f e ∙ ap (λ x. x ++ f ∷ []) last) refl (ap (λ b. if b then is_term_end f else empty) p)
+    stays e (past g rest any last p h) = past g (rest ++ f ∷ []) (any_same e ∙ any) (after_last-past is_item_start before f e ∙ ap (λ x. x ++ f ∷ []) last) refl (ap (λ b. if b then is_term_end f else empty) p ∙ h)
+
+-- ---- all of it
+
+pub record Agrees (before : List Fragment) (s : Flags) : Type 0 where
+  pub headed : list_any is_header_start before ≡ s.headed
+  pub in_list : is_in_list before ≡ s.in_list
+  pub item : Item before s.pending s.empty_item
+  pub starts : count_by is_mono_start before ≡ s.starts
+  pub ends : count_by is_mono_end before ≡ s.ends
+
+-- there are fewer Mono marks than a count can hold
+abbrev pub Room : List Fragment → List Fragment → Type 0
+Room before rest = (count_by is_mono_start before + count_by is_mono_start rest < 2 ^ 64) × (count_by is_mono_end before + count_by is_mono_end rest < 2 ^ 64)
+
+list-push : (before : List Fragment) (f : Fragment) → is_in_list (before ++ f ∷ []) ≡ (if is_list_start f then true else (if is_list_end f then false else is_in_list before))
+list-push before f = ap (λ xs. begins_with_list_start (filter is_list_mark xs)) (reverse-append before (f ∷ [])) ∙ cases f
+  where
+    cases : (f : Fragment) → begins_with_list_start (filter is_list_mark (f ∷ reverse before)) ≡ (if is_list_start f then true else (if is_list_end f then false else is_in_list before))
+    cases (Start blocks.DefinitionList) = refl
+    cases (Start _) = refl
+    cases (End blocks.DefinitionList) = refl
+    cases (End _) = refl
+    cases (TextStart style) = refl
+    cases (Shown style chunk) = refl
+    cases (TextEnd style) = refl
+    cases Hidden = refl
+
+counted : (p : Fragment → Bool) (before : List Fragment) (f : Fragment) (n : ℕ) → count_by p before ≡ n → count_by p before + one_if (p f) < 2 ^ 64 → count_by p (before ++ f ∷ []) ≡ (if p f then one_more n else n)
+counted p before f n e room =
+    count_by-push p before f
+    ∙ (elim (p f) as (λ b. count_by p before + one_if b < 2 ^ 64 → count_by p before + one_if b ≡ (if b then one_more n else n)) [
+      | true ↦ λ r. omega (arith, r, e)
+      | false ↦ λ r. omega (arith, e)
+    ]) room
+
+room_here : (p : Fragment → Bool) (before : List Fragment) (f : Fragment) (fs : List Fragment) → count_by p before + count_by p (f ∷ fs) < 2 ^ 64 → count_by p before + one_if (p f) < 2 ^ 64
+room_here p before f fs room = omega (arith, room, count_by-cons p f fs)
+
+room_next : (p : Fragment → Bool) (before : List Fragment) (f : Fragment) (fs : List Fragment) → count_by p before + count_by p (f ∷ fs) < 2 ^ 64 → count_by p (before ++ f ∷ []) + count_by p fs < 2 ^ 64
+room_next p before f fs room = omega (arith, room, count_by-cons p f fs, count_by-push p before f)
+
+agrees_next : (before : List Fragment) (s : Flags) (f : Fragment) (fs : List Fragment) → Agrees before s → Room before (f ∷ fs) → Agrees (before ++ f ∷ []) (flags_next s f)
+agrees_next before s f fs h room = record {
+  headed = any-push is_header_start before f ∙ ap (λ b. if is_header_start f then true else b) h.headed;
+  in_list = list-push before f ∙ ap (λ b. if is_list_start f then true else (if is_list_end f then false else b)) h.in_list;
+  item = item_next f h.item;
+  starts = counted is_mono_start before f s.starts h.starts (room_here is_mono_start before f fs room.0);
+  ends = counted is_mono_end before f s.ends h.ends (room_here is_mono_end before f fs room.1);
+}
+
+pub rooms_next : (before : List Fragment) (f : Fragment) (fs : List Fragment) → Room before (f ∷ fs) → Room (before ++ f ∷ []) fs
+rooms_next before f fs room = (room_next is_mono_start before f fs room.0, room_next is_mono_end before f fs room.1)
+
+pub agrees_after : (before : List Fragment) (p : Marked) (f : Fragment) (fs : List Fragment) → Agrees before (flags p) → Room before (f ∷ fs) → Agrees (before ++ f ∷ []) (flags (marked_after p f))
+agrees_after before p f fs h room = subst (λ s. Agrees (before ++ f ∷ []) s) (sym (step-flags p f)) (agrees_next before (flags p) f fs h room)
+
+pub same_mono : (before : List Fragment) (p : Marked) → Agrees before (flags p) → SameMono before p
+same_mono before p h = ap (λ n. nat_lt n (count_by is_mono_start before)) h.ends ∙ ap (λ n. nat_lt p.ends n) h.starts
+
+-- ---- the text
+
+-- the text after all, with the dash of a last item
+pub all-spelled : (before : List Fragment) (p : Marked) (fs : List Fragment) → Agrees before (flags p) → Room before fs → (with_item (marked_after_all p fs) false).bytes ≡ p.bytes ++ spelled before (cut_from p fs)
+all-spelled before p [] h room = item-spelled before p false
+all-spelled before p (f ∷ fs) h room =
+    all-spelled (before ++ f ∷ []) (marked_after p f) fs (agrees_after before p f fs h room) (rooms_next before f fs room)
+    ∙ ap (λ x. x ++ spelled (before ++ f ∷ []) (cut_from (marked_after p f) fs)) (step-spelled before p f (same_mono before p h))
+    ∙ append_assoc p.bytes (spelled before (snippets_of p f)) (spelled (before ++ f ∷ []) (cut_from (marked_after p f) fs))
+    ∙ ap (λ x. p.bytes ++ (spelled before (snippets_of p f) ++ spelled (before ++ x) (cut_from (marked_after p f) fs))) (sym (step-fragments p f))
+    ∙ ap (λ x. p.bytes ++ x) (sym (spelled-append before (snippets_of p f) (cut_from (marked_after p f) fs)))
+
+-- ---- headings
+
+heading_is : (before : List Fragment) (p : Marked) (f : Fragment) (fs : List Fragment) → Agrees before (flags p)
+    → own_heading (with_item p (is_term_end f)) f ++ item_heading (flags_next (flags p) f).pending (begins_with_term_end fs) ≡ headings_of before f fs
+heading_is before p (Start blocks.Header) fs h =
+    ap (λ s. (if s.headed then SecondHeading else Heading) ∷ []) (item-flags p false) ∙ ap (λ b. (if b then SecondHeading else Heading) ∷ []) (sym h.headed)
+heading_is before p (Start blocks.Section3) fs h = refl
+heading_is before p (Start blocks.Section4) fs h = refl
+heading_is before p (Start blocks.ItemTerm) fs h = refl
+heading_is before p (Start blocks.ItemBody) fs h =
+    append-nil (own_heading (with_item p false) (Start blocks.ItemBody))
+    ∙ ap (λ s. if s.in_list then (if s.empty_item then [] else (LongDash ∷ [])) else []) (item-flags p false)
+    ∙ both p.in_list (if p.pending then false else p.empty_item)
+    ∙ ap (λ b. if (b && not (if p.pending then false else p.empty_item)) then (LongDash ∷ []) else []) (sym h.in_list)
+    ∙ ap (λ b. if (is_in_list before && not b) then (LongDash ∷ []) else []) (sym (after_empty_is h.item))
+  where
+    both : (l e : Bool) → (if l then (if e then [] else (LongDash ∷ [])) else []) ≡ (if (l && not e) then (LongDash ∷ []) else [])
+    both true true = refl
+    both true false = refl
+    both false e = refl
+heading_is before p (Start _) fs h = refl
+heading_is before p (End b) fs h = refl
+heading_is before p (TextStart style) fs h = refl
+heading_is before p (Shown style chunk) fs h = refl
+heading_is before p (TextEnd style) fs h = refl
+heading_is before p Hidden fs h = refl
+
+pub all-headings : (before : List Fragment) (p : Marked) (fs : List Fragment) → Agrees before (flags p) → Room before fs
+    → filter is_heading_or_fragment (cut_from p fs) ≡ map Put (item_heading p.pending (begins_with_term_end fs)) ++ flat_map_places_from headed_snippets before fs
+all-headings before p [] h room = item-headings p.pending false ∙ sym (append-nil (map Put (item_heading p.pending false)))
+all-headings before p (f ∷ fs) h room =
+    let next : Marked = marked_after p f in
+    let first : List MarkdownSnippet = map Put (item_heading p.pending (is_term_end f)) in
+    let own : List Mark = own_heading (with_item p (is_term_end f)) f in
+    let later : List MarkdownSnippet = flat_map_places_from headed_snippets (before ++ f ∷ []) fs in
+    filter-append is_heading_or_fragment (snippets_of p f) (cut_from next fs)
+    ∙ ap (λ x. x ++ filter is_heading_or_fragment (cut_from next fs)) (step-headings p f)
+    ∙ ap (λ x. (first ++ Of f ∷ map Put own) ++ x) (all-headings (before ++ f ∷ []) next fs (agrees_after before p f fs h room) (rooms_next before f fs room))
+    ∙ ap (λ s. (first ++ Of f ∷ map Put own) ++ (map Put (item_heading s.pending (begins_with_term_end fs)) ++ later)) (step-flags p f)
+    ∙ append_assoc first (Of f ∷ map Put own) (map Put (item_heading (flags_next (flags p) f).pending (begins_with_term_end fs)) ++ later)
+    ∙ ap (λ x. first ++ Of f ∷ x) (sym (append_assoc (map Put own) (map Put (item_heading (flags_next (flags p) f).pending (begins_with_term_end fs))) later))
+    ∙ ap (λ x. first ++ Of f ∷ (x ++ later)) (sym (map-append Put own (item_heading (flags_next (flags p) f).pending (begins_with_term_end fs))) ∙ ap (λ x. map Put x) (heading_is before p f fs h))
+    ∙ ap (λ x. map Put (item_heading p.pending x) ++ (headed_snippets before f fs ++ later)) (sym (begins_is f fs))

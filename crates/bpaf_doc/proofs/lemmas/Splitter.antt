@@ -1,0 +1,9 @@
+-- Lemmas about the chunks of a text.
+pub mod Spelling
+pub mod FirstChunk
+pub mod Cuts
+pub mod Pieces
+pub mod Facts
+mod Rows
+pub mod Ink
+pub mod Printable

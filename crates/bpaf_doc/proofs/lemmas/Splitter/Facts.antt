@@ -1,0 +1,114 @@
+-- What holds of the chunks of each text.
+use Rattle.std.specs.Prelude.{◌≡◌, ℕ, ◌+◌, ◌-◌, List, [], ◌∷◌, ◌++◌, refl, length, take, drop, slice_range}
+use Rattle.std.specs.List.{All, flat_map}
+use Rattle.std.specs.Str.{IsUtf8}
+use Rattle.std.proofs.Common.{sym, ◌∙◌, ap, subst, inl, inr, arith, append_assoc}
+use Rattle.std.proofs.lemmas.List.{append-nil, take_at, drop_at, length-append}
+use Rattle.std.proofs.lemmas.List.Concat.{flat_map-append}
+use Rattle.std.proofs.lemmas.List.Elements.{All-nil, All-cons, All-same}
+use Rattle.std.proofs.lemmas.List.Folds.{list_all-append}
+use Rattle.bpaf_doc.specs.Buffer.Parts.{ink}
+use Rattle.bpaf_doc.specs.Splitter.Chunks.{Chunk, Raw, Paragraph, LineBreak, chunk_ink, chunks_of}
+use Rattle.bpaf_doc.specs.Splitter.Promises.{IsGap, IsOneLine, IsPlace, IsSpelledOnce, IsText, StandInOrder, StandsFor, is_gap_byte}
+use Rattle.bpaf_doc.proofs.lemmas.Splitter.Spelling.{spells_its_chunks, only_its_chunks}
+use Rattle.bpaf_doc.proofs.lemmas.Splitter.Pieces.{Pieces, none, piece, pieces, stands_ink, IsUtf8-blank}
+use Rattle.bpaf_doc.proofs.lemmas.Splitter.Ink.{ink-nil, ink-append, ink_after_gap}
+
+-- ---- ink
+
+ink_of_pieces : {chunks : List Chunk} {text : List ℕ} → Pieces chunks text → IsUtf8 text → flat_map chunk_ink chunks ≡ ink text
+ink_of_pieces (none ec et) u = ap (λ cs. flat_map chunk_ink cs) ec ∙ sym (ap ink et ∙ ink-nil)
+ink_of_pieces (piece gap there after rest chunk others ec et g h t l w s) u =
+    let v : IsUtf8 there × IsUtf8 rest = w u in
+    ap (λ cs. flat_map chunk_ink cs) ec
+    ∙ ap (λ cs. cs ++ flat_map chunk_ink others) (stands_ink chunk there t)
+    ∙ ap (λ cs. ink there ++ cs) (ink_of_pieces s v.1 ∙ sym (ink_after_gap after rest h))
+    ∙ sym (ap ink et ∙ ink_after_gap gap (there ++ (after ++ rest)) g ∙ ink-append there (after ++ rest) v.0)
+
+-- the chunks of a UTF-8 text have together its ink
+pub ink_of_chunks : (text : List ℕ) → IsUtf8 text → flat_map chunk_ink (chunks_of text) ≡ ink text
+ink_of_chunks text u = ink_of_pieces (pieces (spells_its_chunks text)) u
+
+-- a front of the chunks has a front of the ink, and the others have the rest
+pub ink_of_front : (text : List ℕ) (front back : List Chunk) → IsUtf8 text → chunks_of text ≡ front ++ back → ink text ≡ flat_map chunk_ink front ++ flat_map chunk_ink back
+ink_of_front text front back u e = sym (ink_of_chunks text u) ∙ ap (λ cs. flat_map chunk_ink cs) e ∙ flat_map-append chunk_ink front back
+
+-- ---- each chunk
+
+one_line_of_pieces : {chunks : List Chunk} {text : List ℕ} → Pieces chunks text → All IsOneLine chunks
+one_line_of_pieces {chunks} (none ec et) = All-same IsOneLine chunks [] ec (All-nil IsOneLine)
+one_line_of_pieces {chunks} (piece gap there after rest chunk others ec et g h t l w s) =
+    All-same IsOneLine chunks (chunk ∷ others) ec (All-cons IsOneLine chunk others l (one_line_of_pieces s))
+
+-- no chunk has a newline in it
+pub one_line_chunks : (text : List ℕ) → All IsOneLine (chunks_of text)
+one_line_chunks text = one_line_of_pieces (pieces (spells_its_chunks text))
+
+text_of_piece : (chunk : Chunk) (there : List ℕ) → StandsFor chunk there → IsUtf8 there → IsText chunk
+text_of_piece (Raw bytes weight) there (inl e) u = subst (λ t. IsUtf8 t) e u
+text_of_piece (Raw bytes weight) there (inr h) u = subst (λ t. IsUtf8 t) (sym h.1) IsUtf8-blank
+text_of_piece Paragraph there t u = tt
+text_of_piece LineBreak there t u = tt
+
+texts_of_pieces : {chunks : List Chunk} {text : List ℕ} → Pieces chunks text → IsUtf8 text → All IsText chunks
+texts_of_pieces {chunks} (none ec et) u = All-same IsText chunks [] ec (All-nil IsText)
+texts_of_pieces {chunks} (piece gap there after rest chunk others ec et g h t l w s) u =
+    let v : IsUtf8 there × IsUtf8 rest = w u in
+    All-same IsText chunks (chunk ∷ others) ec (All-cons IsText chunk others (text_of_piece chunk there t v.0) (texts_of_pieces s v.1))
+
+-- each Raw of a UTF-8 text is UTF-8
+pub text_chunks : (text : List ℕ) → IsUtf8 text → All IsText (chunks_of text)
+text_chunks text u = texts_of_pieces (pieces (spells_its_chunks text)) u
+
+-- ---- places
+
+IsGap-append : (a b : List ℕ) → IsGap a → IsGap b → IsGap (a ++ b)
+IsGap-append a b g h = list_all-append is_gap_byte a b ∙ rw g h
+
+-- what stands in the middle of a text
+middle : (a b c : List ℕ) → slice_range (a ++ (b ++ c)) (length a) (length (a ++ b)) ≡ b
+middle a b c =
+    let n : length b ≡ length (a ++ b) - length a = omega (arith, length-append a b) in
+    ap (λ xs. take (length (a ++ b) - length a) xs) (drop_at a (b ++ c) (length a) refl) ∙ take_at b c (length (a ++ b) - length a) n
+
+-- a chunk that stands after a gap
+place_after : (text front gap there back : List ℕ) (chunk : Chunk) → text ≡ (front ++ gap) ++ (there ++ back) → IsGap gap → StandsFor chunk there
+    → IsPlace text (length front) chunk (length (front ++ gap)) (length ((front ++ gap) ++ there))
+place_after text front gap there back chunk e g t =
+    let starts : length (front ++ gap) ≡ length front + length gap = length-append front gap in
+    let ends : length ((front ++ gap) ++ there) ≡ length (front ++ gap) + length there = length-append (front ++ gap) there in
+    let whole : length text ≡ length (front ++ gap) + (length there + length back) = ap length e ∙ length-append (front ++ gap) (there ++ back) ∙ ap (λ n. length (front ++ gap) + n) (length-append there back) in
+    let before : slice_range text (length front) (length (front ++ gap)) ≡ gap =
+    ap (λ t. slice_range t (length front) (length (front ++ gap))) (e ∙ append_assoc front gap (there ++ back)) ∙ middle front gap (there ++ back) in
+    let here : slice_range text (length (front ++ gap)) (length ((front ++ gap) ++ there)) ≡ there =
+    ap (λ t. slice_range t (length (front ++ gap)) (length ((front ++ gap) ++ there))) e ∙ middle (front ++ gap) there back in
+    record {
+      after = omega (arith, starts);
+      forward = omega (arith, ends);
+      within = omega (arith, ends, whole);
+      gap = subst (λ t. IsGap t) (sym before) g;
+      stands = subst (λ t. StandsFor chunk t) (sym here) t;
+    }
+
+in_order_of_pieces : {chunks : List Chunk} {rest : List ℕ} → Pieces chunks rest → (text front pending : List ℕ) → text ≡ front ++ (pending ++ rest) → IsGap pending
+    → StandInOrder text (length front) chunks
+in_order_of_pieces {rest = rest} (none ec et) text front pending e g =
+    let left : drop (length front) text ≡ pending =
+    ap (λ t. drop (length front) t) e ∙ drop_at front (pending ++ rest) (length front) refl ∙ ap (λ t. pending ++ t) et ∙ append-nil pending in
+    subst (λ cs. StandInOrder text (length front) cs) (sym ec) (subst (λ t. IsGap t) (sym left) g)
+in_order_of_pieces (piece gap there after rest chunk others ec et g h t l w s) text front pending e p =
+    let whole : text ≡ (front ++ (pending ++ gap)) ++ (there ++ (after ++ rest)) =
+    e ∙ ap (λ t. front ++ (pending ++ t)) et ∙ simp append_assoc in
+    let on : text ≡ ((front ++ (pending ++ gap)) ++ there) ++ (after ++ rest) = whole ∙ sym (append_assoc (front ++ (pending ++ gap)) there (after ++ rest)) in
+    let place = place_after text front (pending ++ gap) there (after ++ rest) chunk whole (IsGap-append pending gap p g) t in
+    let more = in_order_of_pieces s text ((front ++ (pending ++ gap)) ++ there) after on h in
+    subst (λ cs. StandInOrder text (length front) cs) (sym ec) (length (front ++ (pending ++ gap)), length ((front ++ (pending ++ gap)) ++ there), place, more)
+
+-- the chunks have their places in the text, one after another
+pub chunks_in_order : (text : List ℕ) → StandInOrder text 0 (chunks_of text)
+chunks_in_order text = in_order_of_pieces (pieces (spells_its_chunks text)) text [] [] refl refl
+
+-- ---- the spelling
+
+pub spelled_once : (text : List ℕ) → IsSpelledOnce text
+spelled_once text = record { spelled = spells_its_chunks text; only = λ chunks s. only_its_chunks chunks text s }

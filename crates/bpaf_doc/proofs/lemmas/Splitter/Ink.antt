@@ -1,0 +1,48 @@
+-- The ink of a text in parts.
+use Rattle.std.specs.Prelude.{◌≡◌, ℕ, true, ◌⊎◌, List, [], ◌∷◌, ◌++◌, refl, filter}
+use Rattle.std.specs.Char.{is_not_whitespace}
+use Rattle.std.specs.Str.{IsUtf8, chars}
+use Rattle.std.specs.List.{list_all}
+use Rattle.std.proofs.Common.{sym, ◌∙◌, ap, inl, inr, arith}
+use Rattle.std.proofs.lemmas.Bool.Decides.{nat_tests}
+use Rattle.std.proofs.lemmas.List.{append-nil}
+use Rattle.std.proofs.lemmas.List.Elements.{filter-append}
+use Rattle.std.proofs.lemmas.Str.{chars-append, chars-nil}
+use Rattle.bpaf_doc.specs.Buffer.Parts.{ink}
+use Rattle.bpaf_doc.specs.Splitter.Promises.{IsGap, is_gap_byte}
+use Rattle.bpaf_doc.proofs.lemmas.Splitter.Spelling.{and_left, and_right}
+
+-- a newline or a blank
+pub gap_is : (b : ℕ) → is_gap_byte b ≡ true → (b ≡ 10) ⊎ (b ≡ 32)
+gap_is b e = grind (arith, nat_tests)
+
+newline_chars : (rest : List ℕ) → chars (10 ∷ rest) ≡ 10 ∷ chars rest
+unfolding chars
+newline_chars [] = refl
+newline_chars (b ∷ rest) = refl
+
+blank_chars : (rest : List ℕ) → chars (32 ∷ rest) ≡ 32 ∷ chars rest
+unfolding chars
+blank_chars [] = refl
+blank_chars (b ∷ rest) = refl
+
+pub ink-nil : ink [] ≡ []
+ink-nil = ap (λ cs. filter is_not_whitespace cs) chars-nil
+
+-- a gap has no ink
+pub ink_after_gap : (gap rest : List ℕ) → IsGap gap → ink (gap ++ rest) ≡ ink rest
+ink_after_gap [] rest g = refl
+ink_after_gap (b ∷ gap) rest g = at b (gap_is b (and_left (is_gap_byte b) (list_all is_gap_byte gap) g)) ∙ ink_after_gap gap rest (and_right (is_gap_byte b) (list_all is_gap_byte gap) g) where
+  at : (b : ℕ) → (b ≡ 10) ⊎ (b ≡ 32) → ink (b ∷ (gap ++ rest)) ≡ ink (gap ++ rest)
+  at b (inl e) = rw e (ap (λ cs. filter is_not_whitespace cs) (newline_chars (gap ++ rest)))
+  at b (inr e) = rw e (ap (λ cs. filter is_not_whitespace cs) (blank_chars (gap ++ rest)))
+
+pub gap_ink : (gap : List ℕ) → IsGap gap → ink gap ≡ []
+gap_ink gap g = ap ink (sym (append-nil gap)) ∙ ink_after_gap gap [] g ∙ ink-nil
+
+-- the ink of a UTF-8 text and what follows it
+pub ink-append : (front rest : List ℕ) → IsUtf8 front → ink (front ++ rest) ≡ ink front ++ ink rest
+ink-append front rest u = ap (λ cs. filter is_not_whitespace cs) (chars-append front rest u) ∙ filter-append is_not_whitespace (chars front) (chars rest)
+
+pub ink_before_gap : (front gap : List ℕ) → IsUtf8 front → IsGap gap → ink (front ++ gap) ≡ ink front
+ink_before_gap front gap u g = ink-append front gap u ∙ ap (λ cs. ink front ++ cs) (gap_ink gap g) ∙ append-nil (ink front)

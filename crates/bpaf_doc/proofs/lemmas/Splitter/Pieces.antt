@@ -1,0 +1,134 @@
+-- A text as its chunks cut it: what each chunk stands for, with gaps before and after it.
+use Rattle.std.specs.Prelude.{◌≡◌, ℕ, ◌<◌, not, ◌==◌, IsTrue, ◌⊎◌, List, [], ◌∷◌, ◌++◌, codes, refl, length}
+use Rattle.std.specs.Char.{IsScalar}
+use Rattle.std.specs.Str.{IsUtf8}
+use Rattle.std.specs.List.{list_all}
+use Rattle.std.proofs.Common.{sym, ◌∙◌, ap, subst, inl, inr, arith, lit<, get_or}
+use Rattle.std.proofs.lemmas.List.{append-nil, get_or_at, take_at, drop_at, length-append}
+use Rattle.std.proofs.lemmas.Str.{IsUtf8-nil, IsUtf8-append, IsUtf8-encode, encode_ascii, IsUtf8-take, IsUtf8-drop, IsCharBoundary-before_ascii, IsCharBoundary-after_ascii}
+use Rattle.bpaf_doc.specs.Buffer.Parts.{ink}
+use Rattle.bpaf_doc.specs.Splitter.Chunks.{Chunk, Raw, Paragraph, LineBreak, Form, Spells, nothing, code_line, fence, before_code, paragraph, line_break, newline, blank, word, opening, later, closing, closing_paragraph, chunk_ink, is_line_byte, is_word_byte, IsLine, IsLineEnd, IsWordEnd, IsPastNewline}
+use Rattle.bpaf_doc.specs.Splitter.Promises.{IsGap, IsOneLine, StandsFor, is_gap_byte}
+use Rattle.bpaf_doc.proofs.lemmas.Splitter.Ink.{gap_is, gap_ink}
+use Rattle.bpaf_doc.proofs.lemmas.Splitter.Spelling.{and_left, and_right, past_is, starts_front}
+
+-- ---- UTF-8 at a cut
+
+-- what follows an ASCII character
+utf8_after : (b : ℕ) (rest : List ℕ) → b < 128 → IsUtf8 (b ∷ rest) → IsUtf8 rest
+utf8_after b rest small u = IsUtf8-drop (b ∷ rest) 1 u (IsCharBoundary-after_ascii (b ∷ rest) 0 u (omega arith) small)
+
+-- a newline, a blank or the end
+abbrev IsEnd : List ℕ → Type 0
+IsEnd [] = Unit {0}
+IsEnd (b ∷ rest) = b < 128
+
+end_of_line : (rest : List ℕ) → IsLineEnd rest → IsEnd rest
+end_of_line [] e = tt
+end_of_line (b ∷ rest) e = omega (arith, e)
+
+end_of_word : (rest : List ℕ) → IsWordEnd rest → IsEnd rest
+end_of_word [] e = tt
+end_of_word (b ∷ rest) (inl e) = omega (arith, e)
+end_of_word (b ∷ rest) (inr e) = omega (arith, e)
+
+-- a front that ends there, and the rest
+utf8_cut : (front rest : List ℕ) → IsEnd rest → IsUtf8 (front ++ rest) → IsUtf8 front × IsUtf8 rest
+utf8_cut front [] e u = (subst (λ text. IsUtf8 text) (append-nil front) u, IsUtf8-nil)
+utf8_cut front (b ∷ rest) e u =
+    let within : length front < length (front ++ b ∷ rest) = omega (arith, length-append front (b ∷ rest)) in
+    let small : get_or (front ++ b ∷ rest) (length front) 0 < 128 = rw (get_or_at front b rest 0 (length front) refl) e in
+    let cut = IsCharBoundary-before_ascii (front ++ b ∷ rest) (length front) within small in (
+      subst (λ text. IsUtf8 text) (take_at front (b ∷ rest) (length front) refl) (IsUtf8-take (front ++ b ∷ rest) (length front) u cut),
+      subst (λ text. IsUtf8 text) (drop_at front (b ∷ rest) (length front) refl) (IsUtf8-drop (front ++ b ∷ rest) (length front) u cut),
+    )
+
+-- ---- what stands in the text
+
+-- a chunk has the ink of what it stands for
+pub stands_ink : (chunk : Chunk) (there : List ℕ) → StandsFor chunk there → chunk_ink chunk ≡ ink there
+stands_ink (Raw bytes weight) there (inl e) = ap ink (sym e)
+stands_ink (Raw bytes weight) there (inr h) = ap ink h.1 ∙ gap_ink (codes " ") refl ∙ sym (ap ink h.0 ∙ gap_ink (codes "\n") refl)
+stands_ink Paragraph there (inl e) = sym (ap ink e ∙ gap_ink (codes "\n\n") refl)
+stands_ink Paragraph there (inr e) = sym (ap ink e ∙ gap_ink (codes "\n") refl)
+stands_ink LineBreak there e = sym (ap ink e ∙ gap_ink (codes "\n ") refl)
+
+-- an ASCII character by itself
+utf8_alone : (b : ℕ) → b < 128 → IsScalar b → IsUtf8 (b ∷ [])
+utf8_alone b small s = subst (λ t. IsUtf8 t) (encode_ascii b small) (IsUtf8-encode b s)
+
+-- a gap in a UTF-8 text is UTF-8, and so is what follows it
+utf8_gap : (gap rest : List ℕ) → IsGap gap → IsUtf8 (gap ++ rest) → IsUtf8 gap × IsUtf8 rest
+utf8_gap [] rest g u = (IsUtf8-nil, u)
+utf8_gap (b ∷ gap) rest g u =
+    let is : (b ≡ 10) ⊎ (b ≡ 32) = gap_is b (and_left (is_gap_byte b) (list_all is_gap_byte gap) g) in
+    let more : IsUtf8 gap × IsUtf8 rest = utf8_gap gap rest (and_right (is_gap_byte b) (list_all is_gap_byte gap) g) (utf8_after b (gap ++ rest) (ascii b is) u) in
+    (IsUtf8-append (b ∷ []) gap (alone b is) more.0, more.1) where
+      ascii : (b : ℕ) → (b ≡ 10) ⊎ (b ≡ 32) → b < 128
+      ascii b (inl e) = omega (arith, e)
+      ascii b (inr e) = omega (arith, e)
+
+      alone : (b : ℕ) → (b ≡ 10) ⊎ (b ≡ 32) → IsUtf8 (b ∷ [])
+      alone b (inl e) = rw e (utf8_alone 10 (lit< tt) refl)
+      alone b (inr e) = rw e (utf8_alone 32 (lit< tt) refl)
+
+pub IsUtf8-blank : IsUtf8 (codes " ")
+IsUtf8-blank = utf8_alone 32 (lit< tt) refl
+
+-- ---- the pieces
+
+pub data Pieces : List Chunk → List ℕ → Type 0 where
+  none : {chunks : List Chunk} {text : List ℕ} → chunks ≡ [] → text ≡ [] → Pieces chunks text
+  piece : {chunks : List Chunk} {text : List ℕ} (gap there after rest : List ℕ) (chunk : Chunk) (others : List Chunk) → chunks ≡ chunk ∷ others
+      → text ≡ gap ++ (there ++ (after ++ rest)) → IsGap gap → IsGap after → StandsFor chunk there → IsOneLine chunk
+      → (IsUtf8 text → IsUtf8 there × IsUtf8 rest) → Pieces others rest → Pieces chunks text
+
+-- a word is in one line
+word_line : (bytes : List ℕ) → IsTrue (list_all is_word_byte bytes) → IsLine bytes
+word_line [] w = refl
+word_line (b ∷ bytes) w =
+    let here : IsTrue (is_line_byte b) = and_left (is_line_byte b) (not (b == 32)) (and_left (is_word_byte b) (list_all is_word_byte bytes) w) in
+    let after : IsLine bytes = word_line bytes (and_right (is_word_byte b) (list_all is_word_byte bytes) w) in
+    rw here after
+
+-- a newline that a line of a fence takes with it
+newline_taken : (rest next : List ℕ) → IsPastNewline rest next → (after : List ℕ) × (rest ≡ after ++ next) × IsGap after × (IsUtf8 rest → IsUtf8 next)
+newline_taken rest next (inl e) = (codes "\n", e, refl, λ u. utf8_after 10 next (lit< tt) (subst (λ text. IsUtf8 text) e u))
+newline_taken rest next (inr (e, f)) = ([], e ∙ sym f, refl, λ u. subst (λ text. IsUtf8 text) (e ∙ sym f) u)
+
+fence_line : {chunks : List Chunk} {text : List ℕ} (line rest next : List ℕ) (weight : ℕ) (others : List Chunk) → chunks ≡ Raw line weight ∷ others
+    → text ≡ line ++ rest → IsLine line → IsPastNewline rest next → Pieces others next → Pieces chunks text
+fence_line {chunks} {text} line rest next weight others ec et l p s = at (newline_taken rest next p) where
+  at : (after : List ℕ) × (rest ≡ after ++ next) × IsGap after × (IsUtf8 rest → IsUtf8 next) → Pieces chunks text
+  at (after, e, g, u) =
+      piece [] line after next (Raw line weight) others ec (et ∙ ap (λ t. line ++ t) e) refl g (inl refl) l
+      (λ v. let w = utf8_cut line rest (end_of_line rest (past_is rest next p).0) (subst (λ t. IsUtf8 t) et v) in (w.0, u w.1)) s
+
+-- a chunk that stands for an ASCII text, and no gap
+ascii_piece : {chunks : List Chunk} {text : List ℕ} (there rest : List ℕ) (chunk : Chunk) (others : List Chunk) → chunks ≡ chunk ∷ others → text ≡ there ++ rest
+    → IsTrue (list_all is_gap_byte there) → StandsFor chunk there → IsOneLine chunk → Pieces others rest → Pieces chunks text
+ascii_piece {chunks} {text} there rest chunk others ec et g t l s =
+    piece [] there [] rest chunk others ec et refl refl t l (λ u. utf8_gap there rest g (subst (λ t. IsUtf8 t) et u)) s
+
+pub pieces : {form : Form} {chunks : List Chunk} {text : List ℕ} → Spells form chunks text → Pieces chunks text
+pieces (nothing ec et) = none ec et
+pieces (code_line line rest others ec et l r s) =
+    piece (codes "\n    ") line [] rest (Raw line _) others ec et refl refl (inl refl) l
+    (λ u. utf8_cut line rest (end_of_line rest r) (utf8_gap (codes "\n    ") (line ++ rest) refl (subst (λ t. IsUtf8 t) et u)).1) (pieces s)
+pieces (fence rest others ec et t s) = ascii_piece (codes "\n\n") rest Paragraph others ec et refl (inl refl) tt (pieces s)
+pieces (before_code rest others ec et t s) = ascii_piece (codes "\n") rest Paragraph others ec et refl (inr refl) tt (pieces s)
+pieces (paragraph rest others ec et f g s) = ascii_piece (codes "\n\n") rest Paragraph others ec et refl (inl refl) tt (pieces s)
+pieces (line_break rest others ec et f s) = ascii_piece (codes "\n ") rest LineBreak others ec et refl refl tt (pieces s)
+pieces (newline rest others ec et f g s) = ascii_piece (codes "\n") rest (Raw (codes " ") 1) others ec et refl (inr (refl, refl, refl)) refl (pieces s)
+pieces (blank rest others ec et s) = ascii_piece (codes " ") rest (Raw (codes " ") 1) others ec et refl (inl refl) refl (pieces s)
+pieces (word bytes rest others ec et w r s) =
+    piece [] bytes [] rest (Raw bytes _) others ec et refl refl (inl refl) (word_line bytes w.1)
+    (λ u. utf8_cut bytes rest (end_of_word rest r) (subst (λ t. IsUtf8 t) et u)) (pieces s)
+pieces (opening line rest next others ec et some l p s) = fence_line line rest next _ others ec et l p (pieces s)
+pieces (later line rest next others ec et some l f p s) = fence_line line rest next _ others ec et l p (pieces s)
+pieces (closing line rest next others ec et l t f p s) = fence_line line rest next _ others ec et l p (pieces s)
+pieces (closing_paragraph line rest others ec et l t f s) =
+    piece [] line [] rest (Raw line _) others ec et refl refl (inl refl) l
+    (λ u. utf8_cut line rest (end_of_line rest two) (subst (λ t. IsUtf8 t) et u)) (pieces s) where
+      two : IsLineEnd rest
+      two = subst (λ t. IsLineEnd t) (sym (starts_front (codes "\n\n") rest f)) refl

@@ -1,0 +1,57 @@
+-- Printable ASCII without blanks is a word, and each of its characters takes a column.
+use Rattle.std.specs.Prelude.{◌≡◌, ℕ, ◌<◌, ◌≤◌, Bool, true, false, IsTrue, List, [], ◌∷◌, refl, length, take}
+use Rattle.std.specs.Char.{is_ascii_graphic}
+use Rattle.std.specs.Int.{is_in_range}
+use Rattle.std.specs.List.{All, list_all}
+use Rattle.std.specs.Str.{IsAscii, IsUtf8, IsCharBoundary}
+use Rattle.std.proofs.Common.{sym, ap, ◌∙◌, arith}
+use Rattle.std.proofs.lemmas.Bool.{and_parts}
+use Rattle.std.proofs.lemmas.Bool.Decides.{nat_tests}
+use Rattle.std.proofs.lemmas.List.Sums.{AllPass-from_list_all}
+use Rattle.std.proofs.lemmas.Str.{chars-IsAscii, IsUtf8-from_ascii, IsCharBoundary-from_take}
+use Rattle.std.proofs.lemmas.Str.Ascii.{IsAscii-from_all}
+use Rattle.unicode_width.specs.Width.{str_width}
+use Rattle.unicode_width.proofs.Rules.{str_width-printable}
+use Rattle.bpaf_doc.specs.Splitter.Chunks.{columns, is_word_byte}
+
+-- what each of them is: no newline and no blank, printable, and ASCII
+word_one : (b : ℕ) → is_ascii_graphic b ≡ true → is_word_byte b ≡ true
+word_one b h = grind (arith, nat_tests)
+
+column_one : (b : ℕ) → is_ascii_graphic b ≡ true → is_in_range 0x20 0x7E b ≡ true
+column_one b h = grind (arith, nat_tests)
+
+small_one : (b : ℕ) → is_ascii_graphic b ≡ true → b < 128
+small_one b h = grind (arith, nat_tests)
+
+each : (p q : ℕ → Bool) (bytes : List ℕ) → ((b : ℕ) → p b ≡ true → q b ≡ true) → list_all p bytes ≡ true → list_all q bytes ≡ true
+each p q [] one h = refl
+each p q (b ∷ bytes) one h =
+    let parts = and_parts (p b) (list_all p bytes) h in
+    rw (one b parts.0) (each p q bytes one parts.1)
+
+all_small : (bytes : List ℕ) → list_all is_ascii_graphic bytes ≡ true → All (λ b. b < 128) bytes
+all_small bytes h k d l = small_one _ (AllPass-from_list_all is_ascii_graphic bytes h k d l)
+
+ascii : (bytes : List ℕ) → list_all is_ascii_graphic bytes ≡ true → IsAscii bytes
+ascii bytes h = IsAscii-from_all bytes (all_small bytes h)
+
+pub printable_word : (bytes : List ℕ) → list_all is_ascii_graphic bytes ≡ true → IsTrue (list_all is_word_byte bytes)
+printable_word bytes h = each is_ascii_graphic is_word_byte bytes word_one h
+
+pub printable_columns : (bytes : List ℕ) → list_all is_ascii_graphic bytes ≡ true → length bytes ≡ columns bytes
+printable_columns bytes h =
+    sym (ap (str_width false) (chars-IsAscii bytes (ascii bytes h))
+    ∙ str_width-printable false bytes (each is_ascii_graphic (is_in_range 0x20 0x7E) bytes column_one h))
+
+pub printable_cut : (text : List ℕ) (n : ℕ) → IsUtf8 text → n ≤ length text → list_all is_ascii_graphic (take n text) ≡ true → IsCharBoundary text n
+printable_cut text n u l h = IsCharBoundary-from_take text n u l (IsUtf8-from_ascii (take n text) (ascii (take n text) h))
+
+-- a line of printable ASCII, blanks among it
+wide_small : (b : ℕ) → is_in_range 0x20 0x7E b ≡ true → b < 128
+wide_small b h = grind (arith, nat_tests)
+
+pub line_columns_are : (bytes : List ℕ) → list_all (is_in_range 0x20 0x7E) bytes ≡ true → length bytes ≡ columns bytes
+line_columns_are bytes h =
+    sym (ap (str_width false) (chars-IsAscii bytes (IsAscii-from_all bytes (λ k d l. wide_small _ (AllPass-from_list_all (is_in_range 0x20 0x7E) bytes h k d l))))
+    ∙ str_width-printable false bytes h)

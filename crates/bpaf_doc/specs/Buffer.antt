@@ -1,0 +1,9 @@
+-- Documents, the calls that write them, and what may be believed of these. `Steps`: how the code holds a document.
+pub mod Parts
+pub mod View
+pub mod Writes
+pub mod Marks
+pub mod Growth
+pub mod FirstLine
+pub mod Equality
+pub mod Steps

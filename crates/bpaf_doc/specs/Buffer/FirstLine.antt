@@ -1,0 +1,23 @@
+-- The first line of a document.
+use Rattle.std.specs.Prelude.{◌≡◌, ℕ, true, if◌then◌else◌, List, [], ◌∷◌, Option, None, Some}
+use Rattle.std.specs.List.{list_any, before_first, after_first}
+use Rattle.bpaf_doc.specs.Buffer.Parts.{Part, Text, Start, End}
+use Rattle.bpaf_doc.specs.Buffer.Writes.{is_newline}
+
+-- the leading texts up to the first newline or mark, of which the newline is cut off
+abbrev pub leading_texts : List Part → List Part
+leading_texts [] = []
+leading_texts (Text bytes style ∷ ps) = if list_any is_newline bytes then Text (before_first is_newline bytes) style ∷ [] else Text bytes style ∷ leading_texts ps
+leading_texts (Start b ∷ ps) = []
+leading_texts (End b ∷ ps) = []
+
+-- a document without parts has none
+abbrev pub first_line_of : List Part → Option (List Part)
+first_line_of [] = None
+first_line_of (p ∷ ps) = Some (leading_texts (p ∷ ps))
+
+-- a text with a newline, up to its first one and behind it
+pub record IsSplitLine (text front rest : List ℕ) : Type 0 where
+  pub some : list_any is_newline text ≡ true
+  pub front_is : front ≡ before_first is_newline text
+  pub rest_is : rest ≡ after_first is_newline text

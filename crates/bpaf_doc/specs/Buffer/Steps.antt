@@ -1,0 +1,2 @@
+-- How the code holds a document. Nobody has to believe it.
+pub mod Ends

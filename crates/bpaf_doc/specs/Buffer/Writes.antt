@@ -1,0 +1,91 @@
+-- What is written into a document, and the parts that it leaves there.
+use Rattle.std.specs.Prelude.{ℕ, Bool, if◌then◌else◌, List, [], ◌∷◌, ◌++◌, ◌==◌, fold, flat_map, codes}
+use Rattle.std.specs.Borrow.{Bor}
+use Rattle.std.specs.List.{list_any, before_first, after_first}
+use Rattle.bpaf_doc.specs.declared.buffer.Style.{Style}
+use Rattle.bpaf_doc.specs.declared.buffer.Style.TheVariants as style
+use Rattle.bpaf_doc.specs.declared.buffer.Block.{Block}
+use Rattle.bpaf_doc.specs.declared.buffer.Block.TheVariants as block
+use Rattle.bpaf_doc.specs.contracts.buffer.StylePartialEq.TheImpl as style_eq
+use Rattle.bpaf_doc.specs.Buffer.Parts.{Part, Text, Start, End}
+
+-- a text, the start or the end of a block, or the parts of a whole document
+pub data Write : Type 0 where
+  text : List ℕ → Style → Write
+  start : Block → Write
+  end : Block → Write
+  parts : List Part → Write
+
+abbrev pub same_style : Style → Style → Bool
+same_style = (style_eq.ghosts).eq
+
+-- a last part with a text after it, which joins a text of its style
+abbrev pub part_then_text : Part → List ℕ → Style → List Part
+part_then_text (Text before kind) bytes style = if same_style kind style then Text (before ++ bytes) style ∷ [] else Text before kind ∷ Text bytes style ∷ []
+part_then_text (Start b) bytes style = Start b ∷ Text bytes style ∷ []
+part_then_text (End b) bytes style = End b ∷ Text bytes style ∷ []
+
+-- the parts with a text written after them: it joins a last part that is a text of its style, and else is a part of its own
+abbrev pub with_text : List Part → List ℕ → Style → List Part
+with_text [] bytes style = Text bytes style ∷ []
+with_text (p ∷ []) bytes style = part_then_text p bytes style
+with_text (p ∷ q ∷ ps) bytes style = p ∷ with_text (q ∷ ps) bytes style
+
+-- a text is written by that rule; a mark is a part; a whole document's parts are added as they are
+abbrev pub with_write : List Part → Write → List Part
+with_write ps (text bytes style) = with_text ps bytes style
+with_write ps (start b) = ps ++ Start b ∷ []
+with_write ps (end b) = ps ++ End b ∷ []
+with_write ps (parts qs) = ps ++ qs
+
+-- the parts after all the writes, in order
+abbrev pub with_writes : List Part → List Write → List Part
+with_writes = fold with_write
+
+-- a document that was written from nothing
+abbrev pub document_of : List Write → List Part
+document_of = with_writes []
+
+-- a text in each style
+abbrev pub plain : List ℕ → Write
+plain bytes = text bytes style.Text
+
+abbrev pub emphasis : List ℕ → Write
+emphasis bytes = text bytes style.Emphasis
+
+abbrev pub literal : List ℕ → Write
+literal bytes = text bytes style.Literal
+
+abbrev pub metavar : List ℕ → Write
+metavar bytes = text bytes style.Metavar
+
+-- writes between the marks of a block
+abbrev pub inside : Block → List Write → List Write
+inside b ws = start b ∷ ws ++ end b ∷ []
+
+-- `from_pairs`: each text with its style
+abbrev pub pair_write : Bor (List ℕ) × Style → Write
+pair_write pair = text pair.0.now pair.1
+
+-- `doc`: a document's parts as they are, in an inline block
+abbrev pub doc_writes : List Part → List Write
+doc_writes d = inside block.InlineBlock (parts d ∷ [])
+
+abbrev pub is_newline : ℕ → Bool
+is_newline c = c == 10
+
+-- a first text as a title: up to its first newline in Emphasis, and what follows in Section3
+abbrev pub title_writes : List ℕ → List Part → List Write
+title_writes bytes others = if list_any is_newline bytes then emphasis (before_first is_newline bytes) ∷ inside block.Section3 (plain (after_first is_newline bytes) ∷ parts others ∷ []) else emphasis bytes ∷ parts others ∷ []
+
+abbrev pub titled : List Part → List Write
+titled (Text bytes style.Text ∷ others) = title_writes bytes others
+titled d = parts d ∷ []
+
+-- `em_doc`: the same with a first Text-style text as a title
+abbrev pub em_doc_writes : List Part → List Write
+em_doc_writes d = inside block.InlineBlock (titled d)
+
+-- `write_path`: each name as Literal, then a blank
+abbrev pub path_writes : List (List ℕ) → List Write
+path_writes = flat_map (λ name. literal name ∷ plain (codes " ") ∷ [])

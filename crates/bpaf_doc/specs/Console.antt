@@ -1,0 +1,5 @@
+-- Console pages: what is promised of one. `Exact`: the page as a function. `Steps`: what leads from the code to both.
+pub mod Margin
+pub mod Layout
+pub mod Exact
+pub mod Steps

@@ -1,0 +1,317 @@
+-- What a console text may look like: a layout of a document at a width.
+use Rattle.std.specs.Prelude.{◌≡◌, ◌≢◌, ℕ, ◌+◌, ◌<◌, ◌≤◌, max, Bool, true, false, not, ◌&&◌, ◌==◌, IsTrue, ◌⊎◌, List, [], ◌∷◌, ◌++◌, map, length, take, sum_by, count_by, flat_map, All, codes, if◌then◌else◌}
+use Rattle.std.specs.List.{list_any, list_all, before_first, after_last, slice_split}
+use Rattle.std.specs.Str.{trim_end}
+use Rattle.bpaf_doc.specs.declared.buffer.Block.TheVariants as blocks
+use Rattle.bpaf_doc.specs.declared.buffer.Block.{Block}
+use Rattle.bpaf_doc.specs.Buffer.Parts.{Part, Text, Start, End, ink}
+use Rattle.bpaf_doc.specs.Splitter.Chunks.{Chunk, Raw, Paragraph, LineBreak, columns, is_ordinary, is_inked, is_raw, IsOrdinary, IsInked, has_some, starts}
+use Rattle.bpaf_doc.specs.Shown.{numbered, shown_chunks, console_ink, is_term_ref, mark_bytes}
+use Rattle.bpaf_doc.specs.Console.Margin.{is_skipped, margin, greatest, greatest_margin}
+
+-- ---- what is shown, in order
+
+-- a chunk of the shown text at a place of the document, or a start or an end of a block outside the skipped pairs
+pub data Event : Type 0 where
+  Shows : ℕ → Chunk → Event
+  Opens : Block → Event
+  Closes : Block → Event
+
+-- the events of the part at place k
+abbrev pub part_events : Bool → List Part → ℕ → Part → List Event
+part_events full document k (Text bytes style) = map (λ chunk. Shows k chunk) (shown_chunks full (take k document) bytes)
+part_events full document k (Start b) = if is_skipped document k then [] else Opens b ∷ []
+part_events full document k (End b) = if is_skipped document k then [] else Closes b ∷ []
+
+-- the events of what is shown of a document, in order
+abbrev pub shown_events : Bool → List Part → List Event
+shown_events full document = flat_map (λ (k, part). part_events full document k part) (numbered document)
+
+-- ---- placings
+
+-- where a Raw chunk stands: its text's place in the document, the chunk's bytes and weight, and what the console text has of it
+pub record Place : Type 0 where
+  pub part : ℕ
+  pub bytes : List ℕ
+  pub weight : ℕ
+  pub shown : List ℕ
+
+-- a byte outside the places, a chunk that has a place, or an event that has none
+pub data Stretch : Type 0 where
+  Gap : ℕ → Stretch
+  Placed : Place → Stretch
+  Passed : Event → Stretch
+
+-- the chunk that stands at a place
+abbrev pub chunk_at : Place → Chunk
+chunk_at e = Raw e.bytes e.weight
+
+-- the backquote of a TermRef mark
+abbrev pub event_bytes : Event → List ℕ
+event_bytes (Shows k chunk) = []
+event_bytes (Opens b) = mark_bytes b
+event_bytes (Closes b) = mark_bytes b
+
+-- the bytes of the text that a stretch makes
+abbrev pub stretch_bytes : Stretch → List ℕ
+stretch_bytes (Gap b) = b ∷ []
+stretch_bytes (Placed e) = e.shown
+stretch_bytes (Passed event) = event_bytes event
+
+-- the event that a stretch has, if any
+abbrev pub stretch_events : Stretch → List Event
+stretch_events (Gap b) = []
+stretch_events (Placed e) = Shows e.part (chunk_at e) ∷ []
+stretch_events (Passed event) = event ∷ []
+
+-- the console text that the stretches make, and the document's events in it
+abbrev pub text_of : List Stretch → List ℕ
+text_of stretches = flat_map stretch_bytes stretches
+
+abbrev pub events_of : List Stretch → List Event
+events_of stretches = flat_map stretch_events stretches
+
+-- a newline outside the places
+abbrev pub is_newline : Stretch → Bool
+is_newline (Gap b) = b == 10
+is_newline _ = false
+
+-- an inked chunk
+abbrev pub is_inked_event : Event → Bool
+is_inked_event (Shows k chunk) = is_inked chunk
+is_inked_event _ = false
+
+-- an inked chunk, in a place or not
+abbrev pub is_inked_stretch : Stretch → Bool
+is_inked_stretch stretch = list_any is_inked_event (stretch_events stretch)
+
+-- What may stand before these stretches: a blank or a newline; a whole chunk, or one without its blank end, where a newline
+-- follows directly; an event that is no inked chunk.
+abbrev pub MayStand : Stretch → List Stretch → Type 0
+MayStand (Gap b) after = (b ≡ 32) ⊎ (b ≡ 10)
+MayStand (Placed e) after = (e.shown ≡ e.bytes) ⊎ ((e.shown ≡ trim_end e.bytes) × IsTrue (starts (text_of after) (codes "\n")))
+MayStand (Passed event) after = IsTrue (not (is_inked_event event))
+
+-- the stretches make the text, and have what is shown of the document, in order, with each inked chunk in a place
+pub record IsPlacing (document : List Part) (full : Bool) (text : List ℕ) (stretches : List Stretch) : Type 0 where
+  pub whole_text : text_of stretches ≡ text
+  pub all_events : events_of stretches ≡ shown_events full document
+  pub each_stretch : (before after : List Stretch) (stretch : Stretch) → stretches ≡ before ++ stretch ∷ after → MayStand stretch after
+
+-- ---- columns
+
+-- the columns of a chunk count in full, also where its end was cut; a byte outside the places counts one
+abbrev pub stretch_columns : Stretch → ℕ
+stretch_columns (Gap b) = 1
+stretch_columns (Placed e) = columns e.bytes
+stretch_columns (Passed event) = length (event_bytes event)
+
+-- what stands before a place in its line
+abbrev pub line_before : List Stretch → List Stretch
+line_before before = after_last is_newline before
+
+-- the column of a place after these stretches
+abbrev pub column : List Stretch → ℕ
+column before = sum_by stretch_columns (line_before before)
+
+-- the stretches of each line, without the newlines
+abbrev pub stretch_lines : List Stretch → List (List Stretch)
+stretch_lines stretches = slice_split is_newline stretches
+
+-- the columns of a chunk
+abbrev pub event_columns : Event → ℕ
+event_columns (Shows k (Raw bytes weight)) = columns bytes
+event_columns _ = 0
+
+-- the columns of the widest chunk
+abbrev pub widest : List Event → ℕ
+widest events = greatest (map event_columns events)
+
+-- ---- the laws
+
+-- the inked chunk at e stands after some stretches, then others follow, and then the inked chunk at f
+pub record AreApart (stretches before : List Stretch) (e : Place) (between : List Stretch) (f : Place) : Type 0 where
+  pub after : List Stretch
+  pub order : stretches ≡ before ++ Placed e ∷ (between ++ Placed f ∷ after)
+  pub first_inked : IsInked (chunk_at e)
+  pub second_inked : IsInked (chunk_at f)
+
+-- a break chunk; a start of Header, Section2, Section3, Section4 or ItemTerm; an end of Block
+abbrev pub asks_newline : Event → Bool
+asks_newline (Shows k Paragraph) = true
+asks_newline (Shows k LineBreak) = true
+asks_newline (Opens blocks.Header) = true
+asks_newline (Opens blocks.Section2) = true
+asks_newline (Opens blocks.Section3) = true
+asks_newline (Opens blocks.Section4) = true
+asks_newline (Opens blocks.ItemTerm) = true
+asks_newline (Closes blocks.Block) = true
+asks_newline _ = false
+
+-- an end of Block
+abbrev pub asks_blank_line : Event → Bool
+asks_blank_line (Closes blocks.Block) = true
+asks_blank_line _ = false
+
+-- a Raw chunk
+abbrev pub is_raw_event : Event → Bool
+is_raw_event (Shows k chunk) = is_raw chunk
+is_raw_event _ = false
+
+-- two newlines stand together
+abbrev pub HasBlankLine : List ℕ → Type 0
+HasBlankLine text = (front back : List ℕ) × (text ≡ front ++ codes "\n\n" ++ back)
+
+-- Between two inked chunks stands a newline where one is asked for; a blank line where a Block ends, if no Raw stands between
+-- the two and the second fits the width.
+pub record BreaksWhereAsked (width : ℕ) (stretches : List Stretch) : Type 0 where
+  pub newline : (before between : List Stretch) (e f : Place) → AreApart stretches before e between f
+      → IsTrue (list_any asks_newline (events_of between)) → IsTrue (list_any is_newline between)
+  pub blank_line : (before between : List Stretch) (e f : Place) → AreApart stretches before e between f
+      → IsTrue (list_any asks_blank_line (events_of between)) → IsTrue (not (list_any is_raw_event (events_of between)))
+      → columns f.bytes ≤ width → HasBlankLine (text_of between)
+
+-- kept whole; a byte outside the places only where it may be added
+abbrev pub IsKept : Type 0 → Stretch → Type 0
+IsKept may_add (Gap b) = may_add
+IsKept may_add (Placed e) = e.shown ≡ e.bytes
+IsKept may_add (Passed event) = IsTrue (not (is_raw_event event))
+
+-- Between neighbouring inked chunks without a newline between them nothing is cut or left out, and blanks are added only
+-- between different texts.
+abbrev pub KeepsBlanks : List Stretch → Type 0
+KeepsBlanks stretches = (before between : List Stretch) (e f : Place) → AreApart stretches before e between f
+    → IsTrue (not (list_any is_inked_stretch between)) → IsTrue (not (list_any is_newline between))
+    → (e.shown ≡ e.bytes) × All (IsKept (e.part ≢ f.part)) between
+
+-- a code or fence line with no bytes
+abbrev pub is_empty_code : Event → Bool
+is_empty_code (Shows k (Raw bytes weight)) = not (has_some bytes) && not (is_ordinary (Raw bytes weight))
+is_empty_code _ = false
+
+-- no empty code or fence line stands before the first ink
+abbrev pub BeginsClear : List Event → Type 0
+BeginsClear events = IsTrue (not (list_any is_empty_code (before_first is_inked_event events)))
+
+-- no inked chunk stands before it in its line
+abbrev pub IsFirstInLine : List Stretch → Type 0
+IsFirstInLine before = IsTrue (not (list_any is_inked_stretch (line_before before)))
+
+-- the events since the inked chunk before, or since the start
+abbrev pub events_since_ink : List Stretch → List Event
+events_since_ink before = events_of (after_last is_inked_stretch before)
+
+-- a Raw chunk or a mark of TermRef
+abbrev pub is_raw_or_ref : Event → Bool
+is_raw_or_ref (Shows k chunk) = is_raw chunk
+is_raw_or_ref (Opens b) = is_term_ref b
+is_raw_or_ref (Closes b) = is_term_ref b
+
+-- the inked chunk before is of the same text, and one ordinary blank and no other chunk stands between
+pub record FollowsBlank (before : List Stretch) (f : Place) : Type 0 where
+  pub front : List Stretch
+  pub between : List Stretch
+  pub e : Place
+  pub order : before ≡ front ++ Placed e ∷ between
+  pub inked : IsInked (chunk_at e)
+  pub same_text : e.part ≡ f.part
+  pub one_blank : events_of between ≡ Shows f.part (Raw (codes " ") 1) ∷ []
+
+-- An inked chunk's column is at least its margin. It is the margin for the first inked chunk of a line, where no blank chunk and
+-- no TermRef mark stands before it since the last ink, or just the one blank of a text.
+pub record KeepsMargin (document : List Part) (stretches : List Stretch) : Type 0 where
+  pub at_least : (before after : List Stretch) (f : Place) → stretches ≡ before ++ Placed f ∷ after → IsInked (chunk_at f)
+      → margin document f.part ≤ column before
+  pub exact : (before after : List Stretch) (f : Place) → stretches ≡ before ++ Placed f ∷ after → IsInked (chunk_at f) → IsFirstInLine before
+      → IsTrue (not (list_any is_raw_or_ref (events_since_ink before))) ⊎ FollowsBlank before f
+      → column before ≡ margin document f.part
+
+-- the blocks whose marks ask for nothing and push no margin
+abbrev pub is_inline_block : Block → Bool
+is_inline_block blocks.InlineBlock = true
+is_inline_block blocks.Mono = true
+is_inline_block blocks.Meta = true
+is_inline_block blocks.DefinitionList = true
+is_inline_block _ = false
+
+-- an ordinary chunk without ink, or a mark of InlineBlock, Mono, Meta or DefinitionList
+abbrev pub is_light : Event → Bool
+is_light (Shows k chunk) = is_ordinary chunk && not (is_inked chunk)
+is_light (Opens b) = is_inline_block b
+is_light (Closes b) = is_inline_block b
+
+-- such a mark, an ItemTerm end or an ItemBody start
+abbrev pub is_light_mark : Event → Bool
+is_light_mark (Opens blocks.ItemBody) = true
+is_light_mark (Closes blocks.ItemTerm) = true
+is_light_mark (Shows k chunk) = false
+is_light_mark event = is_light event
+
+-- Where a newline stands between two ordinary inked chunks, and between them the document has only light chunks and marks, or
+-- only light marks, the second would pass the width without it.
+abbrev pub WrapsOnlyIfNeeded : ℕ → List Stretch → Type 0
+WrapsOnlyIfNeeded width stretches = (before between : List Stretch) (e f : Place) → AreApart stretches before e between f
+    → IsOrdinary (chunk_at e) → IsOrdinary (chunk_at f)
+    → IsTrue (list_all is_light (events_of between)) ⊎ IsTrue (list_all is_light_mark (events_of between))
+    → IsTrue (list_any is_newline between)
+    → width < column before + columns e.bytes + sum_by event_columns (events_of between) + columns f.bytes
+
+-- a mark of TermRef
+abbrev pub is_ref : Event → Bool
+is_ref (Shows k chunk) = false
+is_ref (Opens b) = is_term_ref b
+is_ref (Closes b) = is_term_ref b
+
+-- no line is longer than the greatest margin, 2, and the greater of the width and the widest chunk
+abbrev pub IsBounded : List Part → ℕ → List Stretch → Type 0
+IsBounded document width stretches =
+    All (λ line. sum_by stretch_columns line ≤ greatest_margin document + 2 + max width (widest (events_of stretches))) (stretch_lines stretches)
+
+-- an event without a place
+abbrev pub is_passed : Stretch → Bool
+is_passed (Passed event) = true
+is_passed _ = false
+
+-- a chunk that stands directly after another, with no byte outside the places between them, ends at most at the width
+abbrev pub FitsWidth : ℕ → List Stretch → Type 0
+FitsWidth width stretches = (before between after : List Stretch) (e f : Place) → stretches ≡ before ++ Placed e ∷ (between ++ Placed f ∷ after)
+    → IsTrue (list_all is_passed between) → column (before ++ Placed e ∷ between) + columns f.bytes ≤ width
+
+-- a chunk in a place
+abbrev pub is_placed : Stretch → Bool
+is_placed (Placed e) = true
+is_placed _ = false
+
+-- a byte outside the places
+abbrev pub is_gap : Stretch → Bool
+is_gap (Gap b) = true
+is_gap _ = false
+
+-- a start of ItemBody
+abbrev pub opens_body : Event → Bool
+opens_body (Opens blocks.ItemBody) = true
+opens_body _ = false
+
+-- how many bytes outside the places stand in the line since the last place
+abbrev pub padding : List Stretch → ℕ
+padding before = count_by is_gap (after_last is_placed (line_before before))
+
+-- blanks are added only up to the margin, or two of them after an ItemBody start
+abbrev pub PadsToMargin : List Part → List Stretch → Type 0
+PadsToMargin document stretches = (before after : List Stretch) (f : Place) → stretches ≡ before ++ Placed f ∷ after → 0 < padding before
+    → (column before ≡ margin document f.part) ⊎ ((padding before ≡ 2) × IsTrue (list_any opens_body (events_of (after_last is_placed before))))
+
+-- ---- a layout
+
+-- the text is a layout of the document at this width, in full or in brief
+pub record IsLayout (document : List Part) (full : Bool) (width : ℕ) (text : List ℕ) : Type 0 where
+  pub same_ink : ink text ≡ console_ink full document
+  pub stretches : List Stretch
+  pub placing : IsPlacing document full text stretches
+  pub asked : BreaksWhereAsked width stretches
+  pub kept : KeepsBlanks stretches
+  pub margin : width < 1_000_000 → BeginsClear (shown_events full document) → KeepsMargin document stretches
+  pub needed : width < 1_000_000 → BeginsClear (shown_events full document) → WrapsOnlyIfNeeded width stretches
+  pub fits : width < 1_000_000 → BeginsClear (shown_events full document) → FitsWidth width stretches
+  pub padded : width < 1_000_000 → BeginsClear (shown_events full document) → PadsToMargin document stretches
+  pub bound : width < 1_000_000 → IsTrue (not (list_any is_ref (shown_events full document))) → IsBounded document width stretches

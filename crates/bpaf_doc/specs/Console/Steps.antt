@@ -1,0 +1,3 @@
+-- What leads from the code to a console page and its promise. Nobody has to believe it.
+pub mod Ink
+pub mod Pairs

@@ -1,0 +1,120 @@
+-- An HTML page as the code writes it: one fragment after another. `IsHtmlOf` says what is meant; that these pages meet it is proved (proofs/lemmas/Html/Meets),
+-- so this need not be believed.
+use Rattle.std.specs.Prelude.{ℕ, Bool, true, false, ◌&&◌, List, [], ◌∷◌, ◌++◌, flat_map, if◌then◌else◌, codes}
+use Rattle.bpaf_doc.specs.declared.buffer.Style.{Style}
+use Rattle.bpaf_doc.specs.declared.buffer.Style.TheVariants as styles
+use Rattle.bpaf_doc.specs.declared.buffer.Block.{Block}
+use Rattle.bpaf_doc.specs.declared.buffer.Block.TheVariants as blocks
+use Rattle.bpaf_doc.specs.Splitter.Chunks.{Chunk, Raw, Paragraph, LineBreak}
+use Rattle.bpaf_doc.specs.Html.Fragments.{Fragment, TextStart, Shown, TextEnd, Hidden, Start, End}
+use Rattle.bpaf_doc.specs.Html.Page.{escaped_character, is_definition_list}
+
+-- the bytes so far, whether they are none or end in a break, whether the innermost open block is a definition list, and the same of the blocks around it
+pub record Written : Type 0 where
+  pub bytes : List ℕ
+  pub fresh : Bool
+  pub in_list : Bool
+  pub outer : List Bool
+
+abbrev pub blank_page : Written
+blank_page = record { bytes = []; fresh = true; in_list = false; outer = [] }
+
+abbrev pub is_empty : List ℕ → Bool
+is_empty [] = true
+is_empty (b ∷ bs) = false
+
+-- tags, or a text as it stands
+abbrev pub with_text : Written → List ℕ → Written
+with_text p text = record p { bytes = p.bytes ++ text; fresh = p.fresh && is_empty text }
+
+abbrev pub with_break : Written → Written
+with_break p = record p { bytes = p.bytes ++ codes "<br>\n"; fresh = true }
+
+abbrev pub with_words : Written → List ℕ → Written
+with_words p text = record p { bytes = p.bytes ++ flat_map escaped_character text; fresh = p.fresh && is_empty text }
+
+abbrev pub is_header : Block → Bool
+is_header blocks.Header = true
+is_header _ = false
+
+-- a break before a mark of a header, unless there is one
+abbrev pub with_heading : Written → Block → Written
+with_heading p b = if is_header b then (if p.fresh then p else with_break p) else p
+
+abbrev pub start_tag : Block → Bool → List ℕ
+start_tag blocks.Header in_list = codes "# "
+start_tag blocks.Section2 in_list = codes "<div>\n"
+start_tag blocks.Section3 in_list = codes "<div style='padding-left: 0.5em'>"
+start_tag blocks.Section4 in_list = codes "<div style='padding-left: 0.5em'>"
+start_tag blocks.ItemTerm in_list = codes "<dt>"
+start_tag blocks.ItemBody true = codes "<dd>"
+start_tag blocks.ItemBody false = codes "<li>"
+start_tag blocks.DefinitionList in_list = codes "<dl>"
+start_tag blocks.Block in_list = codes "<p>"
+start_tag _ in_list = []
+
+abbrev pub end_tag : Block → Bool → List ℕ
+end_tag blocks.Section2 in_list = codes "</div>"
+end_tag blocks.Section3 in_list = codes "</div>"
+end_tag blocks.Section4 in_list = codes "</div>"
+end_tag blocks.ItemTerm in_list = codes "</dt>\n"
+end_tag blocks.ItemBody true = codes "</dd>\n"
+end_tag blocks.ItemBody false = codes "</li>\n"
+end_tag blocks.DefinitionList in_list = codes "</dl>\n"
+end_tag blocks.Block in_list = codes "</p>"
+end_tag _ in_list = []
+
+abbrev pub opening_tags : Style → List ℕ
+opening_tags styles.Text = []
+opening_tags styles.Emphasis = codes "<b>"
+opening_tags styles.Literal = codes "<tt><b>"
+opening_tags styles.Metavar = codes "<tt><i>"
+opening_tags styles.Invalid = codes "<b>"
+
+abbrev pub closing_tags : Style → List ℕ
+closing_tags styles.Text = []
+closing_tags styles.Emphasis = codes "</b>"
+closing_tags styles.Literal = codes "</b></tt>"
+closing_tags styles.Metavar = codes "</i></tt>"
+closing_tags styles.Invalid = codes "</b>"
+
+-- a block is opened or closed
+abbrev pub opened : Written → Block → Written
+opened p b = record p { in_list = is_definition_list b; outer = p.in_list ∷ p.outer }
+
+abbrev pub first_or_false : List Bool → Bool
+first_or_false [] = false
+first_or_false (b ∷ bs) = b
+
+abbrev pub without_first : List Bool → List Bool
+without_first [] = []
+without_first (b ∷ bs) = bs
+
+abbrev pub closed : Written → Written
+closed p = record p { in_list = first_or_false p.outer; outer = without_first p.outer }
+
+abbrev pub started : Written → Block → Written
+started p b = opened (with_text (with_heading p b) (start_tag b p.in_list)) b
+
+abbrev pub ended : Written → Block → Written
+ended p b = with_text (with_heading (closed p) b) (end_tag b (first_or_false p.outer))
+
+-- the page after a chunk that is shown
+abbrev pub chunk_page : Written → Chunk → Written
+chunk_page p (Raw bytes weight) = with_words p bytes
+chunk_page p Paragraph = with_break p
+chunk_page p LineBreak = with_break p
+
+-- and after a fragment
+abbrev pub page_after : Written → Fragment → Written
+page_after p (TextStart style) = with_text p (opening_tags style)
+page_after p (Shown style chunk) = chunk_page p chunk
+page_after p (TextEnd style) = with_text p (closing_tags style)
+page_after p Hidden = p
+page_after p (Start b) = started p b
+page_after p (End b) = ended p b
+
+-- and after all of some
+abbrev pub page_after_all : Written → List Fragment → Written
+page_after_all p [] = p
+page_after_all p (f ∷ fs) = page_after_all (page_after p f) fs

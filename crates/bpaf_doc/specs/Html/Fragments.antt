@@ -1,0 +1,40 @@
+-- What HTML and markdown have of a document, in order: each shown text with its chunks, each hidden text, and each mark.
+-- In brief a console has the Paragraph that hides what follows it as its last chunk; HTML and markdown leave that Paragraph out.
+use Rattle.std.specs.Prelude.{Bool, not, ◌&&◌, List, [], ◌∷◌, ◌++◌, map, take, false, flat_map, if◌then◌else◌, ℕ}
+use Rattle.std.specs.List.{before_first}
+use Rattle.bpaf_doc.specs.declared.buffer.Style.{Style}
+use Rattle.bpaf_doc.specs.declared.buffer.Block.{Block}
+use Rattle.bpaf_doc.specs.Buffer.Parts.{Part, Text, Start as PartStart, End as PartEnd}
+use Rattle.bpaf_doc.specs.Splitter.Chunks.{Chunk, is_paragraph}
+use Rattle.bpaf_doc.specs.Shown.{numbered, is_hidden, shown_chunks}
+
+-- the start of a shown text, a chunk of it, its end, a hidden text, or a mark
+pub data Fragment : Type 0 where
+  TextStart : Style → Fragment
+  Shown : Style → Chunk → Fragment
+  TextEnd : Style → Fragment
+  Hidden : Fragment
+  Start : Block → Fragment
+  End : Block → Fragment
+
+-- a shown chunk that passes a test
+abbrev pub shows : (Chunk → Bool) → Fragment → Bool
+shows passes (Shown style chunk) = passes chunk
+shows passes _ = false
+
+-- the chunks that are shown of a text which these parts stand before, in brief without a Paragraph
+abbrev pub chunks_without_break : Bool → List Part → List ℕ → List Chunk
+chunks_without_break full before bytes =
+    if full then shown_chunks full before bytes else before_first is_paragraph (shown_chunks full before bytes)
+
+-- the fragments of a part that these stand before
+abbrev pub part_fragments : Bool → List Part → Part → List Fragment
+part_fragments full before (Text bytes style) =
+    if not full && is_hidden before then Hidden ∷ []
+    else TextStart style ∷ (map (Shown style) (chunks_without_break full before bytes) ++ TextEnd style ∷ [])
+part_fragments full before (PartStart b) = Start b ∷ []
+part_fragments full before (PartEnd b) = End b ∷ []
+
+-- the fragments of a document, in full or in brief
+abbrev pub shown_fragments : Bool → List Part → List Fragment
+shown_fragments full document = flat_map (λ (k, part). part_fragments full (take k document) part) (numbered document)

@@ -1,0 +1,217 @@
+-- What an HTML answer promises: it is cut into tags, newlines and the fragments of the document, in the document's order.
+use Rattle.std.specs.Prelude.{◌≡◌, ℕ, ◌==◌, Bool, true, false, not, ◌&&◌, ◌||◌, List, [], ◌∷◌, ◌++◌, map, reverse, filter, flat_map, if◌then◌else◌, IsTrue, codes}
+use Rattle.std.specs.List.{list_any, AllPass}
+use Rattle.bpaf_doc.specs.declared.buffer.Style.{Style}
+use Rattle.bpaf_doc.specs.declared.buffer.Style.TheVariants.{Text, Emphasis, Literal, Metavar, Invalid}
+use Rattle.bpaf_doc.specs.declared.buffer.Block.{Block}
+use Rattle.bpaf_doc.specs.declared.buffer.Block.TheVariants.{Header, Section2, Section3, Section4, ItemTerm, ItemBody, DefinitionList, Block as Plain}
+use Rattle.bpaf_doc.specs.Splitter.Chunks.{Raw, Paragraph, LineBreak, is_inked, is_raw, is_line_byte}
+use Rattle.bpaf_doc.specs.Buffer.Parts.{Part}
+use Rattle.bpaf_doc.specs.Html.Fragments.{Fragment, TextStart, Shown, TextEnd, Start, End, shows, shown_fragments}
+
+-- `erased`, from inside or from outside of a run
+abbrev pub erased_from : Bool → List ℕ → List ℕ
+erased_from inside [] = []
+erased_from inside (c ∷ cs) = (if dropped then [] else (c ∷ [])) ++ erased_from (dropped && not (c == 62)) cs
+  where
+    dropped : Bool
+    dropped = inside || (c == 60)
+
+-- the text without every run from `<` to the next `>`
+abbrev pub erased : List ℕ → List ℕ
+erased text = erased_from false text
+
+-- the elements that an answer uses; a div stands plain or indented
+pub data Element : Type 0 where
+  Tt : Element
+  B : Element
+  I : Element
+  Div : Element
+  IndentedDiv : Element
+  Dt : Element
+  Dd : Element
+  Li : Element
+  Dl : Element
+  P : Element
+
+abbrev pub name_of : Element → List ℕ
+name_of Tt = codes "tt"
+name_of B = codes "b"
+name_of I = codes "i"
+name_of Div = codes "div"
+name_of IndentedDiv = codes "div"
+name_of Dt = codes "dt"
+name_of Dd = codes "dd"
+name_of Li = codes "li"
+name_of Dl = codes "dl"
+name_of P = codes "p"
+
+abbrev pub attributes_of : Element → List ℕ
+attributes_of IndentedDiv = codes " style='padding-left: 0.5em'"
+attributes_of _ = []
+
+abbrev pub opening_tag : Element → List ℕ
+opening_tag e = codes "<" ++ name_of e ++ attributes_of e ++ codes ">"
+
+abbrev pub closing_tag : Element → List ℕ
+closing_tag e = codes "</" ++ name_of e ++ codes ">"
+
+-- a character other than `<` and `>`
+abbrev pub is_no_angle : ℕ → Bool
+is_no_angle c = not ((c == 60) || (c == 62))
+
+-- nothing; characters other than `<` and `>`; `<br>`; an opening tag, well-nested HTML and the closing tag of the same name; two joined
+pub data IsWellNestedHtml : List ℕ → Type 0 where
+  nothing : {text : List ℕ} → text ≡ [] → IsWellNestedHtml text
+  characters : {text : List ℕ} → AllPass is_no_angle text → IsWellNestedHtml text
+  line_break : {text : List ℕ} → text ≡ codes "<br>" → IsWellNestedHtml text
+  enclosed : {text : List ℕ} (e : Element) (inner : List ℕ) → text ≡ opening_tag e ++ (inner ++ closing_tag e) → IsWellNestedHtml inner → IsWellNestedHtml text
+  joined : {text : List ℕ} (front back : List ℕ) → text ≡ front ++ back → IsWellNestedHtml front → IsWellNestedHtml back → IsWellNestedHtml text
+
+-- `<` and `>` are written `&lt;` and `&gt;`
+abbrev pub escaped_character : ℕ → List ℕ
+escaped_character c = if (c == 60) then codes "&lt;" else (if (c == 62) then codes "&gt;" else (c ∷ []))
+
+-- a Raw chunk gives its escaped text, and a Header start `# `
+abbrev pub fragment_text : Fragment → List ℕ
+fragment_text (Shown style (Raw bytes weight)) = flat_map escaped_character bytes
+fragment_text (Start Header) = codes "# "
+fragment_text _ = []
+
+-- the HTML text of what is shown
+abbrev pub html_text : List Part → Bool → List ℕ
+html_text document full = flat_map fragment_text (shown_fragments full document)
+
+-- what an answer is cut into: a tag, `<br>`, a newline, or a fragment of the document
+pub data HtmlSnippet : Type 0 where
+  Open : Element → HtmlSnippet
+  Close : Element → HtmlSnippet
+  Break : HtmlSnippet
+  Newline : HtmlSnippet
+  Of : Fragment → HtmlSnippet
+
+abbrev pub snippet_text : HtmlSnippet → List ℕ
+snippet_text (Open e) = opening_tag e
+snippet_text (Close e) = closing_tag e
+snippet_text Break = codes "<br>"
+snippet_text Newline = codes "\n"
+snippet_text (Of fragment) = fragment_text fragment
+
+-- the snippets without the tags, `<br>` and newlines
+abbrev pub fragments_in : List HtmlSnippet → List Fragment
+fragments_in [] = []
+fragments_in (Of fragment ∷ snippets) = fragment ∷ fragments_in snippets
+fragments_in (_ ∷ snippets) = fragments_in snippets
+
+-- a Paragraph, a LineBreak or a Header mark
+abbrev pub asks_break : Fragment → Bool
+asks_break (Shown style Paragraph) = true
+asks_break (Shown style LineBreak) = true
+asks_break (Start Header) = true
+asks_break (End Header) = true
+asks_break _ = false
+
+abbrev pub is_break : HtmlSnippet → Bool
+is_break Break = true
+is_break _ = false
+
+-- the elements round a text of a style, from the outside in
+abbrev pub style_elements : Style → List Element
+style_elements Text = []
+style_elements Emphasis = B ∷ []
+style_elements Literal = Tt ∷ B ∷ []
+style_elements Metavar = Tt ∷ I ∷ []
+style_elements Invalid = B ∷ []
+
+abbrev pub is_style_element : Element → Bool
+is_style_element Tt = true
+is_style_element B = true
+is_style_element I = true
+is_style_element _ = false
+
+-- a tag of tt, b or i, or a fragment
+abbrev pub is_style_tag_or_fragment : HtmlSnippet → Bool
+is_style_tag_or_fragment (Open e) = is_style_element e
+is_style_tag_or_fragment (Close e) = is_style_element e
+is_style_tag_or_fragment (Of fragment) = true
+is_style_tag_or_fragment _ = false
+
+-- each text opens its style's tags before its chunks and closes them after
+abbrev pub styled_snippets : Fragment → List HtmlSnippet
+styled_snippets (TextStart style) = Of (TextStart style) ∷ map Open (style_elements style)
+styled_snippets (TextEnd style) = map Close (reverse (style_elements style)) ++ Of (TextEnd style) ∷ []
+styled_snippets fragment = Of fragment ∷ []
+
+abbrev pub is_definition_list : Block → Bool
+is_definition_list DefinitionList = true
+is_definition_list _ = false
+
+-- the element of a block, which stands directly in a definition list or not
+abbrev pub block_elements : Bool → Block → List Element
+block_elements in_list Section2 = Div ∷ []
+block_elements in_list Section3 = IndentedDiv ∷ []
+block_elements in_list Section4 = IndentedDiv ∷ []
+block_elements in_list ItemTerm = Dt ∷ []
+block_elements true ItemBody = Dd ∷ []
+block_elements false ItemBody = Li ∷ []
+block_elements in_list DefinitionList = Dl ∷ []
+block_elements in_list Plain = P ∷ []
+block_elements in_list _ = []
+
+-- a tag of a block, or a fragment
+abbrev pub is_block_tag_or_fragment : HtmlSnippet → Bool
+is_block_tag_or_fragment (Open e) = not (is_style_element e)
+is_block_tag_or_fragment (Close e) = not (is_style_element e)
+is_block_tag_or_fragment (Of fragment) = true
+is_block_tag_or_fragment _ = false
+
+abbrev pub is_mark : Fragment → Bool
+is_mark (Start b) = true
+is_mark (End b) = true
+is_mark _ = false
+
+-- well-nested fragments with the tags of their marks: nothing; a fragment that is no mark; a block with its tags, round what it holds; two joined
+pub data HasBlockTags : Bool → List Fragment → List HtmlSnippet → Type 0 where
+  nothing : {in_list : Bool} {fragments : List Fragment} {snippets : List HtmlSnippet} → fragments ≡ [] → snippets ≡ [] → HasBlockTags in_list fragments snippets
+  fragment : {in_list : Bool} {fragments : List Fragment} {snippets : List HtmlSnippet} (p : Fragment) → is_mark p ≡ false → fragments ≡ p ∷ [] → snippets ≡ Of p ∷ [] → HasBlockTags in_list fragments snippets
+  enclosed : {in_list : Bool} {fragments : List Fragment} {snippets : List HtmlSnippet} (b : Block) (inner : List Fragment) (held : List HtmlSnippet)
+      → fragments ≡ Start b ∷ (inner ++ End b ∷ [])
+      → snippets ≡ Of (Start b) ∷ (map Open (block_elements in_list b) ++ held ++ map Close (block_elements in_list b) ++ Of (End b) ∷ [])
+      → HasBlockTags (is_definition_list b) inner held → HasBlockTags in_list fragments snippets
+  joined : {in_list : Bool} {fragments : List Fragment} {snippets : List HtmlSnippet} (front back : List Fragment) (tags more : List HtmlSnippet)
+      → fragments ≡ front ++ back → snippets ≡ tags ++ more → HasBlockTags in_list front tags → HasBlockTags in_list back more → HasBlockTags in_list fragments snippets
+
+-- the answer to a well-nested document, in full or in brief, without the style sheet
+pub record IsHtmlOf (document : List Part) (full : Bool) (answer : List ℕ) : Type 0 where
+  -- the answer is well-nested HTML
+  pub nested : IsWellNestedHtml answer
+  -- its erasure without newlines is the HTML text
+  pub text : filter is_line_byte (erased answer) ≡ html_text document full
+  -- it is cut into tags, newlines and the fragments of the document in order
+  pub cut : List HtmlSnippet
+  pub spelling : answer ≡ flat_map snippet_text cut
+  pub fragments : fragments_in cut ≡ shown_fragments full document
+  -- `<br>` stands between two inked chunks that have a Paragraph, a LineBreak or a Header mark between them
+  pub breaks : (before between after : List HtmlSnippet) (a b : Fragment) → cut ≡ before ++ Of a ∷ (between ++ Of b ∷ after)
+      → IsTrue (shows is_inked a) → IsTrue (shows is_inked b) → IsTrue (list_any asks_break (fragments_in between)) → IsTrue (list_any is_break between)
+  -- Raw chunks that follow one another in a text touch
+  pub touching : (before between after : List HtmlSnippet) (a b : Fragment) → cut ≡ before ++ Of a ∷ (between ++ Of b ∷ after)
+      → IsTrue (shows is_raw a) → IsTrue (shows is_raw b) → fragments_in between ≡ [] → between ≡ []
+  -- the tags of the blocks stand round what the blocks hold
+  pub tags : HasBlockTags false (shown_fragments full document) (filter is_block_tag_or_fragment cut)
+  -- just the tags of its style stand round the chunks of each text
+  pub styles : filter is_style_tag_or_fragment cut ≡ flat_map styled_snippets (shown_fragments full document)
+
+-- what follows an answer where the style sheet is asked for
+abbrev pub style_sheet : List ℕ
+style_sheet = codes "\n<style>\ndiv.bpaf-doc {\n    padding: 14px;\n    background-color:var(--code-block-background-color);\n    font-family: \"Source Code Pro\", monospace;\n    margin-bottom: 0.75em;\n}\n"
+    ++ codes "div.bpaf-doc dt { margin-left: 1em; }\ndiv.bpaf-doc dd { margin-left: 3em; }\ndiv.bpaf-doc dl { margin-top: 0; padding-left: 1em; }\ndiv.bpaf-doc  { padding-left: 1em; }\n</style>"
+
+-- such an answer, followed by the style sheet where it is asked for
+abbrev pub IsHtmlPageOf : List Part → Bool → Bool → List ℕ → Type 0
+IsHtmlPageOf document full include_css answer = (html : List ℕ) × IsHtmlOf document full html × (answer ≡ html ++ (if include_css then style_sheet else []))
+
+-- The same of its text alone: without tags and newlines it is the HTML text. This holds of ill-nested lists too.
+abbrev pub IsHtmlTextPageOf : List Part → Bool → Bool → List ℕ → Type 0
+IsHtmlTextPageOf document full include_css answer =
+    (html : List ℕ) × (filter is_line_byte (erased html) ≡ html_text document full) × (answer ≡ html ++ (if include_css then style_sheet else []))

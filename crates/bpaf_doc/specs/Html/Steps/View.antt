@@ -1,0 +1,37 @@
+-- Fragments, styles and languages of the code, as the definitions name them.
+use Rattle.std.specs.Prelude.{◌≡◌, ◌≢◌, ℕ, ◌<◌, Bool, List, if◌then◌else◌, [], ◌∷◌, length, take, slice_index, flat_map}
+use Rattle.bpaf_doc.specs.declared.html.Language.{Language}
+use Rattle.bpaf_doc.specs.declared.html.Language.TheVariants as language
+use Rattle.bpaf_doc.specs.declared.html.fragments.Fragment as declared
+use Rattle.bpaf_doc.specs.declared.html.fragments.Fragment.TheVariants as handed
+use Rattle.bpaf_doc.specs.Splitter.View.{chunk_of}
+use Rattle.bpaf_doc.specs.Html.Fragments.{Fragment, TextStart, Shown, TextEnd, Hidden, Start, End}
+use Rattle.bpaf_doc.specs.Html.Page.{escaped_character}
+use Rattle.bpaf_doc.specs.Markdown.Page.{escaped_character as markdown_character}
+
+-- the fragment that was handed out
+abbrev pub fragment_of : declared.Fragment → Fragment
+fragment_of (handed.TextStart style) = TextStart style
+fragment_of (handed.Shown style chunk) = Shown style (chunk_of chunk)
+fragment_of (handed.TextEnd style) = TextEnd style
+fragment_of handed.Hidden = Hidden
+fragment_of (handed.Start block) = Start block
+fragment_of (handed.End block) = End block
+
+-- how a language writes a byte of a text
+abbrev pub spelling_of : Language → ℕ → List ℕ
+spelling_of language.Html byte = escaped_character byte
+spelling_of language.Markdown byte = markdown_character byte
+
+-- each of these bytes stays as it is
+abbrev pub IsPlain : Language → List ℕ → Type 0
+IsPlain language bytes = flat_map (spelling_of language) bytes ≡ bytes
+
+-- the text is plain up to this place, where an ASCII character stands that is written in another way
+abbrev pub IsFirstSpelled : Language → List ℕ → ℕ → Type 0
+IsFirstSpelled language text at =
+    (at < length text) × IsPlain language (take at text) × (slice_index text at < 128) × (spelling_of language (slice_index text at) ≢ slice_index text at ∷ [])
+
+-- the bytes where it is turned on, and else none
+abbrev pub when : Bool → List ℕ → List ℕ
+when on bytes = if on then bytes else []

@@ -1,0 +1,5 @@
+-- Manual pages: a reader of roff, and what it reads of a document. `Exact`: the page as a function.
+pub mod Reader
+pub mod Events
+pub mod Page
+pub mod Exact

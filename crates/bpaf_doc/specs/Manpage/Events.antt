@@ -1,0 +1,151 @@
+-- The events of a document as a manual page. What a part gives is told by the marks that stand before it.
+use Rattle.std.specs.Prelude.{ℕ, Bool, true, false, List, [], ◌∷◌, ◌++◌, Option, Some, map, reverse, find, flat_map, codes, if◌then◌else◌}
+use Rattle.std.specs.List.{after_last}
+use Rattle.std.specs.Str.{str_to_ascii_uppercase}
+use Rattle.bpaf_roff.specs.Escaping.{newline_as_blank}
+use Rattle.bpaf_roff.specs.Roff.{argument_word}
+use Rattle.bpaf_roff.specs.declared.roff.Font.{Font}
+use Rattle.bpaf_roff.specs.declared.roff.Font.TheVariants.{Roman, Bold, Italic}
+use Rattle.bpaf_doc.specs.Buffer.Parts.{Part, Text, Start, End}
+use Rattle.bpaf_doc.specs.Manpage.Reader.{Event, Control, Span, LineEnd}
+use Rattle.bpaf_doc.specs.declared.buffer.Style.{Style}
+use Rattle.bpaf_doc.specs.declared.buffer.Style.TheVariants as style
+use Rattle.bpaf_doc.specs.declared.buffer.Block.{Block}
+use Rattle.bpaf_doc.specs.declared.buffer.Block.TheVariants as block
+
+-- each part with the parts that stand before it
+abbrev pub places : List Part → List Part → List (List Part × Part)
+places before [] = []
+places before (part ∷ parts) = (before, part) ∷ places (before ++ part ∷ []) parts
+
+-- whether there is a mark and it is a start
+abbrev pub is_start : Option Part → Bool
+is_start (Some (Start b)) = true
+is_start _ = false
+
+-- whether the last of these marks before a place is a start
+abbrev pub last_is_start : (Part → Bool) → List Part → Bool
+last_is_start is_mark before = is_start (find is_mark (reverse before))
+
+-- a block whose text is a heading
+abbrev pub is_section : Block → Bool
+is_section block.Header = true
+is_section block.Section2 = true
+is_section block.Section3 = true
+is_section block.Section4 = true
+is_section _ = false
+
+-- an end of such a block
+abbrev pub is_section_end : Part → Bool
+is_section_end (End b) = is_section b
+is_section_end _ = false
+
+-- a start or an end of such a block
+abbrev pub is_section_mark : Part → Bool
+is_section_mark (Start b) = is_section b
+is_section_mark (End b) = is_section b
+is_section_mark _ = false
+
+-- the start and the end of a term, and the end of a body
+abbrev pub is_term_mark : Part → Bool
+is_term_mark (Start block.ItemTerm) = true
+is_term_mark (End block.ItemTerm) = true
+is_term_mark (End block.ItemBody) = true
+is_term_mark _ = false
+
+-- the text of a place, if it is one and the last section mark before it is a start
+abbrev pub captured_text : List Part × Part → List ℕ
+captured_text (before, Text bytes how) = if last_is_start is_section_mark before then bytes else []
+captured_text (before, Start b) = []
+captured_text (before, End b) = []
+
+-- a text as one word of a control: newlines are blanks, and an empty one is two quotes
+abbrev pub word_of : List ℕ → List ℕ
+word_of text = argument_word (map newline_as_blank text)
+
+-- the captured texts since the last section end before a place, joined
+abbrev pub captured_texts : List Part → List ℕ
+captured_texts before = flat_map captured_text (after_last (λ place. is_section_end place.1) (places [] before))
+
+-- those in ASCII capitals, as one word
+abbrev pub heading : List Part → List ℕ
+heading before = word_of (str_to_ascii_uppercase (captured_texts before))
+
+-- an event, or a stop, at which a line of text ends
+pub data Step : Type 0 where
+  Gives : Event → Step
+  Stop : Step
+
+-- a control as a step
+abbrev pub control_step : List ℕ → List (List ℕ) → List Step
+control_step name words = Gives (Control name words) ∷ []
+
+-- the font of a style
+abbrev pub font_of : Style → Font
+font_of style.Text = Roman
+font_of style.Emphasis = Bold
+font_of style.Literal = Bold
+font_of style.Metavar = Italic
+font_of style.Invalid = Italic
+
+-- what a start gives
+abbrev pub start_steps : Block → List Step
+start_steps block.ItemTerm = control_step (codes "TP") []
+start_steps block.Block = control_step (codes "PP") []
+start_steps block.Meta = control_step (codes "nf") []
+start_steps _ = []
+
+-- what an end gives, with the heading of what stands before
+abbrev pub end_steps : List Part → Block → List Step
+end_steps before block.Header = control_step (codes "SH") (heading before ∷ [])
+end_steps before block.Section2 = control_step (codes "SS") (heading before ∷ [])
+end_steps before block.Section3 = control_step (codes "SS") (heading before ∷ [])
+end_steps before block.Section4 = control_step (codes "SS") (heading before ∷ [])
+end_steps before block.ItemTerm = Stop ∷ []
+end_steps before block.ItemBody = control_step (codes "PP") []
+end_steps before block.Meta = control_step (codes "fi") []
+end_steps before _ = []
+
+-- an emphasized text stands under a heading of no words
+abbrev pub emphasis_steps : Style → List Step
+emphasis_steps style.Emphasis = control_step (codes "SS") []
+emphasis_steps _ = []
+
+-- the text of a span: in a term newlines are blanks
+abbrev pub span_text : List Part → List ℕ → List ℕ
+span_text before bytes = if last_is_start is_term_mark before then map newline_as_blank bytes else bytes
+
+-- what a part gives: a captured text nothing, any other text a span
+abbrev pub place_steps : List Part × Part → List Step
+place_steps (before, Text bytes how) = if last_is_start is_section_mark before then [] else emphasis_steps how ++ Gives (Span (font_of how) (span_text before bytes)) ∷ []
+place_steps (before, Start b) = start_steps b
+place_steps (before, End b) = end_steps before b
+
+-- what the parts give, in order
+abbrev pub page_steps : List Part → List Step
+page_steps document = flat_map place_steps (places [] document)
+
+-- whether a control or a stop comes first
+abbrev pub starts_line : List Step → Bool
+starts_line (Stop ∷ steps) = true
+starts_line (Gives (Control name words) ∷ steps) = true
+starts_line _ = false
+
+-- a span directly before a control or a stop has a line end after it
+abbrev pub line_ends : Step → List Step → List Event
+line_ends (Gives (Span font text)) later = if starts_line later then LineEnd ∷ [] else []
+line_ends _ later = []
+
+-- what is read of a step
+abbrev pub step_events : Step → List Event
+step_events (Gives event) = event ∷ []
+step_events Stop = []
+
+-- the events of the steps with their line ends, without the stops
+abbrev pub events_of_steps : List Step → List Event
+events_of_steps [] = []
+events_of_steps (step ∷ later) = step_events step ++ line_ends step later ++ events_of_steps later
+
+-- the events of a document
+abbrev pub page_events : List Part → List Event
+page_events document = events_of_steps (page_steps document)

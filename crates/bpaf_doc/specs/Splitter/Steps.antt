@@ -1,0 +1,2 @@
+-- How the code cuts a text. Nobody has to believe it.
+pub mod Forms

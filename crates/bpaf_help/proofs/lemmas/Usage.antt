@@ -1,0 +1,3 @@
+-- Lemmas about what is written into a document.
+pub mod Written
+pub mod Nested

@@ -1,0 +1,3 @@
+-- How the code goes through a tree. Nobody has to believe it.
+pub mod Passes
+pub mod Walk

@@ -1,0 +1,10 @@
+-- Lemmas. What proves one function stands beside this folder, under the function's path.
+pub mod Labels
+pub mod Equality
+pub mod Sums
+pub mod Fronts
+pub mod EscapedText
+pub mod LineStarts
+pub mod Written
+pub mod Scripts
+mod Rows

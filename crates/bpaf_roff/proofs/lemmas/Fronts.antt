@@ -1,0 +1,18 @@
+-- What is put last leaves in front.
+use Rattle.std.proofs.Common.{◌≡◌, List, ◌++◌, ◌∙◌, length, take, drop, sym, ap, arith, take_all, take-append-drop, length-append}
+use Rattle.std.proofs.lemmas.List.{take-append-le, length-take}
+use Rattle.bpaf_roff.specs.Steps.Output.{KeepsFront}
+
+-- what is put last keeps what was there
+pub KeepsFront-append : {X : Type 0} (old more : List X) → KeepsFront old (old ++ more)
+KeepsFront-append old more = take-append-le (length old) old more (omega arith) ∙ take_all (length old) old (omega arith)
+
+pub KeepsFront-later : {X : Type 0} (old more new : List X) → KeepsFront (old ++ more) new → KeepsFront old new
+KeepsFront-later old more new h =
+    let n = length (old ++ more) in
+    let whole : new ≡ (old ++ more) ++ drop n new = sym (take-append-drop n new) ∙ ap (λ front. front ++ drop n new) h in
+    ap (take (length old)) whole ∙ take-append-le (length old) (old ++ more) (drop n new) (omega (arith, length-append old more)) ∙ KeepsFront-append old more
+
+-- more of what comes later
+pub KeepsFront-more : {X : Type 0} (old now more : List X) → KeepsFront old now → KeepsFront old (now ++ more)
+KeepsFront-more old now more h = take-append-le (length old) now more (omega (arith, ap length h, length-take (length old) now)) ∙ h

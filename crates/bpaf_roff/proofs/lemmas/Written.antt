@@ -1,0 +1,60 @@
+-- What a loop over the bytes of a piece, and one over pieces, have written so far.
+use Rattle.std.proofs.Common.{◌≡◌, ◌+◌, ◌<◌, ◌≤◌, ◌∷◌, [], ◌++◌, ◌∙◌, List, ℕ, Bool, length, map, take, get_or, ap, sym, append_assoc, take_all}
+use Rattle.std.proofs.lemmas.List.{take_more, map-append}
+use Rattle.std.specs.List.{AllByRecursion}
+use Rattle.bpaf_roff.specs.Pieces.{Piece}
+use Rattle.bpaf_roff.specs.Escaping.{is_line_start, breaks, Sign, Byte, byte_text, signs, signs_of, text_after, escaped}
+use Rattle.bpaf_roff.specs.Steps.Output.{written}
+use Rattle.bpaf_roff.specs.declared.escape.Apostrophes.{Apostrophes}
+use Rattle.bpaf_roff.specs.declared.escape.Escape.{Escape}
+use Rattle.bpaf_roff.proofs.lemmas.EscapedText.{text_after-append}
+use Rattle.bpaf_roff.proofs.lemmas.LineStarts.{text_after-push, byte_text-written, text_after-written, is_line_start-after, signs-push}
+
+module _ (q : Apostrophes) (label : Escape) (before bytes : List ℕ) where
+  -- the first bytes of a piece
+  abbrev pub front : ℕ → List Sign
+  front i = breaks label ++ map (Byte label) (take i bytes)
+
+  -- what they are written as
+  abbrev pub front_text : ℕ → List ℕ
+  front_text i = text_after q before (front i)
+
+  front_more : (i : ℕ) → i < length bytes → front (i + 1) ≡ front i ++ Byte label (get_or bytes i 0) ∷ []
+  front_more i lt =
+      rw (take_more bytes i 0 lt, map-append (Byte label) (take i bytes) (get_or bytes i 0 ∷ [])) (sym (append_assoc (breaks label) (map (Byte label) (take i bytes)) (Byte label (get_or bytes i 0) ∷ [])))
+
+  front_text_more : (i : ℕ) → i < length bytes → front_text (i + 1) ≡ front_text i ++ byte_text q (before ++ front_text i) label (get_or bytes i 0)
+  front_text_more i lt = ap (text_after q before) (front_more i lt) ∙ text_after-push q before (front i) (Byte label (get_or bytes i 0))
+
+  pub items_more : (i : ℕ) → i < length bytes → (x : Bool) → x ≡ is_line_start (before ++ front_text i) → (old now new : List ℕ) → now ≡ old ++ front_text i → new ≡ now ++ byte_text q (written x) label (get_or bytes i 0) → new ≡ old ++ front_text (i + 1)
+  items_more i lt x e old now new was is =
+      let byte = get_or bytes i 0 in
+      is ∙ ap (λ o. o ++ byte_text q (written x) label byte) was
+      ∙ append_assoc old (front_text i) (byte_text q (written x) label byte)
+      ∙ ap (λ t. old ++ t) (ap (λ t. front_text i ++ t) (sym (byte_text-written q (before ++ front_text i) label byte x e)) ∙ sym (front_text_more i lt))
+
+  pub line_start_more : (i : ℕ) → i < length bytes → (y : Bool) → ((r : Apostrophes) (s : List ℕ) → y ≡ is_line_start (s ++ byte_text r s label (get_or bytes i 0))) → y ≡ is_line_start (before ++ front_text (i + 1))
+  line_start_more i lt y ends =
+      ends q (before ++ front_text i)
+      ∙ ap is_line_start (append_assoc before (front_text i) (byte_text q (before ++ front_text i) label (get_or bytes i 0)) ∙ ap (λ t. before ++ t) (sym (front_text_more i lt)))
+
+  pub front_all : (i : ℕ) → length bytes ≤ i → front i ≡ breaks label ++ map (Byte label) bytes
+  front_all i le = ap (λ t. breaks label ++ map (Byte label) t) (take_all i bytes le)
+
+module _ (q : Apostrophes) (ps : List (Piece Escape)) (p : Piece Escape) (x : Bool) (e : x ≡ is_line_start (escaped q ps)) where
+  escaped_push : escaped q (ps ++ p ∷ []) ≡ escaped q ps ++ text_after q (written x) (signs_of p)
+  escaped_push =
+      ap (text_after q []) (signs-push ps p) ∙ text_after-append q [] (signs ps) (signs_of p)
+      ∙ ap (λ t. escaped q ps ++ t) (text_after-written q (signs_of p) (escaped q ps) x e)
+
+  pub piece_items_more : (old now new : List ℕ) → now ≡ old ++ escaped q ps → new ≡ now ++ text_after q (written x) (signs_of p) → new ≡ old ++ escaped q (ps ++ p ∷ [])
+  piece_items_more old now new was is =
+      is ∙ ap (λ o. o ++ text_after q (written x) (signs_of p)) was
+      ∙ append_assoc old (escaped q ps) (text_after q (written x) (signs_of p)) ∙ ap (λ t. old ++ t) (sym escaped_push)
+
+  pub piece_line_start_more : is_line_start (written x ++ text_after q (written x) (signs_of p)) ≡ is_line_start (escaped q (ps ++ p ∷ []))
+  piece_line_start_more = sym (ap is_line_start escaped_push ∙ is_line_start-after (escaped q ps) (text_after q (written x) (signs_of p)) x e)
+
+pub AllByRecursion-push : {X : Type 0} (P : X → Type 0) (xs : List X) (x : X) → AllByRecursion P xs → P x → AllByRecursion P (xs ++ x ∷ [])
+AllByRecursion-push P [] x all here = (here, tt)
+AllByRecursion-push P (y ∷ xs) x all here = (all.0, AllByRecursion-push P xs x all.1 here)

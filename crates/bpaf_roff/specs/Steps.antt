@@ -1,0 +1,3 @@
+-- How the code holds pieces, and what its private functions leave. Nobody has to believe it.
+pub mod Labels
+pub mod Output
