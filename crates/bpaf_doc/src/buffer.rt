@@ -588,5 +588,3 @@ impl<'a> Iterator for Parts<'a> {
 }
 
 mod compare;
-#[cfg(test)]
-mod tests;

@@ -13,8 +13,6 @@ use std::fmt;
 mod page;
 mod pairs;
 mod tabs;
-#[cfg(test)]
-mod tests;
 
 use page::Page;
 use pairs::Pairs;

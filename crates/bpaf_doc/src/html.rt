@@ -12,8 +12,6 @@ use std::alloc::{AllocError, Allocator};
 mod fragments;
 mod markdown;
 mod page;
-#[cfg(test)]
-mod tests;
 
 /// What a style turns on.
 #[derive(Clone, Copy, Debug, Default, PartialEq, Eq)]

@@ -12,9 +12,6 @@ use bpaf_roff::roff::{Font, Roff};
 use std::alloc::{AllocError, Allocator};
 use std::marker::Model;
 
-#[cfg(test)]
-mod tests;
-
 /// Roman for plain text, bold for emphasized and literal text, italic for metavariables and invalid text.
 impl From<Style> for Font {
     ghost use Rattle.std.specs.Prelude.{◌≡◌};

@@ -268,6 +268,3 @@ fn past_newline(rest: &str) -> &str
 {
     rest.strip_prefix('\n').unwrap_or(rest)
 }
-
-#[cfg(test)]
-mod tests;
