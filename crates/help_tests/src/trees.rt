@@ -1,181 +1,160 @@
-//! Trees as the rows write them, and what is shown of a tree.
-use bpaf_doc::buffer::{Doc, Part, Style};
+//! Trees from short texts.
+use bpaf_doc::buffer::Doc;
 use bpaf_help::item::{Item, ShortLong};
 use bpaf_help::meta::Meta;
 use bpaf_help::meta_help::{Info, Metavar};
-use std::alloc::{AllocError, Allocator, Global};
+use std::alloc::{AllocError, Allocator};
 
-pub fn flag<A: Allocator + Copy>(alloc: A, short: char) -> Result<Meta<A>, AllocError> {
-    Meta::from_item(alloc, flag_item(alloc, ShortLong::Short(short)))
+/// A tree of each variant and of each kind of item. `Skip` is the tree of help flags in what goes with a command.
+pub const FORMS: [&str; 15] = [
+    "ab&", "ab|", "a?", "ab&!", "ab&@", "a", "A", "P", "Y", "aC", "a+", "a#", "a~", "a$", "a-",
+];
+
+/// The tree that a text spells over a stack of trees. A small letter puts a flag on the stack, `A` an argument, `P` a
+/// positional value, `Y` an `Any` and `.` a `Skip`. Each other sign takes trees off and puts one on: `&` an `And` of two and
+/// `|` an `Or`, of the last one `?` Optional, `!` Required, `@` Adjacent, `+` Many, `#` Subsection, `~` Suffix, `$`
+/// CustomUsage, `-` Strict and `C` a command. So `ab|+?` is the tree of `[-a | -b]...`.
+pub fn tree<A: Allocator + Copy>(alloc: A, text: &str) -> Result<Meta<A>, AllocError> {
+    let mut stack = Vec::new(alloc);
+    for sign in text.chars() {
+        let made = made(alloc, &mut stack, sign)?;
+        stack.push(made)?;
+    }
+    Ok(top(&mut stack))
 }
 
-pub fn flag_item<A: Allocator + Copy>(alloc: A, name: ShortLong) -> Item<A> {
-    Item::Flag {
-        name,
-        shorts: Vec::new(alloc),
-        env: None,
-        help: None,
+fn top<A: Allocator>(stack: &mut Vec<Meta<A>, A>) -> Meta<A> {
+    match stack.pop() {
+        Some(tree) => tree,
+        None => Meta::Skip,
     }
 }
 
-/// A flag that can also be written by that short name.
-pub fn short_flag<A: Allocator + Copy>(alloc: A, short: char) -> Result<Meta<A>, AllocError> {
-    let item = Item::Flag {
+fn made<A: Allocator + Copy>(
+    alloc: A,
+    stack: &mut Vec<Meta<A>, A>,
+    sign: char,
+) -> Result<Meta<A>, AllocError> {
+    match sign {
+        '.' => Ok(Meta::Skip),
+        'A' | 'P' | 'Y' | 'a'..='z' => Meta::from_item(alloc, leaf(alloc, sign)?),
+        'C' => Meta::from_item(alloc, command(alloc, top(stack))?),
+        '&' => Ok(Meta::And(both(alloc, stack)?)),
+        '|' => Ok(Meta::Or(both(alloc, stack)?)),
+        '#' | '~' | '$' => noted(alloc, top(stack), sign),
+        _ => wrapped(alloc, top(stack), sign),
+    }
+}
+
+// The last two trees of the stack.
+fn both<A: Allocator + Copy>(
+    alloc: A,
+    stack: &mut Vec<Meta<A>, A>,
+) -> Result<Vec<Meta<A>, A>, AllocError> {
+    let last = top(stack);
+    let first = top(stack);
+    let mut parts = Vec::new(alloc);
+    parts.push(first)?;
+    parts.push(last)?;
+    Ok(parts)
+}
+
+fn wrapped<A: Allocator + Copy>(
+    alloc: A,
+    inner: Meta<A>,
+    sign: char,
+) -> Result<Meta<A>, AllocError> {
+    let inner = Box::new(alloc, inner)?;
+    Ok(match sign {
+        '?' => Meta::Optional(inner),
+        '!' => Meta::Required(inner),
+        '@' => Meta::Adjacent(inner),
+        '+' => Meta::Many(inner),
+        _ => Meta::Strict(inner),
+    })
+}
+
+fn noted<A: Allocator + Copy>(alloc: A, inner: Meta<A>, sign: char) -> Result<Meta<A>, AllocError> {
+    let inner = Box::new(alloc, inner)?;
+    let note = Box::new(alloc, literal_doc(alloc, "note")?)?;
+    Ok(match sign {
+        '#' => Meta::Subsection(inner, note),
+        '~' => Meta::Suffix(inner, note),
+        _ => Meta::CustomUsage(inner, note),
+    })
+}
+
+fn leaf<A: Allocator + Copy>(alloc: A, sign: char) -> Result<Item<A>, AllocError> {
+    match sign {
+        'A' => argument(alloc),
+        'P' => Ok(Item::Positional {
+            metavar: Metavar("FILE"),
+            help: Some(literal_doc(alloc, "a file")?),
+        }),
+        'Y' => any(alloc),
+        _ => flag(alloc, sign),
+    }
+}
+
+fn flag<A: Allocator + Copy>(alloc: A, short: char) -> Result<Item<A>, AllocError> {
+    Ok(Item::Flag {
         name: ShortLong::Short(short),
         shorts: Vec::from_array(alloc, [short])?,
         env: None,
-        help: None,
-    };
-    Meta::from_item(alloc, item)
+        help: Some(literal_doc(alloc, "a flag")?),
+    })
 }
 
-pub fn argument<A: Allocator + Copy>(
-    alloc: A,
-    name: ShortLong,
-    metavar: &'static str,
-) -> Result<Meta<A>, AllocError> {
-    let item = Item::Argument {
-        name,
-        shorts: Vec::from_array(alloc, ['s'])?,
-        metavar: Metavar(metavar),
-        env: None,
-        help: None,
-    };
-    Meta::from_item(alloc, item)
+fn argument<A: Allocator + Copy>(alloc: A) -> Result<Item<A>, AllocError> {
+    Ok(Item::Argument {
+        name: ShortLong::Both('s', "speed"),
+        shorts: Vec::from_array(alloc, ['s', 't'])?,
+        metavar: Metavar("the number of units"),
+        env: Some("SPEED"),
+        help: Some(literal_doc(alloc, "a number")?),
+    })
 }
 
-pub fn pos<A: Allocator + Copy>(alloc: A, metavar: &'static str) -> Result<Meta<A>, AllocError> {
-    let item = Item::Positional {
-        metavar: Metavar(metavar),
-        help: None,
-    };
-    Meta::from_item(alloc, item)
+fn any<A: Allocator + Copy>(alloc: A) -> Result<Item<A>, AllocError> {
+    Ok(Item::Any {
+        metavar: literal_doc(alloc, "rest")?,
+        anywhere: false,
+        help: Some(literal_doc(alloc, "all else")?),
+    })
 }
 
-pub fn any<A: Allocator + Copy>(
-    alloc: A,
-    text: &str,
-    anywhere: bool,
-) -> Result<Meta<A>, AllocError> {
-    let item = Item::Any {
-        metavar: literal_doc(alloc, text)?,
-        anywhere,
-        help: None,
-    };
-    Meta::from_item(alloc, item)
-}
-
-pub fn command<A: Allocator + Copy>(
-    alloc: A,
-    name: &'static str,
-    meta: Meta<A>,
-) -> Result<Meta<A>, AllocError> {
-    let info = Info {
-        descr: None,
-        header: None,
-        footer: None,
-        usage: None,
-        help: Meta::Skip,
-    };
-    let item = Item::Command {
-        name,
-        short: None,
-        help: None,
+fn command<A: Allocator + Copy>(alloc: A, meta: Meta<A>) -> Result<Item<A>, AllocError> {
+    Ok(Item::Command {
+        name: "run",
+        short: Some('r'),
+        help: Some(literal_doc(alloc, "a command")?),
         meta: Box::new(alloc, meta)?,
-        info: Box::new(alloc, info)?,
-    };
-    Meta::from_item(alloc, item)
+        info: Box::new(alloc, info(alloc)?)?,
+    })
 }
 
-pub fn empty<A: Allocator + Copy>(alloc: A) -> Vec<Meta<A>, A> {
-    Vec::new(alloc)
+// Texts of a help page, each of them another.
+fn info<A: Allocator + Copy>(alloc: A) -> Result<Info<A>, AllocError> {
+    let mut texts = texts(alloc)?;
+    Ok(Info {
+        descr: texts.pop(),
+        header: texts.pop(),
+        footer: texts.pop(),
+        usage: texts.pop(),
+        help: Meta::Skip,
+    })
 }
 
-pub fn single<A: Allocator + Copy>(alloc: A, part: Meta<A>) -> Result<Vec<Meta<A>, A>, AllocError> {
-    let mut parts = Vec::new(alloc);
-    parts.push(part)?;
-    Ok(parts)
-}
-
-pub fn pair<A: Allocator + Copy>(
-    alloc: A,
-    first: Meta<A>,
-    second: Meta<A>,
-) -> Result<Vec<Meta<A>, A>, AllocError> {
-    let mut parts = single(alloc, first)?;
-    parts.push(second)?;
-    Ok(parts)
-}
-
-pub fn triple<A: Allocator + Copy>(
-    alloc: A,
-    first: Meta<A>,
-    second: Meta<A>,
-    third: Meta<A>,
-) -> Result<Vec<Meta<A>, A>, AllocError> {
-    let mut parts = pair(alloc, first, second)?;
-    parts.push(third)?;
-    Ok(parts)
-}
-
-pub fn opt<A: Allocator + Copy>(alloc: A, inner: Meta<A>) -> Result<Meta<A>, AllocError> {
-    Ok(Meta::Optional(Box::new(alloc, inner)?))
-}
-
-pub fn req<A: Allocator + Copy>(alloc: A, inner: Meta<A>) -> Result<Meta<A>, AllocError> {
-    Ok(Meta::Required(Box::new(alloc, inner)?))
-}
-
-pub fn many<A: Allocator + Copy>(alloc: A, inner: Meta<A>) -> Result<Meta<A>, AllocError> {
-    Ok(Meta::Many(Box::new(alloc, inner)?))
-}
-
-pub fn adj<A: Allocator + Copy>(alloc: A, inner: Meta<A>) -> Result<Meta<A>, AllocError> {
-    Ok(Meta::Adjacent(Box::new(alloc, inner)?))
-}
-
-pub fn strict<A: Allocator + Copy>(alloc: A, inner: Meta<A>) -> Result<Meta<A>, AllocError> {
-    Ok(Meta::Strict(Box::new(alloc, inner)?))
-}
-
-pub fn custom<A: Allocator + Copy>(
-    alloc: A,
-    inner: Meta<A>,
-    usage: Doc<A>,
-) -> Result<Meta<A>, AllocError> {
-    Ok(Meta::CustomUsage(Box::new(alloc, inner)?, Box::new(alloc, usage)?))
+fn texts<A: Allocator + Copy>(alloc: A) -> Result<Vec<Doc<A>, A>, AllocError> {
+    let mut docs = Vec::new(alloc);
+    for text in ["use", "foot", "head", "what"] {
+        docs.push(literal_doc(alloc, text)?)?;
+    }
+    Ok(docs)
 }
 
 pub fn literal_doc<A: Allocator + Copy>(alloc: A, text: &str) -> Result<Doc<A>, AllocError> {
     let mut doc = Doc::new(alloc);
     doc.literal(text)?;
-    Ok(doc)
-}
-
-/// The texts of a document, joined.
-pub fn text_of<A: Allocator>(alloc: Global, doc: &Doc<A>) -> Result<String, AllocError> {
-    let mut text = String::new(alloc);
-    for part in doc.parts() {
-        if let Part::Text(piece, _) = part {
-            text.push_str(piece)?;
-        }
-    }
-    Ok(text)
-}
-
-/// A tree by its debug text, which is the same for equal trees over any allocators.
-pub fn shown<A: Allocator>(alloc: Global, meta: &Meta<A>) -> Result<String, AllocError> {
-    format!(in alloc; "{meta:?}")
-}
-
-/// Whether two documents have the same parts.
-pub fn same<A: Allocator, B: Allocator>(left: &Doc<A>, right: &Doc<B>) -> bool {
-    left.parts().eq(right.parts())
-}
-
-/// A document that ends in a text of each style which a usage line writes.
-pub fn begun<A: Allocator + Copy>(alloc: A, style: Style) -> Result<Doc<A>, AllocError> {
-    let mut doc = Doc::new(alloc);
-    doc.write_str("before", style)?;
     Ok(doc)
 }
