@@ -5,5 +5,3 @@ pub mod escape;
 pub mod laws;
 pub mod monoid;
 pub mod roff;
-#[cfg(test)]
-mod tests;

@@ -374,6 +374,3 @@ impl<T: Eq, A: Allocator> Eq for FreeMonoid<T, A> {
 
     ghost laws = { labelled_equiv T.Eq.laws };
 }
-
-#[cfg(test)]
-mod tests;

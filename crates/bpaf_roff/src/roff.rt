@@ -392,6 +392,3 @@ impl<A: Allocator + Copy> Roff<A> {
         Ok(String::from_utf8(out).unwrap())
     }
 }
-
-#[cfg(test)]
-mod tests;

@@ -165,6 +165,3 @@ pub fn escape<'a, I: Iterator<Item = (&'a Escape, &'a str)> + Drop, A: Allocator
     }
     Ok(())
 }
-
-#[cfg(test)]
-mod tests;

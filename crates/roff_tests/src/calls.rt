@@ -1,0 +1,78 @@
+//! The calls of which no request shows the answer.
+use crate::monoids::shown;
+use bpaf_roff::monoid::FreeMonoid;
+use bpaf_roff::roff::{Font, RESTORE_FONT};
+use std::alloc::{AllocError, Global};
+use std::test::Fail;
+
+type Pieces = (bool, &'static [(char, &'static str)]);
+
+fn made(alloc: Global, (squash, texts): Pieces) -> Result<FreeMonoid<char>, AllocError> {
+    let mut monoid = FreeMonoid::new(alloc);
+    monoid.squash = squash;
+    monoid.extend(texts.iter().map(|(label, text)| (*label, *text)))?;
+    Ok(monoid)
+}
+
+#[test]
+fn texts_are_put_last(rt: HostRuntime) -> Result<(), Fail> {
+    let rows: [(Pieces, usize, &str); 3] = [
+        (
+            (false, &[('a', "string"), ('b', "more"), ('d', "!")]),
+            11,
+            " a:string b:more d:!",
+        ),
+        (
+            (true, &[('a', "x"), ('a', "y"), ('b', ""), ('a', "z")]),
+            3,
+            " a:xy b: a:z",
+        ),
+        ((false, &[('a', "é"), ('a', "")]), 2, " a:é a:"),
+    ];
+    for (pieces, size, want) in rows {
+        let monoid = made(rt.alloc(), pieces)?;
+        assert_eq!(rt; monoid.payload_size(), size, "{want}");
+        assert_eq!(rt; shown(rt.alloc(), &monoid)?.as_str(), want);
+    }
+    Ok(())
+}
+
+#[test]
+fn equality_is_of_pieces_and_setting(rt: HostRuntime) -> Result<(), Fail> {
+    let rows: [(Pieces, Pieces, bool); 5] = [
+        (
+            (true, &[('a', "x"), ('a', "y")]),
+            (true, &[('a', "xy")]),
+            true,
+        ),
+        (
+            (false, &[('a', "x"), ('a', "y")]),
+            (false, &[('a', "xy")]),
+            false,
+        ),
+        ((false, &[('a', "x")]), (true, &[('a', "x")]), false),
+        (
+            (false, &[('a', "x"), ('b', "y")]),
+            (false, &[('a', ""), ('b', "xy")]),
+            false,
+        ),
+        ((false, &[('a', "x")]), (false, &[('b', "x")]), false),
+    ];
+    for (left, right, want) in rows {
+        let same = made(rt.alloc(), left)? == made(rt.alloc(), right)?;
+        assert_eq!(rt; same, want, "{left:?} {right:?}");
+    }
+    Ok(())
+}
+
+#[test]
+fn fonts_are_escapes(rt: HostRuntime) {
+    for (font, want) in [
+        (Font::Roman, "\\fR"),
+        (Font::Bold, "\\fB"),
+        (Font::Italic, "\\fI"),
+    ] {
+        assert_eq!(rt; font.escape(), want);
+    }
+    assert_eq!(rt; RESTORE_FONT, "\\fP");
+}
