@@ -1,9 +1,9 @@
 -- The words that choose what the program does.
 use Rattle.std.specs.Prelude.{ℕ, List, [], ◌∷◌, codes}
-use Rattle.helpdoc.specs.declared.words.Form.{Form}
-use Rattle.helpdoc.specs.declared.words.Form.TheVariants.{Full, Brief, Html, Markdown, Man}
-use Rattle.helpdoc.specs.declared.words.Choice.{Choice}
-use Rattle.helpdoc.specs.declared.words.Choice.TheVariants.{Text}
+use Rattle.helpdoc_engine.specs.declared.words.Form.{Form}
+use Rattle.helpdoc_engine.specs.declared.words.Form.TheVariants.{Full, Brief, Html, Markdown, Man}
+use Rattle.helpdoc_engine.specs.declared.words.Choice.{Choice}
+use Rattle.helpdoc_engine.specs.declared.words.Choice.TheVariants.{Text}
 
 -- the word for a form
 abbrev pub form_word : Form → List ℕ

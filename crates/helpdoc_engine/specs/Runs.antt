@@ -3,9 +3,9 @@
 use Rattle.std.specs.Prelude.{ℕ, List, Option, IsUtf8}
 use Rattle.std.specs.Io.KnownBytes.{Consumes, IsAtEnd, Appends}
 use Rattle.watched.specs.Watched.{AppendsPart}
-use Rattle.bpaf_doc.specs.Buffer.Parts.{Part}
-use Rattle.helpdoc.specs.declared.words.Form.{Form}
-use Rattle.helpdoc.specs.Rendering.{IsPage}
+use Rattle.bpaf_doc.specs.Parts.{Part}
+use Rattle.helpdoc_engine.specs.declared.words.Form.{Form}
+use Rattle.helpdoc_engine.specs.Rendering.{IsPage}
 
 -- the input is all that the reader had left
 pub record ReadsAll (before after : Option (List ℕ)) (input : List ℕ) : Type 0 where

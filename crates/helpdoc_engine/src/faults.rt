@@ -1,7 +1,7 @@
 //! Why a run of the program fails.
 
 ghost use Rattle.std.specs.Prelude.{◌≡◌};
-ghost use Rattle.helpdoc.specs.declared.faults.Fault.TheVariants.{Memory};
+ghost use Rattle.helpdoc_engine.specs.declared.faults.Fault.TheVariants.{Memory};
 
 use std::alloc::AllocError;
 use thiserror::Error;

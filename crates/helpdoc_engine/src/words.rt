@@ -1,9 +1,9 @@
 //! The words that choose what the program does.
 
 ghost use Rattle.std.specs.Prelude.{◌≡◌, ◌↔◌, Some, map};
-ghost use Rattle.helpdoc.specs.declared.words.Choice.{Choice};
-ghost use Rattle.helpdoc.specs.declared.words.Form.{Form};
-ghost use Rattle.helpdoc.specs.Choice.{spelling, form_word};
+ghost use Rattle.helpdoc_engine.specs.declared.words.Choice.{Choice};
+ghost use Rattle.helpdoc_engine.specs.declared.words.Form.{Form};
+ghost use Rattle.helpdoc_engine.specs.Choice.{spelling, form_word};
 
 /// How a page is shown.
 #[derive(Clone, Copy, Debug, PartialEq, Eq)]

@@ -8,7 +8,7 @@ use std::io::{Read, Write};
 pub const FAILURE: io::ErrorKind = io::ErrorKind::TimedOut;
 
 /// Which call of an end fails, counted from 0, and how many bytes the others move at most.
-#[derive(Clone, Copy)]
+#[derive(Clone, Copy, Debug)]
 pub struct Plan {
     pub most: usize,
     pub fails_at: Option<usize>,

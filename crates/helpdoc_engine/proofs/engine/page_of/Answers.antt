@@ -1,8 +1,8 @@
 use Rattle.std.proofs.Common.{string_bytes}
-use Rattle.bpaf_doc.proofs.lemmas.Manpage.PageRead.{manual_page}
-use Rattle.helpdoc.specs.Rendering.{document_of_text, title_words}
-use Rattle.helpdoc.proofs.Pages.{html_of_text}
-use Rattle.helpdoc.proofs.engine.page_of.Goals as goal
+use Rattle.bpaf_doc.proofs.PageRead.{manual_page}
+use Rattle.helpdoc_engine.specs.Rendering.{document_of_text, title_words}
+use Rattle.helpdoc_engine.proofs.Pages.{html_of_text}
+use Rattle.helpdoc_engine.proofs.engine.page_of.Goals as goal
 
 pub returns-in-Full : goal.returns-in-Full
 returns-in-Full g c = rw c.in-Full.is (rw c.in_ok-document.ensures at c.render_console.ensures.layout)

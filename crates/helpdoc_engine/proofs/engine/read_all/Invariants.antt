@@ -1,6 +1,6 @@
 use Rattle.std.proofs.Common.{◌≡◌, ◌-◌, ◌^◌, false, vec_len}
 use Rattle.std.specs.Io.KnownBytes.{Consumes}
-use Rattle.helpdoc.proofs.engine.read_all.Given as goal
+use Rattle.helpdoc_engine.proofs.engine.read_all.Given as goal
 
 -- the bytes so far are what was read, and no read has failed
 abbrev pub invariant-loop-bytes : goal.invariant-loop-bytes

@@ -1,0 +1,7 @@
+//! What the program `helpdoc` does: the words that choose a page, and its making over any reader and any writer.
+#![tactic(auto)]
+
+pub mod engine;
+pub mod faults;
+pub mod program;
+pub mod words;
