@@ -116,9 +116,9 @@ const ROWS: [(Call, bool, &str); 26] = [
         false,
         "\\fBlong enough to grow\\-\\fR\\fP",
     ),
-    (Call::OnRoff(RoffCall::AddAssign), true, "x "),
-    (Call::OnRoff(RoffCall::Add), true, "x "),
-    (Call::OnRoff(RoffCall::Extend), true, "x x "),
+    (Call::OnRoff(RoffCall::AddAssign), true, "text"),
+    (Call::OnRoff(RoffCall::Add), true, "text"),
+    (Call::OnRoff(RoffCall::Extend), true, "texttext"),
     (Call::OnRoff(RoffCall::Clone), false, ""),
     (Call::OnRoff(RoffCall::Render), false, ""),
 ];

@@ -40,12 +40,10 @@ fn start<A: Allocator + Copy>(alloc: A, pieces: usize) -> Result<Roff<A>, AllocE
     Ok(roff)
 }
 
-// A plain text with its newline stripped.
-fn stripped(alloc: Global) -> Result<Roff, AllocError> {
-    let mut roff = Roff::new(alloc);
-    roff.strip_newlines(true);
-    roff.append_plaintext("x\n")?;
-    Ok(roff)
+// The same pieces with the other setting.
+fn stripped(mut roff: Roff) -> Roff {
+    roff.strip_newlines = true;
+    roff
 }
 
 // The page is that of a copy, since the roff's own heap has no room for one.
@@ -118,7 +116,7 @@ pub fn attempt_on_roff(
     call: RoffCall,
     pieces: usize,
 ) -> Result<Option<Outcome>, AllocError> {
-    let other = stripped(alloc)?;
+    let other = stripped(start(alloc, 1)?);
     let Ok(mut roff) = start(heap, pieces) else {
         return Ok(None);
     };
