@@ -3,8 +3,8 @@ use Rattle.std.specs.Prelude.{ℕ, true, false, List, Result, Ok, Err, IfOk, ref
 use Rattle.std.proofs.Common.{subst, sym, ◌∙◌}
 use Rattle.std.proofs.lemmas.List.{append-nil}
 use Rattle.bpaf_doc.specs.declared.buffer.Style.TheVariants as style
-use Rattle.bpaf_doc.specs.Parts.{IsWellNested, text}
-use Rattle.bpaf_doc.specs.Html.{IsHtmlOf, IsHtmlPageOf}
+use Rattle.bpaf_doc.specs.Buffer.Parts.{IsWellNested, text}
+use Rattle.bpaf_doc.specs.Html.Page.{IsHtmlOf, IsHtmlPageOf}
 use Rattle.helpdoc_engine.specs.Rendering.{document_of_text}
 
 -- a document of one text is well nested, and without a style sheet its page is the HTML alone

@@ -1,13 +1,13 @@
 -- What is promised of a page, form by form.
 use Rattle.std.specs.Prelude.{ℕ, true, false, List, [], ◌∷◌, None, codes, map, IsUtf8}
 use Rattle.bpaf_doc.specs.declared.buffer.Style.TheVariants as style
-use Rattle.bpaf_doc.specs.Html.{IsHtmlOf}
-use Rattle.bpaf_doc.specs.Layout.{IsLayout}
-use Rattle.bpaf_doc.specs.Markdown.{IsMarkdownOf}
-use Rattle.bpaf_doc.specs.Page.{title_arguments, IsManualPageOf}
-use Rattle.bpaf_doc.specs.PageEvents.{word_of}
-use Rattle.bpaf_doc.specs.Parts.{Part, Text}
-use Rattle.bpaf_doc.specs.RoffReader.{Control}
+use Rattle.bpaf_doc.specs.Html.Page.{IsHtmlOf}
+use Rattle.bpaf_doc.specs.Console.Layout.{IsLayout}
+use Rattle.bpaf_doc.specs.Markdown.Page.{IsMarkdownOf}
+use Rattle.bpaf_doc.specs.Manpage.Page.{title_arguments, IsManualPageOf}
+use Rattle.bpaf_doc.specs.Manpage.Events.{word_of}
+use Rattle.bpaf_doc.specs.Buffer.Parts.{Part, Text}
+use Rattle.bpaf_doc.specs.Manpage.Reader.{Control}
 use Rattle.helpdoc_engine.specs.declared.words.Form.{Form}
 use Rattle.helpdoc_engine.specs.declared.words.Form.TheVariants.{Full, Brief, Html, Markdown, Man}
 

@@ -3,7 +3,7 @@
 use Rattle.std.specs.Prelude.{ℕ, List, Option, IsUtf8}
 use Rattle.std.specs.Io.KnownBytes.{Consumes, IsAtEnd, Appends}
 use Rattle.watched.specs.Watched.{AppendsPart}
-use Rattle.bpaf_doc.specs.Parts.{Part}
+use Rattle.bpaf_doc.specs.Buffer.Parts.{Part}
 use Rattle.helpdoc_engine.specs.declared.words.Form.{Form}
 use Rattle.helpdoc_engine.specs.Rendering.{IsPage}
 

@@ -3,7 +3,7 @@
 ghost use Rattle.std.specs.Prelude.{◌≡◌, ◌≢◌, ◌↔◌, ◌⊎◌, IsUtf8, IsOk, IfOk, IfErr, OnOk, OnErr, IsErrOf, string_bytes};
 ghost use Rattle.std.specs.Io.KnownBytes.{Appends};
 ghost use Rattle.watched.specs.Watched.{AppendsPart, IsMarked, IsUnmarked};
-ghost use Rattle.bpaf_doc.specs.Page.{title_page};
+ghost use Rattle.bpaf_doc.specs.Manpage.Page.{title_page};
 ghost use Rattle.helpdoc_engine.specs.Rendering.{IsRendering, document_of_text, title_words};
 ghost use Rattle.helpdoc_engine.specs.Runs.{ReadsAll, ReadsText, ReadsNoText, WritesPage, WritesBeginning};
 

@@ -1,5 +1,5 @@
 use Rattle.std.proofs.Common.{[], ◌∷◌, codes}
-use Rattle.bpaf_doc.specs.Writes.{plain}
+use Rattle.bpaf_doc.specs.Buffer.Writes.{plain}
 use Rattle.doc_tests.proofs.calls.a_document_rolls_back.Goals as goal
 
 pub roll_back-requires : goal.roll_back-requires

@@ -1,5 +1,5 @@
 use Rattle.std.proofs.Common.{string_bytes}
-use Rattle.bpaf_doc.proofs.PageRead.{manual_page}
+use Rattle.bpaf_doc.proofs.lemmas.Manpage.PageRead.{manual_page}
 use Rattle.helpdoc_engine.specs.Rendering.{document_of_text, title_words}
 use Rattle.helpdoc_engine.proofs.Pages.{html_of_text}
 use Rattle.helpdoc_engine.proofs.engine.page_of.Goals as goal
