@@ -1,6 +1,7 @@
 -- Lemmas. What proves one function stands beside this folder, under the function's path.
 pub mod Labels
 pub mod Equality
+pub mod Clones
 pub mod Sums
 pub mod Fronts
 pub mod EscapedText

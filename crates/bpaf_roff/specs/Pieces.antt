@@ -1,6 +1,7 @@
 -- Texts under labels.
 use Rattle.std.specs.Borrow.{Bor}
-use Rattle.std.specs.Prelude.{ℕ, Bool, false, List, [], ◌∷◌, ◌++◌, ◌&&◌, sum_by, length, if◌then◌else◌}
+use Rattle.std.specs.List.{AllZip}
+use Rattle.std.specs.Prelude.{◌≡◌, ℕ, Bool, false, List, [], ◌∷◌, ◌++◌, ◌&&◌, sum_by, length, if◌then◌else◌}
 
 -- a text by its bytes, under a label
 pub record Piece (L : Type 0) : Type 0 where
@@ -34,6 +35,24 @@ with_texts eq m (item ∷ items) = with_texts eq (with_text eq m item.0 item.1) 
 -- the right pieces after the left ones, under the left setting
 abbrev pub sum_of : {L : Type 0} → Labelled L → Labelled L → Labelled L
 sum_of left right = record left { pieces = left.pieces ++ right.pieces }
+
+-- the same text under a clone of its label
+abbrev pub IsCopyOf : {L : Type 0} → (L → L → Type 0) → Piece L → Piece L → Type 0
+IsCopyOf clones given copy = (copy.text ≡ given.text) × clones given.label copy.label
+
+-- as many pieces, each a copy of the one in its place
+abbrev pub AreCopies : {L : Type 0} → (L → L → Type 0) → List (Piece L) → List (Piece L) → Type 0
+AreCopies clones = AllZip (IsCopyOf clones)
+
+-- copies of the right pieces after the left ones, under the left setting
+pub record IsSumOf {L : Type 0} (clones : L → L → Type 0) (left right sum : Labelled L) : Type 0 where
+  pub copies : List (Piece L)
+  pub are_copies : AreCopies clones right.pieces copies
+  pub is_sum : sum ≡ record left { pieces = left.pieces ++ copies }
+
+-- a clone is no other value than what it is a clone of
+abbrev pub ClonesAreSame : {L : Type 0} → (L → L → Type 0) → Type 0
+ClonesAreSame {L} clones = (x y : L) → clones x y → y ≡ x
 
 -- how many bytes all texts have
 abbrev pub payload_len : {L : Type 0} → List (Piece L) → ℕ

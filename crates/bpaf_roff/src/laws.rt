@@ -3,7 +3,7 @@
 
 ghost use Rattle.std.specs.Prelude.{◌≡◌, ◌++◌, ◌↔◌, ◌∷◌, [], List, ℕ, IsTrue, IsUtf8, false};
 ghost use Rattle.std.specs.List.{AllByRecursion, AllZip};
-ghost use Rattle.bpaf_roff.specs.Pieces.{Piece, Labelled, no_pieces, sum_of, with_texts};
+ghost use Rattle.bpaf_roff.specs.Pieces.{Piece, Labelled, AreCopies, no_pieces, sum_of, with_texts};
 ghost use Rattle.bpaf_roff.specs.Equality.{labelled_eq, IsSamePiece};
 ghost use Rattle.bpaf_roff.specs.Escaping.{signs, text_after, escaped};
 ghost use Rattle.bpaf_roff.specs.Roff.{Script, script_sum, no_script, font_escape, restore_font, preamble, rendering};
@@ -16,6 +16,14 @@ use crate::roff::RESTORE_FONT;
 pub fn sums_associate<T>()
     ensures { (left middle right : Labelled T)
         → sum_of (sum_of left middle) right ≡ sum_of left (sum_of middle right) }
+{}
+
+/// Where a clone of a label equals it, as of a `String`, copies of pieces equal them: label by label, with the same texts.
+#[tactic(auto, using(crate::proofs::lemmas::Clones::equal_copies))]
+pub fn copies_are_equal<T: Clone + PartialEq>()
+    ensures { ((x y : T) → T.is_clone x y → IsTrue (T.eq x y))
+        → (given copies : List (Piece T)) → AreCopies T.is_clone given copies
+        → AllZip (IsSamePiece T.eq) given copies }
 {}
 
 /// Nothing on the right changes nothing.

@@ -3,8 +3,8 @@
 ghost use Rattle.std.specs.Prelude.{◌≡◌, ◌+◌, ◌<◌, ◌≤◌, ◌^◌, ◌&&◌, ◌++◌, length, map, take, ℕ, List, All, IfOk, OnOk, OnErr, vec_len, vec_capacity, string_bytes, encode_utf8};
 ghost use Rattle.std.specs.Borrow.{Bor};
 ghost use Rattle.std.specs.Iterator.{IsFinite, Drains};
-ghost use Rattle.bpaf_roff.specs.Pieces.{no_pieces, with_text, with_texts, sum_of, payload_len, labelled_text};
-ghost use Rattle.bpaf_roff.specs.Steps.Labels.{with_label, ending_at, shifted, end_of};
+ghost use Rattle.bpaf_roff.specs.Pieces.{no_pieces, with_text, with_texts, sum_of, AreCopies, IsSumOf, ClonesAreSame, payload_len, labelled_text};
+ghost use Rattle.bpaf_roff.specs.Steps.Labels.{with_label, ending_at, EndsInClones, end_of};
 
 use std::alloc::{AllocError, Allocator, Global};
 use std::marker::Model;
@@ -225,9 +225,8 @@ fn append_labels<T: Clone, A: Allocator>(
     more: &[Label<T>],
     shift: usize,
 ) -> Result<(), AllocError>
-    requires exact { (x y : T) → T.is_clone x y → y ≡ x }
-    requires fits { All (λ l. shift + l.end < 2 ^ 64) more.now }
-    ensures ok { OnOk result (labels.new.items ≡ labels.old.items ++ shifted shift more.now) }
+    requires { All (λ l. shift + l.end < 2 ^ 64) more.now }
+    ensures ok { OnOk result (EndsInClones T.is_clone labels.old.items more.now shift labels.new.items) }
     ensures err { OnErr result (labels.new.items ≡ labels.old.items) }
 {
     let count = labels.len();
@@ -248,11 +247,12 @@ fn append_labels<T: Clone, A: Allocator>(
 }
 
 impl<T: Clone, A: Allocator> FreeMonoid<T, A> {
-    /// Puts the pieces of another last, as they are: nothing is joined where the two meet, and
-    /// `squash` stays. An error comes where a growth was refused, and nothing changed.
+    /// Puts copies of the pieces of another last, each with a clone of its label: nothing is joined
+    /// where the two meet, and `squash` stays. An error comes where a growth was refused, or a label
+    /// could not be cloned, and nothing changed.
     pub fn add_assign<B: Allocator>(&mut self, other: &FreeMonoid<T, B>) -> Result<(), AllocError>
-        requires exact { (x y : T) → T.is_clone x y → y ≡ x }
-        ensures ok { OnOk result (self.new ≡ sum_of self.old other.now) }
+        ensures ok { OnOk result (IsSumOf T.is_clone self.old other.now self.new) }
+        ensures exact { ClonesAreSame T.is_clone → OnOk result (self.new ≡ sum_of self.old other.now) }
         ensures err { OnErr result (self.new ≡ self.old) }
     {
         let count = self.labels.len();
@@ -266,10 +266,10 @@ impl<T: Clone, A: Allocator> FreeMonoid<T, A> {
     }
 
     /// This one with the pieces of another after its own, as `add_assign` leaves it.
-    /// An error comes where a growth was refused, and this one is given up.
+    /// An error comes where `add_assign` has one, and this one is given up.
     pub fn add<B: Allocator>(mut self, other: &FreeMonoid<T, B>) -> Result<Self, AllocError>
-        requires exact { (x y : T) → T.is_clone x y → y ≡ x }
-        ensures { IfOk result (λ sum. sum ≡ sum_of self other.now) }
+        ensures ok { IfOk result (λ sum. IsSumOf T.is_clone self other.now sum) }
+        ensures exact { ClonesAreSame T.is_clone → IfOk result (λ sum. sum ≡ sum_of self other.now) }
     {
         self.add_assign(other)?;
         Ok(self)
@@ -277,10 +277,12 @@ impl<T: Clone, A: Allocator> FreeMonoid<T, A> {
 }
 
 impl<T: Clone, A: Allocator + Copy> FreeMonoid<T, A> {
-    /// The same pieces and the same setting. An error comes where a growth was refused.
+    /// The same texts under clones of their labels, and the same setting. An error comes where
+    /// `add_assign` has one.
     pub fn clone(&self) -> Result<Self, AllocError>
-        requires exact { (x y : T) → T.is_clone x y → y ≡ x }
-        ensures { IfOk result (λ copy. copy ≡ self.now) }
+        ensures ok { IfOk result (λ copy. copy.squash ≡ self.now.squash
+            × AreCopies T.is_clone self.now.pieces copy.pieces) }
+        ensures exact { ClonesAreSame T.is_clone → IfOk result (λ copy. copy ≡ self.now) }
     {
         let mut copy = FreeMonoid::new(*self.labels.allocator());
         copy.squash = self.squash;

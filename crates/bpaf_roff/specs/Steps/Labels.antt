@@ -1,6 +1,7 @@
 -- How a payload and its labels give pieces: each label has the place where its text ends, and a text begins where the one before it
 -- ends.
-use Rattle.std.specs.Prelude.{◌≡◌, ℕ, ◌+◌, ◌-◌, ◌≤◌, Bool, ◌&&◌, if◌then◌else◌, List, [], ◌∷◌, length, take, drop, map}
+use Rattle.std.specs.Prelude.{◌≡◌, ℕ, ◌+◌, ◌-◌, ◌≤◌, Bool, ◌&&◌, if◌then◌else◌, List, [], ◌∷◌, ◌++◌, length, take, drop, map}
+use Rattle.std.specs.List.{AllZip}
 use Rattle.std.specs.Str.{IsUtf8}
 use Rattle.bpaf_roff.specs.Pieces.{Piece}
 use Rattle.bpaf_roff.specs.declared.monoid.Label.{Label}
@@ -39,3 +40,13 @@ module _ {T : Type 0} where
   abbrev pub end_of : ℕ → List (Label T) → ℕ
   end_of at [] = at
   end_of at (l ∷ ls) = end_of l.end ls
+
+  -- clones of labels, place by place, with the ends of the given ones
+  abbrev pub AreClones : (T → T → Type 0) → List (Label T) → List (Label T) → Type 0
+  AreClones clones = AllZip (λ l m. (m.end ≡ l.end) × clones l.label m.label)
+
+  -- clones of labels put last, moved on
+  pub record EndsInClones (clones : T → T → Type 0) (labels more : List (Label T)) (by : ℕ) (new : List (Label T)) : Type 0 where
+    pub copies : List (Label T)
+    pub are_clones : AreClones clones more copies
+    pub labels_then : new ≡ labels ++ shifted by copies
