@@ -1,0 +1,172 @@
+-- The console page as a function of the document, the width, and full or brief. It goes by the rules of docs/console.md, one after
+-- another. The laws of `IsLayout` and the ink are theorems on it: who believes them need not read this.
+use Rattle.std.specs.Prelude.{ℕ, ◌+◌, ◌-◌, Bool, true, false, not, ◌&&◌, ◌||◌, List, [], ◌∷◌, ◌++◌, codes, take, replicate, min, nat_eq, nat_lt, nat_le, if◌then◌else◌}
+use Rattle.std.specs.List.{ends_with}
+use Rattle.std.specs.Str.{trim_end, bytes_eq}
+use Rattle.bpaf_doc.specs.declared.buffer.Block.TheVariants as blocks
+use Rattle.bpaf_doc.specs.declared.buffer.Block.{Block}
+use Rattle.bpaf_doc.specs.Parts.{Part, Text, Start, End}
+use Rattle.bpaf_doc.specs.Chunks.{Chunk, Raw, Paragraph, LineBreak, columns, has_some}
+use Rattle.bpaf_doc.specs.Shown.{numbered, shown_chunks, is_term_ref}
+use Rattle.bpaf_doc.specs.Margin.{margin, is_skipped}
+
+-- what has to stand before the next text
+pub data Request : Type 0 where
+  NoBreak : Request
+  NewLine : Request
+  BlankLine : Request
+
+-- The page so far: its text, the columns of its last line, what is asked for, and whether the margin of an item's body is pending.
+pub record PageSoFar : Type 0 where
+  pub text : List ℕ
+  pub column : ℕ
+  pub request : Request
+  pub is_pending : Bool
+
+-- columns and margins saturate at the greatest usize
+abbrev pub saturated : ℕ → ℕ
+saturated n = min n 18_446_744_073_709_551_615
+
+-- a newline is put, and the column is 0
+abbrev pub on_new_line : PageSoFar → PageSoFar
+on_new_line page = record page { text = page.text ++ codes "\n"; column = 0 }
+
+-- so many blanks are put
+abbrev pub with_blanks : ℕ → PageSoFar → PageSoFar
+with_blanks count page = record page { text = page.text ++ replicate count 32; column = saturated (page.column + count) }
+
+-- ---- a Raw chunk, step 1: the line is broken
+
+-- a new line or a blank line is asked for
+abbrev pub asks_line : Request → Bool
+asks_line NoBreak = false
+asks_line NewLine = true
+asks_line BlankLine = true
+
+-- a blank line is asked for
+abbrev pub asks_blank_line : Request → Bool
+asks_blank_line NoBreak = false
+asks_blank_line NewLine = false
+asks_blank_line BlankLine = true
+
+-- (a) where one is asked for and the text does not end in a newline, a newline is put, and the column is 0
+abbrev pub line_ended : PageSoFar → PageSoFar
+line_ended page = if asks_line page.request && not (ends_with nat_eq page.text (codes "\n")) then on_new_line page else page
+
+-- (b) where a blank line is asked for and the text does not end in two newlines, a newline is put
+abbrev pub blank_line_put : PageSoFar → PageSoFar
+blank_line_put page =
+    if asks_blank_line page.request && not (ends_with nat_eq page.text (codes "\n\n")) then record page { text = page.text ++ codes "\n" } else page
+
+abbrev pub request_met : PageSoFar → PageSoFar
+request_met page = blank_line_put (line_ended page)
+
+-- (c) the column plus the columns of the slice exceeds the width
+abbrev pub is_too_wide : ℕ → List ℕ → PageSoFar → Bool
+is_too_wide width slice page = nat_lt width (saturated (page.column + columns slice))
+
+-- (c) the White_Space at the end goes, newlines too, a newline is put, and the column is 0
+abbrev pub wrapped : PageSoFar → PageSoFar
+wrapped page = on_new_line (record page { text = trim_end page.text })
+
+-- ---- steps 2 to 4: the slice is written from its margin on
+
+-- the blanks that are missing up to the margin, none where the column is past it
+abbrev pub missing_blanks : ℕ → PageSoFar → ℕ
+missing_blanks margin page = margin - page.column
+
+-- step 3: where the margin is pending and the column is at least 28, two blanks in all, where step 2 put this many
+abbrev pub body_parted : ℕ → PageSoFar → PageSoFar
+body_parted missing page = if page.is_pending && nat_le 28 page.column then with_blanks (2 - missing) page else page
+
+abbrev pub indented : ℕ → PageSoFar → PageSoFar
+indented margin page = body_parted (missing_blanks margin page) (with_blanks (missing_blanks margin page) page)
+
+-- step 4: all that was asked for or pending is cleared, the slice is written, and the column grows by its weight
+abbrev pub slice_put : List ℕ → ℕ → PageSoFar → PageSoFar
+slice_put slice weight page = record { text = page.text ++ slice; column = saturated (page.column + weight); request = NoBreak; is_pending = false }
+
+abbrev pub placed : ℕ → List ℕ → ℕ → PageSoFar → PageSoFar
+placed margin slice weight page = slice_put slice weight (indented margin page)
+
+-- ---- the chunks of a text
+
+-- a slice on a page that has some text and what was asked for: (c), where one blank is dropped, and what is asked for stays
+abbrev pub fitted : ℕ → ℕ → List ℕ → ℕ → PageSoFar → PageSoFar
+fitted width margin slice weight page =
+    if is_too_wide width slice page
+    then if bytes_eq slice (codes " ") then wrapped page else placed margin slice weight (wrapped page)
+    else placed margin slice weight page
+
+-- a Raw chunk, at the margin of its text
+abbrev pub raw_put : ℕ → ℕ → List ℕ → ℕ → PageSoFar → PageSoFar
+raw_put width margin slice weight page =
+    if has_some page.text then fitted width margin slice weight (request_met page) else placed margin slice weight page
+
+abbrev pub chunk_put : ℕ → ℕ → Chunk → PageSoFar → PageSoFar
+chunk_put width margin (Raw slice weight) page = raw_put width margin slice weight page
+chunk_put width margin Paragraph page = on_new_line page
+chunk_put width margin LineBreak page = on_new_line page
+
+abbrev pub chunks_put : ℕ → ℕ → List Chunk → PageSoFar → PageSoFar
+chunks_put width margin [] page = page
+chunks_put width margin (chunk ∷ chunks) page = chunks_put width margin chunks (chunk_put width margin chunk page)
+
+-- ---- the marks
+
+-- the backquote of a term reference takes one column
+abbrev pub backquoted : Block → PageSoFar → PageSoFar
+backquoted b page = if is_term_ref b then record page { text = page.text ++ codes "`"; column = saturated (page.column + 1) } else page
+
+-- a new line is asked for, where a blank line is not
+abbrev pub at_least_new_line : Request → Request
+at_least_new_line NoBreak = NewLine
+at_least_new_line NewLine = NewLine
+at_least_new_line BlankLine = BlankLine
+
+-- what a start asks for
+abbrev pub request_at_start : Block → Request → Request
+request_at_start blocks.Header request = at_least_new_line request
+request_at_start blocks.Section2 request = at_least_new_line request
+request_at_start blocks.Section3 request = at_least_new_line request
+request_at_start blocks.Section4 request = at_least_new_line request
+request_at_start blocks.ItemTerm request = at_least_new_line request
+request_at_start _ request = request
+
+-- what an end asks for
+abbrev pub request_at_end : Block → Request → Request
+request_at_end blocks.Block request = BlankLine
+request_at_end _ request = request
+
+abbrev pub is_item_body : Block → Bool
+is_item_body blocks.ItemBody = true
+is_item_body _ = false
+
+abbrev pub start_put : Block → PageSoFar → PageSoFar
+start_put b page = backquoted b (record page { request = request_at_start b page.request; is_pending = page.is_pending || is_item_body b })
+
+abbrev pub end_put : Block → PageSoFar → PageSoFar
+end_put b page = backquoted b (record page { request = request_at_end b page.request; is_pending = page.is_pending && not (is_item_body b) })
+
+-- ---- the document
+
+-- the part at place k, where a mark of a skipped pair does nothing
+abbrev pub part_put : Bool → ℕ → List Part → ℕ → Part → PageSoFar → PageSoFar
+part_put full width document k (Text bytes style) page = chunks_put width (saturated (margin document k)) (shown_chunks full (take k document) bytes) page
+part_put full width document k (Start b) page = if is_skipped document k then page else start_put b page
+part_put full width document k (End b) page = if is_skipped document k then page else end_put b page
+
+abbrev pub parts_put : Bool → ℕ → List Part → List (ℕ × Part) → PageSoFar → PageSoFar
+parts_put full width document [] page = page
+parts_put full width document ((k, part) ∷ parts) page = parts_put full width document parts (part_put full width document k part page)
+
+abbrev pub empty_page : PageSoFar
+empty_page = record { text = []; column = 0; request = NoBreak; is_pending = false }
+
+-- at the end, where a new line or a blank line is still asked for, a newline is written
+abbrev pub finished : PageSoFar → List ℕ
+finished page = if asks_line page.request then page.text ++ codes "\n" else page.text
+
+-- the bytes of the page
+abbrev pub console_page : Bool → ℕ → List Part → List ℕ
+console_page full width document = finished (parts_put full width document (numbered document) empty_page)
