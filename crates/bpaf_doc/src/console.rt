@@ -1,10 +1,11 @@
 //! A document as text on a console, its lines broken where they would pass a width.
-ghost use Rattle.std.specs.Prelude.{◌≡◌, ◌+◌, ◌^◌, ◌<◌, IfOk, string_bytes};
-ghost use Rattle.bpaf_doc.specs.Console.Layout.{IsLayout};
-ghost use Rattle.bpaf_doc.specs.Buffer.Parts.{ink, HasUtf8Texts};
+ghost use Rattle.std.specs.Prelude.{◌≡◌, ◌+◌, ◌^◌, ◌<◌, IfOk, length, string_bytes};
+ghost use Rattle.bpaf_doc.specs.ConsoleExact.{console_page};
+ghost use Rattle.bpaf_doc.specs.Layout.{IsLayout};
+ghost use Rattle.bpaf_doc.specs.Parts.{ink, HasUtf8Texts};
 ghost use Rattle.bpaf_doc.specs.Shown.{console_ink};
-ghost use Rattle.bpaf_doc.specs.Console.Exact.Hiding.{hidden_from_start, hidden_from_end};
-ghost use Rattle.bpaf_doc.specs.Console.Exact.{console_text};
+ghost use Rattle.bpaf_doc.specs.ConsoleSteps.{hidden_from_start, hidden_from_end};
+ghost use Rattle.bpaf_doc.specs.ConsoleText.{console_text, HasFewThroughout};
 
 use crate::buffer::{Block, Doc, Part};
 use std::alloc::{AllocError, Allocator};
@@ -21,9 +22,6 @@ use tabs::tab_stop;
 /// The columns of a line where no width is given.
 pub const MAX_WIDTH: usize = 100;
 
-// The most parts of a page: their margins add up to a `usize`. No memory of today holds as many.
-const MOST_PARTS: usize = 1 << 58;
-
 impl<A: Allocator> Doc<A> {
     /// The document as lines that break before a chunk that would pass `max_width` columns, in full or in brief, as a text in
     /// `alloc`.
@@ -32,19 +30,17 @@ impl<A: Allocator> Doc<A> {
     /// of a term reference. Lines break where a mark or a break chunk asks for it and otherwise only where a chunk would pass
     /// the width, and are indented by the margin of their block: `docs/console.md` says each rule.
     ///
-    /// `AllocError` where a growth was refused, or where the document has more than 2^58 parts.
+    /// `AllocError` where a growth was refused.
     pub fn render_console<B: Allocator + Copy>(
         &self,
         alloc: B,
         full: bool,
         max_width: usize,
     ) -> Result<String<B>, AllocError>
+        ensures exact { IfOk result (λ text. string_bytes text ≡ console_page full max_width self.now) }
         ensures ink { IfOk result (λ text. ink (string_bytes text) ≡ console_ink full self.now) }
         ensures layout { IfOk result (λ text. IsLayout self.now full max_width (string_bytes text)) }
     {
-        if self.len() > MOST_PARTS {
-            return Err(AllocError);
-        }
         self.lay_out(alloc, full, max_width)
     }
 
@@ -54,6 +50,7 @@ impl<A: Allocator> Doc<A> {
         alloc: B,
         full: bool,
     ) -> Result<String<B>, AllocError>
+        ensures exact { IfOk result (λ text. string_bytes text ≡ console_page full 100 self.now) }
         ensures ink { IfOk result (λ text. ink (string_bytes text) ≡ console_ink full self.now) }
         ensures layout { IfOk result (λ text. IsLayout self.now full 100 (string_bytes text)) }
     {
@@ -69,6 +66,8 @@ impl<A: Allocator> Doc<A> {
     ) -> Result<String<B>, AllocError>
         ensures utf8 { HasUtf8Texts self.now }
         ensures text { IfOk result (λ text. string_bytes text ≡ console_text full width self.now) }
+        ensures few { IfOk result (λ text. HasFewThroughout full width self.now) }
+        ensures small { length self.now < 2 ^ 64 }
         ensures ink { IfOk result (λ text. ink (string_bytes text) ≡ console_ink full self.now) }
     {
         let count = self.len();

@@ -1,14 +1,13 @@
 //! A console text while it is written.
 ghost use Rattle.std.specs.Prelude.{◌≡◌, ◌++◌, IfOk, OnOk, string_bytes, replicate};
 ghost use Rattle.std.specs.Str.{trim_end};
-ghost use Rattle.bpaf_doc.specs.Buffer.Parts.{ink};
+ghost use Rattle.bpaf_doc.specs.Parts.{ink};
 ghost use Rattle.std.specs.Int.{is_in_range};
 ghost use Rattle.std.specs.List.{list_all};
-ghost use Rattle.bpaf_doc.specs.Splitter.Chunks.{chunks_of, columns};
+ghost use Rattle.bpaf_doc.specs.Chunks.{chunks_of, columns};
 ghost use Rattle.bpaf_doc.specs.Shown.{mark_bytes};
-ghost use Rattle.bpaf_doc.specs.Console.Exact.Hiding.{hides};
-ghost use Rattle.bpaf_doc.specs.Console.Steps.Ink.{shown_ink};
-ghost use Rattle.bpaf_doc.specs.Console.Exact.Page.{sheet_of, blank_sheet, text_put, opened, closed, finished, raw_put, wraps, room_made, placed, asked_put, lacks_newline, lacks_blank_line, wrapped, padded, blanks_put, newline_put, marked, margin_pushed, margin_of, columns_of, asked_by_start, asked_by_end, indent_of};
+ghost use Rattle.bpaf_doc.specs.ConsoleSteps.{shown_ink, hides};
+ghost use Rattle.bpaf_doc.specs.ConsolePage.{sheet_of, blank_sheet, text_put, opened, closed, finished, raw_put, wraps, room_made, placed, asked_put, lacks_newline, lacks_blank_line, wrapped, padded, blanks_put, newline_put, marked, margin_pushed, margin_of, innermost, HasFewMargins, columns_of, asked_by_start, asked_by_end, indent_of};
 
 use super::tabs::MAX_TAB;
 use crate::buffer::Block;
@@ -32,7 +31,8 @@ pub struct Page<B: Allocator> {
     column: usize,
     width: usize,
     tab_stop: usize,
-    margins: Vec<usize, B>,
+    // Each is at most 30 times its place from the bottom, so that none passes a `u128`.
+    margins: Vec<u128, B>,
     asked: Asked,
     // An item's body starts at the next text.
     at_body: bool,
@@ -78,27 +78,33 @@ impl<B: Allocator> Page<B> {
     }
 
     /// Takes the start of a block in. `adjacent` tells of a Section4 whether an empty Block pair follows its end.
-    #[tactic(auto, unfolding(crate::specs::Console::Exact::Page::opened))]
+    #[tactic(auto, unfolding(crate::specs::ConsolePage::opened))]
     pub fn open(&mut self, block: Block, adjacent: bool) -> Result<(), AllocError>
         ensures page { OnOk result (sheet_of self.new ≡ opened block adjacent (sheet_of self.old)) }
         ensures ink { OnOk result (ink (string_bytes self.new.out) ≡ ink (string_bytes self.old.out) ++ mark_bytes block) }
+        ensures few { OnOk result (HasFewMargins (sheet_of self.new)) }
     {
         self.asked = asked_by_start(self.asked, block);
         self.at_body = self.at_body || block == Block::ItemBody;
         self.push_margin(indent_of(block, self.tab_stop, adjacent))?;
-        self.put_mark(block)
+        self.put_mark(block)?;
+        self.has_few_margins();
+        Ok(())
     }
 
     /// Takes the end of a block in.
-    #[tactic(auto, unfolding(crate::specs::Console::Exact::Page::closed))]
+    #[tactic(auto, unfolding(crate::specs::ConsolePage::closed))]
     pub fn close(&mut self, block: Block) -> Result<(), AllocError>
         ensures page { OnOk result (sheet_of self.new ≡ closed block (sheet_of self.old)) }
         ensures ink { OnOk result (ink (string_bytes self.new.out) ≡ ink (string_bytes self.old.out) ++ mark_bytes block) }
+        ensures few { OnOk result (HasFewMargins (sheet_of self.new)) }
     {
         let _ = self.margins.pop();
         self.asked = asked_by_end(self.asked, block);
         self.at_body = self.at_body && block != Block::ItemBody;
-        self.put_mark(block)
+        self.put_mark(block)?;
+        self.has_few_margins();
+        Ok(())
     }
 
     /// The whole text, with a last newline where one is still asked for.
@@ -114,7 +120,7 @@ impl<B: Allocator> Page<B> {
     }
 
     // Writes a Raw chunk. A blank that does not fit its line is left out.
-    #[tactic(auto, unfolding(crate::specs::Console::Exact::Page::raw_put))]
+    #[tactic(auto, unfolding(crate::specs::ConsolePage::raw_put))]
     fn put_raw(&mut self, raw: &str, weight: usize) -> Result<(), AllocError>
         ensures page { OnOk result (sheet_of self.new ≡ raw_put raw.now weight (sheet_of self.old)) }
         ensures ink { OnOk result (ink (string_bytes self.new.out) ≡ ink (string_bytes self.old.out) ++ ink raw.now) }
@@ -235,22 +241,36 @@ impl<B: Allocator> Page<B> {
         Ok(())
     }
 
-    // Pushes the margin in force and so many columns more.
+    // Pushes the innermost margin and so many columns more.
     fn push_margin(&mut self, indent: Option<usize>) -> Result<(), AllocError>
         ensures { OnOk result (sheet_of self.new ≡ margin_pushed indent (sheet_of self.old)) }
     {
         if let Some(indent) = indent {
-            let margin = self.margin().saturating_add(indent);
+            let margin = self.innermost().saturating_add(indent as u128);
             self.margins.push(margin)?;
         }
         Ok(())
     }
 
-    // The margin in force.
+    // The margin in force: the innermost one, as a number of columns.
     fn margin(&self) -> usize
         ensures { result ≡ margin_of (sheet_of self.now) }
     {
+        usize::try_from(self.innermost()).unwrap_or(usize::MAX)
+    }
+
+    fn innermost(&self) -> u128
+        ensures { result ≡ innermost (sheet_of self.now) }
+    {
         self.margins.last().copied().unwrap_or(0)
+    }
+
+    // A margin takes 16 bytes, and no vector 2^63 or more.
+    fn has_few_margins(&self)
+        ensures { HasFewMargins (sheet_of self.now) }
+    {
+        let few = self.margins.as_slice().len() < 1 << 59;
+        prove!(few);
     }
 }
 

@@ -1,29 +1,47 @@
 -- What a loop over the parts keeps of the page that it writes.
-use Rattle.std.specs.Prelude.{◌≡◌, ◌≢◌, ℕ, ◌+◌, Bool, true, false, ◌&&◌, ◌==◌, List, [], ◌∷◌, refl, length, if◌then◌else◌, String, string_bytes, Result, Ok, Err, IfOk}
-use Rattle.std.proofs.Common.{sym, ◌∙◌, ap, arith}
+use Rattle.std.specs.Prelude.{◌≡◌, ◌≢◌, ⊤, ℕ, ◌+◌, Bool, true, false, ◌&&◌, ◌==◌, List, [], ◌∷◌, refl, length, if◌then◌else◌, String, string_bytes, Result, Ok, Err, IfOk}
+use Rattle.std.proofs.Common.{sym, subst, ◌∙◌, ap, arith}
 use Rattle.std.proofs.lemmas.Bool.Decides.{nat_tests}
 use Rattle.bpaf_doc.specs.declared.buffer.Block.TheVariants as blocks
 use Rattle.bpaf_doc.specs.declared.buffer.Block.{Block}
 use Rattle.bpaf_doc.specs.declared.buffer.Style.{Style}
 use Rattle.bpaf_doc.specs.declared.console.pairs.Pairs.{Pairs}
-use Rattle.bpaf_doc.specs.Buffer.Parts.{Part, Text}
-use Rattle.bpaf_doc.specs.Splitter.Chunks.{chunks_of}
+use Rattle.bpaf_doc.specs.Parts.{Part, Text}
+use Rattle.bpaf_doc.specs.Chunks.{chunks_of}
 use Rattle.bpaf_doc.specs.Shown.{mark_bytes}
-use Rattle.bpaf_doc.specs.Console.Exact.Hiding.{hides, hidden_after}
-use Rattle.bpaf_doc.specs.Console.Exact.Page.{Sheet, text_put, opened, closed, finished}
-use Rattle.bpaf_doc.specs.Console.Exact.{is_block, is_adjacent, skips, pairs_after, start_put, end_put, part_put, parts_put}
+use Rattle.bpaf_doc.specs.ConsoleSteps.{hides, hidden_after}
+use Rattle.bpaf_doc.specs.ConsolePage.{Sheet, HasFewMargins, blank_sheet, text_put, opened, closed, finished}
+use Rattle.bpaf_doc.specs.ConsoleText.{is_block, is_adjacent, skips, pairs_after, start_put, end_put, part_put, parts_put, no_pairs, tab_stop_from, whole_page, LeavesFew, KeepsFew, HasFewThroughout}
 
--- The parts that are left, from this place on, make the page whole.
-pub record IsPageLeft (full : Bool) (document : List Part) (whole : Sheet) (index : ℕ) (pairs : Pairs) (hidden : ℕ) (parts : List Part) (page : Sheet) : Type 0 where
+-- The parts that are left, from this place on, make the page whole; where they keep few margins, all did.
+pub record IsPageLeft (full : Bool) (document : List Part) (whole : Sheet) (few : Type 0) (index : ℕ) (pairs : Pairs) (hidden : ℕ) (parts : List Part) (page : Sheet) : Type 0 where
   pub same_page : parts_put full document index pairs hidden parts page ≡ whole
   pub in_place : index + length parts ≡ length document
+  pub few_margins : KeepsFew full document index pairs hidden parts page → few
+
+-- before the first part
+pub IsPageLeft-all : (full : Bool) (width : ℕ) (document : List Part) (index : ℕ) (pairs : Pairs) (parts : List Part) (page : Sheet)
+    → index ≡ 0 → pairs ≡ no_pairs → parts ≡ document → page ≡ blank_sheet width (tab_stop_from 0 false 0 document)
+    → IsPageLeft full document (whole_page full width document) (HasFewThroughout full width document) index pairs 0 parts page
+IsPageLeft-all full width document index pairs parts page counted known all blank = record {
+  same_page =
+      ap (λ i. parts_put full document i pairs 0 parts page) counted
+      ∙ ap (λ p. parts_put full document 0 p 0 parts page) known
+      ∙ ap (λ ps. parts_put full document 0 no_pairs 0 ps page) all
+      ∙ ap (λ s. parts_put full document 0 no_pairs 0 document s) blank;
+  in_place = omega (arith, counted, ap length all);
+  few_margins = λ keeps.
+      subst (λ s. KeepsFew full document 0 no_pairs 0 document s) blank
+      (subst (λ ps. KeepsFew full document 0 no_pairs 0 ps page) all
+      (subst (λ p. KeepsFew full document 0 p 0 parts page) known (subst (λ i. KeepsFew full document i pairs 0 parts page) counted keeps)));
+}
 
 -- one part is written
-pub IsPageLeft-more : (full : Bool) (document : List Part) (whole : Sheet) (index more : ℕ) (pairs next : Pairs) (hidden after : ℕ) (part : Part) (parts rest : List Part) (page new : Sheet)
-    → IsPageLeft full document whole index pairs hidden parts page → parts ≡ part ∷ rest → more ≡ index + 1
+pub IsPageLeft-more : (full : Bool) (document : List Part) (whole : Sheet) (few : Type 0) (index more : ℕ) (pairs next : Pairs) (hidden after : ℕ) (part : Part) (parts rest : List Part) (page new : Sheet)
+    → IsPageLeft full document whole few index pairs hidden parts page → parts ≡ part ∷ rest → more ≡ index + 1
     → next ≡ pairs_after document index pairs part → after ≡ hidden_after full hidden part → new ≡ part_put full document index pairs hidden part page
-    → IsPageLeft full document whole more next after rest new
-IsPageLeft-more full document whole index more pairs next hidden after part parts rest page new left first counted known still wrote = record {
+    → LeavesFew next index part new → IsPageLeft full document whole few more next after rest new
+IsPageLeft-more full document whole few index more pairs next hidden after part parts rest page new left first counted known still wrote leaves = record {
   same_page =
       ap (λ i. parts_put full document i next after rest new) counted
       ∙ ap (λ p. parts_put full document (index + 1) p after rest new) known
@@ -31,7 +49,19 @@ IsPageLeft-more full document whole index more pairs next hidden after part part
       ∙ ap (λ s. parts_put full document (index + 1) (pairs_after document index pairs part) (hidden_after full hidden part) rest s) wrote
       ∙ ap (λ ps. parts_put full document index pairs hidden ps page) (sym first) ∙ left.same_page;
   in_place = omega (arith, left.in_place, ap length first, counted);
+  few_margins = λ keeps.
+      left.few_margins
+      (subst (λ ps. KeepsFew full document index pairs hidden ps page) (sym first) (
+        subst (λ s. LeavesFew (pairs_after document index pairs part) index part s) wrote (subst (λ p. LeavesFew p index part new) known leaves),
+        subst (λ s. KeepsFew full document (index + 1) (pairs_after document index pairs part) (hidden_after full hidden part) rest s) wrote
+          (subst (λ h. KeepsFew full document (index + 1) (pairs_after document index pairs part) h rest new) still
+            (subst (λ p. KeepsFew full document (index + 1) p after rest new) known (subst (λ i. KeepsFew full document i next after rest new) counted keeps))),
+      ));
 }
+
+-- a mark that is passed over says nothing of margins
+pub skipped-few : (pairs : Pairs) (index : ℕ) (b : Block) (page : Sheet) → true ≡ skips pairs index b → skips pairs index b ≡ false → HasFewMargins page
+skipped-few pairs index b page skipped shown = absurd (let no : true ≡ false = skipped ∙ shown in cc)
 
 -- a text that is shown, and one that is hidden
 pub text-shown : (full : Bool) (document : List Part) (index : ℕ) (pairs : Pairs) (hidden : ℕ) (bytes : List ℕ) (style : Style) (page new : Sheet)
@@ -82,9 +112,15 @@ skips-mark_bytes pairs index b skipped = quiet b (middle pairs.has_pair (is_bloc
   quiet _ e = refl
 
 -- nothing is left
-pub IsPageLeft-none : {Z E : Type 0} (r : Result (String Z) E) (full : Bool) (document : List Part) (whole : Sheet) (index : ℕ) (pairs : Pairs) (hidden : ℕ) (parts : List Part) (page : Sheet)
-    → IsPageLeft full document whole index pairs hidden parts page → parts ≡ []
+pub IsPageLeft-none : {Z E : Type 0} (r : Result (String Z) E) (full : Bool) (document : List Part) (whole : Sheet) (few : Type 0) (index : ℕ) (pairs : Pairs) (hidden : ℕ) (parts : List Part) (page : Sheet)
+    → IsPageLeft full document whole few index pairs hidden parts page → parts ≡ []
     → IfOk r (λ text. string_bytes text ≡ finished page) → IfOk r (λ text. string_bytes text ≡ finished whole)
-IsPageLeft-none (Ok text) full document whole index pairs hidden parts page left none h =
+IsPageLeft-none (Ok text) full document whole few index pairs hidden parts page left none h =
     h ∙ ap finished (ap (λ ps. parts_put full document index pairs hidden ps page) (sym none) ∙ left.same_page)
-IsPageLeft-none (Err error) full document whole index pairs hidden parts page left none h = tt
+IsPageLeft-none (Err error) full document whole few index pairs hidden parts page left none h = tt
+
+pub IsPageLeft-few : {Z E : Type 0} (r : Result (String Z) E) (full : Bool) (document : List Part) (whole : Sheet) (few : Type 0) (index : ℕ) (pairs : Pairs) (hidden : ℕ) (parts : List Part) (page : Sheet)
+    → IsPageLeft full document whole few index pairs hidden parts page → parts ≡ [] → IfOk r (λ text. few)
+IsPageLeft-few (Ok text) full document whole few index pairs hidden parts page left none =
+    left.few_margins (subst (λ ps. KeepsFew full document index pairs hidden ps page) (sym none) tt)
+IsPageLeft-few (Err error) full document whole few index pairs hidden parts page left none = tt

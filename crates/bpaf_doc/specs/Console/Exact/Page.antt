@@ -1,6 +1,6 @@
 -- A console page, step by step, as the private functions leave it. Nothing here has to be believed: that such a page has the
 -- console's ink is proved, and each further promise on it is to be.
-use Rattle.std.specs.Prelude.{ℕ, ◌+◌, ◌-◌, ◌==◌, Bool, true, false, not, ◌&&◌, ◌||◌, List, [], ◌∷◌, ◌++◌, Option, Some, None, unwrap_or, length, take, replicate, min, nat_eq, nat_lt, nat_le, string_bytes, if◌then◌else◌}
+use Rattle.std.specs.Prelude.{ℕ, ◌+◌, ◌-◌, ◌^◌, ◌<◌, ◌==◌, Bool, true, false, not, ◌&&◌, ◌||◌, List, [], ◌∷◌, ◌++◌, Option, Some, None, unwrap_or, length, take, replicate, min, nat_eq, nat_lt, nat_le, string_bytes, if◌then◌else◌}
 use Rattle.std.specs.List.{slice_get, ends_with}
 use Rattle.std.specs.Str.{trim_end, bytes_eq}
 use Rattle.bpaf_doc.specs.declared.buffer.Block.TheVariants as blocks
@@ -55,9 +55,16 @@ newline_put s = record s { out = s.out ++ 10 ∷ []; column = 0 }
 abbrev pub blanks_put : ℕ → Sheet → Sheet
 blanks_put count s = record s { out = s.out ++ replicate count 32; column = saturated (s.column + count) }
 
--- the margin in force
+-- the innermost margin, and that as columns: the margin in force
+abbrev pub innermost : Sheet → ℕ
+innermost s = unwrap_or (slice_get s.margins (length s.margins - 1)) 0
+
 abbrev pub margin_of : Sheet → ℕ
-margin_of s = unwrap_or (slice_get s.margins (length s.margins - 1)) 0
+margin_of s = saturated (innermost s)
+
+-- the margins fit in memory, so that the innermost is below 2 ^ 64
+abbrev pub HasFewMargins : Sheet → Type 0
+HasFewMargins s = length s.margins < 2 ^ 59
 
 -- where a break, or an empty line, is asked for and does not stand at the end
 abbrev pub lacks_newline : Sheet → Bool
@@ -156,7 +163,7 @@ indent_of _ tab_stop adjacent = None
 
 abbrev pub margin_pushed : Option ℕ → Sheet → Sheet
 margin_pushed None s = s
-margin_pushed (Some indent) s = record s { margins = s.margins ++ saturated (margin_of s + indent) ∷ [] }
+margin_pushed (Some indent) s = record s { margins = s.margins ++ min (innermost s + indent) (2 ^ 128 - 1) ∷ [] }
 
 abbrev pub is_body : Block → Bool
 is_body blocks.ItemBody = true

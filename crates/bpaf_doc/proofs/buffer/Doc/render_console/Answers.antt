@@ -1,8 +1,11 @@
-use Rattle.std.proofs.Common.{arith}
-use Rattle.bpaf_doc.proofs.lemmas.Console.Exact.Whole.{IfOk-layout}
+use Rattle.bpaf_doc.proofs.SheetWhole.{IfOk-layout}
+use Rattle.bpaf_doc.proofs.SheetExact.{IfOk-exact}
 use Rattle.bpaf_doc.proofs.buffer.Doc.render_console.Goals as goal
+
+pub returns-clause-exact : goal.returns-clause-exact
+returns-clause-exact g c = IfOk-exact c.args.full c.args.max_width c.args.self.now c.lay_out.ensures.small c.lay_out.result c.lay_out.ensures.text
 
 pub returns-clause-layout : goal.returns-clause-layout
 returns-clause-layout g c =
-    IfOk-layout c.args.full c.args.max_width c.args.self.now (omega (c.if-len-gt-MOST_PARTS.false, c.len.ensures, arith)) c.lay_out.ensures.utf8
-    c.lay_out.result c.lay_out.ensures.text c.lay_out.ensures.ink
+    IfOk-layout c.args.full c.args.max_width c.args.self.now c.lay_out.ensures.small c.lay_out.ensures.utf8
+    c.lay_out.result c.lay_out.ensures.text c.lay_out.ensures.few c.lay_out.ensures.ink

@@ -273,7 +273,7 @@ draws_dropped p s st d = record {
 abbrev pub IsWeighed : Piece → Type 0
 IsWeighed p = p.weight < 1_000_000 → p.weight ≡ columns p.bytes
 
-columns_is : (p : Piece) → IsWeighed p → page.columns_of p.bytes p.weight ≡ columns p.bytes
+pub columns_is : (p : Piece) → IsWeighed p → page.columns_of p.bytes p.weight ≡ columns p.bytes
 columns_is p h = at (by_cases (nat_lt p.weight 1000000)) where
   less : (n : ℕ) → nat_lt n 1000000 ≡ true → n < 1_000_000
   less n t = grind (arith, nat_tests)

@@ -175,9 +175,9 @@ turned m ms = reverse-append (m ∷ []) ms
 length_turned : (m : ℕ) (ms : List ℕ) → length (reverse (m ∷ ms)) - 1 ≡ length (reverse ms)
 length_turned m ms = let a : length (reverse (m ∷ ms)) ≡ length (m ∷ ms) = length-reverse (m ∷ ms) in let b : length (reverse ms) ≡ length ms = length-reverse ms in omega arith
 
-pub top_margin : (s : Sheet) (stack : List ℕ) → s.margins ≡ reverse stack → page.margin_of s ≡ top stack
-top_margin s [] e = ap (λ (ms : List ℕ). unwrap_or (slice_get ms (length ms - 1)) 0) e
-top_margin s (m ∷ ms) e =
+pub top_innermost : (s : Sheet) (stack : List ℕ) → s.margins ≡ reverse stack → page.innermost s ≡ top stack
+top_innermost s [] e = ap (λ (ms : List ℕ). unwrap_or (slice_get ms (length ms - 1)) 0) e
+top_innermost s (m ∷ ms) e =
     ap (λ (xs : List ℕ). unwrap_or (slice_get xs (length xs - 1)) 0) e ∙ ap (λ (i : ℕ). unwrap_or (slice_get (reverse (m ∷ ms)) i) 0) (length_turned m ms)
     ∙ ap (λ (xs : List ℕ). unwrap_or (slice_get xs (length (reverse ms))) 0) (turned m ms) ∙ ap (λ o. unwrap_or o 0) (get_last (reverse ms) m)
 

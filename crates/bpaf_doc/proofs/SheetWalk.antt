@@ -1,0 +1,399 @@
+-- The exact page goes over a document as its marks are counted: the stack of margins, the count of inline blocks that hide, and
+-- what is remembered of empty Block pairs.
+use Rattle.std.specs.Prelude.{◌≡◌, ℕ, suc, ◌+◌, ◌-◌, ◌*◌, ◌^◌, ◌<◌, ◌≤◌, ⊤, Bool, true, false, not, ◌&&◌, ◌==◌, List, [], ◌∷◌, ◌++◌, length, take, drop, reverse, refl, min, if◌then◌else◌, ◌⊎◌, slice_get, unwrap_or, Some, nat_le}
+use Rattle.std.specs.Str.{bytes_eq}
+use Rattle.std.proofs.Common.{sym, ap, arith, inl, inr, ◌∙◌, append_assoc, length-append, subst}
+use Rattle.std.proofs.lemmas.List.{length-reverse}
+use Rattle.std.proofs.lemmas.Bool.Decides.{nat_tests}
+use Rattle.bpaf_doc.specs.declared.console.pairs.Pairs.{Pairs}
+use Rattle.bpaf_doc.specs.declared.buffer.Block.{Block}
+use Rattle.bpaf_doc.specs.declared.buffer.Block.TheVariants as blocks
+use Rattle.bpaf_doc.specs.declared.buffer.Style.{Style}
+use Rattle.bpaf_doc.specs.Parts.{Part, Text, Start, End}
+use Rattle.bpaf_doc.specs.Chunks.{Chunk, Raw, Paragraph, LineBreak, columns, chunks_of}
+use Rattle.bpaf_doc.specs.Shown.{is_hidden, shown_chunks, through_paragraph}
+use Rattle.bpaf_doc.specs.Margin.{margin, is_skipped, skips_pair, is_section4_start, tab_stop, Shift, Indent, Outdent, Level, part_shift, indent}
+use Rattle.bpaf_doc.specs.ConsoleSteps.{hidden_after, is_inline}
+use Rattle.bpaf_doc.specs.ConsolePage as page
+use Rattle.bpaf_doc.specs.ConsolePage.{Sheet, blank_sheet}
+use Rattle.bpaf_doc.specs.ConsoleText as whole
+use Rattle.bpaf_doc.specs.ConsolePairs.{KnowsPairs}
+use Rattle.bpaf_doc.proofs.Hiding.{Counts, Counts-nil, Counts-more, is_hidden-Counts}
+use Rattle.bpaf_doc.proofs.Margins.{top, popped, stack_at, stack_at-none, stack_at-more, shifted, shift_at, shift_at-skipped, shift_at-shown, shift_at-text, margin-le, margin-indent, tab_stop-le, indent-le}
+use Rattle.bpaf_doc.proofs.Pairs.{KnowsPairs-more}
+use Rattle.bpaf_doc.proofs.Tabs.{widest_from, tab_stop-walk}
+use Rattle.bpaf_doc.proofs.SheetPairs.{knows_none, knows_start, skips_is}
+use Rattle.bpaf_doc.proofs.SheetMarks.{top_innermost, popped_margins, pushed_margins}
+
+-- ---- what a chunk keeps of the sheet
+
+pub record Frame (s t : Sheet) : Type 0 where
+  pub width : t.width ≡ s.width
+  pub tab_stop : t.tab_stop ≡ s.tab_stop
+  pub margins : t.margins ≡ s.margins
+
+pub same_frame : (s : Sheet) → Frame s s
+same_frame s = record { width = refl; tab_stop = refl; margins = refl }
+
+pub frame_if : (b : Bool) (s x y : Sheet) → Frame s x → Frame s y → Frame s (if b then x else y)
+frame_if true s x y a b = a
+frame_if false s x y a b = b
+
+pub frame_then : (s t u : Sheet) → Frame s t → Frame t u → Frame s u
+frame_then s t u a b = record { width = b.width ∙ a.width; tab_stop = b.tab_stop ∙ a.tab_stop; margins = b.margins ∙ a.margins }
+
+pub asked_keeps : (s : Sheet) → Frame s (page.asked_put s)
+asked_keeps s =
+    let line : Frame s (page.asked_newline_put s) = frame_if (page.lacks_newline s) s (page.newline_put s) s record { width = refl; tab_stop = refl; margins = refl } (same_frame s) in
+    frame_if (page.lacks_blank_line (page.asked_newline_put s)) s (record (page.asked_newline_put s) { out = (page.asked_newline_put s).out ++ 10 ∷ [] }) (page.asked_newline_put s)
+    record { width = line.width; tab_stop = line.tab_stop; margins = line.margins } line
+
+room_frame : (n : ℕ) (s : Sheet) → Frame s (page.room_made n s)
+room_frame n s =
+    let asked : Frame s (page.asked_put s) = asked_keeps s in
+    frame_if (length s.out == 0) s s (if page.is_too_wide n (page.asked_put s) then page.wrapped (page.asked_put s) else page.asked_put s) (same_frame s)
+    (frame_if (page.is_too_wide n (page.asked_put s)) s (page.wrapped (page.asked_put s)) (page.asked_put s) record { width = asked.width; tab_stop = asked.tab_stop; margins = asked.margins } asked)
+
+placed_frame : (bytes : List ℕ) (weight : ℕ) (s : Sheet) → Frame s (page.placed bytes weight s)
+placed_frame bytes weight s =
+    let pads : Frame s (page.padded s) =
+    frame_if (s.at_body && nat_le 28 (page.blanks_put (page.margin_of s - s.column) s).column) s (page.blanks_put (2 - (page.margin_of s - s.column)) (page.blanks_put (page.margin_of s - s.column) s))
+    (page.blanks_put (page.margin_of s - s.column) s) record { width = refl; tab_stop = refl; margins = refl } record { width = refl; tab_stop = refl; margins = refl } in
+    record { width = pads.width; tab_stop = pads.tab_stop; margins = pads.margins }
+
+pub raw_frame : (bytes : List ℕ) (weight : ℕ) (s : Sheet) → Frame s (page.raw_put bytes weight s)
+unfolding page.raw_put
+raw_frame bytes weight s =
+    frame_if (page.wraps (page.columns_of bytes weight) s && bytes_eq bytes (32 ∷ [])) s (page.room_made (page.columns_of bytes weight) s) (page.placed bytes weight (page.room_made (page.columns_of bytes weight) s))
+    (room_frame (page.columns_of bytes weight) s)
+    (frame_then s (page.room_made (page.columns_of bytes weight) s) (page.placed bytes weight (page.room_made (page.columns_of bytes weight) s)) (room_frame (page.columns_of bytes weight) s)
+    (placed_frame bytes weight (page.room_made (page.columns_of bytes weight) s)))
+
+pub text_frame : (full : Bool) (chunks : List Chunk) (s : Sheet) → Frame s (page.text_put full chunks s)
+text_frame full [] s = same_frame s
+text_frame full (Raw bytes weight ∷ chunks) s = frame_then s (page.raw_put bytes weight s) (page.text_put full chunks (page.raw_put bytes weight s)) (raw_frame bytes weight s) (text_frame full chunks (page.raw_put bytes weight s))
+text_frame full (LineBreak ∷ chunks) s = let rest : Frame (page.newline_put s) (page.text_put full chunks (page.newline_put s)) = text_frame full chunks (page.newline_put s) in
+    record { width = rest.width; tab_stop = rest.tab_stop; margins = rest.margins }
+text_frame full (Paragraph ∷ chunks) s = at full (text_frame full chunks (page.newline_put s)) where
+  at : (b : Bool) → Frame (page.newline_put s) (page.text_put full chunks (page.newline_put s)) → Frame s (if b then page.text_put full chunks (page.newline_put s) else page.newline_put s)
+  at true rest = record { width = rest.width; tab_stop = rest.tab_stop; margins = rest.margins }
+  at false rest = record { width = refl; tab_stop = refl; margins = refl }
+
+-- ---- the chunks of a text that are written
+
+-- the chunks of a text that are written
+abbrev pub written_of : Bool → List Chunk → List Chunk
+written_of full [] = []
+written_of full (Raw bytes weight ∷ chunks) = Raw bytes weight ∷ written_of full chunks
+written_of full (LineBreak ∷ chunks) = LineBreak ∷ written_of full chunks
+written_of full (Paragraph ∷ chunks) = Paragraph ∷ (if full then written_of full chunks else [])
+
+pub written_all : (chunks : List Chunk) → written_of true chunks ≡ chunks
+written_all [] = refl
+written_all (Raw bytes weight ∷ chunks) = ap (λ cs. Raw bytes weight ∷ cs) (written_all chunks)
+written_all (LineBreak ∷ chunks) = ap (λ cs. LineBreak ∷ cs) (written_all chunks)
+written_all (Paragraph ∷ chunks) = ap (λ cs. Paragraph ∷ cs) (written_all chunks)
+
+take_next : (k : ℕ) (x : Chunk) (xs : List Chunk) → take (1 + k + 1) (x ∷ xs) ≡ x ∷ take (k + 1) xs
+take_next k x xs = let e : 1 + k + 1 ≡ suc (k + 1) = omega arith in rw e refl
+
+pub written_brief : (chunks : List Chunk) → written_of false chunks ≡ through_paragraph chunks
+written_brief [] = refl
+written_brief (Raw bytes weight ∷ chunks) = ap (λ cs. Raw bytes weight ∷ cs) (written_brief chunks) ∙ sym (take_next _ (Raw bytes weight) chunks)
+written_brief (LineBreak ∷ chunks) = ap (λ cs. LineBreak ∷ cs) (written_brief chunks) ∙ sym (take_next _ LineBreak chunks)
+written_brief (Paragraph ∷ chunks) = refl
+
+-- ---- what is hidden
+
+zero_is : (n : ℕ) → (n == 0) ≡ true → n ≡ 0
+zero_is n h = grind (arith, nat_tests)
+
+is_zero : (n : ℕ) → n ≡ 0 → (n == 0) ≡ true
+is_zero n h = grind (arith, nat_tests)
+
+-- in full nothing is hidden
+none_hidden : (full : Bool) (hidden : ℕ) (part : Part) → (full ≡ true → hidden ≡ 0) → full ≡ true → hidden_after full hidden part ≡ 0
+none_hidden full hidden part h t = ap (λ (b : Bool). hidden_after b hidden part) t ∙ ap (λ (n : ℕ). hidden_after true n part) (h t) ∙ at part where
+  at : (part : Part) → hidden_after true 0 part ≡ 0
+  at (Text bytes style) = refl
+  at (Start b) = refl
+  at (End b) = zero_if (is_inline b) where
+    zero_if : (c : Bool) → (if c then 0 - 1 else 0) ≡ 0
+    zero_if true = refl
+    zero_if false = refl
+
+-- ---- a stack is low: no entry is above 30 for each entry from it down
+
+abbrev pub IsLow : List ℕ → Type 0
+IsLow [] = ⊤
+IsLow (m ∷ ms) = (m ≤ 30 * length (m ∷ ms)) × IsLow ms
+
+pub low_top : (stack : List ℕ) → IsLow stack → top stack ≤ 30 * length stack
+low_top [] low = omega arith
+low_top (m ∷ ms) low = low.0
+
+-- so few margins fit a usize, and the margin in force is the top
+pub few_fits : (s : Sheet) (stack : List ℕ) → s.margins ≡ reverse stack → IsLow stack → page.HasFewMargins s → top stack ≤ 18446744073709551615
+few_fits s stack margins low few =
+    let most : top stack ≤ 30 * length stack = low_top stack low in
+    let many : length s.margins ≡ length stack = ap length margins ∙ length-reverse stack in
+    let less : length s.margins < 2 ^ 59 = few in omega arith
+
+pub level_top : (s : Sheet) (stack : List ℕ) → s.margins ≡ reverse stack → top stack ≤ 18446744073709551615 → page.margin_of s ≡ top stack
+level_top s stack margins fits = let is : page.innermost s ≡ top stack = top_innermost s stack margins in omega arith
+
+low_shifted : (shift : Shift) (stack : List ℕ) → indent shift ≤ 30 → IsLow stack → IsLow (shifted shift stack)
+low_shifted (Indent n) stack most low = (let old : top stack ≤ 30 * length stack = low_top stack low in omega arith, low)
+low_shifted Outdent [] most low = tt
+low_shifted Outdent (m ∷ ms) most low = low.1
+low_shifted Level stack most low = low
+
+-- ---- the parts
+
+drop_front : (before parts : List Part) → drop (length before) (before ++ parts) ≡ parts
+drop_front [] parts = refl
+drop_front (x ∷ before) parts = drop_front before parts
+
+take_front : (before parts : List Part) → take (length before) (before ++ parts) ≡ before
+take_front [] parts = refl
+take_front (x ∷ before) parts = ap (λ ps. x ∷ ps) (take_front before parts)
+
+get_front : (before rest : List Part) (part : Part) → slice_get (before ++ part ∷ rest) (length before) ≡ Some part
+get_front [] rest part = refl
+get_front (x ∷ before) rest part = get_front before rest part
+
+pub opened_keeps : (b : Block) (adjacent : Bool) (s : Sheet) → ((page.opened b adjacent s).width ≡ s.width) × ((page.opened b adjacent s).tab_stop ≡ s.tab_stop)
+unfolding page.opened
+opened_keeps blocks.Header adjacent s = (refl, refl)
+opened_keeps blocks.Section2 adjacent s = (refl, refl)
+opened_keeps blocks.Section3 adjacent s = (refl, refl)
+opened_keeps blocks.Section4 adjacent s = (refl, refl)
+opened_keeps blocks.ItemTerm adjacent s = (refl, refl)
+opened_keeps blocks.ItemBody adjacent s = (refl, refl)
+opened_keeps blocks.DefinitionList adjacent s = (refl, refl)
+opened_keeps blocks.Block adjacent s = (refl, refl)
+opened_keeps blocks.InlineBlock adjacent s = (refl, refl)
+opened_keeps blocks.TermRef adjacent s = (refl, refl)
+opened_keeps blocks.Meta adjacent s = (refl, refl)
+opened_keeps blocks.Mono adjacent s = (refl, refl)
+
+pub closed_keeps : (b : Block) (s : Sheet) → ((page.closed b s).width ≡ s.width) × ((page.closed b s).tab_stop ≡ s.tab_stop) × ((page.closed b s).margins ≡ take (length s.margins - 1) s.margins)
+unfolding page.closed
+closed_keeps blocks.Header s = (refl, refl, refl)
+closed_keeps blocks.Section2 s = (refl, refl, refl)
+closed_keeps blocks.Section3 s = (refl, refl, refl)
+closed_keeps blocks.Section4 s = (refl, refl, refl)
+closed_keeps blocks.ItemTerm s = (refl, refl, refl)
+closed_keeps blocks.ItemBody s = (refl, refl, refl)
+closed_keeps blocks.DefinitionList s = (refl, refl, refl)
+closed_keeps blocks.Block s = (refl, refl, refl)
+closed_keeps blocks.InlineBlock s = (refl, refl, refl)
+closed_keeps blocks.TermRef s = (refl, refl, refl)
+closed_keeps blocks.Meta s = (refl, refl, refl)
+closed_keeps blocks.Mono s = (refl, refl, refl)
+
+module _ (full : Bool) (document : List Part) where
+  -- some parts are done, and others follow
+  pub record Walk (index : ℕ) (before parts : List Part) (pairs : Pairs) (hidden : ℕ) (s : Sheet) : Type 0 where
+    pub split : document ≡ before ++ parts
+    pub count : length before ≡ index
+    pub tab : s.tab_stop ≡ tab_stop document
+    pub margins : s.margins ≡ reverse (stack_at document index)
+    pub low : IsLow (stack_at document index)
+    pub knows : KnowsPairs document index pairs
+    pub counts : full ≡ false → Counts hidden before
+    pub open_all : full ≡ true → hidden ≡ 0
+
+  module _ (index : ℕ) (before rest : List Part) (part : Part) (pairs : Pairs) (hidden : ℕ) (s : Sheet) (w : Walk index before (part ∷ rest) pairs hidden s) where
+    next_split : document ≡ (before ++ part ∷ []) ++ rest
+    next_split = w.split ∙ sym (append_assoc before (part ∷ []) rest)
+
+    next_count : length (before ++ part ∷ []) ≡ index + 1
+    next_count = let n : length before ≡ index = w.count in omega (arith, length-append before (part ∷ []))
+
+    pub here : drop index document ≡ part ∷ rest
+    here = ap (λ (n : ℕ). drop n document) (sym w.count) ∙ ap (λ ps. drop (length before) ps) w.split ∙ drop_front before (part ∷ rest)
+
+    pub there : slice_get document index ≡ Some part
+    there = ap (λ (n : ℕ). slice_get document n) (sym w.count) ∙ ap (λ ps. slice_get ps (length before)) w.split ∙ get_front before rest part
+
+    front : take index document ≡ before
+    front = ap (λ (n : ℕ). take n document) (sym w.count) ∙ ap (λ ps. take (length before) ps) w.split ∙ take_front before (part ∷ rest)
+
+    pub within : index < length document
+    within = let a : length document ≡ length (before ++ part ∷ rest) = ap length w.split in let n : length before ≡ index = w.count in omega (arith, length-append before (part ∷ rest))
+
+    pub stack_next : stack_at document (index + 1) ≡ shifted (shift_at document index part) (stack_at document index)
+    stack_next = stack_at-more document index part rest here
+
+    walk_on : (next : Pairs) (t : Sheet) → KnowsPairs document (index + 1) next → t.tab_stop ≡ s.tab_stop → t.margins ≡ reverse (shifted (shift_at document index part) (stack_at document index))
+        → Walk (index + 1) (before ++ part ∷ []) rest next (hidden_after full hidden part) t
+    walk_on next t knows tab margins = record {
+      split = next_split;
+      count = next_count;
+      tab = tab ∙ w.tab;
+      margins = margins ∙ ap (λ (ms : List ℕ). reverse ms) (sym stack_next);
+      low = subst IsLow (sym stack_next) (low_shifted (shift_at document index part) (stack_at document index) (indent-le document index part) w.low);
+      knows = knows;
+      counts = λ f. subst (λ (b : Bool). Counts (hidden_after b hidden part) (before ++ part ∷ [])) (sym f) (Counts-more hidden before part (w.counts f));
+      open_all = none_hidden full hidden part w.open_all;
+    }
+
+    -- the margins stay
+    walk_still : (next : Pairs) (t : Sheet) → KnowsPairs document (index + 1) next → t.tab_stop ≡ s.tab_stop → t.margins ≡ s.margins → shift_at document index part ≡ Level
+        → Walk (index + 1) (before ++ part ∷ []) rest next (hidden_after full hidden part) t
+    walk_still next t knows tab margins level =
+        walk_on next t knows tab (margins ∙ w.margins ∙ ap (λ (x : Shift). reverse (shifted x (stack_at document index))) (sym level))
+
+  -- a text
+  module _ (index : ℕ) (before rest : List Part) (bytes : List ℕ) (style : Style) (pairs : Pairs) (hidden : ℕ) (s : Sheet) (w : Walk index before (Text bytes style ∷ rest) pairs hidden s) where
+    pub text_level : shift_at document index (Text bytes style) ≡ Level
+    text_level = shift_at-text document index bytes style
+
+    text_knows : KnowsPairs document (index + 1) pairs
+    text_knows =
+        KnowsPairs-more document index pairs
+        (λ e. let no : Some (Text bytes style) ≡ Some (Start blocks.Section4) = sym (there index before rest (Text bytes style) pairs hidden s w) ∙ e in cc) w.knows
+
+    pub walk_text : (t : Sheet) → Frame s t → Walk (index + 1) (before ++ Text bytes style ∷ []) rest pairs (hidden_after full hidden (Text bytes style)) t
+    walk_text t frame = walk_still index before rest (Text bytes style) pairs hidden s w pairs t text_knows frame.tab_stop frame.margins text_level
+
+    hiding_is : full ≡ false → is_hidden (take index document) ≡ not (hidden == 0)
+    hiding_is f = ap is_hidden (front index before rest (Text bytes style) pairs hidden s w) ∙ is_hidden-Counts hidden before (w.counts f)
+
+    -- the chunks that are shown, where the text is
+    pub shown_is : (hidden == 0) ≡ true → shown_chunks full (take index document) bytes ≡ written_of full (chunks_of bytes)
+    shown_is h = both full refl where
+      both : (b : Bool) → full ≡ b → shown_chunks full (take index document) bytes ≡ written_of full (chunks_of bytes)
+      both true t = ap (λ (c : Bool). shown_chunks c (take index document) bytes) t ∙ sym (written_all (chunks_of bytes)) ∙ ap (λ (c : Bool). written_of c (chunks_of bytes)) (sym t)
+      both false f =
+          let shown : is_hidden (take index document) ≡ false = hiding_is f ∙ ap not h in
+          ap (λ (c : Bool). shown_chunks c (take index document) bytes) f
+          ∙ ap (λ (c : Bool). if c then [] else through_paragraph (chunks_of bytes)) shown
+          ∙ sym (written_brief (chunks_of bytes)) ∙ ap (λ (c : Bool). written_of c (chunks_of bytes)) (sym f)
+
+    pub hidden_is : (hidden == 0) ≡ false → shown_chunks full (take index document) bytes ≡ []
+    hidden_is h = both full refl where
+      both : (b : Bool) → full ≡ b → shown_chunks full (take index document) bytes ≡ []
+      both true t = absurd (let zero_hidden : (hidden == 0) ≡ true = is_zero hidden (w.open_all t) in let no : true ≡ false = sym zero_hidden ∙ h in cc)
+      both false f =
+          let shown : is_hidden (take index document) ≡ true = hiding_is f ∙ ap not h in
+          ap (λ (c : Bool). shown_chunks c (take index document) bytes) f ∙ ap (λ (c : Bool). if c then [] else through_paragraph (chunks_of bytes)) shown
+
+  -- what the start of a block does to the stack
+  opened_margins : (index : ℕ) (b : Block) (adjacent : Bool) (s : Sheet) (stack : List ℕ) → s.margins ≡ reverse stack → s.tab_stop ≡ tab_stop document
+      → adjacent ≡ (is_section4_start (Start b) && skips_pair document index) → ((n : ℕ) → part_shift document index (Start b) ≡ Indent n → top stack + n ≤ 2 ^ 128 - 1)
+      → (page.opened b adjacent s).margins ≡ reverse (shifted (part_shift document index (Start b)) stack)
+  unfolding page.opened
+  opened_margins index b adjacent s stack m t a fits = at b a fits where
+    pushed : (n : ℕ) → top stack + n ≤ 2 ^ 128 - 1 → s.margins ++ min (page.innermost s + n) (2 ^ 128 - 1) ∷ [] ≡ reverse ((top stack + n) ∷ stack)
+    pushed n l =
+        let is : page.innermost s ≡ top stack = top_innermost s stack m in
+        let sum : min (page.innermost s + n) (2 ^ 128 - 1) ≡ top stack + n = omega arith in
+        ap (λ (k : ℕ). s.margins ++ k ∷ []) sum ∙ pushed_margins s.margins stack (top stack + n) m
+
+    body : page.saturated (s.tab_stop + 2) ≡ tab_stop document + 2
+    body = let most : tab_stop document ≤ 28 = tab_stop-le document in omega arith
+
+    at : (b : Block) → adjacent ≡ (is_section4_start (Start b) && skips_pair document index) → ((n : ℕ) → part_shift document index (Start b) ≡ Indent n → top stack + n ≤ 2 ^ 128 - 1)
+        → (page.opened b adjacent s).margins ≡ reverse (shifted (part_shift document index (Start b)) stack)
+    at blocks.Header a f = pushed 0 (f 0 refl)
+    at blocks.Section2 a f = pushed 0 (f 0 refl)
+    at blocks.Section3 a f = pushed 2 (f 2 refl)
+    at blocks.Section4 a f = ap (λ (c : Bool). s.margins ++ min (page.innermost s + (if c then 4 else 2)) (2 ^ 128 - 1) ∷ []) a ∙ pushed (if skips_pair document index then 4 else 2) (f (if skips_pair document index then 4 else 2) refl)
+    at blocks.ItemTerm a f = pushed 4 (f 4 refl)
+    at blocks.ItemBody a f = ap (λ (k : ℕ). s.margins ++ min (page.innermost s + k) (2 ^ 128 - 1) ∷ []) body ∙ pushed (tab_stop document + 2) (f (tab_stop document + 2) refl)
+    at blocks.DefinitionList a f = m
+    at blocks.Block a f = pushed 0 (f 0 refl)
+    at blocks.InlineBlock a f = m
+    at blocks.TermRef a f = m
+    at blocks.Meta a f = m
+    at blocks.Mono a f = m
+
+  -- a start
+  module _ (is_small : length document < 2 ^ 64) (index : ℕ) (before rest : List Part) (b : Block) (pairs : Pairs) (hidden : ℕ) (s : Sheet) (w : Walk index before (Start b ∷ rest) pairs hidden s) where
+    start_known : KnowsPairs document (index + 1) (whole.pairs_at document index b pairs) × (whole.is_adjacent b (whole.pairs_at document index b pairs) ≡ (is_section4_start (Start b) && skips_pair document index))
+    start_known = knows_start document is_small index b pairs (there index before rest (Start b) pairs hidden s w) w.knows
+
+    pub start_skips : whole.skips (whole.pairs_at document index b pairs) index b ≡ is_skipped document index
+    start_skips = skips_is document is_small index b (whole.pairs_at document index b pairs) start_known.0 (inl (there index before rest (Start b) pairs hidden s w))
+
+    pub walk_start_skipped : is_skipped document index ≡ true → Walk (index + 1) (before ++ Start b ∷ []) rest (whole.pairs_at document index b pairs) (hidden_after full hidden (Start b)) s
+    walk_start_skipped e =
+        walk_still index before rest (Start b) pairs hidden s w (whole.pairs_at document index b pairs) s start_known.0 refl refl (shift_at-skipped document index (Start b) e)
+
+    pub walk_start : is_skipped document index ≡ false
+        → Walk (index + 1) (before ++ Start b ∷ []) rest (whole.pairs_at document index b pairs) (hidden_after full hidden (Start b)) (page.opened b (whole.is_adjacent b (whole.pairs_at document index b pairs)) s)
+    walk_start e =
+        let shift : shift_at document index (Start b) ≡ part_shift document index (Start b) = shift_at-shown document index (Start b) e in
+        let fits : (n : ℕ) → part_shift document index (Start b) ≡ Indent n → top (stack_at document index) + n ≤ 2 ^ 128 - 1 = λ n i.
+        (let is : margin document index ≡ top (stack_at document index) + n = margin-indent document index (Start b) rest (here index before rest (Start b) pairs hidden s w) n (shift ∙ i) in
+        let most : margin document index ≤ 30 * (index + 1) = margin-le document index in
+        let inside : index < length document = within index before rest (Start b) pairs hidden s w in omega arith) in
+        walk_on index before rest (Start b) pairs hidden s w (whole.pairs_at document index b pairs) (page.opened b (whole.is_adjacent b (whole.pairs_at document index b pairs)) s) start_known.0
+        (opened_keeps b (whole.is_adjacent b (whole.pairs_at document index b pairs)) s).1
+        (opened_margins index b (whole.is_adjacent b (whole.pairs_at document index b pairs)) s (stack_at document index) w.margins w.tab start_known.1 fits
+        ∙ ap (λ (x : Shift). reverse (shifted x (stack_at document index))) (sym shift))
+
+  -- an end
+  module _ (is_small : length document < 2 ^ 64) (index : ℕ) (before rest : List Part) (b : Block) (pairs : Pairs) (hidden : ℕ) (s : Sheet) (w : Walk index before (End b ∷ rest) pairs hidden s) where
+    end_knows : KnowsPairs document (index + 1) pairs
+    end_knows =
+        KnowsPairs-more document index pairs (λ e. let no : Some (End b) ≡ Some (Start blocks.Section4) = sym (there index before rest (End b) pairs hidden s w) ∙ e in cc) w.knows
+
+    pub end_skips : whole.skips pairs index b ≡ is_skipped document index
+    end_skips = skips_is document is_small index b pairs end_knows (inr (there index before rest (End b) pairs hidden s w))
+
+    pub walk_end_skipped : is_skipped document index ≡ true → Walk (index + 1) (before ++ End b ∷ []) rest pairs (hidden_after full hidden (End b)) s
+    walk_end_skipped e = walk_still index before rest (End b) pairs hidden s w pairs s end_knows refl refl (shift_at-skipped document index (End b) e)
+
+    pub walk_end : is_skipped document index ≡ false → Walk (index + 1) (before ++ End b ∷ []) rest pairs (hidden_after full hidden (End b)) (page.closed b s)
+    walk_end e =
+        walk_on index before rest (End b) pairs hidden s w pairs (page.closed b s) end_knows (closed_keeps b s).1
+        ((closed_keeps b s).2 ∙ popped_margins s.margins (stack_at document index) w.margins
+        ∙ ap (λ (x : Shift). reverse (shifted x (stack_at document index))) (sym (shift_at-shown document index (End b) e)))
+
+  pub tab_is : whole.tab_stop_from 0 false 0 document ≡ tab_stop document
+  tab_is =
+      let walk : whole.tab_stop_from 0 false 0 document ≡ page.saturated (widest_from 0 false 0 document + 4) = same_walk document 0 false 0 in
+      let stop : widest_from 0 false 0 document + 4 ≡ tab_stop document = tab_stop-walk document in
+      let most : tab_stop document ≤ 28 = tab_stop-le document in omega arith where
+        same_walk : (parts : List Part) (widest : ℕ) (in_term : Bool) (term : ℕ) → whole.tab_stop_from widest in_term term parts ≡ page.saturated (widest_from widest in_term term parts + 4)
+        same_walk [] widest in_term term = refl
+        same_walk (Text bytes style ∷ parts) widest in_term term = same_walk parts widest in_term (if in_term then page.saturated (term + columns bytes) else term)
+        same_walk (Start blocks.Header ∷ parts) widest in_term term = same_walk parts widest in_term term
+        same_walk (Start blocks.Section2 ∷ parts) widest in_term term = same_walk parts widest in_term term
+        same_walk (Start blocks.Section3 ∷ parts) widest in_term term = same_walk parts widest in_term term
+        same_walk (Start blocks.Section4 ∷ parts) widest in_term term = same_walk parts widest in_term term
+        same_walk (Start blocks.ItemTerm ∷ parts) widest in_term term = same_walk parts widest true 0
+        same_walk (Start blocks.ItemBody ∷ parts) widest in_term term = same_walk parts widest in_term term
+        same_walk (Start blocks.DefinitionList ∷ parts) widest in_term term = same_walk parts widest in_term term
+        same_walk (Start blocks.Block ∷ parts) widest in_term term = same_walk parts widest in_term term
+        same_walk (Start blocks.InlineBlock ∷ parts) widest in_term term = same_walk parts widest in_term term
+        same_walk (Start blocks.TermRef ∷ parts) widest in_term term = same_walk parts widest in_term term
+        same_walk (Start blocks.Meta ∷ parts) widest in_term term = same_walk parts widest in_term term
+        same_walk (Start blocks.Mono ∷ parts) widest in_term term = same_walk parts widest in_term term
+        same_walk (End blocks.Header ∷ parts) widest in_term term = same_walk parts widest in_term term
+        same_walk (End blocks.Section2 ∷ parts) widest in_term term = same_walk parts widest in_term term
+        same_walk (End blocks.Section3 ∷ parts) widest in_term term = same_walk parts widest in_term term
+        same_walk (End blocks.Section4 ∷ parts) widest in_term term = same_walk parts widest in_term term
+        same_walk (End blocks.ItemTerm ∷ parts) widest in_term term = same_walk parts (whole.wider_term widest term) false term
+        same_walk (End blocks.ItemBody ∷ parts) widest in_term term = same_walk parts widest in_term term
+        same_walk (End blocks.DefinitionList ∷ parts) widest in_term term = same_walk parts widest in_term term
+        same_walk (End blocks.Block ∷ parts) widest in_term term = same_walk parts widest in_term term
+        same_walk (End blocks.InlineBlock ∷ parts) widest in_term term = same_walk parts widest in_term term
+        same_walk (End blocks.TermRef ∷ parts) widest in_term term = same_walk parts widest in_term term
+        same_walk (End blocks.Meta ∷ parts) widest in_term term = same_walk parts widest in_term term
+        same_walk (End blocks.Mono ∷ parts) widest in_term term = same_walk parts widest in_term term
+
+  pub walk_begins : length document < 2 ^ 64 → (width : ℕ) → Walk 0 [] document whole.no_pairs 0 (blank_sheet width (whole.tab_stop_from 0 false 0 document))
+  walk_begins is_small width = record {
+    split = refl;
+    count = refl;
+    tab = tab_is;
+    margins = ap (λ (ms : List ℕ). reverse ms) (sym (stack_at-none document));
+    low = tt;
+    knows = knows_none document is_small;
+    counts = λ f. Counts-nil;
+    open_all = λ t. refl;
+  }
