@@ -141,4 +141,3 @@ row_22_sections = refl
 row_23 : console_page true 20 (replicate 10 (Start block.Section3) ++ words (codes "x y")) ≡ replicate 20 32 ++ (codes "x\n" ++ (replicate 20 32 ++ codes "y"))
 unfolding computed
 row_23 = refl
-

@@ -1,9 +1,8 @@
 -- The page that the code writes is the page as a function of the document.
-use Rattle.std.specs.Prelude.{◌≡◌, ℕ, zero, suc, ◌+◌, ◌-◌, ◌^◌, ◌<◌, ◌≤◌, min, Option, Some, None, Bool, true, false, not, ◌&&◌, ◌||◌, ◌==◌, List, [], ◌∷◌, ◌++◌, length, codes, refl, if◌then◌else◌, ◌⊎◌, nat_lt, nat_le, take, IfOk, Result, Ok, Err, String, string_bytes}
+use Rattle.std.specs.Prelude.{◌≡◌, ℕ, suc, ◌+◌, ◌-◌, ◌^◌, ◌<◌, Option, Some, None, Bool, true, false, not, ◌&&◌, ◌||◌, ◌==◌, List, [], ◌∷◌, ◌++◌, length, refl, if◌then◌else◌, ◌⊎◌, nat_lt, nat_le, take, IfOk, Result, Ok, Err, String, string_bytes}
 use Rattle.std.specs.List.{enumerate_from}
-use Rattle.std.specs.Str.{bytes_eq, trim_end}
-use Rattle.std.proofs.Common.{sym, subst, ap, arith, inl, inr, ◌∙◌}
-use Rattle.std.proofs.lemmas.List.{append-nil}
+use Rattle.std.specs.Str.{bytes_eq}
+use Rattle.std.proofs.Common.{sym, ap, arith, inl, inr, ◌∙◌}
 use Rattle.std.proofs.lemmas.Bool.Decides.{nat_tests}
 use Rattle.bpaf_doc.specs.declared.console.pairs.Pairs.{Pairs}
 use Rattle.bpaf_doc.specs.declared.console.page.Asked.{Asked}
@@ -13,7 +12,7 @@ use Rattle.bpaf_doc.specs.declared.buffer.Block.TheVariants as blocks
 use Rattle.bpaf_doc.specs.declared.buffer.Style.{Style}
 use Rattle.bpaf_doc.specs.Parts.{Part, Text, Start, End}
 use Rattle.bpaf_doc.specs.Chunks.{Chunk, Raw, Paragraph, LineBreak, columns, chunks_of, has_some}
-use Rattle.bpaf_doc.specs.Shown.{is_term_ref, shown_chunks}
+use Rattle.bpaf_doc.specs.Shown.{is_term_ref}
 use Rattle.bpaf_doc.specs.Margin.{margin, is_skipped}
 use Rattle.bpaf_doc.specs.ConsoleSteps.{hidden_after}
 use Rattle.bpaf_doc.specs.ConsolePage as page
@@ -133,8 +132,8 @@ raw_is width level bytes weight s same_columns wide margin =
 
       split : (empty some : Bool) → empty ≡ not some
           → view (if empty then page.placed bytes weight s else
-              if page.is_too_wide (page.columns_of bytes weight) (page.asked_put s)
-              then (if bytes_eq bytes (32 ∷ []) then page.wrapped (page.asked_put s) else page.placed bytes weight (page.wrapped (page.asked_put s))) else page.placed bytes weight (page.asked_put s))
+          if page.is_too_wide (page.columns_of bytes weight) (page.asked_put s)
+          then (if bytes_eq bytes (32 ∷ []) then page.wrapped (page.asked_put s) else page.placed bytes weight (page.wrapped (page.asked_put s))) else page.placed bytes weight (page.asked_put s))
           ≡ (if some then exact.fitted width level bytes weight (exact.request_met (view s)) else exact.placed level bytes weight (view s))
       split true true e = absurd cc
       split true false e = placed_is level bytes weight s margin
@@ -279,25 +278,25 @@ module _ (full : Bool) (document : List Part) (width : ℕ) (is_small : length d
       (walked (whole.skips next index b) (start_skips full document is_small index before parts b pairs hidden s w))
       (keeps_width_if (whole.skips next index b) s (page.opened b (whole.is_adjacent b next) s) width wide ((opened_keeps b (whole.is_adjacent b next) s).0 ∙ wide))
       ∙ ap (exact.parts_put full width document (enumerate_from (index + 1) parts))
-        (put_if (whole.skips next index b) (is_skipped document index) (start_skips full document is_small index before parts b pairs hidden s w) s (page.opened b (whole.is_adjacent b next) s) (exact.start_put b (view s))
-        (start_is b (whole.is_adjacent b next) s)) where
-          next : Pairs
-          next = whole.pairs_at document index b pairs
+      (put_if (whole.skips next index b) (is_skipped document index) (start_skips full document is_small index before parts b pairs hidden s w) s (page.opened b (whole.is_adjacent b next) s) (exact.start_put b (view s))
+      (start_is b (whole.is_adjacent b next) s)) where
+        next : Pairs
+        next = whole.pairs_at document index b pairs
 
-          walked : (c : Bool) → c ≡ is_skipped document index
-              → Walk full document (index + 1) (before ++ Start b ∷ []) parts (whole.pairs_at document index b pairs) (hidden_after full hidden (Start b)) (if c then s else page.opened b (whole.is_adjacent b (whole.pairs_at document index b pairs)) s)
-          walked true e = walk_start_skipped full document is_small index before parts b pairs hidden s w (sym e)
-          walked false e = walk_start full document is_small index before parts b pairs hidden s w (sym e)
+        walked : (c : Bool) → c ≡ is_skipped document index
+            → Walk full document (index + 1) (before ++ Start b ∷ []) parts (whole.pairs_at document index b pairs) (hidden_after full hidden (Start b)) (if c then s else page.opened b (whole.is_adjacent b (whole.pairs_at document index b pairs)) s)
+        walked true e = walk_start_skipped full document is_small index before parts b pairs hidden s w (sym e)
+        walked false e = walk_start full document is_small index before parts b pairs hidden s w (sym e)
   parts_same (End b ∷ parts) index before pairs hidden s w wide =
       parts_same parts (index + 1) (before ++ End b ∷ []) pairs (hidden_after full hidden (End b)) (whole.part_put full document index pairs hidden (End b) s)
       (walked (whole.skips pairs index b) (end_skips full document is_small index before parts b pairs hidden s w))
       (keeps_width_if (whole.skips pairs index b) s (page.closed b s) width wide ((closed_keeps b s).0 ∙ wide))
       ∙ ap (exact.parts_put full width document (enumerate_from (index + 1) parts))
-        (put_if (whole.skips pairs index b) (is_skipped document index) (end_skips full document is_small index before parts b pairs hidden s w) s (page.closed b s) (exact.end_put b (view s)) (end_is b s)) where
-          walked : (c : Bool) → c ≡ is_skipped document index
-              → Walk full document (index + 1) (before ++ End b ∷ []) parts pairs (hidden_after full hidden (End b)) (if c then s else page.closed b s)
-          walked true e = walk_end_skipped full document is_small index before parts b pairs hidden s w (sym e)
-          walked false e = walk_end full document is_small index before parts b pairs hidden s w (sym e)
+      (put_if (whole.skips pairs index b) (is_skipped document index) (end_skips full document is_small index before parts b pairs hidden s w) s (page.closed b s) (exact.end_put b (view s)) (end_is b s)) where
+        walked : (c : Bool) → c ≡ is_skipped document index
+            → Walk full document (index + 1) (before ++ End b ∷ []) parts pairs (hidden_after full hidden (End b)) (if c then s else page.closed b s)
+        walked true e = walk_end_skipped full document is_small index before parts b pairs hidden s w (sym e)
+        walked false e = walk_end full document is_small index before parts b pairs hidden s w (sym e)
 
   pub text-page : console_text full width document ≡ console_page full width document
   text-page =

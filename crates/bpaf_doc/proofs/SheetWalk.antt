@@ -1,6 +1,6 @@
 -- The exact page goes over a document as its marks are counted: the stack of margins, the count of inline blocks that hide, and
 -- what is remembered of empty Block pairs.
-use Rattle.std.specs.Prelude.{◌≡◌, ℕ, suc, ◌+◌, ◌-◌, ◌*◌, ◌^◌, ◌<◌, ◌≤◌, ⊤, Bool, true, false, not, ◌&&◌, ◌==◌, List, [], ◌∷◌, ◌++◌, length, take, drop, reverse, refl, min, if◌then◌else◌, ◌⊎◌, slice_get, unwrap_or, Some, nat_le}
+use Rattle.std.specs.Prelude.{◌≡◌, ℕ, suc, ◌+◌, ◌-◌, ◌*◌, ◌^◌, ◌<◌, ◌≤◌, ⊤, Bool, true, false, not, ◌&&◌, ◌==◌, List, [], ◌∷◌, ◌++◌, length, take, drop, reverse, refl, min, if◌then◌else◌, slice_get, Some, nat_le}
 use Rattle.std.specs.Str.{bytes_eq}
 use Rattle.std.proofs.Common.{sym, ap, arith, inl, inr, ◌∙◌, append_assoc, length-append, subst}
 use Rattle.std.proofs.lemmas.List.{length-reverse}
@@ -19,7 +19,7 @@ use Rattle.bpaf_doc.specs.ConsolePage.{Sheet, blank_sheet}
 use Rattle.bpaf_doc.specs.ConsoleText as whole
 use Rattle.bpaf_doc.specs.ConsolePairs.{KnowsPairs}
 use Rattle.bpaf_doc.proofs.Hiding.{Counts, Counts-nil, Counts-more, is_hidden-Counts}
-use Rattle.bpaf_doc.proofs.Margins.{top, popped, stack_at, stack_at-none, stack_at-more, shifted, shift_at, shift_at-skipped, shift_at-shown, shift_at-text, margin-le, margin-indent, tab_stop-le, indent-le}
+use Rattle.bpaf_doc.proofs.Margins.{top, stack_at, stack_at-none, stack_at-more, shifted, shift_at, shift_at-skipped, shift_at-shown, shift_at-text, margin-le, margin-indent, tab_stop-le, indent-le}
 use Rattle.bpaf_doc.proofs.Pairs.{KnowsPairs-more}
 use Rattle.bpaf_doc.proofs.Tabs.{widest_from, tab_stop-walk}
 use Rattle.bpaf_doc.proofs.SheetPairs.{knows_none, knows_start, skips_is}

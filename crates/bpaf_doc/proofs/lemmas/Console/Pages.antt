@@ -1,5 +1,5 @@
 -- What a loop over the parts keeps of the page that it writes.
-use Rattle.std.specs.Prelude.{◌≡◌, ◌≢◌, ⊤, ℕ, ◌+◌, Bool, true, false, ◌&&◌, ◌==◌, List, [], ◌∷◌, refl, length, if◌then◌else◌, String, string_bytes, Result, Ok, Err, IfOk}
+use Rattle.std.specs.Prelude.{◌≡◌, ◌≢◌, ℕ, ◌+◌, Bool, true, false, ◌&&◌, ◌==◌, List, [], ◌∷◌, refl, length, if◌then◌else◌, String, string_bytes, Result, Ok, Err, IfOk}
 use Rattle.std.proofs.Common.{sym, subst, ◌∙◌, ap, arith}
 use Rattle.std.proofs.lemmas.Bool.Decides.{nat_tests}
 use Rattle.bpaf_doc.specs.declared.buffer.Block.TheVariants as blocks
@@ -54,7 +54,7 @@ IsPageLeft-more full document whole few index more pairs next hidden after part 
       (subst (λ ps. KeepsFew full document index pairs hidden ps page) (sym first) (
         subst (λ s. LeavesFew (pairs_after document index pairs part) index part s) wrote (subst (λ p. LeavesFew p index part new) known leaves),
         subst (λ s. KeepsFew full document (index + 1) (pairs_after document index pairs part) (hidden_after full hidden part) rest s) wrote
-          (subst (λ h. KeepsFew full document (index + 1) (pairs_after document index pairs part) h rest new) still
+            (subst (λ h. KeepsFew full document (index + 1) (pairs_after document index pairs part) h rest new) still
             (subst (λ p. KeepsFew full document (index + 1) p after rest new) known (subst (λ i. KeepsFew full document i next after rest new) counted keeps))),
       ));
 }

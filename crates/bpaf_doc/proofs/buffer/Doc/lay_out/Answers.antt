@@ -1,4 +1,4 @@
-use Rattle.std.proofs.Common.{◌≡◌, ◌++◌, string_bytes, length, ap, ◌∙◌, sym, subst, arith, ◌∷◌, if◌then◌else◌, refl, false}
+use Rattle.std.proofs.Common.{◌≡◌, ◌++◌, string_bytes, ap, ◌∙◌, sym, subst, ◌∷◌, if◌then◌else◌, refl, false}
 use Rattle.std.proofs.lemmas.List.{append-nil}
 use Rattle.std.specs.Iterator.Adapters.{enumerate_source, enumerate_count}
 use Rattle.bpaf_doc.specs.Parts.{ink, Text, Start, End}

@@ -1,13 +1,12 @@
 -- The exact console text is a layout of its document.
-use Rattle.std.specs.Prelude.{◌≡◌, ◌≢◌, ℕ, suc, ◌+◌, ◌-◌, ◌*◌, ◌^◌, ◌<◌, ◌≤◌, ⊤, Bool, true, false, not, ◌&&◌, ◌==◌, List, [], ◌∷◌, ◌++◌, length, take, drop, reverse, map, flat_map, All, codes, refl, if◌then◌else◌, ◌⊎◌, IsUtf8, IsTrue, slice_get, IfOk, Result, Ok, Err, String, string_bytes, unwrap_or, Some, nat_le}
+use Rattle.std.specs.Prelude.{◌≡◌, ◌≢◌, ℕ, suc, ◌+◌, ◌-◌, ◌^◌, ◌<◌, ◌≤◌, ⊤, Bool, true, false, not, ◌&&◌, ◌==◌, List, [], ◌∷◌, ◌++◌, length, take, map, flat_map, All, codes, refl, if◌then◌else◌, ◌⊎◌, IsUtf8, IsTrue, slice_get, IfOk, Result, Ok, Err, String, string_bytes, unwrap_or, Some}
 use Rattle.std.specs.List.{list_all, enumerate_from}
-use Rattle.std.specs.Str.{chars, bytes_eq}
-use Rattle.std.proofs.Common.{sym, subst, ap, arith, inl, inr, ◌∙◌, append_assoc, length-append}
+use Rattle.std.specs.Str.{chars}
+use Rattle.std.proofs.Common.{sym, subst, ap, arith, inl, inr, ◌∙◌, append_assoc}
 use Rattle.std.proofs.lemmas.List.{append-nil}
 use Rattle.std.proofs.lemmas.List.Elements.{All-get_or}
 use Rattle.std.proofs.lemmas.Option.{get_or_from_slice_get, slice_get_within}
 use Rattle.std.proofs.lemmas.Grind.{flat_map-append}
-use Rattle.std.proofs.lemmas.Bool.Decides.{nat_tests}
 use Rattle.unicode_width.specs.Width.{str_width, step, past_emoji}
 use Rattle.bpaf_doc.specs.declared.console.pairs.Pairs.{Pairs}
 use Rattle.bpaf_doc.specs.declared.buffer.Block.{Block}
@@ -16,27 +15,22 @@ use Rattle.bpaf_doc.specs.declared.buffer.Style.{Style}
 use Rattle.bpaf_doc.specs.Parts.{Part, Text, Start, End, ink, part_bytes, HasUtf8Texts}
 use Rattle.bpaf_doc.specs.Chunks.{Chunk, Raw, Paragraph, LineBreak, IsLine, IsWord, IsOrdinary, has_some, columns, chunks_of, code_weight, fence_weight, is_line_byte, is_word_byte, Spells, Plain, nothing, code_line, fence, before_code, paragraph, line_break, newline, blank, word, opening, later, closing, closing_paragraph, Form}
 use Rattle.bpaf_doc.specs.ChunkPromises.{IsText}
-use Rattle.bpaf_doc.specs.Shown.{console_ink, is_hidden, shown_chunks, through_paragraph}
-use Rattle.bpaf_doc.specs.Margin.{margin, greatest_margin, is_skipped, skips_pair, is_section4_start, tab_stop, Indent, Outdent, Level, part_shift}
+use Rattle.bpaf_doc.specs.Shown.{console_ink, shown_chunks}
+use Rattle.bpaf_doc.specs.Margin.{margin, greatest_margin, is_skipped, Level, part_shift}
 use Rattle.bpaf_doc.specs.Layout.{Event, Shows, Opens, Closes, part_events, shown_events, is_inline_block, IsLayout, Stretch, Gap, Passed}
-use Rattle.bpaf_doc.specs.ConsoleSteps.{hidden_after, is_inline}
+use Rattle.bpaf_doc.specs.ConsoleSteps.{hidden_after}
 use Rattle.bpaf_doc.specs.ConsolePage as page
 use Rattle.bpaf_doc.specs.ConsolePage.{Sheet, blank_sheet}
 use Rattle.bpaf_doc.specs.ConsoleText as whole
 use Rattle.bpaf_doc.specs.ConsoleText.{console_text}
-use Rattle.bpaf_doc.specs.ConsolePairs.{KnowsPairs}
 use Rattle.bpaf_doc.proofs.ChunkFacts.{text_chunks}
 use Rattle.bpaf_doc.proofs.ChunkLaws.{spells_in}
-use Rattle.bpaf_doc.proofs.Hiding.{Counts, Counts-nil, Counts-more, is_hidden-Counts}
 use Rattle.bpaf_doc.proofs.LayoutState.{State, Piece, piece, Next, raw, break, mark, placing, breaking, passing, Places, places, drops, Fits, Suits, raw_suits, paragraph_suits, line_break_suits, open_suits, close_suits, Written, nothing, more, blank_page, broken, passed, chunk_next, Ends, as_is, with_newline}
 use Rattle.bpaf_doc.proofs.LayoutBack.{by_cases}
 use Rattle.bpaf_doc.proofs.LayoutBlank.{text_back, text_back_cons}
 use Rattle.bpaf_doc.proofs.LayoutWhole.{next_event, EachNext, IsShallow, layout_of_page}
-use Rattle.bpaf_doc.proofs.Margins.{top, stack_at, stack_at-none, stack_at-more, shifted, shift_at, shift_at-skipped, shift_at-shown, shift_at-text, top-margin, margin-le, margin-le-greatest, margin-level, margin-indent, margin-end, tab_stop-le}
+use Rattle.bpaf_doc.proofs.Margins.{top, stack_at, shifted, shift_at, shift_at-shown, top-margin, margin-le-greatest, margin-level, margin-end}
 use Rattle.bpaf_doc.proofs.SheetGrows.{columns_is, Draws, raw_placed, RawTo}
-use Rattle.bpaf_doc.proofs.Pairs.{KnowsPairs-more}
-use Rattle.bpaf_doc.proofs.Tabs.{widest_from, tab_stop-walk}
-use Rattle.bpaf_doc.proofs.SheetPairs.{knows_none, knows_start, skips_is}
 use Rattle.bpaf_doc.proofs.SheetMarks.{draws_opened, draws_closed, top_innermost}
 use Rattle.bpaf_doc.proofs.SheetWalk.{Frame, same_frame, raw_frame, text_frame, written_of, Walk, few_fits, level_top, opened_keeps, closed_keeps, here, there, within, stack_next, text_level, walk_text, shown_is, hidden_is, start_skips, walk_start_skipped, walk_start, end_skips, walk_end_skipped, walk_end, walk_begins}
 
@@ -346,7 +340,7 @@ module _ (full : Bool) (document : List Part) (width : ℕ) (is_small : length d
           events = map_append g.nexts (map (chunk_next index) (written_of full (chunks_of bytes)))
               ∙ ap (λ es. es ++ map next_event (map (chunk_next index) (written_of full (chunks_of bytes)))) g.events
               ∙ ap (λ es. events_from full document 0 before ++ es)
-                (shows_chunks index (written_of full (chunks_of bytes)) ∙ ap (λ cs. map (λ chunk. Shows index chunk) cs) (sym (shown_is full document index before rest bytes style pairs hidden s w h)))
+              (shows_chunks index (written_of full (chunks_of bytes)) ∙ ap (λ cs. map (λ chunk. Shows index chunk) cs) (sym (shown_is full document index before rest bytes style pairs hidden s w h)))
               ∙ sym (next_events index before rest (Text bytes style) pairs hidden s g (map (λ chunk. Shows index chunk) (shown_chunks full (take index document) bytes)) refl);
           shallow = shallow_append (greatest_margin document) g.nexts (map (chunk_next index) (written_of full (chunks_of bytes))) g.shallow (shallow_chunks (greatest_margin document) index (written_of full (chunks_of bytes)));
         }
