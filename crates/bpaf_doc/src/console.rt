@@ -1,11 +1,11 @@
 //! A document as text on a console, its lines broken where they would pass a width.
 ghost use Rattle.std.specs.Prelude.{◌≡◌, ◌+◌, ◌^◌, ◌<◌, IfOk, length, string_bytes};
-ghost use Rattle.bpaf_doc.specs.ConsoleExact.{console_page};
-ghost use Rattle.bpaf_doc.specs.Layout.{IsLayout};
-ghost use Rattle.bpaf_doc.specs.Parts.{ink, HasUtf8Texts};
+ghost use Rattle.bpaf_doc.specs.Console.Exact.{console_page};
+ghost use Rattle.bpaf_doc.specs.Console.Layout.{IsLayout};
+ghost use Rattle.bpaf_doc.specs.Buffer.Parts.{ink, HasUtf8Texts};
 ghost use Rattle.bpaf_doc.specs.Shown.{console_ink};
-ghost use Rattle.bpaf_doc.specs.ConsoleSteps.{hidden_from_start, hidden_from_end};
-ghost use Rattle.bpaf_doc.specs.ConsoleText.{console_text, HasFewThroughout};
+ghost use Rattle.bpaf_doc.specs.Console.Steps.Hiding.{hidden_from_start, hidden_from_end};
+ghost use Rattle.bpaf_doc.specs.Console.Steps.Text.{console_text, HasFewThroughout};
 
 use crate::buffer::{Block, Doc, Part};
 use std::alloc::{AllocError, Allocator};

@@ -1,4 +1,5 @@
--- Lemmas about console pages. `Layout`: a page that keeps the rules is a layout. `Exact`: the exact page keeps the rules.
+-- Lemmas about console pages. `Layout`: a page that keeps the rules is a layout. `Sheet`: the page that the code makes is the exact
+-- one, and keeps the rules. `Rows`: exact pages of small documents, computed.
 pub mod Hiding
 pub mod Ink
 pub mod Pages
@@ -7,4 +8,5 @@ pub mod Margins
 pub mod Pairs
 pub mod Tabs
 pub mod Layout
-pub mod Exact
+pub mod Sheet
+mod Rows

@@ -1,120 +1,172 @@
--- A console text, part by part, as the private functions leave it. Nothing here has to be believed: that such a text is a
--- layout of its document, with the console's ink, is proved.
-use Rattle.std.specs.Prelude.{◌≡◌, ⊤, ℕ, ◌+◌, ◌-◌, ◌==◌, Bool, true, false, ◌&&◌, List, [], ◌∷◌, Option, Some, drop, max, nat_le, nat_lt, if◌then◌else◌}
-use Rattle.std.specs.List.{slice_get, position_or_len}
+-- The console page as a function of the document, the width, and full or brief. It goes by the rules of docs/console.md, one after
+-- another. The laws of `IsLayout` and the ink are theorems on it: who believes them need not read this.
+use Rattle.std.specs.Prelude.{ℕ, ◌+◌, ◌-◌, Bool, true, false, not, ◌&&◌, ◌||◌, List, [], ◌∷◌, ◌++◌, codes, take, replicate, min, nat_eq, nat_lt, nat_le, if◌then◌else◌}
+use Rattle.std.specs.List.{ends_with}
+use Rattle.std.specs.Str.{trim_end, bytes_eq}
 use Rattle.bpaf_doc.specs.declared.buffer.Block.TheVariants as blocks
 use Rattle.bpaf_doc.specs.declared.buffer.Block.{Block}
-use Rattle.bpaf_doc.specs.declared.console.pairs.Pairs.{Pairs}
-use Rattle.bpaf_doc.specs.Parts.{Part, Text, Start, End}
-use Rattle.bpaf_doc.specs.Chunks.{columns, chunks_of}
-use Rattle.bpaf_doc.specs.ConsoleSteps.{hidden_after}
-use Rattle.bpaf_doc.specs.ConsolePage.{Sheet, HasFewMargins, blank_sheet, saturated, text_put, opened, closed, finished}
+use Rattle.bpaf_doc.specs.Buffer.Parts.{Part, Text, Start, End}
+use Rattle.bpaf_doc.specs.Splitter.Chunks.{Chunk, Raw, Paragraph, LineBreak, columns, has_some}
+use Rattle.bpaf_doc.specs.Shown.{numbered, shown_chunks, is_term_ref}
+use Rattle.bpaf_doc.specs.Console.Margin.{margin, is_skipped}
 
--- ---- the tab stop
+-- what has to stand before the next text
+pub data Request : Type 0 where
+  NoBreak : Request
+  NewLine : Request
+  BlankLine : Request
 
-abbrev pub is_term : Block → Bool
-is_term blocks.ItemTerm = true
-is_term _ = false
+-- The page so far: its text, the columns of its last line, what is asked for, and whether the margin of an item's body is pending.
+pub record PageSoFar : Type 0 where
+  pub text : List ℕ
+  pub column : ℕ
+  pub request : Request
+  pub is_pending : Bool
 
--- the wider of two terms, where the second counts up to 24 columns
-abbrev pub wider_term : ℕ → ℕ → ℕ
-wider_term widest term = if nat_le term 24 then max widest term else widest
+-- columns and margins saturate at the greatest usize
+abbrev pub saturated : ℕ → ℕ
+saturated n = min n 18_446_744_073_709_551_615
 
--- the tab stop over the parts that follow: the widest term so far, whether a term is open, and its columns
-abbrev pub tab_stop_from : ℕ → Bool → ℕ → List Part → ℕ
-tab_stop_from widest in_term term [] = saturated (widest + 4)
-tab_stop_from widest in_term term (Text bytes style ∷ parts) = tab_stop_from widest in_term (if in_term then saturated (term + columns bytes) else term) parts
-tab_stop_from widest in_term term (Start b ∷ parts) = if is_term b then tab_stop_from widest true 0 parts else tab_stop_from widest in_term term parts
-tab_stop_from widest in_term term (End b ∷ parts) = if is_term b then tab_stop_from (wider_term widest term) false term parts else tab_stop_from widest in_term term parts
+-- a newline is put, and the column is 0
+abbrev pub on_new_line : PageSoFar → PageSoFar
+on_new_line page = record page { text = page.text ++ codes "\n"; column = 0 }
 
--- ---- empty Block pairs after a Section4
+-- so many blanks are put
+abbrev pub with_blanks : ℕ → PageSoFar → PageSoFar
+with_blanks count page = record page { text = page.text ++ replicate count 32; column = saturated (page.column + count) }
 
-abbrev pub is_section4 : Block → Bool
-is_section4 blocks.Section4 = true
-is_section4 _ = false
+-- ---- a Raw chunk, step 1: the line is broken
 
-abbrev pub is_block : Block → Bool
-is_block blocks.Block = true
-is_block _ = false
+-- a new line or a blank line is asked for
+abbrev pub asks_line : Request → Bool
+asks_line NoBreak = false
+asks_line NewLine = true
+asks_line BlankLine = true
 
-abbrev pub is_section4_end : Option Part → Bool
-is_section4_end (Some (End blocks.Section4)) = true
-is_section4_end _ = false
+-- a blank line is asked for
+abbrev pub asks_blank_line : Request → Bool
+asks_blank_line NoBreak = false
+asks_blank_line NewLine = false
+asks_blank_line BlankLine = true
 
-abbrev pub is_block_start : Option Part → Bool
-is_block_start (Some (Start blocks.Block)) = true
-is_block_start _ = false
+-- (a) where one is asked for and the text does not end in a newline, a newline is put, and the column is 0
+abbrev pub line_ended : PageSoFar → PageSoFar
+line_ended page = if asks_line page.request && not (ends_with nat_eq page.text (codes "\n")) then on_new_line page else page
 
-abbrev pub is_block_end : Option Part → Bool
-is_block_end (Some (End blocks.Block)) = true
-is_block_end _ = false
+-- (b) where a blank line is asked for and the text does not end in two newlines, a newline is put
+abbrev pub blank_line_put : PageSoFar → PageSoFar
+blank_line_put page =
+    if asks_blank_line page.request && not (ends_with nat_eq page.text (codes "\n\n")) then record page { text = page.text ++ codes "\n" } else page
 
--- the place of the first Section4 end after this place, or the number of parts
-abbrev pub section4_end : List Part → ℕ → ℕ
-section4_end document index = index + 1 + position_or_len (λ part. is_section4_end (Some part)) (drop (index + 1) document)
+abbrev pub request_met : PageSoFar → PageSoFar
+request_met page = blank_line_put (line_ended page)
 
--- a start and an end of Block stand directly after this place
-abbrev pub has_empty_block : List Part → ℕ → Bool
-has_empty_block document index =
-    is_block_start (slice_get document (saturated (index + 1))) && is_block_end (slice_get document (saturated (index + 2)))
+-- (c) the column plus the columns of the slice exceeds the width
+abbrev pub is_too_wide : ℕ → List ℕ → PageSoFar → Bool
+is_too_wide width slice page = nat_lt width (saturated (page.column + columns slice))
 
-abbrev pub no_pairs : Pairs
-no_pairs = record { end = 0; has_pair = false }
+-- (c) the White_Space at the end goes, newlines too, a newline is put, and the column is 0
+abbrev pub wrapped : PageSoFar → PageSoFar
+wrapped page = on_new_line (record page { text = trim_end page.text })
 
--- what is known of such a pair after the start of a block
-abbrev pub pairs_at : List Part → ℕ → Block → Pairs → Pairs
-pairs_at document index b p =
-    if is_section4 b && nat_le p.end index
-    then record { end = section4_end document index; has_pair = has_empty_block document (section4_end document index) } else p
+-- ---- steps 2 to 4: the slice is written from its margin on
 
-abbrev pub is_adjacent : Block → Pairs → Bool
-is_adjacent b p = is_section4 b && p.has_pair
+-- the blanks that are missing up to the margin, none where the column is past it
+abbrev pub missing_blanks : ℕ → PageSoFar → ℕ
+missing_blanks margin page = margin - page.column
 
--- a mark that belongs to such a pair
-abbrev pub skips : Pairs → ℕ → Block → Bool
-skips p index b = (p.has_pair && is_block b) && (nat_lt p.end index && nat_le (index - p.end) 2)
+-- step 3: where the margin is pending and the column is at least 28, two blanks in all, where step 2 put this many
+abbrev pub body_parted : ℕ → PageSoFar → PageSoFar
+body_parted missing page = if page.is_pending && nat_le 28 page.column then with_blanks (2 - missing) page else page
 
--- ---- the parts
+abbrev pub indented : ℕ → PageSoFar → PageSoFar
+indented margin page = body_parted (missing_blanks margin page) (with_blanks (missing_blanks margin page) page)
 
-abbrev pub pairs_after : List Part → ℕ → Pairs → Part → Pairs
-pairs_after document index p (Text bytes style) = p
-pairs_after document index p (Start b) = pairs_at document index b p
-pairs_after document index p (End b) = p
+-- step 4: all that was asked for or pending is cleared, the slice is written, and the column grows by its weight
+abbrev pub slice_put : List ℕ → ℕ → PageSoFar → PageSoFar
+slice_put slice weight page = record { text = page.text ++ slice; column = saturated (page.column + weight); request = NoBreak; is_pending = false }
 
-abbrev pub start_put : Pairs → ℕ → Block → Sheet → Sheet
-start_put p index b s = if skips p index b then s else opened b (is_adjacent b p) s
+abbrev pub placed : ℕ → List ℕ → ℕ → PageSoFar → PageSoFar
+placed margin slice weight page = slice_put slice weight (indented margin page)
 
-abbrev pub end_put : Pairs → ℕ → Block → Sheet → Sheet
-end_put p index b s = if skips p index b then s else closed b s
+-- ---- the chunks of a text
 
-abbrev pub part_put : Bool → List Part → ℕ → Pairs → ℕ → Part → Sheet → Sheet
-part_put full document index p hidden (Text bytes style) s = if hidden == 0 then text_put full (chunks_of bytes) s else s
-part_put full document index p hidden (Start b) s = start_put (pairs_at document index b p) index b s
-part_put full document index p hidden (End b) s = end_put p index b s
+-- a slice on a page that has some text and what was asked for: (c), where one blank is dropped, and what is asked for stays
+abbrev pub fitted : ℕ → ℕ → List ℕ → ℕ → PageSoFar → PageSoFar
+fitted width margin slice weight page =
+    if is_too_wide width slice page
+    then if bytes_eq slice (codes " ") then wrapped page else placed margin slice weight (wrapped page)
+    else placed margin slice weight page
 
-abbrev pub parts_put : Bool → List Part → ℕ → Pairs → ℕ → List Part → Sheet → Sheet
-parts_put full document index p hidden [] s = s
-parts_put full document index p hidden (part ∷ parts) s =
-    parts_put full document (index + 1) (pairs_after document index p part) (hidden_after full hidden part) parts (part_put full document index p hidden part s)
+-- a Raw chunk, at the margin of its text
+abbrev pub raw_put : ℕ → ℕ → List ℕ → ℕ → PageSoFar → PageSoFar
+raw_put width margin slice weight page =
+    if has_some page.text then fitted width margin slice weight (request_met page) else placed margin slice weight page
 
--- each mark that is not passed over leaves few margins
-abbrev pub LeavesFew : Pairs → ℕ → Part → Sheet → Type 0
-LeavesFew p index (Text bytes style) s = ⊤
-LeavesFew p index (Start b) s = skips p index b ≡ false → HasFewMargins s
-LeavesFew p index (End b) s = skips p index b ≡ false → HasFewMargins s
+abbrev pub chunk_put : ℕ → ℕ → Chunk → PageSoFar → PageSoFar
+chunk_put width margin (Raw slice weight) page = raw_put width margin slice weight page
+chunk_put width margin Paragraph page = on_new_line page
+chunk_put width margin LineBreak page = on_new_line page
 
-abbrev pub KeepsFew : Bool → List Part → ℕ → Pairs → ℕ → List Part → Sheet → Type 0
-KeepsFew full document index p hidden [] s = ⊤
-KeepsFew full document index p hidden (part ∷ parts) s =
-    LeavesFew (pairs_after document index p part) index part (part_put full document index p hidden part s)
-    × KeepsFew full document (index + 1) (pairs_after document index p part) (hidden_after full hidden part) parts (part_put full document index p hidden part s)
+abbrev pub chunks_put : ℕ → ℕ → List Chunk → PageSoFar → PageSoFar
+chunks_put width margin [] page = page
+chunks_put width margin (chunk ∷ chunks) page = chunks_put width margin chunks (chunk_put width margin chunk page)
 
-abbrev pub HasFewThroughout : Bool → ℕ → List Part → Type 0
-HasFewThroughout full width document = KeepsFew full document 0 no_pairs 0 document (blank_sheet width (tab_stop_from 0 false 0 document))
+-- ---- the marks
 
--- the page after all the parts, and its text
-abbrev pub whole_page : Bool → ℕ → List Part → Sheet
-whole_page full width document = parts_put full document 0 no_pairs 0 document (blank_sheet width (tab_stop_from 0 false 0 document))
+-- the backquote of a term reference takes one column
+abbrev pub backquoted : Block → PageSoFar → PageSoFar
+backquoted b page = if is_term_ref b then record page { text = page.text ++ codes "`"; column = saturated (page.column + 1) } else page
 
-abbrev pub console_text : Bool → ℕ → List Part → List ℕ
-console_text full width document = finished (whole_page full width document)
+-- a new line is asked for, where a blank line is not
+abbrev pub at_least_new_line : Request → Request
+at_least_new_line NoBreak = NewLine
+at_least_new_line NewLine = NewLine
+at_least_new_line BlankLine = BlankLine
+
+-- what a start asks for
+abbrev pub request_at_start : Block → Request → Request
+request_at_start blocks.Header request = at_least_new_line request
+request_at_start blocks.Section2 request = at_least_new_line request
+request_at_start blocks.Section3 request = at_least_new_line request
+request_at_start blocks.Section4 request = at_least_new_line request
+request_at_start blocks.ItemTerm request = at_least_new_line request
+request_at_start _ request = request
+
+-- what an end asks for
+abbrev pub request_at_end : Block → Request → Request
+request_at_end blocks.Block request = BlankLine
+request_at_end _ request = request
+
+abbrev pub is_item_body : Block → Bool
+is_item_body blocks.ItemBody = true
+is_item_body _ = false
+
+abbrev pub start_put : Block → PageSoFar → PageSoFar
+start_put b page = backquoted b (record page { request = request_at_start b page.request; is_pending = page.is_pending || is_item_body b })
+
+abbrev pub end_put : Block → PageSoFar → PageSoFar
+end_put b page = backquoted b (record page { request = request_at_end b page.request; is_pending = page.is_pending && not (is_item_body b) })
+
+-- ---- the document
+
+-- the part at place k, where a mark of a skipped pair does nothing
+abbrev pub part_put : Bool → ℕ → List Part → ℕ → Part → PageSoFar → PageSoFar
+part_put full width document k (Text bytes style) page = chunks_put width (saturated (margin document k)) (shown_chunks full (take k document) bytes) page
+part_put full width document k (Start b) page = if is_skipped document k then page else start_put b page
+part_put full width document k (End b) page = if is_skipped document k then page else end_put b page
+
+abbrev pub parts_put : Bool → ℕ → List Part → List (ℕ × Part) → PageSoFar → PageSoFar
+parts_put full width document [] page = page
+parts_put full width document ((k, part) ∷ parts) page = parts_put full width document parts (part_put full width document k part page)
+
+abbrev pub empty_page : PageSoFar
+empty_page = record { text = []; column = 0; request = NoBreak; is_pending = false }
+
+-- at the end, where a new line or a blank line is still asked for, a newline is written
+abbrev pub finished : PageSoFar → List ℕ
+finished page = if asks_line page.request then page.text ++ codes "\n" else page.text
+
+-- the bytes of the page
+abbrev pub console_page : Bool → ℕ → List Part → List ℕ
+console_page full width document = finished (parts_put full width document (numbered document) empty_page)

@@ -1,13 +1,14 @@
 //! A console text while it is written.
 ghost use Rattle.std.specs.Prelude.{◌≡◌, ◌++◌, IfOk, OnOk, string_bytes, replicate};
 ghost use Rattle.std.specs.Str.{trim_end};
-ghost use Rattle.bpaf_doc.specs.Parts.{ink};
+ghost use Rattle.bpaf_doc.specs.Buffer.Parts.{ink};
 ghost use Rattle.std.specs.Int.{is_in_range};
 ghost use Rattle.std.specs.List.{list_all};
-ghost use Rattle.bpaf_doc.specs.Chunks.{chunks_of, columns};
+ghost use Rattle.bpaf_doc.specs.Splitter.Chunks.{chunks_of, columns};
 ghost use Rattle.bpaf_doc.specs.Shown.{mark_bytes};
-ghost use Rattle.bpaf_doc.specs.ConsoleSteps.{shown_ink, hides};
-ghost use Rattle.bpaf_doc.specs.ConsolePage.{sheet_of, blank_sheet, text_put, opened, closed, finished, raw_put, wraps, room_made, placed, asked_put, lacks_newline, lacks_blank_line, wrapped, padded, blanks_put, newline_put, marked, margin_pushed, margin_of, innermost, HasFewMargins, columns_of, asked_by_start, asked_by_end, indent_of};
+ghost use Rattle.bpaf_doc.specs.Console.Steps.Hiding.{hides};
+ghost use Rattle.bpaf_doc.specs.Console.Steps.Ink.{shown_ink};
+ghost use Rattle.bpaf_doc.specs.Console.Steps.Page.{sheet_of, blank_sheet, text_put, opened, closed, finished, raw_put, wraps, room_made, placed, asked_put, lacks_newline, lacks_blank_line, wrapped, padded, blanks_put, newline_put, marked, margin_pushed, margin_of, innermost, HasFewMargins, columns_of, asked_by_start, asked_by_end, indent_of};
 
 use super::tabs::MAX_TAB;
 use crate::buffer::Block;
@@ -78,7 +79,7 @@ impl<B: Allocator> Page<B> {
     }
 
     /// Takes the start of a block in. `adjacent` tells of a Section4 whether an empty Block pair follows its end.
-    #[tactic(auto, unfolding(crate::specs::ConsolePage::opened))]
+    #[tactic(auto, unfolding(crate::specs::Console::Steps::Page::opened))]
     pub fn open(&mut self, block: Block, adjacent: bool) -> Result<(), AllocError>
         ensures page { OnOk result (sheet_of self.new ≡ opened block adjacent (sheet_of self.old)) }
         ensures ink { OnOk result (ink (string_bytes self.new.out) ≡ ink (string_bytes self.old.out) ++ mark_bytes block) }
@@ -93,7 +94,7 @@ impl<B: Allocator> Page<B> {
     }
 
     /// Takes the end of a block in.
-    #[tactic(auto, unfolding(crate::specs::ConsolePage::closed))]
+    #[tactic(auto, unfolding(crate::specs::Console::Steps::Page::closed))]
     pub fn close(&mut self, block: Block) -> Result<(), AllocError>
         ensures page { OnOk result (sheet_of self.new ≡ closed block (sheet_of self.old)) }
         ensures ink { OnOk result (ink (string_bytes self.new.out) ≡ ink (string_bytes self.old.out) ++ mark_bytes block) }
@@ -120,7 +121,7 @@ impl<B: Allocator> Page<B> {
     }
 
     // Writes a Raw chunk. A blank that does not fit its line is left out.
-    #[tactic(auto, unfolding(crate::specs::ConsolePage::raw_put))]
+    #[tactic(auto, unfolding(crate::specs::Console::Steps::Page::raw_put))]
     fn put_raw(&mut self, raw: &str, weight: usize) -> Result<(), AllocError>
         ensures page { OnOk result (sheet_of self.new ≡ raw_put raw.now weight (sheet_of self.old)) }
         ensures ink { OnOk result (ink (string_bytes self.new.out) ≡ ink (string_bytes self.old.out) ++ ink raw.now) }

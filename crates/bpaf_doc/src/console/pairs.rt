@@ -2,7 +2,7 @@
 ghost use Rattle.std.specs.Prelude.{◌≡◌, ◌<◌, length};
 ghost use Rattle.std.specs.Option.{option_map};
 ghost use Rattle.bpaf_doc.specs.Buffer.View.{part_of};
-ghost use Rattle.bpaf_doc.specs.Console.Exact.{no_pairs, pairs_at, is_adjacent, skips, section4_end, has_empty_block, is_section4_end, is_block_start, is_block_end};
+ghost use Rattle.bpaf_doc.specs.Console.Steps.Text.{no_pairs, pairs_at, is_adjacent, skips, section4_end, has_empty_block, is_section4_end, is_block_start, is_block_end};
 
 use crate::buffer::{Block, Doc, Part};
 use std::alloc::Allocator;

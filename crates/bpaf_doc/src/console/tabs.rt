@@ -1,6 +1,6 @@
 //! Where the bodies of items stand.
 ghost use Rattle.std.specs.Prelude.{◌≡◌, false};
-ghost use Rattle.bpaf_doc.specs.Console.Exact.{tab_stop_from, wider_term};
+ghost use Rattle.bpaf_doc.specs.Console.Steps.Text.{tab_stop_from, wider_term};
 
 use crate::buffer::{Block, Part, Parts};
 use unicode_width::UnicodeWidthStr;

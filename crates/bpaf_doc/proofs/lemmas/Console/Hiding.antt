@@ -10,7 +10,7 @@ use Rattle.bpaf_doc.specs.declared.buffer.Block.TheVariants as blocks
 use Rattle.bpaf_doc.specs.declared.buffer.Block.{Block}
 use Rattle.bpaf_doc.specs.Buffer.Parts.{Part, Text, Start, End}
 use Rattle.bpaf_doc.specs.Shown.{fronts, stays_open, is_inline_start, is_inline_end, breaks_off, is_hidden}
-use Rattle.bpaf_doc.specs.Console.Exact.Hiding.{is_inline, hidden_after}
+use Rattle.bpaf_doc.specs.Console.Steps.Hiding.{is_inline, hidden_after}
 
 -- no front ends more inline blocks than it starts, and this many more
 abbrev is_within : ℕ → List Part → Bool

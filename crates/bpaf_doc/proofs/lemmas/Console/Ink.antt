@@ -12,7 +12,7 @@ use Rattle.bpaf_doc.specs.declared.buffer.Style.{Style}
 use Rattle.bpaf_doc.specs.Buffer.Parts.{Part, Text, Start, End, ink}
 use Rattle.bpaf_doc.specs.Splitter.Chunks.{Chunk, Raw, Paragraph, LineBreak, chunks_of, chunk_ink, is_paragraph}
 use Rattle.bpaf_doc.specs.Shown.{through_paragraph, shown_part_ink, console_ink}
-use Rattle.bpaf_doc.specs.Console.Exact.Hiding.{hides, is_inline, hidden_after}
+use Rattle.bpaf_doc.specs.Console.Steps.Hiding.{hides, is_inline, hidden_after}
 use Rattle.bpaf_doc.specs.Console.Steps.Ink.{shown_ink, ink_at, ink_from}
 use Rattle.bpaf_doc.proofs.lemmas.Console.Hiding.{Counts, Counts-nil, Counts-more, is_hidden-Counts}
 

@@ -6,12 +6,12 @@ use Rattle.bpaf_doc.specs.declared.buffer.Block.TheVariants as blocks
 use Rattle.bpaf_doc.specs.declared.buffer.Block.{Block}
 use Rattle.bpaf_doc.specs.declared.buffer.Style.{Style}
 use Rattle.bpaf_doc.specs.declared.console.pairs.Pairs.{Pairs}
-use Rattle.bpaf_doc.specs.Parts.{Part, Text}
-use Rattle.bpaf_doc.specs.Chunks.{chunks_of}
+use Rattle.bpaf_doc.specs.Buffer.Parts.{Part, Text}
+use Rattle.bpaf_doc.specs.Splitter.Chunks.{chunks_of}
 use Rattle.bpaf_doc.specs.Shown.{mark_bytes}
-use Rattle.bpaf_doc.specs.ConsoleSteps.{hides, hidden_after}
-use Rattle.bpaf_doc.specs.ConsolePage.{Sheet, HasFewMargins, blank_sheet, text_put, opened, closed, finished}
-use Rattle.bpaf_doc.specs.ConsoleText.{is_block, is_adjacent, skips, pairs_after, start_put, end_put, part_put, parts_put, no_pairs, tab_stop_from, whole_page, LeavesFew, KeepsFew, HasFewThroughout}
+use Rattle.bpaf_doc.specs.Console.Steps.Hiding.{hides, hidden_after}
+use Rattle.bpaf_doc.specs.Console.Steps.Page.{Sheet, HasFewMargins, blank_sheet, text_put, opened, closed, finished}
+use Rattle.bpaf_doc.specs.Console.Steps.Text.{is_block, is_adjacent, skips, pairs_after, start_put, end_put, part_put, parts_put, no_pairs, tab_stop_from, whole_page, LeavesFew, KeepsFew, HasFewThroughout}
 
 -- The parts that are left, from this place on, make the page whole; where they keep few margins, all did.
 pub record IsPageLeft (full : Bool) (document : List Part) (whole : Sheet) (few : Type 0) (index : ℕ) (pairs : Pairs) (hidden : ℕ) (parts : List Part) (page : Sheet) : Type 0 where

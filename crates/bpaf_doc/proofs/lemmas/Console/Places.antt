@@ -3,7 +3,7 @@ use Rattle.std.specs.Prelude.{◌≡◌, ℕ, zero, suc, ◌+◌, ◌<◌, true,
 use Rattle.std.specs.List.{slice_get, position_or_len}
 use Rattle.std.proofs.Common.{◌∙◌, ap, arith}
 use Rattle.bpaf_doc.specs.Buffer.Parts.{Part}
-use Rattle.bpaf_doc.specs.Console.Exact.{is_section4_end}
+use Rattle.bpaf_doc.specs.Console.Steps.Text.{is_section4_end}
 
 -- how many parts stand before it
 abbrev pub first_end : List Part → ℕ

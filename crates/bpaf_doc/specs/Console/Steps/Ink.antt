@@ -4,7 +4,7 @@ use Rattle.std.specs.Prelude.{ℕ, ◌+◌, Bool, ◌==◌, List, [], ◌∷◌,
 use Rattle.bpaf_doc.specs.Buffer.Parts.{Part, Text, Start, End, ink}
 use Rattle.bpaf_doc.specs.Splitter.Chunks.{Chunk, Raw, Paragraph, LineBreak, chunks_of}
 use Rattle.bpaf_doc.specs.Shown.{mark_bytes}
-use Rattle.bpaf_doc.specs.Console.Exact.Hiding.{hidden_after}
+use Rattle.bpaf_doc.specs.Console.Steps.Hiding.{hidden_after}
 
 -- the ink of the chunks that are written: of all, or in brief of those before the first Paragraph
 abbrev pub shown_ink : Bool → List Chunk → List ℕ

@@ -1,13 +1,13 @@
 use Rattle.std.proofs.Common.{◌≡◌, ◌++◌, string_bytes, ap, ◌∙◌, sym, subst, ◌∷◌, if◌then◌else◌, refl, false}
 use Rattle.std.proofs.lemmas.List.{append-nil}
 use Rattle.std.specs.Iterator.Adapters.{enumerate_source, enumerate_count}
-use Rattle.bpaf_doc.specs.Parts.{ink, Text, Start, End}
-use Rattle.bpaf_doc.specs.PartView.{part_of}
+use Rattle.bpaf_doc.specs.Buffer.Parts.{ink, Text, Start, End}
+use Rattle.bpaf_doc.specs.Buffer.View.{part_of}
 use Rattle.bpaf_doc.specs.Shown.{console_ink}
-use Rattle.bpaf_doc.specs.ConsolePage.{sheet_of, blank_sheet, HasFewMargins}
-use Rattle.bpaf_doc.specs.ConsoleText.{whole_page, pairs_at, start_put, end_put, tab_stop_from, LeavesFew, HasFewThroughout}
-use Rattle.bpaf_doc.proofs.ConsoleInk.{IsLeft, IsLeft-all, IsLeft-more, IsLeft-none, IsLeft-shown, IsLeft-hidden, IfOk-ink}
-use Rattle.bpaf_doc.proofs.ConsolePages.{IsPageLeft-all, IsPageLeft-more, IsPageLeft-none, IsPageLeft-few, skipped-few, text-shown, text-hidden, hidden-shown, hidden-still, start-shown, start-skipped, end-shown, end-skipped, skips-mark_bytes}
+use Rattle.bpaf_doc.specs.Console.Steps.Page.{sheet_of, blank_sheet, HasFewMargins}
+use Rattle.bpaf_doc.specs.Console.Steps.Text.{whole_page, pairs_at, start_put, end_put, tab_stop_from, LeavesFew, HasFewThroughout}
+use Rattle.bpaf_doc.proofs.lemmas.Console.Ink.{IsLeft, IsLeft-all, IsLeft-more, IsLeft-none, IsLeft-shown, IsLeft-hidden, IfOk-ink}
+use Rattle.bpaf_doc.proofs.lemmas.Console.Pages.{IsPageLeft-all, IsPageLeft-more, IsPageLeft-none, IsPageLeft-few, skipped-few, text-shown, text-hidden, hidden-shown, hidden-still, start-shown, start-skipped, end-shown, end-skipped, skips-mark_bytes}
 use Rattle.bpaf_doc.proofs.buffer.Doc.lay_out.Goals.{else-hidden-eq0-via-then-hidden-eq0+in_ok-put_text-in-Text+else-branch, else-hidden-eq0-via-else-hidden-eq0, then-not-skips+in_ok-open-in-Start, else-not-skips, then-not-skips-2+in_ok-close-in-End, else-not-skips-2}
 use Rattle.bpaf_doc.proofs.buffer.Doc.lay_out.Goals as goal
 

@@ -1,10 +1,10 @@
 use Rattle.std.proofs.Common.{string_bytes}
 use Rattle.std.specs.Iterator.Adapters.{enumerate_source, enumerate_count}
 use Rattle.bpaf_doc.specs.Shown.{console_ink}
-use Rattle.bpaf_doc.specs.ConsolePage.{sheet_of}
-use Rattle.bpaf_doc.specs.ConsoleText.{whole_page, HasFewThroughout}
-use Rattle.bpaf_doc.proofs.ConsoleInk.{IsLeft}
-use Rattle.bpaf_doc.proofs.ConsolePages.{IsPageLeft}
+use Rattle.bpaf_doc.specs.Console.Steps.Page.{sheet_of}
+use Rattle.bpaf_doc.specs.Console.Steps.Text.{whole_page, HasFewThroughout}
+use Rattle.bpaf_doc.proofs.lemmas.Console.Ink.{IsLeft}
+use Rattle.bpaf_doc.proofs.lemmas.Console.Pages.{IsPageLeft}
 use Rattle.bpaf_doc.proofs.buffer.Doc.lay_out.Given as goal
 
 abbrev pub invariant-loop-index : goal.invariant-loop-index

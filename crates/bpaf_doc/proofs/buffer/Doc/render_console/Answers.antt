@@ -1,5 +1,5 @@
-use Rattle.bpaf_doc.proofs.SheetWhole.{IfOk-layout}
-use Rattle.bpaf_doc.proofs.SheetExact.{IfOk-exact}
+use Rattle.bpaf_doc.proofs.lemmas.Console.Sheet.Whole.{IfOk-layout}
+use Rattle.bpaf_doc.proofs.lemmas.Console.Sheet.Exact.{IfOk-exact}
 use Rattle.bpaf_doc.proofs.buffer.Doc.render_console.Goals as goal
 
 pub returns-clause-exact : goal.returns-clause-exact

@@ -1,6 +1,6 @@
 use Rattle.std.proofs.Common.{◌≡◌, true, false, ap, sym, ◌∙◌, arith}
 use Rattle.std.specs.List.{slice_get}
-use Rattle.bpaf_doc.specs.Console.Exact.{is_section4_end}
+use Rattle.bpaf_doc.specs.Console.Steps.Text.{is_section4_end}
 use Rattle.bpaf_doc.proofs.lemmas.Console.Places.{first_end-here, first_end-later}
 use Rattle.bpaf_doc.proofs.console.pairs.section4_end.Goals as goal
 

@@ -2,9 +2,9 @@ use Rattle.std.proofs.Common.{◌≡◌, ◌∷◌, ◌++◌, string_bytes, ap, 
 use Rattle.bpaf_doc.specs.Buffer.Parts.{ink}
 use Rattle.bpaf_doc.specs.Splitter.Chunks.{chunks_of}
 use Rattle.bpaf_doc.specs.Splitter.View.{chunk_of}
-use Rattle.bpaf_doc.specs.Console.Exact.Hiding.{hides}
+use Rattle.bpaf_doc.specs.Console.Steps.Hiding.{hides}
 use Rattle.bpaf_doc.specs.Console.Steps.Ink.{shown_ink}
-use Rattle.bpaf_doc.specs.Console.Exact.Page.{sheet_of, text_put, newline_put}
+use Rattle.bpaf_doc.specs.Console.Steps.Page.{sheet_of, text_put, newline_put}
 use Rattle.bpaf_doc.proofs.lemmas.Console.Ink.{IsTextLeft-raw, IsTextLeft-line_break, IsTextLeft-paragraph, IsTextLeft-hides, IsTextLeft-none}
 use Rattle.bpaf_doc.proofs.console.page.Page.put_text.Goals as goal
 

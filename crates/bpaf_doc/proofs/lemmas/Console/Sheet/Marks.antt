@@ -8,13 +8,13 @@ use Rattle.bpaf_doc.specs.declared.buffer.Block.{Block}
 use Rattle.bpaf_doc.specs.declared.buffer.Block.TheVariants as blocks
 use Rattle.bpaf_doc.specs.Shown.{is_term_ref, mark_bytes}
 use Rattle.bpaf_doc.specs.Console.Layout.{Event, Opens, Closes, Passed, event_bytes}
-use Rattle.bpaf_doc.specs.Console.Exact.Page as page
-use Rattle.bpaf_doc.specs.Console.Exact.Page.{Sheet}
+use Rattle.bpaf_doc.specs.Console.Steps.Page as page
+use Rattle.bpaf_doc.specs.Console.Steps.Page.{Sheet}
 use Rattle.bpaf_doc.proofs.lemmas.Console.Layout.State.{State, sat, passed, asked_after, pending_after, at_least_line, IsLegible}
 use Rattle.bpaf_doc.proofs.lemmas.Console.Layout.Back.{by_cases}
 use Rattle.bpaf_doc.proofs.lemmas.Console.Layout.Blank.{text_back, text_back_cons}
 use Rattle.bpaf_doc.proofs.lemmas.Console.Margins.{top, popped}
-use Rattle.bpaf_doc.proofs.lemmas.Console.Exact.Grows.{Draws}
+use Rattle.bpaf_doc.proofs.lemmas.Console.Sheet.Grows.{Draws}
 
 same_asked : (a : Asked) → page.new_line_asked a ≡ at_least_line a
 same_asked Nothing = refl

@@ -6,9 +6,9 @@ use Rattle.unicode_width.specs.Width.{str_width, step, past_emoji}
 use Rattle.bpaf_doc.specs.declared.buffer.Style.TheVariants as style
 use Rattle.bpaf_doc.specs.declared.buffer.Block.{Block}
 use Rattle.bpaf_doc.specs.declared.buffer.Block.TheVariants as block
-use Rattle.bpaf_doc.specs.Parts.{Part, Text, Start, End}
-use Rattle.bpaf_doc.specs.Chunks.{chunks_of, chunks_in, chunks_within}
-use Rattle.bpaf_doc.specs.ConsoleExact.{console_page}
+use Rattle.bpaf_doc.specs.Buffer.Parts.{Part, Text, Start, End}
+use Rattle.bpaf_doc.specs.Splitter.Chunks.{chunks_of, chunks_in, chunks_within}
+use Rattle.bpaf_doc.specs.Console.Exact.{console_page}
 
 -- what has to unfold to compute the page of an ASCII document
 pub computed : ℕ

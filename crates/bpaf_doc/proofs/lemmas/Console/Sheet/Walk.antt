@@ -9,21 +9,21 @@ use Rattle.bpaf_doc.specs.declared.console.pairs.Pairs.{Pairs}
 use Rattle.bpaf_doc.specs.declared.buffer.Block.{Block}
 use Rattle.bpaf_doc.specs.declared.buffer.Block.TheVariants as blocks
 use Rattle.bpaf_doc.specs.declared.buffer.Style.{Style}
-use Rattle.bpaf_doc.specs.Parts.{Part, Text, Start, End}
-use Rattle.bpaf_doc.specs.Chunks.{Chunk, Raw, Paragraph, LineBreak, columns, chunks_of}
+use Rattle.bpaf_doc.specs.Buffer.Parts.{Part, Text, Start, End}
+use Rattle.bpaf_doc.specs.Splitter.Chunks.{Chunk, Raw, Paragraph, LineBreak, columns, chunks_of}
 use Rattle.bpaf_doc.specs.Shown.{is_hidden, shown_chunks, through_paragraph}
-use Rattle.bpaf_doc.specs.Margin.{margin, is_skipped, skips_pair, is_section4_start, tab_stop, Shift, Indent, Outdent, Level, part_shift, indent}
-use Rattle.bpaf_doc.specs.ConsoleSteps.{hidden_after, is_inline}
-use Rattle.bpaf_doc.specs.ConsolePage as page
-use Rattle.bpaf_doc.specs.ConsolePage.{Sheet, blank_sheet}
-use Rattle.bpaf_doc.specs.ConsoleText as whole
-use Rattle.bpaf_doc.specs.ConsolePairs.{KnowsPairs}
-use Rattle.bpaf_doc.proofs.Hiding.{Counts, Counts-nil, Counts-more, is_hidden-Counts}
-use Rattle.bpaf_doc.proofs.Margins.{top, stack_at, stack_at-none, stack_at-more, shifted, shift_at, shift_at-skipped, shift_at-shown, shift_at-text, margin-le, margin-indent, tab_stop-le, indent-le}
-use Rattle.bpaf_doc.proofs.Pairs.{KnowsPairs-more}
-use Rattle.bpaf_doc.proofs.Tabs.{widest_from, tab_stop-walk}
-use Rattle.bpaf_doc.proofs.SheetPairs.{knows_none, knows_start, skips_is}
-use Rattle.bpaf_doc.proofs.SheetMarks.{top_innermost, popped_margins, pushed_margins}
+use Rattle.bpaf_doc.specs.Console.Margin.{margin, is_skipped, skips_pair, is_section4_start, tab_stop, Shift, Indent, Outdent, Level, part_shift, indent}
+use Rattle.bpaf_doc.specs.Console.Steps.Hiding.{hidden_after, is_inline}
+use Rattle.bpaf_doc.specs.Console.Steps.Page as page
+use Rattle.bpaf_doc.specs.Console.Steps.Page.{Sheet, blank_sheet}
+use Rattle.bpaf_doc.specs.Console.Steps.Text as whole
+use Rattle.bpaf_doc.specs.Console.Steps.Pairs.{KnowsPairs}
+use Rattle.bpaf_doc.proofs.lemmas.Console.Hiding.{Counts, Counts-nil, Counts-more, is_hidden-Counts}
+use Rattle.bpaf_doc.proofs.lemmas.Console.Margins.{top, stack_at, stack_at-none, stack_at-more, shifted, shift_at, shift_at-skipped, shift_at-shown, shift_at-text, margin-le, margin-indent, tab_stop-le, indent-le}
+use Rattle.bpaf_doc.proofs.lemmas.Console.Pairs.{KnowsPairs-more}
+use Rattle.bpaf_doc.proofs.lemmas.Console.Tabs.{widest_from, tab_stop-walk}
+use Rattle.bpaf_doc.proofs.lemmas.Console.Sheet.Pairs.{knows_none, knows_start, skips_is}
+use Rattle.bpaf_doc.proofs.lemmas.Console.Sheet.Marks.{top_innermost, popped_margins, pushed_margins}
 
 -- ---- what a chunk keeps of the sheet
 

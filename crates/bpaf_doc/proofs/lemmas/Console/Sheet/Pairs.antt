@@ -9,7 +9,7 @@ use Rattle.bpaf_doc.specs.declared.buffer.Block.TheVariants as blocks
 use Rattle.bpaf_doc.specs.Buffer.Parts.{Part, Text, Start, End}
 use Rattle.bpaf_doc.specs.Console.Margin as margin
 use Rattle.bpaf_doc.specs.Console.Margin.{after_section4, has_empty_block, is_section4_start, is_skipped, skips_pair}
-use Rattle.bpaf_doc.specs.Console.Exact as whole
+use Rattle.bpaf_doc.specs.Console.Steps.Text as whole
 use Rattle.bpaf_doc.specs.Console.Steps.Pairs.{HasMarkAt, KnowsPairs}
 use Rattle.bpaf_doc.proofs.lemmas.Console.Layout.Back.{by_cases}
 use Rattle.bpaf_doc.proofs.lemmas.Console.Pairs.{KnowsPairs-none, KnowsPairs-more, skipped-is, skipped-other, slice_get-saturates, empty_block-is, looked-shared, looked-found, IsLookedAt, is_section4_start-other}

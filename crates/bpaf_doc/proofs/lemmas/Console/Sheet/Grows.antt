@@ -12,8 +12,8 @@ use Rattle.bpaf_doc.specs.declared.console.page.Asked.{Asked}
 use Rattle.bpaf_doc.specs.declared.console.page.Asked.TheVariants.{Nothing, NewLine, BlankLine}
 use Rattle.bpaf_doc.specs.Splitter.Chunks.{Raw, IsLine, columns}
 use Rattle.bpaf_doc.specs.Console.Layout.{Shows, Stretch, Gap, Placed, Passed}
-use Rattle.bpaf_doc.specs.Console.Exact.Page as page
-use Rattle.bpaf_doc.specs.Console.Exact.Page.{Sheet}
+use Rattle.bpaf_doc.specs.Console.Steps.Page as page
+use Rattle.bpaf_doc.specs.Console.Steps.Page.{Sheet}
 use Rattle.bpaf_doc.proofs.lemmas.Console.Layout.State.{State, Piece, Lines, none_asked, line_there, line_put, blank_there, second_put, both_put, first, stays, wraps, Places, places, drops, Pads, to_margin, after_term, IsPut, sat, padded, trimmed, put, wrapped, dropped, spaced, on_new_line, has_text, ends_line, ends_blank, IsLegible}
 use Rattle.bpaf_doc.proofs.lemmas.Console.Layout.Back.{by_cases}
 use Rattle.bpaf_doc.proofs.lemmas.Console.Layout.Blank.{text_back, text_back_cons}

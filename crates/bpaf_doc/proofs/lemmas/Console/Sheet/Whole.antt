@@ -12,27 +12,27 @@ use Rattle.bpaf_doc.specs.declared.console.pairs.Pairs.{Pairs}
 use Rattle.bpaf_doc.specs.declared.buffer.Block.{Block}
 use Rattle.bpaf_doc.specs.declared.buffer.Block.TheVariants as blocks
 use Rattle.bpaf_doc.specs.declared.buffer.Style.{Style}
-use Rattle.bpaf_doc.specs.Parts.{Part, Text, Start, End, ink, part_bytes, HasUtf8Texts}
-use Rattle.bpaf_doc.specs.Chunks.{Chunk, Raw, Paragraph, LineBreak, IsLine, IsWord, IsOrdinary, has_some, columns, chunks_of, code_weight, fence_weight, is_line_byte, is_word_byte, Spells, Plain, nothing, code_line, fence, before_code, paragraph, line_break, newline, blank, word, opening, later, closing, closing_paragraph, Form}
-use Rattle.bpaf_doc.specs.ChunkPromises.{IsText}
+use Rattle.bpaf_doc.specs.Buffer.Parts.{Part, Text, Start, End, ink, part_bytes, HasUtf8Texts}
+use Rattle.bpaf_doc.specs.Splitter.Chunks.{Chunk, Raw, Paragraph, LineBreak, IsLine, IsWord, IsOrdinary, has_some, columns, chunks_of, code_weight, fence_weight, is_line_byte, is_word_byte, Spells, Plain, nothing, code_line, fence, before_code, paragraph, line_break, newline, blank, word, opening, later, closing, closing_paragraph, Form}
+use Rattle.bpaf_doc.specs.Splitter.Promises.{IsText}
 use Rattle.bpaf_doc.specs.Shown.{console_ink, shown_chunks}
-use Rattle.bpaf_doc.specs.Margin.{margin, greatest_margin, is_skipped, Level, part_shift}
-use Rattle.bpaf_doc.specs.Layout.{Event, Shows, Opens, Closes, part_events, shown_events, is_inline_block, IsLayout, Stretch, Gap, Passed}
-use Rattle.bpaf_doc.specs.ConsoleSteps.{hidden_after}
-use Rattle.bpaf_doc.specs.ConsolePage as page
-use Rattle.bpaf_doc.specs.ConsolePage.{Sheet, blank_sheet}
-use Rattle.bpaf_doc.specs.ConsoleText as whole
-use Rattle.bpaf_doc.specs.ConsoleText.{console_text}
-use Rattle.bpaf_doc.proofs.ChunkFacts.{text_chunks}
-use Rattle.bpaf_doc.proofs.ChunkLaws.{spells_in}
-use Rattle.bpaf_doc.proofs.LayoutState.{State, Piece, piece, Next, raw, break, mark, placing, breaking, passing, Places, places, drops, Fits, Suits, raw_suits, paragraph_suits, line_break_suits, open_suits, close_suits, Written, nothing, more, blank_page, broken, passed, chunk_next, Ends, as_is, with_newline}
-use Rattle.bpaf_doc.proofs.LayoutBack.{by_cases}
-use Rattle.bpaf_doc.proofs.LayoutBlank.{text_back, text_back_cons}
-use Rattle.bpaf_doc.proofs.LayoutWhole.{next_event, EachNext, IsShallow, layout_of_page}
-use Rattle.bpaf_doc.proofs.Margins.{top, stack_at, shifted, shift_at, shift_at-shown, top-margin, margin-le-greatest, margin-level, margin-end}
-use Rattle.bpaf_doc.proofs.SheetGrows.{columns_is, Draws, raw_placed, RawTo}
-use Rattle.bpaf_doc.proofs.SheetMarks.{draws_opened, draws_closed, top_innermost}
-use Rattle.bpaf_doc.proofs.SheetWalk.{Frame, same_frame, raw_frame, text_frame, written_of, Walk, few_fits, level_top, opened_keeps, closed_keeps, here, there, within, stack_next, text_level, walk_text, shown_is, hidden_is, start_skips, walk_start_skipped, walk_start, end_skips, walk_end_skipped, walk_end, walk_begins}
+use Rattle.bpaf_doc.specs.Console.Margin.{margin, greatest_margin, is_skipped, Level, part_shift}
+use Rattle.bpaf_doc.specs.Console.Layout.{Event, Shows, Opens, Closes, part_events, shown_events, is_inline_block, IsLayout, Stretch, Gap, Passed}
+use Rattle.bpaf_doc.specs.Console.Steps.Hiding.{hidden_after}
+use Rattle.bpaf_doc.specs.Console.Steps.Page as page
+use Rattle.bpaf_doc.specs.Console.Steps.Page.{Sheet, blank_sheet}
+use Rattle.bpaf_doc.specs.Console.Steps.Text as whole
+use Rattle.bpaf_doc.specs.Console.Steps.Text.{console_text}
+use Rattle.bpaf_doc.proofs.lemmas.Splitter.Facts.{text_chunks}
+use Rattle.bpaf_doc.proofs.lemmas.Splitter.Spelling.{spells_in}
+use Rattle.bpaf_doc.proofs.lemmas.Console.Layout.State.{State, Piece, piece, Next, raw, break, mark, placing, breaking, passing, Places, places, drops, Fits, Suits, raw_suits, paragraph_suits, line_break_suits, open_suits, close_suits, Written, nothing, more, blank_page, broken, passed, chunk_next, Ends, as_is, with_newline}
+use Rattle.bpaf_doc.proofs.lemmas.Console.Layout.Back.{by_cases}
+use Rattle.bpaf_doc.proofs.lemmas.Console.Layout.Blank.{text_back, text_back_cons}
+use Rattle.bpaf_doc.proofs.lemmas.Console.Layout.Whole.{next_event, EachNext, IsShallow, layout_of_page}
+use Rattle.bpaf_doc.proofs.lemmas.Console.Margins.{top, stack_at, shifted, shift_at, shift_at-shown, top-margin, margin-le-greatest, margin-level, margin-end}
+use Rattle.bpaf_doc.proofs.lemmas.Console.Sheet.Grows.{columns_is, Draws, raw_placed, RawTo}
+use Rattle.bpaf_doc.proofs.lemmas.Console.Sheet.Marks.{draws_opened, draws_closed, top_innermost}
+use Rattle.bpaf_doc.proofs.lemmas.Console.Sheet.Walk.{Frame, same_frame, raw_frame, text_frame, written_of, Walk, few_fits, level_top, opened_keeps, closed_keeps, here, there, within, stack_next, text_level, walk_text, shown_is, hidden_is, start_skips, walk_start_skipped, walk_start, end_skips, walk_end_skipped, walk_end, walk_begins}
 
 -- ---- what is known of the chunks of a text
 

@@ -1,0 +1,120 @@
+-- A console text, part by part, as the private functions leave it. Nothing here has to be believed: that such a text is a
+-- layout of its document, with the console's ink, is proved.
+use Rattle.std.specs.Prelude.{◌≡◌, ⊤, ℕ, ◌+◌, ◌-◌, ◌==◌, Bool, true, false, ◌&&◌, List, [], ◌∷◌, Option, Some, drop, max, nat_le, nat_lt, if◌then◌else◌}
+use Rattle.std.specs.List.{slice_get, position_or_len}
+use Rattle.bpaf_doc.specs.declared.buffer.Block.TheVariants as blocks
+use Rattle.bpaf_doc.specs.declared.buffer.Block.{Block}
+use Rattle.bpaf_doc.specs.declared.console.pairs.Pairs.{Pairs}
+use Rattle.bpaf_doc.specs.Buffer.Parts.{Part, Text, Start, End}
+use Rattle.bpaf_doc.specs.Splitter.Chunks.{columns, chunks_of}
+use Rattle.bpaf_doc.specs.Console.Steps.Hiding.{hidden_after}
+use Rattle.bpaf_doc.specs.Console.Steps.Page.{Sheet, HasFewMargins, blank_sheet, saturated, text_put, opened, closed, finished}
+
+-- ---- the tab stop
+
+abbrev pub is_term : Block → Bool
+is_term blocks.ItemTerm = true
+is_term _ = false
+
+-- the wider of two terms, where the second counts up to 24 columns
+abbrev pub wider_term : ℕ → ℕ → ℕ
+wider_term widest term = if nat_le term 24 then max widest term else widest
+
+-- the tab stop over the parts that follow: the widest term so far, whether a term is open, and its columns
+abbrev pub tab_stop_from : ℕ → Bool → ℕ → List Part → ℕ
+tab_stop_from widest in_term term [] = saturated (widest + 4)
+tab_stop_from widest in_term term (Text bytes style ∷ parts) = tab_stop_from widest in_term (if in_term then saturated (term + columns bytes) else term) parts
+tab_stop_from widest in_term term (Start b ∷ parts) = if is_term b then tab_stop_from widest true 0 parts else tab_stop_from widest in_term term parts
+tab_stop_from widest in_term term (End b ∷ parts) = if is_term b then tab_stop_from (wider_term widest term) false term parts else tab_stop_from widest in_term term parts
+
+-- ---- empty Block pairs after a Section4
+
+abbrev pub is_section4 : Block → Bool
+is_section4 blocks.Section4 = true
+is_section4 _ = false
+
+abbrev pub is_block : Block → Bool
+is_block blocks.Block = true
+is_block _ = false
+
+abbrev pub is_section4_end : Option Part → Bool
+is_section4_end (Some (End blocks.Section4)) = true
+is_section4_end _ = false
+
+abbrev pub is_block_start : Option Part → Bool
+is_block_start (Some (Start blocks.Block)) = true
+is_block_start _ = false
+
+abbrev pub is_block_end : Option Part → Bool
+is_block_end (Some (End blocks.Block)) = true
+is_block_end _ = false
+
+-- the place of the first Section4 end after this place, or the number of parts
+abbrev pub section4_end : List Part → ℕ → ℕ
+section4_end document index = index + 1 + position_or_len (λ part. is_section4_end (Some part)) (drop (index + 1) document)
+
+-- a start and an end of Block stand directly after this place
+abbrev pub has_empty_block : List Part → ℕ → Bool
+has_empty_block document index =
+    is_block_start (slice_get document (saturated (index + 1))) && is_block_end (slice_get document (saturated (index + 2)))
+
+abbrev pub no_pairs : Pairs
+no_pairs = record { end = 0; has_pair = false }
+
+-- what is known of such a pair after the start of a block
+abbrev pub pairs_at : List Part → ℕ → Block → Pairs → Pairs
+pairs_at document index b p =
+    if is_section4 b && nat_le p.end index
+    then record { end = section4_end document index; has_pair = has_empty_block document (section4_end document index) } else p
+
+abbrev pub is_adjacent : Block → Pairs → Bool
+is_adjacent b p = is_section4 b && p.has_pair
+
+-- a mark that belongs to such a pair
+abbrev pub skips : Pairs → ℕ → Block → Bool
+skips p index b = (p.has_pair && is_block b) && (nat_lt p.end index && nat_le (index - p.end) 2)
+
+-- ---- the parts
+
+abbrev pub pairs_after : List Part → ℕ → Pairs → Part → Pairs
+pairs_after document index p (Text bytes style) = p
+pairs_after document index p (Start b) = pairs_at document index b p
+pairs_after document index p (End b) = p
+
+abbrev pub start_put : Pairs → ℕ → Block → Sheet → Sheet
+start_put p index b s = if skips p index b then s else opened b (is_adjacent b p) s
+
+abbrev pub end_put : Pairs → ℕ → Block → Sheet → Sheet
+end_put p index b s = if skips p index b then s else closed b s
+
+abbrev pub part_put : Bool → List Part → ℕ → Pairs → ℕ → Part → Sheet → Sheet
+part_put full document index p hidden (Text bytes style) s = if hidden == 0 then text_put full (chunks_of bytes) s else s
+part_put full document index p hidden (Start b) s = start_put (pairs_at document index b p) index b s
+part_put full document index p hidden (End b) s = end_put p index b s
+
+abbrev pub parts_put : Bool → List Part → ℕ → Pairs → ℕ → List Part → Sheet → Sheet
+parts_put full document index p hidden [] s = s
+parts_put full document index p hidden (part ∷ parts) s =
+    parts_put full document (index + 1) (pairs_after document index p part) (hidden_after full hidden part) parts (part_put full document index p hidden part s)
+
+-- each mark that is not passed over leaves few margins
+abbrev pub LeavesFew : Pairs → ℕ → Part → Sheet → Type 0
+LeavesFew p index (Text bytes style) s = ⊤
+LeavesFew p index (Start b) s = skips p index b ≡ false → HasFewMargins s
+LeavesFew p index (End b) s = skips p index b ≡ false → HasFewMargins s
+
+abbrev pub KeepsFew : Bool → List Part → ℕ → Pairs → ℕ → List Part → Sheet → Type 0
+KeepsFew full document index p hidden [] s = ⊤
+KeepsFew full document index p hidden (part ∷ parts) s =
+    LeavesFew (pairs_after document index p part) index part (part_put full document index p hidden part s)
+    × KeepsFew full document (index + 1) (pairs_after document index p part) (hidden_after full hidden part) parts (part_put full document index p hidden part s)
+
+abbrev pub HasFewThroughout : Bool → ℕ → List Part → Type 0
+HasFewThroughout full width document = KeepsFew full document 0 no_pairs 0 document (blank_sheet width (tab_stop_from 0 false 0 document))
+
+-- the page after all the parts, and its text
+abbrev pub whole_page : Bool → ℕ → List Part → Sheet
+whole_page full width document = parts_put full document 0 no_pairs 0 document (blank_sheet width (tab_stop_from 0 false 0 document))
+
+abbrev pub console_text : Bool → ℕ → List Part → List ℕ
+console_text full width document = finished (whole_page full width document)
