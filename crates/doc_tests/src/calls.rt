@@ -62,7 +62,7 @@ fn documents_compare_as_their_parts(rt: HostRuntime) -> Result<(), Fail> {
     Ok(())
 }
 
-/// A word of so many columns. It is no literal: to prove one of 300 bytes takes half a minute.
+/// A word of so many columns.
 pub fn word(alloc: Global, columns: usize) -> Result<String, AllocError> {
     let mut word = String::new(alloc);
     for _ in 0..columns {

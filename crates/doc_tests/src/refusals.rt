@@ -97,8 +97,8 @@ fn is_as_lent(given: &Lent, copy: &Lent) -> bool {
 }
 
 // Sixteen parts, so that one more makes the list of their ends grow. The last one is a literal text.
-fn begun<A: Allocator + Copy>(alloc: A) -> Result<Doc<A>, AllocError> {
-    let mut doc = Doc::new(alloc);
+fn begun<A: Allocator + Copy>(alloc: A, first: &str) -> Result<Doc<A>, AllocError> {
+    let mut doc = Doc::from_text(alloc, first)?;
     for block in [
         Block::Section2,
         Block::Section3,
@@ -106,11 +106,11 @@ fn begun<A: Allocator + Copy>(alloc: A) -> Result<Doc<A>, AllocError> {
         Block::DefinitionList,
         Block::ItemTerm,
         Block::ItemBody,
-        Block::Meta,
     ] {
-        doc.emphasis("one two")?;
         doc.token(Token::BlockStart(block))?;
+        doc.emphasis("one two")?;
     }
+    doc.token(Token::BlockEnd(Block::ItemTerm))?;
     doc.token(Token::BlockEnd(Block::Section2))?;
     doc.literal("three")?;
     Ok(doc)
@@ -179,13 +179,13 @@ fn same<A: Allocator, B: Allocator>(left: &Doc<A>, right: &Doc<B>) -> bool {
 fn refusals(rt: &impl Abort, alloc: Global, call: Call) -> Result<u64, AllocError> {
     let given = make_lent(alloc)?;
     let copy = make_lent(alloc)?;
-    let before = begun(alloc)?;
-    let mut after = begun(alloc)?;
+    let before = begun(alloc, &given.long)?;
+    let mut after = begun(alloc, &given.long)?;
     apply(alloc, &mut after, call, &given)?;
     let mut refused = 0u64;
     for budget in 1..512usize {
         let heap = LocalHeap::new(alloc, budget * 16)?;
-        if let Ok(mut doc) = begun(&heap) {
+        if let Ok(mut doc) = begun(&heap, &given.long) {
             match apply(&heap, &mut doc, call, &given) {
                 Err(AllocError) => {
                     refused = refused.saturating_add(1);
