@@ -1,11 +1,11 @@
-//! A page of each form, and the words and faults that are no page.
+//! A page of each form, and what is said where there is none.
 
 ghost use Rattle.std.specs.Prelude.{IfOk};
 ghost use Rattle.helpdoc_engine.specs.Rendering.{IsPage, document_of_text};
 
 use helpdoc_engine::engine::run_text;
 use helpdoc_engine::faults::Fault;
-use helpdoc_engine::words::{Choice, Form, choose};
+use helpdoc_engine::words::Form;
 use std::alloc::Global;
 use std::test::Fail;
 use watched::Watched;
@@ -56,21 +56,6 @@ fn refuses_what_is_no_text(rt: HostRuntime) {
     for input in [b"\xff".as_slice(), b"hello \xff", b"\xe2\x82"] {
         let refused = page_of(rt.alloc(), Form::Full, input);
         assert!(rt; refused.err() == Some(Fault::NotUtf8), "{input:?}");
-    }
-}
-
-#[test]
-fn chooses_by_two_words(rt: HostRuntime) {
-    let rows: [(&[&str], Option<Choice>); 6] = [
-        (&["text", "html"], Some(Choice::Text(Form::Html))),
-        (&["sample", "man"], None),
-        (&["text"], None),
-        (&["text", "full", "full"], None),
-        (&["text", "Full"], None),
-        (&["full", "text"], None),
-    ];
-    for (words, want) in rows {
-        assert!(rt; choose(words) == want, "{words:?}");
     }
 }
 
