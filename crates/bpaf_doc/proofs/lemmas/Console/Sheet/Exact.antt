@@ -13,19 +13,19 @@ use Rattle.bpaf_doc.specs.declared.buffer.Style.{Style}
 use Rattle.bpaf_doc.specs.Buffer.Parts.{Part, Text, Start, End}
 use Rattle.bpaf_doc.specs.Splitter.Chunks.{Chunk, Raw, Paragraph, LineBreak, columns, chunks_of, has_some}
 use Rattle.bpaf_doc.specs.Shown.{is_term_ref}
-use Rattle.bpaf_doc.specs.Console.Margin.{margin, is_skipped}
-use Rattle.bpaf_doc.specs.Console.Steps.Hiding.{hidden_after}
-use Rattle.bpaf_doc.specs.Console.Steps.Page as page
-use Rattle.bpaf_doc.specs.Console.Steps.Page.{Sheet, blank_sheet}
-use Rattle.bpaf_doc.specs.Console.Steps.Text as whole
-use Rattle.bpaf_doc.specs.Console.Steps.Text.{console_text}
-use Rattle.bpaf_doc.specs.Console.Exact as exact
-use Rattle.bpaf_doc.specs.Console.Exact.{Request, NoBreak, NewLine, BlankLine, PageSoFar, console_page}
-use Rattle.bpaf_doc.proofs.lemmas.Console.Layout.Back.{by_cases}
-use Rattle.bpaf_doc.proofs.lemmas.Console.Margins.{top, stack_at, shifted, top-margin}
-use Rattle.bpaf_doc.proofs.lemmas.Console.Sheet.Marks.{top_innermost}
-use Rattle.bpaf_doc.proofs.lemmas.Console.Sheet.Walk.{Frame, same_frame, asked_keeps, text_frame, raw_frame, written_of, Walk, stack_next, text_level, walk_text, shown_is, hidden_is, start_skips, walk_start_skipped, walk_start, end_skips, walk_end_skipped, walk_end, walk_begins, frame_if, opened_keeps, closed_keeps}
-use Rattle.bpaf_doc.proofs.lemmas.Console.Sheet.Whole.{Each, IsGood, text_good, columns_good, margin_kept}
+use Rattle.bpaf_doc.specs.Margin.{margin, is_skipped}
+use Rattle.bpaf_doc.specs.ConsoleSteps.{hidden_after}
+use Rattle.bpaf_doc.specs.ConsolePage as page
+use Rattle.bpaf_doc.specs.ConsolePage.{Sheet, blank_sheet}
+use Rattle.bpaf_doc.specs.ConsoleText as whole
+use Rattle.bpaf_doc.specs.ConsoleText.{console_text}
+use Rattle.bpaf_doc.specs.ConsoleExact as exact
+use Rattle.bpaf_doc.specs.ConsoleExact.{Request, NoBreak, NewLine, BlankLine, PageSoFar, console_page}
+use Rattle.bpaf_doc.proofs.LayoutBack.{by_cases}
+use Rattle.bpaf_doc.proofs.Margins.{top, stack_at, shifted, top-margin}
+use Rattle.bpaf_doc.proofs.SheetMarks.{top_innermost}
+use Rattle.bpaf_doc.proofs.SheetWalk.{Frame, asked_keeps, text_frame, raw_frame, written_of, Walk, stack_next, text_level, shown_is, hidden_is, start_skips, end_skips, walk_begins, walk_part, opened_keeps, closed_keeps}
+use Rattle.bpaf_doc.proofs.SheetWhole.{Each, IsGood, text_good, columns_good, margin_kept}
 
 -- ---- a sheet, seen as the page so far
 
@@ -264,39 +264,32 @@ module _ (full : Bool) (document : List Part) (width : ℕ) (is_small : length d
         let same : whole.part_put full document index pairs hidden (Text bytes style) s ≡ s = rw h refl in
         ap view same ∙ ap (λ chunks. exact.chunks_put width (exact.saturated (margin document index)) chunks (view s)) (sym (hidden_is full document index before rest bytes style pairs hidden s w h))
 
+  part_same : (index : ℕ) (before rest : List Part) (part : Part) (pairs : Pairs) (hidden : ℕ) (s : Sheet) → Walk full document index before (part ∷ rest) pairs hidden s → s.width ≡ width
+      → view (whole.part_put full document index pairs hidden part s) ≡ exact.part_put full width document index part (view s)
+  part_same index before rest (Text bytes style) pairs hidden s w wide = text_part index before rest bytes style pairs hidden s w wide
+  part_same index before rest (Start b) pairs hidden s w wide =
+      put_if (whole.skips next index b) (is_skipped document index) (start_skips full document is_small index before rest b pairs hidden s w) s (page.opened b (whole.is_adjacent b next) s) (exact.start_put b (view s))
+      (start_is b (whole.is_adjacent b next) s) where
+        next : Pairs
+        next = whole.pairs_at document index b pairs
+  part_same index before rest (End b) pairs hidden s w wide =
+      put_if (whole.skips pairs index b) (is_skipped document index) (end_skips full document is_small index before rest b pairs hidden s w) s (page.closed b s) (exact.end_put b (view s)) (end_is b s)
+
+  same_width : (index : ℕ) (part : Part) (pairs : Pairs) (hidden : ℕ) (s : Sheet) → s.width ≡ width → (whole.part_put full document index pairs hidden part s).width ≡ width
+  same_width index (Text bytes style) pairs hidden s wide = keeps_width_if (hidden == 0) (page.text_put full (chunks_of bytes) s) s width ((text_frame full (chunks_of bytes) s).width ∙ wide) wide
+  same_width index (Start b) pairs hidden s wide =
+      keeps_width_if (whole.skips next index b) s (page.opened b (whole.is_adjacent b next) s) width wide ((opened_keeps b (whole.is_adjacent b next) s).0 ∙ wide) where
+        next : Pairs
+        next = whole.pairs_at document index b pairs
+  same_width index (End b) pairs hidden s wide = keeps_width_if (whole.skips pairs index b) s (page.closed b s) width wide ((closed_keeps b s).0 ∙ wide)
+
   parts_same : (parts : List Part) (index : ℕ) (before : List Part) (pairs : Pairs) (hidden : ℕ) (s : Sheet) → Walk full document index before parts pairs hidden s → s.width ≡ width
       → view (whole.parts_put full document index pairs hidden parts s) ≡ exact.parts_put full width document (enumerate_from index parts) (view s)
   parts_same [] index before pairs hidden s w wide = refl
-  parts_same (Text bytes style ∷ parts) index before pairs hidden s w wide =
-      let frame : Frame s (whole.part_put full document index pairs hidden (Text bytes style) s) =
-      frame_if (hidden == 0) s (page.text_put full (chunks_of bytes) s) s (text_frame full (chunks_of bytes) s) (same_frame s) in
-      parts_same parts (index + 1) (before ++ Text bytes style ∷ []) pairs (hidden_after full hidden (Text bytes style)) (whole.part_put full document index pairs hidden (Text bytes style) s)
-      (walk_text full document index before parts bytes style pairs hidden s w (whole.part_put full document index pairs hidden (Text bytes style) s) frame) (frame.width ∙ wide)
-      ∙ ap (exact.parts_put full width document (enumerate_from (index + 1) parts)) (text_part index before parts bytes style pairs hidden s w wide)
-  parts_same (Start b ∷ parts) index before pairs hidden s w wide =
-      parts_same parts (index + 1) (before ++ Start b ∷ []) next (hidden_after full hidden (Start b)) (whole.part_put full document index pairs hidden (Start b) s)
-      (walked (whole.skips next index b) (start_skips full document is_small index before parts b pairs hidden s w))
-      (keeps_width_if (whole.skips next index b) s (page.opened b (whole.is_adjacent b next) s) width wide ((opened_keeps b (whole.is_adjacent b next) s).0 ∙ wide))
-      ∙ ap (exact.parts_put full width document (enumerate_from (index + 1) parts))
-      (put_if (whole.skips next index b) (is_skipped document index) (start_skips full document is_small index before parts b pairs hidden s w) s (page.opened b (whole.is_adjacent b next) s) (exact.start_put b (view s))
-      (start_is b (whole.is_adjacent b next) s)) where
-        next : Pairs
-        next = whole.pairs_at document index b pairs
-
-        walked : (c : Bool) → c ≡ is_skipped document index
-            → Walk full document (index + 1) (before ++ Start b ∷ []) parts (whole.pairs_at document index b pairs) (hidden_after full hidden (Start b)) (if c then s else page.opened b (whole.is_adjacent b (whole.pairs_at document index b pairs)) s)
-        walked true e = walk_start_skipped full document is_small index before parts b pairs hidden s w (sym e)
-        walked false e = walk_start full document is_small index before parts b pairs hidden s w (sym e)
-  parts_same (End b ∷ parts) index before pairs hidden s w wide =
-      parts_same parts (index + 1) (before ++ End b ∷ []) pairs (hidden_after full hidden (End b)) (whole.part_put full document index pairs hidden (End b) s)
-      (walked (whole.skips pairs index b) (end_skips full document is_small index before parts b pairs hidden s w))
-      (keeps_width_if (whole.skips pairs index b) s (page.closed b s) width wide ((closed_keeps b s).0 ∙ wide))
-      ∙ ap (exact.parts_put full width document (enumerate_from (index + 1) parts))
-      (put_if (whole.skips pairs index b) (is_skipped document index) (end_skips full document is_small index before parts b pairs hidden s w) s (page.closed b s) (exact.end_put b (view s)) (end_is b s)) where
-        walked : (c : Bool) → c ≡ is_skipped document index
-            → Walk full document (index + 1) (before ++ End b ∷ []) parts pairs (hidden_after full hidden (End b)) (if c then s else page.closed b s)
-        walked true e = walk_end_skipped full document is_small index before parts b pairs hidden s w (sym e)
-        walked false e = walk_end full document is_small index before parts b pairs hidden s w (sym e)
+  parts_same (part ∷ parts) index before pairs hidden s w wide =
+      parts_same parts (index + 1) (before ++ part ∷ []) (whole.pairs_after document index pairs part) (hidden_after full hidden part) (whole.part_put full document index pairs hidden part s)
+      (walk_part full document is_small index before parts part pairs hidden s w) (same_width index part pairs hidden s wide)
+      ∙ ap (exact.parts_put full width document (enumerate_from (index + 1) parts)) (part_same index before parts part pairs hidden s w wide)
 
   pub text-page : console_text full width document ≡ console_page full width document
   text-page =

@@ -397,3 +397,20 @@ module _ (full : Bool) (document : List Part) where
     counts = λ f. Counts-nil;
     open_all = λ t. refl;
   }
+
+  -- any part
+  pub walk_part : length document < 2 ^ 64 → (index : ℕ) (before rest : List Part) (part : Part) (pairs : Pairs) (hidden : ℕ) (s : Sheet) → Walk index before (part ∷ rest) pairs hidden s
+      → Walk (index + 1) (before ++ part ∷ []) rest (whole.pairs_after document index pairs part) (hidden_after full hidden part) (whole.part_put full document index pairs hidden part s)
+  walk_part is_small index before rest (Text bytes style) pairs hidden s w =
+      walk_text index before rest bytes style pairs hidden s w (whole.part_put full document index pairs hidden (Text bytes style) s)
+      (frame_if (hidden == 0) s (page.text_put full (chunks_of bytes) s) s (text_frame full (chunks_of bytes) s) (same_frame s))
+  walk_part is_small index before rest (Start b) pairs hidden s w =
+      at (whole.skips (whole.pairs_at document index b pairs) index b) (start_skips is_small index before rest b pairs hidden s w) where
+        at : (c : Bool) → c ≡ is_skipped document index
+            → Walk (index + 1) (before ++ Start b ∷ []) rest (whole.pairs_at document index b pairs) (hidden_after full hidden (Start b)) (if c then s else page.opened b (whole.is_adjacent b (whole.pairs_at document index b pairs)) s)
+        at true e = walk_start_skipped is_small index before rest b pairs hidden s w (sym e)
+        at false e = walk_start is_small index before rest b pairs hidden s w (sym e)
+  walk_part is_small index before rest (End b) pairs hidden s w = at (whole.skips pairs index b) (end_skips is_small index before rest b pairs hidden s w) where
+    at : (c : Bool) → c ≡ is_skipped document index → Walk (index + 1) (before ++ End b ∷ []) rest pairs (hidden_after full hidden (End b)) (if c then s else page.closed b s)
+    at true e = walk_end_skipped is_small index before rest b pairs hidden s w (sym e)
+    at false e = walk_end is_small index before rest b pairs hidden s w (sym e)

@@ -494,7 +494,7 @@ module _ (full : Bool) (document : List Part) (width : ℕ) (is_small : length d
     shallow = tt;
   }
 
-  done : whole.HasFewThroughout full width document → Done (whole.whole_page full width document)
+  pub done : whole.HasFewThroughout full width document → Done (whole.whole_page full width document)
   done few = going_on document 0 [] whole.no_pairs 0 (blank_sheet width (whole.tab_stop_from 0 false 0 document)) few starts_going
 
   -- the text of the page is that of its stretches, with a last newline where one is asked for
@@ -525,7 +525,7 @@ module _ (full : Bool) (document : List Part) (width : ℕ) (is_small : length d
     at (inl h) = layout (Gap 10 ∷ ended_page.later.st.back) (with_newline refl) (ended h ∙ ap (λ bs. bs ++ 10 ∷ []) bytes ∙ sym (text_back_cons (Gap 10) ended_page.later.st.back))
     at (inr h) = layout ended_page.later.st.back (as_is refl) (open_end h ∙ bytes)
 
-text_is_utf8 : (document : List Part) → HasUtf8Texts document → (k : ℕ) (bytes : List ℕ) (style : Style) → slice_get document k ≡ Some (Text bytes style) → IsUtf8 bytes
+pub text_is_utf8 : (document : List Part) → HasUtf8Texts document → (k : ℕ) (bytes : List ℕ) (style : Style) → slice_get document k ≡ Some (Text bytes style) → IsUtf8 bytes
 text_is_utf8 document all k bytes style at =
     let part : Part = Text bytes style in
     subst (λ p. IsUtf8 (part_bytes p)) (get_or_from_slice_get document k part part at)
