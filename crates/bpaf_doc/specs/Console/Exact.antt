@@ -1,5 +1,6 @@
--- The console page as a function of the document, the width, and full or brief. It goes by the rules of docs/console.md, one after
--- another. The laws of `IsLayout` and the ink are theorems on it: who believes them need not read this.
+-- The console page as a function of the document, the width, and full or brief: the rules of docs/console.md, one after another. What
+-- can be looked up by place, as margins and what brief hides, is looked up by the counting definitions of `Margin` and `Shown`.
+-- The ink and the laws of `IsLayout` are theorems on this function (`ConsoleLaws`): who believes them need not read it.
 use Rattle.std.specs.Prelude.{ℕ, ◌+◌, ◌-◌, Bool, true, false, not, ◌&&◌, ◌||◌, List, [], ◌∷◌, ◌++◌, codes, take, replicate, min, nat_eq, nat_lt, nat_le, if◌then◌else◌}
 use Rattle.std.specs.List.{ends_with}
 use Rattle.std.specs.Str.{trim_end, bytes_eq}
@@ -58,6 +59,7 @@ abbrev pub blank_line_put : PageSoFar → PageSoFar
 blank_line_put page =
     if asks_blank_line page.request && not (ends_with nat_eq page.text (codes "\n\n")) then record page { text = page.text ++ codes "\n" } else page
 
+-- (a) and (b): what is asked for stands at the end of the text
 abbrev pub request_met : PageSoFar → PageSoFar
 request_met page = blank_line_put (line_ended page)
 
@@ -71,14 +73,15 @@ wrapped page = on_new_line (record page { text = trim_end page.text })
 
 -- ---- steps 2 to 4: the slice is written from its margin on
 
--- the blanks that are missing up to the margin, none where the column is past it
+-- step 2: the blanks that are missing up to the margin, none where the column is past it
 abbrev pub missing_blanks : ℕ → PageSoFar → ℕ
 missing_blanks margin page = margin - page.column
 
--- step 3: where the margin is pending and the column is at least 28, two blanks in all, where step 2 put this many
+-- step 3: where the margin is pending and the column is at least 28, two blanks in all, of which step 2 put this many
 abbrev pub body_parted : ℕ → PageSoFar → PageSoFar
 body_parted missing page = if page.is_pending && nat_le 28 page.column then with_blanks (2 - missing) page else page
 
+-- steps 2 and 3
 abbrev pub indented : ℕ → PageSoFar → PageSoFar
 indented margin page = body_parted (missing_blanks margin page) (with_blanks (missing_blanks margin page) page)
 
@@ -86,23 +89,26 @@ indented margin page = body_parted (missing_blanks margin page) (with_blanks (mi
 abbrev pub slice_put : List ℕ → ℕ → PageSoFar → PageSoFar
 slice_put slice weight page = record { text = page.text ++ slice; column = saturated (page.column + weight); request = NoBreak; is_pending = false }
 
+-- steps 2 to 4
 abbrev pub placed : ℕ → List ℕ → ℕ → PageSoFar → PageSoFar
 placed margin slice weight page = slice_put slice weight (indented margin page)
 
 -- ---- the chunks of a text
 
--- a slice on a page that has some text and what was asked for: (c), where one blank is dropped, and what is asked for stays
+-- The rest of step 1 and the steps after it, where some text stands and what was asked for does: (c), by which one blank is dropped
+-- and what is asked for stays so, or the slice is placed.
 abbrev pub fitted : ℕ → ℕ → List ℕ → ℕ → PageSoFar → PageSoFar
 fitted width margin slice weight page =
     if is_too_wide width slice page
     then if bytes_eq slice (codes " ") then wrapped page else placed margin slice weight (wrapped page)
     else placed margin slice weight page
 
--- a Raw chunk, at the margin of its text
+-- a Raw chunk, at the margin of its text: step 1 is passed over where no text stands yet
 abbrev pub raw_put : ℕ → ℕ → List ℕ → ℕ → PageSoFar → PageSoFar
 raw_put width margin slice weight page =
     if has_some page.text then fitted width margin slice weight (request_met page) else placed margin slice weight page
 
+-- Paragraph and LineBreak write a newline
 abbrev pub chunk_put : ℕ → ℕ → Chunk → PageSoFar → PageSoFar
 chunk_put width margin (Raw slice weight) page = raw_put width margin slice weight page
 chunk_put width margin Paragraph page = on_new_line page
@@ -142,6 +148,7 @@ abbrev pub is_item_body : Block → Bool
 is_item_body blocks.ItemBody = true
 is_item_body _ = false
 
+-- a start and an end of a block: an ItemBody start sets the pending margin, and its end clears it
 abbrev pub start_put : Block → PageSoFar → PageSoFar
 start_put b page = backquoted b (record page { request = request_at_start b page.request; is_pending = page.is_pending || is_item_body b })
 
@@ -150,7 +157,7 @@ end_put b page = backquoted b (record page { request = request_at_end b page.req
 
 -- ---- the document
 
--- the part at place k, where a mark of a skipped pair does nothing
+-- the part at place k: the shown chunks of a text, at its margin; a mark, of which those of a skipped pair do nothing
 abbrev pub part_put : Bool → ℕ → List Part → ℕ → Part → PageSoFar → PageSoFar
 part_put full width document k (Text bytes style) page = chunks_put width (saturated (margin document k)) (shown_chunks full (take k document) bytes) page
 part_put full width document k (Start b) page = if is_skipped document k then page else start_put b page

@@ -32,7 +32,7 @@ pub struct Page<B: Allocator> {
     column: usize,
     width: usize,
     tab_stop: usize,
-    // Each is at most 30 times its place from the bottom, so that none passes a `u128`.
+    // Each adds at most 30 to the one below it, so that no document has one that a `u128` does not hold.
     margins: Vec<u128, B>,
     asked: Asked,
     // An item's body starts at the next text.
@@ -89,7 +89,7 @@ impl<B: Allocator> Page<B> {
         self.at_body = self.at_body || block == Block::ItemBody;
         self.push_margin(indent_of(block, self.tab_stop, adjacent))?;
         self.put_mark(block)?;
-        self.has_few_margins();
+        self.bound_margins();
         Ok(())
     }
 
@@ -104,7 +104,7 @@ impl<B: Allocator> Page<B> {
         self.asked = asked_by_end(self.asked, block);
         self.at_body = self.at_body && block != Block::ItemBody;
         self.put_mark(block)?;
-        self.has_few_margins();
+        self.bound_margins();
         Ok(())
     }
 
@@ -266,8 +266,8 @@ impl<B: Allocator> Page<B> {
         self.margins.last().copied().unwrap_or(0)
     }
 
-    // A margin takes 16 bytes, and no vector 2^63 or more.
-    fn has_few_margins(&self)
+    // States a bound on the margins: each takes 16 bytes, and all of them less than 2^63.
+    fn bound_margins(&self)
         ensures { HasFewMargins (sheet_of self.now) }
     {
         let few = self.margins.as_slice().len() < 1 << 59;
