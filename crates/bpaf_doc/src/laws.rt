@@ -1,10 +1,10 @@
 //! Laws of the definitions that the contracts cite: nothing to call, but statements that the check proves.
 
-ghost use Rattle.bpaf_doc.specs.ConsoleLaws.{IsExactPageLayout};
-ghost use Rattle.bpaf_doc.specs.ChunkPromises.{EachTextIsSpelledOnce, ChunksKeepInk, ChunksAreLines, ChunksStandInOrder, ChunksAreTexts};
-ghost use Rattle.bpaf_doc.specs.Equality.{IsEqualityOfParts};
-ghost use Rattle.bpaf_doc.specs.RoffReader.{IsReadInOneWay};
-ghost use Rattle.bpaf_doc.specs.Page.{TitlePageTakesDocument, TitledPageIsManualPage};
+ghost use Rattle.bpaf_doc.specs.Console.Laws.{IsExactPageLayout};
+ghost use Rattle.bpaf_doc.specs.Splitter.Promises.{EachTextIsSpelledOnce, ChunksKeepInk, ChunksAreLines, ChunksStandInOrder, ChunksAreTexts};
+ghost use Rattle.bpaf_doc.specs.Buffer.Equality.{IsEqualityOfParts};
+ghost use Rattle.bpaf_doc.specs.Manpage.Reader.{IsReadInOneWay};
+ghost use Rattle.bpaf_doc.specs.Manpage.Page.{TitlePageTakesDocument, TitledPageIsManualPage};
 
 /// Each text is spelled by exactly one list of chunks, the one that `split` gives.
 pub fn one_spelling()

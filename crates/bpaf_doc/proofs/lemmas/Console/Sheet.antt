@@ -5,3 +5,4 @@ pub mod Pairs
 pub mod Exact
 pub mod Walk
 pub mod Whole
+pub mod Laws

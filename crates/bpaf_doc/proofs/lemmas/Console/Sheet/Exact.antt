@@ -13,19 +13,19 @@ use Rattle.bpaf_doc.specs.declared.buffer.Style.{Style}
 use Rattle.bpaf_doc.specs.Buffer.Parts.{Part, Text, Start, End}
 use Rattle.bpaf_doc.specs.Splitter.Chunks.{Chunk, Raw, Paragraph, LineBreak, columns, chunks_of, has_some}
 use Rattle.bpaf_doc.specs.Shown.{is_term_ref}
-use Rattle.bpaf_doc.specs.Margin.{margin, is_skipped}
-use Rattle.bpaf_doc.specs.ConsoleSteps.{hidden_after}
-use Rattle.bpaf_doc.specs.ConsolePage as page
-use Rattle.bpaf_doc.specs.ConsolePage.{Sheet, blank_sheet}
-use Rattle.bpaf_doc.specs.ConsoleText as whole
-use Rattle.bpaf_doc.specs.ConsoleText.{console_text}
-use Rattle.bpaf_doc.specs.ConsoleExact as exact
-use Rattle.bpaf_doc.specs.ConsoleExact.{Request, NoBreak, NewLine, BlankLine, PageSoFar, console_page}
-use Rattle.bpaf_doc.proofs.LayoutBack.{by_cases}
-use Rattle.bpaf_doc.proofs.Margins.{top, stack_at, shifted, top-margin}
-use Rattle.bpaf_doc.proofs.SheetMarks.{top_innermost}
-use Rattle.bpaf_doc.proofs.SheetWalk.{Frame, asked_keeps, text_frame, raw_frame, written_of, Walk, stack_next, text_level, shown_is, hidden_is, start_skips, end_skips, walk_begins, walk_part, opened_keeps, closed_keeps}
-use Rattle.bpaf_doc.proofs.SheetWhole.{Each, IsGood, text_good, columns_good, margin_kept}
+use Rattle.bpaf_doc.specs.Console.Margin.{margin, is_skipped}
+use Rattle.bpaf_doc.specs.Console.Steps.Hiding.{hidden_after}
+use Rattle.bpaf_doc.specs.Console.Steps.Page as page
+use Rattle.bpaf_doc.specs.Console.Steps.Page.{Sheet, blank_sheet}
+use Rattle.bpaf_doc.specs.Console.Steps.Text as whole
+use Rattle.bpaf_doc.specs.Console.Steps.Text.{console_text}
+use Rattle.bpaf_doc.specs.Console.Exact as exact
+use Rattle.bpaf_doc.specs.Console.Exact.{Request, NoBreak, NewLine, BlankLine, PageSoFar, console_page}
+use Rattle.bpaf_doc.proofs.lemmas.Console.Layout.Back.{by_cases}
+use Rattle.bpaf_doc.proofs.lemmas.Console.Margins.{top, stack_at, shifted, top-margin}
+use Rattle.bpaf_doc.proofs.lemmas.Console.Sheet.Marks.{top_innermost}
+use Rattle.bpaf_doc.proofs.lemmas.Console.Sheet.Walk.{Frame, asked_keeps, text_frame, raw_frame, written_of, Walk, stack_next, text_level, shown_is, hidden_is, start_skips, end_skips, walk_begins, walk_part, opened_keeps, closed_keeps}
+use Rattle.bpaf_doc.proofs.lemmas.Console.Sheet.Whole.{Each, IsGood, text_good, columns_good, margin_kept}
 
 -- ---- a sheet, seen as the page so far
 

@@ -1,8 +1,8 @@
 -- What the page as a function comes to.
 use Rattle.std.specs.Prelude.{ℕ, ◌^◌, ◌<◌, Bool, List, length}
-use Rattle.bpaf_doc.specs.Parts.{Part, HasUtf8Texts}
-use Rattle.bpaf_doc.specs.Layout.{IsLayout}
-use Rattle.bpaf_doc.specs.ConsoleExact.{console_page}
+use Rattle.bpaf_doc.specs.Buffer.Parts.{Part, HasUtf8Texts}
+use Rattle.bpaf_doc.specs.Console.Layout.{IsLayout}
+use Rattle.bpaf_doc.specs.Console.Exact.{console_page}
 
 -- The page of a document of fewer than 2 ^ 59 parts is a layout of it, and so has its ink. (The margins of so many fit a usize; a
 -- page that a call answers is a layout also where there are more.)

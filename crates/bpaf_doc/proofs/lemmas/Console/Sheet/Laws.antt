@@ -7,33 +7,33 @@ use Rattle.std.proofs.lemmas.List.{append-nil, length-reverse, reverse-reverse}
 use Rattle.std.proofs.lemmas.Grind.{flat_map-append}
 use Rattle.bpaf_doc.specs.declared.console.pairs.Pairs.{Pairs}
 use Rattle.bpaf_doc.specs.declared.buffer.Block.{Block}
-use Rattle.bpaf_doc.specs.Parts.{Part, Text, Start, End, ink, HasUtf8Texts}
-use Rattle.bpaf_doc.specs.Chunks.{Chunk, chunk_ink, has_some}
-use Rattle.bpaf_doc.specs.ChunkPromises.{IsGap}
+use Rattle.bpaf_doc.specs.Buffer.Parts.{Part, Text, Start, End, ink, HasUtf8Texts}
+use Rattle.bpaf_doc.specs.Splitter.Chunks.{Chunk, chunk_ink, has_some}
+use Rattle.bpaf_doc.specs.Splitter.Promises.{IsGap}
 use Rattle.bpaf_doc.specs.Shown.{console_ink, is_term_ref, mark_bytes, shown_chunks, shown_part_ink}
-use Rattle.bpaf_doc.specs.Margin.{Shift, Indent, Outdent, Level, shifts, is_skipped}
-use Rattle.bpaf_doc.specs.Layout.{Event, Shows, Opens, Closes, part_events, shown_events, Stretch, Gap, Placed, Passed, chunk_at, event_bytes, IsLayout}
-use Rattle.bpaf_doc.specs.ConsoleSteps.{hidden_after}
-use Rattle.bpaf_doc.specs.ConsolePage as page
-use Rattle.bpaf_doc.specs.ConsolePage.{Sheet, blank_sheet}
-use Rattle.bpaf_doc.specs.ConsoleText as whole
-use Rattle.bpaf_doc.specs.ConsoleText.{console_text}
-use Rattle.bpaf_doc.specs.ConsoleExact.{console_page}
-use Rattle.bpaf_doc.specs.ConsoleLaws.{IsExactPageLayout}
-use Rattle.bpaf_doc.proofs.ConsoleInk.{ink-backquote}
-use Rattle.bpaf_doc.proofs.ConsolePages.{skips-mark_bytes}
-use Rattle.bpaf_doc.proofs.Ink.{ink-nil, ink-append, ink_before_gap}
-use Rattle.bpaf_doc.proofs.LayoutBlank.{text_back, text_back_cons}
-use Rattle.bpaf_doc.proofs.LayoutSplit.{events_back}
-use Rattle.bpaf_doc.proofs.LayoutState.{IsLegible}
-use Rattle.bpaf_doc.proofs.LayoutText.{EachPassed, NoInk}
-use Rattle.bpaf_doc.proofs.LayoutTurned.{reverse_cons}
-use Rattle.bpaf_doc.proofs.LayoutWhole.{next_event, written_base, written_events}
-use Rattle.bpaf_doc.proofs.Margins.{shifted, stack_after, stack_at}
-use Rattle.bpaf_doc.proofs.PageText.{text_utf8, trim_ink}
-use Rattle.bpaf_doc.proofs.SheetExact.{text-page}
-use Rattle.bpaf_doc.proofs.SheetWalk.{Walk, walk_begins, walk_part, start_skips, end_skips}
-use Rattle.bpaf_doc.proofs.SheetWhole.{Done, done, console_layout, events_from, text_is_utf8}
+use Rattle.bpaf_doc.specs.Console.Margin.{Shift, Indent, Outdent, Level, shifts, is_skipped}
+use Rattle.bpaf_doc.specs.Console.Layout.{Event, Shows, Opens, Closes, part_events, shown_events, Stretch, Gap, Placed, Passed, chunk_at, event_bytes, IsLayout}
+use Rattle.bpaf_doc.specs.Console.Steps.Hiding.{hidden_after}
+use Rattle.bpaf_doc.specs.Console.Steps.Page as page
+use Rattle.bpaf_doc.specs.Console.Steps.Page.{Sheet, blank_sheet}
+use Rattle.bpaf_doc.specs.Console.Steps.Text as whole
+use Rattle.bpaf_doc.specs.Console.Steps.Text.{console_text}
+use Rattle.bpaf_doc.specs.Console.Exact.{console_page}
+use Rattle.bpaf_doc.specs.Console.Laws.{IsExactPageLayout}
+use Rattle.bpaf_doc.proofs.lemmas.Console.Ink.{ink-backquote}
+use Rattle.bpaf_doc.proofs.lemmas.Console.Pages.{skips-mark_bytes}
+use Rattle.bpaf_doc.proofs.lemmas.Splitter.Ink.{ink-nil, ink-append, ink_before_gap}
+use Rattle.bpaf_doc.proofs.lemmas.Console.Layout.Blank.{text_back, text_back_cons}
+use Rattle.bpaf_doc.proofs.lemmas.Console.Layout.Split.{events_back}
+use Rattle.bpaf_doc.proofs.lemmas.Console.Layout.State.{IsLegible}
+use Rattle.bpaf_doc.proofs.lemmas.Console.Layout.Text.{EachPassed, NoInk}
+use Rattle.bpaf_doc.proofs.lemmas.Console.Layout.Turned.{reverse_cons}
+use Rattle.bpaf_doc.proofs.lemmas.Console.Layout.Whole.{next_event, written_base, written_events}
+use Rattle.bpaf_doc.proofs.lemmas.Console.Margins.{shifted, stack_after, stack_at}
+use Rattle.bpaf_doc.proofs.lemmas.Console.Layout.Stretches.{text_utf8, trim_ink}
+use Rattle.bpaf_doc.proofs.lemmas.Console.Sheet.Exact.{text-page}
+use Rattle.bpaf_doc.proofs.lemmas.Console.Sheet.Walk.{Walk, walk_begins, walk_part, start_skips, end_skips}
+use Rattle.bpaf_doc.proofs.lemmas.Console.Sheet.Whole.{Done, done, console_layout, events_from, text_is_utf8}
 
 -- ---- the ink of a text by its stretches
 
