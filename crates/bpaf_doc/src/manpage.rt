@@ -4,7 +4,7 @@ ghost use Rattle.std.specs.Prelude.{◌≡◌, [], ◌∷◌, IfOk, OnOk, string
 ghost use Rattle.std.specs.Option.{option_copied};
 ghost use Rattle.bpaf_roff.specs.Roff.{with_pieces, control_pieces};
 ghost use Rattle.bpaf_doc.specs.Manpage.Page.{TakesDocument, IsPageOf};
-ghost use Rattle.bpaf_doc.specs.Manpage.Exact.{start_name, end_name, heading_name, after_parts, draft_on};
+ghost use Rattle.bpaf_doc.specs.Manpage.Steps.Draft.{start_name, end_name, heading_name, after_parts, draft_on};
 
 use crate::buffer::{Block, Doc, Part, Parts, Style};
 use bpaf_roff::escape::Apostrophes;
@@ -66,7 +66,7 @@ struct Writer<A: Allocator> {
 
 impl<A: Allocator> Model for Writer<A> {
     ghost use Rattle.std.specs.Prelude.{string_bytes};
-    ghost use Rattle.bpaf_doc.specs.Manpage.Exact.{Draft};
+    ghost use Rattle.bpaf_doc.specs.Manpage.Steps.Draft.{Draft};
 
     ghost Value = { Draft };
 
@@ -87,7 +87,7 @@ impl<A: Allocator + Copy> Writer<A> {
 }
 
 impl<A: Allocator> Writer<A> {
-    ghost use Rattle.bpaf_doc.specs.Manpage.Exact.{after_text, after_start, after_section, after_block, after_part};
+    ghost use Rattle.bpaf_doc.specs.Manpage.Steps.Draft.{after_text, after_start, after_section, after_block, after_part};
     ghost use Rattle.bpaf_doc.specs.Buffer.View.{part_of};
 
     fn part(&mut self, part: Part<'_>) -> Result<(), AllocError>

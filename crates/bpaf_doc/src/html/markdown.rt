@@ -3,7 +3,7 @@ ghost use Rattle.std.specs.Prelude.{◌≡◌, ◌++◌, if◌then◌else◌, On
 ghost use Rattle.bpaf_doc.specs.Splitter.View.{chunk_of};
 ghost use Rattle.bpaf_doc.specs.Markdown.Page.{IsMarkdownOf};
 ghost use Rattle.bpaf_doc.specs.Html.Steps.View.{fragment_of};
-ghost use Rattle.bpaf_doc.specs.Markdown.Exact.{blank_text, put, with_new_line, with_blank_line, with_item, opening_marks, closing_marks, with_line, open_code, close_code, with_words, with_raw, with_chunk, text_ended, header_started, body_started, started, ended, is_term_end, marked_after};
+ghost use Rattle.bpaf_doc.specs.Markdown.Steps.Page.{blank_text, put, with_new_line, with_blank_line, with_item, opening_marks, closing_marks, with_line, open_code, close_code, with_words, with_raw, with_chunk, text_ended, header_started, body_started, started, ended, is_term_end, marked_after};
 
 use super::fragments::{Fragment, fragments_of};
 use super::{Language, Styles, push_spelled, when};
@@ -32,7 +32,7 @@ struct Markdown<B: Allocator> {
 
 impl<B: Allocator> Model for Markdown<B> {
     ghost use Rattle.std.specs.Prelude.{string_bytes};
-    ghost use Rattle.bpaf_doc.specs.Markdown.Exact.{Marked};
+    ghost use Rattle.bpaf_doc.specs.Markdown.Steps.Page.{Marked};
 
     ghost Value = { Marked };
 

@@ -4,7 +4,7 @@ ghost use Rattle.bpaf_doc.specs.Buffer.Parts.{IsWellNested};
 ghost use Rattle.bpaf_doc.specs.Splitter.View.{chunk_of};
 ghost use Rattle.bpaf_doc.specs.Html.Page.{IsHtmlPageOf, IsHtmlTextPageOf, is_definition_list};
 ghost use Rattle.bpaf_doc.specs.Html.Steps.View.{fragment_of};
-ghost use Rattle.bpaf_doc.specs.Html.Exact.{blank_page, with_text, with_break, with_words, with_heading, is_header, start_tag, end_tag, opening_tags, closing_tags, started, ended, chunk_page, page_after};
+ghost use Rattle.bpaf_doc.specs.Html.Steps.Page.{blank_page, with_text, with_break, with_words, with_heading, is_header, start_tag, end_tag, opening_tags, closing_tags, started, ended, chunk_page, page_after};
 
 use super::fragments::{Fragment, fragments_of};
 use super::{Language, Styles, push_spelled, when};
@@ -42,7 +42,7 @@ struct Page<B: Allocator> {
 
 impl<B: Allocator> Model for Page<B> {
     ghost use Rattle.std.specs.Prelude.{reverse, string_bytes};
-    ghost use Rattle.bpaf_doc.specs.Html.Exact.{Written};
+    ghost use Rattle.bpaf_doc.specs.Html.Steps.Page.{Written};
 
     ghost Value = { Written };
 

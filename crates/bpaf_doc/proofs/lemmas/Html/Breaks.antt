@@ -11,7 +11,7 @@ use Rattle.bpaf_doc.specs.declared.buffer.Block.TheVariants as blocks
 use Rattle.bpaf_doc.specs.Splitter.Chunks.{Raw, Paragraph, LineBreak, is_inked, is_raw, has_some}
 use Rattle.bpaf_doc.specs.Html.Fragments.{Fragment, TextStart, Shown, TextEnd, Hidden, Start, End, shows}
 use Rattle.bpaf_doc.specs.Html.Page.{HtmlSnippet, Open, Close, Break, Newline, Of, fragments_in, asks_break, is_break}
-use Rattle.bpaf_doc.specs.Html.Exact.{Written, page_after, first_or_false, is_empty, start_tag, end_tag}
+use Rattle.bpaf_doc.specs.Html.Steps.Page.{Written, page_after, first_or_false, is_empty, start_tag, end_tag}
 use Rattle.bpaf_doc.proofs.lemmas.Html.Cut.{snippets_of, cut_from, start_snippets, end_snippets}
 use Rattle.bpaf_doc.proofs.lemmas.Lists.Passing.{state_after, passes, passes_back, passes_both, passes_first, passes_rest}
 

@@ -6,7 +6,7 @@ use Rattle.bpaf_doc.specs.Buffer.Parts.{Part, IsWellNested}
 use Rattle.bpaf_doc.specs.Splitter.Chunks.{is_line_byte}
 use Rattle.bpaf_doc.specs.Html.Fragments.{Fragment, shown_fragments}
 use Rattle.bpaf_doc.specs.Html.Page.{IsHtmlOf, IsWellNestedHtml, erased, html_text, fragment_text}
-use Rattle.bpaf_doc.specs.Html.Exact.{blank_page, page_after_all}
+use Rattle.bpaf_doc.specs.Html.Steps.Page.{blank_page, page_after_all}
 use Rattle.bpaf_doc.proofs.lemmas.Html.Fragments.Walking.{walked}
 use Rattle.bpaf_doc.proofs.lemmas.Html.Fragments.Lines.{fragment_is_line, walk_lines}
 use Rattle.bpaf_doc.proofs.lemmas.Html.Fragments.Nests.{Nests, walk_nests}

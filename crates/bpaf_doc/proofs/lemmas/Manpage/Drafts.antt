@@ -10,7 +10,7 @@ use Rattle.bpaf_roff.specs.declared.escape.Escape.{Escape}
 use Rattle.bpaf_doc.specs.Buffer.Parts.{Part, Text, Start, End}
 use Rattle.bpaf_doc.specs.Manpage.Events.{places, font_of, last_is_start, is_section, is_section_mark, is_term_mark, captured_texts}
 use Rattle.bpaf_doc.specs.Manpage.Page.{TakesDocument, IsPageOf}
-use Rattle.bpaf_doc.specs.Manpage.Exact.{Call, ControlCall, TextCall, pieces_of, control_calls, heading_name, style_name, Draft, draft_on, after_text, after_start, after_section, after_block, after_end, after_part, after_parts, strips_after_start, strips_after_end}
+use Rattle.bpaf_doc.specs.Manpage.Steps.Draft.{Call, ControlCall, TextCall, pieces_of, control_calls, heading_name, style_name, Draft, draft_on, after_text, after_start, after_section, after_block, after_end, after_part, after_parts, strips_after_start, strips_after_end}
 use Rattle.bpaf_doc.specs.declared.buffer.Style.{Style}
 use Rattle.bpaf_doc.specs.declared.buffer.Block.{Block}
 use Rattle.bpaf_doc.specs.declared.buffer.Block.TheVariants as block

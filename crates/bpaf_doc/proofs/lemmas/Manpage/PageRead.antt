@@ -15,7 +15,7 @@ use Rattle.bpaf_doc.specs.declared.buffer.Style.{Style}
 use Rattle.bpaf_doc.specs.declared.buffer.Style.TheVariants as style
 use Rattle.bpaf_doc.specs.declared.buffer.Block.{Block}
 use Rattle.bpaf_doc.specs.declared.buffer.Block.TheVariants as block
-use Rattle.bpaf_doc.specs.Manpage.Exact.{Call, ControlCall, TextCall, pieces_of, control_calls, start_name, end_name, heading_name, style_name, break_calls}
+use Rattle.bpaf_doc.specs.Manpage.Steps.Draft.{Call, ControlCall, TextCall, pieces_of, control_calls, start_name, end_name, heading_name, style_name, break_calls}
 use Rattle.bpaf_doc.proofs.lemmas.Manpage.ReadBack.{IsCall, step_of, calls_read, signs-append, control_written, control_read, control_ends}
 use Rattle.bpaf_roff.proofs.lemmas.EscapedText.{text_after-append}
 

@@ -15,7 +15,7 @@ use Rattle.bpaf_roff.specs.declared.escape.Escape.{Escape}
 use Rattle.bpaf_roff.specs.declared.escape.Escape.TheVariants.{Spaces, Special, SpecialNoNewline, Unescaped}
 use Rattle.bpaf_roff.specs.declared.roff.Font.{Font}
 use Rattle.bpaf_doc.specs.Manpage.Events.{word_of, Step, Gives, Stop, starts_line, events_of_steps}
-use Rattle.bpaf_doc.specs.Manpage.Exact.{Call, ControlCall, TextCall, BreakCall, pieces_of}
+use Rattle.bpaf_doc.specs.Manpage.Steps.Draft.{Call, ControlCall, TextCall, BreakCall, pieces_of}
 use Rattle.bpaf_doc.specs.Manpage.Reader.{Event, Control, Span, LineEnd, IsName, IsArgument, AreArguments, StartsNoControl, IsSpanText, Place, AtLineStart, WithinLine, Reads}
 
 -- a text is at a line start after a newline only

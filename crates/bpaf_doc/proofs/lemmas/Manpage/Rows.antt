@@ -10,7 +10,7 @@ use Rattle.bpaf_doc.specs.Manpage.Page.{title_event}
 use Rattle.bpaf_doc.specs.declared.buffer.Style.TheVariants as style
 use Rattle.bpaf_doc.specs.declared.buffer.Block.TheVariants as block
 use Rattle.bpaf_doc.proofs.lemmas.Manpage.Program.{read}
-use Rattle.bpaf_doc.specs.Manpage.Exact.{pieces_of}
+use Rattle.bpaf_doc.specs.Manpage.Steps.Draft.{pieces_of}
 use Rattle.bpaf_doc.proofs.lemmas.Manpage.PageRead.{page_calls}
 
 read_1 : read (codes ".TH app 1 - - \"\"\n") ≡ Some (title_event (codes "app") (codes "1") None None None ∷ [])

@@ -11,7 +11,7 @@ use Rattle.bpaf_doc.specs.declared.buffer.Style.{Style}
 use Rattle.bpaf_doc.specs.Splitter.Chunks.{Chunk, Raw, Paragraph, LineBreak, code_weight, fence_weight, is_whole_line}
 use Rattle.bpaf_doc.specs.Html.Fragments.{Fragment, TextStart, Shown, TextEnd, Hidden, Start, End, shows}
 use Rattle.bpaf_doc.specs.Markdown.Page.{mark_text, MarkdownSnippet, Put, Of, fragments_in, fragment_text, EndsInBlankLine, is_item_start}
-use Rattle.bpaf_doc.specs.Markdown.Exact.{Marked, put, starts_line, with_new_line, open_code, with_line, with_words, with_raw, with_chunk, marked_after}
+use Rattle.bpaf_doc.specs.Markdown.Steps.Page.{Marked, put, starts_line, with_new_line, open_code, with_line, with_words, with_raw, with_chunk, marked_after}
 use Rattle.bpaf_doc.proofs.lemmas.Markdown.Cut.{spelled, own_snippets, snippets_of, cut_from, item_snippets, open_snippets, close_snippets, line_snippets, new_line_snippets, flags, step-flags, step-code, item_marks, step-spelled, new_line-spelled, open-spelled, new_line_marks, open_marks, close-code}
 use Rattle.bpaf_doc.proofs.lemmas.Markdown.Kept.{step-fragments}
 use Rattle.bpaf_doc.proofs.lemmas.Markdown.Breaks.{first_or, without_first}

@@ -7,7 +7,7 @@ use Rattle.bpaf_doc.specs.Splitter.Chunks.{Chunk, chunks_of, starts}
 use Rattle.bpaf_doc.specs.Html.Fragments.{Fragment, TextStart, Shown, TextEnd, Hidden, Start, End, shown_fragments}
 use Rattle.bpaf_doc.specs.Markdown.Page.{IsMarkdownOf, MarkdownSnippet, Put, Of, Newline, text_after, EndsInBlankLine, is_mono_start, is_mono_end}
 use Rattle.bpaf_doc.specs.Html.Steps.Walk.{visible, text_rest, part_walk, walk, depth_after}
-use Rattle.bpaf_doc.specs.Markdown.Exact.{blank_text, with_item, marked_after_all}
+use Rattle.bpaf_doc.specs.Markdown.Steps.Page.{blank_text, with_item, marked_after_all}
 use Rattle.bpaf_doc.proofs.lemmas.Lists.Counting.{one_if, one_at_most, count_by-cons, count_by-append}
 use Rattle.bpaf_doc.proofs.lemmas.Html.Fragments.Walking.{walked}
 use Rattle.bpaf_doc.proofs.lemmas.Markdown.Cut.{places-spelled, cut_from, flags}

@@ -1,7 +1,7 @@
 -- The page after all fragments meets the promises, and the style sheet follows it.
 use Rattle.std.proofs.Common.{◌≡◌, ◌++◌, sym, ◌∙◌, ap}
 use Rattle.bpaf_doc.specs.Html.Fragments.{shown_fragments}
-use Rattle.bpaf_doc.specs.Html.Exact.{blank_page, page_after_all}
+use Rattle.bpaf_doc.specs.Html.Steps.Page.{blank_page, page_after_all}
 use Rattle.bpaf_doc.proofs.lemmas.Html.Meets.{page_meets, page_text}
 use Rattle.bpaf_doc.proofs.buffer.Doc.render_html.Goals as goal
 

@@ -2,7 +2,7 @@
 use Rattle.std.proofs.Common.{◌≡◌, ◌<◌, ◌^◌, false, length, sym, ◌∙◌, ap, arith}
 use Rattle.std.specs.Prelude.{string_bytes}
 use Rattle.bpaf_doc.specs.Html.Fragments.{shown_fragments}
-use Rattle.bpaf_doc.specs.Markdown.Exact.{blank_text, with_item, marked_after_all}
+use Rattle.bpaf_doc.specs.Markdown.Steps.Page.{blank_text, with_item, marked_after_all}
 use Rattle.bpaf_doc.proofs.lemmas.Markdown.Meets.{markdown_meets}
 use Rattle.bpaf_doc.proofs.buffer.Doc.render_markdown.Goals as goal
 

@@ -1,6 +1,6 @@
 use Rattle.std.proofs.Common.{◌≡◌}
 use Rattle.bpaf_doc.specs.Html.Fragments.{shown_fragments}
-use Rattle.bpaf_doc.specs.Markdown.Exact.{blank_text, marked_after_all}
+use Rattle.bpaf_doc.specs.Markdown.Steps.Page.{blank_text, marked_after_all}
 use Rattle.bpaf_doc.proofs.buffer.Doc.render_markdown.Given as goal
 
 -- the text so far with what is left comes to the whole

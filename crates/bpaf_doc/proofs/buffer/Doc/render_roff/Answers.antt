@@ -3,7 +3,7 @@ use Rattle.std.proofs.lemmas.Result.{IfOk-weaker}
 use Rattle.bpaf_roff.specs.Roff.{rendering}
 use Rattle.bpaf_roff.specs.declared.escape.Apostrophes.TheVariants.{Handle}
 use Rattle.bpaf_doc.specs.Manpage.Page.{IsPageOf}
-use Rattle.bpaf_doc.specs.Manpage.Exact.{after_parts, draft_on}
+use Rattle.bpaf_doc.specs.Manpage.Steps.Draft.{after_parts, draft_on}
 use Rattle.bpaf_doc.proofs.lemmas.Manpage.Drafts.{written_page}
 use Rattle.bpaf_doc.proofs.buffer.Doc.render_roff.Goals as goal
 

@@ -9,7 +9,7 @@ use Rattle.bpaf_doc.specs.declared.buffer.Block.TheVariants as blocks
 use Rattle.bpaf_doc.specs.Splitter.Chunks.{Chunk, Raw, Paragraph, LineBreak, code_weight, fence_weight}
 use Rattle.bpaf_doc.specs.Html.Fragments.{Fragment, TextStart, Shown, TextEnd, Hidden, Start, End}
 use Rattle.bpaf_doc.specs.Markdown.Page.{escaped_character}
-use Rattle.bpaf_doc.specs.Html.Exact.{is_empty}
+use Rattle.bpaf_doc.specs.Html.Steps.Page.{is_empty}
 
 -- The bytes so far; whether a heading was written; whether the last mark of a definition list was a start; whether an item's dash waits for the
 -- next fragment, and whether the last item was empty; the Mono starts and ends so far; whether a code block is open.
