@@ -1,10 +1,11 @@
 //! HTML: a page that grows by one fragment after another.
 ghost use Rattle.std.specs.Prelude.{◌≡◌, ◌++◌, [], if◌then◌else◌, OnOk, IfOk, string_bytes, filter};
-ghost use Rattle.bpaf_doc.specs.Buffer.Parts.{IsWellNested};
-ghost use Rattle.bpaf_doc.specs.Splitter.View.{chunk_of};
-ghost use Rattle.bpaf_doc.specs.Html.Page.{IsHtmlPageOf, IsHtmlTextPageOf, is_definition_list};
-ghost use Rattle.bpaf_doc.specs.Html.Steps.View.{fragment_of};
-ghost use Rattle.bpaf_doc.specs.Html.Steps.Page.{blank_page, with_text, with_break, with_words, with_heading, is_header, start_tag, end_tag, opening_tags, closing_tags, started, ended, chunk_page, page_after};
+ghost use Rattle.bpaf_doc.specs.Parts.{IsWellNested};
+ghost use Rattle.bpaf_doc.specs.ChunkView.{chunk_of};
+ghost use Rattle.bpaf_doc.specs.Html.{IsHtmlPageOf, IsHtmlTextPageOf, is_definition_list};
+ghost use Rattle.bpaf_doc.specs.HtmlView.{fragment_of};
+ghost use Rattle.bpaf_doc.specs.HtmlPage.{html_page};
+ghost use Rattle.bpaf_doc.specs.HtmlSteps.{blank_page, with_text, with_break, with_words, with_heading, is_header, start_tag, end_tag, opening_tags, closing_tags, started, ended, chunk_page, page_after};
 
 use super::fragments::{Fragment, fragments_of};
 use super::{Language, Styles, push_spelled, when};
@@ -42,7 +43,7 @@ struct Page<B: Allocator> {
 
 impl<B: Allocator> Model for Page<B> {
     ghost use Rattle.std.specs.Prelude.{reverse, string_bytes};
-    ghost use Rattle.bpaf_doc.specs.Html.Steps.Page.{Written};
+    ghost use Rattle.bpaf_doc.specs.HtmlSteps.{Written};
 
     ghost Value = { Written };
 
@@ -221,11 +222,14 @@ impl<A: Allocator> Doc<A> {
     /// The document as HTML, as a text in `alloc`: all of it where `full`, and else without what brief hides. With
     /// `include_css` the style sheet follows it.
     ///
-    /// Proved: for a well-nested document the HTML is well nested, with the tags of its styles and blocks in their places,
-    /// and a `<br>` where a break was asked for. For each document it has, its tags and newlines taken out, the shown texts
-    /// and nothing else, with `<` and `>` as entities and `# ` at each header.
+    /// For every list of parts the bytes are those of `html_page`, a function of the document by the rules of
+    /// `docs/html.md` (clause `exact`). What stands before the style sheet is, without tags and newlines, the slices that
+    /// the shown texts are cut into, with `<` and `>` as entities, and `# ` at each start of a header (`text`). For a
+    /// well-nested document (`html`) it is well-nested HTML, in which each shown text has the tags of its style and each
+    /// block its own, and `<br>` stands between two inked slices that have a paragraph, a line break or a mark of a header
+    /// between them.
     ///
-    /// An error comes only where a growth was refused, of the text or of the list of open blocks.
+    /// An `AllocError` says that a growth was refused, of the text or of the list of open blocks.
     pub fn render_html<B: Allocator + Copy>(
         &self,
         alloc: B,
@@ -234,6 +238,7 @@ impl<A: Allocator> Doc<A> {
     ) -> Result<String<B>, AllocError>
         ensures html { IfOk result (λ answer. IsWellNested self.now → IsHtmlPageOf self.now full include_css (string_bytes answer)) }
         ensures text { IfOk result (λ answer. IsHtmlTextPageOf self.now full include_css (string_bytes answer)) }
+        ensures exact { IfOk result (λ answer. string_bytes answer ≡ html_page full include_css self.now) }
     {
         let mut page = Page::new(alloc);
         for fragment in fragments_of(self, full) {

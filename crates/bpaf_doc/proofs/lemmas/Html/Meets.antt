@@ -18,7 +18,7 @@ use Rattle.bpaf_doc.proofs.lemmas.Html.Nests.{nests_html, nests_tags}
 shown_nests : (document : List Part) (full : Bool) → IsWellNested document → Nests (shown_fragments full document)
 shown_nests document full nested = subst Nests (walked full document) (walk_nests nested full 0)
 
-shown_lines : (document : List Part) (full : Bool) → list_all fragment_is_line (shown_fragments full document) ≡ true
+pub shown_lines : (document : List Part) (full : Bool) → list_all fragment_is_line (shown_fragments full document) ≡ true
 shown_lines document full = ap (list_all fragment_is_line) (sym (walked full document)) ∙ walk_lines full 0 document
 
 -- without tags and newlines a page is the HTML text, of every document

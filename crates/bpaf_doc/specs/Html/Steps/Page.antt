@@ -1,13 +1,11 @@
--- An HTML page as the code writes it: one fragment after another. `IsHtmlOf` says what is meant; that these pages meet it is proved (proofs/lemmas/Html/Meets),
--- so this need not be believed.
+-- An HTML page as the code keeps it while it writes one fragment after another. `HtmlPage` says what comes out; that these pages are those is proved
+-- (proofs/HtmlExact), so this need not be believed.
 use Rattle.std.specs.Prelude.{ℕ, Bool, true, false, ◌&&◌, List, [], ◌∷◌, ◌++◌, flat_map, if◌then◌else◌, codes}
-use Rattle.bpaf_doc.specs.declared.buffer.Style.{Style}
-use Rattle.bpaf_doc.specs.declared.buffer.Style.TheVariants as styles
 use Rattle.bpaf_doc.specs.declared.buffer.Block.{Block}
-use Rattle.bpaf_doc.specs.declared.buffer.Block.TheVariants as blocks
-use Rattle.bpaf_doc.specs.Splitter.Chunks.{Chunk, Raw, Paragraph, LineBreak}
-use Rattle.bpaf_doc.specs.Html.Fragments.{Fragment, TextStart, Shown, TextEnd, Hidden, Start, End}
-use Rattle.bpaf_doc.specs.Html.Page.{escaped_character, is_definition_list}
+use Rattle.bpaf_doc.specs.Chunks.{Chunk, Raw, Paragraph, LineBreak}
+use Rattle.bpaf_doc.specs.Fragments.{Fragment, TextStart, Shown, TextEnd, Hidden, Start, End}
+use Rattle.bpaf_doc.specs.Html.{escaped_character, is_definition_list}
+pub use Rattle.bpaf_doc.specs.HtmlPage.{is_empty, is_header, start_tag, end_tag, opening_tags, closing_tags}
 
 -- the bytes so far, whether they are none or end in a break, whether the innermost open block is a definition list, and the same of the blocks around it
 pub record Written : Type 0 where
@@ -19,10 +17,6 @@ pub record Written : Type 0 where
 abbrev pub blank_page : Written
 blank_page = record { bytes = []; fresh = true; in_list = false; outer = [] }
 
-abbrev pub is_empty : List ℕ → Bool
-is_empty [] = true
-is_empty (b ∷ bs) = false
-
 -- tags, or a text as it stands
 abbrev pub with_text : Written → List ℕ → Written
 with_text p text = record p { bytes = p.bytes ++ text; fresh = p.fresh && is_empty text }
@@ -33,50 +27,9 @@ with_break p = record p { bytes = p.bytes ++ codes "<br>\n"; fresh = true }
 abbrev pub with_words : Written → List ℕ → Written
 with_words p text = record p { bytes = p.bytes ++ flat_map escaped_character text; fresh = p.fresh && is_empty text }
 
-abbrev pub is_header : Block → Bool
-is_header blocks.Header = true
-is_header _ = false
-
 -- a break before a mark of a header, unless there is one
 abbrev pub with_heading : Written → Block → Written
 with_heading p b = if is_header b then (if p.fresh then p else with_break p) else p
-
-abbrev pub start_tag : Block → Bool → List ℕ
-start_tag blocks.Header in_list = codes "# "
-start_tag blocks.Section2 in_list = codes "<div>\n"
-start_tag blocks.Section3 in_list = codes "<div style='padding-left: 0.5em'>"
-start_tag blocks.Section4 in_list = codes "<div style='padding-left: 0.5em'>"
-start_tag blocks.ItemTerm in_list = codes "<dt>"
-start_tag blocks.ItemBody true = codes "<dd>"
-start_tag blocks.ItemBody false = codes "<li>"
-start_tag blocks.DefinitionList in_list = codes "<dl>"
-start_tag blocks.Block in_list = codes "<p>"
-start_tag _ in_list = []
-
-abbrev pub end_tag : Block → Bool → List ℕ
-end_tag blocks.Section2 in_list = codes "</div>"
-end_tag blocks.Section3 in_list = codes "</div>"
-end_tag blocks.Section4 in_list = codes "</div>"
-end_tag blocks.ItemTerm in_list = codes "</dt>\n"
-end_tag blocks.ItemBody true = codes "</dd>\n"
-end_tag blocks.ItemBody false = codes "</li>\n"
-end_tag blocks.DefinitionList in_list = codes "</dl>\n"
-end_tag blocks.Block in_list = codes "</p>"
-end_tag _ in_list = []
-
-abbrev pub opening_tags : Style → List ℕ
-opening_tags styles.Text = []
-opening_tags styles.Emphasis = codes "<b>"
-opening_tags styles.Literal = codes "<tt><b>"
-opening_tags styles.Metavar = codes "<tt><i>"
-opening_tags styles.Invalid = codes "<b>"
-
-abbrev pub closing_tags : Style → List ℕ
-closing_tags styles.Text = []
-closing_tags styles.Emphasis = codes "</b>"
-closing_tags styles.Literal = codes "</b></tt>"
-closing_tags styles.Metavar = codes "</i></tt>"
-closing_tags styles.Invalid = codes "</b>"
 
 -- a block is opened or closed
 abbrev pub opened : Written → Block → Written

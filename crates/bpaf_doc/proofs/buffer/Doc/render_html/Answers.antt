@@ -1,18 +1,20 @@
--- The page after all fragments meets the promises, and the style sheet follows it.
-use Rattle.std.proofs.Common.{◌≡◌, ◌++◌, sym, ◌∙◌, ap}
-use Rattle.bpaf_doc.specs.Html.Fragments.{shown_fragments}
-use Rattle.bpaf_doc.specs.Html.Steps.Page.{blank_page, page_after_all}
-use Rattle.bpaf_doc.proofs.lemmas.Html.Meets.{page_meets, page_text}
+-- The page after all fragments, with the style sheet behind it, is the page as a function of the document, and so it has the laws.
+use Rattle.std.proofs.Common.{◌≡◌, [], ◌++◌, sym, ◌∙◌, ap, subst}
+use Rattle.bpaf_doc.specs.Fragments.{shown_fragments}
+use Rattle.bpaf_doc.specs.Html.{IsHtmlPageOf, IsHtmlTextPageOf}
+use Rattle.bpaf_doc.specs.HtmlPage.{html_after}
+use Rattle.bpaf_doc.specs.HtmlSteps.{page_after_all}
+use Rattle.bpaf_doc.proofs.HtmlExact.{page_exact, page_laws, page_words}
 use Rattle.bpaf_doc.proofs.buffer.Doc.render_html.Goals as goal
 
+pub returns-clause-exact : goal.returns-clause-exact
+returns-clause-exact g c =
+    let whole : c.loop-fragment.page.bytes ≡ html_after [] [] (shown_fragments c.args.full c.args.self.now)
+    = ap (λ fs. (page_after_all c.loop-fragment.page fs).bytes) (sym c.in-None.ensures.steps.0) ∙ ap (λ p. p.bytes) c.loop-fragment.invariant ∙ page_exact c.args.self.now c.args.full in
+    c.in_ok-push_str.ensures.bytes ∙ ap (λ x. x ++ c.when.result.now) (c.into_text-text.ensures ∙ whole) ∙ ap (λ x. html_after [] [] (shown_fragments c.args.full c.args.self.now) ++ x) c.when.ensures
+
 pub returns-clause-html : goal.returns-clause-html
-returns-clause-html g c =
-    let whole : c.loop-fragment.page.bytes ≡ (page_after_all blank_page (shown_fragments c.args.full c.args.self.now)).bytes
-    = ap (λ fs. (page_after_all c.loop-fragment.page fs).bytes) (sym c.in-None.ensures.steps.0) ∙ ap (λ p. p.bytes) c.loop-fragment.invariant in
-    λ nested. (c.loop-fragment.page.bytes, page_meets c.args.self.now c.args.full c.loop-fragment.page.bytes nested whole, c.in_ok-push_str.ensures.bytes ∙ ap (λ x. x ++ c.when.result.now) c.into_text-text.ensures ∙ ap (λ x. c.loop-fragment.page.bytes ++ x) c.when.ensures)
+returns-clause-html g c = λ nested. subst (λ answer. IsHtmlPageOf c.args.self.now c.args.full c.args.include_css answer) (sym (returns-clause-exact g c)) (page_laws c.args.self.now c.args.full c.args.include_css nested)
 
 pub returns-clause-text : goal.returns-clause-text
-returns-clause-text g c =
-    let whole : c.loop-fragment.page.bytes ≡ (page_after_all blank_page (shown_fragments c.args.full c.args.self.now)).bytes
-    = ap (λ fs. (page_after_all c.loop-fragment.page fs).bytes) (sym c.in-None.ensures.steps.0) ∙ ap (λ p. p.bytes) c.loop-fragment.invariant in
-    (c.loop-fragment.page.bytes, page_text c.args.self.now c.args.full c.loop-fragment.page.bytes whole, c.in_ok-push_str.ensures.bytes ∙ ap (λ x. x ++ c.when.result.now) c.into_text-text.ensures ∙ ap (λ x. c.loop-fragment.page.bytes ++ x) c.when.ensures)
+returns-clause-text g c = subst (λ answer. IsHtmlTextPageOf c.args.self.now c.args.full c.args.include_css answer) (sym (returns-clause-exact g c)) (page_words c.args.self.now c.args.full c.args.include_css)

@@ -1,0 +1,121 @@
+-- An HTML page as one function of the document. It goes by the rules of docs/html.md: what each fragment writes, by the text and the fragments that
+-- stand before it. `render_html` answers just this text. The laws of `Html` are theorems on it (proofs/HtmlExact, proofs/HtmlMeets).
+use Rattle.std.specs.Prelude.{ℕ, zero, suc, Bool, true, false, ◌||◌, List, [], ◌∷◌, ◌++◌, Option, Some, None, reverse, flat_map, if◌then◌else◌, codes, nat_eq}
+use Rattle.std.specs.List.{ends_with}
+use Rattle.bpaf_doc.specs.declared.buffer.Style.{Style}
+use Rattle.bpaf_doc.specs.declared.buffer.Style.TheVariants as styles
+use Rattle.bpaf_doc.specs.declared.buffer.Block.{Block}
+use Rattle.bpaf_doc.specs.declared.buffer.Block.TheVariants as blocks
+use Rattle.bpaf_doc.specs.Parts.{Part}
+use Rattle.bpaf_doc.specs.Chunks.{Chunk, Raw, Paragraph, LineBreak}
+use Rattle.bpaf_doc.specs.Fragments.{Fragment, TextStart, Shown, TextEnd, Hidden, Start, End, shown_fragments}
+use Rattle.bpaf_doc.specs.Html.{escaped_character, is_definition_list, style_sheet}
+
+-- ---- styles
+
+-- before the chunks of a text of this style
+abbrev pub opening_tags : Style → List ℕ
+opening_tags styles.Text = []
+opening_tags styles.Emphasis = codes "<b>"
+opening_tags styles.Literal = codes "<tt><b>"
+opening_tags styles.Metavar = codes "<tt><i>"
+opening_tags styles.Invalid = codes "<b>"
+
+-- and after them
+abbrev pub closing_tags : Style → List ℕ
+closing_tags styles.Text = []
+closing_tags styles.Emphasis = codes "</b>"
+closing_tags styles.Literal = codes "</b></tt>"
+closing_tags styles.Metavar = codes "</i></tt>"
+closing_tags styles.Invalid = codes "</b>"
+
+-- ---- blocks
+
+-- at the start of a block, which stands directly in a definition list or not
+abbrev pub start_tag : Block → Bool → List ℕ
+start_tag blocks.Header _ = codes "# "
+start_tag blocks.Section2 _ = codes "<div>\n"
+start_tag blocks.Section3 _ = codes "<div style='padding-left: 0.5em'>"
+start_tag blocks.Section4 _ = codes "<div style='padding-left: 0.5em'>"
+start_tag blocks.ItemTerm _ = codes "<dt>"
+start_tag blocks.ItemBody true = codes "<dd>"
+start_tag blocks.ItemBody false = codes "<li>"
+start_tag blocks.DefinitionList _ = codes "<dl>"
+start_tag blocks.Block _ = codes "<p>"
+start_tag _ _ = []
+
+-- at its end
+abbrev pub end_tag : Block → Bool → List ℕ
+end_tag blocks.Section2 _ = codes "</div>"
+end_tag blocks.Section3 _ = codes "</div>"
+end_tag blocks.Section4 _ = codes "</div>"
+end_tag blocks.ItemTerm _ = codes "</dt>\n"
+end_tag blocks.ItemBody true = codes "</dd>\n"
+end_tag blocks.ItemBody false = codes "</li>\n"
+end_tag blocks.DefinitionList _ = codes "</dl>\n"
+end_tag blocks.Block _ = codes "</p>"
+end_tag _ _ = []
+
+-- The block of the last start that is left, of fragments that are given from the last to the first. Each end takes off the last start that is left, of whatever block,
+-- and nothing where none is. The number is that of the ends behind these fragments that have still to take off a start.
+abbrev pub open_block : List Fragment → ℕ → Option Block
+open_block [] ends = None
+open_block (Start b ∷ earlier) zero = Some b
+open_block (Start b ∷ earlier) (suc ends) = open_block earlier ends
+open_block (End b ∷ earlier) ends = open_block earlier (suc ends)
+open_block (_ ∷ earlier) ends = open_block earlier ends
+
+abbrev pub is_open_list : Option Block → Bool
+is_open_list (Some b) = is_definition_list b
+is_open_list None = false
+
+-- what follows these fragments stands directly in a definition list
+abbrev pub is_directly_in_list : List Fragment → Bool
+is_directly_in_list before = is_open_list (open_block (reverse before) 0)
+
+-- ---- breaks
+
+abbrev pub break_text : List ℕ
+break_text = codes "<br>\n"
+
+abbrev pub is_empty : List ℕ → Bool
+is_empty [] = true
+is_empty (b ∷ bs) = false
+
+-- nothing was written yet, or the text ends in a break
+abbrev pub is_at_break : List ℕ → Bool
+is_at_break text = is_empty text || ends_with nat_eq text break_text
+
+abbrev pub is_header : Block → Bool
+is_header blocks.Header = true
+is_header _ = false
+
+-- a break before a mark of a header, unless the text before is at one
+abbrev pub header_break : List ℕ → Block → List ℕ
+header_break text b = if is_header b then (if is_at_break text then [] else break_text) else []
+
+-- ---- the page
+
+-- what a chunk of a shown text writes
+abbrev pub chunk_html : Chunk → List ℕ
+chunk_html (Raw bytes weight) = flat_map escaped_character bytes
+chunk_html Paragraph = break_text
+chunk_html LineBreak = break_text
+
+-- What a fragment writes, by the text and the fragments before it. An end takes off a start before its own tag is chosen.
+abbrev pub fragment_html : List ℕ → List Fragment → Fragment → List ℕ
+fragment_html text before (TextStart style) = opening_tags style
+fragment_html text before (Shown style chunk) = chunk_html chunk
+fragment_html text before (TextEnd style) = closing_tags style
+fragment_html text before Hidden = []
+fragment_html text before (Start b) = header_break text b ++ start_tag b (is_directly_in_list before)
+fragment_html text before (End b) = header_break text b ++ end_tag b (is_directly_in_list (before ++ End b ∷ []))
+
+-- the text with what these fragments write behind it, one after another
+abbrev pub html_after : List ℕ → List Fragment → List Fragment → List ℕ
+html_after text before [] = text
+html_after text before (f ∷ after) = html_after (text ++ fragment_html text before f) (before ++ f ∷ []) after
+
+-- the page of a document, in full or in brief, with the style sheet behind it or without
+abbrev pub html_page : Bool → Bool → List Part → List ℕ
+html_page full include_css document = html_after [] [] (shown_fragments full document) ++ (if include_css then style_sheet else [])
