@@ -1,9 +1,10 @@
 //! Markdown: a text that grows by one fragment after another.
 ghost use Rattle.std.specs.Prelude.{◌≡◌, ◌++◌, if◌then◌else◌, OnOk, IfOk, string_bytes};
-ghost use Rattle.bpaf_doc.specs.Splitter.View.{chunk_of};
-ghost use Rattle.bpaf_doc.specs.Markdown.Page.{IsMarkdownOf};
-ghost use Rattle.bpaf_doc.specs.Html.Steps.View.{fragment_of};
-ghost use Rattle.bpaf_doc.specs.Markdown.Steps.Page.{blank_text, put, with_new_line, with_blank_line, with_item, opening_marks, closing_marks, with_line, open_code, close_code, with_words, with_raw, with_chunk, text_ended, header_started, body_started, started, ended, is_term_end, marked_after};
+ghost use Rattle.bpaf_doc.specs.ChunkView.{chunk_of};
+ghost use Rattle.bpaf_doc.specs.Markdown.{IsMarkdownOf};
+ghost use Rattle.bpaf_doc.specs.MarkdownPage.{markdown_page};
+ghost use Rattle.bpaf_doc.specs.HtmlView.{fragment_of};
+ghost use Rattle.bpaf_doc.specs.MarkdownSteps.{blank_text, put, with_new_line, with_blank_line, with_item, opening_marks, closing_marks, with_line, open_code, close_code, with_words, with_raw, with_chunk, text_ended, header_started, body_started, started, ended, is_term_end, marked_after};
 
 use super::fragments::{Fragment, fragments_of};
 use super::{Language, Styles, push_spelled, when};
@@ -32,7 +33,7 @@ struct Markdown<B: Allocator> {
 
 impl<B: Allocator> Model for Markdown<B> {
     ghost use Rattle.std.specs.Prelude.{string_bytes};
-    ghost use Rattle.bpaf_doc.specs.Markdown.Steps.Page.{Marked};
+    ghost use Rattle.bpaf_doc.specs.MarkdownSteps.{Marked};
 
     ghost Value = { Marked };
 
@@ -280,16 +281,20 @@ impl<B: Allocator> Markdown<B> {
 impl<A: Allocator> Doc<A> {
     /// The document as markdown, as a text in `alloc`: all of it where `full`, and else without what brief hides.
     ///
-    /// Proved, for each document, well nested or not: the texts stand in it in order, each between the marks of its style, with
-    /// the marks of headings and lists, code in fences and on lines of its own, and newlines where breaks were asked for.
+    /// For every list of parts the bytes are those of `markdown_page`, a function of the document by the rules of
+    /// `docs/html.md` (clause `exact`). In them (`laws`) the slices that the shown texts are cut into stand in order, round
+    /// those of each text the marks of its style, and among them the marks of headings and lists; code lines stand inside
+    /// fences, each on a line of its own; and between two slices stand two newlines where they have a paragraph between
+    /// them, and a newline where they have a line break.
     ///
-    /// An error comes only where a growth was refused.
+    /// An `AllocError` says that a growth was refused.
     pub fn render_markdown<B: Allocator>(
         &self,
         alloc: B,
         full: bool,
     ) -> Result<String<B>, AllocError>
-        ensures { IfOk result (λ answer. IsMarkdownOf self.now full (string_bytes answer)) }
+        ensures laws { IfOk result (λ answer. IsMarkdownOf self.now full (string_bytes answer)) }
+        ensures exact { IfOk result (λ answer. string_bytes answer ≡ markdown_page full self.now) }
     {
         // The marks can be counted: there are at most as many as parts.
         let _count = self.len();

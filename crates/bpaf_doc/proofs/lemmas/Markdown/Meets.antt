@@ -62,13 +62,13 @@ mono_starts = (λ style. refl, λ style chunk. refl, λ style. refl, refl)
 mono_ends : Counts is_mono_end
 mono_ends = (λ style. refl, λ style chunk. refl, λ style. refl, refl)
 
-room_for : (document : List Part) (full : Bool) → length document < 2 ^ 64 → Room [] (shown_fragments full document)
+pub room_for : (document : List Part) (full : Bool) → length document < 2 ^ 64 → Room [] (shown_fragments full document)
 room_for document full few =
     subst (λ fs. Room [] fs) (walked full document)
     (omega (arith, few, walk_count is_mono_start mono_starts full 0 document), omega (arith, few, walk_count is_mono_end mono_ends full 0 document))
 
 -- nothing came before
-at_start : Agrees [] (flags blank_text)
+pub at_start : Agrees [] (flags blank_text)
 at_start = record { headed = refl; in_list = refl; item = none refl refl refl; starts = refl; ends = refl }
 
 -- ---- the text

@@ -47,7 +47,7 @@ pub data Item : List Fragment → Bool → Bool → Type 0 where
   waiting : {before : List Fragment} {pending empty : Bool} → list_any is_item_start before ≡ true → after_last is_item_start before ≡ [] → pending ≡ true → Item before pending empty
   past : {before : List Fragment} {pending empty : Bool} (g : Fragment) (rest : List Fragment) → list_any is_item_start before ≡ true → after_last is_item_start before ≡ g ∷ rest → pending ≡ false → empty ≡ is_term_end g → Item before pending empty
 
-begins_is : (g : Fragment) (rest : List Fragment) → begins_with_term_end (g ∷ rest) ≡ is_term_end g
+pub begins_is : (g : Fragment) (rest : List Fragment) → begins_with_term_end (g ∷ rest) ≡ is_term_end g
 begins_is (End blocks.ItemTerm) rest = refl
 begins_is (End _) rest = refl
 begins_is (TextStart style) rest = refl
@@ -56,7 +56,7 @@ begins_is (TextEnd style) rest = refl
 begins_is Hidden rest = refl
 begins_is (Start b) rest = refl
 
-after_empty_is : {before : List Fragment} {pending empty : Bool} → Item before pending empty → is_after_empty_item before ≡ (if pending then false else empty)
+pub after_empty_is : {before : List Fragment} {pending empty : Bool} → Item before pending empty → is_after_empty_item before ≡ (if pending then false else empty)
 after_empty_is {before} {pending} {empty} (none any p e) =
     ap (λ b. b && begins_with_term_end (after_last is_item_start before)) any ∙ sym (ap (λ b. if b then false else empty) p ∙ e)
 after_empty_is {before} {pending} {empty} (waiting any last p) =

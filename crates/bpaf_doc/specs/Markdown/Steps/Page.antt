@@ -1,15 +1,13 @@
--- A markdown text as the code writes it: one fragment after another. `IsMarkdownOf` says what is meant; that these texts meet it is proved
--- (proofs/lemmas/Markdown/Meets), so this need not be believed.
-use Rattle.std.specs.Prelude.{ℕ, ◌+◌, ◌-◌, ◌^◌, ◌==◌, Bool, true, false, ◌||◌, List, [], ◌∷◌, ◌++◌, flat_map, if◌then◌else◌, codes, nat_eq, nat_lt, min}
-use Rattle.std.specs.List.{ends_with}
+-- A markdown text as the code keeps it while it writes one fragment after another. `MarkdownPage` says what comes out; that these texts are those is proved
+-- (proofs/MarkdownExact), so this need not be believed.
+use Rattle.std.specs.Prelude.{ℕ, ◌+◌, ◌-◌, ◌^◌, ◌==◌, Bool, true, false, List, [], ◌∷◌, ◌++◌, flat_map, if◌then◌else◌, codes, nat_lt, min}
 use Rattle.bpaf_doc.specs.declared.buffer.Style.{Style}
-use Rattle.bpaf_doc.specs.declared.buffer.Style.TheVariants as styles
 use Rattle.bpaf_doc.specs.declared.buffer.Block.{Block}
 use Rattle.bpaf_doc.specs.declared.buffer.Block.TheVariants as blocks
-use Rattle.bpaf_doc.specs.Splitter.Chunks.{Chunk, Raw, Paragraph, LineBreak, code_weight, fence_weight}
-use Rattle.bpaf_doc.specs.Html.Fragments.{Fragment, TextStart, Shown, TextEnd, Hidden, Start, End}
-use Rattle.bpaf_doc.specs.Markdown.Page.{escaped_character}
-use Rattle.bpaf_doc.specs.Html.Steps.Page.{is_empty}
+use Rattle.bpaf_doc.specs.Chunks.{Chunk, Raw, Paragraph, LineBreak, code_weight, fence_weight}
+use Rattle.bpaf_doc.specs.Fragments.{Fragment, TextStart, Shown, TextEnd, Hidden, Start, End}
+use Rattle.bpaf_doc.specs.Markdown.{escaped_character}
+pub use Rattle.bpaf_doc.specs.MarkdownPage.{starts_line, starts_paragraph, opening_marks, closing_marks}
 
 -- The bytes so far; whether a heading was written; whether the last mark of a definition list was a start; whether an item's dash waits for the
 -- next fragment, and whether the last item was empty; the Mono starts and ends so far; whether a code block is open.
@@ -29,13 +27,6 @@ blank_text = record { bytes = []; headed = false; in_list = false; pending = fal
 abbrev pub put : Marked → List ℕ → Marked
 put p text = record p { bytes = p.bytes ++ text }
 
--- nothing, or a newline at the end
-abbrev pub starts_line : List ℕ → Bool
-starts_line bytes = is_empty bytes || ends_with nat_eq bytes (codes "\n")
-
-abbrev pub starts_paragraph : List ℕ → Bool
-starts_paragraph bytes = is_empty bytes || ends_with nat_eq bytes (codes "\n\n")
-
 abbrev pub with_new_line : Marked → Marked
 with_new_line p = if starts_line p.bytes then p else put p (codes "\n")
 
@@ -45,20 +36,6 @@ with_blank_line p = if starts_paragraph p.bytes then p else put p (codes "\n\n")
 -- the dash of an item that waits for it, or blanks where its term is empty
 abbrev pub with_item : Marked → Bool → Marked
 with_item p empty = if p.pending then record p { bytes = p.bytes ++ (if empty then codes "  " else codes "- "); pending = false; empty_item = empty } else p
-
-abbrev pub opening_marks : Style → List ℕ
-opening_marks styles.Text = []
-opening_marks styles.Emphasis = codes "**"
-opening_marks styles.Literal = codes "**`"
-opening_marks styles.Metavar = codes "_`"
-opening_marks styles.Invalid = codes "**"
-
-abbrev pub closing_marks : Style → List ℕ
-closing_marks styles.Text = []
-closing_marks styles.Emphasis = codes "**"
-closing_marks styles.Literal = codes "`**"
-closing_marks styles.Metavar = codes "`_"
-closing_marks styles.Invalid = codes "**"
 
 abbrev pub with_line : Marked → List ℕ → Marked
 with_line p text = put (put (put p (codes "  ")) text) (codes "\n")

@@ -14,7 +14,7 @@ pub returns-in-Html : goal.returns-in-Html
 returns-in-Html g c = rw c.in-Html.is (html_of_text string_bytes c.render_html.result c.args.text.now (rw c.in_ok-document.ensures at c.render_html.ensures.html))
 
 pub returns-in-Markdown : goal.returns-in-Markdown
-returns-in-Markdown g c = rw c.in-Markdown.is (rw c.in_ok-document.ensures at c.render_markdown.ensures)
+returns-in-Markdown g c = rw c.in-Markdown.is (rw c.in_ok-document.ensures at c.render_markdown.ensures.laws)
 
 pub returns : goal.returns
 returns g c =

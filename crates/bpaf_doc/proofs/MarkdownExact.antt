@@ -1,0 +1,226 @@
+-- The text that the code writes, one fragment after another, is the text as a function of the document, and this meets the laws.
+use Rattle.std.proofs.Common.{◌≡◌, ℕ, ◌^◌, ◌<◌, Bool, true, false, cond, List, [], ◌∷◌, ◌++◌, length, refl, sym, ap, ◌∙◌, append_assoc, append-nil, nat_lt}
+use Rattle.std.specs.Prelude.{not, ◌&&◌, ◌||◌, ◌==◌, filter, reverse, flat_map, if◌then◌else◌, codes}
+use Rattle.std.specs.List.{list_any}
+use Rattle.std.proofs.lemmas.List.{reverse-append}
+use Rattle.std.proofs.lemmas.Bool.{eqb-true, eqb-false}
+use Rattle.bpaf_doc.specs.declared.buffer.Style.{Style}
+use Rattle.bpaf_doc.specs.declared.buffer.Block.TheVariants as blocks
+use Rattle.bpaf_doc.specs.Parts.{Part}
+use Rattle.bpaf_doc.specs.Chunks.{Raw, Paragraph, LineBreak, code_weight, fence_weight}
+use Rattle.bpaf_doc.specs.Fragments.{Fragment, TextStart, Shown, TextEnd, Hidden, Start, End, shown_fragments}
+use Rattle.bpaf_doc.specs.Markdown.{IsMarkdownOf, escaped_character, is_header_start, is_in_list, is_in_mono, is_item_start, is_after_empty_item}
+use Rattle.bpaf_doc.specs.MarkdownPage.{starts_line, starts_paragraph, new_line, blank_line, indented_line, decides_code, begins_with_code_line, is_in_code, opening_fence, closing_fence, last_fence, words_markdown, raw_markdown, item_mark, body_mark, closing_marks, fragment_markdown, markdown_after, markdown_page}
+use Rattle.bpaf_doc.specs.MarkdownSteps.{Marked, blank_text, put, with_new_line, with_blank_line, with_item, with_line, open_code, close_code, with_words, with_raw, own_after, is_term_end, marked_after, marked_after_all}
+use Rattle.bpaf_doc.proofs.MarkdownCut.{flags, item-flags, step-flags, code_next, item-code, step-code}
+use Rattle.bpaf_doc.proofs.MarkdownMind.{Agrees, Room, begins_is, after_empty_is, agrees_after, rooms_next, same_mono}
+use Rattle.bpaf_doc.proofs.MarkdownMeets.{room_for, at_start, markdown_meets}
+
+-- ---- whether a code block is open
+
+not_both : (weight : ℕ) → (weight == code_weight) ≡ true → (weight == fence_weight) ≡ true → ⊥
+not_both weight code fence = eqb-false code_weight fence_weight refl (sym (eqb-true weight code_weight code) ∙ eqb-true weight fence_weight fence)
+
+-- what the two weights decide
+abbrev decided : Fragment → List Fragment → (code fence : Bool) → Bool
+decided f back code fence = begins_with_code_line (cond (code || ((not code && not fence) || false)) (f ∷ filter decides_code back) (filter decides_code back))
+
+abbrev next : Bool → (code fence : Bool) → Bool
+next in_code code fence = if fence then in_code else (if code then true else false)
+
+raw_decides : (style : Style) (bytes : List ℕ) (weight : ℕ) (back : List Fragment) → begins_with_code_line (filter decides_code (Shown style (Raw bytes weight) ∷ back)) ≡ code_next (begins_with_code_line (filter decides_code back)) (Shown style (Raw bytes weight))
+raw_decides style bytes weight back = by (weight == code_weight) (weight == fence_weight) refl refl
+  where
+    by : (code fence : Bool) → (weight == code_weight) ≡ code → (weight == fence_weight) ≡ fence
+        → begins_with_code_line (filter decides_code (Shown style (Raw bytes weight) ∷ back)) ≡ code_next (begins_with_code_line (filter decides_code back)) (Shown style (Raw bytes weight))
+    by true true c f = absurd (not_both weight c f)
+    by true false c f =
+        ap (λ x. decided (Shown style (Raw bytes weight)) back x (weight == fence_weight)) c ∙ c
+        ∙ sym (ap (λ x. next (begins_with_code_line (filter decides_code back)) (weight == code_weight) x) f ∙ ap (λ x. next (begins_with_code_line (filter decides_code back)) x false) c)
+    by false true c f =
+        ap (λ x. decided (Shown style (Raw bytes weight)) back x (weight == fence_weight)) c ∙ ap (λ x. decided (Shown style (Raw bytes weight)) back false x) f
+        ∙ sym (ap (λ x. next (begins_with_code_line (filter decides_code back)) (weight == code_weight) x) f)
+    by false false c f =
+        ap (λ x. decided (Shown style (Raw bytes weight)) back x (weight == fence_weight)) c ∙ ap (λ x. decided (Shown style (Raw bytes weight)) back false x) f ∙ c
+        ∙ sym (ap (λ x. next (begins_with_code_line (filter decides_code back)) (weight == code_weight) x) f ∙ ap (λ x. next (begins_with_code_line (filter decides_code back)) x false) c)
+
+code_decides : (f : Fragment) (back : List Fragment) → begins_with_code_line (filter decides_code (f ∷ back)) ≡ code_next (begins_with_code_line (filter decides_code back)) f
+code_decides (TextStart style) back = refl
+code_decides (Shown style (Raw bytes weight)) back = raw_decides style bytes weight back
+code_decides (Shown style Paragraph) back = refl
+code_decides (Shown style LineBreak) back = refl
+code_decides (TextEnd style) back = refl
+code_decides Hidden back = refl
+code_decides (Start b) back = refl
+code_decides (End b) back = refl
+
+code_push : (before : List Fragment) (f : Fragment) → is_in_code (before ++ f ∷ []) ≡ code_next (is_in_code before) f
+code_push before f = ap (λ fs. begins_with_code_line (filter decides_code fs)) (reverse-append before (f ∷ [])) ∙ code_decides f (reverse before)
+
+-- ---- what is kept in mind is what looking back says
+
+record Looks (before : List Fragment) (p : Marked) : Type 0 where
+  headed : p.headed ≡ list_any is_header_start before
+  in_list : p.in_list ≡ is_in_list before
+  mono : nat_lt p.ends p.starts ≡ is_in_mono before
+  code : p.in_code ≡ is_in_code before
+
+looks : (before : List Fragment) (p : Marked) (f : Fragment) → Agrees before (flags p) → p.in_code ≡ is_in_code before → Looks before (with_item p (is_term_end f))
+looks before p f h code = record {
+  headed = ap (λ s. s.headed) (item-flags p (is_term_end f)) ∙ sym h.headed;
+  in_list = ap (λ s. s.in_list) (item-flags p (is_term_end f)) ∙ sym h.in_list;
+  mono = ap (λ s. nat_lt s.ends s.starts) (item-flags p (is_term_end f)) ∙ sym (same_mono before p h);
+  code = item-code p (is_term_end f) ∙ code;
+}
+
+-- at the start of a body
+empty_looks : (before : List Fragment) (p : Marked) → Agrees before (flags p) → (with_item p false).empty_item ≡ is_after_empty_item before
+empty_looks before p h = ap (λ s. s.empty_item) (item-flags p false) ∙ sym (after_empty_is h.item)
+
+-- ---- the bytes of a step
+
+line_put : (bytes line : List ℕ) → ((bytes ++ codes "  ") ++ line) ++ codes "\n" ≡ bytes ++ indented_line line
+line_put bytes line = append_assoc (bytes ++ codes "  ") line (codes "\n") ∙ append_assoc bytes (codes "  ") (line ++ codes "\n")
+
+new_line_put : (p : Marked) → (with_new_line p).bytes ≡ p.bytes ++ new_line p.bytes
+new_line_put p = elim (starts_line p.bytes) as (λ b. (if b then p else put p (codes "\n")).bytes ≡ p.bytes ++ (if b then [] else codes "\n")) [ true ↦ sym (append-nil p.bytes) | false ↦ refl ]
+
+blank_line_put : (p : Marked) → (with_blank_line p).bytes ≡ p.bytes ++ blank_line p.bytes
+blank_line_put p = elim (starts_paragraph p.bytes) as (λ b. (if b then p else put p (codes "\n\n")).bytes ≡ p.bytes ++ (if b then [] else codes "\n\n")) [ true ↦ sym (append-nil p.bytes) | false ↦ refl ]
+
+open_put : (before : List Fragment) (p : Marked) → p.in_code ≡ is_in_code before → (open_code p).bytes ≡ p.bytes ++ opening_fence before
+open_put before p code =
+    (elim (p.in_code) as (λ b. (if b then p else record p { bytes = p.bytes ++ codes "\n\n  ```text\n"; in_code = true }).bytes ≡ p.bytes ++ (if b then [] else codes "\n\n  ```text\n")) [ true ↦ sym (append-nil p.bytes) | false ↦ refl ])
+    ∙ ap (λ b. p.bytes ++ (if b then [] else codes "\n\n  ```text\n")) code
+
+close_put : (before : List Fragment) (p : Marked) (fence : List ℕ) → p.in_code ≡ is_in_code before → (close_code p fence).bytes ≡ p.bytes ++ (if is_in_code before then fence else [])
+close_put before p fence code =
+    (elim (p.in_code) as (λ b. (if b then record p { bytes = p.bytes ++ fence; in_code = false } else p).bytes ≡ p.bytes ++ (if b then fence else [])) [ true ↦ refl | false ↦ sym (append-nil p.bytes) ])
+    ∙ ap (λ b. p.bytes ++ (if b then fence else [])) code
+
+-- first one text, and then another
+both : (bytes first second : List ℕ) (after : List ℕ) → after ≡ bytes ++ first → after ++ second ≡ bytes ++ (first ++ second)
+both bytes first second after e = ap (λ x. x ++ second) e ∙ append_assoc bytes first second
+
+raw_put : (before : List Fragment) (p : Marked) (bytes : List ℕ) (weight : ℕ) → Looks before p → (with_raw p bytes weight).bytes ≡ p.bytes ++ raw_markdown p.bytes before bytes weight
+raw_put before p bytes weight h =
+    elim (weight == fence_weight) as (λ t. (if t then with_line (with_new_line p) bytes else (if weight == code_weight then with_line (open_code p) bytes else with_words p bytes)).bytes
+    ≡ p.bytes ++ (if t then new_line p.bytes ++ indented_line bytes else (if weight == code_weight then opening_fence before ++ indented_line bytes else (closing_fence before ++ words_markdown before bytes)))) [
+      | true ↦ line_put (with_new_line p).bytes bytes ∙ both p.bytes (new_line p.bytes) (indented_line bytes) (with_new_line p).bytes (new_line_put p)
+      | false ↦ elim (weight == code_weight) as (λ t. (if t then with_line (open_code p) bytes else with_words p bytes).bytes
+          ≡ p.bytes ++ (if t then opening_fence before ++ indented_line bytes else (closing_fence before ++ words_markdown before bytes))) [
+            | true ↦ line_put (open_code p).bytes bytes ∙ both p.bytes (opening_fence before) (indented_line bytes) (open_code p).bytes (open_put before p h.code)
+            | false ↦ ap (λ b. (close_code p (codes "\n  ```\n")).bytes ++ (if b then flat_map escaped_character bytes else bytes)) h.mono
+                ∙ both p.bytes (closing_fence before) (words_markdown before bytes) (close_code p (codes "\n  ```\n")).bytes (close_put before p (codes "\n  ```\n") h.code)
+          ]
+    ]
+
+body_put : (before : List Fragment) (p : Marked) → Looks before p → p.empty_item ≡ is_after_empty_item before → (own_after p (Start blocks.ItemBody)).bytes ≡ p.bytes ++ (body_mark before ++ (new_line (p.bytes ++ body_mark before) ++ codes "  "))
+body_put before p h empty =
+    ap (λ x. x ++ codes "  ") (new_line_put marked)
+    ∙ ap (λ x. (x ++ new_line x) ++ codes "  ") (marks p.in_list ∙ ap (λ b. p.bytes ++ (if b then (if p.empty_item then codes " " else codes " &mdash; ") else [])) h.in_list
+    ∙ ap (λ b. p.bytes ++ (if is_in_list before then (if b then codes " " else codes " &mdash; ") else [])) empty)
+    ∙ append_assoc (p.bytes ++ body_mark before) (new_line (p.bytes ++ body_mark before)) (codes "  ")
+    ∙ append_assoc p.bytes (body_mark before) (new_line (p.bytes ++ body_mark before) ++ codes "  ")
+  where
+    marked : Marked
+    marked = if p.in_list then put p (if p.empty_item then codes " " else codes " &mdash; ") else p
+
+    marks : (in_list : Bool) → (if in_list then put p (if p.empty_item then codes " " else codes " &mdash; ") else p).bytes ≡ p.bytes ++ (if in_list then (if p.empty_item then codes " " else codes " &mdash; ") else [])
+    marks true = refl
+    marks false = sym (append-nil p.bytes)
+
+paragraph_text : (in_list : Bool) → (if in_list then codes "\n\n  " else codes "\n\n") ≡ codes "\n\n" ++ (if in_list then codes "  " else [])
+paragraph_text true = refl
+paragraph_text false = refl
+
+-- a fragment that begins no item
+own_put : (before : List Fragment) (p : Marked) (f : Fragment) (fs : List Fragment) → Looks before p → is_item_start f ≡ false → (is_term_end f ≡ false → p.empty_item ≡ is_after_empty_item before)
+    → (own_after p f).bytes ≡ p.bytes ++ fragment_markdown p.bytes before f fs
+own_put before p (TextStart style) fs h none empty = refl
+own_put before p (Shown style (Raw bytes weight)) fs h none empty = raw_put before p bytes weight h
+own_put before p (Shown style Paragraph) fs h none empty = ap (λ x. p.bytes ++ x) (paragraph_text p.in_list ∙ ap (λ b. codes "\n\n" ++ (if b then codes "  " else [])) h.in_list)
+own_put before p (Shown style LineBreak) fs h none empty = refl
+own_put before p (TextEnd style) fs h none empty = both p.bytes (last_fence before) (closing_marks style) (close_code p (codes "  ```\n")).bytes (close_put before p (codes "  ```\n") h.code)
+own_put before p Hidden fs h none empty = sym (append-nil p.bytes)
+own_put before p (Start blocks.Header) fs h none empty =
+    ap (λ b. (with_blank_line p).bytes ++ (if b then codes "## " else codes "# ")) h.headed
+    ∙ both p.bytes (blank_line p.bytes) (if list_any is_header_start before then codes "## " else codes "# ") (with_blank_line p).bytes (blank_line_put p)
+own_put before p (Start blocks.Section3) fs h none empty = refl
+own_put before p (Start blocks.Section4) fs h none empty = absurd cc
+own_put before p (Start blocks.ItemTerm) fs h none empty = absurd cc
+own_put before p (Start blocks.ItemBody) fs h none empty = body_put before p h (empty refl)
+own_put before p (Start blocks.Block) fs h none empty = refl
+own_put before p (Start _) fs h none empty = sym (append-nil p.bytes)
+own_put before p (End blocks.Header) fs h none empty = refl
+own_put before p (End blocks.Section2) fs h none empty = refl
+own_put before p (End blocks.Section3) fs h none empty = refl
+own_put before p (End blocks.Section4) fs h none empty = refl
+own_put before p (End blocks.ItemBody) fs h none empty = ap (λ b. p.bytes ++ (if b then codes "\n" else [])) h.in_list
+own_put before p (End blocks.DefinitionList) fs h none empty = refl
+own_put before p (End blocks.Block) fs h none empty = refl
+own_put before p (End _) fs h none empty = sym (append-nil p.bytes)
+
+-- ---- the dash that waits for the next fragment
+
+abbrev waiting : Bool → List Fragment → List ℕ
+waiting pending after = if pending then item_mark after else []
+
+item_put : (p : Marked) (f : Fragment) (fs : List Fragment) → (with_item p (is_term_end f)).bytes ≡ p.bytes ++ waiting p.pending (f ∷ fs)
+item_put p f fs =
+    (elim (p.pending) as (λ b. (if b then record p { bytes = p.bytes ++ (if is_term_end f then codes "  " else codes "- "); pending = false; empty_item = is_term_end f } else p).bytes ≡ p.bytes ++ (if b then (if is_term_end f then codes "  " else codes "- ") else [])) [
+      | true ↦ refl
+      | false ↦ sym (append-nil p.bytes)
+    ])
+    ∙ ap (λ e. p.bytes ++ (if p.pending then (if e then codes "  " else codes "- ") else [])) (sym (begins_is f fs))
+
+last_item_put : (p : Marked) → (with_item p false).bytes ≡ p.bytes ++ waiting p.pending []
+last_item_put p = elim (p.pending) as (λ b. (if b then record p { bytes = p.bytes ++ codes "- "; pending = false; empty_item = false } else p).bytes ≡ p.bytes ++ (if b then codes "- " else [])) [
+  | true ↦ refl
+  | false ↦ sym (append-nil p.bytes)
+]
+
+pending_next : (p : Marked) (f : Fragment) → (marked_after p f).pending ≡ (if is_item_start f then true else false)
+pending_next p f = ap (λ s. s.pending) (step-flags p f)
+
+-- an item that begins here
+item_start_put : (q : Marked) (fs : List Fragment) → (with_new_line q).bytes ++ item_mark fs ≡ q.bytes ++ (new_line q.bytes ++ item_mark fs)
+item_start_put q fs = both q.bytes (new_line q.bytes) (item_mark fs) (with_new_line q).bytes (new_line_put q)
+
+step_put : (before : List Fragment) (p : Marked) (f : Fragment) (fs : List Fragment) → Looks before (with_item p (is_term_end f)) → (is_term_end f ≡ false → (with_item p (is_term_end f)).empty_item ≡ is_after_empty_item before)
+    → (marked_after p f).bytes ++ waiting (marked_after p f).pending fs ≡ (with_item p (is_term_end f)).bytes ++ fragment_markdown (with_item p (is_term_end f)).bytes before f fs
+step_put before p f fs h empty = others (is_item_start f) refl
+  where
+    others : (starts : Bool) → is_item_start f ≡ starts → (marked_after p f).bytes ++ waiting (marked_after p f).pending fs ≡ (with_item p (is_term_end f)).bytes ++ fragment_markdown (with_item p (is_term_end f)).bytes before f fs
+    others true e = items f e
+      where
+        items : (f : Fragment) → is_item_start f ≡ true → (marked_after p f).bytes ++ waiting (marked_after p f).pending fs ≡ (with_item p (is_term_end f)).bytes ++ fragment_markdown (with_item p (is_term_end f)).bytes before f fs
+        items (Start blocks.Section4) e = item_start_put (with_item p false) fs
+        items (Start blocks.ItemTerm) e = item_start_put (with_item p false) fs
+        items f e = absurd cc
+    others false e =
+        ap (λ b. (marked_after p f).bytes ++ waiting b fs) (pending_next p f ∙ ap (λ b. if b then true else false) e)
+        ∙ append-nil (marked_after p f).bytes
+        ∙ own_put before (with_item p (is_term_end f)) f fs h e empty
+
+-- ---- the text
+
+texts_same : (before : List Fragment) (p : Marked) (fs : List Fragment) → Agrees before (flags p) → p.in_code ≡ is_in_code before → Room before fs
+    → (with_item (marked_after_all p fs) false).bytes ≡ markdown_after (p.bytes ++ waiting p.pending fs) before fs
+texts_same before p [] h code room = last_item_put p
+texts_same before p (f ∷ fs) h code room =
+    texts_same (before ++ f ∷ []) (marked_after p f) fs (agrees_after before p f fs h room) (step-code p f ∙ ap (λ c. code_next c f) code ∙ sym (code_push before f)) (rooms_next before f fs room)
+    ∙ ap (λ text. markdown_after text (before ++ f ∷ []) fs) (step_put before p f fs (looks before p f h code) (empty f) ∙ ap (λ text. text ++ fragment_markdown text before f fs) (item_put p f fs))
+  where
+    empty : (f : Fragment) → is_term_end f ≡ false → (with_item p (is_term_end f)).empty_item ≡ is_after_empty_item before
+    empty f e = ap (λ b. (with_item p b).empty_item) e ∙ empty_looks before p h
+
+-- the text that the code writes of a document
+pub text_exact : (document : List Part) (full : Bool) → length document < 2 ^ 64 → (with_item (marked_after_all blank_text (shown_fragments full document)) false).bytes ≡ markdown_after [] [] (shown_fragments full document)
+text_exact document full few = texts_same [] blank_text (shown_fragments full document) at_start refl (room_for document full few)
+
+-- ---- its laws
+
+-- the bound is that of a count of the code; each document meets it
+pub text_laws : (document : List Part) (full : Bool) → length document < 2 ^ 64 → IsMarkdownOf document full (markdown_page full document)
+text_laws document full few = markdown_meets document full (markdown_page full document) few (sym (text_exact document full few))

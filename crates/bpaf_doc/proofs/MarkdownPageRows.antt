@@ -1,0 +1,149 @@
+-- Markdown texts of small documents, computed.
+use Rattle.std.proofs.Common.{◌≡◌, ℕ, true, false, List, [], ◌∷◌, ◌++◌, refl}
+use Rattle.std.specs.Prelude.{codes}
+use Rattle.std.specs.Str.{chars}
+use Rattle.unicode_width.specs.Width.{str_width, step, past_emoji}
+use Rattle.bpaf_doc.specs.declared.buffer.Style.TheVariants.{Text, Emphasis, Literal, Metavar, Invalid}
+use Rattle.bpaf_doc.specs.declared.buffer.Block.TheVariants.{Header, Section2, Section3, Section4, ItemTerm, ItemBody, DefinitionList, Block as Plain, Mono, TermRef, InlineBlock, Meta}
+use Rattle.bpaf_doc.specs.declared.buffer.Block.{Block}
+use Rattle.bpaf_doc.specs.Parts.{Part, Text as Words, Start, End}
+use Rattle.bpaf_doc.specs.Chunks.{Raw, code_weight, chunks_of, chunks_in, chunks_within}
+use Rattle.bpaf_doc.specs.Fragments.{TextStart, Shown, TextEnd}
+use Rattle.bpaf_doc.specs.MarkdownPage.{markdown_page, markdown_after}
+
+computed : ℕ
+unfolding chunks_of chunks_in chunks_within chars str_width step past_emoji
+computed = 0
+
+-- a document is shown as a text, in full
+abbrev ShowsFull : List Part → List ℕ → Type 0
+ShowsFull document text = markdown_page true document ≡ text
+
+abbrev ShowsBrief : List Part → List ℕ → Type 0
+ShowsBrief document text = markdown_page false document ≡ text
+
+abbrev block : Block → List Part → List Part
+block b inner = Start b ∷ (inner ++ End b ∷ [])
+
+abbrev a : List Part
+a = Words (codes "a") Text ∷ []
+
+nothing : ShowsFull [] (codes "")
+nothing = refl
+
+abbrev two_paragraphs : List Part
+two_paragraphs = block InlineBlock (Words (codes "a\n\nb") Text ∷ []) ++ Words (codes "c") Text ∷ []
+
+brief : ShowsBrief two_paragraphs (codes "ac")
+unfolding computed
+brief = refl
+
+full : ShowsFull two_paragraphs (codes "a\n\nbc")
+unfolding computed
+full = refl
+
+-- marks of a hidden header are shown
+brief_header : ShowsBrief (Words (codes "a\n\nb") Text ∷ Words (codes "c") Literal ∷ block Header (Words (codes "e") Text ∷ [])) (codes "a\n\n# \n")
+unfolding computed
+brief_header = refl
+
+usage : ShowsFull (Words (codes "Usage: ") Emphasis ∷ Words (codes "my_program") Literal ∷ Words (codes "FILE") Metavar ∷ Words (codes " and ") Text ∷ Words (codes "x") Invalid ∷ [])
+    (codes "**Usage: ****`my_program`**_`FILE`_ and **x**")
+unfolding computed
+usage = refl
+
+title : ShowsFull (block InlineBlock (Words (codes "Title") Emphasis ∷ block Section3 (Words (codes "body") Text ∷ []))) (codes "**Title**### body\n")
+unfolding computed
+title = refl
+
+meta : ShowsFull (block Meta a) (codes "a")
+unfolding computed
+meta = refl
+
+term_ref : ShowsFull (block TermRef a) (codes "a")
+unfolding computed
+term_ref = refl
+
+section2 : ShowsFull (block Section2 a) (codes "a\n")
+unfolding computed
+section2 = refl
+
+section4 : ShowsFull (block Section4 a) (codes "- a\n")
+unfolding computed
+section4 = refl
+
+term : ShowsFull (block ItemTerm a) (codes "- a")
+unfolding computed
+term = refl
+
+body : ShowsFull (block ItemBody a) (codes "  a")
+unfolding computed
+body = refl
+
+list : ShowsFull (block DefinitionList a) (codes "a\n")
+unfolding computed
+list = refl
+
+paragraph : ShowsFull (block Plain a) (codes "\na\n")
+unfolding computed
+paragraph = refl
+
+headers : ShowsFull (block Header (Words (codes "X") Text ∷ []) ++ block Header (Words (codes "Y") Text ∷ []) ++ Words (codes "z\n z") Text ∷ block Header [])
+    (codes "# X\n\n\n## Y\nz\nz\n\n## \n")
+unfolding computed
+headers = refl
+
+-- a body in a list, one in that body, an empty item, and a body behind the list
+abbrev items : List Part
+items = block DefinitionList (block ItemTerm (Words (codes "--a") Literal ∷ []) ++ block ItemBody (Words (codes "x") Text ∷ block ItemBody (Words (codes "y\n\nz") Text ∷ [])) ++ block ItemTerm [] ++ block ItemBody [])
+    ++ block ItemBody (Words (codes "b") Text ∷ [])
+
+bodies : ShowsFull items (codes "- **`--a`** &mdash; \n  x &mdash; \n  y\n\n  z\n\n   \n  \n\n  b")
+unfolding computed
+bodies = refl
+
+-- brackets inside Mono, also where its marks are not balanced
+mono : ShowsFull (Words (codes "[a]") Text ∷ block Mono (Words (codes "[e]x") Text ∷ []) ++ Words (codes "[b]") Text ∷ []) (codes "[a]\\[e\\]x[b]")
+unfolding computed
+mono = refl
+
+unbalanced : ShowsFull (End Mono ∷ Start Mono ∷ Words (codes "[a]") Text ∷ Start Mono ∷ Words (codes "[b]") Text ∷ []) (codes "[a]\\[b\\]")
+unfolding computed
+unbalanced = refl
+
+script : ShowsFull (Words (codes "<script>&</script>") Text ∷ []) (codes "<script>&</script>")
+unfolding computed
+script = refl
+
+-- marks by themselves
+block_end : ShowsFull (End Plain ∷ []) (codes "\n")
+block_end = refl
+
+body_start : ShowsFull (Start ItemBody ∷ []) (codes "  ")
+body_start = refl
+
+section_ends : ShowsFull (End Section2 ∷ End Section2 ∷ []) (codes "\n\n")
+section_ends = refl
+
+term_start : ShowsFull (Start ItemTerm ∷ []) (codes "- ")
+term_start = refl
+
+empty_item : ShowsFull (Start Section4 ∷ End ItemTerm ∷ []) (codes "  ")
+empty_item = refl
+
+-- code in fences, and lines of a fence
+code : ShowsFull (Words (codes "x\n\n    c\n    d\ny") Text ∷ []) (codes "x\n\n\n\n  ```text\n  c\n  d\n\n  ```\n y")
+unfolding computed
+code = refl
+
+last_code : ShowsFull (Words (codes "\n    c") Text ∷ []) (codes "\n\n  ```text\n  c\n  ```\n")
+unfolding computed
+last_code = refl
+
+fence : ShowsFull (Words (codes "x\n\n```a\nb\n```\n\ny") Text ∷ []) (codes "x\n\n  ```a\n  b\n  ```\n\n\ny")
+unfolding computed
+fence = refl
+
+-- a word of the weight of a code line
+wide_word : markdown_after [] [] (TextStart Text ∷ Shown Text (Raw (codes "aaa") code_weight) ∷ TextEnd Text ∷ []) ≡ codes "\n\n  ```text\n  aaa\n  ```\n"
+wide_word = refl

@@ -1,0 +1,154 @@
+-- A markdown text as one function of the document. It goes by the rules of docs/html.md: what each fragment writes, by the text and the fragments that stand
+-- before it and the fragments that come after it. `render_markdown` answers just this text. The laws of `Markdown` are theorems on it (proofs/MarkdownExact,
+-- proofs/MarkdownMeets).
+use Rattle.std.specs.Prelude.{ℕ, ◌==◌, Bool, false, ◌||◌, List, [], ◌∷◌, ◌++◌, reverse, filter, flat_map, if◌then◌else◌, codes, nat_eq}
+use Rattle.std.specs.List.{ends_with, list_any}
+use Rattle.bpaf_doc.specs.declared.buffer.Style.{Style}
+use Rattle.bpaf_doc.specs.declared.buffer.Style.TheVariants as styles
+use Rattle.bpaf_doc.specs.declared.buffer.Block.{Block}
+use Rattle.bpaf_doc.specs.declared.buffer.Block.TheVariants as blocks
+use Rattle.bpaf_doc.specs.Parts.{Part}
+use Rattle.bpaf_doc.specs.Chunks.{Chunk, Raw, Paragraph, LineBreak, code_weight, fence_weight, is_code_line, is_ordinary}
+use Rattle.bpaf_doc.specs.Fragments.{Fragment, TextStart, Shown, TextEnd, Hidden, Start, End, shows, shown_fragments}
+use Rattle.bpaf_doc.specs.Markdown.{escaped_character, is_header_start, is_in_list, is_in_mono, is_after_empty_item, is_text_end, begins_with_term_end}
+use Rattle.bpaf_doc.specs.HtmlPage.{is_empty}
+
+-- ---- styles
+
+-- before the chunks of a text of this style
+abbrev pub opening_marks : Style → List ℕ
+opening_marks styles.Text = []
+opening_marks styles.Emphasis = codes "**"
+opening_marks styles.Literal = codes "**`"
+opening_marks styles.Metavar = codes "_`"
+opening_marks styles.Invalid = codes "**"
+
+-- and after them
+abbrev pub closing_marks : Style → List ℕ
+closing_marks styles.Text = []
+closing_marks styles.Emphasis = codes "**"
+closing_marks styles.Literal = codes "`**"
+closing_marks styles.Metavar = codes "`_"
+closing_marks styles.Invalid = codes "**"
+
+-- ---- lines
+
+-- nothing was written yet, or the text ends in a newline
+abbrev pub starts_line : List ℕ → Bool
+starts_line text = is_empty text || ends_with nat_eq text (codes "\n")
+
+-- nothing was written yet, or the text ends in two newlines
+abbrev pub starts_paragraph : List ℕ → Bool
+starts_paragraph text = is_empty text || ends_with nat_eq text (codes "\n\n")
+
+-- "new line"
+abbrev pub new_line : List ℕ → List ℕ
+new_line text = if starts_line text then [] else codes "\n"
+
+-- "blank line"
+abbrev pub blank_line : List ℕ → List ℕ
+blank_line text = if starts_paragraph text then [] else codes "\n\n"
+
+-- two blanks, the line and a newline
+abbrev pub indented_line : List ℕ → List ℕ
+indented_line line = codes "  " ++ (line ++ codes "\n")
+
+-- ---- code
+
+-- a code line opens a code block; an ordinary Raw and the end of a text close it
+abbrev pub decides_code : Fragment → Bool
+decides_code f = shows is_code_line f || (shows is_ordinary f || is_text_end f)
+
+abbrev pub begins_with_code_line : List Fragment → Bool
+begins_with_code_line [] = false
+begins_with_code_line (f ∷ fs) = shows is_code_line f
+
+-- a code block is open behind these fragments: the last that decides was a code line
+abbrev pub is_in_code : List Fragment → Bool
+is_in_code before = begins_with_code_line (filter decides_code (reverse before))
+
+-- a code line opens a code block where none is open
+abbrev pub opening_fence : List Fragment → List ℕ
+opening_fence before = if is_in_code before then [] else codes "\n\n  ```text\n"
+
+-- an ordinary Raw closes an open one
+abbrev pub closing_fence : List Fragment → List ℕ
+closing_fence before = if is_in_code before then codes "\n  ```\n" else []
+
+-- and so does the end of a text
+abbrev pub last_fence : List Fragment → List ℕ
+last_fence before = if is_in_code before then codes "  ```\n" else []
+
+-- ---- chunks
+
+-- an ordinary Raw, inside Mono with backslashes
+abbrev pub words_markdown : List Fragment → List ℕ → List ℕ
+words_markdown before bytes = if is_in_mono before then flat_map escaped_character bytes else bytes
+
+-- a Raw, by its weight: a line of a fence, a code line, or an ordinary one
+abbrev pub raw_markdown : List ℕ → List Fragment → List ℕ → ℕ → List ℕ
+raw_markdown text before bytes weight =
+    if weight == fence_weight then new_line text ++ indented_line bytes
+    else (if weight == code_weight then opening_fence before ++ indented_line bytes
+    else (closing_fence before ++ words_markdown before bytes))
+
+-- what a chunk of a shown text writes; a Paragraph in a definition list is indented
+abbrev pub chunk_markdown : List ℕ → List Fragment → Chunk → List ℕ
+chunk_markdown text before (Raw bytes weight) = raw_markdown text before bytes weight
+chunk_markdown text before Paragraph = codes "\n\n" ++ (if is_in_list before then codes "  " else [])
+chunk_markdown text before LineBreak = codes "\n"
+
+-- ---- blocks
+
+-- the first Header of a document has a greater heading than the others
+abbrev pub heading_mark : List Fragment → List ℕ
+heading_mark before = if list_any is_header_start before then codes "## " else codes "# "
+
+-- the dash of an item, or blanks where its term ends at once
+abbrev pub item_mark : List Fragment → List ℕ
+item_mark after = if begins_with_term_end after then codes "  " else codes "- "
+
+-- in a definition list, a long dash before a body, or a blank behind such an item
+abbrev pub body_mark : List Fragment → List ℕ
+body_mark before = if is_in_list before then (if is_after_empty_item before then codes " " else codes " &mdash; ") else []
+
+-- what the start of a block writes
+abbrev pub start_markdown : List ℕ → List Fragment → Block → List Fragment → List ℕ
+start_markdown text before blocks.Header after = blank_line text ++ heading_mark before
+start_markdown text before blocks.Section3 after = codes "### "
+start_markdown text before blocks.Section4 after = new_line text ++ item_mark after
+start_markdown text before blocks.ItemTerm after = new_line text ++ item_mark after
+start_markdown text before blocks.ItemBody after = body_mark before ++ (new_line (text ++ body_mark before) ++ codes "  ")
+start_markdown text before blocks.Block after = codes "\n"
+start_markdown text before _ after = []
+
+-- and its end
+abbrev pub end_markdown : List Fragment → Block → List ℕ
+end_markdown before blocks.Header = codes "\n"
+end_markdown before blocks.Section2 = codes "\n"
+end_markdown before blocks.Section3 = codes "\n"
+end_markdown before blocks.Section4 = codes "\n"
+end_markdown before blocks.ItemBody = if is_in_list before then codes "\n" else []
+end_markdown before blocks.DefinitionList = codes "\n"
+end_markdown before blocks.Block = codes "\n"
+end_markdown before _ = []
+
+-- ---- the text
+
+-- what a fragment writes, by the text and the fragments before it and the fragments after it
+abbrev pub fragment_markdown : List ℕ → List Fragment → Fragment → List Fragment → List ℕ
+fragment_markdown text before (TextStart style) after = opening_marks style
+fragment_markdown text before (Shown style chunk) after = chunk_markdown text before chunk
+fragment_markdown text before (TextEnd style) after = last_fence before ++ closing_marks style
+fragment_markdown text before Hidden after = []
+fragment_markdown text before (Start b) after = start_markdown text before b after
+fragment_markdown text before (End b) after = end_markdown before b
+
+-- the text with what these fragments write behind it, one after another
+abbrev pub markdown_after : List ℕ → List Fragment → List Fragment → List ℕ
+markdown_after text before [] = text
+markdown_after text before (f ∷ after) = markdown_after (text ++ fragment_markdown text before f after) (before ++ f ∷ []) after
+
+-- the text of a document, in full or in brief
+abbrev pub markdown_page : Bool → List Part → List ℕ
+markdown_page full document = markdown_after [] [] (shown_fragments full document)
