@@ -3,8 +3,9 @@
 ghost use Rattle.std.specs.Prelude.{◌≡◌, [], ◌∷◌, IfOk, OnOk, string_bytes};
 ghost use Rattle.std.specs.Option.{option_copied};
 ghost use Rattle.bpaf_roff.specs.Roff.{with_pieces, control_pieces};
-ghost use Rattle.bpaf_doc.specs.Manpage.Page.{TakesDocument, IsPageOf};
-ghost use Rattle.bpaf_doc.specs.Manpage.Steps.Draft.{start_name, end_name, heading_name, after_parts, draft_on};
+ghost use Rattle.bpaf_doc.specs.Page.{TakesDocument, IsPageOf};
+ghost use Rattle.bpaf_doc.specs.PagePieces.{roff_page};
+ghost use Rattle.bpaf_doc.specs.PageDraft.{start_name, end_name, heading_name, after_parts, draft_on};
 
 use crate::buffer::{Block, Doc, Part, Parts, Style};
 use bpaf_roff::escape::Apostrophes;
@@ -12,10 +13,13 @@ use bpaf_roff::roff::{Font, Roff};
 use std::alloc::{AllocError, Allocator};
 use std::marker::Model;
 
+#[cfg(test)]
+mod tests;
+
 /// Roman for plain text, bold for emphasized and literal text, italic for metavariables and invalid text.
 impl From<Style> for Font {
     ghost use Rattle.std.specs.Prelude.{◌≡◌};
-    ghost use Rattle.bpaf_doc.specs.Manpage.Events.{font_of};
+    ghost use Rattle.bpaf_doc.specs.PageEvents.{font_of};
 
     ghost from_gives = { λ style font. font ≡ font_of style };
 
@@ -31,12 +35,14 @@ impl From<Style> for Font {
 impl<A: Allocator> Doc<A> {
     /// The roff of the page with this document after what the page holds, behind the preamble for apostrophes.
     ///
-    /// Where the page keeps newlines and stands at a line start, a reader of roff reads what comes after the page as
-    /// the controls, headings and texts of the document. Headings are in ASCII capitals. The page is used up, and the
-    /// answer takes its memory where the page does. An `AllocError` says that a growth was refused; nothing of the page
-    /// is left then.
+    /// For every page and every list of parts the bytes are those of `roff_page`: the page rendered with the pieces behind
+    /// its own that the rules of `docs/manpage.md` give (clause `exact`). Where the page keeps newlines and stands at a
+    /// line start, a reader of roff reads what comes after the page as the controls, headings and texts of the document
+    /// (`read`). Headings are in ASCII capitals. The page is used up, and the answer takes its memory where the page does.
+    /// An `AllocError` says that a growth was refused; nothing of the page is left then.
     pub fn render_roff<B: Allocator + Copy>(&self, page: Roff<B>) -> Result<String<B>, AllocError>
-        ensures { TakesDocument page → IfOk result (λ text. IsPageOf page self.now (string_bytes text)) }
+        ensures read { TakesDocument page → IfOk result (λ text. IsPageOf page self.now (string_bytes text)) }
+        ensures exact { IfOk result (λ text. string_bytes text ≡ roff_page page self.now) }
     {
         let page = written(page, self.parts())?;
         page.render(Apostrophes::Handle)
@@ -66,7 +72,7 @@ struct Writer<A: Allocator> {
 
 impl<A: Allocator> Model for Writer<A> {
     ghost use Rattle.std.specs.Prelude.{string_bytes};
-    ghost use Rattle.bpaf_doc.specs.Manpage.Steps.Draft.{Draft};
+    ghost use Rattle.bpaf_doc.specs.PageDraft.{Draft};
 
     ghost Value = { Draft };
 
@@ -87,8 +93,8 @@ impl<A: Allocator + Copy> Writer<A> {
 }
 
 impl<A: Allocator> Writer<A> {
-    ghost use Rattle.bpaf_doc.specs.Manpage.Steps.Draft.{after_text, after_start, after_section, after_block, after_part};
-    ghost use Rattle.bpaf_doc.specs.Buffer.View.{part_of};
+    ghost use Rattle.bpaf_doc.specs.PageDraft.{after_text, after_start, after_section, after_block, after_part};
+    ghost use Rattle.bpaf_doc.specs.PartView.{part_of};
 
     fn part(&mut self, part: Part<'_>) -> Result<(), AllocError>
         ensures { OnOk result (self.new ≡ after_part self.old (part_of part.entry)) }

@@ -1,52 +1,95 @@
--- What the writer of a page keeps is what looking back over the marks gives, and the page that comes out is the document's.
-use Rattle.std.specs.Prelude.{◌≡◌, ℕ, Bool, true, false, List, [], ◌∷◌, ◌++◌, ◌||◌, Some, None, flat_map, if◌then◌else◌, refl}
+-- What the writer of a page keeps is what looking back over the marks gives, so the page that comes out is the page as a function of the document; and where the
+-- page takes a document, a reader reads the document's events.
+use Rattle.std.specs.Prelude.{◌≡◌, ℕ, Bool, true, false, List, [], ◌∷◌, ◌++◌, ◌||◌, Option, Some, None, reverse, find, flat_map, if◌then◌else◌, refl}
 use Rattle.std.specs.Str.{str_to_ascii_uppercase}
 use Rattle.std.proofs.Common.{ap, ◌∙◌, sym, subst, append_assoc}
-use Rattle.std.proofs.lemmas.List.{append-nil}
+use Rattle.std.proofs.lemmas.List.{append-nil, reverse-append}
 use Rattle.bpaf_roff.specs.Pieces.{Piece}
-use Rattle.bpaf_roff.specs.Roff.{Script, rendering}
+use Rattle.bpaf_roff.specs.Roff.{Script, rendering, text_pieces}
 use Rattle.bpaf_roff.specs.declared.escape.Apostrophes.TheVariants.{Handle}
 use Rattle.bpaf_roff.specs.declared.escape.Escape.{Escape}
-use Rattle.bpaf_doc.specs.Buffer.Parts.{Part, Text, Start, End}
-use Rattle.bpaf_doc.specs.Manpage.Events.{places, font_of, last_is_start, is_section, is_section_mark, is_term_mark, captured_texts}
-use Rattle.bpaf_doc.specs.Manpage.Page.{TakesDocument, IsPageOf}
-use Rattle.bpaf_doc.specs.Manpage.Steps.Draft.{Call, ControlCall, TextCall, pieces_of, control_calls, heading_name, style_name, Draft, draft_on, after_text, after_start, after_section, after_block, after_end, after_part, after_parts, strips_after_start, strips_after_end}
+use Rattle.bpaf_doc.specs.Parts.{Part, Text, Start, End}
+use Rattle.bpaf_doc.specs.PageEvents.{places, font_of, is_start, last_is_start, is_section, is_section_mark, is_term_mark, captured_texts}
+use Rattle.bpaf_doc.specs.Page.{TakesDocument, IsPageOf}
+use Rattle.bpaf_doc.specs.PagePieces.{start_pieces, end_pieces, style_pieces, start_or, strips_newlines, part_pieces, document_pieces, roff_page}
+use Rattle.bpaf_doc.specs.PageDraft.{ControlCall, TextCall, pieces_of, control_calls, start_name, heading_name, style_name, Draft, draft_on, after_text, after_start, after_section, after_block, after_end, after_part, after_parts, strips_after_start, strips_after_end}
 use Rattle.bpaf_doc.specs.declared.buffer.Style.{Style}
+use Rattle.bpaf_doc.specs.declared.buffer.Style.TheVariants as style
 use Rattle.bpaf_doc.specs.declared.buffer.Block.{Block}
 use Rattle.bpaf_doc.specs.declared.buffer.Block.TheVariants as block
-use Rattle.bpaf_doc.proofs.lemmas.Manpage.LookingBack.{last_is_start-append, captured_texts-append, places-append, flat_map-append}
-use Rattle.bpaf_doc.proofs.lemmas.Manpage.PageRead.{place_calls, page_calls, page_read}
+use Rattle.bpaf_doc.proofs.LookingBack.{last_is_start-append, captured_texts-append, places-append, flat_map-append}
+use Rattle.bpaf_doc.proofs.PageRead.{end_calls, place_calls, page_read}
 
--- the draft has the calls of the parts so far after the page, and knows what looking back from here gives
-record Holds (page : List (Piece Escape)) (done : List Part) (draft : Draft) : Type 0 where
-  pieces : draft.script.pieces ≡ page ++ flat_map pieces_of (page_calls done)
-  strips : draft.script.strip_newlines ≡ last_is_start is_term_mark done
+-- ---- the pieces of the calls
+
+start_same : (b : Block) → flat_map pieces_of (control_calls (start_name b)) ≡ start_pieces b
+start_same block.ItemTerm = refl
+start_same block.Block = refl
+start_same block.Meta = refl
+start_same _ = refl
+
+end_same : (before : List Part) (b : Block) → flat_map pieces_of (end_calls before b (heading_name b)) ≡ end_pieces before b
+end_same before block.Header = refl
+end_same before block.Section2 = refl
+end_same before block.Section3 = refl
+end_same before block.Section4 = refl
+end_same before block.ItemTerm = refl
+end_same before block.ItemBody = refl
+end_same before block.Meta = refl
+end_same before _ = refl
+
+text_same : (how : Style) (strip : Bool) (bytes : List ℕ) → flat_map pieces_of (control_calls (style_name how) ++ TextCall strip (font_of how) bytes ∷ []) ≡ style_pieces how ++ text_pieces strip ((font_of how, bytes) ∷ [])
+text_same style.Text strip bytes = refl
+text_same style.Emphasis strip bytes = refl
+text_same style.Literal strip bytes = refl
+text_same style.Metavar strip bytes = refl
+text_same style.Invalid strip bytes = refl
+
+-- ---- one part more
+
+-- the draft has the pieces of the parts so far after those of the page, and knows what looking back from here gives
+record Holds (page : List (Piece Escape)) (by_page : Bool) (done : List Part) (draft : Draft) : Type 0 where
+  pieces : draft.script.pieces ≡ page ++ document_pieces by_page done
+  strips : draft.script.strip_newlines ≡ strips_newlines by_page done
   captures : draft.captures ≡ last_is_start is_section_mark done
   heading : draft.heading ≡ captured_texts done
 
--- the calls of one part more
-page_calls-append : (done : List Part) (part : Part) → page_calls (done ++ part ∷ []) ≡ page_calls done ++ place_calls (done, part)
-page_calls-append done part = ap (flat_map place_calls) (places-append [] done part) ∙ flat_map-append place_calls (places [] done) ((done, part) ∷ []) ∙ ap (λ calls. page_calls done ++ calls) (append-nil (place_calls (done, part)))
+document_pieces-append : (by_page : Bool) (done : List Part) (part : Part) → document_pieces by_page (done ++ part ∷ []) ≡ document_pieces by_page done ++ part_pieces by_page (done, part)
+document_pieces-append by_page done part =
+    ap (flat_map (part_pieces by_page)) (places-append [] done part) ∙ flat_map-append (part_pieces by_page) (places [] done) ((done, part) ∷ [])
+    ∙ ap (λ more. document_pieces by_page done ++ more) (append-nil (part_pieces by_page (done, part)))
 
 -- the pieces of one part more
-one_more : (page pieces : List (Piece Escape)) (done : List Part) (part : Part) (calls : List Call) → pieces ≡ page ++ flat_map pieces_of (page_calls done) → calls ≡ place_calls (done, part) → pieces ++ flat_map pieces_of calls ≡ page ++ flat_map pieces_of (page_calls (done ++ part ∷ []))
-one_more page pieces done part calls e same = rw (e, same, page_calls-append done part, flat_map-append pieces_of (page_calls done) (place_calls (done, part))) (append_assoc page (flat_map pieces_of (page_calls done)) (flat_map pieces_of (place_calls (done, part))))
+one_more : (page pieces : List (Piece Escape)) (by_page : Bool) (done : List Part) (part : Part) (more : List (Piece Escape)) → pieces ≡ page ++ document_pieces by_page done → more ≡ part_pieces by_page (done, part)
+    → pieces ++ more ≡ page ++ document_pieces by_page (done ++ part ∷ [])
+one_more page pieces by_page done part more e same =
+    ap (λ x. x ++ more) e ∙ ap (λ x. (page ++ document_pieces by_page done) ++ x) same ∙ append_assoc page (document_pieces by_page done) (part_pieces by_page (done, part))
+    ∙ ap (λ x. page ++ x) (sym (document_pieces-append by_page done part))
+
+-- the last mark of a term, after one more part
+strips-append : (by_page : Bool) (before : List Part) (part : Part) → strips_newlines by_page (before ++ part ∷ []) ≡ (if is_term_mark part then is_start (Some part) else strips_newlines by_page before)
+strips-append by_page before part = ap (λ parts. start_or by_page (find is_term_mark parts)) (reverse-append before (part ∷ [])) ∙ choice (is_term_mark part) (find is_term_mark (reverse before))
+  where
+    choice : (x : Bool) (earlier : Option Part) → start_or by_page (if x then Some part else earlier) ≡ (if x then is_start (Some part) else start_or by_page earlier)
+    choice true earlier = refl
+    choice false earlier = refl
 
 -- a text, by whether it is captured
-text_by : (captures : Bool) (page : List (Piece Escape)) (done : List Part) (script : Script) (heading text : List ℕ) (how : Style) → Holds page done (record { script = script; heading = heading; captures = captures }) → Holds page (done ++ Text text how ∷ []) (after_text (record { script = script; heading = heading; captures = captures }) text how)
-text_by true page done script heading text how h =
+text_by : (captures : Bool) (page : List (Piece Escape)) (by_page : Bool) (done : List Part) (script : Script) (heading text : List ℕ) (how : Style) → Holds page by_page done (record { script = script; heading = heading; captures = captures })
+    → Holds page by_page (done ++ Text text how ∷ []) (after_text (record { script = script; heading = heading; captures = captures }) text how)
+text_by true page by_page done script heading text how h =
     let captured = sym h.captures in
     record {
-      pieces = sym (append-nil script.pieces) ∙ one_more page script.pieces done (Text text how) [] h.pieces (rw captured refl);
-      strips = h.strips ∙ sym (last_is_start-append is_term_mark done (Text text how));
+      pieces = sym (append-nil script.pieces) ∙ one_more page script.pieces by_page done (Text text how) [] h.pieces (rw captured refl);
+      strips = h.strips ∙ sym (strips-append by_page done (Text text how));
       captures = h.captures ∙ sym (last_is_start-append is_section_mark done (Text text how));
       heading = ap (λ before. before ++ text) h.heading ∙ ap (λ x. captured_texts done ++ (if x then text else [])) h.captures ∙ sym (captured_texts-append done (Text text how));
     }
-text_by false page done script heading text how h =
+text_by false page by_page done script heading text how h =
     let written = sym h.captures in
     record {
-      pieces = one_more page script.pieces done (Text text how) _ h.pieces (rw written (ap (λ strips. control_calls (style_name how) ++ TextCall strips (font_of how) text ∷ []) h.strips));
-      strips = h.strips ∙ sym (last_is_start-append is_term_mark done (Text text how));
+      pieces = one_more page script.pieces by_page done (Text text how) _ h.pieces (rw written (text_same how script.strip_newlines text ∙ ap (λ strip. style_pieces how ++ text_pieces strip ((font_of how, text) ∷ [])) h.strips));
+      strips = h.strips ∙ sym (strips-append by_page done (Text text how));
       captures = h.captures ∙ sym (last_is_start-append is_section_mark done (Text text how));
       heading = h.heading ∙ sym (append-nil (captured_texts done)) ∙ ap (λ x. captured_texts done ++ (if x then text else [])) h.captures ∙ sym (captured_texts-append done (Text text how));
     }
@@ -61,10 +104,10 @@ strips_at_start : (b : Block) (strips : Bool) → strips_after_start b strips �
 strips_at_start block.ItemTerm strips = refl
 strips_at_start _ strips = refl
 
-start_holds : (page : List (Piece Escape)) (done : List Part) (draft : Draft) (b : Block) → Holds page done draft → Holds page (done ++ Start b ∷ []) (after_start draft b)
-start_holds page done draft b h = record {
-  pieces = one_more page draft.script.pieces done (Start b) _ h.pieces refl;
-  strips = strips_at_start b draft.script.strip_newlines ∙ ap (λ x. if is_term_mark (Start b) then true else x) h.strips ∙ sym (last_is_start-append is_term_mark done (Start b));
+start_holds : (page : List (Piece Escape)) (by_page : Bool) (done : List Part) (draft : Draft) (b : Block) → Holds page by_page done draft → Holds page by_page (done ++ Start b ∷ []) (after_start draft b)
+start_holds page by_page done draft b h = record {
+  pieces = one_more page draft.script.pieces by_page done (Start b) _ h.pieces (start_same b);
+  strips = strips_at_start b draft.script.strip_newlines ∙ ap (λ x. if is_term_mark (Start b) then true else x) h.strips ∙ sym (strips-append by_page done (Start b));
   captures = or_choice draft.captures (is_section b) ∙ ap (λ x. if is_section b then true else x) h.captures ∙ sym (last_is_start-append is_section_mark done (Start b));
   heading = h.heading ∙ sym (append-nil (captured_texts done)) ∙ sym (captured_texts-append done (Start b));
 }
@@ -75,50 +118,84 @@ strips_at_end block.ItemBody strips = refl
 strips_at_end _ strips = refl
 
 -- the end of a section writes its heading
-section_holds : (page : List (Piece Escape)) (done : List Part) (draft : Draft) (b : Block) (name : List ℕ) → heading_name b ≡ Some name → is_section b ≡ true → is_term_mark (End b) ≡ false → Holds page done draft → Holds page (done ++ End b ∷ []) (after_section draft name)
-section_holds page done draft b name named section term h = record {
-  pieces = one_more page draft.script.pieces done (End b) (ControlCall name (str_to_ascii_uppercase draft.heading ∷ []) ∷ []) h.pieces (rw (named, h.heading) refl);
-  strips = h.strips ∙ sym (last_is_start-append is_term_mark done (End b) ∙ ap (λ x. if x then false else last_is_start is_term_mark done) term);
+section_holds : (page : List (Piece Escape)) (by_page : Bool) (done : List Part) (draft : Draft) (b : Block) (name : List ℕ) → heading_name b ≡ Some name → is_section b ≡ true → is_term_mark (End b) ≡ false
+    → Holds page by_page done draft → Holds page by_page (done ++ End b ∷ []) (after_section draft name)
+section_holds page by_page done draft b name named section term h = record {
+  pieces = one_more page draft.script.pieces by_page done (End b) (flat_map pieces_of (ControlCall name (str_to_ascii_uppercase draft.heading ∷ []) ∷ [])) h.pieces
+      (ap (λ text. flat_map pieces_of (ControlCall name (str_to_ascii_uppercase text ∷ []) ∷ [])) h.heading
+      ∙ ap (λ found. flat_map pieces_of (end_calls done b found)) (sym named) ∙ end_same done b);
+  strips = h.strips ∙ sym (strips-append by_page done (End b) ∙ ap (λ x. if x then false else strips_newlines by_page done) term);
   captures = sym (last_is_start-append is_section_mark done (End b) ∙ ap (λ x. if x then false else last_is_start is_section_mark done) section);
   heading = sym (captured_texts-append done (End b) ∙ ap (λ x. if x then [] else captured_texts done ++ []) section);
 }
 
 -- the end of any other block
-block_holds : (page : List (Piece Escape)) (done : List Part) (draft : Draft) (b : Block) → heading_name b ≡ None → is_section b ≡ false → Holds page done draft → Holds page (done ++ End b ∷ []) (after_block draft b)
-block_holds page done draft b unnamed inner h = record {
-  pieces = one_more page draft.script.pieces done (End b) _ h.pieces (rw unnamed refl);
-  strips = strips_at_end b draft.script.strip_newlines ∙ ap (λ x. if is_term_mark (End b) then false else x) h.strips ∙ sym (last_is_start-append is_term_mark done (End b));
+block_holds : (page : List (Piece Escape)) (by_page : Bool) (done : List Part) (draft : Draft) (b : Block) → heading_name b ≡ None → is_section b ≡ false → Holds page by_page done draft
+    → Holds page by_page (done ++ End b ∷ []) (after_block draft b)
+block_holds page by_page done draft b unnamed inner h = record {
+  pieces = one_more page draft.script.pieces by_page done (End b) _ h.pieces (ap (λ found. flat_map pieces_of (end_calls done b found)) (sym unnamed) ∙ end_same done b);
+  strips = strips_at_end b draft.script.strip_newlines ∙ ap (λ x. if is_term_mark (End b) then false else x) h.strips ∙ sym (strips-append by_page done (End b));
   captures = h.captures ∙ sym (last_is_start-append is_section_mark done (End b) ∙ ap (λ x. if x then false else last_is_start is_section_mark done) inner);
   heading = h.heading ∙ sym (captured_texts-append done (End b) ∙ ap (λ x. if x then [] else captured_texts done ++ []) inner ∙ append-nil (captured_texts done));
 }
 
-end_holds : (page : List (Piece Escape)) (done : List Part) (draft : Draft) (b : Block) → Holds page done draft → Holds page (done ++ End b ∷ []) (after_end draft b)
-end_holds page done draft block.Header h = section_holds page done draft block.Header _ refl refl refl h
-end_holds page done draft block.Section2 h = section_holds page done draft block.Section2 _ refl refl refl h
-end_holds page done draft block.Section3 h = section_holds page done draft block.Section3 _ refl refl refl h
-end_holds page done draft block.Section4 h = section_holds page done draft block.Section4 _ refl refl refl h
-end_holds page done draft block.ItemTerm h = block_holds page done draft block.ItemTerm refl refl h
-end_holds page done draft block.ItemBody h = block_holds page done draft block.ItemBody refl refl h
-end_holds page done draft block.DefinitionList h = block_holds page done draft block.DefinitionList refl refl h
-end_holds page done draft block.Block h = block_holds page done draft block.Block refl refl h
-end_holds page done draft block.InlineBlock h = block_holds page done draft block.InlineBlock refl refl h
-end_holds page done draft block.TermRef h = block_holds page done draft block.TermRef refl refl h
-end_holds page done draft block.Meta h = block_holds page done draft block.Meta refl refl h
-end_holds page done draft block.Mono h = block_holds page done draft block.Mono refl refl h
+end_holds : (page : List (Piece Escape)) (by_page : Bool) (done : List Part) (draft : Draft) (b : Block) → Holds page by_page done draft → Holds page by_page (done ++ End b ∷ []) (after_end draft b)
+end_holds page by_page done draft block.Header h = section_holds page by_page done draft block.Header _ refl refl refl h
+end_holds page by_page done draft block.Section2 h = section_holds page by_page done draft block.Section2 _ refl refl refl h
+end_holds page by_page done draft block.Section3 h = section_holds page by_page done draft block.Section3 _ refl refl refl h
+end_holds page by_page done draft block.Section4 h = section_holds page by_page done draft block.Section4 _ refl refl refl h
+end_holds page by_page done draft block.ItemTerm h = block_holds page by_page done draft block.ItemTerm refl refl h
+end_holds page by_page done draft block.ItemBody h = block_holds page by_page done draft block.ItemBody refl refl h
+end_holds page by_page done draft block.DefinitionList h = block_holds page by_page done draft block.DefinitionList refl refl h
+end_holds page by_page done draft block.Block h = block_holds page by_page done draft block.Block refl refl h
+end_holds page by_page done draft block.InlineBlock h = block_holds page by_page done draft block.InlineBlock refl refl h
+end_holds page by_page done draft block.TermRef h = block_holds page by_page done draft block.TermRef refl refl h
+end_holds page by_page done draft block.Meta h = block_holds page by_page done draft block.Meta refl refl h
+end_holds page by_page done draft block.Mono h = block_holds page by_page done draft block.Mono refl refl h
 
-part_holds : (page : List (Piece Escape)) (done : List Part) (draft : Draft) (part : Part) → Holds page done draft → Holds page (done ++ part ∷ []) (after_part draft part)
-part_holds page done draft (Text text how) h = text_by draft.captures page done draft.script draft.heading text how h
-part_holds page done draft (Start b) h = start_holds page done draft b h
-part_holds page done draft (End b) h = end_holds page done draft b h
+part_holds : (page : List (Piece Escape)) (by_page : Bool) (done : List Part) (draft : Draft) (part : Part) → Holds page by_page done draft → Holds page by_page (done ++ part ∷ []) (after_part draft part)
+part_holds page by_page done draft (Text text how) h = text_by draft.captures page by_page done draft.script draft.heading text how h
+part_holds page by_page done draft (Start b) h = start_holds page by_page done draft b h
+part_holds page by_page done draft (End b) h = end_holds page by_page done draft b h
 
-parts_hold : (page : List (Piece Escape)) (done : List Part) (draft : Draft) (parts : List Part) → Holds page done draft → Holds page (done ++ parts) (after_parts draft parts)
-parts_hold page done draft [] h = rw (append-nil done) h
-parts_hold page done draft (part ∷ parts) h = rw (← append_assoc done (part ∷ []) parts) (parts_hold page (done ++ part ∷ []) (after_part draft part) parts (part_holds page done draft part h))
+parts_hold : (page : List (Piece Escape)) (by_page : Bool) (done : List Part) (draft : Draft) (parts : List Part) → Holds page by_page done draft → Holds page by_page (done ++ parts) (after_parts draft parts)
+parts_hold page by_page done draft [] h = rw (append-nil done) h
+parts_hold page by_page done draft (part ∷ parts) h = rw (← append_assoc done (part ∷ []) parts) (parts_hold page by_page (done ++ part ∷ []) (after_part draft part) parts (part_holds page by_page done draft part h))
 
--- A page that keeps newlines, with the parts on it, has the calls of the document after its own pieces.
-written_pieces : (page : Script) (document : List Part) → page.strip_newlines ≡ false → (after_parts (draft_on page) document).script.pieces ≡ page.pieces ++ flat_map pieces_of (page_calls document)
-written_pieces page document kept = (parts_hold page.pieces [] (draft_on page) document (record { pieces = sym (append-nil page.pieces); strips = kept; captures = refl; heading = refl })).pieces
+-- ---- the page
 
--- A page that takes a document is rendered, with the document written on it, to the page of the document.
-pub written_page : (page written : Script) (document : List Part) (text : List ℕ) → TakesDocument page → written ≡ (after_parts (draft_on page) document).script → text ≡ rendering Handle written.pieces → IsPageOf page document text
-written_page page written document text takes on e = subst (IsPageOf page document) (sym (e ∙ ap (rendering Handle) (ap (λ (script : Script). script.pieces) on ∙ written_pieces page document takes.keeps_newlines))) (page_read page takes document)
+-- A page with the parts on it has the pieces of the document after its own.
+written_pieces : (page : Script) (document : List Part) → (after_parts (draft_on page) document).script.pieces ≡ page.pieces ++ document_pieces page.strip_newlines document
+written_pieces page document = (parts_hold page.pieces page.strip_newlines [] (draft_on page) document (record { pieces = sym (append-nil page.pieces); strips = refl; captures = refl; heading = refl })).pieces
+
+-- So its text is the page as a function of the document.
+pub exact_page : (page written : Script) (document : List Part) (text : List ℕ) → written ≡ (after_parts (draft_on page) document).script → text ≡ rendering Handle written.pieces → text ≡ roff_page page document
+exact_page page written document text on e = e ∙ ap (rendering Handle) (ap (λ (script : Script). script.pieces) on ∙ written_pieces page document)
+
+-- ---- a page that keeps newlines
+
+kept_strips : (earlier : Option Part) → start_or false earlier ≡ is_start earlier
+kept_strips None = refl
+kept_strips (Some mark) = refl
+
+kept_part : (place : List Part × Part) → part_pieces false place ≡ flat_map pieces_of (place_calls place)
+kept_part (before, Text bytes how) = by (last_is_start is_section_mark before)
+  where
+    by : (captured : Bool) → (if captured then [] else style_pieces how ++ text_pieces (strips_newlines false before) ((font_of how, bytes) ∷ []))
+        ≡ flat_map pieces_of (if captured then [] else control_calls (style_name how) ++ TextCall (last_is_start is_term_mark before) (font_of how) bytes ∷ [])
+    by true = refl
+    by false = ap (λ strip. style_pieces how ++ text_pieces strip ((font_of how, bytes) ∷ [])) (kept_strips (find is_term_mark (reverse before))) ∙ sym (text_same how (last_is_start is_term_mark before) bytes)
+kept_part (before, Start b) = sym (start_same b)
+kept_part (before, End b) = sym (end_same before b)
+
+kept_parts : (ps : List (List Part × Part)) → flat_map (part_pieces false) ps ≡ flat_map pieces_of (flat_map place_calls ps)
+kept_parts [] = refl
+kept_parts (place ∷ ps) =
+    ap (λ more. part_pieces false place ++ more) (kept_parts ps) ∙ ap (λ first. first ++ flat_map pieces_of (flat_map place_calls ps)) (kept_part place)
+    ∙ sym (flat_map-append pieces_of (place_calls place) (flat_map place_calls ps))
+
+-- A page that takes a document is, with the document on it, read as the document's events.
+pub taken_page : (page : Script) (document : List Part) (text : List ℕ) → TakesDocument page → text ≡ roff_page page document → IsPageOf page document text
+taken_page page document text takes e =
+    subst (IsPageOf page document) (sym (e ∙ ap (λ strip. rendering Handle (page.pieces ++ document_pieces strip document)) takes.keeps_newlines
+    ∙ ap (λ pieces. rendering Handle (page.pieces ++ pieces)) (kept_parts (places [] document)))) (page_read page takes document)

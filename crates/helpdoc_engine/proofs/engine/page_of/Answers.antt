@@ -20,4 +20,4 @@ pub returns : goal.returns
 returns g c =
     rw c.in-Man.is
     (manual_page string_bytes c.render_roff.result c.in_ok-titled-in-Man.field-0 title_words (document_of_text c.args.text.now) c.in_ok-titled-in-Man.ensures
-    (rw c.in_ok-document.ensures at c.render_roff.ensures))
+    (rw c.in_ok-document.ensures at c.render_roff.ensures.read))
