@@ -3,9 +3,9 @@
 ghost use Rattle.std.specs.Prelude.{◌≡◌, [], ◌∷◌, IfOk, OnOk, string_bytes};
 ghost use Rattle.std.specs.Option.{option_copied};
 ghost use Rattle.bpaf_roff.specs.Roff.{with_pieces, control_pieces};
-ghost use Rattle.bpaf_doc.specs.Page.{TakesDocument, IsPageOf};
-ghost use Rattle.bpaf_doc.specs.PagePieces.{roff_page};
-ghost use Rattle.bpaf_doc.specs.PageDraft.{start_name, end_name, heading_name, after_parts, draft_on};
+ghost use Rattle.bpaf_doc.specs.Manpage.Page.{TakesDocument, IsPageOf};
+ghost use Rattle.bpaf_doc.specs.Manpage.Exact.{roff_page};
+ghost use Rattle.bpaf_doc.specs.Manpage.Steps.Draft.{start_name, end_name, heading_name, after_parts, draft_on};
 
 use crate::buffer::{Block, Doc, Part, Parts, Style};
 use bpaf_roff::escape::Apostrophes;
@@ -13,13 +13,10 @@ use bpaf_roff::roff::{Font, Roff};
 use std::alloc::{AllocError, Allocator};
 use std::marker::Model;
 
-#[cfg(test)]
-mod tests;
-
 /// Roman for plain text, bold for emphasized and literal text, italic for metavariables and invalid text.
 impl From<Style> for Font {
     ghost use Rattle.std.specs.Prelude.{◌≡◌};
-    ghost use Rattle.bpaf_doc.specs.PageEvents.{font_of};
+    ghost use Rattle.bpaf_doc.specs.Manpage.Events.{font_of};
 
     ghost from_gives = { λ style font. font ≡ font_of style };
 
@@ -72,7 +69,7 @@ struct Writer<A: Allocator> {
 
 impl<A: Allocator> Model for Writer<A> {
     ghost use Rattle.std.specs.Prelude.{string_bytes};
-    ghost use Rattle.bpaf_doc.specs.PageDraft.{Draft};
+    ghost use Rattle.bpaf_doc.specs.Manpage.Steps.Draft.{Draft};
 
     ghost Value = { Draft };
 
@@ -93,8 +90,8 @@ impl<A: Allocator + Copy> Writer<A> {
 }
 
 impl<A: Allocator> Writer<A> {
-    ghost use Rattle.bpaf_doc.specs.PageDraft.{after_text, after_start, after_section, after_block, after_part};
-    ghost use Rattle.bpaf_doc.specs.PartView.{part_of};
+    ghost use Rattle.bpaf_doc.specs.Manpage.Steps.Draft.{after_text, after_start, after_section, after_block, after_part};
+    ghost use Rattle.bpaf_doc.specs.Buffer.View.{part_of};
 
     fn part(&mut self, part: Part<'_>) -> Result<(), AllocError>
         ensures { OnOk result (self.new ≡ after_part self.old (part_of part.entry)) }

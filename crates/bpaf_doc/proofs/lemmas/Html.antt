@@ -7,4 +7,6 @@ pub mod Breaks
 pub mod Nests
 pub mod Meets
 mod Rows
+mod PageRows
+pub mod Exact
 mod Examples

@@ -7,3 +7,4 @@ pub mod PageRead
 mod LookingBack
 pub mod Drafts
 mod Rows
+mod PieceRows

@@ -7,3 +7,5 @@ pub mod Breaks
 pub mod Lines
 pub mod Meets
 mod Examples
+pub mod Exact
+mod PageRows

@@ -1,10 +1,10 @@
 //! Markdown: a text that grows by one fragment after another.
 ghost use Rattle.std.specs.Prelude.{◌≡◌, ◌++◌, if◌then◌else◌, OnOk, IfOk, string_bytes};
-ghost use Rattle.bpaf_doc.specs.ChunkView.{chunk_of};
-ghost use Rattle.bpaf_doc.specs.Markdown.{IsMarkdownOf};
-ghost use Rattle.bpaf_doc.specs.MarkdownPage.{markdown_page};
-ghost use Rattle.bpaf_doc.specs.HtmlView.{fragment_of};
-ghost use Rattle.bpaf_doc.specs.MarkdownSteps.{blank_text, put, with_new_line, with_blank_line, with_item, opening_marks, closing_marks, with_line, open_code, close_code, with_words, with_raw, with_chunk, text_ended, header_started, body_started, started, ended, is_term_end, marked_after};
+ghost use Rattle.bpaf_doc.specs.Splitter.View.{chunk_of};
+ghost use Rattle.bpaf_doc.specs.Markdown.Page.{IsMarkdownOf};
+ghost use Rattle.bpaf_doc.specs.Markdown.Exact.{markdown_page};
+ghost use Rattle.bpaf_doc.specs.Html.Steps.View.{fragment_of};
+ghost use Rattle.bpaf_doc.specs.Markdown.Steps.Page.{blank_text, put, with_new_line, with_blank_line, with_item, opening_marks, closing_marks, with_line, open_code, close_code, with_words, with_raw, with_chunk, text_ended, header_started, body_started, started, ended, is_term_end, marked_after};
 
 use super::fragments::{Fragment, fragments_of};
 use super::{Language, Styles, push_spelled, when};
@@ -33,7 +33,7 @@ struct Markdown<B: Allocator> {
 
 impl<B: Allocator> Model for Markdown<B> {
     ghost use Rattle.std.specs.Prelude.{string_bytes};
-    ghost use Rattle.bpaf_doc.specs.MarkdownSteps.{Marked};
+    ghost use Rattle.bpaf_doc.specs.Markdown.Steps.Page.{Marked};
 
     ghost Value = { Marked };
 

@@ -1,11 +1,11 @@
 //! HTML: a page that grows by one fragment after another.
 ghost use Rattle.std.specs.Prelude.{◌≡◌, ◌++◌, [], if◌then◌else◌, OnOk, IfOk, string_bytes, filter};
-ghost use Rattle.bpaf_doc.specs.Parts.{IsWellNested};
-ghost use Rattle.bpaf_doc.specs.ChunkView.{chunk_of};
-ghost use Rattle.bpaf_doc.specs.Html.{IsHtmlPageOf, IsHtmlTextPageOf, is_definition_list};
-ghost use Rattle.bpaf_doc.specs.HtmlView.{fragment_of};
-ghost use Rattle.bpaf_doc.specs.HtmlPage.{html_page};
-ghost use Rattle.bpaf_doc.specs.HtmlSteps.{blank_page, with_text, with_break, with_words, with_heading, is_header, start_tag, end_tag, opening_tags, closing_tags, started, ended, chunk_page, page_after};
+ghost use Rattle.bpaf_doc.specs.Buffer.Parts.{IsWellNested};
+ghost use Rattle.bpaf_doc.specs.Splitter.View.{chunk_of};
+ghost use Rattle.bpaf_doc.specs.Html.Page.{IsHtmlPageOf, IsHtmlTextPageOf, is_definition_list};
+ghost use Rattle.bpaf_doc.specs.Html.Steps.View.{fragment_of};
+ghost use Rattle.bpaf_doc.specs.Html.Exact.{html_page};
+ghost use Rattle.bpaf_doc.specs.Html.Steps.Page.{blank_page, with_text, with_break, with_words, with_heading, is_header, start_tag, end_tag, opening_tags, closing_tags, started, ended, chunk_page, page_after};
 
 use super::fragments::{Fragment, fragments_of};
 use super::{Language, Styles, push_spelled, when};
@@ -43,7 +43,7 @@ struct Page<B: Allocator> {
 
 impl<B: Allocator> Model for Page<B> {
     ghost use Rattle.std.specs.Prelude.{reverse, string_bytes};
-    ghost use Rattle.bpaf_doc.specs.HtmlSteps.{Written};
+    ghost use Rattle.bpaf_doc.specs.Html.Steps.Page.{Written};
 
     ghost Value = { Written };
 

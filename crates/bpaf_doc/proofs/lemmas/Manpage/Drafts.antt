@@ -8,17 +8,17 @@ use Rattle.bpaf_roff.specs.Pieces.{Piece}
 use Rattle.bpaf_roff.specs.Roff.{Script, rendering, text_pieces}
 use Rattle.bpaf_roff.specs.declared.escape.Apostrophes.TheVariants.{Handle}
 use Rattle.bpaf_roff.specs.declared.escape.Escape.{Escape}
-use Rattle.bpaf_doc.specs.Parts.{Part, Text, Start, End}
-use Rattle.bpaf_doc.specs.PageEvents.{places, font_of, is_start, last_is_start, is_section, is_section_mark, is_term_mark, captured_texts}
-use Rattle.bpaf_doc.specs.Page.{TakesDocument, IsPageOf}
-use Rattle.bpaf_doc.specs.PagePieces.{start_pieces, end_pieces, style_pieces, start_or, strips_newlines, part_pieces, document_pieces, roff_page}
-use Rattle.bpaf_doc.specs.PageDraft.{ControlCall, TextCall, pieces_of, control_calls, start_name, heading_name, style_name, Draft, draft_on, after_text, after_start, after_section, after_block, after_end, after_part, after_parts, strips_after_start, strips_after_end}
+use Rattle.bpaf_doc.specs.Buffer.Parts.{Part, Text, Start, End}
+use Rattle.bpaf_doc.specs.Manpage.Events.{places, font_of, is_start, last_is_start, is_section, is_section_mark, is_term_mark, captured_texts}
+use Rattle.bpaf_doc.specs.Manpage.Page.{TakesDocument, IsPageOf}
+use Rattle.bpaf_doc.specs.Manpage.Exact.{start_pieces, end_pieces, style_pieces, start_or, strips_newlines, part_pieces, document_pieces, roff_page}
+use Rattle.bpaf_doc.specs.Manpage.Steps.Draft.{ControlCall, TextCall, pieces_of, control_calls, start_name, heading_name, style_name, Draft, draft_on, after_text, after_start, after_section, after_block, after_end, after_part, after_parts, strips_after_start, strips_after_end}
 use Rattle.bpaf_doc.specs.declared.buffer.Style.{Style}
 use Rattle.bpaf_doc.specs.declared.buffer.Style.TheVariants as style
 use Rattle.bpaf_doc.specs.declared.buffer.Block.{Block}
 use Rattle.bpaf_doc.specs.declared.buffer.Block.TheVariants as block
-use Rattle.bpaf_doc.proofs.LookingBack.{last_is_start-append, captured_texts-append, places-append, flat_map-append}
-use Rattle.bpaf_doc.proofs.PageRead.{end_calls, place_calls, page_read}
+use Rattle.bpaf_doc.proofs.lemmas.Manpage.LookingBack.{last_is_start-append, captured_texts-append, places-append, flat_map-append}
+use Rattle.bpaf_doc.proofs.lemmas.Manpage.PageRead.{end_calls, place_calls, page_read}
 
 -- ---- the pieces of the calls
 

@@ -1,5 +1,5 @@
 -- What a page under way holds after each part, as its writer keeps it. `PagePieces` says what comes out; that this comes to it is proved
--- (proofs/PageDrafts), so this need not be believed.
+-- (proofs/lemmas/Manpage/Drafts), so this need not be believed.
 use Rattle.std.specs.Prelude.{ℕ, Bool, true, false, List, [], ◌∷◌, ◌++◌, ◌||◌, Option, Some, None, flat_map, fold, codes, if◌then◌else◌}
 use Rattle.std.specs.Str.{str_to_ascii_uppercase}
 use Rattle.bpaf_roff.specs.Pieces.{Piece}

@@ -1,13 +1,13 @@
 -- A markdown text as the code keeps it while it writes one fragment after another. `MarkdownPage` says what comes out; that these texts are those is proved
--- (proofs/MarkdownExact), so this need not be believed.
+-- (proofs/lemmas/Markdown/Exact), so this need not be believed.
 use Rattle.std.specs.Prelude.{ℕ, ◌+◌, ◌-◌, ◌^◌, ◌==◌, Bool, true, false, List, [], ◌∷◌, ◌++◌, flat_map, if◌then◌else◌, codes, nat_lt, min}
 use Rattle.bpaf_doc.specs.declared.buffer.Style.{Style}
 use Rattle.bpaf_doc.specs.declared.buffer.Block.{Block}
 use Rattle.bpaf_doc.specs.declared.buffer.Block.TheVariants as blocks
-use Rattle.bpaf_doc.specs.Chunks.{Chunk, Raw, Paragraph, LineBreak, code_weight, fence_weight}
-use Rattle.bpaf_doc.specs.Fragments.{Fragment, TextStart, Shown, TextEnd, Hidden, Start, End}
-use Rattle.bpaf_doc.specs.Markdown.{escaped_character}
-pub use Rattle.bpaf_doc.specs.MarkdownPage.{starts_line, starts_paragraph, opening_marks, closing_marks}
+use Rattle.bpaf_doc.specs.Splitter.Chunks.{Chunk, Raw, Paragraph, LineBreak, code_weight, fence_weight}
+use Rattle.bpaf_doc.specs.Html.Fragments.{Fragment, TextStart, Shown, TextEnd, Hidden, Start, End}
+use Rattle.bpaf_doc.specs.Markdown.Page.{escaped_character}
+pub use Rattle.bpaf_doc.specs.Markdown.Exact.{starts_line, starts_paragraph, opening_marks, closing_marks}
 
 -- The bytes so far; whether a heading was written; whether the last mark of a definition list was a start; whether an item's dash waits for the
 -- next fragment, and whether the last item was empty; the Mono starts and ends so far; whether a code block is open.

@@ -1,10 +1,10 @@
 -- The page after all fragments, with the style sheet behind it, is the page as a function of the document, and so it has the laws.
 use Rattle.std.proofs.Common.{◌≡◌, [], ◌++◌, sym, ◌∙◌, ap, subst}
-use Rattle.bpaf_doc.specs.Fragments.{shown_fragments}
-use Rattle.bpaf_doc.specs.Html.{IsHtmlPageOf, IsHtmlTextPageOf}
-use Rattle.bpaf_doc.specs.HtmlPage.{html_after}
-use Rattle.bpaf_doc.specs.HtmlSteps.{page_after_all}
-use Rattle.bpaf_doc.proofs.HtmlExact.{page_exact, page_laws, page_words}
+use Rattle.bpaf_doc.specs.Html.Fragments.{shown_fragments}
+use Rattle.bpaf_doc.specs.Html.Page.{IsHtmlPageOf, IsHtmlTextPageOf}
+use Rattle.bpaf_doc.specs.Html.Exact.{html_after}
+use Rattle.bpaf_doc.specs.Html.Steps.Page.{page_after_all}
+use Rattle.bpaf_doc.proofs.lemmas.Html.Exact.{page_exact, page_laws, page_words}
 use Rattle.bpaf_doc.proofs.buffer.Doc.render_html.Goals as goal
 
 pub returns-clause-exact : goal.returns-clause-exact

@@ -1,10 +1,10 @@
 -- The text after all fragments, with the dash of a last item, is the text as a function of the document, and so it has the laws.
 use Rattle.std.proofs.Common.{◌≡◌, ◌<◌, ◌^◌, false, length, sym, ◌∙◌, ap, subst, arith}
 use Rattle.std.specs.Prelude.{string_bytes}
-use Rattle.bpaf_doc.specs.Fragments.{shown_fragments}
-use Rattle.bpaf_doc.specs.Markdown.{IsMarkdownOf}
-use Rattle.bpaf_doc.specs.MarkdownSteps.{blank_text, with_item, marked_after_all}
-use Rattle.bpaf_doc.proofs.MarkdownExact.{text_exact, text_laws}
+use Rattle.bpaf_doc.specs.Html.Fragments.{shown_fragments}
+use Rattle.bpaf_doc.specs.Markdown.Page.{IsMarkdownOf}
+use Rattle.bpaf_doc.specs.Markdown.Steps.Page.{blank_text, with_item, marked_after_all}
+use Rattle.bpaf_doc.proofs.lemmas.Markdown.Exact.{text_exact, text_laws}
 use Rattle.bpaf_doc.proofs.buffer.Doc.render_markdown.Goals as goal
 
 pub returns-clause-exact : goal.returns-clause-exact

@@ -3,10 +3,10 @@ use Rattle.std.proofs.Common.{◌≡◌, string_bytes}
 use Rattle.std.proofs.lemmas.Result.{IfOk-weaker}
 use Rattle.bpaf_roff.specs.Roff.{rendering}
 use Rattle.bpaf_roff.specs.declared.escape.Apostrophes.TheVariants.{Handle}
-use Rattle.bpaf_doc.specs.Page.{IsPageOf}
-use Rattle.bpaf_doc.specs.PagePieces.{roff_page}
-use Rattle.bpaf_doc.specs.PageDraft.{after_parts, draft_on}
-use Rattle.bpaf_doc.proofs.PageDrafts.{exact_page, taken_page}
+use Rattle.bpaf_doc.specs.Manpage.Page.{IsPageOf}
+use Rattle.bpaf_doc.specs.Manpage.Exact.{roff_page}
+use Rattle.bpaf_doc.specs.Manpage.Steps.Draft.{after_parts, draft_on}
+use Rattle.bpaf_doc.proofs.lemmas.Manpage.Drafts.{exact_page, taken_page}
 use Rattle.bpaf_doc.proofs.buffer.Doc.render_roff.Goals as goal
 
 pub returns-clause-exact : goal.returns-clause-exact

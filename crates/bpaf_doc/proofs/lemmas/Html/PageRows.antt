@@ -6,9 +6,9 @@ use Rattle.unicode_width.specs.Width.{str_width, step, past_emoji}
 use Rattle.bpaf_doc.specs.declared.buffer.Style.TheVariants.{Text, Emphasis, Literal, Metavar, Invalid}
 use Rattle.bpaf_doc.specs.declared.buffer.Block.TheVariants.{Header, Section2, Section3, Section4, ItemTerm, ItemBody, DefinitionList, Block as Plain, Mono, TermRef, InlineBlock, Meta}
 use Rattle.bpaf_doc.specs.declared.buffer.Block.{Block}
-use Rattle.bpaf_doc.specs.Parts.{Part, Text as Words, Start, End}
-use Rattle.bpaf_doc.specs.Chunks.{chunks_of, chunks_in, chunks_within}
-use Rattle.bpaf_doc.specs.HtmlPage.{html_page}
+use Rattle.bpaf_doc.specs.Buffer.Parts.{Part, Text as Words, Start, End}
+use Rattle.bpaf_doc.specs.Splitter.Chunks.{chunks_of, chunks_in, chunks_within}
+use Rattle.bpaf_doc.specs.Html.Exact.{html_page}
 
 computed : ℕ
 unfolding chunks_of chunks_in chunks_within chars str_width step past_emoji

@@ -1,15 +1,15 @@
 -- An HTML page as one function of the document. It goes by the rules of docs/html.md: what each fragment writes, by the text and the fragments that
--- stand before it. `render_html` answers just this text. The laws of `Html` are theorems on it (proofs/HtmlExact, proofs/HtmlMeets).
+-- stand before it. `render_html` answers just this text. The laws of `Html` are theorems on it (proofs/lemmas/Html/Exact, proofs/lemmas/Html/Meets).
 use Rattle.std.specs.Prelude.{ℕ, zero, suc, Bool, true, false, ◌||◌, List, [], ◌∷◌, ◌++◌, Option, Some, None, reverse, flat_map, if◌then◌else◌, codes, nat_eq}
 use Rattle.std.specs.List.{ends_with}
 use Rattle.bpaf_doc.specs.declared.buffer.Style.{Style}
 use Rattle.bpaf_doc.specs.declared.buffer.Style.TheVariants as styles
 use Rattle.bpaf_doc.specs.declared.buffer.Block.{Block}
 use Rattle.bpaf_doc.specs.declared.buffer.Block.TheVariants as blocks
-use Rattle.bpaf_doc.specs.Parts.{Part}
-use Rattle.bpaf_doc.specs.Chunks.{Chunk, Raw, Paragraph, LineBreak}
-use Rattle.bpaf_doc.specs.Fragments.{Fragment, TextStart, Shown, TextEnd, Hidden, Start, End, shown_fragments}
-use Rattle.bpaf_doc.specs.Html.{escaped_character, is_definition_list, style_sheet}
+use Rattle.bpaf_doc.specs.Buffer.Parts.{Part}
+use Rattle.bpaf_doc.specs.Splitter.Chunks.{Chunk, Raw, Paragraph, LineBreak}
+use Rattle.bpaf_doc.specs.Html.Fragments.{Fragment, TextStart, Shown, TextEnd, Hidden, Start, End, shown_fragments}
+use Rattle.bpaf_doc.specs.Html.Page.{escaped_character, is_definition_list, style_sheet}
 
 -- ---- styles
 

@@ -12,14 +12,14 @@ use Rattle.bpaf_doc.specs.declared.buffer.Style.{Style}
 use Rattle.bpaf_doc.specs.declared.buffer.Style.TheVariants as styles
 use Rattle.bpaf_doc.specs.declared.buffer.Block.{Block}
 use Rattle.bpaf_doc.specs.declared.buffer.Block.TheVariants as blocks
-use Rattle.bpaf_doc.specs.Parts.{Part, IsWellNested}
-use Rattle.bpaf_doc.specs.Chunks.{Raw, Paragraph, LineBreak, is_line_byte}
-use Rattle.bpaf_doc.specs.Fragments.{Fragment, TextStart, Shown, TextEnd, Hidden, Start, End, shown_fragments}
-use Rattle.bpaf_doc.specs.Html.{escaped_character, IsHtmlPageOf, IsHtmlTextPageOf}
-use Rattle.bpaf_doc.specs.HtmlPage.{start_tag, end_tag, opening_tags, closing_tags, open_block, is_open_list, break_text, is_empty, is_at_break, is_header, header_break, fragment_html, html_after, html_page}
-use Rattle.bpaf_doc.specs.HtmlSteps.{Written, blank_page, with_break, with_heading, first_or_false, without_first, closed, page_after, page_after_all}
-use Rattle.bpaf_doc.proofs.FragmentLines.{fragment_is_line}
-use Rattle.bpaf_doc.proofs.HtmlMeets.{shown_lines, page_meets, page_text}
+use Rattle.bpaf_doc.specs.Buffer.Parts.{Part, IsWellNested}
+use Rattle.bpaf_doc.specs.Splitter.Chunks.{Raw, Paragraph, LineBreak, is_line_byte}
+use Rattle.bpaf_doc.specs.Html.Fragments.{Fragment, TextStart, Shown, TextEnd, Hidden, Start, End, shown_fragments}
+use Rattle.bpaf_doc.specs.Html.Page.{escaped_character, IsHtmlPageOf, IsHtmlTextPageOf}
+use Rattle.bpaf_doc.specs.Html.Exact.{start_tag, end_tag, opening_tags, closing_tags, open_block, is_open_list, break_text, is_empty, is_at_break, is_header, header_break, fragment_html, html_after, html_page}
+use Rattle.bpaf_doc.specs.Html.Steps.Page.{Written, blank_page, with_break, with_heading, first_or_false, without_first, closed, page_after, page_after_all}
+use Rattle.bpaf_doc.proofs.lemmas.Html.Fragments.Lines.{fragment_is_line}
+use Rattle.bpaf_doc.proofs.lemmas.Html.Meets.{shown_lines, page_meets, page_text}
 
 -- ---- how a text ends
 

@@ -2,9 +2,9 @@
 use Rattle.std.specs.Prelude.{◌≡◌, Bool, true, false, [], ◌∷◌, codes, refl}
 use Rattle.bpaf_roff.specs.Roff.{Script, escape_pieces, piece}
 use Rattle.bpaf_roff.specs.declared.escape.Escape.TheVariants.{SpecialNoNewline, Spaces, Unescaped, UnescapedAtNewline}
-use Rattle.bpaf_doc.specs.Parts.{Text, Start, End}
-use Rattle.bpaf_doc.specs.Page.{title_page}
-use Rattle.bpaf_doc.specs.PagePieces.{document_pieces, roff_page}
+use Rattle.bpaf_doc.specs.Buffer.Parts.{Text, Start, End}
+use Rattle.bpaf_doc.specs.Manpage.Page.{title_page}
+use Rattle.bpaf_doc.specs.Manpage.Exact.{document_pieces, roff_page}
 use Rattle.bpaf_doc.specs.declared.buffer.Style.TheVariants as style
 use Rattle.bpaf_doc.specs.declared.buffer.Block.TheVariants as block
 
