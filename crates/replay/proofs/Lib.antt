@@ -1,10 +1,2 @@
-pub mod AnswerLaws
-pub mod OneLines
-pub mod PrintedLines
-pub mod PieceSlots
-pub mod Printing
-pub mod Reading
-pub mod Slots
-pub mod Steps
-pub mod TreeSlots
-pub mod WordLaws
+pub mod Replies
+pub mod Spelling

@@ -1,11 +1,9 @@
 -- How a word spells a text.
-use Rattle.std.specs.Prelude.{◌≡◌, ◌≢◌, ℕ, zero, suc, ◌+◌, ◌*◌, ◌/◌, ◌%◌, Bool, ◌||◌, ◌==◌, nat_lt, if◌then◌else◌, Option, Some, None, List, [], ◌∷◌, ◌++◌, codes, flat_map, encode_utf8, IsUtf8}
+use Rattle.std.specs.Prelude.{◌≡◌, ℕ, zero, suc, ◌+◌, ◌*◌, ◌/◌, ◌%◌, Bool, ◌||◌, ◌==◌, nat_lt, if◌then◌else◌, Option, Some, None, List, [], ◌∷◌, ◌++◌, codes, flat_map, encode_utf8, IsUtf8}
 use Rattle.std.specs.Char.{is_control, is_whitespace, digit_value, digit_char}
 use Rattle.std.specs.Option.{option_map}
 use Rattle.std.specs.Str.{chars}
 use lib.Utf8.{scalar}
-
--- ---- reading
 
 -- The character whose code the next hexadecimal digits give, and what follows them: so many digits, after those that gave the number.
 abbrev pub code_at : ℕ → ℕ → List ℕ → Option (ℕ × List ℕ)
@@ -28,16 +26,19 @@ abbrev pub escape_at : List ℕ → Option (ℕ × List ℕ)
 escape_at [] = None
 escape_at (letter ∷ word) = if letter == 117 then code_at 6 0 word else option_map (λ character. (character, word)) (letter_character letter)
 
+-- the bytes for which the first mark of a word stands, and what follows it: a byte for itself, or an escape for its character
+abbrev pub first_mark : List ℕ → Option (List ℕ × List ℕ)
+first_mark [] = None
+first_mark (byte ∷ word) = if byte == 92 then option_map (λ found. (encode_utf8 found.0, found.1)) (escape_at word) else Some (byte ∷ [], word)
+
 -- the word spells the text
 pub data Spells : List ℕ → List ℕ → Type 0 where
   nothing : {word text : List ℕ} → word ≡ [] → text ≡ [] → Spells word text
-  -- any other byte than a backslash stands for itself
-  plain : {word text : List ℕ} (byte : ℕ) (rest others : List ℕ) → word ≡ byte ∷ rest → byte ≢ 92 → text ≡ byte ∷ others
-      → Spells rest others → Spells word text
-  escape : {word text : List ℕ} (marks rest others : List ℕ) (character : ℕ) → word ≡ 92 ∷ marks → escape_at marks ≡ Some (character, rest)
-      → text ≡ encode_utf8 character ++ others → Spells rest others → Spells word text
+  mark : {word text : List ℕ} (bytes rest others : List ℕ) → first_mark word ≡ Some (bytes, rest) → text ≡ bytes ++ others → Spells rest others → Spells word text
 
--- ---- printing
+-- in front of any rest, the marks before it stand for the character
+abbrev pub StandFor : List ℕ → List ℕ → ℕ → Type 0
+StandFor marks rest character = (text : List ℕ) → Spells rest text → Spells marks (encode_utf8 character ++ text)
 
 -- the lowest hexadecimal digits of a number, so many
 abbrev pub hex_digits : ℕ → ℕ → List ℕ
@@ -61,8 +62,6 @@ character_spelling character =
 -- the printed form of a text, behind its quote mark
 abbrev pub spelling : List ℕ → List ℕ
 spelling text = flat_map character_spelling (chars text)
-
--- ---- laws
 
 -- what is printed spells the text
 abbrev pub PrintedTextsAreRead : Type 0

@@ -1,139 +1,66 @@
 //! Answers to requests on documents.
 
-ghost use Rattle.std.specs.Prelude.{◌≡◌, ◌∷◌, [], ◌++◌, List, IfOk, IfErr, OnOk, OnErr, string_bytes, length, ◌≤◌, ℕ, Some, IfSome};
-ghost use Rattle.std.specs.List.{slice_split};
-ghost use Rattle.replay.specs.Grammar.{FailsForm, Fits, FitsIfSome, IsWidth, IsWidths, OnlyIf, Reads, Refuses, Slot, Word, deepest, document_requests};
-ghost use Rattle.replay.specs.Progress.{left_len, widths_left};
-ghost use Rattle.replay.specs.Replay.{AddsAnswers, console_keys, document_keys, page_keys, IsOneLine};
-ghost use Rattle.replay.specs.Words.{is_comma};
+ghost use Rattle.std.specs.Prelude.{◌≢◌, [], OnOk};
 
-use crate::documents::{read_document, write_document};
+use crate::documents::{DEEPEST, read_document, shown};
 use crate::encoding::spelled;
 use crate::fault::Bad;
 use crate::lines::Lines;
-use crate::names::Names;
 use crate::pieces::append_control;
-use crate::trees::{DEEPEST, read_texts};
-use crate::words::Words;
+use crate::request::Request;
 use bpaf_doc::buffer::Doc;
 use bpaf_roff::escape::APOSTROPHE_PREABMLE;
 use bpaf_roff::roff::Roff;
-use std::alloc::{AllocError, Allocator};
+use std::alloc::{AllocError, Global};
 
-/// The answer to a request on a document that has one answer; none for another request.
-pub fn document_answer<A: Allocator + Copy>(
-    alloc: A,
-    request: &str,
-    words: &mut Words<'_>,
-    names: &mut Names,
-) -> Result<Option<String<A>>, Bad>
-    ensures fits { IfOk result (FitsIfSome document_requests request.now words.old words.new) }
-    ensures fails { IfErr result (OnlyIf (FailsForm document_requests request.now words.old)) }
-    ensures one_line { IfOk result (λ answer. IfSome answer (λ text. IsOneLine (string_bytes text))) }
-{
-    match request {
-        "console" => Ok(Some(console_answer(alloc, words, names)?)),
-        "html" => Ok(Some(html_answer(alloc, words, names)?)),
-        "markdown" => Ok(Some(markdown_answer(alloc, words, names)?)),
-        "roff" => Ok(Some(roff_answer(alloc, words, names)?)),
-        "parts" => {
-            let document = read_last_document(alloc, words, names)?;
-            Ok(Some(shown(alloc, &document)?))
-        }
-        "firstline" => {
-            let document = read_last_document(alloc, words, names)?;
-            Ok(Some(first_line(alloc, &document)?))
-        }
-        "isempty" => {
-            let document = read_last_document(alloc, words, names)?;
-            Ok(Some(is_empty(alloc, &document)?))
-        }
-        _ => Ok(None),
+/// The answer to a request on a document alone.
+pub fn document_answer(request: &mut Request<'_>, key: &str) -> Result<String, Bad> {
+    let document = read_last_document(request)?;
+    match key {
+        "parts" => Ok(shown(request.alloc, &document)?),
+        "firstline" => Ok(first_line(request.alloc, &document)?),
+        _ => Ok(digit(request.alloc, document.is_empty())?),
     }
 }
 
-fn console_answer<A: Allocator + Copy>(
-    alloc: A,
-    words: &mut Words<'_>,
-    names: &mut Names,
-) -> Result<String<A>, Bad>
-    ensures fits { OnOk result (Fits (Slot.extent ∷ Slot.width ∷ Slot.document deepest ∷ []) words.old) }
-    ensures fails { IfErr result (OnlyIf (¬ Fits (Slot.extent ∷ Slot.width ∷ Slot.document deepest ∷ []) words.old)) }
-    ensures one_line { IfOk result (λ answer. IsOneLine (string_bytes answer)) }
-{
-    let full = read_extent(words)?;
-    let width = read_width(words)?;
-    let document = read_last_document(alloc, words, names)?;
-    Ok(console(alloc, &document, full, width)?)
+pub fn console_answer(request: &mut Request<'_>) -> Result<String, Bad> {
+    let full = read_extent(request)?;
+    let width = width_of(request.word()?)?;
+    let document = read_last_document(request)?;
+    Ok(console(request.alloc, &document, full, width)?)
 }
 
-fn html_answer<A: Allocator + Copy>(
-    alloc: A,
-    words: &mut Words<'_>,
-    names: &mut Names,
-) -> Result<String<A>, Bad>
-    ensures fits { OnOk result (Fits (Slot.extent ∷ Slot.flag ∷ Slot.document deepest ∷ []) words.old) }
-    ensures fails { IfErr result (OnlyIf (¬ Fits (Slot.extent ∷ Slot.flag ∷ Slot.document deepest ∷ []) words.old)) }
-    ensures one_line { IfOk result (λ answer. IsOneLine (string_bytes answer)) }
-{
-    let full = read_extent(words)?;
-    let with_styles = words.flag()?;
-    let document = read_last_document(alloc, words, names)?;
-    Ok(html(alloc, &document, full, with_styles)?)
+pub fn html_answer(request: &mut Request<'_>) -> Result<String, Bad> {
+    let full = read_extent(request)?;
+    let with_styles = request.flag()?;
+    let document = read_last_document(request)?;
+    Ok(html(request.alloc, &document, full, with_styles)?)
 }
 
-fn markdown_answer<A: Allocator + Copy>(
-    alloc: A,
-    words: &mut Words<'_>,
-    names: &mut Names,
-) -> Result<String<A>, Bad>
-    ensures fits { OnOk result (Fits (Slot.extent ∷ Slot.document deepest ∷ []) words.old) }
-    ensures fails { IfErr result (OnlyIf (¬ Fits (Slot.extent ∷ Slot.document deepest ∷ []) words.old)) }
-    ensures one_line { IfOk result (λ answer. IsOneLine (string_bytes answer)) }
-{
-    let full = read_extent(words)?;
-    let document = read_last_document(alloc, words, names)?;
-    Ok(markdown(alloc, &document, full)?)
+pub fn markdown_answer(request: &mut Request<'_>) -> Result<String, Bad> {
+    let full = read_extent(request)?;
+    let document = read_last_document(request)?;
+    Ok(markdown(request.alloc, &document, full)?)
 }
 
-fn roff_answer<A: Allocator + Copy>(
-    alloc: A,
-    words: &mut Words<'_>,
-    names: &mut Names,
-) -> Result<String<A>, Bad>
-    ensures fits { OnOk result (Fits (Slot.texts ∷ Slot.document deepest ∷ []) words.old) }
-    ensures fails { IfErr result (OnlyIf (¬ Fits (Slot.texts ∷ Slot.document deepest ∷ []) words.old)) }
-    ensures one_line { IfOk result (λ answer. IsOneLine (string_bytes answer)) }
-{
-    let title = read_texts(alloc, words)?;
-    let document = read_last_document(alloc, words, names)?;
+pub fn roff_answer(request: &mut Request<'_>) -> Result<String, Bad> {
+    let title = request.texts()?;
+    let document = read_last_document(request)?;
+    let alloc = request.alloc;
     let mut page = Roff::new(alloc);
     append_control(&mut page, alloc, "TH", &title)?;
     Ok(spelled(alloc, document.render_roff(page)?.as_str())?)
 }
 
-fn read_extent(words: &mut Words<'_>) -> Result<bool, Bad>
-    ensures reads { OnOk result (Reads (Slot.extent ∷ []) words.old words.new) }
-    ensures refuses { OnErr result (Refuses (Slot.extent ∷ []) words.old) }
-{
-    match words.word()? {
+fn read_extent(request: &mut Request<'_>) -> Result<bool, Bad> {
+    match request.word()? {
         "full" => Ok(true),
         "brief" => Ok(false),
         _ => Err(Bad::Words("full or brief was expected")),
     }
 }
 
-fn read_width(words: &mut Words<'_>) -> Result<usize, Bad>
-    ensures reads { OnOk result (Reads (Slot.width ∷ []) words.old words.new) }
-    ensures refuses { OnErr result (Refuses (Slot.width ∷ []) words.old) }
-{
-    width_of(words.word()?)
-}
-
-fn width_of(word: &str) -> Result<usize, Bad>
-    ensures ok { OnOk result (IsWidth word.now) }
-    ensures err { OnErr result (¬ IsWidth word.now) }
-{
+fn width_of(word: &str) -> Result<usize, Bad> {
     if word == "max" {
         return Ok(usize::MAX);
     }
@@ -141,99 +68,46 @@ fn width_of(word: &str) -> Result<usize, Bad>
 }
 
 // Takes a document, behind which no word is left.
-fn read_last_document<A: Allocator + Copy>(
-    alloc: A,
-    words: &mut Words<'_>,
-    names: &mut Names,
-) -> Result<Doc<A>, Bad>
-    ensures fits { OnOk result (Fits (Slot.document deepest ∷ []) words.old) }
-    ensures fails { IfErr result (OnlyIf (¬ Fits (Slot.document deepest ∷ []) words.old)) }
-{
-    let document = read_document(alloc, words, names, DEEPEST)?;
-    words.end()?;
+fn read_last_document(request: &mut Request<'_>) -> Result<Doc, Bad> {
+    let document = read_document(request, DEEPEST)?;
+    request.end()?;
     Ok(document)
 }
 
 /// Adds all answers to one document: console pages at the widths, and what needs no width.
-pub fn add_document_answers<A: Allocator + Copy>(
-    alloc: A,
-    words: &mut Words<'_>,
-    names: &mut Names,
-    lines: &mut Lines<A>,
-) -> Result<(), Bad>
-    ensures fits { OnOk result (Fits (Slot.widths ∷ Slot.document deepest ∷ []) words.old) }
-    ensures added { OnOk result ((widths : Word) × (others : List Word) × (words.old ≡ widths ∷ others)
-        × AddsAnswers (document_keys widths) lines.old lines.new) }
-    ensures fails { IfErr result (OnlyIf (¬ Fits (Slot.widths ∷ Slot.document deepest ∷ []) words.old)) }
+pub fn add_document_answers(request: &mut Request<'_>, lines: &mut Lines) -> Result<(), Bad>
+    ensures { OnOk result (lines.new ≢ []) }
 {
-    let widths = words.word()?;
-    let document = read_last_document(alloc, words, names)?;
-    add_console_pages(alloc, &document, widths, lines)?;
-    Ok(add_pages(alloc, &document, lines)?)
-}
-
-// Adds a page in full and one in brief for each width, between commas.
-fn add_console_pages<A: Allocator + Copy>(
-    alloc: A,
-    document: &Doc<A>,
-    widths: &str,
-    lines: &mut Lines<A>,
-) -> Result<(), Bad>
-    ensures widths { OnOk result (IsWidths (slice_split is_comma widths.now)) }
-    ensures added { OnOk result (AddsAnswers (console_keys (slice_split is_comma widths.now)) lines.old lines.new) }
-    ensures err { IfErr result (OnlyIf (¬ IsWidths (slice_split is_comma widths.now))) }
-{
-    let mut left = Some(widths);
-    while let Some(text) = left {
-        let (word, others) = cut_width(text);
-        add_console_page(alloc, document, word, lines)?;
-        left = others;
+    let widths = request.word()?;
+    let document = read_last_document(request)?;
+    for width in widths.split(',') {
+        add_console_pages(request.alloc, &document, width, lines)?;
     }
-    Ok(())
+    add_pages(request.alloc, &document, lines)
 }
 
-// The first of the widths, and the others where there are more.
-fn cut_width(text: &str) -> (&str, Option<&str>)
-    ensures widths { slice_split is_comma text.now ≡ result.0.now ∷ widths_left result.1 }
-    ensures shorter { left_len result.1 ≤ length text.now }
-{
-    match text.split_once(',') {
-        Some((word, others)) => (word, Some(others)),
-        None => (text, None),
-    }
-}
-
-fn add_console_page<A: Allocator + Copy>(
-    alloc: A,
-    document: &Doc<A>,
+// Adds a page in full and one in brief.
+fn add_console_pages(
+    alloc: Global,
+    document: &Doc,
     width: &str,
-    lines: &mut Lines<A>,
-) -> Result<(), Bad>
-    ensures width { OnOk result (IsWidth width.now) }
-    ensures added { OnOk result (AddsAnswers (console_keys (width.now ∷ [])) lines.old lines.new) }
-    ensures err { IfErr result (OnlyIf (¬ IsWidth width.now)) }
-{
+    lines: &mut Lines,
+) -> Result<(), Bad> {
     let columns = width_of(width)?;
     let full = key_of(alloc, "cf", width)?;
     lines.add(full.as_str(), console(alloc, document, true, columns)?)?;
     let brief = key_of(alloc, "cb", width)?;
-    Ok(lines.add(brief.as_str(), console(alloc, document, false, columns)?)?)
+    lines.add(brief.as_str(), console(alloc, document, false, columns)?)
 }
 
-fn key_of<A: Allocator>(alloc: A, kind: &str, width: &str) -> Result<String<A>, AllocError>
-    ensures { IfOk result (λ key. string_bytes key ≡ kind.now ++ width.now) }
-{
+fn key_of(alloc: Global, kind: &str, width: &str) -> Result<String, AllocError> {
     let mut key = String::from_str(alloc, kind)?;
     key.push_str(width)?;
     Ok(key)
 }
 
-fn add_pages<A: Allocator + Copy>(
-    alloc: A,
-    document: &Doc<A>,
-    lines: &mut Lines<A>,
-) -> Result<(), AllocError>
-    ensures { OnOk result (AddsAnswers page_keys lines.old lines.new) }
+fn add_pages(alloc: Global, document: &Doc, lines: &mut Lines) -> Result<(), Bad>
+    ensures { OnOk result (lines.new ≢ []) }
 {
     lines.add("hf", html(alloc, document, true, false)?)?;
     lines.add("hb", html(alloc, document, false, false)?)?;
@@ -243,74 +117,34 @@ fn add_pages<A: Allocator + Copy>(
     lines.add("fl", first_line(alloc, document)?)
 }
 
-fn console<A: Allocator + Copy>(
-    alloc: A,
-    document: &Doc<A>,
-    full: bool,
-    width: usize,
-) -> Result<String<A>, AllocError>
-    ensures one_line { IfOk result (λ answer. IsOneLine (string_bytes answer)) }
-{
+fn console(alloc: Global, document: &Doc, full: bool, width: usize) -> Result<String, AllocError> {
     spelled(alloc, document.render_console(alloc, full, width)?.as_str())
 }
 
-fn html<A: Allocator + Copy>(
-    alloc: A,
-    document: &Doc<A>,
-    full: bool,
-    with_styles: bool,
-) -> Result<String<A>, AllocError>
-    ensures one_line { IfOk result (λ answer. IsOneLine (string_bytes answer)) }
-{
-    spelled(
-        alloc,
-        document.render_html(alloc, full, with_styles)?.as_str(),
-    )
+fn html(alloc: Global, document: &Doc, full: bool, styles: bool) -> Result<String, AllocError> {
+    spelled(alloc, document.render_html(alloc, full, styles)?.as_str())
 }
 
-fn markdown<A: Allocator + Copy>(
-    alloc: A,
-    document: &Doc<A>,
-    full: bool,
-) -> Result<String<A>, AllocError>
-    ensures one_line { IfOk result (λ answer. IsOneLine (string_bytes answer)) }
-{
+fn markdown(alloc: Global, document: &Doc, full: bool) -> Result<String, AllocError> {
     spelled(alloc, document.render_markdown(alloc, full)?.as_str())
 }
 
 // The document on an empty page, without the preamble.
-fn bare_roff<A: Allocator + Copy>(alloc: A, document: &Doc<A>) -> Result<String<A>, AllocError>
-    ensures one_line { IfOk result (λ answer. IsOneLine (string_bytes answer)) }
-{
+fn bare_roff(alloc: Global, document: &Doc) -> Result<String, AllocError> {
     let page = document.render_roff(Roff::new(alloc))?;
     let text = page.as_str();
-    spelled(
-        alloc,
-        text.strip_prefix(APOSTROPHE_PREABMLE).unwrap_or(text),
-    )
+    let bare = text.strip_prefix(APOSTROPHE_PREABMLE).unwrap_or(text);
+    spelled(alloc, bare)
 }
 
-fn first_line<A: Allocator + Copy>(alloc: A, document: &Doc<A>) -> Result<String<A>, AllocError>
-    ensures one_line { IfOk result (λ answer. IsOneLine (string_bytes answer)) }
-{
+fn first_line(alloc: Global, document: &Doc) -> Result<String, AllocError> {
     match document.first_line()? {
         Some(line) => shown(alloc, &line),
         None => String::from_str(alloc, "-"),
     }
 }
 
-fn is_empty<A: Allocator>(alloc: A, document: &Doc<A>) -> Result<String<A>, AllocError>
-    ensures one_line { IfOk result (λ answer. IsOneLine (string_bytes answer)) }
-{
-    String::from_str(alloc, if document.is_empty() { "1" } else { "0" })
-}
-
-// The parts of a document.
-#[tactic(auto, using(crate::proofs::PrintedLines::printer_lemmas))]
-fn shown<A: Allocator + Copy>(alloc: A, document: &Doc<A>) -> Result<String<A>, AllocError>
-    ensures one_line { IfOk result (λ answer. IsOneLine (string_bytes answer)) }
-{
-    let mut answer = String::new(alloc);
-    write_document(&mut answer, document)?;
-    Ok(answer)
+/// 1 if something holds, and else 0.
+pub fn digit(alloc: Global, is_so: bool) -> Result<String, AllocError> {
+    String::from_str(alloc, if is_so { "1" } else { "0" })
 }

@@ -1,76 +1,80 @@
 //! Documents, read and printed.
 
-ghost use Rattle.std.specs.Prelude.{◌<◌, ◌≤◌, OnOk, length, string_bytes, ◌≢◌, [], ◌∷◌, codes, IfErr, OnErr};
-ghost use Rattle.replay.specs.Printers.{WritesInLine};
-ghost use Rattle.replay.specs.Replay.{IsOneLine};
-ghost use Rattle.replay.specs.Grammar.{IsLetter, IsPlainPart, Leads, OnlyIf, Reads, Refuses, Slot};
+ghost use Rattle.std.specs.Prelude.{◌≡◌, ◌+◌, IfOk};
 
 use crate::encoding::{read_text, write_text};
 use crate::fault::Bad;
-use crate::names::Names;
-use crate::printer::put;
-use crate::trees::{deeper, read_call, read_texts};
-use crate::words::Words;
+use crate::request::Request;
+use crate::trees::{read_name, read_tree};
 use bpaf_doc::buffer::{Block, Doc, Part, Style, Token};
-use std::alloc::{AllocError, Allocator};
+use bpaf_help::meta::Meta;
+use bpaf_help::meta_help::Metavar;
+use bpaf_help::usage::{metavar, write_item, write_meta, write_shortlong};
+use std::alloc::{AllocError, Global};
+
+/// How many levels of trees and documents a line may nest.
+pub const DEEPEST: usize = 1_000;
+
+/// The levels that are left inside one.
+pub fn deeper(depth: usize) -> Result<usize, Bad>
+    ensures { IfOk result (λ inner. inner + 1 ≡ depth) }
+{
+    match depth {
+        0 => Err(Bad::Words("nested too deep")),
+        _ => Ok(depth - 1),
+    }
+}
 
 /// Takes the words of a document.
 #[cycle(read)]
-pub fn read_document<A: Allocator + Copy>(
-    alloc: A,
-    words: &mut Words<'_>,
-    names: &mut Names,
-    depth: usize,
-) -> Result<Doc<A>, Bad>
-    ensures reads { OnOk result (Reads (Slot.document depth ∷ []) words.old words.new) }
-    ensures refuses { IfErr result (OnlyIf (Refuses (Slot.document depth ∷ []) words.old)) }
-    ensures shorter { OnOk result (length words.new < length words.old) }
-{
+pub fn read_document(request: &mut Request<'_>, depth: usize) -> Result<Doc, Bad> {
     let depth = deeper(depth)?;
-    words.expect("[")?;
-    let mut document = Doc::new(alloc);
-    loop {
-        let word = words.word()?;
+    request.expect("[")?;
+    let mut document = Doc::new(request.alloc);
+    for _ in 0..u64::MAX {
+        let word = request.word()?;
         if word == "]" {
             return Ok(document);
         }
-        read_part(alloc, word, words, names, &mut document, depth)?;
+        read_part(request, word, &mut document, depth)?;
     }
+    Err(Bad::TOO_LONG)
 }
 
 // Takes the words of a part behind its first one, and writes the part.
 #[cycle(read)]
-fn read_part<A: Allocator + Copy>(
-    alloc: A,
+fn read_part(
+    request: &mut Request<'_>,
     word: &str,
-    words: &mut Words<'_>,
-    names: &mut Names,
-    document: &mut Doc<A>,
+    document: &mut Doc,
     depth: usize,
-) -> Result<(), Bad>
-    requires { word.now ≢ codes "]" }
-    ensures reads { OnOk result (Leads (Slot.parts depth ∷ []) (word.now ∷ words.old) (Slot.parts depth ∷ []) words.new) }
-    ensures refuses { IfErr result (OnlyIf (Refuses (Slot.parts depth ∷ []) (word.now ∷ words.old))) }
-    ensures no_longer { OnOk result (length words.new ≤ length words.old) }
-{
+) -> Result<(), Bad> {
     match word {
-        "doc" => Ok(document.doc(&read_document(alloc, words, names, depth)?)?),
-        "em" => Ok(document.em_doc(&read_document(alloc, words, names, depth)?)?),
-        "path" => Ok(document.write_path(&read_texts(alloc, words)?)?),
-        _ => {
-            if read_call(alloc, word, words, names, document, depth)? {
-                return Ok(());
-            }
-            read_plain(alloc, word, document)
+        "doc" => document.doc(&read_document(request, depth)?)?,
+        "em" => document.em_doc(&read_document(request, depth)?)?,
+        "path" => document.write_path(&request.texts()?)?,
+        "meta" => {
+            let for_usage = request.flag()?;
+            write_meta(document, &read_tree(request, depth)?, for_usage)?;
         }
+        "item" => write_if_item(document, &read_tree(request, depth)?)?,
+        "metavar" => metavar(document, Metavar(request.lasting_text()?))?,
+        "name" => write_shortlong(document, &read_name(request)?)?,
+        _ => read_plain(request.alloc, word, document)?,
     }
+    Ok(())
+}
+
+// Writes a tree that is one item, and nothing for another.
+fn write_if_item(document: &mut Doc, tree: &Meta) -> Result<(), AllocError> {
+    if let Meta::Item(item) = tree {
+        write_item(document, item)?;
+    }
+    Ok(())
 }
 
 // A part that is one word: a text in a style, or a block's start or end.
-fn read_plain<A: Allocator + Copy>(alloc: A, word: &str, document: &mut Doc<A>) -> Result<(), Bad>
-    ensures ok { OnOk result (IsPlainPart word.now) }
-    ensures err { IfErr result (OnlyIf (¬ IsPlainPart word.now)) }
-{
+fn read_plain(alloc: Global, word: &str, document: &mut Doc) -> Result<(), Bad> {
     if let Some(code) = word.strip_prefix('<') {
         return Ok(document.token(Token::BlockStart(block_of(code)?))?);
     }
@@ -85,10 +89,7 @@ fn read_plain<A: Allocator + Copy>(alloc: A, word: &str, document: &mut Doc<A>) 
     Ok(document.write_str(text.as_str(), style)?)
 }
 
-fn block_of(code: &str) -> Result<Block, Bad>
-    ensures ok { OnOk result (IsLetter (codes "H234tbdBirmo") code.now) }
-    ensures err { OnErr result (¬ IsLetter (codes "H234tbdBirmo") code.now) }
-{
+fn block_of(code: &str) -> Result<Block, Bad> {
     match code {
         "H" => Ok(Block::Header),
         "2" => Ok(Block::Section2),
@@ -106,10 +107,7 @@ fn block_of(code: &str) -> Result<Block, Bad>
     }
 }
 
-fn style_of(code: &str) -> Result<Style, Bad>
-    ensures ok { OnOk result (IsLetter (codes "TELMI") code.now) }
-    ensures err { OnErr result (¬ IsLetter (codes "TELMI") code.now) }
-{
+fn style_of(code: &str) -> Result<Style, Bad> {
     match code {
         "T" => Ok(Style::Text),
         "E" => Ok(Style::Emphasis),
@@ -120,42 +118,49 @@ fn style_of(code: &str) -> Result<Style, Bad>
     }
 }
 
-/// Prints a document.
-#[tactic(auto, using(crate::proofs::PrintedLines::printer_lemmas))]
-pub fn write_document<A: Allocator>(
-    out: &mut String<A>,
-    document: &Doc<A>,
-) -> Result<(), AllocError>
-    ensures { OnOk result (WritesInLine (string_bytes out.old) (string_bytes out.new)) }
-{
-    put(out, "[")?;
-    let mut last = None;
-    for part in document.parts() {
-        match part {
-            Part::Text(text, style) => {
-                put(out, if last == Some(style) { " ," } else { " " })?;
-                put(out, style_code(style))?;
-                write_text(out, text)?;
-                last = Some(style);
-            }
-            Part::Start(block) => {
-                put(out, " <")?;
-                put(out, block_code(block))?;
-                last = None;
-            }
-            Part::End(block) => {
-                put(out, " >")?;
-                put(out, block_code(block))?;
-                last = None;
-            }
-        }
-    }
-    put(out, " ]")
+/// The printed form of a document.
+pub fn shown(alloc: Global, document: &Doc) -> Result<String, AllocError> {
+    let mut answer = String::new(alloc);
+    write_document(&mut answer, document)?;
+    Ok(answer)
 }
 
-fn style_code(style: Style) -> &'static str
-    ensures { IsOneLine result.now }
-{
+/// Prints a document. A text behind one of its own style has a comma before it.
+pub fn write_document(out: &mut String, document: &Doc) -> Result<(), AllocError> {
+    out.push_str("[")?;
+    let mut last = None;
+    for part in document.parts() {
+        last = write_part(out, part, last)?;
+    }
+    out.push_str(" ]")
+}
+
+// Prints a part behind a text of a style or another part. Answers the style if it is a text.
+fn write_part(
+    out: &mut String,
+    part: Part<'_>,
+    last: Option<Style>,
+) -> Result<Option<Style>, AllocError> {
+    match part {
+        Part::Text(text, style) => {
+            out.push_str(if last == Some(style) { " ," } else { " " })?;
+            out.push_str(style_code(style))?;
+            write_text(out, text)?;
+            return Ok(Some(style));
+        }
+        Part::Start(block) => {
+            out.push_str(" <")?;
+            out.push_str(block_code(block))?;
+        }
+        Part::End(block) => {
+            out.push_str(" >")?;
+            out.push_str(block_code(block))?;
+        }
+    }
+    Ok(None)
+}
+
+fn style_code(style: Style) -> &'static str {
     match style {
         Style::Text => "T",
         Style::Emphasis => "E",
@@ -165,9 +170,7 @@ fn style_code(style: Style) -> &'static str
     }
 }
 
-fn block_code(block: Block) -> &'static str
-    ensures { IsOneLine result.now }
-{
+fn block_code(block: Block) -> &'static str {
     match block {
         Block::Header => "H",
         Block::Section2 => "2",

@@ -1,108 +1,100 @@
 //! The printed form of texts.
 
-ghost use Rattle.std.specs.Prelude.{◌≡◌, ◌⊎◌, ◌+◌, ◌<◌, ◌≤◌, ◌∷◌, ◌++◌, ◌^◌, ℕ, List, [], Some, IfOk, IfErr, IfSome, OnOk, length, string_bytes};
-ghost use Rattle.std.specs.Option.{option_map};
-ghost use Rattle.replay.specs.Encoding.{Spells, character_spelling, code_at, escape_at, hex_digits, letter_character, spelling};
-ghost use Rattle.replay.specs.Grammar.{OnlyIf, Reads, Refuses, Slot};
-ghost use Rattle.replay.specs.Printers.{WritesInLine};
-ghost use Rattle.replay.specs.Replay.{IsOneLine};
+ghost use Rattle.std.specs.Prelude.{◌≡◌, ◌≤◌, ◌∷◌, ◌++◌, Some, IfOk, IfSome, OnOk, encode_utf8, length, string_bytes};
+ghost use Rattle.std.specs.Str.Iter.{chars_rest};
+ghost use Rattle.replay.specs.Encoding.{Spells, StandFor, character_spelling, code_at, escape_at, hex_digits, spelling};
 
 use crate::fault::Bad;
-use crate::words::Words;
-use std::alloc::{AllocError, Allocator};
-
-const NO_TEXT: Bad = Bad::Words("a text was expected");
-
-const NO_ESCAPE: Bad = Bad::Words("no such escape");
+use std::alloc::{AllocError, Global};
+use std::str::Chars;
 
 /// The text that a word spells. The word is what follows the quote mark.
-pub fn read_text<A: Allocator>(alloc: A, word: &str) -> Result<String<A>, Bad>
-    ensures ok { IfOk result (λ text. Spells word.now (string_bytes text)) }
-    ensures err { IfErr result (λ bad. (bad ≡ Bad.Memory)
-        ⊎ ((text : List ℕ) → ¬ Spells word.now text)) }
+pub fn read_text(alloc: Global, word: &str) -> Result<String, Bad>
+    ensures { IfOk result (λ text. Spells word.now (string_bytes text)) }
 {
     let mut text = String::new(alloc);
-    let mut rest = word;
-    while let Some((plain, escape)) = rest.split_once('\\') {
-        text.push_str(plain)?;
-        let Some((character, after)) = read_escape(escape) else {
-            return Err(NO_ESCAPE);
+    let mut marks = word.chars();
+    while let Some(mark) = marks.next() {
+        let Some(character) = read_character(mark, &mut marks) else {
+            return Err(Bad::Words("no such escape"));
         };
         text.push(character)?;
-        rest = after;
     }
-    text.push_str(rest)?;
     Ok(text)
 }
 
-// The character of an escape, and what follows it. The escape stands behind its backslash.
-fn read_escape(escape: &str) -> Option<(char, &str)>
-    ensures found { option_map (λ found. (found.0, found.1.now)) result ≡ escape_at escape.now }
-    ensures shorter { IfSome result (λ found. length found.1.now ≤ length escape.now) }
+// The character for which a mark stands, which takes more of them if it is a backslash.
+fn read_character(mark: char, marks: &mut Chars<'_>) -> Option<char>
+    ensures found { IfSome result (StandFor (encode_utf8 mark ++ chars_rest marks.old) (chars_rest marks.new)) }
+    ensures no_longer { length (chars_rest marks.new) ≤ length (chars_rest marks.old) }
 {
-    let mut characters = escape.chars();
-    let letter = characters.next()?;
-    if letter == 'u' {
-        return read_code(characters.as_str());
+    match mark {
+        '\\' => Some(read_escape(marks)?),
+        _ => Some(mark),
     }
-    Some((letter_character(letter)?, characters.as_str()))
 }
 
-fn letter_character(letter: char) -> Option<char>
-    ensures { result ≡ letter_character letter }
+// Takes what stands behind a backslash.
+fn read_escape(marks: &mut Chars<'_>) -> Option<char>
+    ensures found { IfSome result (λ character. escape_at (chars_rest marks.old) ≡ Some (character, chars_rest marks.new)) }
+    ensures no_longer { length (chars_rest marks.new) ≤ length (chars_rest marks.old) }
 {
-    match letter {
+    match marks.next()? {
         '\\' => Some('\\'),
         's' => Some(' '),
         'n' => Some('\n'),
         't' => Some('\t'),
         'r' => Some('\r'),
+        'u' => read_code(marks, 6, 0),
         _ => None,
     }
 }
 
-// The character whose code six digits give, and what follows them.
-fn read_code(word: &str) -> Option<(char, &str)>
-    ensures found { option_map (λ found. (found.0, found.1.now)) result ≡ code_at 6 0 word.now }
-    ensures shorter { IfSome result (λ found. length found.1.now ≤ length word.now) }
+// Takes so many digits of a character's code, behind those that gave a number.
+fn read_code(marks: &mut Chars<'_>, count: u32, number: u32) -> Option<char>
+    ensures found { IfSome result (λ character. code_at count number (chars_rest marks.old) ≡ Some (character, chars_rest marks.new)) }
+    ensures no_longer { length (chars_rest marks.new) ≤ length (chars_rest marks.old) }
 {
-    let mut characters = word.chars();
-    let mut code = 0;
-    'digits: for _ in 0..6u32 {
-        let digit = characters.next()?.to_digit(16)?;
-        code = code * 16 + digit;
+    if count == 0 {
+        let character = char::from_u32(number)?;
+        return Some(character);
     }
-    Some((char::from_u32(code)?, characters.as_str()))
-}
-
-/// Writes a quote mark and the text behind it.
-pub fn write_text<A: Allocator>(out: &mut String<A>, text: &str) -> Result<(), AllocError>
-    ensures exact { OnOk result (string_bytes out.new
-        ≡ string_bytes out.old ++ 39 ∷ spelling text.now) }
-    ensures in_line { OnOk result (WritesInLine (string_bytes out.old) (string_bytes out.new)) }
-{
-    out.push('\'')?;
-    for character in text.chars() {
-        write_character(out, character)?;
-    }
-    Ok(())
+    let digit = marks.next()?.to_digit(16)?;
+    let longer = number.checked_mul(16)?.checked_add(digit)?;
+    let character = read_code(marks, count - 1, longer)?;
+    Some(character)
 }
 
 /// The quote mark and the text's spelling behind it, as a text of its own.
-pub fn spelled<A: Allocator>(alloc: A, text: &str) -> Result<String<A>, AllocError>
-    ensures exact { IfOk result (λ word. string_bytes word ≡ 39 ∷ spelling text.now) }
-    ensures one_line { IfOk result (λ word. IsOneLine (string_bytes word)) }
+pub fn spelled(alloc: Global, text: &str) -> Result<String, AllocError>
+    ensures { IfOk result (λ word. string_bytes word ≡ 39 ∷ spelling text.now) }
 {
     let mut word = String::new(alloc);
     write_text(&mut word, text)?;
     Ok(word)
 }
 
+/// Writes a quote mark and the text behind it.
+pub fn write_text(out: &mut String, text: &str) -> Result<(), AllocError>
+    ensures { OnOk result (string_bytes out.new ≡ string_bytes out.old ++ 39 ∷ spelling text.now) }
+{
+    out.push('\'')?;
+    write_characters(out, text)
+}
+
+/// Writes the characters of a text as they stand behind a quote mark.
+pub fn write_characters(out: &mut String, text: &str) -> Result<(), AllocError>
+    ensures { OnOk result (string_bytes out.new ≡ string_bytes out.old ++ spelling text.now) }
+{
+    for character in text.chars() {
+        write_character(out, character)?;
+    }
+    Ok(())
+}
+
 /// Writes one character as it stands in a text.
-pub fn write_character<A: Allocator>(out: &mut String<A>, character: char) -> Result<(), AllocError>
-    ensures exact { OnOk result (string_bytes out.new
-        ≡ string_bytes out.old ++ character_spelling character) }
-    ensures in_line { OnOk result (WritesInLine (string_bytes out.old) (string_bytes out.new)) }
+pub fn write_character(out: &mut String, character: char) -> Result<(), AllocError>
+    ensures { OnOk result (string_bytes out.new ≡ string_bytes out.old ++ character_spelling character) }
 {
     match character {
         '\\' => out.push_str("\\\\"),
@@ -122,7 +114,7 @@ pub fn write_character<A: Allocator>(out: &mut String<A>, character: char) -> Re
 }
 
 // Writes the lowest digits of a code, so many.
-fn write_digits<A: Allocator>(out: &mut String<A>, code: u32, count: u32) -> Result<(), AllocError>
+fn write_digits(out: &mut String, code: u32, count: u32) -> Result<(), AllocError>
     ensures { OnOk result (string_bytes out.new ≡ string_bytes out.old ++ hex_digits count code) }
 {
     if count == 0 {
@@ -130,21 +122,4 @@ fn write_digits<A: Allocator>(out: &mut String<A>, code: u32, count: u32) -> Res
     }
     write_digits(out, code / 16, count - 1)?;
     out.push(char::from_digit(code % 16, 16).unwrap())
-}
-
-impl Words<'_> {
-    /// Takes a word that is a text, with its quote mark.
-    pub fn text<A: Allocator>(&mut self, alloc: A) -> Result<String<A>, Bad>
-        ensures spelled { IfOk result (λ text. (marks : List ℕ)
-            × (self.old ≡ (39 ∷ marks) ∷ self.new) × Spells marks (string_bytes text)) }
-        ensures reads { OnOk result (Reads (Slot.text ∷ []) self.old self.new) }
-        ensures refuses { IfErr result (OnlyIf (Refuses (Slot.text ∷ []) self.old)) }
-        ensures shorter { OnOk result (length self.new < length self.old) }
-        ensures no_longer { length self.new ≤ length self.old }
-    {
-        match self.word()?.strip_prefix('\'') {
-            Some(word) => read_text(alloc, word),
-            None => Err(NO_TEXT),
-        }
-    }
 }

@@ -1,8 +1,5 @@
 //! Why a line has no answer.
 
-ghost use Rattle.std.specs.Prelude.{◌≡◌};
-ghost use Rattle.replay.specs.declared.fault.Bad.TheVariants.{Memory};
-
 use std::alloc::{AllocError, AllocFailed};
 
 /// Why a line has no answer.
@@ -14,17 +11,18 @@ pub enum Bad {
     Words(&'static str),
 }
 
-impl From<AllocError> for Bad {
-    ghost from_gives = { λ _ bad. bad ≡ Memory };
+impl Bad {
+    /// A line of 2^64 - 1 words or more.
+    pub const TOO_LONG: Bad = Bad::Words("the line is too long");
+}
 
+impl From<AllocError> for Bad {
     fn from(_error: AllocError) -> Bad {
         Bad::Memory
     }
 }
 
 impl<T: Drop> From<AllocFailed<T>> for Bad {
-    ghost from_gives = { λ _ bad. bad ≡ Memory };
-
     fn from(_error: AllocFailed<T>) -> Bad {
         Bad::Memory
     }

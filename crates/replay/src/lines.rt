@@ -1,52 +1,56 @@
 //! Answer lines.
 
-ghost use Rattle.std.specs.Prelude.{◌≡◌, ℕ, List, [], ◌∷◌, ◌++◌, OnOk, codes, string_bytes};
-ghost use Rattle.replay.specs.Replay.{AddsAnswers, IsOneLine, answer_line};
+ghost use Rattle.std.specs.Prelude.{◌≡◌, ◌≢◌, ◌++◌, [], ℕ, List, IfOk, OnOk, codes, string_bytes};
+ghost use Rattle.std.specs.List.{list_any};
+ghost use Rattle.replay.specs.Replay.{AreAnswers, is_newline};
 
-use std::alloc::{AllocError, Allocator};
+use crate::fault::Bad;
+use std::alloc::Global;
 use std::marker::Model;
 
 /// The answer of a key that the library does not give yet.
 pub const UNBUILT: &str = "UNBUILT";
 
-/// Stands for the answer of the line before.
+// Stands for the answer of the line before.
 const SAME: &str = "^";
 
 /// The answer lines of one request, `= KEY ANSWER` each. An answer that is the one before is printed as `^`.
 #[derive(Drop)]
-pub struct Lines<A: Allocator> {
-    text: String<A>,
-    last: Option<String<A>>,
+pub struct Lines {
+    alloc: Global,
+    text: String,
+    last: Option<String>,
 }
 
-impl<A: Allocator> Model for Lines<A> {
+impl Model for Lines {
     ghost use Rattle.std.specs.Prelude.{ℕ, List, string_bytes};
+    ghost use Rattle.replay.specs.Replay.{AreAnswers};
 
     ghost Value = { List ℕ };
 
     ghost view = { λ lines. string_bytes lines.text };
+
+    ghost invariant = { λ lines. AreAnswers (string_bytes lines.text) };
 }
 
-impl<A: Allocator> Lines<A> {
+impl Lines {
     /// No line.
-    pub fn new(alloc: A) -> Lines<A>
-        ensures { result ≡ [] }
-    {
+    pub fn new(alloc: Global) -> Lines {
         Lines {
+            alloc,
             text: String::new(alloc),
             last: None,
         }
     }
 
-    /// Adds the line of an answer.
-    pub fn add(&mut self, key: &str, answer: String<A>) -> Result<(), AllocError>
-        requires one_line { IsOneLine (string_bytes answer) }
-        ensures { OnOk result (AddsAnswers (key.now ∷ []) self.old self.new) }
+    /// Adds the line of an answer. One with a newline is refused.
+    pub fn add(&mut self, key: &str, answer: String) -> Result<(), Bad>
+        ensures { OnOk result (self.new ≢ []) }
     {
         if self.repeats(answer.as_str()) {
-            write_line(&mut self.text, key, SAME)?;
+            self.add_line(key, SAME)?;
         } else {
-            write_line(&mut self.text, key, answer.as_str())?;
+            self.add_line(key, answer.as_str())?;
         }
         self.last = Some(answer);
         Ok(())
@@ -61,11 +65,23 @@ impl<A: Allocator> Lines<A> {
     }
 
     /// Adds the line of a key that has no answer yet.
-    pub fn add_unbuilt(&mut self, key: &str) -> Result<(), AllocError>
-        ensures { OnOk result (AddsAnswers (key.now ∷ []) self.old self.new) }
+    pub fn add_unbuilt(&mut self, key: &str) -> Result<(), Bad>
+        ensures { OnOk result (self.new ≢ []) }
     {
         self.last = None;
-        write_line(&mut self.text, key, UNBUILT)
+        self.add_line(key, UNBUILT)
+    }
+
+    // Adds a line, all of it or none.
+    fn add_line(&mut self, key: &str, answer: &str) -> Result<(), Bad>
+        ensures { OnOk result (self.new ≢ []) }
+    {
+        let mut line = answer_line(self.alloc, key, answer)?;
+        if has_newline(line.as_str().as_bytes()) {
+            return Err(Bad::Words("an answer has a newline"));
+        }
+        line.push_str("\n")?;
+        Ok(self.text.push_str(line.as_str())?)
     }
 
     /// The lines as one text.
@@ -76,14 +92,19 @@ impl<A: Allocator> Lines<A> {
     }
 }
 
-// Prints one line.
-fn write_line<A: Allocator>(out: &mut String<A>, key: &str, answer: &str) -> Result<(), AllocError>
-    ensures { OnOk result (string_bytes out.new
-        ≡ string_bytes out.old ++ answer_line key.now answer.now) }
+fn answer_line(alloc: Global, key: &str, answer: &str) -> Result<String, Bad>
+    ensures { IfOk result (λ line. (text : List ℕ) × (string_bytes line ≡ codes "= " ++ text)) }
 {
-    out.push_str("= ")?;
-    out.push_str(key)?;
-    out.push_str(" ")?;
-    out.push_str(answer)?;
-    out.push_str("\n")
+    let mut line = String::from_str(alloc, "= ")?;
+    line.push_str(key)?;
+    line.push_str(" ")?;
+    line.push_str(answer)?;
+    Ok(line)
+}
+
+/// Whether a byte is a newline.
+pub fn has_newline(bytes: &[u8]) -> bool
+    ensures { result ≡ list_any is_newline bytes.now }
+{
+    bytes.iter().any(|byte| *byte == b'\n')
 }

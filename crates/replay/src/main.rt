@@ -9,20 +9,16 @@ mod laws;
 mod lines;
 mod names;
 mod pieces;
-mod printer;
+mod request;
 mod requests;
 mod run;
-#[cfg(test)]
-mod tests;
 mod tree_answers;
 mod trees;
-mod words;
 
 use names::Names;
 use run::{Stop, run};
 use std::io;
 use std::process::ExitCode;
-use watched::Watched;
 
 fn main(rt: HostRuntime) -> ExitCode {
     replay(&rt)
@@ -30,10 +26,9 @@ fn main(rt: HostRuntime) -> ExitCode {
 
 // Answers the status, and says on standard error why the run stopped, where it did.
 fn replay<R: AllocGlobal + Input + Print + Eprint>(rt: &R) -> ExitCode {
-    let mut names = Names::new(rt.alloc());
-    let mut reader = Watched::new(rt.reader());
-    let mut writer = Watched::new(io::writer(rt));
-    let why = match run(rt.alloc(), &mut names, &mut reader, &mut writer) {
+    let alloc = rt.alloc();
+    let mut names = Names::new(alloc);
+    let why = match run(alloc, &mut names, &mut rt.reader(), &mut io::writer(rt)) {
         Ok(()) => return ExitCode::SUCCESS,
         Err(Stop::Read) => "a read failed",
         Err(Stop::Write) => "a write failed",

@@ -1,7 +1,5 @@
 //! Names that are kept for good.
 
-ghost use Rattle.std.specs.Prelude.{◌≡◌, IfOk};
-
 use std::alloc::{AllocError, Allocator, Global};
 use std::collections::HashSet;
 use std::str;
@@ -24,9 +22,7 @@ impl Names {
     }
 
     /// The text as one that lasts: the one that was kept when it was first asked for.
-    pub fn get(&mut self, text: &str) -> Result<&'static str, AllocError>
-        ensures { IfOk result (λ name. name.now ≡ text.now) }
-    {
+    pub fn get(&mut self, text: &str) -> Result<&'static str, AllocError> {
         if let Some(known) = self.kept.get(text) {
             return Ok(*known);
         }
@@ -38,9 +34,7 @@ impl Names {
 }
 
 // A copy of the text that is never freed.
-fn lasting_copy<'a, A: Allocator + 'a>(alloc: A, text: &str) -> Result<&'a str, AllocError>
-    ensures { IfOk result (λ copy. copy.now ≡ text.now) }
-{
+fn lasting_copy<'a, A: Allocator + 'a>(alloc: A, text: &str) -> Result<&'a str, AllocError> {
     let bytes = Vec::from_slice(alloc, text.as_bytes())?;
     let lasting: &'a mut [u8] = bytes.leak();
     str::from_utf8(&*lasting).map_err(|_| AllocError)

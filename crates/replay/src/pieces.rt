@@ -1,94 +1,57 @@
 //! Answers to requests on texts and their pieces: chunks, roff, escaping and labelled texts.
 
-ghost use Rattle.std.specs.Prelude.{◌≤◌, IfOk, IfSome, OnOk, length, string_bytes, ◌≡◌, ⊤, List, [], ◌∷◌, ◌++◌, IfErr, OnErr, codes, encode_utf8};
-ghost use Rattle.replay.specs.Printers.{WritesInLine};
-ghost use Rattle.replay.specs.Replay.{IsOneLine};
-ghost use Rattle.replay.specs.Encoding.{Spells};
-ghost use Rattle.replay.specs.Grammar.{FailsForm, Fits, FitsIfSome, IsAmong, IsLabelled, Leads, OnlyIf, Reads, ReadsForm, Refuses, RefusesForm, Slot, Word, page_calls, piece_requests};
-
 use crate::encoding::{read_text, spelled, write_character, write_text};
 use crate::fault::Bad;
-use crate::printer::{put, put_number};
-use crate::trees::read_texts;
-use crate::words::Words;
+use crate::request::Request;
 use bpaf_doc::splitter::{Chunk, split};
 use bpaf_roff::escape::bytes::escape;
 use bpaf_roff::escape::{Apostrophes, Escape};
 use bpaf_roff::monoid::FreeMonoid;
 use bpaf_roff::roff::{Font, Roff};
-use std::alloc::{AllocError, Allocator};
+use std::alloc::{AllocError, Global};
 
-const NO_PIECE: Bad = Bad::Words("a letter and a text were expected");
-
-/// The answer to a request on texts and pieces; none for another request.
-pub fn piece_answer<A: Allocator + Copy>(
-    alloc: A,
-    request: &str,
-    words: &mut Words<'_>,
-) -> Result<Option<String<A>>, Bad>
-    ensures one_line { IfOk result (λ answer. IfSome answer (λ text. IsOneLine (string_bytes text))) }
-    ensures fits { IfOk result (FitsIfSome piece_requests request.now words.old words.new) }
-    ensures fails { IfErr result (OnlyIf (FailsForm piece_requests request.now words.old)) }
-{
-    match request {
-        "split" => Ok(Some(chunks_answer(alloc, words)?)),
-        "roffops" => Ok(Some(roff_answer(alloc, words)?)),
-        "escape" => Ok(Some(escape_answer(alloc, words)?)),
-        "monoid" => Ok(Some(monoid_answer(alloc, words)?)),
-        _ => Ok(None),
-    }
-}
-
-#[tactic(auto, using(crate::proofs::PrintedLines::printer_lemmas))]
-fn chunks_answer<A: Allocator + Copy>(alloc: A, words: &mut Words<'_>) -> Result<String<A>, Bad>
-    ensures one_line { IfOk result (λ answer. IsOneLine (string_bytes answer)) }
-    ensures fits { OnOk result (Fits (Slot.text ∷ []) words.old) }
-    ensures fails { IfErr result (OnlyIf (¬ Fits (Slot.text ∷ []) words.old)) }
-{
-    let text = words.text(alloc)?;
-    words.end()?;
-    let mut answer = String::from_str(alloc, "[")?;
+/// The chunks of a text.
+pub fn chunks_answer(request: &mut Request<'_>) -> Result<String, Bad> {
+    let text = request.text()?;
+    request.end()?;
+    let mut answer = String::from_str(request.alloc, "[")?;
     for chunk in split(text.as_str()) {
         write_chunk(&mut answer, chunk)?;
     }
-    put(&mut answer, " ]")?;
+    answer.push_str(" ]")?;
     Ok(answer)
 }
 
-#[tactic(auto, using(crate::proofs::PrintedLines::printer_lemmas))]
-fn write_chunk<A: Allocator>(out: &mut String<A>, chunk: Chunk<'_>) -> Result<(), AllocError>
-    ensures { OnOk result (WritesInLine (string_bytes out.old) (string_bytes out.new)) }
-{
+fn write_chunk(out: &mut String, chunk: Chunk<'_>) -> Result<(), AllocError> {
     match chunk {
         Chunk::Raw(text, weight) => {
-            put(out, " r")?;
-            put_number(out, weight)?;
+            write!(out, " r{weight}")?;
             write_text(out, text)
         }
-        Chunk::Paragraph => put(out, " p"),
-        Chunk::LineBreak => put(out, " b"),
+        Chunk::Paragraph => out.push_str(" p"),
+        Chunk::LineBreak => out.push_str(" b"),
     }
 }
 
-fn roff_answer<A: Allocator + Copy>(alloc: A, words: &mut Words<'_>) -> Result<String<A>, Bad>
-    ensures one_line { IfOk result (λ answer. IsOneLine (string_bytes answer)) }
-    ensures fits { OnOk result (Fits (Slot.apostrophes ∷ Slot.calls ∷ []) words.old) }
-    ensures fails { IfErr result (OnlyIf (¬ Fits (Slot.apostrophes ∷ Slot.calls ∷ []) words.old)) }
-{
-    let apostrophes = read_apostrophes(words)?;
-    let mut page = read_page(alloc, words)?;
-    while words.peek().is_some() {
-        words.expect("+")?;
-        page.add_assign(&read_page(alloc, words)?)?;
+/// The sum of some pages, rendered.
+pub fn roff_calls_answer(request: &mut Request<'_>) -> Result<String, Bad> {
+    let apostrophes = read_apostrophes(request)?;
+    let mut page = Roff::new(request.alloc);
+    for _ in 0..u64::MAX {
+        let Some(call) = request.next_word() else {
+            return Ok(spelled(request.alloc, page.render(apostrophes)?.as_str())?);
+        };
+        if call == "+" {
+            page.add_assign(&read_page(request)?)?;
+        } else {
+            append_call(&mut page, call, request)?;
+        }
     }
-    Ok(spelled(alloc, page.render(apostrophes)?.as_str())?)
+    Err(Bad::TOO_LONG)
 }
 
-fn read_apostrophes(words: &mut Words<'_>) -> Result<Apostrophes, Bad>
-    ensures reads { OnOk result (Reads (Slot.apostrophes ∷ []) words.old words.new) }
-    ensures refuses { IfErr result (OnlyIf (Refuses (Slot.apostrophes ∷ []) words.old)) }
-{
-    match words.word()? {
+fn read_apostrophes(request: &mut Request<'_>) -> Result<Apostrophes, Bad> {
+    match request.word()? {
         "h" => Ok(Apostrophes::Handle),
         "d" => Ok(Apostrophes::DontHandle),
         _ => Err(Bad::Words("h or d was expected")),
@@ -96,71 +59,45 @@ fn read_apostrophes(words: &mut Words<'_>) -> Result<Apostrophes, Bad>
 }
 
 // Takes calls on a page, up to a plus or the end.
-fn read_page<A: Allocator + Copy>(alloc: A, words: &mut Words<'_>) -> Result<Roff<A>, Bad>
-    ensures leads { OnOk result (Leads (Slot.calls ∷ []) words.old (Slot.calls ∷ []) words.new) }
-    ensures stands { OnOk result ((word : Word) (rest : List Word) → words.new ≡ word ∷ rest
-        → word ≡ codes "+") }
-    ensures refuses { IfErr result (OnlyIf (Refuses (Slot.calls ∷ []) words.old)) }
-    ensures no_longer { OnOk result (length words.new ≤ length words.old) }
-{
-    let mut page = Roff::new(alloc);
-    while let Some(call) = words.peek() {
-        if call == "+" {
-            break;
+fn read_page(request: &mut Request<'_>) -> Result<Roff, Bad> {
+    let mut page = Roff::new(request.alloc);
+    for _ in 0..u64::MAX {
+        match request.peek() {
+            None | Some("+") => return Ok(page),
+            Some(call) => {
+                request.expect(call)?;
+                append_call(&mut page, call, request)?;
+            }
         }
-        words.expect(call)?;
-        append_call(&mut page, alloc, call, words)?;
     }
-    Ok(page)
+    Err(Bad::TOO_LONG)
 }
 
-fn append_call<A: Allocator + Copy>(
-    page: &mut Roff<A>,
-    alloc: A,
-    call: &str,
-    words: &mut Words<'_>,
-) -> Result<(), Bad>
-    ensures reads { OnOk result (ReadsForm page_calls call.now words.old words.new) }
-    ensures refuses { IfErr result (OnlyIf (RefusesForm page_calls call.now words.old)) }
-    ensures no_longer { OnOk result (length words.new ≤ length words.old) }
-{
+fn append_call(page: &mut Roff, call: &str, request: &mut Request<'_>) -> Result<(), Bad> {
     match call {
-        "control" => read_control(page, alloc, words)?,
-        "control0" => page.append_control0(words.text(alloc)?.as_str())?,
-        "break" => page.append_linebreak()?,
-        "esc" => page.append_escape(words.text(alloc)?.as_str())?,
-        "plain" => page.append_plaintext(words.text(alloc)?.as_str())?,
-        "strip" => {
-            page.strip_newlines(words.flag()?);
+        "control" => {
+            let name = request.text()?;
+            append_control(page, request.alloc, name.as_str(), &request.texts()?)?;
         }
-        "text" => append_text(page, alloc, &read_styled(alloc, words)?)?,
+        "control0" => page.append_control0(request.text()?.as_str())?,
+        "break" => page.append_linebreak()?,
+        "esc" => page.append_escape(request.text()?.as_str())?,
+        "plain" => page.append_plaintext(request.text()?.as_str())?,
+        "strip" => {
+            page.strip_newlines(request.flag()?);
+        }
+        "text" => append_text(page, request)?,
         _ => return Err(Bad::Words("no such call on a page")),
     }
     Ok(())
 }
 
-// Takes a control with its arguments, and appends it.
-fn read_control<A: Allocator + Copy>(
-    page: &mut Roff<A>,
-    alloc: A,
-    words: &mut Words<'_>,
-) -> Result<(), Bad>
-    ensures reads { OnOk result (Reads (Slot.text ∷ Slot.texts ∷ []) words.old words.new) }
-    ensures refuses { IfErr result (OnlyIf (Refuses (Slot.text ∷ Slot.texts ∷ []) words.old)) }
-    ensures no_longer { OnOk result (length words.new ≤ length words.old) }
-{
-    let name = words.text(alloc)?;
-    let arguments = read_texts(alloc, words)?;
-    append_control(page, alloc, name.as_str(), &arguments)?;
-    Ok(())
-}
-
 /// Appends a control with these arguments.
-pub fn append_control<A: Allocator + Copy>(
-    page: &mut Roff<A>,
-    alloc: A,
+pub fn append_control(
+    page: &mut Roff,
+    alloc: Global,
     name: &str,
-    arguments: &[String<A>],
+    arguments: &[String],
 ) -> Result<(), AllocError> {
     let mut texts = Vec::new(alloc);
     for argument in arguments {
@@ -169,43 +106,31 @@ pub fn append_control<A: Allocator + Copy>(
     page.append_control(name, &texts)
 }
 
-fn append_text<A: Allocator + Copy>(
-    page: &mut Roff<A>,
-    alloc: A,
-    pieces: &[(Font, String<A>)],
-) -> Result<(), AllocError> {
-    let mut texts = Vec::new(alloc);
-    for (font, text) in pieces {
+// Takes texts with fonts, in parentheses, and appends them.
+fn append_text(page: &mut Roff, request: &mut Request<'_>) -> Result<(), Bad> {
+    let pieces = read_styled(request)?;
+    let mut texts = Vec::new(request.alloc);
+    for (font, text) in &pieces {
         texts.push((*font, text.as_str()))?;
     }
-    page.append_text(&texts)
+    Ok(page.append_text(&texts)?)
 }
 
-// Takes texts with fonts, in parentheses.
-fn read_styled<A: Allocator + Copy>(
-    alloc: A,
-    words: &mut Words<'_>,
-) -> Result<Vec<(Font, String<A>), A>, Bad>
-    ensures reads { OnOk result (Reads (Slot.styled ∷ []) words.old words.new) }
-    ensures refuses { IfErr result (OnlyIf (Refuses (Slot.styled ∷ []) words.old)) }
-    ensures no_longer { OnOk result (length words.new ≤ length words.old) }
-{
-    words.expect("(")?;
-    let mut pieces = Vec::new(alloc);
-    loop {
-        let word = words.word()?;
+fn read_styled(request: &mut Request<'_>) -> Result<Vec<(Font, String)>, Bad> {
+    request.expect("(")?;
+    let mut pieces = Vec::new(request.alloc);
+    for _ in 0..u64::MAX {
+        let word = request.word()?;
         if word == ")" {
             return Ok(pieces);
         }
-        let (label, text) = read_labelled(alloc, word)?;
+        let (label, text) = read_labelled(request.alloc, word)?;
         pieces.push((font_of(label)?, text))?;
     }
+    Err(Bad::TOO_LONG)
 }
 
-fn font_of(label: char) -> Result<Font, Bad>
-    ensures ok { OnOk result (IsAmong (codes "RBI") label) }
-    ensures err { OnErr result (¬ IsAmong (codes "RBI") label) }
-{
+fn font_of(label: char) -> Result<Font, Bad> {
     match label {
         'R' => Ok(Font::Roman),
         'B' => Ok(Font::Bold),
@@ -215,55 +140,43 @@ fn font_of(label: char) -> Result<Font, Bad>
 }
 
 // The character at the start of a word, and the text behind its quote mark.
-fn read_labelled<A: Allocator>(alloc: A, word: &str) -> Result<(char, String<A>), Bad>
-    ensures ok { IfOk result (λ labelled. (marks : Word)
-        × (word.now ≡ encode_utf8 labelled.0 ++ 39 ∷ marks) × Spells marks (string_bytes labelled.1)) }
-    ensures err { IfErr result (OnlyIf (¬ IsLabelled (λ _. ⊤) word.now)) }
-{
+fn read_labelled(alloc: Global, word: &str) -> Result<(char, String), Bad> {
     let mut characters = word.chars();
-    let Some(label) = characters.next() else {
-        return Err(NO_PIECE);
-    };
-    let Some(spelled) = characters.as_str().strip_prefix('\'') else {
-        return Err(NO_PIECE);
-    };
-    Ok((label, read_text(alloc, spelled)?))
+    if let Some(label) = characters.next() {
+        if let Some(spelled) = characters.as_str().strip_prefix('\'') {
+            return Ok((label, read_text(alloc, spelled)?));
+        }
+    }
+    Err(Bad::Words("a letter and a text were expected"))
 }
 
-fn escape_answer<A: Allocator + Copy>(alloc: A, words: &mut Words<'_>) -> Result<String<A>, Bad>
-    ensures one_line { IfOk result (λ answer. IsOneLine (string_bytes answer)) }
-    ensures fits { OnOk result (Fits (Slot.apostrophes ∷ Slot.text ∷ Slot.escaped ∷ []) words.old) }
-    ensures fails { IfErr result (OnlyIf (¬ Fits (Slot.apostrophes ∷ Slot.text ∷ Slot.escaped ∷ []) words.old)) }
-{
-    let apostrophes = read_apostrophes(words)?;
-    let mut bytes = words.text(alloc)?.into_bytes();
-    let pieces = read_escaped(alloc, words)?;
+/// A text and pieces behind it, escaped.
+pub fn escape_answer(request: &mut Request<'_>) -> Result<String, Bad> {
+    let apostrophes = read_apostrophes(request)?;
+    let mut bytes = request.text()?.into_bytes();
+    let pieces = read_escaped(request)?;
     let items = pieces.iter().map(|(how, text)| (how, text.as_str()));
     escape(items, &mut bytes, apostrophes)?;
-    let text = String::from_utf8(bytes).unwrap();
-    Ok(spelled(alloc, text.as_str())?)
+    match String::from_utf8(bytes) {
+        Ok(text) => Ok(spelled(request.alloc, text.as_str())?),
+        Err(_) => Err(Bad::Words("the escaped text is not UTF-8")),
+    }
 }
 
 // Takes texts with the ways to escape them, up to the end.
-fn read_escaped<A: Allocator + Copy>(
-    alloc: A,
-    words: &mut Words<'_>,
-) -> Result<Vec<(Escape, String<A>), A>, Bad>
-    ensures fits { OnOk result (Fits (Slot.escaped ∷ []) words.old) }
-    ensures refuses { IfErr result (OnlyIf (Refuses (Slot.escaped ∷ []) words.old)) }
-{
-    let mut pieces = Vec::new(alloc);
-    while words.peek().is_some() {
-        let (label, text) = read_labelled(alloc, words.word()?)?;
+fn read_escaped(request: &mut Request<'_>) -> Result<Vec<(Escape, String)>, Bad> {
+    let mut pieces = Vec::new(request.alloc);
+    for _ in 0..u64::MAX {
+        let Some(word) = request.next_word() else {
+            return Ok(pieces);
+        };
+        let (label, text) = read_labelled(request.alloc, word)?;
         pieces.push((escape_of(label)?, text))?;
     }
-    Ok(pieces)
+    Err(Bad::TOO_LONG)
 }
 
-fn escape_of(label: char) -> Result<Escape, Bad>
-    ensures ok { OnOk result (IsAmong (codes "NSXYU") label) }
-    ensures err { OnErr result (¬ IsAmong (codes "NSXYU") label) }
-{
+fn escape_of(label: char) -> Result<Escape, Bad> {
     match label {
         'N' => Ok(Escape::UnescapedAtNewline),
         'S' => Ok(Escape::Spaces),
@@ -274,51 +187,36 @@ fn escape_of(label: char) -> Result<Escape, Bad>
     }
 }
 
-// The sum of the lists, and the pieces that were put behind it.
-fn monoid_answer<A: Allocator + Copy>(alloc: A, words: &mut Words<'_>) -> Result<String<A>, Bad>
-    ensures one_line { IfOk result (λ answer. IsOneLine (string_bytes answer)) }
-    ensures fits { OnOk result (Fits (Slot.pieces ∷ []) words.old) }
-    ensures fails { IfErr result (OnlyIf (¬ Fits (Slot.pieces ∷ []) words.old)) }
-{
-    let mut sum: Option<FreeMonoid<char, A>> = None;
-    while let Some(word) = words.peek() {
-        words.expect(word)?;
-        sum = Some(if word == "(" {
-            with_list(sum, read_list(alloc, words)?)?
-        } else {
-            with_piece(sum, alloc, word)?
+/// The sum of lists and pieces, in order.
+pub fn monoid_answer(request: &mut Request<'_>) -> Result<String, Bad> {
+    let mut sum = None;
+    for _ in 0..u64::MAX {
+        sum = Some(match request.next_word() {
+            None => return monoid_text(request.alloc, sum),
+            Some("(") => with_list(sum, read_list(request)?)?,
+            Some(word) => with_piece(sum, request.alloc, word)?,
         });
     }
-    let sum = match sum {
-        Some(sum) => sum,
-        None => FreeMonoid::new(alloc),
-    };
-    Ok(monoid_text(alloc, &sum)?)
+    Err(Bad::TOO_LONG)
 }
 
-fn with_list<A: Allocator + Copy>(
-    sum: Option<FreeMonoid<char, A>>,
-    list: FreeMonoid<char, A>,
-) -> Result<FreeMonoid<char, A>, AllocError> {
+fn with_list(
+    sum: Option<FreeMonoid<char>>,
+    list: FreeMonoid<char>,
+) -> Result<FreeMonoid<char>, AllocError> {
     match sum {
         None => Ok(list),
         Some(sum) => sum.add(&list),
     }
 }
 
-fn with_piece<A: Allocator + Copy>(
-    sum: Option<FreeMonoid<char, A>>,
-    alloc: A,
+fn with_piece(
+    sum: Option<FreeMonoid<char>>,
+    alloc: Global,
     word: &str,
-) -> Result<FreeMonoid<char, A>, Bad>
-    ensures ok { OnOk result (IsLabelled (λ _. ⊤) word.now) }
-    ensures err { IfErr result (OnlyIf (¬ IsLabelled (λ _. ⊤) word.now)) }
-{
+) -> Result<FreeMonoid<char>, Bad> {
     let (label, text) = read_labelled(alloc, word)?;
-    let mut sum = match sum {
-        Some(sum) => sum,
-        None => FreeMonoid::new(alloc),
-    };
+    let mut sum = sum.unwrap_or(FreeMonoid::new(alloc));
     let mut characters = text.as_str().chars();
     match (characters.next(), characters.next()) {
         (Some(character), None) => sum.append_char(label, character)?,
@@ -328,39 +226,36 @@ fn with_piece<A: Allocator + Copy>(
 }
 
 // Takes a list, behind its opening bracket.
-fn read_list<A: Allocator + Copy>(
-    alloc: A,
-    words: &mut Words<'_>,
-) -> Result<FreeMonoid<char, A>, Bad>
-    ensures reads { OnOk result (Reads (Slot.flag ∷ Slot.more_pieces ∷ []) words.old words.new) }
-    ensures refuses { IfErr result (OnlyIf (Refuses (Slot.flag ∷ Slot.more_pieces ∷ []) words.old)) }
-    ensures no_longer { OnOk result (length words.new ≤ length words.old) }
-{
-    let mut list = FreeMonoid::new(alloc);
-    list.squash = words.flag()?;
-    loop {
-        let word = words.word()?;
+fn read_list(request: &mut Request<'_>) -> Result<FreeMonoid<char>, Bad> {
+    let mut list = FreeMonoid::new(request.alloc);
+    list.squash = request.flag()?;
+    for _ in 0..u64::MAX {
+        let word = request.word()?;
         if word == ")" {
             return Ok(list);
         }
-        let (label, text) = read_labelled(alloc, word)?;
+        let (label, text) = read_labelled(request.alloc, word)?;
         list.append_str(label, text.as_str())?;
     }
+    Err(Bad::TOO_LONG)
 }
 
-#[tactic(auto, using(crate::proofs::PrintedLines::printer_lemmas))]
-fn monoid_text<A: Allocator + Copy>(
-    alloc: A,
-    monoid: &FreeMonoid<char, A>,
-) -> Result<String<A>, AllocError>
-    ensures one_line { IfOk result (λ answer. IsOneLine (string_bytes answer)) }
-{
+fn monoid_text(alloc: Global, sum: Option<FreeMonoid<char>>) -> Result<String, Bad> {
+    let monoid = sum.unwrap_or(FreeMonoid::new(alloc));
     let mut answer = String::from_str(alloc, if monoid.squash { "[ 1" } else { "[ 0" })?;
     for (label, text) in monoid.iter() {
-        put(&mut answer, " ")?;
-        write_character(&mut answer, *label)?;
+        answer.push_str(" ")?;
+        write_label(&mut answer, *label)?;
         write_text(&mut answer, text)?;
     }
-    put(&mut answer, " ]")?;
+    answer.push_str(" ]")?;
     Ok(answer)
+}
+
+// A label stands for itself, but for a newline, which no line has.
+fn write_label(out: &mut String, label: char) -> Result<(), AllocError> {
+    match label {
+        '\n' => write_character(out, label),
+        _ => out.push(label),
+    }
 }

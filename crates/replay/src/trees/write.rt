@@ -1,24 +1,16 @@
 //! Trees, items and names, printed.
-#![tactic(auto, using(crate::proofs::PrintedLines::printer_lemmas))]
-
-ghost use Rattle.std.specs.Prelude.{OnOk, string_bytes};
-ghost use Rattle.replay.specs.Printers.{WritesInLine};
-ghost use Rattle.replay.specs.Replay.{IsOneLine};
 
 use crate::documents::write_document;
-use crate::encoding::{write_character, write_text};
-use crate::printer::put;
+use crate::encoding::{write_character, write_characters, write_text};
 use bpaf_doc::buffer::Doc;
 use bpaf_help::item::{Item, ShortLong};
 use bpaf_help::meta::Meta;
 use bpaf_help::meta_help::Info;
-use std::alloc::{AllocError, Allocator};
+use std::alloc::AllocError;
 
 /// Prints a tree.
 #[cycle(write)]
-pub fn write_tree<A: Allocator>(out: &mut String<A>, tree: &Meta<A>) -> Result<(), AllocError>
-    ensures { OnOk result (WritesInLine (string_bytes out.old) (string_bytes out.new)) }
-{
+pub fn write_tree(out: &mut String, tree: &Meta) -> Result<(), AllocError> {
     match tree {
         Meta::And(parts) => write_parts(out, "and (", parts),
         Meta::Or(parts) => write_parts(out, "or (", parts),
@@ -31,76 +23,57 @@ pub fn write_tree<A: Allocator>(out: &mut String<A>, tree: &Meta<A>) -> Result<(
         Meta::Subsection(inner, title) => write_noted(out, "sub ", title, inner),
         Meta::Suffix(inner, note) => write_noted(out, "suf ", note, inner),
         Meta::CustomUsage(inner, usage) => write_noted(out, "cu ", usage, inner),
-        Meta::Skip => put(out, "skip"),
+        Meta::Skip => out.push_str("skip"),
     }
 }
 
 #[cycle(write)]
-fn write_inner<A: Allocator>(
-    out: &mut String<A>,
-    word: &str,
-    inner: &Box<Meta<A>, A>,
-) -> Result<(), AllocError>
-    requires one_line { IsOneLine word.now }
-    ensures { OnOk result (WritesInLine (string_bytes out.old) (string_bytes out.new)) }
-{
-    put(out, word)?;
+fn write_inner(out: &mut String, word: &str, inner: &Box<Meta>) -> Result<(), AllocError> {
+    out.push_str(word)?;
     write_tree(out, inner)
 }
 
 #[cycle(write)]
-fn write_noted<A: Allocator>(
-    out: &mut String<A>,
+fn write_noted(
+    out: &mut String,
     word: &str,
-    note: &Box<Doc<A>, A>,
-    inner: &Box<Meta<A>, A>,
-) -> Result<(), AllocError>
-    requires one_line { IsOneLine word.now }
-    ensures { OnOk result (WritesInLine (string_bytes out.old) (string_bytes out.new)) }
-{
-    put(out, word)?;
+    note: &Box<Doc>,
+    inner: &Box<Meta>,
+) -> Result<(), AllocError> {
+    out.push_str(word)?;
     write_document(out, note)?;
-    put(out, " ")?;
+    out.push_str(" ")?;
     write_tree(out, inner)
 }
 
 #[cycle(write)]
-fn write_parts<A: Allocator>(
-    out: &mut String<A>,
-    opening: &str,
-    parts: &Vec<Meta<A>, A>,
-) -> Result<(), AllocError>
-    requires one_line { IsOneLine opening.now }
-    ensures { OnOk result (WritesInLine (string_bytes out.old) (string_bytes out.new)) }
-{
-    put(out, opening)?;
+fn write_parts(out: &mut String, opening: &str, parts: &Vec<Meta>) -> Result<(), AllocError> {
+    out.push_str(opening)?;
     for part in parts {
-        put(out, " ")?;
+        out.push_str(" ")?;
         write_tree(out, part)?;
     }
-    put(out, " )")
+    out.push_str(" )")
 }
 
 /// Prints an item.
 #[cycle(write)]
-pub fn write_item<A: Allocator>(out: &mut String<A>, item: &Item<A>) -> Result<(), AllocError>
-    ensures { OnOk result (WritesInLine (string_bytes out.old) (string_bytes out.new)) }
-{
+pub fn write_item(out: &mut String, item: &Item) -> Result<(), AllocError> {
     match item {
         Item::Any {
             metavar,
             anywhere,
             help,
         } => {
-            put(out, "any ")?;
+            out.push_str("any ")?;
             write_document(out, metavar)?;
-            put(out, if *anywhere { " 1 " } else { " 0 " })?;
+            out.push_str(if *anywhere { " 1 " } else { " 0 " })?;
             write_help(out, help)
         }
         Item::Positional { metavar, help } => {
-            put(out, "pos ")?;
+            out.push_str("pos ")?;
             write_text(out, metavar.0)?;
-            put(out, " ")?;
+            out.push_str(" ")?;
             write_help(out, help)
         }
         Item::Command {
@@ -110,13 +83,13 @@ pub fn write_item<A: Allocator>(out: &mut String<A>, item: &Item<A>) -> Result<(
             meta,
             info,
         } => {
-            put(out, "cmd ")?;
+            out.push_str("cmd ")?;
             write_text(out, *name)?;
             write_short(out, *short)?;
             write_help(out, help)?;
-            put(out, " ")?;
+            out.push_str(" ")?;
             write_tree(out, meta)?;
-            put(out, " ")?;
+            out.push_str(" ")?;
             write_info(out, info)
         }
         Item::Flag {
@@ -125,7 +98,7 @@ pub fn write_item<A: Allocator>(out: &mut String<A>, item: &Item<A>) -> Result<(
             env,
             help,
         } => {
-            put(out, "flag ")?;
+            out.push_str("flag ")?;
             write_named(out, name, shorts)?;
             write_environment_name(out, *env)?;
             write_help(out, help)
@@ -137,9 +110,9 @@ pub fn write_item<A: Allocator>(out: &mut String<A>, item: &Item<A>) -> Result<(
             env,
             help,
         } => {
-            put(out, "arg ")?;
+            out.push_str("arg ")?;
             write_named(out, name, shorts)?;
-            put(out, " ")?;
+            out.push_str(" ")?;
             write_text(out, metavar.0)?;
             write_environment_name(out, *env)?;
             write_help(out, help)
@@ -148,22 +121,20 @@ pub fn write_item<A: Allocator>(out: &mut String<A>, item: &Item<A>) -> Result<(
 }
 
 #[cycle(write)]
-fn write_info<A: Allocator>(out: &mut String<A>, info: &Box<Info<A>, A>) -> Result<(), AllocError>
-    ensures { OnOk result (WritesInLine (string_bytes out.old) (string_bytes out.new)) }
-{
+fn write_info(out: &mut String, info: &Box<Info>) -> Result<(), AllocError> {
     if is_default(info) {
-        return put(out, "-");
+        return out.push_str("-");
     }
-    put(out, "info ")?;
+    out.push_str("info ")?;
     for text in [&info.descr, &info.header, &info.footer, &info.usage] {
         write_help(out, text)?;
-        put(out, " ")?;
+        out.push_str(" ")?;
     }
     write_tree(out, &info.help)
 }
 
 // Whether it has no text, and no tree.
-fn is_default<A: Allocator>(info: &Info<A>) -> bool {
+fn is_default(info: &Info) -> bool {
     match info.help {
         Meta::Skip => {
             info.descr.is_none()
@@ -175,63 +146,42 @@ fn is_default<A: Allocator>(info: &Info<A>) -> bool {
     }
 }
 
-fn write_help<A: Allocator>(out: &mut String<A>, help: &Option<Doc<A>>) -> Result<(), AllocError>
-    ensures { OnOk result (WritesInLine (string_bytes out.old) (string_bytes out.new)) }
-{
+fn write_help(out: &mut String, help: &Option<Doc>) -> Result<(), AllocError> {
     match help {
-        None => put(out, "-"),
+        None => out.push_str("-"),
         Some(help) => write_document(out, help),
     }
 }
 
 /// Prints a name.
-pub fn write_name<A: Allocator>(out: &mut String<A>, name: &ShortLong) -> Result<(), AllocError>
-    ensures { OnOk result (WritesInLine (string_bytes out.old) (string_bytes out.new)) }
-{
+pub fn write_name(out: &mut String, name: &ShortLong) -> Result<(), AllocError> {
     match *name {
         ShortLong::Short(short) => {
-            put(out, "s'")?;
+            out.push_str("s'")?;
             write_character(out, short)
         }
         ShortLong::Long(long) => {
-            put(out, "l")?;
+            out.push_str("l")?;
             write_text(out, long)
         }
         ShortLong::Both(short, long) => {
-            put(out, "b'")?;
+            out.push_str("b'")?;
             write_character(out, short)?;
             write_characters(out, long)
         }
     }
 }
 
-fn write_characters<A: Allocator>(out: &mut String<A>, text: &str) -> Result<(), AllocError>
-    ensures { OnOk result (WritesInLine (string_bytes out.old) (string_bytes out.new)) }
-{
-    for character in text.chars() {
-        write_character(out, character)?;
-    }
-    Ok(())
-}
-
 // A name and short names.
-fn write_named<A: Allocator>(
-    out: &mut String<A>,
-    name: &ShortLong,
-    shorts: &[char],
-) -> Result<(), AllocError>
-    ensures { OnOk result (WritesInLine (string_bytes out.old) (string_bytes out.new)) }
-{
+fn write_named(out: &mut String, name: &ShortLong, shorts: &[char]) -> Result<(), AllocError> {
     write_name(out, name)?;
-    put(out, " ")?;
+    out.push_str(" ")?;
     write_shorts(out, shorts)
 }
 
 /// Prints characters as a text.
-pub fn write_shorts<A: Allocator>(out: &mut String<A>, shorts: &[char]) -> Result<(), AllocError>
-    ensures { OnOk result (WritesInLine (string_bytes out.old) (string_bytes out.new)) }
-{
-    put(out, "'")?;
+pub fn write_shorts(out: &mut String, shorts: &[char]) -> Result<(), AllocError> {
+    out.push_str("'")?;
     for short in shorts {
         write_character(out, *short)?;
     }
@@ -239,32 +189,25 @@ pub fn write_shorts<A: Allocator>(out: &mut String<A>, shorts: &[char]) -> Resul
 }
 
 // Between blanks.
-fn write_short<A: Allocator>(out: &mut String<A>, short: Option<char>) -> Result<(), AllocError>
-    ensures { OnOk result (WritesInLine (string_bytes out.old) (string_bytes out.new)) }
-{
+fn write_short(out: &mut String, short: Option<char>) -> Result<(), AllocError> {
     match short {
-        None => put(out, " - "),
+        None => out.push_str(" - "),
         Some(short) => {
-            put(out, " '")?;
+            out.push_str(" '")?;
             write_character(out, short)?;
-            put(out, " ")
+            out.push_str(" ")
         }
     }
 }
 
 // Between blanks.
-fn write_environment_name<A: Allocator>(
-    out: &mut String<A>,
-    name: Option<&str>,
-) -> Result<(), AllocError>
-    ensures { OnOk result (WritesInLine (string_bytes out.old) (string_bytes out.new)) }
-{
+fn write_environment_name(out: &mut String, name: Option<&str>) -> Result<(), AllocError> {
     match name {
-        None => put(out, " - "),
+        None => out.push_str(" - "),
         Some(name) => {
-            put(out, " ")?;
+            out.push_str(" ")?;
             write_text(out, name)?;
-            put(out, " ")
+            out.push_str(" ")
         }
     }
 }
