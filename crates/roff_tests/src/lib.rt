@@ -6,6 +6,8 @@
 #[cfg(test)]
 mod calls;
 #[cfg(test)]
+mod labels;
+#[cfg(test)]
 mod monoids;
 #[cfg(test)]
 mod refusals;
