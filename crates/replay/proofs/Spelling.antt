@@ -1,5 +1,5 @@
 -- How texts are spelled and read, character by character.
-use Rattle.std.specs.Prelude.{◌≡◌, ◌≢◌, ℕ, suc, ◌+◌, ◌-◌, ◌*◌, ◌^◌, ◌<◌, ◌≤◌, cond, Option, Some, None, List, [], ◌∷◌, ◌++◌, length, encode_utf8, refl, zero, ◌/◌, ◌%◌, Bool, true, false, ◌&&◌, codes, flat_map, IsUtf8}
+use Rattle.std.specs.Prelude.{◌≡◌, ◌≢◌, ℕ, suc, ◌+◌, ◌*◌, ◌^◌, ◌<◌, cond, Option, Some, None, List, [], ◌∷◌, ◌++◌, length, encode_utf8, refl, zero, ◌/◌, ◌%◌, Bool, true, false, ◌&&◌, codes, flat_map, IsUtf8}
 use Rattle.std.proofs.Common.{ap, sym, ◌∙◌, subst, inl, inr, arith, append_assoc, append-nil, get_or}
 use Rattle.std.proofs.lemmas.Bool.{lt-ltb, ne_eqb, cases_eq}
 use Rattle.std.proofs.Math.Nat.{pow-suc, mul_assoc}
