@@ -1,0 +1,11 @@
+-- Lemmas of item lists.
+pub mod Blocks
+pub mod Chapters
+pub mod Headings
+pub mod KeyLaws
+pub mod PairedGroups
+pub mod Placing
+pub mod Pushes
+pub mod Shown
+pub mod Somewhere
+pub mod TakenOut

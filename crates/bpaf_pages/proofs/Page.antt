@@ -1,0 +1,4 @@
+-- Lemmas of pages.
+pub mod EnvLaws
+pub mod HeadlineLaws
+pub mod NestedPages

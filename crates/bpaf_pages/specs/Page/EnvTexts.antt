@@ -1,0 +1,27 @@
+-- A map from the names of environment variables to the texts that a page shows for them.
+use Rattle.std.specs.Prelude.{◌≡◌, ◌≢◌, ℕ, List, Option, Some, None, if◌then◌else◌}
+use Rattle.bpaf_doc.specs.Buffer.Equality.{same_text}
+
+-- the text for a name, if the map has one
+abbrev pub Texts : Type 0
+Texts = List ℕ → Option (List ℕ)
+
+-- `new`: no name has a text
+abbrev pub no_texts : Texts
+no_texts name = None
+
+-- `insert`: the name has this text from now on, in place of an earlier one
+abbrev pub texts_with : Texts → (name text : List ℕ) → Texts
+texts_with texts name text = λ other. if same_text other name then Some text else texts other
+
+-- two maps say the same of every name
+abbrev pub AreSameTexts : Texts → Texts → Type 0
+AreSameTexts texts others = (name : List ℕ) → texts name ≡ others name
+
+-- what an insertion leaves at the name itself, and at any other
+pub record InsertsText (texts : Texts) (name text : List ℕ) (after : Texts) : Type 0 where
+  pub at_name : after name ≡ Some text
+  pub elsewhere : (other : List ℕ) → other ≢ name → after other ≡ texts other
+
+abbrev pub TextsAreInserted : Type 0
+TextsAreInserted = (texts : Texts) (name text : List ℕ) → InsertsText texts name text (texts_with texts name text)

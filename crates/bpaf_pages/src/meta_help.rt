@@ -1,0 +1,17 @@
+//! What a help page lists of a command line: its items in order, under their groups and headings.
+
+mod entry;
+mod env_texts;
+mod error;
+mod given;
+mod key;
+mod list;
+mod walk;
+
+pub use bpaf_help::meta_help::{Info, Metavar};
+pub use entry::{HelpItem, HiTy};
+pub use env_texts::EnvTexts;
+pub use error::HelpError;
+pub use given::HelpItemsIter;
+pub use key::ItemKey;
+pub use list::HelpItems;
