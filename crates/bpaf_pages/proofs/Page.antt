@@ -1,4 +1,9 @@
 -- Lemmas of pages.
+pub mod EnvEntries
 pub mod EnvLaws
+pub mod GroupSteps
 pub mod HeadlineLaws
+pub mod Leaving
 pub mod NestedPages
+pub mod PageSteps
+pub mod Repeating

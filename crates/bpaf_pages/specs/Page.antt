@@ -6,3 +6,4 @@ pub mod Chapters
 pub mod NestedTexts
 pub mod PageAnswers
 pub mod Headline
+pub mod Steps

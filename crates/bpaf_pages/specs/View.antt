@@ -1,7 +1,6 @@
 -- What an entry of a list, a key, a map of texts and an answer say: their content.
-use Rattle.std.specs.Prelude.{[], Result, Ok, Err, string_bytes}
-use Rattle.std.specs.Option.{option_map, option_copied}
-use Rattle.std.specs.BTreeMap.{get_by_text}
+use Rattle.std.specs.Prelude.{[], Result, Ok, Err}
+use Rattle.std.specs.Option.{option_copied}
 use Rattle.bpaf_help.specs.Content.{any, positional, command, flag, argument}
 use Rattle.bpaf_help.specs.View.{name_of, text_of, leaf_of, tree_of, head_of}
 use Rattle.bpaf_pages.specs.declared.meta_help.entry.HelpItem.{HelpItem}
@@ -10,10 +9,8 @@ use Rattle.bpaf_pages.specs.declared.meta_help.key.ItemKey.{ItemKey}
 use Rattle.bpaf_pages.specs.declared.meta_help.key.ItemKey.TheVariants as key
 use Rattle.bpaf_pages.specs.declared.meta_help.error.HelpError.{HelpError}
 use Rattle.bpaf_pages.specs.declared.meta_help.error.HelpError.TheVariants as error
-use Rattle.bpaf_pages.specs.declared.meta_help.env_texts.EnvTexts.{EnvTexts}
 use Rattle.bpaf_pages.specs.Listing.ItemList.{Entry, listed, note, group_start, group_end, adjacent_start, adjacent_stop}
 use Rattle.bpaf_pages.specs.Listing.Keys.{Key, any_key, word_key, flag_key, argument_key}
-use Rattle.bpaf_pages.specs.Page.EnvTexts.{Texts}
 use Rattle.bpaf_pages.specs.Page.PageAnswers.{Answer, page, misplaced, memory}
 
 -- a `HelpItem`: short names are in none
@@ -35,10 +32,6 @@ key_in (key.Any m h) = any_key m.now (option_copied h)
 key_in (key.Word w h) = word_key w.now (option_copied h)
 key_in (key.Flag n h) = flag_key (name_of n) (option_copied h)
 key_in (key.Argument n m h) = argument_key (name_of n) m.0.now (option_copied h)
-
--- an `EnvTexts`
-abbrev pub texts_of : {A : Type 0} → EnvTexts A → Texts
-texts_of env = λ name. option_map string_bytes (get_by_text env.texts name)
 
 -- what a call for a page answers
 abbrev pub answer_of : {X A : Type 0} → Result X (HelpError A) → Answer X

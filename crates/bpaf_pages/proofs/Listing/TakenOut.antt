@@ -35,7 +35,7 @@ two_kept true false e before other ps qs same rest = cc
 two_kept false true e before other ps qs same rest = cc
 
 -- what stays in a group depends on what stands since its start
-kept_alike : (before other es : List Entry) (c : Bool) → after_last is_group_start before ≡ after_last is_group_start other → kept_after before es c ≡ kept_after other es c
+pub kept_alike : (before other es : List Entry) (c : Bool) → after_last is_group_start before ≡ after_last is_group_start other → kept_after before es c ≡ kept_after other es c
 kept_alike before other [] c same = refl
 kept_alike before other (e ∷ es) c same =
     let next : after_last is_group_start (before ++ e ∷ []) ≡ after_last is_group_start (other ++ e ∷ [])
@@ -47,7 +47,7 @@ true_and : (b : Bool) → (b && true) ≡ b
 true_and true = refl
 true_and false = refl
 
-kept_true : (before es : List Entry) → kept_after before es true ≡ map entry (filter stays (placed_after before es))
+pub kept_true : (before es : List Entry) → kept_after before es true ≡ map entry (filter stays (placed_after before es))
 kept_true before [] = refl
 kept_true before (e ∷ es) = two_kept (stays (before, e) && true) (stays (before, e)) e before before _ _ (true_and (stays (before, e))) (kept_true (before ++ e ∷ []) es)
 
@@ -60,7 +60,7 @@ next_alike a b c is = by (a + 1 == c) (a == b) refl refl where
   by false true h k = let f : a ≡ b = eqb-true a b k in let e : a + 1 ≡ c = omega arith in let g : (a + 1 == c) ≡ true = ap (λ n. a + 1 == n) (sym e) ∙ nat_eq_equiv.refl (a + 1) in cc
 
 -- the numbers go down by one where a group before is left out
-shifted : {es : List Entry} → HasPairedGroups es → (before other : List Entry) (n : ℕ) → is_group_open before ≡ false → is_group_open other ≡ false → count_by is_group_start before ≡ count_by is_group_start other + 1
+pub shifted : {es : List Entry} → HasPairedGroups es → (before other : List Entry) (n : ℕ) → is_group_open before ≡ false → is_group_open other ≡ false → count_by is_group_start before ≡ count_by is_group_start other + 1
     → members_after before es (n + 1) ≡ members_after other es n
 shifted (empty is) before other n o o2 c = rw is refl
 shifted (outer e rest is clear p) before other n o o2 c =
@@ -89,7 +89,7 @@ shifted (whole d j k inner rest is clear p) before other n o o2 c =
 abbrev outside_after : List Entry → List Entry → List Entry
 outside_after before es = map entry (filter (λ p. not (is_in_group p)) (placed_after before es))
 
-outside_alike : (before other es : List Entry) → is_group_open before ≡ is_group_open other → outside_after before es ≡ outside_after other es
+pub outside_alike : (before other es : List Entry) → is_group_open before ≡ is_group_open other → outside_after before es ≡ outside_after other es
 outside_alike before other [] same = refl
 outside_alike before other (e ∷ es) same =
     two_kept (not (is_in_group (before, e))) (not (is_in_group (other, e))) e before other _ _ (ap (λ b. not (is_group_mark e || b)) same)

@@ -1,10 +1,15 @@
 -- A map from the names of environment variables to the texts that a page shows for them.
 use Rattle.std.specs.Prelude.{◌≡◌, ◌≢◌, ℕ, List, Option, Some, None, if◌then◌else◌}
+use Rattle.std.specs.Map.{lookup}
 use Rattle.bpaf_doc.specs.Buffer.Equality.{same_text}
 
 -- the text for a name, if the map has one
 abbrev pub Texts : Type 0
 Texts = List ℕ → Option (List ℕ)
+
+-- what a list of names and texts gives a name: the text of the first pair with that name
+abbrev pub texts_in : List (List ℕ × List ℕ) → Texts
+texts_in pairs name = lookup (same_text name) pairs
 
 -- `new`: no name has a text
 abbrev pub no_texts : Texts
@@ -12,7 +17,7 @@ no_texts name = None
 
 -- `insert`: the name has this text from now on, in place of an earlier one
 abbrev pub texts_with : Texts → (name text : List ℕ) → Texts
-texts_with texts name text = λ other. if same_text other name then Some text else texts other
+texts_with texts name text = λ other. if same_text name other then Some text else texts other
 
 -- two maps say the same of every name
 abbrev pub AreSameTexts : Texts → Texts → Type 0

@@ -121,7 +121,7 @@ fn type_of<A: Allocator>(item: &HelpItem<'_, A>) -> HiTy
 }
 
 // Whether it is an item without help.
-fn lacks_help<A: Allocator>(item: &HelpItem<'_, A>) -> bool
+pub(crate) fn lacks_help<A: Allocator>(item: &HelpItem<'_, A>) -> bool
     ensures { result ≡ lacks_help (entry_of item.now) }
 {
     match *item {

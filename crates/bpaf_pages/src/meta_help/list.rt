@@ -97,13 +97,20 @@ impl<'a, A: Allocator, L: Allocator> HelpItems<'a, A, L> {
     }
 }
 
+impl<'a, A: Allocator, L: Allocator + Copy> HelpItems<'a, A, L> {
+    // The allocator of the list, for lists that are made of it.
+    pub(crate) fn allocator(&self) -> L {
+        *self.items.allocator()
+    }
+}
+
 fn group_start_place<A: Allocator>(items: &[HelpItem<'_, A>]) -> Option<usize>
     ensures { result ≡ position is_group_start (map entry_of items.now) }
 {
     items.iter().position(|item| item.is_group_start())
 }
 
-fn group_end_place<A: Allocator>(items: &[HelpItem<'_, A>]) -> Option<usize>
+pub(crate) fn group_end_place<A: Allocator>(items: &[HelpItem<'_, A>]) -> Option<usize>
     ensures { result ≡ position is_group_end (map entry_of items.now) }
 {
     items.iter().position(|item| item.is_group_end())
