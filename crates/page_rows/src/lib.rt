@@ -3,7 +3,7 @@
 //! The rows stand apart from `bpaf_pages`, since `is_uppercase` computes only where the tables of Unicode are listed.
 #![tactic(auto)]
 
-ghost use Rattle.std.specs.Prelude.{map, string_bytes};
+ghost use Rattle.std.specs.Prelude.{false, map, string_bytes};
 ghost use Rattle.bpaf_help.specs.View.{head_of, tree_of};
 ghost use Rattle.bpaf_pages.specs.Page.EnvTexts.{texts_in};
 ghost use Rattle.bpaf_pages.specs.Page.PageAnswers.{IsHelpPageAnswer};
