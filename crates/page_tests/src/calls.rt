@@ -1,0 +1,167 @@
+//! The calls that may answer `AllocError`, what each of them gives, and what it leaves where it is refused.
+use crate::heaps::taken;
+use crate::rows::path;
+use crate::trees::{info, tree};
+use bpaf_doc::buffer::Doc;
+use bpaf_help::item::{Item, ShortLong};
+use bpaf_help::meta::Meta;
+use bpaf_pages::meta_help::{EnvTexts, HelpError, HelpItems, render_help, write_help_item_groups};
+use linked_list_allocator::LocalHeap;
+use std::alloc::{AllocError, Allocator, Global};
+
+#[derive(Clone, Copy)]
+pub enum Call {
+    Append,
+    Insert,
+    Replace,
+    Groups,
+    Page,
+}
+
+/// What a call gave, or what it left where it was refused, as debug text, which is the same over all allocators.
+#[derive(Drop)]
+pub enum Answer {
+    Given(String),
+    Refused(String),
+    Misplaced,
+}
+
+/// The answer of a call over a heap with so many free blocks, and with the tree that the text spells. An error says that the
+/// call could not be prepared, or its text not be made.
+pub fn answer_of(
+    out: Global,
+    heap: &LocalHeap,
+    room: usize,
+    text: &str,
+    call: Call,
+) -> Result<Answer, AllocError> {
+    let tree = tree(out, text)?;
+    match call {
+        Call::Append => append_answer(out, heap, room, &tree),
+        Call::Insert => insert_answer(out, heap, room, "W"),
+        Call::Replace => insert_answer(out, heap, room, "V"),
+        Call::Groups => groups_answer(out, heap, room, &tree),
+        Call::Page => page_answer(out, heap, room, &tree),
+    }
+}
+
+/// What stands where a call is refused: what stood before, made with ample memory.
+pub fn before(out: Global, text: &str, call: Call) -> Result<String, AllocError> {
+    match call {
+        Call::Append => listed(out, &tree(out, text)?),
+        Call::Insert | Call::Replace => told(out, &begun_texts(out)?),
+        Call::Groups => written(out, &begun_doc(out)?, &begun_texts(out)?),
+        Call::Page => Ok(String::new(out)),
+    }
+}
+
+fn answered(left: String, outcome: Result<(), AllocError>) -> Answer {
+    match outcome {
+        Ok(()) => Answer::Given(left),
+        Err(AllocError) => Answer::Refused(left),
+    }
+}
+
+/// A list in which the tree stands once.
+pub fn list_of<'a, L: Allocator>(
+    alloc: L,
+    tree: &'a Meta,
+) -> Result<HelpItems<'a, Global, L>, AllocError> {
+    let mut list: HelpItems<'a, Global, L> = HelpItems::new(alloc);
+    list.append_meta(tree)?;
+    Ok(list)
+}
+
+fn listed(out: Global, tree: &Meta) -> Result<String, AllocError> {
+    format!(in out; "{:?}", list_of(out, tree)?)
+}
+
+fn append_answer(
+    out: Global,
+    heap: &LocalHeap,
+    room: usize,
+    tree: &Meta,
+) -> Result<Answer, AllocError> {
+    let mut list = list_of(heap, tree)?;
+    let _taken = taken(out, heap, room)?;
+    let outcome = list.append_meta(tree);
+    Ok(answered(format!(in out; "{list:?}")?, outcome))
+}
+
+// Texts in which one name has one.
+fn begun_texts<A: Allocator + Copy>(alloc: A) -> Result<EnvTexts<A>, AllocError> {
+    let mut texts = EnvTexts::new(alloc);
+    texts.insert("V", "7")?;
+    Ok(texts)
+}
+
+fn told<A: Allocator>(out: Global, texts: &EnvTexts<A>) -> Result<String, AllocError> {
+    format!(in out; "{texts:?} {:?} {:?}", texts.get("V"), texts.get("W"))
+}
+
+fn insert_answer(
+    out: Global,
+    heap: &LocalHeap,
+    room: usize,
+    name: &str,
+) -> Result<Answer, AllocError> {
+    let mut texts = begun_texts(heap)?;
+    let _taken = taken(out, heap, room)?;
+    let outcome = texts.insert(name, "a text of an environment variable");
+    Ok(answered(told(out, &texts)?, outcome))
+}
+
+fn begun_doc<A: Allocator + Copy>(alloc: A) -> Result<Doc<A>, AllocError> {
+    let mut doc = Doc::new(alloc);
+    doc.literal("before")?;
+    Ok(doc)
+}
+
+fn written<A: Allocator, B: Allocator>(
+    out: Global,
+    doc: &Doc<A>,
+    texts: &EnvTexts<B>,
+) -> Result<String, AllocError> {
+    format!(in out; "{doc:?} {texts:?}")
+}
+
+fn groups_answer(
+    out: Global,
+    heap: &LocalHeap,
+    room: usize,
+    tree: &Meta,
+) -> Result<Answer, AllocError> {
+    let mut doc = begun_doc(heap)?;
+    let texts = begun_texts(out)?;
+    let list = list_of(heap, tree)?;
+    let _taken = taken(out, heap, room)?;
+    let outcome = write_help_item_groups(&mut doc, list, true, &texts);
+    Ok(answered(written(out, &doc, &texts)?, outcome))
+}
+
+fn page_answer(
+    out: Global,
+    heap: &LocalHeap,
+    room: usize,
+    tree: &Meta,
+) -> Result<Answer, AllocError> {
+    let info = info(out, "Prints things")?;
+    let path = path(out)?;
+    let texts = EnvTexts::new(out);
+    let _taken = taken(out, heap, room)?;
+    match render_help(heap, &path, &info, tree, tree, true, &texts) {
+        Ok(page) => Ok(Answer::Given(format!(in out; "{page:?}")?)),
+        Err(HelpError::Memory(_)) => Ok(Answer::Refused(String::new(out))),
+        Err(HelpError::Misplaced(item)) => Ok(misplaced(out, item)),
+    }
+}
+
+fn misplaced(out: Global, item: &Item) -> Answer {
+    match item {
+        Item::Flag {
+            name: ShortLong::Short('b'),
+            ..
+        } => Answer::Misplaced,
+        _ => Answer::Refused(String::new(out)),
+    }
+}

@@ -1,0 +1,16 @@
+//! Tests of item lists, texts of environment variables and help pages: rows with ample memory, and each growth refused in turn.
+//!
+//! They stand apart from `bpaf_pages`, since a crate with tests is proved twice. A function here makes few calls that may fail
+//! while it holds a tree: the proof has a step for each value that each of them may have to drop.
+#![tactic(auto)]
+
+#[cfg(test)]
+mod calls;
+#[cfg(test)]
+mod heaps;
+#[cfg(test)]
+mod refusals;
+#[cfg(test)]
+mod rows;
+#[cfg(test)]
+mod trees;

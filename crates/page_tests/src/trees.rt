@@ -1,0 +1,138 @@
+//! Trees from short texts.
+use bpaf_doc::buffer::Doc;
+use bpaf_help::item::{Item, ShortLong};
+use bpaf_help::meta::Meta;
+use bpaf_help::meta_help::{Info, Metavar};
+use std::alloc::{AllocError, Global};
+
+/// The tree that a text spells over a stack of trees. `X` is a positional value with help, `C` a command of the same name and
+/// help, `P` a positional value without help, `A` an argument, and each small letter a flag. Each other sign takes trees off and
+/// puts one on: `&` an `And` of two, and of the last one `@` Adjacent, `#` and `%` Subsection, `~` and `!` Suffix.
+pub fn tree(alloc: Global, text: &str) -> Result<Meta, AllocError> {
+    let mut stack = Vec::new(alloc);
+    for sign in text.chars() {
+        let made = made(alloc, &mut stack, sign)?;
+        stack.push(made)?;
+    }
+    Ok(top(&mut stack))
+}
+
+fn top(stack: &mut Vec<Meta>) -> Meta {
+    match stack.pop() {
+        Some(tree) => tree,
+        None => Meta::Skip,
+    }
+}
+
+fn made(alloc: Global, stack: &mut Vec<Meta>, sign: char) -> Result<Meta, AllocError> {
+    match sign {
+        '&' => Ok(Meta::And(both(alloc, stack)?)),
+        '@' => Ok(Meta::Adjacent(Box::new(alloc, top(stack))?)),
+        '#' | '%' | '~' | '!' => noted(alloc, top(stack), sign),
+        _ => Meta::from_item(alloc, leaf(alloc, sign)?),
+    }
+}
+
+// The last two trees of the stack.
+fn both(alloc: Global, stack: &mut Vec<Meta>) -> Result<Vec<Meta>, AllocError> {
+    let last = top(stack);
+    let first = top(stack);
+    let mut parts = Vec::new(alloc);
+    parts.push(first)?;
+    parts.push(last)?;
+    Ok(parts)
+}
+
+fn noted(alloc: Global, inner: Meta, sign: char) -> Result<Meta, AllocError> {
+    let inner = Box::new(alloc, inner)?;
+    let note = Box::new(alloc, Doc::from_text(alloc, note(sign))?)?;
+    Ok(match sign {
+        '#' | '%' => Meta::Subsection(inner, note),
+        _ => Meta::Suffix(inner, note),
+    })
+}
+
+fn note(sign: char) -> &'static str {
+    match sign {
+        '#' => "G",
+        '%' => "Extra",
+        '~' => "S",
+        _ => "T",
+    }
+}
+
+fn leaf(alloc: Global, sign: char) -> Result<Item, AllocError> {
+    match sign {
+        'X' => positional(alloc, "X", "h"),
+        'P' => positional(alloc, "P", ""),
+        'C' => command(alloc),
+        'A' => argument(alloc),
+        'a' => flag(alloc, ShortLong::Short('a'), None, "A"),
+        'e' => flag(alloc, ShortLong::Short('e'), Some("V"), "E"),
+        'f' => flag(alloc, ShortLong::Short('e'), Some("W"), "E"),
+        'x' => flag(alloc, ShortLong::Long("x"), None, "X it"),
+        'v' => flag(alloc, ShortLong::Both('v', "verbose"), None, "Talk more"),
+        _ => flag(alloc, ShortLong::Short(sign), None, ""),
+    }
+}
+
+fn positional(alloc: Global, name: &'static str, help: &str) -> Result<Item, AllocError> {
+    Ok(Item::Positional {
+        metavar: Metavar(name),
+        help: text_doc(alloc, help)?,
+    })
+}
+
+fn flag(
+    alloc: Global,
+    name: ShortLong,
+    env: Option<&'static str>,
+    help: &str,
+) -> Result<Item, AllocError> {
+    Ok(Item::Flag {
+        name,
+        shorts: Vec::new(alloc),
+        env,
+        help: text_doc(alloc, help)?,
+    })
+}
+
+fn argument(alloc: Global) -> Result<Item, AllocError> {
+    Ok(Item::Argument {
+        name: ShortLong::Long("n"),
+        shorts: Vec::new(alloc),
+        metavar: Metavar("N"),
+        env: Some("V"),
+        help: text_doc(alloc, "N it")?,
+    })
+}
+
+fn command(alloc: Global) -> Result<Item, AllocError> {
+    Ok(Item::Command {
+        name: "X",
+        short: None,
+        help: text_doc(alloc, "h")?,
+        meta: Box::new(alloc, Meta::Skip)?,
+        info: Box::new(alloc, info(alloc, "")?)?,
+    })
+}
+
+/// What goes with a page: its description, and nothing else.
+pub fn info(alloc: Global, description: &str) -> Result<Info, AllocError> {
+    Ok(Info {
+        descr: text_doc(alloc, description)?,
+        header: None,
+        footer: None,
+        usage: None,
+        help: Meta::Skip,
+    })
+}
+
+// No document of an empty text.
+fn text_doc(alloc: Global, text: &str) -> Result<Option<Doc>, AllocError> {
+    if text.is_empty() {
+        Ok(None)
+    } else {
+        Ok(Some(Doc::from_text(alloc, text)?))
+    }
+}
