@@ -52,7 +52,8 @@ pub fn roff_answer(request: &mut Request<'_>) -> Result<String, Bad> {
     Ok(spelled(alloc, document.render_roff(page)?.as_str())?)
 }
 
-fn read_extent(request: &mut Request<'_>) -> Result<bool, Bad> {
+/// Takes a word that says whether a page is in full or in brief.
+pub fn read_extent(request: &mut Request<'_>) -> Result<bool, Bad> {
     match request.word()? {
         "full" => Ok(true),
         "brief" => Ok(false),
@@ -60,7 +61,8 @@ fn read_extent(request: &mut Request<'_>) -> Result<bool, Bad> {
     }
 }
 
-fn width_of(word: &str) -> Result<usize, Bad> {
+/// The width that a word stands for.
+pub fn width_of(word: &str) -> Result<usize, Bad> {
     if word == "max" {
         return Ok(usize::MAX);
     }
@@ -117,7 +119,13 @@ fn add_pages(alloc: Global, document: &Doc, lines: &mut Lines) -> Result<(), Bad
     lines.add("fl", first_line(alloc, document)?)
 }
 
-fn console(alloc: Global, document: &Doc, full: bool, width: usize) -> Result<String, AllocError> {
+/// The text of a console page.
+pub fn console(
+    alloc: Global,
+    document: &Doc,
+    full: bool,
+    width: usize,
+) -> Result<String, AllocError> {
     spelled(alloc, document.render_console(alloc, full, width)?.as_str())
 }
 

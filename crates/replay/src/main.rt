@@ -4,10 +4,12 @@
 mod document_answers;
 mod documents;
 mod encoding;
+mod entries;
 mod fault;
 mod laws;
 mod lines;
 mod names;
+mod page_answers;
 mod pieces;
 mod request;
 mod requests;

@@ -9,10 +9,13 @@ use crate::document_answers::{
 use crate::fault::Bad;
 use crate::lines::{Lines, UNBUILT};
 use crate::names::Names;
+use crate::page_answers::{
+    add_tree_answers, groups_answer, heading_answer, help_answer, help_parts_answer, list_answer,
+};
 use crate::pieces::{chunks_answer, escape_answer, monoid_answer, roff_calls_answer};
 use crate::request::Request;
 use crate::tree_answers::{
-    add_tree_answers, either_answer, first_name_answer, matches_answer, tree_answer, usage_answer,
+    either_answer, first_name_answer, matches_answer, tree_answer, usage_answer,
 };
 use std::alloc::Global;
 
@@ -50,6 +53,11 @@ fn one_answer(request: &mut Request<'_>, key: &str) -> Result<String, Bad> {
         "or2" => either_answer(request),
         "matches" => matches_answer(request),
         "names" => first_name_answer(request),
+        "items" | "findgroup" => list_answer(request, key),
+        "itemsof" => heading_answer(request),
+        "groups" => groups_answer(request),
+        "help" => help_answer(request),
+        "helpparts" => help_parts_answer(request),
         _ => unbuilt_answer(request.alloc, key),
     }
 }
@@ -57,16 +65,9 @@ fn one_answer(request: &mut Request<'_>, key: &str) -> Result<String, Bad> {
 // The answer to a request that has none yet.
 fn unbuilt_answer(alloc: Global, key: &str) -> Result<String, Bad> {
     match key {
-        "items"
-        | "itemsof"
-        | "findgroup"
-        | "groups"
-        | "help"
-        | "helpparts"
-        | "apphtml"
-        | "appmarkdown"
-        | "appman"
-        | "sections" => Ok(String::from_str(alloc, UNBUILT)?),
+        "apphtml" | "appmarkdown" | "appman" | "sections" => {
+            Ok(String::from_str(alloc, UNBUILT)?)
+        }
         _ => Err(Bad::Words("no such request")),
     }
 }

@@ -1,24 +1,20 @@
 //! Answers to requests on trees, items and names.
 
-ghost use Rattle.std.specs.Prelude.{◌≢◌, [], OnOk};
-
 use crate::document_answers::digit;
 use crate::documents::{DEEPEST, shown};
 use crate::encoding::spelled;
 use crate::fault::Bad;
 use crate::lines::Lines;
 use crate::request::Request;
-use crate::trees::{
-    read_info, read_name, read_tree, write_item, write_name, write_shorts, write_tree,
-};
+use crate::trees::{read_name, read_tree, write_item, write_name, write_shorts, write_tree};
 use bpaf_doc::buffer::Doc;
 use bpaf_help::item::{Item, ShortLong};
 use bpaf_help::meta::Meta;
 use bpaf_help::usage::write_meta;
 use std::alloc::{AllocError, Global};
 
-// Takes a tree, behind which no word is left.
-fn read_last_tree(request: &mut Request<'_>) -> Result<Meta, Bad> {
+/// Takes a tree, behind which no word is left.
+pub fn read_last_tree(request: &mut Request<'_>) -> Result<Meta, Bad> {
     let tree = read_tree(request, DEEPEST)?;
     request.end()?;
     Ok(tree)
@@ -50,29 +46,8 @@ pub fn tree_answer(request: &mut Request<'_>, key: &str) -> Result<String, Bad> 
     }
 }
 
-/// Adds all answers to one tree, behind what goes with it.
-pub fn add_tree_answers(request: &mut Request<'_>, lines: &mut Lines) -> Result<(), Bad>
-    ensures { OnOk result (lines.new ≢ []) }
-{
-    let _environment = request.texts()?;
-    let _info = read_info(request, DEEPEST)?;
-    let _help = read_tree(request, DEEPEST)?;
-    let tree = read_last_tree(request)?;
-    add_built(request.alloc, &tree, lines)?;
-    lines.add_unbuilt("se")?;
-    lines.add_unbuilt("fg")?;
-    if tree.positional_invariant_check().is_ok() {
-        lines.add_unbuilt("hf")?;
-        lines.add_unbuilt("hb")?;
-    }
-    lines.add_unbuilt("gr")?;
-    lines.add_unbuilt("ah")?;
-    lines.add_unbuilt("am")?;
-    lines.add_unbuilt("mn")
-}
-
-// Adds the answers that are built.
-fn add_built(alloc: Global, tree: &Meta, lines: &mut Lines) -> Result<(), Bad> {
+/// Adds the answers to one tree that need nothing else.
+pub fn add_forms(alloc: Global, tree: &Meta, lines: &mut Lines) -> Result<(), Bad> {
     lines.add("n1", normal_form(alloc, tree, true)?)?;
     lines.add("u1", usage_line(alloc, tree, true)?)?;
     lines.add("um1", usage_markdown(alloc, tree, true)?)?;
@@ -91,8 +66,8 @@ fn printed(alloc: Global, tree: &Meta) -> Result<String, AllocError> {
     Ok(answer)
 }
 
-// An item behind a word, or behind none.
-fn printed_item(alloc: Global, word: &str, item: &Item) -> Result<String, AllocError> {
+/// An item behind a word, or behind none.
+pub fn printed_item(alloc: Global, word: &str, item: &Item) -> Result<String, AllocError> {
     let mut answer = String::from_str(alloc, word)?;
     write_item(&mut answer, item)?;
     Ok(answer)

@@ -147,9 +147,14 @@ fn is_default(info: &Info) -> bool {
 }
 
 fn write_help(out: &mut String, help: &Option<Doc>) -> Result<(), AllocError> {
-    match help {
+    write_optional(out, help.as_ref())
+}
+
+/// Prints a document, or `-` for none.
+pub fn write_optional(out: &mut String, document: Option<&Doc>) -> Result<(), AllocError> {
+    match document {
         None => out.push_str("-"),
-        Some(help) => write_document(out, help),
+        Some(document) => write_document(out, document),
     }
 }
 
