@@ -38,8 +38,8 @@ pub fn answer_of(
     let tree = tree(out, text)?;
     match call {
         Call::Append => append_answer(out, heap, room, &tree),
-        Call::Insert => insert_answer(out, heap, room, "W"),
-        Call::Replace => insert_answer(out, heap, room, "V"),
+        Call::Insert => insert_answer(out, heap, room, EnvTexts::new(heap), "W"),
+        Call::Replace => insert_answer(out, heap, room, begun_texts(heap)?, "V"),
         Call::Groups => groups_answer(out, heap, room, &tree),
         Call::Page => page_answer(out, heap, room, &tree),
     }
@@ -49,7 +49,8 @@ pub fn answer_of(
 pub fn before(out: Global, text: &str, call: Call) -> Result<String, AllocError> {
     match call {
         Call::Append => listed(out, &tree(out, text)?),
-        Call::Insert | Call::Replace => told(out, &begun_texts(out)?),
+        Call::Insert => told(out, &EnvTexts::new(out)),
+        Call::Replace => told(out, &begun_texts(out)?),
         Call::Groups => written(out, &begun_doc(out)?, &begun_texts(out)?),
         Call::Page => Ok(String::new(out)),
     }
@@ -99,13 +100,13 @@ fn told<A: Allocator>(out: Global, texts: &EnvTexts<A>) -> Result<String, AllocE
     format!(in out; "{texts:?} {:?} {:?}", texts.get("V"), texts.get("W"))
 }
 
-fn insert_answer(
+fn insert_answer<'a>(
     out: Global,
-    heap: &LocalHeap,
+    heap: &'a LocalHeap,
     room: usize,
+    mut texts: EnvTexts<&'a LocalHeap>,
     name: &str,
 ) -> Result<Answer, AllocError> {
-    let mut texts = begun_texts(heap)?;
     let _taken = taken(out, heap, room)?;
     let outcome = texts.insert(name, "a text of an environment variable");
     Ok(answered(told(out, &texts)?, outcome))
