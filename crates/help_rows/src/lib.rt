@@ -1,28 +1,29 @@
 //! Rows of the definitions as equations that compute, and a caller of the library.
 //!
-//! The rows stand apart from `bpaf_help`, since `is_uppercase` computes only where the tables of Unicode are listed.
+//! The rows stand apart from `bpaf_items`, since `is_uppercase` computes only where the tables of Unicode are listed.
 #![tactic(auto)]
 
-ghost use Rattle.std.specs.Prelude.{◌≡◌, true, IfOk};
-ghost use Rattle.bpaf_doc.specs.Buffer.Writes.{document_of};
-ghost use Rattle.bpaf_help.specs.View.{tree_of};
-ghost use Rattle.bpaf_help.specs.Usage.Writes.{usage_writes};
+ghost use Rattle.std.specs.Prelude.{false, map, string_bytes};
+ghost use Rattle.bpaf_meta.specs.View.{head_of, tree_of};
+ghost use Rattle.bpaf_items.specs.Page.EnvTexts.{texts_in};
+ghost use Rattle.bpaf_items.specs.Page.PageAnswers.{IsHelpPageAnswer};
+ghost use Rattle.bpaf_items.specs.View.{answer_of};
 
 use bpaf_doc::buffer::Doc;
-use bpaf_help::meta::Meta;
-use bpaf_help::usage::write_meta;
-use std::alloc::{AllocError, Global};
+use bpaf_items::meta::Meta;
+use bpaf_items::meta_help::{EnvTexts, HelpError, Info, render_help};
+use std::alloc::Global;
 
-/// The usage line of a tree, as a document of its own.
-pub fn usage_line(alloc: Global, tree: &Meta) -> Result<Doc, AllocError>
-    ensures { IfOk result (λ d. d ≡ document_of (usage_writes true (tree_of tree.now))) }
+/// The help page of a program, without the texts of its environment.
+pub fn help_page<'m>(
+    alloc: Global,
+    path: &[String],
+    info: &Info,
+    parser: &'m Meta,
+    texts: &EnvTexts,
+) -> Result<Doc, HelpError<'m>>
+    ensures { IsHelpPageAnswer (map string_bytes path.now) (head_of info.now) (tree_of parser.now)
+        (tree_of info.now.help) false (texts_in texts.now) (answer_of result) }
 {
-    let mut doc = Doc::new(alloc);
-    write_meta(&mut doc, tree, true)?;
-    Ok(doc)
-}
-
-/// Whether each named item stands before the positional ones.
-pub fn is_sound(tree: &Meta) -> bool {
-    tree.positional_invariant_check().is_ok()
+    render_help(alloc, path, info, parser, &info.help, false, texts)
 }

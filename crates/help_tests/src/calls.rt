@@ -1,50 +1,21 @@
-//! Each call that may answer `AllocError`, and what it leaves; and the calls that take no memory.
-use crate::trees::{literal_doc, tree};
+//! The calls that may answer `AllocError`, what each of them gives, and what it leaves where it is refused.
+use crate::heaps::taken;
+use crate::rows::path;
+use crate::trees::{info, tree};
 use bpaf_doc::buffer::Doc;
-use bpaf_help::item::{Item, ShortLong};
-use bpaf_help::meta::{Meta, MetaInfo};
-use bpaf_help::meta_help::Metavar;
-use bpaf_help::usage::{meta, metavar, write_item, write_meta, write_shortlong};
+use bpaf_meta::item::{Item, ShortLong};
+use bpaf_meta::meta::Meta;
+use bpaf_items::meta_help::{EnvTexts, HelpError, HelpItems, render_help, write_help_item_groups};
+use linked_list_allocator::LocalHeap;
 use std::alloc::{AllocError, Allocator, Global};
 
 #[derive(Clone, Copy)]
 pub enum Call {
-    Write(Write),
-    Make(Make),
-    Shorts,
-    Read,
-}
-
-/// The calls that write into a document.
-#[derive(Clone, Copy)]
-pub enum Write {
-    Name,
-    Metavar,
-    Item,
-    Usage,
-    Outside,
-    Info,
-}
-
-/// The calls that make a tree.
-#[derive(Clone, Copy)]
-pub enum Make {
-    Copy,
-    Usage,
-    Outside,
-    Item,
-    Required,
-    Optional,
-    Or,
-}
-
-/// What the calls are lent.
-#[derive(Drop)]
-pub struct Given<A: Allocator> {
-    tree: Meta<A>,
-    doc: Doc<A>,
-    flags: Vec<char, A>,
-    args: Vec<char, A>,
+    Append,
+    Insert,
+    Replace,
+    Groups,
+    Page,
 }
 
 /// What a call gave, or what it left where it was refused, as debug text, which is the same over all allocators.
@@ -52,39 +23,36 @@ pub struct Given<A: Allocator> {
 pub enum Answer {
     Given(String),
     Refused(String),
+    Misplaced,
 }
 
-/// The tree that a text spells, and a document that has begun.
-pub fn make_given<A: Allocator + Copy>(alloc: A, text: &str) -> Result<Given<A>, AllocError> {
-    Ok(Given {
-        tree: tree(alloc, text)?,
-        doc: literal_doc(alloc, "before")?,
-        flags: Vec::new(alloc),
-        args: Vec::new(alloc),
-    })
-}
-
-/// The answer of a call. An error says that its text could not be made.
-pub fn answer_of<A: Allocator + Copy>(
-    alloc: A,
+/// The answer of a call over a heap with so many free blocks, and with the tree that the text spells. An error says that the
+/// call could not be prepared, or its text not be made.
+pub fn answer_of(
     out: Global,
-    given: &mut Given<A>,
+    heap: &LocalHeap,
+    room: usize,
+    text: &str,
     call: Call,
 ) -> Result<Answer, AllocError> {
+    let tree = tree(out, text)?;
     match call {
-        Call::Write(call) => write_answer(out, given, call),
-        Call::Make(call) => make_answer(alloc, out, &given.tree, call),
-        Call::Shorts => shorts_answer(out, given),
-        Call::Read => Ok(Answer::Given(read(out, &given.tree)?)),
+        Call::Append => append_answer(out, heap, room, &tree),
+        Call::Insert => insert_answer(out, heap, room, EnvTexts::new(heap), "W"),
+        Call::Replace => insert_answer(out, heap, room, begun_texts(heap)?, "V"),
+        Call::Groups => groups_answer(out, heap, room, &tree),
+        Call::Page => page_answer(out, heap, room, &tree),
     }
 }
 
-/// What stands where a call is refused: what stood before.
-pub fn before(out: Global, call: Call) -> Result<String, AllocError> {
+/// What stands where a call is refused: what stood before, made with ample memory.
+pub fn before(out: Global, text: &str, call: Call) -> Result<String, AllocError> {
     match call {
-        Call::Write(_) => format!(in out; "{:?}", literal_doc(out, "before")?),
-        Call::Make(_) | Call::Read => Ok(String::new(out)),
-        Call::Shorts => String::from_str(out, "[] []"),
+        Call::Append => listed(out, &tree(out, text)?),
+        Call::Insert => told(out, &EnvTexts::new(out)),
+        Call::Replace => told(out, &begun_texts(out)?),
+        Call::Groups => written(out, &begun_doc(out)?, &begun_texts(out)?),
+        Call::Page => Ok(String::new(out)),
     }
 }
 
@@ -95,76 +63,106 @@ fn answered(left: String, outcome: Result<(), AllocError>) -> Answer {
     }
 }
 
-fn write_answer<A: Allocator + Copy>(
+/// A list in which the tree stands once.
+pub fn list_of<'a, L: Allocator>(
+    alloc: L,
+    tree: &'a Meta,
+) -> Result<HelpItems<'a, Global, L>, AllocError> {
+    let mut list: HelpItems<'a, Global, L> = HelpItems::new(alloc);
+    list.append_meta(tree)?;
+    Ok(list)
+}
+
+fn listed(out: Global, tree: &Meta) -> Result<String, AllocError> {
+    format!(in out; "{:?}", list_of(out, tree)?)
+}
+
+fn append_answer(
     out: Global,
-    given: &mut Given<A>,
-    call: Write,
+    heap: &LocalHeap,
+    room: usize,
+    tree: &Meta,
 ) -> Result<Answer, AllocError> {
-    let outcome = written(&mut given.doc, &given.tree, call);
-    Ok(answered(format!(in out; "{:?}", given.doc)?, outcome))
+    let mut list = list_of(heap, tree)?;
+    let _taken = taken(out, heap, room)?;
+    let outcome = list.append_meta(tree);
+    Ok(answered(format!(in out; "{list:?}")?, outcome))
 }
 
-fn written<A: Allocator, B: Allocator + Copy>(
-    doc: &mut Doc<A>,
-    tree: &Meta<B>,
-    call: Write,
-) -> Result<(), AllocError> {
-    match call {
-        Write::Name => write_shortlong(doc, &ShortLong::Both('l', "a-long-name-of-a-flag")),
-        Write::Metavar => metavar(doc, Metavar("the name of a value")),
-        Write::Item => match tree.first_item() {
-            Some(item) => write_item(doc, item),
-            None => Ok(()),
-        },
-        Write::Usage => write_meta(doc, tree, true),
-        Write::Outside => write_meta(doc, tree, false),
-        Write::Info => meta(doc, MetaInfo(tree), true),
-    }
+// Texts in which one name has one.
+fn begun_texts<A: Allocator + Copy>(alloc: A) -> Result<EnvTexts<A>, AllocError> {
+    let mut texts = EnvTexts::new(alloc);
+    texts.insert("V", "7")?;
+    Ok(texts)
 }
 
-fn make_answer<A: Allocator + Copy>(
-    alloc: A,
+fn told<A: Allocator>(out: Global, texts: &EnvTexts<A>) -> Result<String, AllocError> {
+    format!(in out; "{texts:?} {:?} {:?}", texts.get("V"), texts.get("W"))
+}
+
+fn insert_answer<'a>(
     out: Global,
-    tree: &Meta<A>,
-    call: Make,
+    heap: &'a LocalHeap,
+    room: usize,
+    mut texts: EnvTexts<&'a LocalHeap>,
+    name: &str,
 ) -> Result<Answer, AllocError> {
-    match made(alloc, tree, call) {
-        Ok(meta) => Ok(Answer::Given(format!(in out; "{meta:?}")?)),
-        Err(AllocError) => Ok(Answer::Refused(String::new(out))),
+    let _taken = taken(out, heap, room)?;
+    let outcome = texts.insert(name, "a text of an environment variable");
+    Ok(answered(told(out, &texts)?, outcome))
+}
+
+fn begun_doc<A: Allocator + Copy>(alloc: A) -> Result<Doc<A>, AllocError> {
+    let mut doc = Doc::new(alloc);
+    doc.literal("before")?;
+    Ok(doc)
+}
+
+fn written<A: Allocator, B: Allocator>(
+    out: Global,
+    doc: &Doc<A>,
+    texts: &EnvTexts<B>,
+) -> Result<String, AllocError> {
+    format!(in out; "{doc:?} {texts:?}")
+}
+
+fn groups_answer(
+    out: Global,
+    heap: &LocalHeap,
+    room: usize,
+    tree: &Meta,
+) -> Result<Answer, AllocError> {
+    let mut doc = begun_doc(heap)?;
+    let texts = begun_texts(out)?;
+    let list = list_of(heap, tree)?;
+    let _taken = taken(out, heap, room)?;
+    let outcome = write_help_item_groups(&mut doc, list, true, &texts);
+    Ok(answered(written(out, &doc, &texts)?, outcome))
+}
+
+fn page_answer(
+    out: Global,
+    heap: &LocalHeap,
+    room: usize,
+    tree: &Meta,
+) -> Result<Answer, AllocError> {
+    let info = info(out, "Prints things")?;
+    let path = path(out)?;
+    let texts = EnvTexts::new(out);
+    let _taken = taken(out, heap, room)?;
+    match render_help(heap, &path, &info, tree, tree, true, &texts) {
+        Ok(page) => Ok(Answer::Given(format!(in out; "{page:?}")?)),
+        Err(HelpError::Memory(_)) => Ok(Answer::Refused(String::new(out))),
+        Err(HelpError::Misplaced(item)) => Ok(misplaced(out, item)),
     }
 }
 
-fn made<A: Allocator + Copy>(alloc: A, tree: &Meta<A>, call: Make) -> Result<Meta<A>, AllocError> {
-    match call {
-        Make::Copy => tree.clone(),
-        Make::Usage => tree.normalized(true),
-        Make::Outside => tree.normalized(false),
-        Make::Item => Meta::from_item(alloc, value()),
-        Make::Required => value().required(alloc, true),
-        Make::Optional => value().required(alloc, false),
-        Make::Or => Meta::And(Vec::new(alloc)).or(Meta::And(Vec::new(alloc))),
+fn misplaced(out: Global, item: &Item) -> Answer {
+    match item {
+        Item::Flag {
+            name: ShortLong::Short('b'),
+            ..
+        } => Answer::Misplaced,
+        _ => Answer::Refused(String::new(out)),
     }
-}
-
-// An item that takes no memory.
-fn value<A: Allocator>() -> Item<A> {
-    Item::Positional {
-        metavar: Metavar("FILE"),
-        help: None,
-    }
-}
-
-fn shorts_answer<A: Allocator>(out: Global, given: &mut Given<A>) -> Result<Answer, AllocError> {
-    let outcome = given.tree.collect_shorts(&mut given.flags, &mut given.args);
-    let left = format!(in out; "{:?} {:?}", given.flags, given.args)?;
-    Ok(answered(left, outcome))
-}
-
-// What the calls that take no memory say of a tree.
-fn read<A: Allocator>(out: Global, tree: &Meta<A>) -> Result<String, AllocError> {
-    let first = tree.first_item();
-    let is_pos = first.map(Item::is_pos);
-    let check = tree.positional_invariant_check();
-    let is_command = tree.is_command();
-    format!(in out; "{first:?} {is_pos:?} {check:?} {is_command}")
 }

@@ -2,7 +2,7 @@
 use linked_list_allocator::LocalHeap;
 use std::alloc::{AllocError, Global};
 
-/// How many blocks of 16 bytes a heap has: more than a tree of these tests takes beside its copy.
+/// How many blocks of 16 bytes a heap has: more than a page of these tests takes beside its list.
 pub const BLOCKS: usize = 1024;
 
 pub fn roomy(out: Global) -> Result<LocalHeap, AllocError> {

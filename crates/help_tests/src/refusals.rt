@@ -1,20 +1,17 @@
 //! Each growth refused in turn: a call is made over a heap with room for nothing, then for one block more each time, until it
 //! succeeds. Each refusal leaves what was lent as it was, and the answer at the end is that of ample memory.
-use crate::calls::{Answer, Call, Make, Write, answer_of, before, make_given};
-use crate::heaps::{BLOCKS, roomy, taken};
-use crate::trees::FORMS;
+use crate::calls::{Answer, Call, answer_of, before};
+use crate::heaps::{BLOCKS, roomy};
 use std::alloc::{AllocError, Global};
 use std::process::Abort;
 use std::test::Fail;
 
 fn answer_within(out: Global, room: usize, text: &str, call: Call) -> Result<Answer, AllocError> {
     let heap = roomy(out)?;
-    let mut given = make_given(&heap, text)?;
-    let _taken = taken(out, &heap, room)?;
-    answer_of(&heap, out, &mut given, call)
+    answer_of(out, &heap, room, text, call)
 }
 
-pub fn answer_with_ample_memory(
+fn answer_with_ample_memory(
     rt: &impl Abort,
     out: Global,
     text: &str,
@@ -22,7 +19,7 @@ pub fn answer_with_ample_memory(
 ) -> Result<String, AllocError> {
     match answer_within(out, BLOCKS, text, call)? {
         Answer::Given(made) => Ok(made),
-        Answer::Refused(_) => panic!(rt; "refused for {text}"),
+        _ => panic!(rt; "not given for {text}"),
     }
 }
 
@@ -32,7 +29,7 @@ pub fn same(rt: &impl Abort, left: &str, right: &str) {
 
 // Answers how many calls were refused.
 fn refusals(rt: &impl Abort, out: Global, text: &str, call: Call) -> Result<usize, AllocError> {
-    let before = before(out, call)?;
+    let before = before(out, text, call)?;
     let expected = answer_with_ample_memory(rt, out, text, call)?;
     for room in 0..BLOCKS {
         match answer_within(out, room, text, call)? {
@@ -41,66 +38,37 @@ fn refusals(rt: &impl Abort, out: Global, text: &str, call: Call) -> Result<usiz
                 same(rt, &made, &expected);
                 return Ok(room);
             }
+            Answer::Misplaced => panic!(rt; "misplaced in {text}"),
         }
     }
     panic!(rt; "never given for {text}")
 }
 
-const SAMPLE: &str = "Aab|!+?&P$&aPC-&&";
+// Two groups, an adjacent block, a note, and texts of environment variables.
+const SAMPLE: &str = "efA&&a%&xv&@~&XC&#&";
 
 #[test]
-fn a_refused_write_leaves_the_document(rt: HostRuntime) -> Result<(), Fail> {
+fn a_refused_call_leaves_what_it_was_lent(rt: HostRuntime) -> Result<(), Fail> {
     for call in [
-        Write::Name,
-        Write::Metavar,
-        Write::Item,
-        Write::Usage,
-        Write::Outside,
-        Write::Info,
+        Call::Append,
+        Call::Insert,
+        Call::Replace,
+        Call::Groups,
+        Call::Page,
     ] {
-        let refused = refusals(&rt, rt.alloc(), SAMPLE, Call::Write(call))?;
+        let refused = refusals(&rt, rt.alloc(), SAMPLE, call)?;
         assert!(rt; refused > 0);
     }
     Ok(())
 }
 
 #[test]
-fn a_refused_collection_leaves_both_lists(rt: HostRuntime) -> Result<(), Fail> {
-    let refused = refusals(&rt, rt.alloc(), SAMPLE, Call::Shorts)?;
-    assert!(rt; refused > 0);
-    Ok(())
-}
-
-#[test]
-fn a_tree_is_made_once_memory_lasts(rt: HostRuntime) -> Result<(), Fail> {
-    for call in [
-        Make::Usage,
-        Make::Outside,
-        Make::Item,
-        Make::Required,
-        Make::Optional,
-        Make::Or,
-    ] {
-        let refused = refusals(&rt, rt.alloc(), SAMPLE, Call::Make(call))?;
-        assert!(rt; refused > 0);
-    }
-    Ok(())
-}
-
-#[test]
-fn a_copy_of_each_form_is_made_once_memory_lasts(rt: HostRuntime) -> Result<(), Fail> {
-    for text in FORMS {
-        let refused = refusals(&rt, rt.alloc(), text, Call::Make(Make::Copy))?;
-        assert!(rt; refused > 0);
-    }
-    Ok(())
-}
-
-#[test]
-fn what_takes_no_memory_is_never_refused(rt: HostRuntime) -> Result<(), Fail> {
-    for text in ["Pa&", "aPC|", "aP&@b&", "PC#"] {
-        let refused = refusals(&rt, rt.alloc(), text, Call::Read)?;
-        assert!(rt; refused == 0);
+fn a_misplaced_item_is_found_before_memory_is_asked_for(rt: HostRuntime) -> Result<(), Fail> {
+    for room in [0, BLOCKS] {
+        match answer_within(rt.alloc(), room, "Pb&", Call::Page)? {
+            Answer::Misplaced => {}
+            _ => panic!(rt; "not misplaced"),
+        }
     }
     Ok(())
 }

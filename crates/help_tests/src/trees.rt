@@ -1,20 +1,14 @@
 //! Trees from short texts.
 use bpaf_doc::buffer::Doc;
-use bpaf_help::item::{Item, ShortLong};
-use bpaf_help::meta::Meta;
-use bpaf_help::meta_help::{Info, Metavar};
-use std::alloc::{AllocError, Allocator};
+use bpaf_meta::item::{Item, ShortLong};
+use bpaf_meta::meta::Meta;
+use bpaf_meta::meta_help::{Info, Metavar};
+use std::alloc::{AllocError, Global};
 
-/// A tree of each variant and of each kind of item. `Skip` is the tree of help flags in what goes with a command.
-pub const FORMS: [&str; 15] = [
-    "ab&", "ab|", "a?", "ab&!", "ab&@", "a", "A", "P", "Y", "aC", "a+", "a#", "a~", "a$", "a-",
-];
-
-/// The tree that a text spells over a stack of trees. A small letter puts a flag on the stack, `A` an argument, `P` a
-/// positional value, `Y` an `Any` and `.` a `Skip`. Each other sign takes trees off and puts one on: `&` an `And` of two and
-/// `|` an `Or`, of the last one `?` Optional, `!` Required, `@` Adjacent, `+` Many, `#` Subsection, `~` Suffix, `$`
-/// CustomUsage, `-` Strict and `C` a command. So `ab|+?` is the tree of `[-a | -b]...`.
-pub fn tree<A: Allocator + Copy>(alloc: A, text: &str) -> Result<Meta<A>, AllocError> {
+/// The tree that a text spells over a stack of trees. `X` is a positional value with help, `C` a command of the same name and
+/// help, `P` a positional value without help, `A` an argument, and each small letter a flag. Each other sign takes trees off and
+/// puts one on: `&` an `And` of two, and of the last one `@` Adjacent, `#` and `%` Subsection, `~` and `!` Suffix.
+pub fn tree(alloc: Global, text: &str) -> Result<Meta, AllocError> {
     let mut stack = Vec::new(alloc);
     for sign in text.chars() {
         let made = made(alloc, &mut stack, sign)?;
@@ -23,34 +17,24 @@ pub fn tree<A: Allocator + Copy>(alloc: A, text: &str) -> Result<Meta<A>, AllocE
     Ok(top(&mut stack))
 }
 
-fn top<A: Allocator>(stack: &mut Vec<Meta<A>, A>) -> Meta<A> {
+fn top(stack: &mut Vec<Meta>) -> Meta {
     match stack.pop() {
         Some(tree) => tree,
         None => Meta::Skip,
     }
 }
 
-fn made<A: Allocator + Copy>(
-    alloc: A,
-    stack: &mut Vec<Meta<A>, A>,
-    sign: char,
-) -> Result<Meta<A>, AllocError> {
+fn made(alloc: Global, stack: &mut Vec<Meta>, sign: char) -> Result<Meta, AllocError> {
     match sign {
-        '.' => Ok(Meta::Skip),
-        'A' | 'P' | 'Y' | 'a'..='z' => Meta::from_item(alloc, leaf(alloc, sign)?),
-        'C' => Meta::from_item(alloc, command(alloc, top(stack))?),
         '&' => Ok(Meta::And(both(alloc, stack)?)),
-        '|' => Ok(Meta::Or(both(alloc, stack)?)),
-        '#' | '~' | '$' => noted(alloc, top(stack), sign),
-        _ => wrapped(alloc, top(stack), sign),
+        '@' => Ok(Meta::Adjacent(Box::new(alloc, top(stack))?)),
+        '#' | '%' | '~' | '!' => noted(alloc, top(stack), sign),
+        _ => Meta::from_item(alloc, leaf(alloc, sign)?),
     }
 }
 
 // The last two trees of the stack.
-fn both<A: Allocator + Copy>(
-    alloc: A,
-    stack: &mut Vec<Meta<A>, A>,
-) -> Result<Vec<Meta<A>, A>, AllocError> {
+fn both(alloc: Global, stack: &mut Vec<Meta>) -> Result<Vec<Meta>, AllocError> {
     let last = top(stack);
     let first = top(stack);
     let mut parts = Vec::new(alloc);
@@ -59,102 +43,96 @@ fn both<A: Allocator + Copy>(
     Ok(parts)
 }
 
-fn wrapped<A: Allocator + Copy>(
-    alloc: A,
-    inner: Meta<A>,
-    sign: char,
-) -> Result<Meta<A>, AllocError> {
+fn noted(alloc: Global, inner: Meta, sign: char) -> Result<Meta, AllocError> {
     let inner = Box::new(alloc, inner)?;
+    let note = Box::new(alloc, Doc::from_text(alloc, note(sign))?)?;
     Ok(match sign {
-        '?' => Meta::Optional(inner),
-        '!' => Meta::Required(inner),
-        '@' => Meta::Adjacent(inner),
-        '+' => Meta::Many(inner),
-        _ => Meta::Strict(inner),
+        '#' | '%' => Meta::Subsection(inner, note),
+        _ => Meta::Suffix(inner, note),
     })
 }
 
-fn noted<A: Allocator + Copy>(alloc: A, inner: Meta<A>, sign: char) -> Result<Meta<A>, AllocError> {
-    let inner = Box::new(alloc, inner)?;
-    let note = Box::new(alloc, literal_doc(alloc, "note")?)?;
-    Ok(match sign {
-        '#' => Meta::Subsection(inner, note),
-        '~' => Meta::Suffix(inner, note),
-        _ => Meta::CustomUsage(inner, note),
-    })
-}
-
-fn leaf<A: Allocator + Copy>(alloc: A, sign: char) -> Result<Item<A>, AllocError> {
+fn note(sign: char) -> &'static str {
     match sign {
-        'A' => argument(alloc),
-        'P' => Ok(Item::Positional {
-            metavar: Metavar("FILE"),
-            help: Some(literal_doc(alloc, "a file")?),
-        }),
-        'Y' => any(alloc),
-        _ => flag(alloc, sign),
+        '#' => "G",
+        '%' => "Extra",
+        '~' => "S",
+        _ => "T",
     }
 }
 
-fn flag<A: Allocator + Copy>(alloc: A, short: char) -> Result<Item<A>, AllocError> {
+fn leaf(alloc: Global, sign: char) -> Result<Item, AllocError> {
+    match sign {
+        'X' => positional(alloc, "X", "h"),
+        'P' => positional(alloc, "P", ""),
+        'C' => command(alloc),
+        'A' => argument(alloc),
+        'a' => flag(alloc, ShortLong::Short('a'), None, "A"),
+        'e' => flag(alloc, ShortLong::Short('e'), Some("V"), "E"),
+        'f' => flag(alloc, ShortLong::Short('e'), Some("W"), "E"),
+        'x' => flag(alloc, ShortLong::Long("x"), None, "X it"),
+        'v' => flag(alloc, ShortLong::Both('v', "verbose"), None, "Talk more"),
+        _ => flag(alloc, ShortLong::Short(sign), None, ""),
+    }
+}
+
+fn positional(alloc: Global, name: &'static str, help: &str) -> Result<Item, AllocError> {
+    Ok(Item::Positional {
+        metavar: Metavar(name),
+        help: text_doc(alloc, help)?,
+    })
+}
+
+fn flag(
+    alloc: Global,
+    name: ShortLong,
+    env: Option<&'static str>,
+    help: &str,
+) -> Result<Item, AllocError> {
     Ok(Item::Flag {
-        name: ShortLong::Short(short),
-        shorts: Vec::from_array(alloc, [short])?,
-        env: None,
-        help: Some(literal_doc(alloc, "a flag")?),
+        name,
+        shorts: Vec::new(alloc),
+        env,
+        help: text_doc(alloc, help)?,
     })
 }
 
-fn argument<A: Allocator + Copy>(alloc: A) -> Result<Item<A>, AllocError> {
+fn argument(alloc: Global) -> Result<Item, AllocError> {
     Ok(Item::Argument {
-        name: ShortLong::Both('s', "speed"),
-        shorts: Vec::from_array(alloc, ['s', 't'])?,
-        metavar: Metavar("the number of units"),
-        env: Some("SPEED"),
-        help: Some(literal_doc(alloc, "a number")?),
+        name: ShortLong::Long("n"),
+        shorts: Vec::new(alloc),
+        metavar: Metavar("N"),
+        env: Some("V"),
+        help: text_doc(alloc, "N it")?,
     })
 }
 
-fn any<A: Allocator + Copy>(alloc: A) -> Result<Item<A>, AllocError> {
-    Ok(Item::Any {
-        metavar: literal_doc(alloc, "rest")?,
-        anywhere: false,
-        help: Some(literal_doc(alloc, "all else")?),
-    })
-}
-
-fn command<A: Allocator + Copy>(alloc: A, meta: Meta<A>) -> Result<Item<A>, AllocError> {
+fn command(alloc: Global) -> Result<Item, AllocError> {
     Ok(Item::Command {
-        name: "run",
-        short: Some('r'),
-        help: Some(literal_doc(alloc, "a command")?),
-        meta: Box::new(alloc, meta)?,
-        info: Box::new(alloc, info(alloc)?)?,
+        name: "X",
+        short: None,
+        help: text_doc(alloc, "h")?,
+        meta: Box::new(alloc, Meta::Skip)?,
+        info: Box::new(alloc, info(alloc, "")?)?,
     })
 }
 
-// Texts of a help page, each of them another.
-fn info<A: Allocator + Copy>(alloc: A) -> Result<Info<A>, AllocError> {
-    let mut texts = texts(alloc)?;
+/// What goes with a page: its description, and nothing else.
+pub fn info(alloc: Global, description: &str) -> Result<Info, AllocError> {
     Ok(Info {
-        descr: texts.pop(),
-        header: texts.pop(),
-        footer: texts.pop(),
-        usage: texts.pop(),
+        descr: text_doc(alloc, description)?,
+        header: None,
+        footer: None,
+        usage: None,
         help: Meta::Skip,
     })
 }
 
-fn texts<A: Allocator + Copy>(alloc: A) -> Result<Vec<Doc<A>, A>, AllocError> {
-    let mut docs = Vec::new(alloc);
-    for text in ["use", "foot", "head", "what"] {
-        docs.push(literal_doc(alloc, text)?)?;
+// No document of an empty text.
+fn text_doc(alloc: Global, text: &str) -> Result<Option<Doc>, AllocError> {
+    if text.is_empty() {
+        Ok(None)
+    } else {
+        Ok(Some(Doc::from_text(alloc, text)?))
     }
-    Ok(docs)
-}
-
-pub fn literal_doc<A: Allocator + Copy>(alloc: A, text: &str) -> Result<Doc<A>, AllocError> {
-    let mut doc = Doc::new(alloc);
-    doc.literal(text)?;
-    Ok(doc)
 }

@@ -7,9 +7,9 @@ use crate::fault::Bad;
 use crate::request::Request;
 use crate::trees::{read_name, read_tree};
 use bpaf_doc::buffer::{Block, Doc, Part, Style, Token};
-use bpaf_help::meta::Meta;
-use bpaf_help::meta_help::Metavar;
-use bpaf_help::usage::{metavar, write_item, write_meta, write_shortlong};
+use bpaf_meta::meta::Meta;
+use bpaf_meta::meta_help::Metavar;
+use bpaf_meta::usage::{metavar, write_item, write_meta, write_shortlong};
 use std::alloc::{AllocError, Global};
 
 /// How many levels of trees and documents a line may nest.

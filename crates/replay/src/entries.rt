@@ -4,8 +4,8 @@ use crate::documents::write_document;
 use crate::encoding::write_text;
 use crate::trees::{write_name, write_optional};
 use bpaf_doc::buffer::Doc;
-use bpaf_help::item::ShortLong;
-use bpaf_pages::meta_help::{HelpItem, HiTy};
+use bpaf_meta::item::ShortLong;
+use bpaf_items::meta_help::{HelpItem, HiTy};
 use std::alloc::AllocError;
 
 /// Prints an entry with a blank before it and `;` behind it.

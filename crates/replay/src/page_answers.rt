@@ -11,8 +11,8 @@ use crate::request::Request;
 use crate::tree_answers::{add_forms, printed_item, read_last_tree};
 use crate::trees::{read_info, read_tree};
 use bpaf_doc::buffer::Doc;
-use bpaf_help::meta::Meta;
-use bpaf_pages::meta_help::{
+use bpaf_meta::meta::Meta;
+use bpaf_items::meta_help::{
     EnvTexts, HelpError, HelpItems, HiTy, Info, render_help, write_help_item_groups,
 };
 use std::alloc::{AllocError, Global};

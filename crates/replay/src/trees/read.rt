@@ -5,9 +5,9 @@ use crate::encoding::read_text;
 use crate::fault::Bad;
 use crate::request::Request;
 use bpaf_doc::buffer::Doc;
-use bpaf_help::item::{Item, ShortLong};
-use bpaf_help::meta::Meta;
-use bpaf_help::meta_help::{Info, Metavar};
+use bpaf_meta::item::{Item, ShortLong};
+use bpaf_meta::meta::Meta;
+use bpaf_meta::meta_help::{Info, Metavar};
 
 /// Takes the words of a tree.
 #[cycle(read)]

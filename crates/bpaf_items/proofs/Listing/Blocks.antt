@@ -1,0 +1,110 @@
+-- How the marks of an item list stand: each start before its stop, and no group in a group.
+use Rattle.std.proofs.Common.{◌≡◌, ℕ, ◌+◌, Bool, true, false, List, [], ◌∷◌, ◌++◌, refl, sym, ap, ◌∙◌, subst, arith}
+use Rattle.std.specs.Prelude.{if◌then◌else◌, flat_map, count_by, Option, Some, None}
+use Rattle.bpaf_doc.specs.Buffer.Parts.{Part}
+use Rattle.bpaf_meta.specs.Content.{Tree, and_of, or_of, optional, required, adjacent, item, many, subsection, suffix, skip, custom_usage, strict, Trees, no_trees, tree, Leaf, any, positional, command, flag, argument}
+use Rattle.std.proofs.lemmas.List.Sums.{sum_by-append, sum_by-cons}
+use Rattle.bpaf_items.specs.declared.meta_help.entry.HiTy.{HiTy}
+use Rattle.bpaf_items.specs.Listing.ItemList.{Entry, listed, note, group_start, group_end, adjacent_start, adjacent_stop, front_type, item_entries, adjacent_entries, group_entries, noted_entries, entries_with_type, entries_of, entries_of_parts, item_list, IsItemList}
+use Rattle.bpaf_items.specs.Listing.Falls.{is_mark, is_adjacent_start, is_adjacent_stop}
+
+-- nothing; an entry that is no mark; an adjacent block; a group, where groups are allowed; two joined
+pub data Blocks : (groups : Bool) → List Entry → Type 0 where
+  none : {g : Bool} {es : List Entry} → es ≡ [] → Blocks g es
+  plain : {g : Bool} {es : List Entry} (e : Entry) → es ≡ e ∷ [] → is_mark e ≡ false → Blocks g es
+  block : {g : Bool} {es : List Entry} (t : Tree) (k : HiTy) (inner : List Entry) → es ≡ adjacent_start t k ∷ (inner ++ adjacent_stop k ∷ []) → Blocks g inner → Blocks g es
+  grouped : {g : Bool} {es : List Entry} (d : List Part) (k : HiTy) (inner : List Entry) → g ≡ true → es ≡ group_start d k ∷ (inner ++ group_end k ∷ []) → Blocks false inner → Blocks g es
+  joined : {g : Bool} {es : List Entry} (front back : List Entry) → es ≡ front ++ back → Blocks g front → Blocks g back → Blocks g es
+
+item_blocks : (g : Bool) (l : Leaf) → Blocks g (item_entries l)
+item_blocks g (any m a h) = plain _ refl refl
+item_blocks g (positional m None) = none refl
+item_blocks g (positional m (Some h)) = plain _ refl refl
+item_blocks g (command n c h t i) = plain _ refl refl
+item_blocks g (flag n s e h) = plain _ refl refl
+item_blocks g (argument n s m e h) = plain _ refl refl
+
+adjacent_blocks : (g : Bool) (o : Option HiTy) (t : Tree) (es : List Entry) → Blocks g es → Blocks g (adjacent_entries o t es)
+adjacent_blocks g None t es b = none refl
+adjacent_blocks g (Some k) t es b = block t k es refl b
+
+group_blocks : (o : Option HiTy) (d : List Part) (es : List Entry) → Blocks false es → Blocks true (group_entries o d es)
+group_blocks None d es b = none refl
+group_blocks (Some k) d es b = grouped d k es refl refl b
+
+noted_blocks : (g : Bool) (o : Option HiTy) (d : List Part) (es : List Entry) → Blocks g es → Blocks g (noted_entries o d es)
+noted_blocks g None d es b = none refl
+noted_blocks g (Some k) d es b = joined es (note d k ∷ []) refl b (plain (note d k) refl refl)
+
+typed_blocks : (g : Bool) (o : Option HiTy) (es : List Entry) → Blocks g es → Blocks g (entries_with_type o es)
+typed_blocks g None es b = none refl
+typed_blocks g (Some k) es b = b
+
+mutual
+  tree_blocks : (g : Bool) (t : Tree) → Blocks g (entries_of g t)
+  tree_blocks g (and_of ts) = parts_blocks g ts
+  tree_blocks g (or_of ts) = parts_blocks g ts
+  tree_blocks g (optional t) = tree_blocks g t
+  tree_blocks g (required t) = tree_blocks g t
+  tree_blocks g (adjacent t) = adjacent_blocks g (front_type t) t (entries_of g t) (tree_blocks g t)
+  tree_blocks g (item l) = item_blocks g l
+  tree_blocks g (many t) = tree_blocks g t
+  tree_blocks true (subsection t d) = group_blocks (front_type t) d (entries_of false t) (tree_blocks false t)
+  tree_blocks false (subsection t d) = typed_blocks false (front_type t) (entries_of false t) (tree_blocks false t)
+  tree_blocks g (suffix t d) = noted_blocks g (front_type t) d (entries_of g t) (tree_blocks g t)
+  tree_blocks g skip = none refl
+  tree_blocks g (custom_usage t d) = tree_blocks g t
+  tree_blocks g (strict t) = tree_blocks g t
+
+  parts_blocks : (g : Bool) (ts : Trees) → Blocks g (entries_of_parts g ts)
+  parts_blocks g no_trees = none refl
+  parts_blocks g (tree t ts) = joined (entries_of g t) (entries_of_parts g ts) refl (tree_blocks g t) (parts_blocks g ts)
+
+list_blocks : (ts : List Tree) → Blocks true (flat_map item_list ts)
+list_blocks [] = none refl
+list_blocks (t ∷ ts) = joined (item_list t) (flat_map item_list ts) refl (tree_blocks true t) (list_blocks ts)
+
+pub item_list_blocks : (es : List Entry) → IsItemList es → Blocks true es
+item_list_blocks es (ts, is) = subst (Blocks true) (sym is) (list_blocks ts)
+
+-- ---- as many stops as starts
+
+abbrev pub starts_in : List Entry → ℕ
+starts_in = count_by is_adjacent_start
+
+abbrev pub stops_in : List Entry → ℕ
+stops_in = count_by is_adjacent_stop
+
+pub count-append : (p : Entry → Bool) (es fs : List Entry) → count_by p (es ++ fs) ≡ count_by p es + count_by p fs
+count-append p es fs = sum_by-append (λ e. if p e then 1 else 0) es fs
+
+pub count-cons : (p : Entry → Bool) (e : Entry) (es : List Entry) → count_by p (e ∷ es) ≡ (if p e then 1 else 0) + count_by p es
+count-cons p e es = sum_by-cons (λ x. if p x then 1 else 0) e es
+
+plain_even : (e : Entry) → is_mark e ≡ false → starts_in (e ∷ []) ≡ stops_in (e ∷ [])
+plain_even (listed l) h = refl
+plain_even (note d k) h = refl
+plain_even (group_start d k) h = refl
+plain_even (group_end k) h = refl
+plain_even (adjacent_start t k) h = cc
+plain_even (adjacent_stop k) h = cc
+
+pub even : {g : Bool} {es : List Entry} → Blocks g es → starts_in es ≡ stops_in es
+even (none is) = rw is refl
+even (plain e is h) = rw is (plain_even e h)
+even (block t k inner is b) =
+    let same : starts_in inner ≡ stops_in inner = even b in
+    let starts : starts_in (adjacent_start t k ∷ (inner ++ adjacent_stop k ∷ [])) ≡ 1 + (starts_in inner + 0) = count-cons is_adjacent_start (adjacent_start t k) (inner ++ adjacent_stop k ∷ []) ∙ ap (λ n. 1 + n) (count-append is_adjacent_start inner (adjacent_stop k ∷ [])) in
+    let stops : stops_in (adjacent_start t k ∷ (inner ++ adjacent_stop k ∷ [])) ≡ 0 + (stops_in inner + 1) = count-cons is_adjacent_stop (adjacent_start t k) (inner ++ adjacent_stop k ∷ []) ∙ ap (λ n. 0 + n) (count-append is_adjacent_stop inner (adjacent_stop k ∷ [])) in
+    rw is (omega arith)
+even (grouped d k inner g is b) =
+    let same : starts_in inner ≡ stops_in inner = even b in
+    let starts : starts_in (group_start d k ∷ (inner ++ group_end k ∷ [])) ≡ 0 + (starts_in inner + 0) = count-cons is_adjacent_start (group_start d k) (inner ++ group_end k ∷ []) ∙ ap (λ n. 0 + n) (count-append is_adjacent_start inner (group_end k ∷ [])) in
+    let stops : stops_in (group_start d k ∷ (inner ++ group_end k ∷ [])) ≡ 0 + (stops_in inner + 0) = count-cons is_adjacent_stop (group_start d k) (inner ++ group_end k ∷ []) ∙ ap (λ n. 0 + n) (count-append is_adjacent_stop inner (group_end k ∷ [])) in
+    rw is (omega arith)
+even (joined front back is b c) =
+    let same : starts_in front ≡ stops_in front = even b in
+    let also : starts_in back ≡ stops_in back = even c in
+    let starts : starts_in (front ++ back) ≡ starts_in front + starts_in back = count-append is_adjacent_start front back in
+    let stops : stops_in (front ++ back) ≡ stops_in front + stops_in back = count-append is_adjacent_stop front back in
+    rw is (omega arith)

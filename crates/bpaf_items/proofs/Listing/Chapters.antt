@@ -1,0 +1,96 @@
+-- The commands of an item list are those of the tree.
+use Rattle.std.proofs.Common.{◌≡◌, Bool, true, false, ℕ, List, [], ◌∷◌, ◌++◌, refl, sym, ap, ◌∙◌}
+use Rattle.std.specs.Prelude.{Option, Some, None, flat_map}
+use Rattle.std.specs.Option.{option_or}
+use Rattle.std.proofs.lemmas.List.{append-nil}
+use Rattle.std.proofs.lemmas.Grind.{flat_map-append}
+use Rattle.bpaf_doc.specs.Buffer.Parts.{Part}
+use Rattle.bpaf_meta.specs.Content.{Tree, and_of, or_of, optional, required, adjacent, item, many, subsection, suffix, skip, custom_usage, strict, Trees, no_trees, tree, Leaf, any, positional, command, flag, argument}
+use Rattle.bpaf_items.specs.declared.meta_help.entry.HiTy.{HiTy}
+use Rattle.bpaf_items.specs.Listing.ItemList.{Entry, note, group_end, adjacent_stop, front_type, first_front_type, item_entries, adjacent_entries, group_entries, noted_entries, entries_with_type, entries_of, entries_of_parts}
+use Rattle.bpaf_items.specs.Page.Chapters.{Chapter, command_chapters, part_chapters, item_chapters, entry_chapters}
+use Rattle.bpaf_items.specs.Listing.ListLaws.{ChaptersAreListed}
+
+pub none_first : (o p : Option HiTy) → option_or o p ≡ None → o ≡ None
+none_first None p e = refl
+none_first (Some k) p e = cc
+
+pub none_second : (o p : Option HiTy) → option_or o p ≡ None → p ≡ None
+none_second None p e = e
+none_second (Some k) p e = cc
+
+mutual
+  no_chapters : (path : List (List ℕ)) (t : Tree) → front_type t ≡ None → command_chapters path t ≡ []
+  no_chapters path (and_of ts) e = no_part_chapters path ts e
+  no_chapters path (or_of ts) e = no_part_chapters path ts e
+  no_chapters path (optional t) e = no_chapters path t e
+  no_chapters path (required t) e = no_chapters path t e
+  no_chapters path (adjacent t) e = no_chapters path t e
+  no_chapters path (item l) e = cc
+  no_chapters path (many t) e = no_chapters path t e
+  no_chapters path (subsection t d) e = no_chapters path t e
+  no_chapters path (suffix t d) e = no_chapters path t e
+  no_chapters path skip e = refl
+  no_chapters path (custom_usage t d) e = no_chapters path t e
+  no_chapters path (strict t) e = no_chapters path t e
+
+  no_part_chapters : (path : List (List ℕ)) (ts : Trees) → first_front_type ts ≡ None → part_chapters path ts ≡ []
+  no_part_chapters path no_trees e = refl
+  no_part_chapters path (tree t ts) e =
+      let front : command_chapters path t ≡ [] = no_chapters path t (none_first (front_type t) (first_front_type ts) e) in
+      let rest : part_chapters path ts ≡ [] = no_part_chapters path ts (none_second (front_type t) (first_front_type ts) e) in
+      rw (front, rest) refl
+
+-- the chapters of a list with one entry after it that is no command
+marked : (path : List (List ℕ)) (es : List Entry) (e : Entry) → entry_chapters path e ≡ [] → flat_map (entry_chapters path) (es ++ e ∷ []) ≡ flat_map (entry_chapters path) es
+marked path es e none =
+    let front : List Chapter = flat_map (entry_chapters path) es in
+    let rest : flat_map (entry_chapters path) (e ∷ []) ≡ [] = ap (λ x. x ++ []) none in
+    flat_map-append (entry_chapters path) es (e ∷ []) ∙ ap (λ x. front ++ x) rest ∙ append-nil front
+
+item_list_chapters : (path : List (List ℕ)) (l : Leaf) → flat_map (entry_chapters path) (item_entries l) ≡ item_chapters path l
+item_list_chapters path (any m a h) = refl
+item_list_chapters path (positional m None) = refl
+item_list_chapters path (positional m (Some h)) = refl
+item_list_chapters path (command n c h t i) = append-nil (item_chapters path (command n c h t i))
+item_list_chapters path (flag n s e h) = refl
+item_list_chapters path (argument n s m e h) = refl
+
+adjacent_chapters : (path : List (List ℕ)) (o : Option HiTy) (t : Tree) (es : List Entry) (ss : List Chapter) → (o ≡ None → ss ≡ []) → flat_map (entry_chapters path) es ≡ ss → flat_map (entry_chapters path) (adjacent_entries o t es) ≡ ss
+adjacent_chapters path None t es ss f e = sym (f refl)
+adjacent_chapters path (Some k) t es ss f e = marked path es (adjacent_stop k) refl ∙ e
+
+group_chapters : (path : List (List ℕ)) (o : Option HiTy) (d : List Part) (es : List Entry) (ss : List Chapter) → (o ≡ None → ss ≡ []) → flat_map (entry_chapters path) es ≡ ss → flat_map (entry_chapters path) (group_entries o d es) ≡ ss
+group_chapters path None d es ss f e = sym (f refl)
+group_chapters path (Some k) d es ss f e = marked path es (group_end k) refl ∙ e
+
+noted_chapters : (path : List (List ℕ)) (o : Option HiTy) (d : List Part) (es : List Entry) (ss : List Chapter) → (o ≡ None → ss ≡ []) → flat_map (entry_chapters path) es ≡ ss → flat_map (entry_chapters path) (noted_entries o d es) ≡ ss
+noted_chapters path None d es ss f e = sym (f refl)
+noted_chapters path (Some k) d es ss f e = marked path es (note d k) refl ∙ e
+
+typed_chapters : (path : List (List ℕ)) (o : Option HiTy) (es : List Entry) (ss : List Chapter) → (o ≡ None → ss ≡ []) → flat_map (entry_chapters path) es ≡ ss → flat_map (entry_chapters path) (entries_with_type o es) ≡ ss
+typed_chapters path None es ss f e = sym (f refl)
+typed_chapters path (Some k) es ss f e = e
+
+mutual
+  list_chapters : (path : List (List ℕ)) (g : Bool) (t : Tree) → flat_map (entry_chapters path) (entries_of g t) ≡ command_chapters path t
+  list_chapters path g (and_of ts) = parts_chapters path g ts
+  list_chapters path g (or_of ts) = parts_chapters path g ts
+  list_chapters path g (optional t) = list_chapters path g t
+  list_chapters path g (required t) = list_chapters path g t
+  list_chapters path g (adjacent t) = adjacent_chapters path (front_type t) t (entries_of g t) (command_chapters path t) (no_chapters path t) (list_chapters path g t)
+  list_chapters path g (item l) = item_list_chapters path l
+  list_chapters path g (many t) = list_chapters path g t
+  list_chapters path true (subsection t d) = group_chapters path (front_type t) d (entries_of false t) (command_chapters path t) (no_chapters path t) (list_chapters path false t)
+  list_chapters path false (subsection t d) = typed_chapters path (front_type t) (entries_of false t) (command_chapters path t) (no_chapters path t) (list_chapters path false t)
+  list_chapters path g (suffix t d) = noted_chapters path (front_type t) d (entries_of g t) (command_chapters path t) (no_chapters path t) (list_chapters path g t)
+  list_chapters path g skip = refl
+  list_chapters path g (custom_usage t d) = list_chapters path g t
+  list_chapters path g (strict t) = list_chapters path g t
+
+  parts_chapters : (path : List (List ℕ)) (g : Bool) (ts : Trees) → flat_map (entry_chapters path) (entries_of_parts g ts) ≡ part_chapters path ts
+  parts_chapters path g no_trees = refl
+  parts_chapters path g (tree t ts) = flat_map-append (entry_chapters path) (entries_of g t) (entries_of_parts g ts) ∙ ap (λ x. x ++ flat_map (entry_chapters path) (entries_of_parts g ts)) (list_chapters path g t) ∙ ap (λ x. command_chapters path t ++ x) (parts_chapters path g ts)
+
+pub chapters_are_listed : ChaptersAreListed
+chapters_are_listed path t = list_chapters path true t

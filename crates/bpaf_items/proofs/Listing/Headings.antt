@@ -1,0 +1,103 @@
+-- Under a heading falls what the walk over the entries outside groups gives.
+use Rattle.std.proofs.Common.{◌≡◌, ℕ, Bool, true, false, not, ◌&&◌, ◌||◌, List, [], ◌∷◌, ◌++◌, map, refl, sym, ap, ◌∙◌, append-nil}
+use Rattle.std.specs.Prelude.{if◌then◌else◌, filter, count_by, Option, Some, None}
+use Rattle.std.specs.List.{last_or}
+use Rattle.bpaf_items.specs.declared.meta_help.entry.HiTy.{HiTy}
+use Rattle.bpaf_items.specs.Listing.ItemList.{Entry, listed, note, group_start, group_end, adjacent_start, adjacent_stop}
+use Rattle.bpaf_items.specs.Listing.Falls.{same_type, Placed, placed, placed_after, is_group_start, is_adjacent_in_group, is_group_mark, is_adjacent_mark, is_mark, is_in_group, is_group_open, lacks_help, type_of, last_that, outside_groups, group, heading, nowhere, heading_after, group_destination, heading_destination, destination, is_heading, is_given_after, is_given}
+use Rattle.bpaf_items.specs.Listing.ListLaws.{HeadingsAgree}
+use Rattle.bpaf_items.proofs.Listing.Placing.{outside_groups-push}
+
+-- outside groups each mark is an adjacent one
+marks_alike : (ps : List Placed) → filter is_mark (map (λ p. p.1) (filter (λ p. not (is_in_group p)) ps)) ≡ filter is_adjacent_mark (map (λ p. p.1) (filter (λ p. not (is_in_group p)) ps))
+marks_alike [] = refl
+marks_alike (p ∷ ps) = by (is_group_mark p.1) (is_group_open p.0) refl (marks_alike ps) where
+  entries : List Entry
+  entries = map (λ q. q.1) (filter (λ q. not (is_in_group q)) ps)
+
+  by : (m o : Bool) → is_group_mark p.1 ≡ m → filter is_mark entries ≡ filter is_adjacent_mark entries
+      → filter is_mark (map (λ q. q.1) (if not (m || o) then p ∷ filter (λ q. not (is_in_group q)) ps else filter (λ q. not (is_in_group q)) ps))
+      ≡ filter is_adjacent_mark (map (λ q. q.1) (if not (m || o) then p ∷ filter (λ q. not (is_in_group q)) ps else filter (λ q. not (is_in_group q)) ps))
+  by true o h rest = rest
+  by false true h rest = rest
+  by false false h rest = rw (h, rest) refl
+
+-- the last entry that passes a test passes it
+last_passes_from : (p : Entry → Bool) (o : Option Entry) (es : List Entry) (e : Entry) → ((f : Entry) → o ≡ Some f → p f ≡ true) → last_or o (filter p es) ≡ Some e → p e ≡ true
+last_passes_from p o [] e h is = h e is
+last_passes_from p o (x ∷ es) e h is = by (p x) refl (λ q g eq. last_passes_from p q es e g eq) where
+  by : (b : Bool) → p x ≡ b → ((q : Option Entry) → ((f : Entry) → q ≡ Some f → p f ≡ true) → last_or q (filter p es) ≡ Some e → p e ≡ true) → p e ≡ true
+  by true y again = again (Some x) (λ f is_x. let same : x ≡ f = cc in ap p (sym same) ∙ y) (let first : filter p (x ∷ es) ≡ x ∷ filter p es = rw y refl in ap (last_or o) (sym first) ∙ is)
+  by false n again = again o h (let first : filter p (x ∷ es) ≡ filter p es = rw n refl in ap (last_or o) (sym first) ∙ is)
+
+pub last_passes : (p : Entry → Bool) (es : List Entry) (e : Entry) → last_that p es ≡ Some e → p e ≡ true
+last_passes p es e is = last_passes_from p None es e (λ f none. cc) is
+
+-- after an adjacent mark, or after none
+after_mark : (o : Option Entry) (k : HiTy) (e : Entry) → ((f : Entry) → o ≡ Some f → is_adjacent_mark f ≡ true) → is_heading k (heading_after o e) ≡ is_given_after o k e
+after_mark None k e h = refl
+after_mark (Some (adjacent_start t j)) k e h = by (lacks_help e) where
+  by : (b : Bool) → is_heading k (if b then nowhere else heading j) ≡ (not b && same_type j k)
+  by true = refl
+  by false = refl
+after_mark (Some (adjacent_stop j)) k e h = refl
+after_mark (Some (group_start d j)) k e h = let no : is_adjacent_mark (group_start d j) ≡ true = h (group_start d j) refl in cc
+after_mark (Some (group_end j)) k e h = refl
+after_mark (Some (listed l)) k e h = refl
+after_mark (Some (note d j)) k e h = refl
+
+falls_as_given : (before : List Entry) (k : HiTy) (e : Entry) → is_heading k (heading_destination (before, e)) ≡ is_given k (outside_groups before, e)
+falls_as_given before k e = by (is_mark e) where
+  front : List Entry
+  front = outside_groups before
+
+  alike : last_that is_mark front ≡ last_that is_adjacent_mark front
+  alike = ap (last_or None) (marks_alike (placed before))
+
+  by : (b : Bool) → is_heading k (if b then heading (type_of e) else heading_after (last_that is_adjacent_mark front) e) ≡ (if b then same_type (type_of e) k else is_given_after (last_that is_mark front) k e)
+  by true = refl
+  by false = after_mark (last_that is_adjacent_mark front) k e (λ f is. last_passes is_adjacent_mark front f is) ∙ ap (λ o. is_given_after o k e) (sym alike)
+
+-- no entry of a group falls under a heading
+group_no_heading : (k : HiTy) (p : Placed) → is_heading k (group_destination p) ≡ false
+group_no_heading k p = by (lacks_help p.1 && is_adjacent_in_group p.0) (count_by is_group_start (p.0 ++ p.1 ∷ [])) where
+  by : (b : Bool) (n : ℕ) → is_heading k (if b then nowhere else group n) ≡ false
+  by true n = refl
+  by false n = refl
+
+module _ (k : HiTy) where
+  abbrev entry : Placed → Entry
+  entry p = p.1
+
+  abbrev falls : Placed → Bool
+  falls p = is_heading k (destination p)
+
+  abbrev outside : Placed → Bool
+  outside p = not (is_in_group p)
+
+  heading_step : (b : Bool) (before es : List Entry) (e : Entry) → is_in_group (before, e) ≡ b
+      → map entry (filter falls (placed_after (before ++ e ∷ []) es)) ≡ map entry (filter (is_given k) (placed_after (outside_groups (before ++ e ∷ [])) (map entry (filter outside (placed_after (before ++ e ∷ []) es)))))
+      → map entry (filter falls (placed_after before (e ∷ es))) ≡ map entry (filter (is_given k) (placed_after (outside_groups before) (map entry (filter outside (placed_after before (e ∷ es))))))
+  heading_step true before es e h rest =
+      let same : outside_groups (before ++ e ∷ []) ≡ outside_groups before = outside_groups-push before e ∙ ap (λ b. outside_groups before ++ (if not b then e ∷ [] else [])) h ∙ append-nil (outside_groups before) in
+      let none : falls (before, e) ≡ false = ap (λ b. is_heading k (if b then group_destination (before, e) else heading_destination (before, e))) h ∙ group_no_heading k (before, e) in
+      rw (none, h) (rest ∙ ap (λ b. map entry (filter (is_given k) (placed_after b (map entry (filter outside (placed_after (before ++ e ∷ []) es)))))) same)
+  heading_step false before es e h rest =
+      let more : outside_groups (before ++ e ∷ []) ≡ outside_groups before ++ e ∷ [] = outside_groups-push before e ∙ ap (λ b. outside_groups before ++ (if not b then e ∷ [] else [])) h in
+      let agree : falls (before, e) ≡ is_given k (outside_groups before, e) = ap (λ b. is_heading k (if b then group_destination (before, e) else heading_destination (before, e))) h ∙ falls_as_given before k e in
+      let others : map entry (filter falls (placed_after (before ++ e ∷ []) es)) ≡ map entry (filter (is_given k) (placed_after (outside_groups before ++ e ∷ []) (map entry (filter outside (placed_after (before ++ e ∷ []) es)))))
+      = rest ∙ ap (λ b. map entry (filter (is_given k) (placed_after b (map entry (filter outside (placed_after (before ++ e ∷ []) es)))))) more in
+      let outer : map entry (filter outside (placed_after before (e ∷ es))) ≡ e ∷ map entry (filter outside (placed_after (before ++ e ∷ []) es)) = rw h refl in
+      one _ _ (falls (before, e)) (is_given k (outside_groups before, e)) agree others ∙ ap (λ xs. map entry (filter (is_given k) (placed_after (outside_groups before) xs))) (sym outer) where
+        one : (P Q : List Placed) (b c : Bool) → b ≡ c → map entry P ≡ map entry Q → map entry (if b then (before, e) ∷ P else P) ≡ map entry (if c then (outside_groups before, e) ∷ Q else Q)
+        one P Q true true same others = ap (λ xs. e ∷ xs) others
+        one P Q false false same others = others
+        one P Q true false same others = cc
+        one P Q false true same others = cc
+
+  headings_after : (before es : List Entry) → map entry (filter falls (placed_after before es)) ≡ map entry (filter (is_given k) (placed_after (outside_groups before) (map entry (filter outside (placed_after before es)))))
+  headings_after before [] = refl
+  headings_after before (e ∷ es) = heading_step (is_in_group (before, e)) before es e refl (headings_after (before ++ e ∷ []) es)
+
+pub headings_agree : HeadingsAgree
+headings_agree es k = headings_after k [] es

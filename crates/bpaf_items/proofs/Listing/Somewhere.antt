@@ -1,0 +1,254 @@
+-- In an item list what has help, or stands in no adjacent block, falls under a group or a heading.
+use Rattle.std.proofs.Common.{◌≡◌, ◌≢◌, ℕ, ◌+◌, ◌<◌, ◌≤◌, Bool, true, false, not, ◌&&◌, ◌||◌, ◌⊎◌, inl, inr, List, [], ◌∷◌, ◌++◌, refl, sym, ap, ◌∙◌, subst, append_assoc, append-nil, arith}
+use Rattle.std.specs.Prelude.{if◌then◌else◌, IsTrue, All, count_by, nat_lt, Option, Some, None}
+use Rattle.std.specs.Option.{option_map_or}
+use Rattle.std.proofs.lemmas.Bool.{le-ltb}
+use Rattle.std.proofs.lemmas.List.Elements.{All-nil, All-cons, All-append, All-same}
+use Rattle.bpaf_doc.specs.Buffer.Parts.{Part}
+use Rattle.bpaf_meta.specs.Content.{Tree}
+use Rattle.bpaf_items.specs.declared.meta_help.entry.HiTy.{HiTy}
+use Rattle.bpaf_items.specs.Listing.ItemList.{Entry, listed, note, group_start, group_end, adjacent_start, adjacent_stop}
+use Rattle.bpaf_items.specs.Listing.Falls.{Placed, placed_after, Destination, group, heading, nowhere, lacks_help, type_of, is_mark, is_group_mark, is_group_start, is_group_end, is_adjacent_start, is_adjacent_stop, is_adjacent_mark, is_group_open, is_in_group, is_adjacent_in_group, last_that, outside_groups, heading_after, group_destination, heading_destination, destination}
+use Rattle.bpaf_items.specs.Listing.ListLaws.{IsInNoAdjacentBlock, FallsSomewhere}
+use Rattle.bpaf_items.proofs.Listing.Placing.{placed_after-append}
+use Rattle.bpaf_items.proofs.Listing.Blocks.{Blocks, none, plain, block, grouped, joined, starts_in, stops_in, even, count-append, item_list_blocks}
+use Rattle.bpaf_items.proofs.Listing.Pushes.{count-push, since_start, since_start-push, open-push, is_block_open, inside-push, block_open-push}
+
+choice_falls : (b : Bool) (x y : Destination) → (b ≡ true → x ≢ nowhere) → (b ≡ false → y ≢ nowhere) → (if b then x else y) ≢ nowhere
+choice_falls true x y f g = f refl
+choice_falls false x y f g = g refl
+
+-- ---- what has help
+
+group_falls : (p : Placed) → lacks_help p.1 ≡ false → group_destination p ≢ nowhere
+group_falls p h e = let kept : group (count_by is_group_start (p.0 ++ p.1 ∷ [])) ≡ nowhere = rw h at e in cc
+
+heading_after_falls : (mark : Option Entry) (e : Entry) → lacks_help e ≡ false → heading_after mark e ≢ nowhere
+heading_after_falls None e h = λ x. cc
+heading_after_falls (Some (adjacent_start t k)) e h = λ x. let kept : heading k ≡ nowhere = rw h at x in cc
+heading_after_falls (Some m) e h = λ x. cc
+
+pub help_falls : (p : Placed) → lacks_help p.1 ≡ false → destination p ≢ nowhere
+help_falls p h =
+    choice_falls (is_in_group p) (group_destination p) (heading_destination p) (λ i. group_falls p h)
+    (λ o. choice_falls (is_mark p.1) (heading (type_of p.1)) (heading_after (last_that is_adjacent_mark (outside_groups p.0)) p.1) (λ m x. cc) (λ m. heading_after_falls (last_that is_adjacent_mark (outside_groups p.0)) p.1 h))
+
+-- ---- what stands in no adjacent block
+
+-- of the entries before: not more starts are open in the group than in all, and an open block outside groups is counted
+record Fits (before : List Entry) : Type 0 where
+  pub since : since_start is_adjacent_start before + stops_in before ≤ since_start is_adjacent_stop before + starts_in before
+  pub outer : is_group_open before ≡ false → is_block_open before ≡ true → stops_in before < starts_in before
+
+not_lt : (m n : ℕ) → m ≤ n → nat_lt n m ≡ false
+not_lt m n h = le-ltb n m h
+
+alone_in_group : (p : Placed) → Fits p.0 → IsInNoAdjacentBlock p → group_destination p ≢ nowhere
+alone_in_group p f h =
+    let few : since_start is_adjacent_start p.0 ≤ since_start is_adjacent_stop p.0 = let s : since_start is_adjacent_start p.0 + stops_in p.0 ≤ since_start is_adjacent_stop p.0 + starts_in p.0 = f.since in omega arith in
+    let closed : is_adjacent_in_group p.0 ≡ false = not_lt (since_start is_adjacent_start p.0) (since_start is_adjacent_stop p.0) few in
+    by (lacks_help p.1) (is_adjacent_in_group p.0) closed (count_by is_group_start (p.0 ++ p.1 ∷ [])) where
+      by : (a b : Bool) → b ≡ false → (n : ℕ) → (if a && b then nowhere else group n) ≢ nowhere
+      by true true h n = cc
+      by true false h n = λ x. cc
+      by false b h n = λ x. cc
+
+alone_after : (o : Option Entry) (e : Entry) → option_map_or is_adjacent_start o false ≡ false → heading_after o e ≢ nowhere
+alone_after None e h = λ x. cc
+alone_after (Some (adjacent_start t k)) e h = cc
+alone_after (Some (adjacent_stop k)) e h = λ x. cc
+alone_after (Some (group_start d k)) e h = λ x. cc
+alone_after (Some (group_end k)) e h = λ x. cc
+alone_after (Some (listed l)) e h = λ x. cc
+alone_after (Some (note d k)) e h = λ x. cc
+
+neither : (a b : Bool) → (a || b) ≡ false → b ≡ false
+neither true b h = cc
+neither false b h = h
+
+alone_outside : (p : Placed) → Fits p.0 → IsInNoAdjacentBlock p → is_in_group p ≡ false → heading_destination p ≢ nowhere
+alone_outside p f h out =
+    let closed : is_group_open p.0 ≡ false = neither (is_group_mark p.1) (is_group_open p.0) out in
+    let outer : is_block_open p.0 ≡ true → stops_in p.0 < starts_in p.0 = f.outer closed in
+    let even_now : starts_in p.0 ≤ stops_in p.0 = h in
+    choice_falls (is_mark p.1) (heading (type_of p.1)) (heading_after (last_that is_adjacent_mark (outside_groups p.0)) p.1) (λ m x. cc)
+    (λ m. alone_after (last_that is_adjacent_mark (outside_groups p.0)) p.1 (by (is_block_open p.0) (λ x. let l : stops_in p.0 < starts_in p.0 = outer x in omega arith))) where
+      by : (b : Bool) → (b ≡ true → ⊥) → b ≡ false
+      by true f = absurd (f refl)
+      by false f = refl
+
+abbrev Falls : Placed → Type 0
+Falls p = IsTrue (not (lacks_help p.1)) ⊎ IsInNoAdjacentBlock p → destination p ≢ nowhere
+
+falls_at : (p : Placed) → Fits p.0 → Falls p
+falls_at p f (inl h) = help_falls p (by (lacks_help p.1) h) where
+  by : (b : Bool) → IsTrue (not b) → b ≡ false
+  by true h = cc
+  by false h = refl
+falls_at p f (inr h) = choice_falls (is_in_group p) (group_destination p) (heading_destination p) (λ i. alone_in_group p f h) (λ o. alone_outside p f h o)
+
+-- ---- through an item list
+
+-- where groups are allowed, no group is open; stops never outnumber starts
+record Stands (g : Bool) (before : List Entry) : Type 0 where
+  pub deep : stops_in before ≤ starts_in before
+  pub fits : Fits before
+  pub inside : is_group_open before ≡ not g
+
+record Goes (g : Bool) (before es : List Entry) : Type 0 where
+  pub falls : All Falls (placed_after before es)
+  pub stands : Stands g (before ++ es)
+  pub same : g ≡ false → outside_groups (before ++ es) ≡ outside_groups before
+
+one_falls : (before : List Entry) (e : Entry) → Fits before → All Falls (placed_after before (e ∷ []))
+one_falls before e f = All-cons Falls (before, e) [] (falls_at (before, e) f) (All-nil Falls)
+
+join_falls : (before es fs : List Entry) → All Falls (placed_after before es) → All Falls (placed_after (before ++ es) fs) → All Falls (placed_after before (es ++ fs))
+join_falls before es fs f h = All-same Falls (placed_after before (es ++ fs)) (placed_after before es ++ placed_after (before ++ es) fs) (placed_after-append before es fs) (All-append Falls (placed_after before es) (placed_after (before ++ es) fs) f h)
+
+first_of_two : (a b : Bool) → (a || b) ≡ false → a ≡ false
+first_of_two true b h = cc
+first_of_two false b h = refl
+
+-- what is known before an entry that is no group mark is known after it
+after_entry : (g : Bool) (before : List Entry) (e : Entry) → is_group_mark e ≡ false → Stands g before
+    → (starts stops : ℕ) → (if is_adjacent_start e then 1 else 0) ≡ starts → (if is_adjacent_stop e then 1 else 0) ≡ stops
+    → stops_in before + stops ≤ starts_in before + starts
+    → (is_group_open before ≡ false → is_block_open (before ++ e ∷ []) ≡ true → stops_in before + stops < starts_in before + starts)
+    → Stands g (before ++ e ∷ [])
+after_entry g before e h s starts stops is_starts is_stops deep outer =
+    let not_start : is_group_start e ≡ false = first_of_two (is_group_start e) (is_group_end e) h in
+    let a : starts_in (before ++ e ∷ []) ≡ starts_in before + starts = count-push is_adjacent_start before e ∙ ap (λ n. starts_in before + n) is_starts in
+    let z : stops_in (before ++ e ∷ []) ≡ stops_in before + stops = count-push is_adjacent_stop before e ∙ ap (λ n. stops_in before + n) is_stops in
+    let since_a : since_start is_adjacent_start (before ++ e ∷ []) ≡ since_start is_adjacent_start before + starts
+    = since_start-push is_adjacent_start before e ∙ ap (λ b. if b then 0 else since_start is_adjacent_start before + (if is_adjacent_start e then 1 else 0)) not_start ∙ ap (λ n. since_start is_adjacent_start before + n) is_starts in
+    let since_z : since_start is_adjacent_stop (before ++ e ∷ []) ≡ since_start is_adjacent_stop before + stops
+    = since_start-push is_adjacent_stop before e ∙ ap (λ b. if b then 0 else since_start is_adjacent_stop before + (if is_adjacent_stop e then 1 else 0)) not_start ∙ ap (λ n. since_start is_adjacent_stop before + n) is_stops in
+    let still : is_group_open (before ++ e ∷ []) ≡ is_group_open before = open-push before e ∙ ap (λ b. if b then is_group_start e else is_group_open before) h in
+    let old : since_start is_adjacent_start before + stops_in before ≤ since_start is_adjacent_stop before + starts_in before = s.fits.since in
+    record {
+      deep = rw (a, z) deep;
+      fits = record { since = rw (a, z, since_a, since_z) (omega arith); outer = λ o b. rw (a, z) (outer (sym still ∙ o) b) };
+      inside = still ∙ s.inside;
+    }
+
+in_group_here : (before : List Entry) (e : Entry) → is_group_mark e ≡ false → is_in_group (before, e) ≡ is_group_open before
+in_group_here before e h = rw h refl
+
+single : (g : Bool) (before : List Entry) (e : Entry) → is_group_mark e ≡ false → Stands g before → Stands g (before ++ e ∷ []) → Goes g before (e ∷ [])
+single g before e h s t =
+    record { falls = one_falls before e s.fits; stands = t; same = λ no_group. inside-push before e (in_group_here before e h ∙ s.inside ∙ ap not no_group) }
+
+after_start : (g : Bool) (before : List Entry) (t : Tree) (k : HiTy) → Stands g before → Stands g (before ++ adjacent_start t k ∷ [])
+after_start g before t k s =
+    let deep : stops_in before ≤ starts_in before = s.deep in
+    after_entry g before (adjacent_start t k) refl s 1 0 refl refl (omega arith) (λ o b. omega arith)
+
+after_stop : (g : Bool) (before : List Entry) (k : HiTy) → Stands g before → stops_in before < starts_in before → Stands g (before ++ adjacent_stop k ∷ [])
+after_stop g before k s less =
+    after_entry g before (adjacent_stop k) refl s 0 1 refl refl (omega arith)
+    (λ o b. let shut : is_block_open (before ++ adjacent_stop k ∷ []) ≡ false = block_open-push before (adjacent_stop k) (in_group_here before (adjacent_stop k) refl ∙ o) in cc)
+
+after_plain : (g : Bool) (before : List Entry) (e : Entry) → is_mark e ≡ false → Stands g before → Stands g (before ++ e ∷ [])
+after_plain g before (listed l) h s =
+    let deep : stops_in before ≤ starts_in before = s.deep in
+    after_entry g before (listed l) refl s 0 0 refl refl (omega arith)
+    (λ o b. let less : stops_in before < starts_in before = s.fits.outer o (sym (block_open-push before (listed l) (in_group_here before (listed l) refl ∙ o)) ∙ b) in omega arith)
+after_plain g before (note d k) h s =
+    let deep : stops_in before ≤ starts_in before = s.deep in
+    after_entry g before (note d k) refl s 0 0 refl refl (omega arith)
+    (λ o b. let less : stops_in before < starts_in before = s.fits.outer o (sym (block_open-push before (note d k) (in_group_here before (note d k) refl ∙ o)) ∙ b) in omega arith)
+after_plain g before (group_start d k) h s = cc
+after_plain g before (group_end k) h s = cc
+after_plain g before (adjacent_start t k) h s = cc
+after_plain g before (adjacent_stop k) h s = cc
+
+no_group_mark : (e : Entry) → is_mark e ≡ false → is_group_mark e ≡ false
+no_group_mark e h = first_of_two (is_group_mark e) (is_adjacent_mark e) h
+
+-- one after the other
+go_on : (g : Bool) (before es fs : List Entry) → Goes g before es → Goes g (before ++ es) fs → Goes g before (es ++ fs)
+go_on g before es fs f h =
+    let joined_lists : (before ++ es) ++ fs ≡ before ++ (es ++ fs) = append_assoc before es fs in
+    record {
+      falls = join_falls before es fs f.falls h.falls;
+      stands = subst (Stands g) joined_lists h.stands;
+      same = λ no_group. ap outside_groups (sym joined_lists) ∙ h.same no_group ∙ f.same no_group;
+    }
+
+-- a group opens, and closes as it opened
+after_group_start : (before : List Entry) (d : List Part) (k : HiTy) → Stands true before → Stands false (before ++ group_start d k ∷ [])
+after_group_start before d k s =
+    let e : Entry = group_start d k in
+    let deep : stops_in before ≤ starts_in before = s.deep in
+    let a : starts_in (before ++ e ∷ []) ≡ starts_in before + 0 = count-push is_adjacent_start before e in
+    let z : stops_in (before ++ e ∷ []) ≡ stops_in before + 0 = count-push is_adjacent_stop before e in
+    let since_a : since_start is_adjacent_start (before ++ e ∷ []) ≡ 0 = since_start-push is_adjacent_start before e in
+    let since_z : since_start is_adjacent_stop (before ++ e ∷ []) ≡ 0 = since_start-push is_adjacent_stop before e in
+    let opened : is_group_open (before ++ e ∷ []) ≡ true = open-push before e in
+    record { deep = rw (a, z) (omega arith); fits = record { since = rw (a, z, since_a, since_z) (omega arith); outer = λ o b. cc }; inside = opened }
+
+after_group_end : (before : List Entry) (k : HiTy) → Stands false before → (is_block_open before ≡ true → stops_in before < starts_in before) → Stands true (before ++ group_end k ∷ [])
+after_group_end before k s outer =
+    let e : Entry = group_end k in
+    let deep : stops_in before ≤ starts_in before = s.deep in
+    let a : starts_in (before ++ e ∷ []) ≡ starts_in before + 0 = count-push is_adjacent_start before e in
+    let z : stops_in (before ++ e ∷ []) ≡ stops_in before + 0 = count-push is_adjacent_stop before e in
+    let since_a : since_start is_adjacent_start (before ++ e ∷ []) ≡ since_start is_adjacent_start before + 0 = since_start-push is_adjacent_start before e in
+    let since_z : since_start is_adjacent_stop (before ++ e ∷ []) ≡ since_start is_adjacent_stop before + 0 = since_start-push is_adjacent_stop before e in
+    let old : since_start is_adjacent_start before + stops_in before ≤ since_start is_adjacent_stop before + starts_in before = s.fits.since in
+    let closed : is_group_open (before ++ e ∷ []) ≡ false = open-push before e in
+    let same : outside_groups (before ++ e ∷ []) ≡ outside_groups before = inside-push before e refl in
+    record {
+      deep = rw (a, z) (omega arith);
+      fits = record {
+        since = rw (a, z, since_a, since_z) (omega arith);
+        outer = λ o b. let less : stops_in before < starts_in before = outer (ap (λ fs. option_map_or is_adjacent_start (last_that is_adjacent_mark fs) false) (sym same) ∙ b) in rw (a, z) (omega arith);
+      };
+      inside = closed;
+    }
+
+group_goes : (before : List Entry) (d : List Part) (k : HiTy) (inner : List Entry) → Stands true before → starts_in inner ≡ stops_in inner → Goes false (before ++ group_start d k ∷ []) inner
+    → Goes true before (group_start d k ∷ (inner ++ group_end k ∷ []))
+group_goes before d k inner s same held =
+    let opened : List Entry = before ++ group_start d k ∷ [] in
+    let all : List Entry = opened ++ inner in
+    let a : starts_in all ≡ (starts_in before + 0) + starts_in inner = count-append is_adjacent_start opened inner ∙ ap (λ n. n + starts_in inner) (count-push is_adjacent_start before (group_start d k)) in
+    let z : stops_in all ≡ (stops_in before + 0) + stops_in inner = count-append is_adjacent_stop opened inner ∙ ap (λ n. n + stops_in inner) (count-push is_adjacent_stop before (group_start d k)) in
+    let outside : outside_groups all ≡ outside_groups before = held.same refl ∙ inside-push before (group_start d k) refl in
+    let outer : is_block_open all ≡ true → stops_in all < starts_in all
+    = λ b. let less : stops_in before < starts_in before = s.fits.outer s.inside (ap (λ fs. option_map_or is_adjacent_start (last_that is_adjacent_mark fs) false) (sym outside) ∙ b) in rw (a, z) (omega arith) in
+    let moved : (all ++ group_end k ∷ []) ≡ before ++ (group_start d k ∷ (inner ++ group_end k ∷ [])) = append_assoc opened inner (group_end k ∷ []) ∙ append_assoc before (group_start d k ∷ []) (inner ++ group_end k ∷ []) in
+    record {
+      falls = join_falls before (group_start d k ∷ []) (inner ++ group_end k ∷ []) (one_falls before (group_start d k) s.fits) (join_falls opened inner (group_end k ∷ []) held.falls (one_falls all (group_end k) held.stands.fits));
+      stands = subst (Stands true) moved (after_group_end all k held.stands outer);
+      same = λ no. cc;
+    }
+
+goes : {g : Bool} {es : List Entry} → Blocks g es → (before : List Entry) → Stands g before → Goes g before es
+goes {g} (none is) before s = rw is (record { falls = All-nil Falls; stands = subst (Stands g) (sym (append-nil before)) s; same = λ no_group. ap outside_groups (append-nil before) })
+goes {g} (plain e is h) before s = rw is (single g before e (no_group_mark e h) s (after_plain g before e h s))
+goes {g} (block t k inner is b) before s =
+    let opened : Stands g (before ++ adjacent_start t k ∷ []) = after_start g before t k s in
+    let held : Goes g (before ++ adjacent_start t k ∷ []) inner = goes b (before ++ adjacent_start t k ∷ []) opened in
+    let same : starts_in inner ≡ stops_in inner = even b in
+    let a : starts_in ((before ++ adjacent_start t k ∷ []) ++ inner) ≡ (starts_in before + 1) + starts_in inner = count-append is_adjacent_start (before ++ adjacent_start t k ∷ []) inner ∙ ap (λ n. n + starts_in inner) (count-push is_adjacent_start before (adjacent_start t k)) in
+    let z : stops_in ((before ++ adjacent_start t k ∷ []) ++ inner) ≡ (stops_in before + 0) + stops_in inner = count-append is_adjacent_stop (before ++ adjacent_start t k ∷ []) inner ∙ ap (λ n. n + stops_in inner) (count-push is_adjacent_stop before (adjacent_start t k)) in
+    let deep : stops_in before ≤ starts_in before = s.deep in
+    let less : stops_in ((before ++ adjacent_start t k ∷ []) ++ inner) < starts_in ((before ++ adjacent_start t k ∷ []) ++ inner) = rw (a, z) (omega arith) in
+    let stopped : Stands g (((before ++ adjacent_start t k ∷ []) ++ inner) ++ adjacent_stop k ∷ []) = after_stop g ((before ++ adjacent_start t k ∷ []) ++ inner) k held.stands less in
+    rw is
+    (go_on g before (adjacent_start t k ∷ []) (inner ++ adjacent_stop k ∷ []) (single g before (adjacent_start t k) refl s opened)
+    (go_on g (before ++ adjacent_start t k ∷ []) inner (adjacent_stop k ∷ []) held (single g ((before ++ adjacent_start t k ∷ []) ++ inner) (adjacent_stop k) refl held.stands stopped)))
+goes {g} (grouped d k inner is_true is b) before s =
+    let at_true : Stands true before = subst (λ h. Stands h before) is_true s in
+    rw (is, is_true) (group_goes before d k inner at_true (even b) (goes b (before ++ group_start d k ∷ []) (after_group_start before d k at_true)))
+goes {g} (joined front back is b c) before s =
+    let first : Goes g before front = goes b before s in
+    rw is (go_on g before front back first (goes c (before ++ front) first.stands))
+
+nothing_before : Stands true []
+nothing_before = record { deep = omega arith; fits = record { since = omega arith; outer = λ o b. cc }; inside = refl }
+
+pub falls_somewhere : FallsSomewhere
+falls_somewhere es is = (goes (item_list_blocks es is) [] nothing_before).falls

@@ -1,0 +1,294 @@
+-- Groups, and entries outside them, taken from the front of a list.
+use Rattle.std.proofs.Common.{get_or, ◌&&◌, ◌≡◌, ℕ, ◌+◌, ◌<◌, ◌≤◌, Bool, true, false, not, List, [], ◌∷◌, ◌++◌, length, map, take, drop, refl, sym, ap, ◌∙◌, subst, append_assoc, add-one, zero, suc, arith}
+use Rattle.std.specs.Prelude.{if◌then◌else◌, filter, flat_map, count_by, nat_lt, codes, Option, Some, None}
+use Rattle.std.specs.List.{position, range_with_len}
+use Rattle.std.proofs.Math.Seq.{take-append_seam, drop-append_seam}
+use Rattle.std.proofs.lemmas.List.{map-append, length-append, take-map, drop-map}
+use Rattle.std.proofs.lemmas.List.Elements.{filter-append}
+use Rattle.bpaf_doc.specs.Buffer.Parts.{Part}
+use Rattle.bpaf_doc.specs.declared.buffer.Block.TheVariants as block
+use Rattle.bpaf_doc.specs.Buffer.Writes.{Write, end, with_writes}
+use Rattle.bpaf_meta.proofs.lemmas.Usage.Written.{with_writes-append}
+use Rattle.bpaf_items.specs.declared.meta_help.entry.HiTy.{HiTy}
+use Rattle.bpaf_items.specs.declared.meta_help.entry.HiTy.TheVariants as ty
+use Rattle.bpaf_items.specs.Listing.ItemList.{Entry, group_start, group_end}
+use Rattle.bpaf_items.specs.declared.meta_help.entry.HelpItem.{HelpItem}
+use Rattle.bpaf_items.specs.Listing.Falls.{Placed, placed_after, is_group_start, is_group_end, is_group_mark, is_adjacent_start, is_adjacent_stop, is_in_group, lacks_help, group_members, heading_members, items_of_type, outside_groups}
+use Rattle.bpaf_items.specs.Listing.Groups.{both_places, HasNoGroupMark, HasPairedGroups, empty, outer, whole, stays, kept_entries}
+use Rattle.bpaf_items.specs.Page.EnvTexts.{Texts}
+use Rattle.bpaf_items.specs.Page.HelpPage.{groups_writes, heading_writes, list_writes}
+use Rattle.bpaf_items.specs.Page.Steps.Groups.{group_lists, group_len, heading_end, headings, len_through, Takes, title_front}
+use Rattle.bpaf_items.specs.View.{entry_of}
+use Rattle.bpaf_items.proofs.Listing.Placing.{placed_after-append, placed-push, kept_map}
+use Rattle.bpaf_items.proofs.Listing.Blocks.{count-cons}
+use Rattle.bpaf_items.proofs.Listing.Headings.{headings_agree}
+use Rattle.bpaf_items.proofs.Listing.Pushes.{after_last-push, since_start, since_start-push}
+use Rattle.bpaf_items.proofs.Listing.PairedGroups.{entry, in_number, members_after, outside_no_group, closed_outside, open_same, not_start, count_same}
+use Rattle.bpaf_items.proofs.Listing.TakenOut.{kept_alike, kept_true, shifted, outside_alike, first_members, other_members, outside_all_but, one_fewer, both_at}
+
+-- ---- a list of numbers
+
+same_for_each : (f g : ℕ → List Write) → ((n : ℕ) → f n ≡ g n) → (ns : List ℕ) → flat_map f ns ≡ flat_map g ns
+same_for_each f g h [] = refl
+same_for_each f g h (n ∷ ns) = ap (λ ws. ws ++ flat_map f ns) (h n) ∙ ap (λ ws. g n ++ ws) (same_for_each f g h ns)
+
+next_number : (a : ℕ) → (a + 2) + 1 ≡ (a + 1) + 2
+next_number a = omega arith
+
+numbered_on : (f g : ℕ → List Write) → ((n : ℕ) → f (n + 2) ≡ g (n + 1)) → (a c : ℕ) → flat_map f (range_with_len (a + 2) c) ≡ flat_map g (range_with_len (a + 1) c)
+numbered_on f g h a zero = refl
+numbered_on f g h a (suc c) =
+    ap (λ ws. ws ++ flat_map f (range_with_len ((a + 2) + 1) c)) (h a)
+    ∙ ap (λ b. g (a + 1) ++ flat_map f (range_with_len b c)) (next_number a)
+    ∙ ap (λ ws. g (a + 1) ++ ws) (numbered_on f g h (a + 1) c)
+
+-- ---- an entry outside groups
+
+abbrev whole_before : List Entry
+whole_before = group_start [] ty.Flag ∷ group_end ty.Flag ∷ []
+
+module _ (e : Entry) (es : List Entry) (clear : is_group_mark e ≡ false) (paired : HasPairedGroups es) where
+  none_before : count_by is_group_start (e ∷ []) ≡ 0
+  none_before = count_same [] e clear
+
+  members_behind : (n : ℕ) → members_after (e ∷ []) es n ≡ members_after [] es n
+  members_behind n =
+      sym (shifted paired whole_before (e ∷ []) n refl (open_same [] e clear) (ap (λ m. m + 1) (sym none_before)))
+      ∙ shifted paired whole_before [] n refl refl refl
+
+  outer_members : (n : ℕ) → group_members (e ∷ es) n ≡ group_members es n
+  outer_members n =
+      let skipped : in_number n ([], e) ≡ false = outside_no_group n ([], e) (closed_outside [] e clear refl) in
+      rw skipped (members_behind n)
+
+  outer_count : count_by is_group_start (e ∷ es) ≡ count_by is_group_start es
+  outer_count =
+      let c : count_by is_group_start (e ∷ es) ≡ 0 + count_by is_group_start es = count-cons is_group_start e es ∙ ap (λ b. (if b then 1 else 0) + count_by is_group_start es) (not_start e clear) in
+      omega arith
+
+  pub outer_lists : (included : Bool) (texts : Texts) → group_lists included texts (e ∷ es) ≡ group_lists included texts es
+  outer_lists included texts =
+      same_for_each (λ n. list_writes included texts (group_members (e ∷ es) n)) (λ n. list_writes included texts (group_members es n)) (λ n. ap (list_writes included texts) (outer_members n)) (range_with_len 1 (count_by is_group_start (e ∷ es)))
+      ∙ ap (λ c. flat_map (λ n. list_writes included texts (group_members es n)) (range_with_len 1 c)) outer_count
+
+  pub outer_outside : outside_groups (e ∷ es) ≡ e ∷ outside_groups es
+  outer_outside =
+      let without : is_in_group ([], e) ≡ false = closed_outside [] e clear refl in
+      rw without (ap (λ xs. e ∷ xs) (outside_alike (e ∷ []) [] es (open_same [] e clear)))
+
+record FirstOuter (e : Entry) (es : List Entry) : Type 0 where
+  pub clear : is_group_mark e ≡ false
+  pub paired : HasPairedGroups es
+
+first_outer : {all : List Entry} (e : Entry) (es : List Entry) → HasPairedGroups all → all ≡ e ∷ es → is_group_start e ≡ false → FirstOuter e es
+first_outer e es (empty is) same h = cc
+first_outer e es (outer f rest is clear p) same h =
+    let own : f ≡ e = cc in
+    let others : rest ≡ es = cc in
+    record { clear = ap is_group_mark (sym own) ∙ clear; paired = subst HasPairedGroups others p }
+first_outer e es (whole d j k inner rest is clear p) same h =
+    let own : group_start d j ≡ e = cc in
+    let starts : true ≡ false = ap is_group_start own ∙ h in
+    cc
+
+pub takes_outer : (included : Bool) (texts : Texts) (all : List Entry) (e : Entry) (es : List Entry) (doc : List Part) (outside : List Entry)
+    → HasPairedGroups all → all ≡ e ∷ es → is_group_start e ≡ false → Takes included texts all 1 doc doc outside (outside ++ e ∷ [])
+takes_outer included texts all e es doc outside paired same h =
+    let o : FirstOuter e es = first_outer e es paired same h in
+    rw same (record {
+      some = omega arith;
+      within = omega arith;
+      paired = o.paired;
+      written = ap (with_writes doc) (sym (outer_lists e es o.clear o.paired included texts));
+      others = append_assoc outside (e ∷ []) (outside_groups es) ∙ ap (λ xs. outside ++ xs) (sym (outer_outside e es o.clear o.paired));
+    })
+
+-- ---- a group
+
+record FirstGroup (all : List Entry) : Type 0 where
+  pub title : List Part
+  pub first : HiTy
+  pub last : HiTy
+  pub inner : List Entry
+  pub rest : List Entry
+  pub order : all ≡ group_start title first ∷ (inner ++ group_end last ∷ rest)
+  pub clear : HasNoGroupMark inner
+  pub paired : HasPairedGroups rest
+
+first_group : {all : List Entry} (e : Entry) (es : List Entry) → HasPairedGroups all → all ≡ e ∷ es → is_group_start e ≡ true → FirstGroup all
+first_group e es (empty is) same h = cc
+first_group e es (outer f rest is clear p) same h =
+    let own : f ≡ e = cc in
+    let starts : false ≡ true = sym (not_start f clear) ∙ ap is_group_start own ∙ h in
+    cc
+first_group e es (whole d j k inner rest is clear p) same h = record { title = d; first = j; last = k; inner = inner; rest = rest; order = is; clear = clear; paired = p }
+
+abbrev second : Option (ℕ × ℕ) → ℕ
+second None = 0
+second (Some p) = p.1
+
+module _ (d : List Part) (j k : HiTy) (inner rest : List Entry) (clear : HasNoGroupMark inner) (paired : HasPairedGroups rest) where
+  abbrev pub marked : List Entry
+  marked = group_start d j ∷ (inner ++ group_end k ∷ [])
+
+  abbrev pub listing : List Entry
+  listing = group_start d j ∷ (inner ++ group_end k ∷ rest)
+
+  kept_rest : map entry (filter stays (placed_after (group_start d j ∷ []) inner)) ≡ kept_entries inner
+  kept_rest =
+      sym (kept_true (group_start d j ∷ []) inner)
+      ∙ kept_alike (group_start d j ∷ []) [] inner true (after_last-push is_group_start [] (group_start d j))
+      ∙ kept_true [] inner
+
+  kept_marked : kept_entries marked ≡ group_start d j ∷ (kept_entries inner ++ group_end k ∷ [])
+  kept_marked =
+      let opened : List Entry = group_start d j ∷ [] in
+      ap (λ xs. group_start d j ∷ xs)
+      (ap (λ ps. map entry (filter stays ps)) (placed_after-append opened inner (group_end k ∷ []))
+      ∙ ap (map entry) (filter-append stays (placed_after opened inner) (placed_after (opened ++ inner) (group_end k ∷ [])))
+      ∙ map-append entry (filter stays (placed_after opened inner)) (filter stays (placed_after (opened ++ inner) (group_end k ∷ [])))
+      ∙ ap (λ xs. xs ++ group_end k ∷ []) kept_rest)
+
+  split : listing ≡ marked ++ rest
+  split = ap (λ xs. group_start d j ∷ xs) (sym (append_assoc inner (group_end k ∷ []) rest))
+
+  end_place : (o p : Option ℕ) → both_places o p ≡ Some (0, 0 + (1 + length inner)) → p ≡ Some (1 + length inner)
+  end_place None p h = cc
+  end_place (Some m) None h = cc
+  end_place (Some m) (Some n) h = let same : n ≡ 0 + (1 + length inner) = ap second h in ap Some (omega arith)
+
+  marked_len : length marked ≡ (1 + length inner) + 1
+  marked_len = let l : length (inner ++ group_end k ∷ []) ≡ length inner + 1 = length-append inner (group_end k ∷ []) in omega arith
+
+  group_len_is : group_len listing ≡ length marked
+  group_len_is = ap (λ o. len_through o (length listing)) (end_place (position is_group_start listing) (position is_group_end listing) (both_at [] d j k inner rest refl clear paired)) ∙ sym marked_len
+
+  pub group_taken : take (group_len listing) listing ≡ marked
+  group_taken = ap (λ n. take n listing) group_len_is ∙ ap (take (length marked)) split ∙ take-append_seam marked rest
+
+  pub group_left : drop (group_len listing) listing ≡ rest
+  group_left = ap (λ n. drop n listing) group_len_is ∙ ap (drop (length marked)) split ∙ drop-append_seam marked rest
+
+  pub group_within : group_len listing ≤ length listing
+  group_within =
+      let a : group_len listing ≡ length marked = group_len_is in
+      let b : length listing ≡ length marked + length rest = ap length split ∙ length-append marked rest in
+      omega arith
+
+  pub group_some : 0 < group_len listing
+  group_some =
+      let a : group_len listing ≡ length marked = group_len_is in
+      let b : length marked ≡ (1 + length inner) + 1 = marked_len in
+      omega arith
+
+  pub group_written : (included : Bool) (texts : Texts) → group_lists included texts listing ≡ list_writes included texts (kept_entries (take (group_len listing) listing)) ++ group_lists included texts rest
+  group_written included texts =
+      let f : ℕ → List Write = λ n. list_writes included texts (group_members listing n) in
+      let g : ℕ → List Write = λ n. list_writes included texts (group_members rest n) in
+      let count : count_by is_group_start listing ≡ suc (count_by is_group_start rest) = one_fewer [] d j k inner rest refl clear paired ∙ add-one (count_by is_group_start rest) in
+      let own : f 1 ≡ list_writes included texts (kept_entries (take (group_len listing) listing))
+      = ap (list_writes included texts) (first_members [] d j k inner rest refl clear paired ∙ sym kept_marked ∙ ap kept_entries (sym group_taken)) in
+      ap (λ c. flat_map f (range_with_len 1 c)) count
+      ∙ ap (λ ws. ws ++ flat_map f (range_with_len 2 (count_by is_group_start rest))) own
+      ∙ ap (λ ws. list_writes included texts (kept_entries (take (group_len listing) listing)) ++ ws)
+      (numbered_on f g (λ n. ap (list_writes included texts) (other_members [] d j k inner rest refl clear paired n)) 0 (count_by is_group_start rest))
+
+  pub group_outside : outside_groups listing ≡ outside_groups rest
+  group_outside = outside_all_but [] d j k inner rest refl clear paired
+
+  pub takes_listing : (included : Bool) (texts : Texts) (before now : List Part) (outside : List Entry)
+      → now ≡ with_writes before (list_writes included texts (kept_entries (take (group_len listing) listing))) → Takes included texts listing (group_len listing) before now outside outside
+  takes_listing included texts before now outside written = record {
+    some = group_some;
+    within = group_within;
+    paired = subst HasPairedGroups (sym group_left) paired;
+    written =
+        let own : List Write = list_writes included texts (kept_entries (take (group_len listing) listing)) in
+        ap (λ xs. with_writes now (group_lists included texts xs)) group_left
+        ∙ ap (λ ps. with_writes ps (group_lists included texts rest)) written
+        ∙ sym (with_writes-append before own (group_lists included texts rest))
+        ∙ ap (with_writes before) (sym (group_written included texts));
+    others = ap (λ xs. outside ++ outside_groups xs) group_left ∙ ap (λ xs. outside ++ xs) (sym group_outside);
+  }
+
+pub takes_group : (included : Bool) (texts : Texts) (all : List Entry) (e : Entry) (es : List Entry) (before now : List Part) (outside : List Entry)
+    → HasPairedGroups all → all ≡ e ∷ es → is_group_start e ≡ true → now ≡ with_writes before (list_writes included texts (kept_entries (take (group_len all) all)))
+    → Takes included texts all (group_len all) before now outside outside
+takes_group included texts all e es before now outside paired same h written =
+    let g : FirstGroup all = first_group e es paired same h in
+    subst (λ xs. now ≡ with_writes before (list_writes included texts (kept_entries (take (group_len xs) xs))) → Takes included texts xs (group_len xs) before now outside outside) (sym g.order)
+    (takes_listing g.title g.first g.last g.inner g.rest g.clear g.paired included texts before now outside) written
+
+-- ---- what stays in a group
+
+pub kept-push : (es : List Entry) (e : Entry) → kept_entries (es ++ e ∷ []) ≡ kept_entries es ++ (if stays (es, e) then e ∷ [] else [])
+kept-push es e =
+    let last : List Placed = if stays (es, e) then (es, e) ∷ [] else [] in
+    ap (λ ps. map entry (filter stays ps)) (placed-push es e)
+    ∙ ap (map entry) (filter-append stays (placed_after [] es) ((es, e) ∷ []))
+    ∙ map-append entry (filter stays (placed_after [] es)) last
+    ∙ ap (λ xs. kept_entries es ++ xs) (kept_map (stays (es, e)) (es, e))
+
+pub few : (b c : Bool) (n m i : ℕ) → m ≡ (if b then 0 else n + (if c then 1 else 0)) → n ≤ i → m ≤ i + 1
+few true c n m i is h = rw is (omega arith)
+few false true n m i is h = rw is (omega arith)
+few false false n m i is h = rw is (omega arith)
+
+pub since_next : (p : Entry → Bool) (before next : List Entry) (e : Entry) (n m : ℕ) → m ≡ (if is_group_start e then 0 else n + (if p e then 1 else 0)) → n ≡ since_start p before → next ≡ before ++ e ∷ [] → m ≡ since_start p next
+since_next p before next e n m is old more =
+    is ∙ ap (λ k. if is_group_start e then 0 else k + (if p e then 1 else 0)) old ∙ sym (since_start-push p before e) ∙ ap (since_start p) (sym more)
+
+pub kept_next : (first mid now before next : List Entry) (e : Entry) (starts stops : ℕ) → now ≡ mid ++ (if not (lacks_help e && nat_lt stops starts) then e ∷ [] else []) → mid ≡ first ++ kept_entries before
+    → starts ≡ since_start is_adjacent_start before → stops ≡ since_start is_adjacent_stop before → next ≡ before ++ e ∷ [] → now ≡ first ++ kept_entries next
+kept_next first mid now before next e starts stops is old a z more =
+    is
+    ∙ ap (λ n. mid ++ (if not (lacks_help e && nat_lt stops n) then e ∷ [] else [])) a
+    ∙ ap (λ n. mid ++ (if not (lacks_help e && nat_lt n (since_start is_adjacent_start before)) then e ∷ [] else [])) z
+    ∙ ap (λ xs. xs ++ (if stays (before, e) then e ∷ [] else [])) old
+    ∙ append_assoc first (kept_entries before) (if stays (before, e) then e ∷ [] else [])
+    ∙ ap (λ xs. first ++ xs) (sym (kept-push before e) ∙ ap kept_entries (sym more))
+
+-- ---- items
+
+module _ {B : Type 0} where
+  first_of : (items : List (HelpItem B)) (first : HelpItem B) → 0 < length items → first ≡ get_or items 0 first → map entry_of items ≡ entry_of first ∷ map entry_of (drop 1 items)
+  first_of [] first h is = absurd (omega arith)
+  first_of (x ∷ items) first h is = ap (λ y. entry_of y ∷ map entry_of items) (sym is)
+
+  pub takes_item : (included : Bool) (texts : Texts) (items : List (HelpItem B)) (first : HelpItem B) (doc : List Part) (outside kept : List (HelpItem B)) → HasPairedGroups (map entry_of items)
+      → 0 < length items → first ≡ get_or items 0 first → is_group_start (entry_of first) ≡ false → kept ≡ outside ++ first ∷ [] → Takes included texts (map entry_of items) 1 doc doc (map entry_of outside) (map entry_of kept)
+  takes_item included texts items first doc outside kept paired some is starts more =
+      subst (Takes included texts (map entry_of items) 1 doc doc (map entry_of outside)) (sym (ap (map entry_of) more ∙ map-append entry_of outside (first ∷ [])))
+      (takes_outer included texts (map entry_of items) (entry_of first) (map entry_of (drop 1 items)) doc (map entry_of outside) paired (first_of items first some is) starts)
+
+  pub takes_marked : (included : Bool) (texts : Texts) (items front : List (HelpItem B)) (first : HelpItem B) (count : ℕ) (before now : List Part) (outside : List Entry) → HasPairedGroups (map entry_of items)
+      → 0 < length items → first ≡ get_or items 0 first → is_group_start (entry_of first) ≡ true → count ≡ group_len (map entry_of items) → front ≡ take count items
+      → now ≡ with_writes before (list_writes included texts (kept_entries (map entry_of front))) → Takes included texts (map entry_of items) count before now outside outside
+  takes_marked included texts items front first count before now outside paired some is starts len part written =
+      let same : map entry_of front ≡ take (group_len (map entry_of items)) (map entry_of items) = ap (map entry_of) part ∙ sym (take-map entry_of count items) ∙ ap (λ n. take n (map entry_of items)) len in
+      subst (λ n. Takes included texts (map entry_of items) n before now outside outside) (sym len)
+      (takes_group included texts (map entry_of items) (entry_of first) (map entry_of (drop 1 items)) before now outside paired (first_of items first some is) starts
+      (written ∙ ap (λ es. with_writes before (list_writes included texts (kept_entries es))) same))
+
+  pub left_behind : (items rest : List (HelpItem B)) (count : ℕ) → rest ≡ drop count items → map entry_of rest ≡ drop count (map entry_of items)
+  left_behind items rest count is = ap (map entry_of) is ∙ sym (drop-map entry_of count items)
+
+  pub heading_is : (included : Bool) (texts : Texts) (title : List ℕ) (items : List (HelpItem B)) → 0 < length items
+      → title_front title ++ (list_writes included texts (map entry_of items) ++ heading_end) ≡ heading_writes included texts title (map entry_of items)
+  heading_is included texts title [] h = absurd (omega arith)
+  heading_is included texts title (x ∷ items) h =
+      ap (λ ws. title_front title ++ ws) (sym (append_assoc (list_writes included texts (map entry_of (x ∷ items))) (end block.DefinitionList ∷ []) (end block.Block ∷ [])))
+
+-- ---- groups and headings
+
+pub all_writes : (included : Bool) (texts : Texts) (es : List Entry) → group_lists included texts es ++ headings included texts (outside_groups es) ≡ groups_writes included texts es
+all_writes included texts es =
+    let heading : List ℕ → List Entry → List Write = λ title fs. heading_writes included texts title fs in
+    let g : List Write = group_lists included texts es in
+    let a : List Write = heading (codes "Available positional items:") (items_of_type (outside_groups es) ty.Positional) in
+    let b : List Write = heading (codes "Available options:") (items_of_type (outside_groups es) ty.Flag) in
+    let c : List Write = heading (codes "Available commands:") (items_of_type (outside_groups es) ty.Command) in
+    sym (append_assoc (g ++ a) b c ∙ append_assoc g a (b ++ c) ∙ ap (λ ws. g ++ ws) (sym (append_assoc a b c)))
+    ∙ ap (λ fs. ((g ++ heading (codes "Available positional items:") fs) ++ b) ++ c) (sym (headings_agree es ty.Positional))
+    ∙ ap (λ fs. ((g ++ heading (codes "Available positional items:") (heading_members es ty.Positional)) ++ heading (codes "Available options:") fs) ++ c) (sym (headings_agree es ty.Flag))
+    ∙ ap (λ fs. ((g ++ heading (codes "Available positional items:") (heading_members es ty.Positional)) ++ heading (codes "Available options:") (heading_members es ty.Flag)) ++ heading (codes "Available commands:") fs) (sym (headings_agree es ty.Command))

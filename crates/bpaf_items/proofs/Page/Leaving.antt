@@ -1,0 +1,67 @@
+-- What calls that write leave, one after another.
+use Rattle.std.specs.Prelude.{◌≡◌, ℕ, ◌+◌, ◌<◌, suc, length, List, [], ◌∷◌, ◌++◌, flat_map, map, take, Result, Ok, Err, OnOk, OnErr, refl}
+use Rattle.std.specs.Borrow.{Bor}
+use Rattle.std.proofs.Common.{ap, sym, ◌∙◌, append-nil, get_or, arith}
+use Rattle.std.proofs.Math.Seq.{take-suc}
+use Rattle.std.proofs.lemmas.Grind.{flat_map-append}
+use Rattle.std.proofs.lemmas.List.{map-append}
+use Rattle.bpaf_doc.specs.declared.buffer.Style.{Style}
+use Rattle.bpaf_doc.specs.Buffer.Parts.{Part}
+use Rattle.bpaf_doc.specs.Buffer.Writes.{Write, text, with_text, with_writes}
+use Rattle.bpaf_meta.proofs.lemmas.Usage.Written.{with_writes-append, with_text_twice, Grows-then, Grows-call}
+use Rattle.bpaf_items.specs.Page.Steps.Pieces.{Leaves, joined}
+
+take_next : {X : Type 0} (xs : List X) (i : ℕ) (d : X) → i < length xs → take (i + 1) xs ≡ take i xs ++ get_or xs i d ∷ []
+take_next xs i d within = let e : i + 1 ≡ suc i = omega arith in rw e (take-suc xs i d within)
+
+pub map_next : {X Y : Type 0} (f : X → Y) (xs : List X) (i : ℕ) (x : X) → i < length xs → x ≡ get_or xs i x → map f (take (i + 1) xs) ≡ map f (take i xs) ++ f x ∷ []
+map_next f xs i x within is = ap (map f) (take_next xs i x within) ∙ map-append f (take i xs) (get_or xs i x ∷ []) ∙ ap (λ y. map f (take i xs) ++ f y ∷ []) (sym is)
+
+flat_map_next : {X Y : Type 0} (f : X → List Y) (xs : List X) (i : ℕ) (d : X) → i < length xs → flat_map f (take (i + 1) xs) ≡ flat_map f (take i xs) ++ f (get_or xs i d)
+flat_map_next f xs i d within =
+    ap (flat_map f) (take_next xs i d within) ∙ flat_map-append f (take i xs) (get_or xs i d ∷ []) ∙ ap (λ ys. flat_map f (take i xs) ++ ys) (append-nil (f (get_or xs i d)))
+
+-- the next piece of some
+pub pieces_next : {X : Type 0} (writes : X → List Write) (xs : List X) (i : ℕ) (x : X) (before mid now : List Part) → i < length xs → x ≡ get_or xs i x
+    → mid ≡ with_writes before (flat_map writes (take i xs)) → now ≡ with_writes mid (writes x) → now ≡ with_writes before (flat_map writes (take (i + 1) xs))
+pieces_next writes xs i x before mid now within is e f =
+    f ∙ ap (λ y. with_writes mid (writes y)) is ∙ ap (λ ps. with_writes ps (writes (get_or xs i x))) e ∙ sym (with_writes-append before (flat_map writes (take i xs)) (writes (get_or xs i x)))
+    ∙ ap (with_writes before) (sym (flat_map_next writes xs i x within))
+
+pub joined-all : (texts : List (Bor (List ℕ))) → joined texts ≡ flat_map (λ t. t.now) texts
+joined-all [] = refl
+joined-all (t ∷ []) = sym (append-nil t.now)
+joined-all (t ∷ u ∷ ts) = ap (λ bytes. t.now ++ bytes) (joined-all (u ∷ ts))
+
+-- a call that leaves everything where it fails
+pub leaves_call : {T E : Type 0} (r : Result T E) (before now : List Part) (ws : List Write) → OnOk r (now ≡ with_writes before ws) → OnErr r (now ≡ before) → Leaves r before now ws
+leaves_call r before now ws ok err = (Grows-call r before now ws ok err, ok)
+
+-- a call after one that was done
+pub leaves_then : {T E : Type 0} (r : Result T E) (before mid now : List Part) (vs ws : List Write) → mid ≡ with_writes before vs → Leaves r mid now ws → Leaves r before now (vs ++ ws)
+leaves_then (Ok x) before mid now vs ws e (grows, ok) = (Grows-then before mid now (vs, e) grows, ok ∙ ap (λ ps. with_writes ps ws) e ∙ sym (with_writes-append before vs ws))
+leaves_then (Err x) before mid now vs ws e (grows, ok) = (Grows-then before mid now (vs, e) grows, tt)
+
+-- a call after two that were done
+pub leaves_third : {T E : Type 0} (r : Result T E) (before first mid now : List Part) (us vs ws : List Write) → first ≡ with_writes before us → mid ≡ with_writes first vs → Leaves r mid now ws → Leaves r before now ((us ++ vs) ++ ws)
+leaves_third r before first mid now us vs ws e f h = leaves_then r before mid now (us ++ vs) ws (f ∙ ap (λ ps. with_writes ps vs) e ∙ sym (with_writes-append before us vs)) h
+
+-- a text that joins the one just written
+pub leaves_joined : {T E : Type 0} (r : Result T E) (before mid now : List Part) (a b : List ℕ) (how : Style) → mid ≡ with_text before a how → Leaves r mid now (text b how ∷ []) → Leaves r before now (text (a ++ b) how ∷ [])
+leaves_joined (Ok x) before mid now a b how e (grows, ok) = (Grows-then before mid now (text a how ∷ [], e) grows, ok ∙ ap (λ ps. with_text ps b how) e ∙ with_text_twice before a b how)
+leaves_joined (Err x) before mid now a b how e (grows, ok) = (Grows-then before mid now (text a how ∷ [], e) grows, tt)
+
+-- the next text of some that are one
+pub text_next : (texts : List (Bor (List ℕ))) (i : ℕ) (d : Bor (List ℕ)) (before mid now : List Part) (how : Style) → i < length texts
+    → mid ≡ with_text before (flat_map (λ x. x.now) (take i texts)) how → now ≡ with_text mid (get_or texts i d).now how → now ≡ with_text before (flat_map (λ x. x.now) (take (i + 1) texts)) how
+text_next texts i d before mid now how within e f =
+    f ∙ ap (λ ps. with_text ps (get_or texts i d).now how) e ∙ with_text_twice before (flat_map (λ x. x.now) (take i texts)) (get_or texts i d).now how
+    ∙ ap (λ bytes. with_text before bytes how) (sym (flat_map_next (λ (x : Bor (List ℕ)). x.now) texts i d within))
+
+-- writes after writes, where the call before was done
+pub written_then : (before mid now : List Part) (vs ws : List Write) → mid ≡ with_writes before vs → now ≡ with_writes mid ws → now ≡ with_writes before (vs ++ ws)
+written_then before mid now vs ws e f = f ∙ ap (λ ps. with_writes ps ws) e ∙ sym (with_writes-append before vs ws)
+
+pub done_then : {T E : Type 0} (r : Result T E) (before mid now : List Part) (vs ws : List Write) → mid ≡ with_writes before vs → OnOk r (now ≡ with_writes mid ws) → OnOk r (now ≡ with_writes before (vs ++ ws))
+done_then (Ok x) before mid now vs ws e f = written_then before mid now vs ws e f
+done_then (Err x) before mid now vs ws e f = tt

@@ -1,0 +1,386 @@
+-- Pages of well-nested texts are well nested.
+use Rattle.std.proofs.Common.{◌≡◌, ℕ, Bool, true, false, ◌&&◌, ◌||◌, ◌⊎◌, inl, inr, List, [], ◌∷◌, ◌++◌, map, refl, sym, ap, ◌∙◌, subst, append_assoc, append-nil}
+use Rattle.std.specs.Prelude.{if◌then◌else◌, filter, flat_map, count_by, All, codes, encode_utf8, Option, Some, None}
+use Rattle.std.specs.List.{list_any, range_with_len}
+use Rattle.std.proofs.lemmas.Grind.{flat_map-append}
+use Rattle.std.proofs.lemmas.List.{map-append}
+use Rattle.std.proofs.lemmas.List.Elements.{filter-append, All-nil, All-cons, All-append, All-push, All-head, All-tail}
+use Rattle.bpaf_doc.specs.declared.buffer.Style.{Style}
+use Rattle.bpaf_doc.specs.declared.buffer.Style.TheVariants as style
+use Rattle.bpaf_doc.specs.declared.buffer.Block.{Block}
+use Rattle.bpaf_doc.specs.declared.buffer.Block.TheVariants as block
+use Rattle.bpaf_doc.specs.Buffer.Parts.{Part, IsWellNested, nothing}
+use Rattle.bpaf_doc.specs.Buffer.Writes.{Write, text, start, end, with_write, with_writes, document_of, doc_writes, em_doc_writes, path_writes, inside}
+use Rattle.bpaf_doc.proofs.lemmas.Buffer.Nesting.{IsWellNested-with_text, IsWellNested-in_block, IsWellNested-inside, IsWellNested-em_doc, IsWellNested-path}
+use Rattle.bpaf_meta.specs.Content.{Name, short, long, both, Tree, and_of, or_of, optional, required, adjacent, item, many, subsection, suffix, skip, custom_usage, strict, Trees, no_trees, tree, Leaf, any, positional, command, flag, argument, Head, head}
+use Rattle.bpaf_meta.specs.Usage.Nested.{HasNestedDoc, HasNestedDocs, EachHasNestedDocs}
+use Rattle.bpaf_meta.specs.Usage.Writes.{metavar_writes, usage_writes}
+use Rattle.bpaf_meta.specs.Meta.Normal.{normalized}
+use Rattle.bpaf_meta.proofs.lemmas.Usage.Written.{with_writes-append}
+use Rattle.bpaf_meta.proofs.lemmas.Usage.Nested.{normalized_nested, metavar_keeps, form_keeps}
+use Rattle.bpaf_items.specs.declared.meta_help.entry.HiTy.{HiTy}
+use Rattle.bpaf_items.specs.declared.meta_help.entry.HiTy.TheVariants as ty
+use Rattle.bpaf_items.specs.Listing.ItemList.{Entry, listed, note, group_start, group_end, adjacent_start, adjacent_stop, front_type, item_entries, adjacent_entries, group_entries, noted_entries, entries_with_type, entries_of, entries_of_parts, item_list, IsItemList}
+use Rattle.bpaf_items.specs.Listing.Falls.{Placed, placed_after, is_group_mark, is_group_start, lacks_help, is_adjacent_in_group, group, nowhere, destination, is_heading, is_shown, shown_entries, group_members, heading_members}
+use Rattle.bpaf_items.specs.Page.EnvTexts.{Texts, no_texts}
+use Rattle.bpaf_items.specs.Page.EntryWrites.{term, help_writes, names_writes, command_writes, env_body, env_term, env_writes, flag_env_text, argument_env_text, listed_writes, entry_writes}
+use Rattle.bpaf_items.specs.Page.HelpPage.{list_writes, heading_writes, groups_writes, doc_within, usage_line_writes, help_page_writes, help_tree}
+use Rattle.bpaf_items.specs.Page.Chapters.{Chapter, chapters_of, summary_line, spaced, anchor, if_many, chapter_page, synopsis_line, manual_name, manual_chapter}
+use Rattle.bpaf_items.specs.Page.NestedTexts.{IsNestedText, HasNestedText, HasNestedTexts, EachHasNestedTexts, HasNestedHead, HasNestedChapter, HasNestedEntry, KeepsNested, ItemListsAreNested, GroupsAreNested, HelpPagesAreNested, CollectedPagesAreNested, ManualPagesAreNested}
+use Rattle.bpaf_items.proofs.Listing.Placing.{placed_after-append}
+use Rattle.bpaf_items.proofs.Listing.Blocks.{item_list_blocks}
+use Rattle.bpaf_items.proofs.Listing.PairedGroups.{blocks_paired, IsWholeGroup, group_whole, part_all, part_clear}
+
+-- ---- what keeps a document well nested
+
+record Keeps (ws : List Write) : Type 0 where
+  pub nested : KeepsNested ws
+
+nothing_keeps : Keeps []
+nothing_keeps = record { nested = λ ps h. h }
+
+text_then : (bytes : List ℕ) (style : Style) {ws : List Write} → Keeps ws → Keeps (text bytes style ∷ ws)
+text_then bytes style f = record { nested = λ ps h. f.nested (with_write ps (text bytes style)) (IsWellNested-with_text bytes style h) }
+
+both_keep : {vs ws : List Write} → Keeps vs → Keeps ws → Keeps (vs ++ ws)
+both_keep {vs} {ws} f g = record { nested = λ ps h. subst IsWellNested (sym (with_writes-append ps vs ws)) (g.nested (with_writes ps vs) (f.nested ps h)) }
+
+doc_keeps : (d : List Part) → IsWellNested d → Keeps (doc_writes d)
+doc_keeps d k = record { nested = λ ps h. IsWellNested-in_block block.InlineBlock ps d h k }
+
+em_doc_keeps : (d : List Part) → IsWellNested d → Keeps (em_doc_writes d)
+em_doc_keeps d k = record { nested = λ ps h. IsWellNested-em_doc ps d h k }
+
+path_keeps : (path : List (List ℕ)) → Keeps (path_writes path)
+path_keeps path = record { nested = λ ps h. IsWellNested-path path ps h }
+
+inside_keeps : (b : Block) {ws : List Write} → Keeps ws → Keeps (inside b ws)
+inside_keeps b {ws} f = record { nested = λ ps h. IsWellNested-inside b ps ws h (f.nested [] (nothing refl)) }
+
+written_keeps : {ws : List Write} → Keeps ws → IsWellNested (document_of ws)
+written_keeps f = f.nested [] (nothing refl)
+
+usage_keeps : (t : Tree) → HasNestedDocs t → Keeps (usage_writes true t)
+usage_keeps t h = record { nested = form_keeps (normalized true t) (normalized_nested true t h) }
+
+value_keeps : (m : List ℕ) → Keeps (metavar_writes m)
+value_keeps m = record { nested = metavar_keeps m }
+
+each_keeps : {X : Type 0} (P : X → Type 0) (f : X → List Write) → ((x : X) → P x → Keeps (f x)) → (xs : List X) → All P xs → Keeps (flat_map f xs)
+each_keeps P f k [] h = nothing_keeps
+each_keeps P f k (x ∷ xs) h = both_keep (k x (All-head P x xs h)) (each_keeps P f k xs (All-tail P x xs h))
+
+-- ---- a tree's texts, and the entries of its list
+
+help_nested : (l : Leaf) → HasNestedText l → HasNestedDoc l
+help_nested (any m a h) k = k.0
+help_nested (positional m h) k = tt
+help_nested (command n c h t i) k = tt
+help_nested (flag n s e h) k = tt
+help_nested (argument n s m e h) k = tt
+
+mutual
+  docs_nested : (t : Tree) → HasNestedTexts t → HasNestedDocs t
+  docs_nested (and_of ts) h = each_docs_nested ts h
+  docs_nested (or_of ts) h = each_docs_nested ts h
+  docs_nested (optional t) h = docs_nested t h
+  docs_nested (required t) h = docs_nested t h
+  docs_nested (adjacent t) h = docs_nested t h
+  docs_nested (item l) h = help_nested l h
+  docs_nested (many t) h = docs_nested t h
+  docs_nested (subsection t d) h = docs_nested t h.1
+  docs_nested (suffix t d) h = docs_nested t h.1
+  docs_nested skip h = tt
+  docs_nested (custom_usage t d) h = (h.0, docs_nested t h.1)
+  docs_nested (strict t) h = docs_nested t h
+
+  each_docs_nested : (ts : Trees) → EachHasNestedTexts ts → EachHasNestedDocs ts
+  each_docs_nested no_trees h = tt
+  each_docs_nested (tree t ts) h = (docs_nested t h.0, each_docs_nested ts h.1)
+
+abbrev Nested : List Entry → Type 0
+Nested es = All HasNestedEntry es
+
+one_nested : (e : Entry) → HasNestedEntry e → Nested (e ∷ [])
+one_nested e h = All-cons HasNestedEntry e [] h (All-nil HasNestedEntry)
+
+more_nested : (es : List Entry) (e : Entry) → Nested es → HasNestedEntry e → Nested (es ++ e ∷ [])
+more_nested es e h k = All-push HasNestedEntry es e h k
+
+item_nested : (l : Leaf) → HasNestedText l → Nested (item_entries l)
+item_nested (any m a h) k = one_nested _ k
+item_nested (positional m None) k = All-nil HasNestedEntry
+item_nested (positional m (Some h)) k = one_nested _ k
+item_nested (command n c h t i) k = one_nested _ k
+item_nested (flag n s e h) k = one_nested _ k
+item_nested (argument n s m e h) k = one_nested _ k
+
+adjacent_nested : (o : Option HiTy) (t : Tree) (es : List Entry) → HasNestedDocs t → Nested es → Nested (adjacent_entries o t es)
+adjacent_nested None t es h k = All-nil HasNestedEntry
+adjacent_nested (Some j) t es h k = All-cons HasNestedEntry (adjacent_start t j) (es ++ adjacent_stop j ∷ []) h (more_nested es (adjacent_stop j) k tt)
+
+group_nested : (o : Option HiTy) (d : List Part) (es : List Entry) → IsWellNested d → Nested es → Nested (group_entries o d es)
+group_nested None d es h k = All-nil HasNestedEntry
+group_nested (Some j) d es h k = All-cons HasNestedEntry (group_start d j) (es ++ group_end j ∷ []) h (more_nested es (group_end j) k tt)
+
+noted_nested : (o : Option HiTy) (d : List Part) (es : List Entry) → IsWellNested d → Nested es → Nested (noted_entries o d es)
+noted_nested None d es h k = All-nil HasNestedEntry
+noted_nested (Some j) d es h k = more_nested es (note d j) k h
+
+typed_nested : (o : Option HiTy) (es : List Entry) → Nested es → Nested (entries_with_type o es)
+typed_nested None es k = All-nil HasNestedEntry
+typed_nested (Some j) es k = k
+
+mutual
+  tree_nested : (g : Bool) (t : Tree) → HasNestedTexts t → Nested (entries_of g t)
+  tree_nested g (and_of ts) h = parts_nested g ts h
+  tree_nested g (or_of ts) h = parts_nested g ts h
+  tree_nested g (optional t) h = tree_nested g t h
+  tree_nested g (required t) h = tree_nested g t h
+  tree_nested g (adjacent t) h = adjacent_nested (front_type t) t (entries_of g t) (docs_nested t h) (tree_nested g t h)
+  tree_nested g (item l) h = item_nested l h
+  tree_nested g (many t) h = tree_nested g t h
+  tree_nested true (subsection t d) h = group_nested (front_type t) d (entries_of false t) h.0 (tree_nested false t h.1)
+  tree_nested false (subsection t d) h = typed_nested (front_type t) (entries_of false t) (tree_nested false t h.1)
+  tree_nested g (suffix t d) h = noted_nested (front_type t) d (entries_of g t) h.0 (tree_nested g t h.1)
+  tree_nested g skip h = All-nil HasNestedEntry
+  tree_nested g (custom_usage t d) h = tree_nested g t h.1
+  tree_nested g (strict t) h = tree_nested g t h
+
+  parts_nested : (g : Bool) (ts : Trees) → EachHasNestedTexts ts → Nested (entries_of_parts g ts)
+  parts_nested g no_trees h = All-nil HasNestedEntry
+  parts_nested g (tree t ts) h = All-append HasNestedEntry (entries_of g t) (entries_of_parts g ts) (tree_nested g t h.0) (parts_nested g ts h.1)
+
+pub item_lists_are_nested : ItemListsAreNested
+item_lists_are_nested t h = tree_nested true t h
+
+-- ---- entries
+
+help_keeps : (h : Option (List Part)) → IsNestedText h → Keeps (help_writes h)
+help_keeps None k = nothing_keeps
+help_keeps (Some d) k = inside_keeps block.ItemBody (doc_keeps d k)
+
+names_keep : (n : Name) → Keeps (names_writes n)
+names_keep (short c) = text_then _ _ nothing_keeps
+names_keep (long n) = text_then _ _ nothing_keeps
+names_keep (both c n) = text_then _ _ (text_then _ _ (text_then _ _ nothing_keeps))
+
+command_keeps : (n : List ℕ) (c : Option ℕ) → Keeps (command_writes n c)
+command_keeps n None = text_then _ _ nothing_keeps
+command_keeps n (Some c) = text_then _ _ (text_then _ _ (text_then _ _ nothing_keeps))
+
+env_body_keeps : (included : Bool) (n s : List ℕ) → Keeps (env_body included n s)
+env_body_keeps true n s = text_then _ _ nothing_keeps
+env_body_keeps false n s = text_then _ _ (text_then _ _ nothing_keeps)
+
+env_term_keeps : (h : Option (List Part)) → Keeps (env_term h)
+env_term_keeps None = nothing_keeps
+env_term_keeps (Some d) = inside_keeps block.ItemTerm nothing_keeps
+
+env_keeps : (included : Bool) (f : List ℕ → List ℕ) (h : Option (List Part)) (e : Option (List ℕ)) → Keeps (env_writes included f h e)
+env_keeps included f h None = nothing_keeps
+env_keeps included f h (Some n) = both_keep (env_term_keeps h) (inside_keeps block.ItemBody (env_body_keeps included n (f n)))
+
+with_help : {ws : List Write} (h : Option (List Part)) → Keeps ws → IsNestedText h → Keeps (term ws ++ help_writes h)
+with_help h f k = both_keep (inside_keeps block.ItemTerm f) (help_keeps h k)
+
+listed_keeps : (included : Bool) (texts : Texts) (l : Leaf) → HasNestedText l → Keeps (listed_writes included texts l)
+listed_keeps included texts (any m a h) k = with_help h (doc_keeps m k.0) k.1
+listed_keeps included texts (positional m h) k = with_help h (value_keeps m) k
+listed_keeps included texts (command n c h t i) k = with_help h (command_keeps n c) k
+listed_keeps included texts (flag n s e h) k = both_keep (with_help h (names_keep n) k) (env_keeps included (λ v. flag_env_text v (texts v)) h e)
+listed_keeps included texts (argument n s m e h) k = both_keep (with_help h (both_keep (names_keep n) (text_then (codes "=") style.Text (value_keeps m))) k) (env_keeps included (λ v. argument_env_text v (texts v)) h e)
+
+-- an entry that is no group mark
+entry_keeps : (included : Bool) (texts : Texts) (e : Entry) → is_group_mark e ≡ false → HasNestedEntry e → Keeps (entry_writes included texts e)
+entry_keeps included texts (listed l) n k = listed_keeps included texts l k
+entry_keeps included texts (note d j) n k = both_keep (inside_keeps block.ItemTerm nothing_keeps) (inside_keeps block.ItemBody (doc_keeps d k))
+entry_keeps included texts (group_start d j) n k = cc
+entry_keeps included texts (group_end j) n k = cc
+entry_keeps included texts (adjacent_start t j) n k = inside_keeps block.Section4 (usage_keeps t k)
+entry_keeps included texts (adjacent_stop j) n k = inside_keeps block.Block nothing_keeps
+
+first_of_two : (a b : Bool) → (a || b) ≡ false → a ≡ false
+first_of_two true b h = cc
+first_of_two false b h = refl
+
+second_of_two : (a b : Bool) → (a || b) ≡ false → b ≡ false
+second_of_two true b h = cc
+second_of_two false b h = h
+
+entries_keep : (included : Bool) (texts : Texts) (es : List Entry) → list_any is_group_mark es ≡ false → Nested es → Keeps (flat_map (entry_writes included texts) es)
+entries_keep included texts [] n h = nothing_keeps
+entries_keep included texts (e ∷ es) n h =
+    both_keep (entry_keeps included texts e (first_of_two (is_group_mark e) (list_any is_group_mark es) n) (All-head HasNestedEntry e es h))
+    (entries_keep included texts es (second_of_two (is_group_mark e) (list_any is_group_mark es) n) (All-tail HasNestedEntry e es h))
+
+list_keeps : (included : Bool) (texts : Texts) (es : List Entry) → list_any is_group_mark es ≡ false → Nested es → Keeps (list_writes included texts es)
+list_keeps included texts es n h = entries_keep included texts (shown_entries es) (part_clear is_shown [] es n) (part_all HasNestedEntry is_shown [] es h)
+
+-- ---- groups
+
+abbrev entry : Placed → Entry
+entry p = p.1
+
+shown_group : (d : List Part) (j k : HiTy) (inner : List Entry) → shown_entries (group_start d j ∷ (inner ++ group_end k ∷ [])) ≡ group_start d j ∷ (map entry (filter is_shown (placed_after (group_start d j ∷ []) inner)) ++ group_end k ∷ [])
+shown_group d j k inner =
+    let opened : List Entry = group_start d j ∷ [] in
+    ap (λ xs. group_start d j ∷ xs)
+    (ap (λ ps. map entry (filter is_shown ps)) (placed_after-append opened inner (group_end k ∷ []))
+    ∙ ap (map entry) (filter-append is_shown (placed_after opened inner) (placed_after (opened ++ inner) (group_end k ∷ [])))
+    ∙ map-append entry (filter is_shown (placed_after opened inner)) (filter is_shown (placed_after (opened ++ inner) (group_end k ∷ []))))
+
+group_writes_are : (included : Bool) (texts : Texts) (d : List Part) (j k : HiTy) (es : List Entry)
+    → flat_map (entry_writes included texts) (group_start d j ∷ (es ++ group_end k ∷ []))
+    ≡ inside block.Block (inside block.Section2 (em_doc_writes d) ++ inside block.DefinitionList (flat_map (entry_writes included texts) es))
+group_writes_are included texts d j k es =
+    let title : List Write = inside block.Section2 (em_doc_writes d) in
+    let held : List Write = flat_map (entry_writes included texts) es in
+    let first : List Write = start block.DefinitionList ∷ [] in
+    let last : List Write = end block.DefinitionList ∷ end block.Block ∷ [] in
+    let split : flat_map (entry_writes included texts) (es ++ group_end k ∷ []) ≡ held ++ last = flat_map-append (entry_writes included texts) es (group_end k ∷ []) in
+    let closed : held ++ last ≡ (held ++ end block.DefinitionList ∷ []) ++ end block.Block ∷ [] = sym (append_assoc held (end block.DefinitionList ∷ []) (end block.Block ∷ [])) in
+    ap (λ ws. start block.Block ∷ ((title ++ first) ++ ws)) (split ∙ closed)
+    ∙ ap (λ ws. start block.Block ∷ ws) (append_assoc title first ((held ++ end block.DefinitionList ∷ []) ++ end block.Block ∷ []) ∙ sym (append_assoc title (inside block.DefinitionList held) (end block.Block ∷ [])))
+
+whole_keeps : (included : Bool) (texts : Texts) (es : List Entry) → IsWholeGroup HasNestedEntry es → Keeps (list_writes included texts es)
+whole_keeps included texts es w =
+    let mid : List Entry = map entry (filter is_shown (placed_after (group_start w.title w.first ∷ []) w.inner)) in
+    let is : list_writes included texts es ≡ inside block.Block (inside block.Section2 (em_doc_writes w.title) ++ inside block.DefinitionList (flat_map (entry_writes included texts) mid))
+    = ap (list_writes included texts) w.order ∙ ap (flat_map (entry_writes included texts)) (shown_group w.title w.first w.last w.inner) ∙ group_writes_are included texts w.title w.first w.last mid in
+    let held : Keeps (flat_map (entry_writes included texts) mid)
+    = entries_keep included texts mid (part_clear is_shown (group_start w.title w.first ∷ []) w.inner w.clear) (part_all HasNestedEntry is_shown (group_start w.title w.first ∷ []) w.inner w.each) in
+    subst Keeps (sym is) (inside_keeps block.Block (both_keep (inside_keeps block.Section2 (em_doc_keeps w.title w.begins)) (inside_keeps block.DefinitionList held)))
+
+group_keeps : (included : Bool) (texts : Texts) (es : List Entry) → IsItemList es → Nested es → (n : ℕ) → Keeps (list_writes included texts (group_members es n))
+group_keeps included texts es is h n = by (group_members es n) (group_whole HasNestedEntry (blocks_paired (item_list_blocks es is) refl) h [] n refl) where
+  by : (ms : List Entry) → (ms ≡ []) ⊎ IsWholeGroup HasNestedEntry ms → Keeps (list_writes included texts ms)
+  by ms (inl e) = rw e nothing_keeps
+  by ms (inr w) = whole_keeps included texts ms w
+
+numbers_keep : (f : ℕ → List Write) → ((n : ℕ) → Keeps (f n)) → (ns : List ℕ) → Keeps (flat_map f ns)
+numbers_keep f k [] = nothing_keeps
+numbers_keep f k (n ∷ ns) = both_keep (k n) (numbers_keep f k ns)
+
+-- ---- headings
+
+mark_no_heading : (k : HiTy) (p : Placed) → is_group_mark p.1 ≡ true → is_heading k (destination p) ≡ false
+mark_no_heading k p h = rw h (by (lacks_help p.1 && is_adjacent_in_group p.0) (count_by is_group_start (p.0 ++ p.1 ∷ []))) where
+  by : (b : Bool) (n : ℕ) → is_heading k (if b then nowhere else group n) ≡ false
+  by true n = refl
+  by false n = refl
+
+-- no group mark falls under a heading
+clear_step : (k : HiTy) (b : Bool) (p : Placed) (ps : List Placed) → is_group_mark p.1 ≡ b → list_any is_group_mark (map entry ps) ≡ false → list_any is_group_mark (map entry (if is_heading k (destination p) then p ∷ ps else ps)) ≡ false
+clear_step k true p ps h rest = rw (mark_no_heading k p h) rest
+clear_step k false p ps h rest = by (is_heading k (destination p)) where
+  by : (t : Bool) → list_any is_group_mark (map entry (if t then p ∷ ps else ps)) ≡ false
+  by true = rw (h, rest) refl
+  by false = rest
+
+heading_clear : (k : HiTy) (before es : List Entry) → list_any is_group_mark (map entry (filter (λ p. is_heading k (destination p)) (placed_after before es))) ≡ false
+heading_clear k before [] = refl
+heading_clear k before (e ∷ es) = clear_step k (is_group_mark e) (before, e) (filter (λ p. is_heading k (destination p)) (placed_after (before ++ e ∷ []) es)) refl (heading_clear k (before ++ e ∷ []) es)
+
+titled_keeps : (included : Bool) (texts : Texts) (title : List ℕ) (es : List Entry) → list_any is_group_mark es ≡ false → Nested es → Keeps (heading_writes included texts title es)
+titled_keeps included texts title [] n h = nothing_keeps
+titled_keeps included texts title (e ∷ es) n h =
+    inside_keeps block.Block (both_keep (inside_keeps block.Section2 (text_then title style.Emphasis nothing_keeps)) (inside_keeps block.DefinitionList (list_keeps included texts (e ∷ es) n h)))
+
+heading_keeps : (included : Bool) (texts : Texts) (title : List ℕ) (es : List Entry) (k : HiTy) → Nested es → Keeps (heading_writes included texts title (heading_members es k))
+heading_keeps included texts title es k h = titled_keeps included texts title (heading_members es k) (heading_clear k [] es) (part_all HasNestedEntry (λ p. is_heading k (destination p)) [] es h)
+
+groups_keep : (included : Bool) (texts : Texts) (es : List Entry) → IsItemList es → Nested es → Keeps (groups_writes included texts es)
+groups_keep included texts es is h =
+    both_keep (both_keep (both_keep
+    (numbers_keep (λ n. list_writes included texts (group_members es n)) (group_keeps included texts es is h) (range_with_len 1 (count_by is_group_start es)))
+    (heading_keeps included texts (codes "Available positional items:") es ty.Positional h))
+    (heading_keeps included texts (codes "Available options:") es ty.Flag h))
+    (heading_keeps included texts (codes "Available commands:") es ty.Command h)
+
+pub groups_are_nested : GroupsAreNested
+groups_are_nested included texts es is h = (groups_keep included texts es is h).nested
+
+-- ---- pages
+
+two_lists : (t help : Tree) → IsItemList (item_list t ++ item_list help)
+two_lists t help = (t ∷ help ∷ [], ap (λ es. item_list t ++ es) (sym (append-nil (item_list help))))
+
+two_keep : (included : Bool) (texts : Texts) (t help : Tree) → HasNestedTexts t → HasNestedTexts help → Keeps (groups_writes included texts (item_list t ++ item_list help))
+two_keep included texts t help h k =
+    groups_keep included texts (item_list t ++ item_list help) (two_lists t help) (All-append HasNestedEntry (item_list t) (item_list help) (tree_nested true t h) (tree_nested true help k))
+
+within_keeps : (d : Option (List Part)) → IsNestedText d → Keeps (doc_within block.Block d)
+within_keeps None h = nothing_keeps
+within_keeps (Some d) h = inside_keeps block.Block (doc_keeps d h)
+
+usage_line_keeps : (path : List (List ℕ)) (d : Option (List Part)) (t : Tree) → IsNestedText d → HasNestedDocs t → Keeps (usage_line_writes path d t)
+usage_line_keeps path (Some d) t h k = doc_keeps d h
+usage_line_keeps path None t h k = text_then (codes "Usage") style.Emphasis (text_then (codes ": ") style.Text (inside_keeps block.Mono (both_keep (path_keeps path) (usage_keeps t k))))
+
+page_keeps : (path : List (List ℕ)) (i : Head) (t help : Tree) (included : Bool) (texts : Texts) → HasNestedHead i → HasNestedTexts t → HasNestedTexts help → Keeps (help_page_writes path i t help included texts)
+page_keeps path (head descr header footer usage own) t help included texts h k l =
+    both_keep (both_keep (both_keep (both_keep
+    (within_keeps descr h.0)
+    (inside_keeps block.Block (usage_line_keeps path usage t h.3 (docs_nested t k))))
+    (within_keeps header h.1))
+    (two_keep included texts t help k l))
+    (within_keeps footer h.2)
+
+pub help_pages_are_nested : HelpPagesAreNested
+help_pages_are_nested path i t help included texts h k l = written_keeps (page_keeps path i t help included texts h k l)
+
+many_keep : (cs : List Chapter) {ws : List Write} → Keeps ws → Keeps (if_many cs ws)
+many_keep [] f = nothing_keeps
+many_keep (c ∷ []) f = nothing_keeps
+many_keep (c ∷ d ∷ cs) f = f
+
+summary_keeps : (c : Chapter) → HasNestedChapter c → Keeps (summary_line c)
+summary_keeps c h = inside_keeps block.ItemBody (text_then (codes "* [`" ++ spaced c.path ++ codes "`" ++ encode_utf8 0x21b4 ++ codes "](#" ++ anchor c.path ++ codes ")") style.Text nothing_keeps)
+
+help_tree_nested : (i : Head) → HasNestedHead i → HasNestedTexts (help_tree i)
+help_tree_nested (head descr header footer usage help) h = h.4
+
+chapter_keeps : (c : Chapter) → HasNestedChapter c → Keeps (chapter_page c)
+chapter_keeps c h =
+    both_keep (inside_keeps block.Header (text_then (spaced c.path) style.Text nothing_keeps))
+    (doc_keeps (document_of (help_page_writes c.path c.info c.content (help_tree c.info) false no_texts)) (help_pages_are_nested c.path c.info c.content (help_tree c.info) false no_texts h.0 h.1 (help_tree_nested c.info h.0)))
+
+pub collected_pages_are_nested : CollectedPagesAreNested
+collected_pages_are_nested app t i h =
+    let chapters : List Chapter = chapters_of (app ∷ []) i t in
+    written_keeps
+    (both_keep
+    (many_keep chapters (both_keep
+    (inside_keeps block.Block (inside_keeps block.Header (text_then (codes "Command summary") style.Text nothing_keeps)))
+    (each_keeps HasNestedChapter summary_line summary_keeps chapters h)))
+    (each_keeps HasNestedChapter chapter_page chapter_keeps chapters h))
+
+synopsis_keeps : (c : Chapter) → HasNestedChapter c → Keeps (synopsis_line c)
+synopsis_keeps c h = both_keep (both_keep (path_keeps c.path) (usage_keeps c.content (docs_nested c.content h.1))) (text_then (10 ∷ []) style.Text nothing_keeps)
+
+name_keeps : (app : List ℕ) (d : Option (List Part)) → IsNestedText d → Keeps (manual_name app d)
+name_keeps app None h = nothing_keeps
+name_keeps app (Some d) h = both_keep (inside_keeps block.Header (text_then (codes "NAME") style.Text nothing_keeps)) (text_then app style.Text (text_then (codes " - ") style.Text (doc_keeps d h)))
+
+manual_chapter_keeps : (app : List ℕ) (path : List (List ℕ)) (t : Tree) (i : Head) → HasNestedHead i → HasNestedTexts t → Keeps (manual_chapter app path t i)
+manual_chapter_keeps app path t (head descr header footer usage help) h k =
+    both_keep (both_keep (both_keep (both_keep (both_keep (both_keep
+    (name_keeps app descr h.0)
+    (inside_keeps block.Header (text_then (codes "SYNOPSIS") style.Text nothing_keeps)))
+    (path_keeps path))
+    (usage_keeps t (docs_nested t k)))
+    (within_keeps header h.1))
+    (two_keep false no_texts t help k h.4))
+    (within_keeps footer h.2)
+
+pub manual_pages_are_nested : ManualPagesAreNested
+manual_pages_are_nested app t i h =
+    let chapters : List Chapter = chapters_of (app ∷ []) i t in
+    written_keeps
+    (both_keep
+    (many_keep chapters (both_keep
+    (inside_keeps block.Block (inside_keeps block.Header (text_then (codes "SYNOPSIS") style.Text nothing_keeps)))
+    (inside_keeps block.Meta (each_keeps HasNestedChapter synopsis_line synopsis_keeps chapters h))))
+    (each_keeps HasNestedChapter (λ c. if_many chapters (inside block.Header (path_writes c.path)) ++ manual_chapter app c.path c.content c.info)
+    (λ c k. both_keep (many_keep chapters (inside_keeps block.Header (path_keeps c.path))) (manual_chapter_keeps app c.path c.content c.info k.0 k.1)) chapters h))

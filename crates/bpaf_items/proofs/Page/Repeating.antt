@@ -1,0 +1,180 @@
+-- What is remembered of the entries so far, after one more.
+use Rattle.std.proofs.Common.{◌≡◌, Bool, true, false, not, ◌||◌, List, [], ◌∷◌, ◌++◌, Option, Some, None, refl, sym, ap, ◌∙◌, append-nil}
+use Rattle.std.specs.Prelude.{if◌then◌else◌, flat_map, Result, Ok, Err, IfOk}
+use Rattle.std.specs.Option.{option_map_or}
+use Rattle.std.specs.List.{list_any, last_or}
+use Rattle.std.specs.Ordering.{on, is_eq, match_ordering}
+use Rattle.std.specs.BTreeMap.{is_at}
+use Rattle.std.specs.BTreeSet.{insert_key}
+use Rattle.std.specs.declared.cmp.Ordering.{Ordering}
+use Rattle.std.specs.declared.cmp.Ordering.TheVariants.{Less, Equal, Greater}
+use Rattle.std.proofs.lemmas.Grind.{flat_map-append}
+use Rattle.std.proofs.lemmas.List.Folds.{list_any-append}
+use Rattle.bpaf_doc.specs.Buffer.Parts.{Part}
+use Rattle.bpaf_doc.specs.Buffer.Writes.{with_writes}
+use Rattle.bpaf_meta.specs.Content.{Leaf}
+use Rattle.bpaf_meta.proofs.lemmas.Usage.Written.{with_writes-append}
+use Rattle.bpaf_items.specs.declared.meta_help.key.ItemKey.{ItemKey}
+use Rattle.bpaf_items.specs.Listing.ItemList.{Entry, listed, note, group_start, group_end, adjacent_start, adjacent_stop}
+use Rattle.bpaf_items.specs.Listing.Keys.{Key, key_of, entry_key, key_cmp, same_key, keys_equiv, keys_tied}
+use Rattle.bpaf_items.specs.Listing.Falls.{Placed, placed, is_mark, has_key_of, is_mark_or_new, is_shown, shown_entries}
+use Rattle.bpaf_items.specs.Page.EnvTexts.{Texts}
+use Rattle.bpaf_items.specs.Page.EntryWrites.{entry_writes}
+use Rattle.bpaf_items.specs.Page.HelpPage.{list_writes}
+use Rattle.bpaf_items.specs.Page.Steps.Repeats.{has_key, is_last_shown, Remembers, shown_writes}
+use Rattle.bpaf_items.specs.View.{key_in}
+use Rattle.bpaf_items.proofs.Listing.Placing.{placed-push}
+use Rattle.bpaf_items.proofs.Listing.Shown.{shown-push}
+
+last_or-push : {X : Type 0} (o : Option X) (xs : List X) (x : X) → last_or o (xs ++ x ∷ []) ≡ Some x
+last_or-push o [] x = refl
+last_or-push o (y ∷ xs) x = last_or-push (Some y) xs x
+
+last_shown-push : (before : List Entry) (e : Entry) → is_last_shown (before ++ e ∷ []) ≡ is_mark_or_new (before, e)
+last_shown-push before e =
+    ap (λ (ps : List Placed). option_map_or is_mark_or_new (last_or None ps) false) (placed-push before e)
+    ∙ ap (λ (o : Option Placed). option_map_or is_mark_or_new o false) (last_or-push None (placed before) (before, e))
+
+-- ---- keys
+
+or_swap : (a b : Bool) → (a || b) ≡ (b || (a || false))
+or_swap true true = refl
+or_swap true false = refl
+or_swap false true = refl
+or_swap false false = refl
+
+or_none : (b : Bool) → b ≡ (b || (false || false))
+or_none true = refl
+or_none false = refl
+
+equal_or : (a b c : Bool) → a ≡ b → (b || c) ≡ (a || (b || c))
+equal_or true true c h = refl
+equal_or false false c h = refl
+equal_or true false c h = cc
+equal_or false true c h = cc
+
+behind : (a b c : Bool) → (b || (a || c)) ≡ (a || (b || c))
+behind true true c = refl
+behind true false c = refl
+behind false true c = refl
+behind false false c = refl
+
+module _ {K : Type 0} (order : K → K → Ordering) (p : K → Bool) (key : K) (respects : (x : K) → is_eq (order key x) ≡ true → p key ≡ p x) where
+  -- a test that equal keys pass alike
+  any_inserted : (keys : List K) → list_any p (insert_key order keys key) ≡ (p key || list_any p keys)
+  any_inserted [] = refl
+  any_inserted (x ∷ keys) = by (order key x) refl (any_inserted keys) where
+    by : (o : Ordering) → order key x ≡ o → list_any p (insert_key order keys key) ≡ (p key || list_any p keys)
+        → list_any p (match_ordering o (key ∷ x ∷ keys) (x ∷ keys) (x ∷ insert_key order keys key)) ≡ (p key || (p x || list_any p keys))
+    by Less is rest = refl
+    by Equal is rest = equal_or (p key) (p x) (list_any p keys) (respects x (ap is_eq is))
+    by Greater is rest = ap (λ b. p x || b) rest ∙ behind (p key) (p x) (list_any p keys)
+
+any_same : {K : Type 0} (p q : K → Bool) → ((x : K) → p x ≡ q x) → (xs : List K) → list_any p xs ≡ list_any q xs
+any_same p q h [] = refl
+any_same p q h (x ∷ xs) = ap (λ b. b || list_any p xs) (h x) ∙ ap (λ b. q x || b) (any_same p q h xs)
+
+some_is : (k l : Key) → Some k ≡ Some l → k ≡ l
+some_is k l h = cc
+
+module _ {B : Type 0} (keys : List (ItemKey B)) where
+  abbrev order : ItemKey B → ItemKey B → Ordering
+  order = on key_in key_cmp
+
+  found : (key : ItemKey B) (l : Leaf) → key_of l ≡ key_in key → list_any (is_at (order key)) keys ≡ has_key keys l
+  found key l is =
+      any_same (is_at (order key)) (λ k. same_key (key_in k) (key_of l))
+      (λ k. sym (keys_tied (key_in key) (key_in k)) ∙ keys_equiv.symm (key_in key) (key_in k) ∙ ap (same_key (key_in k)) (sym is)) keys
+
+  seen_item : (key : ItemKey B) (l : Leaf) (before : List Entry) → key_of l ≡ key_in key → ((m : Leaf) → has_key keys m ≡ list_any (has_key_of m) before)
+      → (m : Leaf) → has_key (insert_key order keys key) m ≡ list_any (has_key_of m) (before ++ listed l ∷ [])
+  seen_item key l before is seen m =
+      any_inserted order (λ k. same_key (key_in k) (key_of m)) key (λ x e. keys_equiv.congr (key_in key) (key_in x) (key_of m) (keys_tied (key_in key) (key_in x) ∙ e)) keys
+      ∙ ap (λ b. same_key (key_in key) (key_of m) || b) (seen m)
+      ∙ ap (λ k. same_key k (key_of m) || list_any (has_key_of m) before) (sym is)
+      ∙ ap (λ b. b || list_any (has_key_of m) before) (keys_equiv.symm (key_of l) (key_of m))
+      ∙ or_swap (same_key (key_of m) (key_of l)) (list_any (has_key_of m) before)
+      ∙ sym (list_any-append (has_key_of m) before (listed l ∷ []))
+
+  seen_other : (e : Entry) (before : List Entry) → ((m : Leaf) → has_key_of m e ≡ false) → ((m : Leaf) → has_key keys m ≡ list_any (has_key_of m) before)
+      → (m : Leaf) → has_key keys m ≡ list_any (has_key_of m) (before ++ e ∷ [])
+  seen_other e before none seen m =
+      seen m ∙ or_none (list_any (has_key_of m) before) ∙ ap (λ b. list_any (has_key_of m) before || (b || false)) (sym (none m)) ∙ sym (list_any-append (has_key_of m) before (e ∷ []))
+
+-- ---- an entry with a key, and one without
+
+abbrev Goes : {B : Type 0} → List (ItemKey B) → (shown last : Bool) → (before : List Entry) → Entry → Type 0
+Goes keys shown last before e = (shown ≡ is_shown (before, e)) × Remembers keys last (before ++ e ∷ [])
+
+pub item_shown : {B : Type 0} (keys after : List (ItemKey B)) (shown last now : Bool) (key : ItemKey B) (e : Entry) (before : List Entry)
+    → Some (key_in key) ≡ entry_key e → shown ≡ not (list_any (is_at (on key_in key_cmp key)) keys) → after ≡ insert_key (on key_in key_cmp) keys key → now ≡ shown
+    → Remembers keys last before → Goes after shown now before e
+item_shown keys after shown last now key (listed l) before is new inserted same h =
+    let own : key_of l ≡ key_in key = some_is (key_of l) (key_in key) (sym is) in
+    let first : shown ≡ is_shown (before, listed l) = new ∙ ap not (found keys key l own ∙ h.seen l) in (
+      first,
+      record {
+        seen = λ m. ap (λ ks. has_key ks m) inserted ∙ seen_item keys key l before own h.seen m;
+        last = same ∙ first ∙ sym (last_shown-push before (listed l));
+      },
+    )
+item_shown keys after shown last now key (note d k) before is new inserted same h = cc
+item_shown keys after shown last now key (group_start d k) before is new inserted same h = cc
+item_shown keys after shown last now key (group_end k) before is new inserted same h = cc
+item_shown keys after shown last now key (adjacent_start t k) before is new inserted same h = cc
+item_shown keys after shown last now key (adjacent_stop k) before is new inserted same h = cc
+
+pub item_goes : {B E : Type 0} (r : Result Bool E) (keys after : List (ItemKey B)) (last now : Bool) (key : ItemKey B) (e : Entry) (before : List Entry)
+    → Some (key_in key) ≡ entry_key e
+    → IfOk r (λ shown. (shown ≡ not (list_any (is_at (on key_in key_cmp key)) keys)) × (after ≡ insert_key (on key_in key_cmp) keys key) × (now ≡ shown))
+    → Remembers keys last before → IfOk r (λ shown. Goes after shown now before e)
+item_goes (Ok shown) keys after last now key e before is f h = item_shown keys after shown last now key e before is f.0 f.1 f.2 h
+item_goes (Err x) keys after last now key e before is f h = tt
+
+or_false : (b : Bool) → (b || false) ≡ b
+or_false true = refl
+or_false false = refl
+
+or_true : (b : Bool) → (b || true) ≡ true
+or_true true = refl
+or_true false = refl
+
+mark_shown : {B : Type 0} (keys : List (ItemKey B)) (last : Bool) (e : Entry) (before : List Entry) → is_mark_or_new (before, e) ≡ true → is_shown (before, e) ≡ true → ((m : Leaf) → has_key_of m e ≡ false)
+    → Remembers keys last before → Goes keys (last || true) true before e
+mark_shown keys last e before new is none h =
+    (or_true last ∙ sym is, record { seen = seen_other keys e before none h.seen; last = sym new ∙ sym (last_shown-push before e) })
+
+pub other_shown : {B : Type 0} (keys after : List (ItemKey B)) (shown last now mark : Bool) (e : Entry) (before : List Entry)
+    → None ≡ entry_key e → mark ≡ is_mark e → shown ≡ (last || mark) → now ≡ mark → after ≡ keys → Remembers keys last before → Goes after shown now before e
+other_shown keys after shown last now mark (listed l) before none is new same kept h = cc
+other_shown keys after shown last now mark (note d k) before none is new same kept h =
+    rw (kept, same, new, is)
+    (or_false last ∙ h.last, record { seen = seen_other keys (note d k) before (λ m. refl) h.seen; last = sym (last_shown-push before (note d k)) })
+other_shown keys after shown last now mark (group_start d k) before none is new same kept h = rw (kept, same, new, is) (mark_shown keys last (group_start d k) before refl refl (λ m. refl) h)
+other_shown keys after shown last now mark (group_end k) before none is new same kept h = rw (kept, same, new, is) (mark_shown keys last (group_end k) before refl refl (λ m. refl) h)
+other_shown keys after shown last now mark (adjacent_start t k) before none is new same kept h = rw (kept, same, new, is) (mark_shown keys last (adjacent_start t k) before refl refl (λ m. refl) h)
+other_shown keys after shown last now mark (adjacent_stop k) before none is new same kept h = rw (kept, same, new, is) (mark_shown keys last (adjacent_stop k) before refl refl (λ m. refl) h)
+
+-- at the start of a list
+pub nothing_seen : {B : Type 0} (keys : List (ItemKey B)) → keys ≡ [] → Remembers keys false []
+nothing_seen keys is = record { seen = λ l. ap (λ ks. has_key ks l) is; last = refl }
+
+-- ---- lists
+
+-- a list with one more entry
+pub list-push : (included : Bool) (texts : Texts) (before : List Entry) (e : Entry) → list_writes included texts (before ++ e ∷ []) ≡ list_writes included texts before ++ shown_writes included texts before e
+list-push included texts before e =
+    ap (flat_map (entry_writes included texts)) (shown-push before e)
+    ∙ flat_map-append (entry_writes included texts) (shown_entries before) (if is_shown (before, e) then e ∷ [] else [])
+    ∙ ap (λ ws. list_writes included texts before ++ ws) (by (is_shown (before, e))) where
+      by : (b : Bool) → flat_map (entry_writes included texts) (if b then e ∷ [] else []) ≡ (if b then entry_writes included texts e else [])
+      by true = append-nil (entry_writes included texts e)
+      by false = refl
+
+pub list_next : (included : Bool) (texts : Texts) (before next : List Entry) (e : Entry) (first mid now : List Part) → next ≡ before ++ e ∷ []
+    → mid ≡ with_writes first (list_writes included texts before) → now ≡ with_writes mid (shown_writes included texts before e) → now ≡ with_writes first (list_writes included texts next)
+list_next included texts before next e first mid now more is written =
+    written ∙ ap (λ ps. with_writes ps (shown_writes included texts before e)) is
+    ∙ sym (with_writes-append first (list_writes included texts before) (shown_writes included texts before e))
+    ∙ ap (with_writes first) (sym (list-push included texts before e))
+    ∙ ap (λ es. with_writes first (list_writes included texts es)) (sym more)

@@ -1,0 +1,35 @@
+-- A list that grows begins with what it was.
+use Rattle.std.proofs.Common.{◌≡◌, List, [], ◌++◌, ap, sym, ◌∙◌, append_assoc, append-nil}
+use Rattle.std.specs.Prelude.{if◌then◌else◌, ◌∷◌, Some, None, refl}
+use Rattle.std.specs.Prelude.{Result, Ok, Err, OnOk, flat_map}
+use Rattle.std.proofs.lemmas.Grind.{flat_map-append}
+use Rattle.bpaf_meta.specs.Content.{Tree, Leaf, any, positional, command, flag, argument}
+use Rattle.bpaf_items.specs.Listing.ItemList.{Entry, entry_of_item, item_entries, item_list, IsItemList}
+use Rattle.bpaf_items.specs.Steps.Given.{is_listed}
+use Rattle.bpaf_items.specs.Steps.Growth.{IsFront}
+
+pub front_whole : {X : Type 0} (xs : List X) → IsFront xs xs
+front_whole xs = ([], sym (append-nil xs))
+
+pub front_then : {X : Type 0} (xs ys zs : List X) → IsFront xs ys → IsFront ys zs → IsFront xs zs
+front_then xs ys zs f g = (f.0 ++ g.0, g.1 ∙ ap (λ ws. ws ++ g.0) f.1 ∙ append_assoc xs f.0 g.0)
+
+-- a turn of a loop that appends: what was appended, and what is still to come
+pub append_turn : {X : Type 0} (now after first second all rest : List X) → after ≡ now ++ first → rest ≡ first ++ second → now ++ rest ≡ all → after ++ second ≡ all
+append_turn now after first second all rest e h k = ap (λ ws. ws ++ second) e ∙ append_assoc now first second ∙ ap (λ ws. now ++ ws) (sym h) ∙ k
+
+pub listed_entries : (l : Leaf) → item_entries l ≡ (if is_listed l then entry_of_item l ∷ [] else [])
+listed_entries (any m a h) = refl
+listed_entries (positional m None) = refl
+listed_entries (positional m (Some h)) = refl
+listed_entries (command n c h t i) = refl
+listed_entries (flag n s e h) = refl
+listed_entries (argument n s m e h) = refl
+
+-- one more tree
+pub IsItemList-append : (es : List Entry) (t : Tree) → IsItemList es → IsItemList (es ++ item_list t)
+IsItemList-append es t (ts, e) = (ts ++ t ∷ [], ap (λ fs. fs ++ item_list t) e ∙ ap (λ fs. flat_map item_list ts ++ fs) (sym (append-nil (item_list t))) ∙ sym (flat_map-append item_list ts (t ∷ [])))
+
+pub OnOk-map : {X E : Type 0} {P Q : Type 0} (r : Result X E) → (P → Q) → OnOk r P → OnOk r Q
+OnOk-map (Ok x) f p = f p
+OnOk-map (Err e) f p = p

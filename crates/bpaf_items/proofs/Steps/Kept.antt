@@ -1,0 +1,129 @@
+-- A block's first mark, which stands in its place before its type is known; and a tree without a front type, which lists nothing.
+use Rattle.std.proofs.Common.{◌≡◌, ℕ, zero, suc, ◌-◌, ◌<◌, Bool, true, false, List, [], ◌∷◌, ◌++◌, map, take, length, refl, sym, ap, ◌∙◌, append_assoc, append-nil, arith}
+use Rattle.std.specs.Prelude.{slice_set, slice_index_or, Option, Some, None}
+use Rattle.std.specs.List.{swap_remove}
+use Rattle.std.specs.Option.{option_or}
+use Rattle.std.proofs.lemmas.List.{append_cancel_left, map-append, length-append}
+use Rattle.bpaf_doc.specs.Buffer.Parts.{Part}
+use Rattle.bpaf_meta.specs.Content.{Tree, and_of, or_of, optional, required, adjacent, item, many, subsection, suffix, skip, custom_usage, strict, Trees, no_trees, tree}
+use Rattle.bpaf_items.specs.declared.meta_help.entry.HiTy.{HiTy}
+use Rattle.bpaf_items.specs.Listing.ItemList.{Entry, front_type, first_front_type, adjacent_entries, group_entries, noted_entries, entries_with_type, entries_of, entries_of_parts}
+use Rattle.bpaf_items.specs.Steps.Growth.{IsFront}
+use Rattle.bpaf_items.proofs.Listing.Chapters.{none_first, none_second}
+use Rattle.bpaf_items.proofs.Steps.Fronts.{front_then}
+
+mutual
+  pub no_entries : (g : Bool) (t : Tree) → front_type t ≡ None → entries_of g t ≡ []
+  no_entries g (and_of ts) e = no_part_entries g ts e
+  no_entries g (or_of ts) e = no_part_entries g ts e
+  no_entries g (optional t) e = no_entries g t e
+  no_entries g (required t) e = no_entries g t e
+  no_entries g (adjacent t) e = ap (λ o. adjacent_entries o t (entries_of g t)) e
+  no_entries g (item l) e = cc
+  no_entries g (many t) e = no_entries g t e
+  no_entries true (subsection t d) e = ap (λ o. group_entries o d (entries_of false t)) e
+  no_entries false (subsection t d) e = ap (λ o. entries_with_type o (entries_of false t)) e
+  no_entries g (suffix t d) e = ap (λ o. noted_entries o d (entries_of g t)) e
+  no_entries g skip e = refl
+  no_entries g (custom_usage t d) e = no_entries g t e
+  no_entries g (strict t) e = no_entries g t e
+
+  no_part_entries : (g : Bool) (ts : Trees) → first_front_type ts ≡ None → entries_of_parts g ts ≡ []
+  no_part_entries g no_trees e = refl
+  no_part_entries g (tree t ts) e =
+      let front : entries_of g t ≡ [] = no_entries g t (none_first (front_type t) (first_front_type ts) e) in
+      let rest : entries_of_parts g ts ≡ [] = no_part_entries g ts (none_second (front_type t) (first_front_type ts) e) in
+      rw (front, rest) refl
+
+-- where no group is allowed
+pub ungrouped : (t : Tree) (d : List Part) → entries_of false (subsection t d) ≡ entries_of false t
+ungrouped t d = by (front_type t) refl where
+  by : (o : Option HiTy) → front_type t ≡ o → entries_with_type o (entries_of false t) ≡ entries_of false t
+  by None e = sym (no_entries false t e)
+  by (Some k) e = refl
+
+pub unnoted : (g : Bool) (t : Tree) (d : List Part) → front_type t ≡ None → noted_entries (front_type t) d (entries_of g t) ≡ entries_of g t
+unnoted g t d e = ap (λ o. noted_entries o d (entries_of g t)) e ∙ sym (no_entries g t e)
+
+pub option_or-assoc : (o p q : Option HiTy) → option_or (option_or o p) q ≡ option_or o (option_or p q)
+option_or-assoc None p q = refl
+option_or-assoc (Some k) p q = refl
+
+pub option_or-none : (o : Option HiTy) → option_or o None ≡ o
+option_or-none None = refl
+option_or-none (Some k) = refl
+
+-- a turn of the loop over the parts
+pub type_turn : (front own later rest all joined : Option HiTy) → joined ≡ option_or front own → rest ≡ option_or own later → option_or front rest ≡ all → option_or joined later ≡ all
+type_turn front own later rest all joined e h k = ap (λ o. option_or o later) e ∙ option_or-assoc front own later ∙ ap (option_or front) (sym h) ∙ k
+
+module _ {X : Type 0} where
+  set_kept : (xs ys : List X) (p q : X) → slice_set ((xs ++ p ∷ []) ++ ys) (length xs) q ≡ xs ++ q ∷ ys
+  set_kept [] ys p q = refl
+  set_kept (x ∷ xs) ys p q = ap (λ zs. x ∷ zs) (set_kept xs ys p q)
+
+  take_whole : (xs ys : List X) → take (length xs) (xs ++ ys) ≡ xs
+  take_whole [] ys = refl
+  take_whole (x ∷ xs) ys = ap (λ zs. x ∷ zs) (take_whole xs ys)
+
+  take_kept : (xs ys : List X) (p : X) → take (length xs) ((xs ++ p ∷ []) ++ ys) ≡ xs
+  take_kept [] ys p = refl
+  take_kept (x ∷ xs) ys p = ap (λ zs. x ∷ zs) (take_kept xs ys p)
+
+  last_of : (xs : List X) (q d : X) → slice_index_or (xs ++ q ∷ []) (length xs) d ≡ q
+  last_of [] q d = refl
+  last_of (x ∷ xs) q d = last_of xs q d
+
+  set_before : (xs ys : List X) (at : ℕ) (q : X) → at < length xs → slice_set (xs ++ ys) at q ≡ slice_set xs at q ++ ys
+  set_before [] ys at q h = absurd (omega arith)
+  set_before (x ∷ xs) ys zero q h = refl
+  set_before (x ∷ xs) ys (suc n) q h = ap (λ zs. x ∷ zs) (set_before xs ys n q (omega arith))
+
+  take_set : (xs ys : List X) (at : ℕ) (q : X) → take (length xs) (slice_set xs at q ++ ys) ≡ slice_set xs at q
+  take_set [] ys at q = refl
+  take_set (x ∷ xs) ys zero q = ap (λ zs. q ∷ zs) (take_whole xs ys)
+  take_set (x ∷ xs) ys (suc n) q = ap (λ zs. x ∷ zs) (take_set xs ys n q)
+
+  -- the entry that was put last takes the place
+  pub moved_last : (xs one two : List X) (at : ℕ) (q d : X) → at < length xs → one ≡ xs ++ q ∷ [] → two ≡ swap_remove one at d → two ≡ slice_set xs at q
+  moved_last xs one two at q d h e moved =
+      let count : length one - 1 ≡ length xs = ap (λ ys. length ys - 1) e ∙ omega (arith, length-append xs (q ∷ [])) in
+      let last : slice_index_or one (length xs) d ≡ q = ap (λ ys. slice_index_or ys (length xs) d) e ∙ last_of xs q d in
+      let put : slice_set one at q ≡ slice_set xs at q ++ q ∷ [] = ap (λ ys. slice_set ys at q) e ∙ set_before xs (q ∷ []) at q h in
+      moved ∙ ap (λ n. take n (slice_set one at (slice_index_or one n d))) count ∙ ap (λ x. take (length xs) (slice_set one at x)) last ∙ ap (take (length xs)) put ∙ take_set xs (q ∷ []) at q
+
+  set_front : (xs : List X) (at : ℕ) (q : X) → at < length xs → IsFront (take at xs) (slice_set xs at q)
+  set_front [] at q h = absurd (omega arith)
+  set_front (x ∷ xs) zero q h = (q ∷ xs, refl)
+  set_front (x ∷ xs) (suc n) q h = let f = set_front xs n q (omega arith) in (f.0, ap (λ zs. x ∷ zs) f.1)
+
+  pub take_front : (xs : List X) (at : ℕ) → at < length xs → IsFront (take at xs) xs
+  take_front [] at h = absurd (omega arith)
+  take_front (x ∷ xs) zero h = (x ∷ xs, refl)
+  take_front (x ∷ xs) (suc n) h = let f = take_front xs n (omega arith) in (f.0, ap (λ zs. x ∷ zs) f.1)
+
+  pub moved_front : (xs two after : List X) (at : ℕ) (q : X) → at < length xs → two ≡ slice_set xs at q → IsFront two after → IsFront (take at xs) after
+  moved_front xs two after at q h e f = front_then (take at xs) (slice_set xs at q) after (set_front xs at q h) (f.0, f.1 ∙ ap (λ ys. ys ++ f.0) e)
+
+  pub with_last : (two three after : List X) (last : X) → two ≡ three → after ≡ two ++ last ∷ [] → after ≡ three ++ last ∷ []
+  with_last two three after last e h = h ∙ ap (λ xs. xs ++ last ∷ []) e
+
+  kept_at : (old opened now : List X) (at : ℕ) (p : X) → at ≡ length old → opened ≡ old ++ p ∷ [] → IsFront opened now → take at now ≡ old
+  kept_at old opened now at p n e f = ap (λ m. take m now) n ∙ ap (take (length old)) (f.1 ∙ ap (λ xs. xs ++ f.0) e) ∙ take_kept old f.0 p
+
+  -- the place that was kept is taken away, with what stands behind it
+  pub away_front : (old opened now after : List X) (at : ℕ) (p : X) → at ≡ length old → opened ≡ old ++ p ∷ [] → IsFront opened now → after ≡ take at now → IsFront old after
+  away_front old opened now after at p n e f h = ([], h ∙ kept_at old opened now at p n e f ∙ sym (append-nil old))
+
+  -- or gets its mark
+  pub closed_front : (old opened now after : List X) (at : ℕ) (p : X) → at ≡ length old → opened ≡ old ++ p ∷ [] → IsFront opened now → IsFront (take at now) after → IsFront old after
+  closed_front old opened now after at p n e f h = (h.0, h.1 ∙ ap (λ xs. xs ++ h.0) (kept_at old opened now at p n e f))
+
+  pub closed_entries : (view : X → Entry) (old opened now after : List X) (at : ℕ) (p q last : X) (es : List Entry) → at ≡ length old → opened ≡ old ++ p ∷ [] → IsFront opened now → map view now ≡ map view opened ++ es → after ≡ slice_set now at q ++ last ∷ []
+      → map view after ≡ map view old ++ (view q ∷ es ++ view last ∷ [])
+  closed_entries view old opened now after at p q last es n e f seen h =
+      let more : map view f.0 ≡ es = append_cancel_left (map view opened) (map view f.0) es (sym (map-append view opened f.0) ∙ ap (map view) (sym f.1) ∙ seen) in
+      let set : slice_set now at q ≡ old ++ q ∷ f.0 = ap (λ m. slice_set now m q) n ∙ ap (λ xs. slice_set xs (length old) q) (f.1 ∙ ap (λ xs. xs ++ f.0) e) ∙ set_kept old f.0 p q in
+      ap (map view) (h ∙ ap (λ xs. xs ++ last ∷ []) set ∙ append_assoc old (q ∷ f.0) (last ∷ []))
+      ∙ map-append view old (q ∷ f.0 ++ last ∷ [])
+      ∙ ap (λ ys. map view old ++ (view q ∷ ys)) (map-append view f.0 (last ∷ []) ∙ ap (λ ys. ys ++ view last ∷ []) more)

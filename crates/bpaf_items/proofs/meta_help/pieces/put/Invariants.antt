@@ -1,0 +1,10 @@
+use Rattle.std.proofs.Common.{◌≡◌, ◌≤◌, length, take, flat_map}
+use Rattle.bpaf_doc.specs.Buffer.Writes.{with_writes}
+use Rattle.bpaf_items.specs.Page.Steps.Pieces.{piece_writes}
+use Rattle.bpaf_items.proofs.meta_help.pieces.put.Given as goal
+
+abbrev pub invariant-loop-piece : goal.invariant-loop-piece
+invariant-loop-piece g l = record {
+  in_range : l.piece-index ≤ length l.pieces;
+  written : l.doc ≡ with_writes l.fn.doc (flat_map piece_writes (take l.piece-index l.pieces));
+}

@@ -1,0 +1,99 @@
+use Rattle.std.proofs.Common.{◌≡◌, Some, None, false, List, ◌++◌, ◌+◌, ◌∙◌, ap, sym, drop, length, map, arith, rules}
+use Rattle.std.proofs.lemmas.List.{at_drop_more}
+use Rattle.bpaf_meta.specs.Content.{subsection}
+use Rattle.bpaf_meta.specs.View.{tree_of, trees_of}
+use Rattle.bpaf_meta.specs.declared.meta.Meta.{Meta}
+use Rattle.bpaf_items.specs.declared.meta_help.entry.HiTy.TheVariants as ty
+use Rattle.bpaf_items.specs.declared.meta_help.entry.HelpItem.TheVariants as entry
+use Rattle.bpaf_items.specs.Listing.ItemList.{front_type, first_front_type, adjacent_entries, group_entries, entries_of, entries_of_parts}
+use Rattle.bpaf_items.specs.View.{entry_of}
+use Rattle.bpaf_items.proofs.Steps.Fronts.{front_whole, front_then, append_turn, OnOk-map}
+use Rattle.bpaf_items.proofs.Steps.Kept.{type_turn, ungrouped, unnoted, away_front, closed_front, closed_entries}
+use Rattle.bpaf_items.proofs.meta_help.walk.+append.Goals as goal
+
+pub append_parts-loop-part-init : goal.append_parts-loop-part-init
+append_parts-loop-part-init g t c = record { entries = cc; ty = cc; front = front_whole _ }
+
+pub append_parts-returns-in_err-own-clause-front : goal.append_parts-returns-in_err-own-clause-front
+append_parts-returns-in_err-own-clause-front g t c = front_then _ c.loop-part.items.items _ c.loop-part.invariant.front c.append.ensures.front
+
+pub append_parts-loop-part-preserved : goal.append_parts-loop-part-preserved
+append_parts-loop-part-preserved g t c =
+    let parts = c.deref-part-items.result.now in
+    let i = c.loop-part.part-index in
+    let part = c.part-item.result in
+    let e = at_drop_more (λ (ms : List (Meta g.row.A.Denot)). entries_of_parts c.args.groups (trees_of ms)) parts i part (omega arith) in
+    let f = at_drop_more (λ (ms : List (Meta g.row.A.Denot)). first_front_type (trees_of ms)) parts i part (omega arith) in
+    let later = trees_of (drop (i + 1) parts) in
+    record {
+      entries = append_turn (map entry_of c.loop-part.items.items) (map entry_of c.append.new.items.items) (entries_of c.args.groups (tree_of part)) (entries_of_parts c.args.groups later) (map entry_of c.args.items.now.items ++ entries_of_parts c.args.groups (trees_of c.args.parts.now.items)) (entries_of_parts c.args.groups (trees_of (drop i parts))) (cc (c.in_ok-own.ensures.entries)) (cc (e, c.part-item.is)) c.loop-part.invariant.entries;
+      ty = type_turn c.loop-part.front (front_type (tree_of part)) (first_front_type later) (first_front_type (trees_of (drop i parts))) (first_front_type (trees_of c.args.parts.now.items)) c.first_of-front.result (cc (c.first_of-front.ensures, c.in_ok-own.ensures.ty)) (cc (f, c.part-item.is)) c.loop-part.invariant.ty;
+      front = front_then _ c.loop-part.items.items _ c.loop-part.invariant.front c.append.ensures.front;
+    }
+
+pub append_adjacent-returns-in_default-clause-front : goal.append_adjacent-returns-in_default-clause-front
+append_adjacent-returns-in_default-clause-front g t c =
+    let old = c.args.items.now.items in
+    let at : c.len-at.result ≡ length old = search rules in
+    away_front old c.push.new.items.items c.append.new.items.items c.truncate.new.self.items c.len-at.result (entry.AdjacentStart c.args.inner ty.Flag) at c.in_ok-push.ensures.items c.append.ensures.front c.truncate.ensures.items
+
+pub append_adjacent-returns-in_err-close-clause-front : goal.append_adjacent-returns-in_err-close-clause-front
+append_adjacent-returns-in_err-close-clause-front g t c =
+    let old = c.args.items.now.items in
+    let at : c.len-at.result ≡ length old = search rules in
+    closed_front old c.push.new.items.items c.append.new.items.items c.close.new.items.items c.len-at.result (entry.AdjacentStart c.args.inner ty.Flag) at c.in_ok-push.ensures.items c.append.ensures.front c.close.ensures.front
+
+pub append_adjacent-returns-clause-front : goal.append_adjacent-returns-clause-front
+append_adjacent-returns-clause-front g t c =
+    let old = c.args.items.now.items in
+    let at : c.len-at.result ≡ length old = search rules in
+    closed_front old c.push.new.items.items c.append.new.items.items c.close.new.items.items c.len-at.result (entry.AdjacentStart c.args.inner ty.Flag) at c.in_ok-push.ensures.items c.append.ensures.front c.close.ensures.front
+
+pub append_adjacent-returns-clause-entries : goal.append_adjacent-returns-clause-entries
+append_adjacent-returns-clause-entries g t c =
+    let old = c.args.items.now.items in
+    let inner = tree_of c.args.inner.now in
+    let at : c.len-at.result ≡ length old = search rules in
+    let type : Some c.in-Some.ty ≡ front_type inner = cc (c.in_ok-ty.ensures.ty, c.in-Some.is) in
+    closed_entries entry_of old c.push.new.items.items c.append.new.items.items c.close.new.items.items c.len-at.result (entry.AdjacentStart c.args.inner ty.Flag) (entry.AdjacentStart c.args.inner c.in-Some.ty) (entry.AdjacentStop c.in-Some.ty) (entries_of c.args.groups inner) at c.in_ok-push.ensures.items c.append.ensures.front c.in_ok-ty.ensures.entries c.in_ok-close.ensures.items
+    ∙ ap (λ o. map entry_of old ++ adjacent_entries o inner (entries_of c.args.groups inner)) type
+
+pub append_group-returns-in_default-clause-front : goal.append_group-returns-in_default-clause-front
+append_group-returns-in_default-clause-front g t c =
+    let old = c.args.items.now.items in
+    let at : c.len-at.result ≡ length old = search rules in
+    away_front old c.push.new.items.items c.append-2.new.items.items c.truncate.new.self.items c.len-at.result (entry.GroupStart c.args.help ty.Flag) at c.in_ok-push.ensures.items c.append-2.ensures.front c.truncate.ensures.items
+
+pub append_group-returns-in_err-close-clause-front : goal.append_group-returns-in_err-close-clause-front
+append_group-returns-in_err-close-clause-front g t c =
+    let old = c.args.items.now.items in
+    let at : c.len-at.result ≡ length old = search rules in
+    closed_front old c.push.new.items.items c.append-2.new.items.items c.close.new.items.items c.len-at.result (entry.GroupStart c.args.help ty.Flag) at c.in_ok-push.ensures.items c.append-2.ensures.front c.close.ensures.front
+
+pub append_group-returns-clause-front : goal.append_group-returns-clause-front
+append_group-returns-clause-front g t c =
+    let old = c.args.items.now.items in
+    let at : c.len-at.result ≡ length old = search rules in
+    closed_front old c.push.new.items.items c.append-2.new.items.items c.close.new.items.items c.len-at.result (entry.GroupStart c.args.help ty.Flag) at c.in_ok-push.ensures.items c.append-2.ensures.front c.close.ensures.front
+
+pub append_group-returns-clause-entries : goal.append_group-returns-clause-entries
+append_group-returns-clause-entries g t c =
+    let old = c.args.items.now.items in
+    let inner = tree_of c.args.inner.now in
+    let at : c.len-at.result ≡ length old = search rules in
+    let type : Some c.in-Some.ty ≡ front_type inner = cc (c.in_ok-ty.ensures.ty, c.in-Some.is) in
+    closed_entries entry_of old c.push.new.items.items c.append-2.new.items.items c.close.new.items.items c.len-at.result (entry.GroupStart c.args.help ty.Flag) (entry.GroupStart c.args.help c.in-Some.ty) (entry.GroupEnd c.in-Some.ty) (entries_of false inner) at c.in_ok-push.ensures.items c.append-2.ensures.front c.in_ok-ty.ensures.entries c.in_ok-close.ensures.items
+    ∙ ap (λ o. map entry_of old ++ group_entries o c.args.help.now (entries_of false inner)) type
+    ∙ ap (λ b. map entry_of old ++ entries_of b (subsection inner c.args.help.now)) (sym c.if-not-groups.false)
+
+pub append_group-returns-then-not-groups-clause-entries : goal.append_group-returns-then-not-groups-clause-entries
+append_group-returns-then-not-groups-clause-entries g t c =
+    let old = map entry_of c.args.items.now.items in
+    let inner = tree_of c.args.inner.now in
+    OnOk-map c.append.result (λ e. e ∙ ap (λ es. old ++ es) (sym (ungrouped inner c.args.help.now) ∙ ap (λ b. entries_of b (subsection inner c.args.help.now)) (sym c.if-not-groups.true))) c.append.ensures.entries
+
+pub append_noted-returns-in_default-clause-entries : goal.append_noted-returns-in_default-clause-entries
+append_noted-returns-in_default-clause-entries g t c =
+    let inner = tree_of c.args.inner.now in
+    let none : front_type inner ≡ None = cc (c.in_ok-front.ensures.ty, c.in_default.is) in
+    c.in_ok-front.ensures.entries ∙ ap (λ es. map entry_of c.args.items.now.items ++ es) (sym (unnoted c.args.groups inner c.args.help.now none))

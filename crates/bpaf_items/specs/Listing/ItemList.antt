@@ -1,0 +1,104 @@
+-- The item list of a tree: its items in order, between the marks of groups and of adjacent blocks.
+use Rattle.std.specs.Prelude.{◌≡◌, Bool, true, false, List, [], ◌∷◌, ◌++◌, flat_map, Option, Some, None}
+use Rattle.std.specs.Option.{option_or}
+use Rattle.bpaf_doc.specs.Buffer.Parts.{Part}
+use Rattle.bpaf_items.specs.declared.meta_help.entry.HiTy.{HiTy}
+use Rattle.bpaf_items.specs.declared.meta_help.entry.HiTy.TheVariants as ty
+use Rattle.bpaf_meta.specs.Content.{Tree, and_of, or_of, optional, required, adjacent, item, many, subsection, suffix, skip, custom_usage, strict, Trees, no_trees, tree, Leaf, any, positional, command, flag, argument}
+
+-- the content of a `HelpItem`: an item, the start or the end of a group or of an adjacent block, or a note (`DecorSuffix`)
+pub data Entry : Type 0 where
+  listed : Leaf → Entry
+  note : List Part → HiTy → Entry
+  group_start : (title : List Part) → HiTy → Entry
+  group_end : HiTy → Entry
+  adjacent_start : Tree → HiTy → Entry
+  adjacent_stop : HiTy → Entry
+
+-- the heading of an item
+abbrev pub type_of_item : Leaf → HiTy
+type_of_item (any m true h) = ty.Flag
+type_of_item (any m false h) = ty.Positional
+type_of_item (positional m h) = ty.Positional
+type_of_item (command n c h t i) = ty.Command
+type_of_item (flag n s e h) = ty.Flag
+type_of_item (argument n s m e h) = ty.Flag
+
+-- the front type: an item's type; of an And or an Or the first that a part gives; none of Skip; else that of the inner tree
+abbrev mutual
+  pub front_type : Tree → Option HiTy
+  front_type (and_of ts) = first_front_type ts
+  front_type (or_of ts) = first_front_type ts
+  front_type (optional t) = front_type t
+  front_type (required t) = front_type t
+  front_type (adjacent t) = front_type t
+  front_type (item l) = Some (type_of_item l)
+  front_type (many t) = front_type t
+  front_type (subsection t d) = front_type t
+  front_type (suffix t d) = front_type t
+  front_type skip = None
+  front_type (custom_usage t d) = front_type t
+  front_type (strict t) = front_type t
+
+  pub first_front_type : Trees → Option HiTy
+  first_front_type no_trees = None
+  first_front_type (tree t ts) = option_or (front_type t) (first_front_type ts)
+
+-- an item as a list shows it: its list of short names is left out
+abbrev pub entry_of_item : Leaf → Entry
+entry_of_item (any m a h) = listed (any m a h)
+entry_of_item (positional m h) = listed (positional m h)
+entry_of_item (command n c h t i) = listed (command n c h t i)
+entry_of_item (flag n s e h) = listed (flag n [] e h)
+entry_of_item (argument n s m e h) = listed (argument n [] m e h)
+
+-- a positional without help is not listed
+abbrev pub item_entries : Leaf → List Entry
+item_entries (positional m None) = []
+item_entries l = entry_of_item l ∷ []
+
+-- the entries of a tree, with marks or a note of its front type; nothing without a front type
+abbrev pub adjacent_entries : Option HiTy → Tree → List Entry → List Entry
+adjacent_entries None t es = []
+adjacent_entries (Some k) t es = adjacent_start t k ∷ es ++ adjacent_stop k ∷ []
+
+abbrev pub group_entries : Option HiTy → (title : List Part) → List Entry → List Entry
+group_entries None d es = []
+group_entries (Some k) d es = group_start d k ∷ es ++ group_end k ∷ []
+
+abbrev pub noted_entries : Option HiTy → List Part → List Entry → List Entry
+noted_entries None d es = []
+noted_entries (Some k) d es = es ++ note d k ∷ []
+
+abbrev pub entries_with_type : Option HiTy → List Entry → List Entry
+entries_with_type None es = []
+entries_with_type (Some k) es = es
+
+-- what a tree appends, where groups are allowed or not
+abbrev mutual
+  pub entries_of : (groups : Bool) → Tree → List Entry
+  entries_of g (and_of ts) = entries_of_parts g ts
+  entries_of g (or_of ts) = entries_of_parts g ts
+  entries_of g (optional t) = entries_of g t
+  entries_of g (required t) = entries_of g t
+  entries_of g (adjacent t) = adjacent_entries (front_type t) t (entries_of g t)
+  entries_of g (item l) = item_entries l
+  entries_of g (many t) = entries_of g t
+  entries_of true (subsection t d) = group_entries (front_type t) d (entries_of false t)
+  entries_of false (subsection t d) = entries_with_type (front_type t) (entries_of false t)
+  entries_of g (suffix t d) = noted_entries (front_type t) d (entries_of g t)
+  entries_of g skip = []
+  entries_of g (custom_usage t d) = entries_of g t
+  entries_of g (strict t) = entries_of g t
+
+  pub entries_of_parts : (groups : Bool) → Trees → List Entry
+  entries_of_parts g no_trees = []
+  entries_of_parts g (tree t ts) = entries_of g t ++ entries_of_parts g ts
+
+-- the item list of a tree
+abbrev pub item_list : Tree → List Entry
+item_list t = entries_of true t
+
+-- the item lists of some trees, one after another
+abbrev pub IsItemList : List Entry → Type 0
+IsItemList es = (ts : List Tree) × (es ≡ flat_map item_list ts)

@@ -1,0 +1,164 @@
+-- By what a list tells two items apart, and which of two keys comes first.
+use Rattle.std.specs.Prelude.{◌≡◌, ℕ, Bool, List, [], Option, Some, None, IsTrue, ◌↔◌, nat_eq, refl}
+use Rattle.std.specs.Option.{option_eq, option_cmp}
+use Rattle.std.specs.Ordering.{nat_cmp, on, then_cmp, eq_of_both, eq_by_cmp, as_partial_cmp}
+use Rattle.std.specs.Cmp.Lexicographic.{slice_cmp, texts_ties, options_equiv, options_total}
+use Rattle.std.specs.Cmp.{IsEquivalence, IsTotalOrder, IsPartialOrder, partial_order_from_agreeing_total, unsigned_ties, both_tied}
+use Rattle.std.proofs.lemmas.Cmp.{and_equiv, on_equiv, nat_eq_equiv, nat_list_eq_equiv, then_total, on_total, nat_cmp_total, nat_list_cmp_total}
+use Rattle.std.specs.declared.cmp.Ordering.{Ordering}
+use Rattle.bpaf_doc.specs.Buffer.Parts.{Part}
+use Rattle.bpaf_doc.specs.Buffer.Equality.{same_text, same_document, document_cmp, documents_equiv, documents_total, documents_tied}
+use Rattle.bpaf_meta.specs.Content.{Name, short, long, both, Leaf, any, positional, command, flag, argument}
+use Rattle.bpaf_items.specs.Listing.ItemList.{Entry, listed}
+
+-- the four classes of keys; a positional and a command share one
+pub data Key : Type 0 where
+  any_key : (metavar : List Part) → (help : Option (List Part)) → Key
+  word_key : List ℕ → (help : Option (List Part)) → Key
+  flag_key : Name → (help : Option (List Part)) → Key
+  argument_key : Name → (metavar : List ℕ) → (help : Option (List Part)) → Key
+
+-- the key of an item: short command names, environment names and `anywhere` are not in it
+abbrev pub key_of : Leaf → Key
+key_of (any m a h) = any_key m h
+key_of (positional m h) = word_key m h
+key_of (command n c h t i) = word_key n h
+key_of (flag n s e h) = flag_key n h
+key_of (argument n s m e h) = argument_key n m h
+
+-- the key of an entry, of which marks and notes have none
+abbrev pub entry_key : Entry → Option Key
+entry_key (listed l) = Some (key_of l)
+entry_key e = None
+
+-- ---- what a name and a key say
+
+-- Short, Long, Both
+abbrev pub name_form_number : Name → ℕ
+name_form_number (short c) = 0
+name_form_number (long n) = 1
+name_form_number (both c n) = 2
+
+abbrev pub name_character : Name → Option ℕ
+name_character (short c) = Some c
+name_character (long n) = None
+name_character (both c n) = Some c
+
+abbrev pub name_text : Name → List ℕ
+name_text (short c) = []
+name_text (long n) = n
+name_text (both c n) = n
+
+abbrev pub key_class : Key → ℕ
+key_class (any_key m h) = 1
+key_class (word_key m h) = 2
+key_class (flag_key n h) = 3
+key_class (argument_key n m h) = 4
+
+-- the metavar of an Any
+abbrev pub key_document : Key → List Part
+key_document (any_key m h) = m
+key_document (word_key m h) = []
+key_document (flag_key n h) = []
+key_document (argument_key n m h) = []
+
+abbrev pub key_name : Key → Option Name
+key_name (any_key m h) = None
+key_name (word_key m h) = None
+key_name (flag_key n h) = Some n
+key_name (argument_key n m h) = Some n
+
+-- the metavar of a positional or an argument, or the name of a command
+abbrev pub key_text : Key → List ℕ
+key_text (any_key m h) = []
+key_text (word_key m h) = m
+key_text (flag_key n h) = []
+key_text (argument_key n m h) = m
+
+abbrev pub key_help : Key → Option (List Part)
+key_help (any_key m h) = h
+key_help (word_key m h) = h
+key_help (flag_key n h) = h
+key_help (argument_key n m h) = h
+
+-- ---- equality
+
+abbrev pub same_name : Name → Name → Bool
+same_name = eq_of_both (on name_form_number nat_eq) (eq_of_both (on name_character (option_eq nat_eq)) (on name_text same_text))
+
+abbrev pub same_help : Option (List Part) → Option (List Part) → Bool
+same_help = option_eq same_document
+
+-- of the same class, with the same document, name, text and help, where the class has them
+abbrev pub same_key : Key → Key → Bool
+same_key = eq_of_both (on key_class nat_eq) (eq_of_both (on key_document same_document) (eq_of_both (on key_name (option_eq same_name)) (eq_of_both (on key_text same_text) (on key_help same_help))))
+
+-- ---- order
+
+-- by the form of the name, then the character, then the text
+abbrev pub name_cmp : Name → Name → Ordering
+name_cmp = then_cmp (on name_form_number nat_cmp) (then_cmp (on name_character (option_cmp nat_cmp)) (on name_text (slice_cmp nat_cmp)))
+
+-- no help comes before a help
+abbrev pub help_cmp : Option (List Part) → Option (List Part) → Ordering
+help_cmp = option_cmp document_cmp
+
+-- by class, and in a class by document, name and text, as it has them, and then by help
+abbrev pub key_cmp : Key → Key → Ordering
+key_cmp = then_cmp (on key_class nat_cmp) (then_cmp (on key_document document_cmp) (then_cmp (on key_name (option_cmp name_cmp)) (then_cmp (on key_text (slice_cmp nat_cmp)) (on key_help help_cmp))))
+
+-- ---- laws
+
+names_equiv : IsEquivalence same_name
+names_equiv = and_equiv (on_equiv name_form_number nat_eq_equiv) (and_equiv (on_equiv name_character (options_equiv nat_eq_equiv)) (on_equiv name_text nat_list_eq_equiv))
+
+pub keys_equiv : IsEquivalence same_key
+keys_equiv =
+    and_equiv (on_equiv key_class nat_eq_equiv)
+    (and_equiv (on_equiv key_document documents_equiv)
+    (and_equiv (on_equiv key_name (options_equiv names_equiv)) (and_equiv (on_equiv key_text nat_list_eq_equiv) (on_equiv key_help (options_equiv documents_equiv)))))
+
+names_total : IsTotalOrder name_cmp
+names_total = then_total (on_total name_form_number nat_cmp_total) (then_total (on_total name_character (options_total nat_cmp_total)) (on_total name_text nat_list_cmp_total))
+
+pub keys_total : IsTotalOrder key_cmp
+keys_total =
+    then_total (on_total key_class nat_cmp_total)
+    (then_total (on_total key_document documents_total)
+    (then_total (on_total key_name (options_total names_total)) (then_total (on_total key_text nat_list_cmp_total) (on_total key_help (options_total documents_total)))))
+
+options_tied : {X : Type 0} (same : X → X → Bool) (order : X → X → Ordering) → ((x y : X) → same x y ≡ eq_by_cmp order x y) → (o p : Option X) → option_eq same o p ≡ eq_by_cmp (option_cmp order) o p
+options_tied same order tied None None = refl
+options_tied same order tied None (Some y) = refl
+options_tied same order tied (Some x) None = refl
+options_tied same order tied (Some x) (Some y) = tied x y
+
+-- two tests, each tied to an order, are tied to the one order after the other
+both_orders_tied : {X : Type 0} (same also : X → X → Bool) (order next : X → X → Ordering) → ((x y : X) → same x y ≡ eq_by_cmp order x y) → ((x y : X) → also x y ≡ eq_by_cmp next x y)
+    → (x y : X) → eq_of_both same also x y ≡ eq_by_cmp (then_cmp order next) x y
+both_orders_tied same also order next t u x y = both_tied (same x y) (also x y) (order x y) (next x y) (t x y) (u x y)
+
+names_tied : (n m : Name) → same_name n m ≡ eq_by_cmp name_cmp n m
+names_tied =
+    both_orders_tied _ _ _ _ (λ n m. unsigned_ties (name_form_number n) (name_form_number m))
+    (both_orders_tied _ _ _ _ (λ n m. options_tied nat_eq nat_cmp unsigned_ties (name_character n) (name_character m)) (λ n m. texts_ties (name_text n) (name_text m)))
+
+-- the order agrees with equality
+pub keys_tied : (k l : Key) → same_key k l ≡ eq_by_cmp key_cmp k l
+keys_tied =
+    both_orders_tied _ _ _ _ (λ k l. unsigned_ties (key_class k) (key_class l))
+    (both_orders_tied _ _ _ _ (λ k l. documents_tied (key_document k) (key_document l))
+    (both_orders_tied _ _ _ _ (λ k l. options_tied same_name name_cmp names_tied (key_name k) (key_name l))
+    (both_orders_tied _ _ _ _ (λ k l. texts_ties (key_text k) (key_text l)) (λ k l. options_tied same_document document_cmp documents_tied (key_help k) (key_help l)))))
+
+pub keys_partial : IsPartialOrder same_key (as_partial_cmp key_cmp)
+keys_partial = partial_order_from_agreeing_total key_cmp keys_total (λ k l. refl) keys_tied
+
+-- two keys are equal exactly where they say the same
+abbrev pub IsEqualityOfKeys : Type 0
+IsEqualityOfKeys = (k l : Key) → IsTrue (same_key k l) ↔ (k ≡ l)
+
+-- the order of keys is total, and finds two keys equal exactly where they are
+pub record IsOrderOfKeys : Type 0 where
+  pub total : IsTotalOrder key_cmp
+  pub tied : (k l : Key) → same_key k l ≡ eq_by_cmp key_cmp k l

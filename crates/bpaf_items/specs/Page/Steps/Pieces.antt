@@ -1,0 +1,33 @@
+-- Pieces that are written into a document, and what a call leaves there that may be refused a growth.
+use Rattle.std.specs.Prelude.{◌≡◌, ℕ, true, List, [], ◌∷◌, ◌++◌, Result, OnOk, encode_utf8}
+use Rattle.std.specs.Borrow.{Bor}
+use Rattle.bpaf_doc.specs.Buffer.Parts.{Part}
+use Rattle.bpaf_doc.specs.Buffer.Growth.{Grows}
+use Rattle.bpaf_doc.specs.Buffer.Writes.{Write, start, end, text, literal, doc_writes, em_doc_writes, with_writes}
+use Rattle.bpaf_meta.specs.View.{name_of, tree_of}
+use Rattle.bpaf_meta.specs.Usage.Writes.{metavar_writes, name_writes, usage_writes}
+use Rattle.bpaf_items.specs.declared.meta_help.pieces.Piece.{Piece}
+use Rattle.bpaf_items.specs.declared.meta_help.pieces.Piece.TheVariants as piece
+
+-- texts as one
+abbrev pub joined : List (Bor (List ℕ)) → List ℕ
+joined [] = []
+joined (t ∷ []) = t.now
+joined (t ∷ u ∷ ts) = t.now ++ joined (u ∷ ts)
+
+-- what a piece writes
+abbrev pub piece_writes : {A : Type 0} → Piece A → List Write
+piece_writes (piece.Start b) = start b ∷ []
+piece_writes (piece.End b) = end b ∷ []
+piece_writes (piece.Text bytes how) = text bytes.now how ∷ []
+piece_writes (piece.Character c) = literal (encode_utf8 c) ∷ []
+piece_writes (piece.Joined texts how) = text (joined texts.now) how ∷ []
+piece_writes (piece.Name n) = name_writes (name_of n)
+piece_writes (piece.Value m) = metavar_writes m.0.now
+piece_writes (piece.Document d) = doc_writes d.now
+piece_writes (piece.Title d) = em_doc_writes d.now
+piece_writes (piece.Usage t) = usage_writes true (tree_of t.now)
+
+-- the document grew by some writes, and at Ok by these
+abbrev pub Leaves : {T E : Type 0} → Result T E → List Part → List Part → List Write → Type 0
+Leaves result before now writes = Grows before now × OnOk result (now ≡ with_writes before writes)

@@ -1,0 +1,298 @@
+//! Groups, one after another, and the headings over the entries outside them.
+ghost use Rattle.std.specs.Prelude.{◌≡◌, ◌+◌, ◌<◌, ◌≤◌, nat_lt, not, ◌&&◌, ◌++◌, ◌∷◌, [], if◌then◌else◌, IfOk, OnOk, drop, length, map, take};
+ghost use Rattle.bpaf_doc.specs.Buffer.Growth.{Grows};
+ghost use Rattle.bpaf_doc.specs.Buffer.Writes.{with_writes};
+ghost use Rattle.bpaf_items.specs.Listing.Falls.{is_adjacent_start, is_adjacent_stop, is_group_start, items_of_type, lacks_help, outside_groups};
+ghost use Rattle.bpaf_items.specs.Listing.Groups.{HasPairedGroups, kept_entries};
+ghost use Rattle.bpaf_items.specs.Page.EnvTexts.{texts_in};
+ghost use Rattle.bpaf_items.specs.Page.HelpPage.{groups_writes, heading_writes, list_writes};
+ghost use Rattle.bpaf_items.specs.Page.Steps.Groups.{Takes, group_len, group_lists, headings, title_front};
+ghost use Rattle.bpaf_items.specs.Page.Steps.Pieces.{Leaves};
+ghost use Rattle.bpaf_items.specs.View.{entry_of};
+
+use crate::meta_help::entry::{HelpItem, HiTy};
+use crate::meta_help::env_texts::EnvTexts;
+use crate::meta_help::given::{HelpItemsIter, lacks_help};
+use crate::meta_help::list::group_end_place;
+use crate::meta_help::lists::put_list;
+use crate::meta_help::pieces::Piece;
+use crate::meta_help::writes::put_words;
+use bpaf_doc::buffer::{Block, Doc, Style};
+use std::alloc::{AllocError, Allocator};
+
+/// Writes the groups of a list, and then the headings over what stands outside them. Lists on the way are in memory of `alloc`.
+pub fn put_all<'a, A: Allocator, B: Allocator + Copy, C: Allocator, L: Allocator + Copy>(
+    doc: &mut Doc<A>,
+    entries: &[HelpItem<'a, B>],
+    include_env: bool,
+    texts: &EnvTexts<C>,
+    alloc: L,
+) -> Result<(), AllocError>
+    requires { HasPairedGroups (map entry_of entries.now) }
+    ensures { Leaves result doc.old doc.new (groups_writes include_env (texts_in texts.now) (map entry_of entries.now)) }
+{
+    let mut outside = Vec::new(alloc);
+    put_groups(doc, &mut outside, entries, include_env, texts, alloc)?;
+    put_headings(doc, outside.as_slice(), include_env, texts, alloc)
+}
+
+// Writes the groups in order, and keeps what stands outside them.
+fn put_groups<'a, A: Allocator, B: Allocator + Copy, C: Allocator, L: Allocator + Copy>(
+    doc: &mut Doc<A>,
+    outside: &mut Vec<HelpItem<'a, B>, L>,
+    entries: &[HelpItem<'a, B>],
+    include_env: bool,
+    texts: &EnvTexts<C>,
+    alloc: L,
+) -> Result<(), AllocError>
+    requires { HasPairedGroups (map entry_of entries.now) }
+    ensures grows { Grows doc.old doc.new }
+    ensures groups { OnOk result (doc.new ≡ with_writes doc.old (group_lists include_env (texts_in texts.now) (map entry_of entries.now))) }
+    ensures outside { OnOk result (map entry_of outside.new.items ≡ map entry_of outside.old.items ++ outside_groups (map entry_of entries.now)) }
+{
+    let mut rest = entries;
+    while !rest.is_empty() {
+        let count = put_first(doc, outside, rest, include_env, texts, alloc)?;
+        rest = behind(rest, count);
+    }
+    Ok(())
+}
+
+// Writes a first group, or keeps a first entry outside groups, and answers how many entries that takes.
+fn put_first<'a, A: Allocator, B: Allocator + Copy, C: Allocator, L: Allocator + Copy>(
+    doc: &mut Doc<A>,
+    outside: &mut Vec<HelpItem<'a, B>, L>,
+    rest: &[HelpItem<'a, B>],
+    include_env: bool,
+    texts: &EnvTexts<C>,
+    alloc: L,
+) -> Result<usize, AllocError>
+    requires paired { HasPairedGroups (map entry_of rest.now) }
+    requires some { 0 < length rest.now }
+    ensures grows { Grows doc.old doc.new }
+    ensures takes { IfOk result (λ count. Takes include_env (texts_in texts.now) (map entry_of rest.now) count doc.old doc.new
+        (map entry_of outside.old.items) (map entry_of outside.new.items)) }
+{
+    let first = rest[0];
+    if !first.is_group_start() {
+        outside.push(first)?;
+        return Ok(1);
+    }
+    let count = group_len(rest);
+    put_group(doc, front(rest, count), include_env, texts, alloc)?;
+    Ok(count)
+}
+
+fn front<'a, 's, B: Allocator>(
+    entries: &'s [HelpItem<'a, B>],
+    count: usize,
+) -> &'s [HelpItem<'a, B>]
+    requires { count ≤ length entries.now }
+    ensures { result.now ≡ take count entries.now }
+{
+    &entries[..count]
+}
+
+fn behind<'a, 's, B: Allocator>(
+    entries: &'s [HelpItem<'a, B>],
+    count: usize,
+) -> &'s [HelpItem<'a, B>]
+    requires { count ≤ length entries.now }
+    ensures { result.now ≡ drop count entries.now }
+{
+    &entries[count..]
+}
+
+fn group_len<B: Allocator>(entries: &[HelpItem<'_, B>]) -> usize
+    ensures len { result ≡ group_len (map entry_of entries.now) }
+    ensures within { result ≤ length entries.now }
+{
+    match group_end_place(entries) {
+        None => entries.len(),
+        Some(last) => last + 1,
+    }
+}
+
+fn put_group<'a, A: Allocator, B: Allocator + Copy, C: Allocator, L: Allocator + Copy>(
+    doc: &mut Doc<A>,
+    entries: &[HelpItem<'a, B>],
+    include_env: bool,
+    texts: &EnvTexts<C>,
+    alloc: L,
+) -> Result<(), AllocError>
+    ensures { Leaves result doc.old doc.new (list_writes include_env (texts_in texts.now) (kept_entries (map entry_of entries.now))) }
+{
+    let mut members = Vec::new(alloc);
+    keep(&mut members, entries)?;
+    put_list(doc, members.as_slice(), include_env, texts, alloc)
+}
+
+// How many adjacent blocks were started and stopped since the group started.
+#[derive(Clone, Copy)]
+struct Depth {
+    starts: usize,
+    stops: usize,
+}
+
+// Adds what is shown of a group: all but the items without help in an adjacent block of it.
+fn keep<'a, B: Allocator, L: Allocator + Copy>(
+    members: &mut Vec<HelpItem<'a, B>, L>,
+    entries: &[HelpItem<'a, B>],
+) -> Result<(), AllocError>
+    ensures { OnOk result (map entry_of members.new.items ≡ map entry_of members.old.items ++ kept_entries (map entry_of entries.now)) }
+{
+    let mut depth = Depth {
+        starts: 0,
+        stops: 0,
+    };
+    for entry in entries {
+        keep_one(members, entry, depth)?;
+        depth = depth.after(entry);
+    }
+    Ok(())
+}
+
+fn keep_one<'a, B: Allocator, L: Allocator + Copy>(
+    members: &mut Vec<HelpItem<'a, B>, L>,
+    entry: &HelpItem<'a, B>,
+    depth: Depth,
+) -> Result<(), AllocError>
+    ensures { OnOk result (map entry_of members.new.items ≡ map entry_of members.old.items
+        ++ (if not (lacks_help (entry_of entry.now) && nat_lt depth.stops depth.starts) then entry_of entry.now ∷ [] else [])) }
+{
+    if lacks_help(entry) && depth.stops < depth.starts {
+        return Ok(());
+    }
+    members.push(*entry)?;
+    Ok(())
+}
+
+impl Depth {
+    fn after<B: Allocator>(self, entry: &HelpItem<'_, B>) -> Depth
+        requires starts { self.starts < usize.MAX }
+        requires stops { self.stops < usize.MAX }
+        ensures starts { result.starts ≡ (if is_group_start (entry_of entry.now) then 0 else self.starts + (if is_adjacent_start (entry_of entry.now) then 1 else 0)) }
+        ensures stops { result.stops ≡ (if is_group_start (entry_of entry.now) then 0 else self.stops + (if is_adjacent_stop (entry_of entry.now) then 1 else 0)) }
+    {
+        match entry {
+            HelpItem::GroupStart { .. } => Depth {
+                starts: 0,
+                stops: 0,
+            },
+            HelpItem::AdjacentStart { .. } => Depth {
+                starts: self.starts + 1,
+                stops: self.stops,
+            },
+            HelpItem::AdjacentStop { .. } => Depth {
+                starts: self.starts,
+                stops: self.stops + 1,
+            },
+            _ => self,
+        }
+    }
+}
+
+fn put_headings<'a, A: Allocator, B: Allocator + Copy, C: Allocator, L: Allocator + Copy>(
+    doc: &mut Doc<A>,
+    outside: &[HelpItem<'a, B>],
+    include_env: bool,
+    texts: &EnvTexts<C>,
+    alloc: L,
+) -> Result<(), AllocError>
+    ensures { Leaves result doc.old doc.new (headings include_env (texts_in texts.now) (map entry_of outside.now)) }
+{
+    put_heading(
+        doc,
+        "Available positional items:",
+        outside,
+        HiTy::Positional,
+        include_env,
+        texts,
+        alloc,
+    )?;
+    put_heading(
+        doc,
+        "Available options:",
+        outside,
+        HiTy::Flag,
+        include_env,
+        texts,
+        alloc,
+    )?;
+    put_heading(
+        doc,
+        "Available commands:",
+        outside,
+        HiTy::Command,
+        include_env,
+        texts,
+        alloc,
+    )
+}
+
+fn put_heading<'a, A: Allocator, B: Allocator + Copy, C: Allocator, L: Allocator + Copy>(
+    doc: &mut Doc<A>,
+    title: &str,
+    outside: &[HelpItem<'a, B>],
+    ty: HiTy,
+    include_env: bool,
+    texts: &EnvTexts<C>,
+    alloc: L,
+) -> Result<(), AllocError>
+    ensures { Leaves result doc.old doc.new (heading_writes include_env (texts_in texts.now) title.now (items_of_type (map entry_of outside.now) ty)) }
+{
+    let members = given(outside, ty, alloc)?;
+    put_titled(doc, title, members.as_slice(), include_env, texts, alloc)
+}
+
+// The entries of a heading.
+fn given<'a, B: Allocator, L: Allocator + Copy>(
+    outside: &[HelpItem<'a, B>],
+    ty: HiTy,
+    alloc: L,
+) -> Result<Vec<HelpItem<'a, B>, L>, AllocError>
+    ensures { IfOk result (λ members. map entry_of members.items ≡ items_of_type (map entry_of outside.now) ty) }
+{
+    let mut members = Vec::new(alloc);
+    for item in HelpItemsIter::over(outside, ty) {
+        members.push(*item)?;
+    }
+    Ok(members)
+}
+
+// A heading over its entries; nothing without entries.
+fn put_titled<'a, A: Allocator, B: Allocator + Copy, C: Allocator, L: Allocator + Copy>(
+    doc: &mut Doc<A>,
+    title: &str,
+    entries: &[HelpItem<'a, B>],
+    include_env: bool,
+    texts: &EnvTexts<C>,
+    alloc: L,
+) -> Result<(), AllocError>
+    ensures { Leaves result doc.old doc.new (heading_writes include_env (texts_in texts.now) title.now (map entry_of entries.now)) }
+{
+    if entries.is_empty() {
+        return Ok(());
+    }
+    put_title(doc, title)?;
+    put_list(doc, entries, include_env, texts, alloc)?;
+    put_words(
+        doc,
+        &[Piece::End(Block::DefinitionList), Piece::End(Block::Block)],
+    )
+}
+
+fn put_title<A: Allocator>(doc: &mut Doc<A>, title: &str) -> Result<(), AllocError>
+    ensures { Leaves result doc.old doc.new (title_front title.now) }
+{
+    put_words(
+        doc,
+        &[
+            Piece::Start(Block::Block),
+            Piece::Start(Block::Section2),
+            Piece::Text(title, Style::Emphasis),
+            Piece::End(Block::Section2),
+            Piece::Start(Block::DefinitionList),
+        ],
+    )
+}

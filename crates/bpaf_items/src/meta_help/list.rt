@@ -1,0 +1,117 @@
+//! Item lists.
+ghost use Rattle.std.specs.Prelude.{◌≡◌, false, [], ◌++◌, IfSome, OnOk, OnErr, map};
+ghost use Rattle.std.specs.List.{position};
+ghost use Rattle.std.specs.Option.{option_map};
+ghost use Rattle.std.specs.Range.{range_inclusive_start, range_inclusive_end, range_inclusive_exhausted};
+ghost use Rattle.bpaf_meta.specs.View.{tree_of};
+ghost use Rattle.bpaf_items.specs.Listing.ItemList.{IsItemList, item_list};
+ghost use Rattle.bpaf_items.specs.Listing.Falls.{is_group_end, is_group_start, items_of_type};
+ghost use Rattle.bpaf_items.specs.Listing.Groups.{find_group};
+ghost use Rattle.bpaf_items.specs.View.{entry_of};
+
+use crate::meta_help::entry::{HelpItem, HiTy};
+use crate::meta_help::given::HelpItemsIter;
+use crate::meta_help::walk::append;
+use bpaf_meta::meta::Meta;
+use std::alloc::{AllocError, Allocator, Global};
+use std::fmt;
+use std::marker::Model;
+use std::ops::RangeInclusive;
+
+/// The item lists of some trees, one after another: `A` is the allocator of the trees, `L` that of the list.
+#[derive(Drop)]
+pub struct HelpItems<'a, A: Allocator = Global, L: Allocator = Global> {
+    items: Vec<HelpItem<'a, A>, L>,
+}
+
+impl<'a, A: Allocator, L: Allocator> Model for HelpItems<'a, A, L> {
+    ghost use Rattle.std.specs.Prelude.{List, map};
+    ghost use Rattle.bpaf_items.specs.Listing.ItemList.{Entry, IsItemList};
+    ghost use Rattle.bpaf_items.specs.Listing.Stored.{entries_code};
+    ghost use Rattle.bpaf_items.specs.View.{entry_of};
+
+    ghost Value = { List Entry };
+
+    ghost coded = { entries_code };
+
+    ghost view = { λ list. map entry_of list.items.items };
+
+    ghost invariant = { λ list. IsItemList (map entry_of list.items.items) };
+}
+
+impl<'a, A: Allocator, L: Allocator> fmt::Debug for HelpItems<'a, A, L> {
+    fn fmt<W: fmt::Write>(&self, f: &mut fmt::Formatter<W>) -> fmt::Result {
+        f.debug_list().entries(self.items.iter()).finish()
+    }
+}
+
+impl<'a, A: Allocator, L: Allocator> HelpItems<'a, A, L> {
+    /// A list without entries. It takes no memory.
+    pub fn new(alloc: L) -> HelpItems<'a, A, L>
+        ensures { result ≡ [] }
+    {
+        HelpItems {
+            items: Vec::new(alloc),
+        }
+    }
+
+    /// Appends the item list of a tree. After `AllocError` the list is as it was.
+    pub fn append_meta(&mut self, meta: &'a Meta<A>) -> Result<(), AllocError>
+        ensures ok { OnOk result (self.new ≡ self.old ++ item_list (tree_of meta.now)) }
+        ensures err { OnErr result (self.new ≡ self.old) }
+    {
+        let count = self.items.len();
+        match append(&mut self.items, meta, true) {
+            Ok(_) => Ok(()),
+            Err(refused) => {
+                self.items.truncate(count);
+                Err(refused)
+            }
+        }
+    }
+
+    /// The entries, in order.
+    pub fn items(&self) -> &[HelpItem<'a, A>]
+        ensures entries { map entry_of result.now ≡ self.now }
+        ensures listed { IsItemList self.now }
+    {
+        self.items.as_slice()
+    }
+
+    /// The places from the first start of a group to the first end of one; `None` unless the list has both.
+    pub fn find_group(&self) -> Option<RangeInclusive<usize>>
+        ensures places { option_map (λ range. (range_inclusive_start range, range_inclusive_end range)) result ≡ find_group self.now }
+        ensures whole { IfSome result (λ range. range_inclusive_exhausted range ≡ false) }
+    {
+        let start = group_start_place(self.items())?;
+        let end = group_end_place(self.items())?;
+        Some(start..=end)
+    }
+
+    /// The entries of a heading, in order: marks of that type, outside blocks the items and notes of that type, in a group of
+    /// that type all of it, and in an adjacent block of that type what has help, notes too. It takes no memory.
+    pub fn items_of_ty(&self, ty: HiTy) -> HelpItemsIter<'a, '_, A>
+        ensures { result ≡ items_of_type self.now ty }
+    {
+        HelpItemsIter::over(self.items(), ty)
+    }
+}
+
+impl<'a, A: Allocator, L: Allocator + Copy> HelpItems<'a, A, L> {
+    // The allocator of the list, for lists that are made of it.
+    pub(crate) fn allocator(&self) -> L {
+        *self.items.allocator()
+    }
+}
+
+fn group_start_place<A: Allocator>(items: &[HelpItem<'_, A>]) -> Option<usize>
+    ensures { result ≡ position is_group_start (map entry_of items.now) }
+{
+    items.iter().position(|item| item.is_group_start())
+}
+
+pub(crate) fn group_end_place<A: Allocator>(items: &[HelpItem<'_, A>]) -> Option<usize>
+    ensures { result ≡ position is_group_end (map entry_of items.now) }
+{
+    items.iter().position(|item| item.is_group_end())
+}

@@ -1,0 +1,52 @@
+//! Lists of entries: what is shown of them, written in order.
+ghost use Rattle.std.specs.Prelude.{◌≡◌, ◌++◌, ◌∷◌, [], List, OnOk, map};
+ghost use Rattle.bpaf_doc.specs.Buffer.Growth.{Grows};
+ghost use Rattle.bpaf_doc.specs.Buffer.Writes.{with_writes};
+ghost use Rattle.bpaf_items.specs.Listing.ItemList.{Entry};
+ghost use Rattle.bpaf_items.specs.Page.EnvTexts.{texts_in};
+ghost use Rattle.bpaf_items.specs.Page.HelpPage.{list_writes};
+ghost use Rattle.bpaf_items.specs.Page.Steps.Pieces.{Leaves};
+ghost use Rattle.bpaf_items.specs.Page.Steps.Repeats.{Remembers, shown_writes};
+ghost use Rattle.bpaf_items.specs.View.{entry_of};
+
+use crate::meta_help::entry::HelpItem;
+use crate::meta_help::env_texts::EnvTexts;
+use crate::meta_help::repeats::Repeats;
+use crate::meta_help::writes::put_entry;
+use bpaf_doc::buffer::Doc;
+use std::alloc::{AllocError, Allocator};
+
+/// Writes what is shown of a list. The keys seen so far are kept in memory of `alloc`.
+pub fn put_list<'a, A: Allocator, B: Allocator + Copy, C: Allocator, L: Allocator + Copy>(
+    doc: &mut Doc<A>,
+    entries: &[HelpItem<'a, B>],
+    include_env: bool,
+    texts: &EnvTexts<C>,
+    alloc: L,
+) -> Result<(), AllocError>
+    ensures { Leaves result doc.old doc.new (list_writes include_env (texts_in texts.now) (map entry_of entries.now)) }
+{
+    let mut repeats = Repeats::new(alloc);
+    for entry in entries {
+        put_next(doc, &mut repeats, entry, include_env, texts)?;
+    }
+    Ok(())
+}
+
+fn put_next<'a, A: Allocator, B: Allocator + Copy, C: Allocator, L: Allocator + Copy>(
+    doc: &mut Doc<A>,
+    repeats: &mut Repeats<'a, B, L>,
+    entry: &HelpItem<'a, B>,
+    include_env: bool,
+    texts: &EnvTexts<C>,
+) -> Result<(), AllocError>
+    ensures grows { Grows doc.old doc.new }
+    ensures next { (before : List Entry) → Remembers repeats.old.keys.keys repeats.old.shown before → OnOk result (
+        (doc.new ≡ with_writes doc.old (shown_writes include_env (texts_in texts.now) before (entry_of entry.now)))
+        × Remembers repeats.new.keys.keys repeats.new.shown (before ++ entry_of entry.now ∷ [])) }
+{
+    if !repeats.shows(entry)? {
+        return Ok(());
+    }
+    put_entry(doc, entry, include_env, texts)
+}

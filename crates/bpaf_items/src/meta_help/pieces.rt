@@ -1,0 +1,82 @@
+//! Small things that pages are written of.
+ghost use Rattle.std.specs.Prelude.{[], ◌∷◌, flat_map};
+ghost use Rattle.bpaf_doc.specs.Buffer.Writes.{text};
+ghost use Rattle.bpaf_items.specs.Page.Steps.Pieces.{Leaves, joined, piece_writes};
+
+use bpaf_doc::buffer::{Block, Doc, Style, Token};
+use bpaf_meta::item::ShortLong;
+use bpaf_meta::meta::Meta;
+use bpaf_meta::meta_help::Metavar;
+use bpaf_meta::usage::{metavar, write_meta, write_shortlong};
+use std::alloc::{AllocError, Allocator};
+
+/// What is written at once.
+#[derive_where(Clone, Copy)]
+pub enum Piece<'a, A: Allocator> {
+    Start(Block),
+    End(Block),
+    Text(&'a str, Style),
+    /// A character in literal style.
+    Character(char),
+    /// Texts that are one.
+    Joined(&'a [&'a str], Style),
+    /// A name, the long one where there are both.
+    Name(ShortLong),
+    /// The name of a value.
+    Value(Metavar),
+    Document(&'a Doc<A>),
+    /// A document whose first text is a title.
+    Title(&'a Doc<A>),
+    /// The usage line of a tree.
+    Usage(&'a Meta<A>),
+}
+
+// What these functions wrote stays where a growth is refused: the public calls above them take it back.
+
+/// Writes the pieces in order.
+pub fn put<A: Allocator, B: Allocator + Copy>(
+    doc: &mut Doc<A>,
+    pieces: &[Piece<'_, B>],
+) -> Result<(), AllocError>
+    ensures { Leaves result doc.old doc.new (flat_map piece_writes pieces.now) }
+{
+    for piece in pieces {
+        put_piece(doc, piece)?;
+    }
+    Ok(())
+}
+
+fn put_piece<A: Allocator, B: Allocator + Copy>(
+    doc: &mut Doc<A>,
+    piece: &Piece<'_, B>,
+) -> Result<(), AllocError>
+    ensures { Leaves result doc.old doc.new (piece_writes piece.now) }
+{
+    match *piece {
+        Piece::Start(block) => doc.token(Token::BlockStart(block)),
+        Piece::End(block) => doc.token(Token::BlockEnd(block)),
+        Piece::Text(text, style) => doc.write_str(text, style),
+        Piece::Character(character) => doc.write_char(character, Style::Literal),
+        Piece::Joined(texts, style) => put_joined(doc, texts, style),
+        Piece::Name(name) => write_shortlong(doc, &name),
+        Piece::Value(name) => metavar(doc, name),
+        Piece::Document(other) => doc.doc(other),
+        Piece::Title(other) => doc.em_doc(other),
+        Piece::Usage(tree) => write_meta(doc, tree, true),
+    }
+}
+
+// The texts as one, since a text joins the one before it.
+fn put_joined<A: Allocator>(
+    doc: &mut Doc<A>,
+    texts: &[&str],
+    style: Style,
+) -> Result<(), AllocError>
+    ensures { Leaves result doc.old doc.new (text (joined texts.now) style ∷ []) }
+{
+    doc.write_str("", style)?;
+    for text in texts {
+        doc.write_str(text, style)?;
+    }
+    Ok(())
+}

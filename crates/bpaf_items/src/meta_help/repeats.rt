@@ -1,0 +1,64 @@
+//! Which entries of a list are shown: each key once, and a note below what is shown.
+ghost use Rattle.std.specs.Prelude.{◌≡◌, not, ◌||◌, ◌++◌, ◌∷◌, [], IfOk, List};
+ghost use Rattle.std.specs.BTreeSet.{contains, insert_key};
+ghost use Rattle.std.specs.Ordering.{on};
+ghost use Rattle.bpaf_items.specs.Listing.ItemList.{Entry};
+ghost use Rattle.bpaf_items.specs.Listing.Falls.{is_shown};
+ghost use Rattle.bpaf_items.specs.Listing.Keys.{key_cmp};
+ghost use Rattle.bpaf_items.specs.Page.Steps.Repeats.{Remembers};
+ghost use Rattle.bpaf_items.specs.View.{entry_of, key_in};
+
+use crate::meta_help::entry::HelpItem;
+use crate::meta_help::key::ItemKey;
+use std::alloc::{AllocError, Allocator};
+use std::collections::BTreeSet;
+
+/// What is remembered of the entries of one group or heading: the keys of its items, and whether a note would be shown now.
+#[derive(Drop)]
+pub struct Repeats<'a, B: Allocator, L: Allocator> {
+    keys: BTreeSet<ItemKey<'a, B>, L>,
+    shown: bool,
+}
+
+impl<'a, B: Allocator, L: Allocator + Copy> Repeats<'a, B, L> {
+    /// Nothing is remembered. It takes no memory.
+    pub fn new(alloc: L) -> Repeats<'a, B, L>
+        ensures { Remembers result.keys.keys result.shown [] }
+    {
+        Repeats {
+            keys: BTreeSet::new(alloc),
+            shown: false,
+        }
+    }
+
+    /// Whether the next entry is shown: a mark; an item with a new key; a note directly after one of these.
+    pub fn shows(&mut self, entry: &HelpItem<'a, B>) -> Result<bool, AllocError>
+        ensures { (before : List Entry) → Remembers self.old.keys.keys self.old.shown before → IfOk result (λ shown.
+            (shown ≡ is_shown (before, entry_of entry.now)) × Remembers self.new.keys.keys self.new.shown (before ++ entry_of entry.now ∷ [])) }
+    {
+        match entry.key() {
+            Some(key) => self.shows_item(key),
+            None => Ok(self.shows_other(entry.is_mark())),
+        }
+    }
+
+    fn shows_item(&mut self, key: ItemKey<'a, B>) -> Result<bool, AllocError>
+        ensures { IfOk result (λ shown. (shown ≡ not (contains (on key_in key_cmp) self.old.keys key.entry))
+            × (self.new.keys.keys ≡ insert_key (on key_in key_cmp) self.old.keys.keys key.entry) × (self.new.shown ≡ shown)) }
+    {
+        let shown = self.keys.insert(key)?;
+        self.shown = shown;
+        Ok(shown)
+    }
+
+    // A mark or a note.
+    fn shows_other(&mut self, is_mark: bool) -> bool
+        ensures shown { result ≡ (self.old.shown || is_mark) }
+        ensures last { self.new.shown ≡ is_mark }
+        ensures keys { self.new.keys.keys ≡ self.old.keys.keys }
+    {
+        let shown = self.shown || is_mark;
+        self.shown = is_mark;
+        shown
+    }
+}

@@ -1,0 +1,101 @@
+-- Lists of parts, as the loops of `normalized` make them.
+use Rattle.std.proofs.Common.{◌≡◌, ◌<◌, List, [], ◌∷◌, ◌++◌, length, Bool, true, false, ◌&&◌, refl, ap, ◌∙◌, arith}
+use Rattle.std.specs.Prelude.{◌||◌}
+use Rattle.bpaf_meta.specs.Content.{Tree, skip, and_of, or_of, required, Trees, no_trees, tree}
+use Rattle.bpaf_meta.specs.View.{tree_of, trees_of}
+use Rattle.bpaf_meta.specs.declared.meta.Meta.{Meta}
+use Rattle.bpaf_meta.specs.Meta.Normal.{shown_trees, and_form, or_form, is_command_tree}
+use Rattle.bpaf_meta.specs.Meta.Alternatives.{trees_then, choice_form}
+use Rattle.bpaf_meta.specs.Meta.Steps.Passes.{is_skip_tree, with_shown, after_commands, sees_command}
+
+pub trees_then_none : (ts : Trees) → trees_then ts no_trees ≡ ts
+trees_then_none no_trees = refl
+trees_then_none (tree t ts) = ap (tree t) (trees_then_none ts)
+
+pub trees_then_then : (ts us vs : Trees) → trees_then (trees_then ts us) vs ≡ trees_then ts (trees_then us vs)
+trees_then_then no_trees us vs = refl
+trees_then_then (tree t ts) us vs = ap (tree t) (trees_then_then ts us vs)
+
+pub trees_of_push : {A : Type 0} (ms : List (Meta A)) (m : Meta A) → trees_of (ms ++ (m ∷ [])) ≡ trees_then (trees_of ms) (tree (tree_of m) no_trees)
+trees_of_push [] m = refl
+trees_of_push (n ∷ ms) m = ap (tree (tree_of n)) (trees_of_push ms m)
+
+pub trees_of_append : {A : Type 0} (ms ns : List (Meta A)) → trees_of (ms ++ ns) ≡ trees_then (trees_of ms) (trees_of ns)
+trees_of_append [] ns = refl
+trees_of_append (m ∷ ms) ns = ap (tree (tree_of m)) (trees_of_append ms ns)
+
+-- `keep`
+pub with_shown_skip : (ts : Trees) (t : Tree) → is_skip_tree t ≡ true → trees_then ts (with_shown t) ≡ ts
+with_shown_skip ts t e = rw e (trees_then_none ts)
+
+pub with_shown_other : (ts : Trees) (t : Tree) → is_skip_tree t ≡ false → trees_then ts (with_shown t) ≡ trees_then ts (tree t no_trees)
+with_shown_other ts t e = rw e refl
+
+alone_by : (seen b : Bool) (t : Tree) → is_command_tree t ≡ b → (b && seen) ≡ true → after_commands seen (tree t no_trees) ≡ no_trees
+alone_by true true t e h = rw e refl
+alone_by true false t e h = cc
+alone_by false true t e h = cc
+alone_by false false t e h = cc
+
+kept_by : (seen b : Bool) (t : Tree) → is_command_tree t ≡ b → (b && seen) ≡ false → after_commands seen (tree t no_trees) ≡ tree t no_trees
+kept_by true true t e h = cc
+kept_by true false t e h = rw e refl
+kept_by false true t e h = rw e refl
+kept_by false false t e h = rw e refl
+
+pub after_none : (seen : Bool) → after_commands seen no_trees ≡ no_trees
+after_none true = refl
+after_none false = refl
+
+-- `keep_alternative`
+pub after_repeated : (seen : Bool) (t : Tree) → (is_command_tree t && seen) ≡ true → after_commands seen (with_shown t) ≡ no_trees
+after_repeated seen skip e = after_none seen
+after_repeated seen t e = alone_by seen (is_command_tree t) t refl e
+
+pub after_kept : (seen : Bool) (t : Tree) → (is_command_tree t && seen) ≡ false → after_commands seen (with_shown t) ≡ with_shown t
+after_kept seen skip e = after_none seen
+after_kept seen t e = kept_by seen (is_command_tree t) t refl e
+
+-- a turn of the loop over an And
+and_alone : (t : Tree) (us : Trees) → trees_then (with_shown t) (shown_trees us) ≡ shown_trees (tree t us)
+and_alone skip us = refl
+and_alone t us = refl
+
+pub and_turn : (ts : Trees) (t : Tree) (us : Trees) → trees_then (trees_then ts (with_shown t)) (shown_trees us) ≡ trees_then ts (shown_trees (tree t us))
+and_turn ts t us = trees_then_then ts (with_shown t) (shown_trees us) ∙ ap (trees_then ts) (and_alone t us)
+
+-- a turn of the loop over an Or
+by_command : (seen b : Bool) (t : Tree) (us : Trees) → is_command_tree t ≡ b → trees_then (after_commands seen (tree t no_trees)) (after_commands (seen || b) us) ≡ after_commands seen (tree t us)
+by_command true true t us e = rw e refl
+by_command true false t us e = rw e refl
+by_command false true t us e = rw e refl
+by_command false false t us e = rw e refl
+
+or_skip : (seen : Bool) (us : Trees) → trees_then (after_commands seen no_trees) (after_commands (seen || false) us) ≡ after_commands seen us
+or_skip true us = refl
+or_skip false us = refl
+
+or_alone : (seen : Bool) (t : Tree) (us : Trees) → trees_then (after_commands seen (with_shown t)) (after_commands (sees_command seen t) (shown_trees us)) ≡ after_commands seen (shown_trees (tree t us))
+or_alone seen skip us = or_skip seen (shown_trees us)
+or_alone seen t us = by_command seen (is_command_tree t) t (shown_trees us) refl
+
+pub or_turn : (seen : Bool) (ts : Trees) (t : Tree) (us : Trees) → trees_then (trees_then ts (after_commands seen (with_shown t))) (after_commands (sees_command seen t) (shown_trees us)) ≡ trees_then ts (after_commands seen (shown_trees (tree t us)))
+or_turn seen ts t us = trees_then_then ts (after_commands seen (with_shown t)) (after_commands (sees_command seen t) (shown_trees us)) ∙ ap (trees_then ts) (or_alone seen t us)
+
+-- a list of several
+pub and_several : {A : Type 0} (ms : List (Meta A)) → 1 < length ms → and_form (trees_of ms) ≡ and_of (trees_of ms)
+and_several [] h = absurd (omega arith)
+and_several (m ∷ []) h = absurd (omega arith)
+and_several (m ∷ (n ∷ ms)) h = refl
+
+pub or_several : {A : Type 0} (ms : List (Meta A)) → 1 < length ms → or_form (trees_of ms) ≡ required (or_of (trees_of ms))
+or_several [] h = absurd (omega arith)
+or_several (m ∷ []) h = absurd (omega arith)
+or_several (m ∷ (n ∷ ms)) h = refl
+
+pub choice_several : {A : Type 0} (ms : List (Meta A)) → 1 < length ms → choice_form (trees_of ms) ≡ or_of (trees_of ms)
+choice_several [] h = absurd (omega arith)
+choice_several (m ∷ []) h = absurd (omega arith)
+choice_several (m ∷ (n ∷ ms)) h = refl
+
+pub ruleset parts_lemmas = (trees_then_none, trees_of_push, with_shown_skip, with_shown_other, after_repeated, after_kept)

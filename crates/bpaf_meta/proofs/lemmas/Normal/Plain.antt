@@ -1,0 +1,199 @@
+-- Trees without Strict: their normal form has none, is Skip exactly where they are hidden, and is its own normal form.
+use Rattle.std.proofs.Common.{◌≡◌, ◌↔◌, Bool, true, false, ◌&&◌, List, [], ◌∷◌, inl, inr, refl, sym, ap, ◌∙◌, subst}
+use Rattle.std.specs.Prelude.{if◌then◌else◌}
+use Rattle.bpaf_doc.specs.Buffer.Parts.{Part}
+use Rattle.bpaf_meta.specs.Content.{Tree, and_of, or_of, optional, required, adjacent, item, many, subsection, suffix, skip, custom_usage, strict, Trees, no_trees, tree}
+use Rattle.bpaf_meta.specs.Meta.Normal.{State, pull, push, strip, shown_trees, and_form, or_form, is_command_tree, without_commands, with_first_command, optional_many_form, optional_form, required_form, many_form, custom_usage_form, guarded, state_after, state_out, normal_form, and_parts, or_parts, or_state, outer_form, normalized}
+use Rattle.bpaf_meta.specs.Meta.Sequences.{is_hidden, are_hidden}
+use Rattle.bpaf_meta.specs.Meta.Shape.{HasStrict, SomeHasStrict}
+use Rattle.bpaf_meta.proofs.lemmas.Normal.Keeps.{normalized_hidden}
+
+-- the state stays
+
+state_after_same : (s : State) → state_after s s ≡ s
+state_after_same pull = refl
+state_after_same push = refl
+state_after_same strip = refl
+
+guarded_same : (s : State) (t : Tree) → guarded s s t ≡ t
+guarded_same pull t = refl
+guarded_same push t = refl
+guarded_same strip t = refl
+
+mutual
+  state_kept : (s : State) (t : Tree) → ¬ HasStrict t → state_out s t ≡ s
+  state_kept s (and_of ts) h = refl
+  state_kept s (or_of ts) h = or_state_kept s ts h
+  state_kept s (optional t) h = state_kept s t h
+  state_kept s (required t) h = state_kept s t h
+  state_kept s (adjacent t) h = state_kept s t h
+  state_kept s (item l) h = refl
+  state_kept s (many t) h = state_kept s t h
+  state_kept s (subsection t d) h = state_kept s t h
+  state_kept s (suffix t d) h = state_kept s t h
+  state_kept s skip h = refl
+  state_kept s (custom_usage t d) h = state_kept s t h
+  state_kept s (strict t) h = absurd (h tt)
+
+  or_state_kept : (s : State) (ts : Trees) → ¬ SomeHasStrict ts → or_state s s ts ≡ s
+  or_state_kept s no_trees h = refl
+  or_state_kept s (tree t ts) h =
+      let kept : state_out s t ≡ s = state_kept s t (λ x. h (inl x)) in
+      let rest : or_state s s ts ≡ s = or_state_kept s ts (λ x. h (inr x)) in
+      rw (kept, state_after_same s) rest
+
+-- the parts in normal form, each from the same state
+abbrev pub plain_parts : Bool → State → Trees → Trees
+plain_parts u s no_trees = no_trees
+plain_parts u s (tree t ts) = tree (normal_form u s t) (plain_parts u s ts)
+
+pub and_parts_plain : (u : Bool) (s : State) (ts : Trees) → ¬ SomeHasStrict ts → and_parts u s ts ≡ plain_parts u s ts
+and_parts_plain u s no_trees h = refl
+and_parts_plain u s (tree t ts) h =
+    let kept : state_out s t ≡ s = state_kept s t (λ x. h (inl x)) in
+    let rest : and_parts u s ts ≡ plain_parts u s ts = and_parts_plain u s ts (λ x. h (inr x)) in
+    rw (kept, state_after_same s, guarded_same s (normal_form u s t), rest) refl
+
+pub or_parts_plain : (u : Bool) (s : State) (ts : Trees) → ¬ SomeHasStrict ts → or_parts u s s ts ≡ plain_parts u s ts
+or_parts_plain u s no_trees h = refl
+or_parts_plain u s (tree t ts) h =
+    let kept : state_out s t ≡ s = state_kept s t (λ x. h (inl x)) in
+    let rest : or_parts u s s ts ≡ plain_parts u s ts = or_parts_plain u s ts (λ x. h (inr x)) in
+    rw (kept, state_after_same s, guarded_same s (normal_form u s t), rest) refl
+
+-- no Strict comes about
+
+pub and_form_strict : (ts : Trees) → HasStrict (and_form ts) → SomeHasStrict ts
+and_form_strict no_trees x = x
+and_form_strict (tree t no_trees) x = inl x
+and_form_strict (tree t (tree v ts)) x = x
+
+pub or_form_strict : (ts : Trees) → HasStrict (or_form ts) → SomeHasStrict ts
+or_form_strict no_trees x = x
+or_form_strict (tree t no_trees) x = inl x
+or_form_strict (tree t (tree v ts)) x = x
+
+some_tail : (t : Tree) (ns ts : Trees) → (SomeHasStrict ns → SomeHasStrict ts) → SomeHasStrict (tree t ns) → SomeHasStrict (tree t ts)
+some_tail t ns ts f (inl x) = inl x
+some_tail t ns ts f (inr x) = inr (f x)
+
+pub shown_strict : (ts : Trees) → SomeHasStrict (shown_trees ts) → SomeHasStrict ts
+shown_strict no_trees x = x
+shown_strict (tree skip ts) x = inr (shown_strict ts x)
+shown_strict (tree t ts) x = some_tail t (shown_trees ts) ts (shown_strict ts) x
+
+pub choice_strict : (b : Bool) (ts vs ws : Trees) → (SomeHasStrict ts → SomeHasStrict ws) → (SomeHasStrict vs → SomeHasStrict ws) → SomeHasStrict (if b then ts else vs) → SomeHasStrict ws
+choice_strict true ts vs ws f g x = f x
+choice_strict false ts vs ws f g x = g x
+
+pub without_strict : (ts : Trees) → SomeHasStrict (without_commands ts) → SomeHasStrict ts
+without_strict no_trees x = x
+without_strict (tree t ts) x = choice_strict (is_command_tree t) (without_commands ts) (tree t (without_commands ts)) (tree t ts) (λ y. inr (without_strict ts y)) (some_tail t (without_commands ts) ts (without_strict ts)) x
+
+pub first_strict : (ts : Trees) → SomeHasStrict (with_first_command ts) → SomeHasStrict ts
+first_strict no_trees x = x
+first_strict (tree t ts) x = some_tail t (if is_command_tree t then without_commands ts else with_first_command ts) ts (choice_strict (is_command_tree t) (without_commands ts) (with_first_command ts) ts (without_strict ts) (first_strict ts)) x
+
+pub optional_many_strict : (t : Tree) → HasStrict (optional_many_form t) → HasStrict t
+optional_many_strict (required t) x = x
+optional_many_strict t x = x
+
+pub optional_strict : (t : Tree) → HasStrict (optional_form t) → HasStrict t
+optional_strict skip x = x
+optional_strict (many t) x = optional_many_strict t x
+optional_strict t x = x
+
+pub required_strict : (t : Tree) → HasStrict (required_form t) → HasStrict t
+required_strict (and_of ts) x = x
+required_strict (or_of ts) x = x
+required_strict t x = x
+
+pub many_strict : (t : Tree) → HasStrict (many_form t) → HasStrict t
+many_strict skip x = x
+many_strict t x = x
+
+pub usage_strict : (u : Bool) (t : Tree) (d : List Part) → HasStrict (custom_usage_form u t d) → HasStrict t
+usage_strict true t [] x = absurd x
+usage_strict true t (p ∷ d) x = x
+usage_strict false t d x = x
+
+mutual
+  pub no_strict : (u : Bool) (s : State) (t : Tree) → ¬ HasStrict t → ¬ HasStrict (normal_form u s t)
+  no_strict u s (and_of ts) h x =
+      let y : SomeHasStrict (and_parts u s ts) = shown_strict (and_parts u s ts) (and_form_strict (shown_trees (and_parts u s ts)) x) in
+      none_strict u s ts h (subst SomeHasStrict (and_parts_plain u s ts h) y)
+  no_strict u s (or_of ts) h x =
+      let ns : Trees = or_parts u s s ts in
+      let y : SomeHasStrict ns = shown_strict ns (first_strict (shown_trees ns) (or_form_strict (with_first_command (shown_trees ns)) x)) in
+      none_strict u s ts h (subst SomeHasStrict (or_parts_plain u s ts h) y)
+  no_strict u s (optional t) h x = no_strict u s t h (optional_strict (normal_form u s t) x)
+  no_strict u s (required t) h x = no_strict u s t h (required_strict (normal_form u s t) x)
+  no_strict u s (adjacent t) h x = no_strict u s t h x
+  no_strict u s (item l) h x = x
+  no_strict u s (many t) h x = no_strict u s t h (many_strict (normal_form u s t) x)
+  no_strict u s (subsection t d) h x = no_strict u s t h x
+  no_strict u s (suffix t d) h x = no_strict u s t h x
+  no_strict u s skip h x = x
+  no_strict u s (custom_usage t d) h x = no_strict u s t h (usage_strict u (normal_form u s t) d x)
+  no_strict u s (strict t) h x = h tt
+
+  none_strict : (u : Bool) (s : State) (ts : Trees) → ¬ SomeHasStrict ts → ¬ SomeHasStrict (plain_parts u s ts)
+  none_strict u s no_trees h x = x
+  none_strict u s (tree t ts) h (inl x) = no_strict u s t (λ y. h (inl y)) x
+  none_strict u s (tree t ts) h (inr x) = none_strict u s ts (λ y. h (inr y)) x
+
+pub outer_strict : (t : Tree) → HasStrict (outer_form t) → HasStrict t
+outer_strict (required (or_of ts)) x = x
+outer_strict (required t) x = x
+outer_strict (or_of ts) x = x
+outer_strict t x = x
+
+-- without Strict the last step does nothing
+pub normalized_plain : (u : Bool) (t : Tree) → ¬ HasStrict t → normalized u t ≡ outer_form (normal_form u pull t)
+normalized_plain u t h = let kept : state_out pull t ≡ pull = state_kept pull t h in rw kept refl
+
+-- from a tree without Strict there is no Strict
+pub normalized_no_strict : (u : Bool) (t : Tree) → ¬ HasStrict t → ¬ HasStrict (normalized u t)
+normalized_no_strict u t h x = no_strict u pull t h (outer_strict (normal_form u pull t) (subst HasStrict (normalized_plain u t h) x))
+
+-- hidden is Skip
+
+both_true : (b c : Bool) → (b && c) ≡ true → (b ≡ true) × (c ≡ true)
+both_true true true e = (refl, refl)
+both_true true false e = cc
+both_true false c e = cc
+
+usage_skip : (u : Bool) (t n : Tree) (d : List Part) → is_hidden u (custom_usage t d) ≡ true → (is_hidden u t ≡ true → n ≡ skip) → custom_usage_form u n d ≡ skip
+usage_skip true t n [] e f = refl
+usage_skip true t n (p ∷ d) e f = cc
+usage_skip false t n d e f = f e
+
+mutual
+  normal_skip : (u : Bool) (s : State) (t : Tree) → ¬ HasStrict t → is_hidden u t ≡ true → normal_form u s t ≡ skip
+  normal_skip u s (and_of ts) h e = let none : shown_trees (plain_parts u s ts) ≡ no_trees = parts_skip u s ts h e in rw (and_parts_plain u s ts h, none) refl
+  normal_skip u s (or_of ts) h e = let none : shown_trees (plain_parts u s ts) ≡ no_trees = parts_skip u s ts h e in rw (or_parts_plain u s ts h, none) refl
+  normal_skip u s (optional t) h e = ap optional_form (normal_skip u s t h e)
+  normal_skip u s (required t) h e = ap required_form (normal_skip u s t h e)
+  normal_skip u s (adjacent t) h e = normal_skip u s t h e
+  normal_skip u s (item l) h e = cc
+  normal_skip u s (many t) h e = ap many_form (normal_skip u s t h e)
+  normal_skip u s (subsection t d) h e = normal_skip u s t h e
+  normal_skip u s (suffix t d) h e = normal_skip u s t h e
+  normal_skip u s skip h e = refl
+  normal_skip u s (custom_usage t d) h e = usage_skip u t (normal_form u s t) d e (normal_skip u s t h)
+  normal_skip u s (strict t) h e = absurd (h tt)
+
+  parts_skip : (u : Bool) (s : State) (ts : Trees) → ¬ SomeHasStrict ts → are_hidden u ts ≡ true → shown_trees (plain_parts u s ts) ≡ no_trees
+  parts_skip u s no_trees h e = refl
+  parts_skip u s (tree t ts) h e =
+      let es = both_true (is_hidden u t) (are_hidden u ts) e in
+      let first : normal_form u s t ≡ skip = normal_skip u s t (λ x. h (inl x)) es.0 in
+      let rest : shown_trees (plain_parts u s ts) ≡ no_trees = parts_skip u s ts (λ x. h (inr x)) es.1 in
+      rw first rest
+
+-- without Strict the normal form is Skip exactly where the tree is hidden
+pub normalized_skip : (u : Bool) (t : Tree) → ¬ HasStrict t → (normalized u t ≡ skip) ↔ (is_hidden u t ≡ true)
+normalized_skip u t h = (
+  (λ e. sym (normalized_hidden u t) ∙ ap (is_hidden u) e),
+  (λ e. normalized_plain u t h ∙ ap outer_form (normal_skip u pull t h e)),
+)

@@ -1,0 +1,135 @@
+-- The normal form has the usage shape.
+use Rattle.std.proofs.Common.{Bool, true, false, List, [], ◌∷◌, refl}
+use Rattle.std.specs.Prelude.{if◌then◌else◌}
+use Rattle.bpaf_doc.specs.Buffer.Parts.{Part}
+use Rattle.bpaf_meta.specs.Content.{Name, short, long, both, Tree, and_of, or_of, optional, required, adjacent, item, many, subsection, suffix, skip, custom_usage, strict, Trees, no_trees, tree, Leaf, any, positional, command, flag, argument}
+use Rattle.bpaf_meta.specs.Meta.Normal.{State, pull, push, shown_trees, and_form, or_form, is_command_tree, without_commands, with_first_command, optional_many_form, optional_form, required_form, many_form, custom_usage_form, name_form, item_form, guarded as guarded_part, state_after, state_out, normal_form, and_parts, or_parts, outer_form, strict_if_push, normalized}
+use Rattle.bpaf_meta.specs.Meta.Shape.{whole, guarded, among, IsOneName, HasOneName, HasShapeAt, EachHasShape, HasUsageShape}
+
+-- each part has the shape of what may stand in a Strict: a Skip may, a bare Or may not
+abbrev EachIsForm : Bool → Trees → Type 0
+EachIsForm u no_trees = Unit {0}
+EachIsForm u (tree t ts) = HasShapeAt u guarded t × EachIsForm u ts
+
+shown_shape : (u : Bool) (ts : Trees) → EachIsForm u ts → EachHasShape u (shown_trees ts)
+shown_shape u no_trees h = tt
+shown_shape u (tree skip ts) h = shown_shape u ts h.1
+shown_shape u (tree (or_of vs) ts) h = absurd h.0.0
+shown_shape u (tree t ts) h = (h.0, shown_shape u ts h.1)
+
+-- what may stand among others may stand in a Strict
+among_guarded : (u : Bool) (t : Tree) → HasShapeAt u among t → HasShapeAt u guarded t
+among_guarded u skip h = absurd h
+among_guarded u (or_of ts) h = absurd h.0
+among_guarded u t h = h
+
+and_form_shape : (u : Bool) (ts : Trees) → EachHasShape u ts → HasShapeAt u guarded (and_form ts)
+and_form_shape u no_trees h = tt
+and_form_shape u (tree t no_trees) h = among_guarded u t h.0
+and_form_shape u (tree t (tree v ts)) h = (tt, h)
+
+or_form_shape : (u : Bool) (ts : Trees) → EachHasShape u ts → HasShapeAt u guarded (or_form ts)
+or_form_shape u no_trees h = tt
+or_form_shape u (tree t no_trees) h = among_guarded u t h.0
+or_form_shape u (tree t (tree v ts)) h = (tt, (tt, tt, h))
+
+choice_shape : (u b : Bool) (ts vs : Trees) → EachHasShape u ts → EachHasShape u vs → EachHasShape u (if b then ts else vs)
+choice_shape u true ts vs h k = h
+choice_shape u false ts vs h k = k
+
+without_shape : (u : Bool) (ts : Trees) → EachHasShape u ts → EachHasShape u (without_commands ts)
+without_shape u no_trees h = tt
+without_shape u (tree t ts) h = choice_shape u (is_command_tree t) (without_commands ts) (tree t (without_commands ts)) (without_shape u ts h.1) (h.0, without_shape u ts h.1)
+
+first_shape : (u : Bool) (ts : Trees) → EachHasShape u ts → EachHasShape u (with_first_command ts)
+first_shape u no_trees h = tt
+first_shape u (tree t ts) h = (h.0, choice_shape u (is_command_tree t) (without_commands ts) (with_first_command ts) (without_shape u ts h.1) (first_shape u ts h.1))
+
+optional_many_shape : (u : Bool) (t : Tree) → HasShapeAt u among t → HasShapeAt u guarded (optional_many_form t)
+optional_many_shape u (required t) h = h.1
+optional_many_shape u t h = h
+
+optional_shape : (u : Bool) (t : Tree) → HasShapeAt u guarded t → HasShapeAt u guarded (optional_form t)
+optional_shape u skip h = tt
+optional_shape u (required t) h = h.1
+optional_shape u (optional t) h = h
+optional_shape u (many t) h = optional_many_shape u t h
+optional_shape u (or_of ts) h = absurd h.0
+optional_shape u t h = h
+
+required_shape : (u : Bool) (t : Tree) → HasShapeAt u guarded t → HasShapeAt u guarded (required_form t)
+required_shape u skip h = tt
+required_shape u (and_of ts) h = (tt, h)
+required_shape u (or_of ts) h = absurd h.0
+required_shape u t h = h
+
+many_shape : (u : Bool) (t : Tree) → HasShapeAt u guarded t → HasShapeAt u guarded (many_form t)
+many_shape u skip h = tt
+many_shape u (or_of ts) h = absurd h.0
+many_shape u t h = h
+
+usage_shape : (u : Bool) (n : Tree) (d : List Part) → HasShapeAt u guarded n → HasShapeAt u guarded (custom_usage_form u n d)
+usage_shape true n [] h = tt
+usage_shape true n (p ∷ d) h = (refl, h)
+usage_shape false n d h = h
+
+name_shape : (u : Bool) (n : Name) → IsOneName (name_form u n)
+name_shape true (short c) = tt
+name_shape true (long n) = tt
+name_shape true (both c n) = tt
+name_shape false (short c) = tt
+name_shape false (long n) = tt
+name_shape false (both c n) = tt
+
+item_shape : (u : Bool) (l : Leaf) → HasOneName (item_form u l)
+item_shape u (any m a h) = tt
+item_shape u (positional m h) = tt
+item_shape u (command n c h t i) = tt
+item_shape u (flag n s e h) = name_shape u n
+item_shape u (argument n s m e h) = name_shape u n
+
+part_shape : (u : Bool) (r g : State) (n : Tree) → HasShapeAt u guarded n → HasShapeAt u guarded (guarded_part r g n)
+part_shape u pull push n h = h
+part_shape u r g n h = h
+
+mutual
+  normal_shape : (u : Bool) (s : State) (t : Tree) → HasShapeAt u guarded (normal_form u s t)
+  normal_shape u s (and_of ts) = and_form_shape u (shown_trees (and_parts u s ts)) (shown_shape u (and_parts u s ts) (and_parts_shape u s ts))
+  normal_shape u s (or_of ts) = or_form_shape u (with_first_command (shown_trees (or_parts u s s ts))) (first_shape u (shown_trees (or_parts u s s ts)) (shown_shape u (or_parts u s s ts) (or_parts_shape u s s ts)))
+  normal_shape u s (optional t) = optional_shape u (normal_form u s t) (normal_shape u s t)
+  normal_shape u s (required t) = required_shape u (normal_form u s t) (normal_shape u s t)
+  normal_shape u s (adjacent t) = normal_shape u s t
+  normal_shape u s (item l) = item_shape u l
+  normal_shape u s (many t) = many_shape u (normal_form u s t) (normal_shape u s t)
+  normal_shape u s (subsection t d) = normal_shape u s t
+  normal_shape u s (suffix t d) = normal_shape u s t
+  normal_shape u s skip = tt
+  normal_shape u s (custom_usage t d) = usage_shape u (normal_form u s t) d (normal_shape u s t)
+  normal_shape u s (strict t) = normal_shape u s t
+
+  and_parts_shape : (u : Bool) (r : State) (ts : Trees) → EachIsForm u (and_parts u r ts)
+  and_parts_shape u r no_trees = tt
+  and_parts_shape u r (tree t ts) = (part_shape u r (state_out r t) (normal_form u r t) (normal_shape u r t), and_parts_shape u (state_after r (state_out r t)) ts)
+
+  or_parts_shape : (u : Bool) (s f : State) (ts : Trees) → EachIsForm u (or_parts u s f ts)
+  or_parts_shape u s f no_trees = tt
+  or_parts_shape u s f (tree t ts) = (part_shape u f (state_out s t) (normal_form u s t) (normal_shape u s t), or_parts_shape u s (state_after f (state_out s t)) ts)
+
+outer_shape : (u : Bool) (t : Tree) → HasShapeAt u guarded t → HasShapeAt u guarded (outer_form t)
+outer_shape u (required (and_of ts)) h = h.1
+outer_shape u (required (or_of ts)) h = h
+outer_shape u (required t) h = absurd h.0
+outer_shape u (or_of ts) h = absurd h.0
+outer_shape u t h = h
+
+guarded_whole : (u : Bool) (t : Tree) → HasShapeAt u guarded t → HasShapeAt u whole t
+guarded_whole u (or_of ts) h = absurd h.0
+guarded_whole u t h = h
+
+strict_shape : (u : Bool) (s : State) (t : Tree) → HasShapeAt u guarded t → HasShapeAt u guarded (strict_if_push s t)
+strict_shape u push t h = h
+strict_shape u s t h = h
+
+-- the normal form has the usage shape
+pub normalized_shape : (u : Bool) (t : Tree) → HasUsageShape u (normalized u t)
+normalized_shape u t = guarded_whole u (normalized u t) (strict_shape u (state_out pull t) (outer_form (normal_form u pull t)) (outer_shape u (normal_form u pull t) (normal_shape u pull t)))

@@ -1,0 +1,189 @@
+-- Without Strict the normal form is its own normal form.
+use Rattle.std.proofs.Common.{◌≡◌, Bool, true, false, List, [], ◌∷◌, inl, inr, refl, sym, ap, ◌∙◌, subst}
+use Rattle.std.specs.Prelude.{if◌then◌else◌, ⊤}
+use Rattle.bpaf_doc.specs.Buffer.Parts.{Part}
+use Rattle.bpaf_meta.specs.Content.{Tree, and_of, or_of, optional, required, adjacent, item, many, subsection, suffix, skip, custom_usage, strict, Trees, no_trees, tree, Leaf, any, positional, command, flag, argument}
+use Rattle.bpaf_meta.specs.Meta.Normal.{State, pull, shown_trees, and_form, or_form, is_command_tree, without_commands, with_first_command, optional_many_form, optional_form, required_form, many_form, custom_usage_form, item_form, normal_form, and_parts, or_parts, outer_form, normalized}
+use Rattle.bpaf_meta.specs.Meta.Shape.{HasStrict, SomeHasStrict}
+use Rattle.bpaf_meta.proofs.lemmas.Normal.Keeps.{name_form_twice}
+use Rattle.bpaf_meta.proofs.lemmas.Normal.Plain.{plain_parts, and_parts_plain, or_parts_plain, no_strict, normalized_plain, normalized_no_strict}
+
+-- its normal form is the tree itself
+abbrev Stays : Bool → State → Tree → Type 0
+Stays u s t = normal_form u s t ≡ t
+
+abbrev IsShown : Tree → Type 0
+IsShown skip = ⊥
+IsShown t = ⊤
+
+-- each part stays, is no Skip and has no Strict
+abbrev EachStays : Bool → State → Trees → Type 0
+EachStays u s no_trees = ⊤
+EachStays u s (tree t ts) = (Stays u s t × IsShown t × (¬ HasStrict t)) × EachStays u s ts
+
+kept_shown : (u : Bool) (s : State) (ts : Trees) → EachStays u s ts → shown_trees ts ≡ ts
+kept_shown u s no_trees h = refl
+kept_shown u s (tree skip ts) h = absurd h.0.1
+kept_shown u s (tree t ts) h = ap (λ vs. tree t vs) (kept_shown u s ts h.1)
+
+kept_plain : (u : Bool) (s : State) (ts : Trees) → EachStays u s ts → plain_parts u s ts ≡ ts
+kept_plain u s no_trees h = refl
+kept_plain u s (tree t ts) h = rw (h.0.0, kept_plain u s ts h.1) refl
+
+kept_no_strict : (u : Bool) (s : State) (ts : Trees) → EachStays u s ts → ¬ SomeHasStrict ts
+kept_no_strict u s no_trees h x = x
+kept_no_strict u s (tree t ts) h (inl x) = h.0.2 x
+kept_no_strict u s (tree t ts) h (inr x) = kept_no_strict u s ts h.1 x
+
+-- commands left out stay out
+
+choice_stays : (u : Bool) (s : State) (b : Bool) (ts vs : Trees) → EachStays u s ts → EachStays u s vs → EachStays u s (if b then ts else vs)
+choice_stays u s true ts vs h k = h
+choice_stays u s false ts vs h k = k
+
+without_stays : (u : Bool) (s : State) (ts : Trees) → EachStays u s ts → EachStays u s (without_commands ts)
+without_stays u s no_trees h = h
+without_stays u s (tree t ts) h = choice_stays u s (is_command_tree t) (without_commands ts) (tree t (without_commands ts)) (without_stays u s ts h.1) (h.0, without_stays u s ts h.1)
+
+first_stays : (u : Bool) (s : State) (ts : Trees) → EachStays u s ts → EachStays u s (with_first_command ts)
+first_stays u s no_trees h = h
+first_stays u s (tree t ts) h = (h.0, choice_stays u s (is_command_tree t) (without_commands ts) (with_first_command ts) (without_stays u s ts h.1) (first_stays u s ts h.1))
+
+without_step : (t : Tree) (ts : Trees) (b : Bool) → is_command_tree t ≡ b → without_commands (without_commands ts) ≡ without_commands ts → without_commands (if b then without_commands ts else tree t (without_commands ts)) ≡ (if b then without_commands ts else tree t (without_commands ts))
+without_step t ts true e h = h
+without_step t ts false e h = rw (e, h) refl
+
+without_twice : (ts : Trees) → without_commands (without_commands ts) ≡ without_commands ts
+without_twice no_trees = refl
+without_twice (tree t ts) = without_step t ts (is_command_tree t) refl (without_twice ts)
+
+first_step : (t : Tree) (ts : Trees) (b : Bool) → is_command_tree t ≡ b → with_first_command (with_first_command ts) ≡ with_first_command ts → with_first_command (tree t (if b then without_commands ts else with_first_command ts)) ≡ tree t (if b then without_commands ts else with_first_command ts)
+first_step t ts true e h = rw (e, without_twice ts) refl
+first_step t ts false e h = rw (e, h) refl
+
+first_twice : (ts : Trees) → with_first_command (with_first_command ts) ≡ with_first_command ts
+first_twice no_trees = refl
+first_twice (tree t ts) = first_step t ts (is_command_tree t) refl (first_twice ts)
+
+-- the forms stay
+
+and_form_stays : (u : Bool) (s : State) (ts : Trees) → EachStays u s ts → Stays u s (and_form ts)
+and_form_stays u s no_trees h = refl
+and_form_stays u s (tree t no_trees) h = h.0.0
+and_form_stays u s (tree t (tree v ts)) h =
+    let vs : Trees = tree t (tree v ts) in
+    let parts : and_parts u s vs ≡ vs = and_parts_plain u s vs (kept_no_strict u s vs h) ∙ kept_plain u s vs h in
+    let kept : shown_trees (and_parts u s vs) ≡ vs = ap shown_trees parts ∙ kept_shown u s vs h in
+    ap and_form kept
+
+or_form_stays : (u : Bool) (s : State) (ts : Trees) → EachStays u s ts → with_first_command ts ≡ ts → Stays u s (or_form ts)
+or_form_stays u s no_trees h e = refl
+or_form_stays u s (tree t no_trees) h e = h.0.0
+or_form_stays u s (tree t (tree v ts)) h e =
+    let vs : Trees = tree t (tree v ts) in
+    let parts : or_parts u s s vs ≡ vs = or_parts_plain u s vs (kept_no_strict u s vs h) ∙ kept_plain u s vs h in
+    let kept : with_first_command (shown_trees (or_parts u s s vs)) ≡ vs = ap (λ ws. with_first_command (shown_trees ws)) parts ∙ ap with_first_command (kept_shown u s vs h) ∙ e in
+    ap (λ ws. required_form (or_form ws)) kept
+
+optional-required_form : (t : Tree) → optional_form (required_form t) ≡ optional_form t
+optional-required_form (and_of ts) = refl
+optional-required_form (or_of ts) = refl
+optional-required_form t = refl
+
+outer-required_form : (t : Tree) → outer_form (required_form t) ≡ outer_form t
+outer-required_form (and_of ts) = refl
+outer-required_form (or_of ts) = refl
+outer-required_form t = refl
+
+inner_of_many : Tree → Tree
+inner_of_many (many t) = t
+inner_of_many t = skip
+
+inner-many_form : (t : Tree) → inner_of_many (many_form t) ≡ t
+unfolding inner_of_many
+inner-many_form skip = refl
+inner-many_form t = refl
+
+inner-many : (t v : Tree) → many_form t ≡ many v → t ≡ v
+unfolding inner_of_many
+inner-many t v e = sym (inner-many_form t) ∙ ap inner_of_many e
+
+optional_many_stays : (u : Bool) (s : State) (t : Tree) → Stays u s (many t) → Stays u s (optional_many_form t)
+optional_many_stays u s (required t) e =
+    let n : Tree = normal_form u s t in
+    let is : required_form n ≡ required t = inner-many (required_form n) (required t) e in
+    let opt : optional_form n ≡ optional t = sym (optional-required_form n) ∙ ap optional_form is in
+    ap many_form opt
+optional_many_stays u s t e = ap optional_form e
+
+optional_stays : (u : Bool) (s : State) (t : Tree) → Stays u s t → Stays u s (optional_form t)
+optional_stays u s skip e = refl
+optional_stays u s (required t) e = sym (optional-required_form (normal_form u s t)) ∙ ap optional_form e
+optional_stays u s (optional t) e = e
+optional_stays u s (many t) e = optional_many_stays u s t e
+optional_stays u s t e = ap optional_form e
+
+required_stays : (u : Bool) (s : State) (t : Tree) → Stays u s t → Stays u s (required_form t)
+required_stays u s skip e = refl
+required_stays u s (and_of ts) e = ap required_form e
+required_stays u s (or_of ts) e = ap required_form e
+required_stays u s t e = e
+
+many_stays : (u : Bool) (s : State) (t : Tree) → Stays u s t → Stays u s (many_form t)
+many_stays u s skip e = refl
+many_stays u s t e = ap many_form e
+
+usage_stays : (u : Bool) (s : State) (t : Tree) (d : List Part) → Stays u s t → Stays u s (custom_usage_form u t d)
+usage_stays true s t [] e = refl
+usage_stays true s t (p ∷ d) e = ap (λ n. custom_usage n (p ∷ d)) e
+usage_stays false s t d e = e
+
+item_stays : (u : Bool) (l : Leaf) → item_form u (item_form u l) ≡ item_form u l
+item_stays u (any m a h) = refl
+item_stays u (positional m h) = refl
+item_stays u (command n c h t i) = refl
+item_stays u (flag n s e h) = ap (λ m. flag m s e h) (name_form_twice u n)
+item_stays u (argument n s m e h) = ap (λ v. argument v s m e h) (name_form_twice u n)
+
+part_stays : (u : Bool) (s : State) (n : Tree) (ns : Trees) → Stays u s n → (¬ HasStrict n) → EachStays u s (shown_trees ns) → EachStays u s (shown_trees (tree n ns))
+part_stays u s skip ns e h k = k
+part_stays u s (strict n) ns e h k = absurd (h tt)
+part_stays u s n ns e h k = ((e, tt, h), k)
+
+mutual
+  normal_stays : (u : Bool) (s : State) (t : Tree) → (¬ HasStrict t) → Stays u s (normal_form u s t)
+  normal_stays u s (and_of ts) h =
+      let vs : Trees = plain_parts u s ts in
+      let is : normal_form u s (and_of ts) ≡ and_form (shown_trees vs) = ap (λ ws. and_form (shown_trees ws)) (and_parts_plain u s ts h) in
+      subst (Stays u s) (sym is) (and_form_stays u s (shown_trees vs) (parts_stay u s ts h))
+  normal_stays u s (or_of ts) h =
+      let vs : Trees = plain_parts u s ts in
+      let is : normal_form u s (or_of ts) ≡ or_form (with_first_command (shown_trees vs)) = ap (λ ws. or_form (with_first_command (shown_trees ws))) (or_parts_plain u s ts h) in
+      subst (Stays u s) (sym is) (or_form_stays u s (with_first_command (shown_trees vs)) (first_stays u s (shown_trees vs) (parts_stay u s ts h)) (first_twice (shown_trees vs)))
+  normal_stays u s (optional t) h = optional_stays u s (normal_form u s t) (normal_stays u s t h)
+  normal_stays u s (required t) h = required_stays u s (normal_form u s t) (normal_stays u s t h)
+  normal_stays u s (adjacent t) h = normal_stays u s t h
+  normal_stays u s (item l) h = ap item (item_stays u l)
+  normal_stays u s (many t) h = many_stays u s (normal_form u s t) (normal_stays u s t h)
+  normal_stays u s (subsection t d) h = normal_stays u s t h
+  normal_stays u s (suffix t d) h = normal_stays u s t h
+  normal_stays u s skip h = refl
+  normal_stays u s (custom_usage t d) h = usage_stays u s (normal_form u s t) d (normal_stays u s t h)
+  normal_stays u s (strict t) h = absurd (h tt)
+
+  parts_stay : (u : Bool) (s : State) (ts : Trees) → (¬ SomeHasStrict ts) → EachStays u s (shown_trees (plain_parts u s ts))
+  parts_stay u s no_trees h = tt
+  parts_stay u s (tree t ts) h = part_stays u s (normal_form u s t) (plain_parts u s ts) (normal_stays u s t (λ x. h (inl x))) (no_strict u s t (λ x. h (inl x))) (parts_stay u s ts (λ x. h (inr x)))
+
+outer_stays : (u : Bool) (s : State) (t : Tree) → Stays u s t → outer_form (normal_form u s (outer_form t)) ≡ outer_form t
+outer_stays u s (required (or_of ts)) e = ap outer_form e
+outer_stays u s (required t) e = sym (outer-required_form (normal_form u s t)) ∙ ap outer_form e
+outer_stays u s (or_of ts) e = ap (λ n. outer_form (required_form n)) e
+outer_stays u s t e = ap outer_form e
+
+-- without Strict, normalising twice is normalising once
+pub normalized_twice : (u : Bool) (t : Tree) → (¬ HasStrict t) → normalized u (normalized u t) ≡ normalized u t
+normalized_twice u t h =
+    let once : normalized u t ≡ outer_form (normal_form u pull t) = normalized_plain u t h in
+    let again : normalized u (normalized u t) ≡ outer_form (normal_form u pull (normalized u t)) = normalized_plain u (normalized u t) (normalized_no_strict u t h) in
+    again ∙ ap (λ n. outer_form (normal_form u pull n)) once ∙ outer_stays u pull (normal_form u pull t) (normal_stays u pull t h) ∙ sym once

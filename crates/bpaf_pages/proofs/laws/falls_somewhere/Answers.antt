@@ -1,5 +1,0 @@
-use Rattle.bpaf_pages.proofs.Listing.Somewhere.{falls_somewhere}
-use Rattle.bpaf_pages.proofs.laws.falls_somewhere.Goals as goal
-
-pub returns : goal.returns
-returns c = falls_somewhere
