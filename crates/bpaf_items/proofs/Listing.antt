@@ -1,6 +1,5 @@
 -- Lemmas of item lists.
 pub mod Blocks
-pub mod Chapters
 pub mod Headings
 pub mod KeyLaws
 pub mod PairedGroups

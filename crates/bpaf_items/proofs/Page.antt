@@ -2,7 +2,6 @@
 pub mod EnvEntries
 pub mod EnvLaws
 pub mod GroupSteps
-pub mod HeadlineLaws
 pub mod Leaving
 pub mod NestedPages
 pub mod PageSteps

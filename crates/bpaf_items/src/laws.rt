@@ -2,10 +2,9 @@
 
 ghost use Rattle.bpaf_items.specs.Page.EnvTexts.{TextsAreInserted};
 ghost use Rattle.bpaf_items.specs.Listing.Groups.{GroupsAreTakenOut};
-ghost use Rattle.bpaf_items.specs.Page.Headline.{HeadlineFollows};
 ghost use Rattle.bpaf_items.specs.Listing.Keys.{IsEqualityOfKeys, IsOrderOfKeys};
-ghost use Rattle.bpaf_items.specs.Listing.ListLaws.{ChaptersAreListed, FallsSomewhere, HeadingsAgree, IsEqualityOfTypes, KeyOnce};
-ghost use Rattle.bpaf_items.specs.Page.NestedTexts.{CollectedPagesAreNested, GroupsAreNested, HelpPagesAreNested, ItemListsAreNested, ManualPagesAreNested};
+ghost use Rattle.bpaf_items.specs.Listing.ListLaws.{FallsSomewhere, HeadingsAgree, IsEqualityOfTypes, KeyOnce};
+ghost use Rattle.bpaf_items.specs.Page.NestedTexts.{GroupsAreNested, HelpPagesAreNested, ItemListsAreNested};
 
 /// Two types are equal exactly where they are the same.
 #[tactic(auto, using(crate::proofs::Listing::KeyLaws::equality_of_types))]
@@ -41,35 +40,22 @@ pub fn headings_agree()
     ensures { HeadingsAgree }
 {}
 
-/// The chapters of the commands of a tree are those of the commands that its item list has, in order.
-#[tactic(auto, using(crate::proofs::Listing::Chapters::chapters_are_listed))]
-pub fn chapters_are_listed()
-    ensures { ChaptersAreListed }
-{}
-
 /// An inserted text is the one for its name, and no other changes.
 #[tactic(auto, using(crate::proofs::Page::EnvLaws::texts_are_inserted))]
 pub fn texts_are_inserted()
     ensures { TextsAreInserted }
 {}
 
-/// The pages of well-nested texts are well nested.
-#[tactic(auto, using(crate::proofs::Page::NestedPages::help_pages_are_nested, crate::proofs::Page::NestedPages::collected_pages_are_nested, crate::proofs::Page::NestedPages::manual_pages_are_nested))]
-pub fn pages_are_nested()
-    ensures help { HelpPagesAreNested }
-    ensures collected { CollectedPagesAreNested }
-    ensures manual { ManualPagesAreNested }
+/// The help pages of well-nested texts are well nested.
+#[tactic(auto, using(crate::proofs::Page::NestedPages::help_pages_are_nested))]
+pub fn help_pages_are_nested()
+    ensures { HelpPagesAreNested }
 {}
 
 /// So are the groups and headings of an item list, wherever they are written.
 pub fn groups_are_nested()
     ensures lists { ItemListsAreNested }
     ensures groups { GroupsAreNested }
-{}
-
-/// The headline follows from what each call promises.
-pub fn headline_follows()
-    ensures { HeadlineFollows }
 {}
 
 /// The groups of an item list can be taken out one after another: its members are those of the groups, in order.

@@ -14,7 +14,7 @@ use Rattle.bpaf_meta.specs.Content.{short, long, both, Tree, and_of, or_of, adja
 use Rattle.bpaf_items.specs.Listing.ItemList.{item_list}
 use Rattle.bpaf_items.specs.Page.EnvTexts.{no_texts, texts_with}
 use Rattle.bpaf_items.specs.Page.HelpPage.{groups_writes, help_page_writes}
-use Rattle.bpaf_items.specs.Page.Chapters.{collected_writes, manual_writes}
+use Rattle.bpaf_help.specs.Chapters.{collected_writes, manual_writes}
 
 abbrev t0 : Tree
 t0 = (adjacent (and_of (tree (subsection (and_of (tree (item (flag (short 97) ([]) None None)) (tree (adjacent (and_of (tree (item (flag (long (codes "b")) ([]) None None)) (tree (item (flag (long (codes "c")) ([]) None (Some (Text (codes "C") style.Text ∷ [])))) no_trees)))) (tree (item (flag (short 100) ([]) None None)) no_trees)))) (Text (codes "G") style.Text ∷ [])) (tree (item (flag (short 101) ([]) None None)) (tree (item (flag (short 102) ([]) None (Some (Text (codes "F") style.Text ∷ [])))) no_trees)))))

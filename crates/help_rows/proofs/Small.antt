@@ -19,7 +19,7 @@ use Rattle.bpaf_items.specs.Listing.Groups.{find_group}
 use Rattle.bpaf_items.specs.Page.EnvTexts.{Texts, no_texts, texts_with}
 use Rattle.bpaf_items.specs.Page.EntryWrites.{entry_writes, argument_env_text}
 use Rattle.bpaf_items.specs.Page.HelpPage.{help_page_writes}
-use Rattle.bpaf_items.specs.Page.Chapters.{chapters_of, summary_line, collected_writes, manual_writes}
+use Rattle.bpaf_help.specs.Chapters.{chapters_of, summary_line, collected_writes, manual_writes}
 
 abbrev h : List Part
 h = Text (codes "h") style.Text ∷ []

@@ -1,6 +1,6 @@
 //! Rows of the definitions as equations that compute, and a caller of the library.
 //!
-//! The rows stand apart from `bpaf_items`, since `is_uppercase` computes only where the tables of Unicode are listed.
+//! The rows stand apart from `bpaf_help`, since `is_uppercase` computes only where the tables of Unicode are listed.
 #![tactic(auto)]
 
 ghost use Rattle.std.specs.Prelude.{false, map, string_bytes};
@@ -10,8 +10,8 @@ ghost use Rattle.bpaf_items.specs.Page.PageAnswers.{IsHelpPageAnswer};
 ghost use Rattle.bpaf_items.specs.View.{answer_of};
 
 use bpaf_doc::buffer::Doc;
-use bpaf_items::meta::Meta;
-use bpaf_items::meta_help::{EnvTexts, HelpError, Info, render_help};
+use bpaf_help::meta::Meta;
+use bpaf_help::meta_help::{EnvTexts, HelpError, Info, render_help};
 use std::alloc::Global;
 
 /// The help page of a program, without the texts of its environment.

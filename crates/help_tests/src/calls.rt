@@ -3,9 +3,9 @@ use crate::heaps::taken;
 use crate::rows::path;
 use crate::trees::{info, tree};
 use bpaf_doc::buffer::Doc;
-use bpaf_meta::item::{Item, ShortLong};
-use bpaf_meta::meta::Meta;
-use bpaf_items::meta_help::{EnvTexts, HelpError, HelpItems, render_help, write_help_item_groups};
+use bpaf_help::item::{Item, ShortLong};
+use bpaf_help::meta::Meta;
+use bpaf_help::meta_help::{EnvTexts, HelpError, HelpItems, render_help, write_help_item_groups};
 use linked_list_allocator::LocalHeap;
 use std::alloc::{AllocError, Allocator, Global};
 

@@ -1,8 +1,8 @@
 //! Trees from short texts.
 use bpaf_doc::buffer::Doc;
-use bpaf_meta::item::{Item, ShortLong};
-use bpaf_meta::meta::Meta;
-use bpaf_meta::meta_help::{Info, Metavar};
+use bpaf_help::item::{Item, ShortLong};
+use bpaf_help::meta::Meta;
+use bpaf_help::meta_help::{Info, Metavar};
 use std::alloc::{AllocError, Global};
 
 /// The tree that a text spells over a stack of trees. `X` is a positional value with help, `C` a command of the same name and

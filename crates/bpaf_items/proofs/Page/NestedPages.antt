@@ -25,48 +25,47 @@ use Rattle.bpaf_items.specs.Listing.Falls.{Placed, placed_after, is_group_mark, 
 use Rattle.bpaf_items.specs.Page.EnvTexts.{Texts, no_texts}
 use Rattle.bpaf_items.specs.Page.EntryWrites.{term, help_writes, names_writes, command_writes, env_body, env_term, env_writes, flag_env_text, argument_env_text, listed_writes, entry_writes}
 use Rattle.bpaf_items.specs.Page.HelpPage.{list_writes, heading_writes, groups_writes, doc_within, usage_line_writes, help_page_writes, help_tree}
-use Rattle.bpaf_items.specs.Page.Chapters.{Chapter, chapters_of, summary_line, spaced, anchor, if_many, chapter_page, synopsis_line, manual_name, manual_chapter}
-use Rattle.bpaf_items.specs.Page.NestedTexts.{IsNestedText, HasNestedText, HasNestedTexts, EachHasNestedTexts, HasNestedHead, HasNestedChapter, HasNestedEntry, KeepsNested, ItemListsAreNested, GroupsAreNested, HelpPagesAreNested, CollectedPagesAreNested, ManualPagesAreNested}
+use Rattle.bpaf_items.specs.Page.NestedTexts.{IsNestedText, HasNestedText, HasNestedTexts, EachHasNestedTexts, HasNestedHead, HasNestedEntry, KeepsNested, ItemListsAreNested, GroupsAreNested, HelpPagesAreNested}
 use Rattle.bpaf_items.proofs.Listing.Placing.{placed_after-append}
 use Rattle.bpaf_items.proofs.Listing.Blocks.{item_list_blocks}
 use Rattle.bpaf_items.proofs.Listing.PairedGroups.{blocks_paired, IsWholeGroup, group_whole, part_all, part_clear}
 
 -- ---- what keeps a document well nested
 
-record Keeps (ws : List Write) : Type 0 where
+pub record Keeps (ws : List Write) : Type 0 where
   pub nested : KeepsNested ws
 
-nothing_keeps : Keeps []
+pub nothing_keeps : Keeps []
 nothing_keeps = record { nested = λ ps h. h }
 
-text_then : (bytes : List ℕ) (style : Style) {ws : List Write} → Keeps ws → Keeps (text bytes style ∷ ws)
+pub text_then : (bytes : List ℕ) (style : Style) {ws : List Write} → Keeps ws → Keeps (text bytes style ∷ ws)
 text_then bytes style f = record { nested = λ ps h. f.nested (with_write ps (text bytes style)) (IsWellNested-with_text bytes style h) }
 
-both_keep : {vs ws : List Write} → Keeps vs → Keeps ws → Keeps (vs ++ ws)
+pub both_keep : {vs ws : List Write} → Keeps vs → Keeps ws → Keeps (vs ++ ws)
 both_keep {vs} {ws} f g = record { nested = λ ps h. subst IsWellNested (sym (with_writes-append ps vs ws)) (g.nested (with_writes ps vs) (f.nested ps h)) }
 
-doc_keeps : (d : List Part) → IsWellNested d → Keeps (doc_writes d)
+pub doc_keeps : (d : List Part) → IsWellNested d → Keeps (doc_writes d)
 doc_keeps d k = record { nested = λ ps h. IsWellNested-in_block block.InlineBlock ps d h k }
 
 em_doc_keeps : (d : List Part) → IsWellNested d → Keeps (em_doc_writes d)
 em_doc_keeps d k = record { nested = λ ps h. IsWellNested-em_doc ps d h k }
 
-path_keeps : (path : List (List ℕ)) → Keeps (path_writes path)
+pub path_keeps : (path : List (List ℕ)) → Keeps (path_writes path)
 path_keeps path = record { nested = λ ps h. IsWellNested-path path ps h }
 
-inside_keeps : (b : Block) {ws : List Write} → Keeps ws → Keeps (inside b ws)
+pub inside_keeps : (b : Block) {ws : List Write} → Keeps ws → Keeps (inside b ws)
 inside_keeps b {ws} f = record { nested = λ ps h. IsWellNested-inside b ps ws h (f.nested [] (nothing refl)) }
 
-written_keeps : {ws : List Write} → Keeps ws → IsWellNested (document_of ws)
+pub written_keeps : {ws : List Write} → Keeps ws → IsWellNested (document_of ws)
 written_keeps f = f.nested [] (nothing refl)
 
-usage_keeps : (t : Tree) → HasNestedDocs t → Keeps (usage_writes true t)
+pub usage_keeps : (t : Tree) → HasNestedDocs t → Keeps (usage_writes true t)
 usage_keeps t h = record { nested = form_keeps (normalized true t) (normalized_nested true t h) }
 
 value_keeps : (m : List ℕ) → Keeps (metavar_writes m)
 value_keeps m = record { nested = metavar_keeps m }
 
-each_keeps : {X : Type 0} (P : X → Type 0) (f : X → List Write) → ((x : X) → P x → Keeps (f x)) → (xs : List X) → All P xs → Keeps (flat_map f xs)
+pub each_keeps : {X : Type 0} (P : X → Type 0) (f : X → List Write) → ((x : X) → P x → Keeps (f x)) → (xs : List X) → All P xs → Keeps (flat_map f xs)
 each_keeps P f k [] h = nothing_keeps
 each_keeps P f k (x ∷ xs) h = both_keep (k x (All-head P x xs h)) (each_keeps P f k xs (All-tail P x xs h))
 
@@ -80,7 +79,7 @@ help_nested (flag n s e h) k = tt
 help_nested (argument n s m e h) k = tt
 
 mutual
-  docs_nested : (t : Tree) → HasNestedTexts t → HasNestedDocs t
+  pub docs_nested : (t : Tree) → HasNestedTexts t → HasNestedDocs t
   docs_nested (and_of ts) h = each_docs_nested ts h
   docs_nested (or_of ts) h = each_docs_nested ts h
   docs_nested (optional t) h = docs_nested t h
@@ -306,11 +305,11 @@ groups_are_nested included texts es is h = (groups_keep included texts es is h).
 two_lists : (t help : Tree) → IsItemList (item_list t ++ item_list help)
 two_lists t help = (t ∷ help ∷ [], ap (λ es. item_list t ++ es) (sym (append-nil (item_list help))))
 
-two_keep : (included : Bool) (texts : Texts) (t help : Tree) → HasNestedTexts t → HasNestedTexts help → Keeps (groups_writes included texts (item_list t ++ item_list help))
+pub two_keep : (included : Bool) (texts : Texts) (t help : Tree) → HasNestedTexts t → HasNestedTexts help → Keeps (groups_writes included texts (item_list t ++ item_list help))
 two_keep included texts t help h k =
     groups_keep included texts (item_list t ++ item_list help) (two_lists t help) (All-append HasNestedEntry (item_list t) (item_list help) (tree_nested true t h) (tree_nested true help k))
 
-within_keeps : (d : Option (List Part)) → IsNestedText d → Keeps (doc_within block.Block d)
+pub within_keeps : (d : Option (List Part)) → IsNestedText d → Keeps (doc_within block.Block d)
 within_keeps None h = nothing_keeps
 within_keeps (Some d) h = inside_keeps block.Block (doc_keeps d h)
 
@@ -329,58 +328,3 @@ page_keeps path (head descr header footer usage own) t help included texts h k l
 
 pub help_pages_are_nested : HelpPagesAreNested
 help_pages_are_nested path i t help included texts h k l = written_keeps (page_keeps path i t help included texts h k l)
-
-many_keep : (cs : List Chapter) {ws : List Write} → Keeps ws → Keeps (if_many cs ws)
-many_keep [] f = nothing_keeps
-many_keep (c ∷ []) f = nothing_keeps
-many_keep (c ∷ d ∷ cs) f = f
-
-summary_keeps : (c : Chapter) → HasNestedChapter c → Keeps (summary_line c)
-summary_keeps c h = inside_keeps block.ItemBody (text_then (codes "* [`" ++ spaced c.path ++ codes "`" ++ encode_utf8 0x21b4 ++ codes "](#" ++ anchor c.path ++ codes ")") style.Text nothing_keeps)
-
-help_tree_nested : (i : Head) → HasNestedHead i → HasNestedTexts (help_tree i)
-help_tree_nested (head descr header footer usage help) h = h.4
-
-chapter_keeps : (c : Chapter) → HasNestedChapter c → Keeps (chapter_page c)
-chapter_keeps c h =
-    both_keep (inside_keeps block.Header (text_then (spaced c.path) style.Text nothing_keeps))
-    (doc_keeps (document_of (help_page_writes c.path c.info c.content (help_tree c.info) false no_texts)) (help_pages_are_nested c.path c.info c.content (help_tree c.info) false no_texts h.0 h.1 (help_tree_nested c.info h.0)))
-
-pub collected_pages_are_nested : CollectedPagesAreNested
-collected_pages_are_nested app t i h =
-    let chapters : List Chapter = chapters_of (app ∷ []) i t in
-    written_keeps
-    (both_keep
-    (many_keep chapters (both_keep
-    (inside_keeps block.Block (inside_keeps block.Header (text_then (codes "Command summary") style.Text nothing_keeps)))
-    (each_keeps HasNestedChapter summary_line summary_keeps chapters h)))
-    (each_keeps HasNestedChapter chapter_page chapter_keeps chapters h))
-
-synopsis_keeps : (c : Chapter) → HasNestedChapter c → Keeps (synopsis_line c)
-synopsis_keeps c h = both_keep (both_keep (path_keeps c.path) (usage_keeps c.content (docs_nested c.content h.1))) (text_then (10 ∷ []) style.Text nothing_keeps)
-
-name_keeps : (app : List ℕ) (d : Option (List Part)) → IsNestedText d → Keeps (manual_name app d)
-name_keeps app None h = nothing_keeps
-name_keeps app (Some d) h = both_keep (inside_keeps block.Header (text_then (codes "NAME") style.Text nothing_keeps)) (text_then app style.Text (text_then (codes " - ") style.Text (doc_keeps d h)))
-
-manual_chapter_keeps : (app : List ℕ) (path : List (List ℕ)) (t : Tree) (i : Head) → HasNestedHead i → HasNestedTexts t → Keeps (manual_chapter app path t i)
-manual_chapter_keeps app path t (head descr header footer usage help) h k =
-    both_keep (both_keep (both_keep (both_keep (both_keep (both_keep
-    (name_keeps app descr h.0)
-    (inside_keeps block.Header (text_then (codes "SYNOPSIS") style.Text nothing_keeps)))
-    (path_keeps path))
-    (usage_keeps t (docs_nested t k)))
-    (within_keeps header h.1))
-    (two_keep false no_texts t help k h.4))
-    (within_keeps footer h.2)
-
-pub manual_pages_are_nested : ManualPagesAreNested
-manual_pages_are_nested app t i h =
-    let chapters : List Chapter = chapters_of (app ∷ []) i t in
-    written_keeps
-    (both_keep
-    (many_keep chapters (both_keep
-    (inside_keeps block.Block (inside_keeps block.Header (text_then (codes "SYNOPSIS") style.Text nothing_keeps)))
-    (inside_keeps block.Meta (each_keeps HasNestedChapter synopsis_line synopsis_keeps chapters h))))
-    (each_keeps HasNestedChapter (λ c. if_many chapters (inside block.Header (path_writes c.path)) ++ manual_chapter app c.path c.content c.info)
-    (λ c k. both_keep (many_keep chapters (inside_keeps block.Header (path_keeps c.path))) (manual_chapter_keeps app c.path c.content c.info k.0 k.1)) chapters h))

@@ -2,8 +2,11 @@
 use Rattle.std.proofs.Common.{◌≡◌, List, [], ◌++◌, ap, sym, ◌∙◌, append_assoc, append-nil}
 use Rattle.std.specs.Prelude.{if◌then◌else◌, ◌∷◌, Some, None, refl}
 use Rattle.std.specs.Prelude.{Result, Ok, Err, OnOk, flat_map}
+use Rattle.std.specs.Prelude.{Option}
+use Rattle.std.specs.Option.{option_or}
 use Rattle.std.proofs.lemmas.Grind.{flat_map-append}
 use Rattle.bpaf_meta.specs.Content.{Tree, Leaf, any, positional, command, flag, argument}
+use Rattle.bpaf_items.specs.declared.meta_help.entry.HiTy.{HiTy}
 use Rattle.bpaf_items.specs.Listing.ItemList.{Entry, entry_of_item, item_entries, item_list, IsItemList}
 use Rattle.bpaf_items.specs.Steps.Given.{is_listed}
 use Rattle.bpaf_items.specs.Steps.Growth.{IsFront}
@@ -33,3 +36,12 @@ IsItemList-append es t (ts, e) = (ts ++ t ∷ [], ap (λ fs. fs ++ item_list t) 
 pub OnOk-map : {X E : Type 0} {P Q : Type 0} (r : Result X E) → (P → Q) → OnOk r P → OnOk r Q
 OnOk-map (Ok x) f p = f p
 OnOk-map (Err e) f p = p
+
+-- a choice of two that gives nothing
+pub none_first : (o p : Option HiTy) → option_or o p ≡ None → o ≡ None
+none_first None p e = refl
+none_first (Some k) p e = cc
+
+pub none_second : (o p : Option HiTy) → option_or o p ≡ None → p ≡ None
+none_second None p e = e
+none_second (Some k) p e = cc

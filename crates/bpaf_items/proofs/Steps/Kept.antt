@@ -9,8 +9,7 @@ use Rattle.bpaf_meta.specs.Content.{Tree, and_of, or_of, optional, required, adj
 use Rattle.bpaf_items.specs.declared.meta_help.entry.HiTy.{HiTy}
 use Rattle.bpaf_items.specs.Listing.ItemList.{Entry, front_type, first_front_type, adjacent_entries, group_entries, noted_entries, entries_with_type, entries_of, entries_of_parts}
 use Rattle.bpaf_items.specs.Steps.Growth.{IsFront}
-use Rattle.bpaf_items.proofs.Listing.Chapters.{none_first, none_second}
-use Rattle.bpaf_items.proofs.Steps.Fronts.{front_then}
+use Rattle.bpaf_items.proofs.Steps.Fronts.{none_first, none_second, front_then}
 
 mutual
   pub no_entries : (g : Bool) (t : Tree) → front_type t ≡ None → entries_of g t ≡ []

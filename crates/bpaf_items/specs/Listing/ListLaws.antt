@@ -4,7 +4,6 @@ use Rattle.bpaf_items.specs.declared.meta_help.entry.HiTy.{HiTy}
 use Rattle.bpaf_meta.specs.Content.{Tree, Leaf}
 use Rattle.bpaf_items.specs.Listing.ItemList.{Entry, listed, item_list, IsItemList}
 use Rattle.bpaf_items.specs.Listing.Falls.{same_type, Placed, placed, is_adjacent_start, is_adjacent_stop, lacks_help, destination, nowhere, outside_groups, heading_members, items_of_type, has_key_of, shown_places, shown_entries}
-use Rattle.bpaf_items.specs.Page.Chapters.{command_chapters, entry_chapters}
 
 -- two types are equal exactly where they are the same
 abbrev pub IsEqualityOfTypes : Type 0
@@ -29,7 +28,3 @@ KeyOnce = (es : List Entry) (l : Leaf) → IsShownOnce es l
 -- under a heading fall the entries that `items_of_ty` gives of those outside groups
 abbrev pub HeadingsAgree : Type 0
 HeadingsAgree = (es : List Entry) (k : HiTy) → heading_members es k ≡ items_of_type (outside_groups es) k
-
--- the chapters of the commands of a tree are those of the commands that its item list has, in order
-abbrev pub ChaptersAreListed : Type 0
-ChaptersAreListed = (path : List (List ℕ)) (t : Tree) → flat_map (entry_chapters path) (item_list t) ≡ command_chapters path t

@@ -1,4 +1,4 @@
--- The documents that help pages and manual pages write are well nested.
+-- The documents that help pages write are well nested.
 use Rattle.std.specs.Prelude.{ℕ, Bool, ⊤, List, ◌∷◌, [], All, Option, Some, None}
 use Rattle.bpaf_doc.specs.Buffer.Parts.{Part, IsWellNested}
 use Rattle.bpaf_doc.specs.Buffer.Writes.{Write, with_writes, document_of}
@@ -7,7 +7,6 @@ use Rattle.bpaf_meta.specs.Usage.Nested.{HasNestedDocs}
 use Rattle.bpaf_items.specs.Listing.ItemList.{Entry, listed, note, group_start, group_end, adjacent_start, adjacent_stop, item_list, IsItemList}
 use Rattle.bpaf_items.specs.Page.EnvTexts.{Texts}
 use Rattle.bpaf_items.specs.Page.HelpPage.{groups_writes, help_page_writes}
-use Rattle.bpaf_items.specs.Page.Chapters.{Chapter, chapters_of, collected_writes, manual_writes}
 
 -- ---- premises
 
@@ -48,13 +47,6 @@ abbrev mutual
 abbrev pub HasNestedHead : Head → Type 0
 HasNestedHead (head descr header footer usage help) = IsNestedText descr × IsNestedText header × IsNestedText footer × IsNestedText usage × HasNestedTexts help
 
--- those of an application and of all its commands, each with its info
-abbrev pub HasNestedChapter : Chapter → Type 0
-HasNestedChapter c = HasNestedHead c.info × HasNestedTexts c.content
-
-abbrev pub HasNestedPages : (app : List ℕ) → Head → Tree → Type 0
-HasNestedPages app i t = All HasNestedChapter (chapters_of (app ∷ []) i t)
-
 -- what an entry writes of documents
 abbrev pub HasNestedEntry : Entry → Type 0
 HasNestedEntry (listed l) = HasNestedText l
@@ -80,9 +72,3 @@ GroupsAreNested = (include_env : Bool) (texts : Texts) (es : List Entry) → IsI
 abbrev pub HelpPagesAreNested : Type 0
 HelpPagesAreNested = (path : List (List ℕ)) (i : Head) (t help : Tree) (include_env : Bool) (texts : Texts)
     → HasNestedHead i → HasNestedTexts t → HasNestedTexts help → IsWellNested (document_of (help_page_writes path i t help include_env texts))
-
-abbrev pub CollectedPagesAreNested : Type 0
-CollectedPagesAreNested = (app : List ℕ) (t : Tree) (i : Head) → HasNestedPages app i t → IsWellNested (document_of (collected_writes app t i))
-
-abbrev pub ManualPagesAreNested : Type 0
-ManualPagesAreNested = (app : List ℕ) (t : Tree) (i : Head) → HasNestedPages app i t → IsWellNested (document_of (manual_writes app t i))

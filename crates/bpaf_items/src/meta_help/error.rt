@@ -9,3 +9,15 @@ pub enum HelpError<'m, A: Allocator = Global> {
     Memory(AllocError),
     Misplaced(&'m Item<A>),
 }
+
+impl<'m, A: Allocator> From<AllocError> for HelpError<'m, A> {
+    ghost use Rattle.std.specs.Prelude.{◌≡◌};
+    ghost use Rattle.bpaf_items.specs.declared.meta_help.error.HelpError.TheVariants.{Memory};
+
+    ghost from_gives = { λ refused error. error ≡ Memory refused };
+
+    /// A refused growth.
+    fn from(refused: AllocError) -> HelpError<'m, A> {
+        HelpError::Memory(refused)
+    }
+}

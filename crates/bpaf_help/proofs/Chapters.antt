@@ -1,23 +1,14 @@
 -- The commands of an item list are those of the tree.
 use Rattle.std.proofs.Common.{◌≡◌, Bool, true, false, ℕ, List, [], ◌∷◌, ◌++◌, refl, sym, ap, ◌∙◌}
 use Rattle.std.specs.Prelude.{Option, Some, None, flat_map}
-use Rattle.std.specs.Option.{option_or}
 use Rattle.std.proofs.lemmas.List.{append-nil}
 use Rattle.std.proofs.lemmas.Grind.{flat_map-append}
 use Rattle.bpaf_doc.specs.Buffer.Parts.{Part}
 use Rattle.bpaf_meta.specs.Content.{Tree, and_of, or_of, optional, required, adjacent, item, many, subsection, suffix, skip, custom_usage, strict, Trees, no_trees, tree, Leaf, any, positional, command, flag, argument}
+use Rattle.bpaf_items.proofs.Steps.Fronts.{none_first, none_second}
 use Rattle.bpaf_items.specs.declared.meta_help.entry.HiTy.{HiTy}
 use Rattle.bpaf_items.specs.Listing.ItemList.{Entry, note, group_end, adjacent_stop, front_type, first_front_type, item_entries, adjacent_entries, group_entries, noted_entries, entries_with_type, entries_of, entries_of_parts}
-use Rattle.bpaf_items.specs.Page.Chapters.{Chapter, command_chapters, part_chapters, item_chapters, entry_chapters}
-use Rattle.bpaf_items.specs.Listing.ListLaws.{ChaptersAreListed}
-
-pub none_first : (o p : Option HiTy) → option_or o p ≡ None → o ≡ None
-none_first None p e = refl
-none_first (Some k) p e = cc
-
-pub none_second : (o p : Option HiTy) → option_or o p ≡ None → p ≡ None
-none_second None p e = e
-none_second (Some k) p e = cc
+use Rattle.bpaf_help.specs.Chapters.{Chapter, command_chapters, part_chapters, item_chapters, entry_chapters, ChaptersAreListed}
 
 mutual
   no_chapters : (path : List (List ℕ)) (t : Tree) → front_type t ≡ None → command_chapters path t ≡ []

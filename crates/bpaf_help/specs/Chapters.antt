@@ -55,6 +55,10 @@ abbrev pub entry_chapters : (path : List (List ℕ)) → Entry → List Chapter
 entry_chapters path (listed l) = item_chapters path l
 entry_chapters path e = []
 
+-- the chapters of the commands of a tree are those of the commands that its item list has, in order
+abbrev pub ChaptersAreListed : Type 0
+ChaptersAreListed = (path : List (List ℕ)) (t : Tree) → flat_map (entry_chapters path) (item_list t) ≡ command_chapters path t
+
 -- no item of any chapter is misplaced
 abbrev pub AreWellPlaced : List Chapter → Type 0
 AreWellPlaced = All (λ c. IsWellPlaced c.content)
@@ -71,27 +75,43 @@ pub record IsFirstMisplacedOf (chapters : List Chapter) (l : Leaf) : Type 0 wher
 abbrev pub spaced : List (List ℕ) → List ℕ
 spaced = join_with_byte 32
 
+-- a blank as `-`
+abbrev pub dashed_byte : ℕ → ℕ
+dashed_byte c = if c == 32 then 45 else c
+
 -- the path joined by `-`, with small ASCII letters and blanks as `-`
 abbrev pub anchor : List (List ℕ) → List ℕ
-anchor path = map (λ c. if c == 32 then 45 else c) (str_to_ascii_lowercase (join_with_byte 45 path))
+anchor path = map dashed_byte (str_to_ascii_lowercase (join_with_byte 45 path))
 
--- a line of the command summary, as a link to its chapter
+-- what a line of the command summary says: the path, and a link to its chapter
+abbrev pub summary_text : List (List ℕ) → List ℕ
+summary_text path = codes "* [`" ++ spaced path ++ codes "`" ++ encode_utf8 0x21b4 ++ codes "](#" ++ anchor path ++ codes ")"
+
 abbrev pub summary_line : Chapter → List Write
-summary_line c = body (plain (codes "* [`" ++ spaced c.path ++ codes "`" ++ encode_utf8 0x21b4 ++ codes "](#" ++ anchor c.path ++ codes ")") ∷ [])
+summary_line c = body (plain (summary_text c.path) ∷ [])
 
 -- writes for two or more chapters only
 abbrev pub if_many : List Chapter → List Write → List Write
 if_many (c ∷ d ∷ cs) ws = ws
 if_many cs ws = []
 
+-- above the pages
+abbrev pub summary_writes : List Chapter → List Write
+summary_writes chapters = inside block.Block (inside block.Header (plain (codes "Command summary") ∷ [])) ++ flat_map summary_line chapters
+
+-- the help page of a chapter, with the help tree of its own info and without environment texts
+abbrev pub own_page_writes : Chapter → List Write
+own_page_writes c = help_page_writes c.path c.info c.content (help_tree c.info) false no_texts
+
+-- and under its path
 abbrev pub chapter_page : Chapter → List Write
-chapter_page c = inside block.Header (plain (spaced c.path) ∷ []) ++ doc_writes (document_of (help_page_writes c.path c.info c.content (help_tree c.info) false no_texts))
+chapter_page c = inside block.Header (plain (spaced c.path) ∷ []) ++ doc_writes (document_of (own_page_writes c))
 
 -- `collect_html`: a summary where there are two or more chapters, then the help page of each
 abbrev pub collected_writes : (app : List ℕ) → Tree → Head → List Write
 collected_writes app t i =
     let chapters : List Chapter = chapters_of (app ∷ []) i t in
-    if_many chapters (inside block.Block (inside block.Header (plain (codes "Command summary") ∷ [])) ++ flat_map summary_line chapters)
+    if_many chapters (summary_writes chapters)
     ++ flat_map chapter_page chapters
 
 -- a line of the manual page's synopsis
@@ -111,9 +131,13 @@ manual_chapter app path t (head descr header footer usage help) =
     ++ groups_writes false no_texts (item_list t ++ item_list help)
     ++ doc_within block.Block footer
 
+-- above the chapters of the manual page
+abbrev pub synopsis_writes : List Chapter → List Write
+synopsis_writes chapters = inside block.Block (inside block.Header (plain (codes "SYNOPSIS") ∷ [])) ++ inside block.Meta (flat_map synopsis_line chapters)
+
 -- the document of `render_manpage`
 abbrev pub manual_writes : (app : List ℕ) → Tree → Head → List Write
 manual_writes app t i =
     let chapters : List Chapter = chapters_of (app ∷ []) i t in
-    if_many chapters (inside block.Block (inside block.Header (plain (codes "SYNOPSIS") ∷ [])) ++ inside block.Meta (flat_map synopsis_line chapters))
+    if_many chapters (synopsis_writes chapters)
     ++ flat_map (λ c. if_many chapters (inside block.Header (path_writes c.path)) ++ manual_chapter app c.path c.content c.info) chapters

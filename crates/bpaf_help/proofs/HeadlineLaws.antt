@@ -1,7 +1,7 @@
 -- The headline, from what each call promises.
 use Rattle.std.proofs.Common.{◌≡◌, true, sym, ◌∙◌, subst, append-nil}
 use Rattle.bpaf_doc.specs.Html.Page.{IsHtmlOf}
-use Rattle.bpaf_items.specs.Page.Headline.{HeadlineFollows}
+use Rattle.bpaf_help.specs.Headline.{HeadlineFollows}
 
 pub headline_follows : HeadlineFollows
 headline_follows document width made for_usage tree normal words info manual h layout html roff shape kept shows page =

@@ -11,7 +11,7 @@ use Rattle.bpaf_doc.specs.Manpage.Page.{TakesDocument, IsPageOf}
 use Rattle.bpaf_meta.specs.Content.{Tree, Head}
 use Rattle.bpaf_meta.specs.Meta.Shape.{HasUsageShape, KeepsStrict}
 use Rattle.bpaf_meta.specs.Meta.Sequences.{ShowsSame}
-use Rattle.bpaf_items.specs.Page.PageAnswers.{IsManualOf}
+use Rattle.bpaf_help.specs.PageAnswers.{IsManualOf}
 
 -- what the manual page of an application says beside its tree
 pub record Title : Type 0 where

@@ -1,0 +1,13 @@
+use Rattle.std.proofs.Common.{◌≡◌, ◌≤◌, length, map, take}
+use Rattle.std.specs.Prelude.{flat_map}
+use Rattle.bpaf_doc.specs.Buffer.Writes.{with_writes}
+use Rattle.bpaf_help.specs.Chapters.{AreWellPlaced, chapter_page}
+use Rattle.bpaf_help.specs.View.{chapter_of}
+use Rattle.bpaf_help.proofs.pages.collected_writes.put_pages.Given as goal
+
+abbrev pub invariant-loop-section : goal.invariant-loop-section
+invariant-loop-section g l = record {
+  in_range : l.section-index ≤ length l.sections;
+  placed : AreWellPlaced (map chapter_of (take l.section-index l.sections));
+  written : l.doc ≡ with_writes l.fn.doc (flat_map (λ s. chapter_page (chapter_of s)) (take l.section-index l.sections));
+}

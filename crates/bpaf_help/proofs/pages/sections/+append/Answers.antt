@@ -1,0 +1,29 @@
+use Rattle.std.proofs.Common.{◌≡◌, ◌+◌, ◌++◌, ◌∙◌, ap, List, drop, map, refl, string_bytes, arith}
+use Rattle.std.proofs.lemmas.List.{at_drop_more}
+use Rattle.bpaf_meta.specs.View.{tree_of, trees_of}
+use Rattle.bpaf_meta.specs.declared.meta.Meta.{Meta}
+use Rattle.bpaf_items.proofs.Steps.Fronts.{front_whole, front_then, append_turn}
+use Rattle.bpaf_help.specs.Chapters.{command_chapters, part_chapters}
+use Rattle.bpaf_help.specs.View.{chapter_of}
+use Rattle.bpaf_help.proofs.pages.sections.+append.Goals as goal
+
+pub append_parts-loop-part-init : goal.append_parts-loop-part-init
+append_parts-loop-part-init g t c = record { chapters = cc; front = front_whole _; path = refl }
+
+pub append_parts-returns-in_err-append_commands-clause-front : goal.append_parts-returns-in_err-append_commands-clause-front
+append_parts-returns-in_err-append_commands-clause-front g t c = front_then _ c.loop-part.sections.items _ c.loop-part.invariant.front c.append_commands.ensures.front
+
+pub append_parts-loop-part-preserved : goal.append_parts-loop-part-preserved
+append_parts-loop-part-preserved g t c =
+    let parts = c.deref-part-items.result.now in
+    let i = c.loop-part.part-index in
+    let part = c.part-item.result in
+    let path = map string_bytes c.args.path.now.items in
+    let e = at_drop_more (λ (ms : List (Meta g.row.A.Denot)). part_chapters path (trees_of ms)) parts i part (omega arith) in
+    let own : map chapter_of c.append_commands.new.sections.items ≡ map chapter_of c.loop-part.sections.items ++ command_chapters path (tree_of part) =
+    c.in_ok-append_commands.ensures.ok ∙ ap (λ names. map chapter_of c.loop-part.sections.items ++ command_chapters (map string_bytes names) (tree_of part)) c.loop-part.invariant.path in
+    record {
+      chapters = append_turn (map chapter_of c.loop-part.sections.items) (map chapter_of c.append_commands.new.sections.items) (command_chapters path (tree_of part)) (part_chapters path (trees_of (drop (i + 1) parts))) (map chapter_of c.args.sections.now.items ++ part_chapters path (trees_of c.args.parts.now.items)) (part_chapters path (trees_of (drop i parts))) own (cc (e, c.part-item.is)) c.loop-part.invariant.chapters;
+      front = front_then _ c.loop-part.sections.items _ c.loop-part.invariant.front c.append_commands.ensures.front;
+      path = c.append_commands.ensures.path ∙ c.loop-part.invariant.path;
+    }

@@ -1,0 +1,38 @@
+-- What the calls for the pages of an application answer, by the content of their answers.
+use Rattle.std.specs.Prelude.{ℕ, ⊤, List, ◌∷◌, [], Option}
+use Rattle.bpaf_doc.specs.Buffer.Parts.{Part}
+use Rattle.bpaf_doc.specs.Buffer.Writes.{document_of}
+use Rattle.bpaf_doc.specs.Manpage.Page.{IsManualPageOf, title_arguments, title_event, title_page}
+use Rattle.bpaf_doc.specs.Manpage.Exact.{roff_page}
+use Rattle.bpaf_meta.specs.Content.{Tree, Head}
+use Rattle.bpaf_meta.specs.Meta.Misplaced.{IsFirstMisplaced}
+use Rattle.bpaf_meta.specs.View.{leaf_of}
+use Rattle.bpaf_items.specs.declared.meta_help.error.HelpError.{HelpError}
+use Rattle.bpaf_items.specs.declared.meta_help.error.HelpError.TheVariants as error
+use Rattle.bpaf_help.specs.Chapters.{Chapter, IsFirstMisplacedOf, collected_writes, manual_writes}
+
+-- why there is no page of a tree: this is its first misplaced item, or a growth was refused
+abbrev pub IsErrorOf : {A : Type 0} → Tree → HelpError A → Type 0
+IsErrorOf t (error.Memory e) = ⊤
+IsErrorOf t (error.Misplaced i) = IsFirstMisplaced t (leaf_of i.now)
+
+-- why there is none of some chapters: this is the first misplaced item of the first chapter that has one, or a growth was refused, before the checks or between them
+abbrev pub AreErrorOf : {A : Type 0} → List Chapter → HelpError A → Type 0
+AreErrorOf chapters (error.Memory e) = ⊤
+AreErrorOf chapters (error.Misplaced i) = IsFirstMisplacedOf chapters (leaf_of i.now)
+
+-- the document that `collect_html` makes
+abbrev pub collected_document : (app : List ℕ) → Tree → Head → List Part
+collected_document app t i = document_of (collected_writes app t i)
+
+-- the document of a manual page
+abbrev pub manual_document : (app : List ℕ) → Tree → Head → List Part
+manual_document app t i = document_of (manual_writes app t i)
+
+-- `render_manpage`, which makes no check: a reader of roff reads the title and the document
+abbrev pub IsManualOf : (app section : List ℕ) → (date vendor title : Option (List ℕ)) → Tree → Head → (text : List ℕ) → Type 0
+IsManualOf app section date vendor title t i text = IsManualPageOf (title_event app section date vendor title) (manual_document app t i) text
+
+-- its bytes: the page that holds the title line alone, with the document behind it
+abbrev pub manual_text : (app section : List ℕ) → (date vendor title : Option (List ℕ)) → Tree → Head → List ℕ
+manual_text app section date vendor title t i = roff_page (title_page (title_arguments app section date vendor title)) (manual_document app t i)

@@ -1,0 +1,23 @@
+//! Laws of the definitions that the contracts cite: nothing to call, but statements that the check proves.
+
+ghost use Rattle.bpaf_help.specs.Chapters.{ChaptersAreListed};
+ghost use Rattle.bpaf_help.specs.Headline.{HeadlineFollows};
+ghost use Rattle.bpaf_help.specs.NestedPages.{CollectedPagesAreNested, ManualPagesAreNested};
+
+/// The chapters of the commands of a tree are those of the commands that its item list has, in order.
+#[tactic(auto, using(crate::proofs::Chapters::chapters_are_listed))]
+pub fn chapters_are_listed()
+    ensures { ChaptersAreListed }
+{}
+
+/// The pages of an application with well-nested texts are well nested.
+#[tactic(auto, using(crate::proofs::NestedPages::collected_pages_are_nested, crate::proofs::NestedPages::manual_pages_are_nested))]
+pub fn pages_are_nested()
+    ensures collected { CollectedPagesAreNested }
+    ensures manual { ManualPagesAreNested }
+{}
+
+/// The headline follows from what each call promises.
+pub fn headline_follows()
+    ensures { HeadlineFollows }
+{}
