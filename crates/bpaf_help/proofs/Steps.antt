@@ -1,6 +1,6 @@
 -- The steps of the code, one after another.
-use Rattle.std.proofs.Common.{◌≡◌, ◌≢◌, ℕ, ◌+◌, ◌<◌, ◌≤◌, Bool, true, false, suc, zero, List, [], ◌∷◌, ◌++◌, map, take, drop, length, refl, sym, ap, ◌∙◌, subst, inl, inr, append_assoc, append-nil, get_or, arith, Result, Ok, Err, rules}
-use Rattle.std.specs.Prelude.{if◌then◌else◌, flat_map, count_by, Option, Some, None, IfErr, IfOk, OnOk, unwrap_or, encode_utf8, IsUtf8, string_bytes, codes}
+use Rattle.std.proofs.Common.{◌≡◌, ◌≢◌, ℕ, ◌+◌, ◌<◌, ◌≤◌, Bool, false, suc, zero, List, [], ◌∷◌, ◌++◌, map, take, drop, length, refl, sym, ap, ◌∙◌, subst, inl, inr, append_assoc, append-nil, get_or, arith, Result, Ok, Err, rules}
+use Rattle.std.specs.Prelude.{flat_map, count_by, Option, Some, None, IfErr, IfOk, OnOk, unwrap_or, encode_utf8, codes}
 use Rattle.std.specs.Borrow.{Bor}
 use Rattle.std.specs.List.{join_with_byte, range_with_len}
 use Rattle.std.specs.Bool.{nat_lt}
@@ -15,7 +15,7 @@ use Rattle.bpaf_doc.specs.Manpage.Events.{word_of}
 use Rattle.bpaf_doc.specs.Manpage.Reader.{Control}
 use Rattle.bpaf_doc.specs.Manpage.Page.{TakesDocument, IsPageOf, IsManualPageOf, TitlePageTakesDocument, TitledPageIsManualPage, title_page}
 use Rattle.bpaf_doc.specs.Buffer.Writes.{Write, start, end, plain, inside, path_writes, with_writes, document_of}
-use Rattle.bpaf_meta.specs.Content.{Tree, Leaf, any, positional, command, flag, argument, Head, head}
+use Rattle.bpaf_meta.specs.Content.{Tree, any, positional, command, flag, argument, Head, head}
 use Rattle.bpaf_meta.specs.declared.item.Item.{the_lemmas}
 use Rattle.bpaf_meta.specs.declared.meta_help.Info.{Info}
 use Rattle.bpaf_meta.specs.Meta.Misplaced.{IsWellPlaced}
@@ -152,10 +152,12 @@ heading_alone t u title (e ∷ es) = rw (list_alone t u (e ∷ es)) refl
 
 pub groups_alone : (t u : Texts) (es : List Entry) → groups_writes false t es ≡ groups_writes false u es
 groups_alone t u es =
-    rw (flat_map_same (λ n. list_writes false t (group_members es n)) (λ n. list_writes false u (group_members es n)) (λ n. list_alone t u (group_members es n)) (range_with_len 1 (count_by is_group_start es)),
-    heading_alone t u (codes "Available positional items:") (heading_members es ty.Positional),
-    heading_alone t u (codes "Available options:") (heading_members es ty.Flag),
-    heading_alone t u (codes "Available commands:") (heading_members es ty.Command)) refl
+    rw (
+      flat_map_same (λ n. list_writes false t (group_members es n)) (λ n. list_writes false u (group_members es n)) (λ n. list_alone t u (group_members es n)) (range_with_len 1 (count_by is_group_start es)),
+      heading_alone t u (codes "Available positional items:") (heading_members es ty.Positional),
+      heading_alone t u (codes "Available options:") (heading_members es ty.Flag),
+      heading_alone t u (codes "Available commands:") (heading_members es ty.Command),
+    ) refl
 
 -- so the groups that were put behind a document
 pub groups_put : {T E : Type 0} (r : Result T E) (before now : List Part) (es fs : List Entry) (t : Texts) → es ≡ fs → OnOk r (now ≡ with_writes before (groups_writes false t es)) → OnOk r (now ≡ with_writes before (groups_writes false no_texts fs))

@@ -1,5 +1,5 @@
 -- What the calls for the pages of an application answer, by the content of their answers.
-use Rattle.std.specs.Prelude.{ℕ, ⊤, List, ◌∷◌, [], Option}
+use Rattle.std.specs.Prelude.{ℕ, ⊤, List, Option}
 use Rattle.bpaf_doc.specs.Buffer.Parts.{Part}
 use Rattle.bpaf_doc.specs.Buffer.Writes.{document_of}
 use Rattle.bpaf_doc.specs.Manpage.Page.{IsManualPageOf, title_arguments, title_event, title_page}

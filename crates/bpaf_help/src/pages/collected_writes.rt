@@ -57,10 +57,7 @@ fn put_summary_line<A: Allocator + Copy>(
 }
 
 // The path, and a link to its heading.
-fn summary_text<A: Allocator + Copy>(
-    alloc: A,
-    path: &[String<A>],
-) -> Result<String<A>, AllocError>
+fn summary_text<A: Allocator + Copy>(alloc: A, path: &[String<A>]) -> Result<String<A>, AllocError>
     ensures { IfOk result (λ text. string_bytes text ≡ summary_text (map string_bytes path.now)) }
 {
     let names = joined(alloc, path, ' ')?;
@@ -115,5 +112,13 @@ fn page_of<'m, A: Allocator + Copy, B: Allocator + Copy>(
     ensures misplaced { IfErr result (IsErrorOf (tree_of section.now.meta.now)) }
 {
     let texts = EnvTexts::new(alloc);
-    render_help(alloc, &section.path, section.info, section.meta, &section.info.help, false, &texts)
+    render_help(
+        alloc,
+        &section.path,
+        section.info,
+        section.meta,
+        &section.info.help,
+        false,
+        &texts,
+    )
 }

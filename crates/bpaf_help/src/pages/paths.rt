@@ -40,10 +40,7 @@ pub fn joined<A: Allocator>(
 }
 
 /// The names as the address of a heading: joined by `-`, in small ASCII letters and with blanks as `-`.
-pub fn anchor<A: Allocator + Copy>(
-    alloc: A,
-    path: &[String<A>],
-) -> Result<String<A>, AllocError>
+pub fn anchor<A: Allocator + Copy>(alloc: A, path: &[String<A>]) -> Result<String<A>, AllocError>
     ensures { IfOk result (λ text. string_bytes text ≡ anchor (map string_bytes path.now)) }
 {
     let mut text = joined(alloc, path, '-')?;

@@ -141,12 +141,13 @@ fn append_item<'a, A: Allocator, L: Allocator + Copy>(
 {
     match item {
         Item::Command {
-            name, meta, info, ..
+            name,
+            meta,
+            info,
+            ..
         } => append_command(name, meta, info, path, sections),
-        Item::Any { .. }
-        | Item::Positional { .. }
-        | Item::Flag { .. }
-        | Item::Argument { .. } => Ok(()),
+        Item::Any { .. } | Item::Positional { .. } | Item::Flag { .. } | Item::Argument { .. } =>
+            Ok(()),
     }
 }
 

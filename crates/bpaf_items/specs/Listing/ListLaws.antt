@@ -1,8 +1,8 @@
 -- What holds of item lists: where their entries fall, and what is shown of them.
-use Rattle.std.specs.Prelude.{◌≡◌, ◌≢◌, ℕ, ◌≤◌, ◌⊎◌, ◌↔◌, IsTrue, not, List, flat_map, filter, take, count_by, All, Contains}
+use Rattle.std.specs.Prelude.{◌≡◌, ◌≢◌, ◌≤◌, ◌⊎◌, ◌↔◌, IsTrue, not, List, filter, take, count_by, All, Contains}
 use Rattle.bpaf_items.specs.declared.meta_help.entry.HiTy.{HiTy}
-use Rattle.bpaf_meta.specs.Content.{Tree, Leaf}
-use Rattle.bpaf_items.specs.Listing.ItemList.{Entry, listed, item_list, IsItemList}
+use Rattle.bpaf_meta.specs.Content.{Leaf}
+use Rattle.bpaf_items.specs.Listing.ItemList.{Entry, listed, IsItemList}
 use Rattle.bpaf_items.specs.Listing.Falls.{same_type, Placed, placed, is_adjacent_start, is_adjacent_stop, lacks_help, destination, nowhere, outside_groups, heading_members, items_of_type, has_key_of, shown_places, shown_entries}
 
 -- two types are equal exactly where they are the same

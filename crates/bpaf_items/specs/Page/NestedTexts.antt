@@ -1,5 +1,5 @@
 -- The documents that help pages write are well nested.
-use Rattle.std.specs.Prelude.{ℕ, Bool, ⊤, List, ◌∷◌, [], All, Option, Some, None}
+use Rattle.std.specs.Prelude.{ℕ, Bool, ⊤, List, All, Option, Some, None}
 use Rattle.bpaf_doc.specs.Buffer.Parts.{Part, IsWellNested}
 use Rattle.bpaf_doc.specs.Buffer.Writes.{Write, with_writes, document_of}
 use Rattle.bpaf_meta.specs.Content.{Tree, and_of, or_of, optional, required, adjacent, item, many, subsection, suffix, skip, custom_usage, strict, Trees, no_trees, tree, Leaf, any, positional, command, flag, argument, Head, head}

@@ -1,4 +1,4 @@
-use Rattle.std.proofs.Common.{◌≡◌, ◌+◌, ◌++◌, ◌∷◌, [], ◌∙◌, ap, sym, subst, map, take, drop, take_all, rules}
+use Rattle.std.proofs.Common.{◌+◌, ◌∙◌, ap, sym, subst, map, take, drop, take_all, rules}
 use Rattle.std.specs.Prelude.{flat_map}
 use Rattle.std.proofs.lemmas.List.Elements.{All-push}
 use Rattle.bpaf_doc.specs.Buffer.Writes.{with_writes}

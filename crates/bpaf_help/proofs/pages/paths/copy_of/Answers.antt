@@ -1,4 +1,4 @@
-use Rattle.std.proofs.Common.{◌≡◌, ap, ◌∙◌, map, rules, string_bytes, take_all}
+use Rattle.std.proofs.Common.{ap, ◌∙◌, map, rules, string_bytes, take_all}
 use Rattle.bpaf_help.proofs.Steps.{copied_next}
 use Rattle.bpaf_help.proofs.pages.paths.copy_of.Goals as goal
 
