@@ -2,54 +2,54 @@
 
 ghost use Rattle.std.specs.Prelude.{◌≢◌, [], OnOk};
 
-use crate::documents::{DEEPEST, read_document, shown};
+use crate::documents::{bit, shown};
 use crate::encoding::spelled;
-use crate::fault::Bad;
+use crate::fault::{Answer, Bad};
 use crate::lines::Lines;
 use crate::pieces::append_control;
 use crate::request::Request;
 use bpaf_doc::buffer::Doc;
 use bpaf_roff::escape::APOSTROPHE_PREABMLE;
 use bpaf_roff::roff::Roff;
-use std::alloc::{AllocError, Global};
+use std::alloc::Global;
 
 /// The answer to a request on a document alone.
-pub fn document_answer(request: &mut Request<'_>, key: &str) -> Result<String, Bad> {
-    let document = read_last_document(request)?;
+pub fn document_answer(request: &mut Request<'_>, key: &str) -> Answer {
+    let document = request.document()?;
     match key {
-        "parts" => Ok(shown(request.alloc, &document)?),
-        "firstline" => Ok(first_line(request.alloc, &document)?),
-        _ => Ok(digit(request.alloc, document.is_empty())?),
+        "parts" => shown(request.alloc, &document),
+        "firstline" => first_line(request.alloc, &document),
+        _ => word(request.alloc, bit(document.is_empty())),
     }
 }
 
-pub fn console_answer(request: &mut Request<'_>) -> Result<String, Bad> {
+pub fn console_answer(request: &mut Request<'_>) -> Answer {
     let full = read_extent(request)?;
     let width = width_of(request.word()?)?;
-    let document = read_last_document(request)?;
-    Ok(console(request.alloc, &document, full, width)?)
+    let document = request.document()?;
+    console(request.alloc, &document, full, width)
 }
 
-pub fn html_answer(request: &mut Request<'_>) -> Result<String, Bad> {
+pub fn html_answer(request: &mut Request<'_>) -> Answer {
     let full = read_extent(request)?;
     let with_styles = request.flag()?;
-    let document = read_last_document(request)?;
-    Ok(html(request.alloc, &document, full, with_styles)?)
+    let document = request.document()?;
+    html(request.alloc, &document, full, with_styles)
 }
 
-pub fn markdown_answer(request: &mut Request<'_>) -> Result<String, Bad> {
+pub fn markdown_answer(request: &mut Request<'_>) -> Answer {
     let full = read_extent(request)?;
-    let document = read_last_document(request)?;
-    Ok(markdown(request.alloc, &document, full)?)
+    let document = request.document()?;
+    markdown(request.alloc, &document, full)
 }
 
-pub fn roff_answer(request: &mut Request<'_>) -> Result<String, Bad> {
+pub fn roff_answer(request: &mut Request<'_>) -> Answer {
     let title = request.texts()?;
-    let document = read_last_document(request)?;
+    let document = request.document()?;
     let alloc = request.alloc;
     let mut page = Roff::new(alloc);
     append_control(&mut page, alloc, "TH", &title)?;
-    Ok(spelled(alloc, document.render_roff(page)?.as_str())?)
+    spelled(alloc, document.render_roff(page)?.as_str())
 }
 
 /// Takes a word that says whether a page is in full or in brief.
@@ -69,19 +69,13 @@ pub fn width_of(word: &str) -> Result<usize, Bad> {
     word.parse().map_err(|_| Bad::Words("a width was expected"))
 }
 
-// Takes a document, behind which no word is left.
-fn read_last_document(request: &mut Request<'_>) -> Result<Doc, Bad> {
-    let document = read_document(request, DEEPEST)?;
-    request.end()?;
-    Ok(document)
-}
-
 /// Adds all answers to one document: console pages at the widths, and what needs no width.
 pub fn add_document_answers(request: &mut Request<'_>, lines: &mut Lines) -> Result<(), Bad>
     ensures { OnOk result (lines.new ≢ []) }
 {
     let widths = request.word()?;
-    let document = read_last_document(request)?;
+    let document = request.document()?;
+    request.end()?;
     for width in widths.split(',') {
         add_console_pages(request.alloc, &document, width, lines)?;
     }
@@ -102,7 +96,7 @@ fn add_console_pages(
     lines.add(brief.as_str(), console(alloc, document, false, columns)?)
 }
 
-fn key_of(alloc: Global, kind: &str, width: &str) -> Result<String, AllocError> {
+fn key_of(alloc: Global, kind: &str, width: &str) -> Answer {
     let mut key = String::from_str(alloc, kind)?;
     key.push_str(width)?;
     Ok(key)
@@ -120,39 +114,34 @@ fn add_pages(alloc: Global, document: &Doc, lines: &mut Lines) -> Result<(), Bad
 }
 
 /// The text of a console page.
-pub fn console(
-    alloc: Global,
-    document: &Doc,
-    full: bool,
-    width: usize,
-) -> Result<String, AllocError> {
+pub fn console(alloc: Global, document: &Doc, full: bool, width: usize) -> Answer {
     spelled(alloc, document.render_console(alloc, full, width)?.as_str())
 }
 
-fn html(alloc: Global, document: &Doc, full: bool, styles: bool) -> Result<String, AllocError> {
+fn html(alloc: Global, document: &Doc, full: bool, styles: bool) -> Answer {
     spelled(alloc, document.render_html(alloc, full, styles)?.as_str())
 }
 
-fn markdown(alloc: Global, document: &Doc, full: bool) -> Result<String, AllocError> {
+fn markdown(alloc: Global, document: &Doc, full: bool) -> Answer {
     spelled(alloc, document.render_markdown(alloc, full)?.as_str())
 }
 
 // The document on an empty page, without the preamble.
-fn bare_roff(alloc: Global, document: &Doc) -> Result<String, AllocError> {
+fn bare_roff(alloc: Global, document: &Doc) -> Answer {
     let page = document.render_roff(Roff::new(alloc))?;
     let text = page.as_str();
     let bare = text.strip_prefix(APOSTROPHE_PREABMLE).unwrap_or(text);
     spelled(alloc, bare)
 }
 
-fn first_line(alloc: Global, document: &Doc) -> Result<String, AllocError> {
+fn first_line(alloc: Global, document: &Doc) -> Answer {
     match document.first_line()? {
         Some(line) => shown(alloc, &line),
-        None => String::from_str(alloc, "-"),
+        None => word(alloc, " -"),
     }
 }
 
-/// 1 if something holds, and else 0.
-pub fn digit(alloc: Global, is_so: bool) -> Result<String, AllocError> {
-    String::from_str(alloc, if is_so { "1" } else { "0" })
+/// An answer of one word, which has its blank.
+pub fn word(alloc: Global, word: &str) -> Answer {
+    Ok(String::from_str(alloc, word)?)
 }

@@ -1,63 +1,39 @@
 //! Documents, read and printed.
 
-ghost use Rattle.std.specs.Prelude.{◌≡◌, ◌+◌, IfOk};
-
 use crate::encoding::{read_text, write_text};
-use crate::fault::Bad;
+use crate::fault::{Answer, Bad};
 use crate::request::Request;
-use crate::trees::{read_name, read_tree};
+use crate::trees::read_name;
 use bpaf_doc::buffer::{Block, Doc, Part, Style, Token};
 use bpaf_meta::meta::Meta;
 use bpaf_meta::meta_help::Metavar;
 use bpaf_meta::usage::{metavar, write_item, write_meta, write_shortlong};
 use std::alloc::{AllocError, Global};
 
-/// How many levels of trees and documents a line may nest.
-pub const DEEPEST: usize = 1_000;
-
-/// The levels that are left inside one.
-pub fn deeper(depth: usize) -> Result<usize, Bad>
-    ensures { IfOk result (λ inner. inner + 1 ≡ depth) }
-{
-    match depth {
-        0 => Err(Bad::Words("nested too deep")),
-        _ => Ok(depth - 1),
-    }
-}
-
-/// Takes the words of a document.
-#[cycle(read)]
-pub fn read_document(request: &mut Request<'_>, depth: usize) -> Result<Doc, Bad> {
-    let depth = deeper(depth)?;
-    request.expect("[")?;
+/// Takes the parts of a document, behind its bracket.
+pub fn read_document(request: &mut Request<'_>) -> Result<Doc, Bad> {
     let mut document = Doc::new(request.alloc);
-    for _ in 0..u64::MAX {
+    for _ in 0..request.len() {
         let word = request.word()?;
         if word == "]" {
             return Ok(document);
         }
-        read_part(request, word, &mut document, depth)?;
+        read_part(request, word, &mut document)?;
     }
-    Err(Bad::TOO_LONG)
+    Err(Bad::ENDS_EARLY)
 }
 
-// Takes the words of a part behind its first one, and writes the part.
-#[cycle(read)]
-fn read_part(
-    request: &mut Request<'_>,
-    word: &str,
-    document: &mut Doc,
-    depth: usize,
-) -> Result<(), Bad> {
+// Takes what belongs to a part behind its first word, and writes the part.
+fn read_part(request: &mut Request<'_>, word: &str, document: &mut Doc) -> Result<(), Bad> {
     match word {
-        "doc" => document.doc(&read_document(request, depth)?)?,
-        "em" => document.em_doc(&read_document(request, depth)?)?,
+        "doc" => document.doc(&request.document()?)?,
+        "em" => document.em_doc(&request.document()?)?,
         "path" => document.write_path(&request.texts()?)?,
         "meta" => {
             let for_usage = request.flag()?;
-            write_meta(document, &read_tree(request, depth)?, for_usage)?;
+            write_meta(document, &request.tree()?, for_usage)?;
         }
-        "item" => write_if_item(document, &read_tree(request, depth)?)?,
+        "item" => write_if_item(document, &request.tree()?)?,
         "metavar" => metavar(document, Metavar(request.lasting_text()?))?,
         "name" => write_shortlong(document, &read_name(request)?)?,
         _ => read_plain(request.alloc, word, document)?,
@@ -119,7 +95,7 @@ fn style_of(code: &str) -> Result<Style, Bad> {
 }
 
 /// The printed form of a document.
-pub fn shown(alloc: Global, document: &Doc) -> Result<String, AllocError> {
+pub fn shown(alloc: Global, document: &Doc) -> Answer {
     let mut answer = String::new(alloc);
     write_document(&mut answer, document)?;
     Ok(answer)
@@ -127,7 +103,7 @@ pub fn shown(alloc: Global, document: &Doc) -> Result<String, AllocError> {
 
 /// Prints a document. A text behind one of its own style has a comma before it.
 pub fn write_document(out: &mut String, document: &Doc) -> Result<(), AllocError> {
-    out.push_str("[")?;
+    out.push_str(" [")?;
     let mut last = None;
     for part in document.parts() {
         last = write_part(out, part, last)?;
@@ -146,18 +122,36 @@ fn write_part(
             out.push_str(if last == Some(style) { " ," } else { " " })?;
             out.push_str(style_code(style))?;
             write_text(out, text)?;
-            return Ok(Some(style));
+            Ok(Some(style))
         }
-        Part::Start(block) => {
-            out.push_str(" <")?;
-            out.push_str(block_code(block))?;
-        }
-        Part::End(block) => {
-            out.push_str(" >")?;
-            out.push_str(block_code(block))?;
-        }
+        Part::Start(block) => write_mark(out, " <", block),
+        Part::End(block) => write_mark(out, " >", block),
     }
+}
+
+// Prints the start or the end of a block, which is no text.
+fn write_mark(out: &mut String, mark: &str, block: Block) -> Result<Option<Style>, AllocError> {
+    out.push_str(mark)?;
+    out.push_str(block_code(block))?;
     Ok(None)
+}
+
+/// Prints a document, or `-` for none.
+pub fn write_optional(out: &mut String, document: Option<&Doc>) -> Result<(), AllocError> {
+    match document {
+        None => out.push_str(" -"),
+        Some(document) => write_document(out, document),
+    }
+}
+
+/// Prints a number.
+pub fn write_number(out: &mut String, number: usize) -> Result<(), AllocError> {
+    write!(out, "{number}")
+}
+
+/// 1 if something holds, and else 0.
+pub fn bit(is_so: bool) -> &'static str {
+    if is_so { " 1" } else { " 0" }
 }
 
 fn style_code(style: Style) -> &'static str {

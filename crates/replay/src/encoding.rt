@@ -4,7 +4,7 @@ ghost use Rattle.std.specs.Prelude.{◌≡◌, ◌≤◌, ◌∷◌, ◌++◌, S
 ghost use Rattle.std.specs.Str.Iter.{chars_rest};
 ghost use Rattle.replay.specs.Encoding.{Spells, StandFor, character_spelling, code_at, escape_at, hex_digits, spelling};
 
-use crate::fault::Bad;
+use crate::fault::{Answer, Bad};
 use std::alloc::{AllocError, Global};
 use std::str::Chars;
 
@@ -65,11 +65,11 @@ fn read_code(marks: &mut Chars<'_>, count: u32, number: u32) -> Option<char>
     Some(character)
 }
 
-/// The quote mark and the text's spelling behind it, as a text of its own.
-pub fn spelled(alloc: Global, text: &str) -> Result<String, AllocError>
-    ensures { IfOk result (λ word. string_bytes word ≡ 39 ∷ spelling text.now) }
+/// A blank, the quote mark and the text's spelling behind it, as a text of its own.
+pub fn spelled(alloc: Global, text: &str) -> Answer
+    ensures { IfOk result (λ word. string_bytes word ≡ 32 ∷ 39 ∷ spelling text.now) }
 {
-    let mut word = String::new(alloc);
+    let mut word = String::from_str(alloc, " ")?;
     write_text(&mut word, text)?;
     Ok(word)
 }

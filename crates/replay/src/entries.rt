@@ -1,34 +1,32 @@
 //! Entries of an item list, printed.
 
-use crate::documents::write_document;
-use crate::encoding::write_text;
-use crate::trees::{write_name, write_optional};
+use crate::documents::{write_document, write_optional};
+use crate::trees::{write_any, write_name, write_worded};
 use bpaf_doc::buffer::Doc;
-use bpaf_meta::item::ShortLong;
 use bpaf_items::meta_help::{HelpItem, HiTy};
+use bpaf_meta::item::ShortLong;
 use std::alloc::AllocError;
 
-/// Prints an entry with a blank before it and `;` behind it.
+/// Prints an entry with `;` behind it.
 pub fn write_listed(out: &mut String, entry: &HelpItem<'_>) -> Result<(), AllocError> {
-    out.push_str(" ")?;
     write_entry(out, entry)?;
     out.push_str(" ;")
 }
 
 fn write_entry(out: &mut String, entry: &HelpItem<'_>) -> Result<(), AllocError> {
     match *entry {
-        HelpItem::DecorSuffix { help, ty } => write_titled(out, "decor ", ty, help),
-        HelpItem::GroupStart { help, ty } => write_titled(out, "gstart ", ty, help),
-        HelpItem::GroupEnd { ty } => write_mark(out, "gend ", ty),
-        HelpItem::AdjacentStart { ty, .. } => write_mark(out, "astart ", ty),
-        HelpItem::AdjacentStop { ty } => write_mark(out, "astop ", ty),
+        HelpItem::DecorSuffix { help, ty } => write_titled(out, " decor", ty, help),
+        HelpItem::GroupStart { help, ty } => write_titled(out, " gstart", ty, help),
+        HelpItem::GroupEnd { ty } => write_mark(out, " gend", ty),
+        HelpItem::AdjacentStart { ty, .. } => write_mark(out, " astart", ty),
+        HelpItem::AdjacentStop { ty } => write_mark(out, " astop", ty),
         HelpItem::Any {
             metavar,
             anywhere,
             help,
         } => write_any(out, metavar, anywhere, help),
-        HelpItem::Positional { metavar, help } => write_worded(out, "pos ", metavar.0, help),
-        HelpItem::Command { name, help, .. } => write_worded(out, "cmd ", name, help),
+        HelpItem::Positional { metavar, help } => write_worded(out, " pos ", metavar.0, help),
+        HelpItem::Command { name, help, .. } => write_worded(out, " cmd ", name, help),
         HelpItem::Flag { name, help, .. } => write_flag(out, name, help),
         HelpItem::Argument {
             name,
@@ -42,53 +40,22 @@ fn write_entry(out: &mut String, entry: &HelpItem<'_>) -> Result<(), AllocError>
 // A mark behind its word.
 fn write_mark(out: &mut String, word: &str, ty: HiTy) -> Result<(), AllocError> {
     out.push_str(word)?;
-    out.push_str(type_code(ty))
+    out.push_str(match ty {
+        HiTy::Flag => " f",
+        HiTy::Command => " c",
+        HiTy::Positional => " p",
+    })
 }
 
 // A mark or a note with its document.
 fn write_titled(out: &mut String, word: &str, ty: HiTy, title: &Doc) -> Result<(), AllocError> {
     write_mark(out, word, ty)?;
-    out.push_str(" ")?;
     write_document(out, title)
 }
 
-fn type_code(ty: HiTy) -> &'static str {
-    match ty {
-        HiTy::Flag => "f",
-        HiTy::Command => "c",
-        HiTy::Positional => "p",
-    }
-}
-
-fn write_any(
-    out: &mut String,
-    metavar: &Doc,
-    anywhere: bool,
-    help: Option<&Doc>,
-) -> Result<(), AllocError> {
-    out.push_str("any ")?;
-    write_document(out, metavar)?;
-    out.push_str(if anywhere { " 1 " } else { " 0 " })?;
-    write_optional(out, help)
-}
-
-// An item that has a text and no name.
-fn write_worded(
-    out: &mut String,
-    word: &str,
-    text: &str,
-    help: Option<&Doc>,
-) -> Result<(), AllocError> {
-    out.push_str(word)?;
-    write_text(out, text)?;
-    out.push_str(" ")?;
-    write_optional(out, help)
-}
-
 fn write_flag(out: &mut String, name: ShortLong, help: Option<&Doc>) -> Result<(), AllocError> {
-    out.push_str("flag ")?;
+    out.push_str(" flag ")?;
     write_name(out, &name)?;
-    out.push_str(" ")?;
     write_optional(out, help)
 }
 
@@ -98,7 +65,7 @@ fn write_argument(
     metavar: &str,
     help: Option<&Doc>,
 ) -> Result<(), AllocError> {
-    out.push_str("arg ")?;
+    out.push_str(" arg ")?;
     write_name(out, &name)?;
     write_worded(out, " ", metavar, help)
 }

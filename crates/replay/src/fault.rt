@@ -3,7 +3,7 @@
 use std::alloc::{AllocError, AllocFailed};
 
 /// Why a line has no answer.
-#[derive(Clone, Copy, Debug, PartialEq, Eq)]
+#[derive(Clone, Copy)]
 pub enum Bad {
     /// A growth was refused.
     Memory,
@@ -12,9 +12,12 @@ pub enum Bad {
 }
 
 impl Bad {
-    /// A line of 2^64 - 1 words or more.
-    pub const TOO_LONG: Bad = Bad::Words("the line is too long");
+    /// A word is missing.
+    pub const ENDS_EARLY: Bad = Bad::Words("the line ends early");
 }
+
+/// The words of an answer, each with a blank before it.
+pub type Answer = Result<String, Bad>;
 
 impl From<AllocError> for Bad {
     fn from(_error: AllocError) -> Bad {

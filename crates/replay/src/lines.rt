@@ -4,15 +4,15 @@ ghost use Rattle.std.specs.Prelude.{◌≡◌, ◌≢◌, ◌++◌, [], ℕ, Lis
 ghost use Rattle.std.specs.List.{list_any};
 ghost use Rattle.replay.specs.Replay.{AreAnswers, is_newline};
 
-use crate::fault::Bad;
+use crate::fault::{Answer, Bad};
 use std::alloc::Global;
 use std::marker::Model;
 
 /// The answer of a key that the library does not give yet.
-pub const UNBUILT: &str = "UNBUILT";
+pub const UNBUILT: &str = " UNBUILT";
 
 // Stands for the answer of the line before.
-const SAME: &str = "^";
+const SAME: &str = " ^";
 
 /// The answer lines of one request, `= KEY ANSWER` each. An answer that is the one before is printed as `^`.
 #[derive(Drop)]
@@ -47,21 +47,12 @@ impl Lines {
     pub fn add(&mut self, key: &str, answer: String) -> Result<(), Bad>
         ensures { OnOk result (self.new ≢ []) }
     {
-        if self.repeats(answer.as_str()) {
-            self.add_line(key, SAME)?;
-        } else {
-            self.add_line(key, answer.as_str())?;
+        if self.last.as_deref() == Some(answer.as_str()) {
+            return self.add_line(key, SAME);
         }
+        self.add_line(key, answer.as_str())?;
         self.last = Some(answer);
         Ok(())
-    }
-
-    // Whether the answer before was this one.
-    fn repeats(&self, answer: &str) -> bool {
-        match &self.last {
-            Some(last) => last.as_str() == answer,
-            None => false,
-        }
     }
 
     /// Adds the line of a key that has no answer yet.
@@ -92,12 +83,11 @@ impl Lines {
     }
 }
 
-fn answer_line(alloc: Global, key: &str, answer: &str) -> Result<String, Bad>
+fn answer_line(alloc: Global, key: &str, answer: &str) -> Answer
     ensures { IfOk result (λ line. (text : List ℕ) × (string_bytes line ≡ codes "= " ++ text)) }
 {
     let mut line = String::from_str(alloc, "= ")?;
     line.push_str(key)?;
-    line.push_str(" ")?;
     line.push_str(answer)?;
     Ok(line)
 }

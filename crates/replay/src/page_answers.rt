@@ -2,35 +2,35 @@
 
 ghost use Rattle.std.specs.Prelude.{◌≢◌, [], OnOk};
 
-use crate::document_answers::{console, read_extent, width_of};
-use crate::documents::{DEEPEST, shown};
+use crate::document_answers::{console, read_extent, width_of, word};
+use crate::documents::{shown, write_number};
 use crate::entries::write_listed;
-use crate::fault::Bad;
+use crate::fault::{Answer, Bad};
 use crate::lines::Lines;
 use crate::request::Request;
-use crate::tree_answers::{add_forms, printed_item, read_last_tree};
-use crate::trees::{read_info, read_tree};
+use crate::tree_answers::{add_forms, printed_item};
+use crate::trees::read_info;
 use bpaf_doc::buffer::Doc;
-use bpaf_meta::meta::Meta;
 use bpaf_items::meta_help::{
     EnvTexts, HelpError, HelpItems, HiTy, Info, render_help, write_help_item_groups,
 };
+use bpaf_meta::meta::Meta;
 use std::alloc::{AllocError, Global};
 
 /// The answer to a request on the item list of a tree.
-pub fn list_answer(request: &mut Request<'_>, key: &str) -> Result<String, Bad> {
-    let tree = read_last_tree(request)?;
+pub fn list_answer(request: &mut Request<'_>, key: &str) -> Answer {
+    let tree = request.tree()?;
     match key {
-        "items" => Ok(all_items(request.alloc, &tree)?),
-        _ => Ok(group_places(request.alloc, &tree)?),
+        "items" => all_items(request.alloc, &tree),
+        _ => group_places(request.alloc, &tree),
     }
 }
 
 /// The entries of a heading.
-pub fn heading_answer(request: &mut Request<'_>) -> Result<String, Bad> {
+pub fn heading_answer(request: &mut Request<'_>) -> Answer {
     let ty = type_of(request.word()?)?;
-    let tree = read_last_tree(request)?;
-    Ok(items_of_type(request.alloc, &tree, ty)?)
+    let tree = request.tree()?;
+    items_of_type(request.alloc, &tree, ty)
 }
 
 fn type_of(word: &str) -> Result<HiTy, Bad> {
@@ -48,9 +48,9 @@ fn listing<'a>(alloc: Global, tree: &'a Meta) -> Result<HelpItems<'a>, AllocErro
     Ok(items)
 }
 
-fn all_items(alloc: Global, tree: &Meta) -> Result<String, AllocError> {
+fn all_items(alloc: Global, tree: &Meta) -> Answer {
     let items = listing(alloc, tree)?;
-    let mut answer = String::from_str(alloc, "[")?;
+    let mut answer = String::from_str(alloc, " [")?;
     for entry in items.items() {
         write_listed(&mut answer, entry)?;
     }
@@ -58,9 +58,9 @@ fn all_items(alloc: Global, tree: &Meta) -> Result<String, AllocError> {
     Ok(answer)
 }
 
-fn items_of_type(alloc: Global, tree: &Meta, ty: HiTy) -> Result<String, AllocError> {
+fn items_of_type(alloc: Global, tree: &Meta, ty: HiTy) -> Answer {
     let items = listing(alloc, tree)?;
-    let mut answer = String::from_str(alloc, "[")?;
+    let mut answer = String::from_str(alloc, " [")?;
     for entry in items.items_of_ty(ty) {
         write_listed(&mut answer, entry)?;
     }
@@ -68,59 +68,52 @@ fn items_of_type(alloc: Global, tree: &Meta, ty: HiTy) -> Result<String, AllocEr
     Ok(answer)
 }
 
-fn group_places(alloc: Global, tree: &Meta) -> Result<String, AllocError> {
+fn group_places(alloc: Global, tree: &Meta) -> Answer {
     match listing(alloc, tree)?.find_group() {
         Some(places) => two_numbers(alloc, *places.start(), *places.end()),
-        None => String::from_str(alloc, "-"),
+        None => word(alloc, " -"),
     }
 }
 
-fn two_numbers(alloc: Global, first: usize, last: usize) -> Result<String, AllocError> {
-    let mut answer = String::new(alloc);
-    write!(answer, "{first} {last}")?;
+fn two_numbers(alloc: Global, first: usize, last: usize) -> Answer {
+    let mut answer = String::from_str(alloc, " ")?;
+    write_number(&mut answer, first)?;
+    answer.push_str(" ")?;
+    write_number(&mut answer, last)?;
     Ok(answer)
 }
 
 // Takes names of environment variables, each with its value behind it, in parentheses.
 fn read_environment(request: &mut Request<'_>) -> Result<EnvTexts, Bad> {
-    let texts = request.texts()?;
+    request.expect("(")?;
     let mut environment = EnvTexts::new(request.alloc);
-    for pair in texts.as_slice().chunks(2) {
-        insert_quoted(request.alloc, &mut environment, pair)?;
+    for _ in 0..request.len() {
+        if request.has(")") {
+            return Ok(environment);
+        }
+        let name = request.text()?;
+        let value = read_quoted(request)?;
+        environment.insert(name.as_str(), value.as_str())?;
     }
-    Ok(environment)
+    Err(Bad::ENDS_EARLY)
 }
 
-// A name without a value has an empty one.
-fn insert_quoted(
-    alloc: Global,
-    environment: &mut EnvTexts,
-    pair: &[String],
-) -> Result<(), AllocError> {
-    let Some(name) = pair.first() else {
-        return Ok(());
+// Takes a value, as a page shows it: in quotation marks, with escapes for some characters. A last name has an empty one.
+fn read_quoted(request: &mut Request<'_>) -> Answer {
+    let value = match request.peek() {
+        Some(")") => String::new(request.alloc),
+        _ => request.text()?,
     };
-    let value = match pair.get(1) {
-        Some(value) => value.as_str(),
-        None => "",
-    };
-    environment.insert(name.as_str(), quoted(alloc, value)?.as_str())
-}
-
-// A page shows a value in quotation marks, with escapes for some characters.
-fn quoted(alloc: Global, value: &str) -> Result<String, AllocError> {
-    let mut text = String::new(alloc);
-    write!(text, "{value:?}")?;
-    Ok(text)
+    Ok(format!(in request.alloc; "{:?}", value.as_str())?)
 }
 
 /// The groups of a tree, as a document.
-pub fn groups_answer(request: &mut Request<'_>) -> Result<String, Bad> {
+pub fn groups_answer(request: &mut Request<'_>) -> Answer {
     let include_env = request.flag()?;
     let environment = read_environment(request)?;
-    let tree = read_last_tree(request)?;
+    let tree = request.tree()?;
     let page = groups(request.alloc, &tree, include_env, &environment)?;
-    Ok(shown(request.alloc, &page)?)
+    shown(request.alloc, &page)
 }
 
 fn groups(
@@ -150,9 +143,9 @@ fn read_application(request: &mut Request<'_>) -> Result<Application, Bad> {
         path: request.texts()?,
         include_env: request.flag()?,
         environment: read_environment(request)?,
-        info: read_info(request, DEEPEST)?,
-        tree: read_tree(request, DEEPEST)?,
-        help: read_last_tree(request)?,
+        info: read_info(request)?,
+        tree: request.tree()?,
+        help: request.tree()?,
     })
 }
 
@@ -169,28 +162,36 @@ fn help_page(alloc: Global, app: &Application) -> Result<Doc, HelpError<'_>> {
 }
 
 /// The help page on the console, or the item that is misplaced.
-pub fn help_answer(request: &mut Request<'_>) -> Result<String, Bad> {
+pub fn help_answer(request: &mut Request<'_>) -> Answer {
     let full = read_extent(request)?;
     let width = width_of(request.word()?)?;
     let app = read_application(request)?;
-    match help_page(request.alloc, &app) {
-        Ok(page) => Ok(console(request.alloc, &page, full, width)?),
-        Err(error) => refusal(request.alloc, error),
+    help_text(request.alloc, &app, full, width)
+}
+
+fn help_text(alloc: Global, app: &Application, full: bool, width: usize) -> Answer {
+    match help_page(alloc, app) {
+        Ok(page) => console(alloc, &page, full, width),
+        Err(error) => refusal(alloc, error),
     }
 }
 
 /// The help page as a document, or the item that is misplaced.
-pub fn help_parts_answer(request: &mut Request<'_>) -> Result<String, Bad> {
+pub fn help_parts_answer(request: &mut Request<'_>) -> Answer {
     let app = read_application(request)?;
-    match help_page(request.alloc, &app) {
-        Ok(page) => Ok(shown(request.alloc, &page)?),
-        Err(error) => refusal(request.alloc, error),
+    help_parts(request.alloc, &app)
+}
+
+fn help_parts(alloc: Global, app: &Application) -> Answer {
+    match help_page(alloc, app) {
+        Ok(page) => shown(alloc, &page),
+        Err(error) => refusal(alloc, error),
     }
 }
 
-fn refusal(alloc: Global, error: HelpError<'_>) -> Result<String, Bad> {
+fn refusal(alloc: Global, error: HelpError<'_>) -> Answer {
     match error {
-        HelpError::Misplaced(item) => Ok(printed_item(alloc, "err ", item)?),
+        HelpError::Misplaced(item) => printed_item(alloc, " err", item),
         HelpError::Memory(_) => Err(Bad::Memory),
     }
 }
@@ -200,9 +201,18 @@ pub fn add_tree_answers(request: &mut Request<'_>, lines: &mut Lines) -> Result<
     ensures { OnOk result (lines.new ≢ []) }
 {
     let app = read_tree_of_app(request)?;
-    add_forms(request.alloc, &app.tree, lines)?;
+    request.end()?;
+    add_pages(request.alloc, &app, lines)
+}
+
+fn add_pages(alloc: Global, app: &Application, lines: &mut Lines) -> Result<(), Bad>
+    ensures { OnOk result (lines.new ≢ []) }
+{
+    add_forms(alloc, &app.tree, lines)?;
     lines.add_unbuilt("se")?;
-    add_lists(request.alloc, &app, lines)?;
+    lines.add("fg", group_places(alloc, &app.tree)?)?;
+    add_help_pages(alloc, app, lines)?;
+    lines.add("gr", groups_page(alloc, app)?)?;
     lines.add_unbuilt("ah")?;
     lines.add_unbuilt("am")?;
     lines.add_unbuilt("mn")
@@ -211,14 +221,14 @@ pub fn add_tree_answers(request: &mut Request<'_>, lines: &mut Lines) -> Result<
 // Takes a tree behind what goes with it. The path is `app`.
 fn read_tree_of_app(request: &mut Request<'_>) -> Result<Application, Bad> {
     let environment = read_environment(request)?;
-    let info = read_info(request, DEEPEST)?;
-    let help = read_tree(request, DEEPEST)?;
+    let info = read_info(request)?;
+    let help = request.tree()?;
     Ok(Application {
         environment,
         info,
         help,
         include_env: true,
-        tree: read_last_tree(request)?,
+        tree: request.tree()?,
         path: app_path(request.alloc)?,
     })
 }
@@ -229,12 +239,9 @@ fn app_path(alloc: Global) -> Result<Vec<String>, AllocError> {
     Ok(path)
 }
 
-// Adds the places of a group, the help page and the groups.
-fn add_lists(alloc: Global, app: &Application, lines: &mut Lines) -> Result<(), Bad> {
-    lines.add("fg", group_places(alloc, &app.tree)?)?;
-    add_help_pages(alloc, app, lines)?;
+fn groups_page(alloc: Global, app: &Application) -> Answer {
     let page = groups(alloc, &app.tree, true, &app.environment)?;
-    lines.add("gr", console(alloc, &page, true, 60)?)
+    console(alloc, &page, true, 60)
 }
 
 // Adds nothing where an item is misplaced.

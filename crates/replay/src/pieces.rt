@@ -1,7 +1,8 @@
 //! Answers to requests on texts and their pieces: chunks, roff, escaping and labelled texts.
 
+use crate::documents::{bit, write_number};
 use crate::encoding::{read_text, spelled, write_character, write_text};
-use crate::fault::Bad;
+use crate::fault::{Answer, Bad};
 use crate::request::Request;
 use bpaf_doc::splitter::{Chunk, split};
 use bpaf_roff::escape::bytes::escape;
@@ -11,10 +12,9 @@ use bpaf_roff::roff::{Font, Roff};
 use std::alloc::{AllocError, Global};
 
 /// The chunks of a text.
-pub fn chunks_answer(request: &mut Request<'_>) -> Result<String, Bad> {
+pub fn chunks_answer(request: &mut Request<'_>) -> Answer {
     let text = request.text()?;
-    request.end()?;
-    let mut answer = String::from_str(request.alloc, "[")?;
+    let mut answer = String::from_str(request.alloc, " [")?;
     for chunk in split(text.as_str()) {
         write_chunk(&mut answer, chunk)?;
     }
@@ -25,7 +25,8 @@ pub fn chunks_answer(request: &mut Request<'_>) -> Result<String, Bad> {
 fn write_chunk(out: &mut String, chunk: Chunk<'_>) -> Result<(), AllocError> {
     match chunk {
         Chunk::Raw(text, weight) => {
-            write!(out, " r{weight}")?;
+            out.push_str(" r")?;
+            write_number(out, weight)?;
             write_text(out, text)
         }
         Chunk::Paragraph => out.push_str(" p"),
@@ -34,20 +35,15 @@ fn write_chunk(out: &mut String, chunk: Chunk<'_>) -> Result<(), AllocError> {
 }
 
 /// The sum of some pages, rendered.
-pub fn roff_calls_answer(request: &mut Request<'_>) -> Result<String, Bad> {
+pub fn roff_calls_answer(request: &mut Request<'_>) -> Answer {
     let apostrophes = read_apostrophes(request)?;
-    let mut page = Roff::new(request.alloc);
-    for _ in 0..u64::MAX {
-        let Some(call) = request.next_word() else {
-            return Ok(spelled(request.alloc, page.render(apostrophes)?.as_str())?);
-        };
-        if call == "+" {
-            page.add_assign(&read_page(request)?)?;
-        } else {
-            append_call(&mut page, call, request)?;
+    let mut sum = read_page(request)?;
+    for _ in 0..request.len() {
+        if request.has("+") {
+            sum.add_assign(&read_page(request)?)?;
         }
     }
-    Err(Bad::TOO_LONG)
+    spelled(request.alloc, sum.render(apostrophes)?.as_str())
 }
 
 fn read_apostrophes(request: &mut Request<'_>) -> Result<Apostrophes, Bad> {
@@ -61,20 +57,17 @@ fn read_apostrophes(request: &mut Request<'_>) -> Result<Apostrophes, Bad> {
 // Takes calls on a page, up to a plus or the end.
 fn read_page(request: &mut Request<'_>) -> Result<Roff, Bad> {
     let mut page = Roff::new(request.alloc);
-    for _ in 0..u64::MAX {
+    for _ in 0..request.len() {
         match request.peek() {
-            None | Some("+") => return Ok(page),
-            Some(call) => {
-                request.expect(call)?;
-                append_call(&mut page, call, request)?;
-            }
+            None | Some("+") => break,
+            Some(_) => append_call(&mut page, request)?,
         }
     }
-    Err(Bad::TOO_LONG)
+    Ok(page)
 }
 
-fn append_call(page: &mut Roff, call: &str, request: &mut Request<'_>) -> Result<(), Bad> {
-    match call {
+fn append_call(page: &mut Roff, request: &mut Request<'_>) -> Result<(), Bad> {
+    match request.word()? {
         "control" => {
             let name = request.text()?;
             append_control(page, request.alloc, name.as_str(), &request.texts()?)?;
@@ -108,26 +101,37 @@ pub fn append_control(
 
 // Takes texts with fonts, in parentheses, and appends them.
 fn append_text(page: &mut Roff, request: &mut Request<'_>) -> Result<(), Bad> {
-    let pieces = read_styled(request)?;
+    request.expect("(")?;
+    let pieces = read_pieces(request)?;
+    request.expect(")")?;
     let mut texts = Vec::new(request.alloc);
-    for (font, text) in &pieces {
-        texts.push((*font, text.as_str()))?;
+    for (label, text) in &pieces {
+        texts.push((font_of(*label)?, text.as_str()))?;
     }
     Ok(page.append_text(&texts)?)
 }
 
-fn read_styled(request: &mut Request<'_>) -> Result<Vec<(Font, String)>, Bad> {
-    request.expect("(")?;
+// Takes labelled texts up to a closing bracket or the end.
+fn read_pieces(request: &mut Request<'_>) -> Result<Vec<(char, String)>, Bad> {
     let mut pieces = Vec::new(request.alloc);
-    for _ in 0..u64::MAX {
-        let word = request.word()?;
-        if word == ")" {
-            return Ok(pieces);
+    for _ in 0..request.len() {
+        match request.peek() {
+            None | Some(")") => break,
+            Some(_) => pieces.push(read_labelled(request)?)?,
         }
-        let (label, text) = read_labelled(request.alloc, word)?;
-        pieces.push((font_of(label)?, text))?;
     }
-    Err(Bad::TOO_LONG)
+    Ok(pieces)
+}
+
+// Takes a word that is a character, and a text behind it.
+fn read_labelled(request: &mut Request<'_>) -> Result<(char, String), Bad> {
+    let mut characters = request.word()?.chars();
+    if let Some(label) = characters.next() {
+        if let Some(spelled) = characters.as_str().strip_prefix('\'') {
+            return Ok((label, read_text(request.alloc, spelled)?));
+        }
+    }
+    Err(Bad::Words("a letter and a text were expected"))
 }
 
 fn font_of(label: char) -> Result<Font, Bad> {
@@ -139,41 +143,24 @@ fn font_of(label: char) -> Result<Font, Bad> {
     }
 }
 
-// The character at the start of a word, and the text behind its quote mark.
-fn read_labelled(alloc: Global, word: &str) -> Result<(char, String), Bad> {
-    let mut characters = word.chars();
-    if let Some(label) = characters.next() {
-        if let Some(spelled) = characters.as_str().strip_prefix('\'') {
-            return Ok((label, read_text(alloc, spelled)?));
-        }
-    }
-    Err(Bad::Words("a letter and a text were expected"))
-}
-
 /// A text and pieces behind it, escaped.
-pub fn escape_answer(request: &mut Request<'_>) -> Result<String, Bad> {
+pub fn escape_answer(request: &mut Request<'_>) -> Answer {
     let apostrophes = read_apostrophes(request)?;
     let mut bytes = request.text()?.into_bytes();
-    let pieces = read_escaped(request)?;
-    let items = pieces.iter().map(|(how, text)| (how, text.as_str()));
-    escape(items, &mut bytes, apostrophes)?;
+    let pieces = read_pieces(request)?;
+    let mut items = Vec::new(request.alloc);
+    for (label, text) in &pieces {
+        items.push((escape_of(*label)?, text.as_str()))?;
+    }
+    escape(
+        items.iter().map(|(how, text)| (how, *text)),
+        &mut bytes,
+        apostrophes,
+    )?;
     match String::from_utf8(bytes) {
-        Ok(text) => Ok(spelled(request.alloc, text.as_str())?),
+        Ok(text) => spelled(request.alloc, text.as_str()),
         Err(_) => Err(Bad::Words("the escaped text is not UTF-8")),
     }
-}
-
-// Takes texts with the ways to escape them, up to the end.
-fn read_escaped(request: &mut Request<'_>) -> Result<Vec<(Escape, String)>, Bad> {
-    let mut pieces = Vec::new(request.alloc);
-    for _ in 0..u64::MAX {
-        let Some(word) = request.next_word() else {
-            return Ok(pieces);
-        };
-        let (label, text) = read_labelled(request.alloc, word)?;
-        pieces.push((escape_of(label)?, text))?;
-    }
-    Err(Bad::TOO_LONG)
 }
 
 fn escape_of(label: char) -> Result<Escape, Bad> {
@@ -188,62 +175,45 @@ fn escape_of(label: char) -> Result<Escape, Bad> {
 }
 
 /// The sum of lists and pieces, in order.
-pub fn monoid_answer(request: &mut Request<'_>) -> Result<String, Bad> {
-    let mut sum = None;
-    for _ in 0..u64::MAX {
-        sum = Some(match request.next_word() {
-            None => return monoid_text(request.alloc, sum),
-            Some("(") => with_list(sum, read_list(request)?)?,
-            Some(word) => with_piece(sum, request.alloc, word)?,
-        });
+pub fn monoid_answer(request: &mut Request<'_>) -> Answer {
+    let mut sum = match request.has("(") {
+        true => read_list(request)?,
+        false => FreeMonoid::new(request.alloc),
+    };
+    for _ in 0..request.len() {
+        if request.has("(") {
+            sum = sum.add(&read_list(request)?)?;
+        } else if request.peek().is_some() {
+            append_piece(&mut sum, &read_labelled(request)?)?;
+        }
     }
-    Err(Bad::TOO_LONG)
+    monoid_text(request.alloc, &sum)
 }
 
-fn with_list(
-    sum: Option<FreeMonoid<char>>,
-    list: FreeMonoid<char>,
-) -> Result<FreeMonoid<char>, AllocError> {
-    match sum {
-        None => Ok(list),
-        Some(sum) => sum.add(&list),
-    }
-}
-
-fn with_piece(
-    sum: Option<FreeMonoid<char>>,
-    alloc: Global,
-    word: &str,
-) -> Result<FreeMonoid<char>, Bad> {
-    let (label, text) = read_labelled(alloc, word)?;
-    let mut sum = sum.unwrap_or(FreeMonoid::new(alloc));
-    let mut characters = text.as_str().chars();
+// A text of one character goes in as one.
+fn append_piece(sum: &mut FreeMonoid<char>, piece: &(char, String)) -> Result<(), AllocError> {
+    let mut characters = piece.1.as_str().chars();
     match (characters.next(), characters.next()) {
-        (Some(character), None) => sum.append_char(label, character)?,
-        _ => sum.append_str(label, text.as_str())?,
+        (Some(character), None) => sum.append_char(piece.0, character),
+        _ => sum.append_str(piece.0, piece.1.as_str()),
     }
-    Ok(sum)
 }
 
 // Takes a list, behind its opening bracket.
 fn read_list(request: &mut Request<'_>) -> Result<FreeMonoid<char>, Bad> {
     let mut list = FreeMonoid::new(request.alloc);
     list.squash = request.flag()?;
-    for _ in 0..u64::MAX {
-        let word = request.word()?;
-        if word == ")" {
-            return Ok(list);
-        }
-        let (label, text) = read_labelled(request.alloc, word)?;
-        list.append_str(label, text.as_str())?;
+    for (label, text) in &read_pieces(request)? {
+        list.append_str(*label, text.as_str())?;
     }
-    Err(Bad::TOO_LONG)
+    request.expect(")")?;
+    Ok(list)
 }
 
-fn monoid_text(alloc: Global, sum: Option<FreeMonoid<char>>) -> Result<String, Bad> {
-    let monoid = sum.unwrap_or(FreeMonoid::new(alloc));
-    let mut answer = String::from_str(alloc, if monoid.squash { "[ 1" } else { "[ 0" })?;
-    for (label, text) in monoid.iter() {
+fn monoid_text(alloc: Global, sum: &FreeMonoid<char>) -> Answer {
+    let mut answer = String::from_str(alloc, " [")?;
+    answer.push_str(bit(sum.squash))?;
+    for (label, text) in sum.iter() {
         answer.push_str(" ")?;
         write_label(&mut answer, *label)?;
         write_text(&mut answer, text)?;

@@ -1,46 +1,96 @@
-//! The words of a request.
+//! The words of a request, and the documents and trees that they stand for.
 
+use crate::documents::read_document;
 use crate::encoding::read_text;
 use crate::fault::Bad;
 use crate::names::Names;
+use crate::trees::read_tree;
+use bpaf_doc::buffer::Doc;
+use bpaf_meta::meta::Meta;
 use std::alloc::Global;
 
-/// What is left of a line. Blanks stand between words, and no word is empty.
+// How many levels of trees and documents a line may nest.
+const DEEPEST: usize = 1_000;
+
+// A word with nothing to it, or what the first word of a document or a tree stands for with those behind it, and its levels.
+#[derive(Drop)]
+enum Term<'a> {
+    Word(&'a str),
+    Document(Result<Doc, Bad>, usize),
+    Tree(Result<Meta, Bad>, usize),
+}
+
+impl<'a> Term<'a> {
+    // The first word, or another that nobody asks for.
+    fn word(&self) -> &'a str {
+        match self {
+            Term::Word(word) => *word,
+            Term::Document(..) => "[",
+            Term::Tree(..) => "skip",
+        }
+    }
+}
+
+/// What is left of a line, the next term last. Blanks stand between words, and no word is empty.
 #[derive(Drop)]
 pub struct Request<'a> {
     pub alloc: Global,
-    rest: &'a str,
     names: &'a mut Names,
+    terms: Vec<Term<'a>>,
+    // one more than the most levels of the terms that were taken behind the word that is being read
+    levels: usize,
 }
 
 impl<'a> Request<'a> {
-    /// The words of a line, from the first on.
-    pub fn new(alloc: Global, line: &'a str, names: &'a mut Names) -> Request<'a> {
-        Request {
+    /// Reads a line from its last word to the first. So what stands behind a word is read before it.
+    pub fn new(alloc: Global, line: &'a str, names: &'a mut Names) -> Result<Request<'a>, Bad> {
+        let mut request = Request {
             alloc,
-            rest: line,
             names,
+            terms: Vec::new(alloc),
+            levels: 0,
+        };
+        for word in line.rsplit(' ') {
+            if !word.is_empty() {
+                request.read(word)?;
+            }
         }
+        Ok(request)
+    }
+
+    // Reads a word with those behind it that belong to it.
+    fn read(&mut self, word: &'a str) -> Result<(), Bad> {
+        self.levels = 1;
+        let term = if word == "[" {
+            let document = read_document(self);
+            Term::Document(document, self.levels)
+        } else {
+            match read_tree(self, word).transpose() {
+                Some(tree) => Term::Tree(tree, self.levels),
+                None => Term::Word(word),
+            }
+        };
+        Ok(self.terms.push(term)?)
+    }
+
+    /// How many terms are left.
+    pub fn len(&self) -> usize {
+        self.terms.len()
     }
 
     /// The next word, which stays.
     pub fn peek(&self) -> Option<&'a str> {
-        Some(cut(after_blanks(self.rest))?.0)
+        Some(self.terms.last()?.word())
     }
 
     /// Takes the next word where there is one.
     pub fn next_word(&mut self) -> Option<&'a str> {
-        let (word, rest) = cut(after_blanks(self.rest))?;
-        self.rest = rest;
-        Some(word)
+        Some(self.terms.pop()?.word())
     }
 
     /// Takes the next word.
     pub fn word(&mut self) -> Result<&'a str, Bad> {
-        match self.next_word() {
-            Some(word) => Ok(word),
-            None => Err(Bad::Words("the line ends early")),
-        }
+        self.next_word().ok_or(Bad::ENDS_EARLY)
     }
 
     /// Takes the next word if it is this one, and answers whether it was.
@@ -89,13 +139,13 @@ impl<'a> Request<'a> {
     pub fn texts(&mut self) -> Result<Vec<String>, Bad> {
         self.expect("(")?;
         let mut texts = Vec::new(self.alloc);
-        for _ in 0..u64::MAX {
+        for _ in 0..self.len() {
             if self.has(")") {
                 return Ok(texts);
             }
             texts.push(self.text()?)?;
         }
-        Err(Bad::TOO_LONG)
+        Err(Bad::ENDS_EARLY)
     }
 
     /// The text as one that lasts as long as the program.
@@ -108,17 +158,37 @@ impl<'a> Request<'a> {
         let text = self.text()?;
         self.lasting(text.as_str())
     }
-}
 
-// The text from its first byte that is no blank on.
-fn after_blanks(text: &str) -> &str {
-    text.trim_start_matches(' ')
-}
-
-// The text up to its first blank, and what follows that blank. None of an empty text.
-fn cut(text: &str) -> Option<(&str, &str)> {
-    if text.is_empty() {
-        return None;
+    /// Takes a document.
+    pub fn document(&mut self) -> Result<Doc, Bad> {
+        match self.terms.pop() {
+            Some(Term::Document(document, levels)) => {
+                self.contain(levels)?;
+                document
+            }
+            Some(_) => Err(Bad::Words("another word was expected")),
+            None => Err(Bad::ENDS_EARLY),
+        }
     }
-    Some(text.split_once(' ').unwrap_or((text, "")))
+
+    /// Takes a tree.
+    pub fn tree(&mut self) -> Result<Meta, Bad> {
+        match self.terms.pop() {
+            Some(Term::Tree(tree, levels)) => {
+                self.contain(levels)?;
+                tree
+            }
+            Some(_) => Err(Bad::Words("a tree was expected")),
+            None => Err(Bad::ENDS_EARLY),
+        }
+    }
+
+    // Counts the levels of a term that was taken.
+    fn contain(&mut self, levels: usize) -> Result<(), Bad> {
+        if levels > DEEPEST {
+            return Err(Bad::Words("nested too deep"));
+        }
+        self.levels = self.levels.max(levels + 1);
+        Ok(())
+    }
 }

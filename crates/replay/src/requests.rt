@@ -4,9 +4,9 @@ ghost use Rattle.std.specs.Prelude.{◌≢◌, [], OnOk};
 
 use crate::document_answers::{
     add_document_answers, console_answer, document_answer, html_answer, markdown_answer,
-    roff_answer,
+    roff_answer, word,
 };
-use crate::fault::Bad;
+use crate::fault::{Answer, Bad};
 use crate::lines::{Lines, UNBUILT};
 use crate::names::Names;
 use crate::page_answers::{
@@ -28,16 +28,27 @@ pub fn add_answers(
 ) -> Result<(), Bad>
     ensures { OnOk result (lines.new ≢ []) }
 {
-    let mut request = Request::new(alloc, line, names);
+    let mut request = Request::new(alloc, line, names)?;
     match request.word()? {
         "alldoc" => add_document_answers(&mut request, lines),
         "alltree" => add_tree_answers(&mut request, lines),
-        key => lines.add(key, one_answer(&mut request, key)?),
+        key => lines.add(key, only_answer(&mut request, key)?),
     }
 }
 
-// The answer to a request that has one.
-fn one_answer(request: &mut Request<'_>, key: &str) -> Result<String, Bad> {
+// The answer to a request that has one. A request without an answer yet may have any words behind its key.
+fn only_answer(request: &mut Request<'_>, key: &str) -> Answer {
+    match key {
+        "apphtml" | "appmarkdown" | "appman" | "sections" => { word(request.alloc, UNBUILT) }
+        _ => {
+            let answer = answer(request, key)?;
+            request.end()?;
+            Ok(answer)
+        }
+    }
+}
+
+fn answer(request: &mut Request<'_>, key: &str) -> Answer {
     match key {
         "console" => console_answer(request),
         "html" => html_answer(request),
@@ -58,16 +69,6 @@ fn one_answer(request: &mut Request<'_>, key: &str) -> Result<String, Bad> {
         "groups" => groups_answer(request),
         "help" => help_answer(request),
         "helpparts" => help_parts_answer(request),
-        _ => unbuilt_answer(request.alloc, key),
-    }
-}
-
-// The answer to a request that has none yet.
-fn unbuilt_answer(alloc: Global, key: &str) -> Result<String, Bad> {
-    match key {
-        "apphtml" | "appmarkdown" | "appman" | "sections" => {
-            Ok(String::from_str(alloc, UNBUILT)?)
-        }
         _ => Err(Bad::Words("no such request")),
     }
 }

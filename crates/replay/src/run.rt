@@ -13,7 +13,7 @@ use std::io::{BufRead, Write};
 use std::str;
 
 /// Why a run stops before the end of its input.
-#[derive(Clone, Copy, Debug, PartialEq, Eq)]
+#[derive(Clone, Copy)]
 pub enum Stop {
     /// A read failed, or memory did not last for a line.
     Read,

@@ -4,4 +4,4 @@ mod read;
 mod write;
 
 pub use read::{read_info, read_name, read_tree};
-pub use write::{write_item, write_name, write_optional, write_shorts, write_tree};
+pub use write::{write_any, write_item, write_name, write_shorts, write_tree, write_worded};

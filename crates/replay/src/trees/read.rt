@@ -1,6 +1,5 @@
-//! Trees and items, read. Each reader takes the levels that may still be nested.
+//! Trees, items and names, read. What stands behind their first word was read before.
 
-use crate::documents::{deeper, read_document};
 use crate::encoding::read_text;
 use crate::fault::Bad;
 use crate::request::Request;
@@ -9,98 +8,112 @@ use bpaf_meta::item::{Item, ShortLong};
 use bpaf_meta::meta::Meta;
 use bpaf_meta::meta_help::{Info, Metavar};
 
-/// Takes the words of a tree.
-#[cycle(read)]
-pub fn read_tree(request: &mut Request<'_>, depth: usize) -> Result<Meta, Bad> {
-    let depth = deeper(depth)?;
-    match request.word()? {
-        "skip" => Ok(Meta::Skip),
-        "and" => Ok(Meta::And(read_trees(request, depth)?)),
-        "or" => Ok(Meta::Or(read_trees(request, depth)?)),
-        "opt" => Ok(Meta::Optional(read_boxed(request, depth)?)),
-        "req" => Ok(Meta::Required(read_boxed(request, depth)?)),
-        "adj" => Ok(Meta::Adjacent(read_boxed(request, depth)?)),
-        "many" => Ok(Meta::Many(read_boxed(request, depth)?)),
-        "strict" => Ok(Meta::Strict(read_boxed(request, depth)?)),
-        "sub" => {
-            let title = Box::new(request.alloc, read_document(request, depth)?)?;
-            Ok(Meta::Subsection(read_boxed(request, depth)?, title))
-        }
-        "suf" => {
-            let note = Box::new(request.alloc, read_document(request, depth)?)?;
-            Ok(Meta::Suffix(read_boxed(request, depth)?, note))
-        }
-        "cu" => {
-            let usage = Box::new(request.alloc, read_document(request, depth)?)?;
-            Ok(Meta::CustomUsage(read_boxed(request, depth)?, usage))
-        }
-        kind => {
-            let item = read_item(request, kind, depth)?;
-            Ok(Meta::from_item(request.alloc, item)?)
-        }
-    }
+/// Takes what stands behind the first word of a tree. Answers none for a word that begins no tree.
+pub fn read_tree(request: &mut Request<'_>, word: &str) -> Result<Option<Meta>, Bad> {
+    let tree = match word {
+        "skip" => Meta::Skip,
+        "and" => Meta::And(read_trees(request)?),
+        "or" => Meta::Or(read_trees(request)?),
+        "opt" => Meta::Optional(read_boxed(request)?),
+        "req" => Meta::Required(read_boxed(request)?),
+        "adj" => Meta::Adjacent(read_boxed(request)?),
+        "many" => Meta::Many(read_boxed(request)?),
+        "strict" => Meta::Strict(read_boxed(request)?),
+        "sub" | "suf" | "cu" => read_noted(request, word)?,
+        _ => return read_item(request, word),
+    };
+    Ok(Some(tree))
 }
 
-#[cycle(read)]
-fn read_boxed(request: &mut Request<'_>, depth: usize) -> Result<Box<Meta>, Bad> {
-    let tree = read_tree(request, depth)?;
+fn read_boxed(request: &mut Request<'_>) -> Result<Box<Meta>, Bad> {
+    let tree = request.tree()?;
     Ok(Box::new(request.alloc, tree)?)
 }
 
+// Takes a document and a tree.
+fn read_noted(request: &mut Request<'_>, word: &str) -> Result<Meta, Bad> {
+    let document = request.document()?;
+    let note = Box::new(request.alloc, document)?;
+    let inner = read_boxed(request)?;
+    match word {
+        "sub" => Ok(Meta::Subsection(inner, note)),
+        "suf" => Ok(Meta::Suffix(inner, note)),
+        _ => Ok(Meta::CustomUsage(inner, note)),
+    }
+}
+
 // Takes trees in parentheses.
-#[cycle(read)]
-fn read_trees(request: &mut Request<'_>, depth: usize) -> Result<Vec<Meta>, Bad> {
+fn read_trees(request: &mut Request<'_>) -> Result<Vec<Meta>, Bad> {
     request.expect("(")?;
     let mut trees = Vec::new(request.alloc);
-    for _ in 0..u64::MAX {
+    for _ in 0..request.len() {
         if request.has(")") {
             return Ok(trees);
         }
-        trees.push(read_tree(request, depth)?)?;
+        trees.push(request.tree()?)?;
     }
-    Err(Bad::TOO_LONG)
+    Err(Bad::ENDS_EARLY)
 }
 
-// Takes the words of an item behind the one that says its kind.
-#[cycle(read)]
-fn read_item(request: &mut Request<'_>, kind: &str, depth: usize) -> Result<Item, Bad> {
-    match kind {
-        "any" => Ok(Item::Any {
-            metavar: read_document(request, depth)?,
-            anywhere: request.flag()?,
-            help: read_help(request, depth)?,
-        }),
-        "pos" => Ok(Item::Positional {
-            metavar: Metavar(request.lasting_text()?),
-            help: read_help(request, depth)?,
-        }),
-        "cmd" => Ok(Item::Command {
-            name: request.lasting_text()?,
-            short: read_short(request)?,
-            help: read_help(request, depth)?,
-            meta: read_boxed(request, depth)?,
-            info: Box::new(request.alloc, read_info(request, depth)?)?,
-        }),
-        "flag" => Ok(Item::Flag {
-            name: read_name(request)?,
-            shorts: read_characters(request)?,
-            env: read_environment_name(request)?,
-            help: read_help(request, depth)?,
-        }),
-        "arg" => Ok(Item::Argument {
-            name: read_name(request)?,
-            shorts: read_characters(request)?,
-            metavar: Metavar(request.lasting_text()?),
-            env: read_environment_name(request)?,
-            help: read_help(request, depth)?,
-        }),
-        _ => Err(Bad::Words("a tree was expected")),
-    }
+// Takes what stands behind the word that says an item's kind.
+fn read_item(request: &mut Request<'_>, kind: &str) -> Result<Option<Meta>, Bad> {
+    let item = match kind {
+        "any" => read_any(request)?,
+        "pos" => read_positional(request)?,
+        "cmd" => read_command(request)?,
+        "flag" => read_flag(request)?,
+        "arg" => read_argument(request)?,
+        _ => return Ok(None),
+    };
+    Ok(Some(Meta::from_item(request.alloc, item)?))
 }
 
-/// Takes `-`, or the words of the texts around a help page.
-#[cycle(read)]
-pub fn read_info(request: &mut Request<'_>, depth: usize) -> Result<Info, Bad> {
+fn read_any(request: &mut Request<'_>) -> Result<Item, Bad> {
+    Ok(Item::Any {
+        metavar: request.document()?,
+        anywhere: request.flag()?,
+        help: read_help(request)?,
+    })
+}
+
+fn read_positional(request: &mut Request<'_>) -> Result<Item, Bad> {
+    Ok(Item::Positional {
+        metavar: Metavar(request.lasting_text()?),
+        help: read_help(request)?,
+    })
+}
+
+fn read_command(request: &mut Request<'_>) -> Result<Item, Bad> {
+    Ok(Item::Command {
+        name: request.lasting_text()?,
+        short: read_short(request)?,
+        help: read_help(request)?,
+        meta: read_boxed(request)?,
+        info: Box::new(request.alloc, read_info(request)?)?,
+    })
+}
+
+fn read_flag(request: &mut Request<'_>) -> Result<Item, Bad> {
+    Ok(Item::Flag {
+        name: read_name(request)?,
+        shorts: read_characters(request)?,
+        env: read_environment_name(request)?,
+        help: read_help(request)?,
+    })
+}
+
+fn read_argument(request: &mut Request<'_>) -> Result<Item, Bad> {
+    Ok(Item::Argument {
+        name: read_name(request)?,
+        shorts: read_characters(request)?,
+        metavar: Metavar(request.lasting_text()?),
+        env: read_environment_name(request)?,
+        help: read_help(request)?,
+    })
+}
+
+/// Takes `-`, or the texts around a help page.
+pub fn read_info(request: &mut Request<'_>) -> Result<Info, Bad> {
     if request.has("-") {
         return Ok(Info {
             descr: None,
@@ -112,21 +125,20 @@ pub fn read_info(request: &mut Request<'_>, depth: usize) -> Result<Info, Bad> {
     }
     request.expect("info")?;
     Ok(Info {
-        descr: read_help(request, depth)?,
-        header: read_help(request, depth)?,
-        footer: read_help(request, depth)?,
-        usage: read_help(request, depth)?,
-        help: read_tree(request, depth)?,
+        descr: read_help(request)?,
+        header: read_help(request)?,
+        footer: read_help(request)?,
+        usage: read_help(request)?,
+        help: request.tree()?,
     })
 }
 
-// Takes `-`, or the words of a document.
-#[cycle(read)]
-fn read_help(request: &mut Request<'_>, depth: usize) -> Result<Option<Doc>, Bad> {
+// Takes `-`, or a document.
+fn read_help(request: &mut Request<'_>) -> Result<Option<Doc>, Bad> {
     if request.has("-") {
         return Ok(None);
     }
-    Ok(Some(read_document(request, depth)?))
+    Ok(Some(request.document()?))
 }
 
 /// Takes a word that is a name: short, long or both.

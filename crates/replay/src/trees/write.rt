@@ -1,6 +1,6 @@
 //! Trees, items and names, printed.
 
-use crate::documents::write_document;
+use crate::documents::{bit, write_document, write_optional};
 use crate::encoding::{write_character, write_characters, write_text};
 use bpaf_doc::buffer::Doc;
 use bpaf_meta::item::{Item, ShortLong};
@@ -12,18 +12,18 @@ use std::alloc::AllocError;
 #[cycle(write)]
 pub fn write_tree(out: &mut String, tree: &Meta) -> Result<(), AllocError> {
     match tree {
-        Meta::And(parts) => write_parts(out, "and (", parts),
-        Meta::Or(parts) => write_parts(out, "or (", parts),
-        Meta::Optional(inner) => write_inner(out, "opt ", inner),
-        Meta::Required(inner) => write_inner(out, "req ", inner),
-        Meta::Adjacent(inner) => write_inner(out, "adj ", inner),
-        Meta::Many(inner) => write_inner(out, "many ", inner),
-        Meta::Strict(inner) => write_inner(out, "strict ", inner),
+        Meta::And(parts) => write_parts(out, " and (", parts),
+        Meta::Or(parts) => write_parts(out, " or (", parts),
+        Meta::Optional(inner) => write_inner(out, " opt", inner),
+        Meta::Required(inner) => write_inner(out, " req", inner),
+        Meta::Adjacent(inner) => write_inner(out, " adj", inner),
+        Meta::Many(inner) => write_inner(out, " many", inner),
+        Meta::Strict(inner) => write_inner(out, " strict", inner),
         Meta::Item(item) => write_item(out, item),
-        Meta::Subsection(inner, title) => write_noted(out, "sub ", title, inner),
-        Meta::Suffix(inner, note) => write_noted(out, "suf ", note, inner),
-        Meta::CustomUsage(inner, usage) => write_noted(out, "cu ", usage, inner),
-        Meta::Skip => out.push_str("skip"),
+        Meta::Subsection(inner, title) => write_noted(out, " sub", title, inner),
+        Meta::Suffix(inner, note) => write_noted(out, " suf", note, inner),
+        Meta::CustomUsage(inner, usage) => write_noted(out, " cu", usage, inner),
+        Meta::Skip => out.push_str(" skip"),
     }
 }
 
@@ -42,7 +42,6 @@ fn write_noted(
 ) -> Result<(), AllocError> {
     out.push_str(word)?;
     write_document(out, note)?;
-    out.push_str(" ")?;
     write_tree(out, inner)
 }
 
@@ -50,7 +49,6 @@ fn write_noted(
 fn write_parts(out: &mut String, opening: &str, parts: &Vec<Meta>) -> Result<(), AllocError> {
     out.push_str(opening)?;
     for part in parts {
-        out.push_str(" ")?;
         write_tree(out, part)?;
     }
     out.push_str(" )")
@@ -64,17 +62,9 @@ pub fn write_item(out: &mut String, item: &Item) -> Result<(), AllocError> {
             metavar,
             anywhere,
             help,
-        } => {
-            out.push_str("any ")?;
-            write_document(out, metavar)?;
-            out.push_str(if *anywhere { " 1 " } else { " 0 " })?;
-            write_help(out, help)
-        }
+        } => write_any(out, metavar, *anywhere, help.as_ref()),
         Item::Positional { metavar, help } => {
-            out.push_str("pos ")?;
-            write_text(out, metavar.0)?;
-            out.push_str(" ")?;
-            write_help(out, help)
+            write_worded(out, " pos ", metavar.0, help.as_ref())
         }
         Item::Command {
             name,
@@ -83,13 +73,8 @@ pub fn write_item(out: &mut String, item: &Item) -> Result<(), AllocError> {
             meta,
             info,
         } => {
-            out.push_str("cmd ")?;
-            write_text(out, *name)?;
-            write_short(out, *short)?;
-            write_help(out, help)?;
-            out.push_str(" ")?;
+            write_called(out, *name, *short, help.as_ref())?;
             write_tree(out, meta)?;
-            out.push_str(" ")?;
             write_info(out, info)
         }
         Item::Flag {
@@ -98,10 +83,9 @@ pub fn write_item(out: &mut String, item: &Item) -> Result<(), AllocError> {
             env,
             help,
         } => {
-            out.push_str("flag ")?;
-            write_named(out, name, shorts)?;
+            write_named(out, " flag ", name, shorts)?;
             write_environment_name(out, *env)?;
-            write_help(out, help)
+            write_optional(out, help.as_ref())
         }
         Item::Argument {
             name,
@@ -110,52 +94,83 @@ pub fn write_item(out: &mut String, item: &Item) -> Result<(), AllocError> {
             env,
             help,
         } => {
-            out.push_str("arg ")?;
-            write_named(out, name, shorts)?;
-            out.push_str(" ")?;
-            write_text(out, metavar.0)?;
+            write_named(out, " arg ", name, shorts)?;
+            write_labelled(out, " ", metavar.0)?;
             write_environment_name(out, *env)?;
-            write_help(out, help)
+            write_optional(out, help.as_ref())
         }
     }
+}
+
+/// Prints what is taken by a test.
+pub fn write_any(
+    out: &mut String,
+    metavar: &Doc,
+    anywhere: bool,
+    help: Option<&Doc>,
+) -> Result<(), AllocError> {
+    out.push_str(" any")?;
+    write_document(out, metavar)?;
+    out.push_str(bit(anywhere))?;
+    write_optional(out, help)
+}
+
+/// Prints a text with what stands before its quote mark, and a help text.
+pub fn write_worded(
+    out: &mut String,
+    label: &str,
+    text: &str,
+    help: Option<&Doc>,
+) -> Result<(), AllocError> {
+    write_labelled(out, label, text)?;
+    write_optional(out, help)
+}
+
+// Prints a text with what stands before its quote mark.
+fn write_labelled(out: &mut String, label: &str, text: &str) -> Result<(), AllocError> {
+    out.push_str(label)?;
+    write_text(out, text)
+}
+
+// What a command says of itself.
+fn write_called(
+    out: &mut String,
+    name: &str,
+    short: Option<char>,
+    help: Option<&Doc>,
+) -> Result<(), AllocError> {
+    write_labelled(out, " cmd ", name)?;
+    match short {
+        None => out.push_str(" -")?,
+        Some(short) => write_shorts(out, &[short])?,
+    }
+    write_optional(out, help)
 }
 
 #[cycle(write)]
 fn write_info(out: &mut String, info: &Box<Info>) -> Result<(), AllocError> {
     if is_default(info) {
-        return out.push_str("-");
+        return out.push_str(" -");
     }
-    out.push_str("info ")?;
+    out.push_str(" info")?;
     for text in [&info.descr, &info.header, &info.footer, &info.usage] {
-        write_help(out, text)?;
-        out.push_str(" ")?;
+        write_optional(out, text.as_ref())?;
     }
     write_tree(out, &info.help)
 }
 
 // Whether it has no text, and no tree.
 fn is_default(info: &Info) -> bool {
-    match info.help {
-        Meta::Skip => {
-            info.descr.is_none()
-                && info.header.is_none()
-                && info.footer.is_none()
-                && info.usage.is_none()
+    matches!(
+        info,
+        Info {
+            descr: None,
+            header: None,
+            footer: None,
+            usage: None,
+            help: Meta::Skip
         }
-        _ => false,
-    }
-}
-
-fn write_help(out: &mut String, help: &Option<Doc>) -> Result<(), AllocError> {
-    write_optional(out, help.as_ref())
-}
-
-/// Prints a document, or `-` for none.
-pub fn write_optional(out: &mut String, document: Option<&Doc>) -> Result<(), AllocError> {
-    match document {
-        None => out.push_str("-"),
-        Some(document) => write_document(out, document),
-    }
+    )
 }
 
 /// Prints a name.
@@ -165,10 +180,7 @@ pub fn write_name(out: &mut String, name: &ShortLong) -> Result<(), AllocError> 
             out.push_str("s'")?;
             write_character(out, short)
         }
-        ShortLong::Long(long) => {
-            out.push_str("l")?;
-            write_text(out, long)
-        }
+        ShortLong::Long(long) => write_labelled(out, "l", long),
         ShortLong::Both(short, long) => {
             out.push_str("b'")?;
             write_character(out, short)?;
@@ -177,42 +189,30 @@ pub fn write_name(out: &mut String, name: &ShortLong) -> Result<(), AllocError> 
     }
 }
 
-// A name and short names.
-fn write_named(out: &mut String, name: &ShortLong, shorts: &[char]) -> Result<(), AllocError> {
+// A name and short names, behind a word.
+fn write_named(
+    out: &mut String,
+    word: &str,
+    name: &ShortLong,
+    shorts: &[char],
+) -> Result<(), AllocError> {
+    out.push_str(word)?;
     write_name(out, name)?;
-    out.push_str(" ")?;
     write_shorts(out, shorts)
 }
 
 /// Prints characters as a text.
 pub fn write_shorts(out: &mut String, shorts: &[char]) -> Result<(), AllocError> {
-    out.push_str("'")?;
+    out.push_str(" '")?;
     for short in shorts {
         write_character(out, *short)?;
     }
     Ok(())
 }
 
-// Between blanks.
-fn write_short(out: &mut String, short: Option<char>) -> Result<(), AllocError> {
-    match short {
-        None => out.push_str(" - "),
-        Some(short) => {
-            out.push_str(" '")?;
-            write_character(out, short)?;
-            out.push_str(" ")
-        }
-    }
-}
-
-// Between blanks.
 fn write_environment_name(out: &mut String, name: Option<&str>) -> Result<(), AllocError> {
     match name {
-        None => out.push_str(" - "),
-        Some(name) => {
-            out.push_str(" ")?;
-            write_text(out, name)?;
-            out.push_str(" ")
-        }
+        None => out.push_str(" -"),
+        Some(name) => write_labelled(out, " ", name),
     }
 }
