@@ -1,7 +1,9 @@
 -- How texts are spelled and read, character by character.
-use Rattle.std.specs.Prelude.{◌≡◌, ◌≢◌, ℕ, suc, ◌+◌, ◌*◌, ◌^◌, ◌<◌, cond, Option, Some, None, List, [], ◌∷◌, ◌++◌, length, encode_utf8, refl, zero, ◌/◌, ◌%◌, Bool, true, false, ◌&&◌, codes, flat_map, IsUtf8}
+use Rattle.std.specs.Prelude.{◌≡◌, ◌≢◌, ℕ, suc, ◌+◌, ◌*◌, ◌^◌, ◌<◌, cond, Some, None, List, [], ◌∷◌, ◌++◌, length, encode_utf8, refl, zero, ◌/◌, ◌%◌, Bool, true, false, codes, flat_map, IsUtf8}
 use Rattle.std.proofs.Common.{ap, sym, ◌∙◌, subst, inl, inr, arith, append_assoc, append-nil, get_or}
-use Rattle.std.proofs.lemmas.Bool.{lt-ltb, ne_eqb, cases_eq}
+use Rattle.std.proofs.lemmas.Bool.{lt-ltb, ne_eqb, cases_eq, and_parts}
+use Rattle.std.proofs.lemmas.List.{nil_from_length}
+use Rattle.std.proofs.lemmas.Option.{some_pair_parts}
 use Rattle.std.proofs.Math.Nat.{pow-suc, mul_assoc}
 use Rattle.std.proofs.lemmas.Str.{encode_ascii, inside_one, chars-nil, chars_past_char, chars_from_encodes, digit_value-digit_char}
 use Rattle.std.specs.Char.{IsScalar, digit_value, digit_char}
@@ -33,8 +35,7 @@ abbrev pub ReadTo : List ℕ → List ℕ → List ℕ → Type 0
 ReadTo word text rest = (more : List ℕ) → Spells rest more → Spells word (text ++ more)
 
 pub read_whole : (word text rest : List ℕ) → length rest ≡ 0 → ReadTo word text rest → Spells word text
-read_whole word text [] none read = subst (Spells word) (append-nil text) (read [] (Spells.nothing refl refl))
-read_whole word text (b ∷ rest) none read = absurd (omega arith)
+read_whole word text rest none read = subst (Spells word) (append-nil text) (read [] (Spells.nothing (nil_from_length rest none) refl))
 
 pub printed_step : (out more rest after whole : List ℕ) (c : ℕ) → IsUtf8 rest → rest ≡ encode_utf8 c ++ after → out ++ spelling rest ≡ whole → more ≡ out ++ character_spelling c → more ++ spelling after ≡ whole
 printed_step out more rest after whole c utf8 e w m =
@@ -108,10 +109,9 @@ module _ (word text : List ℕ) (s : Spells word text) where
 
 spelled_characters : (cs : List ℕ) → scalars cs ≡ true → Spells (flat_map character_spelling cs) (encodes cs)
 spelled_characters [] h = Spells.nothing refl refl
-spelled_characters (c ∷ cs) h = spelled_character (flat_map character_spelling cs) (encodes cs) (spelled_characters cs (rests (scalar c) (scalars cs) h).1) c (rests (scalar c) (scalars cs) h).0 where
-  rests : (a b : Bool) → (a && b) ≡ true → (a ≡ true) × (b ≡ true)
-  rests true b e = (refl, e)
-  rests false b e = let no : false ≡ true = e in absurd cc
+spelled_characters (c ∷ cs) h =
+    let both = and_parts (scalar c) (scalars cs) h in
+    spelled_character (flat_map character_spelling cs) (encodes cs) (spelled_characters cs both.1) c both.0
 
 pub printed_texts_are_read : PrintedTextsAreRead
 printed_texts_are_read text utf8 =
@@ -119,19 +119,11 @@ printed_texts_are_read text utf8 =
     subst (λ bytes. Spells (spelling text) bytes) utf8.1.1
     (subst (λ cs. Spells (flat_map character_spelling cs) (encodes utf8.0)) same (spelled_characters utf8.0 utf8.1.0))
 
-same_found : (bytes others rest after : List ℕ) (found : Option (List ℕ × List ℕ)) → found ≡ Some (bytes, rest) → found ≡ Some (others, after) → (bytes ≡ others) × (rest ≡ after)
-same_found bytes others rest after found e f =
-    let same : Some (bytes, rest) ≡ Some (others, after) = sym e ∙ f in
-    let left : List ℕ × List ℕ = (bytes, rest) in
-    let right : List ℕ × List ℕ = (others, after) in
-    let pairs : left ≡ right = cc in
-    (ap (λ p. p.0) pairs, ap (λ p. p.1) pairs)
-
 pub words_spell_one_text : WordsSpellOneText
 words_spell_one_text word text other (Spells.nothing w t) (Spells.nothing v u) = t ∙ sym u
 words_spell_one_text word text other (Spells.nothing w t) (Spells.mark bytes rest more f u s) = let no : None ≡ Some (bytes, rest) = ap first_mark (sym w) ∙ f in absurd cc
 words_spell_one_text word text other (Spells.mark bytes rest more f t s) (Spells.nothing v u) = let no : None ≡ Some (bytes, rest) = ap first_mark (sym v) ∙ f in absurd cc
 words_spell_one_text word text other (Spells.mark bytes rest more f t s) (Spells.mark others after end g u r) =
-    let same = same_found bytes others rest after (first_mark word) f g in
+    let same = some_pair_parts bytes others rest after (sym f ∙ g) in
     let ends : more ≡ end = words_spell_one_text rest more end s (subst (λ x. Spells x end) (sym same.1) r) in
     t ∙ ap (λ x. x ++ more) same.0 ∙ ap (λ x. others ++ x) ends ∙ sym u
