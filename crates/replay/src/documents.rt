@@ -5,9 +5,9 @@ use crate::fault::{Answer, Bad};
 use crate::request::Request;
 use crate::trees::read_name;
 use bpaf_doc::buffer::{Block, Doc, Part, Style, Token};
-use bpaf_meta::meta::Meta;
-use bpaf_meta::meta_help::Metavar;
-use bpaf_meta::usage::{metavar, write_item, write_meta, write_shortlong};
+use bpaf_help::meta::Meta;
+use bpaf_help::meta_help::Metavar;
+use bpaf_help::usage::{metavar, write_item, write_meta, write_shortlong};
 use std::alloc::{AllocError, Global};
 
 /// Takes the parts of a document, behind its bracket.

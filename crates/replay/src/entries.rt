@@ -3,8 +3,8 @@
 use crate::documents::{write_document, write_optional};
 use crate::trees::{write_any, write_name, write_worded};
 use bpaf_doc::buffer::Doc;
-use bpaf_items::meta_help::{HelpItem, HiTy};
-use bpaf_meta::item::ShortLong;
+use bpaf_help::item::ShortLong;
+use bpaf_help::meta_help::{HelpItem, HiTy};
 use std::alloc::AllocError;
 
 /// Prints an entry with `;` behind it.

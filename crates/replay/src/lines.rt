@@ -8,9 +8,6 @@ use crate::fault::{Answer, Bad};
 use std::alloc::Global;
 use std::marker::Model;
 
-/// The answer of a key that the library does not give yet.
-pub const UNBUILT: &str = " UNBUILT";
-
 // Stands for the answer of the line before.
 const SAME: &str = " ^";
 
@@ -53,14 +50,6 @@ impl Lines {
         self.add_line(key, answer.as_str())?;
         self.last = Some(answer);
         Ok(())
-    }
-
-    /// Adds the line of a key that has no answer yet.
-    pub fn add_unbuilt(&mut self, key: &str) -> Result<(), Bad>
-        ensures { OnOk result (self.new ≢ []) }
-    {
-        self.last = None;
-        self.add_line(key, UNBUILT)
     }
 
     // Adds a line, all of it or none.

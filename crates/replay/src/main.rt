@@ -1,6 +1,7 @@
 //! `replay` reads requests from standard input, one a line, and prints each line with the answers that the library gives.
 #![tactic(auto)]
 
+mod application_answers;
 mod document_answers;
 mod documents;
 mod encoding;

@@ -2,6 +2,7 @@
 
 ghost use Rattle.std.specs.Prelude.{◌≢◌, [], OnOk};
 
+use crate::application_answers::{bare_manual, html, markdown, path_of, sections};
 use crate::document_answers::{console, read_extent, width_of, word};
 use crate::documents::{shown, write_number};
 use crate::entries::write_listed;
@@ -11,10 +12,10 @@ use crate::request::Request;
 use crate::tree_answers::{add_forms, printed_item};
 use crate::trees::read_info;
 use bpaf_doc::buffer::Doc;
-use bpaf_items::meta_help::{
+use bpaf_help::meta::Meta;
+use bpaf_help::meta_help::{
     EnvTexts, HelpError, HelpItems, HiTy, Info, render_help, write_help_item_groups,
 };
-use bpaf_meta::meta::Meta;
 use std::alloc::{AllocError, Global};
 
 /// The answer to a request on the item list of a tree.
@@ -127,7 +128,7 @@ fn groups(
     Ok(page)
 }
 
-// What a help page is made of.
+// What a help page is made of. The help tree is that of the info.
 #[derive(Drop)]
 struct Application {
     path: Vec<String>,
@@ -135,18 +136,18 @@ struct Application {
     environment: EnvTexts,
     info: Info,
     tree: Meta,
-    help: Meta,
 }
 
 fn read_application(request: &mut Request<'_>) -> Result<Application, Bad> {
-    Ok(Application {
+    let mut app = Application {
         path: request.texts()?,
         include_env: request.flag()?,
         environment: read_environment(request)?,
         info: read_info(request)?,
         tree: request.tree()?,
-        help: request.tree()?,
-    })
+    };
+    app.info.help = request.tree()?;
+    Ok(app)
 }
 
 fn help_page(alloc: Global, app: &Application) -> Result<Doc, HelpError<'_>> {
@@ -155,7 +156,7 @@ fn help_page(alloc: Global, app: &Application) -> Result<Doc, HelpError<'_>> {
         app.path.as_slice(),
         &app.info,
         &app.tree,
-        &app.help,
+        &app.info.help,
         app.include_env,
         &app.environment,
     )
@@ -189,7 +190,8 @@ fn help_parts(alloc: Global, app: &Application) -> Answer {
     }
 }
 
-fn refusal(alloc: Global, error: HelpError<'_>) -> Answer {
+/// The item that is misplaced. A refused growth is no answer.
+pub fn refusal(alloc: Global, error: HelpError<'_>) -> Answer {
     match error {
         HelpError::Misplaced(item) => printed_item(alloc, " err", item),
         HelpError::Memory(_) => Err(Bad::Memory),
@@ -209,34 +211,27 @@ fn add_pages(alloc: Global, app: &Application, lines: &mut Lines) -> Result<(), 
     ensures { OnOk result (lines.new ≢ []) }
 {
     add_forms(alloc, &app.tree, lines)?;
-    lines.add_unbuilt("se")?;
+    lines.add("se", sections(alloc, "app", &app.tree, &app.info)?)?;
     lines.add("fg", group_places(alloc, &app.tree)?)?;
     add_help_pages(alloc, app, lines)?;
     lines.add("gr", groups_page(alloc, app)?)?;
-    lines.add_unbuilt("ah")?;
-    lines.add_unbuilt("am")?;
-    lines.add_unbuilt("mn")
+    lines.add("ah", html(alloc, "app", &app.tree, &app.info)?)?;
+    lines.add("am", markdown(alloc, "app", &app.tree, &app.info)?)?;
+    lines.add("mn", bare_manual(alloc, &app.tree, &app.info)?)
 }
 
 // Takes a tree behind what goes with it. The path is `app`.
 fn read_tree_of_app(request: &mut Request<'_>) -> Result<Application, Bad> {
     let environment = read_environment(request)?;
-    let info = read_info(request)?;
-    let help = request.tree()?;
+    let mut info = read_info(request)?;
+    info.help = request.tree()?;
     Ok(Application {
         environment,
         info,
-        help,
         include_env: true,
         tree: request.tree()?,
-        path: app_path(request.alloc)?,
+        path: path_of(request.alloc, "app")?,
     })
-}
-
-fn app_path(alloc: Global) -> Result<Vec<String>, AllocError> {
-    let mut path = Vec::new(alloc);
-    path.push(String::from_str(alloc, "app")?)?;
-    Ok(path)
 }
 
 fn groups_page(alloc: Global, app: &Application) -> Answer {

@@ -6,7 +6,7 @@ use crate::fault::Bad;
 use crate::names::Names;
 use crate::trees::read_tree;
 use bpaf_doc::buffer::Doc;
-use bpaf_meta::meta::Meta;
+use bpaf_help::meta::Meta;
 use std::alloc::Global;
 
 // How many levels of trees and documents a line may nest.
@@ -133,6 +133,14 @@ impl<'a> Request<'a> {
             Some(word) => read_text(self.alloc, word),
             None => Err(Bad::Words("a text was expected")),
         }
+    }
+
+    /// Takes a text, or `-` where there is none.
+    pub fn optional_text(&mut self) -> Result<Option<String>, Bad> {
+        if self.has("-") {
+            return Ok(None);
+        }
+        Ok(Some(self.text()?))
     }
 
     /// Takes texts in parentheses.

@@ -2,12 +2,13 @@
 
 ghost use Rattle.std.specs.Prelude.{◌≢◌, [], OnOk};
 
+use crate::application_answers::{application_answer, manual_answer};
 use crate::document_answers::{
     add_document_answers, console_answer, document_answer, html_answer, markdown_answer,
-    roff_answer, word,
+    roff_answer,
 };
 use crate::fault::{Answer, Bad};
-use crate::lines::{Lines, UNBUILT};
+use crate::lines::Lines;
 use crate::names::Names;
 use crate::page_answers::{
     add_tree_answers, groups_answer, heading_answer, help_answer, help_parts_answer, list_answer,
@@ -36,16 +37,11 @@ pub fn add_answers(
     }
 }
 
-// The answer to a request that has one. A request without an answer yet may have any words behind its key.
+// The answer to a request that has one.
 fn only_answer(request: &mut Request<'_>, key: &str) -> Answer {
-    match key {
-        "apphtml" | "appmarkdown" | "appman" | "sections" => { word(request.alloc, UNBUILT) }
-        _ => {
-            let answer = answer(request, key)?;
-            request.end()?;
-            Ok(answer)
-        }
-    }
+    let answer = answer(request, key)?;
+    request.end()?;
+    Ok(answer)
 }
 
 fn answer(request: &mut Request<'_>, key: &str) -> Answer {
@@ -69,6 +65,8 @@ fn answer(request: &mut Request<'_>, key: &str) -> Answer {
         "groups" => groups_answer(request),
         "help" => help_answer(request),
         "helpparts" => help_parts_answer(request),
+        "apphtml" | "appmarkdown" | "sections" => application_answer(request, key),
+        "appman" => manual_answer(request),
         _ => Err(Bad::Words("no such request")),
     }
 }

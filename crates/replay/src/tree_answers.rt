@@ -8,9 +8,9 @@ use crate::lines::Lines;
 use crate::request::Request;
 use crate::trees::{read_name, write_item, write_name, write_shorts, write_tree};
 use bpaf_doc::buffer::Doc;
-use bpaf_meta::item::{Item, ShortLong};
-use bpaf_meta::meta::Meta;
-use bpaf_meta::usage::write_meta;
+use bpaf_help::item::{Item, ShortLong};
+use bpaf_help::meta::Meta;
+use bpaf_help::usage::write_meta;
 use std::alloc::Global;
 
 /// The answer to a request on a tree and the use of it.

@@ -4,9 +4,9 @@ use crate::encoding::read_text;
 use crate::fault::Bad;
 use crate::request::Request;
 use bpaf_doc::buffer::Doc;
-use bpaf_meta::item::{Item, ShortLong};
-use bpaf_meta::meta::Meta;
-use bpaf_meta::meta_help::{Info, Metavar};
+use bpaf_help::item::{Item, ShortLong};
+use bpaf_help::meta::Meta;
+use bpaf_help::meta_help::{Info, Metavar};
 
 /// Takes what stands behind the first word of a tree. Answers none for a word that begins no tree.
 pub fn read_tree(request: &mut Request<'_>, word: &str) -> Result<Option<Meta>, Bad> {

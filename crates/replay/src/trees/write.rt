@@ -3,9 +3,9 @@
 use crate::documents::{bit, write_document, write_optional};
 use crate::encoding::{write_character, write_characters, write_text};
 use bpaf_doc::buffer::Doc;
-use bpaf_meta::item::{Item, ShortLong};
-use bpaf_meta::meta::Meta;
-use bpaf_meta::meta_help::Info;
+use bpaf_help::item::{Item, ShortLong};
+use bpaf_help::meta::Meta;
+use bpaf_help::meta_help::Info;
 use std::alloc::AllocError;
 
 /// Prints a tree.
