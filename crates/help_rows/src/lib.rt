@@ -3,6 +3,8 @@
 //! The rows stand apart from `bpaf_help`, since `is_uppercase` computes only where the tables of Unicode are listed.
 #![tactic(auto)]
 
+pub mod headline;
+
 ghost use Rattle.std.specs.Prelude.{◌≡◌, true, false, IfOk, None, codes, map, string_bytes};
 ghost use Rattle.bpaf_doc.specs.Console.Exact.{console_page};
 ghost use Rattle.bpaf_doc.specs.Html.Exact.{html_page};
