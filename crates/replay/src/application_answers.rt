@@ -26,7 +26,7 @@ pub fn application_answer(request: &mut Request<'_>, key: &str) -> Answer {
 }
 
 /// The pages as HTML, or the item that is misplaced.
-pub fn html(alloc: Global, name: &str, tree: &Meta, info: &Info) -> Answer {
+pub fn html<'a>(alloc: Global, name: &str, tree: &'a Meta, info: &'a Info) -> Answer {
     match render_html(alloc, name, tree, info) {
         Ok(text) => Ok(spelled(alloc, text.as_str())?),
         Err(error) => refusal(alloc, error),
@@ -34,7 +34,7 @@ pub fn html(alloc: Global, name: &str, tree: &Meta, info: &Info) -> Answer {
 }
 
 /// The pages as markdown, or the item that is misplaced.
-pub fn markdown(alloc: Global, name: &str, tree: &Meta, info: &Info) -> Answer {
+pub fn markdown<'a>(alloc: Global, name: &str, tree: &'a Meta, info: &'a Info) -> Answer {
     match render_markdown(alloc, name, tree, info) {
         Ok(text) => Ok(spelled(alloc, text.as_str())?),
         Err(error) => refusal(alloc, error),
@@ -49,9 +49,9 @@ pub fn path_of(alloc: Global, name: &str) -> Result<Vec<String>, AllocError> {
 }
 
 /// The paths of the sections.
-pub fn sections(alloc: Global, name: &str, tree: &Meta, info: &Info) -> Answer {
+pub fn sections<'a>(alloc: Global, name: &str, tree: &'a Meta, info: &'a Info) -> Answer {
     let mut path = path_of(alloc, name)?;
-    let mut sections: Vec<DocSection<'_>> = Vec::new(alloc);
+    let mut sections: Vec<DocSection<'a>> = Vec::new(alloc);
     extract_sections(tree, info, &mut path, &mut sections)?;
     let mut answer = String::from_str(alloc, " [")?;
     for section in &sections {

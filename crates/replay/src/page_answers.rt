@@ -139,15 +139,19 @@ struct Application {
 }
 
 fn read_application(request: &mut Request<'_>) -> Result<Application, Bad> {
-    let mut app = Application {
-        path: request.texts()?,
-        include_env: request.flag()?,
-        environment: read_environment(request)?,
-        info: read_info(request)?,
-        tree: request.tree()?,
-    };
-    app.info.help = request.tree()?;
-    Ok(app)
+    let path = request.texts()?;
+    let include_env = request.flag()?;
+    let environment = read_environment(request)?;
+    let mut info = read_info(request)?;
+    let tree = request.tree()?;
+    info.help = request.tree()?;
+    Ok(Application {
+        path,
+        include_env,
+        environment,
+        info,
+        tree,
+    })
 }
 
 fn help_page(alloc: Global, app: &Application) -> Result<Doc, HelpError<'_>> {
