@@ -5,7 +5,7 @@
 
 REQUESTS has a request a line; its own answer lines (`= ..`) are left out, so a file of answers serves too. ANSWERS has the same
 requests, each with its answers behind it. PROGRAM is the command to run; without one it is the built program, out/replay.
-Prints how many answers agree, how many differ, and how many the program does not give yet, and the first that differ.
+Prints how many answers agree and how many differ, and the first that differ.
 Ends with status 1 where any differs.
 """
 import os
