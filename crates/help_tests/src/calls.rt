@@ -1,13 +1,15 @@
 //! The calls that may answer `AllocError`, what each of them gives, and what it leaves where it is refused.
-use crate::heaps::taken;
+use crate::arenas::taken;
+use crate::pages_calls::{pages_answer, pages_before};
 use crate::rows::path;
 use crate::trees::{info, tree};
 use bpaf_doc::buffer::Doc;
 use bpaf_help::item::{Item, ShortLong};
 use bpaf_help::meta::Meta;
 use bpaf_help::meta_help::{EnvTexts, HelpError, HelpItems, render_help, write_help_item_groups};
-use linked_list_allocator::LocalHeap;
+use bumpalo::Bump;
 use std::alloc::{AllocError, Allocator, Global};
+use std::fmt::Debug;
 
 #[derive(Clone, Copy)]
 pub enum Call {
@@ -16,6 +18,13 @@ pub enum Call {
     Replace,
     Groups,
     Page,
+    Gathered,
+    Sections,
+    Section,
+    Collected,
+    Html,
+    Markdown,
+    Manual,
 }
 
 /// What a call gave, or what it left where it was refused, as debug text, which is the same over all allocators.
@@ -23,25 +32,27 @@ pub enum Call {
 pub enum Answer {
     Given(String),
     Refused(String),
-    Misplaced,
+    /// A flag with this short name stands behind a positional value.
+    Misplaced(char),
 }
 
-/// The answer of a call over a heap with so many free blocks, and with the tree that the text spells. An error says that the
+/// The answer of a call over an arena with so many free bytes, and with the tree that the text spells. An error says that the
 /// call could not be prepared, or its text not be made.
 pub fn answer_of(
     out: Global,
-    heap: &LocalHeap,
+    arena: &Bump,
     room: usize,
     text: &str,
     call: Call,
 ) -> Result<Answer, AllocError> {
     let tree = tree(out, text)?;
     match call {
-        Call::Append => append_answer(out, heap, room, &tree),
-        Call::Insert => insert_answer(out, heap, room, EnvTexts::new(heap), "W"),
-        Call::Replace => insert_answer(out, heap, room, begun_texts(heap)?, "V"),
-        Call::Groups => groups_answer(out, heap, room, &tree),
-        Call::Page => page_answer(out, heap, room, &tree),
+        Call::Append => append_answer(out, arena, room, &tree),
+        Call::Insert => insert_answer(out, arena, room, EnvTexts::new(arena), "W"),
+        Call::Replace => insert_answer(out, arena, room, begun_texts(arena)?, "V"),
+        Call::Groups => groups_answer(out, arena, room, &tree),
+        Call::Page => page_answer(out, arena, room, &tree),
+        _ => pages_answer(out, arena, room, &tree, call),
     }
 }
 
@@ -52,11 +63,12 @@ pub fn before(out: Global, text: &str, call: Call) -> Result<String, AllocError>
         Call::Insert => told(out, &EnvTexts::new(out)),
         Call::Replace => told(out, &begun_texts(out)?),
         Call::Groups => written(out, &begun_doc(out)?, &begun_texts(out)?),
-        Call::Page => Ok(String::new(out)),
+        Call::Sections | Call::Section => pages_before(out, &tree(out, text)?, call),
+        _ => Ok(String::new(out)),
     }
 }
 
-fn answered(left: String, outcome: Result<(), AllocError>) -> Answer {
+pub fn answered(left: String, outcome: Result<(), AllocError>) -> Answer {
     match outcome {
         Ok(()) => Answer::Given(left),
         Err(AllocError) => Answer::Refused(left),
@@ -79,12 +91,12 @@ fn listed(out: Global, tree: &Meta) -> Result<String, AllocError> {
 
 fn append_answer(
     out: Global,
-    heap: &LocalHeap,
+    arena: &Bump,
     room: usize,
     tree: &Meta,
 ) -> Result<Answer, AllocError> {
-    let mut list = list_of(heap, tree)?;
-    let _taken = taken(out, heap, room)?;
+    let mut list = list_of(arena, tree)?;
+    let _taken = taken(arena, room)?;
     let outcome = list.append_meta(tree);
     Ok(answered(format!(in out; "{list:?}")?, outcome))
 }
@@ -102,12 +114,12 @@ fn told<A: Allocator>(out: Global, texts: &EnvTexts<A>) -> Result<String, AllocE
 
 fn insert_answer<'a>(
     out: Global,
-    heap: &'a LocalHeap,
+    arena: &'a Bump,
     room: usize,
-    mut texts: EnvTexts<&'a LocalHeap>,
+    mut texts: EnvTexts<&'a Bump>,
     name: &str,
 ) -> Result<Answer, AllocError> {
-    let _taken = taken(out, heap, room)?;
+    let _taken = taken(arena, room)?;
     let outcome = texts.insert(name, "a text of an environment variable");
     Ok(answered(told(out, &texts)?, outcome))
 }
@@ -128,29 +140,35 @@ fn written<A: Allocator, B: Allocator>(
 
 fn groups_answer(
     out: Global,
-    heap: &LocalHeap,
+    arena: &Bump,
     room: usize,
     tree: &Meta,
 ) -> Result<Answer, AllocError> {
-    let mut doc = begun_doc(heap)?;
+    let mut doc = begun_doc(arena)?;
     let texts = begun_texts(out)?;
-    let list = list_of(heap, tree)?;
-    let _taken = taken(out, heap, room)?;
+    let list = list_of(arena, tree)?;
+    let _taken = taken(arena, room)?;
     let outcome = write_help_item_groups(&mut doc, list, true, &texts);
     Ok(answered(written(out, &doc, &texts)?, outcome))
 }
 
-fn page_answer(
-    out: Global,
-    heap: &LocalHeap,
-    room: usize,
-    tree: &Meta,
-) -> Result<Answer, AllocError> {
+fn page_answer(out: Global, arena: &Bump, room: usize, tree: &Meta) -> Result<Answer, AllocError> {
     let info = info(out, "Prints things")?;
     let path = path(out)?;
     let texts = EnvTexts::new(out);
-    let _taken = taken(out, heap, room)?;
-    match render_help(heap, &path, &info, tree, tree, true, &texts) {
+    let _taken = taken(arena, room)?;
+    page_told(
+        out,
+        render_help(arena, &path, &info, tree, tree, true, &texts),
+    )
+}
+
+/// What a call gave that lends nothing which it could change.
+pub fn page_told<T: Debug + Drop>(
+    out: Global,
+    outcome: Result<T, HelpError<'_>>,
+) -> Result<Answer, AllocError> {
+    match outcome {
         Ok(page) => Ok(Answer::Given(format!(in out; "{page:?}")?)),
         Err(HelpError::Memory(_)) => Ok(Answer::Refused(String::new(out))),
         Err(HelpError::Misplaced(item)) => Ok(misplaced(out, item)),
@@ -160,9 +178,9 @@ fn page_answer(
 fn misplaced(out: Global, item: &Item) -> Answer {
     match item {
         Item::Flag {
-            name: ShortLong::Short('b'),
+            name: ShortLong::Short(letter),
             ..
-        } => Answer::Misplaced,
+        } => Answer::Misplaced(*letter),
         _ => Answer::Refused(String::new(out)),
     }
 }

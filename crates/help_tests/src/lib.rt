@@ -5,9 +5,13 @@
 #![tactic(auto)]
 
 #[cfg(test)]
+mod arenas;
+#[cfg(test)]
 mod calls;
 #[cfg(test)]
-mod heaps;
+mod pages_calls;
+#[cfg(test)]
+mod pages_rows;
 #[cfg(test)]
 mod refusals;
 #[cfg(test)]

@@ -4,15 +4,15 @@ use crate::refusals::same;
 use crate::trees::{info, tree};
 use bpaf_doc::buffer::Doc;
 use bpaf_help::meta::Meta;
-use bpaf_help::meta_help::Info;
-use bpaf_help::meta_help::{EnvTexts, HelpError, render_help, write_help_item_groups};
-use std::alloc::{AllocError, Global};
+use bpaf_help::meta_help::{EnvTexts, HelpError, Info, render_help, write_help_item_groups};
+use std::alloc::{AllocError, Allocator, Global};
 use std::process::Abort;
 use std::test::Fail;
 
-pub fn path(out: Global) -> Result<Vec<String>, AllocError> {
-    let mut path = Vec::new(out);
-    path.push(String::from_str(out, "app")?)?;
+/// A path of the application's name.
+pub fn path<L: Allocator + Copy>(alloc: L) -> Result<Vec<String<L>, L>, AllocError> {
+    let mut path = Vec::new(alloc);
+    path.push(String::from_str(alloc, "app")?)?;
     Ok(path)
 }
 

@@ -6,8 +6,9 @@ use bpaf_help::meta_help::{Info, Metavar};
 use std::alloc::{AllocError, Global};
 
 /// The tree that a text spells over a stack of trees. `X` is a positional value with help, `C` a command of the same name and
-/// help, `P` a positional value without help, `A` an argument, and each small letter a flag. Each other sign takes trees off and
-/// puts one on: `&` an `And` of two, and of the last one `@` Adjacent, `#` and `%` Subsection, `~` and `!` Suffix.
+/// help, `P` a positional value without help, `A` an argument, and `B` and each small letter a flag. Each other sign takes trees off
+/// and puts one on: `&` an `And` of two, `|` an `Or` of two, and of the last one `@` Adjacent, `#` and `%` Subsection, `~` and `!`
+/// Suffix, and each digit a command. Where there is none to take off, it takes `Skip`.
 pub fn tree(alloc: Global, text: &str) -> Result<Meta, AllocError> {
     let mut stack = Vec::new(alloc);
     for sign in text.chars() {
@@ -27,8 +28,10 @@ fn top(stack: &mut Vec<Meta>) -> Meta {
 fn made(alloc: Global, stack: &mut Vec<Meta>, sign: char) -> Result<Meta, AllocError> {
     match sign {
         '&' => Ok(Meta::And(both(alloc, stack)?)),
+        '|' => Ok(Meta::Or(both(alloc, stack)?)),
         '@' => Ok(Meta::Adjacent(Box::new(alloc, top(stack))?)),
         '#' | '%' | '~' | '!' => noted(alloc, top(stack), sign),
+        '0'..='7' => Meta::from_item(alloc, command(alloc, numbered(sign), "", top(stack))?),
         _ => Meta::from_item(alloc, leaf(alloc, sign)?),
     }
 }
@@ -65,9 +68,10 @@ fn leaf(alloc: Global, sign: char) -> Result<Item, AllocError> {
     match sign {
         'X' => positional(alloc, "X", "h"),
         'P' => positional(alloc, "P", ""),
-        'C' => command(alloc),
+        'C' => command(alloc, "X", "h", Meta::Skip),
         'A' => argument(alloc),
         'a' => flag(alloc, ShortLong::Short('a'), None, "A"),
+        'B' => flag(alloc, ShortLong::Short('b'), None, "B"),
         'e' => flag(alloc, ShortLong::Short('e'), Some("V"), "E"),
         'f' => flag(alloc, ShortLong::Short('e'), Some("W"), "E"),
         'x' => flag(alloc, ShortLong::Long("x"), None, "X it"),
@@ -107,14 +111,28 @@ fn argument(alloc: Global) -> Result<Item, AllocError> {
     })
 }
 
-fn command(alloc: Global) -> Result<Item, AllocError> {
+fn command(alloc: Global, name: &'static str, help: &str, below: Meta) -> Result<Item, AllocError> {
     Ok(Item::Command {
-        name: "X",
+        name,
         short: None,
-        help: text_doc(alloc, "h")?,
-        meta: Box::new(alloc, Meta::Skip)?,
+        help: text_doc(alloc, help)?,
+        meta: Box::new(alloc, below)?,
         info: Box::new(alloc, info(alloc, "")?)?,
     })
+}
+
+// The names of commands.
+fn numbered(digit: char) -> &'static str {
+    match digit {
+        '0' => "run",
+        '1' => "put",
+        '2' => "get",
+        '3' => "list",
+        '4' => "show",
+        '5' => "find",
+        '6' => "drop",
+        _ => "help",
+    }
 }
 
 /// What goes with a page: its description, and nothing else.

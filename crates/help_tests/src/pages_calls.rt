@@ -1,0 +1,135 @@
+//! The calls of `pages` that may answer `AllocError`.
+use crate::arenas::taken;
+use crate::calls::{Answer, Call, answered, page_told};
+use crate::rows::path;
+use crate::trees::info;
+use bpaf_help::meta::Meta;
+use bpaf_help::meta_help::{HelpError, Info};
+use bpaf_help::pages::{
+    DocSection, Section, collect_html, extract_sections, render_html, render_manpage,
+    render_markdown,
+};
+use bumpalo::Bump;
+use std::alloc::{AllocError, Allocator, Global};
+
+/// The answer of a call of `pages`, as that of any other call.
+pub fn pages_answer(
+    out: Global,
+    arena: &Bump,
+    room: usize,
+    tree: &Meta,
+    call: Call,
+) -> Result<Answer, AllocError> {
+    let info = info(out, "Prints things")?;
+    match call {
+        Call::Sections => sections_answer(out, arena, room, tree, &info),
+        Call::Section => section_answer(out, arena, room, tree, &info),
+        _ => application_answer(out, arena, room, tree, &info, call),
+    }
+}
+
+/// What stands where a call of `pages` is refused.
+pub fn pages_before(out: Global, tree: &Meta, call: Call) -> Result<String, AllocError> {
+    let info = info(out, "Prints things")?;
+    let mut path = path(out)?;
+    let sections = gathered(out, &mut path, tree, &info)?;
+    match call {
+        Call::Section => last_told(out, &sections),
+        _ => format!(in out; "{path:?} {sections:?}"),
+    }
+}
+
+/// The sections of an application in a list of their own.
+pub fn gathered<'a, L: Allocator + Copy>(
+    alloc: L,
+    path: &mut Vec<String<L>, L>,
+    tree: &'a Meta,
+    info: &'a Info,
+) -> Result<Vec<DocSection<'a, Global, L>, L>, AllocError> {
+    let mut sections: Vec<DocSection<'a, Global, L>, L> = Vec::new(alloc);
+    extract_sections(tree, info, path, &mut sections)?;
+    Ok(sections)
+}
+
+// The list has the sections once already.
+fn sections_answer(
+    out: Global,
+    arena: &Bump,
+    room: usize,
+    tree: &Meta,
+    info: &Info,
+) -> Result<Answer, AllocError> {
+    let mut path = path(arena)?;
+    let mut sections = gathered(arena, &mut path, tree, info)?;
+    let _taken = taken(arena, room)?;
+    let outcome = extract_sections(tree, info, &mut path, &mut sections);
+    Ok(answered(format!(in out; "{path:?} {sections:?}")?, outcome))
+}
+
+// A copy of the last section.
+fn section_answer(
+    out: Global,
+    arena: &Bump,
+    room: usize,
+    tree: &Meta,
+    info: &Info,
+) -> Result<Answer, AllocError> {
+    let sections = gathered(arena, &mut path(arena)?, tree, info)?;
+    let _taken = taken(arena, room)?;
+    let copied = match sections.last() {
+        Some(section) => section.clone(),
+        None => Err(AllocError),
+    };
+    match copied {
+        Ok(copy) => Ok(Answer::Given(format!(in out; "{copy:?}")?)),
+        Err(_) => Ok(Answer::Refused(last_told(out, &sections)?)),
+    }
+}
+
+fn last_told<L: Allocator + Copy>(
+    out: Global,
+    sections: &[DocSection<'_, Global, L>],
+) -> Result<String, AllocError> {
+    match sections.last() {
+        Some(section) => format!(in out; "{section:?}"),
+        None => Ok(String::new(out)),
+    }
+}
+
+fn application_answer<'m>(
+    out: Global,
+    arena: &Bump,
+    room: usize,
+    tree: &'m Meta,
+    info: &'m Info,
+    call: Call,
+) -> Result<Answer, AllocError> {
+    let _taken = taken(arena, room)?;
+    match call {
+        Call::Collected => page_told(out, collect_html(arena, "app", tree, info)),
+        Call::Html => page_told(out, render_html(arena, "app", tree, info)),
+        Call::Markdown => page_told(out, render_markdown(arena, "app", tree, info)),
+        Call::Manual => page_told(out, manual(arena, tree, info)),
+        _ => page_told(out, sections_gathered(arena, tree, info)),
+    }
+}
+
+fn manual<'a, 'm>(
+    arena: &'a Bump,
+    tree: &'m Meta,
+    info: &'m Info,
+) -> Result<String<&'a Bump>, HelpError<'m>> {
+    let text = render_manpage(arena, "app", Section::General, None, None, None, tree, info)?;
+    Ok(text)
+}
+
+// How many sections there are: gathered with a path of their own, as a page gathers them before it is begun.
+fn sections_gathered<'m>(
+    arena: &Bump,
+    tree: &'m Meta,
+    info: &'m Info,
+) -> Result<usize, HelpError<'m>> {
+    let mut path = path(arena)?;
+    let sections = gathered(arena, &mut path, tree, info)?;
+    Ok(sections.len())
+}
