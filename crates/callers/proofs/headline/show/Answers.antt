@@ -2,7 +2,7 @@ use Rattle.std.proofs.Common.{None, string_bytes}
 use Rattle.std.specs.Prelude.{codes}
 use Rattle.bpaf_roff.specs.Roff.{no_script}
 use Rattle.bpaf_meta.specs.View.{head_of, tree_of}
-use Rattle.help_rows.proofs.headline.show.Goals as goal
+use Rattle.callers.proofs.headline.show.Goals as goal
 
 pub returns : goal.returns
 returns c = λ nested.
