@@ -46,7 +46,7 @@ abbrev mutual
   item_chapters path (flag n s e h) = []
   item_chapters path (argument n s m e h) = []
 
--- `extract_sections`: that of the tree itself, and then those of its commands
+-- `extract_sections`: the chapter of the tree itself, and then those of its commands
 abbrev pub chapters_of : (path : List (List ℕ)) → Head → Tree → List Chapter
 chapters_of path i t = record { path = path; info = i; content = t } ∷ command_chapters path t
 
@@ -135,7 +135,7 @@ manual_chapter app path t (head descr header footer usage help) =
 abbrev pub synopsis_writes : List Chapter → List Write
 synopsis_writes chapters = inside block.Block (inside block.Header (plain (codes "SYNOPSIS") ∷ [])) ++ inside block.Meta (flat_map synopsis_line chapters)
 
--- the document of `render_manpage`
+-- what `render_manpage` writes
 abbrev pub manual_writes : (app : List ℕ) → Tree → Head → List Write
 manual_writes app t i =
     let chapters : List Chapter = chapters_of (app ∷ []) i t in

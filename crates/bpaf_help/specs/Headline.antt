@@ -1,4 +1,4 @@
--- What is promised of the console page, the HTML, the manual page and the usage line, together.
+-- What is promised of the console page, the HTML, the roff, the manual page and the normal form, together.
 use Rattle.std.specs.Prelude.{◌≡◌, ℕ, ◌<◌, Bool, true, false, not, List, filter, Option, IsTrue}
 use Rattle.std.specs.List.{list_any}
 use Rattle.bpaf_roff.specs.Roff.{Script}
@@ -13,7 +13,7 @@ use Rattle.bpaf_meta.specs.Meta.Shape.{HasUsageShape, KeepsStrict}
 use Rattle.bpaf_meta.specs.Meta.Sequences.{ShowsSame}
 use Rattle.bpaf_help.specs.PageAnswers.{IsManualOf}
 
--- what the manual page of an application says beside its tree
+-- the words of a manual page's title line
 pub record Title : Type 0 where
   pub app : List ℕ
   pub section : List ℕ
@@ -21,7 +21,7 @@ pub record Title : Type 0 where
   pub vendor : Option (List ℕ)
   pub title : Option (List ℕ)
 
--- the texts that are made of a document, at a width and after a page that is lent
+-- the texts that are made of a document, and the page that its roff is written behind
 pub record Renderings : Type 0 where
   pub console : List ℕ
   pub html : List ℕ
@@ -38,7 +38,7 @@ pub record IsHeadline (document : List Part) (width : ℕ) (made : Renderings) (
   pub nested : IsWellNestedHtml made.html
   -- and erases to the document's text
   pub erases : filter is_line_byte (erased made.html) ≡ html_text document true
-  -- after the page that was lent, the roff text reads back to the document's events
+  -- behind the page, the roff text reads back to the document's events
   pub reads : TakesDocument made.page → IsPageOf made.page document made.roff
   -- the application's manual page reads back to its title and its events
   pub manual_reads : IsManualOf words.app words.section words.date words.vendor words.title tree info manual

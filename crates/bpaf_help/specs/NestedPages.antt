@@ -6,10 +6,11 @@ use Rattle.bpaf_meta.specs.Content.{Tree, Head}
 use Rattle.bpaf_items.specs.Page.NestedTexts.{HasNestedHead, HasNestedTexts}
 use Rattle.bpaf_help.specs.Chapters.{Chapter, chapters_of, collected_writes, manual_writes}
 
--- those of an application and of all its commands, each with its info
+-- the texts of a chapter, in its info and in its tree
 abbrev pub HasNestedChapter : Chapter → Type 0
 HasNestedChapter c = HasNestedHead c.info × HasNestedTexts c.content
 
+-- those of an application and of all its commands
 abbrev pub HasNestedPages : (app : List ℕ) → Head → Tree → Type 0
 HasNestedPages app i t = All HasNestedChapter (chapters_of (app ∷ []) i t)
 

@@ -16,7 +16,7 @@ abbrev pub IsErrorOf : {A : Type 0} → Tree → HelpError A → Type 0
 IsErrorOf t (error.Memory e) = ⊤
 IsErrorOf t (error.Misplaced i) = IsFirstMisplaced t (leaf_of i.now)
 
--- why there is none of some chapters: this is the first misplaced item of the first chapter that has one, or a growth was refused, before the checks or between them
+-- why there is none of some chapters: this is the first misplaced item of the first chapter that has one, or a growth was refused, at any time
 abbrev pub AreErrorOf : {A : Type 0} → List Chapter → HelpError A → Type 0
 AreErrorOf chapters (error.Memory e) = ⊤
 AreErrorOf chapters (error.Misplaced i) = IsFirstMisplacedOf chapters (leaf_of i.now)

@@ -1,4 +1,4 @@
--- What a section of a page and a section of the manual say: their content.
+-- What a section of an application and a section of the manual say: their content.
 use Rattle.std.specs.Prelude.{ℕ, List, codes, map, string_bytes}
 use Rattle.bpaf_meta.specs.View.{tree_of, head_of}
 use Rattle.bpaf_help.specs.declared.pages.sections.DocSection.{DocSection}

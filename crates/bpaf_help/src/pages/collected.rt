@@ -18,8 +18,9 @@ use bpaf_meta::meta::Meta;
 use std::alloc::Allocator;
 
 /// The help pages of an application and of all its commands, each under its path, and above them a summary with a line for
-/// each where there are commands. `Misplaced` is the first item, of the first page that has one, that stands behind a
-/// positional one. `Memory` says that a growth was refused; it may come before a page is checked.
+/// each where there are commands. `Misplaced` is the first named item, of the first page that has one, that stands behind a
+/// positional one. `Memory` says that a growth was refused; it may come before a page is checked. The rules are those of
+/// `docs/pages.md`.
 pub fn collect_html<'m, A: Allocator + Copy, B: Allocator + Copy>(
     alloc: A,
     app: &str,
@@ -39,7 +40,7 @@ pub fn collect_html<'m, A: Allocator + Copy, B: Allocator + Copy>(
 }
 
 /// The HTML of the document that `collect_html` makes, in full and without a style sheet. The errors are those of
-/// `collect_html`.
+/// `collect_html`; `Memory` may also come while the text is made.
 pub fn render_html<'m, A: Allocator + Copy, B: Allocator + Copy>(
     alloc: A,
     app: &str,
@@ -56,7 +57,8 @@ pub fn render_html<'m, A: Allocator + Copy, B: Allocator + Copy>(
     Ok(document.render_html(alloc, true, false)?)
 }
 
-/// The markdown of the document that `collect_html` makes, in full. The errors are those of `collect_html`.
+/// The markdown of the document that `collect_html` makes, in full. The errors are those of `collect_html`; `Memory` may
+/// also come while the text is made.
 pub fn render_markdown<'m, A: Allocator + Copy, B: Allocator + Copy>(
     alloc: A,
     app: &str,

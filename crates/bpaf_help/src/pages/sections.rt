@@ -34,9 +34,9 @@ impl<'a, A: Allocator, L: Allocator + Copy> DocSection<'a, A, L> {
     }
 }
 
-/// Puts the section of a command line behind `sections`, and then those of its commands, each before the commands below it: in
-/// the order in which its item list has them. `path` leads to the command line; each command's name is put behind it while the
-/// command is gone through, so that it is afterwards as it was. After `AllocError` `sections` is as it was, too.
+/// Puts the section of a command line behind `sections`, and then those of its commands, in the order in which its item list has
+/// them, each before the commands below it. `path` leads to the command line; each command's name is put behind it while the
+/// command is gone through, and taken off again. After `AllocError` `sections` is as it was, and `path` always is.
 pub fn extract_sections<'a, A: Allocator, L: Allocator + Copy>(
     meta: &'a Meta<A>,
     info: &'a Info<A>,

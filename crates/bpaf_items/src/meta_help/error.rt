@@ -3,7 +3,7 @@
 use bpaf_meta::item::Item;
 use std::alloc::{AllocError, Allocator, Global};
 
-/// No help page: a growth was refused, or this item stands after a positional one.
+/// No help page: a growth was refused, or this named item stands after a positional one.
 #[derive_where(Clone, Copy, Debug)]
 pub enum HelpError<'m, A: Allocator = Global> {
     Memory(AllocError),

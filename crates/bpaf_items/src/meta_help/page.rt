@@ -62,7 +62,7 @@ fn put_or_undo<'a, A: Allocator, B: Allocator + Copy, C: Allocator, L: Allocator
 }
 
 /// The help page of a command line: its texts, its usage line behind the path to it, and the items of `parser` and then of
-/// `help` under their groups and headings. `Misplaced` is the first item of `parser` that stands behind a positional one; it
+/// `help` under their groups and headings. `Misplaced` is the first named item of `parser` that stands behind a positional one; it
 /// comes before memory is asked for. `Memory` says that a growth was refused.
 pub fn render_help<'m, A: Allocator + Copy, P: Allocator, B: Allocator + Copy, C: Allocator>(
     alloc: A,
