@@ -55,7 +55,7 @@ two t u = tree t (tree u no_trees)
 abbrev usage : Tree → List Part
 usage t = document_of (usage_writes true t)
 
--- row 1
+-- normal forms: a choice that may be repeated or left out, and its usage line
 row_1 : normalized true (optional (many (required (or_of (two a b))))) ≡ many (optional (or_of (two a b)))
 row_1 = refl
 
@@ -63,7 +63,7 @@ row_1_usage : usage (optional (many (required (or_of (two a b))))) ≡ Start blo
 unfolding encode
 row_1_usage = refl
 
--- row 2
+-- normal forms: `--` goes out of an optional part, one command stands for several, and an empty usage of its own hides what is inside
 row_2 : normalized true (and_of (two v (optional (strict FILE)))) ≡ and_of (two v (strict (optional FILE)))
 row_2 = refl
 
@@ -80,7 +80,7 @@ row_2_first : usage (and_of (two v (optional (strict FILE)))) ≡ Start block.Mo
 unfolding is_uppercase chars in_ranges uppercase_ranges encode
 row_2_first = refl
 
--- row 3
+-- normal forms: the brackets of a choice and of a sequence; an argument's name for usage and otherwise
 row_3 : normalized true (or_of (two a b)) ≡ required (or_of (two a b))
 row_3 = refl
 
@@ -98,7 +98,7 @@ row_3_fifth : document_of (usage_writes false (item (argument (both 115 (codes "
 unfolding is_uppercase chars in_ranges uppercase_ranges encode
 row_3_fifth = refl
 
--- row 4
+-- normal forms: two strict parts, `--` before nothing, and brackets in one another
 row_4 : normalized true (and_of (two (strict P) (strict Q))) ≡ and_of (two (strict P) Q)
 row_4 = refl
 
@@ -114,7 +114,7 @@ row_4_fourth = refl
 row_4_fifth : normalized true (many (optional (required (and_of (two a b))))) ≡ many (optional (and_of (two a b)))
 row_4_fifth = refl
 
--- row 5
+-- normal forms: what comes to nothing
 row_5 : normalized true (optional (many (required skip))) ≡ skip
 row_5 = refl
 
@@ -124,7 +124,7 @@ row_5_second = refl
 row_5_third : normalized false (or_of (two (and_of no_trees) skip)) ≡ skip
 row_5_third = refl
 
--- row 9
+-- misplaced items of sequences, choices and adjacent blocks
 row_9 : misplaced_items (and_of (two FILE v)) ≡ (1, flag (short 118) [] None None) ∷ []
 row_9 = refl
 

@@ -1,7 +1,5 @@
 //! Answers to requests on the pages of an application.
 
-use crate::encoding::{spelled, write_text};
-use crate::fault::{Answer, Bad};
 use crate::page_answers::refusal;
 use crate::request::Request;
 use crate::trees::read_info;
@@ -11,6 +9,8 @@ use bpaf_help::pages::{
     DocSection, Section, extract_sections, render_html, render_manpage, render_markdown,
 };
 use bpaf_roff::escape::APOSTROPHE_PREABMLE;
+use replay_engine::encoding::{spelled, write_text};
+use replay_engine::fault::{Answer, Bad};
 use std::alloc::{AllocError, Global};
 
 /// The sections of an application, or its pages as HTML or markdown.

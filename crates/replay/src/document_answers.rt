@@ -1,16 +1,14 @@
 //! Answers to requests on documents.
 
-ghost use Rattle.std.specs.Prelude.{◌≢◌, [], OnOk};
-
 use crate::documents::{bit, shown};
-use crate::encoding::spelled;
-use crate::fault::{Answer, Bad};
-use crate::lines::Lines;
 use crate::pieces::append_control;
 use crate::request::Request;
 use bpaf_doc::buffer::Doc;
 use bpaf_roff::escape::APOSTROPHE_PREABMLE;
 use bpaf_roff::roff::Roff;
+use replay_engine::encoding::spelled;
+use replay_engine::fault::{Answer, Bad};
+use replay_engine::lines::Lines;
 use std::alloc::Global;
 
 /// The answer to a request on a document alone.
@@ -70,9 +68,7 @@ pub fn width_of(word: &str) -> Result<usize, Bad> {
 }
 
 /// Adds all answers to one document: console pages at the widths, and what needs no width.
-pub fn add_document_answers(request: &mut Request<'_>, lines: &mut Lines) -> Result<(), Bad>
-    ensures { OnOk result (lines.new ≢ []) }
-{
+pub fn add_document_answers(request: &mut Request<'_>, lines: &mut Lines) -> Result<(), Bad> {
     let widths = request.word()?;
     let document = request.document()?;
     request.end()?;
@@ -102,9 +98,7 @@ fn key_of(alloc: Global, kind: &str, width: &str) -> Answer {
     Ok(key)
 }
 
-fn add_pages(alloc: Global, document: &Doc, lines: &mut Lines) -> Result<(), Bad>
-    ensures { OnOk result (lines.new ≢ []) }
-{
+fn add_pages(alloc: Global, document: &Doc, lines: &mut Lines) -> Result<(), Bad> {
     lines.add("hf", html(alloc, document, true, false)?)?;
     lines.add("hb", html(alloc, document, false, false)?)?;
     lines.add("mf", markdown(alloc, document, true)?)?;

@@ -1,13 +1,13 @@
 //! Documents, read and printed.
 
-use crate::encoding::{read_text, write_text};
-use crate::fault::{Answer, Bad};
 use crate::request::Request;
 use crate::trees::read_name;
 use bpaf_doc::buffer::{Block, Doc, Part, Style, Token};
 use bpaf_help::meta::Meta;
 use bpaf_help::meta_help::Metavar;
 use bpaf_help::usage::{metavar, write_item, write_meta, write_shortlong};
+use replay_engine::encoding::{read_text, write_text};
+use replay_engine::fault::{Answer, Bad};
 use std::alloc::{AllocError, Global};
 
 /// Takes the parts of a document, behind its bracket.

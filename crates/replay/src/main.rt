@@ -4,22 +4,17 @@
 mod application_answers;
 mod document_answers;
 mod documents;
-mod encoding;
 mod entries;
-mod fault;
-mod laws;
-mod lines;
 mod names;
 mod page_answers;
 mod pieces;
 mod request;
 mod requests;
-mod run;
 mod tree_answers;
 mod trees;
 
-use names::Names;
-use run::{Stop, run};
+use replay_engine::run::{Stop, run};
+use requests::Library;
 use std::io;
 use std::process::ExitCode;
 
@@ -30,8 +25,8 @@ fn main(rt: HostRuntime) -> ExitCode {
 // Answers the status, and says on standard error why the run stopped, where it did.
 fn replay<R: AllocGlobal + Input + Print + Eprint>(rt: &R) -> ExitCode {
     let alloc = rt.alloc();
-    let mut names = Names::new(alloc);
-    let why = match run(alloc, &mut names, &mut rt.reader(), &mut io::writer(rt)) {
+    let mut library = Library::new(alloc);
+    let why = match run(alloc, &mut library, &mut rt.reader(), &mut io::writer(rt)) {
         Ok(()) => return ExitCode::SUCCESS,
         Err(Stop::Read) => "a read failed",
         Err(Stop::Write) => "a write failed",

@@ -1,13 +1,9 @@
 //! Answers to requests on item lists and help pages.
 
-ghost use Rattle.std.specs.Prelude.{◌≢◌, [], OnOk};
-
 use crate::application_answers::{bare_manual, html, markdown, path_of, sections};
 use crate::document_answers::{console, read_extent, width_of, word};
 use crate::documents::{shown, write_number};
 use crate::entries::write_listed;
-use crate::fault::{Answer, Bad};
-use crate::lines::Lines;
 use crate::request::Request;
 use crate::tree_answers::{add_forms, printed_item};
 use crate::trees::read_info;
@@ -16,6 +12,8 @@ use bpaf_help::meta::Meta;
 use bpaf_help::meta_help::{
     EnvTexts, HelpError, HelpItems, HiTy, Info, render_help, write_help_item_groups,
 };
+use replay_engine::fault::{Answer, Bad};
+use replay_engine::lines::Lines;
 use std::alloc::{AllocError, Global};
 
 /// The answer to a request on the item list of a tree.
@@ -203,17 +201,13 @@ pub fn refusal(alloc: Global, error: HelpError<'_>) -> Answer {
 }
 
 /// Adds all answers to one tree, behind what goes with it.
-pub fn add_tree_answers(request: &mut Request<'_>, lines: &mut Lines) -> Result<(), Bad>
-    ensures { OnOk result (lines.new ≢ []) }
-{
+pub fn add_tree_answers(request: &mut Request<'_>, lines: &mut Lines) -> Result<(), Bad> {
     let app = read_tree_of_app(request)?;
     request.end()?;
     add_pages(request.alloc, &app, lines)
 }
 
-fn add_pages(alloc: Global, app: &Application, lines: &mut Lines) -> Result<(), Bad>
-    ensures { OnOk result (lines.new ≢ []) }
-{
+fn add_pages(alloc: Global, app: &Application, lines: &mut Lines) -> Result<(), Bad> {
     add_forms(alloc, &app.tree, lines)?;
     lines.add("se", sections(alloc, "app", &app.tree, &app.info)?)?;
     lines.add("fg", group_places(alloc, &app.tree)?)?;

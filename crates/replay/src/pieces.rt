@@ -1,14 +1,14 @@
 //! Answers to requests on texts and their pieces: chunks, roff, escaping and labelled texts.
 
 use crate::documents::{bit, write_number};
-use crate::encoding::{read_text, spelled, write_character, write_text};
-use crate::fault::{Answer, Bad};
 use crate::request::Request;
 use bpaf_doc::splitter::{Chunk, split};
 use bpaf_roff::escape::bytes::escape;
 use bpaf_roff::escape::{Apostrophes, Escape};
 use bpaf_roff::monoid::FreeMonoid;
 use bpaf_roff::roff::{Font, Roff};
+use replay_engine::encoding::{read_text, spelled, write_character, write_text};
+use replay_engine::fault::{Answer, Bad};
 use std::alloc::{AllocError, Global};
 
 /// The chunks of a text.

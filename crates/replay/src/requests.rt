@@ -1,14 +1,10 @@
 //! Requests, and which answers each has.
 
-ghost use Rattle.std.specs.Prelude.{◌≢◌, [], OnOk};
-
 use crate::application_answers::{application_answer, manual_answer};
 use crate::document_answers::{
     add_document_answers, console_answer, document_answer, html_answer, markdown_answer,
     roff_answer,
 };
-use crate::fault::{Answer, Bad};
-use crate::lines::Lines;
 use crate::names::Names;
 use crate::page_answers::{
     add_tree_answers, groups_answer, heading_answer, help_answer, help_parts_answer, list_answer,
@@ -18,22 +14,37 @@ use crate::request::Request;
 use crate::tree_answers::{
     either_answer, first_name_answer, matches_answer, tree_answer, usage_answer,
 };
+use replay_engine::fault::{Answer, Bad};
+use replay_engine::lines::Lines;
+use replay_engine::run::Answerer;
 use std::alloc::Global;
 
-/// Adds the answers to the request of a line.
-pub fn add_answers(
+/// What answers requests: the library, with the names that were asked for so far.
+#[derive(Drop)]
+pub struct Library {
     alloc: Global,
-    line: &str,
-    names: &mut Names,
-    lines: &mut Lines,
-) -> Result<(), Bad>
-    ensures { OnOk result (lines.new ≢ []) }
-{
-    let mut request = Request::new(alloc, line, names)?;
-    match request.word()? {
-        "alldoc" => add_document_answers(&mut request, lines),
-        "alltree" => add_tree_answers(&mut request, lines),
-        key => lines.add(key, only_answer(&mut request, key)?),
+    names: Names,
+}
+
+impl Library {
+    /// No name was asked for yet.
+    pub fn new(alloc: Global) -> Library {
+        Library {
+            alloc,
+            names: Names::new(alloc),
+        }
+    }
+}
+
+impl Answerer for Library {
+    /// Adds the answers to the request of a line.
+    fn add_answers(&mut self, line: &str, lines: &mut Lines) -> Result<(), Bad> {
+        let mut request = Request::new(self.alloc, line, &mut self.names)?;
+        match request.word()? {
+            "alldoc" => add_document_answers(&mut request, lines),
+            "alltree" => add_tree_answers(&mut request, lines),
+            key => lines.add(key, only_answer(&mut request, key)?),
+        }
     }
 }
 

@@ -2,15 +2,15 @@
 
 use crate::document_answers::word;
 use crate::documents::{bit, shown};
-use crate::encoding::spelled;
-use crate::fault::{Answer, Bad};
-use crate::lines::Lines;
 use crate::request::Request;
 use crate::trees::{read_name, write_item, write_name, write_shorts, write_tree};
 use bpaf_doc::buffer::Doc;
 use bpaf_help::item::{Item, ShortLong};
 use bpaf_help::meta::Meta;
 use bpaf_help::usage::write_meta;
+use replay_engine::encoding::spelled;
+use replay_engine::fault::{Answer, Bad};
+use replay_engine::lines::Lines;
 use std::alloc::Global;
 
 /// The answer to a request on a tree and the use of it.

@@ -1,12 +1,12 @@
 //! Trees, items and names, read. What stands behind their first word was read before.
 
-use crate::encoding::read_text;
-use crate::fault::Bad;
 use crate::request::Request;
 use bpaf_doc::buffer::Doc;
 use bpaf_help::item::{Item, ShortLong};
 use bpaf_help::meta::Meta;
 use bpaf_help::meta_help::{Info, Metavar};
+use replay_engine::encoding::read_text;
+use replay_engine::fault::Bad;
 
 /// Takes what stands behind the first word of a tree. Answers none for a word that begins no tree.
 pub fn read_tree(request: &mut Request<'_>, word: &str) -> Result<Option<Meta>, Bad> {

@@ -1,11 +1,11 @@
 //! Trees, items and names, printed.
 
 use crate::documents::{bit, write_document, write_optional};
-use crate::encoding::{write_character, write_characters, write_text};
 use bpaf_doc::buffer::Doc;
 use bpaf_help::item::{Item, ShortLong};
 use bpaf_help::meta::Meta;
 use bpaf_help::meta_help::Info;
+use replay_engine::encoding::{write_character, write_characters, write_text};
 use std::alloc::AllocError;
 
 /// Prints a tree.

@@ -1,0 +1,93 @@
+#!/usr/bin/env python3
+"""Each row of the rules stands in docs/ROWS.md with what runs it: a request of a stored run, an equation or a test.
+
+Prints the rows that are not there, and those that nothing runs. Ends with status 1 where there is any. `rows.py write` writes the page.
+"""
+import pathlib
+import re
+import sys
+
+TOP = pathlib.Path(__file__).resolve().parent.parent
+CRATES = TOP / "crates"
+PAGE = TOP / "docs" / "ROWS.md"
+HEAD = """# Rows of the rules
+
+A row is an input with what comes of it. Each has a number here, in the order of the files that hold them, and what runs it in the gate:
+
+- `replay`: so many requests of its stored run, behind a remark of these words in `crates/replay/stdin`. Their answers are in `stdout` beside it;
+- a crate of equations: so many of them, behind a comment of these words in its `proofs/`. Each computes;
+- a test function, which says in its name what holds;
+- a program: its stored run.
+
+`.ci/rows.py`, which the gate begins with, fails where a row of these files is not on this page.
+
+| Row | What it shows | Run by |
+|---|---|---|
+"""
+
+
+def requests():
+    """The remarks of the stored run of `replay`, with how many requests each has."""
+    words, count = None, 0
+    for line in (CRATES / "replay" / "stdin").read_text(encoding="utf-8").splitlines() + ["#"]:
+        if line.startswith("#"):
+            if count:
+                yield words, f"`replay`, {count} requests" if count > 1 else "`replay`"
+            words, count = line[1:].strip(), 0
+        elif line:
+            count += 1
+
+
+def equations(crate):
+    """The comments between equations, with how many equations each has."""
+    for file in sorted((CRATES / crate / "proofs").glob("*.antt")):
+        words, count, beside = [], 0, False
+        for line in file.read_text(encoding="utf-8").splitlines() + ["-- "]:
+            is_remark = line.startswith("-- ")
+            if is_remark and not beside:
+                if words and count:
+                    yield " ".join(words), f"`{crate}`, {count} equations" if count > 1 else f"`{crate}`"
+                words, count = [], 0
+            if is_remark:
+                words.append(line[3:].strip("- "))
+            elif re.match(r"\w+ : ", line):
+                count += 1
+            beside = is_remark
+
+
+def tests(crate):
+    for file in sorted((CRATES / crate / "src").glob("*.rt")):
+        for name in re.findall(r"#\[test\]\n *(?:pub )?fn (\w+)", file.read_text(encoding="utf-8")):
+            yield name.replace("_", " "), f"`{crate}::{file.stem}::{name}`"
+
+
+def programs():
+    for folder in sorted(path.parent for path in CRATES.glob("*/stdout")):
+        if folder.name == "replay":
+            continue
+        words = " ".join((folder / "args").read_text(encoding="utf-8").split()) if (folder / "args").exists() else ""
+        yield f"what the program prints when it is run with the words `{words}`" if words else "what the program prints", f"`{folder.name}`"
+
+
+def rows():
+    yield from requests()
+    for crate in sorted(path.name for path in CRATES.glob("*_rows")):
+        yield from equations(crate)
+    for crate in sorted(path.name for path in CRATES.glob("*_tests")):
+        yield from tests(crate)
+    yield from programs()
+
+
+def main():
+    lines = [f"| {number} | {words.replace('|', chr(92) + '|')} | {run} |" for number, (words, run) in enumerate(rows(), 1)]
+    text = HEAD + "\n".join(lines) + "\n"
+    if sys.argv[1:] == ["write"]:
+        PAGE.write_text(text, encoding="utf-8")
+    held = PAGE.read_text(encoding="utf-8").splitlines() if PAGE.exists() else []
+    faults = [f"docs/ROWS.md has not: {line}" for line in text.splitlines() if line not in held]
+    faults += [f"nothing runs: {line}" for line in held if line not in text.splitlines()]
+    print("\n".join(faults) if faults else f"{len(lines)} rows stand in docs/ROWS.md")
+    sys.exit(1 if faults else 0)
+
+
+main()
