@@ -1,5 +1,6 @@
 -- Lemmas about console pages. `Layout`: a page that keeps the rules is a layout. `Sheet`: the page that the code makes is the exact
--- one, and keeps the rules. `Rows`: exact pages of small documents, computed.
+-- one, and keeps the rules. `Rows`: exact pages of small documents, computed. `Refused`:
+-- texts that are no layout, whatever their placing.
 pub mod Hiding
 pub mod Ink
 pub mod Pages
@@ -10,3 +11,4 @@ pub mod Tabs
 pub mod Layout
 pub mod Sheet
 mod Rows
+mod Refused

@@ -5,7 +5,7 @@ use Rattle.std.specs.Str.{trim_end}
 use Rattle.bpaf_doc.specs.declared.buffer.Block.TheVariants as blocks
 use Rattle.bpaf_doc.specs.declared.buffer.Block.{Block}
 use Rattle.bpaf_doc.specs.Buffer.Parts.{Part, Text, Start, End, ink}
-use Rattle.bpaf_doc.specs.Splitter.Chunks.{Chunk, Raw, Paragraph, LineBreak, columns, is_ordinary, is_inked, is_raw, IsOrdinary, IsInked, has_some, starts}
+use Rattle.bpaf_doc.specs.Splitter.Chunks.{Chunk, Raw, Paragraph, LineBreak, columns, is_ordinary, is_inked, is_raw, is_whole_line, IsOrdinary, IsInked, has_some, starts}
 use Rattle.bpaf_doc.specs.Shown.{numbered, shown_chunks, console_ink, is_term_ref, mark_bytes}
 use Rattle.bpaf_doc.specs.Console.Margin.{is_skipped, margin, greatest, greatest_margin}
 
@@ -189,9 +189,17 @@ abbrev pub is_empty_code : Event → Bool
 is_empty_code (Shows k (Raw bytes weight)) = not (has_some bytes) && not (is_ordinary (Raw bytes weight))
 is_empty_code _ = false
 
--- no empty code or fence line stands before the first ink
+-- what puts a byte on the page, wherever it stands: a Raw that has bytes, a break chunk or a mark of TermRef
+abbrev pub is_written : Event → Bool
+is_written (Shows k (Raw bytes weight)) = has_some bytes
+is_written (Shows k Paragraph) = true
+is_written (Shows k LineBreak) = true
+is_written (Opens b) = is_term_ref b
+is_written (Closes b) = is_term_ref b
+
+-- no empty code or fence line stands before the first byte of the page
 abbrev pub BeginsClear : List Event → Type 0
-BeginsClear events = IsTrue (not (list_any is_empty_code (before_first is_inked_event events)))
+BeginsClear events = IsTrue (not (list_any is_empty_code (before_first is_written events)))
 
 -- no inked chunk stands before it in its line
 abbrev pub IsFirstInLine : List Stretch → Type 0
@@ -301,6 +309,11 @@ abbrev pub PadsToMargin : List Part → List Stretch → Type 0
 PadsToMargin document stretches = (before after : List Stretch) (f : Place) → stretches ≡ before ++ Placed f ∷ after → 0 < padding before
     → (column before ≡ margin document f.part) ⊎ ((padding before ≡ 2) × IsTrue (list_any opens_body (events_of (after_last is_placed before))))
 
+-- nothing stands in its line behind a code or fence line: a newline comes before the next place
+abbrev pub StandsAlone : List Stretch → Type 0
+StandsAlone stretches = (before between after : List Stretch) (e f : Place) → stretches ≡ before ++ Placed e ∷ (between ++ Placed f ∷ after)
+    → IsTrue (is_whole_line (chunk_at e)) → IsTrue (list_any is_newline between)
+
 -- ---- a layout
 
 -- the text is a layout of the document at this width, in full or in brief
@@ -314,4 +327,5 @@ pub record IsLayout (document : List Part) (full : Bool) (width : ℕ) (text : L
   pub needed : width < 1_000_000 → BeginsClear (shown_events full document) → WrapsOnlyIfNeeded width stretches
   pub fits : width < 1_000_000 → BeginsClear (shown_events full document) → FitsWidth width stretches
   pub padded : width < 1_000_000 → BeginsClear (shown_events full document) → PadsToMargin document stretches
+  pub alone : width < 1_000_000 → BeginsClear (shown_events full document) → StandsAlone stretches
   pub bound : width < 1_000_000 → IsTrue (not (list_any is_ref (shown_events full document))) → IsBounded document width stretches

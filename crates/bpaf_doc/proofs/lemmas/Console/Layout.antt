@@ -6,6 +6,7 @@ pub mod Text
 pub mod Margin
 pub mod Bound
 pub mod Pads
+pub mod Alone
 pub mod Split
 pub mod Asked
 pub mod Blank

@@ -11,15 +11,15 @@ use Rattle.bpaf_doc.specs.Splitter.Chunks.{chunks_of, chunks_in, chunks_within}
 use Rattle.bpaf_doc.specs.Console.Exact.{console_page}
 
 -- what has to unfold to compute the page of an ASCII document
-pub computed : ℕ
+unfoldable pub computed : ℕ
 unfolding chunks_of chunks_in chunks_within chars encode trim_end str_width step past_emoji
 computed = 0
 
 -- a text alone, and a block round some parts
-abbrev words : List ℕ → List Part
+abbrev pub words : List ℕ → List Part
 words bytes = Text bytes style.Text ∷ []
 
-abbrev inside : Block → List Part → List Part
+abbrev pub inside : Block → List Part → List Part
 inside b parts = Start b ∷ (parts ++ End b ∷ [])
 
 row_1 : console_page true 100 ([]) ≡ []

@@ -1,6 +1,6 @@
 -- What the console's private functions leave, one part after another. Nothing here has to be believed: that it comes to
 -- `console_ink` is proved (proofs/lemmas/Console/Ink).
-use Rattle.std.specs.Prelude.{ℕ, ◌+◌, Bool, ◌==◌, List, [], ◌∷◌, ◌++◌, if◌then◌else◌}
+use Rattle.std.specs.Prelude.{ℕ, Bool, ◌==◌, List, [], ◌∷◌, ◌++◌, if◌then◌else◌}
 use Rattle.bpaf_doc.specs.Buffer.Parts.{Part, Text, Start, End, ink}
 use Rattle.bpaf_doc.specs.Splitter.Chunks.{Chunk, Raw, Paragraph, LineBreak, chunks_of}
 use Rattle.bpaf_doc.specs.Shown.{mark_bytes}

@@ -2,10 +2,9 @@
 -- Nobody has to believe this: `IsLayout` is what is promised, and it is proved of each page that grows so.
 use Rattle.std.specs.Prelude.{IsUtf8, ◌⊎◌, ◌≡◌, ◌≢◌, ℕ, zero, suc, ◌+◌, ◌-◌, ◌<◌, ◌≤◌, min, ⊤, Bool, true, false, ◌&&◌, ◌||◌, List, [], ◌∷◌, ◌++◌, length, codes, if◌then◌else◌}
 use Rattle.std.specs.Str.{trim_end}
-use Rattle.std.specs.List.{list_any}
 use Rattle.bpaf_doc.specs.Shown.{through_paragraph}
 use Rattle.bpaf_doc.specs.Splitter.Chunks.{IsLine, Chunk, Raw, Paragraph, LineBreak, columns, is_inked, has_some, IsOrdinary}
-use Rattle.bpaf_doc.specs.Console.Layout.{Event, Shows, Opens, Closes, Stretch, Gap, Placed, Passed, Place, chunk_at, event_bytes, stretch_bytes, is_newline, asks_newline, asks_blank_line, opens_body, is_inline_block, is_empty_code, is_inked_stretch}
+use Rattle.bpaf_doc.specs.Console.Layout.{Event, Shows, Opens, Closes, Stretch, Gap, Placed, Passed, Place, chunk_at, event_bytes, stretch_bytes, is_newline, asks_newline, asks_blank_line, opens_body, is_inline_block, is_empty_code}
 use Rattle.bpaf_doc.specs.declared.console.page.Asked.{Asked}
 use Rattle.bpaf_doc.specs.declared.console.page.Asked.TheVariants.{Nothing, NewLine, BlankLine}
 use Rattle.bpaf_doc.specs.declared.buffer.Block.TheVariants as blocks
@@ -193,9 +192,9 @@ pub data Suits (margin_of : ℕ → ℕ) (st : State) : Next → Type 0 where
   open_suits : {next : Next} (b : Block) (margin : ℕ) → next ≡ mark (Opens b) margin → (is_inline_block b ≡ true → margin ≤ st.margin) → margin ≤ 18446744073709551615 → Suits margin_of st next
   close_suits : {next : Next} (b : Block) (margin : ℕ) → next ≡ mark (Closes b) margin → margin ≤ st.margin → margin ≤ 18446744073709551615 → Suits margin_of st next
 
--- an empty line of code comes only after some ink
+-- an empty line of code comes only after some text
 abbrev pub IsClear : State → Next → Type 0
-IsClear st (raw p) = is_empty_code (Shows p.part (Raw p.bytes p.weight)) ≡ true → list_any is_inked_stretch st.back ≡ true
+IsClear st (raw p) = is_empty_code (Shows p.part (Raw p.bytes p.weight)) ≡ true → has_text st.back ≡ true
 IsClear st (break k chunk) = ⊤
 IsClear st (mark event margin) = ⊤
 

@@ -3,9 +3,11 @@ use Rattle.std.specs.Prelude.{◌≡◌, ℕ, zero, suc, ◌<◌, ⊤, Bool, tru
 use Rattle.std.specs.List.{list_any}
 use Rattle.std.specs.Str.{chars}
 use Rattle.std.proofs.Common.{sym, subst, ap, arith, inl, inr, ◌∙◌}
+use Rattle.bpaf_doc.specs.declared.buffer.Block.{Block}
+use Rattle.bpaf_doc.specs.Shown.{is_term_ref, mark_bytes}
 use Rattle.bpaf_doc.specs.Splitter.Chunks.{Raw, Paragraph, LineBreak, is_inked, is_ordinary, has_some}
-use Rattle.bpaf_doc.specs.Console.Layout.{Event, Shows, Opens, Closes, Stretch, Gap, Placed, Passed, chunk_at, event_bytes, is_inked_event, is_inked_stretch, is_empty_code, is_placed}
-use Rattle.bpaf_doc.proofs.lemmas.Console.Layout.State.{State, Piece, Lines, none_asked, line_there, line_put, blank_there, second_put, both_put, Begins, first, stays, wraps, places, drops, Next, raw, Grows, placing, breaking, passing, padded, trimmed, has_text, put, passed, Fits, Suits, raw_suits, paragraph_suits, line_break_suits, open_suits, close_suits, IsClear}
+use Rattle.bpaf_doc.specs.Console.Layout.{Event, Shows, Opens, Closes, Stretch, Gap, Placed, Passed, chunk_at, event_bytes, is_inked_event, is_inked_stretch, is_empty_code, is_placed, is_written}
+use Rattle.bpaf_doc.proofs.lemmas.Console.Layout.State.{State, Piece, Lines, none_asked, line_there, line_put, blank_there, second_put, both_put, Begins, first, stays, wraps, places, drops, Next, raw, break, mark, Grows, placing, breaking, passing, padded, trimmed, has_text, put, passed, Fits, Suits, raw_suits, paragraph_suits, line_break_suits, open_suits, close_suits, IsClear}
 use Rattle.bpaf_doc.proofs.lemmas.Console.Layout.Back.{by_cases, EachPlace, trimmed_inked, trimmed_plain, trimmed_bytes, trimmed_bare, fits_of}
 use Rattle.bpaf_doc.proofs.lemmas.Console.Layout.Columns.{Fills, inked_some, column_back, no_text_column, Agrees, agrees_lines}
 
@@ -131,37 +133,36 @@ text_lines (blank_there a b e) h = subst (λ (s : State). has_text s.back ≡ tr
 text_lines (second_put a b e) h = subst (λ (s : State). has_text s.back ≡ true) (sym e) refl
 text_lines (both_put a e) h = subst (λ (s : State). has_text s.back ≡ true) (sym e) refl
 
--- an empty chunk that is placed first is an empty line of code, which stands after some ink
-empty_first : {margin_of : ℕ → ℕ} (st : State) (p : Piece) → EachPlace Fills st.back → EachPassed NoInk st.back → Fits margin_of st p
-    → IsClear st (raw p) → has_text st.back ≡ false → has_some p.bytes ≡ true
-empty_first st p f q fits clear none = at (by_cases (has_some p.bytes)) (by_cases (is_ordinary (Raw p.bytes p.weight))) where
+-- an empty chunk that is placed first is an empty line of code, which stands after some text
+empty_first : {margin_of : ℕ → ℕ} (st : State) (p : Piece) → Fits margin_of st p → IsClear st (raw p) → has_text st.back ≡ false → has_some p.bytes ≡ true
+empty_first st p fits clear none = at (by_cases (has_some p.bytes)) (by_cases (is_ordinary (Raw p.bytes p.weight))) where
   at : (has_some p.bytes ≡ true) ⊎ (has_some p.bytes ≡ false) → (is_ordinary (Raw p.bytes p.weight) ≡ true) ⊎ (is_ordinary (Raw p.bytes p.weight) ≡ false) → has_some p.bytes ≡ true
   at (inl s) o = s
   at (inr s) (inl o) = fits.filled o
   at (inr s) (inr o) =
       let empty : is_empty_code (Shows p.part (Raw p.bytes p.weight)) ≡ true = rw (s, o) refl in
-      let text : has_text st.back ≡ true = ink_text st.back f q (clear empty) in
+      let text : has_text st.back ≡ true = clear empty in
       absurd cc
 
-starting_put : {width : ℕ} {margin_of : ℕ → ℕ} (st : State) (p : Piece) (base : State) (n : ℕ) → EachPlace Fills st.back → EachPassed NoInk st.back
+starting_put : {width : ℕ} {margin_of : ℕ → ℕ} (st : State) (p : Piece) (base : State) (n : ℕ)
     → Fits margin_of st p → IsClear st (raw p) → Begins width st p base → has_text (put n p.part p.bytes p.weight base).back ≡ true
-starting_put st p base n f q fits clear (first t e) = let some : has_some p.bytes ≡ true = empty_first st p f q fits clear t in rw some refl
-starting_put st p base n f q fits clear (stays t l w) =
+starting_put st p base n fits clear (first t e) = let some : has_some p.bytes ≡ true = empty_first st p fits clear t in rw some refl
+starting_put st p base n fits clear (stays t l w) =
     or_true_right (has_some p.bytes) (has_text (padded n base.back)) (text_padded n base.back (text_lines l t))
-starting_put st p base n f q fits clear (wraps t mid l w b e) =
+starting_put st p base n fits clear (wraps t mid l w b e) =
     or_true_right (has_some p.bytes) (has_text (padded n base.back)) (text_padded n base.back (subst (λ (s : State). has_text s.back ≡ true) (sym e) refl))
 
-pub starting_grows : {width : ℕ} {margin_of : ℕ → ℕ} {st after : State} {next : Next} → EachPlace Fills st.back → EachPassed NoInk st.back
+pub starting_grows : {width : ℕ} {margin_of : ℕ → ℕ} {st after : State} {next : Next}
     → Suits margin_of st next → IsClear st next → Grows width st next after → IsStarting st → IsStarting after
-starting_grows {margin_of = margin_of} {st = st} {after = after} f q suits clear (placing p e (places base n b d a)) h = λ none.
+starting_grows {margin_of = margin_of} {st = st} {after = after} suits clear (placing p e (places base n b d a)) h = λ none.
     let text : has_text (put n p.part p.bytes p.weight base).back ≡ true =
-    starting_put st p base n f q (fits_of suits e) (subst (λ (x : Next). IsClear st x) e clear) b in
+    starting_put st p base n (fits_of suits e) (subst (λ (x : Next). IsClear st x) e clear) b in
     let same : has_text after.back ≡ true = subst (λ (s : State). has_text s.back ≡ true) (sym a) text in absurd cc
-starting_grows {after = after} f q suits clear (placing p e (drops t mid l w b a)) h = λ none.
+starting_grows {after = after} suits clear (placing p e (drops t mid l w b a)) h = λ none.
     let same : has_text after.back ≡ true = subst (λ (s : State). has_text s.back ≡ true) (sym a) refl in absurd cc
-starting_grows {after = after} f q suits clear (breaking k chunk e a) h = λ none.
+starting_grows {after = after} suits clear (breaking k chunk e a) h = λ none.
     let same : has_text after.back ≡ true = subst (λ (s : State). has_text s.back ≡ true) (sym a) refl in absurd cc
-starting_grows {st = st} f q suits clear (passing event margin e a) h = subst IsStarting (sym a) at where
+starting_grows {st = st} suits clear (passing event margin e a) h = subst IsStarting (sym a) at where
   at : IsStarting (passed event margin st)
   at none =
       let before : (st.column ≡ 0) × (has_place st.back ≡ false) = h (or_false_right (has_some (event_bytes event)) (has_text st.back) none) in
@@ -171,6 +172,44 @@ starting_grows {st = st} f q suits clear (passing event margin e a) h = subst Is
         no_length : (xs : List ℕ) → has_some xs ≡ false → length xs ≡ 0
         no_length [] h = refl
         no_length (x ∷ xs) h = absurd cc
+
+-- ---- what is written stays
+
+pub text_stays : {width : ℕ} {st after : State} {next : Next} → Grows width st next after → has_text st.back ≡ true → has_text after.back ≡ true
+text_stays {width} {st} (placing p e (places base n b d a)) h =
+    subst (λ (s : State). has_text s.back ≡ true) (sym a) (or_true_right (has_some p.bytes) (has_text (padded n base.back)) (text_padded n base.back (begun b))) where
+      begun : Begins width st p base → has_text base.back ≡ true
+      begun (first t s) = absurd cc
+      begun (stays t l w) = text_lines l t
+      begun (wraps t mid l w x s) = subst (λ (y : State). has_text y.back ≡ true) (sym s) refl
+text_stays (placing p e (drops t mid l w b a)) h = subst (λ (s : State). has_text s.back ≡ true) (sym a) refl
+text_stays (breaking k chunk e a) h = subst (λ (s : State). has_text s.back ≡ true) (sym a) refl
+text_stays (passing event margin e a) h = subst (λ (s : State). has_text s.back ≡ true) (sym a) (or_true_right (has_some (event_bytes event)) _ h)
+
+-- what comes next, as an event
+abbrev pub next_event : Next → Event
+next_event (raw p) = Shows p.part (Raw p.bytes p.weight)
+next_event (break k chunk) = Shows k chunk
+next_event (mark event level) = event
+
+-- what puts a byte on the page leaves some text
+pub text_written : {width : ℕ} {margin_of : ℕ → ℕ} {st after : State} {next : Next} → Suits margin_of st next → Grows width st next after → is_written (next_event next) ≡ true → has_text after.back ≡ true
+text_written suits (placing p e (places base n b d a)) h =
+    let some : has_some p.bytes ≡ true = subst (λ (x : Next). is_written (next_event x) ≡ true) e h in
+    subst (λ (s : State). has_text s.back ≡ true) (sym a) (rw some refl)
+text_written suits (placing p e (drops t mid l w b a)) h = subst (λ (s : State). has_text s.back ≡ true) (sym a) refl
+text_written suits (breaking k chunk e a) h = subst (λ (s : State). has_text s.back ≡ true) (sym a) refl
+text_written {margin_of = margin_of} {st = st} {next = next} suits (passing event margin e a) h =
+    subst (λ (s : State). has_text s.back ≡ true) (sym a) (at suits (subst (λ (x : Next). is_written (next_event x) ≡ true) e h)) where
+      ref : (b : Block) → is_term_ref b ≡ true → (has_some (mark_bytes b) || has_text st.back) ≡ true
+      ref b t = rw t refl
+
+      at : Suits margin_of st next → is_written event ≡ true → (has_some (event_bytes event) || has_text st.back) ≡ true
+      at (raw_suits q f g) t = absurd cc
+      at (paragraph_suits j f l m) t = absurd cc
+      at (line_break_suits j f l m) t = absurd cc
+      at (open_suits b m f l u) t = let same : event ≡ Opens b = cc in subst (λ (x : Event). (has_some (event_bytes x) || has_text st.back) ≡ true) (sym same) (ref b (subst (λ (x : Event). is_written x ≡ true) same t))
+      at (close_suits b m f l u) t = let same : event ≡ Closes b = cc in subst (λ (x : Event). (has_some (event_bytes x) || has_text st.back) ≡ true) (sym same) (ref b (subst (λ (x : Event). is_written x ≡ true) same t))
 
 -- ---- where a chunk begins
 

@@ -6,20 +6,22 @@ use Rattle.std.proofs.Common.{sym, subst, ap, arith, inl, inr, ◌∙◌, append
 use Rattle.std.proofs.lemmas.List.{reverse-append, reverse-reverse, append-nil}
 use Rattle.std.proofs.lemmas.List.Elements.{All-append, All-cons, All-nil}
 use Rattle.std.proofs.lemmas.List.Sums.{sum_by-cons}
+use Rattle.std.proofs.lemmas.List.Folds.{list_any-append}
 use Rattle.std.proofs.lemmas.Bool.Decides.{nat_tests}
 use Rattle.bpaf_doc.specs.declared.buffer.Block.{Block}
 use Rattle.bpaf_doc.specs.Buffer.Parts.{Part, ink}
 use Rattle.bpaf_doc.specs.Splitter.Chunks.{Raw, Paragraph, LineBreak, columns, is_inked, is_ordinary, has_some, starts}
 use Rattle.bpaf_doc.specs.Shown.{console_ink, is_term_ref}
 use Rattle.bpaf_doc.specs.Console.Margin.{margin, greatest_margin}
-use Rattle.bpaf_doc.specs.Console.Layout.{Event, Shows, Opens, Closes, Stretch, Gap, Placed, Passed, Place, chunk_at, event_bytes, event_columns, stretch_columns, text_of, events_of, shown_events, is_newline, is_placed, is_passed, is_inked_event, is_inked_stretch, is_empty_code, is_raw_event, is_ref, asks_newline, asks_blank_line, is_light, is_light_mark, opens_body, column, padding, line_before, stretch_lines, MayStand, BreaksWhereAsked, KeepsBlanks, IsKept, BeginsClear, IsFirstInLine, events_since_ink, is_raw_or_ref, FollowsBlank, KeepsMargin, WrapsOnlyIfNeeded, IsBounded, FitsWidth, PadsToMargin, HasBlankLine, widest, IsLayout}
-use Rattle.bpaf_doc.proofs.lemmas.Console.Layout.State.{State, Piece, Next, raw, break, mark, Grows, placing, breaking, passing, places, drops, Begins, first, stays, wraps, Lines, none_asked, line_there, line_put, blank_there, second_put, both_put, Suits, IsClear, blank_page, Written, nothing, more, Ends, as_is, with_newline}
+use Rattle.bpaf_doc.specs.Console.Layout.{Event, Shows, Opens, Closes, Stretch, Gap, Placed, Passed, Place, chunk_at, event_bytes, event_columns, stretch_columns, text_of, events_of, shown_events, is_newline, is_placed, is_passed, is_inked_event, is_inked_stretch, is_empty_code, is_written, is_raw_event, is_ref, asks_newline, asks_blank_line, is_light, is_light_mark, opens_body, column, padding, line_before, stretch_lines, MayStand, BreaksWhereAsked, KeepsBlanks, IsKept, BeginsClear, IsFirstInLine, events_since_ink, is_raw_or_ref, FollowsBlank, KeepsMargin, WrapsOnlyIfNeeded, IsBounded, FitsWidth, PadsToMargin, StandsAlone, HasBlankLine, widest, IsLayout}
+use Rattle.bpaf_doc.proofs.lemmas.Console.Layout.State.{State, Piece, has_text, Next, raw, break, mark, Grows, placing, breaking, passing, places, drops, Begins, first, stays, wraps, Lines, none_asked, line_there, line_put, blank_there, second_put, both_put, Suits, IsClear, blank_page, Written, nothing, more, Ends, as_is, with_newline}
 use Rattle.bpaf_doc.proofs.lemmas.Console.Layout.Back.{by_cases, EachPlace}
-use Rattle.bpaf_doc.proofs.lemmas.Console.Layout.Columns.{Fills, fills_grows, Agrees, agrees_grows, column_back, inked_some}
-use Rattle.bpaf_doc.proofs.lemmas.Console.Layout.Text.{EachPassed, NoInk, no_ink_grows, IsStarting, starting_grows, begins_margin, lines_margin}
+use Rattle.bpaf_doc.proofs.lemmas.Console.Layout.Columns.{Fills, fills_grows, Agrees, agrees_grows, column_back}
+use Rattle.bpaf_doc.proofs.lemmas.Console.Layout.Text.{EachPassed, NoInk, no_ink_grows, IsStarting, starting_grows, next_event, text_stays, text_written, begins_margin, lines_margin}
 use Rattle.bpaf_doc.proofs.lemmas.Console.Layout.Margin.{AtMargin, at_margin_grows}
 use Rattle.bpaf_doc.proofs.lemmas.Console.Layout.Bound.{EachFront, Within, IsBare, WritesNone, IsNarrow, bare_grows, bound, within_grows}
 use Rattle.bpaf_doc.proofs.lemmas.Console.Layout.Pads.{Touches, touches_grows, HasNoPads, no_pads_grows, IsPending, pending_grows, PadsOnly, pads_only_grows, pads_back, body_back}
+use Rattle.bpaf_doc.proofs.lemmas.Console.Layout.Alone.{IsHeavy, heavy_grows, AloneBefore, alone_grows}
 use Rattle.bpaf_doc.proofs.lemmas.Console.Layout.Split.{events_back, events_padded, events_trimmed, Cut, has_newline, inked_line, inked_since}
 use Rattle.bpaf_doc.proofs.lemmas.Console.Layout.Asked.{IsAskedLine, asked_line_grows, IsFreeOfDebt, free_of_debt_grows, owes_line}
 use Rattle.bpaf_doc.proofs.lemmas.Console.Layout.Blank.{IsAskedBlank, asked_blank_grows, IsFreshAtZero, fresh_grows, HasBlankBefore, blank_before_grows, text_back, text_back_cons}
@@ -30,11 +32,6 @@ use Rattle.bpaf_doc.proofs.lemmas.Console.Layout.Cuts.{MayEnd, IsWhole, whole_gr
 use Rattle.bpaf_doc.proofs.lemmas.Console.Layout.Turned.{reverse_cons, any_turned, all_turned, sum_turned, events_turned, events_between, column_turned, inked_line_turned, padding_turned, body_turned, quiet_turned, lines_bounded, turned_at, turned_between, place_at}
 
 -- ---- the events of a page
-
-abbrev pub next_event : Next → Event
-next_event (raw p) = Shows p.part (Raw p.bytes p.weight)
-next_event (break k chunk) = Shows k chunk
-next_event (mark event level) = event
 
 events_lines : {st mid : State} → Lines st mid → events_back mid.back ≡ events_back st.back
 events_lines (none_asked a e) = ap (λ (s : State). events_back s.back) e
@@ -152,6 +149,8 @@ pub record Clearly (width : ℕ) (margin_of : ℕ → ℕ) (st : State) : Type 0
   pub touches : EachPlace (Touches width) st.back
   pub pads_only : EachPlace (PadsOnly margin_of) st.back
   pub needed : EachPlace (IsNeededBefore width) st.back
+  pub heavy : IsHeavy st
+  pub alone : EachPlace AloneBefore st.back
 
 clearly_blank : (width : ℕ) (margin_of : ℕ → ℕ) → Clearly width margin_of blank_page
 clearly_blank width margin_of = record {
@@ -163,12 +162,14 @@ clearly_blank width margin_of = record {
   touches = tt;
   pads_only = tt;
   needed = tt;
+  heavy = λ m before e h w n. nothing_cut m before e h;
+  alone = tt;
 }
 
 clearly_grows : {width : ℕ} {margin_of : ℕ → ℕ} {st after : State} {next : Next} → width < 1_000_000 → Suits margin_of st next → IsClear st next → Grows width st next after
     → Base width st → Clearly width margin_of st → Clearly width margin_of after
 clearly_grows {width} {margin_of} small suits clear g b c = record {
-  starting = starting_grows b.fills b.no_ink suits clear g c.starting;
+  starting = starting_grows suits clear g c.starting;
   reached = reached_grows width small b.fills b.no_ink c.starting b.agrees suits g c.reached;
   marked = marked_grows width small b.fills c.starting b.agrees suits g c.marked;
   at_margin = at_margin_grows margin_of small b.fills c.starting b.agrees suits g c.at_margin;
@@ -176,82 +177,86 @@ clearly_grows {width} {margin_of} small suits clear g b c = record {
   touches = touches_grows width small b.fills c.starting b.agrees g c.touches;
   pads_only = pads_only_grows margin_of small b.fills c.starting b.agrees suits b.pads b.pending g c.pads_only;
   needed = needed_before_grows width b.fills b.no_ink c.reached c.marked g c.needed;
+  heavy = heavy_grows small c.starting g c.heavy;
+  alone = alone_grows small c.starting c.heavy g c.alone;
 }
 
--- no empty line of code stands before the first ink
+-- no empty line of code stands before the first byte
 abbrev clear_front : List Event → Bool
 clear_front [] = true
-clear_front (x ∷ xs) = if is_inked_event x then true else (not (is_empty_code x) && clear_front xs)
+clear_front (x ∷ xs) = if is_written x then true else (not (is_empty_code x) && clear_front xs)
 
-empty_plain : (event : Event) → is_empty_code event ≡ true → is_inked_event event ≡ true → ⊥
+empty_plain : (event : Event) → is_empty_code event ≡ true → is_written event ≡ true → ⊥
 empty_plain (Shows k (Raw bytes weight)) e i =
-    let some : has_some bytes ≡ true = inked_some bytes i in
-    let no : (not true && not (is_ordinary (Raw bytes weight))) ≡ true = subst (λ (b : Bool). (not b && not (is_ordinary (Raw bytes weight))) ≡ true) some e in cc
+    let no : (not true && not (is_ordinary (Raw bytes weight))) ≡ true = subst (λ (b : Bool). (not b && not (is_ordinary (Raw bytes weight))) ≡ true) i e in cc
 empty_plain (Shows k Paragraph) e i = cc
 empty_plain (Shows k LineBreak) e i = cc
 empty_plain (Opens b) e i = cc
 empty_plain (Closes b) e i = cc
 
-clear_snoc : (xs : List Event) (x : Event) → clear_front (xs ++ x ∷ []) ≡ true → (clear_front xs ≡ true) × (is_empty_code x ≡ true → list_any is_inked_event xs ≡ true)
-clear_snoc [] x h = (refl, λ e. absurd (at e (by_cases (is_inked_event x)))) where
-  at : is_empty_code x ≡ true → (is_inked_event x ≡ true) ⊎ (is_inked_event x ≡ false) → ⊥
+clear_snoc : (xs : List Event) (x : Event) → clear_front (xs ++ x ∷ []) ≡ true → (clear_front xs ≡ true) × (is_empty_code x ≡ true → list_any is_written xs ≡ true)
+clear_snoc [] x h = (refl, λ e. absurd (at e (by_cases (is_written x)))) where
+  at : is_empty_code x ≡ true → (is_written x ≡ true) ⊎ (is_written x ≡ false) → ⊥
   at e (inl i) = empty_plain x e i
   at e (inr i) = let no : false ≡ true = rw (i, e) at h in cc
-clear_snoc (y ∷ xs) x h = at (by_cases (is_inked_event y)) (by_cases (is_empty_code y)) (clear_snoc xs x) where
-  at : (is_inked_event y ≡ true) ⊎ (is_inked_event y ≡ false) → (is_empty_code y ≡ true) ⊎ (is_empty_code y ≡ false)
-      → (clear_front (xs ++ x ∷ []) ≡ true → (clear_front xs ≡ true) × (is_empty_code x ≡ true → list_any is_inked_event xs ≡ true))
-      → (clear_front (y ∷ xs) ≡ true) × (is_empty_code x ≡ true → list_any is_inked_event (y ∷ xs) ≡ true)
+clear_snoc (y ∷ xs) x h = at (by_cases (is_written y)) (by_cases (is_empty_code y)) (clear_snoc xs x) where
+  at : (is_written y ≡ true) ⊎ (is_written y ≡ false) → (is_empty_code y ≡ true) ⊎ (is_empty_code y ≡ false)
+      → (clear_front (xs ++ x ∷ []) ≡ true → (clear_front xs ≡ true) × (is_empty_code x ≡ true → list_any is_written xs ≡ true))
+      → (clear_front (y ∷ xs) ≡ true) × (is_empty_code x ≡ true → list_any is_written (y ∷ xs) ≡ true)
   at (inl i) e ih = (rw i refl, λ t. rw i refl)
   at (inr i) (inl e) ih = let no : false ≡ true = rw (i, e) at h in absurd cc
   at (inr i) (inr e) ih = let rest : clear_front (xs ++ x ∷ []) ≡ true = rw (i, e) at h in (rw (i, e) (ih rest).0, λ t. rw i ((ih rest).1 t))
 
 clear_begins : (events : List Event) → BeginsClear events → clear_front events ≡ true
 clear_begins [] h = refl
-clear_begins (x ∷ xs) h = at (by_cases (is_inked_event x)) (by_cases (is_empty_code x)) (clear_begins xs) where
+clear_begins (x ∷ xs) h = at (by_cases (is_written x)) (by_cases (is_empty_code x)) (clear_begins xs) where
   step : (k : ℕ) → take (1 + k) (x ∷ xs) ≡ x ∷ take k xs
   step k = let s : 1 + k ≡ suc k = omega arith in rw s refl
 
-  at : (is_inked_event x ≡ true) ⊎ (is_inked_event x ≡ false) → (is_empty_code x ≡ true) ⊎ (is_empty_code x ≡ false) → (BeginsClear xs → clear_front xs ≡ true) → clear_front (x ∷ xs) ≡ true
+  at : (is_written x ≡ true) ⊎ (is_written x ≡ false) → (is_empty_code x ≡ true) ⊎ (is_empty_code x ≡ false) → (BeginsClear xs → clear_front xs ≡ true) → clear_front (x ∷ xs) ≡ true
   at (inl i) e ih = rw i refl
   at (inr i) e ih =
-      let g : not (list_any is_empty_code (take (1 + position_or_len is_inked_event xs) (x ∷ xs))) ≡ true = rw i at h in
-      let s : not (is_empty_code x || list_any is_empty_code (before_first is_inked_event xs)) ≡ true = subst (λ ys. not (list_any is_empty_code ys) ≡ true) (step (position_or_len is_inked_event xs)) g in
+      let g : not (list_any is_empty_code (take (1 + position_or_len is_written xs) (x ∷ xs))) ≡ true = rw i at h in
+      let s : not (is_empty_code x || list_any is_empty_code (before_first is_written xs)) ≡ true = subst (λ ys. not (list_any is_empty_code ys) ≡ true) (step (position_or_len is_written xs)) g in
       rw i (both e s ih) where
-        both : (is_empty_code x ≡ true) ⊎ (is_empty_code x ≡ false) → not (is_empty_code x || list_any is_empty_code (before_first is_inked_event xs)) ≡ true → (BeginsClear xs → clear_front xs ≡ true)
+        both : (is_empty_code x ≡ true) ⊎ (is_empty_code x ≡ false) → not (is_empty_code x || list_any is_empty_code (before_first is_written xs)) ≡ true → (BeginsClear xs → clear_front xs ≡ true)
             → (not (is_empty_code x) && clear_front xs) ≡ true
         both (inl e) s ih = let no : false ≡ true = rw e at s in absurd cc
-        both (inr e) s ih = let rest : not (list_any is_empty_code (before_first is_inked_event xs)) ≡ true = rw e at s in rw e (ih rest)
+        both (inr e) s ih = let rest : not (list_any is_empty_code (before_first is_written xs)) ≡ true = rw e at s in rw e (ih rest)
 
-ink_events : (r : List Stretch) → list_any is_inked_stretch r ≡ list_any is_inked_event (events_back r)
-ink_events [] = refl
-ink_events (Gap b ∷ r) = ink_events r
-ink_events (Placed e ∷ r) = any_one (is_inked (chunk_at e)) (ink_events r) where
-  any_one : (b : Bool) → list_any is_inked_stretch r ≡ list_any is_inked_event (events_back r) → ((b || false) || list_any is_inked_stretch r) ≡ (b || list_any is_inked_event (events_back r))
-  any_one true e = refl
-  any_one false e = e
-ink_events (Passed event ∷ r) = any_one (is_inked_event event) (ink_events r) where
-  any_one : (b : Bool) → list_any is_inked_stretch r ≡ list_any is_inked_event (events_back r) → ((b || false) || list_any is_inked_stretch r) ≡ (b || list_any is_inked_event (events_back r))
-  any_one true e = refl
-  any_one false e = e
-
-clear_next : (earlier : List Next) (before : State) (next : Next) → events_back before.back ≡ reverse (map next_event earlier)
-    → (is_empty_code (next_event next) ≡ true → list_any is_inked_event (map next_event earlier) ≡ true) → IsClear before next
-clear_next earlier before (raw p) events h = λ t. ink_events before.back ∙ ap (λ es. list_any is_inked_event es) events ∙ any_turned is_inked_event (map next_event earlier) ∙ h t
-clear_next earlier before (break k chunk) events h = tt
-clear_next earlier before (mark event level) events h = tt
+clear_next : (before : State) (next : Next) → (is_empty_code (next_event next) ≡ true → has_text before.back ≡ true) → IsClear before next
+clear_next before (raw p) h = h
+clear_next before (break k chunk) h = tt
+clear_next before (mark event level) h = tt
 
 module _ {width : ℕ} {margin_of : ℕ → ℕ} {clear : State → Next → Type 0} where
   pub written_base : {nexts : List Next} {st : State} → Written width margin_of clear nexts st → Base width st
   written_base (nothing e s) = subst (Base width) (sym s) (base_blank width)
   written_base (more earlier before next e w suits c g) = base_grows suits g (written_base w)
 
+  -- a page has text once something was written
+  written_text : {nexts : List Next} {st : State} → Written width margin_of clear nexts st → list_any is_written (map next_event nexts) ≡ true → has_text st.back ≡ true
+  written_text (nothing e s) h = let no : false ≡ true = subst (λ ns. list_any is_written (map next_event ns) ≡ true) e h in absurd cc
+  written_text {nexts} {st} (more earlier before next e w suits c g) h = at (or_true (list_any is_written (map next_event earlier)) (is_written (next_event next)) last) (written_text w) where
+    last : (list_any is_written (map next_event earlier) || (is_written (next_event next) || false)) ≡ true
+    last = sym (ap (λ ns. list_any is_written (map next_event ns)) e ∙ ap (list_any is_written) (map_snoc earlier next) ∙ list_any-append is_written (map next_event earlier) (next_event next ∷ [])) ∙ h
+
+    or_true : (a b : Bool) → (a || (b || false)) ≡ true → (a ≡ true) ⊎ (b ≡ true)
+    or_true true b h = inl refl
+    or_true false true h = inr refl
+    or_true false false h = absurd cc
+
+    at : (list_any is_written (map next_event earlier) ≡ true) ⊎ (is_written (next_event next) ≡ true) → (list_any is_written (map next_event earlier) ≡ true → has_text before.back ≡ true) → has_text st.back ≡ true
+    at (inl t) ih = text_stays g (ih t)
+    at (inr t) ih = text_written suits g t
+
   pub written_clearly : {nexts : List Next} {st : State} → width < 1_000_000 → Written width margin_of clear nexts st → clear_front (map next_event nexts) ≡ true → Clearly width margin_of st
   written_clearly small (nothing e s) h = subst (Clearly width margin_of) (sym s) (clearly_blank width margin_of)
   written_clearly small (more earlier before next e w suits c g) h =
       let parts : clear_front (map next_event earlier ++ next_event next ∷ []) ≡ true = subst (λ es. clear_front es ≡ true) (ap (λ ns. map next_event ns) e ∙ map_snoc earlier next) h in
-      let both : (clear_front (map next_event earlier) ≡ true) × (is_empty_code (next_event next) ≡ true → list_any is_inked_event (map next_event earlier) ≡ true) =
+      let both : (clear_front (map next_event earlier) ≡ true) × (is_empty_code (next_event next) ≡ true → list_any is_written (map next_event earlier) ≡ true) =
       clear_snoc (map next_event earlier) (next_event next) parts in
-      clearly_grows small suits (clear_next earlier before next (written_events w) both.1) g (written_base w) (written_clearly small w both.0)
+      clearly_grows small suits (clear_next before next (λ t. written_text w (both.1 t))) g (written_base w) (written_clearly small w both.0)
 
 -- ---- the bound
 
@@ -550,6 +555,9 @@ module _ (width : ℕ) (document : List Part) (st : State) (final : List Stretch
       at before (inr h) =
           inr (padding_is before ∙ h.0, ap (λ ys. list_any opens_body (events_of (after_last is_placed ys))) (sym (reverse-reverse before)) ∙ body_turned (reverse before) ∙ h.1)
 
+    alone_law : StandsAlone stretches
+    alone_law = λ before between after e f s whole. sym (any_turned is_newline between) ∙ law_at AloneBefore clearly.alone before between after e f s (reverse between) (reverse before) e refl whole
+
 -- ---- the whole
 
 more_than_widest : (xs : List ℕ) (a : ℕ) → a ≤ fold max a xs
@@ -619,6 +627,7 @@ layout_of_page document full width nexts st final w events shallow ends same = r
   needed = λ small clear. needed_law width document st final ends base (clearly small clear);
   fits = λ small clear. fits_law width document st final ends base (clearly small clear);
   padded = λ small clear. padded_law width document st final ends base (clearly small clear);
+  alone = λ small clear. alone_law width document st final ends base (clearly small clear);
   bound = λ small refs. bounded small refs;
 } where
   base : Base width st

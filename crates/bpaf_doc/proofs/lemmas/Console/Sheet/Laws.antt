@@ -26,9 +26,9 @@ use Rattle.bpaf_doc.proofs.lemmas.Splitter.Ink.{ink-nil, ink-append, ink_before_
 use Rattle.bpaf_doc.proofs.lemmas.Console.Layout.Blank.{text_back, text_back_cons}
 use Rattle.bpaf_doc.proofs.lemmas.Console.Layout.Split.{events_back}
 use Rattle.bpaf_doc.proofs.lemmas.Console.Layout.State.{IsLegible}
-use Rattle.bpaf_doc.proofs.lemmas.Console.Layout.Text.{EachPassed, NoInk}
+use Rattle.bpaf_doc.proofs.lemmas.Console.Layout.Text.{EachPassed, NoInk, next_event}
 use Rattle.bpaf_doc.proofs.lemmas.Console.Layout.Turned.{reverse_cons}
-use Rattle.bpaf_doc.proofs.lemmas.Console.Layout.Whole.{next_event, written_base, written_events}
+use Rattle.bpaf_doc.proofs.lemmas.Console.Layout.Whole.{written_base, written_events}
 use Rattle.bpaf_doc.proofs.lemmas.Console.Margins.{shifted, stack_after, stack_at}
 use Rattle.bpaf_doc.proofs.lemmas.Console.Layout.Stretches.{text_utf8, trim_ink}
 use Rattle.bpaf_doc.proofs.lemmas.Console.Sheet.Exact.{text-page}

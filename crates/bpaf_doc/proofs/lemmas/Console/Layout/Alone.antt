@@ -1,0 +1,93 @@
+-- Behind a code or fence line a newline comes before the next place.
+use Rattle.std.specs.Prelude.{◌≡◌, ℕ, ◌<◌, ◌≤◌, true, false, ◌||◌, ◌==◌, List, [], ◌∷◌, ◌++◌, refl, ◌⊎◌}
+use Rattle.std.proofs.Common.{sym, subst, ap, arith, inl, inr, ◌∙◌}
+use Rattle.std.proofs.lemmas.Bool.Decides.{nat_tests}
+use Rattle.bpaf_doc.specs.Splitter.Chunks.{is_whole_line, code_weight, fence_weight}
+use Rattle.bpaf_doc.specs.Console.Layout.{Shows, Stretch, Gap, Placed, Passed, Place, chunk_at, is_placed}
+use Rattle.bpaf_doc.proofs.lemmas.Console.Layout.State.{State, Piece, Lines, none_asked, line_there, line_put, blank_there, second_put, both_put, Begins, first, stays, wraps, places, drops, Next, Grows, placing, breaking, passing, padded, trimmed, put}
+use Rattle.bpaf_doc.proofs.lemmas.Console.Layout.Back.{by_cases, EachPlace, each_grows, place_of}
+use Rattle.bpaf_doc.proofs.lemmas.Console.Layout.Text.{IsStarting, has_place, or_true_right}
+use Rattle.bpaf_doc.proofs.lemmas.Console.Layout.Split.{Cut, FirstOrLater, here, later, cut_cons, AfterGap, cut_gap, AfterPassed, cut_passed, AfterPads, cut_padded, has_newline, newline_padded}
+
+-- ---- helpers
+
+heavy_weight : (weight : ℕ) → ((weight == code_weight) || (weight == fence_weight)) ≡ true → 1_000_000 ≤ weight
+heavy_weight weight h = grind (arith, nat_tests)
+
+-- a page cut at a place has a place
+pub place_in : (m before : List Stretch) (e : Place) → has_place (m ++ Placed e ∷ before) ≡ true
+place_in [] before e = refl
+place_in (x ∷ m) before e = or_true_right (is_placed x) (has_place (m ++ Placed e ∷ before)) (place_in m before e)
+
+-- what was asked for left the page as it was, or put a newline at its end
+pub data SameOrLine (st mid : State) : Type 0 where
+  same_page : mid ≡ st → SameOrLine st mid
+  new_line : (rest : List Stretch) → mid.back ≡ Gap 10 ∷ rest → SameOrLine st mid
+
+pub lines_same_or_line : {st mid : State} → Lines st mid → SameOrLine st mid
+lines_same_or_line (none_asked a e) = same_page e
+lines_same_or_line (line_there a b e) = same_page e
+lines_same_or_line {st} (line_put a e) = new_line st.back (ap (λ (s : State). s.back) e)
+lines_same_or_line (blank_there a b e) = same_page e
+lines_same_or_line {st} (second_put a b e) = new_line st.back (ap (λ (s : State). s.back) e)
+lines_same_or_line {st} (both_put a e) = new_line (Gap 10 ∷ st.back) (ap (λ (s : State). s.back) e)
+
+-- a newline at the end stands after each place
+pub line_since : (r rest m before : List Stretch) (e : Place) → r ≡ Gap 10 ∷ rest → Cut r m e before → has_newline m ≡ true
+line_since r rest m before e is there =
+    let found : AfterGap 10 rest m e before = cut_gap 10 rest m e before (subst (λ x. Cut x m e before) is there) in
+    ap has_newline found.is
+
+-- ---- the column behind a code line
+
+-- behind a code or fence line the column is at least its weight
+abbrev pub IsHeavy : State → Type 0
+IsHeavy st = (m before : List Stretch) (e : Place) → Cut st.back m e before → is_whole_line (chunk_at e) ≡ true → has_newline m ≡ false → 1_000_000 ≤ st.column
+
+abbrev pub AloneBefore : List Stretch → Place → Type 0
+AloneBefore r f = (m before : List Stretch) (e : Place) → Cut r m e before → is_whole_line (chunk_at e) ≡ true → has_newline m ≡ true
+
+alone_begins : {width : ℕ} {st : State} (p : Piece) (base : State) → width < 1_000_000 → IsStarting st → IsHeavy st → Begins width st p base → AloneBefore base.back (place_of p)
+alone_begins {st = st} p base small start h (first t s) = λ m before e there whole.
+    let none : has_place st.back ≡ false = (start t).1 in
+    let some : has_place st.back ≡ true = subst (λ x. has_place x ≡ true) (sym there ∙ ap (λ (y : State). y.back) s) (place_in m before e) in absurd cc
+alone_begins {width} {st} p base small start h (stays t l w) = λ m before e there whole. at m before e there whole (lines_same_or_line l) (by_cases (has_newline m)) where
+  at : (m before : List Stretch) (e : Place) → Cut base.back m e before → is_whole_line (chunk_at e) ≡ true → SameOrLine st base → (has_newline m ≡ true) ⊎ (has_newline m ≡ false) → has_newline m ≡ true
+  at m before e there whole kind (inl n) = n
+  at m before e there whole (new_line rest is) (inr n) = line_since base.back rest m before e is there
+  at m before e there whole (same_page s) (inr n) =
+      let far : 1_000_000 ≤ st.column = h m before e (subst (λ (x : State). Cut x.back m e before) s there) whole n in
+      let same : base.column ≡ st.column = ap (λ (x : State). x.column) s in absurd (omega arith)
+alone_begins p base small start h (wraps t mid l w b s) = λ m before e there whole. line_since base.back (trimmed mid.back) m before e (ap (λ (x : State). x.back) s) there
+
+alone_padded : (n : ℕ) (r : List Stretch) (f : Place) → AloneBefore r f → AloneBefore (padded n r) f
+alone_padded n r f h = λ m before e there whole.
+    let found : AfterPads n r m e before = cut_padded n r m e before there in
+    ap has_newline found.is ∙ newline_padded n found.rest ∙ h found.rest before e found.there whole
+
+heavy_put : (p : Piece) (base : State) (n : ℕ) → AloneBefore (padded n base.back) (place_of p) → IsHeavy (put n p.part p.bytes p.weight base)
+heavy_put p base n alone = λ m before e there whole none. at m before e whole none (cut_cons (Placed (place_of p)) (padded n base.back) m e before there) where
+  at : (m before : List Stretch) (e : Place) → is_whole_line (chunk_at e) ≡ true → has_newline m ≡ false → FirstOrLater (Placed (place_of p)) (padded n base.back) m e before
+      → 1_000_000 ≤ (put n p.part p.bytes p.weight base).column
+  at m before e whole none (here is x r) =
+      let same : place_of p ≡ e = cc in
+      let weight : 1_000_000 ≤ p.weight = heavy_weight p.weight (subst (λ (y : Place). is_whole_line (chunk_at y) ≡ true) (sym same) whole) in omega arith
+  at m before e whole none (later rest is there) =
+      let line : has_newline m ≡ true = ap has_newline is ∙ alone rest before e there whole in absurd cc
+
+pub heavy_grows : {width : ℕ} {st after : State} {next : Next} → width < 1_000_000 → IsStarting st → Grows width st next after → IsHeavy st → IsHeavy after
+heavy_grows small start (placing p e (places base n b d a)) h = subst IsHeavy (sym a) (heavy_put p base n (alone_padded n base.back (place_of p) (alone_begins p base small start h b)))
+heavy_grows small start (placing p e (drops t mid l w b a)) h = subst IsHeavy (sym a) (λ m before g there whole none.
+    let found : AfterPassed _ (Gap 10 ∷ trimmed mid.back) m g before = cut_passed _ (Gap 10 ∷ trimmed mid.back) m g before there in
+    let line : has_newline m ≡ true = ap has_newline found.is ∙ line_since (Gap 10 ∷ trimmed mid.back) (trimmed mid.back) found.rest before g refl found.there in absurd cc)
+heavy_grows {st = st} small start (breaking k chunk e a) h = subst IsHeavy (sym a) (λ m before g there whole none.
+    let line : has_newline m ≡ true = line_since (Gap 10 ∷ Passed (Shows k chunk) ∷ st.back) (Passed (Shows k chunk) ∷ st.back) m before g refl there in absurd cc)
+heavy_grows {st = st} small start (passing event margin e a) h = subst IsHeavy (sym a) (λ m before g there whole none.
+    let found : AfterPassed event st.back m g before = cut_passed event st.back m g before there in
+    let bare : has_newline found.rest ≡ false = sym (ap has_newline found.is) ∙ none in
+    let far : 1_000_000 ≤ st.column = h found.rest before g found.there whole bare in omega arith)
+
+-- ---- the law
+
+pub alone_grows : {width : ℕ} {st after : State} {next : Next} → width < 1_000_000 → IsStarting st → IsHeavy st → Grows width st next after → EachPlace AloneBefore st.back → EachPlace AloneBefore after.back
+alone_grows small start h g all = each_grows AloneBefore (λ r f i x. x) (λ p base n e b d. alone_padded n base.back (place_of p) (alone_begins p base small start h b)) g all
