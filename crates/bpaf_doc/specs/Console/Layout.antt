@@ -275,16 +275,6 @@ abbrev pub IsBounded : List Part → ℕ → List Stretch → Type 0
 IsBounded document width stretches =
     All (λ line. sum_by stretch_columns line ≤ greatest_margin document + 2 + max width (widest (events_of stretches))) (stretch_lines stretches)
 
--- an event without a place
-abbrev pub is_passed : Stretch → Bool
-is_passed (Passed event) = true
-is_passed _ = false
-
--- a chunk that stands directly after another, with no byte outside the places between them, ends at most at the width
-abbrev pub FitsWidth : ℕ → List Stretch → Type 0
-FitsWidth width stretches = (before between after : List Stretch) (e f : Place) → stretches ≡ before ++ Placed e ∷ (between ++ Placed f ∷ after)
-    → IsTrue (list_all is_passed between) → column (before ++ Placed e ∷ between) + columns f.bytes ≤ width
-
 -- a chunk in a place
 abbrev pub is_placed : Stretch → Bool
 is_placed (Placed e) = true
@@ -295,19 +285,39 @@ abbrev pub is_gap : Stretch → Bool
 is_gap (Gap b) = true
 is_gap _ = false
 
+-- how many bytes outside the places stand in the line since the last place
+abbrev pub padding : List Stretch → ℕ
+padding before = count_by is_gap (after_last is_placed (line_before before))
+
+-- a chunk in a place, or a mark of TermRef with its backquote
+abbrev pub holds_line : Stretch → Bool
+holds_line (Gap b) = false
+holds_line (Placed e) = true
+holds_line (Passed event) = is_ref event
+
+-- A chunk with a place or a backquote before it in its line fits: with its columns, the column where the blanks that are added
+-- before it begin is at most the width.
+abbrev pub FitsWidth : ℕ → List Stretch → Type 0
+FitsWidth width stretches = (before after : List Stretch) (f : Place) → stretches ≡ before ++ Placed f ∷ after
+    → IsTrue (list_any holds_line (line_before before)) → column before + columns f.bytes ≤ width + padding before
+
 -- a start of ItemBody
 abbrev pub opens_body : Event → Bool
 opens_body (Opens blocks.ItemBody) = true
 opens_body _ = false
 
--- how many bytes outside the places stand in the line since the last place
-abbrev pub padding : List Stretch → ℕ
-padding before = count_by is_gap (after_last is_placed (line_before before))
+-- blanks outside the places, and then a place
+abbrev pub leads_to_place : List Stretch → Bool
+leads_to_place (Placed e ∷ after) = true
+leads_to_place (Gap b ∷ after) = (b == 32) && leads_to_place after
+leads_to_place _ = false
 
--- blanks are added only up to the margin, or two of them after an ItemBody start
-abbrev pub PadsToMargin : List Part → List Stretch → Type 0
-PadsToMargin document stretches = (before after : List Stretch) (f : Place) → stretches ≡ before ++ Placed f ∷ after → 0 < padding before
-    → (column before ≡ margin document f.part) ⊎ ((padding before ≡ 2) × IsTrue (list_any opens_body (events_of (after_last is_placed before))))
+-- Blanks are added only up to the margin, or two of them after an ItemBody start; and only before a place, so that no line ends
+-- in added blanks.
+pub record PadsToMargin (document : List Part) (stretches : List Stretch) : Type 0 where
+  pub up_to_margin : (before after : List Stretch) (f : Place) → stretches ≡ before ++ Placed f ∷ after → 0 < padding before
+      → (column before ≡ margin document f.part) ⊎ ((padding before ≡ 2) × IsTrue (list_any opens_body (events_of (after_last is_placed before))))
+  pub before_place : (before after : List Stretch) → stretches ≡ before ++ Gap 32 ∷ after → IsTrue (leads_to_place after)
 
 -- nothing stands in its line behind a code or fence line: a newline comes before the next place
 abbrev pub StandsAlone : List Stretch → Type 0

@@ -1,13 +1,22 @@
 -- Texts that are no layout of their document, whatever their placing: what each law refuses.
-use Rattle.std.specs.Prelude.{◌≡◌, ℕ, Bool, true, false, not, ◌||◌, ◌==◌, List, [], ◌∷◌, ◌++◌, codes, refl}
+use Rattle.std.specs.Prelude.{◌≡◌, ℕ, ◌+◌, ◌≤◌, Bool, true, false, not, ◌&&◌, ◌||◌, ◌==◌, List, [], ◌∷◌, ◌++◌, codes, reverse, refl, ◌⊎◌}
 use Rattle.std.specs.List.{list_any}
-use Rattle.std.proofs.Common.{sym, subst, ap, arith, ◌∙◌}
+use Rattle.std.proofs.Common.{sym, subst, ap, arith, inl, inr, ◌∙◌, append_assoc}
+use Rattle.std.proofs.lemmas.Bool.Decides.{nat_tests}
+use Rattle.std.proofs.lemmas.List.{reverse-append, reverse-reverse}
 use Rattle.std.proofs.lemmas.List.Folds.{list_any-append}
 use Rattle.std.proofs.lemmas.Grind.{flat_map-append}
+use Rattle.bpaf_doc.specs.declared.buffer.Block.TheVariants as block
 use Rattle.bpaf_doc.specs.Buffer.Parts.{Part}
-use Rattle.bpaf_doc.specs.Splitter.Chunks.{Chunk, Raw, code_weight, is_whole_line}
-use Rattle.bpaf_doc.specs.Console.Layout.{Event, Shows, Stretch, Gap, Placed, Passed, Place, chunk_at, text_of, events_of, stretch_bytes, stretch_events, shown_events, is_newline, is_inked_event, MayStand, BeginsClear, IsLayout}
-use Rattle.bpaf_doc.proofs.lemmas.Console.Rows.{computed, words}
+use Rattle.bpaf_doc.specs.Splitter.Chunks.{Chunk, Raw, columns, code_weight, is_inked, is_whole_line, starts}
+use Rattle.bpaf_doc.specs.Console.Margin.{margin}
+use Rattle.bpaf_doc.specs.Console.Layout.{Event, Shows, Opens, Closes, Stretch, Gap, Placed, Passed, Place, chunk_at, text_of, events_of, stretch_bytes, stretch_events, shown_events, is_newline, is_inked_event, column, padding, line_before, holds_line, leads_to_place, MayStand, BeginsClear, IsLayout}
+use Rattle.bpaf_doc.proofs.lemmas.Console.Layout.Columns.{column_back, any_in_line}
+use Rattle.bpaf_doc.proofs.lemmas.Console.Layout.Text.{or_true_right, or_false_left, or_false_right}
+use Rattle.bpaf_doc.proofs.lemmas.Console.Layout.Pads.{pads_back}
+use Rattle.bpaf_doc.proofs.lemmas.Console.Layout.Split.{has_newline}
+use Rattle.bpaf_doc.proofs.lemmas.Console.Layout.Turned.{reverse_cons, any_turned, line_turned, column_turned, padding_turned}
+use Rattle.bpaf_doc.proofs.lemmas.Console.Rows.{computed, words, inside}
 
 -- ---- where an inked chunk stands
 
@@ -111,36 +120,22 @@ line_breaks (x ∷ xs) h = list_any-append (λ b. b == 10) (stretch_bytes x) (te
     each : (t : Bool) → (t || list_any is_newline xs) ≡ true → ((t || false) || breaks (text_of xs)) ≡ true
     each true h = refl
     each false h = ih h
-  at (Placed e) h ih = or_right (breaks e.shown) (ih h) where
-    or_right : (t : Bool) → breaks (text_of xs) ≡ true → (t || breaks (text_of xs)) ≡ true
-    or_right true h = refl
-    or_right false h = h
-  at (Passed event) h ih = or_right (breaks (stretch_bytes (Passed event))) (ih h) where
-    or_right : (t : Bool) → breaks (text_of xs) ≡ true → (t || breaks (text_of xs)) ≡ true
-    or_right true h = refl
-    or_right false h = h
+  at (Placed e) h ih = or_true_right (breaks e.shown) (breaks (text_of xs)) (ih h)
+  at (Passed event) h ih = or_true_right (breaks (stretch_bytes (Passed event))) (breaks (text_of xs)) (ih h)
 
 -- what stands between two places of a text without a newline has none
 no_line : (before between after : List Stretch) (e f : Place) (text : List ℕ) → text_of (before ++ Placed e ∷ (between ++ Placed f ∷ after)) ≡ text → breaks text ≡ false
     → list_any is_newline between ≡ false
 no_line before between after e f text s none =
-    or_left (list_any is_newline between) (list_any is_newline (Placed f ∷ after)) (
+    or_false_left (list_any is_newline between) (list_any is_newline (Placed f ∷ after)) (
     sym (list_any-append is_newline between (Placed f ∷ after))
-    ∙ or_right (list_any is_newline before) (list_any is_newline (between ++ Placed f ∷ after)) (sym (list_any-append is_newline before (Placed e ∷ (between ++ Placed f ∷ after))) ∙ all)
+    ∙ or_false_right (list_any is_newline before) (list_any is_newline (between ++ Placed f ∷ after)) (sym (list_any-append is_newline before (Placed e ∷ (between ++ Placed f ∷ after))) ∙ all)
     ) where
       all : list_any is_newline (before ++ Placed e ∷ (between ++ Placed f ∷ after)) ≡ false
       all = at (list_any is_newline (before ++ Placed e ∷ (between ++ Placed f ∷ after))) (line_breaks (before ++ Placed e ∷ (between ++ Placed f ∷ after))) where
         at : (t : Bool) → (t ≡ true → breaks (text_of (before ++ Placed e ∷ (between ++ Placed f ∷ after))) ≡ true) → t ≡ false
         at true h = let some : breaks text ≡ true = sym (ap breaks s) ∙ h refl in absurd cc
         at false h = refl
-
-      or_left : (a b : Bool) → (a || b) ≡ false → a ≡ false
-      or_left true b h = absurd cc
-      or_left false b h = refl
-
-      or_right : (a b : Bool) → (a || b) ≡ false → b ≡ false
-      or_right true b h = absurd cc
-      or_right false b h = h
 
 -- ---- the premise
 
@@ -174,3 +169,141 @@ word_behind_code layout =
     cc where
       code : (e : Place) → Shows e.part (chunk_at e) ≡ Shows 0 (Raw (codes "c") code_weight) → is_whole_line (chunk_at e) ≡ true
       code e s = let same : chunk_at e ≡ Raw (codes "c") code_weight = cc in subst (λ (c : Chunk). is_whole_line c ≡ true) (sym same) refl
+
+-- ---- a chunk behind another in its line
+
+held_back : (m before : List Stretch) (e : Place) → has_newline m ≡ false → any_in_line holds_line (m ++ Placed e ∷ before) ≡ true
+held_back [] before e n = refl
+held_back (x ∷ m) before e n =
+    let first : is_newline x ≡ false = or_false_left (is_newline x) (has_newline m) n in
+    let rest : any_in_line holds_line (m ++ Placed e ∷ before) ≡ true = held_back m before e (or_false_right (is_newline x) (has_newline m) n) in
+    rw first (or_true_right (holds_line x) (any_in_line holds_line (m ++ Placed e ∷ before)) rest)
+
+-- the column is past that chunk and the blanks since
+past_back : (m before : List Stretch) (e : Place) → has_newline m ≡ false
+    → column_back before + columns e.bytes + pads_back (m ++ Placed e ∷ before) ≤ column_back (m ++ Placed e ∷ before)
+past_back [] before e n = omega arith
+past_back (x ∷ m) before e n = at x (or_false_left (is_newline x) (has_newline m) n) (past_back m before e (or_false_right (is_newline x) (has_newline m) n)) where
+  at : (x : Stretch) → is_newline x ≡ false → column_back before + columns e.bytes + pads_back (m ++ Placed e ∷ before) ≤ column_back (m ++ Placed e ∷ before)
+      → column_back before + columns e.bytes + pads_back (x ∷ (m ++ Placed e ∷ before)) ≤ column_back (x ∷ (m ++ Placed e ∷ before))
+  at (Gap b) f ih = rw f (omega arith)
+  at (Placed g) f ih = omega arith
+  at (Passed event) f ih = omega arith
+
+record Behind (before between : List Stretch) (e : Place) : Type 0 where
+  holds : list_any holds_line (line_before (before ++ Placed e ∷ between)) ≡ true
+  past : column before + columns e.bytes + padding (before ++ Placed e ∷ between) ≤ column (before ++ Placed e ∷ between)
+
+behind : (before between : List Stretch) (e : Place) → list_any is_newline between ≡ false → Behind before between e
+behind before between e none = record {
+  holds = ap (λ xs. list_any holds_line (line_before xs)) (sym turned) ∙ line_turned holds_line (reverse between ++ Placed e ∷ reverse before) ∙ held_back (reverse between) (reverse before) e bare;
+  past =
+      let at : column_back (reverse before) + columns e.bytes + pads_back (reverse between ++ Placed e ∷ reverse before) ≤ column_back (reverse between ++ Placed e ∷ reverse before) =
+      past_back (reverse between) (reverse before) e bare in
+      let first : column before ≡ column_back (reverse before) = ap column (sym (reverse-reverse before)) ∙ column_turned (reverse before) in
+      let second : column (before ++ Placed e ∷ between) ≡ column_back (reverse between ++ Placed e ∷ reverse before) = ap column (sym turned) ∙ column_turned (reverse between ++ Placed e ∷ reverse before) in
+      let pads : padding (before ++ Placed e ∷ between) ≡ pads_back (reverse between ++ Placed e ∷ reverse before) = ap padding (sym turned) ∙ padding_turned (reverse between ++ Placed e ∷ reverse before) in
+      omega arith;
+} where
+  turned : reverse (reverse between ++ Placed e ∷ reverse before) ≡ before ++ Placed e ∷ between
+  turned =
+      reverse-append (reverse between) (Placed e ∷ reverse before) ∙ ap (λ xs. xs ++ reverse (reverse between)) (reverse_cons (Placed e) (reverse before))
+      ∙ ap (λ xs. (xs ++ Placed e ∷ []) ++ reverse (reverse between)) (reverse-reverse before) ∙ ap (λ xs. (before ++ Placed e ∷ []) ++ xs) (reverse-reverse between)
+      ∙ append_assoc before (Placed e ∷ []) between
+
+  bare : has_newline (reverse between) ≡ false
+  bare = any_turned is_newline between ∙ none
+
+-- ---- an item's body that never wraps
+
+abbrev term_and_body : List Part
+term_and_body = inside block.ItemTerm (words (codes "a")) ++ inside block.ItemBody (words (codes "b"))
+
+bytes_of : (e : Place) (k : ℕ) (bytes : List ℕ) (weight : ℕ) → Shows e.part (chunk_at e) ≡ Shows k (Raw bytes weight) → e.bytes ≡ bytes
+bytes_of e k bytes weight s = cc
+
+part_of : (e : Place) (k : ℕ) (bytes : List ℕ) (weight : ℕ) → Shows e.part (chunk_at e) ≡ Shows k (Raw bytes weight) → e.part ≡ k
+part_of e k bytes weight s = cc
+
+-- fits
+body_past_the_width : IsLayout term_and_body true 5 (codes "    a  b") → ⊥
+unfolding computed
+body_past_the_width layout =
+    let two : TwoPlaced layout.stretches (Opens block.ItemTerm ∷ []) (Shows 1 (Raw (codes "a") 1)) (Closes block.ItemTerm ∷ (Opens block.ItemBody ∷ [])) (Shows 4 (Raw (codes "b") 1)) (Closes block.ItemBody ∷ []) =
+    two_placed layout.stretches layout.placing.each_stretch (Opens block.ItemTerm ∷ []) (Shows 1 (Raw (codes "a") 1)) (Closes block.ItemTerm ∷ (Opens block.ItemBody ∷ [])) (Shows 4 (Raw (codes "b") 1))
+    (Closes block.ItemBody ∷ []) layout.placing.all_events refl refl in
+    let none : list_any is_newline two.between ≡ false = no_line two.before two.between two.after two.e two.f (codes "    a  b") (sym (ap text_of two.order) ∙ layout.placing.whole_text) refl in
+    let line : Behind two.before two.between two.e = behind two.before two.between two.e none in
+    let past : column two.before + columns two.e.bytes + padding (two.before ++ Placed two.e ∷ two.between) ≤ column (two.before ++ Placed two.e ∷ two.between) = line.past in
+    let first : columns two.e.bytes ≡ 1 = ap columns (bytes_of two.e 1 (codes "a") 1 two.first_shows) in
+    let second : columns two.f.bytes ≡ 1 = ap columns (bytes_of two.f 4 (codes "b") 1 two.second_shows) in
+    let level : margin term_and_body two.e.part ≡ 4 = ap (λ (k : ℕ). margin term_and_body k) (part_of two.e 1 (codes "a") 1 two.first_shows) in
+    let inked : is_inked (chunk_at two.e) ≡ true = ap is_inked_event two.first_shows in
+    let least : margin term_and_body two.e.part ≤ column two.before = (layout.margin (omega arith) refl).at_least two.before (two.between ++ Placed two.f ∷ two.after) two.e two.order inked in
+    let cut : layout.stretches ≡ (two.before ++ Placed two.e ∷ two.between) ++ Placed two.f ∷ two.after = two.order ∙ sym (append_assoc two.before (Placed two.e ∷ two.between) (Placed two.f ∷ two.after)) in
+    let fits : column (two.before ++ Placed two.e ∷ two.between) + columns two.f.bytes ≤ 5 + padding (two.before ++ Placed two.e ∷ two.between) =
+    layout.fits (omega arith) refl (two.before ++ Placed two.e ∷ two.between) two.after two.f cut line.holds in
+    omega arith
+
+-- ---- a line filled with blanks
+
+no_place_left : (xs : List Stretch) → events_of xs ≡ [] → leads_to_place xs ≡ false
+no_place_left [] h = refl
+no_place_left (Gap b ∷ xs) h = both (b == 32) (no_place_left xs h) where
+  both : (t : Bool) → leads_to_place xs ≡ false → (t && leads_to_place xs) ≡ false
+  both true h = h
+  both false h = refl
+no_place_left (Placed e ∷ xs) h = absurd cc
+no_place_left (Passed event ∷ xs) h = absurd cc
+
+begins_with_a_line : (text : List ℕ) → starts text (codes "\n") ≡ true → breaks text ≡ true
+begins_with_a_line [] h = absurd cc
+begins_with_a_line (b ∷ text) h = let same : b ≡ 10 = ten b h in rw same refl where
+  ten : (b : ℕ) → starts (b ∷ text) (codes "\n") ≡ true → b ≡ 10
+  ten b h = grind (arith, nat_tests)
+
+-- in a text without a newline a place has its whole chunk
+place_is_whole : (before after : List Stretch) (e : Place) (text : List ℕ) → MayStand (Placed e) after → text_of (before ++ Placed e ∷ after) ≡ text → breaks text ≡ false → e.shown ≡ e.bytes
+place_is_whole before after e text (inl whole) s none = whole
+place_is_whole before after e text (inr cut) s none =
+    let line : breaks (text_of after) ≡ true = begins_with_a_line (text_of after) cut.1 in
+    let all : breaks (text_of (before ++ Placed e ∷ after)) ≡ true =
+    ap breaks (flat_map-append stretch_bytes before (Placed e ∷ after)) ∙ list_any-append (λ b. b == 10) (text_of before) (e.shown ++ text_of after)
+    ∙ or_true_right (breaks (text_of before)) (breaks (e.shown ++ text_of after)) (list_any-append (λ b. b == 10) e.shown (text_of after) ∙ or_true_right (breaks e.shown) (breaks (text_of after)) line) in
+    let no : true ≡ false = sym all ∙ ap breaks s ∙ none in absurd cc
+
+abbrev EachBlankLeads : List Stretch → Type 0
+EachBlankLeads stretches = (before after : List Stretch) → stretches ≡ before ++ Gap 32 ∷ after → leads_to_place after ≡ true
+
+no_ink_byte : (b : ℕ) → (b ≡ 32) ⊎ (b ≡ 10) → b ≡ 97 → ⊥
+no_ink_byte b (inl s) t = omega arith
+no_ink_byte b (inr s) t = omega arith
+
+-- the one word, and then blanks
+blanks_at_the_end : (stretches after : List Stretch) (e : Place) → EachBlankLeads stretches → stretches ≡ Placed e ∷ after → events_of after ≡ [] → codes "a" ++ text_of after ≡ codes "a  " → ⊥
+blanks_at_the_end stretches [] e leads s none text = cc
+blanks_at_the_end stretches (Gap b ∷ after) e leads s none text =
+    let same : b ≡ 32 = cc in
+    let some : leads_to_place after ≡ true = leads (Placed e ∷ []) after (s ∙ ap (λ (c : ℕ). Placed e ∷ (Gap c ∷ after)) same) in
+    let no : leads_to_place after ≡ false = no_place_left after none in cc
+blanks_at_the_end stretches (Placed g ∷ after) e leads s none text = cc
+blanks_at_the_end stretches (Passed event ∷ after) e leads s none text = cc
+
+word_then_blanks : (stretches before after : List Stretch) (e : Place) → EachMayStand stretches → EachBlankLeads stretches → stretches ≡ before ++ Placed e ∷ after → events_of before ≡ [] → events_of after ≡ []
+    → e.shown ≡ codes "a" → text_of (before ++ Placed e ∷ after) ≡ codes "a  " → ⊥
+word_then_blanks stretches [] after e stand leads s none rest shown text = blanks_at_the_end stretches after e leads s rest (ap (λ xs. xs ++ text_of after) (sym shown) ∙ text)
+word_then_blanks stretches (Gap b ∷ before) after e stand leads s none rest shown text =
+    let same : b ≡ 97 = cc in no_ink_byte b (stand [] (before ++ Placed e ∷ after) (Gap b) s) same
+word_then_blanks stretches (Placed g ∷ before) after e stand leads s none rest shown text = cc
+word_then_blanks stretches (Passed event ∷ before) after e stand leads s none rest shown text = cc
+
+-- padded
+line_filled_with_blanks : IsLayout (words (codes "a")) true 100 (codes "a  ") → ⊥
+unfolding computed
+line_filled_with_blanks layout =
+    let one : PlacedAt layout.stretches [] (Shows 0 (Raw (codes "a") 1)) [] =
+    placed_at layout.stretches layout.placing.each_stretch [] (Shows 0 (Raw (codes "a") 1)) [] layout.placing.all_events refl in
+    let text : text_of (one.before ++ Placed one.place ∷ one.after) ≡ codes "a  " = sym (ap text_of one.order) ∙ layout.placing.whole_text in
+    let shown : one.place.shown ≡ codes "a" =
+    place_is_whole one.before one.after one.place (codes "a  ") (layout.placing.each_stretch one.before one.after (Placed one.place) one.order) text refl ∙ bytes_of one.place 0 (codes "a") 1 one.shows in
+    word_then_blanks layout.stretches one.before one.after one.place layout.placing.each_stretch (layout.padded (omega arith) refl).before_place one.order one.events_before one.events_after shown text

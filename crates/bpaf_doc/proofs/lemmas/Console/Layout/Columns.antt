@@ -1,5 +1,5 @@
 -- The column of a page as it grows, and whether something is written.
-use Rattle.std.specs.Prelude.{◌≡◌, ℕ, zero, suc, ◌+◌, ◌<◌, ◌≤◌, true, false, not, ◌&&◌, ◌==◌, List, [], ◌∷◌, length, filter, chars, refl, if◌then◌else◌, ◌⊎◌}
+use Rattle.std.specs.Prelude.{◌≡◌, ℕ, zero, suc, ◌+◌, ◌<◌, ◌≤◌, Bool, true, false, not, ◌&&◌, ◌||◌, ◌==◌, List, [], ◌∷◌, length, filter, chars, refl, if◌then◌else◌, ◌⊎◌}
 use Rattle.std.specs.Str.{trim_end, drop_trailing_whitespace, chars, encode_utf8_all}
 use Rattle.std.specs.Char.{is_whitespace, is_not_whitespace}
 use Rattle.std.proofs.Common.{sym, subst, arith, inl, inr, ◌∙◌}
@@ -61,6 +61,11 @@ fills_begins b h = each_begins Fills fills_cut b h
 abbrev pub column_back : List Stretch → ℕ
 column_back [] = 0
 column_back (x ∷ r) = if is_newline x then 0 else (stretch_columns x + column_back r)
+
+-- one of the stretches of the last line
+abbrev pub any_in_line : (Stretch → Bool) → List Stretch → Bool
+any_in_line p [] = false
+any_in_line p (x ∷ r) = if is_newline x then false else (p x || any_in_line p r)
 
 pub column_padded : (n : ℕ) (r : List Stretch) → column_back (padded n r) ≡ n + column_back r
 column_padded zero r = omega arith

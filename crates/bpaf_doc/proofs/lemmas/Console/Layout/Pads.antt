@@ -1,47 +1,14 @@
--- Chunks that touch fit the width, and blanks are added only up to the margin or after a wide term.
-use Rattle.std.specs.Prelude.{◌≡◌, ℕ, zero, suc, ◌+◌, ◌<◌, ◌≤◌, Bool, true, false, ◌&&◌, ◌||◌, List, [], ◌∷◌, ◌++◌, refl, if◌then◌else◌, ◌⊎◌}
-use Rattle.std.specs.List.{list_all}
-use Rattle.std.proofs.Common.{sym, subst, arith, inl, inr, ◌∙◌}
-use Rattle.bpaf_doc.specs.Splitter.Chunks.{columns, has_some}
-use Rattle.bpaf_doc.specs.Console.Layout.{Stretch, Gap, Placed, Passed, Place, event_bytes, is_newline, is_placed, is_passed, is_gap, opens_body}
-use Rattle.bpaf_doc.proofs.lemmas.Console.Layout.State.{State, Piece, Lines, none_asked, line_there, line_put, blank_there, second_put, both_put, Pads, to_margin, after_term, Begins, first, stays, wraps, places, drops, Next, raw, Grows, placing, breaking, passing, padded, trimmed, passed, closes_body, Suits}
-use Rattle.bpaf_doc.proofs.lemmas.Console.Layout.Back.{by_cases, EachPlace, KeepsCut, each_grows, trimmed_bytes, trimmed_bare, place_of, fits_of}
-use Rattle.bpaf_doc.proofs.lemmas.Console.Layout.Columns.{Fills, column_back, column_padded, Agrees}
-use Rattle.bpaf_doc.proofs.lemmas.Console.Layout.Text.{IsStarting, has_place, begins_column, begins_margin, or_true_right}
-
--- ---- chunks that touch
-
-module _ (width : ℕ) where
-  -- a chunk that directly follows another ends at most at the width
-  abbrev pub Touches : List Stretch → Place → Type 0
-  Touches r f = (m r' : List Stretch) (e : Place) → r ≡ m ++ Placed e ∷ r' → list_all is_passed m ≡ true → column_back r + columns f.bytes ≤ width
-
-  touches_cut : KeepsCut Touches
-  touches_cut r f i h = h
-
-  place_in : (m r' : List Stretch) (e : Place) → has_place (m ++ Placed e ∷ r') ≡ true
-  place_in [] r' e = refl
-  place_in (x ∷ m) r' e = or_true_right (is_placed x) (has_place (m ++ Placed e ∷ r')) (place_in m r' e)
-
-  -- no chunk directly follows a blank or newline
-  after_gap : (b : ℕ) (r m r' : List Stretch) (e : Place) → Gap b ∷ r ≡ m ++ Placed e ∷ r' → list_all is_passed m ≡ true → ⊥
-  after_gap b r [] r' e h p = cc
-  after_gap b r (x ∷ m) r' e h p = let same : Gap b ≡ x = cc in let no : (is_passed (Gap b) && list_all is_passed m) ≡ true = subst (λ (y : Stretch). (is_passed y && list_all is_passed m) ≡ true) (sym same) p in cc
-
-  touches_place : {st : State} (p : Piece) (base : State) (n : ℕ) → width < 1_000_000 → EachPlace Fills st.back → IsStarting st → Agrees st
-      → Begins width st p base → Touches (padded n base.back) (place_of p)
-  touches_place p base (suc n) small f start h b = λ m r' e s a. absurd (after_gap 32 (padded n base.back) m r' e s a)
-  touches_place {st} p base zero small f start h (first t e) = λ m r' g s a.
-      let none : has_place base.back ≡ false = subst (λ (x : State). has_place x.back ≡ false) (sym e) (start t).1 in
-      let some : has_place base.back ≡ true = subst (λ x. has_place x ≡ true) (sym s) (place_in m r' g) in absurd cc
-  touches_place p base zero small f start h (stays t l w) = λ m r' g s a.
-      let here : base.column ≡ column_back base.back = begins_column {p = p} small f start h (stays t l w) in omega arith
-  touches_place p base zero small f start h (wraps t mid l w b e) = λ m r' g s a.
-      absurd (after_gap 10 (trimmed mid.back) m r' g (subst (λ (x : State). x.back ≡ m ++ Placed g ∷ r') e s) a)
-
-  pub touches_grows : {st after : State} {next : Next} → width < 1_000_000 → EachPlace Fills st.back → IsStarting st → Agrees st
-      → Grows width st next after → EachPlace Touches st.back → EachPlace Touches after.back
-  touches_grows {st} {after} {next} small f start agrees g h = each_grows Touches touches_cut (λ p base n e b d. touches_place p base n small f start agrees b) g h
+-- Chunks fit the width, and blanks are added only up to the margin or after a wide term, and before a place.
+use Rattle.std.specs.Prelude.{◌≡◌, ℕ, zero, suc, ◌+◌, ◌<◌, ◌≤◌, ⊤, Bool, true, false, ◌&&◌, ◌||◌, ◌==◌, List, [], ◌∷◌, ◌++◌, reverse, refl, if◌then◌else◌, ◌⊎◌}
+use Rattle.std.proofs.Common.{sym, subst, ap, arith, inl, inr, ◌∙◌, append_assoc}
+use Rattle.std.proofs.lemmas.List.{reverse-append}
+use Rattle.bpaf_doc.specs.Splitter.Chunks.{columns, is_inked, has_some}
+use Rattle.bpaf_doc.specs.Shown.{is_term_ref}
+use Rattle.bpaf_doc.specs.Console.Layout.{Event, Shows, Opens, Closes, Stretch, Gap, Placed, Passed, Place, chunk_at, event_bytes, is_newline, is_placed, is_gap, is_ref, holds_line, leads_to_place, opens_body}
+use Rattle.bpaf_doc.proofs.lemmas.Console.Layout.State.{State, Piece, Lines, none_asked, line_there, line_put, blank_there, second_put, both_put, Pads, to_margin, after_term, Begins, first, stays, wraps, places, drops, Next, raw, Grows, placing, breaking, passing, padded, trimmed, passed, closes_body, has_text, Suits}
+use Rattle.bpaf_doc.proofs.lemmas.Console.Layout.Back.{by_cases, EachPlace, KeepsCut, each_grows, trimmed_inked, trimmed_plain, trimmed_bytes, trimmed_bare, place_of, fits_of}
+use Rattle.bpaf_doc.proofs.lemmas.Console.Layout.Columns.{Fills, column_back, column_padded, Agrees, any_in_line}
+use Rattle.bpaf_doc.proofs.lemmas.Console.Layout.Text.{IsStarting, has_place, begins_column, begins_margin, or_true_right, or_false_left, or_false_right}
 
 -- ---- added blanks
 
@@ -82,6 +49,135 @@ no_pads_grows (placing p e (places base n b d a)) h = subst HasNoPads (sym a) re
 no_pads_grows (placing p e (drops t mid l w b a)) h = subst HasNoPads (sym a) refl
 no_pads_grows (breaking k chunk e a) h = subst HasNoPads (sym a) refl
 no_pads_grows (passing event margin e a) h = subst HasNoPads (sym a) (omega arith)
+
+-- ---- chunks that fit
+
+-- a place or a backquote stands in the last line
+abbrev pub holds_back : List Stretch → Bool
+holds_back r = any_in_line holds_line r
+
+holds_padded : (n : ℕ) (r : List Stretch) → holds_back (padded n r) ≡ holds_back r
+holds_padded zero r = refl
+holds_padded (suc n) r = holds_padded n r
+
+no_ref : (event : Event) → has_some (event_bytes event) ≡ false → is_ref event ≡ false
+no_ref (Shows k chunk) h = refl
+no_ref (Opens b) h = at (is_term_ref b) h where
+  at : (t : Bool) → has_some (if t then 96 ∷ [] else []) ≡ false → t ≡ false
+  at true h = absurd cc
+  at false h = refl
+no_ref (Closes b) h = at (is_term_ref b) h where
+  at : (t : Bool) → has_some (if t then 96 ∷ [] else []) ≡ false → t ≡ false
+  at true h = absurd cc
+  at false h = refl
+
+-- on a page without text and without places stands nothing
+no_text_holds : (r : List Stretch) → has_text r ≡ false → has_place r ≡ false → holds_back r ≡ false
+no_text_holds [] t p = refl
+no_text_holds (Gap b ∷ r) t p = absurd cc
+no_text_holds (Placed e ∷ r) t p = absurd cc
+no_text_holds (Passed event ∷ r) t p =
+    let bare : is_ref event ≡ false = no_ref event (or_false_left (has_some (event_bytes event)) (has_text r) t) in
+    let rest : holds_back r ≡ false = no_text_holds r (or_false_right (has_some (event_bytes event)) (has_text r) t) p in
+    rw bare rest
+
+module _ (width : ℕ) where
+  -- behind a place or a backquote, a chunk fits but for the blanks before it
+  abbrev pub FitsBefore : List Stretch → Place → Type 0
+  FitsBefore r f = holds_back r ≡ true → column_back r + columns f.bytes ≤ width + pads_back r
+
+  fits_place : {st : State} (p : Piece) (base : State) (n : ℕ) → width < 1_000_000 → EachPlace Fills st.back → IsStarting st → Agrees st → HasNoPads st
+      → Begins width st p base → FitsBefore (padded n base.back) (place_of p)
+  fits_place {st} p base n small f start h none (first t e) = λ holds.
+      let bare : holds_back st.back ≡ false = no_text_holds st.back t (start t).1 in
+      let some : holds_back st.back ≡ true = sym (holds_padded n st.back) ∙ subst (λ (x : State). holds_back (padded n x.back) ≡ true) e holds in absurd cc
+  fits_place {st} p base n small f start h none (stays t l w) = λ holds.
+      let here : base.column ≡ column_back base.back = begins_column {p = p} small f start h (stays t l w) in
+      let bare : pads_back base.back ≡ 0 = pads_lines l none in
+      let line : column_back (padded n base.back) ≡ n + column_back base.back = column_padded n base.back in
+      let pads : pads_back (padded n base.back) ≡ n + pads_back base.back = pads_padded n base.back in
+      omega arith
+  fits_place p base n small f start h none (wraps t mid l w b e) = λ holds.
+      let some : holds_back base.back ≡ true = sym (holds_padded n base.back) ∙ holds in
+      let no : false ≡ true = subst (λ (x : State). holds_back x.back ≡ true) e some in absurd cc
+
+  pub fits_width_grows : {st after : State} {next : Next} → width < 1_000_000 → EachPlace Fills st.back → IsStarting st → Agrees st → HasNoPads st
+      → Grows width st next after → EachPlace FitsBefore st.back → EachPlace FitsBefore after.back
+  fits_width_grows {st} {after} {next} small f start agrees none g h =
+      each_grows FitsBefore (λ r e i x. x) (λ p base n e b d. fits_place p base n small f start agrees none b) g h
+
+-- ---- added blanks stand before a place
+
+-- Each blank leads to a place, where what stands behind these stretches does, or does not.
+abbrev pub Leads : Bool → List Stretch → Type 0
+Leads place [] = ⊤
+Leads place (Gap b ∷ r) = ((b == 32) ≡ true → place ≡ true) × Leads ((b == 32) && place) r
+Leads place (Placed e ∷ r) = Leads true r
+Leads place (Passed event ∷ r) = Leads false r
+
+leads_more : (r : List Stretch) → Leads false r → Leads true r
+leads_more [] h = h
+leads_more (Gap b ∷ r) h = (λ t. refl, at (by_cases (b == 32))) where
+  at : ((b == 32) ≡ true) ⊎ ((b == 32) ≡ false) → Leads ((b == 32) && true) r
+  at (inl t) = let no : false ≡ true = h.0 t in absurd cc
+  at (inr t) = let rest : Leads false r = rw t at h.1 in rw t rest
+leads_more (Placed e ∷ r) h = h
+leads_more (Passed event ∷ r) h = h
+
+leads_padded : (n : ℕ) (r : List Stretch) → Leads true r → Leads true (padded n r)
+leads_padded zero r h = h
+leads_padded (suc n) r h = (λ t. refl, leads_padded n r h)
+
+leads_trimmed : (place : Bool) (r : List Stretch) → Leads place r → Leads false (trimmed r)
+leads_trimmed place [] h = h
+leads_trimmed place (Gap b ∷ r) h = leads_trimmed ((b == 32) && place) r h.1
+leads_trimmed place (Placed e ∷ r) h = at (by_cases (is_inked (chunk_at e))) (leads_trimmed true r h) where
+  at : (is_inked (chunk_at e) ≡ true) ⊎ (is_inked (chunk_at e) ≡ false) → Leads false (trimmed r) → Leads false (trimmed (Placed e ∷ r))
+  at (inl i) ih = subst (λ x. Leads false x) (sym (trimmed_inked e r i)) h
+  at (inr i) ih = subst (λ x. Leads false x) (sym (trimmed_plain e r i)) ih
+leads_trimmed place (Passed event ∷ r) h = at (by_cases (has_some (event_bytes event))) (leads_trimmed false r h) where
+  at : (has_some (event_bytes event) ≡ true) ⊎ (has_some (event_bytes event) ≡ false) → Leads false (trimmed r) → Leads false (trimmed (Passed event ∷ r))
+  at (inl i) ih = subst (λ x. Leads false x) (sym (trimmed_bytes event r i)) h
+  at (inr i) ih = subst (λ x. Leads false x) (sym (trimmed_bare event r i)) ih
+
+abbrev pub IsLed : State → Type 0
+IsLed st = Leads false st.back
+
+leads_newline : (r : List Stretch) → Leads false r → Leads false (Gap 10 ∷ r)
+leads_newline r h = (λ t. absurd cc, h)
+
+led_lines : {st mid : State} → Lines st mid → IsLed st → IsLed mid
+led_lines (none_asked a e) h = subst IsLed (sym e) h
+led_lines (line_there a b e) h = subst IsLed (sym e) h
+led_lines {st} (line_put a e) h = subst IsLed (sym e) (leads_newline st.back h)
+led_lines (blank_there a b e) h = subst IsLed (sym e) h
+led_lines {st} (second_put a b e) h = subst IsLed (sym e) (leads_newline st.back h)
+led_lines {st} (both_put a e) h = subst IsLed (sym e) (leads_newline (Gap 10 ∷ st.back) (leads_newline st.back h))
+
+led_begins : {width : ℕ} {st : State} {p : Piece} {base : State} → Begins width st p base → IsLed st → IsLed base
+led_begins (first t e) h = subst IsLed (sym e) h
+led_begins (stays t l w) h = led_lines l h
+led_begins (wraps t mid l w b e) h = subst IsLed (sym e) (leads_newline (trimmed mid.back) (leads_trimmed false mid.back (led_lines l h)))
+
+pub led_grows : {width : ℕ} {st after : State} {next : Next} → Grows width st next after → IsLed st → IsLed after
+led_grows (placing p e (places base n b d a)) h = subst IsLed (sym a) (leads_padded n base.back (leads_more base.back (led_begins b h)))
+led_grows (placing p e (drops t mid l w b a)) h = subst IsLed (sym a) (leads_newline (trimmed mid.back) (leads_trimmed false mid.back (led_lines l h)))
+led_grows {st = st} (breaking k chunk e a) h = subst IsLed (sym a) (leads_newline (Passed (Shows k chunk) ∷ st.back) h)
+led_grows (passing event margin e a) h = subst IsLed (sym a) h
+
+-- a blank of the page leads to a place
+pub leads_at : (place : Bool) (m r rest : List Stretch) → Leads place (m ++ Gap 32 ∷ r) → (place ≡ true → leads_to_place rest ≡ true) → leads_to_place (reverse m ++ rest) ≡ true
+leads_at place [] r rest h k = k (h.0 refl)
+leads_at place (x ∷ m) r rest h k =
+    ap (λ xs. leads_to_place (xs ++ rest)) (reverse-append (x ∷ []) m) ∙ ap leads_to_place (append_assoc (reverse m) (x ∷ []) rest) ∙ at x h (λ flag. leads_at flag m r (x ∷ rest)) where
+      at : (x : Stretch) → Leads place (x ∷ (m ++ Gap 32 ∷ r)) → ((flag : Bool) → Leads flag (m ++ Gap 32 ∷ r) → (flag ≡ true → leads_to_place (x ∷ rest) ≡ true) → leads_to_place (reverse m ++ x ∷ rest) ≡ true)
+          → leads_to_place (reverse m ++ x ∷ rest) ≡ true
+      at (Gap b) h ih = ih ((b == 32) && place) h.1 (both (b == 32) place (leads_to_place rest) k) where
+        both : (t place ok : Bool) → (place ≡ true → ok ≡ true) → (t && place) ≡ true → (t && ok) ≡ true
+        both true place ok k h = k h
+        both false place ok k h = h
+      at (Placed e) h ih = ih true h (λ t. refl)
+      at (Passed event) h ih = ih false h (λ t. absurd cc)
 
 -- two blanks are pending only after the start of an ItemBody
 abbrev pub IsPending : State → Type 0

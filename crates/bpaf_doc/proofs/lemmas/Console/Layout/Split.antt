@@ -1,9 +1,10 @@
 -- A page cut before one of its places.
-use Rattle.std.specs.Prelude.{◌≡◌, ℕ, zero, suc, Bool, true, false, ◌||◌, List, [], ◌∷◌, ◌++◌, refl, if◌then◌else◌, ◌⊎◌}
+use Rattle.std.specs.Prelude.{◌≡◌, ℕ, zero, suc, Bool, true, false, ◌||◌, List, [], ◌∷◌, ◌++◌, refl, ◌⊎◌}
 use Rattle.std.specs.List.{list_any}
 use Rattle.std.proofs.Common.{sym, subst, ap, inl, inr, ◌∙◌}
 use Rattle.bpaf_doc.specs.Splitter.Chunks.{is_inked, has_some}
 use Rattle.bpaf_doc.specs.Console.Layout.{Event, Shows, Stretch, Gap, Placed, Passed, Place, chunk_at, event_bytes, is_newline, is_inked_stretch}
+use Rattle.bpaf_doc.proofs.lemmas.Console.Layout.Columns.{any_in_line}
 use Rattle.bpaf_doc.proofs.lemmas.Console.Layout.State.{padded, trimmed, cut}
 use Rattle.bpaf_doc.proofs.lemmas.Console.Layout.Back.{by_cases, trimmed_inked, trimmed_plain, trimmed_bytes, trimmed_bare}
 
@@ -155,8 +156,7 @@ abbrev pub has_newline : List Stretch → Bool
 has_newline r = list_any is_newline r
 
 abbrev pub inked_line : List Stretch → Bool
-inked_line [] = false
-inked_line (x ∷ r) = if is_newline x then false else (is_inked_stretch x || inked_line r)
+inked_line r = any_in_line is_inked_stretch r
 
 pub newline_padded : (n : ℕ) (r : List Stretch) → has_newline (padded n r) ≡ has_newline r
 newline_padded zero r = refl

@@ -11,11 +11,11 @@ use Rattle.std.proofs.Math.Seq.{drop-append_seam}
 use Rattle.bpaf_doc.specs.Splitter.Chunks.{is_inked}
 use Rattle.bpaf_doc.specs.Console.Layout.{Shows, Stretch, Gap, Placed, Passed, Place, chunk_at, stretch_events, stretch_columns, events_of, is_newline, is_placed, is_gap, is_inked_event, is_inked_stretch, line_before, column, padding, stretch_lines, opens_body, is_raw_or_ref, events_since_ink}
 use Rattle.bpaf_doc.proofs.lemmas.Console.Layout.Back.{by_cases, EachPlace}
-use Rattle.bpaf_doc.proofs.lemmas.Console.Layout.Columns.{column_back}
+use Rattle.bpaf_doc.proofs.lemmas.Console.Layout.Columns.{column_back, any_in_line}
 use Rattle.bpaf_doc.proofs.lemmas.Console.Layout.Text.{EachPassed, NoInk}
 use Rattle.bpaf_doc.proofs.lemmas.Console.Layout.Bound.{EachFront, whole_front}
 use Rattle.bpaf_doc.proofs.lemmas.Console.Layout.Pads.{pads_back, body_back}
-use Rattle.bpaf_doc.proofs.lemmas.Console.Layout.Split.{events_back, inked_line}
+use Rattle.bpaf_doc.proofs.lemmas.Console.Layout.Split.{events_back}
 use Rattle.bpaf_doc.proofs.lemmas.Console.Layout.AtMargin.{is_quiet}
 
 pub reverse_cons : {A : Type 0} (x : A) (xs : List A) → reverse (x ∷ xs) ≡ reverse xs ++ x ∷ []
@@ -119,15 +119,15 @@ sum_since (x ∷ r) = at (by_cases (is_newline x)) (sum_since r) where
 pub column_turned : (r : List Stretch) → column (reverse r) ≡ column_back r
 column_turned r = ap (λ ys. sum_by stretch_columns ys) (after_last_turned is_newline r) ∙ sum_turned stretch_columns (since is_newline r) ∙ sum_since r
 
-any_since_line : (r : List Stretch) → list_any is_inked_stretch (since is_newline r) ≡ inked_line r
-any_since_line [] = refl
-any_since_line (x ∷ r) = at (by_cases (is_newline x)) (any_since_line r) where
-  at : (is_newline x ≡ true) ⊎ (is_newline x ≡ false) → list_any is_inked_stretch (since is_newline r) ≡ inked_line r → list_any is_inked_stretch (since is_newline (x ∷ r)) ≡ inked_line (x ∷ r)
+any_since_line : (p : Stretch → Bool) (r : List Stretch) → list_any p (since is_newline r) ≡ any_in_line p r
+any_since_line p [] = refl
+any_since_line p (x ∷ r) = at (by_cases (is_newline x)) (any_since_line p r) where
+  at : (is_newline x ≡ true) ⊎ (is_newline x ≡ false) → list_any p (since is_newline r) ≡ any_in_line p r → list_any p (since is_newline (x ∷ r)) ≡ any_in_line p (x ∷ r)
   at (inl t) ih = rw t refl
-  at (inr t) ih = rw t (ap (λ (b : Bool). is_inked_stretch x || b) ih)
+  at (inr t) ih = rw t (ap (λ (b : Bool). p x || b) ih)
 
-pub inked_line_turned : (r : List Stretch) → list_any is_inked_stretch (line_before (reverse r)) ≡ inked_line r
-inked_line_turned r = ap (λ ys. list_any is_inked_stretch ys) (after_last_turned is_newline r) ∙ any_turned is_inked_stretch (since is_newline r) ∙ any_since_line r
+pub line_turned : (p : Stretch → Bool) (r : List Stretch) → list_any p (line_before (reverse r)) ≡ any_in_line p r
+line_turned p r = ap (λ ys. list_any p ys) (after_last_turned is_newline r) ∙ any_turned p (since is_newline r) ∙ any_since_line p r
 
 -- the blanks since the last place in the line
 count_since : (r : List Stretch) → count_by is_gap (since is_placed (since is_newline r)) ≡ pads_back r

@@ -13,14 +13,14 @@ use Rattle.bpaf_doc.specs.Buffer.Parts.{Part, ink}
 use Rattle.bpaf_doc.specs.Splitter.Chunks.{Raw, Paragraph, LineBreak, columns, is_inked, is_ordinary, has_some, starts}
 use Rattle.bpaf_doc.specs.Shown.{console_ink, is_term_ref}
 use Rattle.bpaf_doc.specs.Console.Margin.{margin, greatest_margin}
-use Rattle.bpaf_doc.specs.Console.Layout.{Event, Shows, Opens, Closes, Stretch, Gap, Placed, Passed, Place, chunk_at, event_bytes, event_columns, stretch_columns, text_of, events_of, shown_events, is_newline, is_placed, is_passed, is_inked_event, is_inked_stretch, is_empty_code, is_written, is_raw_event, is_ref, asks_newline, asks_blank_line, is_light, is_light_mark, opens_body, column, padding, line_before, stretch_lines, MayStand, BreaksWhereAsked, KeepsBlanks, IsKept, BeginsClear, IsFirstInLine, events_since_ink, is_raw_or_ref, FollowsBlank, KeepsMargin, WrapsOnlyIfNeeded, IsBounded, FitsWidth, PadsToMargin, StandsAlone, HasBlankLine, widest, IsLayout}
+use Rattle.bpaf_doc.specs.Console.Layout.{Event, Shows, Opens, Closes, Stretch, Gap, Placed, Passed, Place, chunk_at, event_bytes, event_columns, stretch_columns, text_of, events_of, shown_events, is_newline, is_placed, holds_line, leads_to_place, is_inked_event, is_inked_stretch, is_empty_code, is_written, is_raw_event, is_ref, asks_newline, asks_blank_line, is_light, is_light_mark, opens_body, column, padding, line_before, stretch_lines, MayStand, BreaksWhereAsked, KeepsBlanks, IsKept, BeginsClear, IsFirstInLine, events_since_ink, is_raw_or_ref, FollowsBlank, KeepsMargin, WrapsOnlyIfNeeded, IsBounded, FitsWidth, PadsToMargin, StandsAlone, HasBlankLine, widest, IsLayout}
 use Rattle.bpaf_doc.proofs.lemmas.Console.Layout.State.{State, Piece, has_text, Next, raw, break, mark, Grows, placing, breaking, passing, places, drops, Begins, first, stays, wraps, Lines, none_asked, line_there, line_put, blank_there, second_put, both_put, Suits, IsClear, blank_page, Written, nothing, more, Ends, as_is, with_newline}
 use Rattle.bpaf_doc.proofs.lemmas.Console.Layout.Back.{by_cases, EachPlace}
 use Rattle.bpaf_doc.proofs.lemmas.Console.Layout.Columns.{Fills, fills_grows, Agrees, agrees_grows, column_back}
 use Rattle.bpaf_doc.proofs.lemmas.Console.Layout.Text.{EachPassed, NoInk, no_ink_grows, IsStarting, starting_grows, next_event, text_stays, text_written, begins_margin, lines_margin}
 use Rattle.bpaf_doc.proofs.lemmas.Console.Layout.Margin.{AtMargin, at_margin_grows}
 use Rattle.bpaf_doc.proofs.lemmas.Console.Layout.Bound.{EachFront, Within, IsBare, WritesNone, IsNarrow, bare_grows, bound, within_grows}
-use Rattle.bpaf_doc.proofs.lemmas.Console.Layout.Pads.{Touches, touches_grows, HasNoPads, no_pads_grows, IsPending, pending_grows, PadsOnly, pads_only_grows, pads_back, body_back}
+use Rattle.bpaf_doc.proofs.lemmas.Console.Layout.Pads.{FitsBefore, fits_width_grows, holds_back, IsLed, Leads, led_grows, leads_at, HasNoPads, no_pads_grows, IsPending, pending_grows, PadsOnly, pads_only_grows, pads_back, body_back}
 use Rattle.bpaf_doc.proofs.lemmas.Console.Layout.Alone.{IsHeavy, heavy_grows, AloneBefore, alone_grows}
 use Rattle.bpaf_doc.proofs.lemmas.Console.Layout.Split.{events_back, events_padded, events_trimmed, Cut, has_newline, inked_line, inked_since}
 use Rattle.bpaf_doc.proofs.lemmas.Console.Layout.Asked.{IsAskedLine, asked_line_grows, IsFreeOfDebt, free_of_debt_grows, owes_line}
@@ -29,7 +29,7 @@ use Rattle.bpaf_doc.proofs.lemmas.Console.Layout.Kept.{InOrder, order_grows, IsS
 use Rattle.bpaf_doc.proofs.lemmas.Console.Layout.Needed.{IsReached, reached_grows, IsMarked, marked_grows, IsNeededBefore, needed_before_grows, reach, chunk_columns}
 use Rattle.bpaf_doc.proofs.lemmas.Console.Layout.AtMargin.{IsLast, last_grows, IsAtStart, start_grows, AfterBlank, IsExact, exact_grows, is_quiet}
 use Rattle.bpaf_doc.proofs.lemmas.Console.Layout.Cuts.{MayEnd, IsWhole, whole_grows, may_end_line}
-use Rattle.bpaf_doc.proofs.lemmas.Console.Layout.Turned.{reverse_cons, any_turned, all_turned, sum_turned, events_turned, events_between, column_turned, inked_line_turned, padding_turned, body_turned, quiet_turned, lines_bounded, turned_at, turned_between, place_at}
+use Rattle.bpaf_doc.proofs.lemmas.Console.Layout.Turned.{reverse_cons, any_turned, all_turned, sum_turned, events_turned, events_between, column_turned, line_turned, padding_turned, body_turned, quiet_turned, lines_bounded, turned_at, turned_between, place_at}
 
 -- ---- the events of a page
 
@@ -82,6 +82,7 @@ pub record Base (width : ℕ) (st : State) : Type 0 where
   pub fresh : IsFreshAtZero st
   pub pads : HasNoPads st
   pub pending : IsPending st
+  pub led : IsLed st
   pub last : IsLast st
   pub start : IsAtStart st
   pub debt : EachPlace IsFreeOfDebt st.back
@@ -108,6 +109,7 @@ base_blank width = record {
   fresh = λ o. refl;
   pads = refl;
   pending = λ o. absurd cc;
+  led = tt;
   last = λ m before e h i n. nothing_cut m before e h;
   start = λ m before e k h i b l. nothing_cut m before e h;
   debt = tt;
@@ -131,6 +133,7 @@ base_grows {width} suits g b = record {
   fresh = fresh_grows g b.fresh;
   pads = no_pads_grows g b.pads;
   pending = pending_grows g b.pending;
+  led = led_grows g b.led;
   last = last_grows g b.last;
   start = start_grows b.fills b.no_ink b.last suits g b.start;
   debt = free_of_debt_grows b.fills b.no_ink b.asked_line g b.debt;
@@ -146,7 +149,7 @@ pub record Clearly (width : ℕ) (margin_of : ℕ → ℕ) (st : State) : Type 0
   pub marked : IsMarked width st
   pub at_margin : EachPlace (AtMargin margin_of) st.back
   pub exact : EachPlace (IsExact margin_of) st.back
-  pub touches : EachPlace (Touches width) st.back
+  pub fits : EachPlace (FitsBefore width) st.back
   pub pads_only : EachPlace (PadsOnly margin_of) st.back
   pub needed : EachPlace (IsNeededBefore width) st.back
   pub heavy : IsHeavy st
@@ -159,7 +162,7 @@ clearly_blank width margin_of = record {
   marked = λ m before e h p l. nothing_cut m before e h;
   at_margin = tt;
   exact = tt;
-  touches = tt;
+  fits = tt;
   pads_only = tt;
   needed = tt;
   heavy = λ m before e h w n. nothing_cut m before e h;
@@ -174,7 +177,7 @@ clearly_grows {width} {margin_of} small suits clear g b c = record {
   marked = marked_grows width small b.fills c.starting b.agrees suits g c.marked;
   at_margin = at_margin_grows margin_of small b.fills c.starting b.agrees suits g c.at_margin;
   exact = exact_grows margin_of small b.fills b.no_ink c.starting b.agrees b.pads b.start suits g c.exact;
-  touches = touches_grows width small b.fills c.starting b.agrees g c.touches;
+  fits = fits_width_grows width small b.fills c.starting b.agrees b.pads g c.fits;
   pads_only = pads_only_grows margin_of small b.fills c.starting b.agrees suits b.pads b.pending g c.pads_only;
   needed = needed_before_grows width b.fills b.no_ink c.reached c.marked g c.needed;
   heavy = heavy_grows small c.starting g c.heavy;
@@ -504,7 +507,7 @@ module _ (width : ℕ) (document : List Part) (st : State) (final : List Stretch
       not_not false h = absurd cc
 
       clear_line : (before : List Stretch) → IsFirstInLine before → inked_line (reverse before) ≡ false
-      clear_line before h = sym (inked_line_turned (reverse before)) ∙ ap (λ ys. list_any is_inked_stretch (line_before ys)) (reverse-reverse before) ∙ not_true (list_any is_inked_stretch (line_before before)) h
+      clear_line before h = sym (line_turned is_inked_stretch (reverse before)) ∙ ap (λ ys. list_any is_inked_stretch (line_before ys)) (reverse-reverse before) ∙ not_true (list_any is_inked_stretch (line_before before)) h
 
       kind_of : (before after : List Stretch) (f : Place) → stretches ≡ before ++ Placed f ∷ after → IsTrue (not (list_any is_raw_or_ref (events_since_ink before))) ⊎ FollowsBlank before f
           → (is_quiet (reverse before) ≡ true) ⊎ AfterBlank (reverse before) f.part
@@ -532,23 +535,31 @@ module _ (width : ℕ) (document : List Part) (st : State) (final : List Stretch
           kind between (inl l) = inl (events_all is_light between ∙ l)
           kind between (inr l) = inr (events_all is_light_mark between ∙ l)
 
+    padding_is : (before : List Stretch) → padding before ≡ pads_back (reverse before)
+    padding_is before = ap padding (sym (reverse-reverse before)) ∙ padding_turned (reverse before)
+
     fits_law : FitsWidth width stretches
-    fits_law = λ before between after e f s passed_all.
-        let fits : column_back (reverse between ++ Placed e ∷ reverse before) + columns f.bytes ≤ width =
-        law_at (Touches width) clearly.touches before between after e f s (reverse between) (reverse before) e refl (all_turned is_passed between ∙ passed_all) in
-        let turned : reverse (before ++ Placed e ∷ between) ≡ reverse between ++ Placed e ∷ reverse before =
-        reverse-append before (Placed e ∷ between) ∙ ap (λ ys. ys ++ reverse before) (reverse_cons (Placed e) between) ∙ append_assoc (reverse between) (Placed e ∷ []) (reverse before) in
-        let here : column (before ++ Placed e ∷ between) ≡ column_back (reverse between ++ Placed e ∷ reverse before) = column_is (before ++ Placed e ∷ between) ∙ ap column_back turned in
+    fits_law = λ before after f s holds.
+        let held : holds_back (reverse before) ≡ true = sym (line_turned holds_line (reverse before)) ∙ ap (λ ys. list_any holds_line (line_before ys)) (reverse-reverse before) ∙ holds in
+        let fits : column_back (reverse before) + columns f.bytes ≤ width + pads_back (reverse before) = one_at (FitsBefore width) clearly.fits before after f s held in
+        let here : column before ≡ column_back (reverse before) = column_is before in
+        let pads : padding before ≡ pads_back (reverse before) = padding_is before in
         omega arith
 
+    led_final : Leads false final
+    led_final = at ends where
+      at : Ends st final → Leads false final
+      at (as_is e) = subst (λ r. Leads false r) (sym e) base.led
+      at (with_newline e) = subst (λ r. Leads false r) (sym e) (λ t. absurd cc, base.led)
+
     padded_law : PadsToMargin document stretches
-    padded_law = λ before after f s some. at before (one_at (PadsOnly (margin document)) clearly.pads_only before after f s (more_than_none before some)) where
-      padding_is : (before : List Stretch) → padding before ≡ pads_back (reverse before)
-      padding_is before = ap padding (sym (reverse-reverse before)) ∙ padding_turned (reverse before)
-
-      more_than_none : (before : List Stretch) → 0 < padding before → 0 < pads_back (reverse before)
-      more_than_none before h = subst (λ (n : ℕ). 0 < n) (padding_is before) h
-
+    padded_law = record {
+      up_to_margin = λ before after f s some. at before (one_at (PadsOnly (margin document)) clearly.pads_only before after f s (subst (λ (n : ℕ). 0 < n) (padding_is before) some));
+      before_place = λ before after s.
+          let split : final ≡ reverse after ++ Gap 32 ∷ reverse before = turned_at final before after (Gap 32) s in
+          let leads : leads_to_place (reverse (reverse after) ++ []) ≡ true = leads_at false (reverse after) (reverse before) [] (subst (λ ys. Leads false ys) split led_final) (λ t. absurd cc) in
+          subst (λ ys. leads_to_place ys ≡ true) (append-nil (reverse (reverse after)) ∙ reverse-reverse after) leads;
+    } where
       at : (before : List Stretch) {m : ℕ} → (column_back (reverse before) ≡ m) ⊎ ((pads_back (reverse before) ≡ 2) × (body_back (reverse before) ≡ true))
           → (column before ≡ m) ⊎ ((padding before ≡ 2) × IsTrue (list_any opens_body (events_of (after_last is_placed before))))
       at before (inl h) = inl (column_is before ∙ h)
