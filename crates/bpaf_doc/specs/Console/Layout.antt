@@ -324,6 +324,22 @@ abbrev pub StandsAlone : List Stretch → Type 0
 StandsAlone stretches = (before between after : List Stretch) (e f : Place) → stretches ≡ before ++ Placed e ∷ (between ++ Placed f ∷ after)
     → IsTrue (is_whole_line (chunk_at e)) → IsTrue (list_any is_newline between)
 
+-- what a chunk or a mark may add to the column: a Raw its weight, a mark of TermRef its backquote, a start of ItemBody two blanks
+abbrev pub room_of : Event → ℕ
+room_of (Shows k (Raw bytes weight)) = weight
+room_of (Opens blocks.TermRef) = 1
+room_of (Closes blocks.TermRef) = 1
+room_of (Opens blocks.ItemBody) = 2
+room_of _ = 0
+
+-- Where a newline stands between neighbouring inked chunks, and none is asked for, there is no room without it: the column of the
+-- first, its weight, what all between may add, the columns of the second and, between different texts, the greatest margin are
+-- together more than the width.
+abbrev pub BreaksForRoom : List Part → ℕ → List Stretch → Type 0
+BreaksForRoom document width stretches = (before between : List Stretch) (e f : Place) → AreApart stretches before e between f
+    → IsTrue (not (list_any is_inked_stretch between)) → IsTrue (not (list_any asks_newline (events_of between))) → IsTrue (list_any is_newline between)
+    → width < column before + e.weight + sum_by room_of (events_of between) + columns f.bytes + (if e.part == f.part then 0 else greatest_margin document)
+
 -- ---- a layout
 
 -- the text is a layout of the document at this width, in full or in brief
@@ -337,5 +353,6 @@ pub record IsLayout (document : List Part) (full : Bool) (width : ℕ) (text : L
   pub needed : width < 1_000_000 → BeginsClear (shown_events full document) → WrapsOnlyIfNeeded width stretches
   pub fits : width < 1_000_000 → BeginsClear (shown_events full document) → FitsWidth width stretches
   pub padded : width < 1_000_000 → BeginsClear (shown_events full document) → PadsToMargin document stretches
+  pub room : width < 1_000_000 → BeginsClear (shown_events full document) → BreaksForRoom document width stretches
   pub alone : width < 1_000_000 → BeginsClear (shown_events full document) → StandsAlone stretches
   pub bound : width < 1_000_000 → IsTrue (not (list_any is_ref (shown_events full document))) → IsBounded document width stretches

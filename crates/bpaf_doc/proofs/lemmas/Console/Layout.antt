@@ -12,6 +12,7 @@ pub mod Asked
 pub mod Blank
 pub mod Kept
 pub mod Needed
+pub mod Room
 pub mod AtMargin
 pub mod Cuts
 pub mod Turned

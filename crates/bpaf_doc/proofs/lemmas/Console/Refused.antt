@@ -1,21 +1,24 @@
 -- Texts that are no layout of their document, whatever their placing: what each law refuses.
-use Rattle.std.specs.Prelude.{◌≡◌, ℕ, ◌+◌, ◌≤◌, Bool, true, false, not, ◌&&◌, ◌||◌, ◌==◌, List, [], ◌∷◌, ◌++◌, codes, reverse, refl, ◌⊎◌}
+use Rattle.std.specs.Prelude.{◌≡◌, ℕ, ◌+◌, ◌<◌, ◌≤◌, Bool, true, false, not, ◌&&◌, ◌||◌, ◌==◌, List, [], ◌∷◌, ◌++◌, codes, length, reverse, sum_by, refl, if◌then◌else◌, ◌⊎◌}
 use Rattle.std.specs.List.{list_any}
+use Rattle.std.specs.Str.{trim_end}
 use Rattle.std.proofs.Common.{sym, subst, ap, arith, inl, inr, ◌∙◌, append_assoc}
 use Rattle.std.proofs.lemmas.Bool.Decides.{nat_tests}
 use Rattle.std.proofs.lemmas.List.{reverse-append, reverse-reverse}
+use Rattle.std.proofs.lemmas.List.Sums.{sum_by-cons}
 use Rattle.std.proofs.lemmas.List.Folds.{list_any-append}
 use Rattle.std.proofs.lemmas.Grind.{flat_map-append}
 use Rattle.bpaf_doc.specs.declared.buffer.Block.TheVariants as block
 use Rattle.bpaf_doc.specs.Buffer.Parts.{Part}
-use Rattle.bpaf_doc.specs.Splitter.Chunks.{Chunk, Raw, columns, code_weight, is_inked, is_whole_line, starts}
-use Rattle.bpaf_doc.specs.Console.Margin.{margin}
-use Rattle.bpaf_doc.specs.Console.Layout.{Event, Shows, Opens, Closes, Stretch, Gap, Placed, Passed, Place, chunk_at, text_of, events_of, stretch_bytes, stretch_events, shown_events, is_newline, is_inked_event, column, padding, line_before, holds_line, leads_to_place, MayStand, BeginsClear, IsLayout}
+use Rattle.bpaf_doc.specs.Splitter.Chunks.{Chunk, Raw, Paragraph, LineBreak, columns, code_weight, is_inked, is_whole_line, has_some, starts}
+use Rattle.bpaf_doc.specs.Shown.{is_term_ref}
+use Rattle.bpaf_doc.specs.Console.Margin.{margin, greatest_margin}
+use Rattle.bpaf_doc.specs.Console.Layout.{Event, Shows, Opens, Closes, Stretch, Gap, Placed, Passed, Place, chunk_at, text_of, events_of, stretch_bytes, stretch_events, stretch_columns, shown_events, is_newline, is_inked_event, is_inked_stretch, is_raw_event, asks_newline, room_of, event_bytes, AreApart, column, padding, line_before, holds_line, leads_to_place, MayStand, BeginsClear, IsLayout}
 use Rattle.bpaf_doc.proofs.lemmas.Console.Layout.Columns.{column_back, any_in_line}
 use Rattle.bpaf_doc.proofs.lemmas.Console.Layout.Text.{or_true_right, or_false_left, or_false_right}
 use Rattle.bpaf_doc.proofs.lemmas.Console.Layout.Pads.{pads_back}
 use Rattle.bpaf_doc.proofs.lemmas.Console.Layout.Split.{has_newline}
-use Rattle.bpaf_doc.proofs.lemmas.Console.Layout.Turned.{reverse_cons, any_turned, line_turned, column_turned, padding_turned}
+use Rattle.bpaf_doc.proofs.lemmas.Console.Layout.Turned.{reverse_cons, any_turned, line_turned, sum_turned, column_turned, padding_turned}
 use Rattle.bpaf_doc.proofs.lemmas.Console.Rows.{computed, words, inside}
 
 -- ---- where an inked chunk stands
@@ -307,3 +310,175 @@ line_filled_with_blanks layout =
     let shown : one.place.shown ≡ codes "a" =
     place_is_whole one.before one.after one.place (codes "a  ") (layout.placing.each_stretch one.before one.after (Placed one.place) one.order) text refl ∙ bytes_of one.place 0 (codes "a") 1 one.shows in
     word_then_blanks layout.stretches one.before one.after one.place layout.placing.each_stretch (layout.padded (omega arith) refl).before_place one.order one.events_before one.events_after shown text
+
+-- ---- a break that nothing asks for
+
+-- what stands before the first byte takes no columns
+record BeginsWith (before after : List Stretch) (text : List ℕ) : Type 0 where
+  no_columns : sum_by stretch_columns before ≡ 0
+  rest : text_of after ≡ text
+
+begins_with : (before after : List Stretch) (text tail : List ℕ) → EachMayStand (before ++ after) → list_any is_raw_event (events_of before) ≡ false → text ≡ 97 ∷ tail → text_of (before ++ after) ≡ text → BeginsWith before after text
+begins_with [] after text tail stand raw is s = record { no_columns = refl; rest = s }
+begins_with (Gap b ∷ before) after text tail stand raw is s =
+    let first : b ∷ text_of (before ++ after) ≡ 97 ∷ tail = s ∙ is in
+    let same : b ≡ 97 = cc in absurd (no_ink_byte b (stand [] (before ++ after) (Gap b) refl) same)
+begins_with (Placed e ∷ before) after text tail stand raw is s = absurd cc
+begins_with (Passed event ∷ before) after text tail stand raw is s =
+    at (event_bytes event) refl s (begins_with before after text tail (may_stand_rest (Passed event) (before ++ after) stand) (or_false_right (is_raw_event event) (list_any is_raw_event (events_of before)) raw) is) where
+      none_of : (bytes : List ℕ) → event_bytes event ≡ bytes → has_some bytes ≡ true → 96 ∷ [] ≡ bytes
+      none_of bytes e some = mark_is event bytes e some where
+        mark_if : (t : Bool) (bytes : List ℕ) → (if t then 96 ∷ [] else []) ≡ bytes → has_some bytes ≡ true → 96 ∷ [] ≡ bytes
+        mark_if true bytes e some = e
+        mark_if false bytes e some = let no : false ≡ true = ap has_some e ∙ some in absurd cc
+
+        mark_is : (event : Event) (bytes : List ℕ) → event_bytes event ≡ bytes → has_some bytes ≡ true → 96 ∷ [] ≡ bytes
+        mark_is (Shows k chunk) bytes e some = let no : false ≡ true = ap has_some e ∙ some in absurd cc
+        mark_is (Opens b) bytes e some = mark_if (is_term_ref b) bytes e some
+        mark_is (Closes b) bytes e some = mark_if (is_term_ref b) bytes e some
+
+      at : (bytes : List ℕ) → event_bytes event ≡ bytes → event_bytes event ++ text_of (before ++ after) ≡ text → (text_of (before ++ after) ≡ text → BeginsWith before after text) → BeginsWith (Passed event ∷ before) after text
+      at [] e s ih =
+          let found : BeginsWith before after text = ih (sym (ap (λ xs. xs ++ text_of (before ++ after)) e) ∙ s) in
+          let none : length (event_bytes event) ≡ 0 = ap length e in
+          let sum : sum_by stretch_columns before ≡ 0 = found.no_columns in
+          let more : sum_by stretch_columns (Passed event ∷ before) ≡ length (event_bytes event) + sum_by stretch_columns before = sum_by-cons stretch_columns (Passed event) before in
+          record { no_columns = omega arith; rest = found.rest }
+      at (b ∷ bytes) e s ih =
+          let quote : 96 ∷ [] ≡ b ∷ bytes = none_of (b ∷ bytes) e refl in
+          let first : b ∷ (bytes ++ text_of (before ++ after)) ≡ 97 ∷ tail = sym (ap (λ xs. xs ++ text_of (before ++ after)) e) ∙ s ∙ is in
+          let one : 96 ≡ b = cc in let two : b ≡ 97 = cc in absurd (omega arith)
+
+-- a newline is the first byte before the next place
+newline_first : (between after : List Stretch) (f : Place) (c : ℕ) (more tail : List ℕ) → list_any is_raw_event (events_of between) ≡ false → f.shown ≡ c ∷ more → 11 ≤ c
+    → text_of (between ++ Placed f ∷ after) ≡ 10 ∷ tail → list_any is_newline between ≡ true
+newline_first [] after f c more tail raw shown big s =
+    let first : c ∷ (more ++ text_of after) ≡ 10 ∷ tail = sym (ap (λ xs. xs ++ text_of after) shown) ∙ s in
+    let same : c ≡ 10 = cc in absurd (omega arith)
+newline_first (Gap b ∷ between) after f c more tail raw shown big s = let same : b ≡ 10 = cc in rw same refl
+newline_first (Placed g ∷ between) after f c more tail raw shown big s = absurd cc
+newline_first (Passed event ∷ between) after f c more tail raw shown big s =
+    at event s (newline_first between after f c more tail (or_false_right (is_raw_event event) (list_any is_raw_event (events_of between)) raw) shown big) where
+      mark_if : (t : Bool) → (if t then 96 ∷ [] else []) ++ text_of (between ++ Placed f ∷ after) ≡ 10 ∷ tail → (text_of (between ++ Placed f ∷ after) ≡ 10 ∷ tail → list_any is_newline between ≡ true)
+          → list_any is_newline between ≡ true
+      mark_if true s ih = absurd (other 96 refl s) where
+        other : (b : ℕ) → b ≡ 96 → b ∷ text_of (between ++ Placed f ∷ after) ≡ 10 ∷ tail → ⊥
+        other b e s = let same : b ≡ 10 = cc in omega arith
+      mark_if false s ih = ih s
+
+      at : (event : Event) → event_bytes event ++ text_of (between ++ Placed f ∷ after) ≡ 10 ∷ tail → (text_of (between ++ Placed f ∷ after) ≡ 10 ∷ tail → list_any is_newline between ≡ true)
+          → list_any is_newline between ≡ true
+      at (Shows k chunk) s ih = ih s
+      at (Opens b) s ih = mark_if (is_term_ref b) s ih
+      at (Closes b) s ih = mark_if (is_term_ref b) s ih
+
+no_ink_between : (xs : List Stretch) → list_any is_raw_event (events_of xs) ≡ false → list_any is_inked_stretch xs ≡ false
+no_ink_between [] h = refl
+no_ink_between (Gap b ∷ xs) h = no_ink_between xs h
+no_ink_between (Placed e ∷ xs) h = absurd cc
+no_ink_between (Passed event ∷ xs) h =
+    let rest : list_any is_inked_stretch xs ≡ false = no_ink_between xs (or_false_right (is_raw_event event) (list_any is_raw_event (events_of xs)) h) in
+    let plain : is_inked_event event ≡ false = at event (or_false_left (is_raw_event event) (list_any is_raw_event (events_of xs)) h) in
+    rw plain rest where
+      at : (event : Event) → is_raw_event event ≡ false → is_inked_event event ≡ false
+      at (Shows k (Raw bytes weight)) h = absurd cc
+      at (Shows k Paragraph) h = refl
+      at (Shows k LineBreak) h = refl
+      at (Opens b) h = refl
+      at (Closes b) h = refl
+
+column_most : (r : List Stretch) → column_back r ≤ sum_by stretch_columns r
+column_most [] = omega arith
+column_most (x ∷ r) = at (is_newline x) (column_most r) (sum_by-cons stretch_columns x r) where
+  at : (t : Bool) → column_back r ≤ sum_by stretch_columns r → sum_by stretch_columns (x ∷ r) ≡ stretch_columns x + sum_by stretch_columns r → (if t then 0 else (stretch_columns x + column_back r)) ≤ sum_by stretch_columns (x ∷ r)
+  at true ih sum = omega arith
+  at false ih sum = omega arith
+
+no_column : (before : List Stretch) → sum_by stretch_columns before ≡ 0 → column before ≡ 0
+no_column before none =
+    let turned : column before ≡ column_back (reverse before) = ap column (sym (reverse-reverse before)) ∙ column_turned (reverse before) in
+    let most : column_back (reverse before) ≤ sum_by stretch_columns (reverse before) = column_most (reverse before) in
+    let same : sum_by stretch_columns (reverse before) ≡ sum_by stretch_columns before = sum_turned stretch_columns before in
+    omega arith
+
+shown_whole : (e : Place) (after : List Stretch) (bytes : List ℕ) → MayStand (Placed e) after → e.bytes ≡ bytes → trim_end bytes ≡ bytes → e.shown ≡ bytes
+shown_whole e after bytes (inl whole) is trim = whole ∙ is
+shown_whole e after bytes (inr cut) is trim = cut.0 ∙ ap trim_end is ∙ trim
+
+-- A page begins with the letter a and a newline, and then another chunk comes; between the two nothing is shown but marks that ask
+-- for no newline. So the page is narrow.
+narrow_page : {document : List Part} {width : ℕ} {text : List ℕ} (layout : IsLayout document true width text) → width < 1_000_000 → BeginsClear (shown_events true document)
+    → (front middle back : List Event) (j k c weight : ℕ) (tail : List ℕ)
+    → TwoPlaced layout.stretches front (Shows j (Raw (codes "a") 1)) middle (Shows k (Raw (c ∷ []) weight)) back
+    → list_any is_raw_event front ≡ false → list_any is_raw_event middle ≡ false → list_any asks_newline middle ≡ false
+    → is_inked (Raw (codes "a") 1) ≡ true → is_inked (Raw (c ∷ []) weight) ≡ true → trim_end (codes "a") ≡ codes "a" → trim_end (c ∷ []) ≡ c ∷ [] → 11 ≤ c → text ≡ 97 ∷ (10 ∷ tail)
+    → width < 1 + sum_by room_of middle + columns (c ∷ []) + greatest_margin document
+narrow_page {document} {width} {text} layout small clear front middle back j k c weight tail two front_raw middle_raw quiet inked second_inked trim second_trim big begins =
+    let whole : text_of (two.before ++ Placed two.e ∷ (two.between ++ Placed two.f ∷ two.after)) ≡ text = sym (ap text_of two.order) ∙ layout.placing.whole_text in
+    let stand : EachMayStand (two.before ++ Placed two.e ∷ (two.between ++ Placed two.f ∷ two.after)) = subst EachMayStand two.order layout.placing.each_stretch in
+    let start : BeginsWith two.before (Placed two.e ∷ (two.between ++ Placed two.f ∷ two.after)) text =
+    begins_with two.before (Placed two.e ∷ (two.between ++ Placed two.f ∷ two.after)) text (10 ∷ tail) stand (ap (list_any is_raw_event) two.events_before ∙ front_raw) begins whole in
+    let e_stand : EachMayStand (Placed two.e ∷ (two.between ++ Placed two.f ∷ two.after)) = may_stand_after two.before (Placed two.e ∷ (two.between ++ Placed two.f ∷ two.after)) stand in
+    let f_stand : EachMayStand (Placed two.f ∷ two.after) = may_stand_after two.between (Placed two.f ∷ two.after) (may_stand_rest (Placed two.e) (two.between ++ Placed two.f ∷ two.after) e_stand) in
+    let shown : two.e.shown ≡ codes "a" =
+    shown_whole two.e (two.between ++ Placed two.f ∷ two.after) (codes "a") (e_stand [] (two.between ++ Placed two.f ∷ two.after) (Placed two.e) refl) (bytes_of two.e j (codes "a") 1 two.first_shows) trim in
+    let second_shown : two.f.shown ≡ c ∷ [] = shown_whole two.f two.after (c ∷ []) (f_stand [] two.after (Placed two.f) refl) (bytes_of two.f k (c ∷ []) weight two.second_shows) second_trim in
+    let rest : codes "a" ++ text_of (two.between ++ Placed two.f ∷ two.after) ≡ 97 ∷ (10 ∷ tail) = sym (ap (λ xs. xs ++ text_of (two.between ++ Placed two.f ∷ two.after)) shown) ∙ start.rest ∙ begins in
+    let behind_first : text_of (two.between ++ Placed two.f ∷ two.after) ≡ 10 ∷ tail = cc in
+    let raw : list_any is_raw_event (events_of two.between) ≡ false = ap (list_any is_raw_event) two.events_between ∙ middle_raw in
+    let line : list_any is_newline two.between ≡ true = newline_first two.between two.after two.f c [] tail raw second_shown big behind_first in
+    let apart : AreApart layout.stretches two.before two.e two.between two.f =
+    record { after = two.after; order = two.order; first_inked = ap is_inked_event two.first_shows ∙ inked; second_inked = ap is_inked_event two.second_shows ∙ second_inked } in
+    let over : width < column two.before + two.e.weight + sum_by room_of (events_of two.between) + columns two.f.bytes + (if two.e.part == two.f.part then 0 else greatest_margin document) =
+    layout.room small clear two.before two.between two.e two.f apart (ap not (no_ink_between two.between raw)) (ap (λ es. not (list_any asks_newline es)) two.events_between ∙ ap not quiet) line in
+    let zero_column : column two.before ≡ 0 = no_column two.before start.no_columns in
+    let one : two.e.weight ≡ 1 = weight_of two.e j (codes "a") 1 two.first_shows in
+    let taken_is : sum_by room_of (events_of two.between) ≡ sum_by room_of middle = ap (λ es. sum_by room_of es) two.events_between in
+    let columns_is : columns two.f.bytes ≡ columns (c ∷ []) = ap columns (bytes_of two.f k (c ∷ []) weight two.second_shows) in
+    let most : (if two.e.part == two.f.part then 0 else greatest_margin document) ≤ greatest_margin document = at_most (two.e.part == two.f.part) in
+    omega arith where
+      weight_of : (e : Place) (k : ℕ) (bytes : List ℕ) (weight : ℕ) → Shows e.part (chunk_at e) ≡ Shows k (Raw bytes weight) → e.weight ≡ weight
+      weight_of e k bytes weight s = cc
+
+      at_most : (t : Bool) → (if t then 0 else greatest_margin document) ≤ greatest_margin document
+      at_most true = omega arith
+      at_most false = omega arith
+
+-- room: a break at a term reference
+abbrev with_reference : List Part
+with_reference = words (codes "a") ++ inside block.TermRef (words (codes "b"))
+
+break_at_reference : IsLayout with_reference true 100 (codes "a\n`b`") → ⊥
+unfolding computed
+break_at_reference layout =
+    let two : TwoPlaced layout.stretches [] (Shows 0 (Raw (codes "a") 1)) (Opens block.TermRef ∷ []) (Shows 2 (Raw (codes "b") 1)) (Closes block.TermRef ∷ []) =
+    two_placed layout.stretches layout.placing.each_stretch [] (Shows 0 (Raw (codes "a") 1)) (Opens block.TermRef ∷ []) (Shows 2 (Raw (codes "b") 1)) (Closes block.TermRef ∷ []) layout.placing.all_events refl refl in
+    let narrow : 100 < 1 + sum_by room_of (Opens block.TermRef ∷ []) + columns (codes "b") + greatest_margin with_reference =
+    narrow_page layout (omega arith) refl [] (Opens block.TermRef ∷ []) (Closes block.TermRef ∷ []) 0 2 98 1 (codes "`b`") two refl refl refl refl refl refl refl (omega arith) refl in
+    omega arith
+
+-- room: a break at a section's end
+abbrev after_section : List Part
+after_section = inside block.Section2 (words (codes "a")) ++ words (codes "b")
+
+break_at_section_end : IsLayout after_section true 100 (codes "a\nb") → ⊥
+unfolding computed
+break_at_section_end layout =
+    let two : TwoPlaced layout.stretches (Opens block.Section2 ∷ []) (Shows 1 (Raw (codes "a") 1)) (Closes block.Section2 ∷ []) (Shows 3 (Raw (codes "b") 1)) [] =
+    two_placed layout.stretches layout.placing.each_stretch (Opens block.Section2 ∷ []) (Shows 1 (Raw (codes "a") 1)) (Closes block.Section2 ∷ []) (Shows 3 (Raw (codes "b") 1)) [] layout.placing.all_events refl refl in
+    let narrow : 100 < 1 + sum_by room_of (Closes block.Section2 ∷ []) + columns (codes "b") + greatest_margin after_section =
+    narrow_page layout (omega arith) refl (Opens block.Section2 ∷ []) (Closes block.Section2 ∷ []) [] 1 3 98 1 (codes "b") two refl refl refl refl refl refl refl (omega arith) refl in
+    omega arith
+
+-- room: a break before a code line
+abbrev word_then_code : List Part
+word_then_code = words (codes "a\n    c")
+
+break_before_code : IsLayout word_then_code true 100 (codes "a\nc") → ⊥
+unfolding computed
+break_before_code layout =
+    let two : TwoPlaced layout.stretches [] (Shows 0 (Raw (codes "a") 1)) [] (Shows 0 (Raw (codes "c") code_weight)) [] =
+    two_placed layout.stretches layout.placing.each_stretch [] (Shows 0 (Raw (codes "a") 1)) [] (Shows 0 (Raw (codes "c") code_weight)) [] layout.placing.all_events refl refl in
+    let narrow : 100 < 1 + sum_by room_of [] + columns (codes "c") + greatest_margin word_then_code =
+    narrow_page layout (omega arith) refl [] [] [] 0 0 99 code_weight (codes "c") two refl refl refl refl refl refl refl (omega arith) refl in
+    omega arith

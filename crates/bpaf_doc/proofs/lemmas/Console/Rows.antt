@@ -9,6 +9,7 @@ use Rattle.bpaf_doc.specs.declared.buffer.Block.TheVariants as block
 use Rattle.bpaf_doc.specs.Buffer.Parts.{Part, Text, Start, End}
 use Rattle.bpaf_doc.specs.Splitter.Chunks.{chunks_of, chunks_in, chunks_within}
 use Rattle.bpaf_doc.specs.Console.Exact.{console_page}
+use Rattle.bpaf_doc.specs.Console.Margin.{greatest_margin}
 
 -- what has to unfold to compute the page of an ASCII document
 unfoldable pub computed : ℕ
@@ -141,3 +142,23 @@ row_22_sections = refl
 row_23 : console_page true 20 (replicate 10 (Start block.Section3) ++ words (codes "x y")) ≡ replicate 20 32 ++ (codes "x\n" ++ (replicate 20 32 ++ codes "y"))
 unfolding computed
 row_23 = refl
+
+-- The two blanks before an item's body come again and again, where the texts of the bodies have no ink: of 48 columns the words and the
+-- blanks of the texts take 40 and the greatest margin 6, and yet there is a break.
+abbrev blank_body : List Part
+blank_body = inside block.ItemBody (words (codes " "))
+
+abbrev blank_bodies : List Part
+blank_bodies = words (replicate 30 97) ++ (blank_body ++ (blank_body ++ (blank_body ++ (blank_body ++ (blank_body ++ words (codes "bbbbb"))))))
+
+row_bodies : console_page true 48 blank_bodies ≡ replicate 30 97 ++ codes "\nbbbbb"
+unfolding computed
+row_bodies = refl
+
+row_bodies_wider : console_page true 50 blank_bodies ≡ replicate 30 97 ++ (replicate 15 32 ++ codes "bbbbb")
+unfolding computed
+row_bodies_wider = refl
+
+row_bodies_margin : greatest_margin blank_bodies ≡ 6
+unfolding computed
+row_bodies_margin = refl

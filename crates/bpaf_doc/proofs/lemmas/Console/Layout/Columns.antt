@@ -153,7 +153,7 @@ agrees_begins f (first t e) h = subst Agrees (sym e) h
 agrees_begins f (stays t l w) h = agrees_lines f l h
 agrees_begins f (wraps t mid l w b e) h = subst Agrees (sym e) (inl refl)
 
-heavy : (weight : ℕ) → (not (weight == code_weight) && not (weight == fence_weight)) ≡ false → 1_000_000 ≤ weight
+pub heavy : (weight : ℕ) → (not (weight == code_weight) && not (weight == fence_weight)) ≡ false → 1_000_000 ≤ weight
 heavy weight o = grind (arith, nat_tests)
 
 pub sat_agrees : (a b : ℕ) → a ≡ b → (sat a ≡ b) ⊎ (1_000_000 ≤ sat a)

@@ -7,12 +7,12 @@ use Rattle.bpaf_doc.specs.declared.buffer.Block.TheVariants as blocks
 use Rattle.bpaf_doc.specs.Splitter.Chunks.{Chunk, Raw, Paragraph, LineBreak, columns, is_inked, is_ordinary}
 use Rattle.bpaf_doc.specs.Console.Layout.{Event, Shows, Opens, Closes, Stretch, Gap, Placed, Passed, Place, chunk_at, event_bytes, event_columns, is_inked_stretch, is_light, is_light_mark, is_inline_block}
 use Rattle.bpaf_doc.specs.declared.console.page.Asked.{Asked}
-use Rattle.bpaf_doc.specs.declared.console.page.Asked.TheVariants.{Nothing, NewLine, BlankLine}
-use Rattle.bpaf_doc.proofs.lemmas.Console.Layout.State.{State, Piece, Lines, none_asked, line_there, line_put, blank_there, second_put, both_put, Pads, to_margin, after_term, Begins, first, stays, wraps, places, drops, Next, raw, break, mark, Grows, placing, breaking, passing, padded, trimmed, has_text, sat, wrapped, put, passed, dropped, broken, asked_after, pending_after, Fits, Suits, raw_suits, paragraph_suits, line_break_suits, open_suits, close_suits}
+use Rattle.bpaf_doc.specs.declared.console.page.Asked.TheVariants.{Nothing}
+use Rattle.bpaf_doc.proofs.lemmas.Console.Layout.State.{State, Piece, Lines, Pads, to_margin, after_term, Begins, first, stays, wraps, places, drops, Next, raw, break, mark, Grows, placing, breaking, passing, padded, trimmed, has_text, sat, wrapped, put, passed, dropped, broken, asked_after, pending_after, Fits, Suits, raw_suits, paragraph_suits, line_break_suits, open_suits, close_suits}
 use Rattle.bpaf_doc.proofs.lemmas.Console.Layout.Back.{EachPlace, each_grows, place_of, fits_of}
 use Rattle.bpaf_doc.proofs.lemmas.Console.Layout.Columns.{Fills, column_back, column_padded, Agrees}
 use Rattle.bpaf_doc.proofs.lemmas.Console.Layout.Text.{EachPassed, NoInk, ink_text, IsStarting, begins_column}
-use Rattle.bpaf_doc.proofs.lemmas.Console.Layout.Split.{events_back, events_padded, Cut, FirstOrLater, here, later, cut_cons, AfterGap, cut_gap, AfterPassed, cut_passed, AfterPads, cut_padded, FromTrimmed, cut_trimmed, has_newline, newline_padded, ink_at}
+use Rattle.bpaf_doc.proofs.lemmas.Console.Layout.Split.{events_back, events_padded, lines_same, Earlier, after_lines, Cut, FirstOrLater, here, later, cut_cons, AfterGap, cut_gap, AfterPassed, cut_passed, AfterPads, cut_padded, FromTrimmed, cut_trimmed, has_newline, newline_padded, ink_at}
 
 -- the columns of the chunks among some events
 abbrev pub chunk_columns : List Event → ℕ
@@ -57,36 +57,6 @@ module _ (width : ℕ) where
   IsMarked st = (m before : List Stretch) (e : Place) → Cut st.back m e before → IsPlain e → list_all is_light_mark (events_back m) ≡ true → Marked st (reach m e before) (has_newline m)
 
   -- ---- where a chunk begins
-
-  -- the page and what is asked for are as they were, since nothing was asked for
-  lines_same : {st mid : State} → st.asked ≡ Nothing → Lines st mid → mid ≡ st
-  lines_same h (none_asked a e) = e
-  lines_same h (line_there a b e) = absurd (let c : NewLine ≡ Nothing = sym a ∙ h in cc)
-  lines_same h (line_put a e) = absurd (let c : NewLine ≡ Nothing = sym a ∙ h in cc)
-  lines_same h (blank_there a b e) = absurd (let c : BlankLine ≡ Nothing = sym a ∙ h in cc)
-  lines_same h (second_put a b e) = absurd (let c : BlankLine ≡ Nothing = sym a ∙ h in cc)
-  lines_same h (both_put a e) = absurd (let c : BlankLine ≡ Nothing = sym a ∙ h in cc)
-
-  -- a cut after what was asked for is one of the page before, at the same events
-  record Earlier (r m : List Stretch) (e : Place) (before : List Stretch) : Type 0 where
-    rest : List Stretch
-    there : Cut r rest e before
-    events : events_back rest ≡ events_back m
-
-  after_lines : {st mid : State} → Lines st mid → (m before : List Stretch) (e : Place) → Cut mid.back m e before → Earlier st.back m e before
-  after_lines (none_asked a s) m before e there = record { rest = m; there = subst (λ (x : State). Cut x.back m e before) s there; events = refl }
-  after_lines (line_there a b s) m before e there = record { rest = m; there = subst (λ (x : State). Cut x.back m e before) s there; events = refl }
-  after_lines {st} (line_put a s) m before e there =
-      let found : AfterGap 10 st.back m e before = cut_gap 10 st.back m e before (subst (λ (x : State). Cut x.back m e before) s there) in
-      record { rest = found.rest; there = found.there; events = sym (ap events_back found.is) }
-  after_lines (blank_there a b s) m before e there = record { rest = m; there = subst (λ (x : State). Cut x.back m e before) s there; events = refl }
-  after_lines {st} (second_put a b s) m before e there =
-      let found : AfterGap 10 st.back m e before = cut_gap 10 st.back m e before (subst (λ (x : State). Cut x.back m e before) s there) in
-      record { rest = found.rest; there = found.there; events = sym (ap events_back found.is) }
-  after_lines {st} (both_put a s) m before e there =
-      let found : AfterGap 10 (Gap 10 ∷ st.back) m e before = cut_gap 10 (Gap 10 ∷ st.back) m e before (subst (λ (x : State). Cut x.back m e before) s there) in
-      let next : AfterGap 10 st.back found.rest e before = cut_gap 10 st.back found.rest e before found.there in
-      record { rest = next.rest; there = next.there; events = sym (ap events_back found.is ∙ ap events_back next.is) }
 
   pub no_first : (st : State) → EachPlace Fills st.back → EachPassed NoInk st.back → has_text st.back ≡ false → (m before : List Stretch) (e : Place) → Cut st.back m e before → IsPlain e → ⊥
   no_first st f q none m before e there plain =

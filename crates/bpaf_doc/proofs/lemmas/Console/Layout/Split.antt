@@ -2,10 +2,12 @@
 use Rattle.std.specs.Prelude.{◌≡◌, ℕ, zero, suc, Bool, true, false, ◌||◌, List, [], ◌∷◌, ◌++◌, refl, ◌⊎◌}
 use Rattle.std.specs.List.{list_any}
 use Rattle.std.proofs.Common.{sym, subst, ap, inl, inr, ◌∙◌}
-use Rattle.bpaf_doc.specs.Splitter.Chunks.{is_inked, has_some}
+use Rattle.bpaf_doc.specs.Splitter.Chunks.{Raw, is_inked, has_some}
 use Rattle.bpaf_doc.specs.Console.Layout.{Event, Shows, Stretch, Gap, Placed, Passed, Place, chunk_at, event_bytes, is_newline, is_inked_stretch}
 use Rattle.bpaf_doc.proofs.lemmas.Console.Layout.Columns.{any_in_line}
-use Rattle.bpaf_doc.proofs.lemmas.Console.Layout.State.{padded, trimmed, cut}
+use Rattle.bpaf_doc.proofs.lemmas.Console.Layout.State.{State, Piece, Lines, none_asked, line_there, line_put, blank_there, second_put, both_put, Begins, first, stays, wraps, places, drops, Next, Grows, placing, breaking, passing, padded, trimmed, cut}
+use Rattle.bpaf_doc.proofs.lemmas.Console.Layout.Text.{next_event}
+use Rattle.bpaf_doc.specs.declared.console.page.Asked.TheVariants.{Nothing, NewLine, BlankLine}
 use Rattle.bpaf_doc.proofs.lemmas.Console.Layout.Back.{by_cases, trimmed_inked, trimmed_plain, trimmed_bytes, trimmed_bare}
 
 -- ---- the events, newest first
@@ -31,6 +33,29 @@ events_trimmed (Passed event ∷ r) = at (by_cases (has_some (event_bytes event)
   at : (has_some (event_bytes event) ≡ true) ⊎ (has_some (event_bytes event) ≡ false) → events_back (trimmed r) ≡ events_back r → events_back (trimmed (Passed event ∷ r)) ≡ events_back (Passed event ∷ r)
   at (inl i) ih = subst (λ x. events_back x ≡ events_back (Passed event ∷ r)) (sym (trimmed_bytes event r i)) refl
   at (inr i) ih = subst (λ x. events_back x ≡ events_back (Passed event ∷ r)) (sym (trimmed_bare event r i)) (ap (λ es. event ∷ es) ih)
+
+-- ---- the events as a page grows
+
+events_lines : {st mid : State} → Lines st mid → events_back mid.back ≡ events_back st.back
+events_lines (none_asked a e) = ap (λ (s : State). events_back s.back) e
+events_lines (line_there a b e) = ap (λ (s : State). events_back s.back) e
+events_lines (line_put a e) = ap (λ (s : State). events_back s.back) e
+events_lines (blank_there a b e) = ap (λ (s : State). events_back s.back) e
+events_lines (second_put a b e) = ap (λ (s : State). events_back s.back) e
+events_lines (both_put a e) = ap (λ (s : State). events_back s.back) e
+
+pub events_begins : {width : ℕ} {st : State} {p : Piece} {base : State} → Begins width st p base → events_back base.back ≡ events_back st.back
+events_begins (first t e) = ap (λ (s : State). events_back s.back) e
+events_begins (stays t l w) = events_lines l
+events_begins (wraps t mid l w b e) = ap (λ (s : State). events_back s.back) e ∙ events_trimmed mid.back ∙ events_lines l
+
+pub events_grows : {width : ℕ} {st after : State} {next : Next} → Grows width st next after → events_back after.back ≡ next_event next ∷ events_back st.back
+events_grows {st = st} (placing p e (places base n b d a)) =
+    ap (λ (s : State). events_back s.back) a ∙ ap (λ es. Shows p.part (Raw p.bytes p.weight) ∷ es) (events_padded n base.back ∙ events_begins b) ∙ ap (λ (x : Next). next_event x ∷ events_back st.back) (sym e)
+events_grows {st = st} (placing p e (drops t mid l w b a)) =
+    ap (λ (s : State). events_back s.back) a ∙ ap (λ es. Shows p.part (Raw p.bytes p.weight) ∷ es) (events_trimmed mid.back ∙ events_lines l) ∙ ap (λ (x : Next). next_event x ∷ events_back st.back) (sym e)
+events_grows {st = st} (breaking k chunk e a) = ap (λ (s : State). events_back s.back) a ∙ ap (λ (x : Next). next_event x ∷ events_back st.back) (sym e)
+events_grows {st = st} (passing event level e a) = ap (λ (s : State). events_back s.back) a ∙ ap (λ (x : Next). next_event x ∷ events_back st.back) (sym e)
 
 -- ---- cuts
 
@@ -149,6 +174,38 @@ cut_trimmed (Passed event ∷ r) m e before h = at (by_cases (has_some (event_by
       → FromTrimmed (Passed event ∷ r) m e before
   at (inl i) ih = same_cut (Passed event ∷ r) m e before (subst (λ x. Cut x m e before) (trimmed_bytes event r i) h)
   at (inr i) ih = bare (subst (λ x. Cut x m e before) (trimmed_bare event r i) h) ih
+
+-- ---- what was asked for
+
+-- the page and what is asked for are as they were, since nothing was asked for
+pub lines_same : {st mid : State} → st.asked ≡ Nothing → Lines st mid → mid ≡ st
+lines_same h (none_asked a e) = e
+lines_same h (line_there a b e) = absurd (let c : NewLine ≡ Nothing = sym a ∙ h in cc)
+lines_same h (line_put a e) = absurd (let c : NewLine ≡ Nothing = sym a ∙ h in cc)
+lines_same h (blank_there a b e) = absurd (let c : BlankLine ≡ Nothing = sym a ∙ h in cc)
+lines_same h (second_put a b e) = absurd (let c : BlankLine ≡ Nothing = sym a ∙ h in cc)
+lines_same h (both_put a e) = absurd (let c : BlankLine ≡ Nothing = sym a ∙ h in cc)
+
+-- a cut after what was asked for is one of the page before, at the same events
+pub record Earlier (r m : List Stretch) (e : Place) (before : List Stretch) : Type 0 where
+  pub rest : List Stretch
+  pub there : Cut r rest e before
+  pub events : events_back rest ≡ events_back m
+
+pub after_lines : {st mid : State} → Lines st mid → (m before : List Stretch) (e : Place) → Cut mid.back m e before → Earlier st.back m e before
+after_lines (none_asked a s) m before e there = record { rest = m; there = subst (λ (x : State). Cut x.back m e before) s there; events = refl }
+after_lines (line_there a b s) m before e there = record { rest = m; there = subst (λ (x : State). Cut x.back m e before) s there; events = refl }
+after_lines {st} (line_put a s) m before e there =
+    let found : AfterGap 10 st.back m e before = cut_gap 10 st.back m e before (subst (λ (x : State). Cut x.back m e before) s there) in
+    record { rest = found.rest; there = found.there; events = sym (ap events_back found.is) }
+after_lines (blank_there a b s) m before e there = record { rest = m; there = subst (λ (x : State). Cut x.back m e before) s there; events = refl }
+after_lines {st} (second_put a b s) m before e there =
+    let found : AfterGap 10 st.back m e before = cut_gap 10 st.back m e before (subst (λ (x : State). Cut x.back m e before) s there) in
+    record { rest = found.rest; there = found.there; events = sym (ap events_back found.is) }
+after_lines {st} (both_put a s) m before e there =
+    let found : AfterGap 10 (Gap 10 ∷ st.back) m e before = cut_gap 10 (Gap 10 ∷ st.back) m e before (subst (λ (x : State). Cut x.back m e before) s there) in
+    let next : AfterGap 10 st.back found.rest e before = cut_gap 10 st.back found.rest e before found.there in
+    record { rest = next.rest; there = next.there; events = sym (ap events_back found.is ∙ ap events_back next.is) }
 
 -- ---- a newline since a place
 

@@ -198,6 +198,12 @@ IsClear st (raw p) = is_empty_code (Shows p.part (Raw p.bytes p.weight)) ≡ tru
 IsClear st (break k chunk) = ⊤
 IsClear st (mark event margin) = ⊤
 
+-- each margin that comes is at most this
+abbrev pub IsShallow : ℕ → Next → Type 0
+IsShallow deepest (raw p) = ⊤
+IsShallow deepest (break k chunk) = ⊤
+IsShallow deepest (mark event level) = level ≤ deepest
+
 -- before anything is written
 abbrev pub blank_page : State
 blank_page = record { back = []; column = 0; asked = Nothing; pending = false; margin = 0; latest = 0; marked = false; settled = false }

@@ -13,16 +13,17 @@ use Rattle.bpaf_doc.specs.Buffer.Parts.{Part, ink}
 use Rattle.bpaf_doc.specs.Splitter.Chunks.{Raw, Paragraph, LineBreak, columns, is_inked, is_ordinary, has_some, starts}
 use Rattle.bpaf_doc.specs.Shown.{console_ink, is_term_ref}
 use Rattle.bpaf_doc.specs.Console.Margin.{margin, greatest_margin}
-use Rattle.bpaf_doc.specs.Console.Layout.{Event, Shows, Opens, Closes, Stretch, Gap, Placed, Passed, Place, chunk_at, event_bytes, event_columns, stretch_columns, text_of, events_of, shown_events, is_newline, is_placed, holds_line, leads_to_place, is_inked_event, is_inked_stretch, is_empty_code, is_written, is_raw_event, is_ref, asks_newline, asks_blank_line, is_light, is_light_mark, opens_body, column, padding, line_before, stretch_lines, MayStand, BreaksWhereAsked, KeepsBlanks, IsKept, BeginsClear, IsFirstInLine, events_since_ink, is_raw_or_ref, FollowsBlank, KeepsMargin, WrapsOnlyIfNeeded, IsBounded, FitsWidth, PadsToMargin, StandsAlone, HasBlankLine, widest, IsLayout}
-use Rattle.bpaf_doc.proofs.lemmas.Console.Layout.State.{State, Piece, has_text, Next, raw, break, mark, Grows, placing, breaking, passing, places, drops, Begins, first, stays, wraps, Lines, none_asked, line_there, line_put, blank_there, second_put, both_put, Suits, IsClear, blank_page, Written, nothing, more, Ends, as_is, with_newline}
+use Rattle.bpaf_doc.specs.Console.Layout.{Event, Shows, Opens, Closes, Stretch, Gap, Placed, Passed, Place, chunk_at, event_bytes, event_columns, stretch_columns, text_of, events_of, shown_events, is_newline, is_placed, holds_line, leads_to_place, is_inked_event, is_inked_stretch, is_empty_code, is_written, is_raw_event, is_ref, asks_newline, asks_blank_line, is_light, is_light_mark, opens_body, column, padding, line_before, stretch_lines, MayStand, BreaksWhereAsked, KeepsBlanks, IsKept, BeginsClear, IsFirstInLine, events_since_ink, is_raw_or_ref, FollowsBlank, KeepsMargin, WrapsOnlyIfNeeded, IsBounded, FitsWidth, PadsToMargin, StandsAlone, room_of, BreaksForRoom, HasBlankLine, widest, IsLayout}
+use Rattle.bpaf_doc.proofs.lemmas.Console.Layout.State.{State, has_text, IsShallow, Next, raw, break, mark, Grows, placing, breaking, passing, places, drops, Suits, IsClear, blank_page, Written, nothing, more, Ends, as_is, with_newline}
 use Rattle.bpaf_doc.proofs.lemmas.Console.Layout.Back.{by_cases, EachPlace}
 use Rattle.bpaf_doc.proofs.lemmas.Console.Layout.Columns.{Fills, fills_grows, Agrees, agrees_grows, column_back}
 use Rattle.bpaf_doc.proofs.lemmas.Console.Layout.Text.{EachPassed, NoInk, no_ink_grows, IsStarting, starting_grows, next_event, text_stays, text_written, begins_margin, lines_margin}
 use Rattle.bpaf_doc.proofs.lemmas.Console.Layout.Margin.{AtMargin, at_margin_grows}
 use Rattle.bpaf_doc.proofs.lemmas.Console.Layout.Bound.{EachFront, Within, IsBare, WritesNone, IsNarrow, bare_grows, bound, within_grows}
 use Rattle.bpaf_doc.proofs.lemmas.Console.Layout.Pads.{FitsBefore, fits_width_grows, holds_back, IsLed, Leads, led_grows, leads_at, HasNoPads, no_pads_grows, IsPending, pending_grows, PadsOnly, pads_only_grows, pads_back, body_back}
+use Rattle.bpaf_doc.proofs.lemmas.Console.Layout.Room.{ComesInOrder, in_order_blank, in_order_grows, IsAfterAll, after_all_grows, part_later, is_chunk, taken, allowance, room, IsRoomy, roomy_grows, HasNoRoom, no_room_grows, is_idle, idle_all}
 use Rattle.bpaf_doc.proofs.lemmas.Console.Layout.Alone.{IsHeavy, heavy_grows, AloneBefore, alone_grows}
-use Rattle.bpaf_doc.proofs.lemmas.Console.Layout.Split.{events_back, events_padded, events_trimmed, Cut, has_newline, inked_line, inked_since}
+use Rattle.bpaf_doc.proofs.lemmas.Console.Layout.Split.{events_back, events_grows, Cut, has_newline, inked_line, inked_since}
 use Rattle.bpaf_doc.proofs.lemmas.Console.Layout.Asked.{IsAskedLine, asked_line_grows, IsFreeOfDebt, free_of_debt_grows, owes_line}
 use Rattle.bpaf_doc.proofs.lemmas.Console.Layout.Blank.{IsAskedBlank, asked_blank_grows, IsFreshAtZero, fresh_grows, HasBlankBefore, blank_before_grows, text_back, text_back_cons}
 use Rattle.bpaf_doc.proofs.lemmas.Console.Layout.Kept.{InOrder, order_grows, IsSettled, settled_grows, IsUnsettled, unsettled_grows, IsSmall, small_grows, IsKeptSince, kept_since_grows, KeepsBefore, keeps_before_grows, AllKept}
@@ -32,27 +33,6 @@ use Rattle.bpaf_doc.proofs.lemmas.Console.Layout.Cuts.{MayEnd, IsWhole, whole_gr
 use Rattle.bpaf_doc.proofs.lemmas.Console.Layout.Turned.{reverse_cons, any_turned, all_turned, sum_turned, events_turned, events_between, column_turned, line_turned, padding_turned, body_turned, quiet_turned, lines_bounded, turned_at, turned_between, place_at}
 
 -- ---- the events of a page
-
-events_lines : {st mid : State} → Lines st mid → events_back mid.back ≡ events_back st.back
-events_lines (none_asked a e) = ap (λ (s : State). events_back s.back) e
-events_lines (line_there a b e) = ap (λ (s : State). events_back s.back) e
-events_lines (line_put a e) = ap (λ (s : State). events_back s.back) e
-events_lines (blank_there a b e) = ap (λ (s : State). events_back s.back) e
-events_lines (second_put a b e) = ap (λ (s : State). events_back s.back) e
-events_lines (both_put a e) = ap (λ (s : State). events_back s.back) e
-
-events_begins : {width : ℕ} {st : State} {p : Piece} {base : State} → Begins width st p base → events_back base.back ≡ events_back st.back
-events_begins (first t e) = ap (λ (s : State). events_back s.back) e
-events_begins (stays t l w) = events_lines l
-events_begins (wraps t mid l w b e) = ap (λ (s : State). events_back s.back) e ∙ events_trimmed mid.back ∙ events_lines l
-
-events_grows : {width : ℕ} {st after : State} {next : Next} → Grows width st next after → events_back after.back ≡ next_event next ∷ events_back st.back
-events_grows {st = st} (placing p e (places base n b d a)) =
-    ap (λ (s : State). events_back s.back) a ∙ ap (λ es. Shows p.part (Raw p.bytes p.weight) ∷ es) (events_padded n base.back ∙ events_begins b) ∙ ap (λ (x : Next). next_event x ∷ events_back st.back) (sym e)
-events_grows {st = st} (placing p e (drops t mid l w b a)) =
-    ap (λ (s : State). events_back s.back) a ∙ ap (λ es. Shows p.part (Raw p.bytes p.weight) ∷ es) (events_trimmed mid.back ∙ events_lines l) ∙ ap (λ (x : Next). next_event x ∷ events_back st.back) (sym e)
-events_grows {st = st} (breaking k chunk e a) = ap (λ (s : State). events_back s.back) a ∙ ap (λ (x : Next). next_event x ∷ events_back st.back) (sym e)
-events_grows {st = st} (passing event level e a) = ap (λ (s : State). events_back s.back) a ∙ ap (λ (x : Next). next_event x ∷ events_back st.back) (sym e)
 
 map_snoc : (xs : List Next) (x : Next) → map next_event (xs ++ x ∷ []) ≡ map next_event xs ++ next_event x ∷ []
 map_snoc [] x = refl
@@ -263,12 +243,6 @@ module _ {width : ℕ} {margin_of : ℕ → ℕ} {clear : State → Next → Typ
 
 -- ---- the bound
 
--- each margin that comes is at most this
-abbrev pub IsShallow : ℕ → Next → Type 0
-IsShallow deepest (raw p) = ⊤
-IsShallow deepest (break k chunk) = ⊤
-IsShallow deepest (mark event level) = level ≤ deepest
-
 abbrev pub EachNext : (Next → Type 0) → List Next → Type 0
 EachNext Q [] = ⊤
 EachNext Q (x ∷ xs) = Q x × EachNext Q xs
@@ -302,6 +276,35 @@ module _ {width : ℕ} {margin_of : ℕ → ℕ} {clear : State → Next → Typ
         bare = bare_grows parts.1.2 g ih.bare;
         margin = shallow_grows parts.1.0 g ih.margin;
         lines = within_grows width deepest most small b.fills ih.bare b.agrees ih.margin parts.1.2 parts.1.1 g ih.lines;
+      }
+
+-- ---- the room in a line
+
+record Spacious (width deepest : ℕ) (st : State) : Type 0 where
+  in_order : ComesInOrder st
+  after_all : EachPlace IsAfterAll st.back
+  roomy : IsRoomy width deepest st
+  no_room : EachPlace (HasNoRoom width deepest) st.back
+
+spacious_blank : (width deepest : ℕ) → Spacious width deepest blank_page
+spacious_blank width deepest = record { in_order = in_order_blank blank_page refl; after_all = tt; roomy = λ m before e h i a. nothing_cut m before e h; no_room = tt }
+
+module _ {width : ℕ} {margin_of : ℕ → ℕ} {clear : State → Next → Type 0} where
+  written_spacious : {nexts : List Next} {st : State} (deepest : ℕ) → width < 1_000_000 → Written width margin_of clear nexts st → clear_front (map next_event nexts) ≡ true
+      → EachNext (IsShallow deepest) nexts → Spacious width deepest st
+  written_spacious deepest small (nothing e s) h shallow = subst (Spacious width deepest) (sym s) (spacious_blank width deepest)
+  written_spacious deepest small (more earlier before next e w suits c g) h shallow =
+      let front : clear_front (map next_event earlier ++ next_event next ∷ []) ≡ true = subst (λ es. clear_front es ≡ true) (ap (λ ns. map next_event ns) e ∙ map_snoc earlier next) h in
+      let first : clear_front (map next_event earlier) ≡ true = (clear_snoc (map next_event earlier) (next_event next) front).0 in
+      let parts : EachNext (IsShallow deepest) earlier × IsShallow deepest next = each_snoc (IsShallow deepest) earlier next (subst (λ ns. EachNext (IsShallow deepest) ns) e shallow) in
+      let b : Base width before = written_base w in
+      let c : Clearly width margin_of before = written_clearly small w first in
+      let ih : Spacious width deepest before = written_spacious deepest small w first parts.0 in
+      record {
+        in_order = in_order_grows suits g ih.in_order;
+        after_all = after_all_grows suits ih.in_order g ih.after_all;
+        roomy = roomy_grows width deepest small b.fills c.starting b.agrees suits parts.1 g ih.roomy;
+        no_room = no_room_grows width deepest c.starting ih.roomy g ih.no_room;
       }
 
 -- ---- the end of the page
@@ -569,6 +572,39 @@ module _ (width : ℕ) (document : List Part) (st : State) (final : List Stretch
     alone_law : StandsAlone stretches
     alone_law = λ before between after e f s whole. sym (any_turned is_newline between) ∙ law_at AloneBefore clearly.alone before between after e f s (reverse between) (reverse before) e refl whole
 
+    room_law : Spacious width (greatest_margin document) st → BreaksForRoom document width stretches
+    room_law spacious = λ before between e f h plain quiet line.
+        let idle : list_all is_idle (events_back (reverse between)) ≡ true =
+        idle_all (reverse between) (any_turned is_inked_stretch between ∙ not_true (list_any is_inked_stretch between) plain)
+        (events_any asks_newline between ∙ not_true (list_any asks_newline (events_of between)) quiet) in
+        let over : width < room (greatest_margin document) (events_back (reverse between)) e (reverse before) + columns f.bytes =
+        law_at (HasNoRoom width (greatest_margin document)) spacious.no_room before between h.after e f h.order (reverse between) (reverse before) e refl h.first_inked idle (any_turned is_newline between ∙ line) in
+        let here : column before ≡ column_back (reverse before) = column_is before in
+        let sums : taken (events_back (reverse between)) ≡ sum_by room_of (events_of between) =
+        sum_taken (events_back (reverse between)) ∙ ap (λ es. sum_by room_of es) (events_between between) ∙ sum_turned room_of (events_of between) in
+        let later : IsAfterAll (reverse between ++ Placed e ∷ reverse before) f = law_at IsAfterAll spacious.after_all before between h.after e f h.order in
+        let most : allowance (greatest_margin document) (events_back (reverse between)) ≤ (if e.part == f.part then 0 else greatest_margin document) =
+        allowed (reverse between) (reverse before) e f (by_cases (list_all is_chunk (events_back (reverse between)))) later in
+        omega arith where
+          not_true : (b : Bool) → IsTrue (not b) → b ≡ false
+          not_true true h = absurd cc
+          not_true false h = refl
+
+          sum_taken : (es : List Event) → taken es ≡ sum_by room_of es
+          sum_taken [] = refl
+          sum_taken (x ∷ es) = ap (λ (n : ℕ). room_of x + n) (sum_taken es) ∙ sym (sum_by-cons room_of x es)
+
+          not_same : (a b : ℕ) → a < b → (a == b) ≡ false
+          not_same a b l = grind (arith, nat_tests)
+
+          allowed : (m before : List Stretch) (e f : Place) → (list_all is_chunk (events_back m) ≡ true) ⊎ (list_all is_chunk (events_back m) ≡ false) → IsAfterAll (m ++ Placed e ∷ before) f
+              → allowance (greatest_margin document) (events_back m) ≤ (if e.part == f.part then 0 else greatest_margin document)
+          allowed m before e f (inl t) later = rw t (omega arith)
+          allowed m before e f (inr t) later =
+              let apart : e.part < f.part = part_later false f.part m before e later (inr t) in
+              let differ : (e.part == f.part) ≡ false = not_same e.part f.part apart in
+              rw (t, differ) (omega arith)
+
 -- ---- the whole
 
 more_than_widest : (xs : List ℕ) (a : ℕ) → a ≤ fold max a xs
@@ -638,6 +674,7 @@ layout_of_page document full width nexts st final w events shallow ends same = r
   needed = λ small clear. needed_law width document st final ends base (clearly small clear);
   fits = λ small clear. fits_law width document st final ends base (clearly small clear);
   padded = λ small clear. padded_law width document st final ends base (clearly small clear);
+  room = λ small clear. room_law width document st final ends base (clearly small clear) (spacious small clear);
   alone = λ small clear. alone_law width document st final ends base (clearly small clear);
   bound = λ small refs. bounded small refs;
 } where
@@ -646,6 +683,9 @@ layout_of_page document full width nexts st final w events shallow ends same = r
 
   clearly : width < 1_000_000 → BeginsClear (shown_events full document) → Clearly width (margin document) st
   clearly small clear = written_clearly small w (clear_begins (map next_event nexts) (subst BeginsClear (sym events) clear))
+
+  spacious : width < 1_000_000 → BeginsClear (shown_events full document) → Spacious width (greatest_margin document) st
+  spacious small clear = written_spacious (greatest_margin document) small w (clear_begins (map next_event nexts) (subst BeginsClear (sym events) clear)) shallow
 
   not_true : (b : Bool) → IsTrue (not b) → b ≡ false
   not_true true h = absurd cc

@@ -25,11 +25,11 @@ use Rattle.bpaf_doc.specs.Console.Steps.Text as whole
 use Rattle.bpaf_doc.specs.Console.Steps.Text.{console_text}
 use Rattle.bpaf_doc.proofs.lemmas.Splitter.Facts.{text_chunks}
 use Rattle.bpaf_doc.proofs.lemmas.Splitter.Spelling.{spells_in}
-use Rattle.bpaf_doc.proofs.lemmas.Console.Layout.State.{State, Piece, piece, Next, raw, break, mark, placing, breaking, passing, Places, places, drops, Fits, Suits, raw_suits, paragraph_suits, line_break_suits, open_suits, close_suits, Written, nothing, more, blank_page, broken, passed, chunk_next, Ends, as_is, with_newline}
+use Rattle.bpaf_doc.proofs.lemmas.Console.Layout.State.{State, Piece, piece, Next, raw, break, mark, placing, breaking, passing, Places, places, drops, Fits, Suits, raw_suits, paragraph_suits, line_break_suits, open_suits, close_suits, Written, nothing, more, blank_page, broken, passed, chunk_next, IsShallow, Ends, as_is, with_newline}
 use Rattle.bpaf_doc.proofs.lemmas.Console.Layout.Back.{by_cases}
 use Rattle.bpaf_doc.proofs.lemmas.Console.Layout.Blank.{text_back, text_back_cons}
 use Rattle.bpaf_doc.proofs.lemmas.Console.Layout.Text.{next_event}
-use Rattle.bpaf_doc.proofs.lemmas.Console.Layout.Whole.{EachNext, IsShallow, layout_of_page}
+use Rattle.bpaf_doc.proofs.lemmas.Console.Layout.Whole.{EachNext, layout_of_page}
 use Rattle.bpaf_doc.proofs.lemmas.Console.Margins.{top, stack_at, shifted, shift_at, shift_at-shown, top-margin, margin-le-greatest, margin-level, margin-end}
 use Rattle.bpaf_doc.proofs.lemmas.Console.Sheet.Grows.{columns_is, Draws, raw_placed, RawTo}
 use Rattle.bpaf_doc.proofs.lemmas.Console.Sheet.Marks.{draws_opened, draws_closed, top_innermost}
