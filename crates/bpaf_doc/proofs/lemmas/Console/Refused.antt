@@ -13,12 +13,13 @@ use Rattle.bpaf_doc.specs.Buffer.Parts.{Part}
 use Rattle.bpaf_doc.specs.Splitter.Chunks.{Chunk, Raw, Paragraph, LineBreak, columns, code_weight, is_inked, is_whole_line, has_some, starts}
 use Rattle.bpaf_doc.specs.Shown.{is_term_ref}
 use Rattle.bpaf_doc.specs.Console.Margin.{margin, greatest_margin}
-use Rattle.bpaf_doc.specs.Console.Layout.{Event, Shows, Opens, Closes, Stretch, Gap, Placed, Passed, Place, chunk_at, text_of, events_of, stretch_bytes, stretch_events, stretch_columns, shown_events, is_newline, is_inked_event, is_inked_stretch, is_raw_event, asks_newline, room_of, event_bytes, AreApart, column, padding, line_before, holds_line, leads_to_place, MayStand, BeginsClear, IsLayout}
+use Rattle.bpaf_doc.specs.Console.Layout.{Event, Shows, Opens, Closes, Stretch, Gap, Placed, Passed, Place, chunk_at, text_of, events_of, stretch_bytes, stretch_events, stretch_columns, shown_events, is_newline, is_inked_event, is_inked_stretch, is_raw_event, is_ref, asks_newline, room_of, event_bytes, AreApart, column, padding, line_before, holds_line, leads_to_place, MayStand, BeginsClear, IsLayout}
+use Rattle.bpaf_doc.proofs.lemmas.Console.Layout.Back.{by_cases}
 use Rattle.bpaf_doc.proofs.lemmas.Console.Layout.Columns.{column_back, any_in_line}
 use Rattle.bpaf_doc.proofs.lemmas.Console.Layout.Text.{or_true_right, or_false_left, or_false_right}
 use Rattle.bpaf_doc.proofs.lemmas.Console.Layout.Pads.{pads_back}
-use Rattle.bpaf_doc.proofs.lemmas.Console.Layout.Split.{has_newline}
-use Rattle.bpaf_doc.proofs.lemmas.Console.Layout.Turned.{reverse_cons, any_turned, line_turned, sum_turned, column_turned, padding_turned}
+use Rattle.bpaf_doc.proofs.lemmas.Console.Layout.Split.{events_back, has_newline}
+use Rattle.bpaf_doc.proofs.lemmas.Console.Layout.Turned.{reverse_cons, any_turned, events_between, line_turned, sum_turned, column_turned, padding_turned}
 use Rattle.bpaf_doc.proofs.lemmas.Console.Rows.{computed, words, inside}
 
 -- ---- where an inked chunk stands
@@ -126,19 +127,25 @@ line_breaks (x ∷ xs) h = list_any-append (λ b. b == 10) (stretch_bytes x) (te
   at (Placed e) h ih = or_true_right (breaks e.shown) (breaks (text_of xs)) (ih h)
   at (Passed event) h ih = or_true_right (breaks (stretch_bytes (Passed event))) (breaks (text_of xs)) (ih h)
 
--- what stands between two places of a text without a newline has none
+no_line_in : (xs : List Stretch) (text : List ℕ) → text_of xs ≡ text → breaks text ≡ false → list_any is_newline xs ≡ false
+no_line_in xs text s none = at (list_any is_newline xs) (line_breaks xs) where
+  at : (t : Bool) → (t ≡ true → breaks (text_of xs) ≡ true) → t ≡ false
+  at true h = let some : breaks text ≡ true = sym (ap breaks s) ∙ h refl in absurd cc
+  at false h = refl
+
+-- what stands before something in a text without a newline has none, and what stands between two places
+no_line_before : (before after : List Stretch) (text : List ℕ) → text_of (before ++ after) ≡ text → breaks text ≡ false → list_any is_newline before ≡ false
+no_line_before before after text s none =
+    or_false_left (list_any is_newline before) (list_any is_newline after) (sym (list_any-append is_newline before after) ∙ no_line_in (before ++ after) text s none)
+
 no_line : (before between after : List Stretch) (e f : Place) (text : List ℕ) → text_of (before ++ Placed e ∷ (between ++ Placed f ∷ after)) ≡ text → breaks text ≡ false
     → list_any is_newline between ≡ false
 no_line before between after e f text s none =
     or_false_left (list_any is_newline between) (list_any is_newline (Placed f ∷ after)) (
     sym (list_any-append is_newline between (Placed f ∷ after))
-    ∙ or_false_right (list_any is_newline before) (list_any is_newline (between ++ Placed f ∷ after)) (sym (list_any-append is_newline before (Placed e ∷ (between ++ Placed f ∷ after))) ∙ all)
-    ) where
-      all : list_any is_newline (before ++ Placed e ∷ (between ++ Placed f ∷ after)) ≡ false
-      all = at (list_any is_newline (before ++ Placed e ∷ (between ++ Placed f ∷ after))) (line_breaks (before ++ Placed e ∷ (between ++ Placed f ∷ after))) where
-        at : (t : Bool) → (t ≡ true → breaks (text_of (before ++ Placed e ∷ (between ++ Placed f ∷ after))) ≡ true) → t ≡ false
-        at true h = let some : breaks text ≡ true = sym (ap breaks s) ∙ h refl in absurd cc
-        at false h = refl
+    ∙ or_false_right (list_any is_newline before) (list_any is_newline (between ++ Placed f ∷ after))
+    (sym (list_any-append is_newline before (Placed e ∷ (between ++ Placed f ∷ after))) ∙ no_line_in (before ++ Placed e ∷ (between ++ Placed f ∷ after)) text s none)
+    )
 
 -- ---- the premise
 
@@ -246,6 +253,66 @@ body_past_the_width layout =
     let cut : layout.stretches ≡ (two.before ++ Placed two.e ∷ two.between) ++ Placed two.f ∷ two.after = two.order ∙ sym (append_assoc two.before (Placed two.e ∷ two.between) (Placed two.f ∷ two.after)) in
     let fits : column (two.before ++ Placed two.e ∷ two.between) + columns two.f.bytes ≤ 5 + padding (two.before ++ Placed two.e ∷ two.between) =
     layout.fits (omega arith) refl (two.before ++ Placed two.e ∷ two.between) two.after two.f cut line.holds in
+    omega arith
+
+-- ---- a word behind a backquote
+
+pads_least : (r : List Stretch) → pads_back r ≤ column_back r
+pads_least [] = omega arith
+pads_least (x ∷ r) = at x (by_cases (is_newline x)) (pads_least r) where
+  at : (x : Stretch) → (is_newline x ≡ true) ⊎ (is_newline x ≡ false) → pads_back r ≤ column_back r → pads_back (x ∷ r) ≤ column_back (x ∷ r)
+  at x (inl t) ih = rw t (omega arith)
+  at (Gap b) (inr t) ih = rw t (omega arith)
+  at (Placed e) (inr t) ih = omega arith
+  at (Passed event) (inr t) ih = omega arith
+
+quoted_back : (r : List Stretch) → has_newline r ≡ false → list_any is_raw_event (events_back r) ≡ false → list_any is_ref (events_back r) ≡ true
+    → (any_in_line holds_line r ≡ true) × (1 + pads_back r ≤ column_back r)
+quoted_back [] n raw ref = absurd cc
+quoted_back (Gap b ∷ r) n raw ref =
+    let first : (b == 10) ≡ false = or_false_left (b == 10) (has_newline r) n in
+    let rest : (any_in_line holds_line r ≡ true) × (1 + pads_back r ≤ column_back r) = quoted_back r (or_false_right (b == 10) (has_newline r) n) raw ref in
+    (rw first rest.0, let more : 1 + pads_back r ≤ column_back r = rest.1 in rw first (omega arith))
+quoted_back (Placed e ∷ r) n raw ref = absurd cc
+quoted_back (Passed event ∷ r) n raw ref =
+    at event (by_cases (is_ref event)) (pads_least r) (quoted_back r n (or_false_right (is_raw_event event) (list_any is_raw_event (events_back r)) raw)) ref where
+      one_if : (t : Bool) → t ≡ true → length {A = ℕ} (if t then 96 ∷ [] else []) ≡ 1
+      one_if true h = refl
+      one_if false h = absurd cc
+
+      one : (event : Event) → is_ref event ≡ true → length (event_bytes event) ≡ 1
+      one (Shows k chunk) h = absurd cc
+      one (Opens b) h = one_if (is_term_ref b) h
+      one (Closes b) h = one_if (is_term_ref b) h
+
+      at : (event : Event) → (is_ref event ≡ true) ⊎ (is_ref event ≡ false) → pads_back r ≤ column_back r
+          → (list_any is_ref (events_back r) ≡ true → (any_in_line holds_line r ≡ true) × (1 + pads_back r ≤ column_back r)) → (is_ref event || list_any is_ref (events_back r)) ≡ true
+          → ((is_ref event || any_in_line holds_line r) ≡ true) × (1 + (0 + pads_back r) ≤ length (event_bytes event) + column_back r)
+      at event (inl t) least ih ref = (rw t refl, let more : length (event_bytes event) ≡ 1 = one event t in omega arith)
+      at event (inr t) least ih ref =
+          let behind_it : list_any is_ref (events_back r) ≡ true = rw t at ref in
+          let rest : (any_in_line holds_line r ≡ true) × (1 + pads_back r ≤ column_back r) = ih behind_it in
+          (rw t rest.0, let more : 1 + pads_back r ≤ column_back r = rest.1 in omega arith)
+
+abbrev reference : List Part
+reference = inside block.TermRef (words (codes "ab"))
+
+-- fits
+word_past_backquote : IsLayout reference true 2 (codes "`ab`") → ⊥
+unfolding computed
+word_past_backquote layout =
+    let one : PlacedAt layout.stretches (Opens block.TermRef ∷ []) (Shows 1 (Raw (codes "ab") 2)) (Closes block.TermRef ∷ []) =
+    placed_at layout.stretches layout.placing.each_stretch (Opens block.TermRef ∷ []) (Shows 1 (Raw (codes "ab") 2)) (Closes block.TermRef ∷ []) layout.placing.all_events refl in
+    let none : list_any is_newline one.before ≡ false = no_line_before one.before (Placed one.place ∷ one.after) (codes "`ab`") (sym (ap text_of one.order) ∙ layout.placing.whole_text) refl in
+    let events : events_back (reverse one.before) ≡ Opens block.TermRef ∷ [] = events_between one.before ∙ ap (λ es. reverse es) one.events_before in
+    let quoted : (any_in_line holds_line (reverse one.before) ≡ true) × (1 + pads_back (reverse one.before) ≤ column_back (reverse one.before)) =
+    quoted_back (reverse one.before) (any_turned is_newline one.before ∙ none) (ap (list_any is_raw_event) events) (ap (list_any is_ref) events) in
+    let most : 1 + pads_back (reverse one.before) ≤ column_back (reverse one.before) = quoted.1 in
+    let holds : list_any holds_line (line_before one.before) ≡ true = ap (λ xs. list_any holds_line (line_before xs)) (sym (reverse-reverse one.before)) ∙ line_turned holds_line (reverse one.before) ∙ quoted.0 in
+    let here : column one.before ≡ column_back (reverse one.before) = ap column (sym (reverse-reverse one.before)) ∙ column_turned (reverse one.before) in
+    let pads : padding one.before ≡ pads_back (reverse one.before) = ap padding (sym (reverse-reverse one.before)) ∙ padding_turned (reverse one.before) in
+    let two : columns one.place.bytes ≡ 2 = ap columns (bytes_of one.place 1 (codes "ab") 2 one.shows) in
+    let fits : column one.before + columns one.place.bytes ≤ 2 + padding one.before = layout.fits (omega arith) refl one.before one.after one.place one.order holds in
     omega arith
 
 -- ---- a line filled with blanks
