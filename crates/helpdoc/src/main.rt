@@ -1,5 +1,5 @@
-//! `helpdoc text FORM` reads standard input as one text and writes its page; FORM is `full`, `brief`,
-//! `html`, `markdown` or `man`.
+//! `helpdoc text FORM` reads standard input as one text and writes its page, `helpdoc sample FORM` writes
+//! the page of a sample application; FORM is `full`, `brief`, `html`, `markdown` or `man`.
 #![tactic(auto)]
 
 use helpdoc_engine::program::run;

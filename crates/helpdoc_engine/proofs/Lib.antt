@@ -1,2 +1,3 @@
 mod Pages
+mod SamplePages
 mod Texts

@@ -3,7 +3,7 @@ use Rattle.std.specs.Prelude.{ℕ, List, [], ◌∷◌, codes}
 use Rattle.helpdoc_engine.specs.declared.words.Form.{Form}
 use Rattle.helpdoc_engine.specs.declared.words.Form.TheVariants.{Full, Brief, Html, Markdown, Man}
 use Rattle.helpdoc_engine.specs.declared.words.Choice.{Choice}
-use Rattle.helpdoc_engine.specs.declared.words.Choice.TheVariants.{Text}
+use Rattle.helpdoc_engine.specs.declared.words.Choice.TheVariants.{Text, Sample}
 
 -- the word for a form
 abbrev pub form_word : Form → List ℕ
@@ -16,3 +16,4 @@ form_word Man = codes "man"
 -- the words for a choice
 abbrev pub spelling : Choice → List (List ℕ)
 spelling (Text form) = codes "text" ∷ form_word form ∷ []
+spelling (Sample form) = codes "sample" ∷ form_word form ∷ []

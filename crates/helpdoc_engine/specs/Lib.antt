@@ -1,3 +1,5 @@
 pub mod Choice
+pub mod Faults
 pub mod Rendering
 pub mod Runs
+pub mod Sample

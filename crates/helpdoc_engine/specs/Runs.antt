@@ -21,13 +21,13 @@ abbrev pub ReadsNoText : Option (List ℕ) → Option (List ℕ) → Type 0
 ReadsNoText before after = (input : List ℕ) × ReadsAll before after input × ¬ IsUtf8 input
 
 -- the writer was given a page of the document, and nothing more
-pub record WritesPage (form : Form) (document : List Part) (before after : Option (List ℕ)) : Type 0 where
+pub record WritesPage (title : List (List ℕ)) (form : Form) (document : List Part) (before after : Option (List ℕ)) : Type 0 where
   pub page : List ℕ
-  pub whole : IsPage form document page
+  pub whole : IsPage title form document page
   pub written : Appends before after page
 
 -- the writer was given a beginning of a page of the document, and not all of it
-pub record WritesBeginning (form : Form) (document : List Part) (before after : Option (List ℕ)) : Type 0 where
+pub record WritesBeginning (title : List (List ℕ)) (form : Form) (document : List Part) (before after : Option (List ℕ)) : Type 0 where
   pub page : List ℕ
-  pub whole : IsPage form document page
+  pub whole : IsPage title form document page
   pub written : AppendsPart before after page

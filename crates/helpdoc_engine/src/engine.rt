@@ -4,10 +4,12 @@ ghost use Rattle.std.specs.Prelude.{◌≡◌, ◌≢◌, ◌↔◌, ◌⊎◌, 
 ghost use Rattle.std.specs.Io.KnownBytes.{Appends};
 ghost use Rattle.watched.specs.Watched.{AppendsPart, IsMarked, IsUnmarked};
 ghost use Rattle.bpaf_doc.specs.Manpage.Page.{title_page};
-ghost use Rattle.helpdoc_engine.specs.Rendering.{IsRendering, document_of_text, title_words};
+ghost use Rattle.helpdoc_engine.specs.Rendering.{IsPage, document_of_text, text_title};
 ghost use Rattle.helpdoc_engine.specs.Runs.{ReadsAll, ReadsText, ReadsNoText, WritesPage, WritesBeginning};
+ghost use Rattle.helpdoc_engine.specs.Sample.{sample_document, sample_title};
 
 use crate::faults::Fault;
+use crate::sample::sample_page;
 use crate::words::Form;
 use bpaf_doc::buffer::Doc;
 use bpaf_doc::console::MAX_WIDTH;
@@ -48,11 +50,11 @@ pub fn run_text<A: Allocator + Copy, R: Read, W: Write>(
     // Over ends that tell their bytes: which are read and written.
     ensures ok { OnOk result (
         ReadsText (R.remaining reader.old.end) (R.remaining reader.new.end) (λ input.
-        WritesPage form (document_of_text input)
+        WritesPage text_title form (document_of_text input)
         (W.contents writer.old.end) (W.contents writer.new.end))) }
     ensures cut_short { IsErrOf result Fault.Write →
         ReadsText (R.remaining reader.old.end) (R.remaining reader.new.end) (λ input.
-        WritesBeginning form (document_of_text input)
+        WritesBeginning text_title form (document_of_text input)
         (W.contents writer.old.end) (W.contents writer.new.end)) }
     ensures not_utf8 { IsErrOf result Fault.NotUtf8 →
         ReadsNoText (R.remaining reader.old.end) (R.remaining reader.new.end) }
@@ -61,6 +63,36 @@ pub fn run_text<A: Allocator + Copy, R: Read, W: Write>(
     let input = text_of(bytes)?;
     let page = page_of(alloc, form, input.as_str())?;
     write_all(writer, page.as_str())
+}
+
+/// Writes the page of the sample application and nothing more. The whole page is made before the
+/// first write, so that `Memory` leaves the writer as it was.
+///
+/// `Write` comes exactly where a write failed or took nothing, and `Memory` only where a growth was
+/// refused, which no clause can say. No other fault comes.
+pub fn run_sample<A: Allocator + Copy, W: Write>(
+    alloc: A,
+    form: Form,
+    writer: &mut Watched<W>,
+) -> Result<(), Fault>
+    requires { IsUnmarked writer.old }
+
+    // Over all ends: when each fault comes, and what it leaves.
+    ensures write { IsErrOf result Fault.Write ↔ IsMarked writer.new }
+    ensures fault { IfErr result (λ fault. (fault ≡ Fault.Write) ⊎ (fault ≡ Fault.Memory)) }
+    ensures untouched { IfErr result (λ fault.
+        fault ≢ Fault.Write → writer.new ≡ writer.old) }
+
+    // Over ends that tell their bytes: which are written.
+    ensures ok { OnOk result (
+        WritesPage sample_title form (sample_document form)
+        (W.contents writer.old.end) (W.contents writer.new.end)) }
+    ensures cut_short { IsErrOf result Fault.Write →
+        WritesBeginning sample_title form (sample_document form)
+        (W.contents writer.old.end) (W.contents writer.new.end) }
+{
+    let sample = sample_page(alloc, form)?;
+    write_all(writer, sample.as_str())
 }
 
 // All that the reader has left. Each turn but the last makes the bytes more, so that a reader which
@@ -95,7 +127,7 @@ fn text_of<A: Allocator>(bytes: Vec<u8, A>) -> Result<String<A>, Fault>
 // The page of the document of one text.
 fn page_of<A: Allocator + Copy>(alloc: A, form: Form, text: &str) -> Result<String<A>, AllocError>
     ensures { IfOk result (λ page.
-        IsRendering form (document_of_text text.now) (string_bytes page)) }
+        IsPage text_title form (document_of_text text.now) (string_bytes page)) }
 {
     let document = Doc::from_text(alloc, text)?;
     match form {
@@ -109,7 +141,7 @@ fn page_of<A: Allocator + Copy>(alloc: A, form: Form, text: &str) -> Result<Stri
 
 // A manual page that has its title line and nothing else.
 fn titled<A: Allocator + Copy>(alloc: A) -> Result<Roff<A>, AllocError>
-    ensures { IfOk result (λ page. page ≡ title_page title_words) }
+    ensures { IfOk result (λ page. page ≡ title_page text_title) }
 {
     let mut page = Roff::new(alloc);
     page.append_control("TH", &["helpdoc", SECTION, "-", "-", ""])?;

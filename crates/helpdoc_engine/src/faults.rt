@@ -3,7 +3,8 @@
 ghost use Rattle.std.specs.Prelude.{◌≡◌};
 ghost use Rattle.helpdoc_engine.specs.declared.faults.Fault.TheVariants.{Memory};
 
-use std::alloc::AllocError;
+use bpaf_help::meta_help::HelpError;
+use std::alloc::{AllocError, Allocator};
 use thiserror::Error;
 
 /// Why a run fails. It is shown as the line that the program writes on standard error.
@@ -31,5 +32,18 @@ impl From<AllocError> for Fault {
 
     fn from(_error: AllocError) -> Fault {
         Fault::Memory
+    }
+}
+
+impl<A: Allocator> From<HelpError<'_, A>> for Fault {
+    ghost use Rattle.helpdoc_engine.specs.Faults.{fault_of};
+
+    ghost from_gives = { λ error fault. fault ≡ fault_of error };
+
+    fn from(error: HelpError<'_, A>) -> Fault {
+        match error {
+            HelpError::Memory(_) => Fault::Memory,
+            HelpError::Misplaced(_) => Fault::Misplaced,
+        }
     }
 }

@@ -4,4 +4,5 @@
 pub mod engine;
 pub mod faults;
 pub mod program;
+mod sample;
 pub mod words;

@@ -1,6 +1,6 @@
 //! A whole run of the program, over any runtime.
 
-use crate::engine::run_text;
+use crate::engine::{run_sample, run_text};
 use crate::faults::Fault;
 use crate::words::{Choice, choose};
 use std::process::ExitCode;
@@ -38,12 +38,13 @@ where
         let _ = eprintln!(rt; "{EXPECTED}");
         return Ok(ExitCode::from(WRONG_WORDS));
     };
+    let mut writer = Watched::new(io::writer(rt));
     match choice {
         Choice::Text(form) => {
             let mut reader = Watched::new(rt.reader());
-            let mut writer = Watched::new(io::writer(rt));
             run_text(rt.alloc(), form, &mut reader, &mut writer)?;
         }
+        Choice::Sample(form) => run_sample(rt.alloc(), form, &mut writer)?,
     }
     Ok(ExitCode::SUCCESS)
 }

@@ -25,6 +25,8 @@ pub enum Form {
 pub enum Choice {
     /// Shows standard input, as one text.
     Text(Form),
+    /// Shows the sample application.
+    Sample(Form),
 }
 
 /// What the words after the program's name choose, by their bytes. None where they don't spell a
@@ -38,6 +40,7 @@ pub fn choose(words: &[&str]) -> Option<Choice>
     };
     match *command {
         "text" => form_of(form).map(Choice::Text),
+        "sample" => form_of(form).map(Choice::Sample),
         _ => None,
     }
 }
