@@ -285,7 +285,7 @@ abbrev pub is_gap : Stretch → Bool
 is_gap (Gap b) = true
 is_gap _ = false
 
--- how many bytes outside the places stand in the line since the last place
+-- how many bytes outside the places stand in the line since the last place (in a layout they stand directly before the next one)
 abbrev pub padding : List Stretch → ℕ
 padding before = count_by is_gap (after_last is_placed (line_before before))
 
@@ -319,12 +319,13 @@ pub record PadsToMargin (document : List Part) (stretches : List Stretch) : Type
       → (column before ≡ margin document f.part) ⊎ ((padding before ≡ 2) × IsTrue (list_any opens_body (events_of (after_last is_placed before))))
   pub before_place : (before after : List Stretch) → stretches ≡ before ++ Gap 32 ∷ after → IsTrue (leads_to_place after)
 
--- nothing stands in its line behind a code or fence line: a newline comes before the next place
+-- no other place stands in its line behind a code or fence line: a newline comes before it
 abbrev pub StandsAlone : List Stretch → Type 0
 StandsAlone stretches = (before between after : List Stretch) (e f : Place) → stretches ≡ before ++ Placed e ∷ (between ++ Placed f ∷ after)
     → IsTrue (is_whole_line (chunk_at e)) → IsTrue (list_any is_newline between)
 
--- what a chunk or a mark may add to the column: a Raw its weight, a mark of TermRef its backquote, a start of ItemBody two blanks
+-- What a chunk or a mark may add to the column: a Raw its weight, a mark of TermRef its backquote, a start of ItemBody two blanks.
+-- (Each start may, where the texts of the bodies before have no ink.)
 abbrev pub room_of : Event → ℕ
 room_of (Shows k (Raw bytes weight)) = weight
 room_of (Opens blocks.TermRef) = 1
