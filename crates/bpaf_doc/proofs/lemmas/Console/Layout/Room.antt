@@ -130,6 +130,19 @@ allowance_most deepest es = at (list_all is_chunk es) where
   at true = omega arith
   at false = omega arith
 
+-- one chunk more takes its weight
+room_chunk : (deepest : ℕ) (p : Piece) (es : List Event) (e : Place) (before : List Stretch) → room deepest (Shows p.part (Raw p.bytes p.weight) ∷ es) e before ≡ room deepest es e before + p.weight
+room_chunk deepest p es e before = omega arith
+
+-- and a mark at most what it may add, and the margin
+room_mark : (deepest : ℕ) (event : Event) (es : List Event) (e : Place) (before : List Stretch) → is_chunk event ≡ false
+    → (room deepest es e before + room_of event ≤ room deepest (event ∷ es) e before) × (deepest ≤ room deepest (event ∷ es) e before)
+room_mark deepest event es e before no_chunk =
+    let with_margin : room deepest (event ∷ es) e before ≡ column_back before + e.weight + (room_of event + taken es) + deepest =
+    ap (λ (t : Bool). column_back before + e.weight + (room_of event + taken es) + (if t && list_all is_chunk es then 0 else deepest)) no_chunk in
+    let most : allowance deepest es ≤ deepest = allowance_most deepest es in
+    (omega arith, omega arith)
+
 -- what is known where no newline was asked for since an inked chunk
 pub record InReach (end : ℕ) (st : State) : Type 0 where
   pub column : st.column ≤ end
@@ -199,20 +212,24 @@ idle_close blocks.Section4 h = record { bytes = omega arith; asked = λ a. refl;
 idle_close blocks.ItemTerm h = record { bytes = omega arith; asked = λ a. refl; pending = λ p t. inl t }
 idle_close blocks.Block h = absurd cc
 
+not_true : (t : Bool) → not t ≡ true → t ≡ false
+not_true true h = absurd cc
+not_true false h = refl
+
 idle_mark : {margin_of : ℕ → ℕ} (st : State) (next : Next) (event : Event) (margin : ℕ) → Suits margin_of st next → next ≡ mark event margin → is_idle event ≡ true → IsIdleMark event
 idle_mark st next event margin (raw_suits q f g) e i = absurd cc
 idle_mark st next event margin (paragraph_suits j f l m) e i = absurd cc
 idle_mark st next event margin (line_break_suits j f l m) e i = absurd cc
 idle_mark st next event margin (open_suits b n f l u) e i =
-    let same : event ≡ Opens b = cc in subst IsIdleMark (sym same) (idle_open b (turned (asks_newline (Opens b)) (idle_rest true (not (asks_newline (Opens b))) (subst (λ (x : Event). is_idle x ≡ true) same i)))) where
-      turned : (t : Bool) → not t ≡ true → t ≡ false
-      turned true h = absurd cc
-      turned false h = refl
+    let same : event ≡ Opens b = cc in subst IsIdleMark (sym same) (idle_open b (not_true (asks_newline (Opens b)) (idle_rest true (not (asks_newline (Opens b))) (subst (λ (x : Event). is_idle x ≡ true) same i))))
 idle_mark st next event margin (close_suits b n f l u) e i =
-    let same : event ≡ Closes b = cc in subst IsIdleMark (sym same) (idle_close b (turned (asks_newline (Closes b)) (idle_rest true (not (asks_newline (Closes b))) (subst (λ (x : Event). is_idle x ≡ true) same i)))) where
-      turned : (t : Bool) → not t ≡ true → t ≡ false
-      turned true h = absurd cc
-      turned false h = refl
+    let same : event ≡ Closes b = cc in subst IsIdleMark (sym same) (idle_close b (not_true (asks_newline (Closes b)) (idle_rest true (not (asks_newline (Closes b))) (subst (λ (x : Event). is_idle x ≡ true) same i))))
+
+-- the two blanks that are pending after a mark stay in reach
+mark_pending : (event : Event) (st : State) (end : ℕ) → InReach end st → length (event_bytes event) ≤ room_of event → (st.pending ≡ true) ⊎ (length (event_bytes event) + 2 ≤ room_of event)
+    → sat (st.column + length (event_bytes event)) + 2 ≤ end + room_of event
+mark_pending event st end r bytes (inl t) = let two : st.column + 2 ≤ end = r.pending t in omega arith
+mark_pending event st end r bytes (inr t) = let column : st.column ≤ end = r.column in omega arith
 
 -- a break is no idle chunk
 no_break : {A : Type 0} {margin_of : ℕ → ℕ} (st : State) (next : Next) (k : ℕ) (chunk : Chunk) → Suits margin_of st next → next ≡ break k chunk → is_idle (Shows k chunk) ≡ true → A
@@ -317,7 +334,7 @@ module _ (width deepest : ℕ) where
         let events : events_back m ≡ Shows p.part (Raw p.bytes p.weight) ∷ events_back rest = ap events_back is in
         let both : (is_idle (Shows p.part (Raw p.bytes p.weight)) && list_all is_idle (events_back rest)) ≡ true = subst (λ es. list_all is_idle es ≡ true) events idle in
         let ready : Ready p base rest e before = ready_padded p base n start h b rest before e there i (idle_rest (is_idle (Shows p.part (Raw p.bytes p.weight))) (list_all is_idle (events_back rest)) both) in
-        let end : room deepest (events_back m) e before ≡ room deepest (events_back rest) e before + p.weight = ap (λ es. room deepest es e before) events ∙ more (events_back rest) in
+        let end : room deepest (events_back m) e before ≡ room deepest (events_back rest) e before + p.weight = ap (λ es. room deepest es e before) events ∙ room_chunk deepest p (events_back rest) e before in
         let a : base.column + n ≤ room deepest (events_back rest) e before = pads_in_reach n base (room deepest (events_back rest) e before) ready.reach d in
         let c : base.margin ≤ room deepest (events_back rest) e before = ready.reach.margin in
         record {
@@ -325,9 +342,7 @@ module _ (width deepest : ℕ) where
           needed = λ t.
               let line : has_newline rest ≡ true = sym (ap has_newline is) ∙ t in
               let over : width < room deepest (events_back rest) e before + p.weight = by_weight p (room deepest (events_back rest) e before) small fits (ready.needed line) in omega arith;
-        } where
-          more : (es : List Event) → room deepest (Shows p.part (Raw p.bytes p.weight) ∷ es) e before ≡ room deepest es e before + p.weight
-          more es = omega arith
+        }
 
   known_dropped : {margin_of : ℕ → ℕ} {st mid : State} (p : Piece) → width < 1_000_000 → Fits margin_of st p → Lines st mid → width < sat (mid.column + columns p.bytes) → IsRoomy st
       → IsRoomy (dropped p.part p.bytes p.weight (wrapped mid))
@@ -340,7 +355,7 @@ module _ (width deepest : ℕ) where
         let both : (is_idle (Shows p.part (Raw p.bytes p.weight)) && list_all is_idle (events_back gap.rest)) ≡ true = subst (λ es. list_all is_idle es ≡ true) events idle in
         let reach : InReach (room deepest (events_back gap.rest) e before) mid =
         known_trimmed h l gap.rest before e gap.there i (idle_rest (is_idle (Shows p.part (Raw p.bytes p.weight))) (list_all is_idle (events_back gap.rest)) both) in
-        let end : room deepest (events_back m) e before ≡ room deepest (events_back gap.rest) e before + p.weight = ap (λ es. room deepest es e before) events ∙ more (events_back gap.rest) in
+        let end : room deepest (events_back m) e before ≡ room deepest (events_back gap.rest) e before + p.weight = ap (λ es. room deepest es e before) events ∙ room_chunk deepest p (events_back gap.rest) e before in
         let c : mid.column ≤ room deepest (events_back gap.rest) e before = reach.column in
         let g : mid.margin ≤ room deepest (events_back gap.rest) e before = reach.margin in
         record {
@@ -351,51 +366,35 @@ module _ (width deepest : ℕ) where
             pending = λ t. let two : mid.column + 2 ≤ room deepest (events_back gap.rest) e before = reach.pending t in omega arith;
           };
           needed = λ t. let over : width < room deepest (events_back gap.rest) e before + p.weight = by_weight p (room deepest (events_back gap.rest) e before) small fits (omega arith) in omega arith;
-        } where
-          more : (es : List Event) → room deepest (Shows p.part (Raw p.bytes p.weight) ∷ es) e before ≡ room deepest es e before + p.weight
-          more es = omega arith
+        }
 
   known_passed : (event : Event) (margin : ℕ) (st : State) → is_chunk event ≡ false → (is_idle event ≡ true → IsIdleMark event) → margin ≤ deepest → IsRoomy st → IsRoomy (passed event margin st)
   known_passed event margin st no_chunk quiet shallow h = λ m before e there i idle. at m before e i idle (cut_passed event st.back m e before there) where
-    more : (es : List Event) (e : Place) (before : List Stretch) → room deepest (event ∷ es) e before ≡ column_back before + e.weight + (room_of event + taken es) + deepest
-    more es e before = ap (λ (t : Bool). column_back before + e.weight + (room_of event + taken es) + (if t && list_all is_chunk es then 0 else deepest)) no_chunk
-
     at : (m before : List Stretch) (e : Place) → is_inked (chunk_at e) ≡ true → list_all is_idle (events_back m) ≡ true → AfterPassed event st.back m e before → Known (passed event margin st) m e before
     at m before e i idle found =
         let events : events_back m ≡ event ∷ events_back found.rest = ap events_back found.is in
         let both : (is_idle event && list_all is_idle (events_back found.rest)) ≡ true = subst (λ es. list_all is_idle es ≡ true) events idle in
         let mark_is : IsIdleMark event = quiet (idle_first (is_idle event) (list_all is_idle (events_back found.rest)) both) in
         let known : Known st found.rest e before = h found.rest before e found.there i (idle_rest (is_idle event) (list_all is_idle (events_back found.rest)) both) in
-        let end : room deepest (events_back m) e before ≡ column_back before + e.weight + (room_of event + taken (events_back found.rest)) + deepest =
-        ap (λ es. room deepest es e before) events ∙ more (events_back found.rest) e before in
-        let most : allowance deepest (events_back found.rest) ≤ deepest = allowance_most deepest (events_back found.rest) in
-        let a : st.column ≤ room deepest (events_back found.rest) e before = known.reach.column in
+        let end : room deepest (events_back m) e before ≡ room deepest (event ∷ events_back found.rest) e before = ap (λ es. room deepest es e before) events in
+        let grown : (room deepest (events_back found.rest) e before + room_of event ≤ room deepest (event ∷ events_back found.rest) e before) × (deepest ≤ room deepest (event ∷ events_back found.rest) e before) =
+        room_mark deepest event (events_back found.rest) e before no_chunk in
+        let more : room deepest (events_back found.rest) e before + room_of event ≤ room deepest (event ∷ events_back found.rest) e before = grown.0 in
+        let deep : deepest ≤ room deepest (event ∷ events_back found.rest) e before = grown.1 in
         let bytes : length (event_bytes event) ≤ room_of event = mark_is.bytes in
+        let column : st.column ≤ room deepest (events_back found.rest) e before = known.reach.column in
         record {
           reach = record {
             column = omega arith;
             margin = omega arith;
             asked = mark_is.asked st.asked ∙ known.reach.asked;
-            pending = λ t. two (mark_is.pending st.pending t) known;
+            pending = λ t. let two : sat (st.column + length (event_bytes event)) + 2 ≤ room deepest (events_back found.rest) e before + room_of event =
+                mark_pending event st (room deepest (events_back found.rest) e before) known.reach bytes (mark_is.pending st.pending t) in omega arith;
           };
           needed = λ t.
               let line : has_newline found.rest ≡ true = sym (ap has_newline found.is) ∙ t in
               let over : width < room deepest (events_back found.rest) e before = known.needed line in omega arith;
-        } where
-          two : (st.pending ≡ true) ⊎ (length (event_bytes event) + 2 ≤ room_of event) → Known st found.rest e before → sat (st.column + length (event_bytes event)) + 2 ≤ room deepest (events_back m) e before
-          two (inl t) known =
-              let end : room deepest (events_back m) e before ≡ column_back before + e.weight + (room_of event + taken (events_back found.rest)) + deepest =
-              ap (λ es. room deepest es e before) (ap events_back found.is) ∙ more (events_back found.rest) e before in
-              let both : (is_idle event && list_all is_idle (events_back found.rest)) ≡ true = subst (λ es. list_all is_idle es ≡ true) (ap events_back found.is) idle in
-              let mark_is : IsIdleMark event = quiet (idle_first (is_idle event) (list_all is_idle (events_back found.rest)) both) in
-              let bytes : length (event_bytes event) ≤ room_of event = mark_is.bytes in
-              let most : allowance deepest (events_back found.rest) ≤ deepest = allowance_most deepest (events_back found.rest) in
-              let c : st.column + 2 ≤ room deepest (events_back found.rest) e before = known.reach.pending t in omega arith
-          two (inr t) known =
-              let end : room deepest (events_back m) e before ≡ column_back before + e.weight + (room_of event + taken (events_back found.rest)) + deepest =
-              ap (λ es. room deepest es e before) (ap events_back found.is) ∙ more (events_back found.rest) e before in
-              let most : allowance deepest (events_back found.rest) ≤ deepest = allowance_most deepest (events_back found.rest) in
-              let c : st.column ≤ room deepest (events_back found.rest) e before = known.reach.column in omega arith
+        }
 
   known_broken : {margin_of : ℕ → ℕ} (st : State) (next : Next) (k : ℕ) (chunk : Chunk) → Suits margin_of st next → next ≡ break k chunk → IsRoomy (broken k chunk st)
   known_broken st next k chunk suits e = λ m before g there i idle.
