@@ -1,0 +1,137 @@
+-- The documents of a description's pages are well nested.
+use Rattle.std.proofs.Common.{ℕ, Bool, true, false, List, [], ◌∷◌, ◌++◌, map, refl, Option, Some, None}
+use Rattle.std.specs.Prelude.{All}
+use Rattle.std.proofs.lemmas.List.Elements.{All-nil, All-cons, All-append}
+use Rattle.bpaf_doc.specs.declared.buffer.Style.TheVariants as style
+use Rattle.bpaf_doc.specs.declared.buffer.Block.TheVariants as block
+use Rattle.bpaf_doc.specs.Buffer.Parts.{IsWellNested, text}
+use Rattle.bpaf_meta.specs.Content.{Name, Tree, or_of, item, positional}
+use Rattle.bpaf_meta.specs.View.{trees_in}
+use Rattle.bpaf_items.specs.Page.EnvTexts.{no_texts}
+use Rattle.bpaf_items.specs.Page.NestedTexts.{IsNestedText, HasNestedTexts, EachHasNestedTexts, HasNestedHead}
+use Rattle.bpaf_items.proofs.Page.NestedPages.{both_keep, inside_keeps, path_keeps, usage_keeps, written_keeps, docs_nested, help_pages_are_nested}
+use Rattle.bpaf_help.specs.Chapters.{command_chapters, part_chapters}
+use Rattle.bpaf_help.specs.NestedPages.{HasNestedChapter}
+use Rattle.bpaf_help.specs.NestedPages as pages
+use Rattle.bpaf_help.proofs.NestedPages.{collected_pages_are_nested, manual_pages_are_nested}
+use Rattle.description.specs.Content.{OptSaid, ChoiceSaid, PositionalSaid, LevelSaid, level, GroupsSaid, no_groups, groups, GroupSaid, group, CommandsSaid, no_commands, commands, CommandSaid, command}
+use Rattle.description.specs.Trees.{text_document, document_said, named_leaf, option_item, wrapped, option_tree, choice_tree, behind_dashes, positional_tree, titled, one_of_commands, named_group, named_groups, level_head, level_tree, placed_groups, placed_group, command_items, command_item, help_tree, description_tree, description_head}
+use Rattle.description.specs.Pages.{PagesAreWellNested}
+use Rattle.description.proofs.Each.{Each, each_append, each_map}
+
+text_nested : (t : List ℕ) → IsWellNested (text_document t)
+text_nested t = text t style.Text refl
+
+said_nested : (t : Option (List ℕ)) → IsNestedText (document_said t)
+said_nested None = tt
+said_nested (Some t) = text_nested t
+
+-- the texts of a tree, and those of all commands in it and below, whatever path leads to it
+abbrev IsSound : Tree → Type 0
+IsSound t = HasNestedTexts t × ((path : List (List ℕ)) → All HasNestedChapter (command_chapters path t))
+
+wrapped_sound : (r p : Bool) (t : Tree) → IsSound t → IsSound (wrapped r p t)
+wrapped_sound true false t h = h
+wrapped_sound false false t h = h
+wrapped_sound true true t h = h
+wrapped_sound false true t h = h
+
+leaf_sound : (value : Option (List ℕ)) (name : Name) (env help : Option (List ℕ)) → IsSound (item (named_leaf value name env (document_said help)))
+leaf_sound None name env help = (said_nested help, λ path. All-nil HasNestedChapter)
+leaf_sound (Some value) name env help = (said_nested help, λ path. All-nil HasNestedChapter)
+
+item_sound : (o : OptSaid) → IsSound (option_item o)
+item_sound o = leaf_sound o.value o.name o.env o.help
+
+option_sound : (o : OptSaid) → IsSound (option_tree o)
+option_sound o = wrapped_sound o.required o.repeated (option_item o) (item_sound o)
+
+parts_sound : (ts : List Tree) → Each IsSound ts → EachHasNestedTexts (trees_in ts) × ((path : List (List ℕ)) → All HasNestedChapter (part_chapters path (trees_in ts)))
+parts_sound [] h = (tt, λ path. All-nil HasNestedChapter)
+parts_sound (t ∷ ts) h =
+    let rest = parts_sound ts h.1 in
+    ((h.0.0, rest.0), λ path. All-append HasNestedChapter (command_chapters path t) (part_chapters path (trees_in ts)) (h.0.1 path) (rest.1 path))
+
+choice_sound : (c : ChoiceSaid) → IsSound (choice_tree c)
+choice_sound c = wrapped_sound c.required false (or_of (trees_in (map option_item c.options))) (parts_sound (map option_item c.options) (each_map IsSound option_item item_sound c.options))
+
+dashes_sound : (s : Bool) (t : Tree) → IsSound t → IsSound (behind_dashes s t)
+dashes_sound true t h = h
+dashes_sound false t h = h
+
+positional_sound : (p : PositionalSaid) → IsSound (positional_tree p)
+positional_sound p =
+    let value : Tree = item (positional p.value (document_said p.help)) in
+    dashes_sound p.strict (wrapped p.required p.repeated value) (wrapped_sound p.required p.repeated value (said_nested p.help, λ path. All-nil HasNestedChapter))
+
+titled_sound : (title : List ℕ) (ts : List Tree) → Each IsSound ts → Each IsSound (titled title ts)
+titled_sound title [] h = tt
+titled_sound title (t ∷ ts) h = let parts = parts_sound (t ∷ ts) h in (((text_nested title, parts.0), parts.1), tt)
+
+one_of_sound : (r : Bool) (ts : List Tree) → Each IsSound ts → Each IsSound (one_of_commands r ts)
+one_of_sound r [] h = tt
+one_of_sound r (t ∷ ts) h = (wrapped_sound r false (or_of (trees_in (t ∷ ts))) (parts_sound (t ∷ ts) h), tt)
+
+group_sound : (g : GroupSaid) → Each IsSound (named_group g)
+group_sound (group title os cs ps ms) = titled_sound title (map option_tree os ++ map choice_tree cs) (each_append IsSound (map option_tree os) (map choice_tree cs) (each_map IsSound option_tree option_sound os) (each_map IsSound choice_tree choice_sound cs))
+
+groups_sound : (gs : GroupsSaid) → Each IsSound (named_groups gs)
+groups_sound no_groups = tt
+groups_sound (groups g gs) = each_append IsSound (named_group g) (named_groups gs) (group_sound g) (groups_sound gs)
+
+head_nested : (help : Tree) → HasNestedTexts help → (l : LevelSaid) → HasNestedHead (level_head help l)
+head_nested help k (level t r os cs gs ps ms) = (said_nested t.about, said_nested t.header, said_nested t.footer, said_nested t.usage, k)
+
+mutual
+  level_sound : (help : Tree) → HasNestedTexts help → (l : LevelSaid) → IsSound (level_tree help l)
+  level_sound help k (level t r os cs gs ps ms) =
+      let os' = map option_tree os in
+      let cs' = map choice_tree cs in
+      let gs' = named_groups gs in
+      let qs' = placed_groups help r gs in
+      let ps' = map positional_tree ps in
+      let ms' = one_of_commands r (command_items help ms) in
+      parts_sound (os' ++ cs' ++ gs' ++ qs' ++ ps' ++ ms')
+      (each_append IsSound (os' ++ cs' ++ gs' ++ qs' ++ ps') ms'
+      (each_append IsSound (os' ++ cs' ++ gs' ++ qs') ps'
+      (each_append IsSound (os' ++ cs' ++ gs') qs'
+      (each_append IsSound (os' ++ cs') gs'
+      (each_append IsSound os' cs' (each_map IsSound option_tree option_sound os) (each_map IsSound choice_tree choice_sound cs))
+      (groups_sound gs))
+      (placed_sound help k r gs))
+      (each_map IsSound positional_tree positional_sound ps))
+      (one_of_sound r (command_items help ms) (commands_sound help k ms)))
+
+  placed_sound : (help : Tree) → HasNestedTexts help → (r : Bool) (gs : GroupsSaid) → Each IsSound (placed_groups help r gs)
+  placed_sound help k r no_groups = tt
+  placed_sound help k r (groups g gs) = each_append IsSound (placed_group help r g) (placed_groups help r gs) (placed_group_sound help k r g) (placed_sound help k r gs)
+
+  placed_group_sound : (help : Tree) → HasNestedTexts help → (r : Bool) (g : GroupSaid) → Each IsSound (placed_group help r g)
+  placed_group_sound help k r (group title os cs ps ms) =
+      let ms' = one_of_commands r (command_items help ms) in
+      titled_sound title (map positional_tree ps ++ ms') (each_append IsSound (map positional_tree ps) ms' (each_map IsSound positional_tree positional_sound ps) (one_of_sound r (command_items help ms) (commands_sound help k ms)))
+
+  commands_sound : (help : Tree) → HasNestedTexts help → (ms : CommandsSaid) → Each IsSound (command_items help ms)
+  commands_sound help k no_commands = tt
+  commands_sound help k (commands m ms) = (command_sound help k m, commands_sound help k ms)
+
+  command_sound : (help : Tree) → HasNestedTexts help → (m : CommandSaid) → IsSound (command_item help m)
+  command_sound help k (command name initial h l) =
+      let own = level_sound help k l in
+      (said_nested h, λ path. All-cons HasNestedChapter (record { path = path ++ name ∷ []; info = level_head help l; content = level_tree help l }) (command_chapters (path ++ name ∷ []) (level_tree help l)) (head_nested help k l, own.0) (own.1 (path ++ name ∷ [])))
+
+pub pages_are_well_nested : PagesAreWellNested
+pages_are_well_nested d =
+    let help = help_tree d in
+    let t = description_tree d in
+    let i = description_head d in
+    let k : HasNestedTexts help = (parts_sound (map option_tree d.help_options) (each_map IsSound option_tree option_sound d.help_options)).0 in
+    let whole = level_sound help k d.level in
+    let top : HasNestedHead i = head_nested help k d.level in
+    let all : pages.HasNestedPages d.name i t = All-cons HasNestedChapter (record { path = d.name ∷ []; info = i; content = t }) (command_chapters (d.name ∷ []) t) (top, whole.0) (whole.1 (d.name ∷ [])) in
+    record {
+      usage = written_keeps (inside_keeps block.Mono (both_keep (path_keeps (d.name ∷ [])) (usage_keeps t (docs_nested t whole.0))));
+      help = help_pages_are_nested (d.name ∷ []) i t help false no_texts top whole.0 k;
+      collected = collected_pages_are_nested d.name t i all;
+      manual = manual_pages_are_nested d.name t i all;
+    }

@@ -1,0 +1,155 @@
+-- No named item of a description stands after a positional one: the check of the tree passes.
+use Rattle.std.proofs.Common.{◌≡◌, ℕ, Bool, true, false, List, [], ◌∷◌, ◌++◌, map, refl, ap, ◌∙◌, Option, Some, None}
+use Rattle.std.specs.Prelude.{◌||◌}
+use Rattle.bpaf_doc.specs.Buffer.Parts.{Part}
+use Rattle.bpaf_meta.specs.Content.{Name, Tree, or_of, item, positional}
+use Rattle.bpaf_meta.specs.View.{trees_in}
+use Rattle.bpaf_meta.specs.Meta.Steps.Walk.{Check, fine, wrong, then_check, walked, walked_parts, walked_branches}
+use Rattle.bpaf_meta.proofs.lemmas.Misplaced.Lines.{well_placed}
+use Rattle.description.specs.Content.{OptSaid, ChoiceSaid, PositionalSaid, LevelSaid, level, GroupsSaid, no_groups, groups, GroupSaid, group, CommandsSaid, no_commands, commands, CommandSaid, command}
+use Rattle.description.specs.Trees.{document_said, named_leaf, option_item, wrapped, option_tree, choice_tree, behind_dashes, positional_tree, titled, one_of_commands, named_group, named_groups, level_tree, placed_groups, placed_group, command_items, command_item, help_tree}
+use Rattle.description.specs.Pages.{TreesAreWellPlaced}
+use Rattle.description.proofs.Each.{Each, each_append, each_map}
+
+-- ---- trees of named items
+
+-- where no positional item came before, the tree passes, and has none
+abbrev IsNamed : Tree → Type 0
+IsNamed t = walked t false ≡ fine false
+
+-- each tree passes where the wrapped one does
+wrapped_walked : (r p : Bool) (t : Tree) (a : Bool) → walked (wrapped r p t) a ≡ walked t a
+wrapped_walked true false t a = refl
+wrapped_walked false false t a = refl
+wrapped_walked true true t a = refl
+wrapped_walked false true t a = refl
+
+leaf_named : (value : Option (List ℕ)) (name : Name) (env : Option (List ℕ)) (help : Option (List Part)) → IsNamed (item (named_leaf value name env help))
+leaf_named None name env help = refl
+leaf_named (Some value) name env help = refl
+
+item_named : (o : OptSaid) → IsNamed (option_item o)
+item_named o = leaf_named o.value o.name o.env (document_said o.help)
+
+option_named : (o : OptSaid) → IsNamed (option_tree o)
+option_named o = wrapped_walked o.required o.repeated (option_item o) false ∙ item_named o
+
+branches_named : (os : List OptSaid) → walked_branches (trees_in (map option_item os)) false false ≡ fine false
+branches_named [] = refl
+branches_named (o ∷ os) = ap (λ c. then_check c (λ b. walked_branches (trees_in (map option_item os)) false (false || b))) (item_named o) ∙ branches_named os
+
+choice_named : (c : ChoiceSaid) → IsNamed (choice_tree c)
+choice_named c = wrapped_walked c.required false (or_of (trees_in (map option_item c.options))) false ∙ branches_named c.options
+
+parts_named : (ts : List Tree) → Each IsNamed ts → walked_parts (trees_in ts) false ≡ fine false
+parts_named [] h = refl
+parts_named (t ∷ ts) h = ap (λ c. then_check c (walked_parts (trees_in ts))) h.0 ∙ parts_named ts h.1
+
+titled_named : (title : List ℕ) (ts : List Tree) → Each IsNamed ts → Each IsNamed (titled title ts)
+titled_named title [] h = tt
+titled_named title (t ∷ ts) h = (parts_named (t ∷ ts) h, tt)
+
+group_named : (g : GroupSaid) → Each IsNamed (named_group g)
+group_named (group title os cs ps ms) = titled_named title (map option_tree os ++ map choice_tree cs) (each_append IsNamed (map option_tree os) (map choice_tree cs) (each_map IsNamed option_tree option_named os) (each_map IsNamed choice_tree choice_named cs))
+
+groups_named : (gs : GroupsSaid) → Each IsNamed (named_groups gs)
+groups_named no_groups = tt
+groups_named (groups g gs) = each_append IsNamed (named_group g) (named_groups gs) (group_named g) (groups_named gs)
+
+-- ---- trees of items that are taken by their place
+
+-- the tree passes, whatever came before
+abbrev IsPlaced : Tree → Type 0
+IsPlaced t = (a : Bool) → (b : Bool) × (walked t a ≡ fine b)
+
+wrapped_placed : (r p : Bool) (t : Tree) → IsPlaced t → IsPlaced (wrapped r p t)
+wrapped_placed r p t h a = ((h a).0, wrapped_walked r p t a ∙ (h a).1)
+
+dashes_placed : (s : Bool) (t : Tree) → IsPlaced t → IsPlaced (behind_dashes s t)
+dashes_placed true t h = h
+dashes_placed false t h = h
+
+value_placed : (value : List ℕ) (help : Option (List Part)) → IsPlaced (item (positional value help))
+value_placed value help true = (true, refl)
+value_placed value help false = (true, refl)
+
+positional_placed : (p : PositionalSaid) → IsPlaced (positional_tree p)
+positional_placed p = dashes_placed p.strict (wrapped p.required p.repeated (item (positional p.value (document_said p.help)))) (wrapped_placed p.required p.repeated (item (positional p.value (document_said p.help))) (value_placed p.value (document_said p.help)))
+
+parts_placed : (ts : List Tree) → Each IsPlaced ts → (a : Bool) → (b : Bool) × (walked_parts (trees_in ts) a ≡ fine b)
+parts_placed [] h a = (a, refl)
+parts_placed (t ∷ ts) h a =
+    let first = h.0 a in
+    let rest = parts_placed ts h.1 first.0 in
+    (rest.0, ap (λ c. then_check c (walked_parts (trees_in ts))) first.1 ∙ rest.1)
+
+branches_placed : (ts : List Tree) → Each IsPlaced ts → (a seen : Bool) → (b : Bool) × (walked_branches (trees_in ts) a seen ≡ fine b)
+branches_placed [] h a seen = (seen, refl)
+branches_placed (t ∷ ts) h a seen =
+    let first = h.0 a in
+    let rest = branches_placed ts h.1 a (seen || first.0) in
+    (rest.0, ap (λ c. then_check c (λ b. walked_branches (trees_in ts) a (seen || b))) first.1 ∙ rest.1)
+
+titled_placed : (title : List ℕ) (ts : List Tree) → Each IsPlaced ts → Each IsPlaced (titled title ts)
+titled_placed title [] h = tt
+titled_placed title (t ∷ ts) h = (parts_placed (t ∷ ts) h, tt)
+
+one_of_placed : (r : Bool) (ts : List Tree) → Each IsPlaced ts → Each IsPlaced (one_of_commands r ts)
+one_of_placed r [] h = tt
+one_of_placed r (t ∷ ts) h = (wrapped_placed r false (or_of (trees_in (t ∷ ts))) (λ a. branches_placed (t ∷ ts) h a a), tt)
+
+-- ---- one after the other
+
+then_both : (c : Check) (f g h : Bool → Check) → ((b : Bool) → f b ≡ then_check (g b) h) → then_check c f ≡ then_check (then_check c g) h
+then_both (fine b) f g h e = e b
+then_both (wrong l) f g h e = refl
+
+walked_append : (ts us : List Tree) (a : Bool) → walked_parts (trees_in (ts ++ us)) a ≡ then_check (walked_parts (trees_in ts) a) (walked_parts (trees_in us))
+walked_append [] us a = refl
+walked_append (t ∷ ts) us a = then_both (walked t a) (walked_parts (trees_in (ts ++ us))) (walked_parts (trees_in ts)) (walked_parts (trees_in us)) (walked_append ts us)
+
+abbrev Passes : List Tree → Type 0
+Passes ts = (b : Bool) × (walked_parts (trees_in ts) false ≡ fine b)
+
+passes_then : (ts us : List Tree) → Passes ts → Each IsPlaced us → Passes (ts ++ us)
+passes_then ts us h k =
+    let rest = parts_placed us k h.0 in
+    (rest.0, walked_append ts us false ∙ ap (λ c. then_check c (walked_parts (trees_in us))) h.1 ∙ rest.1)
+
+-- ---- levels
+
+abbrev passes_level : Tree → Type 0
+passes_level t = (b : Bool) × (walked t false ≡ fine b)
+
+mutual
+  level_passes : (help : Tree) (l : LevelSaid) → passes_level (level_tree help l)
+  level_passes help (level t r os cs gs ps ms) =
+      let options = each_map IsNamed option_tree option_named os in
+      let choices = each_map IsNamed choice_tree choice_named cs in
+      let named = map option_tree os ++ map choice_tree cs ++ named_groups gs in
+      let named_pass : Passes named = (false, parts_named named (each_append IsNamed (map option_tree os ++ map choice_tree cs) (named_groups gs) (each_append IsNamed (map option_tree os) (map choice_tree cs) options choices) (groups_named gs))) in
+      let in_groups : Passes (named ++ placed_groups help r gs) = passes_then named (placed_groups help r gs) named_pass (groups_placed help r gs) in
+      let with_values : Passes (named ++ placed_groups help r gs ++ map positional_tree ps) = passes_then (named ++ placed_groups help r gs) (map positional_tree ps) in_groups (each_map IsPlaced positional_tree positional_placed ps) in
+      passes_then (named ++ placed_groups help r gs ++ map positional_tree ps) (one_of_commands r (command_items help ms)) with_values (one_of_placed r (command_items help ms) (commands_placed help ms))
+
+  groups_placed : (help : Tree) (r : Bool) (gs : GroupsSaid) → Each IsPlaced (placed_groups help r gs)
+  groups_placed help r no_groups = tt
+  groups_placed help r (groups g gs) = each_append IsPlaced (placed_group help r g) (placed_groups help r gs) (group_placed help r g) (groups_placed help r gs)
+
+  group_placed : (help : Tree) (r : Bool) (g : GroupSaid) → Each IsPlaced (placed_group help r g)
+  group_placed help r (group title os cs ps ms) =
+      let commands_there = one_of_commands r (command_items help ms) in
+      titled_placed title (map positional_tree ps ++ commands_there) (each_append IsPlaced (map positional_tree ps) commands_there (each_map IsPlaced positional_tree positional_placed ps) (one_of_placed r (command_items help ms) (commands_placed help ms)))
+
+  commands_placed : (help : Tree) (ms : CommandsSaid) → Each IsPlaced (command_items help ms)
+  commands_placed help no_commands = tt
+  commands_placed help (commands m ms) = (command_placed help m, commands_placed help ms)
+
+  command_placed : (help : Tree) (m : CommandSaid) → IsPlaced (command_item help m)
+  command_placed help (command name initial h l) true = let own = level_passes help l in (true, ap (λ c. then_check c (λ b. fine true)) own.1)
+  command_placed help (command name initial h l) false = let own = level_passes help l in (true, ap (λ c. then_check c (λ b. fine true)) own.1)
+
+pub trees_are_well_placed : TreesAreWellPlaced
+trees_are_well_placed d =
+    let whole = level_passes (help_tree d) d.level in
+    well_placed (level_tree (help_tree d) d.level) whole.0 whole.1

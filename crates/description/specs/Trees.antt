@@ -1,0 +1,114 @@
+-- The tree and the info of a description.
+use Rattle.std.specs.Prelude.{ℕ, Bool, true, false, List, [], ◌∷◌, ◌++◌, map, Option, Some, None, option_to_list}
+use Rattle.std.specs.Option.{option_map}
+use Rattle.bpaf_doc.specs.declared.buffer.Style.TheVariants as style
+use Rattle.bpaf_doc.specs.Buffer.Parts.{Part, Text}
+use Rattle.bpaf_meta.specs.Content as content
+use Rattle.bpaf_meta.specs.Content.{Name, Tree, and_of, or_of, optional, required, item, many, subsection, strict, Leaf, positional, flag, argument, Head, head}
+use Rattle.bpaf_meta.specs.Names.{short_name}
+use Rattle.bpaf_meta.specs.View.{trees_in}
+use Rattle.description.specs.Content.{OptSaid, ChoiceSaid, PositionalSaid, TextsSaid, LevelSaid, level, GroupsSaid, no_groups, groups, GroupSaid, group, CommandsSaid, no_commands, commands, CommandSaid, command, DescriptionSaid}
+
+-- ---- single items
+
+-- a text is a document of that one text
+abbrev pub text_document : List ℕ → List Part
+text_document text = Text text style.Text ∷ []
+
+abbrev pub document_said : Option (List ℕ) → Option (List Part)
+document_said = option_map text_document
+
+-- an option with a value is an argument, one without is a flag; its short names are the one that it has
+abbrev pub named_leaf : (value : Option (List ℕ)) → Name → (env : Option (List ℕ)) → (help : Option (List Part)) → Leaf
+named_leaf None name env help = flag name (option_to_list (short_name name)) env help
+named_leaf (Some value) name env help = argument name (option_to_list (short_name name)) value env help
+
+abbrev pub option_item : OptSaid → Tree
+option_item o = item (named_leaf o.value o.name o.env (document_said o.help))
+
+-- what has to be given or not, once or many times
+abbrev pub wrapped : (required repeated : Bool) → Tree → Tree
+wrapped true false t = t
+wrapped false false t = optional t
+wrapped true true t = many (required t)
+wrapped false true t = many (optional t)
+
+abbrev pub option_tree : OptSaid → Tree
+option_tree o = wrapped o.required o.repeated (option_item o)
+
+-- one of the options; they are not wrapped
+abbrev pub choice_tree : ChoiceSaid → Tree
+choice_tree c = wrapped c.required false (or_of (trees_in (map option_item c.options)))
+
+abbrev pub behind_dashes : Bool → Tree → Tree
+behind_dashes true t = strict t
+behind_dashes false t = t
+
+abbrev pub positional_tree : PositionalSaid → Tree
+positional_tree p = behind_dashes p.strict (wrapped p.required p.repeated (item (positional p.value (document_said p.help))))
+
+-- ---- groups and levels
+
+abbrev pub all_of : List Tree → Tree
+all_of ts = and_of (trees_in ts)
+
+abbrev pub options_tree : List OptSaid → Tree
+options_tree os = all_of (map option_tree os)
+
+-- some parts under a title; nothing where there are none
+abbrev pub titled : (title : List ℕ) → List Tree → List Tree
+titled title [] = []
+titled title (t ∷ ts) = subsection (all_of (t ∷ ts)) (text_document title) ∷ []
+
+-- one of the commands, which may be left out where none is required; nothing where there are none
+abbrev pub one_of_commands : (required : Bool) → List Tree → List Tree
+one_of_commands r [] = []
+one_of_commands r (t ∷ ts) = wrapped r false (or_of (trees_in (t ∷ ts))) ∷ []
+
+-- what a group has of options and choices, and of each group of a level: these stand before all that is taken by its place
+abbrev pub named_group : GroupSaid → List Tree
+named_group (group title os cs ps ms) = titled title (map option_tree os ++ map choice_tree cs)
+
+abbrev pub named_groups : GroupsSaid → List Tree
+named_groups no_groups = []
+named_groups (groups g gs) = named_group g ++ named_groups gs
+
+-- the texts of a level, and the tree of the options that ask for help
+abbrev pub texts_head : TextsSaid → (help : Tree) → Head
+texts_head t help = head (document_said t.about) (document_said t.header) (document_said t.footer) (document_said t.usage) help
+
+abbrev pub level_head : (help : Tree) → LevelSaid → Head
+level_head help (level t r os cs gs ps ms) = texts_head t help
+
+abbrev mutual
+  -- the parts of a level, in the order of their kinds: what is named stands before what is taken by its place, so a group with both
+  -- stands in two places
+  pub level_tree : (help : Tree) → LevelSaid → Tree
+  level_tree help (level t r os cs gs ps ms) = all_of (map option_tree os ++ map choice_tree cs ++ named_groups gs ++ placed_groups help r gs ++ map positional_tree ps ++ one_of_commands r (command_items help ms))
+
+  -- what each group has of positional values and commands
+  pub placed_groups : (help : Tree) → (command_required : Bool) → GroupsSaid → List Tree
+  placed_groups help r no_groups = []
+  placed_groups help r (groups g gs) = placed_group help r g ++ placed_groups help r gs
+
+  pub placed_group : (help : Tree) → (command_required : Bool) → GroupSaid → List Tree
+  placed_group help r (group title os cs ps ms) = titled title (map positional_tree ps ++ one_of_commands r (command_items help ms))
+
+  pub command_items : (help : Tree) → CommandsSaid → List Tree
+  command_items help no_commands = []
+  command_items help (commands m ms) = command_item help m ∷ command_items help ms
+
+  pub command_item : (help : Tree) → CommandSaid → Tree
+  command_item help (command name initial h l) = item (content.command name initial (document_said h) (level_tree help l) (level_head help l))
+
+-- ---- the whole
+
+-- the tree of the options that ask for help
+abbrev pub help_tree : DescriptionSaid → Tree
+help_tree d = options_tree d.help_options
+
+abbrev pub description_tree : DescriptionSaid → Tree
+description_tree d = level_tree (help_tree d) d.level
+
+abbrev pub description_head : DescriptionSaid → Head
+description_head d = level_head (help_tree d) d.level

@@ -1,0 +1,138 @@
+//! Options, and choices among options.
+ghost use Rattle.std.specs.Prelude.{◌≡◌, ◌++◌, ◌∷◌, [], Some, None, true, false, OnErr, OnOk};
+ghost use Rattle.bpaf_meta.specs.Content.{both, long as long_of, short as short_of};
+ghost use Rattle.description.specs.Calls.{plain_option};
+ghost use Rattle.description.specs.View.{choice_said, opt_said};
+
+use bpaf_help::item::ShortLong;
+use std::alloc::{AllocError, Allocator, Global};
+
+/// An option: a flag, or with a value an argument. It may be left out unless it is `required`, and be given many times if it
+/// is `repeated`.
+#[derive(Clone, Copy, Debug)]
+pub struct Opt<'a> {
+    pub name: ShortLong,
+    /// What the value is called, as `FILE`.
+    pub value: Option<&'static str>,
+    pub help: Option<&'a str>,
+    /// The environment variable that stands for the option.
+    pub env: Option<&'static str>,
+    pub required: bool,
+    pub repeated: bool,
+}
+
+impl<'a> Opt<'a> {
+    /// A flag with a short and a long name.
+    pub fn flag(short: char, long: &'static str) -> Opt<'a>
+        ensures { opt_said result ≡ plain_option (both short long.now) }
+    {
+        Opt::named(ShortLong::Both(short, long))
+    }
+
+    /// A flag with a short name alone.
+    pub fn short(short: char) -> Opt<'a>
+        ensures { opt_said result ≡ plain_option (short_of short) }
+    {
+        Opt::named(ShortLong::Short(short))
+    }
+
+    /// A flag with a long name alone.
+    pub fn long(long: &'static str) -> Opt<'a>
+        ensures { opt_said result ≡ plain_option (long_of long.now) }
+    {
+        Opt::named(ShortLong::Long(long))
+    }
+
+    fn named(name: ShortLong) -> Opt<'a>
+        ensures { result ≡ record { name = name; value = None; help = None; env = None; required = false; repeated = false } }
+    {
+        Opt {
+            name,
+            value: None,
+            help: None,
+            env: None,
+            required: false,
+            repeated: false,
+        }
+    }
+
+    /// The option with a value, which makes an argument of it.
+    pub fn value(mut self, value: &'static str) -> Opt<'a>
+        ensures { opt_said result ≡ record (opt_said self.entry) { value = Some value.now } }
+    {
+        self.value = Some(value);
+        self
+    }
+
+    /// The option with a help text.
+    pub fn help(mut self, help: &'a str) -> Opt<'a>
+        ensures { opt_said result ≡ record (opt_said self.entry) { help = Some help.now } }
+    {
+        self.help = Some(help);
+        self
+    }
+
+    /// The option with an environment variable.
+    pub fn env(mut self, env: &'static str) -> Opt<'a>
+        ensures { opt_said result ≡ record (opt_said self.entry) { env = Some env.now } }
+    {
+        self.env = Some(env);
+        self
+    }
+
+    /// The option as one that may not be left out.
+    pub fn required(mut self) -> Opt<'a>
+        ensures { opt_said result ≡ record (opt_said self.entry) { required = true } }
+    {
+        self.required = true;
+        self
+    }
+
+    /// The option as one that may be given many times.
+    pub fn repeated(mut self) -> Opt<'a>
+        ensures { opt_said result ≡ record (opt_said self.entry) { repeated = true } }
+    {
+        self.repeated = true;
+        self
+    }
+}
+
+/// Options of which one is given, or none unless the choice is `required`. Whether an option of it is required or repeated by
+/// itself counts for nothing.
+#[derive(Drop)]
+#[derive_where(Debug)]
+pub struct Choice<'a, A: Allocator = Global> {
+    pub options: Vec<Opt<'a>, A>,
+    pub required: bool,
+}
+
+impl<'a, A: Allocator> Choice<'a, A> {
+    /// A choice of nothing yet, which may be left out.
+    pub fn new(alloc: A) -> Choice<'a, A>
+        ensures { choice_said result ≡ record { options = []; required = false } }
+    {
+        Choice {
+            options: Vec::new(alloc),
+            required: false,
+        }
+    }
+
+    /// Puts an option last. After `AllocError` the choice is as it was.
+    pub fn option(&mut self, option: Opt<'a>) -> Result<(), AllocError>
+        ensures ok { OnOk result (choice_said self.new ≡ record (choice_said self.old) { options = (choice_said self.old).options ++ opt_said option.entry ∷ [] }) }
+        ensures err { OnErr result (choice_said self.new ≡ choice_said self.old) }
+    {
+        self.options.push(option)?;
+        Ok(())
+    }
+
+    /// The choice as one that may not be left out.
+    pub fn required(self) -> Choice<'a, A>
+        ensures { choice_said result ≡ record (choice_said self.entry) { required = true } }
+    {
+        Choice {
+            options: self.options,
+            required: true,
+        }
+    }
+}

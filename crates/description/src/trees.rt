@@ -1,0 +1,426 @@
+//! The tree and the texts of a description.
+ghost use Rattle.std.specs.Prelude.{◌≡◌, ◌++◌, ◌∷◌, [], IfOk, OnOk, map, option_to_list};
+ghost use Rattle.bpaf_meta.specs.Content.{many as many_of, optional as optional_of, required as required_of, strict as strict_of, or_of, subsection as subsection_of};
+ghost use Rattle.bpaf_meta.specs.Names.{short_name};
+ghost use Rattle.bpaf_meta.specs.View.{head_of, name_of, text_of, tree_of, trees_in};
+ghost use Rattle.description.specs.Trees.{all_of, behind_dashes, choice_tree, command_item, command_items, document_said, level_head, level_tree, named_group, named_groups, one_of_commands, option_item, option_tree, options_tree, placed_group, placed_groups, positional_tree, text_document, titled, wrapped};
+ghost use Rattle.description.specs.View.{choice_said, command_said, commands_said, group_said, groups_said, level_said, opt_said, positional_said};
+
+use crate::levels::{Command, Group, Level};
+use crate::options::{Choice, Opt};
+use crate::positionals::Positional;
+use bpaf_doc::buffer::Doc;
+use bpaf_help::item::{Item, ShortLong};
+use bpaf_help::meta::Meta;
+use bpaf_help::meta_help::{Info, Metavar};
+use std::alloc::{AllocError, Allocator};
+
+// Each `put` appends to `parts`; after `AllocError` some may stand there.
+
+fn document<B: Allocator + Copy>(alloc: B, text: Option<&str>) -> Result<Option<Doc<B>>, AllocError>
+    ensures { IfOk result (λ d. d ≡ document_said (text_of text.entry)) }
+{
+    match text {
+        None => Ok(None),
+        Some(text) => Ok(Some(Doc::from_text(alloc, text)?)),
+    }
+}
+
+fn shorts<B: Allocator>(alloc: B, name: ShortLong) -> Result<Vec<char, B>, AllocError>
+    ensures { IfOk result (λ v. v.items ≡ option_to_list (short_name (name_of name))) }
+{
+    let mut shorts = Vec::new(alloc);
+    if let Some(short) = name.as_short() {
+        shorts.push(short)?;
+    }
+    Ok(shorts)
+}
+
+fn optional<B: Allocator>(alloc: B, tree: Meta<B>) -> Result<Meta<B>, AllocError>
+    ensures { IfOk result (λ m. tree_of m ≡ optional_of (tree_of tree)) }
+{
+    Ok(Meta::Optional(Box::new(alloc, tree)?))
+}
+
+fn required<B: Allocator>(alloc: B, tree: Meta<B>) -> Result<Meta<B>, AllocError>
+    ensures { IfOk result (λ m. tree_of m ≡ required_of (tree_of tree)) }
+{
+    Ok(Meta::Required(Box::new(alloc, tree)?))
+}
+
+fn many<B: Allocator>(alloc: B, tree: Meta<B>) -> Result<Meta<B>, AllocError>
+    ensures { IfOk result (λ m. tree_of m ≡ many_of (tree_of tree)) }
+{
+    Ok(Meta::Many(Box::new(alloc, tree)?))
+}
+
+fn wrapped<B: Allocator + Copy>(
+    alloc: B,
+    is_required: bool,
+    is_repeated: bool,
+    tree: Meta<B>,
+) -> Result<Meta<B>, AllocError>
+    ensures { IfOk result (λ m. tree_of m ≡ wrapped is_required is_repeated (tree_of tree)) }
+{
+    match (is_required, is_repeated) {
+        (true, false) => Ok(tree),
+        (false, false) => optional(alloc, tree),
+        (true, true) => many(alloc, required(alloc, tree)?),
+        (false, true) => many(alloc, optional(alloc, tree)?),
+    }
+}
+
+fn behind_dashes<B: Allocator>(
+    alloc: B,
+    is_strict: bool,
+    tree: Meta<B>,
+) -> Result<Meta<B>, AllocError>
+    ensures { IfOk result (λ m. tree_of m ≡ behind_dashes is_strict (tree_of tree)) }
+{
+    if is_strict {
+        Ok(Meta::Strict(Box::new(alloc, tree)?))
+    } else {
+        Ok(tree)
+    }
+}
+
+fn either<B: Allocator>(trees: Vec<Meta<B>, B>) -> Meta<B>
+    ensures { tree_of result ≡ or_of (trees_in (map tree_of trees.items)) }
+{
+    Meta::Or(trees)
+}
+
+fn put<B: Allocator>(parts: &mut Vec<Meta<B>, B>, tree: Meta<B>) -> Result<(), AllocError>
+    ensures { OnOk result (map tree_of parts.new.items ≡ map tree_of parts.old.items ++ tree_of tree ∷ []) }
+{
+    parts.push(tree)?;
+    Ok(())
+}
+
+fn option_item<B: Allocator + Copy>(alloc: B, option: &Opt<'_>) -> Result<Meta<B>, AllocError>
+    ensures { IfOk result (λ m. tree_of m ≡ option_item (opt_said option.now)) }
+{
+    let shorts = shorts(alloc, option.name)?;
+    let help = document(alloc, option.help)?;
+    let item = match option.value {
+        None => Item::Flag {
+            name: option.name,
+            shorts,
+            env: option.env,
+            help,
+        },
+        Some(value) => Item::Argument {
+            name: option.name,
+            shorts,
+            metavar: Metavar(value),
+            env: option.env,
+            help,
+        },
+    };
+    Meta::from_item(alloc, item)
+}
+
+fn option_tree<B: Allocator + Copy>(alloc: B, option: &Opt<'_>) -> Result<Meta<B>, AllocError>
+    ensures { IfOk result (λ m. tree_of m ≡ option_tree (opt_said option.now)) }
+{
+    let item = option_item(alloc, option)?;
+    wrapped(alloc, option.required, option.repeated, item)
+}
+
+fn put_options<B: Allocator + Copy>(
+    alloc: B,
+    parts: &mut Vec<Meta<B>, B>,
+    options: &[Opt<'_>],
+) -> Result<(), AllocError>
+    ensures { OnOk result (map tree_of parts.new.items ≡ map tree_of parts.old.items ++ map option_tree (map opt_said options.now)) }
+{
+    for option in options {
+        put(parts, option_tree(alloc, option)?)?;
+    }
+    Ok(())
+}
+
+// The options of a choice, which are not wrapped.
+fn put_alternatives<B: Allocator + Copy>(
+    alloc: B,
+    parts: &mut Vec<Meta<B>, B>,
+    options: &[Opt<'_>],
+) -> Result<(), AllocError>
+    ensures { OnOk result (map tree_of parts.new.items ≡ map tree_of parts.old.items ++ map option_item (map opt_said options.now)) }
+{
+    for option in options {
+        put(parts, option_item(alloc, option)?)?;
+    }
+    Ok(())
+}
+
+fn choice_tree<A: Allocator, B: Allocator + Copy>(
+    alloc: B,
+    choice: &Choice<'_, A>,
+) -> Result<Meta<B>, AllocError>
+    ensures { IfOk result (λ m. tree_of m ≡ choice_tree (choice_said choice.now)) }
+{
+    let mut alternatives = Vec::new(alloc);
+    put_alternatives(alloc, &mut alternatives, &choice.options)?;
+    wrapped(alloc, choice.required, false, either(alternatives))
+}
+
+fn put_choices<A: Allocator, B: Allocator + Copy>(
+    alloc: B,
+    parts: &mut Vec<Meta<B>, B>,
+    choices: &[Choice<'_, A>],
+) -> Result<(), AllocError>
+    ensures { OnOk result (map tree_of parts.new.items ≡ map tree_of parts.old.items ++ map choice_tree (map choice_said choices.now)) }
+{
+    for choice in choices {
+        put(parts, choice_tree(alloc, choice)?)?;
+    }
+    Ok(())
+}
+
+fn positional_tree<B: Allocator + Copy>(
+    alloc: B,
+    positional: &Positional<'_>,
+) -> Result<Meta<B>, AllocError>
+    ensures { IfOk result (λ m. tree_of m ≡ positional_tree (positional_said positional.now)) }
+{
+    let help = document(alloc, positional.help)?;
+    let item = Item::Positional {
+        metavar: Metavar(positional.value),
+        help,
+    };
+    let item = Meta::from_item(alloc, item)?;
+    let tree = wrapped(alloc, positional.required, positional.repeated, item)?;
+    behind_dashes(alloc, positional.strict, tree)
+}
+
+fn put_positionals<B: Allocator + Copy>(
+    alloc: B,
+    parts: &mut Vec<Meta<B>, B>,
+    positionals: &[Positional<'_>],
+) -> Result<(), AllocError>
+    ensures { OnOk result (map tree_of parts.new.items ≡ map tree_of parts.old.items ++ map positional_tree (map positional_said positionals.now)) }
+{
+    for positional in positionals {
+        put(parts, positional_tree(alloc, positional)?)?;
+    }
+    Ok(())
+}
+
+// Puts the members of a group under its title; nothing where there are none.
+fn put_titled<B: Allocator + Copy>(
+    alloc: B,
+    parts: &mut Vec<Meta<B>, B>,
+    title: &str,
+    members: Vec<Meta<B>, B>,
+) -> Result<(), AllocError>
+    ensures { OnOk result (map tree_of parts.new.items ≡ map tree_of parts.old.items ++ titled title.now (map tree_of members.items)) }
+{
+    if members.is_empty() {
+        return Ok(());
+    }
+    put(parts, under_title(alloc, title, members)?)
+}
+
+fn under_title<B: Allocator + Copy>(
+    alloc: B,
+    title: &str,
+    members: Vec<Meta<B>, B>,
+) -> Result<Meta<B>, AllocError>
+    ensures { IfOk result (λ m. tree_of m ≡ subsection_of (all_of (map tree_of members.items)) (text_document title.now)) }
+{
+    let title = Box::new(alloc, Doc::from_text(alloc, title)?)?;
+    Ok(Meta::Subsection(Box::new(alloc, Meta::And(members))?, title))
+}
+
+// Puts one of the commands; nothing where there are none.
+fn put_one_of<B: Allocator + Copy>(
+    alloc: B,
+    parts: &mut Vec<Meta<B>, B>,
+    is_required: bool,
+    commands: Vec<Meta<B>, B>,
+) -> Result<(), AllocError>
+    ensures { OnOk result (map tree_of parts.new.items ≡ map tree_of parts.old.items ++ one_of_commands is_required (map tree_of commands.items)) }
+{
+    if commands.is_empty() {
+        return Ok(());
+    }
+    put(parts, wrapped(alloc, is_required, false, either(commands))?)
+}
+
+// The options and the choices of a group.
+fn put_named_group<A: Allocator, B: Allocator + Copy>(
+    alloc: B,
+    parts: &mut Vec<Meta<B>, B>,
+    group: &Group<'_, A>,
+) -> Result<(), AllocError>
+    ensures { OnOk result (map tree_of parts.new.items ≡ map tree_of parts.old.items ++ named_group (group_said group.now)) }
+{
+    let mut members = Vec::new(alloc);
+    put_options(alloc, &mut members, &group.options)?;
+    put_choices(alloc, &mut members, &group.choices)?;
+    put_titled(alloc, parts, group.title, members)
+}
+
+fn put_named_groups<A: Allocator, B: Allocator + Copy>(
+    alloc: B,
+    parts: &mut Vec<Meta<B>, B>,
+    groups: &[Group<'_, A>],
+) -> Result<(), AllocError>
+    ensures { OnOk result (map tree_of parts.new.items ≡ map tree_of parts.old.items ++ named_groups (groups_said groups.now)) }
+{
+    for group in groups {
+        put_named_group(alloc, parts, group)?;
+    }
+    Ok(())
+}
+
+/// The tree of some options, each of which may be given.
+pub(crate) fn options_tree<B: Allocator + Copy>(
+    alloc: B,
+    options: &[Opt<'_>],
+) -> Result<Meta<B>, AllocError>
+    ensures { IfOk result (λ m. tree_of m ≡ options_tree (map opt_said options.now)) }
+{
+    let mut parts = Vec::new(alloc);
+    put_options(alloc, &mut parts, options)?;
+    Ok(Meta::And(parts))
+}
+
+/// The texts of a level, with the options that ask for help.
+pub(crate) fn level_info<A: Allocator, B: Allocator + Copy>(
+    alloc: B,
+    level: &Level<'_, A>,
+    help_options: &[Opt<'_>],
+) -> Result<Info<B>, AllocError>
+    ensures { IfOk result (λ i. head_of i ≡ level_head (options_tree (map opt_said help_options.now)) (level_said level.now)) }
+{
+    Ok(Info {
+        descr: document(alloc, level.about)?,
+        header: document(alloc, level.header)?,
+        footer: document(alloc, level.footer)?,
+        usage: document(alloc, level.usage)?,
+        help: options_tree(alloc, help_options)?,
+    })
+}
+
+/// The tree of a level. The info of each command below it has the options that ask for help.
+#[cycle(trees)]
+pub(crate) fn level_tree<A: Allocator, B: Allocator + Copy>(
+    alloc: B,
+    level: &Level<'_, A>,
+    help_options: &[Opt<'_>],
+) -> Result<Meta<B>, AllocError>
+    ensures { IfOk result (λ m. tree_of m ≡ level_tree (options_tree (map opt_said help_options.now)) (level_said level.now)) }
+{
+    let mut parts = Vec::new(alloc);
+    put_options(alloc, &mut parts, &level.options)?;
+    put_choices(alloc, &mut parts, &level.choices)?;
+    put_named_groups(alloc, &mut parts, &level.groups)?;
+    put_placed_groups(
+        alloc,
+        &mut parts,
+        &level.groups,
+        level.command_required,
+        help_options,
+    )?;
+    put_positionals(alloc, &mut parts, &level.positionals)?;
+    put_commands(
+        alloc,
+        &mut parts,
+        &level.commands,
+        level.command_required,
+        help_options,
+    )?;
+    Ok(Meta::And(parts))
+}
+
+#[cycle(trees)]
+fn put_placed_groups<A: Allocator, B: Allocator + Copy>(
+    alloc: B,
+    parts: &mut Vec<Meta<B>, B>,
+    groups: &Vec<Group<'_, A>, A>,
+    is_required: bool,
+    help_options: &[Opt<'_>],
+) -> Result<(), AllocError>
+    ensures { OnOk result (map tree_of parts.new.items ≡ map tree_of parts.old.items ++ placed_groups (options_tree (map opt_said help_options.now)) is_required (groups_said groups.now.items)) }
+{
+    for group in groups {
+        put_placed_group(alloc, parts, group, is_required, help_options)?;
+    }
+    Ok(())
+}
+
+// The positional values and the commands of a group.
+#[cycle(trees)]
+fn put_placed_group<A: Allocator, B: Allocator + Copy>(
+    alloc: B,
+    parts: &mut Vec<Meta<B>, B>,
+    group: &Group<'_, A>,
+    is_required: bool,
+    help_options: &[Opt<'_>],
+) -> Result<(), AllocError>
+    ensures { OnOk result (map tree_of parts.new.items ≡ map tree_of parts.old.items ++ placed_group (options_tree (map opt_said help_options.now)) is_required (group_said group.now)) }
+{
+    let mut members = Vec::new(alloc);
+    put_positionals(alloc, &mut members, &group.positionals)?;
+    put_commands(
+        alloc,
+        &mut members,
+        &group.commands,
+        is_required,
+        help_options,
+    )?;
+    put_titled(alloc, parts, group.title, members)
+}
+
+// Puts one of the commands, if there are any.
+#[cycle(trees)]
+fn put_commands<A: Allocator, B: Allocator + Copy>(
+    alloc: B,
+    parts: &mut Vec<Meta<B>, B>,
+    commands: &Vec<Command<'_, A>, A>,
+    is_required: bool,
+    help_options: &[Opt<'_>],
+) -> Result<(), AllocError>
+    ensures { OnOk result (map tree_of parts.new.items ≡ map tree_of parts.old.items ++ one_of_commands is_required (command_items (options_tree (map opt_said help_options.now)) (commands_said commands.now.items))) }
+{
+    let mut items = Vec::new(alloc);
+    put_command_items(alloc, &mut items, commands, help_options)?;
+    put_one_of(alloc, parts, is_required, items)
+}
+
+#[cycle(trees)]
+fn put_command_items<A: Allocator, B: Allocator + Copy>(
+    alloc: B,
+    items: &mut Vec<Meta<B>, B>,
+    commands: &Vec<Command<'_, A>, A>,
+    help_options: &[Opt<'_>],
+) -> Result<(), AllocError>
+    ensures { OnOk result (map tree_of items.new.items ≡ map tree_of items.old.items ++ command_items (options_tree (map opt_said help_options.now)) (commands_said commands.now.items)) }
+{
+    for command in commands {
+        put(items, command_item(alloc, command, help_options)?)?;
+    }
+    Ok(())
+}
+
+#[cycle(trees)]
+fn command_item<A: Allocator, B: Allocator + Copy>(
+    alloc: B,
+    command: &Command<'_, A>,
+    help_options: &[Opt<'_>],
+) -> Result<Meta<B>, AllocError>
+    ensures { IfOk result (λ m. tree_of m ≡ command_item (options_tree (map opt_said help_options.now)) (command_said command.now)) }
+{
+    let meta = level_tree(alloc, &command.level, help_options)?;
+    let info = level_info(alloc, &command.level, help_options)?;
+    let item = Item::Command {
+        name: command.name,
+        short: command.short,
+        help: document(alloc, command.help)?,
+        meta: Box::new(alloc, meta)?,
+        info: Box::new(alloc, info)?,
+    };
+    Meta::from_item(alloc, item)
+}
