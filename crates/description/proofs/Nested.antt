@@ -1,4 +1,4 @@
--- The documents of a description's pages are well nested.
+-- The chapters of a description are well placed, and the documents of its pages are well nested.
 use Rattle.std.proofs.Common.{ℕ, Bool, true, false, List, [], ◌∷◌, ◌++◌, map, refl, Option, Some, None}
 use Rattle.std.specs.Prelude.{All}
 use Rattle.std.proofs.lemmas.List.Elements.{All-nil, All-cons, All-append}
@@ -7,16 +7,18 @@ use Rattle.bpaf_doc.specs.declared.buffer.Block.TheVariants as block
 use Rattle.bpaf_doc.specs.Buffer.Parts.{IsWellNested, text}
 use Rattle.bpaf_meta.specs.Content.{Name, Tree, or_of, item, positional}
 use Rattle.bpaf_meta.specs.View.{trees_in}
+use Rattle.bpaf_meta.specs.Meta.Misplaced.{IsWellPlaced}
 use Rattle.bpaf_items.specs.Page.EnvTexts.{no_texts}
 use Rattle.bpaf_items.specs.Page.NestedTexts.{IsNestedText, HasNestedTexts, EachHasNestedTexts, HasNestedHead}
 use Rattle.bpaf_items.proofs.Page.NestedPages.{both_keep, inside_keeps, path_keeps, usage_keeps, written_keeps, docs_nested, help_pages_are_nested}
-use Rattle.bpaf_help.specs.Chapters.{command_chapters, part_chapters}
+use Rattle.bpaf_help.specs.Chapters.{Chapter, command_chapters, part_chapters}
 use Rattle.bpaf_help.specs.NestedPages.{HasNestedChapter}
 use Rattle.bpaf_help.specs.NestedPages as pages
 use Rattle.bpaf_help.proofs.NestedPages.{collected_pages_are_nested, manual_pages_are_nested}
-use Rattle.description.specs.Content.{OptSaid, ChoiceSaid, PositionalSaid, LevelSaid, level, GroupsSaid, no_groups, groups, GroupSaid, group, CommandsSaid, no_commands, commands, CommandSaid, command}
+use Rattle.description.specs.Content.{OptSaid, ChoiceSaid, PositionalSaid, LevelSaid, level, GroupsSaid, no_groups, groups, GroupSaid, group, CommandsSaid, no_commands, commands, CommandSaid, command, DescriptionSaid}
 use Rattle.description.specs.Trees.{text_document, document_said, named_leaf, option_item, wrapped, option_tree, choice_tree, behind_dashes, positional_tree, titled, one_of_commands, named_group, named_groups, level_head, level_tree, placed_groups, placed_group, command_items, command_item, help_tree, description_tree, description_head}
-use Rattle.description.specs.Pages.{PagesAreWellNested}
+use Rattle.description.specs.Pages.{ChaptersAreWellPlaced, PagesAreWellNested, description_chapters}
+use Rattle.description.proofs.Placed.{level_well_placed}
 use Rattle.description.proofs.Each.{Each, each_append, each_map}
 
 text_nested : (t : List ℕ) → IsWellNested (text_document t)
@@ -26,9 +28,12 @@ said_nested : (t : Option (List ℕ)) → IsNestedText (document_said t)
 said_nested None = tt
 said_nested (Some t) = text_nested t
 
+abbrev IsChapterSound : Chapter → Type 0
+IsChapterSound c = HasNestedChapter c × IsWellPlaced c.content
+
 -- the texts of a tree, and those of all commands in it and below, whatever path leads to it
 abbrev IsSound : Tree → Type 0
-IsSound t = HasNestedTexts t × ((path : List (List ℕ)) → All HasNestedChapter (command_chapters path t))
+IsSound t = HasNestedTexts t × ((path : List (List ℕ)) → All IsChapterSound (command_chapters path t))
 
 wrapped_sound : (r p : Bool) (t : Tree) → IsSound t → IsSound (wrapped r p t)
 wrapped_sound true false t h = h
@@ -37,8 +42,8 @@ wrapped_sound true true t h = h
 wrapped_sound false true t h = h
 
 leaf_sound : (value : Option (List ℕ)) (name : Name) (env help : Option (List ℕ)) → IsSound (item (named_leaf value name env (document_said help)))
-leaf_sound None name env help = (said_nested help, λ path. All-nil HasNestedChapter)
-leaf_sound (Some value) name env help = (said_nested help, λ path. All-nil HasNestedChapter)
+leaf_sound None name env help = (said_nested help, λ path. All-nil IsChapterSound)
+leaf_sound (Some value) name env help = (said_nested help, λ path. All-nil IsChapterSound)
 
 item_sound : (o : OptSaid) → IsSound (option_item o)
 item_sound o = leaf_sound o.value o.name o.env o.help
@@ -46,11 +51,11 @@ item_sound o = leaf_sound o.value o.name o.env o.help
 option_sound : (o : OptSaid) → IsSound (option_tree o)
 option_sound o = wrapped_sound o.required o.repeated (option_item o) (item_sound o)
 
-parts_sound : (ts : List Tree) → Each IsSound ts → EachHasNestedTexts (trees_in ts) × ((path : List (List ℕ)) → All HasNestedChapter (part_chapters path (trees_in ts)))
-parts_sound [] h = (tt, λ path. All-nil HasNestedChapter)
+parts_sound : (ts : List Tree) → Each IsSound ts → EachHasNestedTexts (trees_in ts) × ((path : List (List ℕ)) → All IsChapterSound (part_chapters path (trees_in ts)))
+parts_sound [] h = (tt, λ path. All-nil IsChapterSound)
 parts_sound (t ∷ ts) h =
     let rest = parts_sound ts h.1 in
-    ((h.0.0, rest.0), λ path. All-append HasNestedChapter (command_chapters path t) (part_chapters path (trees_in ts)) (h.0.1 path) (rest.1 path))
+    ((h.0.0, rest.0), λ path. All-append IsChapterSound (command_chapters path t) (part_chapters path (trees_in ts)) (h.0.1 path) (rest.1 path))
 
 choice_sound : (c : ChoiceSaid) → IsSound (choice_tree c)
 choice_sound c = wrapped_sound c.required false (or_of (trees_in (map option_item c.options))) (parts_sound (map option_item c.options) (each_map IsSound option_item item_sound c.options))
@@ -62,7 +67,7 @@ dashes_sound false t h = h
 positional_sound : (p : PositionalSaid) → IsSound (positional_tree p)
 positional_sound p =
     let value : Tree = item (positional p.value (document_said p.help)) in
-    dashes_sound p.strict (wrapped p.required p.repeated value) (wrapped_sound p.required p.repeated value (said_nested p.help, λ path. All-nil HasNestedChapter))
+    dashes_sound p.strict (wrapped p.required p.repeated value) (wrapped_sound p.required p.repeated value (said_nested p.help, λ path. All-nil IsChapterSound))
 
 titled_sound : (title : List ℕ) (ts : List Tree) → Each IsSound ts → Each IsSound (titled title ts)
 titled_sound title [] h = tt
@@ -118,20 +123,31 @@ mutual
   command_sound : (help : Tree) → HasNestedTexts help → (m : CommandSaid) → IsSound (command_item help m)
   command_sound help k (command name initial h l) =
       let own = level_sound help k l in
-      (said_nested h, λ path. All-cons HasNestedChapter (record { path = path ++ name ∷ []; info = level_head help l; content = level_tree help l }) (command_chapters (path ++ name ∷ []) (level_tree help l)) (head_nested help k l, own.0) (own.1 (path ++ name ∷ [])))
+      (said_nested h, λ path. All-cons IsChapterSound (record { path = path ++ name ∷ []; info = level_head help l; content = level_tree help l }) (command_chapters (path ++ name ∷ []) (level_tree help l)) ((head_nested help k l, own.0), level_well_placed help l) (own.1 (path ++ name ∷ [])))
+
+help_nested : (d : DescriptionSaid) → HasNestedTexts (help_tree d)
+help_nested d = (parts_sound (map option_tree d.help_options) (each_map IsSound option_tree option_sound d.help_options)).0
+
+chapters_sound : (d : DescriptionSaid) → All IsChapterSound (description_chapters d)
+chapters_sound d =
+    let help = help_tree d in
+    let t = description_tree d in
+    let whole = level_sound help (help_nested d) d.level in
+    All-cons IsChapterSound (record { path = d.name ∷ []; info = description_head d; content = t }) (command_chapters (d.name ∷ []) t) ((head_nested help (help_nested d) d.level, whole.0), level_well_placed help d.level) (whole.1 (d.name ∷ []))
+
+pub chapters_are_well_placed : ChaptersAreWellPlaced
+chapters_are_well_placed d = λ k c within. (chapters_sound d k c within).1
 
 pub pages_are_well_nested : PagesAreWellNested
 pages_are_well_nested d =
     let help = help_tree d in
     let t = description_tree d in
     let i = description_head d in
-    let k : HasNestedTexts help = (parts_sound (map option_tree d.help_options) (each_map IsSound option_tree option_sound d.help_options)).0 in
-    let whole = level_sound help k d.level in
-    let top : HasNestedHead i = head_nested help k d.level in
-    let all : pages.HasNestedPages d.name i t = All-cons HasNestedChapter (record { path = d.name ∷ []; info = i; content = t }) (command_chapters (d.name ∷ []) t) (top, whole.0) (whole.1 (d.name ∷ [])) in
+    let whole = (level_sound help (help_nested d) d.level).0 in
+    let all : pages.HasNestedPages d.name i t = λ k c within. (chapters_sound d k c within).0 in
     record {
-      usage = written_keeps (inside_keeps block.Mono (both_keep (path_keeps (d.name ∷ [])) (usage_keeps t (docs_nested t whole.0))));
-      help = help_pages_are_nested (d.name ∷ []) i t help false no_texts top whole.0 k;
+      usage = written_keeps (inside_keeps block.Mono (both_keep (path_keeps (d.name ∷ [])) (usage_keeps t (docs_nested t whole))));
+      help = help_pages_are_nested (d.name ∷ []) i t help false no_texts (head_nested help (help_nested d) d.level) whole (help_nested d);
       collected = collected_pages_are_nested d.name t i all;
       manual = manual_pages_are_nested d.name t i all;
     }

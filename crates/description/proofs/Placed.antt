@@ -4,11 +4,11 @@ use Rattle.std.specs.Prelude.{◌||◌}
 use Rattle.bpaf_doc.specs.Buffer.Parts.{Part}
 use Rattle.bpaf_meta.specs.Content.{Name, Tree, or_of, item, positional}
 use Rattle.bpaf_meta.specs.View.{trees_in}
+use Rattle.bpaf_meta.specs.Meta.Misplaced.{IsWellPlaced}
 use Rattle.bpaf_meta.specs.Meta.Steps.Walk.{Check, fine, wrong, then_check, walked, walked_parts, walked_branches}
 use Rattle.bpaf_meta.proofs.lemmas.Misplaced.Lines.{well_placed}
 use Rattle.description.specs.Content.{OptSaid, ChoiceSaid, PositionalSaid, LevelSaid, level, GroupsSaid, no_groups, groups, GroupSaid, group, CommandsSaid, no_commands, commands, CommandSaid, command}
 use Rattle.description.specs.Trees.{document_said, named_leaf, option_item, wrapped, option_tree, choice_tree, behind_dashes, positional_tree, titled, one_of_commands, named_group, named_groups, level_tree, placed_groups, placed_group, command_items, command_item, help_tree}
-use Rattle.description.specs.Pages.{TreesAreWellPlaced}
 use Rattle.description.proofs.Each.{Each, each_append, each_map}
 
 -- ---- trees of named items
@@ -149,7 +149,5 @@ mutual
   command_placed help (command name initial h l) true = let own = level_passes help l in (true, ap (λ c. then_check c (λ b. fine true)) own.1)
   command_placed help (command name initial h l) false = let own = level_passes help l in (true, ap (λ c. then_check c (λ b. fine true)) own.1)
 
-pub trees_are_well_placed : TreesAreWellPlaced
-trees_are_well_placed d =
-    let whole = level_passes (help_tree d) d.level in
-    well_placed (level_tree (help_tree d) d.level) whole.0 whole.1
+pub level_well_placed : (help : Tree) (l : LevelSaid) → IsWellPlaced (level_tree help l)
+level_well_placed help l = let whole = level_passes help l in well_placed (level_tree help l) whole.0 whole.1

@@ -4,10 +4,10 @@ use Rattle.bpaf_doc.specs.declared.buffer.Block.TheVariants as block
 use Rattle.bpaf_doc.specs.Buffer.Parts.{Part, IsWellNested}
 use Rattle.bpaf_doc.specs.Buffer.Writes.{inside, path_writes, document_of}
 use Rattle.bpaf_doc.specs.Console.Layout.{IsLayout}
-use Rattle.bpaf_meta.specs.Meta.Misplaced.{IsWellPlaced}
 use Rattle.bpaf_meta.specs.Usage.Writes.{usage_writes}
 use Rattle.bpaf_items.specs.Page.EnvTexts.{no_texts}
 use Rattle.bpaf_items.specs.Page.HelpPage.{help_page_writes}
+use Rattle.bpaf_help.specs.Chapters.{AreWellPlaced, Chapter, chapters_of}
 use Rattle.bpaf_help.specs.PageAnswers as pages
 use Rattle.description.specs.Content.{DescriptionSaid}
 use Rattle.description.specs.Trees.{help_tree, description_tree, description_head}
@@ -41,9 +41,13 @@ manual_text d = pages.manual_text d.name d.section d.date d.vendor d.title (desc
 
 -- ---- laws
 
--- no named item of a description stands after a positional one
-abbrev pub TreesAreWellPlaced : Type 0
-TreesAreWellPlaced = (d : DescriptionSaid) → IsWellPlaced (description_tree d)
+-- the command line, and its commands with those below them
+abbrev pub description_chapters : DescriptionSaid → List Chapter
+description_chapters d = chapters_of (d.name ∷ []) (description_head d) (description_tree d)
+
+-- no named item of a description, or of a command of it, stands after a positional one
+abbrev pub ChaptersAreWellPlaced : Type 0
+ChaptersAreWellPlaced = (d : DescriptionSaid) → AreWellPlaced (description_chapters d)
 
 -- the document of each page of a description is well nested
 pub record HasNestedPages (d : DescriptionSaid) : Type 0 where

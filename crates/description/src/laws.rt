@@ -1,10 +1,10 @@
 //! Laws of the definitions that the contracts cite: nothing to call, but statements that the check proves.
 
-ghost use Rattle.description.specs.Pages.{PagesAreWellNested, TreesAreWellPlaced};
+ghost use Rattle.description.specs.Pages.{ChaptersAreWellPlaced, PagesAreWellNested};
 
-/// No named item of a description stands after a positional one, so each description has a help page.
-pub fn trees_are_placed()
-    ensures { TreesAreWellPlaced }
+/// No named item of a description, or of a command of it, stands after a positional one. So each has a help page.
+pub fn chapters_are_placed()
+    ensures { ChaptersAreWellPlaced }
 {}
 
 /// The documents of all pages of a description are well nested.

@@ -175,35 +175,35 @@ impl<'a, A: Allocator + Copy> Group<'a, A> {
 impl<'a, A: Allocator> Group<'a, A> {
     // Each of these puts its part last among those of its kind. After `AllocError` the group is as it was.
 
-    pub fn option(&mut self, option: Opt<'a>) -> Result<(), AllocError>
-        ensures ok { OnOk result (group_said self.new ≡ group_with_option (group_said self.old) (opt_said option.entry)) }
+    pub fn option(&mut self, member: Opt<'a>) -> Result<(), AllocError>
+        ensures ok { OnOk result (group_said self.new ≡ group_with_option (group_said self.old) (opt_said member.entry)) }
         ensures err { OnErr result (group_said self.new ≡ group_said self.old) }
     {
-        self.options.push(option)?;
+        self.options.push(member)?;
         Ok(())
     }
 
-    pub fn choice(&mut self, choice: Choice<'a, A>) -> Result<(), AllocError>
-        ensures ok { OnOk result (group_said self.new ≡ group_with_choice (group_said self.old) (choice_said choice.entry)) }
+    pub fn choice(&mut self, member: Choice<'a, A>) -> Result<(), AllocError>
+        ensures ok { OnOk result (group_said self.new ≡ group_with_choice (group_said self.old) (choice_said member.entry)) }
         ensures err { OnErr result (group_said self.new ≡ group_said self.old) }
     {
-        self.choices.push(choice)?;
+        self.choices.push(member)?;
         Ok(())
     }
 
-    pub fn positional(&mut self, positional: Positional<'a>) -> Result<(), AllocError>
-        ensures ok { OnOk result (group_said self.new ≡ group_with_positional (group_said self.old) (positional_said positional.entry)) }
+    pub fn positional(&mut self, member: Positional<'a>) -> Result<(), AllocError>
+        ensures ok { OnOk result (group_said self.new ≡ group_with_positional (group_said self.old) (positional_said member.entry)) }
         ensures err { OnErr result (group_said self.new ≡ group_said self.old) }
     {
-        self.positionals.push(positional)?;
+        self.positionals.push(member)?;
         Ok(())
     }
 
-    pub fn command(&mut self, command: Command<'a, A>) -> Result<(), AllocError>
-        ensures ok { OnOk result (group_said self.new ≡ group_with_command (group_said self.old) (command_said command.entry)) }
+    pub fn command(&mut self, member: Command<'a, A>) -> Result<(), AllocError>
+        ensures ok { OnOk result (group_said self.new ≡ group_with_command (group_said self.old) (command_said member.entry)) }
         ensures err { OnErr result (group_said self.new ≡ group_said self.old) }
     {
-        self.commands.push(command)?;
+        self.commands.push(member)?;
         Ok(())
     }
 }

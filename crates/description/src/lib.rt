@@ -5,6 +5,7 @@ pub mod descriptions;
 pub mod laws;
 pub mod levels;
 pub mod options;
+mod pages;
 pub mod positionals;
 mod trees;
 

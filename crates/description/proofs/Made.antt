@@ -1,0 +1,87 @@
+-- What the calls for the pages of a description make.
+use Rattle.std.proofs.Common.{◌≡◌, ℕ, true, false, List, [], ◌∷◌, ◌++◌, length, Result, Ok, Err, IfOk, refl, sym, ap, ◌∙◌, subst, arith}
+use Rattle.std.specs.Borrow.{Bor}
+use Rattle.std.specs.Prelude.{All, Contains, ◌<◌}
+use Rattle.std.proofs.lemmas.List.Elements.{All-head, All-tail}
+use Rattle.bpaf_doc.specs.declared.buffer.Block.TheVariants as block
+use Rattle.bpaf_doc.specs.Buffer.Parts.{IsWellNested, Part, Start, End}
+use Rattle.bpaf_doc.specs.Buffer.Writes.{end, inside, path_writes, with_writes, document_of}
+use Rattle.bpaf_doc.specs.Html.Page.{IsHtmlPageOf}
+use Rattle.bpaf_meta.specs.Content.{Tree, Leaf, Head}
+use Rattle.bpaf_meta.specs.View.{head_of, leaf_of, tree_of}
+use Rattle.bpaf_meta.specs.declared.item.Item.{Item}
+use Rattle.bpaf_meta.specs.declared.meta_help.Info.{Info}
+use Rattle.bpaf_meta.specs.Meta.Misplaced.{IsWellPlaced, IsFirstMisplaced, misplaced_items}
+use Rattle.bpaf_meta.specs.Usage.Writes.{usage_writes}
+use Rattle.bpaf_items.proofs.Page.Leaving.{written_then}
+use Rattle.bpaf_items.specs.declared.meta_help.error.HelpError.{HelpError}
+use Rattle.bpaf_items.specs.declared.meta_help.error.HelpError.TheVariants as error
+use Rattle.bpaf_items.specs.Page.EnvTexts.{Texts, no_texts}
+use Rattle.bpaf_items.specs.Page.HelpPage as page
+use Rattle.bpaf_help.specs.Chapters.{AreWellPlaced, Chapter, IsFirstMisplacedOf, chapters_of}
+use Rattle.bpaf_help.specs.PageAnswers as pages
+use Rattle.bpaf_help.specs.PageAnswers.{AreErrorOf}
+use Rattle.bpaf_help.proofs.Steps.{help_page_alone, view_info}
+use Rattle.description.specs.Content.{LevelSaid, level, DescriptionSaid}
+use Rattle.description.specs.Trees.{description_head, description_tree, help_tree, level_head}
+use Rattle.description.specs.Pages.{collected_document, description_chapters, help_document}
+
+-- what holds of a content holds of the answer with that content
+pub of_same : {T E X : Type 0} (f : T → X) (r : Result T E) (x : X) (P : X → Type 0) → P x → IfOk r (λ t. f t ≡ x) → IfOk r (λ t. P (f t))
+of_same f (Ok t) x P p e = subst P (sym e) p
+of_same f (Err y) x P p e = tt
+
+-- ---- no item is misplaced
+
+in_nothing : {X : Type 0} (x : X) → ¬ Contains [] x
+in_nothing x c = let below : c.0 < 0 = c.1 in omega arith
+
+pub none_misplaced : (t : Tree) (l : Leaf) → IsWellPlaced t → ¬ IsFirstMisplaced t l
+none_misplaced t l e h = in_nothing (h.0, l) (subst (λ xs. Contains xs (h.0, l)) e h.1)
+
+all_middle : {X : Type 0} (P : X → Type 0) (xs : List X) (x : X) (ys : List X) → All P (xs ++ x ∷ ys) → P x
+all_middle P [] x ys h = All-head P x ys h
+all_middle P (w ∷ xs) x ys h = all_middle P xs x ys (All-tail P w (xs ++ x ∷ ys) h)
+
+pub none_misplaced_of : (cs : List Chapter) (l : Leaf) → AreWellPlaced cs → ¬ IsFirstMisplacedOf cs l
+none_misplaced_of cs l h m = none_misplaced m.faulty.content l (all_middle (λ c. IsWellPlaced c.content) m.front m.faulty m.back (subst AreWellPlaced m.order h)) m.first
+
+-- ---- the usage line
+
+pub usage_whole : (name : List ℕ) (t u : Tree) (names : List (List ℕ)) (d0 d1 d2 d3 d4 : List Part) → t ≡ u → names ≡ name ∷ [] → d0 ≡ [] → d1 ≡ d0 ++ Start block.Mono ∷ []
+    → d2 ≡ with_writes d1 (path_writes names) → d3 ≡ with_writes d2 (usage_writes true t) → d4 ≡ d3 ++ End block.Mono ∷ []
+    → d4 ≡ document_of (inside block.Mono (path_writes (name ∷ []) ++ usage_writes true u))
+usage_whole name t u names d0 d1 d2 d3 d4 et en e0 e1 e2 e3 e4 =
+    let line = path_writes names ++ usage_writes true t in
+    written_then d1 d3 d4 line (end block.Mono ∷ []) (written_then d1 d2 d3 (path_writes names) (usage_writes true t) e2 e3) e4
+    ∙ ap (λ ps. with_writes ps (line ++ end block.Mono ∷ [])) (e1 ∙ ap (λ ps. ps ++ Start block.Mono ∷ []) e0)
+    ∙ ap (λ ns. document_of (inside block.Mono (path_writes ns ++ usage_writes true t))) en
+    ∙ ap (λ v. document_of (inside block.Mono (path_writes (name ∷ []) ++ usage_writes true v))) et
+
+-- ---- pages of trees and infos that are those of a description
+
+pub pages_placed : {A : Type 0} (d : DescriptionSaid) (t : Tree) (i : Head) (e : HelpError A) (f : Bor (Item A)) → AreWellPlaced (description_chapters d) → t ≡ description_tree d → i ≡ description_head d
+    → e ≡ error.Misplaced f → AreErrorOf (chapters_of (d.name ∷ []) i t) e → ⊥
+pages_placed d t i e f placed et ei ee h =
+    let found : IsFirstMisplacedOf (chapters_of (d.name ∷ []) i t) (leaf_of f.now) = subst (AreErrorOf (chapters_of (d.name ∷ []) i t)) ee h in
+    let of_tree : IsFirstMisplacedOf (chapters_of (d.name ∷ []) i (description_tree d)) (leaf_of f.now) = subst (λ x. IsFirstMisplacedOf (chapters_of (d.name ∷ []) i x) (leaf_of f.now)) et found in
+    none_misplaced_of (description_chapters d) (leaf_of f.now) placed (subst (λ x. IsFirstMisplacedOf (chapters_of (d.name ∷ []) x (description_tree d)) (leaf_of f.now)) ei of_tree)
+
+pub html_whole : (d : DescriptionSaid) (t : Tree) (i : Head) (text : List ℕ) → t ≡ description_tree d → i ≡ description_head d → IsWellNested (collected_document d)
+    → (IsWellNested (pages.collected_document d.name t i) → IsHtmlPageOf (pages.collected_document d.name t i) true false text) → IsHtmlPageOf (collected_document d) true false text
+html_whole d t i text et ei nested h =
+    let same : pages.collected_document d.name t i ≡ collected_document d = ap (λ x. pages.collected_document d.name x i) et ∙ ap (pages.collected_document d.name (description_tree d)) ei in
+    subst (λ x. IsHtmlPageOf x true false text) same (h (subst IsWellNested (sym same) nested))
+
+head_help : (help : Tree) (l : LevelSaid) → page.help_tree (level_head help l) ≡ help
+head_help help (level t r os cs gs ps ms) = refl
+
+pub help_whole : {A : Type 0} (d : DescriptionSaid) (t : Tree) (i : Info A) (names : List (List ℕ)) (texts : Texts) (document : List Part) → t ≡ description_tree d → head_of i ≡ description_head d → names ≡ d.name ∷ []
+    → document ≡ document_of (page.help_page_writes names (head_of i) t (tree_of i.help) false texts) → document ≡ help_document d
+help_whole d t i names texts document et ei en e =
+    let own : tree_of i.help ≡ help_tree d = sym (ap page.help_tree (view_info i)) ∙ ap page.help_tree ei ∙ head_help (help_tree d) d.level in
+    e ∙ ap document_of (help_page_alone texts no_texts names (head_of i) t (tree_of i.help))
+    ∙ ap (λ ns. document_of (page.help_page_writes ns (head_of i) t (tree_of i.help) false no_texts)) en
+    ∙ ap (λ x. document_of (page.help_page_writes (d.name ∷ []) (head_of i) x (tree_of i.help) false no_texts)) et
+    ∙ ap (λ h. document_of (page.help_page_writes (d.name ∷ []) (head_of i) (description_tree d) h false no_texts)) own
+    ∙ ap (λ h. document_of (page.help_page_writes (d.name ∷ []) h (description_tree d) (help_tree d) false no_texts)) ei

@@ -1,0 +1,14 @@
+use Rattle.std.proofs.Common.{subst, map}
+use Rattle.std.specs.Prelude.{◌≡◌, IfOk}
+use Rattle.bpaf_meta.specs.Meta.Misplaced.{IsWellPlaced}
+use Rattle.bpaf_meta.specs.View.{tree_of}
+use Rattle.description.specs.Trees.{description_tree, help_tree, level_tree, options_tree}
+use Rattle.description.specs.View.{description_said, opt_said}
+use Rattle.description.proofs.Made.{of_same}
+use Rattle.description.proofs.Placed.{level_well_placed}
+use Rattle.description.proofs.descriptions.Description.tree.Goals as goal
+
+pub returns-clause-placed : goal.returns-clause-placed
+returns-clause-placed g c =
+    let d = description_said c.args.self.now in
+    of_same tree_of c.level_tree.result (description_tree d) IsWellPlaced (level_well_placed (help_tree d) d.level) (subst (λ os. IfOk c.level_tree.result (λ m. tree_of m ≡ level_tree (options_tree (map opt_said os)) d.level)) c.deref.ensures.value c.level_tree.ensures)

@@ -1,0 +1,144 @@
+//! The pages of a description.
+ghost use Rattle.std.specs.Prelude.{◌≡◌, ◌++◌, ◌∷◌, [], true, false, IfOk, map, string_bytes};
+ghost use Rattle.bpaf_doc.specs.Console.Exact.{console_page};
+ghost use Rattle.bpaf_doc.specs.Console.Layout.{IsLayout};
+ghost use Rattle.bpaf_doc.specs.Html.Exact.{html_page};
+ghost use Rattle.bpaf_doc.specs.Html.Page.{IsHtmlPageOf};
+ghost use Rattle.bpaf_doc.specs.Markdown.Exact.{markdown_page};
+ghost use Rattle.bpaf_doc.specs.Markdown.Page.{IsMarkdownOf};
+ghost use Rattle.bpaf_meta.specs.Meta.Misplaced.{IsWellPlaced};
+ghost use Rattle.bpaf_meta.specs.View.{head_of, tree_of};
+ghost use Rattle.description.specs.Pages.{IsDescriptionManual, IsUsageLineOf, collected_document, help_document, manual_text, usage_document};
+ghost use Rattle.description.specs.Trees.{description_head, description_tree};
+ghost use Rattle.description.specs.View.{description_said};
+
+use crate::descriptions::Description;
+use crate::laws::{chapters_are_placed, pages_are_nested};
+use crate::trees::{level_info, level_tree};
+use bpaf_doc::buffer::{Block, Doc, Token};
+use bpaf_help::meta::Meta;
+use bpaf_help::meta_help::{EnvTexts, HelpError, Info, render_help};
+use bpaf_help::pages::{render_html, render_manpage, render_markdown};
+use bpaf_help::usage::write_meta;
+use std::alloc::{AllocError, Allocator};
+
+impl<A: Allocator> Description<'_, A> {
+    /// The tree of the command line. No named item of it stands after a positional one.
+    pub fn tree<B: Allocator + Copy>(&self, alloc: B) -> Result<Meta<B>, AllocError>
+        ensures tree { IfOk result (λ m. tree_of m ≡ description_tree (description_said self.now)) }
+        ensures placed { IfOk result (λ m. IsWellPlaced (tree_of m)) }
+    {
+        level_tree(alloc, &self.level, &self.help_options)
+    }
+
+    /// The texts of the command line, with the tree of the options that ask for help.
+    pub fn info<B: Allocator + Copy>(&self, alloc: B) -> Result<Info<B>, AllocError>
+        ensures { IfOk result (λ i. head_of i ≡ description_head (description_said self.now)) }
+    {
+        level_info(alloc, &self.level, &self.help_options)
+    }
+
+    /// The usage line, in full and at 100 columns, and a newline.
+    pub fn usage<B: Allocator + Copy>(&self, alloc: B) -> Result<String<B>, AllocError>
+        ensures laid_out { IfOk result (λ text. IsUsageLineOf (description_said self.now) (string_bytes text)) }
+        ensures exact { IfOk result (λ text. string_bytes text ≡ console_page true 100 (usage_document (description_said self.now)) ++ 10 ∷ []) }
+    {
+        let document = self.usage_document(alloc)?;
+        let mut text = document.monochrome(alloc, true)?;
+        text.push('\n')?;
+        Ok(text)
+    }
+
+    fn usage_document<B: Allocator + Copy>(&self, alloc: B) -> Result<Doc<B>, AllocError>
+        ensures { IfOk result (λ document. document ≡ usage_document (description_said self.now)) }
+    {
+        let tree = self.tree(alloc)?;
+        let path = self.path(alloc)?;
+        let mut document = Doc::new(alloc);
+        document.token(Token::BlockStart(Block::Mono))?;
+        document.write_path(&path)?;
+        write_meta(&mut document, &tree, true)?;
+        document.token(Token::BlockEnd(Block::Mono))?;
+        Ok(document)
+    }
+
+    fn path<B: Allocator + Copy>(&self, alloc: B) -> Result<Vec<String<B>, B>, AllocError>
+        ensures { IfOk result (λ path. map string_bytes path.items ≡ (description_said self.now).name ∷ []) }
+    {
+        let mut path = Vec::new(alloc);
+        path.push(String::from_str(alloc, self.name)?)?;
+        Ok(path)
+    }
+
+    /// The help page, in full or in brief and at 100 columns. It names the environment variables, but shows none of their texts.
+    pub fn help<B: Allocator + Copy>(&self, alloc: B, full: bool) -> Result<String<B>, AllocError>
+        ensures laid_out { IfOk result (λ text. IsLayout (help_document (description_said self.now)) full 100 (string_bytes text)) }
+        ensures exact { IfOk result (λ text. string_bytes text ≡ console_page full 100 (help_document (description_said self.now))) }
+    {
+        self.help_document(alloc)?.monochrome(alloc, full)
+    }
+
+    fn help_document<B: Allocator + Copy>(&self, alloc: B) -> Result<Doc<B>, AllocError>
+        ensures { IfOk result (λ document. document ≡ help_document (description_said self.now)) }
+    {
+        let tree = self.tree(alloc)?;
+        let info = self.info(alloc)?;
+        let path = self.path(alloc)?;
+        let texts = EnvTexts::new(alloc);
+        match render_help(alloc, &path, &info, &tree, &info.help, false, &texts) {
+            Ok(document) => Ok(document),
+            Err(HelpError::Memory(refused)) => Err(refused),
+            Err(HelpError::Misplaced(_)) => unreachable!(),
+        }
+    }
+
+    /// The help pages of the command line and of all its commands as HTML, in full and without a style sheet.
+    pub fn html<B: Allocator + Copy>(&self, alloc: B) -> Result<String<B>, AllocError>
+        ensures html { IfOk result (λ text. IsHtmlPageOf (collected_document (description_said self.now)) true false (string_bytes text)) }
+        ensures exact { IfOk result (λ text. string_bytes text ≡ html_page true false (collected_document (description_said self.now))) }
+    {
+        chapters_are_placed();
+        pages_are_nested();
+        let tree = self.tree(alloc)?;
+        let info = self.info(alloc)?;
+        match render_html(alloc, self.name, &tree, &info) {
+            Ok(text) => Ok(text),
+            Err(HelpError::Memory(refused)) => Err(refused),
+            Err(HelpError::Misplaced(_)) => unreachable!(),
+        }
+    }
+
+    /// The same pages as markdown, in full.
+    pub fn markdown<B: Allocator + Copy>(&self, alloc: B) -> Result<String<B>, AllocError>
+        ensures laws { IfOk result (λ text. IsMarkdownOf (collected_document (description_said self.now)) true (string_bytes text)) }
+        ensures exact { IfOk result (λ text. string_bytes text ≡ markdown_page true (collected_document (description_said self.now))) }
+    {
+        chapters_are_placed();
+        let tree = self.tree(alloc)?;
+        let info = self.info(alloc)?;
+        match render_markdown(alloc, self.name, &tree, &info) {
+            Ok(text) => Ok(text),
+            Err(HelpError::Memory(refused)) => Err(refused),
+            Err(HelpError::Misplaced(_)) => unreachable!(),
+        }
+    }
+
+    /// The manual page of the command line and of all its commands.
+    pub fn manpage<B: Allocator + Copy>(&self, alloc: B) -> Result<String<B>, AllocError>
+        ensures read { IfOk result (λ text. IsDescriptionManual (description_said self.now) (string_bytes text)) }
+        ensures exact { IfOk result (λ text. string_bytes text ≡ manual_text (description_said self.now)) }
+    {
+        let tree = self.tree(alloc)?;
+        let info = self.info(alloc)?;
+        render_manpage(
+            alloc,
+            self.name,
+            self.section,
+            self.date,
+            self.vendor,
+            self.title,
+            &tree,
+            &info,
+        )
+    }
+}
