@@ -3,6 +3,7 @@
 
 pub mod application;
 pub mod console;
+pub mod describing;
 pub mod ends;
 pub mod headline;
 pub mod roff;
