@@ -114,8 +114,7 @@ impl<'a, A: Allocator> Level<'a, A> {
         self
     }
 
-    // Each of these puts its part last among those of its kind. After `AllocError` the level is as it was.
-
+    /// Puts an option last among those of the level. After `AllocError` the level is as it was.
     pub fn option(&mut self, option: Opt<'a>) -> Result<(), AllocError>
         ensures ok { OnOk result (level_said self.new ≡ with_option (level_said self.old) (opt_said option.entry)) }
         ensures err { OnErr result (level_said self.new ≡ level_said self.old) }
@@ -124,6 +123,7 @@ impl<'a, A: Allocator> Level<'a, A> {
         Ok(())
     }
 
+    /// Puts a choice last among those of the level. After `AllocError` the level is as it was.
     pub fn choice(&mut self, choice: Choice<'a, A>) -> Result<(), AllocError>
         ensures ok { OnOk result (level_said self.new ≡ with_choice (level_said self.old) (choice_said choice.entry)) }
         ensures err { OnErr result (level_said self.new ≡ level_said self.old) }
@@ -132,6 +132,7 @@ impl<'a, A: Allocator> Level<'a, A> {
         Ok(())
     }
 
+    /// Puts a group last among those of the level. After `AllocError` the level is as it was.
     pub fn group(&mut self, group: Group<'a, A>) -> Result<(), AllocError>
         ensures ok { OnOk result (level_said self.new ≡ with_group (level_said self.old) (group_said group.entry)) }
         ensures err { OnErr result (level_said self.new ≡ level_said self.old) }
@@ -140,6 +141,7 @@ impl<'a, A: Allocator> Level<'a, A> {
         Ok(())
     }
 
+    /// Puts a positional value last among those of the level. After `AllocError` the level is as it was.
     pub fn positional(&mut self, positional: Positional<'a>) -> Result<(), AllocError>
         ensures ok { OnOk result (level_said self.new ≡ with_positional (level_said self.old) (positional_said positional.entry)) }
         ensures err { OnErr result (level_said self.new ≡ level_said self.old) }
@@ -148,6 +150,7 @@ impl<'a, A: Allocator> Level<'a, A> {
         Ok(())
     }
 
+    /// Puts a command last among those of the level. After `AllocError` the level is as it was.
     pub fn command(&mut self, command: Command<'a, A>) -> Result<(), AllocError>
         ensures ok { OnOk result (level_said self.new ≡ with_command (level_said self.old) (command_said command.entry)) }
         ensures err { OnErr result (level_said self.new ≡ level_said self.old) }
@@ -173,8 +176,7 @@ impl<'a, A: Allocator + Copy> Group<'a, A> {
 }
 
 impl<'a, A: Allocator> Group<'a, A> {
-    // Each of these puts its part last among those of its kind. After `AllocError` the group is as it was.
-
+    /// Puts an option last among those of the group. After `AllocError` the group is as it was.
     pub fn option(&mut self, member: Opt<'a>) -> Result<(), AllocError>
         ensures ok { OnOk result (group_said self.new ≡ group_with_option (group_said self.old) (opt_said member.entry)) }
         ensures err { OnErr result (group_said self.new ≡ group_said self.old) }
@@ -183,6 +185,7 @@ impl<'a, A: Allocator> Group<'a, A> {
         Ok(())
     }
 
+    /// Puts a choice last among those of the group. After `AllocError` the group is as it was.
     pub fn choice(&mut self, member: Choice<'a, A>) -> Result<(), AllocError>
         ensures ok { OnOk result (group_said self.new ≡ group_with_choice (group_said self.old) (choice_said member.entry)) }
         ensures err { OnErr result (group_said self.new ≡ group_said self.old) }
@@ -191,6 +194,7 @@ impl<'a, A: Allocator> Group<'a, A> {
         Ok(())
     }
 
+    /// Puts a positional value last among those of the group. After `AllocError` the group is as it was.
     pub fn positional(&mut self, member: Positional<'a>) -> Result<(), AllocError>
         ensures ok { OnOk result (group_said self.new ≡ group_with_positional (group_said self.old) (positional_said member.entry)) }
         ensures err { OnErr result (group_said self.new ≡ group_said self.old) }
@@ -199,6 +203,7 @@ impl<'a, A: Allocator> Group<'a, A> {
         Ok(())
     }
 
+    /// Puts a command last among those of the group. After `AllocError` the group is as it was.
     pub fn command(&mut self, member: Command<'a, A>) -> Result<(), AllocError>
         ensures ok { OnOk result (group_said self.new ≡ group_with_command (group_said self.old) (command_said member.entry)) }
         ensures err { OnErr result (group_said self.new ≡ group_said self.old) }
