@@ -1,5 +1,5 @@
 -- What the calls for the pages of a description make.
-use Rattle.std.proofs.Common.{◌≡◌, ℕ, true, false, List, [], ◌∷◌, ◌++◌, length, Result, Ok, Err, IfOk, refl, sym, ap, ◌∙◌, subst, arith}
+use Rattle.std.proofs.Common.{◌≡◌, ℕ, true, false, List, [], ◌∷◌, ◌++◌, Result, Ok, Err, IfOk, refl, sym, ap, ◌∙◌, subst, arith}
 use Rattle.std.specs.Borrow.{Bor}
 use Rattle.std.specs.Prelude.{All, Contains, ◌<◌}
 use Rattle.std.proofs.lemmas.List.Elements.{All-head, All-tail}
@@ -11,7 +11,7 @@ use Rattle.bpaf_meta.specs.Content.{Tree, Leaf, Head}
 use Rattle.bpaf_meta.specs.View.{head_of, leaf_of, tree_of}
 use Rattle.bpaf_meta.specs.declared.item.Item.{Item}
 use Rattle.bpaf_meta.specs.declared.meta_help.Info.{Info}
-use Rattle.bpaf_meta.specs.Meta.Misplaced.{IsWellPlaced, IsFirstMisplaced, misplaced_items}
+use Rattle.bpaf_meta.specs.Meta.Misplaced.{IsWellPlaced, IsFirstMisplaced}
 use Rattle.bpaf_meta.specs.Usage.Writes.{usage_writes}
 use Rattle.bpaf_items.proofs.Page.Leaving.{written_then}
 use Rattle.bpaf_items.specs.declared.meta_help.error.HelpError.{HelpError}
