@@ -10,11 +10,12 @@ ghost use Rattle.bpaf_meta.specs.Meta.Alternatives.{alternatives, choice_form, e
 ghost use Rattle.bpaf_meta.specs.Meta.Misplaced.{first_item};
 
 mod check;
-mod normal;
+pub(crate) mod form;
+pub(crate) mod normal;
 mod shorts;
 
 use crate::item::Item;
-use crate::meta::normal::{Outcome, State, make_outer, normalize};
+use crate::meta::normal::borrowed_form;
 use bpaf_doc::buffer::Doc;
 use std::alloc::{AllocError, Allocator, Global};
 
@@ -179,16 +180,14 @@ impl<A: Allocator + Copy> Meta<A> {
     fn form_of_table(&self, for_usage: bool) -> Result<Meta<A>, AllocError>
         ensures { IfOk result (λ m. tree_of m ≡ normalized for_usage (tree_of self.now)) }
     {
-        let Outcome { form, state } = normalize(self, for_usage, State::Pull)?;
-        let form = make_outer(form)?;
-        match (state, self.allocator()) {
-            (State::Push, Some(alloc)) => Ok(Meta::Strict(Box::new(alloc, form)?)),
-            _ => Ok(form),
+        match self.allocator() {
+            Some(alloc) => borrowed_form(self, for_usage)?.to_meta(alloc),
+            None => Ok(Meta::Skip),
         }
     }
 
     // The allocator of the tree, which only `Skip` has not.
-    fn allocator(&self) -> Option<A>
+    pub(crate) fn allocator(&self) -> Option<A>
         ensures { IfNone result (tree_of self.now ≡ skip) }
     {
         match self {

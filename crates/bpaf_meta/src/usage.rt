@@ -1,15 +1,19 @@
 //! Names, items and trees, written into documents as a usage line shows them.
-ghost use Rattle.std.specs.Prelude.{◌≡◌, [], ◌∷◌, ◌++◌, if◌then◌else◌, OnOk, OnErr, chars};
+ghost use Rattle.std.specs.Prelude.{◌≡◌, [], ◌∷◌, ◌++◌, if◌then◌else◌, OnOk, OnErr, chars, codes};
 ghost use Rattle.std.specs.List.{list_all};
 ghost use Rattle.bpaf_doc.specs.Buffer.Growth.{Grows};
 ghost use Rattle.bpaf_doc.specs.Buffer.Parts.{IsWellNested};
 ghost use Rattle.bpaf_doc.specs.Buffer.Writes.{plain, literal, inside, with_writes};
-ghost use Rattle.bpaf_meta.specs.View.{name_of, leaf_of, tree_of, trees_of};
+ghost use Rattle.bpaf_meta.specs.View.{name_of, leaf_of, tree_of};
+ghost use Rattle.bpaf_meta.specs.Meta.Normal.{item_form, name_form};
+ghost use Rattle.bpaf_meta.specs.Meta.Steps.Forms.{form_of, forms_of};
 ghost use Rattle.bpaf_meta.specs.Names.{short_text, long_text};
 ghost use Rattle.bpaf_meta.specs.Usage.Nested.{HasNestedDoc, HasNestedDocs};
 ghost use Rattle.bpaf_meta.specs.Usage.Writes.{is_bare_character, metavar_writes, name_writes, item_writes, separated, tree_writes, part_writes, usage_writes};
 
 use crate::item::{Item, ShortLong};
+use crate::meta::form::Form;
+use crate::meta::normal::borrowed_form;
 use crate::meta::{Meta, MetaInfo};
 use crate::meta_help::Metavar;
 use bpaf_doc::buffer::{Block, Doc, Style, Token};
@@ -76,7 +80,7 @@ pub fn write_meta<A: Allocator, B: Allocator + Copy>(
     ensures err { OnErr result (doc.new ≡ doc.old) }
     ensures nested { HasNestedDocs (tree_of meta.now) → IsWellNested doc.old → IsWellNested doc.new }
 {
-    let form = meta.normalized(for_usage)?;
+    let form = borrowed_form(meta, for_usage)?;
     write_form(doc, &form)
 }
 
@@ -96,11 +100,11 @@ pub fn meta<A: Allocator, B: Allocator + Copy>(
 // Writes a tree in normal form, between the marks of a `Mono` block.
 fn write_form<A: Allocator, B: Allocator>(
     doc: &mut Doc<A>,
-    form: &Meta<B>,
+    form: &Form<'_, B>,
 ) -> Result<(), AllocError>
-    ensures ok { OnOk result (doc.new ≡ with_writes doc.old (inside Block.Mono (tree_writes (tree_of form.now)))) }
+    ensures ok { OnOk result (doc.new ≡ with_writes doc.old (inside Block.Mono (tree_writes (form_of form.now)))) }
     ensures err { OnErr result (doc.new ≡ doc.old) }
-    ensures nested { HasNestedDocs (tree_of form.now) → IsWellNested doc.old → IsWellNested doc.new }
+    ensures nested { HasNestedDocs (form_of form.now) → IsWellNested doc.old → IsWellNested doc.new }
 {
     let before = doc.checkpoint();
     let written = put_usage(doc, form);
@@ -170,16 +174,53 @@ fn put_item<A: Allocator, B: Allocator>(doc: &mut Doc<A>, item: &Item<B>) -> Res
         Item::Positional { metavar, .. } => put_metavar(doc, metavar.0),
         Item::Command { .. } => doc.write_str("COMMAND ...", Style::Metavar),
         Item::Flag { name, .. } => put_name(doc, name),
+        Item::Argument { name, metavar, .. } => put_argument(doc, name, *metavar),
+    }
+}
+
+// Writes an item under the one name that it has in a usage line for true, or outside for false.
+fn put_shown<A: Allocator, B: Allocator>(
+    doc: &mut Doc<A>,
+    item: &Item<B>,
+    short: bool,
+) -> Result<(), AllocError>
+    ensures ok { OnOk result (doc.new ≡ with_writes doc.old (item_writes (item_form short (leaf_of item.now)))) }
+    ensures grows { Grows doc.old doc.new }
+{
+    match item {
+        Item::Any { .. } | Item::Positional { .. } | Item::Command { .. } => put_item(doc, item),
+        Item::Flag { name, .. } => put_name(doc, &one_name(*name, short)),
         Item::Argument { name, metavar, .. } => {
-            put_name(doc, name)?;
-            doc.text("=")?;
-            put_metavar(doc, metavar.0)
+            put_argument(doc, &one_name(*name, short), *metavar)
         }
     }
 }
 
-fn put_usage<A: Allocator, B: Allocator>(doc: &mut Doc<A>, form: &Meta<B>) -> Result<(), AllocError>
-    ensures ok { OnOk result (doc.new ≡ with_writes doc.old (inside Block.Mono (tree_writes (tree_of form.now)))) }
+fn one_name(mut name: ShortLong, short: bool) -> ShortLong
+    ensures { name_of result ≡ name_form short (name_of name) }
+{
+    name.normalize(short);
+    name
+}
+
+fn put_argument<A: Allocator>(
+    doc: &mut Doc<A>,
+    name: &ShortLong,
+    metavar: Metavar,
+) -> Result<(), AllocError>
+    ensures ok { OnOk result (doc.new ≡ with_writes doc.old (name_writes (name_of name.now) ++ plain (codes "=") ∷ metavar_writes metavar.0.now)) }
+    ensures grows { Grows doc.old doc.new }
+{
+    put_name(doc, name)?;
+    doc.text("=")?;
+    put_metavar(doc, metavar.0)
+}
+
+fn put_usage<A: Allocator, B: Allocator>(
+    doc: &mut Doc<A>,
+    form: &Form<'_, B>,
+) -> Result<(), AllocError>
+    ensures ok { OnOk result (doc.new ≡ with_writes doc.old (inside Block.Mono (tree_writes (form_of form.now)))) }
     ensures grows { Grows doc.old doc.new }
 {
     doc.token(Token::BlockStart(Block::Mono))?;
@@ -188,30 +229,30 @@ fn put_usage<A: Allocator, B: Allocator>(doc: &mut Doc<A>, form: &Meta<B>) -> Re
 }
 
 #[cycle(put)]
-fn put_tree<A: Allocator, B: Allocator>(doc: &mut Doc<A>, form: &Meta<B>) -> Result<(), AllocError>
-    ensures ok { OnOk result (doc.new ≡ with_writes doc.old (tree_writes (tree_of form.now))) }
+fn put_tree<A: Allocator, B: Allocator>(
+    doc: &mut Doc<A>,
+    form: &Form<'_, B>,
+) -> Result<(), AllocError>
+    ensures ok { OnOk result (doc.new ≡ with_writes doc.old (tree_writes (form_of form.now))) }
     ensures grows { Grows doc.old doc.new }
 {
     match form {
-        Meta::And(parts) => put_parts(doc, parts, " "),
-        Meta::Or(parts) => put_parts(doc, parts, " | "),
-        Meta::Optional(inner) => put_between(doc, "[", inner, "]"),
-        Meta::Required(inner) => put_between(doc, "(", inner, ")"),
-        Meta::Many(inner) => {
+        Form::And(parts) => put_parts(doc, parts, " "),
+        Form::Or(parts) => put_parts(doc, parts, " | "),
+        Form::Optional(inner) => put_between(doc, "[", inner, "]"),
+        Form::Required(inner) => put_between(doc, "(", inner, ")"),
+        Form::Many(inner) => {
             put_tree(doc, inner)?;
             doc.text("...")
         }
-        Meta::Strict(inner) => {
+        Form::Strict(inner) => {
             doc.literal("--")?;
             doc.text(" ")?;
             put_tree(doc, inner)
         }
-        Meta::Adjacent(inner) | Meta::Subsection(inner, _) | Meta::Suffix(inner, _) => {
-            put_tree(doc, inner)
-        }
-        Meta::CustomUsage(_, usage) => doc.doc(usage),
-        Meta::Skip => Ok(()),
-        Meta::Item(item) => put_item(doc, item),
+        Form::CustomUsage(_, usage) => doc.doc(*usage),
+        Form::Skip => Ok(()),
+        Form::Item(item, short) => put_shown(doc, *item, *short),
     }
 }
 
@@ -219,10 +260,10 @@ fn put_tree<A: Allocator, B: Allocator>(doc: &mut Doc<A>, form: &Meta<B>) -> Res
 fn put_between<A: Allocator, B: Allocator>(
     doc: &mut Doc<A>,
     opening: &str,
-    inner: &Box<Meta<B>, B>,
+    inner: &Box<Form<'_, B>, B>,
     closing: &str,
 ) -> Result<(), AllocError>
-    ensures ok { OnOk result (doc.new ≡ with_writes doc.old (plain opening.now ∷ tree_writes (tree_of inner.now.value) ++ plain closing.now ∷ [])) }
+    ensures ok { OnOk result (doc.new ≡ with_writes doc.old (plain opening.now ∷ tree_writes (form_of inner.now.value) ++ plain closing.now ∷ [])) }
     ensures grows { Grows doc.old doc.new }
 {
     doc.text(opening)?;
@@ -233,10 +274,10 @@ fn put_between<A: Allocator, B: Allocator>(
 #[cycle(put)]
 fn put_parts<A: Allocator, B: Allocator>(
     doc: &mut Doc<A>,
-    parts: &Vec<Meta<B>, B>,
+    parts: &Vec<Form<'_, B>, B>,
     between: &str,
 ) -> Result<(), AllocError>
-    ensures ok { OnOk result (doc.new ≡ with_writes doc.old (separated between.now (part_writes (trees_of parts.now.items)))) }
+    ensures ok { OnOk result (doc.new ≡ with_writes doc.old (separated between.now (part_writes (forms_of parts.now.items)))) }
     ensures grows { Grows doc.old doc.new }
 {
     let mut is_first = true;

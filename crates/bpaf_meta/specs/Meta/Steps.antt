@@ -1,3 +1,4 @@
 -- How the code goes through a tree. Nobody has to believe it.
+pub mod Forms
 pub mod Passes
 pub mod Walk

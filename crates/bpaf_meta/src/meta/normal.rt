@@ -1,19 +1,19 @@
-//! The normal form of a tree, made beside the tree.
-ghost use Rattle.std.specs.Prelude.{◌≡◌, IfOk, OnOk};
-ghost use Rattle.bpaf_meta.specs.Content.{Trees, skip};
-ghost use Rattle.bpaf_meta.specs.View.{tree_of, trees_of, leaf_of};
-ghost use Rattle.bpaf_meta.specs.Meta.Normal.{normal_form, state_out, and_form, or_form, optional_form, optional_many_form, required_form, many_form, custom_usage_form, outer_form, strict_if_push, item_form, guarded, state_after, strict_state, shown_trees, and_parts, or_parts, or_state, with_first_command, normalized};
+//! The normal form of a tree, made beside the tree, over the items and documents that stand in it.
+ghost use Rattle.std.specs.Prelude.{◌≡◌, IfOk, OnOk, []};
+ghost use Rattle.bpaf_meta.specs.View.{tree_of, trees_of};
+ghost use Rattle.bpaf_meta.specs.Meta.Normal.{normal_form, state_out, and_form, or_form, optional_form, optional_many_form, required_form, many_form, custom_usage_form, outer_form, guarded, state_after, strict_state, shown_trees, and_parts, or_parts, or_state, with_first_command, normalized};
 ghost use Rattle.bpaf_meta.specs.Meta.Alternatives.{trees_then};
-ghost use Rattle.bpaf_meta.specs.Meta.Steps.Passes.{state_of, is_skip_tree, with_shown, after_commands, sees_command, bracketed_or};
+ghost use Rattle.bpaf_meta.specs.Meta.Steps.Forms.{form_of, forms_of};
+ghost use Rattle.bpaf_meta.specs.Meta.Steps.Passes.{state_of, with_shown, after_commands, sees_command, bracketed_or};
 
-use crate::item::Item;
-use crate::meta::{Meta, clone_doc};
+use crate::meta::Meta;
+use crate::meta::form::Form;
 use bpaf_doc::buffer::Doc;
 use std::alloc::{AllocError, Allocator};
 
 // Whether a `--` is still to be shown, is asked for, or is shown already.
 #[derive(Clone, Copy)]
-pub(crate) enum State {
+enum State {
     Pull,
     Push,
     Strip,
@@ -48,18 +48,33 @@ impl State {
 
 // What a tree becomes, and the state that comes out of it.
 #[derive(Drop)]
-pub(crate) struct Outcome<A: Allocator> {
-    pub(crate) form: Meta<A>,
-    pub(crate) state: State,
+struct Outcome<'a, A: Allocator> {
+    form: Form<'a, A>,
+    state: State,
+}
+
+/// The normal form of a tree, over its items and documents.
+pub(crate) fn borrowed_form<'a, A: Allocator + Copy>(
+    meta: &'a Meta<A>,
+    for_usage: bool,
+) -> Result<Form<'a, A>, AllocError>
+    ensures { IfOk result (λ f. form_of f ≡ normalized for_usage (tree_of meta.now)) }
+{
+    let Outcome { form, state } = normalize(meta, for_usage, State::Pull)?;
+    let form = make_outer(form)?;
+    match (state, meta.allocator()) {
+        (State::Push, Some(alloc)) => Ok(Form::Strict(Box::new(alloc, form)?)),
+        _ => Ok(form),
+    }
 }
 
 #[cycle(normal)]
-pub(crate) fn normalize<A: Allocator + Copy>(
-    meta: &Meta<A>,
+fn normalize<'a, A: Allocator + Copy>(
+    meta: &'a Meta<A>,
     for_usage: bool,
     state: State,
-) -> Result<Outcome<A>, AllocError>
-    ensures form { IfOk result (λ o. tree_of o.form ≡ normal_form for_usage (state_of state) (tree_of meta.now)) }
+) -> Result<Outcome<'a, A>, AllocError>
+    ensures form { IfOk result (λ o. form_of o.form ≡ normal_form for_usage (state_of state) (tree_of meta.now)) }
     ensures state { IfOk result (λ o. state_of o.state ≡ state_out (state_of state) (tree_of meta.now)) }
 {
     match meta {
@@ -95,7 +110,7 @@ pub(crate) fn normalize<A: Allocator + Copy>(
         Meta::CustomUsage(inner, usage) => {
             let Outcome { form, state } = normalize(inner, for_usage, state)?;
             Ok(Outcome {
-                form: make_custom_usage(for_usage, form, usage)?,
+                form: make_custom_usage(*Box::allocator(inner), for_usage, form, usage)?,
                 state,
             })
         }
@@ -107,11 +122,11 @@ pub(crate) fn normalize<A: Allocator + Copy>(
             })
         }
         Meta::Item(item) => Ok(Outcome {
-            form: Meta::Item(one_name(item, for_usage)?),
+            form: Form::Item(item, for_usage),
             state,
         }),
         Meta::Skip => Ok(Outcome {
-            form: Meta::Skip,
+            form: Form::Skip,
             state,
         }),
     }
@@ -119,14 +134,14 @@ pub(crate) fn normalize<A: Allocator + Copy>(
 
 // The parts of an `And`, each from the running state, without those that are `Skip`.
 #[cycle(normal)]
-fn normalize_and<A: Allocator + Copy>(
-    parts: &Vec<Meta<A>, A>,
+fn normalize_and<'a, A: Allocator + Copy>(
+    parts: &'a Vec<Meta<A>, A>,
     for_usage: bool,
     state: State,
-) -> Result<Vec<Meta<A>, A>, AllocError>
-    ensures { IfOk result (λ v. trees_of v.items ≡ shown_trees (and_parts for_usage (state_of state) (trees_of parts.now.items))) }
+) -> Result<Vec<Form<'a, A>, A>, AllocError>
+    ensures { IfOk result (λ v. forms_of v.items ≡ shown_trees (and_parts for_usage (state_of state) (trees_of parts.now.items))) }
 {
-    let mut kept = Vec::new(*parts.allocator());
+    let mut kept: Vec<Form<'a, A>, A> = room_for(*parts.allocator(), parts.len())?;
     let mut running = state;
     for part in parts {
         let Outcome { form, state } = normalize(part, for_usage, running)?;
@@ -138,15 +153,15 @@ fn normalize_and<A: Allocator + Copy>(
 
 // The parts of an `Or`, each from the state that came in, without those that are `Skip` and of the commands only the first.
 #[cycle(normal)]
-fn normalize_or<A: Allocator + Copy>(
-    parts: &Vec<Meta<A>, A>,
+fn normalize_or<'a, A: Allocator + Copy>(
+    parts: &'a Vec<Meta<A>, A>,
     for_usage: bool,
     state: State,
-) -> Result<Outcome<A>, AllocError>
-    ensures form { IfOk result (λ o. tree_of o.form ≡ or_form (with_first_command (shown_trees (or_parts for_usage (state_of state) (state_of state) (trees_of parts.now.items))))) }
+) -> Result<Outcome<'a, A>, AllocError>
+    ensures form { IfOk result (λ o. form_of o.form ≡ or_form (with_first_command (shown_trees (or_parts for_usage (state_of state) (state_of state) (trees_of parts.now.items))))) }
     ensures state { IfOk result (λ o. state_of o.state ≡ or_state (state_of state) (state_of state) (trees_of parts.now.items)) }
 {
-    let mut kept = Vec::new(*parts.allocator());
+    let mut kept: Vec<Form<'a, A>, A> = room_for(*parts.allocator(), parts.len())?;
     let mut seen_command = false;
     let mut last = state;
     for part in parts {
@@ -161,18 +176,24 @@ fn normalize_or<A: Allocator + Copy>(
     })
 }
 
+fn room_for<'a, A: Allocator>(alloc: A, count: usize) -> Result<Vec<Form<'a, A>, A>, AllocError>
+    ensures { IfOk result (λ v. v.items ≡ []) }
+{
+    Vec::with_capacity(alloc, count)
+}
+
 // Puts a part into `Strict` where the running state is Pull and the part gives Push.
-fn guard<A: Allocator + Copy>(
+fn guard<'a, A: Allocator + Copy>(
     alloc: A,
     running: State,
     given: State,
-    part: Meta<A>,
-) -> Result<Meta<A>, AllocError>
-    ensures { IfOk result (λ m. tree_of m ≡ guarded (state_of running) (state_of given) (tree_of part)) }
+    part: Form<'a, A>,
+) -> Result<Form<'a, A>, AllocError>
+    ensures { IfOk result (λ m. form_of m ≡ guarded (state_of running) (state_of given) (form_of part.entry)) }
 {
     match running {
         State::Pull => match given {
-            State::Push => Ok(Meta::Strict(Box::new(alloc, part)?)),
+            State::Push => Ok(Form::Strict(Box::new(alloc, part)?)),
             State::Pull | State::Strip => Ok(part),
         },
         State::Push | State::Strip => Ok(part),
@@ -181,10 +202,13 @@ fn guard<A: Allocator + Copy>(
 
 // Puts a part last, unless it is `Skip`.
 #[tactic(auto, using(crate::proofs::lemmas::Normal::Parts::parts_lemmas))]
-fn keep<A: Allocator>(kept: &mut Vec<Meta<A>, A>, part: Meta<A>) -> Result<(), AllocError>
-    ensures { OnOk result (trees_of kept.new.items ≡ trees_then (trees_of kept.old.items) (with_shown (tree_of part))) }
+fn keep<'a, A: Allocator>(
+    kept: &mut Vec<Form<'a, A>, A>,
+    part: Form<'a, A>,
+) -> Result<(), AllocError>
+    ensures { OnOk result (forms_of kept.new.items ≡ trees_then (forms_of kept.old.items) (with_shown (form_of part.entry))) }
 {
-    if !is_skip(&part) {
+    if !part.is_skip() {
         kept.push(part)?;
     }
     Ok(())
@@ -192,13 +216,13 @@ fn keep<A: Allocator>(kept: &mut Vec<Meta<A>, A>, part: Meta<A>) -> Result<(), A
 
 // Puts a part last, unless it is `Skip` or a command after a command. Answers whether a command was seen.
 #[tactic(auto, using(crate::proofs::lemmas::Normal::Parts::parts_lemmas))]
-fn keep_alternative<A: Allocator>(
-    kept: &mut Vec<Meta<A>, A>,
+fn keep_alternative<'a, A: Allocator>(
+    kept: &mut Vec<Form<'a, A>, A>,
     seen_command: bool,
-    part: Meta<A>,
+    part: Form<'a, A>,
 ) -> Result<bool, AllocError>
-    ensures kept { OnOk result (trees_of kept.new.items ≡ trees_then (trees_of kept.old.items) (after_commands seen_command (with_shown (tree_of part)))) }
-    ensures seen { IfOk result (λ seen. seen ≡ sees_command seen_command (tree_of part)) }
+    ensures kept { OnOk result (forms_of kept.new.items ≡ trees_then (forms_of kept.old.items) (after_commands seen_command (with_shown (form_of part.entry)))) }
+    ensures seen { IfOk result (λ seen. seen ≡ sees_command seen_command (form_of part.entry)) }
 {
     let is_command = part.is_command();
     if !(is_command && seen_command) {
@@ -207,138 +231,127 @@ fn keep_alternative<A: Allocator>(
     Ok(seen_command || is_command)
 }
 
-fn is_skip<A: Allocator>(meta: &Meta<A>) -> bool
-    ensures { result ≡ is_skip_tree (tree_of meta.now) }
-{
-    match meta {
-        Meta::Skip => true,
-        _ => false,
-    }
-}
-
 // None is `Skip`, one stands alone, more are an `And`.
 #[tactic(auto, using(crate::proofs::lemmas::Normal::Parts::parts_lemmas))]
-fn make_and<A: Allocator>(mut parts: Vec<Meta<A>, A>) -> Meta<A>
-    ensures { tree_of result ≡ and_form (trees_of parts.items) }
+fn make_and<'a, A: Allocator>(mut parts: Vec<Form<'a, A>, A>) -> Form<'a, A>
+    ensures { form_of result ≡ and_form (forms_of parts.entry.items) }
 {
     if parts.len() > 1 {
-        return Meta::And(parts);
+        return Form::And(parts);
     }
     match parts.pop() {
         Some(part) => part,
-        None => Meta::Skip,
+        None => Form::Skip,
     }
 }
 
 // None is `Skip`, one stands alone, more are an `Or` in a `Required`.
 #[tactic(auto, using(crate::proofs::lemmas::Normal::Parts::parts_lemmas))]
-fn make_or<A: Allocator + Copy>(mut parts: Vec<Meta<A>, A>) -> Result<Meta<A>, AllocError>
-    ensures { IfOk result (λ m. tree_of m ≡ or_form (trees_of parts.items)) }
+fn make_or<'a, A: Allocator + Copy>(
+    mut parts: Vec<Form<'a, A>, A>,
+) -> Result<Form<'a, A>, AllocError>
+    ensures { IfOk result (λ m. form_of m ≡ or_form (forms_of parts.entry.items)) }
 {
     if parts.len() > 1 {
         let alloc = *parts.allocator();
-        return Ok(Meta::Required(Box::new(alloc, Meta::Or(parts))?));
+        return Ok(Form::Required(Box::new(alloc, Form::Or(parts))?));
     }
     match parts.pop() {
         Some(part) => Ok(part),
-        None => Ok(Meta::Skip),
+        None => Ok(Form::Skip),
     }
 }
 
-fn make_optional<A: Allocator + Copy>(alloc: A, meta: Meta<A>) -> Result<Meta<A>, AllocError>
-    ensures { IfOk result (λ m. tree_of m ≡ optional_form (tree_of meta)) }
+fn make_optional<'a, A: Allocator + Copy>(
+    alloc: A,
+    form: Form<'a, A>,
+) -> Result<Form<'a, A>, AllocError>
+    ensures { IfOk result (λ m. form_of m ≡ optional_form (form_of form.entry)) }
 {
-    match meta {
-        Meta::Skip => Ok(Meta::Skip),
-        Meta::Required(inner) => Ok(Meta::Optional(inner)),
-        Meta::Optional(inner) => Ok(Meta::Optional(inner)),
-        Meta::Many(inner) => make_optional_many(alloc, Box::into_inner(inner)),
-        other => Ok(Meta::Optional(Box::new(alloc, other)?)),
+    match form {
+        Form::Skip => Ok(Form::Skip),
+        Form::Required(inner) => Ok(Form::Optional(inner)),
+        Form::Optional(inner) => Ok(Form::Optional(inner)),
+        Form::Many(inner) => make_optional_many(alloc, Box::into_inner(inner)),
+        other => Ok(Form::Optional(Box::new(alloc, other)?)),
     }
 }
 
 // The optional form of what may be repeated.
-fn make_optional_many<A: Allocator + Copy>(
+fn make_optional_many<'a, A: Allocator + Copy>(
     alloc: A,
-    repeated: Meta<A>,
-) -> Result<Meta<A>, AllocError>
-    ensures { IfOk result (λ m. tree_of m ≡ optional_many_form (tree_of repeated)) }
+    repeated: Form<'a, A>,
+) -> Result<Form<'a, A>, AllocError>
+    ensures { IfOk result (λ m. form_of m ≡ optional_many_form (form_of repeated.entry)) }
 {
     match repeated {
-        Meta::Required(inner) => Ok(Meta::Many(Box::new(alloc, Meta::Optional(inner))?)),
+        Form::Required(inner) => Ok(Form::Many(Box::new(alloc, Form::Optional(inner))?)),
         other => {
-            let many = Meta::Many(Box::new(alloc, other)?);
-            Ok(Meta::Optional(Box::new(alloc, many)?))
+            let many = Form::Many(Box::new(alloc, other)?);
+            Ok(Form::Optional(Box::new(alloc, many)?))
         }
     }
 }
 
-fn make_required<A: Allocator + Copy>(alloc: A, meta: Meta<A>) -> Result<Meta<A>, AllocError>
-    ensures { IfOk result (λ m. tree_of m ≡ required_form (tree_of meta)) }
+fn make_required<'a, A: Allocator + Copy>(
+    alloc: A,
+    form: Form<'a, A>,
+) -> Result<Form<'a, A>, AllocError>
+    ensures { IfOk result (λ m. form_of m ≡ required_form (form_of form.entry)) }
 {
-    match meta {
-        Meta::And(parts) => Ok(Meta::Required(Box::new(alloc, Meta::And(parts))?)),
-        Meta::Or(parts) => Ok(Meta::Required(Box::new(alloc, Meta::Or(parts))?)),
+    match form {
+        Form::And(parts) => Ok(Form::Required(Box::new(alloc, Form::And(parts))?)),
+        Form::Or(parts) => Ok(Form::Required(Box::new(alloc, Form::Or(parts))?)),
         other => Ok(other),
     }
 }
 
-fn make_many<A: Allocator + Copy>(alloc: A, meta: Meta<A>) -> Result<Meta<A>, AllocError>
-    ensures { IfOk result (λ m. tree_of m ≡ many_form (tree_of meta)) }
+fn make_many<'a, A: Allocator + Copy>(
+    alloc: A,
+    form: Form<'a, A>,
+) -> Result<Form<'a, A>, AllocError>
+    ensures { IfOk result (λ m. form_of m ≡ many_form (form_of form.entry)) }
 {
-    match meta {
-        Meta::Skip => Ok(Meta::Skip),
-        other => Ok(Meta::Many(Box::new(alloc, other)?)),
+    match form {
+        Form::Skip => Ok(Form::Skip),
+        other => Ok(Form::Many(Box::new(alloc, other)?)),
     }
 }
 
-fn make_custom_usage<A: Allocator + Copy>(
+fn make_custom_usage<'a, A: Allocator + Copy>(
+    alloc: A,
     for_usage: bool,
-    meta: Meta<A>,
-    usage: &Box<Doc<A>, A>,
-) -> Result<Meta<A>, AllocError>
-    ensures { IfOk result (λ m. tree_of m ≡ custom_usage_form for_usage (tree_of meta) usage.now.value) }
+    form: Form<'a, A>,
+    usage: &'a Doc<A>,
+) -> Result<Form<'a, A>, AllocError>
+    ensures { IfOk result (λ m. form_of m ≡ custom_usage_form for_usage (form_of form.entry) usage.now) }
 {
     if !for_usage {
-        return Ok(meta);
+        return Ok(form);
     }
     if usage.is_empty() {
-        return Ok(Meta::Skip);
+        return Ok(Form::Skip);
     }
-    let usage = clone_doc(usage)?;
-    let alloc = *Box::allocator(&usage);
-    Ok(Meta::CustomUsage(Box::new(alloc, meta)?, usage))
-}
-
-// A copy of the item with one name.
-fn one_name<A: Allocator + Copy>(
-    item: &Box<Item<A>, A>,
-    short: bool,
-) -> Result<Box<Item<A>, A>, AllocError>
-    ensures { IfOk result (λ i. leaf_of i.value ≡ item_form short (leaf_of item.now.value)) }
-{
-    let mut copy = Item::clone(item)?;
-    copy.normalize(short);
-    Ok(Box::new(*Box::allocator(item), copy)?)
+    Ok(Form::CustomUsage(Box::new(alloc, form)?, usage))
 }
 
 // One outer `Required` taken off, then `Required` put around a bare `Or`.
-pub(crate) fn make_outer<A: Allocator + Copy>(meta: Meta<A>) -> Result<Meta<A>, AllocError>
-    ensures { IfOk result (λ m. tree_of m ≡ outer_form (tree_of meta)) }
+fn make_outer<'a, A: Allocator + Copy>(form: Form<'a, A>) -> Result<Form<'a, A>, AllocError>
+    ensures { IfOk result (λ m. form_of m ≡ outer_form (form_of form.entry)) }
 {
-    match meta {
-        Meta::Required(inner) => bracket_or(Box::into_inner(inner)),
+    match form {
+        Form::Required(inner) => bracket_or(Box::into_inner(inner)),
         other => bracket_or(other),
     }
 }
 
-fn bracket_or<A: Allocator + Copy>(meta: Meta<A>) -> Result<Meta<A>, AllocError>
-    ensures { IfOk result (λ m. tree_of m ≡ bracketed_or (tree_of meta)) }
+fn bracket_or<'a, A: Allocator + Copy>(form: Form<'a, A>) -> Result<Form<'a, A>, AllocError>
+    ensures { IfOk result (λ m. form_of m ≡ bracketed_or (form_of form.entry)) }
 {
-    match meta {
-        Meta::Or(parts) => {
+    match form {
+        Form::Or(parts) => {
             let alloc = *parts.allocator();
-            Ok(Meta::Required(Box::new(alloc, Meta::Or(parts))?))
+            Ok(Form::Required(Box::new(alloc, Form::Or(parts))?))
         }
         other => Ok(other),
     }

@@ -4,8 +4,10 @@ use Rattle.std.specs.Prelude.{◌||◌}
 use Rattle.bpaf_meta.specs.Content.{Tree, skip, and_of, or_of, required, Trees, no_trees, tree}
 use Rattle.bpaf_meta.specs.View.{tree_of, trees_of}
 use Rattle.bpaf_meta.specs.declared.meta.Meta.{Meta}
+use Rattle.bpaf_meta.specs.declared.meta.form.Form.{Form}
 use Rattle.bpaf_meta.specs.Meta.Normal.{shown_trees, and_form, or_form, is_command_tree}
 use Rattle.bpaf_meta.specs.Meta.Alternatives.{trees_then, choice_form}
+use Rattle.bpaf_meta.specs.Meta.Steps.Forms.{form_of, forms_of}
 use Rattle.bpaf_meta.specs.Meta.Steps.Passes.{is_skip_tree, with_shown, after_commands, sees_command}
 
 pub trees_then_none : (ts : Trees) → trees_then ts no_trees ≡ ts
@@ -16,9 +18,9 @@ pub trees_then_then : (ts us vs : Trees) → trees_then (trees_then ts us) vs �
 trees_then_then no_trees us vs = refl
 trees_then_then (tree t ts) us vs = ap (tree t) (trees_then_then ts us vs)
 
-pub trees_of_push : {A : Type 0} (ms : List (Meta A)) (m : Meta A) → trees_of (ms ++ (m ∷ [])) ≡ trees_then (trees_of ms) (tree (tree_of m) no_trees)
-trees_of_push [] m = refl
-trees_of_push (n ∷ ms) m = ap (tree (tree_of n)) (trees_of_push ms m)
+pub forms_of_push : {A : Type 0} (fs : List (Form A)) (f : Form A) → forms_of (fs ++ (f ∷ [])) ≡ trees_then (forms_of fs) (tree (form_of f) no_trees)
+forms_of_push [] f = refl
+forms_of_push (g ∷ fs) f = ap (tree (form_of g)) (forms_of_push fs f)
 
 pub trees_of_append : {A : Type 0} (ms ns : List (Meta A)) → trees_of (ms ++ ns) ≡ trees_then (trees_of ms) (trees_of ns)
 trees_of_append [] ns = refl
@@ -83,19 +85,19 @@ pub or_turn : (seen : Bool) (ts : Trees) (t : Tree) (us : Trees) → trees_then 
 or_turn seen ts t us = trees_then_then ts (after_commands seen (with_shown t)) (after_commands (sees_command seen t) (shown_trees us)) ∙ ap (trees_then ts) (or_alone seen t us)
 
 -- a list of several
-pub and_several : {A : Type 0} (ms : List (Meta A)) → 1 < length ms → and_form (trees_of ms) ≡ and_of (trees_of ms)
+pub and_several : {A : Type 0} (fs : List (Form A)) → 1 < length fs → and_form (forms_of fs) ≡ and_of (forms_of fs)
 and_several [] h = absurd (omega arith)
-and_several (m ∷ []) h = absurd (omega arith)
-and_several (m ∷ (n ∷ ms)) h = refl
+and_several (f ∷ []) h = absurd (omega arith)
+and_several (f ∷ (g ∷ fs)) h = refl
 
-pub or_several : {A : Type 0} (ms : List (Meta A)) → 1 < length ms → or_form (trees_of ms) ≡ required (or_of (trees_of ms))
+pub or_several : {A : Type 0} (fs : List (Form A)) → 1 < length fs → or_form (forms_of fs) ≡ required (or_of (forms_of fs))
 or_several [] h = absurd (omega arith)
-or_several (m ∷ []) h = absurd (omega arith)
-or_several (m ∷ (n ∷ ms)) h = refl
+or_several (f ∷ []) h = absurd (omega arith)
+or_several (f ∷ (g ∷ fs)) h = refl
 
 pub choice_several : {A : Type 0} (ms : List (Meta A)) → 1 < length ms → choice_form (trees_of ms) ≡ or_of (trees_of ms)
 choice_several [] h = absurd (omega arith)
 choice_several (m ∷ []) h = absurd (omega arith)
 choice_several (m ∷ (n ∷ ms)) h = refl
 
-pub ruleset parts_lemmas = (trees_then_none, trees_of_push, with_shown_skip, with_shown_other, after_repeated, after_kept)
+pub ruleset parts_lemmas = (trees_then_none, forms_of_push, with_shown_skip, with_shown_other, after_repeated, after_kept)

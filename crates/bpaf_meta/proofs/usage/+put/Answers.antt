@@ -2,11 +2,11 @@ use Rattle.std.proofs.Common.{List, [], ◌∷◌, ◌+◌, drop, ap, sym, ◌�
 use Rattle.std.specs.Prelude.{codes}
 use Rattle.std.proofs.lemmas.List.{at_drop_more}
 use Rattle.bpaf_doc.specs.Buffer.Writes.{plain, literal, with_writes, doc_writes}
-use Rattle.bpaf_meta.specs.View.{tree_of, trees_of}
-use Rattle.bpaf_meta.specs.declared.meta.Meta.{Meta}
+use Rattle.bpaf_meta.specs.Meta.Steps.Forms.{form_of, forms_of}
+use Rattle.bpaf_meta.specs.declared.meta.form.Form.{Form}
 use Rattle.bpaf_meta.specs.Usage.Writes.{tree_writes, part_writes}
 use Rattle.bpaf_meta.proofs.lemmas.Usage.Written.{OnOk-map, Grows-then, Grows-call, with_writes-append, rest_of_line, written_turn}
-use Rattle.bpaf_meta.proofs.lemmas.Views.{view-Many}
+use Rattle.bpaf_meta.proofs.lemmas.Views.{form-Many}
 use Rattle.bpaf_meta.proofs.usage.+put.Goals as goal
 
 pub put_between-returns-in_err-put_tree-clause-grows : goal.put_between-returns-in_err-put_tree-clause-grows
@@ -31,9 +31,9 @@ put_parts-loop-part-preserved g t c =
     let bytes = c.args.between.now in
     let first = c.loop-part.is_first in
     let before = c.loop-part.doc in
-    let e = at_drop_more (λ (ms : List (Meta g.row.B.Denot)). with_writes before (rest_of_line first bytes (part_writes (trees_of ms)))) items i c.part-item.result (omega arith) in
+    let e = at_drop_more (λ (ms : List (Form g.row.B.Denot)). with_writes before (rest_of_line first bytes (part_writes (forms_of ms)))) items i c.part-item.result (omega arith) in
     record {
-      written = written_turn first bytes (tree_writes (tree_of c.part-item.result)) (part_writes (trees_of (drop (i + 1) items))) (part_writes (trees_of c.args.parts.now.items)) c.args.doc.now before c.put_separator.new.doc c.put_tree.new.doc c.in_ok-put_separator.ensures.ok (cc (c.in_ok-put_tree.ensures.ok, c.part-item.is)) (cc (e, c.part-item.is, c.loop-part.invariant.written));
+      written = written_turn first bytes (tree_writes (form_of c.part-item.result)) (part_writes (forms_of (drop (i + 1) items))) (part_writes (forms_of c.args.parts.now.items)) c.args.doc.now before c.put_separator.new.doc c.put_tree.new.doc c.in_ok-put_separator.ensures.ok (cc (c.in_ok-put_tree.ensures.ok, c.part-item.is)) (cc (e, c.part-item.is, c.loop-part.invariant.written));
       grows = Grows-then c.args.doc.now c.put_separator.new.doc c.put_tree.new.doc (Grows-then c.args.doc.now before c.put_separator.new.doc c.loop-part.invariant.grows c.put_separator.ensures.grows) c.put_tree.ensures.grows;
     }
 
@@ -54,12 +54,12 @@ put_tree-returns-in_ok-put_tree-in-Many-clause-ok g t c =
     let old = c.args.doc.now in
     let inner = c.in-Many.inner in
     let dots = plain (codes "...") ∷ [] in
-    let seen = ap tree_of c.in-Many.is ∙ view-Many inner in
-    let repeated = c.in_ok-put_tree-in-Many.ensures.ok ∙ ap (λ m. with_writes old (tree_writes (tree_of m))) c.deref.ensures in
-    OnOk-map c.text.result (λ w. w ∙ ap (λ ps. with_writes ps dots) repeated ∙ sym (with_writes-append old (tree_writes (tree_of inner.value)) dots) ∙ ap (λ v. with_writes old (tree_writes v)) (sym seen)) c.text.ensures.ok
+    let seen = ap form_of c.in-Many.is ∙ form-Many inner in
+    let repeated = c.in_ok-put_tree-in-Many.ensures.ok ∙ ap (λ m. with_writes old (tree_writes (form_of m))) c.deref.ensures in
+    OnOk-map c.text.result (λ w. w ∙ ap (λ ps. with_writes ps dots) repeated ∙ sym (with_writes-append old (tree_writes (form_of inner.value)) dots) ∙ ap (λ v. with_writes old (tree_writes v)) (sym seen)) c.text.ensures.ok
 
 pub put_tree-returns-in_ok-put_tree-in-Many-clause-grows : goal.put_tree-returns-in_ok-put_tree-in-Many-clause-grows
 put_tree-returns-in_ok-put_tree-in-Many-clause-grows g t c = Grows-then c.args.doc.now c.put_tree.new.doc c.text.new.self c.put_tree.ensures.grows (Grows-call c.text.result c.put_tree.new.doc c.text.new.self (plain (codes "...") ∷ []) c.text.ensures.ok c.text.ensures.err)
 
 pub put_tree-returns-in-CustomUsage-clause-grows : goal.put_tree-returns-in-CustomUsage-clause-grows
-put_tree-returns-in-CustomUsage-clause-grows g t c = Grows-call c.doc.result c.args.doc.now c.doc.new.self (doc_writes c.deref-in-CustomUsage.result.now) c.doc.ensures.ok c.doc.ensures.err
+put_tree-returns-in-CustomUsage-clause-grows g t c = Grows-call c.doc.result c.args.doc.now c.doc.new.self (doc_writes c.in-CustomUsage.usage.now) c.doc.ensures.ok c.doc.ensures.err

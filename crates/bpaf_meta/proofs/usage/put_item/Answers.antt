@@ -1,8 +1,8 @@
 use Rattle.std.proofs.Common.{[], ◌∷◌, ap, sym, ◌∙◌}
 use Rattle.std.specs.Prelude.{codes}
 use Rattle.bpaf_doc.specs.declared.buffer.Style.TheVariants as style
-use Rattle.bpaf_doc.specs.Buffer.Writes.{text, plain, with_writes, doc_writes}
-use Rattle.bpaf_meta.proofs.lemmas.Usage.Written.{OnOk-map, Grows-then, Grows-call}
+use Rattle.bpaf_doc.specs.Buffer.Writes.{text, with_writes, doc_writes}
+use Rattle.bpaf_meta.proofs.lemmas.Usage.Written.{OnOk-map, Grows-call}
 use Rattle.bpaf_meta.specs.View.{leaf_of}
 use Rattle.bpaf_meta.specs.Usage.Writes.{item_writes}
 use Rattle.bpaf_meta.proofs.lemmas.Views.{view-Command}
@@ -18,9 +18,3 @@ returns-in-Command-clause-ok g c =
 
 pub returns-in-Command-clause-grows : goal.returns-in-Command-clause-grows
 returns-in-Command-clause-grows g c = Grows-call c.write_str.result c.args.doc.now c.write_str.new.self (text (codes "COMMAND ...") style.Metavar ∷ []) c.write_str.ensures.ok c.write_str.ensures.err
-
-pub returns-in_ok-text-in-Argument-clause-grows : goal.returns-in_ok-text-in-Argument-clause-grows
-returns-in_ok-text-in-Argument-clause-grows g c =
-    let named = c.put_name-in-Argument.new.doc in
-    let equals = Grows-call c.text.result named c.text.new.self (plain (codes "=") ∷ []) c.text.ensures.ok c.text.ensures.err in
-    Grows-then c.args.doc.now c.text.new.self c.put_metavar-in-Argument.new.doc (Grows-then c.args.doc.now named c.text.new.self c.put_name-in-Argument.ensures.grows equals) c.put_metavar-in-Argument.ensures.grows
