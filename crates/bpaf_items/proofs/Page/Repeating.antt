@@ -3,20 +3,19 @@ use Rattle.std.proofs.Common.{◌≡◌, Bool, true, false, not, ◌||◌, List,
 use Rattle.std.specs.Prelude.{if◌then◌else◌, flat_map, Result, Ok, Err, IfOk}
 use Rattle.std.specs.Option.{option_map_or}
 use Rattle.std.specs.List.{list_any, last_or}
-use Rattle.std.specs.Ordering.{on, is_eq, match_ordering}
-use Rattle.std.specs.BTreeMap.{is_at}
-use Rattle.std.specs.BTreeSet.{insert_key}
-use Rattle.std.specs.declared.cmp.Ordering.{Ordering}
-use Rattle.std.specs.declared.cmp.Ordering.TheVariants.{Less, Equal, Greater}
+use Rattle.std.specs.Bool.{MatchBool}
+use Rattle.std.specs.List.Sorted.{IsPermutation}
+use Rattle.std.specs.Ordering.{on}
 use Rattle.std.proofs.lemmas.Grind.{flat_map-append}
 use Rattle.std.proofs.lemmas.List.Folds.{list_any-append}
+use Rattle.std.proofs.lemmas.List.Sorted.{list_any-IsPermutation}
 use Rattle.bpaf_doc.specs.Buffer.Parts.{Part}
 use Rattle.bpaf_doc.specs.Buffer.Writes.{with_writes}
 use Rattle.bpaf_meta.specs.Content.{Leaf}
 use Rattle.bpaf_meta.proofs.lemmas.Usage.Written.{with_writes-append}
 use Rattle.bpaf_items.specs.declared.meta_help.key.ItemKey.{ItemKey}
 use Rattle.bpaf_items.specs.Listing.ItemList.{Entry, listed, note, group_start, group_end, adjacent_start, adjacent_stop}
-use Rattle.bpaf_items.specs.Listing.Keys.{Key, key_of, entry_key, key_cmp, same_key, keys_equiv, keys_tied}
+use Rattle.bpaf_items.specs.Listing.Keys.{Key, key_of, entry_key, same_key, keys_equiv}
 use Rattle.bpaf_items.specs.Listing.Falls.{Placed, placed, is_mark, has_key_of, is_mark_or_new, is_shown, shown_entries}
 use Rattle.bpaf_items.specs.Page.EnvTexts.{Texts}
 use Rattle.bpaf_items.specs.Page.EntryWrites.{entry_writes}
@@ -59,16 +58,23 @@ behind true false c = refl
 behind false true c = refl
 behind false false c = refl
 
-module _ {K : Type 0} (order : K → K → Ordering) (p : K → Bool) (key : K) (respects : (x : K) → is_eq (order key x) ≡ true → p key ≡ p x) where
+held : (b : Bool) → false ≡ not b → b ≡ true
+held true h = refl
+held false h = cc
+
+module _ {K : Type 0} (same : K → K → Bool) (p : K → Bool) (key : K) (respects : (x : K) → same key x ≡ true → p key ≡ p x) where
   -- a test that equal keys pass alike
-  any_inserted : (keys : List K) → list_any p (insert_key order keys key) ≡ (p key || list_any p keys)
-  any_inserted [] = refl
-  any_inserted (x ∷ keys) = by (order key x) refl (any_inserted keys) where
-    by : (o : Ordering) → order key x ≡ o → list_any p (insert_key order keys key) ≡ (p key || list_any p keys)
-        → list_any p (match_ordering o (key ∷ x ∷ keys) (x ∷ keys) (x ∷ insert_key order keys key)) ≡ (p key || (p x || list_any p keys))
-    by Less is rest = refl
-    by Equal is rest = equal_or (p key) (p x) (list_any p keys) (respects x (ap is_eq is))
-    by Greater is rest = ap (λ b. p x || b) rest ∙ behind (p key) (p x) (list_any p keys)
+  any_held : (keys : List K) → list_any (same key) keys ≡ true → list_any p keys ≡ (p key || list_any p keys)
+  any_held [] h = cc
+  any_held (x ∷ keys) h = by (same key x) refl h (any_held keys) where
+    by : (b : Bool) → same key x ≡ b → (b || list_any (same key) keys) ≡ true → (list_any (same key) keys ≡ true → list_any p keys ≡ (p key || list_any p keys))
+        → (p x || list_any p keys) ≡ (p key || (p x || list_any p keys))
+    by true is found rest = equal_or (p key) (p x) (list_any p keys) (respects x is)
+    by false is found rest = ap (λ b. p x || b) (rest found) ∙ behind (p key) (p x) (list_any p keys)
+
+  any_put : (added : Bool) (keys after : List K) → added ≡ not (list_any (same key) keys) → MatchBool added (IsPermutation (key ∷ keys) after) (after ≡ keys) → list_any p after ≡ (p key || list_any p keys)
+  any_put true keys after new put = sym (list_any-IsPermutation p (key ∷ keys) after put)
+  any_put false keys after new put = ap (list_any p) put ∙ any_held keys (held (list_any (same key) keys) new)
 
 any_same : {K : Type 0} (p q : K → Bool) → ((x : K) → p x ≡ q x) → (xs : List K) → list_any p xs ≡ list_any q xs
 any_same p q h [] = refl
@@ -77,19 +83,19 @@ any_same p q h (x ∷ xs) = ap (λ b. b || list_any p xs) (h x) ∙ ap (λ b. q 
 some_is : (k l : Key) → Some k ≡ Some l → k ≡ l
 some_is k l h = cc
 
+-- the keys after one is put among them, where the answer says whether it is new
+abbrev IsPut : {B : Type 0} → (keys after : List (ItemKey B)) → (shown : Bool) → ItemKey B → Type 0
+IsPut keys after shown key = (shown ≡ not (list_any (on key_in same_key key) keys)) × MatchBool shown (IsPermutation (key ∷ keys) after) (after ≡ keys)
+
 module _ {B : Type 0} (keys : List (ItemKey B)) where
-  abbrev order : ItemKey B → ItemKey B → Ordering
-  order = on key_in key_cmp
-
-  found : (key : ItemKey B) (l : Leaf) → key_of l ≡ key_in key → list_any (is_at (order key)) keys ≡ has_key keys l
+  found : (key : ItemKey B) (l : Leaf) → key_of l ≡ key_in key → list_any (on key_in same_key key) keys ≡ has_key keys l
   found key l is =
-      any_same (is_at (order key)) (λ k. same_key (key_in k) (key_of l))
-      (λ k. sym (keys_tied (key_in key) (key_in k)) ∙ keys_equiv.symm (key_in key) (key_in k) ∙ ap (same_key (key_in k)) (sym is)) keys
+      any_same (on key_in same_key key) (λ k. same_key (key_in k) (key_of l)) (λ k. keys_equiv.symm (key_in key) (key_in k) ∙ ap (same_key (key_in k)) (sym is)) keys
 
-  seen_item : (key : ItemKey B) (l : Leaf) (before : List Entry) → key_of l ≡ key_in key → ((m : Leaf) → has_key keys m ≡ list_any (has_key_of m) before)
-      → (m : Leaf) → has_key (insert_key order keys key) m ≡ list_any (has_key_of m) (before ++ listed l ∷ [])
-  seen_item key l before is seen m =
-      any_inserted order (λ k. same_key (key_in k) (key_of m)) key (λ x e. keys_equiv.congr (key_in key) (key_in x) (key_of m) (keys_tied (key_in key) (key_in x) ∙ e)) keys
+  seen_item : (after : List (ItemKey B)) (shown : Bool) (key : ItemKey B) (l : Leaf) (before : List Entry) → key_of l ≡ key_in key → IsPut keys after shown key
+      → ((m : Leaf) → has_key keys m ≡ list_any (has_key_of m) before) → (m : Leaf) → has_key after m ≡ list_any (has_key_of m) (before ++ listed l ∷ [])
+  seen_item after shown key l before is put seen m =
+      any_put (on key_in same_key) (λ k. same_key (key_in k) (key_of m)) key (λ x e. keys_equiv.congr (key_in key) (key_in x) (key_of m) e) shown keys after put.0 put.1
       ∙ ap (λ b. same_key (key_in key) (key_of m) || b) (seen m)
       ∙ ap (λ k. same_key k (key_of m) || list_any (has_key_of m) before) (sym is)
       ∙ ap (λ b. b || list_any (has_key_of m) before) (keys_equiv.symm (key_of l) (key_of m))
@@ -106,29 +112,25 @@ module _ {B : Type 0} (keys : List (ItemKey B)) where
 abbrev Goes : {B : Type 0} → List (ItemKey B) → (shown last : Bool) → (before : List Entry) → Entry → Type 0
 Goes keys shown last before e = (shown ≡ is_shown (before, e)) × Remembers keys last (before ++ e ∷ [])
 
-pub item_shown : {B : Type 0} (keys after : List (ItemKey B)) (shown last now : Bool) (key : ItemKey B) (e : Entry) (before : List Entry)
-    → Some (key_in key) ≡ entry_key e → shown ≡ not (list_any (is_at (on key_in key_cmp key)) keys) → after ≡ insert_key (on key_in key_cmp) keys key → now ≡ shown
-    → Remembers keys last before → Goes after shown now before e
-item_shown keys after shown last now key (listed l) before is new inserted same h =
+item_shown : {B : Type 0} (keys after : List (ItemKey B)) (shown last now : Bool) (key : ItemKey B) (e : Entry) (before : List Entry)
+    → Some (key_in key) ≡ entry_key e → IsPut keys after shown key → now ≡ shown → Remembers keys last before → Goes after shown now before e
+item_shown keys after shown last now key (listed l) before is put same h =
     let own : key_of l ≡ key_in key = some_is (key_of l) (key_in key) (sym is) in
-    let first : shown ≡ is_shown (before, listed l) = new ∙ ap not (found keys key l own ∙ h.seen l) in (
+    let first : shown ≡ is_shown (before, listed l) = put.0 ∙ ap not (found keys key l own ∙ h.seen l) in (
       first,
-      record {
-        seen = λ m. ap (λ ks. has_key ks m) inserted ∙ seen_item keys key l before own h.seen m;
-        last = same ∙ first ∙ sym (last_shown-push before (listed l));
-      },
+      record { seen = seen_item keys after shown key l before own put h.seen; last = same ∙ first ∙ sym (last_shown-push before (listed l)) },
     )
-item_shown keys after shown last now key (note d k) before is new inserted same h = cc
-item_shown keys after shown last now key (group_start d k) before is new inserted same h = cc
-item_shown keys after shown last now key (group_end k) before is new inserted same h = cc
-item_shown keys after shown last now key (adjacent_start t k) before is new inserted same h = cc
-item_shown keys after shown last now key (adjacent_stop k) before is new inserted same h = cc
+item_shown keys after shown last now key (note d k) before is put same h = cc
+item_shown keys after shown last now key (group_start d k) before is put same h = cc
+item_shown keys after shown last now key (group_end k) before is put same h = cc
+item_shown keys after shown last now key (adjacent_start t k) before is put same h = cc
+item_shown keys after shown last now key (adjacent_stop k) before is put same h = cc
 
 pub item_goes : {B E : Type 0} (r : Result Bool E) (keys after : List (ItemKey B)) (last now : Bool) (key : ItemKey B) (e : Entry) (before : List Entry)
     → Some (key_in key) ≡ entry_key e
-    → IfOk r (λ shown. (shown ≡ not (list_any (is_at (on key_in key_cmp key)) keys)) × (after ≡ insert_key (on key_in key_cmp) keys key) × (now ≡ shown))
+    → IfOk r (λ shown. (shown ≡ not (list_any (on key_in same_key key) keys)) × MatchBool shown (IsPermutation (key ∷ keys) after) (after ≡ keys) × (now ≡ shown))
     → Remembers keys last before → IfOk r (λ shown. Goes after shown now before e)
-item_goes (Ok shown) keys after last now key e before is f h = item_shown keys after shown last now key e before is f.0 f.1 f.2 h
+item_goes (Ok shown) keys after last now key e before is f h = item_shown keys after shown last now key e before is (f.0, f.1) f.2 h
 item_goes (Err x) keys after last now key e before is f h = tt
 
 or_false : (b : Bool) → (b || false) ≡ b

@@ -1,15 +1,18 @@
 //! By what a list tells two items apart.
-ghost use Rattle.std.specs.Prelude.{◌≡◌};
+ghost use Rattle.std.specs.Prelude.{◌≡◌, fold};
 ghost use Rattle.std.specs.Option.{option_copied};
 ghost use Rattle.std.specs.Ordering.{ordering_then};
 ghost use Rattle.bpaf_meta.specs.View.{name_of};
+ghost use Rattle.bpaf_doc.specs.Buffer.View.{part_of};
 ghost use Rattle.bpaf_items.specs.Listing.Keys.{help_cmp, name_cmp, same_help, same_name};
+ghost use Rattle.bpaf_items.specs.Listing.KeyInput.{document_input, help_input, name_input, part_input};
 
-use bpaf_doc::buffer::Doc;
+use bpaf_doc::buffer::{Doc, Part};
 use bpaf_meta::item::ShortLong;
 use bpaf_meta::meta_help::Metavar;
 use std::alloc::{Allocator, Global};
 use std::cmp::Ordering;
+use std::hash::{Hash, Hasher};
 
 /// The key of an item: two items of one group or heading with equal keys are shown once. A positional value and a command
 /// share a class; short command names, names of environment variables and `anywhere` are in no key. Each key ends in the help.
@@ -127,6 +130,70 @@ impl<'a, A: Allocator> Ord for ItemKey<'a, A> {
                 _ => Ordering::Greater,
             },
         }
+    }
+}
+
+impl<'a, A: Allocator> Hash for ItemKey<'a, A> {
+    ghost use Rattle.bpaf_items.specs.Listing.KeyInput.{key_fed, key_input};
+    ghost use Rattle.bpaf_items.specs.View.{key_in};
+
+    ghost hash_input = { λ key. key_input (key_in key) };
+
+    ghost respects_eq = { λ x y. key_fed (key_in x) (key_in y) };
+
+    fn hash<H: Hasher>(&self, state: &mut H) {
+        match *self {
+            ItemKey::Any(metavar, help) => {
+                feed_document(metavar, state);
+                feed_help(help, state);
+            }
+            ItemKey::Word(word, help) => {
+                state.write(word.as_bytes());
+                feed_help(help, state);
+            }
+            ItemKey::Flag(name, help) => {
+                feed_name(name, state);
+                feed_help(help, state);
+            }
+            ItemKey::Argument(name, metavar, help) => {
+                feed_name(name, state);
+                state.write(metavar.0.as_bytes());
+                feed_help(help, state);
+            }
+        }
+    }
+}
+
+fn feed_name<H: Hasher>(name: ShortLong, state: &mut H)
+    ensures { state.new ≡ fold H.write state.old (name_input (name_of name)) }
+{
+    match name {
+        ShortLong::Short(short) => short.hash(state),
+        ShortLong::Long(long) | ShortLong::Both(_, long) => state.write(long.as_bytes()),
+    }
+}
+
+fn feed_help<A: Allocator, H: Hasher>(help: Option<&Doc<A>>, state: &mut H)
+    ensures { state.new ≡ fold H.write state.old (help_input (option_copied help.entry)) }
+{
+    if let Some(help) = help {
+        feed_document(help, state);
+    }
+}
+
+fn feed_document<A: Allocator, H: Hasher>(document: &Doc<A>, state: &mut H)
+    ensures { state.new ≡ fold H.write state.old (document_input document.now) }
+{
+    for part in document.parts() {
+        feed_part(part, state);
+    }
+}
+
+fn feed_part<H: Hasher>(part: Part<'_>, state: &mut H)
+    ensures { state.new ≡ fold H.write state.old (part_input (part_of part.entry)) }
+{
+    if let Part::Text(text, _) = part {
+        state.write(text.as_bytes());
     }
 }
 

@@ -26,7 +26,7 @@ pub fn put_list<'a, A: Allocator, B: Allocator + Copy, C: Allocator, L: Allocato
 ) -> Result<(), AllocError>
     ensures { Leaves result doc.old doc.new (list_writes include_env (texts_in texts.now) (map entry_of entries.now)) }
 {
-    let mut repeats = Repeats::new(alloc);
+    let mut repeats = Repeats::with_room(alloc, entries.len())?;
     for entry in entries {
         put_next(doc, &mut repeats, entry, include_env, texts)?;
     }

@@ -1,34 +1,35 @@
 //! Which entries of a list are shown: each key once, and a note below what is shown.
 ghost use Rattle.std.specs.Prelude.{◌≡◌, not, ◌||◌, ◌++◌, ◌∷◌, [], IfOk, List};
-ghost use Rattle.std.specs.BTreeSet.{contains, insert_key};
+ghost use Rattle.std.specs.HashSet.{PutsKey, contains};
 ghost use Rattle.std.specs.Ordering.{on};
 ghost use Rattle.bpaf_items.specs.Listing.ItemList.{Entry};
 ghost use Rattle.bpaf_items.specs.Listing.Falls.{is_shown};
-ghost use Rattle.bpaf_items.specs.Listing.Keys.{key_cmp};
+ghost use Rattle.bpaf_items.specs.Listing.Keys.{same_key};
 ghost use Rattle.bpaf_items.specs.Page.Steps.Repeats.{Remembers};
 ghost use Rattle.bpaf_items.specs.View.{entry_of, key_in};
 
 use crate::meta_help::entry::HelpItem;
 use crate::meta_help::key::ItemKey;
 use std::alloc::{AllocError, Allocator};
-use std::collections::BTreeSet;
+use std::collections::HashSet;
+use std::hash::{BuildHasherDefault, FoldHasher};
 
 /// What is remembered of the entries of one group or heading: the keys of its items, and whether a note would be shown now.
 #[derive(Drop)]
 pub struct Repeats<'a, B: Allocator, L: Allocator> {
-    keys: BTreeSet<ItemKey<'a, B>, L>,
+    keys: HashSet<ItemKey<'a, B>, BuildHasherDefault<FoldHasher>, L>,
     shown: bool,
 }
 
 impl<'a, B: Allocator, L: Allocator + Copy> Repeats<'a, B, L> {
-    /// Nothing is remembered. It takes no memory.
-    pub fn new(alloc: L) -> Repeats<'a, B, L>
-        ensures { Remembers result.keys.keys result.shown [] }
+    /// Nothing is remembered. There is room for that many keys.
+    pub fn with_room(alloc: L, count: usize) -> Result<Repeats<'a, B, L>, AllocError>
+        ensures { IfOk result (λ repeats. Remembers repeats.keys.keys repeats.shown []) }
     {
-        Repeats {
-            keys: BTreeSet::new(alloc),
+        Ok(Repeats {
+            keys: HashSet::with_capacity(alloc, count)?,
             shown: false,
-        }
+        })
     }
 
     /// Whether the next entry is shown: a mark; an item with a new key; a note directly after one of these.
@@ -43,8 +44,8 @@ impl<'a, B: Allocator, L: Allocator + Copy> Repeats<'a, B, L> {
     }
 
     fn shows_item(&mut self, key: ItemKey<'a, B>) -> Result<bool, AllocError>
-        ensures { IfOk result (λ shown. (shown ≡ not (contains (on key_in key_cmp) self.old.keys key.entry))
-            × (self.new.keys.keys ≡ insert_key (on key_in key_cmp) self.old.keys.keys key.entry) × (self.new.shown ≡ shown)) }
+        ensures { IfOk result (λ shown. (shown ≡ not (contains (on key_in same_key) self.old.keys key.entry))
+            × PutsKey self.old.keys self.new.keys key.entry shown × (self.new.shown ≡ shown)) }
     {
         let shown = self.keys.insert(key)?;
         self.shown = shown;
