@@ -3,7 +3,8 @@ ghost use Rattle.std.specs.Prelude.{◌∷◌, [], ◌++◌, ℕ, List, false, c
 ghost use Rattle.std.specs.Option.{option_copied};
 ghost use Rattle.bpaf_meta.specs.View.{name_of, text_of};
 ghost use Rattle.bpaf_meta.specs.Usage.Writes.{metavar_writes};
-ghost use Rattle.bpaf_doc.specs.Buffer.Writes.{plain};
+ghost use Rattle.bpaf_meta.specs.Names.{long_text};
+ghost use Rattle.bpaf_doc.specs.Buffer.Writes.{doc_writes, literal, plain};
 ghost use Rattle.bpaf_items.specs.View.{entry_of};
 ghost use Rattle.bpaf_items.specs.Page.EntryWrites.{argument_env_text, body, command_writes, entry_writes, env_body, env_term, env_text, env_writes, flag_env_text, help_writes, names_writes, term};
 ghost use Rattle.bpaf_items.specs.Page.EnvTexts.{texts_in};
@@ -11,7 +12,7 @@ ghost use Rattle.bpaf_items.specs.Page.Steps.Pieces.{Leaves, joined, piece_write
 
 use crate::meta_help::entry::HelpItem;
 use crate::meta_help::env_texts::EnvTexts;
-use crate::meta_help::pieces::{Piece, put};
+use crate::meta_help::pieces::{Piece, put, put_document, put_end, put_start};
 use bpaf_doc::buffer::{Block, Doc, Style};
 use bpaf_meta::item::ShortLong;
 use bpaf_meta::meta_help::Metavar;
@@ -117,15 +118,16 @@ fn put_help<A: Allocator, B: Allocator + Copy>(
 {
     match help {
         None => Ok(()),
-        Some(help) => put(
-            doc,
-            &[
-                Piece::Start(Block::ItemBody),
-                Piece::Document(help),
-                Piece::End(Block::ItemBody),
-            ],
-        ),
+        Some(help) => put_body(doc, help),
     }
+}
+
+fn put_body<A: Allocator, B: Allocator>(doc: &mut Doc<A>, help: &Doc<B>) -> Result<(), AllocError>
+    ensures { Leaves result doc.old doc.new (body (doc_writes help.now)) }
+{
+    put_start(doc, Block::ItemBody)?;
+    put_document(doc, help)?;
+    put_end(doc, Block::ItemBody)
 }
 
 fn put_command<A: Allocator, B: Allocator + Copy>(
@@ -167,9 +169,7 @@ fn put_names<A: Allocator>(doc: &mut Doc<A>, name: ShortLong) -> Result<(), Allo
 {
     match name {
         ShortLong::Short(_) => put_words(doc, &[Piece::Name(name)]),
-        ShortLong::Long(long) => {
-            put_words(doc, &[Piece::Joined(&["    ", "--", long], Style::Literal)])
-        }
+        ShortLong::Long(long) => put_lone_name(doc, long),
         ShortLong::Both(short, long) => put_words(
             doc,
             &[
@@ -179,6 +179,13 @@ fn put_names<A: Allocator>(doc: &mut Doc<A>, name: ShortLong) -> Result<(), Allo
             ],
         ),
     }
+}
+
+fn put_lone_name<A: Allocator>(doc: &mut Doc<A>, long: &str) -> Result<(), AllocError>
+    ensures { Leaves result doc.old doc.new (literal (codes "    " ++ long_text long.now) ∷ []) }
+{
+    doc.literal("    --")?;
+    doc.literal(long)
 }
 
 // Pieces that borrow no document and no tree.
@@ -227,9 +234,9 @@ fn put_argument<A: Allocator, B: Allocator + Copy, C: Allocator>(
 fn put_flag_term<A: Allocator>(doc: &mut Doc<A>, name: ShortLong) -> Result<(), AllocError>
     ensures { Leaves result doc.old doc.new (term (names_writes (name_of name))) }
 {
-    put_words(doc, &[Piece::Start(Block::ItemTerm)])?;
+    put_start(doc, Block::ItemTerm)?;
     put_names(doc, name)?;
-    put_words(doc, &[Piece::End(Block::ItemTerm)])
+    put_end(doc, Block::ItemTerm)
 }
 
 fn put_argument_term<A: Allocator>(
@@ -239,7 +246,7 @@ fn put_argument_term<A: Allocator>(
 ) -> Result<(), AllocError>
     ensures { Leaves result doc.old doc.new (term (names_writes (name_of name) ++ plain (codes "=") ∷ metavar_writes metavar.0.now)) }
 {
-    put_words(doc, &[Piece::Start(Block::ItemTerm)])?;
+    put_start(doc, Block::ItemTerm)?;
     put_names(doc, name)?;
     put_words(
         doc,
