@@ -7,5 +7,6 @@ pub mod Fronts
 pub mod EscapedText
 pub mod LineStarts
 pub mod Written
+pub mod Staying
 pub mod Scripts
 mod Rows

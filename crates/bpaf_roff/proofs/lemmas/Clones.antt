@@ -1,6 +1,6 @@
 -- What clones of labels leave of the places of the texts, and of the pieces that they show.
 use Rattle.std.specs.Prelude.{◌≡◌, ℕ, ◌+◌, ◌-◌, ◌<◌, suc, Bool, IsTrue, List, [], ◌∷◌, ◌++◌, take, drop, length, refl}
-use Rattle.std.proofs.Common.{ap, sym, subst, ◌∙◌, append_assoc, append-nil, arith}
+use Rattle.std.proofs.Common.{ap, sym, ◌∙◌, append_assoc, append-nil, arith}
 use Rattle.std.proofs.lemmas.List.{map-append}
 use Rattle.std.proofs.lemmas.List.Elements.{AllZip-push, same_from_all_zip}
 use Rattle.std.proofs.Math.Seq.{take-suc}

@@ -1,5 +1,5 @@
 -- What is put last leaves in front.
-use Rattle.std.proofs.Common.{◌≡◌, List, ◌++◌, ◌∙◌, length, take, drop, sym, ap, arith, take_all, take-append-drop, length-append}
+use Rattle.std.proofs.Common.{◌≡◌, List, ◌++◌, ◌∙◌, length, take, drop, sym, ap, subst, arith, take_all, take-append-drop, length-append}
 use Rattle.std.proofs.lemmas.List.{take-append-le, length-take}
 use Rattle.bpaf_roff.specs.Steps.Output.{KeepsFront}
 
@@ -16,3 +16,10 @@ KeepsFront-later old more new h =
 -- more of what comes later
 pub KeepsFront-more : {X : Type 0} (old now more : List X) → KeepsFront old now → KeepsFront old (now ++ more)
 KeepsFront-more old now more h = take-append-le (length old) now more (omega (arith, ap length h, length-take (length old) now)) ∙ h
+
+-- one call after another
+pub KeepsFront-trans : {X : Type 0} (old now new : List X) → KeepsFront old now → KeepsFront now new → KeepsFront old new
+KeepsFront-trans old now new h k =
+    let rest = drop (length old) now in
+    let split : now ≡ old ++ rest = sym (take-append-drop (length old) now) ∙ ap (λ front. front ++ rest) h in
+    KeepsFront-later old rest new (subst (λ n. KeepsFront n new) split k)

@@ -13,7 +13,7 @@ use Rattle.bpaf_roff.specs.declared.escape.Escape.TheVariants.{UnescapedAtNewlin
 use Rattle.bpaf_roff.proofs.lemmas.EscapedText.{text_after-append}
 
 -- only what was written last tells
-is_line_start-last : (before : List ℕ) (b : ℕ) → is_line_start (before ++ b ∷ []) ≡ (b == newline)
+pub is_line_start-last : (before : List ℕ) (b : ℕ) → is_line_start (before ++ b ∷ []) ≡ (b == newline)
 is_line_start-last [] b = refl
 is_line_start-last (x ∷ []) b = refl
 is_line_start-last (x ∷ y ∷ before) b = is_line_start-last (y ∷ before) b

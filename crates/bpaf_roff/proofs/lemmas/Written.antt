@@ -1,9 +1,9 @@
--- What a loop over the bytes of a piece, and one over pieces, have written so far.
+-- What a loop over bytes, one over the blocks of a piece, and one over pieces have written so far.
 use Rattle.std.proofs.Common.{◌≡◌, ◌+◌, ◌<◌, ◌≤◌, ◌∷◌, [], ◌++◌, ◌∙◌, List, ℕ, Bool, length, map, take, get_or, ap, sym, append_assoc, take_all}
 use Rattle.std.proofs.lemmas.List.{take_more, map-append}
 use Rattle.std.specs.List.{AllByRecursion}
 use Rattle.bpaf_roff.specs.Pieces.{Piece}
-use Rattle.bpaf_roff.specs.Escaping.{is_line_start, breaks, Sign, Byte, byte_text, signs, signs_of, text_after, escaped}
+use Rattle.bpaf_roff.specs.Escaping.{is_line_start, Sign, Byte, byte_text, signs, signs_of, text_after, escaped}
 use Rattle.bpaf_roff.specs.Steps.Output.{written}
 use Rattle.bpaf_roff.specs.declared.escape.Apostrophes.{Apostrophes}
 use Rattle.bpaf_roff.specs.declared.escape.Escape.{Escape}
@@ -11,17 +11,16 @@ use Rattle.bpaf_roff.proofs.lemmas.EscapedText.{text_after-append}
 use Rattle.bpaf_roff.proofs.lemmas.LineStarts.{text_after-push, byte_text-written, text_after-written, is_line_start-after, signs-push}
 
 module _ (q : Apostrophes) (label : Escape) (before bytes : List ℕ) where
-  -- the first bytes of a piece
+  -- the first bytes of these
   abbrev pub front : ℕ → List Sign
-  front i = breaks label ++ map (Byte label) (take i bytes)
+  front i = map (Byte label) (take i bytes)
 
   -- what they are written as
   abbrev pub front_text : ℕ → List ℕ
   front_text i = text_after q before (front i)
 
   front_more : (i : ℕ) → i < length bytes → front (i + 1) ≡ front i ++ Byte label (get_or bytes i 0) ∷ []
-  front_more i lt =
-      rw (take_more bytes i 0 lt, map-append (Byte label) (take i bytes) (get_or bytes i 0 ∷ [])) (sym (append_assoc (breaks label) (map (Byte label) (take i bytes)) (Byte label (get_or bytes i 0) ∷ [])))
+  front_more i lt = ap (map (Byte label)) (take_more bytes i 0 lt) ∙ map-append (Byte label) (take i bytes) (get_or bytes i 0 ∷ [])
 
   front_text_more : (i : ℕ) → i < length bytes → front_text (i + 1) ≡ front_text i ++ byte_text q (before ++ front_text i) label (get_or bytes i 0)
   front_text_more i lt = ap (text_after q before) (front_more i lt) ∙ text_after-push q before (front i) (Byte label (get_or bytes i 0))
@@ -38,8 +37,29 @@ module _ (q : Apostrophes) (label : Escape) (before bytes : List ℕ) where
       ends q (before ++ front_text i)
       ∙ ap is_line_start (append_assoc before (front_text i) (byte_text q (before ++ front_text i) label (get_or bytes i 0)) ∙ ap (λ t. before ++ t) (sym (front_text_more i lt)))
 
-  pub front_all : (i : ℕ) → length bytes ≤ i → front i ≡ breaks label ++ map (Byte label) bytes
-  front_all i le = ap (λ t. breaks label ++ map (Byte label) t) (take_all i bytes le)
+  pub front_all : (i : ℕ) → length bytes ≤ i → front i ≡ map (Byte label) bytes
+  front_all i le = ap (map (Byte label)) (take_all i bytes le)
+
+-- Signs that are written behind others: of what stands before them only counts whether it ends a line.
+module _ (q : Apostrophes) (before : List ℕ) (xs ys : List Sign) (y : Bool) (e : y ≡ is_line_start (before ++ text_after q before xs)) where
+  text_on : text_after q before xs ++ text_after q (written y) ys ≡ text_after q before (xs ++ ys)
+  text_on = ap (λ t. text_after q before xs ++ t) (sym (text_after-written q ys (before ++ text_after q before xs) y e)) ∙ sym (text_after-append q before xs ys)
+
+  pub line_start_on : is_line_start (written y ++ text_after q (written y) ys) ≡ is_line_start (before ++ text_after q before (xs ++ ys))
+  line_start_on =
+      sym (is_line_start-after (before ++ text_after q before xs) (text_after q (written y) ys) y e)
+      ∙ ap is_line_start (append_assoc before (text_after q before xs) (text_after q (written y) ys) ∙ ap (λ t. before ++ t) text_on)
+
+  pub items_on : (out new all : List ℕ) → new ≡ out ++ text_after q before xs → out ++ text_after q before (xs ++ ys) ≡ all → new ++ text_after q (written y) ys ≡ all
+  items_on out new all is so_far =
+      ap (λ o. o ++ text_after q (written y) ys) is
+      ∙ append_assoc out (text_after q before xs) (text_after q (written y) ys)
+      ∙ ap (λ t. out ++ t) text_on
+      ∙ so_far
+
+-- the signs of a block and of what comes after it
+pub block_signs : (label : Escape) (rest block after : List ℕ) → rest ≡ block ++ after → map (Byte label) rest ≡ map (Byte label) block ++ map (Byte label) after
+block_signs label rest block after e = ap (map (Byte label)) e ∙ map-append (Byte label) block after
 
 module _ (q : Apostrophes) (ps : List (Piece Escape)) (p : Piece Escape) (x : Bool) (e : x ≡ is_line_start (escaped q ps)) where
   escaped_push : escaped q (ps ++ p ∷ []) ≡ escaped q ps ++ text_after q (written x) (signs_of p)

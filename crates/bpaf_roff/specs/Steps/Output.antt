@@ -1,6 +1,9 @@
 -- What functions that may stop halfway keep.
-use Rattle.std.specs.Prelude.{◌≡◌, ℕ, Bool, true, false, List, [], ◌∷◌, length, take}
+use Rattle.std.specs.Prelude.{◌≡◌, ℕ, Bool, true, false, not, ◌&&◌, ◌==◌, List, [], ◌∷◌, length, map, take}
+use Rattle.bpaf_roff.specs.Escaping.{Byte, apostrophe, backslash, dash, dot, text_after}
 use Rattle.bpaf_roff.specs.Roff.{Script}
+use Rattle.bpaf_roff.specs.declared.escape.Apostrophes.{Apostrophes}
+use Rattle.bpaf_roff.specs.declared.escape.Escape.{Escape}
 
 -- what was there is still in front
 abbrev pub KeepsFront : {X : Type 0} → List X → List X → Type 0
@@ -14,3 +17,11 @@ OnlyAdds old new = record new { pieces = take (length old.pieces) new.pieces } �
 abbrev pub written : Bool → List ℕ
 written true = []
 written false = 0 ∷ []
+
+-- a byte that a plain text has as it is, wherever it stands
+abbrev pub is_plain : ℕ → Bool
+is_plain b = not (b == backslash) && not (b == dash) && not (b == dot) && not (b == apostrophe)
+
+-- these bytes are written as they are under the label, wherever they stand
+abbrev pub StayUnder : Escape → List ℕ → Type 0
+StayUnder label bytes = (q : Apostrophes) (before : List ℕ) → text_after q before (map (Byte label) bytes) ≡ bytes

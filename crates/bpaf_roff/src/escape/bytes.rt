@@ -1,18 +1,21 @@
 //! The bytes that labelled pieces are escaped to.
 
-ghost use Rattle.std.specs.Prelude.{◌≡◌, ◌++◌, [], ◌∷◌, List, ℕ, map, IfOk, OnOk, OnErr, IsUtf8};
+ghost use Rattle.std.specs.Prelude.{◌≡◌, ◌++◌, [], ◌∷◌, List, ℕ, map, IfOk, OnOk, OnErr, IsTrue, IsUtf8};
 ghost use Rattle.std.specs.Borrow.{Bor};
 ghost use Rattle.std.specs.Iterator.{IsFinite, Drains};
-ghost use Rattle.std.specs.List.{AllByRecursion};
+ghost use Rattle.std.specs.List.{AllByRecursion, list_all};
 ghost use Rattle.bpaf_roff.specs.Pieces.{Piece, piece_at};
 ghost use Rattle.bpaf_roff.specs.Roff.{piece};
-ghost use Rattle.bpaf_roff.specs.Escaping.{is_line_start, newline_as_blank, guard, special_text, spaces_text, byte_text, breaks, signs_of, text_after, escaped};
-ghost use Rattle.bpaf_roff.specs.Steps.Output.{KeepsFront, written};
+ghost use Rattle.bpaf_roff.specs.Escaping.{Byte, is_line_start, newline_as_blank, guard, special_text, spaces_text, byte_text, breaks, signs_of, text_after, escaped};
+ghost use Rattle.bpaf_roff.specs.Steps.Output.{KeepsFront, StayUnder, is_plain, written};
 
 use crate::escape::{Apostrophes, Escape};
 use std::alloc::{AllocError, Allocator};
 
 const APOSTROPHE: &str = "\\*(Aq";
+
+// How many bytes are looked at together.
+const BLOCK: usize = 64;
 
 // Whether the output is at a line start after a byte, whatever was written before.
 fn ends_line(label: Escape, byte: u8) -> bool
@@ -37,6 +40,14 @@ fn write_spaces<A: Allocator>(out: &mut Vec<u8, A>, byte: u8) -> Result<(), Allo
     Ok(())
 }
 
+// Whether the byte is written as it is in a plain text, wherever it stands.
+#[inline(always)]
+fn is_plain(byte: u8) -> bool
+    ensures { result ≡ is_plain byte }
+{
+    byte != b'\\' && byte != b'-' && byte != b'.' && byte != b'\''
+}
+
 // Inlined, since a call for each byte costs more than the byte.
 #[inline(always)]
 fn write_special<A: Allocator>(
@@ -49,6 +60,11 @@ fn write_special<A: Allocator>(
         ≡ out.old.items ++ (guard (written at_line_start) byte ++ special_text apostrophes byte)) }
     ensures kept { KeepsFront out.old.items out.new.items }
 {
+    // Most bytes are plain.
+    if is_plain(byte) {
+        out.push(byte)?;
+        return Ok(());
+    }
     if at_line_start && (byte == b'.' || byte == b'\'') {
         out.extend_from_slice(b"\\&")?;
     }
@@ -114,6 +130,86 @@ fn write_break<A: Allocator>(
     }
 }
 
+// Whether all of these are.
+fn are_plain(bytes: &[u8]) -> bool
+    ensures { result ≡ list_all is_plain bytes.now }
+{
+    for byte in bytes {
+        if !is_plain(*byte) {
+            return false;
+        }
+    }
+    true
+}
+
+// Whether each of these is written as it is under the label. It says no of all arguments, and of all texts in which newlines
+// are stripped, since these are short.
+#[inline(always)]
+fn stay(label: Escape, bytes: &[u8]) -> bool
+    ensures { IsTrue result → StayUnder label bytes.now }
+{
+    match label {
+        Escape::UnescapedAtNewline | Escape::Unescaped => true,
+        Escape::Special => are_plain(bytes),
+        Escape::SpecialNoNewline | Escape::Spaces => false,
+    }
+}
+
+// Whether a line starts after these bytes, where they are written as they are.
+fn ends_in_line_start(at_line_start: bool, bytes: &[u8]) -> bool
+    ensures { result ≡ is_line_start (written at_line_start ++ bytes.now) }
+{
+    match bytes.split_last() {
+        Some((last, _)) => *last == b'\n',
+        None => at_line_start,
+    }
+}
+
+// One byte after another. Answers whether a line starts after them.
+fn write_bytes<A: Allocator>(
+    out: &mut Vec<u8, A>,
+    apostrophes: Apostrophes,
+    at_line_start: bool,
+    label: Escape,
+    bytes: &[u8],
+) -> Result<bool, AllocError>
+    ensures ok { OnOk result (out.new.items
+        ≡ out.old.items ++ text_after apostrophes (written at_line_start) (map (Byte label) bytes.now)) }
+    ensures line_start { IfOk result (λ after. after
+        ≡ is_line_start (written at_line_start
+        ++ text_after apostrophes (written at_line_start) (map (Byte label) bytes.now))) }
+    ensures kept { KeepsFront out.old.items out.new.items }
+{
+    let mut line_start = at_line_start;
+    for byte in bytes {
+        write_byte(out, apostrophes, line_start, label, *byte)?;
+        line_start = ends_line(label, *byte);
+    }
+    Ok(line_start)
+}
+
+// The same for a block, which is copied whole where its bytes are written as they are.
+fn write_block<A: Allocator>(
+    out: &mut Vec<u8, A>,
+    apostrophes: Apostrophes,
+    at_line_start: bool,
+    label: Escape,
+    block: &[u8],
+) -> Result<bool, AllocError>
+    ensures ok { OnOk result (out.new.items
+        ≡ out.old.items ++ text_after apostrophes (written at_line_start) (map (Byte label) block.now)) }
+    ensures line_start { IfOk result (λ after. after
+        ≡ is_line_start (written at_line_start
+        ++ text_after apostrophes (written at_line_start) (map (Byte label) block.now))) }
+    ensures kept { KeepsFront out.old.items out.new.items }
+{
+    if !stay(label, block) {
+        return write_bytes(out, apostrophes, at_line_start, label, block);
+    }
+    out.extend_from_slice(block)?;
+    Ok(ends_in_line_start(at_line_start, block))
+}
+
 // Answers whether a line starts after the piece.
 fn write_piece<A: Allocator>(
     out: &mut Vec<u8, A>,
@@ -131,11 +227,14 @@ fn write_piece<A: Allocator>(
     ensures utf8 { IsUtf8 text.now }
 {
     let mut line_start = write_break(out, at_line_start, label)?;
-    for byte in text.as_bytes() {
-        write_byte(out, apostrophes, line_start, label, *byte)?;
-        line_start = ends_line(label, *byte);
+    let mut rest = text.as_bytes();
+    while rest.len() >= BLOCK {
+        let (block, after) = rest.split_at(BLOCK);
+        line_start = write_block(out, apostrophes, line_start, label, block)?;
+        rest = after;
     }
-    Ok(line_start)
+    let after = write_bytes(out, apostrophes, line_start, label, rest)?;
+    Ok(after)
 }
 
 /// Puts the bytes of each piece last, as from a line start. An error comes where a growth was

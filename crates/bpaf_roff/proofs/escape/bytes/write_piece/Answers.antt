@@ -1,33 +1,51 @@
-use Rattle.std.proofs.Common.{◌++◌, ◌∙◌, ap, subst, arith}
-use Rattle.bpaf_roff.specs.Escaping.{is_line_start, text_after}
-use Rattle.bpaf_roff.specs.Steps.Output.{KeepsFront, written}
-use Rattle.bpaf_roff.proofs.lemmas.Fronts.{KeepsFront-later}
-use Rattle.bpaf_roff.proofs.lemmas.Written.{front_text, items_more, line_start_more, front_all}
+use Rattle.std.proofs.Common.{◌≡◌, ◌++◌, ◌∙◌, map, sym, ap}
+use Rattle.bpaf_roff.specs.Escaping.{is_line_start, breaks, Byte, text_after}
+use Rattle.bpaf_roff.specs.Steps.Output.{written}
+use Rattle.bpaf_roff.proofs.lemmas.Fronts.{KeepsFront-trans}
+use Rattle.bpaf_roff.proofs.lemmas.Written.{items_on, line_start_on, block_signs}
 use Rattle.bpaf_roff.proofs.escape.bytes.write_piece.Goals as goal
 
-pub returns-in_err-write_byte-clause-kept : goal.returns-in_err-write_byte-clause-kept
-returns-in_err-write_byte-clause-kept g c =
+pub loop-rest-init : goal.loop-rest-init
+loop-rest-init g c =
     let a = c.args in
-    let bytes = c.as_bytes-byte-items.result.now in
-    KeepsFront-later a.out.now.items (front_text a.apostrophes a.label (written a.at_line_start) bytes c.loop-byte.byte-index) c.write_byte.new.out.items (subst (λ now. KeepsFront now c.write_byte.new.out.items) c.loop-byte.invariant.items c.write_byte.ensures.kept)
-
-pub loop-byte-preserved : goal.loop-byte-preserved
-loop-byte-preserved g c =
-    let a = c.args in
-    let inv = c.loop-byte.invariant in
-    let i = c.loop-byte.byte-index in
-    let bytes = c.as_bytes-byte-items.result.now in
+    let q = a.apostrophes in
     let before = written a.at_line_start in
+    let x = c.in_ok-line_start.line_start in
+    let bytes = map (Byte a.label) c.as_bytes-rest.result.now in
+    let whole = ap (λ t. breaks a.label ++ map (Byte a.label) t) c.as_bytes-rest.ensures.value in
     record {
-      in_range = omega arith;
-      items = items_more a.apostrophes a.label before bytes i c.loop-byte-test.true c.loop-byte.line_start inv.line_start a.out.now.items c.loop-byte.out.items c.write_byte.new.out.items inv.items c.in_ok-write_byte.ensures.ok;
-      line_start = line_start_more a.apostrophes a.label before bytes i c.loop-byte-test.true c.ends_line-line_start.result c.ends_line-line_start.ensures;
+      items =
+          items_on q before (breaks a.label) bytes x (c.in_ok-line_start.ensures.line_start q) a.out.now.items c.write_break.new.out.items _ (c.in_ok-line_start.ensures.ok q)
+          (ap (λ xs. a.out.now.items ++ text_after q before xs) whole);
+      line_start = line_start_on q before (breaks a.label) bytes x (c.in_ok-line_start.ensures.line_start q) ∙ ap (λ xs. is_line_start (before ++ text_after q before xs)) whole;
+      kept = c.write_break.ensures.kept;
     }
 
-pub returns-clause-line_start : goal.returns-clause-line_start
-returns-clause-line_start g c =
+pub loop-rest-preserved : goal.loop-rest-preserved
+loop-rest-preserved g c =
     let a = c.args in
-    let bytes = c.as_bytes-byte-items.result.now in
-    let before = written a.at_line_start in
-    rw (← c.as_bytes-byte-items.ensures.value)
-    (c.loop-byte.invariant.line_start ∙ ap (λ xs. is_line_start (before ++ text_after a.apostrophes before xs)) (front_all a.apostrophes a.label before bytes c.loop-byte.byte-index c.loop-byte-test.false))
+    let q = a.apostrophes in
+    let inv = c.loop-rest.invariant in
+    let before = written c.loop-rest.line_start in
+    let block = c.split_at.result.0.now in
+    let after = c.split_at.result.1.now in
+    let y = c.in_ok-line_start-2.line_start in
+    let split : map (Byte a.label) block ++ map (Byte a.label) after ≡ map (Byte a.label) c.loop-rest.rest.now = sym (block_signs a.label c.loop-rest.rest.now block after c.split_at.ensures.by_index.0) in
+    record {
+      items =
+          items_on q before (map (Byte a.label) block) (map (Byte a.label) after) y c.in_ok-line_start-2.ensures.line_start c.loop-rest.out.items c.write_block.new.out.items _ c.in_ok-line_start-2.ensures.ok
+          (ap (λ xs. c.loop-rest.out.items ++ text_after q before xs) split ∙ inv.items);
+      line_start =
+          line_start_on q before (map (Byte a.label) block) (map (Byte a.label) after) y c.in_ok-line_start-2.ensures.line_start
+          ∙ ap (λ xs. is_line_start (before ++ text_after q before xs)) split ∙ inv.line_start;
+      kept = KeepsFront-trans a.out.now.items c.loop-rest.out.items c.write_block.new.out.items inv.kept c.write_block.ensures.kept;
+    }
+
+pub returns-clause-ok : goal.returns-clause-ok
+returns-clause-ok g c = c.in_ok-after.ensures.ok ∙ c.loop-rest.invariant.items
+
+pub returns-clause-line_start : goal.returns-clause-line_start
+returns-clause-line_start g c = c.in_ok-after.ensures.line_start ∙ c.loop-rest.invariant.line_start
+
+pub returns-clause-kept : goal.returns-clause-kept
+returns-clause-kept g c = KeepsFront-trans c.args.out.now.items c.loop-rest.out.items c.write_bytes.new.out.items c.loop-rest.invariant.kept c.write_bytes.ensures.kept

@@ -1,4 +1,4 @@
-use Rattle.std.proofs.Common.{◌≡◌, ◌+◌, ◌^◌, ◌∙◌, string_bytes, length, arith, refl}
+use Rattle.std.proofs.Common.{◌≡◌, ◌^◌, string_bytes, length, arith, refl}
 use Rattle.bpaf_roff.proofs.lemmas.Clones.{sum_shown, sum_cut, IsSumOf-same}
 use Rattle.bpaf_roff.proofs.lemmas.Labels.{ends_fit}
 use Rattle.bpaf_roff.proofs.monoid.FreeMonoid.add_assign.Goals as goal

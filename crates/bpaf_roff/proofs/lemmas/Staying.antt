@@ -1,0 +1,53 @@
+-- Bytes that are written as they are.
+use Rattle.std.specs.Prelude.{◌≡◌, ◌⊎◌, ℕ, Bool, true, false, not, ◌&&◌, ◌||◌, ◌==◌, List, [], ◌∷◌, ◌++◌, codes, if◌then◌else◌, refl}
+use Rattle.std.specs.List.{list_all}
+use Rattle.std.proofs.Common.{inl, inr, ap, sym, ◌∙◌, append_assoc}
+use Rattle.std.proofs.lemmas.Bool.{and_parts}
+use Rattle.bpaf_roff.specs.Escaping.{byte_text, is_line_start, apostrophe_text}
+use Rattle.bpaf_roff.specs.Steps.Output.{StayUnder, is_plain, written}
+use Rattle.bpaf_roff.specs.declared.escape.Apostrophes.{Apostrophes}
+use Rattle.bpaf_roff.specs.declared.escape.Escape.{Escape}
+use Rattle.bpaf_roff.specs.declared.escape.Escape.TheVariants.{UnescapedAtNewline, Special, Unescaped}
+use Rattle.bpaf_roff.proofs.lemmas.LineStarts.{is_line_start-last}
+
+-- each byte as it is
+all_stay : (label : Escape) (test : ℕ → Bool) → ((q : Apostrophes) (before : List ℕ) (b : ℕ) → test b ≡ true → byte_text q before label b ≡ b ∷ []) → (bytes : List ℕ) → list_all test bytes ≡ true → StayUnder label bytes
+all_stay label test one [] h q before = refl
+all_stay label test one (b ∷ bytes) h q before =
+    let parts = and_parts (test b) (list_all test bytes) h in
+    rw (one q before b parts.0) (ap (λ t. b ∷ t) (all_stay label test one bytes parts.1 q (before ++ b ∷ [])))
+
+plain_stays : (q : Apostrophes) (before : List ℕ) (b : ℕ) → is_plain b ≡ true → byte_text q before Special b ≡ b ∷ []
+plain_stays q before b h = by (b == 92) (b == 45) (b == 46) (b == 39) h
+  where
+    by : (v w x y : Bool) → (not v && not w && not x && not y) ≡ true
+        → (if (x || y) && is_line_start before then codes "\\&" else []) ++ (if v || w then 92 ∷ b ∷ [] else if y then apostrophe_text q else b ∷ []) ≡ b ∷ []
+    by false false false false h = refl
+    by true w x y h = absurd cc
+    by false true x y h = absurd cc
+    by false false true y h = absurd cc
+    by false false false true h = absurd cc
+
+pub plain_stay : (bytes : List ℕ) → list_all is_plain bytes ≡ true → StayUnder Special bytes
+plain_stay bytes h = all_stay Special is_plain plain_stays bytes h
+
+all_pass : (bytes : List ℕ) → list_all (λ b. true) bytes ≡ true
+all_pass [] = refl
+all_pass (b ∷ bytes) = all_pass bytes
+
+-- under these labels each byte is written as it is
+pub bare_stay : (label : Escape) → label ≡ UnescapedAtNewline ⊎ label ≡ Unescaped → (bytes : List ℕ) → StayUnder label bytes
+bare_stay label (inl e) bytes = rw e (all_stay UnescapedAtNewline (λ b. true) (λ q before b h. refl) bytes (all_pass bytes))
+bare_stay label (inr e) bytes = rw e (all_stay Unescaped (λ b. true) (λ q before b h. refl) bytes (all_pass bytes))
+
+-- whether a line starts after bytes, by the last of them
+pub line_start_by_last : (x : Bool) (bytes front : List ℕ) (last : ℕ) → bytes ≡ front ++ last ∷ [] → (last == 10) ≡ is_line_start (written x ++ bytes)
+line_start_by_last x bytes front last e =
+    sym (ap (λ t. is_line_start (written x ++ t)) e ∙ ap is_line_start (sym (append_assoc (written x) front (last ∷ []))) ∙ is_line_start-last (written x ++ front) last)
+
+pub line_start_by_none : (x : Bool) (bytes : List ℕ) → bytes ≡ [] → x ≡ is_line_start (written x ++ bytes)
+line_start_by_none x bytes e = sym (ap (λ t. is_line_start (written x ++ t)) e ∙ kept x)
+  where
+    kept : (y : Bool) → is_line_start (written y ++ []) ≡ y
+    kept true = refl
+    kept false = refl
