@@ -1,15 +1,16 @@
 //! A text into chunks: words, blanks, line breaks, paragraph breaks and code lines.
 
-ghost use Rattle.std.specs.Prelude.{◌≡◌, ◌≢◌, ◌≤◌, [], ◌∷◌, ◌++◌, length, take, IsTrue};
+ghost use Rattle.std.specs.Prelude.{◌≡◌, ◌≢◌, ◌<◌, ◌≤◌, [], ◌∷◌, ◌++◌, length, take, IfNone, IfSome, IsTrue};
 ghost use Rattle.std.specs.Char.{is_ascii_graphic};
 ghost use Rattle.std.specs.Iterator.{YieldsFirstBy, item_count};
 ghost use Rattle.std.specs.List.{All, flat_map, list_all};
 ghost use Rattle.bpaf_doc.specs.Splitter.Chunks.{Paragraph, Plain, Opening, Later, Spells, IsLine, IsLineEnd, IsPastNewline, IsWordEnd, chunk_ink, chunks_in, chunks_of, columns, is_word_byte};
 ghost use Rattle.bpaf_doc.specs.Splitter.Promises.{IsOneLine, StandInOrder};
 ghost use Rattle.bpaf_doc.specs.Buffer.Parts.{ink};
+ghost use Rattle.bpaf_doc.specs.Splitter.Steps.Runs.{IsRun, IsRunEnd};
 ghost use Rattle.bpaf_doc.specs.Splitter.View.{chunk_of};
 
-use memchr::memchr;
+use memchr::{memchr, memrchr};
 use std::marker::Model;
 use unicode_width::UnicodeWidthStr;
 
@@ -32,6 +33,9 @@ impl Chunk<'_> {
     /// The weight of a line of a fence. A word of so many columns has it too.
     pub const TICKED_CODE: usize = 1_000_001;
 }
+
+// How many bytes a run has at most. So short a word has not the columns that are the weight of a code line.
+const LONGEST_RUN: usize = 300_000;
 
 /// How what is left of a text is read.
 #[derive(Clone, Copy, Debug, PartialEq, Eq)]
@@ -98,6 +102,71 @@ impl<'a> Iterator for Splitter<'a> {
         *self = left;
         Some(chunk)
     }
+}
+
+// Runs: words of a line and the blanks between them, which can be shown together. As a text of its own a run has the
+// chunks that it has here.
+impl<'a> Splitter<'a> {
+    /// Takes the rest of a line off, or as much of it as a run has at most. None where no word or blank of a line comes
+    /// next, or too long a word.
+    #[inline(always)]
+    pub(crate) fn take_line(&mut self) -> Option<&'a str>
+        ensures run { IfSome result (λ run. IsRun run.now) }
+        ensures chunks { IfSome result (λ run. self.old ≡ chunks_of run.now ++ self.new) }
+        ensures none { IfNone result (self.new ≡ self.old) }
+    {
+        match self.form {
+            Form::Plain => {
+                let end = line_run_end(self.rest);
+                if end == 0 {
+                    return None;
+                }
+                let (run, after) = cut_run(self.rest, end);
+                *self = after;
+                Some(run)
+            }
+            Form::Opening | Form::Later => None,
+        }
+    }
+}
+
+// The run of a text up to this place, and the chunks after it.
+#[inline(always)]
+fn cut_run(text: &str, end: usize) -> (&str, Splitter<'_>)
+    requires { IsRunEnd text.now end }
+    ensures run { result.0.now ≡ take end text.now }
+    ensures chunks { chunks_of text.now ≡ chunks_of result.0.now ++ result.1 }
+{
+    let (run, rest) = text.split_at(end);
+    (run, split(rest))
+}
+
+// The place up to which the text is a run: the end of its line, or that of the last word that a run has room for. 0 where it
+// is none.
+#[inline(always)]
+fn line_run_end(text: &str) -> usize
+    ensures run { 0 < result → IsRunEnd text.now result }
+    ensures short { result ≤ 300_000 }
+{
+    match text.as_bytes() {
+        [] | [b'\n', ..] => 0,
+        bytes => first_line_end(bytes),
+    }
+}
+
+// The same for a text of these bytes.
+fn first_line_end(bytes: &[u8]) -> usize
+    ensures run { 0 < result → IsRunEnd bytes.now result }
+    ensures short { result ≤ 300_000 }
+{
+    let (window, _) = bytes.split_at(bytes.len().min(LONGEST_RUN));
+    if let Some(end) = memchr(b'\n', window) {
+        return end;
+    }
+    if bytes.len() <= LONGEST_RUN {
+        return bytes.len();
+    }
+    memrchr(b' ', window).unwrap_or(0)
 }
 
 // The first chunk of a text outside of a fence, and those after it.

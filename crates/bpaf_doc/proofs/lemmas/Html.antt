@@ -10,3 +10,4 @@ mod Rows
 mod PageRows
 pub mod Exact
 mod Examples
+pub mod Runs

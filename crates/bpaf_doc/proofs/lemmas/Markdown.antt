@@ -9,3 +9,4 @@ pub mod Meets
 mod Examples
 pub mod Exact
 mod PageRows
+pub mod Runs

@@ -7,3 +7,5 @@ pub mod Facts
 mod Rows
 pub mod Ink
 pub mod Printable
+pub mod Runs
+pub mod Widths

@@ -1,8 +1,9 @@
 //! What HTML and markdown have of a document, one piece after another: the same for both, in full and in brief.
-ghost use Rattle.std.specs.Prelude.{◌≡◌};
+ghost use Rattle.std.specs.Prelude.{◌≡◌, ◌∷◌, [], MatchOption};
 ghost use Rattle.bpaf_doc.specs.Html.Fragments.{shown_fragments};
 ghost use Rattle.bpaf_doc.specs.Splitter.Chunks.{is_paragraph};
 ghost use Rattle.bpaf_doc.specs.Splitter.View.{chunk_of};
+ghost use Rattle.bpaf_doc.specs.Html.Steps.View.{fragment_of};
 ghost use Rattle.bpaf_doc.specs.Html.Steps.Walk.{is_inline};
 
 use crate::buffer::{Block, Doc, Part, Parts, Style};
@@ -19,6 +20,13 @@ pub(super) enum Fragment<'a> {
     Hidden,
     Start(Block),
     End(Block),
+}
+
+/// What is handed out at once: a run of a shown text, which stands for its chunks, or one fragment.
+#[derive(Clone, Copy, Debug)]
+pub(super) enum Taken<'a> {
+    Words(Style, &'a str),
+    One(Fragment<'a>),
 }
 
 /// The fragments that are left.
@@ -74,19 +82,12 @@ fn is_paragraph(chunk: Chunk<'_>) -> bool
     matches!(chunk, Chunk::Paragraph)
 }
 
-impl<'a> Iterator for Fragments<'a> {
-    ghost use Rattle.std.specs.Iterator.{YieldsFirstBy, item_count};
-    ghost use Rattle.bpaf_doc.specs.Html.Steps.View.{fragment_of};
-
-    type Item = Fragment<'a>;
-
-    ghost next_gives = { YieldsFirstBy fragment_of (λ left. left) };
-
-    ghost remaining = { item_count (λ left. left) };
-
-    // A call hands a fragment on through memory, which costs more than the fragment.
+impl<'a> Fragments<'a> {
+    // The next fragment alone.
     #[inline(always)]
-    fn next(&mut self) -> Option<Fragment<'a>> {
+    fn next_fragment(&mut self) -> Option<Fragment<'a>>
+        ensures steps { MatchOption result ((self.old ≡ []) × (self.new ≡ [])) (λ x. self.old ≡ fragment_of x ∷ self.new) }
+    {
         if self.in_text {
             return match self.chunks.next() {
                 Some(chunk) => {
@@ -127,5 +128,28 @@ impl<'a> Iterator for Fragments<'a> {
                 Some(Fragment::End(block))
             }
         }
+    }
+}
+
+impl<'a> Iterator for Fragments<'a> {
+    ghost use Rattle.std.specs.Iterator.{item_count};
+    ghost use Rattle.bpaf_doc.specs.Html.Steps.View.{YieldsTaken};
+
+    type Item = Taken<'a>;
+
+    ghost next_gives = { YieldsTaken };
+
+    ghost remaining = { item_count (λ left. left) };
+
+    // A call hands a fragment on through memory, which costs more than the fragment.
+    #[inline(always)]
+    fn next(&mut self) -> Option<Taken<'a>> {
+        if self.in_text {
+            if let Some(run) = self.chunks.take_line() {
+                return Some(Taken::Words(self.style, run));
+            }
+        }
+        let fragment = self.next_fragment()?;
+        Some(Taken::One(fragment))
     }
 }

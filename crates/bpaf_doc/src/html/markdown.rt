@@ -3,10 +3,10 @@ ghost use Rattle.std.specs.Prelude.{◌≡◌, ◌++◌, if◌then◌else◌, On
 ghost use Rattle.bpaf_doc.specs.Splitter.View.{chunk_of};
 ghost use Rattle.bpaf_doc.specs.Markdown.Page.{IsMarkdownOf};
 ghost use Rattle.bpaf_doc.specs.Markdown.Exact.{markdown_page};
-ghost use Rattle.bpaf_doc.specs.Html.Steps.View.{fragment_of};
-ghost use Rattle.bpaf_doc.specs.Markdown.Steps.Page.{blank_text, put, with_new_line, with_blank_line, with_item, opening_marks, closing_marks, with_line, open_code, close_code, with_words, with_raw, with_chunk, text_ended, header_started, body_started, started, ended, is_term_end, marked_after};
+ghost use Rattle.bpaf_doc.specs.Html.Steps.View.{fragment_of, fragments_in, IsTaken};
+ghost use Rattle.bpaf_doc.specs.Markdown.Steps.Page.{blank_text, put, with_new_line, with_blank_line, with_item, opening_marks, closing_marks, with_line, open_code, close_code, with_words, with_raw, with_chunk, text_ended, header_started, body_started, started, ended, is_term_end, marked_after, marked_after_all};
 
-use super::fragments::{Fragment, fragments_of};
+use super::fragments::{Fragment, Taken, fragments_of};
 use super::{Language, Styles, push_spelled, when};
 use crate::buffer::{Block, Doc, Style};
 use crate::splitter::Chunk;
@@ -276,6 +276,20 @@ impl<B: Allocator> Markdown<B> {
             Fragment::End(block) => self.end(block),
         }
     }
+
+    fn take(&mut self, taken: Taken<'_>) -> Result<(), AllocError>
+        requires { IsTaken taken }
+        ensures { OnOk result (self.new ≡ marked_after_all self.old (fragments_in taken.entry)) }
+    {
+        match taken {
+            Taken::Words(_, run) => {
+                self.item(false)?;
+                self.words(run)?;
+                Ok(())
+            }
+            Taken::One(fragment) => self.fragment(fragment),
+        }
+    }
 }
 
 impl<A: Allocator> Doc<A> {
@@ -299,8 +313,8 @@ impl<A: Allocator> Doc<A> {
         // The marks can be counted: there are at most as many as parts.
         let _count = self.len();
         let mut page = Markdown::new(alloc);
-        for fragment in fragments_of(self, full) {
-            page.fragment(fragment)?;
+        for taken in fragments_of(self, full) {
+            page.take(taken)?;
         }
         page.item(false)?;
         Ok(page.into_text())

@@ -3,11 +3,11 @@ ghost use Rattle.std.specs.Prelude.{◌≡◌, ◌++◌, [], if◌then◌else◌
 ghost use Rattle.bpaf_doc.specs.Buffer.Parts.{IsWellNested};
 ghost use Rattle.bpaf_doc.specs.Splitter.View.{chunk_of};
 ghost use Rattle.bpaf_doc.specs.Html.Page.{IsHtmlPageOf, IsHtmlTextPageOf, is_definition_list};
-ghost use Rattle.bpaf_doc.specs.Html.Steps.View.{fragment_of};
+ghost use Rattle.bpaf_doc.specs.Html.Steps.View.{fragment_of, fragments_in, IsTaken};
 ghost use Rattle.bpaf_doc.specs.Html.Exact.{html_page};
-ghost use Rattle.bpaf_doc.specs.Html.Steps.Page.{blank_page, with_text, with_break, with_words, with_heading, is_header, start_tag, end_tag, opening_tags, closing_tags, started, ended, chunk_page, page_after};
+ghost use Rattle.bpaf_doc.specs.Html.Steps.Page.{blank_page, with_text, with_break, with_words, with_heading, is_header, start_tag, end_tag, opening_tags, closing_tags, started, ended, chunk_page, page_after, page_after_all};
 
-use super::fragments::{Fragment, fragments_of};
+use super::fragments::{Fragment, Taken, fragments_of};
 use super::{Language, Styles, push_spelled, when};
 use crate::buffer::{Block, Doc, Style};
 use crate::splitter::Chunk;
@@ -216,6 +216,19 @@ impl<B: Allocator> Page<B> {
             Fragment::End(block) => self.end(block),
         }
     }
+
+    fn take(&mut self, taken: Taken<'_>) -> Result<(), AllocError>
+        requires { IsTaken taken }
+        ensures { OnOk result (self.new ≡ page_after_all self.old (fragments_in taken.entry)) }
+    {
+        match taken {
+            Taken::Words(_, run) => {
+                self.put_words(run)?;
+                Ok(())
+            }
+            Taken::One(fragment) => self.fragment(fragment),
+        }
+    }
 }
 
 impl<A: Allocator> Doc<A> {
@@ -241,8 +254,8 @@ impl<A: Allocator> Doc<A> {
         ensures exact { IfOk result (λ answer. string_bytes answer ≡ html_page full include_css self.now) }
     {
         let mut page = Page::new(alloc);
-        for fragment in fragments_of(self, full) {
-            page.fragment(fragment)?;
+        for taken in fragments_of(self, full) {
+            page.take(taken)?;
         }
         let mut text = page.into_text();
         text.push_str(when(include_css, STYLE_SHEET))?;

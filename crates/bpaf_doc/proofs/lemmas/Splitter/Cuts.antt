@@ -46,7 +46,7 @@ no_newline b f = by_test (is_byte 10 b) f where
   by_test true f = absurd (f refl)
   by_test false f = refl
 
-is_newline : (b : ℕ) → is_byte 10 b ≡ true → b ≡ 10
+pub is_newline : (b : ℕ) → is_byte 10 b ≡ true → b ≡ 10
 is_newline b e = grind (arith, nat_tests)
 
 pub line_from_no_newline : (bytes : List ℕ) → Nowhere (Passes (is_byte 10) bytes) 0 (length bytes) → IsLine bytes

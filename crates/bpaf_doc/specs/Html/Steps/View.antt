@@ -1,9 +1,13 @@
 -- Fragments, styles and languages of the code, as the definitions name them.
-use Rattle.std.specs.Prelude.{◌≡◌, ◌≢◌, ℕ, ◌<◌, Bool, List, if◌then◌else◌, [], ◌∷◌, length, take, slice_index, flat_map}
+use Rattle.std.specs.Prelude.{◌≡◌, ◌≢◌, ℕ, ◌<◌, Bool, ⊤, List, if◌then◌else◌, [], ◌∷◌, ◌++◌, length, map, take, slice_index, flat_map, Option, MatchOption}
 use Rattle.bpaf_doc.specs.declared.html.Language.{Language}
 use Rattle.bpaf_doc.specs.declared.html.Language.TheVariants as language
 use Rattle.bpaf_doc.specs.declared.html.fragments.Fragment as declared
 use Rattle.bpaf_doc.specs.declared.html.fragments.Fragment.TheVariants as handed
+use Rattle.bpaf_doc.specs.declared.html.fragments.Taken as declared_taken
+use Rattle.bpaf_doc.specs.declared.html.fragments.Taken.TheVariants as taken
+use Rattle.bpaf_doc.specs.Splitter.Chunks.{chunks_of}
+use Rattle.bpaf_doc.specs.Splitter.Steps.Runs.{IsRun}
 use Rattle.bpaf_doc.specs.Splitter.View.{chunk_of}
 use Rattle.bpaf_doc.specs.Html.Fragments.{Fragment, TextStart, Shown, TextEnd, Hidden, Start, End}
 use Rattle.bpaf_doc.specs.Html.Page.{escaped_character}
@@ -17,6 +21,20 @@ fragment_of (handed.TextEnd style) = TextEnd style
 fragment_of handed.Hidden = Hidden
 fragment_of (handed.Start block) = Start block
 fragment_of (handed.End block) = End block
+
+-- the fragments that were handed out at once: those of the chunks of a run, or one
+abbrev pub fragments_in : declared_taken.Taken → List Fragment
+fragments_in (taken.Words style run) = map (Shown style) (chunks_of run.now)
+fragments_in (taken.One fragment) = fragment_of fragment ∷ []
+
+-- what is handed out as a run is one
+abbrev pub IsTaken : declared_taken.Taken → Type 0
+IsTaken (taken.Words style run) = IsRun run.now
+IsTaken (taken.One fragment) = ⊤
+
+-- a call gave the first of what was left, and left the others, or gave None where nothing was left
+abbrev pub YieldsTaken : List Fragment → Option declared_taken.Taken → List Fragment → Type 0
+YieldsTaken before result after = MatchOption result ((before ≡ []) × (after ≡ [])) (λ x. IsTaken x × (before ≡ fragments_in x ++ after))
 
 -- how a language writes a byte of a text
 abbrev pub spelling_of : Language → ℕ → List ℕ

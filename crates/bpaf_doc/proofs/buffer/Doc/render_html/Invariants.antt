@@ -4,5 +4,5 @@ use Rattle.bpaf_doc.specs.Html.Steps.Page.{blank_page, page_after_all}
 use Rattle.bpaf_doc.proofs.buffer.Doc.render_html.Given as goal
 
 -- the page so far with what is left comes to the whole
-abbrev pub invariant-loop-fragment : goal.invariant-loop-fragment
-invariant-loop-fragment g l = page_after_all l.page l.fragment-iterator ≡ page_after_all blank_page (shown_fragments l.full l.self)
+abbrev pub invariant-loop-taken : goal.invariant-loop-taken
+invariant-loop-taken g l = page_after_all l.page l.taken-iterator ≡ page_after_all blank_page (shown_fragments l.full l.self)

@@ -4,5 +4,5 @@ use Rattle.bpaf_doc.specs.Markdown.Steps.Page.{blank_text, marked_after_all}
 use Rattle.bpaf_doc.proofs.buffer.Doc.render_markdown.Given as goal
 
 -- the text so far with what is left comes to the whole
-abbrev pub invariant-loop-fragment : goal.invariant-loop-fragment
-invariant-loop-fragment g l = marked_after_all l.page l.fragment-iterator ≡ marked_after_all blank_text (shown_fragments l.full l.self)
+abbrev pub invariant-loop-taken : goal.invariant-loop-taken
+invariant-loop-taken g l = marked_after_all l.page l.taken-iterator ≡ marked_after_all blank_text (shown_fragments l.full l.self)

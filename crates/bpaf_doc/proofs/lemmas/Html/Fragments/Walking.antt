@@ -1,15 +1,17 @@
 -- The walk over the parts gives the fragments of the document.
 use Rattle.std.proofs.Common.{◌≡◌, ℕ, zero, suc, ◌+◌, Bool, true, false, cond, leb, List, [], ◌∷◌, ◌++◌, length, take, map, refl, sym, ap, ◌∙◌, arith, append_assoc, inl, inr}
-use Rattle.std.specs.Prelude.{not, ◌&&◌, ◌||◌, ◌⊎◌, count_by, flat_map, if◌then◌else◌}
+use Rattle.std.specs.Prelude.{◌<◌, not, ◌&&◌, ◌||◌, ◌⊎◌, count_by, flat_map, if◌then◌else◌}
 use Rattle.bpaf_doc.specs.declared.buffer.Style.{Style}
 use Rattle.std.specs.List.{list_all, enumerate_from, list_any, before_first, position_or_len}
-use Rattle.std.proofs.lemmas.List.{take_at, length_push}
+use Rattle.std.proofs.lemmas.List.{take_at, length_push, length-append, length-map}
 use Rattle.std.proofs.lemmas.List.Folds.{list_all-map}
 use Rattle.std.proofs.lemmas.Bool.{cases_lt, lt-leb, le-leb, false≢true}
 use Rattle.bpaf_doc.specs.declared.buffer.Block.{Block}
 use Rattle.bpaf_doc.specs.declared.buffer.Block.TheVariants as blocks
 use Rattle.bpaf_doc.specs.Buffer.Parts.{Part, Text, Start as PartStart, End as PartEnd}
-use Rattle.bpaf_doc.specs.Splitter.Chunks.{Chunk, chunks_of, is_paragraph}
+use Rattle.bpaf_doc.specs.Splitter.Chunks.{Chunk, Raw, IsLine, chunks_of, columns, is_paragraph}
+use Rattle.bpaf_doc.specs.Splitter.Steps.Runs.{IsRun}
+use Rattle.bpaf_doc.proofs.lemmas.Splitter.Runs.{AreWords, no_words, a_word, words_of_line, words_some}
 use Rattle.bpaf_doc.specs.Shown.{fronts, stays_open, is_inline_start, is_inline_end, is_hidden, through_paragraph}
 use Rattle.bpaf_doc.specs.Html.Fragments.{Fragment, Shown, TextStart, TextEnd, Hidden, part_fragments, shown_fragments}
 use Rattle.bpaf_doc.proofs.lemmas.Lists.Counting.{one_if, count_by-cons}
@@ -290,3 +292,30 @@ pub left_more : (now : List Fragment) (full in_text : Bool) (style : Style) (chu
 left_more now full in_text style chunk chunks rest depth parts view begun e visible =
     sym view ∙ ap (λ t. left_of full t style chunks depth parts) begun ∙ ap (λ cs. left_of full true style cs depth parts) e
     ∙ text_more full style chunk rest parts visible ∙ ap (λ t. Shown style chunk ∷ left_of full t style rest depth parts) (sym begun)
+
+-- ---- a run more
+
+run_more : {chunks : List Chunk} {text : List ℕ} → AreWords chunks text → (full : Bool) (style : Style) (rest : List Chunk) (parts : List Part)
+    → text_rest full style (chunks ++ rest) ++ walk full (depth_after_text full (chunks ++ rest)) parts
+    ≡ map (Shown style) chunks ++ (text_rest full style rest ++ walk full (depth_after_text full rest) parts)
+run_more {chunks} (no_words ec et) full style rest parts =
+    ap (λ cs. text_rest full style (cs ++ rest) ++ walk full (depth_after_text full (cs ++ rest)) parts) ec
+    ∙ sym (ap (λ cs. map (Shown style) cs ++ (text_rest full style rest ++ walk full (depth_after_text full rest) parts)) ec)
+run_more {chunks} (a_word bytes others_text others ec et w) full style rest parts =
+    ap (λ cs. text_rest full style (cs ++ rest) ++ walk full (depth_after_text full (cs ++ rest)) parts) ec
+    ∙ text_more full style (Raw bytes (columns bytes)) (others ++ rest) parts (inr refl)
+    ∙ ap (λ t. Shown style (Raw bytes (columns bytes)) ∷ t) (run_more w full style rest parts)
+    ∙ sym (ap (λ cs. map (Shown style) cs ++ (text_rest full style rest ++ walk full (depth_after_text full rest) parts)) ec)
+
+pub left_run : (now : List Fragment) (full in_text : Bool) (style : Style) (run : List ℕ) (chunks rest : List Chunk) (depth : ℕ) (parts : List Part)
+    → left_of full in_text style chunks depth parts ≡ now → in_text ≡ true → chunks ≡ chunks_of run ++ rest → IsLine run
+    → now ≡ map (Shown style) (chunks_of run) ++ left_of full in_text style rest depth parts
+left_run now full in_text style run chunks rest depth parts view begun e line =
+    sym view ∙ ap (λ t. left_of full t style chunks depth parts) begun ∙ ap (λ cs. left_of full true style cs depth parts) e
+    ∙ run_more (words_of_line run line) full style rest parts ∙ ap (λ t. map (Shown style) (chunks_of run) ++ left_of full t style rest depth parts) (sym begun)
+
+-- and fewer fragments are left
+pub fewer_left : (now after : List Fragment) (style : Style) (run : List ℕ) → IsRun run → now ≡ map (Shown style) (chunks_of run) ++ after → length after < length now
+fewer_left now after style run is e =
+    let some : 0 < length (chunks_of run) = words_some (words_of_line run is.line) is.some in
+    omega (arith, some, ap length e, length-append (map (Shown style) (chunks_of run)) after, length-map (chunks_of run) (Shown style))

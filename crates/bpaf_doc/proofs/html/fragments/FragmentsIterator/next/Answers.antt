@@ -1,15 +1,20 @@
--- A chunk that is shown is the first of what is left of its text.
-use Rattle.std.proofs.Common.{sym, ◌∙◌, inl, inr}
-use Rattle.bpaf_doc.specs.Splitter.View.{chunk_of}
-use Rattle.bpaf_doc.proofs.lemmas.Html.Fragments.Walking.{left_more, IsVisible}
+-- A run stands for the first chunks of what is left of its text.
+use Rattle.bpaf_doc.proofs.lemmas.Html.Fragments.Walking.{left_of, left_run, fewer_left}
 use Rattle.bpaf_doc.proofs.html.fragments.FragmentsIterator.next.Goals as goal
-use Rattle.bpaf_doc.proofs.html.fragments.FragmentsIterator.next.Goals.{else-not-self-via-then-not-self+else-is_paragraph, else-not-self-via-else-not-self}
 
-pub returns-else-not-self-clause-steps : goal.returns-else-not-self-clause-steps
-returns-else-not-self-clause-steps c =
-    let visible : IsVisible c.self.inside.full (chunk_of c.in-Some.chunk) = elim c.else-not-self.branch [
-      | else-not-self-via-then-not-self+else-is_paragraph w ↦ inr (sym w.is_paragraph.ensures ∙ w.if-is_paragraph.false)
-      | else-not-self-via-else-not-self w ↦ inl w.if-not-self.false
-    ] in
-    left_more c.args.self.now c.self.inside.full c.self.inside.in_text c.self.inside.style (chunk_of c.in-Some.chunk) c.self.inside.chunks c.next.new.self c.self.inside.depth c.self.inside.parts
-    c.self.view_is c.if-self.true c.in-Some.ensures.steps visible
+pub returns-in-Some-clause-steps : goal.returns-in-Some-clause-steps
+returns-in-Some-clause-steps c =
+    let f = c.self.inside in (
+      c.in-Some.ensures.run,
+      left_run c.args.self.now f.full f.in_text f.style c.in-Some.run'.now f.chunks c.take_line.new.self f.depth f.parts c.self.view_is c.if-self.true c.in-Some.ensures.chunks c.in-Some.ensures.run.line,
+    )
+
+pub returns-in-Some-clause-goes : goal.returns-in-Some-clause-goes
+returns-in-Some-clause-goes c =
+    let f = c.self.inside in
+    let now = left_run c.args.self.now f.full f.in_text f.style c.in-Some.run'.now f.chunks c.take_line.new.self f.depth f.parts c.self.view_is c.if-self.true c.in-Some.ensures.chunks c.in-Some.ensures.run.line in
+    record {
+      on = λ _. (tt, tt, fewer_left c.args.self.now (left_of f.full f.in_text f.style c.take_line.new.self f.depth f.parts) f.style c.in-Some.run'.now c.in-Some.ensures.run now);
+      keeps = tt;
+      rests = λ _. tt;
+    }

@@ -1,0 +1,117 @@
+-- A run that is written at once is its chunks written one after another.
+use Rattle.std.proofs.Common.{◌≡◌, ◌+◌, ◌<◌, ◌≤◌, Bool, true, false, List, ℕ, [], ◌∷◌, ◌++◌, length, map, refl, sym, ap, ◌∙◌, append_assoc, append-nil, arith, length-append, nat_lt}
+use Rattle.std.specs.Prelude.{◌==◌, flat_map, if◌then◌else◌, codes}
+use Rattle.std.proofs.lemmas.List.Concat.{flat_map-append}
+use Rattle.std.proofs.lemmas.Bool.{ne_eqb}
+use Rattle.bpaf_doc.specs.declared.buffer.Style.{Style}
+use Rattle.bpaf_doc.specs.Splitter.Chunks.{Chunk, Raw, chunks_of, columns, code_weight, fence_weight}
+use Rattle.bpaf_doc.specs.Splitter.Steps.Runs.{IsRun}
+use Rattle.bpaf_doc.specs.Html.Fragments.{Fragment, Shown}
+use Rattle.bpaf_doc.specs.Markdown.Page.{escaped_character}
+use Rattle.bpaf_doc.specs.Markdown.Steps.Page.{Marked, put, with_item, close_code, with_words, with_raw, marked_after, marked_after_all}
+use Rattle.bpaf_doc.proofs.lemmas.Splitter.Runs.{AreWords, no_words, a_word, words_of_line}
+use Rattle.bpaf_doc.proofs.lemmas.Splitter.Widths.{columns_few}
+
+-- ---- one fragment after another
+
+pub marked-append : (p : Marked) (front back : List Fragment) → marked_after_all p (front ++ back) ≡ marked_after_all (marked_after_all p front) back
+marked-append p [] back = refl
+marked-append p (f ∷ fs) back = marked-append (marked_after p f) fs back
+
+-- ---- words
+
+-- how words are spelled where there are so many Mono ends and starts
+abbrev spelled : ℕ → ℕ → List ℕ → List ℕ
+spelled ends starts text = if nat_lt ends starts then flat_map escaped_character text else text
+
+spelled_nothing : (ends starts : ℕ) → spelled ends starts [] ≡ []
+spelled_nothing ends starts = by (nat_lt ends starts) where
+  by : (b : Bool) → (if b then flat_map escaped_character [] else []) ≡ []
+  by true = refl
+  by false = refl
+
+spelled_on : (ends starts : ℕ) (a b : List ℕ) → spelled ends starts a ++ spelled ends starts b ≡ spelled ends starts (a ++ b)
+spelled_on ends starts a b = by (nat_lt ends starts) where
+  by : (x : Bool) → (if x then flat_map escaped_character a else a) ++ (if x then flat_map escaped_character b else b) ≡ (if x then flat_map escaped_character (a ++ b) else a ++ b)
+  by true = sym (flat_map-append escaped_character a b)
+  by false = refl
+
+put_on : (p : Marked) (a b : List ℕ) → put (put p a) b ≡ put p (a ++ b)
+put_on p a b = ap (λ x. record p { bytes = x }) (append_assoc p.bytes a b)
+
+-- nothing waits that words have to write first
+abbrev IsSettled : Marked → Type 0
+IsSettled p = (p.pending ≡ false) × (p.in_code ≡ false)
+
+no_item : (p : Marked) → p.pending ≡ false → with_item p false ≡ p
+no_item p e = ap (λ b. if b then record p { bytes = p.bytes ++ codes "- "; pending = false; empty_item = false } else p) e
+
+no_code : (p : Marked) → p.in_code ≡ false → close_code p (codes "\n  ```\n") ≡ p
+no_code p e = ap (λ b. if b then record p { bytes = p.bytes ++ codes "\n  ```\n"; in_code = false } else p) e
+
+-- words where nothing waits
+words_settled : (p : Marked) (text : List ℕ) → IsSettled p → with_words p text ≡ put p (spelled p.ends p.starts text)
+words_settled p text s = ap (λ q. put q (spelled p.ends p.starts text)) (no_code p s.1)
+
+-- a raw chunk that is no line of code
+raw_words : (p : Marked) (bytes : List ℕ) (weight : ℕ) → weight < 1_000_000 → with_raw p bytes weight ≡ with_words p bytes
+raw_words p bytes weight few = by (ne_eqb weight fence_weight (omega arith)) (ne_eqb weight code_weight (omega arith)) where
+  by : (weight == fence_weight) ≡ false → (weight == code_weight) ≡ false → with_raw p bytes weight ≡ with_words p bytes
+  by f c = rw (f, c) refl
+
+-- what follows words
+words_more : {chunks : List Chunk} {text : List ℕ} → AreWords chunks text → length text ≤ 300_000 → (p : Marked) (style : Style) → IsSettled p
+    → marked_after_all p (map (Shown style) chunks) ≡ put p (spelled p.ends p.starts text)
+words_more (no_words ec et) le p style s =
+    ap (λ cs. marked_after_all p (map (Shown style) cs)) ec
+    ∙ sym (ap (λ t. put p t) (ap (spelled p.ends p.starts) et ∙ spelled_nothing p.ends p.starts) ∙ ap (λ x. record p { bytes = x }) (append-nil p.bytes))
+words_more {chunks} {text} (a_word bytes rest others ec et w) le p style s =
+    let sizes : length text ≡ length bytes + length rest = ap length et ∙ length-append bytes rest in
+    let few : columns bytes < 1_000_000 = columns_few bytes (omega (arith, sizes, le)) in
+    let first : marked_after p (Shown style (Raw bytes (columns bytes))) ≡ put p (spelled p.ends p.starts bytes)
+    = ap (λ q. with_raw q bytes (columns bytes)) (no_item p s.0) ∙ raw_words p bytes (columns bytes) few ∙ words_settled p bytes s in
+    ap (λ cs. marked_after_all p (map (Shown style) cs)) ec
+    ∙ ap (λ q. marked_after_all q (map (Shown style) others)) first
+    ∙ words_more w (omega (arith, sizes, le)) (put p (spelled p.ends p.starts bytes)) style s
+    ∙ put_on p (spelled p.ends p.starts bytes) (spelled p.ends p.starts rest)
+    ∙ ap (put p) (spelled_on p.ends p.starts bytes rest ∙ ap (spelled p.ends p.starts) (sym et))
+
+-- ---- words where something may wait
+
+-- the dash is written, and the code block closed
+abbrev settled : Marked → Marked
+settled p = close_code (with_item p false) (codes "\n  ```\n")
+
+closed_settled : (p : Marked) → p.pending ≡ false → IsSettled (close_code p (codes "\n  ```\n")) × (nat_lt (close_code p (codes "\n  ```\n")).ends (close_code p (codes "\n  ```\n")).starts ≡ nat_lt p.ends p.starts)
+closed_settled p e = by p.in_code refl where
+  by : (b : Bool) → p.in_code ≡ b
+      → IsSettled (if b then record p { bytes = p.bytes ++ codes "\n  ```\n"; in_code = false } else p)
+      × (nat_lt (if b then record p { bytes = p.bytes ++ codes "\n  ```\n"; in_code = false } else p).ends (if b then record p { bytes = p.bytes ++ codes "\n  ```\n"; in_code = false } else p).starts ≡ nat_lt p.ends p.starts)
+  by true f = ((e, refl), refl)
+  by false f = ((e, f), refl)
+
+item_settled : (p : Marked) → (with_item p false).pending ≡ false
+item_settled p = by p.pending refl where
+  by : (b : Bool) → p.pending ≡ b → (if b then record p { bytes = p.bytes ++ codes "- "; pending = false; empty_item = false } else p).pending ≡ false
+  by true f = refl
+  by false f = f
+
+-- the text after the chunks of a run
+pub run_marked : (p : Marked) (style : Style) (run : List ℕ) → IsRun run → marked_after_all p (map (Shown style) (chunks_of run)) ≡ with_words (with_item p false) run
+run_marked p style run is = at (words_of_line run is.line) where
+  at : {chunks : List Chunk} → AreWords chunks run → marked_after_all p (map (Shown style) chunks) ≡ with_words (with_item p false) run
+  at (no_words ec et) = absurd (is.some et)
+  at {chunks} (a_word bytes rest others ec et w) =
+      let q = with_item p false in
+      let t = close_code q (codes "\n  ```\n") in
+      let sizes : length run ≡ length bytes + length rest = ap length et ∙ length-append bytes rest in
+      let few : columns bytes < 1_000_000 = columns_few bytes (omega (arith, sizes, is.short)) in
+      let same = closed_settled q (item_settled p) in
+      let first : marked_after p (Shown style (Raw bytes (columns bytes))) ≡ put t (spelled t.ends t.starts bytes)
+      = raw_words q bytes (columns bytes) few ∙ ap (λ b. put t (if b then flat_map escaped_character bytes else bytes)) (sym same.1) in
+      ap (λ cs. marked_after_all p (map (Shown style) cs)) ec
+      ∙ ap (λ m. marked_after_all m (map (Shown style) others)) first
+      ∙ words_more w (omega (arith, sizes, is.short)) (put t (spelled t.ends t.starts bytes)) style same.0
+      ∙ put_on t (spelled t.ends t.starts bytes) (spelled t.ends t.starts rest)
+      ∙ ap (put t) (spelled_on t.ends t.starts bytes rest ∙ ap (spelled t.ends t.starts) (sym et))
+      ∙ ap (λ b. put t (if b then flat_map escaped_character run else run)) same.1

@@ -1,0 +1,129 @@
+-- How many columns a text takes at most: three for each character.
+use Rattle.std.specs.Prelude.{ℕ, zero, suc, ◌+◌, ◌-◌, ◌*◌, ◌<◌, ◌≤◌, ◌==◌, ◌&&◌, not, nat_le, Bool, true, false, List, [], ◌∷◌, Option, Some, None, length, if◌then◌else◌}
+use Rattle.std.proofs.Common.{arith}
+use Rattle.std.specs.Int.{is_in_range}
+use Rattle.std.specs.Str.{chars, chars_after, continuation_len, lead_bits}
+use Rattle.std.proofs.lemmas.Bool.Decides.{nat_tests}
+use Rattle.unicode_width.specs.declared.kind.Kind.{Kind}
+use Rattle.unicode_width.specs.declared.kind.Kind.TheVariants as kinds
+use Rattle.unicode_width.specs.declared.state.State.{State}
+use Rattle.unicode_width.specs.declared.state.After.{After}
+use Rattle.unicode_width.specs.declared.state.Change.{Change}
+use Rattle.unicode_width.specs.declared.state.Change.TheVariants as changes
+use Rattle.unicode_width.specs.declared.state.After.TheVariants as afters
+use Rattle.unicode_width.specs.Kind.{kind, is_ligature_transparent, is_solidus_transparent, is_text_presentation_base}
+use Rattle.unicode_width.specs.Width.{Reading, single, of_kind, alone, joins, joined_or, past_selectors, in_context, past_emoji, step, read_before, str_width, plain, before, is_plain, is_joined_emoji, if_kept, skips_marks, is_solidus, is_striking, is_line_feed, with_joiner, is_quote_selector, is_quote, is_emoji_variation_base}
+use Rattle.bpaf_doc.specs.Splitter.Chunks.{columns}
+
+-- one of two readings
+abbrev pick : Bool → Reading → Reading → Reading
+pick b x y = if b then x else y
+
+single_most : (c : ℕ) → (single false c).0 ≤ 3
+single_most c = grind (arith, nat_tests)
+
+kind_most : (c : ℕ) (k : Kind) → (of_kind false c k).0 ≤ 3
+kind_most c kinds.Zero = omega arith
+kind_most c kinds.Narrow = omega arith
+kind_most c kinds.Wide = omega arith
+kind_most c kinds.Ambiguous = omega arith
+kind_most c kinds.Alef = omega arith
+kind_most c kinds.KhmerLetter = omega arith
+kind_most c kinds.TifinaghConsonant = omega arith
+kind_most c kinds.LisuTone = omega arith
+kind_most c kinds.RegionalIndicator = omega arith
+kind_most c kinds.EmojiModifier = omega arith
+kind_most c kinds.Emoji = omega arith
+kind_most c kinds.Single = single_most c
+
+alone_most : (c : ℕ) → (alone false c).0 ≤ 3
+unfolding alone
+alone_most c = kind_most c (kind c)
+
+joined_most : (total : ℕ) (j : Option (Change × After)) (own : ℕ × State) → own.0 ≤ 3 → (joined_or total j own).0 ≤ total + 3
+joined_most total (Some (changes.Less, after)) own h = omega arith
+joined_most total (Some (changes.Same, after)) own h = omega arith
+joined_most total (Some (changes.One, after)) own h = omega arith
+joined_most total (Some (changes.Three, after)) own h = omega arith
+joined_most total None own h = omega (arith, h)
+
+of_four : (n m : ℕ) (a b d : Bool) (s t u : State) (r : Reading) → m ≤ 3 → r.0 ≤ n + 3 → (pick a (n, s) (pick b (n, t) (pick d (n + m, u) r))).0 ≤ n + 3
+of_four n m true b d s t u r h k = omega arith
+of_four n m false true d s t u r h k = omega arith
+of_four n m false false true s t u r h k = omega (arith, h)
+of_four n m false false false s t u r h k = k
+
+selectors_most : (c total : ℕ) (after : After) → (past_selectors false c total after).0 ≤ total + 3
+unfolding past_selectors
+selectors_most c total after =
+    of_four total (alone false c).0 (skips_marks after && (c == 0x200D)) (skips_marks after && is_ligature_transparent c) ((false && is_solidus after) && is_solidus_transparent c)
+    (before (with_joiner after)) (before after) (before afters.Solidus) (joined_or total (joins false after c) (alone false c)) (alone_most c) (joined_most total (joins false after c) (alone false c) (alone_most c))
+
+of_six : (n : ℕ) (a b d e f : Bool) (s t u v w : State) (r : Reading) → r.0 ≤ n + 3
+    → (pick a (n, s) (pick b (n, t) (pick d (n, u) (pick e (n + 1, v) (pick f (n + 2, w) r))))).0 ≤ n + 3
+of_six n true b d e f s t u v w r h = omega arith
+of_six n false true d e f s t u v w r h = omega arith
+of_six n false false true e f s t u v w r h = omega arith
+of_six n false false false true f s t u v w r h = omega arith
+of_six n false false false false true s t u v w r h = omega arith
+of_six n false false false false false s t u v w r h = h
+
+context_most : (c total : ℕ) (s : State) → (in_context false c total s).0 ≤ total + 3
+unfolding in_context
+context_most c total s =
+    of_six total (c == 0xFE0F) (is_quote_selector false c) (not false && (c == 0xFE0E)) (s.text && is_text_presentation_base c) (s.quote && is_quote c)
+    (record (if is_joined_emoji s.after then s else if_kept s) { emoji = true }) (record (if_kept s) { quote = true }) (record (if_kept s) { text = true }) plain plain
+    (past_selectors false c total s.after) (selectors_most c total s.after)
+
+of_all : (n m : ℕ) (a b d e f : Bool) (s t u v w : State) (r : Reading) → m ≤ 3 → r.0 ≤ n + 3
+    → (pick a (n + 2, s) (pick b (n + 1, t) (pick d (n, u) (pick e (n + 1, v) (pick f (n + m, w) r))))).0 ≤ n + 3
+of_all n m true b d e f s t u v w r g h = omega arith
+of_all n m false true d e f s t u v w r g h = omega arith
+of_all n m false false true e f s t u v w r g h = omega arith
+of_all n m false false false true f s t u v w r g h = omega arith
+of_all n m false false false false true s t u v w r g h = omega (arith, g)
+of_all n m false false false false false s t u v w r g h = h
+
+emoji_most : (c total : ℕ) (s : State) → (past_emoji false c total s).0 ≤ total + 3
+unfolding past_emoji
+emoji_most c total s =
+    of_all total (alone false c).0 (((false && is_striking s.after) && not s.quote) && is_in_range 0x3C 0x3E c) (c == 0x0A) ((c == 0x0D) && is_line_feed s.after) (nat_le c 0xA0) (is_plain s)
+    plain (before afters.LineFeed) plain plain (alone false c).1 (in_context false c total s) (alone_most c) (context_most c total s)
+
+two_or_none : (b : Bool) → (if b then 0 else 2) ≤ 3
+two_or_none true = omega arith
+two_or_none false = omega arith
+
+of_three : (n m : ℕ) (a b : Bool) (s : State) (r q : Reading) → m ≤ 3 → r.0 ≤ n + 3 → q.0 ≤ n + 3 → (pick a r (pick b (n + m, s) q)).0 ≤ n + 3
+of_three n m true b s r q h k l = k
+of_three n m false true s r q h k l = omega (arith, h)
+of_three n m false false s r q h k l = l
+
+step_most : (c : ℕ) (r : Reading) → (step false c r).0 ≤ r.0 + 3
+unfolding step
+step_most c (total, s) =
+    of_three total (if is_joined_emoji s.after then 0 else 2) (not s.emoji) (is_emoji_variation_base c) (before afters.Emoji) (past_emoji false c total s) (past_emoji false c total (record (if_kept s) { emoji = false }))
+    (two_or_none (is_joined_emoji s.after)) (emoji_most c total s) (emoji_most c total (record (if_kept s) { emoji = false }))
+
+read_most : (cs : List ℕ) → (read_before false cs (0, plain)).0 ≤ 3 * length cs
+read_most [] = omega arith
+read_most (c ∷ cs) = omega (arith, step_most c (read_before false cs (0, plain)), read_most cs)
+
+width_most : (cs : List ℕ) → str_width false cs ≤ 3 * length cs
+unfolding str_width
+width_most cs = read_most cs
+
+after_most : (n c : ℕ) (bytes : List ℕ) → length (chars_after n c bytes) ≤ 1 + length bytes
+after_most zero c [] = omega arith
+after_most zero c (b ∷ bytes) = omega (arith, after_most (continuation_len b) (lead_bits b) bytes)
+after_most (suc n) c [] = omega arith
+after_most (suc n) c (b ∷ bytes) = omega (arith, after_most n (c * 64 + (b - 128)) bytes)
+
+chars_most : (bytes : List ℕ) → length (chars bytes) ≤ length bytes
+unfolding chars
+chars_most [] = omega arith
+chars_most (b ∷ bytes) = omega (arith, after_most (continuation_len b) (lead_bits b) bytes)
+
+-- a word of a run has not the columns that are the weight of a code line
+pub columns_few : (bytes : List ℕ) → length bytes ≤ 300_000 → columns bytes < 1_000_000
+columns_few bytes few = omega (arith, width_most (chars bytes), chars_most bytes, few)

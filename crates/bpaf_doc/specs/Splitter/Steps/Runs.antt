@@ -1,0 +1,15 @@
+-- A run: words of a line and blanks between them, which a text begins with. As a text of its own it has the chunks that it has there.
+use Rattle.std.specs.Prelude.{◌≢◌, ℕ, ◌≤◌, List, [], length, take, drop}
+use Rattle.bpaf_doc.specs.Splitter.Chunks.{IsLine, IsWordEnd}
+
+-- a run of the text ends at this place
+pub record IsRunEnd (text : List ℕ) (end : ℕ) : Type 0 where
+  pub within : end ≤ length text
+  pub line : IsLine (take end text)
+  pub word_end : IsWordEnd (drop end text)
+
+-- a run that is taken at once: so short that no word of it has the columns that are the weight of a code line
+pub record IsRun (run : List ℕ) : Type 0 where
+  pub some : run ≢ []
+  pub line : IsLine run
+  pub short : length run ≤ 300_000
