@@ -2,12 +2,13 @@
 
 ghost use Rattle.std.specs.Prelude.{◌≡◌, ◌≢◌, ◌<◌, ◌≤◌, [], ◌∷◌, ◌++◌, length, take, IfNone, IfSome, IsTrue};
 ghost use Rattle.std.specs.Char.{is_ascii_graphic};
+ghost use Rattle.std.specs.Int.{is_in_range};
 ghost use Rattle.std.specs.Iterator.{YieldsFirstBy, item_count};
 ghost use Rattle.std.specs.List.{All, flat_map, list_all};
 ghost use Rattle.bpaf_doc.specs.Splitter.Chunks.{Paragraph, Plain, Opening, Later, Spells, IsLine, IsLineEnd, IsPastNewline, IsWordEnd, chunk_ink, chunks_in, chunks_of, columns, is_word_byte};
 ghost use Rattle.bpaf_doc.specs.Splitter.Promises.{IsOneLine, StandInOrder};
 ghost use Rattle.bpaf_doc.specs.Buffer.Parts.{ink};
-ghost use Rattle.bpaf_doc.specs.Splitter.Steps.Runs.{IsRun, IsRunEnd};
+ghost use Rattle.bpaf_doc.specs.Splitter.Steps.Runs.{IsRun, IsRunEnd, IsPrintable};
 ghost use Rattle.bpaf_doc.specs.Splitter.View.{chunk_of};
 
 use memchr::{memchr, memrchr};
@@ -128,6 +129,29 @@ impl<'a> Splitter<'a> {
             Form::Opening | Form::Later => None,
         }
     }
+
+    /// Takes as many words of a line off as have printable ASCII alone and fit these columns. None where none fits.
+    #[inline(always)]
+    pub(crate) fn take_fitting(&mut self, columns: usize) -> Option<&'a str>
+        ensures line { IfSome result (λ run. IsLine run.now) }
+        ensures printable { IfSome result (λ run. IsPrintable run.now) }
+        ensures fits { IfSome result (λ run. length run.now ≤ columns) }
+        ensures chunks { IfSome result (λ run. self.old ≡ chunks_of run.now ++ self.new) }
+        ensures none { IfNone result (self.new ≡ self.old) }
+    {
+        match self.form {
+            Form::Plain => {
+                let end = printable_run_end(self.rest, columns);
+                if end == 0 {
+                    return None;
+                }
+                let (run, after) = cut_run(self.rest, end);
+                *self = after;
+                Some(run)
+            }
+            Form::Opening | Form::Later => None,
+        }
+    }
 }
 
 // The run of a text up to this place, and the chunks after it.
@@ -167,6 +191,35 @@ fn first_line_end(bytes: &[u8]) -> usize
         return bytes.len();
     }
     memrchr(b' ', window).unwrap_or(0)
+}
+
+// The place up to which the text is a run of printable ASCII that has at most so many columns. 0 where it is none.
+fn printable_run_end(text: &str, columns: usize) -> usize
+    ensures run { 0 < result → IsRunEnd text.now result }
+    ensures printable { IsPrintable (take result text.now) }
+    ensures fits { result ≤ columns }
+{
+    let bytes = text.as_bytes();
+    let mut end = 0;
+    let mut at = 0;
+    'printable: while at < bytes.len() && at <= columns && (0x20..=0x7E).contains(&bytes[at]) {
+        if bytes[at] == b' ' {
+            end = at;
+        }
+        at += 1;
+    }
+    if at <= columns && is_line_end(&bytes[at..]) {
+        at
+    } else {
+        end
+    }
+}
+
+// Whether a newline or the end comes next.
+fn is_line_end(rest: &[u8]) -> bool
+    ensures { IsTrue result → IsLineEnd rest.now }
+{
+    matches!(rest, [] | [b'\n', ..])
 }
 
 // The first chunk of a text outside of a fence, and those after it.

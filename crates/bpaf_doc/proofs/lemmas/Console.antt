@@ -10,5 +10,6 @@ pub mod Pairs
 pub mod Tabs
 pub mod Layout
 pub mod Sheet
+pub mod Runs
 mod Rows
 mod Refused

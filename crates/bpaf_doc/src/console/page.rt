@@ -1,5 +1,5 @@
 //! A console text while it is written.
-ghost use Rattle.std.specs.Prelude.{◌≡◌, ◌++◌, IfOk, OnOk, string_bytes, replicate};
+ghost use Rattle.std.specs.Prelude.{◌≡◌, ◌≤◌, ◌++◌, Bool, IfOk, IsTrue, OnOk, length, string_bytes, replicate};
 ghost use Rattle.std.specs.Str.{trim_end};
 ghost use Rattle.bpaf_doc.specs.Buffer.Parts.{ink};
 ghost use Rattle.std.specs.Int.{is_in_range};
@@ -8,11 +8,11 @@ ghost use Rattle.bpaf_doc.specs.Splitter.Chunks.{chunks_of, columns};
 ghost use Rattle.bpaf_doc.specs.Shown.{mark_bytes};
 ghost use Rattle.bpaf_doc.specs.Console.Steps.Hiding.{hides};
 ghost use Rattle.bpaf_doc.specs.Console.Steps.Ink.{shown_ink};
-ghost use Rattle.bpaf_doc.specs.Console.Steps.Page.{sheet_of, blank_sheet, text_put, opened, closed, finished, raw_put, wraps, room_made, placed, asked_put, lacks_newline, lacks_blank_line, wrapped, padded, blanks_put, newline_put, marked, margin_pushed, margin_of, innermost, HasFewMargins, columns_of, asked_by_start, asked_by_end, indent_of};
+ghost use Rattle.bpaf_doc.specs.Console.Steps.Page.{sheet_of, blank_sheet, text_put, opened, closed, finished, raw_put, wraps, room_made, placed, asked_put, lacks_newline, lacks_blank_line, wrapped, padded, blanks_put, newline_put, marked, margin_pushed, margin_of, innermost, HasFewMargins, IsWithinLine, columns_of, asked_by_start, asked_by_end, indent_of};
 
 use super::tabs::MAX_TAB;
 use crate::buffer::Block;
-use crate::splitter::{Chunk, split};
+use crate::splitter::{Chunk, Splitter, split};
 use std::alloc::{AllocError, Allocator};
 use unicode_width::UnicodeWidthStr;
 
@@ -63,9 +63,13 @@ impl<B: Allocator> Page<B> {
         ensures hides { IfOk result (λ hidden. hidden ≡ hides full (chunks_of text.now)) }
         ensures ink { OnOk result (ink (string_bytes self.new.out) ≡ ink (string_bytes self.old.out) ++ shown_ink full (chunks_of text.now)) }
     {
-        for chunk in split(text) {
+        let mut chunks = split(text);
+        while let Some(chunk) = chunks.next() {
             match chunk {
-                Chunk::Raw(raw, weight) => self.put_raw(raw, weight)?,
+                Chunk::Raw(raw, weight) => {
+                    self.put_raw(raw, weight)?;
+                    self.put_run(&mut chunks)?;
+                }
                 Chunk::LineBreak => self.put_newline()?,
                 Chunk::Paragraph => {
                     self.put_newline()?;
@@ -118,6 +122,36 @@ impl<B: Allocator> Page<B> {
             out.push('\n')?;
         }
         Ok(out)
+    }
+
+    // Writes as many of the words that come next as fit behind the last one, all at once. Inlined, so that the chunks that are
+    // left need not lie in memory.
+    #[inline(always)]
+    fn put_run(&mut self, chunks: &mut Splitter<'_>) -> Result<(), AllocError>
+        ensures page { OnOk result ((full : Bool) → text_put full chunks.new (sheet_of self.new) ≡ text_put full chunks.old (sheet_of self.old)) }
+        ensures ink { OnOk result ((full : Bool) → ink (string_bytes self.new.out) ++ shown_ink full chunks.new ≡ ink (string_bytes self.old.out) ++ shown_ink full chunks.old) }
+        ensures hides { (full : Bool) → hides full chunks.new ≡ hides full chunks.old }
+        ensures left { length chunks.new ≤ length chunks.old }
+    {
+        if !self.is_within_line() {
+            return Ok(());
+        }
+        if let Some(run) = chunks.take_fitting(self.width - self.column) {
+            self.out.push_str(run)?;
+            self.column += run.len();
+        }
+        Ok(())
+    }
+
+    // Whether the next word stands where the last one ends: nothing has to come before it.
+    fn is_within_line(&self) -> bool
+        ensures { IsTrue result → IsWithinLine (sheet_of self.now) }
+    {
+        self.column < self.width
+            && self.asked == Asked::Nothing
+            && !self.at_body
+            && !self.out.is_empty()
+            && self.margin() <= self.column
     }
 
     // Writes a Raw chunk. A blank that does not fit its line is left out.

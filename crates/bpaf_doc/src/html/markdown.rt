@@ -129,6 +129,7 @@ impl<B: Allocator> Markdown<B> {
     }
 
     // A line of code, alone on its line.
+    #[inline(always)]
     fn line(&mut self, text: &str) -> Result<(), AllocError>
         ensures { OnOk result (self.new ≡ with_line self.old text.now) }
     {

@@ -136,7 +136,8 @@ impl<B: Allocator> Page<B> {
         Ok(())
     }
 
-    // Writes a text with its angles as entities.
+    // Writes a text with its angles as entities. Inlined, as `take` is, since a call for each chunk costs as much as a short one.
+    #[inline(always)]
     fn put_words(&mut self, text: &str) -> Result<(), AllocError>
         ensures { OnOk result (self.new ≡ with_words self.old text.now) }
     {
@@ -217,6 +218,7 @@ impl<B: Allocator> Page<B> {
         }
     }
 
+    #[inline(always)]
     fn take(&mut self, taken: Taken<'_>) -> Result<(), AllocError>
         requires { IsTaken taken }
         ensures { OnOk result (self.new ≡ page_after_all self.old (fragments_in taken.entry)) }

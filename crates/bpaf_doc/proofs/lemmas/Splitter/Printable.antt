@@ -55,3 +55,6 @@ pub line_columns_are : (bytes : List ℕ) → list_all (is_in_range 0x20 0x7E) b
 line_columns_are bytes h =
     sym (ap (str_width false) (chars-IsAscii bytes (IsAscii-from_all bytes (λ k d l. wide_small _ (AllPass-from_list_all (is_in_range 0x20 0x7E) bytes h k d l))))
     ∙ str_width-printable false bytes h)
+
+pub printable_text : (bytes : List ℕ) → list_all (is_in_range 0x20 0x7E) bytes ≡ true → IsUtf8 bytes
+printable_text bytes h = IsUtf8-from_ascii bytes (IsAscii-from_all bytes (λ k d l. wide_small _ (AllPass-from_list_all (is_in_range 0x20 0x7E) bytes h k d l)))

@@ -1,13 +1,14 @@
 -- The chunks of a run, and of a text that begins with one.
-use Rattle.std.specs.Prelude.{◌≡◌, ◌≢◌, ℕ, suc, ◌<◌, ◌≤◌, true, IsTrue, ◌⊎◌, List, [], ◌∷◌, ◌++◌, codes, refl, length, take, drop, Option, Some, None, unwrap_or}
+use Rattle.std.specs.Prelude.{◌≡◌, ◌≢◌, ℕ, suc, ◌+◌, ◌-◌, ◌<◌, ◌≤◌, true, IsTrue, ◌⊎◌, List, [], ◌∷◌, ◌++◌, codes, refl, length, take, drop, Option, Some, None, unwrap_or}
+use Rattle.std.specs.Int.{is_in_range}
 use Rattle.std.specs.List.{list_all}
-use Rattle.std.proofs.Common.{sym, ◌∙◌, ap, subst, inl, inr, arith, append_assoc, get_or, take-append-drop, take_all, drop-cons, length-take}
+use Rattle.std.proofs.Common.{sym, ◌∙◌, ap, subst, inl, inr, arith, append_assoc, get_or, take-append-drop, take_all, drop-cons, length-take, length-drop}
 use Rattle.std.proofs.lemmas.List.{take-take, drop_all, get_or-take}
 use Rattle.memchr.specs.Find.{Nowhere, NoneBefore, NoneAfter, Passes, IsLastByte, is_byte}
-use Rattle.std.proofs.lemmas.List.Folds.{list_all-append}
+use Rattle.std.proofs.lemmas.List.Folds.{list_all-append, list_all_more}
 use Rattle.std.proofs.lemmas.Bool.Decides.{nat_tests}
-use Rattle.bpaf_doc.specs.Splitter.Chunks.{Chunk, Raw, Form, Plain, Spells, nothing, code_line, fence, before_code, paragraph, line_break, newline, blank, word, opening, later, closing, closing_paragraph, chunks_of, columns, is_line_byte, IsLine, IsWordEnd}
-use Rattle.bpaf_doc.specs.Splitter.Steps.Runs.{IsRun, IsRunEnd}
+use Rattle.bpaf_doc.specs.Splitter.Chunks.{Chunk, Raw, Form, Plain, Spells, nothing, code_line, fence, before_code, paragraph, line_break, newline, blank, word, opening, later, closing, closing_paragraph, chunks_of, columns, is_line_byte, IsLine, IsLineEnd, IsWordEnd}
+use Rattle.bpaf_doc.specs.Splitter.Steps.Runs.{IsRun, IsRunEnd, IsPrintable}
 use Rattle.bpaf_doc.proofs.lemmas.Splitter.Cuts.{is_newline, line_from_no_newline, line_before_newline}
 use Rattle.bpaf_doc.proofs.lemmas.Splitter.Printable.{line_columns_are}
 use Rattle.bpaf_doc.proofs.lemmas.Splitter.Spelling.{and_left, and_right, spells_its_chunks, only_its_chunks}
@@ -85,6 +86,39 @@ run_first text run back e l w =
 
 -- ---- where a run ends
 
+-- a front of printable ASCII
+pub printable_front : (text : List ℕ) (i j : ℕ) → i ≤ j → IsPrintable (take j text) → IsPrintable (take i text)
+printable_front text i j le h =
+    let split : take j text ≡ take i text ++ drop i (take j text) = sym (take-append-drop i (take j text)) ∙ ap (λ t. t ++ drop i (take j text)) (take-take i j text le) in
+    and_left (list_all (is_in_range 0x20 0x7E) (take i text)) (list_all (is_in_range 0x20 0x7E) (drop i (take j text)))
+    (sym (list_all-append (is_in_range 0x20 0x7E) (take i text) (drop i (take j text))) ∙ ap (list_all (is_in_range 0x20 0x7E)) (sym split) ∙ h)
+
+-- one byte more
+pub printable_more : (text : List ℕ) (i : ℕ) → i < length text → IsPrintable (take i text) → is_in_range 0x20 0x7E (get_or text i 0) ≡ true → IsPrintable (take (i + 1) text)
+printable_more text i lt h one = list_all_more (is_in_range 0x20 0x7E) text i 0 lt ∙ rw (h, one) refl
+
+line_byte : (b : ℕ) → is_in_range 0x20 0x7E b ≡ true → is_line_byte b ≡ true
+line_byte b h = grind (arith, nat_tests)
+
+printable_line : (bytes : List ℕ) → IsPrintable bytes → IsLine bytes
+printable_line [] h = refl
+printable_line (b ∷ bytes) h =
+    let one : is_in_range 0x20 0x7E b ≡ true = and_left (is_in_range 0x20 0x7E b) (list_all (is_in_range 0x20 0x7E) bytes) h in
+    rw (line_byte b one) (printable_line bytes (and_right (is_in_range 0x20 0x7E b) (list_all (is_in_range 0x20 0x7E) bytes) h))
+
+-- a run of printable ASCII
+pub printable_run : (text : List ℕ) (end : ℕ) → end ≤ length text → IsPrintable (take end text) → IsWordEnd (drop end text) → IsRunEnd text end
+printable_run text end le h w = record { within = le; line = printable_line (take end text) h; word_end = w }
+
+-- a blank ends a word
+pub blank_ends : (text : List ℕ) (i : ℕ) → i < length text → get_or text i 0 ≡ 32 → IsWordEnd (drop i text)
+blank_ends text i lt e = subst (λ t. IsWordEnd t) (sym (drop-cons text i 0 lt)) (inr e)
+
+-- and so does the end of a line
+pub line_ends : (rest : List ℕ) → IsLineEnd rest → IsWordEnd rest
+line_ends [] e = tt
+line_ends (b ∷ rest) e = inl e
+
 is_blank : (b : ℕ) → is_byte 32 b ≡ true → b ≡ 32
 is_blank b e = grind (arith, nat_tests)
 
@@ -151,6 +185,10 @@ run_taken text run end is some ends short =
       line = subst (λ t. IsLine t) (sym is) at.line;
       short = omega (arith, len, short);
     }
+
+-- the rest of a text as a range of it
+pub rest_is : (text : List ℕ) (k : ℕ) → take (length text - k) (drop k text) ≡ drop k text
+rest_is text k = take_all (length text - k) (drop k text) (omega (arith, length-drop k text))
 
 -- a text that is not empty has some
 pub words_some : {chunks : List Chunk} {text : List ℕ} → AreWords chunks text → text ≢ [] → 0 < length chunks

@@ -1,6 +1,6 @@
 -- A console page, step by step, as the private functions leave it. Nothing here has to be believed: that such a page has the
 -- console's ink is proved, and each further promise on it is to be.
-use Rattle.std.specs.Prelude.{ℕ, ◌+◌, ◌-◌, ◌^◌, ◌<◌, ◌==◌, Bool, true, false, not, ◌&&◌, ◌||◌, List, [], ◌∷◌, ◌++◌, Option, Some, None, unwrap_or, length, take, replicate, min, nat_eq, nat_lt, nat_le, string_bytes, if◌then◌else◌}
+use Rattle.std.specs.Prelude.{◌≡◌, ℕ, ◌+◌, ◌-◌, ◌^◌, ◌<◌, ◌≤◌, ◌==◌, Bool, true, false, not, ◌&&◌, ◌||◌, List, [], ◌∷◌, ◌++◌, Option, Some, None, unwrap_or, length, take, replicate, min, nat_eq, nat_lt, nat_le, string_bytes, if◌then◌else◌}
 use Rattle.std.specs.List.{slice_get, ends_with}
 use Rattle.std.specs.Str.{trim_end, bytes_eq}
 use Rattle.bpaf_doc.specs.declared.buffer.Block.TheVariants as blocks
@@ -65,6 +65,14 @@ margin_of s = saturated (innermost s)
 -- the margins fit in memory, so that the innermost is below 2 ^ 64
 abbrev pub HasFewMargins : Sheet → Type 0
 HasFewMargins s = length s.margins < 2 ^ 59
+
+-- some text stands, and the next stands right behind it: the line has room, nothing is asked for, and no margin is missing
+pub record IsWithinLine (s : Sheet) : Type 0 where
+  pub nothing_asked : s.asks ≡ asked.Nothing
+  pub no_body : s.at_body ≡ false
+  pub some : 0 < length s.out
+  pub past_margin : margin_of s ≤ s.column
+  pub room : s.column < s.width
 
 -- where a break, or an empty line, is asked for and does not stand at the end
 abbrev pub lacks_newline : Sheet → Bool

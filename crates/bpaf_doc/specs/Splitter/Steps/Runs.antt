@@ -1,5 +1,7 @@
 -- A run: words of a line and blanks between them, which a text begins with. As a text of its own it has the chunks that it has there.
-use Rattle.std.specs.Prelude.{◌≢◌, ℕ, ◌≤◌, List, [], length, take, drop}
+use Rattle.std.specs.Prelude.{◌≡◌, ◌≢◌, ℕ, ◌≤◌, true, List, [], length, take, drop}
+use Rattle.std.specs.Int.{is_in_range}
+use Rattle.std.specs.List.{list_all}
 use Rattle.bpaf_doc.specs.Splitter.Chunks.{IsLine, IsWordEnd}
 
 -- a run of the text ends at this place
@@ -13,3 +15,7 @@ pub record IsRun (run : List ℕ) : Type 0 where
   pub some : run ≢ []
   pub line : IsLine run
   pub short : length run ≤ 300_000
+
+-- each byte is printable ASCII, a blank among it
+abbrev pub IsPrintable : List ℕ → Type 0
+IsPrintable bytes = list_all (is_in_range 0x20 0x7E) bytes ≡ true

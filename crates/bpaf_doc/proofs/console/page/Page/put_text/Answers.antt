@@ -10,7 +10,7 @@ use Rattle.bpaf_doc.proofs.console.page.Page.put_text.Goals as goal
 
 pub loop-chunk-init : goal.loop-chunk-init
 loop-chunk-init g c =
-    let all : c.into_iter-chunk-iterator.result ≡ chunks_of c.args.text.now = c.into_iter-chunk-iterator.ensures.into_iter_gives ∙ c.split-chunk-items.ensures.value in
+    let all : c.split-chunks.result ≡ chunks_of c.args.text.now = c.split-chunks.ensures.value in
     record {
       left = record {
         same_ink = ap (λ cs. ink (string_bytes c.args.self.now.out) ++ shown_ink c.args.full cs) all;
@@ -19,24 +19,30 @@ loop-chunk-init g c =
       same_page = ap (λ cs. text_put c.args.full cs (sheet_of c.args.self.now)) all;
     }
 
-pub loop-chunk-preserved-in-Continue-1 : goal.loop-chunk-preserved-in-Continue-1
-loop-chunk-preserved-in-Continue-1 g c =
-    record {
-      left =
-          IsTextLeft-raw c.args.full (hides c.args.full (chunks_of c.args.text.now)) (string_bytes c.loop-chunk.self.out) (string_bytes c.put_raw.new.self.out)
-          (ink (string_bytes c.args.self.now.out) ++ shown_ink c.args.full (chunks_of c.args.text.now)) c.in-Raw.raw.now c.in-Raw.weight c.loop-chunk.chunk-iterator c.next.new.self
-          c.loop-chunk.invariant.left (c.in-Some.ensures.steps ∙ ap (λ chunk. chunk_of chunk ∷ c.next.new.self) c.in-Raw.is) c.in_ok-put_raw-in-Raw.ensures.ink;
-      same_page =
-          sym (ap (λ cs. text_put c.args.full cs (sheet_of c.loop-chunk.self)) (c.in-Some.ensures.steps ∙ ap (λ chunk. chunk_of chunk ∷ c.next.new.self) c.in-Raw.is)
-          ∙ ap (text_put c.args.full c.next.new.self) (sym c.in_ok-put_raw-in-Raw.ensures.page)) ∙ c.loop-chunk.invariant.same_page;
-    }
-
 pub loop-chunk-preserved-in-Continue-branch-2 : goal.loop-chunk-preserved-in-Continue-branch-2
 loop-chunk-preserved-in-Continue-branch-2 g c =
+    let first = c.in-Some.ensures.steps ∙ ap (λ chunk. chunk_of chunk ∷ c.next.new.self) c.in-Raw.is in
+    let left =
+    IsTextLeft-raw c.args.full (hides c.args.full (chunks_of c.args.text.now)) (string_bytes c.loop-chunk.self.out) (string_bytes c.put_raw.new.self.out)
+    (ink (string_bytes c.args.self.now.out) ++ shown_ink c.args.full (chunks_of c.args.text.now)) c.in-Raw.raw.now c.in-Raw.weight c.loop-chunk.chunks c.next.new.self
+    c.loop-chunk.invariant.left first c.in_ok-put_raw-in-Raw.ensures.ink in
+    record {
+      left = record {
+        same_ink = c.in_ok-put_run-in-Raw.ensures.ink c.args.full ∙ left.same_ink;
+        same_hiding = c.in_ok-put_run-in-Raw.ensures.hides c.args.full ∙ left.same_hiding;
+      };
+      same_page =
+          c.in_ok-put_run-in-Raw.ensures.page c.args.full
+          ∙ sym (ap (λ cs. text_put c.args.full cs (sheet_of c.loop-chunk.self)) first ∙ ap (text_put c.args.full c.next.new.self) (sym c.in_ok-put_raw-in-Raw.ensures.page))
+          ∙ c.loop-chunk.invariant.same_page;
+    }
+
+pub loop-chunk-preserved-in-Continue-branch-3 : goal.loop-chunk-preserved-in-Continue-branch-3
+loop-chunk-preserved-in-Continue-branch-3 g c =
     record {
       left =
           IsTextLeft-line_break c.args.full (hides c.args.full (chunks_of c.args.text.now)) (string_bytes c.loop-chunk.self.out) (string_bytes c.put_newline.new.self.out)
-          (ink (string_bytes c.args.self.now.out) ++ shown_ink c.args.full (chunks_of c.args.text.now)) c.loop-chunk.chunk-iterator c.next.new.self
+          (ink (string_bytes c.args.self.now.out) ++ shown_ink c.args.full (chunks_of c.args.text.now)) c.loop-chunk.chunks c.next.new.self
           c.loop-chunk.invariant.left (c.in-Some.ensures.steps ∙ ap (λ chunk. chunk_of chunk ∷ c.next.new.self) c.in-LineBreak.is) c.in_ok-put_newline-in-LineBreak.ensures.ink;
       same_page =
           sym (ap (λ cs. text_put c.args.full cs (sheet_of c.loop-chunk.self)) (c.in-Some.ensures.steps ∙ ap (λ chunk. chunk_of chunk ∷ c.next.new.self) c.in-LineBreak.is)
@@ -48,7 +54,7 @@ loop-chunk-preserved g c =
     record {
       left =
           IsTextLeft-paragraph c.args.full (hides c.args.full (chunks_of c.args.text.now)) (string_bytes c.loop-chunk.self.out) (string_bytes c.put_newline-in-Paragraph.new.self.out)
-          (ink (string_bytes c.args.self.now.out) ++ shown_ink c.args.full (chunks_of c.args.text.now)) c.loop-chunk.chunk-iterator c.next.new.self c.if-not-full.false
+          (ink (string_bytes c.args.self.now.out) ++ shown_ink c.args.full (chunks_of c.args.text.now)) c.loop-chunk.chunks c.next.new.self c.if-not-full.false
           c.loop-chunk.invariant.left (c.in-Some.ensures.steps ∙ ap (λ chunk. chunk_of chunk ∷ c.next.new.self) c.in-Paragraph.is) c.in_ok-put_newline-in-Paragraph.ensures.ink;
       same_page =
           sym (ap (λ cs. text_put c.args.full cs (sheet_of c.loop-chunk.self)) (c.in-Some.ensures.steps ∙ ap (λ chunk. chunk_of chunk ∷ c.next.new.self) c.in-Paragraph.is)
@@ -59,28 +65,28 @@ loop-chunk-preserved g c =
 pub returns-clause-ink : goal.returns-clause-ink
 returns-clause-ink g c =
     (IsTextLeft-none c.args.full (hides c.args.full (chunks_of c.args.text.now)) (string_bytes c.loop-chunk.self.out)
-    (ink (string_bytes c.args.self.now.out) ++ shown_ink c.args.full (chunks_of c.args.text.now)) c.loop-chunk.chunk-iterator c.loop-chunk.invariant.left c.in-None.ensures.steps.0).0
+    (ink (string_bytes c.args.self.now.out) ++ shown_ink c.args.full (chunks_of c.args.text.now)) c.loop-chunk.chunks c.loop-chunk.invariant.left c.in_default.ensures.steps.0).0
 
 pub returns-clause-hides : goal.returns-clause-hides
 returns-clause-hides g c =
     (IsTextLeft-none c.args.full (hides c.args.full (chunks_of c.args.text.now)) (string_bytes c.loop-chunk.self.out)
-    (ink (string_bytes c.args.self.now.out) ++ shown_ink c.args.full (chunks_of c.args.text.now)) c.loop-chunk.chunk-iterator c.loop-chunk.invariant.left c.in-None.ensures.steps.0).1
+    (ink (string_bytes c.args.self.now.out) ++ shown_ink c.args.full (chunks_of c.args.text.now)) c.loop-chunk.chunks c.loop-chunk.invariant.left c.in_default.ensures.steps.0).1
 
 pub returns-then-not-full-clause-ink : goal.returns-then-not-full-clause-ink
 returns-then-not-full-clause-ink g c =
     (IsTextLeft-hides c.args.full (hides c.args.full (chunks_of c.args.text.now)) (string_bytes c.loop-chunk.self.out) (string_bytes c.put_newline-in-Paragraph.new.self.out)
-    (ink (string_bytes c.args.self.now.out) ++ shown_ink c.args.full (chunks_of c.args.text.now)) c.loop-chunk.chunk-iterator c.next.new.self c.if-not-full.true
+    (ink (string_bytes c.args.self.now.out) ++ shown_ink c.args.full (chunks_of c.args.text.now)) c.loop-chunk.chunks c.next.new.self c.if-not-full.true
     c.loop-chunk.invariant.left (c.in-Some.ensures.steps ∙ ap (λ chunk. chunk_of chunk ∷ c.next.new.self) c.in-Paragraph.is) c.in_ok-put_newline-in-Paragraph.ensures.ink).0
 
 pub returns-then-not-full-clause-hides : goal.returns-then-not-full-clause-hides
 returns-then-not-full-clause-hides g c =
     (IsTextLeft-hides c.args.full (hides c.args.full (chunks_of c.args.text.now)) (string_bytes c.loop-chunk.self.out) (string_bytes c.put_newline-in-Paragraph.new.self.out)
-    (ink (string_bytes c.args.self.now.out) ++ shown_ink c.args.full (chunks_of c.args.text.now)) c.loop-chunk.chunk-iterator c.next.new.self c.if-not-full.true
+    (ink (string_bytes c.args.self.now.out) ++ shown_ink c.args.full (chunks_of c.args.text.now)) c.loop-chunk.chunks c.next.new.self c.if-not-full.true
     c.loop-chunk.invariant.left (c.in-Some.ensures.steps ∙ ap (λ chunk. chunk_of chunk ∷ c.next.new.self) c.in-Paragraph.is) c.in_ok-put_newline-in-Paragraph.ensures.ink).1
 
 pub returns-clause-page : goal.returns-clause-page
 returns-clause-page g c =
-    ap (λ cs. text_put c.args.full cs (sheet_of c.loop-chunk.self)) (sym c.in-None.ensures.steps.0) ∙ c.loop-chunk.invariant.same_page
+    ap (λ cs. text_put c.args.full cs (sheet_of c.loop-chunk.self)) (sym c.in_default.ensures.steps.0) ∙ c.loop-chunk.invariant.same_page
 
 pub returns-then-not-full-clause-page : goal.returns-then-not-full-clause-page
 returns-then-not-full-clause-page g c =

@@ -1,4 +1,4 @@
-use Rattle.std.proofs.Common.{◌≡◌, ◌++◌, string_bytes}
+use Rattle.std.proofs.Common.{◌≡◌, ◌++◌, length, string_bytes}
 use Rattle.bpaf_doc.specs.Buffer.Parts.{ink}
 use Rattle.bpaf_doc.specs.Splitter.Chunks.{chunks_of}
 use Rattle.bpaf_doc.specs.Console.Steps.Hiding.{hides}
@@ -11,6 +11,9 @@ abbrev pub invariant-loop-chunk : goal.invariant-loop-chunk
 invariant-loop-chunk g l = record {
   left :
       IsTextLeft l.full (hides l.full (chunks_of l.text)) (string_bytes l.self.out)
-      (ink (string_bytes l.fn.self.out) ++ shown_ink l.full (chunks_of l.text)) l.chunk-iterator;
-  same_page : text_put l.full l.chunk-iterator (sheet_of l.self) ≡ text_put l.full (chunks_of l.text) (sheet_of l.fn.self);
+      (ink (string_bytes l.fn.self.out) ++ shown_ink l.full (chunks_of l.text)) l.chunks;
+  same_page : text_put l.full l.chunks (sheet_of l.self) ≡ text_put l.full (chunks_of l.text) (sheet_of l.fn.self);
 }
+
+abbrev pub decreases-loop-chunk : goal.decreases-loop-chunk
+decreases-loop-chunk g l = length l.chunks

@@ -1,0 +1,131 @@
+-- Words that are written at once are the same as one after another.
+use Rattle.std.specs.Prelude.{◌≡◌, ℕ, ◌+◌, ◌-◌, ◌≤◌, ◌==◌, Bool, true, false, not, ◌&&◌, List, [], ◌∷◌, ◌++◌, refl, length, flat_map, nat_lt, if◌then◌else◌}
+use Rattle.std.specs.Int.{is_in_range}
+use Rattle.std.specs.List.{list_all, list_any}
+use Rattle.std.specs.Str.{bytes_eq, IsUtf8}
+use Rattle.std.proofs.Common.{sym, ap, ap₂, arith, ◌∙◌, append_assoc, append-nil, length-append}
+use Rattle.std.proofs.lemmas.List.Folds.{list_all-append}
+use Rattle.std.proofs.lemmas.Bool.{le-ltb}
+use Rattle.bpaf_doc.specs.declared.console.page.Asked.TheVariants as asked
+use Rattle.bpaf_doc.specs.Buffer.Parts.{ink}
+use Rattle.bpaf_doc.specs.Splitter.Chunks.{Chunk, IsLine, chunk_ink, chunks_of, columns, is_paragraph}
+use Rattle.bpaf_doc.specs.Splitter.Steps.Runs.{IsPrintable}
+use Rattle.bpaf_doc.specs.Console.Steps.Hiding.{hides}
+use Rattle.bpaf_doc.specs.Console.Steps.Ink.{shown_ink}
+use Rattle.bpaf_doc.specs.Console.Steps.Page.{Sheet, IsWithinLine, saturated, margin_of, is_too_wide, wraps, wrapped, room_made, blanks_put, raw_added, placed, columns_of, raw_put, text_put}
+use Rattle.bpaf_doc.proofs.lemmas.Splitter.Facts.{ink_of_chunks}
+use Rattle.bpaf_doc.proofs.lemmas.Splitter.Printable.{line_columns_are}
+use Rattle.bpaf_doc.proofs.lemmas.Splitter.Runs.{AreWords, no_words, a_word, words_of_line}
+use Rattle.bpaf_doc.proofs.lemmas.Splitter.Spelling.{and_left, and_right}
+
+-- ---- what words leave of a page
+
+-- a page within a line
+abbrev page_at : ℕ → ℕ → List ℕ → List ℕ → ℕ → Sheet
+page_at width tab_stop margins out column = record { out = out; column = column; width = width; tab_stop = tab_stop; margins = margins; asks = asked.Nothing; at_body = false }
+
+module _ (width tab_stop : ℕ) (margins : List ℕ) (small : width ≤ 18446744073709551615) where
+  abbrev at : List ℕ → ℕ → Sheet
+  at out column = page_at width tab_stop margins out column
+
+  fits : (out : List ℕ) (column n : ℕ) → column + n ≤ width → is_too_wide n (at out column) ≡ false
+  fits out column n h = le-ltb width (saturated (column + n)) (omega (arith, h))
+
+  no_break : (out : List ℕ) (column n : ℕ) → column + n ≤ width → wraps n (at out column) ≡ false
+  no_break out column n h = ap (λ b. not (length out == 0) && b) (fits out column n h) ∙ and_false (not (length out == 0))
+    where
+      and_false : (b : Bool) → (b && false) ≡ false
+      and_false true = refl
+      and_false false = refl
+
+  no_room : (out : List ℕ) (column n : ℕ) → column + n ≤ width → room_made n (at out column) ≡ at out column
+  no_room out column n h =
+      ap (λ b. if length out == 0 then at out column else if b then wrapped (at out column) else at out column) (fits out column n h) ∙ same (length out == 0)
+    where
+      same : (b : Bool) → (if b then at out column else at out column) ≡ at out column
+      same true = refl
+      same false = refl
+
+  word_placed : (out raw : List ℕ) (column weight : ℕ) → margin_of (at out column) ≤ column → column + weight ≤ width
+      → placed raw weight (at out column) ≡ at (out ++ raw) (column + weight)
+  word_placed out raw column weight level h =
+      let none : margin_of (at out column) - column ≡ 0 = omega (arith, level) in
+      let still : saturated (saturated (column + 0) + weight) ≡ column + weight = omega (arith, h, small) in
+      ap (λ k. raw_added raw weight (blanks_put k (at out column))) none
+      ∙ ap₂ (λ o n. at (o ++ raw) n) (append-nil out) still
+
+  weighs : (raw : List ℕ) (weight : ℕ) → weight ≡ columns raw → columns_of raw weight ≡ weight
+  weighs raw weight e = by (nat_lt weight 1000000) where
+    by : (b : Bool) → (if b then weight else columns raw) ≡ weight
+    by true = refl
+    by false = sym e
+
+  word_put : (out raw : List ℕ) (column weight : ℕ) → weight ≡ columns raw → margin_of (at out column) ≤ column → column + weight ≤ width
+      → raw_put raw weight (at out column) ≡ at (out ++ raw) (column + weight)
+  unfolding raw_put
+  word_put out raw column weight e level h =
+      ap (λ m. if wraps m (at out column) && bytes_eq raw (32 ∷ []) then room_made m (at out column) else placed raw weight (room_made m (at out column))) (weighs raw weight e)
+      ∙ ap (λ b. if b && bytes_eq raw (32 ∷ []) then room_made weight (at out column) else placed raw weight (room_made weight (at out column))) (no_break out column weight h)
+      ∙ ap (λ s. placed raw weight s) (no_room out column weight h)
+      ∙ word_placed out raw column weight level h
+
+  words_put : {chunks : List Chunk} {text : List ℕ} → AreWords chunks text → IsPrintable text → (out : List ℕ) (column : ℕ) → margin_of (at out column) ≤ column → column + length text ≤ width
+      → (full : Bool) (rest : List Chunk) → text_put full (chunks ++ rest) (at out column) ≡ text_put full rest (at (out ++ text) (column + length text))
+  words_put {chunks} {text} (no_words ec et) p out column level h full rest =
+      let stays : column ≡ column + length text = omega (arith, ap length et) in
+      ap (λ cs. text_put full (cs ++ rest) (at out column)) ec
+      ∙ ap₂ (λ o n. text_put full rest (at o n)) (sym (ap (λ t. out ++ t) et ∙ append-nil out)) stays
+  words_put {chunks} {text} (a_word bytes more others ec et w) p out column level h full rest =
+      let both : (list_all (is_in_range 0x20 0x7E) bytes && list_all (is_in_range 0x20 0x7E) more) ≡ true
+      = sym (list_all-append (is_in_range 0x20 0x7E) bytes more) ∙ ap (list_all (is_in_range 0x20 0x7E)) (sym et) ∙ p in
+      let front : IsPrintable bytes = and_left (list_all (is_in_range 0x20 0x7E) bytes) (list_all (is_in_range 0x20 0x7E) more) both in
+      let back : IsPrintable more = and_right (list_all (is_in_range 0x20 0x7E) bytes) (list_all (is_in_range 0x20 0x7E) more) both in
+      let wide : length bytes ≡ columns bytes = line_columns_are bytes front in
+      let sizes : length text ≡ length bytes + length more = ap length et ∙ length-append bytes more in
+      let first : column + columns bytes ≤ width = omega (arith, wide, sizes, h) in
+      let on : margin_of (at (out ++ bytes) (column + columns bytes)) ≤ column + columns bytes = omega (arith, level) in
+      let whole : column + columns bytes + length more ≡ column + length text = omega (arith, wide, sizes) in
+      ap (λ cs. text_put full (cs ++ rest) (at out column)) ec
+      ∙ ap (λ s. text_put full (others ++ rest) s) (word_put out bytes column (columns bytes) refl level first)
+      ∙ words_put w back (out ++ bytes) (column + columns bytes) on (omega (arith, whole, h)) full rest
+      ∙ ap₂ (λ o n. text_put full rest (at o n)) (append_assoc out bytes more ∙ ap (λ t. out ++ t) (sym et)) whole
+
+-- a page within a line is such a page
+within : (s : Sheet) → IsWithinLine s → s ≡ page_at s.width s.tab_stop s.margins s.out s.column
+within s is = ap₂ (λ a b. record s { asks = a; at_body = b }) is.nothing_asked is.no_body
+
+-- the words of a run
+pub run_put : (s : Sheet) (run : List ℕ) (full : Bool) (chunks rest : List Chunk) → IsWithinLine s → s.width ≤ 18446744073709551615 → chunks ≡ chunks_of run ++ rest → IsLine run → IsPrintable run
+    → s.column + length run ≤ s.width → text_put full rest (record s { out = s.out ++ run; column = s.column + length run }) ≡ text_put full chunks s
+run_put s run full chunks rest is small e line printable h =
+    ap (λ t. text_put full rest (record t { out = s.out ++ run; column = s.column + length run })) (within s is)
+    ∙ sym (words_put s.width s.tab_stop s.margins small (words_of_line run line) printable s.out s.column is.past_margin h full rest)
+    ∙ ap (λ t. text_put full (chunks_of run ++ rest) t) (sym (within s is))
+    ∙ ap (λ cs. text_put full cs s) (sym e)
+
+-- ---- their ink, and what they hide
+
+words_ink : {chunks : List Chunk} {text : List ℕ} → AreWords chunks text → (full : Bool) (rest : List Chunk) → shown_ink full (chunks ++ rest) ≡ flat_map chunk_ink chunks ++ shown_ink full rest
+words_ink (no_words ec et) full rest =
+    ap (λ cs. shown_ink full (cs ++ rest)) ec ∙ sym (ap (λ cs. flat_map chunk_ink cs ++ shown_ink full rest) ec)
+words_ink (a_word bytes more others ec et w) full rest =
+    ap (λ cs. shown_ink full (cs ++ rest)) ec
+    ∙ ap (λ t. ink bytes ++ t) (words_ink w full rest)
+    ∙ sym (append_assoc (ink bytes) (flat_map chunk_ink others) (shown_ink full rest))
+    ∙ sym (ap (λ cs. flat_map chunk_ink cs ++ shown_ink full rest) ec)
+
+pub run_ink : (before run : List ℕ) (full : Bool) (chunks rest : List Chunk) → chunks ≡ chunks_of run ++ rest → IsLine run → IsUtf8 run
+    → (before ++ ink run) ++ shown_ink full rest ≡ before ++ shown_ink full chunks
+run_ink before run full chunks rest e line u =
+    append_assoc before (ink run) (shown_ink full rest)
+    ∙ ap (λ t. before ++ t) (ap (λ i. i ++ shown_ink full rest) (sym (ink_of_chunks run u)) ∙ sym (words_ink (words_of_line run line) full rest) ∙ ap (shown_ink full) (sym e))
+
+words_hide : {chunks : List Chunk} {text : List ℕ} → AreWords chunks text → (rest : List Chunk) → list_any is_paragraph (chunks ++ rest) ≡ list_any is_paragraph rest
+words_hide (no_words ec et) rest = ap (λ cs. list_any is_paragraph (cs ++ rest)) ec
+words_hide (a_word bytes more others ec et w) rest = ap (λ cs. list_any is_paragraph (cs ++ rest)) ec ∙ words_hide w rest
+
+pub run_hides : (run : List ℕ) (full : Bool) (chunks rest : List Chunk) → chunks ≡ chunks_of run ++ rest → IsLine run → hides full rest ≡ hides full chunks
+run_hides run full chunks rest e line = ap (λ b. not full && b) (sym (words_hide (words_of_line run line) rest)) ∙ ap (hides full) (sym e)
+
+pub run_left : (run : List ℕ) (chunks rest : List Chunk) → chunks ≡ chunks_of run ++ rest → length rest ≤ length chunks
+run_left run chunks rest e = omega (arith, ap length e, length-append (chunks_of run) rest)
