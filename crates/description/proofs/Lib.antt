@@ -3,3 +3,7 @@ pub mod Placed
 pub mod Nested
 pub mod Views
 pub mod Made
+pub mod Reading
+pub mod Tables
+pub mod Depths
+pub mod Distinct

@@ -3,3 +3,5 @@ pub mod View
 pub mod Calls
 pub mod Trees
 pub mod Pages
+pub mod Described
+pub mod Faults

@@ -1,0 +1,97 @@
+-- Texts that stand twice in a list.
+use Rattle.std.proofs.Common.{◌≡◌, ℕ, ◌+◌, ◌<◌, Bool, true, false, not, cond, ◌&&◌, ◌||◌, List, [], ◌∷◌, ◌++◌, length, map, take, drop, get_or, refl, sym, ap, ◌∙◌, Bor}
+use Rattle.std.proofs.lemmas.List.{drop_more, map-append, take_more, take-append-drop}
+use Rattle.std.specs.Prelude.{bytes_eq}
+use Rattle.std.specs.List.{list_any}
+use Rattle.std.specs.Cmp.Lexicographic.{on_texts_equal}
+use Rattle.std.proofs.lemmas.List.Folds.{list_any-append}
+use Rattle.description.specs.Described.Steps.{words_of}
+use Rattle.description.specs.Described.Taken.{are_distinct}
+
+texts_equal : (s t : List ℕ) → bytes_eq s t ≡ bytes_eq t s
+texts_equal s t = (on_texts_equal (λ (x : List ℕ). x)).symm s t
+
+either_false : (a b : Bool) → (a || b) ≡ false → (a ≡ false) × (b ≡ false)
+either_false false false h = (refl, refl)
+either_false true b h = cc
+either_false false true h = cc
+
+both : (a b : Bool) → (a && b) ≡ true → (a ≡ true) × (b ≡ true)
+both true true h = (refl, refl)
+both false b h = cc
+both true false h = cc
+
+-- a text behind some others
+last_new : (text : List ℕ) (xs : List (List ℕ)) (t : List ℕ) → not (list_any (bytes_eq text) xs) ≡ true → bytes_eq t text ≡ false → not (list_any (bytes_eq text) (xs ++ t ∷ [])) ≡ true
+last_new text xs t h other = ap not (list_any-append (bytes_eq text) xs (t ∷ [])) ∙ by (list_any (bytes_eq text) xs) h where
+  by : (b : Bool) → not b ≡ true → not (b || (bytes_eq text t || false)) ≡ true
+  by false g = ap (λ b. not (b || false)) (texts_equal text t ∙ other)
+  by true g = cc
+
+pub distinct_then : (xs : List (List ℕ)) (t : List ℕ) → are_distinct xs ≡ true → list_any (bytes_eq t) xs ≡ false → are_distinct (xs ++ t ∷ []) ≡ true
+distinct_then [] t h n = refl
+distinct_then (x ∷ xs) t h n =
+    let (new, rest) = both (not (list_any (bytes_eq x) xs)) (are_distinct xs) h in
+    let (other, more) = either_false (bytes_eq t x) (list_any (bytes_eq t) xs) n in
+    rw (last_new x xs t new other, distinct_then xs t rest more) refl
+
+again : (x t : List ℕ) (xs ys : List (List ℕ)) → bytes_eq t x ≡ true → not (list_any (bytes_eq x) (xs ++ t ∷ ys)) ≡ false
+again x t xs ys same = ap not (list_any-append (bytes_eq x) xs (t ∷ ys)) ∙ by (list_any (bytes_eq x) xs) where
+  by : (b : Bool) → not (b || (bytes_eq x t || list_any (bytes_eq x) ys)) ≡ false
+  by true = refl
+  by false = ap (λ b. not (b || list_any (bytes_eq x) ys)) (texts_equal x t ∙ same)
+
+pub repeated_then : (xs : List (List ℕ)) (t : List ℕ) (ys : List (List ℕ)) → list_any (bytes_eq t) xs ≡ true → are_distinct (xs ++ t ∷ ys) ≡ false
+repeated_then [] t ys h = cc
+repeated_then (x ∷ xs) t ys h = by (bytes_eq t x) refl h (repeated_then xs t ys) where
+  ends : (c : Bool) {d : Bool} → d ≡ false → (c && d) ≡ false
+  ends true e = e
+  ends false e = refl
+
+  by : (b : Bool) → bytes_eq t x ≡ b → (b || list_any (bytes_eq t) xs) ≡ true → (list_any (bytes_eq t) xs ≡ true → are_distinct (xs ++ t ∷ ys) ≡ false)
+      → (not (list_any (bytes_eq x) (xs ++ t ∷ ys)) && are_distinct (xs ++ t ∷ ys)) ≡ false
+  by true same g rest = rw (again x t xs ys same) refl
+  by false other g rest = ends (not (list_any (bytes_eq x) (xs ++ t ∷ ys))) (rest g)
+
+-- ---- the texts gone over so far
+
+abbrev has_text : List (Bor (List ℕ)) → Bor (List ℕ) → Bool
+has_text keys q = list_any (λ k. bytes_eq q.now k.now) keys
+
+abbrev Seen : List (Bor (List ℕ)) → List (Bor (List ℕ)) → ℕ → Type 0
+Seen keys ts i = (are_distinct (words_of (take i ts)) ≡ true) × ((q : Bor (List ℕ)) → has_text keys q ≡ list_any (bytes_eq q.now) (words_of (take i ts)))
+
+front_words : (ts : List (Bor (List ℕ))) (i : ℕ) (d : Bor (List ℕ)) → i < length ts → words_of (take (i + 1) ts) ≡ words_of (take i ts) ++ (get_or ts i d).now ∷ []
+front_words ts i d h = ap words_of (take_more ts i d h) ∙ map-append (λ t. t.now) (take i ts) (get_or ts i d ∷ [])
+
+whole_words : (ts : List (Bor (List ℕ))) (i : ℕ) (d : Bor (List ℕ)) → i < length ts → words_of ts ≡ words_of (take i ts) ++ (get_or ts i d).now ∷ words_of (drop (i + 1) ts)
+whole_words ts i d h = ap words_of (sym (take-append-drop i ts) ∙ ap (λ us. take i ts ++ us) (drop_more ts i d h)) ∙ map-append (λ t. t.now) (take i ts) (get_or ts i d ∷ drop (i + 1) ts)
+
+not_false : (b : Bool) → not b ≡ false → b ≡ true
+not_false true h = refl
+not_false false h = cc
+
+not_true : (b : Bool) → not b ≡ true → b ≡ false
+not_true false h = refl
+not_true true h = cc
+
+pub repeated_here : (keys ts : List (Bor (List ℕ))) (i : ℕ) (d : Bor (List ℕ)) (added : Bool) → i < length ts → Seen keys ts i → added ≡ not (has_text keys (get_or ts i d)) → added ≡ false → false ≡ are_distinct (words_of ts)
+repeated_here keys ts i d added h s e f =
+    let there : has_text keys (get_or ts i d) ≡ true = not_false (has_text keys (get_or ts i d)) (sym e ∙ f) in
+    sym (ap are_distinct (whole_words ts i d h) ∙ repeated_then (words_of (take i ts)) (get_or ts i d).now (words_of (drop (i + 1) ts)) (sym (s.1 (get_or ts i d)) ∙ there))
+
+one_more : (b c : Bool) (rest : Bool) → c ≡ rest → cond b true c ≡ (rest || (b || false))
+one_more true c true e = refl
+one_more true c false e = refl
+one_more false c true e = e
+one_more false c false e = e
+
+pub seen_more : (keys more ts : List (Bor (List ℕ))) (i : ℕ) (d : Bor (List ℕ)) (added : Bool) → i < length ts → Seen keys ts i → added ≡ not (has_text keys (get_or ts i d)) → added ≡ true
+    → ((q : Bor (List ℕ)) → has_text more q ≡ cond (bytes_eq (get_or ts i d).now q.now) true (has_text keys q)) → Seen more ts (i + 1)
+seen_more keys more ts i d added h s e f u =
+    let text = (get_or ts i d).now in
+    let absent : has_text keys (get_or ts i d) ≡ false = not_true (has_text keys (get_or ts i d)) (sym e ∙ f) in (
+      ap are_distinct (front_words ts i d h) ∙ distinct_then (words_of (take i ts)) text s.0 (sym (s.1 (get_or ts i d)) ∙ absent),
+      λ q. u q ∙ ap (λ b. cond b true (has_text keys q)) (texts_equal text q.now) ∙ one_more (bytes_eq q.now text) (has_text keys q) (list_any (bytes_eq q.now) (words_of (take i ts))) (s.1 q)
+          ∙ sym (ap (list_any (bytes_eq q.now)) (front_words ts i d h) ∙ list_any-append (bytes_eq q.now) (words_of (take i ts)) (text ∷ [])),
+    )

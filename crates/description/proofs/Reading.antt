@@ -1,0 +1,43 @@
+-- What the readers of values at keys find.
+use Rattle.std.proofs.Common.{◌≡◌, ◌==◌, ℕ, true, false, length, arith, List, [], ◌∷◌, ◌++◌, Option, Some, None, refl, sym, ap, ◌∙◌, subst}
+use Rattle.std.proofs.lemmas.Bool.Decides.{nat_tests}
+use Rattle.std.proofs.Math.Utf8.{encode}
+use Rattle.std.proofs.lemmas.Str.{chars_past_char}
+use Rattle.std.specs.Prelude.{IfErr, IsErrAnd, Result, Ok, Err, IsUtf8, MatchOption, chars, is_some, slice_get}
+use Rattle.toml.specs.View.{items_view}
+use Rattle.toml.specs.declared.value.Value.{Value}
+use Rattle.description.specs.Described.Values.{is_empty, only_character}
+use Rattle.description.specs.Faults.{IsMemory}
+use Rattle.description.specs.declared.decode.faults.DescriptionError.{DescriptionError}
+
+-- a first character, and one behind it
+first_alone : (cs : List ℕ) (c : ℕ) (second : Option ℕ) → second ≡ slice_get cs 0 → is_some second ≡ false → Some c ≡ only_character (c ∷ cs)
+first_alone [] c second e n = refl
+first_alone (d ∷ cs) c second e n = absurd cc
+
+first_of_more : (cs : List ℕ) (c : ℕ) (second : Option ℕ) → second ≡ slice_get cs 0 → is_some second ≡ true → None ≡ only_character (c ∷ cs)
+first_of_more [] c second e n = absurd cc
+first_of_more (d ∷ cs) c second e n = refl
+
+nothing_first : (cs : List ℕ) → None ≡ slice_get cs 0 → None ≡ only_character cs
+nothing_first [] e = refl
+nothing_first (c ∷ cs) e = absurd cc
+
+pub one_character : (N : Type 0) (text bs rest : List ℕ) (first second : Option ℕ) → bs ≡ text → IsUtf8 text → MatchOption first N (λ c. bs ≡ encode c ++ rest) → first ≡ slice_get (chars bs) 0 → second ≡ slice_get (chars rest) 0
+    → is_some second ≡ false → first ≡ only_character (chars text)
+one_character N text bs rest None second same u m e f n = nothing_first (chars bs) e ∙ ap (λ t. only_character (chars t)) same
+one_character N text bs rest (Some c) second same u m e f n = first_alone (chars rest) c second f n ∙ sym (ap only_character (chars_past_char bs rest c (subst IsUtf8 (sym same) u) m)) ∙ ap (λ t. only_character (chars t)) same
+
+pub more_characters : (N : Type 0) (text bs rest : List ℕ) (first second : Option ℕ) → bs ≡ text → IsUtf8 text → MatchOption first N (λ c. bs ≡ encode c ++ rest) → first ≡ slice_get (chars bs) 0 → second ≡ slice_get (chars rest) 0
+    → is_some second ≡ true → None ≡ only_character (chars text)
+more_characters N text bs rest None second same u m e f n = nothing_first (chars bs) e ∙ ap (λ t. only_character (chars t)) same
+more_characters N text bs rest (Some c) second same u m e f n = first_of_more (chars rest) c second f n ∙ sym (ap only_character (chars_past_char bs rest c (subst IsUtf8 (sym same) u) m)) ∙ ap (λ t. only_character (chars t)) same
+
+pub no_items_there : (vs : List Value) → (length vs == 0) ≡ is_empty (items_view vs)
+no_items_there [] = refl
+no_items_there (v ∷ vs) = grind (arith, nat_tests)
+
+-- an error that is passed on as it came
+pub passed_on : {T A : Type 0} (r : Result T (DescriptionError A)) (e : DescriptionError A) (X : Type 0) → IsErrAnd r (λ f. f ≡ e) → (¬ IsMemory e → X) → IfErr r (λ f. ¬ IsMemory f → X)
+passed_on (Ok x) e X h k = tt
+passed_on (Err f) e X h k = λ n. k (subst (λ z. ¬ IsMemory z) h n)

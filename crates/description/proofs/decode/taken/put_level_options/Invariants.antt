@@ -1,0 +1,10 @@
+use Rattle.std.proofs.Common.{◌≡◌, ◌++◌, drop}
+use Rattle.toml.specs.View.{items_view}
+use Rattle.toml.specs.Data.{get_member}
+use Rattle.std.specs.Prelude.{flat_map}
+use Rattle.description.specs.Described.Steps.{views_of, words_of}
+use Rattle.description.specs.Described.Taken.{own_options, tables_in, tables_under, texts_at}
+use Rattle.description.proofs.decode.taken.put_level_options.Given as goal
+
+abbrev pub invariant-loop-group : goal.invariant-loop-group
+invariant-loop-group g l = views_of l.tables.items ++ flat_map own_options (views_of (drop l.group-index l.group-items)) ≡ views_of l.initial.tables.items ++ flat_map own_options (views_of l.group-items)

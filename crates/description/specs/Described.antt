@@ -1,0 +1,224 @@
+-- The description that the data of a TOML text gives, or `None`. Each kind of table has the keys that are listed for it, and no others.
+pub mod Values
+pub mod Taken
+pub mod Steps
+use Rattle.std.specs.Prelude.{codes, ℕ, List, [], ◌∷◌, ◌++◌, Bool, true, false, not, ◌&&◌, if◌then◌else◌, Option, Some, None, option_map, option_and_then}
+use Rattle.std.specs.Ordering.{nat_cmp, match_ordering}
+use Rattle.std.specs.Cmp.Lexicographic.{slice_cmp}
+use Rattle.bpaf_meta.specs.Content.{Name, short, long, both}
+use Rattle.toml.specs.Data.{Data, array, table, Items, no_items, item, Members, no_members, member, as_str, get_member}
+use Rattle.description.specs.Content.{OptSaid, ChoiceSaid, PositionalSaid, TextsSaid, LevelSaid, level, GroupsSaid, no_groups, groups, GroupSaid, group, CommandsSaid, no_commands, commands, CommandSaid, command, DescriptionSaid}
+use Rattle.description.specs.Described.Values.{has_only, flag_at, optional_at, required_at, tables_at, is_empty, each_table, as_name, as_short, as_date}
+use Rattle.description.specs.Described.Taken.{has_distinct_names}
+
+-- ---- keys
+
+-- of an option of a choice, which is neither required nor repeated
+abbrev pub alternative_keys : List (List ℕ)
+alternative_keys = codes "short" ∷ codes "long" ∷ codes "value" ∷ codes "help" ∷ codes "env" ∷ []
+
+abbrev pub option_keys : List (List ℕ)
+option_keys = codes "short" ∷ codes "long" ∷ codes "value" ∷ codes "help" ∷ codes "env" ∷ codes "required" ∷ codes "repeated" ∷ []
+
+abbrev pub choice_keys : List (List ℕ)
+choice_keys = codes "option" ∷ codes "required" ∷ []
+
+abbrev pub positional_keys : List (List ℕ)
+positional_keys = codes "value" ∷ codes "help" ∷ codes "required" ∷ codes "repeated" ∷ codes "strict" ∷ []
+
+abbrev pub group_keys : List (List ℕ)
+group_keys = codes "title" ∷ codes "option" ∷ codes "choice" ∷ codes "positional" ∷ codes "command" ∷ []
+
+abbrev pub level_keys : List (List ℕ)
+level_keys = codes "about" ∷ codes "header" ∷ codes "footer" ∷ codes "usage" ∷ codes "command_required" ∷ codes "option" ∷ codes "choice" ∷ codes "group" ∷ codes "positional" ∷ codes "command" ∷ []
+
+abbrev pub command_keys : List (List ℕ)
+command_keys = codes "name" ∷ codes "short" ∷ codes "help" ∷ level_keys
+
+abbrev pub description_keys : List (List ℕ)
+description_keys = codes "name" ∷ codes "section" ∷ codes "date" ∷ codes "vendor" ∷ codes "title" ∷ codes "help_option" ∷ level_keys
+
+-- a table with these keys alone, read
+abbrev pub with_only : {X : Type 0} → (keys : List (List ℕ)) → (Members → Option X) → Members → Option X
+with_only keys read ms = if has_only keys ms then read ms else None
+
+-- ---- options, choices and positional values
+
+abbrev pub name_from : Option ℕ → Option (List ℕ) → Option Name
+name_from None None = None
+name_from (Some c) None = Some (short c)
+name_from None (Some text) = Some (long text)
+name_from (Some c) (Some text) = Some (both c text)
+
+infixl 10 ◌>>=◌
+abbrev pub ◌>>=◌ : {A B : Type 0} → Option A → (A → Option B) → Option B
+o >>= f = option_and_then f o
+
+-- the short and the long name, of which one at least stands there
+abbrev pub option_name : Members → Option Name
+option_name ms = optional_at as_short (codes "short") ms >>= (λ s. optional_at as_name (codes "long") ms >>= name_from s)
+
+-- an option that is neither required nor repeated
+abbrev pub option_of : Members → Option OptSaid
+option_of ms =
+    option_name ms >>= (λ name. optional_at as_str (codes "value") ms >>= (λ value. optional_at as_str (codes "help") ms >>= (λ help. optional_at as_name (codes "env") ms >>= (λ env.
+    Some (record { name = name; value = value; help = help; env = env; required = false; repeated = false })))))
+
+unfoldable pub alternative_from : Members → Option OptSaid
+alternative_from = with_only alternative_keys option_of
+
+unfoldable pub option_from : Members → Option OptSaid
+option_from = with_only option_keys (λ ms. option_of ms >>= (λ option. flag_at false (codes "required") ms >>= (λ required. flag_at false (codes "repeated") ms >>= (λ repeated.
+    Some (record option { required = required; repeated = repeated })))))
+
+-- a choice has an option
+unfoldable pub choice_from : Members → Option ChoiceSaid
+choice_from = with_only choice_keys (λ ms. tables_at (codes "option") ms >>= (λ os. if is_empty os then None else
+    flag_at false (codes "required") ms >>= (λ required. option_map (λ alternatives. record { options = alternatives; required = required }) (each_table alternative_from os))))
+
+unfoldable pub positional_from : Members → Option PositionalSaid
+positional_from = with_only positional_keys (λ ms.
+    required_at as_str (codes "value") ms >>= (λ value. optional_at as_str (codes "help") ms >>= (λ help.
+    flag_at true (codes "required") ms >>= (λ required. flag_at false (codes "repeated") ms >>= (λ repeated. flag_at false (codes "strict") ms >>= (λ strict.
+    Some (record { value = value; help = help; required = required; repeated = repeated; strict = strict })))))))
+
+-- ---- groups, levels and commands, whose inner groups and commands were read already
+
+-- the arrays of a group or a level; a group has no groups
+pub record Lists : Type 0 where
+  pub options : Items
+  pub choices : Items
+  pub groups : Items
+  pub positionals : Items
+  pub commands : Items
+
+unfoldable pub lists_from : Members → Option Lists
+lists_from ms =
+    tables_at (codes "option") ms >>= (λ os. tables_at (codes "choice") ms >>= (λ cs. tables_at (codes "group") ms >>= (λ gs. tables_at (codes "positional") ms >>= (λ ps. tables_at (codes "command") ms >>= (λ ns.
+    Some (record { options = os; choices = cs; groups = gs; positionals = ps; commands = ns }))))))
+
+-- a group has a member
+abbrev pub has_members : Lists → Bool
+has_members lists = not (is_empty lists.options && (is_empty lists.choices && (is_empty lists.positionals && is_empty lists.commands)))
+
+-- what a group says of itself
+pub record GroupHead : Type 0 where
+  pub title : List ℕ
+  pub lists : Lists
+
+unfoldable pub group_head : Members → Option GroupHead
+group_head = with_only group_keys (λ ms. required_at as_str (codes "title") ms >>= (λ title. lists_from ms >>= (λ lists.
+    if has_members lists then Some (record { title = title; lists = lists }) else None)))
+
+unfoldable pub group_of : Option CommandsSaid → GroupHead → Option GroupSaid
+group_of inner g =
+    each_table option_from g.lists.options >>= (λ os. each_table choice_from g.lists.choices >>= (λ cs. each_table positional_from g.lists.positionals >>= (λ ps.
+    option_map (group g.title os cs ps) inner)))
+
+unfoldable pub texts_from : Members → Option TextsSaid
+texts_from ms = optional_at as_str (codes "about") ms >>= (λ about. optional_at as_str (codes "header") ms >>= (λ header. optional_at as_str (codes "footer") ms >>= (λ footer. optional_at as_str (codes "usage") ms >>= (λ usage.
+    Some (record { about = about; header = header; footer = footer; usage = usage })))))
+
+-- what a level says of itself: its own texts and its arrays, where no name is taken
+pub record Outline : Type 0 where
+  pub texts : TextsSaid
+  pub command_required : Bool
+  pub lists : Lists
+
+unfoldable pub outline_from : Members → Option Outline
+outline_from ms =
+    texts_from ms >>= (λ texts. flag_at true (codes "command_required") ms >>= (λ required. lists_from ms >>= (λ lists.
+    if has_distinct_names ms then Some (record { texts = texts; command_required = required; lists = lists }) else None)))
+
+unfoldable pub level_of : Option GroupsSaid → Option CommandsSaid → Outline → Option LevelSaid
+level_of inner_groups inner_commands o =
+    each_table option_from o.lists.options >>= (λ os. each_table choice_from o.lists.choices >>= (λ cs. inner_groups >>= (λ gs. each_table positional_from o.lists.positionals >>= (λ ps.
+    option_map (level o.texts o.command_required os cs gs ps) inner_commands))))
+
+-- what a command says of itself
+pub record CommandHead : Type 0 where
+  pub name : List ℕ
+  pub initial : Option ℕ
+  pub help : Option (List ℕ)
+  pub outline : Outline
+
+unfoldable pub command_head : Members → Option CommandHead
+command_head = with_only command_keys (λ ms.
+    required_at as_name (codes "name") ms >>= (λ name. optional_at as_short (codes "short") ms >>= (λ initial. optional_at as_str (codes "help") ms >>= (λ help.
+    outline_from ms >>= (λ outline. Some (record { name = name; initial = initial; help = help; outline = outline }))))))
+
+abbrev pub command_of : Option GroupsSaid → Option CommandsSaid → CommandHead → Option CommandSaid
+command_of inner_groups inner_commands c = option_map (command c.name c.initial c.help) (level_of inner_groups inner_commands c.outline)
+
+-- ---- the groups and the commands at a key, by the data inside
+
+abbrev mutual
+  pub commands_at : (key : List ℕ) → Members → Option CommandsSaid
+  commands_at key no_members = Some no_commands
+  commands_at key (member k d ms) = match_ordering (slice_cmp nat_cmp key k) (commands_at key ms) (as_commands d) (commands_at key ms)
+
+  pub as_commands : Data → Option CommandsSaid
+  as_commands (array ds) = each_command ds
+  as_commands _ = None
+
+  pub each_command : Items → Option CommandsSaid
+  each_command no_items = Some no_commands
+  each_command (item d ds) = as_command d >>= (λ c. option_map (commands c) (each_command ds))
+
+  pub as_command : Data → Option CommandSaid
+  as_command (table ms) = command_head ms >>= command_of (groups_at (codes "group") ms) (commands_at (codes "command") ms)
+  as_command _ = None
+
+  pub groups_at : (key : List ℕ) → Members → Option GroupsSaid
+  groups_at key no_members = Some no_groups
+  groups_at key (member k d ms) = match_ordering (slice_cmp nat_cmp key k) (groups_at key ms) (as_groups d) (groups_at key ms)
+
+  pub as_groups : Data → Option GroupsSaid
+  as_groups (array ds) = each_group ds
+  as_groups _ = None
+
+  pub each_group : Items → Option GroupsSaid
+  each_group no_items = Some no_groups
+  each_group (item d ds) = as_group d >>= (λ g. option_map (groups g) (each_group ds))
+
+  pub as_group : Data → Option GroupSaid
+  as_group (table ms) = group_head ms >>= group_of (commands_at (codes "command") ms)
+  as_group _ = None
+
+-- ---- the whole
+
+-- the section of the manual is the first one where none is named
+abbrev pub section_from : Option (List ℕ) → List ℕ
+section_from None = codes "1"
+section_from (Some text) = text
+
+-- the words of the title line
+pub record TitleWords : Type 0 where
+  pub section : List ℕ
+  pub date : Option (List ℕ)
+  pub vendor : Option (List ℕ)
+  pub title : Option (List ℕ)
+
+unfoldable pub title_words : Members → Option TitleWords
+title_words ms =
+    optional_at as_str (codes "section") ms >>= (λ section. optional_at as_date (codes "date") ms >>= (λ date. optional_at as_str (codes "vendor") ms >>= (λ vendor. optional_at as_str (codes "title") ms >>= (λ title.
+    Some (record { section = section_from section; date = date; vendor = vendor; title = title })))))
+
+-- what a description says of itself
+pub record DescriptionHead : Type 0 where
+  pub name : List ℕ
+  pub words : TitleWords
+  pub help_options : Items
+  pub outline : Outline
+
+unfoldable pub description_head : Members → Option DescriptionHead
+description_head = with_only description_keys (λ ms.
+    required_at as_name (codes "name") ms >>= (λ name. title_words ms >>= (λ words. tables_at (codes "help_option") ms >>= (λ helps. outline_from ms >>= (λ outline.
+    Some (record { name = name; words = words; help_options = helps; outline = outline }))))))
+
+abbrev pub description_of : DescriptionHead → List OptSaid → LevelSaid → DescriptionSaid
+description_of d helps l = record { name = d.name; section = d.words.section; date = d.words.date; vendor = d.words.vendor; title = d.words.title; help_options = helps; level = l }
+
+unfoldable pub described : Members → Option DescriptionSaid
+described ms = description_head ms >>= (λ head. each_table option_from head.help_options >>= (λ helps.
+    option_map (description_of head helps) (level_of (groups_at (codes "group") ms) (commands_at (codes "command") ms) head.outline)))

@@ -1,0 +1,40 @@
+-- Names that stand twice on a level. The options of its choices and groups count as its own, and so do the commands of its groups.
+use Rattle.std.specs.Prelude.{codes, ℕ, List, [], ◌∷◌, ◌++◌, flat_map, Bool, true, not, ◌&&◌, Option, Some, None, option_and_then, option_to_list, bytes_eq}
+use Rattle.std.specs.List.{list_any}
+use Rattle.toml.specs.Data.{Data, array, table, Items, no_items, item, Members, get_member, as_str, as_table}
+
+-- the tables of an array, and those of the array at a key
+abbrev pub tables_in : Items → List Members
+tables_in no_items = []
+tables_in (item d ds) = option_to_list (as_table d) ++ tables_in ds
+
+abbrev pub tables_of : Option Data → List Members
+tables_of (Some (array ds)) = tables_in ds
+tables_of _ = []
+
+abbrev pub tables_under : (key : List ℕ) → Members → List Members
+tables_under key ms = tables_of (get_member key ms)
+
+-- the options of a level or of a group, with those of its choices
+abbrev pub own_options : Members → List Members
+own_options ms = tables_under (codes "option") ms ++ flat_map (tables_under (codes "option")) (tables_under (codes "choice") ms)
+
+abbrev pub level_options : Members → List Members
+level_options ms = own_options ms ++ flat_map own_options (tables_under (codes "group") ms)
+
+abbrev pub level_commands : Members → List Members
+level_commands ms = tables_under (codes "command") ms ++ flat_map (tables_under (codes "command")) (tables_under (codes "group") ms)
+
+-- the text at a key of each table that has one there
+abbrev pub texts_at : (key : List ℕ) → List Members → List (List ℕ)
+texts_at key = flat_map (λ ms. option_to_list (option_and_then as_str (get_member key ms)))
+
+-- no text stands twice
+abbrev pub are_distinct : List (List ℕ) → Bool
+are_distinct [] = true
+are_distinct (text ∷ texts) = not (list_any (bytes_eq text) texts) && are_distinct texts
+
+-- no two options of a level share a short or a long name, and no two commands a name
+abbrev pub has_distinct_names : Members → Bool
+has_distinct_names ms = are_distinct (texts_at (codes "short") (level_options ms))
+    && (are_distinct (texts_at (codes "long") (level_options ms)) && are_distinct (texts_at (codes "name") (level_commands ms)))

@@ -1,0 +1,93 @@
+-- What stands at a key of a table: a text, a flag, a character, a name, or tables. Each answer is `None` where the value is of another kind.
+use Rattle.std.specs.Prelude.{codes, chars, ℕ, List, [], ◌∷◌, ◌==◌, length, Bool, true, false, not, ◌&&◌, if◌then◌else◌, Option, Some, None, is_some, option_map, option_and_then, bytes_eq}
+use Rattle.std.specs.Char.{is_control, is_whitespace}
+use Rattle.std.specs.List.{list_all, list_any}
+use Rattle.toml_datetime.specs.declared.datetime.Datetime.{Datetime}
+use Rattle.toml_datetime.specs.declared.datetime.Date.{Date}
+use Rattle.toml_datetime.specs.declared.datetime.Offset.{Offset}
+use Rattle.toml_datetime.specs.declared.datetime.Time.{Time}
+use Rattle.toml_datetime.specs.Text.{date_text}
+use Rattle.toml.specs.Data.{Data, string, datetime, Items, no_items, item, Members, no_members, member, get_member, as_array, as_bool, as_str, as_table}
+
+-- each key of the table is one of these
+abbrev pub has_only : (keys : List (List ℕ)) → Members → Bool
+has_only keys no_members = true
+has_only keys (member k d ms) = list_any (λ known. bytes_eq known k) keys && has_only keys ms
+
+-- the value at a key, read; or what stands for a key that is left out
+abbrev pub value_or : {X : Type 0} → Option X → (Data → Option X) → Option Data → Option X
+value_or left_out read None = left_out
+value_or left_out read (Some d) = read d
+
+abbrev pub at_key : {X : Type 0} → Option X → (Data → Option X) → (key : List ℕ) → Members → Option X
+at_key left_out read key ms = value_or left_out read (get_member key ms)
+
+-- a value that may be left out, and one that may not
+abbrev pub optional_at : {X : Type 0} → (Data → Option X) → (key : List ℕ) → Members → Option (Option X)
+optional_at read = at_key (Some None) (λ d. option_map Some (read d))
+
+abbrev pub required_at : {X : Type 0} → (Data → Option X) → (key : List ℕ) → Members → Option X
+required_at = at_key None
+
+abbrev pub flag_at : (default : Bool) → (key : List ℕ) → Members → Option Bool
+flag_at default = at_key (Some default) as_bool
+
+-- a name is not empty, and has no white space, no control character and no `=` in it
+abbrev pub is_name_character : ℕ → Bool
+is_name_character c = not (is_whitespace c) && (not (is_control c) && not (c == 61))
+
+abbrev pub is_name : List ℕ → Bool
+is_name text = not (length text == 0) && list_all is_name_character (chars text)
+
+abbrev pub name_in : List ℕ → Option (List ℕ)
+name_in text = if is_name text then Some text else None
+
+abbrev pub as_name : Data → Option (List ℕ)
+as_name d = option_and_then name_in (as_str d)
+
+-- a short name is a text of one character, which may stand in a name and is not `-`
+abbrev pub only_character : (characters : List ℕ) → Option ℕ
+only_character (c ∷ []) = Some c
+only_character _ = None
+
+abbrev pub is_short : ℕ → Bool
+is_short c = is_name_character c && not (c == 45)
+
+abbrev pub if_short : ℕ → Option ℕ
+if_short c = if is_short c then Some c else None
+
+abbrev pub as_short : Data → Option ℕ
+as_short d = option_and_then (λ text. option_and_then if_short (only_character (chars text))) (as_str d)
+
+-- a text, or a TOML date without a time
+abbrev pub day_text : Option Date → Option Time → Option Offset → Option (List ℕ)
+day_text (Some day) None None = Some (date_text day)
+day_text _ _ _ = None
+
+abbrev pub text_of_date : Datetime → Option (List ℕ)
+text_of_date dt = day_text dt.date dt.time dt.offset
+
+abbrev pub as_date : Data → Option (List ℕ)
+as_date (string text) = Some text
+as_date (datetime dt) = text_of_date dt
+as_date _ = None
+
+-- an array of tables; nothing where it is left out
+abbrev pub are_tables : Items → Bool
+are_tables no_items = true
+are_tables (item d ds) = is_some (as_table d) && are_tables ds
+
+abbrev pub all_tables : Items → Option Items
+all_tables ds = if are_tables ds then Some ds else None
+
+abbrev pub tables_at : (key : List ℕ) → Members → Option Items
+tables_at = at_key (Some no_items) (λ d. option_and_then all_tables (as_array d))
+
+abbrev pub is_empty : Items → Bool
+is_empty no_items = true
+is_empty (item d ds) = false
+
+-- the tables, each read in order
+abbrev pub each_table : {X : Type 0} → (Members → Option X) → Items → Option (List X)
+each_table read no_items = Some []
+each_table read (item d ds) = option_and_then (λ x. option_map (λ xs. x ∷ xs) (each_table read ds)) (option_and_then read (as_table d))

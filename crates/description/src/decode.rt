@@ -1,0 +1,175 @@
+//! Descriptions that are read from the data of a TOML text.
+ghost use Rattle.std.specs.Prelude.{◌≡◌, Some, None, IfOk, IfErr, codes};
+ghost use Rattle.bpaf_help.specs.View.{section_name};
+ghost use Rattle.bpaf_meta.specs.View.{text_of};
+ghost use Rattle.toml.specs.View.{table_view};
+ghost use Rattle.toml_datetime.specs.Text.{date_text};
+ghost use Rattle.description.specs.Described.{commands_at, described, description_head, each_command, each_group, groups_at, section_from, title_words};
+ghost use Rattle.description.specs.Described.Steps.{description_head_seen, words_seen};
+ghost use Rattle.description.specs.Described.Values.{as_date, optional_at, text_of_date};
+ghost use Rattle.description.specs.Faults.{IsMemory};
+ghost use Rattle.description.specs.View.{description_said};
+
+mod faults;
+mod levels;
+mod options;
+mod taken;
+mod values;
+
+use crate::descriptions::Description;
+use bpaf_help::pages::Section;
+pub use faults::DescriptionError;
+use faults::Place;
+use lasting_names::Names;
+use levels::{Outline, level_of, outline_from};
+use options::options_in;
+use std::alloc::Allocator;
+use toml::value::Datetime;
+use toml::{Table, Value};
+use values::{required_name_at, see_keys, tables_at, text_at, value_at};
+
+const DESCRIPTION_KEYS: [&str; 16] = [
+    "name",
+    "section",
+    "date",
+    "vendor",
+    "title",
+    "help_option",
+    "about",
+    "header",
+    "footer",
+    "usage",
+    "command_required",
+    "option",
+    "choice",
+    "group",
+    "positional",
+    "command",
+];
+
+impl<'a, A: Allocator + Copy> Description<'a, A> {
+    /// The description that the table of a TOML text gives. Its texts are those of the table; its names are kept in `names`.
+    ///
+    /// After `Memory` a growth was refused. `Content` comes exactly where the table is no description, and says of the first fault
+    /// where it is: in a table first a key that is not known, then its keys in the order of the table of keys, then a name that is
+    /// taken, then the tables inside it.
+    pub fn from_table(
+        alloc: A,
+        names: &mut Names,
+        table: &'a Table,
+    ) -> Result<Description<'a, A>, DescriptionError<A>>
+        ensures ok { IfOk result (λ d. described (table_view table.now) ≡ Some (description_said d)) }
+        ensures refused { IfErr result (λ e. ¬ IsMemory e → described (table_view table.now) ≡ None) }
+    {
+        let at = Place::top(&alloc);
+        let head = description_head(&at, names, table)?;
+        let help_options = options_in(&at, "help_option", names, head.help_options)?;
+        let level = level_of(&at, names, head.outline)?;
+        Ok(Description {
+            name: head.name,
+            section: head.words.section,
+            date: head.words.date,
+            vendor: head.words.vendor,
+            title: head.words.title,
+            help_options,
+            level,
+        })
+    }
+}
+
+// The words of the title line.
+#[derive(Clone, Copy)]
+struct TitleWords<'a> {
+    section: Section<'a>,
+    date: Option<&'a str>,
+    vendor: Option<&'a str>,
+    title: Option<&'a str>,
+}
+
+// What a description says of itself, with the tables in it still to be read.
+#[derive(Clone, Copy)]
+struct DescriptionHead<'a> {
+    name: &'static str,
+    words: TitleWords<'a>,
+    help_options: &'a [Value],
+    outline: Outline<'a>,
+}
+
+#[tactic(auto, unfolding(crate::specs::Described::title_words))]
+fn title_words<'a, A: Allocator + Copy>(
+    at: &Place<'_, A>,
+    names: &mut Names,
+    table: &'a Table,
+) -> Result<TitleWords<'a>, DescriptionError<A>>
+    ensures ok { IfOk result (λ words. title_words (table_view table.now) ≡ Some (words_seen words)) }
+    ensures refused { IfErr result (λ e. ¬ IsMemory e → title_words (table_view table.now) ≡ None) }
+{
+    let section = section_of(text_at(at, table, "section")?);
+    let date = date_at(at, names, table)?;
+    let vendor = text_at(at, table, "vendor")?;
+    let title = text_at(at, table, "title")?;
+    Ok(TitleWords {
+        section,
+        date,
+        vendor,
+        title,
+    })
+}
+
+#[tactic(auto, unfolding(crate::specs::Described::description_head))]
+fn description_head<'a, A: Allocator + Copy>(
+    at: &Place<'_, A>,
+    names: &mut Names,
+    table: &'a Table,
+) -> Result<DescriptionHead<'a>, DescriptionError<A>>
+    ensures ok { IfOk result (λ head. description_head (table_view table.now) ≡ Some (description_head_seen head)) }
+    ensures refused { IfErr result (λ e. ¬ IsMemory e → description_head (table_view table.now) ≡ None) }
+    ensures groups { IfOk result (λ head. groups_at (codes "group") (table_view table.now) ≡ each_group (description_head_seen head).outline.lists.groups) }
+    ensures commands { IfOk result (λ head. commands_at (codes "command") (table_view table.now) ≡ each_command (description_head_seen head).outline.lists.commands) }
+{
+    see_keys(at, table, &DESCRIPTION_KEYS)?;
+    Ok(DescriptionHead {
+        name: required_name_at(at, names, table, "name")?,
+        words: title_words(at, names, table)?,
+        help_options: tables_at(at, table, "help_option")?,
+        outline: outline_from(at, table)?,
+    })
+}
+
+// The first section where none is named.
+fn section_of(name: Option<&str>) -> Section<'_>
+    ensures { section_name result ≡ section_from (text_of name.entry) }
+{
+    match name {
+        None => Section::General,
+        Some(name) => Section::Custom(name),
+    }
+}
+
+// The date, as a text or as a TOML date, whose text is kept with the names.
+fn date_at<'a, A: Allocator + Copy>(
+    at: &Place<'_, A>,
+    names: &mut Names,
+    table: &'a Table,
+) -> Result<Option<&'a str>, DescriptionError<A>>
+    ensures ok { IfOk result (λ date. optional_at as_date (codes "date") (table_view table.now) ≡ Some (text_of date)) }
+    ensures refused { IfErr result (λ e. ¬ IsMemory e → optional_at as_date (codes "date") (table_view table.now) ≡ None) }
+{
+    match value_at(table, "date") {
+        None => Ok(None),
+        Some(Value::String(text)) => Ok(Some(text.as_str())),
+        Some(
+            Value::Datetime(
+                Datetime {
+                    date: Some(day),
+                    time: None,
+                    offset: None,
+                },
+            ),
+        ) => {
+            let text = format!(in at.alloc(); "{day}")?;
+            Ok(Some(names.get(&text)?))
+        }
+        Some(_) => Err(at.fault("", "date", " is no text and no date")),
+    }
+}

@@ -1,0 +1,175 @@
+//! Names that stand twice on a level.
+ghost use Rattle.std.specs.Prelude.{◌≡◌, ◌++◌, codes, IfOk, IfErr, OnOk, flat_map, is_none, option_to_list, true, false};
+ghost use Rattle.toml.specs.Data.{as_table};
+ghost use Rattle.toml.specs.View.{items_view, table_view, view};
+ghost use Rattle.description.specs.Described.Taken.{are_distinct, has_distinct_names, level_commands, level_options, own_options, tables_in, tables_under, texts_at};
+ghost use Rattle.description.specs.Described.Steps.{views_of, words_of};
+ghost use Rattle.description.specs.Faults.{IsMemory};
+
+use super::faults::{DescriptionError, Place};
+use super::values::value_at;
+use std::alloc::{AllocError, Allocator};
+use std::collections::HashSet;
+use toml::{Table, Value};
+
+/// Refuses a level on which two options share a short or a long name, or two commands a name. It looks at the names alone, since
+/// what stands inside the tables is read later.
+pub fn see_names<A: Allocator + Copy>(
+    at: &Place<'_, A>,
+    table: &Table,
+) -> Result<(), DescriptionError<A>>
+    ensures ok { IfOk result (λ _. has_distinct_names (table_view table.now) ≡ true) }
+    ensures refused { IfErr result (λ e. ¬ IsMemory e → has_distinct_names (table_view table.now) ≡ false) }
+{
+    let alloc = at.alloc();
+    let mut options = Vec::new(alloc);
+    put_level_options(&mut options, table, alloc)?;
+    see_distinct(at, &options, "short", "-")?;
+    see_distinct(at, &options, "long", "--")?;
+    let mut commands = Vec::new(alloc);
+    put_level_commands(&mut commands, table, alloc)?;
+    see_distinct(at, &commands, "name", "command ")
+}
+
+fn see_distinct<A: Allocator + Copy>(
+    at: &Place<'_, A>,
+    tables: &[&Table],
+    key: &str,
+    prefix: &str,
+) -> Result<(), DescriptionError<A>>
+    ensures ok { IfOk result (λ _. are_distinct (texts_at key.now (views_of tables.now)) ≡ true) }
+    ensures refused { IfErr result (λ e. ¬ IsMemory e → are_distinct (texts_at key.now (views_of tables.now)) ≡ false) }
+{
+    let mut texts = Vec::new(at.alloc());
+    put_texts(&mut texts, tables, key)?;
+    match first_repeated(at.alloc(), &texts)? {
+        None => Ok(()),
+        Some(text) => Err(at.fault(prefix, text, " is taken")),
+    }
+}
+
+// The first text that stood before.
+fn first_repeated<'a, A: Allocator + Copy>(
+    alloc: A,
+    texts: &[&'a str],
+) -> Result<Option<&'a str>, AllocError>
+    ensures { IfOk result (λ repeated. is_none repeated ≡ are_distinct (words_of texts.now)) }
+{
+    let mut seen = HashSet::new(alloc);
+    for text in texts {
+        if !seen.insert(*text)? {
+            return Ok(Some(*text));
+        }
+    }
+    Ok(None)
+}
+
+// Each `put` appends; after `AllocError` some may stand there.
+
+fn put_texts<'a, A: Allocator>(
+    texts: &mut Vec<&'a str, A>,
+    tables: &[&'a Table],
+    key: &str,
+) -> Result<(), AllocError>
+    ensures { OnOk result (words_of texts.new.items ≡ words_of texts.old.items ++ texts_at key.now (views_of tables.now)) }
+{
+    for table in tables {
+        if let Some(Value::String(text)) = value_at(*table, key) {
+            texts.push(text.as_str())?;
+        }
+    }
+    Ok(())
+}
+
+fn put_tables<'a, A: Allocator>(
+    tables: &mut Vec<&'a Table, A>,
+    table: &'a Table,
+    key: &str,
+) -> Result<(), AllocError>
+    ensures { OnOk result (views_of tables.new.items ≡ views_of tables.old.items ++ tables_under key.now (table_view table.now)) }
+{
+    match value_at(table, key) {
+        Some(Value::Array(items)) => put_tables_in(tables, items),
+        _ => Ok(()),
+    }
+}
+
+fn put_tables_in<'a, A: Allocator>(
+    tables: &mut Vec<&'a Table, A>,
+    items: &'a [Value],
+) -> Result<(), AllocError>
+    ensures { OnOk result (views_of tables.new.items ≡ views_of tables.old.items ++ tables_in (items_view items.now)) }
+{
+    for item in items {
+        put_table(tables, item)?;
+    }
+    Ok(())
+}
+
+fn put_table<'a, A: Allocator>(
+    tables: &mut Vec<&'a Table, A>,
+    item: &'a Value,
+) -> Result<(), AllocError>
+    ensures { OnOk result (views_of tables.new.items ≡ views_of tables.old.items ++ option_to_list (as_table (view item.now))) }
+{
+    if let Value::Table(table) = item {
+        tables.push(table)?;
+    }
+    Ok(())
+}
+
+// What stands at a key of each table at another key.
+fn put_inner_tables<'a, A: Allocator + Copy>(
+    tables: &mut Vec<&'a Table, A>,
+    table: &'a Table,
+    outer: &str,
+    key: &str,
+    alloc: A,
+) -> Result<(), AllocError>
+    ensures { OnOk result (views_of tables.new.items ≡ views_of tables.old.items ++ flat_map (tables_under key.now) (tables_under outer.now (table_view table.now))) }
+{
+    let mut holders = Vec::new(alloc);
+    put_tables(&mut holders, table, outer)?;
+    for holder in &holders {
+        put_tables(tables, *holder, key)?;
+    }
+    Ok(())
+}
+
+fn put_own_options<'a, A: Allocator + Copy>(
+    tables: &mut Vec<&'a Table, A>,
+    table: &'a Table,
+    alloc: A,
+) -> Result<(), AllocError>
+    ensures { OnOk result (views_of tables.new.items ≡ views_of tables.old.items ++ own_options (table_view table.now)) }
+{
+    put_tables(tables, table, "option")?;
+    put_inner_tables(tables, table, "choice", "option", alloc)
+}
+
+fn put_level_options<'a, A: Allocator + Copy>(
+    tables: &mut Vec<&'a Table, A>,
+    table: &'a Table,
+    alloc: A,
+) -> Result<(), AllocError>
+    ensures { OnOk result (views_of tables.new.items ≡ views_of tables.old.items ++ level_options (table_view table.now)) }
+{
+    put_own_options(tables, table, alloc)?;
+    let mut groups = Vec::new(alloc);
+    put_tables(&mut groups, table, "group")?;
+    for group in &groups {
+        put_own_options(tables, *group, alloc)?;
+    }
+    Ok(())
+}
+
+fn put_level_commands<'a, A: Allocator + Copy>(
+    tables: &mut Vec<&'a Table, A>,
+    table: &'a Table,
+    alloc: A,
+) -> Result<(), AllocError>
+    ensures { OnOk result (views_of tables.new.items ≡ views_of tables.old.items ++ level_commands (table_view table.now)) }
+{
+    put_tables(tables, table, "command")?;
+    put_inner_tables(tables, table, "group", "command", alloc)
+}

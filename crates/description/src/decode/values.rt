@@ -1,0 +1,228 @@
+//! What stands at a key of a table.
+ghost use Rattle.std.specs.Prelude.{◌≡◌, Some, None, IfOk, IfErr, option_map, true, false, chars, bytes_eq, OnOk, [], ◌∷◌, ◌++◌};
+ghost use Rattle.std.specs.List.{list_all, list_any};
+ghost use Rattle.bpaf_meta.specs.View.{text_of};
+ghost use Rattle.toml.specs.Data.{get_member, as_str};
+ghost use Rattle.toml.specs.View.{items_view, table_view, view};
+ghost use Rattle.description.specs.Described.Values.{are_tables, is_empty, as_name, as_short, flag_at, has_only, is_name, is_name_character, optional_at, required_at, is_short, only_character, tables_at};
+ghost use Rattle.description.specs.Described.Steps.{words_of};
+ghost use Rattle.description.specs.Faults.{IsMemory};
+
+use super::faults::{DescriptionError, Place};
+use lasting_names::Names;
+use std::alloc::{AllocError, Allocator};
+use toml::{Table, Value};
+
+/// Refuses a table that has a key which is none of these.
+pub fn see_keys<A: Allocator + Copy>(
+    at: &Place<'_, A>,
+    table: &Table,
+    keys: &[&str],
+) -> Result<(), DescriptionError<A>>
+    ensures ok { IfOk result (λ _. has_only (words_of keys.now) (table_view table.now) ≡ true) }
+    ensures refused { IfErr result (λ e. ¬ IsMemory e → has_only (words_of keys.now) (table_view table.now) ≡ false) }
+{
+    for (key, _) in table.iter() {
+        if !is_known(key.as_str(), keys) {
+            return Err(at.fault("no key ", key, " is known here"));
+        }
+    }
+    Ok(())
+}
+
+fn is_known(key: &str, keys: &[&str]) -> bool
+    ensures { result ≡ list_any (λ known. bytes_eq known key.now) (words_of keys.now) }
+{
+    for known in keys {
+        if *known == key {
+            return true;
+        }
+    }
+    false
+}
+
+/// The value at a key.
+pub fn value_at<'a>(table: &'a Table, key: &str) -> Option<&'a Value>
+    ensures { option_map (λ v. view v.now) result ≡ get_member key.now (table_view table.now) }
+{
+    table.get(key)
+}
+
+/// The text at a key.
+pub fn text_at<'a, A: Allocator + Copy>(
+    at: &Place<'_, A>,
+    table: &'a Table,
+    key: &str,
+) -> Result<Option<&'a str>, DescriptionError<A>>
+    ensures ok { IfOk result (λ text. optional_at as_str key.now (table_view table.now) ≡ Some (text_of text)) }
+    ensures refused { IfErr result (λ e. ¬ IsMemory e → optional_at as_str key.now (table_view table.now) ≡ None) }
+{
+    match value_at(table, key) {
+        None => Ok(None),
+        Some(Value::String(text)) => Ok(Some(text.as_str())),
+        Some(_) => Err(at.fault("", key, " is no text")),
+    }
+}
+
+/// The text at a key that may not be left out.
+pub fn required_text_at<'a, A: Allocator + Copy>(
+    at: &Place<'_, A>,
+    table: &'a Table,
+    key: &str,
+) -> Result<&'a str, DescriptionError<A>>
+    ensures ok { IfOk result (λ text. required_at as_str key.now (table_view table.now) ≡ Some text.now) }
+    ensures refused { IfErr result (λ e. ¬ IsMemory e → required_at as_str key.now (table_view table.now) ≡ None) }
+{
+    match text_at(at, table, key)? {
+        Some(text) => Ok(text),
+        None => Err(at.fault("", key, " is missing")),
+    }
+}
+
+/// The flag at a key.
+pub fn flag_at<A: Allocator + Copy>(
+    at: &Place<'_, A>,
+    table: &Table,
+    key: &str,
+    default: bool,
+) -> Result<bool, DescriptionError<A>>
+    ensures ok { IfOk result (λ flag. flag_at default key.now (table_view table.now) ≡ Some flag) }
+    ensures refused { IfErr result (λ e. ¬ IsMemory e → flag_at default key.now (table_view table.now) ≡ None) }
+{
+    match value_at(table, key) {
+        None => Ok(default),
+        Some(Value::Boolean(flag)) => Ok(*flag),
+        Some(_) => Err(at.fault("", key, " is no true or false")),
+    }
+}
+
+fn is_name_character(character: char) -> bool
+    ensures { result ≡ is_name_character character }
+{
+    !character.is_whitespace() && !character.is_control() && character != '='
+}
+
+fn is_name(text: &str) -> bool
+    ensures { result ≡ is_name text.now }
+{
+    !text.is_empty() && are_name_characters(text)
+}
+
+fn are_name_characters(text: &str) -> bool
+    ensures { result ≡ list_all is_name_character (chars text.now) }
+{
+    text.chars().all(is_name_character)
+}
+
+/// The name at a key, as a text that lasts.
+pub fn name_at<A: Allocator + Copy>(
+    at: &Place<'_, A>,
+    names: &mut Names,
+    table: &Table,
+    key: &str,
+) -> Result<Option<&'static str>, DescriptionError<A>>
+    ensures ok { IfOk result (λ name. optional_at as_name key.now (table_view table.now) ≡ Some (text_of name)) }
+    ensures refused { IfErr result (λ e. ¬ IsMemory e → optional_at as_name key.now (table_view table.now) ≡ None) }
+{
+    match text_at(at, table, key)? {
+        None => Ok(None),
+        Some(text) if is_name(text) => Ok(Some(names.get(text)?)),
+        Some(_) => Err(at.fault("", key, " is no name")),
+    }
+}
+
+/// The name at a key that may not be left out.
+pub fn required_name_at<A: Allocator + Copy>(
+    at: &Place<'_, A>,
+    names: &mut Names,
+    table: &Table,
+    key: &str,
+) -> Result<&'static str, DescriptionError<A>>
+    ensures ok { IfOk result (λ name. required_at as_name key.now (table_view table.now) ≡ Some name.now) }
+    ensures refused { IfErr result (λ e. ¬ IsMemory e → required_at as_name key.now (table_view table.now) ≡ None) }
+{
+    match name_at(at, names, table, key)? {
+        Some(name) => Ok(name),
+        None => Err(at.fault("", key, " is missing")),
+    }
+}
+
+// The character of a text that has one.
+fn only_character(text: &str) -> Option<char>
+    ensures { result ≡ only_character (chars text.now) }
+{
+    let mut characters = text.chars();
+    let first = characters.next();
+    if characters.next().is_none() {
+        first
+    } else {
+        None
+    }
+}
+
+fn is_short(character: char) -> bool
+    ensures { result ≡ is_short character }
+{
+    is_name_character(character) && character != '-'
+}
+
+/// The short name at a key.
+pub fn short_at<A: Allocator + Copy>(
+    at: &Place<'_, A>,
+    table: &Table,
+    key: &str,
+) -> Result<Option<char>, DescriptionError<A>>
+    ensures ok { IfOk result (λ short. optional_at as_short key.now (table_view table.now) ≡ Some short) }
+    ensures refused { IfErr result (λ e. ¬ IsMemory e → optional_at as_short key.now (table_view table.now) ≡ None) }
+{
+    let Some(text) = text_at(at, table, key)? else {
+        return Ok(None);
+    };
+    match only_character(text) {
+        Some(short) if is_short(short) => Ok(Some(short)),
+        _ => Err(at.fault("", key, " is not one character")),
+    }
+}
+
+/// The tables of the array at a key.
+pub fn tables_at<'a, A: Allocator + Copy>(
+    at: &Place<'_, A>,
+    table: &'a Table,
+    key: &str,
+) -> Result<&'a [Value], DescriptionError<A>>
+    ensures ok { IfOk result (λ tables. tables_at key.now (table_view table.now) ≡ Some (items_view tables.now)) }
+    ensures refused { IfErr result (λ e. ¬ IsMemory e → tables_at key.now (table_view table.now) ≡ None) }
+{
+    match value_at(table, key) {
+        None => Ok(&[]),
+        Some(Value::Array(items)) if are_tables(items) => Ok(items),
+        Some(_) => Err(at.fault("", key, " is no array of tables")),
+    }
+}
+
+fn are_tables(items: &[Value]) -> bool
+    ensures { result ≡ are_tables (items_view items.now) }
+{
+    for item in items {
+        if !item.is_table() {
+            return false;
+        }
+    }
+    true
+}
+
+/// Whether there is none.
+#[tactic(auto, using(crate::proofs::Reading::no_items_there))]
+pub fn is_empty(items: &[Value]) -> bool
+    ensures { result ≡ is_empty (items_view items.now) }
+{
+    items.is_empty()
+}
+
+/// Puts one more last.
+pub fn push<T: Drop, A: Allocator>(list: &mut Vec<T, A>, one: T) -> Result<(), AllocError>
+    ensures { OnOk result (list.new.items ≡ list.old.items ++ one ∷ []) }
+{
+    list.push(one)?;
+    Ok(())
+}
