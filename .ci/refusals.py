@@ -1,5 +1,5 @@
 #!/usr/bin/env python3
-"""Each public call of a library or of the program's engine that can refuse a growth stands in docs/REFUSALS.md with the test that refuses its growths in turn.
+"""Each public call of a library or of a program's engine that can refuse a growth stands in docs/REFUSALS.md with the test that refuses its growths in turn.
 
 Prints what is missing there, and rows that name no such call or no test. Ends with status 1 where there is any.
 """
@@ -8,8 +8,8 @@ import re
 import sys
 
 TOP = pathlib.Path(__file__).resolve().parent.parent
-LIBRARIES = ["bpaf_roff", "bpaf_doc", "bpaf_meta", "bpaf_items", "bpaf_help", "helpdoc_engine", "description"]
-REFUSES = re.compile(r"\b(AllocError|HelpError|Fault)\b")
+LIBRARIES = ["bpaf_roff", "bpaf_doc", "bpaf_meta", "bpaf_items", "bpaf_help", "watched", "helpdoc_engine", "description"]
+REFUSES = re.compile(r"\b(AllocError|HelpError|ReadError|Fault)\b")
 CALL = re.compile(r"(?m)^( *)pub fn (\w+)(?:<[^{}]*?>)?\(([^{}]*?)\)\s*->\s*(.*?)(?=\n\s*(?:where|requires|ensures|\{)|\s*\{)", re.S)
 ROW = re.compile(r"(?m)^\| `([\w:]+)` \| `(\w+)::(\w+)`")
 

@@ -2,10 +2,10 @@
 
 ghost use Rattle.std.specs.Prelude.{◌≡◌, ◌≢◌, ◌↔◌, ◌⊎◌, IsUtf8, IsOk, IfOk, IfErr, OnOk, OnErr, IsErrOf, string_bytes};
 ghost use Rattle.std.specs.Io.KnownBytes.{Appends};
-ghost use Rattle.watched.specs.Watched.{AppendsPart, IsMarked, IsUnmarked};
+ghost use Rattle.watched.specs.Watched.{AppendsPart, IsMarked, IsUnmarked, ReadsText, ReadsNoText};
 ghost use Rattle.bpaf_doc.specs.Manpage.Page.{title_page};
 ghost use Rattle.helpdoc_engine.specs.Rendering.{IsPage, document_of_text, text_title};
-ghost use Rattle.helpdoc_engine.specs.Runs.{ReadsAll, ReadsText, ReadsNoText, WritesPage, WritesBeginning};
+ghost use Rattle.helpdoc_engine.specs.Runs.{WritesPage, WritesBeginning};
 ghost use Rattle.helpdoc_engine.specs.Sample.{sample_document, sample_title};
 
 use crate::faults::Fault;
@@ -20,9 +20,6 @@ use watched::Watched;
 
 // The section of a manual page for programs.
 const SECTION: &str = "1";
-
-// How many bytes a read asks for.
-const CHUNK: usize = 64 * 1024;
 
 /// Reads all that the reader has left, as one text, and writes its page and nothing more. The whole
 /// page is made before the first write, so that an error other than `Write` leaves the writer as it
@@ -59,7 +56,7 @@ pub fn run_text<A: Allocator + Copy, R: Read, W: Write>(
     ensures not_utf8 { IsErrOf result Fault.NotUtf8 →
         ReadsNoText (R.remaining reader.old.end) (R.remaining reader.new.end) }
 {
-    let bytes = read_all(alloc, reader)?;
+    let bytes = reader.read_all(alloc)?;
     let input = text_of(bytes)?;
     let page = page_of(alloc, form, input.as_str())?;
     write_all(writer, page.as_str())
@@ -93,26 +90,6 @@ pub fn run_sample<A: Allocator + Copy, W: Write>(
 {
     let sample = sample_page(alloc, form)?;
     write_all(writer, sample.as_str())
-}
-
-// All that the reader has left. Each turn but the last makes the bytes more, so that a reader which
-// never ends meets `Memory`.
-fn read_all<A: Allocator, R: Read>(alloc: A, reader: &mut Watched<R>) -> Result<Vec<u8, A>, Fault>
-    requires { IsUnmarked reader.old }
-    ensures ok { IfOk result (λ bytes.
-        ReadsAll (R.remaining reader.old.end) (R.remaining reader.new.end) bytes.items) }
-    ensures read { IsErrOf result Fault.Read ↔ IsMarked reader.new }
-    ensures fault { IfErr result (λ fault. (fault ≡ Fault.Read) ⊎ (fault ≡ Fault.Memory)) }
-{
-    let mut chunk = [0; CHUNK];
-    let mut bytes = Vec::new(alloc);
-    loop {
-        match reader.read(&mut chunk) {
-            Ok(0) => return Ok(bytes),
-            Ok(taken) => bytes.extend_from_slice(&chunk[..taken])?,
-            Err(_) => return Err(Fault::Read),
-        }
-    }
 }
 
 // The bytes as a text, without a copy.

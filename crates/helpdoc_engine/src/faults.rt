@@ -6,6 +6,7 @@ ghost use Rattle.helpdoc_engine.specs.declared.faults.Fault.TheVariants.{Memory}
 use bpaf_help::meta_help::HelpError;
 use std::alloc::{AllocError, Allocator};
 use thiserror::Error;
+use watched::ReadError;
 
 /// Why a run fails. It is shown as the line that the program writes on standard error.
 #[derive(Clone, Copy, Debug, PartialEq, Eq, Error)]
@@ -32,6 +33,19 @@ impl From<AllocError> for Fault {
 
     fn from(_error: AllocError) -> Fault {
         Fault::Memory
+    }
+}
+
+impl From<ReadError> for Fault {
+    ghost use Rattle.helpdoc_engine.specs.Faults.{fault_of_read};
+
+    ghost from_gives = { λ error fault. fault ≡ fault_of_read error };
+
+    fn from(error: ReadError) -> Fault {
+        match error {
+            ReadError::Failed(_) => Fault::Read,
+            ReadError::Refused(_) => Fault::Memory,
+        }
     }
 }
 

@@ -4,11 +4,7 @@
 #![tactic(auto)]
 
 #[cfg(test)]
-mod desk;
-#[cfg(test)]
 mod ends;
-#[cfg(test)]
-mod fakes;
 #[cfg(test)]
 mod pages;
 #[cfg(test)]

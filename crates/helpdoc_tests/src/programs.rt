@@ -1,9 +1,9 @@
 //! Whole runs of the program: the status, and what stands on the streams.
-use crate::desk::Desk;
 use crate::pages::{INPUT, PAGE, PAGES, SAMPLE};
 use helpdoc_engine::program::{WRONG_WORDS, run};
 use helpdoc_engine::words::{Choice, Form};
 use linked_list_allocator::LocalHeap;
+use stand_ins::desk::Desk;
 use std::alloc::AllocError;
 use std::process::{Abort, ExitCode};
 use std::test::Fail;

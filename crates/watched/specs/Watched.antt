@@ -1,7 +1,7 @@
 -- A reader or a writer that remembers whether a call on it has failed.
-use Rattle.std.specs.Prelude.{◌≡◌, ◌≢◌, ℕ, Bool, true, false, not, ◌&&◌, ◌==◌, Option, List, [], ◌++◌, length, Result, Ok, Err, IsTrue, refl}
+use Rattle.std.specs.Prelude.{◌≡◌, ◌≢◌, ℕ, Bool, true, false, not, ◌&&◌, ◌==◌, Option, List, [], ◌++◌, length, Result, Ok, Err, IsTrue, IsUtf8, refl}
 use Rattle.std.specs.Coded.{Coded, code_by, coded×, coded_bool}
-use Rattle.std.specs.Io.KnownBytes.{Appends}
+use Rattle.std.specs.Io.KnownBytes.{Appends, Consumes, IsAtEnd}
 
 -- the reader or the writer, and the mark that a call on it has failed
 pub record Watch (E : Type 0) : Type 0 where
@@ -32,3 +32,17 @@ pub record AppendsPart (before after : Option (List ℕ)) (bytes : List ℕ) : T
   pub split : bytes ≡ front ++ rest
   pub missing : rest ≢ []
   pub written : Appends before after front
+
+-- The input is all that the reader had left. A reader tells which bytes it has left, here before and after; of one that doesn't
+-- tell, nothing is said.
+pub record ReadsAll (before after : Option (List ℕ)) (input : List ℕ) : Type 0 where
+  pub given : Consumes before after input
+  pub ended : IsAtEnd after
+
+-- all that the reader had left is a text, of which the fact holds
+abbrev pub ReadsText : Option (List ℕ) → Option (List ℕ) → (List ℕ → Type 0) → Type 0
+ReadsText before after Fact = (input : List ℕ) × ReadsAll before after input × IsUtf8 input × Fact input
+
+-- all that the reader had left is no text
+abbrev pub ReadsNoText : Option (List ℕ) → Option (List ℕ) → Type 0
+ReadsNoText before after = (input : List ℕ) × ReadsAll before after input × ¬ IsUtf8 input

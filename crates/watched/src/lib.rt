@@ -1,11 +1,13 @@
 //! Readers and writers that remember whether a call on them has failed.
 #![tactic(auto)]
 
-ghost use Rattle.std.specs.Prelude.{◌≡◌, ◌||◌, OnErr, OnOk, is_err};
+ghost use Rattle.std.specs.Prelude.{◌≡◌, ◌||◌, IfOk, OnErr, OnOk, is_err};
 ghost use Rattle.std.specs.Io.{ReadsAtMost, WritesAtMost};
 ghost use Rattle.std.specs.Io.KnownBytes.{Appends, ReadConsumes, WriteAppends};
-ghost use Rattle.watched.specs.Watched.{AppendsPart, IsUnmarked, is_failed_write};
+ghost use Rattle.watched.specs.Reading.{IsRefused, is_failed_read};
+ghost use Rattle.watched.specs.Watched.{AppendsPart, IsUnmarked, ReadsAll, is_failed_write};
 
+use std::alloc::{AllocError, Allocator};
 use std::io;
 use std::io::{ErrorKind, Read, Write};
 use std::marker::Model;
@@ -55,6 +57,26 @@ impl<E> Watched<E> {
     }
 }
 
+/// Why not all of an input was read.
+#[derive(Clone, Copy, Debug)]
+pub enum ReadError {
+    /// A read failed.
+    Failed(io::Error),
+    /// A growth was refused.
+    Refused(AllocError),
+}
+
+impl From<AllocError> for ReadError {
+    ghost from_gives = { λ _ error. IsRefused error };
+
+    fn from(error: AllocError) -> ReadError {
+        ReadError::Refused(error)
+    }
+}
+
+// How many bytes a read asks for.
+const CHUNK: usize = 64 * 1024;
+
 impl<R: Read> Watched<R> {
     /// Reads into the buffer, and answers what the reader answers. An error sets the mark, of
     /// whatever kind it is.
@@ -67,6 +89,24 @@ impl<R: Read> Watched<R> {
         let result = self.inner.read(buf);
         self.has_failed |= result.is_err();
         result
+    }
+
+    /// All that the reader has left. A read that fails ends it, of whatever kind its error is, and so does a
+    /// growth that is refused: a reader that never ends meets that. In both cases some was read, and is lost.
+    pub fn read_all<A: Allocator>(&mut self, alloc: A) -> Result<Vec<u8, A>, ReadError>
+        ensures ok { IfOk result (λ bytes.
+            ReadsAll (R.remaining self.old.end) (R.remaining self.new.end) bytes.items) }
+        ensures mark { self.new.marked ≡ (self.old.marked || is_failed_read result) }
+    {
+        let mut chunk = [0; CHUNK];
+        let mut bytes = Vec::new(alloc);
+        loop {
+            match self.read(&mut chunk) {
+                Ok(0) => return Ok(bytes),
+                Ok(taken) => bytes.extend_from_slice(&chunk[..taken])?,
+                Err(error) => return Err(ReadError::Failed(error)),
+            }
+        }
     }
 }
 

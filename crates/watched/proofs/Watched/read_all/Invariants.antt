@@ -1,12 +1,12 @@
-use Rattle.std.proofs.Common.{◌≡◌, ◌-◌, ◌^◌, false, vec_len}
+use Rattle.std.proofs.Common.{◌≡◌, ◌-◌, ◌^◌, vec_len}
 use Rattle.std.specs.Io.KnownBytes.{Consumes}
-use Rattle.helpdoc_engine.proofs.engine.read_all.Given as goal
+use Rattle.watched.proofs.Watched.read_all.Given as goal
 
 -- the bytes so far are what was read, and no read has failed
 abbrev pub invariant-loop-bytes : goal.invariant-loop-bytes
 invariant-loop-bytes g l =
-    (l.reader.marked ≡ false)
-    × Consumes (g.R.Read.remaining l.initial.reader.end) (g.R.Read.remaining l.reader.end) l.bytes.items
+    (l.self.marked ≡ l.fn.self.marked)
+    × Consumes (g.R.Read.remaining l.initial.self.end) (g.R.Read.remaining l.self.end) l.bytes.items
 
 -- how many bytes more a vector could hold
 abbrev pub decreases-loop-bytes : goal.decreases-loop-bytes
