@@ -1,0 +1,37 @@
+-- Which fault an error is, and what is said of a fault.
+use Rattle.std.specs.Prelude.{⊤}
+use Rattle.std.specs.declared.alloc.Global.{Global}
+use Rattle.toml.specs.declared.de.error.Error.{Error}
+use Rattle.watched.specs.declared.ReadError.{ReadError}
+use Rattle.watched.specs.declared.ReadError.TheVariants as reading
+use Rattle.description.specs.declared.decode.faults.DescriptionError.{DescriptionError}
+use Rattle.description.specs.declared.decode.faults.DescriptionError.TheVariants as describing
+use Rattle.clidoc_engine.specs.declared.places.Place.{Place}
+use Rattle.clidoc_engine.specs.declared.faults.Fault.{Fault}
+use Rattle.clidoc_engine.specs.declared.faults.Fault.TheVariants.{NotUtf8, NotToml, NotDescription, Read, Write, Memory}
+
+abbrev pub fault_of_read : ReadError → Fault
+fault_of_read (reading.Failed error) = Read
+fault_of_read (reading.Refused error) = Memory
+
+abbrev pub fault_of_description : DescriptionError Global → Fault
+fault_of_description (describing.Memory error) = Memory
+fault_of_description (describing.Content text) = NotDescription text
+
+-- where a fault says that the text is no TOML, this holds of the place and of the error that it tells
+abbrev pub IfNotToml : Fault → (Place → Error → Type 0) → Type 0
+IfNotToml (NotToml place error) P = P place error
+IfNotToml NotUtf8 P = ⊤
+IfNotToml (NotDescription text) P = ⊤
+IfNotToml Read P = ⊤
+IfNotToml Write P = ⊤
+IfNotToml Memory P = ⊤
+
+-- where a fault says that the TOML is no description, this holds
+abbrev pub IfNotDescription : Fault → Type 0 → Type 0
+IfNotDescription (NotDescription text) P = P
+IfNotDescription NotUtf8 P = ⊤
+IfNotDescription (NotToml place error) P = ⊤
+IfNotDescription Read P = ⊤
+IfNotDescription Write P = ⊤
+IfNotDescription Memory P = ⊤

@@ -1,0 +1,28 @@
+-- What a text gives: a description, or nothing, and then why.
+use Rattle.std.specs.Prelude.{◌≡◌, ℕ, List, Some, None, take}
+use Rattle.toml.specs.Data.{Members}
+use Rattle.toml.specs.Errors.{span_start}
+use Rattle.toml.specs.Parse.{parse_document}
+use Rattle.toml.specs.declared.de.error.Error.{Error}
+use Rattle.description.specs.Content.{DescriptionSaid}
+use Rattle.description.specs.Described.{described}
+use Rattle.clidoc_engine.specs.declared.places.Place.{Place}
+use Rattle.clidoc_engine.specs.Places.{column_behind, line_behind}
+
+-- the text is TOML that gives this description
+pub record Describes (text : List ℕ) (d : DescriptionSaid) : Type 0 where
+  pub table : Members
+  pub toml : parse_document text ≡ Some table
+  pub gives : described table ≡ Some d
+
+-- the text is no TOML, and the place is that where the error begins
+pub record IsNoToml (text : List ℕ) (place : Place) (error : Error) : Type 0 where
+  pub refused : parse_document text ≡ None
+  pub line : place.line ≡ line_behind (take (span_start error) text)
+  pub column : place.column ≡ column_behind (take (span_start error) text)
+
+-- the text is TOML that gives no description
+pub record IsNoDescription (text : List ℕ) : Type 0 where
+  pub table : Members
+  pub toml : parse_document text ≡ Some table
+  pub refused : described table ≡ None

@@ -1,0 +1,70 @@
+//! Why a run of the program fails.
+
+ghost use Rattle.std.specs.Prelude.{◌≡◌};
+ghost use Rattle.clidoc_engine.specs.declared.faults.Fault.TheVariants.{Memory};
+
+use crate::places::Place;
+use description::DescriptionError;
+use std::alloc::AllocError;
+use thiserror::Error;
+use watched::ReadError;
+
+/// Why a run fails. It is shown as the line that the program writes on standard error.
+#[derive(Debug, Drop, Error)]
+pub enum Fault {
+    /// What was read is no text.
+    #[error("clidoc: input is not UTF-8")]
+    NotUtf8,
+    /// The text is no TOML: the place where its reader stopped, and why.
+    #[error("clidoc: line {}, column {}: {}", .place.line, .place.column, .error.message())]
+    NotToml {
+        place: Place,
+        error: toml::de::Error,
+    },
+    /// The TOML is no description: the way to the faulty table in it, and what is wrong there.
+    #[error("clidoc: {0}")]
+    NotDescription(String),
+    /// A read failed.
+    #[error("clidoc: read failed")]
+    Read,
+    /// A write failed, or took nothing.
+    #[error("clidoc: write failed")]
+    Write,
+    /// A growth was refused, or the arguments could not be read.
+    #[error("clidoc: no memory")]
+    Memory,
+}
+
+impl From<AllocError> for Fault {
+    ghost from_gives = { λ _ fault. fault ≡ Memory };
+
+    fn from(_error: AllocError) -> Fault {
+        Fault::Memory
+    }
+}
+
+impl From<ReadError> for Fault {
+    ghost use Rattle.clidoc_engine.specs.Faults.{fault_of_read};
+
+    ghost from_gives = { λ error fault. fault ≡ fault_of_read error };
+
+    fn from(error: ReadError) -> Fault {
+        match error {
+            ReadError::Failed(_) => Fault::Read,
+            ReadError::Refused(_) => Fault::Memory,
+        }
+    }
+}
+
+impl From<DescriptionError> for Fault {
+    ghost use Rattle.clidoc_engine.specs.Faults.{fault_of_description};
+
+    ghost from_gives = { λ error fault. fault ≡ fault_of_description error };
+
+    fn from(error: DescriptionError) -> Fault {
+        match error {
+            DescriptionError::Memory(_) => Fault::Memory,
+            DescriptionError::Content(text) => Fault::NotDescription(text),
+        }
+    }
+}

@@ -1,0 +1,36 @@
+//! Places in a text.
+
+ghost use Rattle.std.specs.Prelude.{◌≡◌};
+ghost use Rattle.clidoc_engine.specs.Places.{begins_character, column_behind, line_behind};
+
+/// A place in a text, by its line and its column. Both are counted from 1.
+#[derive(Clone, Copy, Debug, PartialEq, Eq)]
+pub struct Place {
+    pub line: usize,
+    pub column: usize,
+}
+
+/// The place behind this front of a text. A character that is cut there counts.
+pub fn place_behind(front: &[u8]) -> Place
+    ensures line { result.line ≡ line_behind front.now }
+    ensures column { result.column ≡ column_behind front.now }
+{
+    let mut line = 1;
+    let mut column = 1;
+    for byte in front {
+        if *byte == b'\n' {
+            line += 1;
+            column = 1;
+        } else if begins_character(*byte) {
+            column += 1;
+        }
+    }
+    Place { line, column }
+}
+
+// Whether a character begins with this byte: the others of a character are from 0x80 to 0xBF.
+fn begins_character(byte: u8) -> bool
+    ensures { result ≡ begins_character byte }
+{
+    byte < 0x80 || 0xC0 <= byte
+}
