@@ -1,0 +1,209 @@
+"""Random descriptions, as the data of a TOML text, and a TOML text of such data."""
+import unicodedata
+
+WORDS = [
+    "word", "Prints things", "-v", "--verbose", "FILE", "a<b", "<tag>", "&amp;", "&", "'q'", "“quoted”", "don't", ".dot", "..",
+    "\\", "\\-", "a\\b", "`", "``", "[x]", "]", "*", "_", "#", "# h", ">", "-", "--", "|", "é", "ßtraße", "日本", "日本語", "한국",
+    "ｆｕｌｌ", "カタ", "😀", "👩‍👩‍👧", "❤️", "☺️ok", "İ", "ǆ", "a\u0301", "\u200b", "\u00a0", "\u2003", "\u3000", "\u0085", "\u001b[1m",
+    "\u0000", "\u007f", "\t", "\"", "\"\"\"", "'''", "long-long-word-of-some-length", "a" * 40, "x", "", "name", "=", "$HOME", "{}", "%s",
+]
+JOINTS = [" ", " ", " ", " ", "", "  ", "\n", "\n ", "\n\n", "\n\n\n", "\n    ", "\r\n", "\n```\n", "\n\n```text\n", "\n- ", ", "]
+LETTERS = "abcdefghijklmnopqrstuvwxyzABCXYZ0123456789-_.'\"\\<>&*`[]/:@éß日한ｆ😀❤\u0301\u200b#$%+~|"
+SECTIONS = ["1", "2", "3", "4", "5", "6", "7", "8", "9", "1p", "", "n m", "\\", "日本"]
+KEY_LETTERS = set("abcdefghijklmnopqrstuvwxyzABCDEFGHIJKLMNOPQRSTUVWXYZ0123456789-_")
+
+
+class Describer:
+    """Makes descriptions. The chances are those of a `random.Random`."""
+
+    def __init__(self, random):
+        self.random = random
+
+    def some(self, chance):
+        return self.random.random() < chance
+
+    def text(self):
+        pieces = []
+        for _ in range(self.random.choice([0, 1, 1, 1, 2, 2, 3, 5, 9, 20])):
+            pieces += [self.random.choice(WORDS), self.random.choice(JOINTS)]
+        return "".join(pieces if self.some(0.3) else pieces[:-1])
+
+    def name(self):
+        return "".join(self.random.choice(LETTERS) for _ in range(self.random.choice([1, 2, 3, 4, 6, 8, 12, 30])))
+
+    def fresh(self, taken, make):
+        while True:
+            name = make()
+            if name not in taken:
+                taken.add(name)
+                return name
+
+    def maybe(self, table, key, make, chance=0.5):
+        if self.some(chance):
+            table[key] = make()
+
+    def flag(self):
+        return self.some(0.5)
+
+    def short(self):
+        return self.random.choice(LETTERS.replace("-", ""))
+
+    def option(self, shorts, longs, wraps=True):
+        table = {}
+        which = self.random.choice(["short", "long", "both"])
+        if which != "long":
+            table["short"] = self.fresh(shorts, self.short)
+        if which != "short":
+            table["long"] = self.fresh(longs, self.name)
+        self.maybe(table, "value", lambda: self.random.choice(["FILE", "N", "a b", "", "日本", self.text()]))
+        self.maybe(table, "help", self.text, 0.7)
+        self.maybe(table, "env", self.name, 0.3)
+        if wraps:
+            self.maybe(table, "required", self.flag, 0.4)
+            self.maybe(table, "repeated", self.flag, 0.4)
+        return table
+
+    def choice(self, shorts, longs):
+        table = {"option": [self.option(shorts, longs, False) for _ in range(self.random.randint(1, 3))]}
+        self.maybe(table, "required", self.flag)
+        return table
+
+    def positional(self):
+        table = {"value": self.random.choice(["FILE", "INPUT", "", "a b", self.text()])}
+        self.maybe(table, "help", self.text, 0.7)
+        for key in ["required", "repeated", "strict"]:
+            self.maybe(table, key, self.flag, 0.4)
+        return table
+
+    def lists(self, table, depth, names, kinds):
+        """Puts options, choices, positional values and commands into a table, of a level or of a group of it."""
+        shorts, longs, commands = names
+        make = {
+            "option": lambda: self.option(shorts, longs),
+            "choice": lambda: self.choice(shorts, longs),
+            "positional": self.positional,
+            "command": lambda: self.command(depth + 1, commands),
+        }
+        for kind in kinds:
+            most = (0 if depth >= 3 else 2) if kind == "command" else 3
+            count = self.random.choice([0, 0, 1, most]) if most else 0
+            if count or self.some(0.05):
+                table[kind] = [make[kind]() for _ in range(min(count, most))]
+
+    def group(self, depth, names):
+        table = {"title": self.text()}
+        while not any(table.get(kind) for kind in ["option", "choice", "positional", "command"]):
+            self.lists(table, depth, names, ["option", "choice", "positional", "command"])
+        return table
+
+    def level(self, table, depth):
+        for key in ["about", "header", "footer"]:
+            self.maybe(table, key, self.text, 0.4)
+        self.maybe(table, "usage", self.text, 0.1)
+        self.maybe(table, "command_required", self.flag, 0.4)
+        names = (set(), set(), set())
+        self.lists(table, depth, names, ["option", "choice", "positional", "command"])
+        if self.some(0.4):
+            table["group"] = [self.group(depth, names) for _ in range(self.random.randint(1, 2))]
+        return table
+
+    def command(self, depth, names):
+        table = {"name": self.fresh(names, self.name)}
+        self.maybe(table, "short", self.short, 0.3)
+        self.maybe(table, "help", self.text, 0.7)
+        return self.level(table, depth)
+
+    def description(self):
+        table = {"name": self.random.choice(["app", "git-log", self.name()])}
+        self.maybe(table, "section", lambda: self.random.choice(SECTIONS))
+        self.maybe(table, "date", lambda: self.random.choice(["November 2026", self.text(), Day(2026, 11, 23), Day(987, 1, 2)]))
+        self.maybe(table, "vendor", self.text, 0.3)
+        self.maybe(table, "title", self.text, 0.3)
+        self.level(table, 0)
+        if self.some(0.5):
+            names = (set(), set())
+            table["help_option"] = [self.option(*names) for _ in range(self.random.randint(1, 2))]
+        return self.shuffled(table)
+
+    def shuffled(self, data):
+        """The same data, with the keys of each table in another order."""
+        if isinstance(data, list):
+            return [self.shuffled(table) for table in data]
+        if not isinstance(data, dict):
+            return data
+        keys = list(data)
+        self.random.shuffle(keys)
+        return {key: self.shuffled(data[key]) for key in keys}
+
+
+class Day:
+    """A TOML date without a time."""
+
+    def __init__(self, year, month, day):
+        self.text = f"{year:04}-{month:02}-{day:02}"
+
+    def __eq__(self, other):
+        return str(other) == self.text
+
+
+class Writer:
+    """Writes data as TOML, with a random choice among the forms that say the same."""
+
+    def __init__(self, random):
+        self.random = random
+
+    def escaped(self, text, kept):
+        plain = {"\n": "\\n", "\t": "\\t", "\r": "\\r", "\"": "\\\"", "\\": "\\\\", "\b": "\\b", "\f": "\\f"}
+        pieces = []
+        for c in text:
+            if c in kept:
+                pieces.append(c)
+            elif c in plain:
+                pieces.append(plain[c])
+            elif unicodedata.category(c) == "Cc" or self.random.random() < 0.01:
+                pieces.append(f"\\u{ord(c):04x}" if ord(c) < 0x10000 else f"\\U{ord(c):08x}")
+            else:
+                pieces.append(c)
+        return "".join(pieces)
+
+    def text(self, text):
+        form = self.random.choice(["basic", "basic", "basic", "lines", "literal", "literal lines"])
+        has_control = any(unicodedata.category(c) == "Cc" and c not in "\t\n" for c in text)
+        if form == "literal" and not has_control and "'" not in text and "\n" not in text:
+            return f"'{text}'"
+        if form == "literal lines" and not has_control and "''" not in text and not text.endswith("'"):
+            return f"'''\n{text}'''"
+        if form == "lines":
+            return f"\"\"\"\n{self.escaped(text, chr(10))}\"\"\""
+        return f"\"{self.escaped(text, '')}\""
+
+    def key(self, key):
+        return key if set(key) <= KEY_LETTERS and key and self.random.random() < 0.9 else f"\"{self.escaped(key, '')}\""
+
+    def value(self, data):
+        if isinstance(data, bool):
+            return "true" if data else "false"
+        if isinstance(data, Day):
+            return data.text
+        if isinstance(data, str):
+            return self.text(data)
+        if isinstance(data, (int, float)):
+            return str(data)
+        if isinstance(data, list):
+            return "[" + ", ".join(self.value(item) for item in data) + "]"
+        return "{ " + ", ".join(f"{self.key(key)} = {self.value(item)}" for key, item in data.items()) + " }"
+
+    def table(self, table, path=()):
+        """The lines of a table, those of the tables in it behind its own values."""
+        lines, below = [], []
+        for key, data in table.items():
+            if isinstance(data, list) and data and all(isinstance(item, dict) for item in data) and self.random.random() < 0.8:
+                header = ".".join(path + (self.key(key),))
+                for item in data:
+                    below += ["", f"[[{header}]]"] + self.table(item, path + (self.key(key),))
+            else:
+                lines.append(f"{self.key(key)} = {self.value(data)}")
+        return lines + below
+
+    def document(self, table):
+        return "\n".join(self.table(table)) + "\n"

@@ -1,0 +1,10 @@
+//! `clidoc FORM` reads a description of a command line in TOML from standard input, and writes one of its pages; FORM is `usage`,
+//! `full`, `brief`, `html`, `markdown` or `man`.
+#![tactic(auto)]
+
+use clidoc_engine::program::run;
+use std::process::ExitCode;
+
+fn main(rt: HostRuntime) -> ExitCode {
+    run(&rt, rt.alloc())
+}

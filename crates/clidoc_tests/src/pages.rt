@@ -1,0 +1,96 @@
+//! The page of each form, and places in a text.
+
+ghost use Rattle.std.specs.Prelude.{IfOk};
+ghost use Rattle.clidoc_engine.specs.Runs.{HasPage};
+
+use clidoc_engine::engine::run_description;
+use clidoc_engine::faults::Fault;
+use clidoc_engine::places::{Place, place_behind};
+use clidoc_engine::words::{Form, choose};
+use std::alloc::Global;
+use std::test::Fail;
+use watched::Watched;
+
+/// A description.
+pub const INPUT: &[u8] = b"name = 'app'
+about = 'Prints things'
+[[option]]
+short = 'v'
+long = 'verbose'
+help = 'Talk more'
+required = true
+";
+
+/// Each form with its word and the page of the description.
+pub const PAGES: [(Form, &str, &[u8]); 6] = [
+    (Form::Usage, "usage", b"app -v\n"),
+    (Form::Full, "full", HELP),
+    (Form::Brief, "brief", HELP),
+    (
+        Form::Html,
+        "html",
+        b"# app<br>\n<p>Prints things</p><p><b>Usage</b>: <tt><b>app</b></tt> <tt><b>-v</b></tt></p><p><div>\n<b>Available options:</b></div><dl><dt><tt><b>-v</b></tt>, <tt><b>--verbose</b></tt></dt>\n<dd>Talk more</dd>\n</dl>\n</p>",
+    ),
+    (
+        Form::Markdown,
+        "markdown",
+        b"# app\n\nPrints things\n\n**Usage**: **`app`** **`-v`**\n\n**Available options:**\n- **`-v`**, **`--verbose`** &mdash; \n  Talk more\n\n\n",
+    ),
+    (
+        Form::Man,
+        "man",
+        b".ie \\n(.g .ds Aq \\(aq\n.el .ds Aq '\n.TH app 1 - - \"\"\n.SH NAME\n\\fRapp \\- \\fP\\fRPrints things\\fP\n.SH SYNOPSIS\n\\fBapp\\fP\\fR \\fP\\fB\\-v\\fP\n.PP\n.SS AVAILABLE\\ OPTIONS:\n.TP\n\\fB\\-v\\fP\\fR, \\fP\\fB\\-\\-verbose\\fP\n\\fRTalk more\\fP\n.PP\n",
+    ),
+];
+
+/// The page of it on a console.
+pub const HELP: &[u8] =
+    b"Prints things\n\nUsage: app -v\n\nAvailable options:\n    -v, --verbose  Talk more\n";
+
+// The page in memory. The engine's promises over ends that tell their bytes say which page it is.
+fn page(global: Global, form: Form, input: &[u8]) -> Result<Vec<u8>, Fault>
+    ensures { IfOk result (λ page. HasPage form input.now page.items) }
+{
+    let mut reader = Watched::new(input);
+    let mut writer = Watched::new(Vec::new(global));
+    run_description(global, global, form, &mut reader, &mut writer)?;
+    Ok(writer.into_inner())
+}
+
+#[test]
+fn shows_each_page(rt: HostRuntime) -> Result<(), Fail> {
+    for (form, word, want) in PAGES {
+        assert!(rt; page(rt.alloc(), form, INPUT)?.as_slice() == want, "{word}");
+    }
+    Ok(())
+}
+
+#[test]
+fn chooses_by_one_word(rt: HostRuntime) {
+    for (form, word, _) in PAGES {
+        assert!(rt; choose(&[word]) == Some(form), "{word}");
+        assert!(rt; choose(&[word, word]) == None, "{word}");
+    }
+    for word in ["", "Full", "full ", "ful", "fulll", "text"] {
+        assert!(rt; choose(&[word]) == None, "{word}");
+    }
+    assert!(rt; choose(&[]) == None);
+}
+
+#[test]
+fn counts_lines_and_characters(rt: HostRuntime) {
+    let rows: [(&str, usize, usize); 8] = [
+        ("", 1, 1),
+        ("ab", 1, 3),
+        ("ab\n", 2, 1),
+        ("ab\nc", 2, 2),
+        ("\n\n\n", 4, 1),
+        ("\r\nx", 2, 2),
+        ("é日😀", 1, 4),
+        ("é\n日\n😀a\u{301}", 3, 4),
+    ];
+    for (front, line, column) in rows {
+        let want = Place { line, column };
+        assert!(rt; place_behind(front.as_bytes()) == want, "{front:?}");
+    }
+}
