@@ -15,6 +15,8 @@ import subprocess
 import sys
 import tomllib
 
+sys.dont_write_bytecode = True
+
 import asking
 import describing
 import faults
