@@ -52,7 +52,7 @@ pub enum Place<'p, A: Allocator> {
 }
 
 impl<'p, A: Allocator + Copy> Place<'p, A> {
-    /// The place of the whole description.
+    /// The place of the whole description. What it borrows gives the place its lifetime.
     pub fn top(alloc: &'p A) -> Place<'p, A> {
         Place::Top(*alloc)
     }
