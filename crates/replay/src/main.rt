@@ -5,7 +5,6 @@ mod application_answers;
 mod document_answers;
 mod documents;
 mod entries;
-mod names;
 mod page_answers;
 mod pieces;
 mod request;

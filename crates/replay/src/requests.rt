@@ -5,7 +5,6 @@ use crate::document_answers::{
     add_document_answers, console_answer, document_answer, html_answer, markdown_answer,
     roff_answer,
 };
-use crate::names::Names;
 use crate::page_answers::{
     add_tree_answers, groups_answer, heading_answer, help_answer, help_parts_answer, list_answer,
 };
@@ -14,6 +13,7 @@ use crate::request::Request;
 use crate::tree_answers::{
     either_answer, first_name_answer, matches_answer, tree_answer, usage_answer,
 };
+use lasting_names::Names;
 use replay_engine::fault::{Answer, Bad};
 use replay_engine::lines::Lines;
 use replay_engine::run::Answerer;
