@@ -6,6 +6,8 @@ pub mod console;
 pub mod describing;
 pub mod ends;
 pub mod headline;
+pub mod naming;
+pub mod reading;
 pub mod roff;
 pub mod usage;
 pub mod web;

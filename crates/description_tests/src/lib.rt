@@ -7,6 +7,8 @@
 #[cfg(test)]
 mod pages;
 #[cfg(test)]
+mod reading;
+#[cfg(test)]
 mod refusals;
 #[cfg(test)]
 mod rows;

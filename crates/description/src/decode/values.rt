@@ -92,7 +92,7 @@ pub fn flag_at<A: Allocator + Copy>(
     match value_at(table, key) {
         None => Ok(default),
         Some(Value::Boolean(flag)) => Ok(*flag),
-        Some(_) => Err(at.fault("", key, " is no true or false")),
+        Some(_) => Err(at.fault("", key, " is no flag")),
     }
 }
 
