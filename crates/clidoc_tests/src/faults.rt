@@ -111,3 +111,50 @@ fn commands_stand_in_one_another(rt: HostRuntime) -> Result<(), Fail> {
         said,
     )
 }
+
+const LONG: usize = 10_000_000;
+
+const SENTENCE: &str = "One of many, with a help text that says nothing and takes space. ";
+
+// A long description of many options, each with a name of its own.
+fn many_options(global: Global) -> Result<String, AllocError> {
+    let help = SENTENCE.repeat(global, 8)?;
+    let mut text = String::from_str(global, "name = 'app'\n")?;
+    for number in 0..20_000usize {
+        let option = format!(in global; "[[option]]\nlong = 'option-{number}'\nhelp = '{help}'\n")?;
+        text.push_str(option.as_str())?;
+    }
+    Ok(text)
+}
+
+#[test]
+fn a_long_description_is_read_to_its_end(rt: HostRuntime) -> Result<(), Fail> {
+    let mut text = many_options(rt.alloc())?;
+    assert!(rt; text.len() > LONG);
+    text.push_str("[[option]]\nlong = 'option-0'\n")?;
+    answers(
+        &rt,
+        &["clidoc", "usage"],
+        text.as_bytes(),
+        ExitCode::FAILURE,
+        b"",
+        "clidoc: description: --option-0 is taken\n",
+    )
+}
+
+#[test]
+fn a_long_text_is_read(rt: HostRuntime) -> Result<(), Fail> {
+    let mut text = String::from_str(rt.alloc(), "name = 'app'\nabout = '")?;
+    for _ in 0..LONG / 10 {
+        text.push_str("Many words")?;
+    }
+    text.push_str("'\n")?;
+    answers(
+        &rt,
+        &["clidoc", "usage"],
+        text.as_bytes(),
+        ExitCode::SUCCESS,
+        b"app \n",
+        "",
+    )
+}

@@ -8,7 +8,7 @@ use std::test::Fail;
 
 const EXPECTED: &str = "clidoc: expected usage, full, brief, html, markdown or man\n";
 
-/// Runs the program on these words and this input, and sees what it answers and prints.
+/// Runs the program on these words and this input, with ample memory, and sees what it answers and prints.
 pub fn answers<'a>(
     rt: &(impl Abort + AllocGlobal),
     words: &'a [&'a str],
@@ -17,7 +17,8 @@ pub fn answers<'a>(
     output: &[u8],
     said: &str,
 ) -> Result<(), Fail> {
-    let heap = LocalHeap::new(rt.alloc(), 1 << 20)?;
+    let ample = input.len().saturating_mul(8).saturating_add(1 << 20);
+    let heap = LocalHeap::new(rt.alloc(), ample)?;
     let desk = Desk::new(rt.alloc(), words, input);
     assert!(rt;
         run(&(&desk, &heap), rt.alloc()) == status,
