@@ -8,5 +8,6 @@ pub mod EscapedText
 pub mod LineStarts
 pub mod Written
 pub mod Staying
+pub mod Texts
 pub mod Scripts
 mod Rows

@@ -1,14 +1,13 @@
 -- Bytes that are written as they are.
 use Rattle.std.specs.Prelude.{◌≡◌, ◌⊎◌, ℕ, Bool, true, false, not, ◌&&◌, ◌||◌, ◌==◌, List, [], ◌∷◌, ◌++◌, codes, if◌then◌else◌, refl}
 use Rattle.std.specs.List.{list_all}
-use Rattle.std.proofs.Common.{inl, inr, ap, sym, ◌∙◌, append_assoc}
+use Rattle.std.proofs.Common.{inl, inr, ap}
 use Rattle.std.proofs.lemmas.Bool.{and_parts}
 use Rattle.bpaf_roff.specs.Escaping.{byte_text, is_line_start, apostrophe_text}
-use Rattle.bpaf_roff.specs.Steps.Output.{StayUnder, is_plain, written}
+use Rattle.bpaf_roff.specs.Steps.Output.{StayUnder, is_plain}
 use Rattle.bpaf_roff.specs.declared.escape.Apostrophes.{Apostrophes}
 use Rattle.bpaf_roff.specs.declared.escape.Escape.{Escape}
 use Rattle.bpaf_roff.specs.declared.escape.Escape.TheVariants.{UnescapedAtNewline, Special, Unescaped}
-use Rattle.bpaf_roff.proofs.lemmas.LineStarts.{is_line_start-last}
 
 -- each byte as it is
 all_stay : (label : Escape) (test : ℕ → Bool) → ((q : Apostrophes) (before : List ℕ) (b : ℕ) → test b ≡ true → byte_text q before label b ≡ b ∷ []) → (bytes : List ℕ) → list_all test bytes ≡ true → StayUnder label bytes
@@ -39,15 +38,3 @@ all_pass (b ∷ bytes) = all_pass bytes
 pub bare_stay : (label : Escape) → label ≡ UnescapedAtNewline ⊎ label ≡ Unescaped → (bytes : List ℕ) → StayUnder label bytes
 bare_stay label (inl e) bytes = rw e (all_stay UnescapedAtNewline (λ b. true) (λ q before b h. refl) bytes (all_pass bytes))
 bare_stay label (inr e) bytes = rw e (all_stay Unescaped (λ b. true) (λ q before b h. refl) bytes (all_pass bytes))
-
--- whether a line starts after bytes, by the last of them
-pub line_start_by_last : (x : Bool) (bytes front : List ℕ) (last : ℕ) → bytes ≡ front ++ last ∷ [] → (last == 10) ≡ is_line_start (written x ++ bytes)
-line_start_by_last x bytes front last e =
-    sym (ap (λ t. is_line_start (written x ++ t)) e ∙ ap is_line_start (sym (append_assoc (written x) front (last ∷ []))) ∙ is_line_start-last (written x ++ front) last)
-
-pub line_start_by_none : (x : Bool) (bytes : List ℕ) → bytes ≡ [] → x ≡ is_line_start (written x ++ bytes)
-line_start_by_none x bytes e = sym (ap (λ t. is_line_start (written x ++ t)) e ∙ kept x)
-  where
-    kept : (y : Bool) → is_line_start (written y ++ []) ≡ y
-    kept true = refl
-    kept false = refl

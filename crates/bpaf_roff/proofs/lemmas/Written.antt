@@ -1,5 +1,5 @@
 -- What a loop over bytes, one over the blocks of a piece, and one over pieces have written so far.
-use Rattle.std.proofs.Common.{◌≡◌, ◌+◌, ◌<◌, ◌≤◌, ◌∷◌, [], ◌++◌, ◌∙◌, List, ℕ, Bool, length, map, take, get_or, ap, sym, append_assoc, take_all}
+use Rattle.std.proofs.Common.{◌≡◌, ◌+◌, ◌<◌, ◌∷◌, [], ◌++◌, ◌∙◌, List, ℕ, Bool, length, map, take, get_or, ap, sym, append_assoc}
 use Rattle.std.proofs.lemmas.List.{take_more, map-append}
 use Rattle.std.specs.List.{AllByRecursion}
 use Rattle.bpaf_roff.specs.Pieces.{Piece}
@@ -8,7 +8,7 @@ use Rattle.bpaf_roff.specs.Steps.Output.{written}
 use Rattle.bpaf_roff.specs.declared.escape.Apostrophes.{Apostrophes}
 use Rattle.bpaf_roff.specs.declared.escape.Escape.{Escape}
 use Rattle.bpaf_roff.proofs.lemmas.EscapedText.{text_after-append}
-use Rattle.bpaf_roff.proofs.lemmas.LineStarts.{text_after-push, byte_text-written, text_after-written, is_line_start-after, signs-push}
+use Rattle.bpaf_roff.proofs.lemmas.LineStarts.{text_after-push, text_after-written, is_line_start-after, signs-push}
 
 module _ (q : Apostrophes) (label : Escape) (before bytes : List ℕ) where
   -- the first bytes of these
@@ -22,23 +22,8 @@ module _ (q : Apostrophes) (label : Escape) (before bytes : List ℕ) where
   front_more : (i : ℕ) → i < length bytes → front (i + 1) ≡ front i ++ Byte label (get_or bytes i 0) ∷ []
   front_more i lt = ap (map (Byte label)) (take_more bytes i 0 lt) ∙ map-append (Byte label) (take i bytes) (get_or bytes i 0 ∷ [])
 
-  front_text_more : (i : ℕ) → i < length bytes → front_text (i + 1) ≡ front_text i ++ byte_text q (before ++ front_text i) label (get_or bytes i 0)
+  pub front_text_more : (i : ℕ) → i < length bytes → front_text (i + 1) ≡ front_text i ++ byte_text q (before ++ front_text i) label (get_or bytes i 0)
   front_text_more i lt = ap (text_after q before) (front_more i lt) ∙ text_after-push q before (front i) (Byte label (get_or bytes i 0))
-
-  pub items_more : (i : ℕ) → i < length bytes → (x : Bool) → x ≡ is_line_start (before ++ front_text i) → (old now new : List ℕ) → now ≡ old ++ front_text i → new ≡ now ++ byte_text q (written x) label (get_or bytes i 0) → new ≡ old ++ front_text (i + 1)
-  items_more i lt x e old now new was is =
-      let byte = get_or bytes i 0 in
-      is ∙ ap (λ o. o ++ byte_text q (written x) label byte) was
-      ∙ append_assoc old (front_text i) (byte_text q (written x) label byte)
-      ∙ ap (λ t. old ++ t) (ap (λ t. front_text i ++ t) (sym (byte_text-written q (before ++ front_text i) label byte x e)) ∙ sym (front_text_more i lt))
-
-  pub line_start_more : (i : ℕ) → i < length bytes → (y : Bool) → ((r : Apostrophes) (s : List ℕ) → y ≡ is_line_start (s ++ byte_text r s label (get_or bytes i 0))) → y ≡ is_line_start (before ++ front_text (i + 1))
-  line_start_more i lt y ends =
-      ends q (before ++ front_text i)
-      ∙ ap is_line_start (append_assoc before (front_text i) (byte_text q (before ++ front_text i) label (get_or bytes i 0)) ∙ ap (λ t. before ++ t) (sym (front_text_more i lt)))
-
-  pub front_all : (i : ℕ) → length bytes ≤ i → front i ≡ map (Byte label) bytes
-  front_all i le = ap (map (Byte label)) (take_all i bytes le)
 
 -- Signs that are written behind others: of what stands before them only counts whether it ends a line.
 module _ (q : Apostrophes) (before : List ℕ) (xs ys : List Sign) (y : Bool) (e : y ≡ is_line_start (before ++ text_after q before xs)) where

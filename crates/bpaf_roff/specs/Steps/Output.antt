@@ -1,9 +1,10 @@
 -- What functions that may stop halfway keep.
-use Rattle.std.specs.Prelude.{◌≡◌, ℕ, Bool, true, false, not, ◌&&◌, ◌==◌, List, [], ◌∷◌, length, map, take}
+use Rattle.std.specs.Prelude.{◌≡◌, ◌⊎◌, ℕ, Bool, true, false, not, ◌&&◌, ◌==◌, List, [], ◌∷◌, length, map, take}
 use Rattle.bpaf_roff.specs.Escaping.{Byte, apostrophe, backslash, dash, dot, text_after}
 use Rattle.bpaf_roff.specs.Roff.{Script}
 use Rattle.bpaf_roff.specs.declared.escape.Apostrophes.{Apostrophes}
 use Rattle.bpaf_roff.specs.declared.escape.Escape.{Escape}
+use Rattle.bpaf_roff.specs.declared.escape.Escape.TheVariants.{Special, SpecialNoNewline}
 
 -- what was there is still in front
 abbrev pub KeepsFront : {X : Type 0} → List X → List X → Type 0
@@ -21,6 +22,10 @@ written false = 0 ∷ []
 -- a byte that a plain text has as it is, wherever it stands
 abbrev pub is_plain : ℕ → Bool
 is_plain b = not (b == backslash) && not (b == dash) && not (b == dot) && not (b == apostrophe)
+
+-- a plain text is written under it
+abbrev pub IsText : Escape → Type 0
+IsText label = label ≡ Special ⊎ label ≡ SpecialNoNewline
 
 -- these bytes are written as they are under the label, wherever they stand
 abbrev pub StayUnder : Escape → List ℕ → Type 0

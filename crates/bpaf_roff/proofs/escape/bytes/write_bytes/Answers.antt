@@ -1,34 +1,20 @@
-use Rattle.std.proofs.Common.{◌++◌, ◌∙◌, ap, subst, arith}
-use Rattle.bpaf_roff.specs.Escaping.{is_line_start, text_after}
-use Rattle.bpaf_roff.specs.Steps.Output.{KeepsFront, written}
-use Rattle.bpaf_roff.proofs.lemmas.Fronts.{KeepsFront-later}
-use Rattle.bpaf_roff.proofs.lemmas.Written.{front_text, items_more, line_start_more, front_all}
+use Rattle.std.proofs.Common.{◌∙◌, sym, rules}
+use Rattle.bpaf_roff.specs.Steps.Output.{written}
+use Rattle.bpaf_roff.proofs.lemmas.Staying.{bare_stay, plain_stay}
+use Rattle.bpaf_roff.proofs.lemmas.Texts.{argument_text}
 use Rattle.bpaf_roff.proofs.escape.bytes.write_bytes.Goals as goal
 
-pub returns-in_err-write_byte-clause-kept : goal.returns-in_err-write_byte-clause-kept
-returns-in_err-write_byte-clause-kept g c =
+pub returns-in-UnescapedAtNewline-clause-ok : goal.returns-in-UnescapedAtNewline-clause-ok
+returns-in-UnescapedAtNewline-clause-ok g c =
     let a = c.args in
-    KeepsFront-later a.out.now.items (front_text a.apostrophes a.label (written a.at_line_start) a.bytes.now c.loop-byte.byte-index) c.write_byte.new.out.items (subst (λ now. KeepsFront now c.write_byte.new.out.items) c.loop-byte.invariant.items c.write_byte.ensures.kept)
+    rw (bare_stay a.label c.in-UnescapedAtNewline.is a.bytes.now a.apostrophes (written a.at_line_start)) (search rules)
 
-pub loop-byte-preserved : goal.loop-byte-preserved
-loop-byte-preserved g c =
+pub returns-in-Spaces-clause-ok : goal.returns-in-Spaces-clause-ok
+returns-in-Spaces-clause-ok g c =
     let a = c.args in
-    let inv = c.loop-byte.invariant in
-    let i = c.loop-byte.byte-index in
-    let before = written a.at_line_start in
-    record {
-      in_range = omega arith;
-      items = items_more a.apostrophes a.label before a.bytes.now i c.loop-byte-test.true c.loop-byte.line_start inv.line_start a.out.now.items c.loop-byte.out.items c.write_byte.new.out.items inv.items c.in_ok-write_byte.ensures.ok;
-      line_start = line_start_more a.apostrophes a.label before a.bytes.now i c.loop-byte-test.true c.ends_line-line_start.result c.ends_line-line_start.ensures;
-    }
+    rw (c.in-Spaces.is, argument_text a.apostrophes a.bytes.now (written a.at_line_start)) c.write_argument.ensures.ok
 
-pub returns-clause-ok : goal.returns-clause-ok
-returns-clause-ok g c =
+pub returns-then-are_plain-clause-ok : goal.returns-then-are_plain-clause-ok
+returns-then-are_plain-clause-ok g c =
     let a = c.args in
-    c.loop-byte.invariant.items ∙ ap (λ xs. a.out.now.items ++ text_after a.apostrophes (written a.at_line_start) xs) (front_all a.apostrophes a.label (written a.at_line_start) a.bytes.now c.loop-byte.byte-index c.loop-byte-test.false)
-
-pub returns-clause-line_start : goal.returns-clause-line_start
-returns-clause-line_start g c =
-    let a = c.args in
-    let before = written a.at_line_start in
-    c.loop-byte.invariant.line_start ∙ ap (λ xs. is_line_start (before ++ text_after a.apostrophes before xs)) (front_all a.apostrophes a.label before a.bytes.now c.loop-byte.byte-index c.loop-byte-test.false)
+    rw (c.in-Special.is, plain_stay a.bytes.now (sym c.are_plain.ensures ∙ c.if-are_plain.true) a.apostrophes (written a.at_line_start)) (search rules)

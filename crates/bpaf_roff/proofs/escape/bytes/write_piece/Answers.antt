@@ -48,4 +48,4 @@ pub returns-clause-line_start : goal.returns-clause-line_start
 returns-clause-line_start g c = c.in_ok-after.ensures.line_start ∙ c.loop-rest.invariant.line_start
 
 pub returns-clause-kept : goal.returns-clause-kept
-returns-clause-kept g c = KeepsFront-trans c.args.out.now.items c.loop-rest.out.items c.write_bytes.new.out.items c.loop-rest.invariant.kept c.write_bytes.ensures.kept
+returns-clause-kept g c = KeepsFront-trans c.args.out.now.items c.loop-rest.out.items c.write_block-2.new.out.items c.loop-rest.invariant.kept c.write_block-2.ensures.kept

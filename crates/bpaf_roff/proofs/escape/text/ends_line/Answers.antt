@@ -1,5 +1,5 @@
 use Rattle.bpaf_roff.proofs.lemmas.LineStarts.{newline_ends, nothing_ends}
-use Rattle.bpaf_roff.proofs.escape.bytes.ends_line.Goals as goal
+use Rattle.bpaf_roff.proofs.escape.text.ends_line.Goals as goal
 
 pub returns-in-UnescapedAtNewline : goal.returns-in-UnescapedAtNewline
 returns-in-UnescapedAtNewline c = newline_ends c.args.label c.args.byte c.in-UnescapedAtNewline.is

@@ -1,0 +1,195 @@
+//! What the bytes of a plain text become, put into a room on the stack. It goes from there to the output at once, since each push
+//! to the output asks whether there is space.
+
+ghost use Rattle.std.specs.Prelude.{◌≡◌, ◌<◌, ◌≤◌, ◌+◌, ◌++◌, [], ◌∷◌, List, ℕ, map, take, length, slice_index};
+ghost use Rattle.std.specs.List.{list_all};
+ghost use Rattle.bpaf_roff.specs.Escaping.{Byte, is_line_start, guard, apostrophe_text, byte_text, text_after};
+ghost use Rattle.bpaf_roff.specs.Steps.Output.{IsText, is_plain, written};
+
+use crate::escape::{Apostrophes, Escape};
+
+/// How many bytes are looked at together.
+pub const BLOCK: usize = 64;
+
+/// What a block becomes at most: `\&\*(Aq` for each byte.
+pub const ROOM: usize = 7 * BLOCK;
+
+// Whether the output is at a line start after a byte, whatever was written before.
+fn ends_line(label: Escape, byte: u8) -> bool
+    ensures { (apostrophes : Apostrophes) (before : List ℕ)
+        → result ≡ is_line_start (before ++ byte_text apostrophes before label byte) }
+{
+    match label {
+        Escape::UnescapedAtNewline | Escape::Special | Escape::Unescaped => byte == b'\n',
+        Escape::Spaces | Escape::SpecialNoNewline => false,
+    }
+}
+
+/// Whether a line starts after these bytes.
+#[inline(always)]
+pub fn starts_line(at_line_start: bool, label: Escape, bytes: &[u8]) -> bool
+    ensures { (apostrophes : Apostrophes) → result
+        ≡ is_line_start (written at_line_start
+        ++ text_after apostrophes (written at_line_start) (map (Byte label) bytes.now)) }
+{
+    match bytes.split_last() {
+        Some((last, _)) => ends_line(label, *last),
+        None => at_line_start,
+    }
+}
+
+// Whether the byte is written as it is in a plain text, wherever it stands.
+#[inline(always)]
+fn is_plain(byte: u8) -> bool
+    ensures { result ≡ is_plain byte }
+{
+    byte != b'\\' && byte != b'-' && byte != b'.' && byte != b'\''
+}
+
+/// Whether all of these are.
+#[inline(always)]
+pub fn are_plain(bytes: &[u8]) -> bool
+    ensures { result ≡ list_all is_plain bytes.now }
+{
+    for byte in bytes {
+        if !is_plain(*byte) {
+            return false;
+        }
+    }
+    true
+}
+
+// The byte that a text shows for this one.
+#[inline(always)]
+fn shown(label: Escape, byte: u8) -> u8
+    requires text { IsText label }
+    ensures { (apostrophes : Apostrophes) (before : List ℕ)
+        → byte_text apostrophes before label byte ≡ byte_text apostrophes before Escape.Special result }
+{
+    if label == Escape::SpecialNoNewline && byte == b'\n' {
+        return b' ';
+    }
+    byte
+}
+
+// Puts a byte at a place, and answers the place behind it, as those below do.
+#[inline(always)]
+fn put(room: &mut [u8; ROOM], at: usize, byte: u8) -> usize
+    requires fits { at < ROOM }
+    ensures next { result ≡ at + 1 }
+    ensures text { take result room.new ≡ take at room.old ++ byte ∷ [] }
+{
+    room[at] = byte;
+    at + 1
+}
+
+#[inline(always)]
+fn put_pair(room: &mut [u8; ROOM], at: usize, first: u8, second: u8) -> usize
+    requires fits { at + 2 ≤ ROOM }
+    ensures next { result ≡ at + 2 }
+    ensures text { take result room.new ≡ take at room.old ++ first ∷ second ∷ [] }
+{
+    let next = put(room, at, first);
+    put(room, next, second)
+}
+
+#[inline(always)]
+fn put_apostrophe(room: &mut [u8; ROOM], at: usize, apostrophes: Apostrophes) -> usize
+    requires fits { at + 5 ≤ ROOM }
+    ensures next { result ≤ at + 5 }
+    ensures text { take result room.new ≡ take at room.old ++ apostrophe_text apostrophes }
+{
+    match apostrophes {
+        Apostrophes::Handle => {
+            let after_star = put_pair(room, at, b'\\', b'*');
+            let after_letter = put_pair(room, after_star, b'(', b'A');
+            put(room, after_letter, b'q')
+        }
+        Apostrophes::DontHandle => put(room, at, b'\''),
+    }
+}
+
+#[inline(always)]
+fn put_guard(room: &mut [u8; ROOM], at: usize, at_line_start: bool, byte: u8) -> usize
+    requires fits { at + 2 ≤ ROOM }
+    ensures next { result ≤ at + 2 }
+    ensures text { take result room.new ≡ take at room.old ++ guard (written at_line_start) byte }
+{
+    if at_line_start && (byte == b'.' || byte == b'\'') {
+        return put_pair(room, at, b'\\', b'&');
+    }
+    at
+}
+
+#[inline(always)]
+fn put_sign(
+    room: &mut [u8; ROOM],
+    at: usize,
+    apostrophes: Apostrophes,
+    at_line_start: bool,
+    byte: u8,
+) -> usize
+    requires fits { at + 7 ≤ ROOM }
+    ensures next { result ≤ at + 7 }
+    ensures text { take result room.new
+        ≡ take at room.old ++ byte_text apostrophes (written at_line_start) Escape.Special byte }
+{
+    if byte == b'\\' || byte == b'-' {
+        return put_pair(room, at, b'\\', byte);
+    }
+    let start = put_guard(room, at, at_line_start, byte);
+    if byte == b'\'' {
+        return put_apostrophe(room, start, apostrophes);
+    }
+    put(room, start, byte)
+}
+
+// What the byte at an index becomes. Most bytes are plain, and only the others ask whether a line starts before them.
+#[inline(always)]
+fn put_byte(
+    room: &mut [u8; ROOM],
+    at: usize,
+    apostrophes: Apostrophes,
+    at_line_start: bool,
+    label: Escape,
+    bytes: &[u8],
+    index: usize,
+) -> usize
+    requires text { IsText label }
+    requires within { index < length bytes.now }
+    requires fits { at + 7 ≤ ROOM }
+    ensures next { result ≤ at + 7 }
+    ensures text { take result room.new ≡ take at room.old ++ byte_text apostrophes
+        (written at_line_start
+        ++ text_after apostrophes (written at_line_start) (map (Byte label) (take index bytes.now)))
+        label (slice_index bytes.now index) }
+{
+    let byte = shown(label, bytes[index]);
+    if is_plain(byte) {
+        return put(room, at, byte);
+    }
+    let line_start = starts_line(at_line_start, label, &bytes[..index]);
+    put_sign(room, at, apostrophes, line_start, byte)
+}
+
+/// Puts what a text becomes at the start of the room, and answers how many bytes these are.
+#[inline(always)]
+pub fn fill(
+    room: &mut [u8; ROOM],
+    apostrophes: Apostrophes,
+    at_line_start: bool,
+    label: Escape,
+    bytes: &[u8],
+) -> usize
+    requires text { IsText label }
+    requires short { length bytes.now ≤ BLOCK }
+    ensures fits { result ≤ ROOM }
+    ensures text { take result room.new
+        ≡ text_after apostrophes (written at_line_start) (map (Byte label) bytes.now) }
+{
+    let mut end = 0;
+    for index in 0..bytes.len() {
+        end = put_byte(room, end, apostrophes, at_line_start, label, bytes, index);
+    }
+    end
+}
