@@ -136,9 +136,9 @@ impl<B: Allocator> Page<B> {
         if !self.is_within_line() {
             return Ok(());
         }
-        if let Some(run) = chunks.take_fitting(self.width - self.column) {
+        if let Some((run, columns)) = chunks.take_fitting(self.width - self.column) {
             self.out.push_str(run)?;
-            self.column += run.len();
+            self.column += columns;
         }
         Ok(())
     }
