@@ -1,6 +1,6 @@
 //! A text into chunks: words, blanks, line breaks, paragraph breaks and code lines.
 
-ghost use Rattle.std.specs.Prelude.{◌≡◌, ◌≢◌, ◌<◌, ◌≤◌, [], ◌∷◌, ◌++◌, length, take, IfNone, IfSome, IsTrue, IsUtf8};
+ghost use Rattle.std.specs.Prelude.{◌≡◌, ◌≢◌, ◌<◌, ◌≤◌, [], ◌∷◌, ◌++◌, length, take, IfNone, IfSome, IsTrue, IsUtf8, List, MatchOption, ℕ};
 ghost use Rattle.std.specs.Char.{is_ascii_graphic};
 ghost use Rattle.std.specs.Int.{is_in_range};
 ghost use Rattle.std.specs.Iterator.{YieldsFirstBy, item_count};
@@ -306,9 +306,9 @@ fn next_plain(text: &str) -> (Chunk<'_>, Splitter<'_>)
     requires { text.now ≢ [] }
     ensures { chunks_in Plain text.now ≡ chunk_of result.0 ∷ result.1 }
 {
-    if let Some(rest) = text.strip_prefix('\n') {
+    if let Some(rest) = strip_byte(text, b'\n') {
         after_newline(rest)
-    } else if let Some(rest) = text.strip_prefix(' ') {
+    } else if let Some(rest) = strip_byte(text, b' ') {
         (Chunk::Raw(" ", 1), split(rest))
     } else {
         let (word, columns, rest) = cut_word(text);
@@ -321,16 +321,32 @@ fn next_plain(text: &str) -> (Chunk<'_>, Splitter<'_>)
 fn after_newline(text: &str) -> (Chunk<'_>, Splitter<'_>)
     ensures { chunks_in Plain (10 ∷ text.now) ≡ chunk_of result.0 ∷ result.1 }
 {
-    if let Some(code) = text.strip_prefix("    ") {
-        let (line, rest) = cut_line(code);
-        (Chunk::Raw(line, Chunk::CODE), split(rest))
-    } else if let Some(rest) = text.strip_prefix('\n') {
+    if let Some(rest) = strip_byte(text, b'\n') {
         (Chunk::Paragraph, after_paragraph(text, rest))
-    } else if let Some(rest) = text.strip_prefix(' ') {
-        (Chunk::LineBreak, split(rest))
+    } else if let Some(rest) = strip_byte(text, b' ') {
+        if let Some(code) = text.strip_prefix("    ") {
+            let (line, rest) = cut_line(code);
+            (Chunk::Raw(line, Chunk::CODE), split(rest))
+        } else {
+            (Chunk::LineBreak, split(rest))
+        }
     } else {
         (Chunk::Raw(" ", 1), split(text))
     }
+}
+
+// The text behind this byte, where it begins with it. `strip_prefix` would decode a character first.
+#[inline(always)]
+fn strip_byte(text: &str, byte: u8) -> Option<&str>
+    requires { byte < 128 }
+    ensures { MatchOption result ((rest : List ℕ) → text.now ≢ byte ∷ rest) (λ rest. text.now ≡ byte ∷ rest.now) }
+{
+    let bytes = text.as_bytes();
+    if bytes.is_empty() || bytes[0] != byte {
+        return None;
+    }
+    let (_, rest) = text.split_at(1);
+    Some(rest)
 }
 
 // What is left of two newlines and the text after their paragraph break. `line` is the second newline and the text.
