@@ -191,8 +191,7 @@ impl<B: Allocator> Page<B> {
         if weight < Chunk::CODE {
             self.column.saturating_add(weight) <= self.width
         } else {
-            self.column <= self.width
-                && self.column.saturating_add(line_columns(raw)) <= self.width
+            self.column <= self.width && self.column.saturating_add(line_columns(raw)) <= self.width
         }
     }
 

@@ -1,4 +1,4 @@
-use Rattle.std.proofs.Common.{◌≤◌, length, take, drop, subst, ap, ◌∙◌, arith}
+use Rattle.std.proofs.Common.{take, drop, subst, ap, ◌∙◌, arith}
 use Rattle.bpaf_doc.specs.Splitter.Chunks.{IsLineEnd}
 use Rattle.bpaf_doc.specs.Splitter.Steps.Runs.{IsRunEnd, IsLettered, letters}
 use Rattle.bpaf_doc.proofs.lemmas.Splitter.Letters.{printable_front_lettered, printable_front_letters}
