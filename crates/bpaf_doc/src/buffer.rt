@@ -449,6 +449,11 @@ impl<A: Allocator> Doc<A> {
         self.ends.len()
     }
 
+    // How many bytes its texts have together.
+    pub(crate) fn text_len(&self) -> usize {
+        self.payload.len()
+    }
+
     // The allocator that its memory comes from.
     pub(crate) fn allocator(&self) -> &A {
         self.payload.allocator()

@@ -1,6 +1,6 @@
 //! A text into chunks: words, blanks, line breaks, paragraph breaks and code lines.
 
-ghost use Rattle.std.specs.Prelude.{◌≡◌, ◌≢◌, ◌<◌, ◌≤◌, [], ◌∷◌, ◌++◌, length, take, IfNone, IfSome, IsTrue};
+ghost use Rattle.std.specs.Prelude.{◌≡◌, ◌≢◌, ◌<◌, ◌≤◌, [], ◌∷◌, ◌++◌, length, take, IfNone, IfSome, IsTrue, IsUtf8, List, MatchOption, ℕ};
 ghost use Rattle.std.specs.Char.{is_ascii_graphic};
 ghost use Rattle.std.specs.Int.{is_in_range};
 ghost use Rattle.std.specs.Iterator.{YieldsFirstBy, item_count};
@@ -8,7 +8,7 @@ ghost use Rattle.std.specs.List.{All, flat_map, list_all};
 ghost use Rattle.bpaf_doc.specs.Splitter.Chunks.{Paragraph, Plain, Opening, Later, Spells, IsLine, IsLineEnd, IsPastNewline, IsWordEnd, chunk_ink, chunks_in, chunks_of, columns, is_word_byte};
 ghost use Rattle.bpaf_doc.specs.Splitter.Promises.{IsOneLine, StandInOrder};
 ghost use Rattle.bpaf_doc.specs.Buffer.Parts.{ink};
-ghost use Rattle.bpaf_doc.specs.Splitter.Steps.Runs.{IsRun, IsRunEnd, IsPrintable};
+ghost use Rattle.bpaf_doc.specs.Splitter.Steps.Runs.{IsRun, IsRunEnd, IsPrintable, IsLettered, is_lettered, letters};
 ghost use Rattle.bpaf_doc.specs.Splitter.View.{chunk_of};
 
 use memchr::{memchr, memrchr};
@@ -130,24 +130,27 @@ impl<'a> Splitter<'a> {
         }
     }
 
-    /// Takes as many words of a line off as have printable ASCII alone and fit these columns. None where none fits.
+    /// Takes as many words of a line off as have no other characters than printable ASCII and Latin letters and fit these columns,
+    /// with the columns that they take. None where none fits.
     #[inline(always)]
-    pub(crate) fn take_fitting(&mut self, columns: usize) -> Option<&'a str>
-        ensures line { IfSome result (λ run. IsLine run.now) }
-        ensures printable { IfSome result (λ run. IsPrintable run.now) }
-        ensures fits { IfSome result (λ run. length run.now ≤ columns) }
-        ensures chunks { IfSome result (λ run. self.old ≡ chunks_of run.now ++ self.new) }
+    pub(crate) fn take_fitting(&mut self, columns: usize) -> Option<(&'a str, usize)>
+        ensures line { IfSome result (λ run. IsLine run.0.now) }
+        ensures text { IfSome result (λ run. IsUtf8 run.0.now) }
+        ensures lettered { IfSome result (λ run. IsLettered run.0.now) }
+        ensures taken { IfSome result (λ run. run.1 ≡ letters run.0.now) }
+        ensures fits { IfSome result (λ run. run.1 ≤ columns) }
+        ensures chunks { IfSome result (λ run. self.old ≡ chunks_of run.0.now ++ self.new) }
         ensures none { IfNone result (self.new ≡ self.old) }
     {
         match self.form {
             Form::Plain => {
-                let end = printable_run_end(self.rest, columns);
+                let (end, taken) = fitting_run_end(self.rest, columns);
                 if end == 0 {
                     return None;
                 }
                 let (run, after) = cut_run(self.rest, end);
                 *self = after;
-                Some(run)
+                Some((run, taken))
             }
             Form::Opening | Form::Later => None,
         }
@@ -159,6 +162,7 @@ impl<'a> Splitter<'a> {
 fn cut_run(text: &str, end: usize) -> (&str, Splitter<'_>)
     requires { IsRunEnd text.now end }
     ensures run { result.0.now ≡ take end text.now }
+    ensures text { IsUtf8 result.0.now }
     ensures chunks { chunks_of text.now ≡ chunks_of result.0.now ++ result.1 }
 {
     let (run, rest) = text.split_at(end);
@@ -193,26 +197,100 @@ fn first_line_end(bytes: &[u8]) -> usize
     memrchr(b' ', window).unwrap_or(0)
 }
 
-// The place up to which the text is a run of printable ASCII that has at most so many columns. 0 where it is none.
-fn printable_run_end(text: &str, columns: usize) -> usize
-    ensures run { 0 < result → IsRunEnd text.now result }
-    ensures printable { IsPrintable (take result text.now) }
-    ensures fits { result ≤ columns }
+// The place up to which the text is a run of printable ASCII and Latin letters that has at most so many columns, and its columns.
+// The place is 0 where it is none.
+#[inline(always)]
+fn fitting_run_end(text: &str, columns: usize) -> (usize, usize)
+    ensures run { 0 < result.0 → IsRunEnd text.now result.0 }
+    ensures lettered { IsLettered (take result.0 text.now) }
+    ensures taken { result.1 ≡ letters (take result.0 text.now) }
+    ensures fits { result.1 ≤ columns }
 {
     let bytes = text.as_bytes();
-    let mut end = 0;
+    let (last, at) = printable_end(bytes, columns);
+    if columns < at {
+        return (last, last);
+    }
+    let rest = &bytes[at..];
+    if is_line_end(rest) {
+        (at, at)
+    } else if begins_with_letter(rest) {
+        lettered_run_end(bytes, columns, last, at)
+    } else {
+        (last, last)
+    }
+}
+
+// Where printable ASCII ends, or one more of it stands than these columns hold, and the last blank before that place, or 0.
+#[inline(always)]
+fn printable_end(bytes: &[u8], columns: usize) -> (usize, usize)
+    ensures run { 0 < result.0 → IsRunEnd bytes.now result.0 }
+    ensures fits { result.0 ≤ columns }
+    ensures within { result.1 ≤ length bytes.now }
+    ensures before { result.0 ≤ result.1 }
+    ensures printable { IsPrintable (take result.1 bytes.now) }
+{
+    let mut last = 0;
     let mut at = 0;
     'printable: while at < bytes.len() && at <= columns && (0x20..=0x7E).contains(&bytes[at]) {
         if bytes[at] == b' ' {
-            end = at;
+            last = at;
         }
         at += 1;
     }
-    if at <= columns && is_line_end(&bytes[at..]) {
-        at
+    (last, at)
+}
+
+// Whether a Latin letter of two bytes comes next.
+fn begins_with_letter(rest: &[u8]) -> bool {
+    matches!(rest, [0xC3..=0xC8, ..])
+}
+
+// The end of such a run and its columns, where the text is printable up to one place, and `last` is the last blank before that.
+// Out of line: most texts have no such letters.
+#[inline(never)]
+fn lettered_run_end(bytes: &[u8], columns: usize, last: usize, printable: usize) -> (usize, usize)
+    requires run { 0 < last → IsRunEnd bytes.now last }
+    requires fits { printable ≤ columns }
+    requires within { printable ≤ length bytes.now }
+    requires before { last ≤ printable }
+    requires printable { IsPrintable (take printable bytes.now) }
+    ensures run { 0 < result.0 → IsRunEnd bytes.now result.0 }
+    ensures lettered { IsLettered (take result.0 bytes.now) }
+    ensures taken { result.1 ≡ letters (take result.0 bytes.now) }
+    ensures fits { result.1 ≤ columns }
+{
+    let mut end = (last, last);
+    let mut at = printable;
+    let mut taken = printable;
+    'lettered: while at < bytes.len() && taken <= columns && is_lettered(bytes[at]) {
+        if bytes[at] == b' ' {
+            end = (at, taken);
+        }
+        taken += begun(bytes[at]);
+        at += 1;
+    }
+    if taken <= columns && is_line_end(&bytes[at..]) {
+        (at, taken)
     } else {
         end
     }
+}
+
+// Printable ASCII, or one of the bytes of a Latin letter of two bytes.
+#[inline(always)]
+fn is_lettered(byte: u8) -> bool
+    ensures { result ≡ is_lettered byte }
+{
+    (0x20..=0x7E).contains(&byte) || (0x80..=0xBF).contains(&byte) || (0xC3..=0xC8).contains(&byte)
+}
+
+// How many characters begin with this byte: one, or none where it is a later one of its character.
+#[inline(always)]
+fn begun(byte: u8) -> usize
+    ensures { result ≡ letters (byte ∷ []) }
+{
+    if (0x80..=0xBF).contains(&byte) { 0 } else { 1 }
 }
 
 // Whether a newline or the end comes next.
@@ -228,9 +306,9 @@ fn next_plain(text: &str) -> (Chunk<'_>, Splitter<'_>)
     requires { text.now ≢ [] }
     ensures { chunks_in Plain text.now ≡ chunk_of result.0 ∷ result.1 }
 {
-    if let Some(rest) = text.strip_prefix('\n') {
+    if let Some(rest) = strip_byte(text, b'\n') {
         after_newline(rest)
-    } else if let Some(rest) = text.strip_prefix(' ') {
+    } else if let Some(rest) = strip_byte(text, b' ') {
         (Chunk::Raw(" ", 1), split(rest))
     } else {
         let (word, columns, rest) = cut_word(text);
@@ -243,16 +321,32 @@ fn next_plain(text: &str) -> (Chunk<'_>, Splitter<'_>)
 fn after_newline(text: &str) -> (Chunk<'_>, Splitter<'_>)
     ensures { chunks_in Plain (10 ∷ text.now) ≡ chunk_of result.0 ∷ result.1 }
 {
-    if let Some(code) = text.strip_prefix("    ") {
-        let (line, rest) = cut_line(code);
-        (Chunk::Raw(line, Chunk::CODE), split(rest))
-    } else if let Some(rest) = text.strip_prefix('\n') {
+    if let Some(rest) = strip_byte(text, b'\n') {
         (Chunk::Paragraph, after_paragraph(text, rest))
-    } else if let Some(rest) = text.strip_prefix(' ') {
-        (Chunk::LineBreak, split(rest))
+    } else if let Some(rest) = strip_byte(text, b' ') {
+        if let Some(code) = text.strip_prefix("    ") {
+            let (line, rest) = cut_line(code);
+            (Chunk::Raw(line, Chunk::CODE), split(rest))
+        } else {
+            (Chunk::LineBreak, split(rest))
+        }
     } else {
         (Chunk::Raw(" ", 1), split(text))
     }
+}
+
+// The text behind this byte, where it begins with it. `strip_prefix` would decode a character first.
+#[inline(always)]
+fn strip_byte(text: &str, byte: u8) -> Option<&str>
+    requires { byte < 128 }
+    ensures { MatchOption result ((rest : List ℕ) → text.now ≢ byte ∷ rest) (λ rest. text.now ≡ byte ∷ rest.now) }
+{
+    let bytes = text.as_bytes();
+    if bytes.is_empty() || bytes[0] != byte {
+        return None;
+    }
+    let (_, rest) = text.split_at(1);
+    Some(rest)
 }
 
 // What is left of two newlines and the text after their paragraph break. `line` is the second newline and the text.

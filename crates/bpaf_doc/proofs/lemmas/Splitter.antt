@@ -7,5 +7,6 @@ pub mod Facts
 mod Rows
 pub mod Ink
 pub mod Printable
+pub mod Letters
 pub mod Runs
 pub mod Widths

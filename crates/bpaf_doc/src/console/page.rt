@@ -1,5 +1,5 @@
 //! A console text while it is written.
-ghost use Rattle.std.specs.Prelude.{◌≡◌, ◌≤◌, ◌++◌, Bool, IfOk, IsTrue, OnOk, length, string_bytes, replicate};
+ghost use Rattle.std.specs.Prelude.{◌≡◌, ◌≤◌, ◌++◌, Bool, not, IfOk, IsTrue, OnOk, length, string_bytes, replicate};
 ghost use Rattle.std.specs.Str.{trim_end};
 ghost use Rattle.bpaf_doc.specs.Buffer.Parts.{ink};
 ghost use Rattle.std.specs.Int.{is_in_range};
@@ -8,7 +8,7 @@ ghost use Rattle.bpaf_doc.specs.Splitter.Chunks.{chunks_of, columns};
 ghost use Rattle.bpaf_doc.specs.Shown.{mark_bytes};
 ghost use Rattle.bpaf_doc.specs.Console.Steps.Hiding.{hides};
 ghost use Rattle.bpaf_doc.specs.Console.Steps.Ink.{shown_ink};
-ghost use Rattle.bpaf_doc.specs.Console.Steps.Page.{sheet_of, blank_sheet, text_put, opened, closed, finished, raw_put, wraps, room_made, placed, asked_put, lacks_newline, lacks_blank_line, wrapped, padded, blanks_put, newline_put, marked, margin_pushed, margin_of, innermost, HasFewMargins, IsWithinLine, columns_of, asked_by_start, asked_by_end, indent_of};
+ghost use Rattle.bpaf_doc.specs.Console.Steps.Page.{sheet_of, blank_sheet, text_put, opened, closed, finished, raw_put, wraps, is_too_wide, room_made, placed, asked_put, lacks_newline, lacks_blank_line, wrapped, padded, blanks_put, newline_put, marked, margin_pushed, margin_of, innermost, HasFewMargins, IsWithinLine, columns_of, asked_by_start, asked_by_end, indent_of};
 
 use super::tabs::MAX_TAB;
 use crate::buffer::Block;
@@ -136,9 +136,9 @@ impl<B: Allocator> Page<B> {
         if !self.is_within_line() {
             return Ok(());
         }
-        if let Some(run) = chunks.take_fitting(self.width - self.column) {
+        if let Some((run, columns)) = chunks.take_fitting(self.width - self.column) {
             self.out.push_str(run)?;
-            self.column += run.len();
+            self.column += columns;
         }
         Ok(())
     }
@@ -160,27 +160,39 @@ impl<B: Allocator> Page<B> {
         ensures page { OnOk result (sheet_of self.new ≡ raw_put raw.now weight (sheet_of self.old)) }
         ensures ink { OnOk result (ink (string_bytes self.new.out) ≡ ink (string_bytes self.old.out) ++ ink raw.now) }
     {
-        if self.make_room(columns_of(raw, weight))? && raw == " " {
+        if self.make_room(raw, weight)? && raw == " " {
             return Ok(());
         }
         self.place(raw, weight)
     }
 
-    // Breaks the line where that is asked for or these columns do not fit. Answers whether they did not.
-    fn make_room(&mut self, columns: usize) -> Result<bool, AllocError>
-        ensures page { OnOk result (sheet_of self.new ≡ room_made columns (sheet_of self.old)) }
-        ensures wraps { IfOk result (λ too_wide. too_wide ≡ wraps columns (sheet_of self.old)) }
+    // Breaks the line where that is asked for or a Raw chunk does not fit. Answers whether it did not.
+    fn make_room(&mut self, raw: &str, weight: usize) -> Result<bool, AllocError>
+        ensures page { OnOk result (sheet_of self.new ≡ room_made (columns_of raw.now weight) (sheet_of self.old)) }
+        ensures wraps { IfOk result (λ too_wide. too_wide ≡ wraps (columns_of raw.now weight) (sheet_of self.old)) }
         ensures ink { OnOk result (ink (string_bytes self.new.out) ≡ ink (string_bytes self.old.out)) }
     {
         if self.out.is_empty() {
             return Ok(false);
         }
         self.put_asked()?;
-        if self.column.saturating_add(columns) <= self.width {
+        if self.has_room(raw, weight) {
             return Ok(false);
         }
         self.wrap()?;
         Ok(true)
+    }
+
+    // Whether a Raw chunk fits the line: by its weight, unless it is a code or fence line. Behind such a line nothing fits, so that
+    // the columns of the next one are not counted.
+    fn has_room(&self, raw: &str, weight: usize) -> bool
+        ensures { result ≡ not (is_too_wide (columns_of raw.now weight) (sheet_of self.now)) }
+    {
+        if weight < Chunk::CODE {
+            self.column.saturating_add(weight) <= self.width
+        } else {
+            self.column <= self.width && self.column.saturating_add(line_columns(raw)) <= self.width
+        }
     }
 
     // Writes a Raw chunk to its line, from its margin on.
@@ -326,17 +338,6 @@ fn push_blanks<B: Allocator>(out: &mut String<B>, count: usize) -> Result<(), Al
         out.push(' ')?;
     }
     Ok(())
-}
-
-// The columns of a Raw chunk: its weight, unless it is a code or fence line.
-fn columns_of(raw: &str, weight: usize) -> usize
-    ensures { result ≡ columns_of raw.now weight }
-{
-    if weight < Chunk::CODE {
-        weight
-    } else {
-        line_columns(raw)
-    }
 }
 
 // The columns of a line. Each printable ASCII character takes one, and most lines hold no other.

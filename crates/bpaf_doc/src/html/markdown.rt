@@ -62,6 +62,15 @@ impl<B: Allocator> Markdown<B> {
         }
     }
 
+    // The same with room for so many bytes, which are not moved then as the text grows.
+    fn with_room(alloc: B, bytes: usize) -> Result<Self, AllocError>
+        ensures { IfOk result (λ page. page ≡ blank_text) }
+    {
+        let mut page = Markdown::new(alloc);
+        page.text.reserve(bytes)?;
+        Ok(page)
+    }
+
     fn into_text(self) -> String<B>
         ensures { string_bytes result ≡ self.bytes }
     {
@@ -313,7 +322,7 @@ impl<A: Allocator> Doc<A> {
     {
         // The marks can be counted: there are at most as many as parts.
         let _count = self.len();
-        let mut page = Markdown::new(alloc);
+        let mut page = Markdown::with_room(alloc, if full { self.text_len() } else { 0 })?;
         for taken in fragments_of(self, full) {
             page.take(taken)?;
         }

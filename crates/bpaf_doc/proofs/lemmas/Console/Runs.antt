@@ -1,20 +1,21 @@
 -- Words that are written at once are the same as one after another.
 use Rattle.std.specs.Prelude.{◌≡◌, ℕ, ◌+◌, ◌-◌, ◌≤◌, ◌==◌, Bool, true, false, not, ◌&&◌, List, [], ◌∷◌, ◌++◌, refl, length, flat_map, nat_lt, if◌then◌else◌}
-use Rattle.std.specs.Int.{is_in_range}
-use Rattle.std.specs.List.{list_all, list_any}
+use Rattle.std.specs.List.{All, list_all, list_any}
 use Rattle.std.specs.Str.{bytes_eq, IsUtf8}
-use Rattle.std.proofs.Common.{sym, ap, ap₂, arith, ◌∙◌, append_assoc, append-nil, length-append}
+use Rattle.std.proofs.Common.{sym, subst, ap, ap₂, arith, ◌∙◌, append_assoc, append-nil, length-append}
+use Rattle.std.proofs.lemmas.List.Elements.{All-head, All-tail}
 use Rattle.std.proofs.lemmas.List.Folds.{list_all-append}
 use Rattle.std.proofs.lemmas.Bool.{le-ltb}
 use Rattle.bpaf_doc.specs.declared.console.page.Asked.TheVariants as asked
 use Rattle.bpaf_doc.specs.Buffer.Parts.{ink}
-use Rattle.bpaf_doc.specs.Splitter.Chunks.{Chunk, IsLine, chunk_ink, chunks_of, columns, is_paragraph}
-use Rattle.bpaf_doc.specs.Splitter.Steps.Runs.{IsPrintable}
+use Rattle.bpaf_doc.specs.Splitter.Chunks.{Chunk, Raw, IsLine, chunk_ink, chunks_of, columns, is_paragraph}
+use Rattle.bpaf_doc.specs.Splitter.Promises.{IsText}
+use Rattle.bpaf_doc.specs.Splitter.Steps.Runs.{IsLettered, is_lettered, letters}
 use Rattle.bpaf_doc.specs.Console.Steps.Hiding.{hides}
 use Rattle.bpaf_doc.specs.Console.Steps.Ink.{shown_ink}
 use Rattle.bpaf_doc.specs.Console.Steps.Page.{Sheet, IsWithinLine, saturated, margin_of, is_too_wide, wraps, wrapped, room_made, blanks_put, raw_added, placed, columns_of, raw_put, text_put}
-use Rattle.bpaf_doc.proofs.lemmas.Splitter.Facts.{ink_of_chunks}
-use Rattle.bpaf_doc.proofs.lemmas.Splitter.Printable.{line_columns_are}
+use Rattle.bpaf_doc.proofs.lemmas.Splitter.Facts.{ink_of_chunks, text_chunks}
+use Rattle.bpaf_doc.proofs.lemmas.Splitter.Letters.{letters-append, lettered_columns}
 use Rattle.bpaf_doc.proofs.lemmas.Splitter.Runs.{AreWords, no_words, a_word, words_of_line}
 use Rattle.bpaf_doc.proofs.lemmas.Splitter.Spelling.{and_left, and_right}
 
@@ -69,25 +70,26 @@ module _ (width tab_stop : ℕ) (margins : List ℕ) (small : width ≤ 18446744
       ∙ ap (λ s. placed raw weight s) (no_room out column weight h)
       ∙ word_placed out raw column weight level h
 
-  words_put : {chunks : List Chunk} {text : List ℕ} → AreWords chunks text → IsPrintable text → (out : List ℕ) (column : ℕ) → margin_of (at out column) ≤ column → column + length text ≤ width
-      → (full : Bool) (rest : List Chunk) → text_put full (chunks ++ rest) (at out column) ≡ text_put full rest (at (out ++ text) (column + length text))
-  words_put {chunks} {text} (no_words ec et) p out column level h full rest =
-      let stays : column ≡ column + length text = omega (arith, ap length et) in
+  words_put : {chunks : List Chunk} {text : List ℕ} → AreWords chunks text → All IsText chunks → IsLettered text → (out : List ℕ) (column : ℕ) → margin_of (at out column) ≤ column → column + letters text ≤ width
+      → (full : Bool) (rest : List Chunk) → text_put full (chunks ++ rest) (at out column) ≡ text_put full rest (at (out ++ text) (column + letters text))
+  words_put {chunks} {text} (no_words ec et) us p out column level h full rest =
+      let stays : column ≡ column + letters text = omega (arith, ap letters et) in
       ap (λ cs. text_put full (cs ++ rest) (at out column)) ec
       ∙ ap₂ (λ o n. text_put full rest (at o n)) (sym (ap (λ t. out ++ t) et ∙ append-nil out)) stays
-  words_put {chunks} {text} (a_word bytes more others ec et w) p out column level h full rest =
-      let both : (list_all (is_in_range 0x20 0x7E) bytes && list_all (is_in_range 0x20 0x7E) more) ≡ true
-      = sym (list_all-append (is_in_range 0x20 0x7E) bytes more) ∙ ap (list_all (is_in_range 0x20 0x7E)) (sym et) ∙ p in
-      let front : IsPrintable bytes = and_left (list_all (is_in_range 0x20 0x7E) bytes) (list_all (is_in_range 0x20 0x7E) more) both in
-      let back : IsPrintable more = and_right (list_all (is_in_range 0x20 0x7E) bytes) (list_all (is_in_range 0x20 0x7E) more) both in
-      let wide : length bytes ≡ columns bytes = line_columns_are bytes front in
-      let sizes : length text ≡ length bytes + length more = ap length et ∙ length-append bytes more in
+  words_put {chunks} {text} (a_word bytes more others ec et w) us p out column level h full rest =
+      let both : (list_all is_lettered bytes && list_all is_lettered more) ≡ true
+      = sym (list_all-append is_lettered bytes more) ∙ ap (list_all is_lettered) (sym et) ∙ p in
+      let front : IsLettered bytes = and_left (list_all is_lettered bytes) (list_all is_lettered more) both in
+      let back : IsLettered more = and_right (list_all is_lettered bytes) (list_all is_lettered more) both in
+      let texts : All IsText (Raw bytes (columns bytes) ∷ others) = subst (λ cs. All IsText cs) ec us in
+      let wide : letters bytes ≡ columns bytes = lettered_columns bytes (All-head IsText (Raw bytes (columns bytes)) others texts) front in
+      let sizes : letters text ≡ letters bytes + letters more = ap letters et ∙ letters-append bytes more in
       let first : column + columns bytes ≤ width = omega (arith, wide, sizes, h) in
       let on : margin_of (at (out ++ bytes) (column + columns bytes)) ≤ column + columns bytes = omega (arith, level) in
-      let whole : column + columns bytes + length more ≡ column + length text = omega (arith, wide, sizes) in
+      let whole : column + columns bytes + letters more ≡ column + letters text = omega (arith, wide, sizes) in
       ap (λ cs. text_put full (cs ++ rest) (at out column)) ec
       ∙ ap (λ s. text_put full (others ++ rest) s) (word_put out bytes column (columns bytes) refl level first)
-      ∙ words_put w back (out ++ bytes) (column + columns bytes) on (omega (arith, whole, h)) full rest
+      ∙ words_put w (All-tail IsText (Raw bytes (columns bytes)) others texts) back (out ++ bytes) (column + columns bytes) on (omega (arith, whole, h)) full rest
       ∙ ap₂ (λ o n. text_put full rest (at o n)) (append_assoc out bytes more ∙ ap (λ t. out ++ t) (sym et)) whole
 
 -- a page within a line is such a page
@@ -95,11 +97,11 @@ within : (s : Sheet) → IsWithinLine s → s ≡ page_at s.width s.tab_stop s.m
 within s is = ap₂ (λ a b. record s { asks = a; at_body = b }) is.nothing_asked is.no_body
 
 -- the words of a run
-pub run_put : (s : Sheet) (run : List ℕ) (full : Bool) (chunks rest : List Chunk) → IsWithinLine s → s.width ≤ 18446744073709551615 → chunks ≡ chunks_of run ++ rest → IsLine run → IsPrintable run
-    → s.column + length run ≤ s.width → text_put full rest (record s { out = s.out ++ run; column = s.column + length run }) ≡ text_put full chunks s
-run_put s run full chunks rest is small e line printable h =
-    ap (λ t. text_put full rest (record t { out = s.out ++ run; column = s.column + length run })) (within s is)
-    ∙ sym (words_put s.width s.tab_stop s.margins small (words_of_line run line) printable s.out s.column is.past_margin h full rest)
+pub run_put : (s : Sheet) (run : List ℕ) (full : Bool) (chunks rest : List Chunk) → IsWithinLine s → s.width ≤ 18446744073709551615 → chunks ≡ chunks_of run ++ rest → IsLine run → IsUtf8 run → IsLettered run
+    → s.column + letters run ≤ s.width → text_put full rest (record s { out = s.out ++ run; column = s.column + letters run }) ≡ text_put full chunks s
+run_put s run full chunks rest is small e line u lettered h =
+    ap (λ t. text_put full rest (record t { out = s.out ++ run; column = s.column + letters run })) (within s is)
+    ∙ sym (words_put s.width s.tab_stop s.margins small (words_of_line run line) (text_chunks run u) lettered s.out s.column is.past_margin h full rest)
     ∙ ap (λ t. text_put full (chunks_of run ++ rest) t) (sym (within s is))
     ∙ ap (λ cs. text_put full cs s) (sym e)
 

@@ -24,7 +24,7 @@ column_one b h = grind (arith, nat_tests)
 small_one : (b : ℕ) → is_ascii_graphic b ≡ true → b < 128
 small_one b h = grind (arith, nat_tests)
 
-each : (p q : ℕ → Bool) (bytes : List ℕ) → ((b : ℕ) → p b ≡ true → q b ≡ true) → list_all p bytes ≡ true → list_all q bytes ≡ true
+pub each : (p q : ℕ → Bool) (bytes : List ℕ) → ((b : ℕ) → p b ≡ true → q b ≡ true) → list_all p bytes ≡ true → list_all q bytes ≡ true
 each p q [] one h = refl
 each p q (b ∷ bytes) one h =
     let parts = and_parts (p b) (list_all p bytes) h in
@@ -55,6 +55,3 @@ pub line_columns_are : (bytes : List ℕ) → list_all (is_in_range 0x20 0x7E) b
 line_columns_are bytes h =
     sym (ap (str_width false) (chars-IsAscii bytes (IsAscii-from_all bytes (λ k d l. wide_small _ (AllPass-from_list_all (is_in_range 0x20 0x7E) bytes h k d l))))
     ∙ str_width-printable false bytes h)
-
-pub printable_text : (bytes : List ℕ) → list_all (is_in_range 0x20 0x7E) bytes ≡ true → IsUtf8 bytes
-printable_text bytes h = IsUtf8-from_ascii bytes (IsAscii-from_all bytes (λ k d l. wide_small _ (AllPass-from_list_all (is_in_range 0x20 0x7E) bytes h k d l)))

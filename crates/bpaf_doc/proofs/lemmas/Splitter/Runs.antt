@@ -1,5 +1,5 @@
 -- The chunks of a run, and of a text that begins with one.
-use Rattle.std.specs.Prelude.{◌≡◌, ◌≢◌, ℕ, suc, ◌+◌, ◌-◌, ◌<◌, ◌≤◌, true, IsTrue, ◌⊎◌, List, [], ◌∷◌, ◌++◌, codes, refl, length, take, drop, Option, Some, None, unwrap_or}
+use Rattle.std.specs.Prelude.{◌≡◌, ◌≢◌, ℕ, suc, ◌+◌, ◌-◌, ◌<◌, ◌≤◌, Bool, true, IsTrue, ◌⊎◌, List, [], ◌∷◌, ◌++◌, codes, refl, length, take, drop, Option, Some, None, unwrap_or}
 use Rattle.std.specs.Int.{is_in_range}
 use Rattle.std.specs.List.{list_all}
 use Rattle.std.proofs.Common.{sym, ◌∙◌, ap, subst, inl, inr, arith, append_assoc, get_or, take-append-drop, take_all, drop-cons, length-take, length-drop}
@@ -86,12 +86,15 @@ run_first text run back e l w =
 
 -- ---- where a run ends
 
--- a front of printable ASCII
-pub printable_front : (text : List ℕ) (i j : ℕ) → i ≤ j → IsPrintable (take j text) → IsPrintable (take i text)
-printable_front text i j le h =
+-- a front of bytes that pass a test
+pub tested_front : (test : ℕ → Bool) (text : List ℕ) (i j : ℕ) → i ≤ j → list_all test (take j text) ≡ true → list_all test (take i text) ≡ true
+tested_front test text i j le h =
     let split : take j text ≡ take i text ++ drop i (take j text) = sym (take-append-drop i (take j text)) ∙ ap (λ t. t ++ drop i (take j text)) (take-take i j text le) in
-    and_left (list_all (is_in_range 0x20 0x7E) (take i text)) (list_all (is_in_range 0x20 0x7E) (drop i (take j text)))
-    (sym (list_all-append (is_in_range 0x20 0x7E) (take i text) (drop i (take j text))) ∙ ap (list_all (is_in_range 0x20 0x7E)) (sym split) ∙ h)
+    and_left (list_all test (take i text)) (list_all test (drop i (take j text)))
+    (sym (list_all-append test (take i text) (drop i (take j text))) ∙ ap (list_all test) (sym split) ∙ h)
+
+pub printable_front : (text : List ℕ) (i j : ℕ) → i ≤ j → IsPrintable (take j text) → IsPrintable (take i text)
+printable_front text i j le h = tested_front (is_in_range 0x20 0x7E) text i j le h
 
 -- one byte more
 pub printable_more : (text : List ℕ) (i : ℕ) → i < length text → IsPrintable (take i text) → is_in_range 0x20 0x7E (get_or text i 0) ≡ true → IsPrintable (take (i + 1) text)
@@ -109,6 +112,12 @@ printable_line (b ∷ bytes) h =
 -- a run of printable ASCII
 pub printable_run : (text : List ℕ) (end : ℕ) → end ≤ length text → IsPrintable (take end text) → IsWordEnd (drop end text) → IsRunEnd text end
 printable_run text end le h w = record { within = le; line = printable_line (take end text) h; word_end = w }
+
+-- one up to a place that was seen before the end of the printable ASCII
+pub printable_last : (text : List ℕ) (last at : ℕ) → at ≤ length text → last ≤ at → IsPrintable (take at text) → (0 < last → IsWordEnd (drop last text)) → 0 < last → IsRunEnd text last
+printable_last text last at within before h ends some =
+    let inside : last ≤ length text = omega (arith, within, before) in
+    printable_run text last inside (printable_front text last at before h) (ends some)
 
 -- a blank ends a word
 pub blank_ends : (text : List ℕ) (i : ℕ) → i < length text → get_or text i 0 ≡ 32 → IsWordEnd (drop i text)

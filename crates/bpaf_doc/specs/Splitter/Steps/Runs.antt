@@ -1,5 +1,5 @@
 -- A run: words of a line and blanks between them, which a text begins with. As a text of its own it has the chunks that it has there.
-use Rattle.std.specs.Prelude.{◌≡◌, ◌≢◌, ℕ, ◌≤◌, true, List, [], length, take, drop}
+use Rattle.std.specs.Prelude.{◌≡◌, ◌≢◌, ℕ, ◌≤◌, Bool, true, not, ◌||◌, List, [], length, take, drop, count_by}
 use Rattle.std.specs.Int.{is_in_range}
 use Rattle.std.specs.List.{list_all}
 use Rattle.bpaf_doc.specs.Splitter.Chunks.{IsLine, IsWordEnd}
@@ -19,3 +19,19 @@ pub record IsRun (run : List ℕ) : Type 0 where
 -- each byte is printable ASCII, a blank among it
 abbrev pub IsPrintable : List ℕ → Type 0
 IsPrintable bytes = list_all (is_in_range 0x20 0x7E) bytes ≡ true
+
+-- printable ASCII, or one of the bytes of a Latin letter of two bytes, from U+00C0 up to U+023F
+abbrev pub is_lettered : ℕ → Bool
+is_lettered b = (is_in_range 0x20 0x7E b || is_in_range 0x80 0xBF b) || is_in_range 0xC3 0xC8 b
+
+-- each byte is one of these
+abbrev pub IsLettered : List ℕ → Type 0
+IsLettered bytes = list_all is_lettered bytes ≡ true
+
+-- a character begins with this byte
+abbrev pub begins : ℕ → Bool
+begins b = not (is_in_range 0x80 0xBF b)
+
+-- how many characters a text has
+abbrev pub letters : List ℕ → ℕ
+letters bytes = count_by begins bytes

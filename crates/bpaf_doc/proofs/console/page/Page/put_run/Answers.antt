@@ -1,9 +1,9 @@
 -- A run that is written at once is its words written one after another.
-use Rattle.std.proofs.Common.{◌+◌, ◌<◌, ◌≤◌, ◌++◌, ◌^◌, length, string_bytes, ap, ◌∙◌, arith, rules}
+use Rattle.std.proofs.Common.{◌+◌, ◌<◌, ◌≤◌, ◌++◌, ◌^◌, string_bytes, ap, ap₂, ◌∙◌, arith, rules}
 use Rattle.bpaf_doc.specs.Buffer.Parts.{ink}
+use Rattle.bpaf_doc.specs.Splitter.Steps.Runs.{letters}
 use Rattle.bpaf_doc.specs.Console.Steps.Ink.{shown_ink}
 use Rattle.bpaf_doc.specs.Console.Steps.Page.{sheet_of, text_put}
-use Rattle.bpaf_doc.proofs.lemmas.Splitter.Printable.{printable_text}
 use Rattle.bpaf_doc.proofs.lemmas.Console.Ink.{ink-push_str}
 use Rattle.bpaf_doc.proofs.lemmas.Console.Runs.{run_put, run_ink, run_hides}
 use Rattle.bpaf_doc.proofs.console.page.Page.put_run.Goals as goal
@@ -19,7 +19,7 @@ returns-in_ok-push_str-clause-ink g c = λ full.
     let run = c.in-Some.run'.now in
     let before = ink (string_bytes c.args.self.now.out) in
     ap (λ i. i ++ shown_ink full c.take_fitting.new.self) (ink-push_str c.args.self.now.out (string_bytes c.push_str.new.self) run c.in_ok-push_str.ensures.bytes)
-    ∙ run_ink before run full c.args.chunks.now c.take_fitting.new.self c.in-Some.ensures.chunks c.in-Some.ensures.line (printable_text run c.in-Some.ensures.printable)
+    ∙ run_ink before run full c.args.chunks.now c.take_fitting.new.self c.in-Some.ensures.chunks c.in-Some.ensures.line c.in-Some.ensures.text
 
 pub returns-in_ok-push_str-clause-page : goal.returns-in_ok-push_str-clause-page
 returns-in_ok-push_str-clause-page g c = λ full.
@@ -27,6 +27,6 @@ returns-in_ok-push_str-clause-page g c = λ full.
     let s = sheet_of c.args.self.now in
     let small : c.args.self.now.width < 2 ^ 64 = search rules in
     let is = c.is_within_line.ensures c.if-not-is_within_line.false in
-    let fits : c.args.self.now.column + length run ≤ c.args.self.now.width = omega (arith, is.room, c.in-Some.ensures.fits) in
-    ap (λ o. text_put full c.take_fitting.new.self (record s { out = o; column = c.args.self.now.column + length run })) c.in_ok-push_str.ensures.bytes
-    ∙ run_put s run full c.args.chunks.now c.take_fitting.new.self is (omega (arith, small)) c.in-Some.ensures.chunks c.in-Some.ensures.line c.in-Some.ensures.printable fits
+    let fits : c.args.self.now.column + letters run ≤ c.args.self.now.width = omega (arith, is.room, c.in-Some.ensures.fits, c.in-Some.ensures.taken) in
+    ap₂ (λ o n. text_put full c.take_fitting.new.self (record s { out = o; column = c.args.self.now.column + n })) c.in_ok-push_str.ensures.bytes c.in-Some.ensures.taken
+    ∙ run_put s run full c.args.chunks.now c.take_fitting.new.self is (omega (arith, small)) c.in-Some.ensures.chunks c.in-Some.ensures.line c.in-Some.ensures.text c.in-Some.ensures.lettered fits

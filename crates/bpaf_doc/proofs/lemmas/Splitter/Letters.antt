@@ -1,0 +1,246 @@
+-- Latin letters of two bytes take a column each, as printable ASCII does.
+use Rattle.std.specs.Prelude.{◌≡◌, ℕ, zero, suc, ◌+◌, ◌-◌, ◌/◌, ◌%◌, ◌<◌, ◌≤◌, ◌==◌, Bool, true, false, ◌&&◌, List, [], ◌∷◌, ◌++◌, refl, length, take, drop, sum_by, if◌then◌else◌}
+use Rattle.std.specs.Int.{is_in_range}
+use Rattle.std.specs.List.{list_all}
+use Rattle.std.specs.Str.{IsUtf8}
+use Rattle.std.proofs.Common.{sym, ap, ap₂, ◌∙◌, ◌⊎◌, inl, inr, get_or, length-take, arith}
+use Rattle.std.proofs.Math.Utf8.{encode, encodes}
+use Rattle.std.proofs.lemmas.Bool.{and_parts, cases_lt, lt-ltb, le-ltb, eqb-true}
+use Rattle.std.proofs.lemmas.Bool.Decides.{nat_tests}
+use Rattle.std.proofs.lemmas.List.Folds.{list_all-append, list_all_more}
+use Rattle.std.proofs.lemmas.List.{take_more}
+use Rattle.std.proofs.lemmas.List.Sums.{sum_by-append, sum_by-cons}
+use Rattle.std.proofs.lemmas.Str.{chars_from_encodes}
+use Rattle.unicode_width.specs.Width.{str_width, char_width}
+use Rattle.unicode_width.proofs.Rules.{is_simple, width_or_zero, str_width-simple}
+use Rattle.unicode_width.proofs.Computing.{unicode_width}
+use Rattle.bpaf_doc.specs.Splitter.Chunks.{IsWordEnd, columns, is_line_byte}
+use Rattle.bpaf_doc.specs.Splitter.Steps.Runs.{IsRunEnd, IsPrintable, IsLettered, is_lettered, begins, letters}
+use Rattle.bpaf_doc.proofs.lemmas.Splitter.Printable.{each}
+use Rattle.bpaf_doc.proofs.lemmas.Splitter.Runs.{tested_front, printable_front}
+
+-- ---- characters
+
+-- joins nothing, and takes a column
+abbrev is_narrow : ℕ → Bool
+is_narrow c = is_simple c && (width_or_zero false c == 1)
+
+abbrev all_narrow : ℕ → ℕ → Bool
+all_narrow zero first = true
+all_narrow (suc n) first = is_narrow first && all_narrow n (first + 1)
+
+-- the letters from U+00C0 up to U+023F, by their first bytes
+narrow-c3 : all_narrow 64 0x0C0 ≡ true
+unfolding unicode_width
+narrow-c3 = refl
+
+narrow-c4 : all_narrow 64 0x100 ≡ true
+unfolding unicode_width
+narrow-c4 = refl
+
+narrow-c5 : all_narrow 64 0x140 ≡ true
+unfolding unicode_width
+narrow-c5 = refl
+
+narrow-c6 : all_narrow 64 0x180 ≡ true
+unfolding unicode_width
+narrow-c6 = refl
+
+narrow-c7 : all_narrow 64 0x1C0 ≡ true
+unfolding unicode_width
+narrow-c7 = refl
+
+narrow-c8 : all_narrow 64 0x200 ≡ true
+unfolding unicode_width
+narrow-c8 = refl
+
+narrow_at : (n first k : ℕ) → all_narrow n first ≡ true → k < n → is_narrow (first + k) ≡ true
+narrow_at zero first k h l = absurd (omega (arith, l))
+narrow_at (suc n) first zero h l =
+    let e : first + 0 ≡ first = omega arith in
+    ap is_narrow e ∙ (and_parts (is_narrow first) (all_narrow n (first + 1)) h).0
+narrow_at (suc n) first (suc k) h l =
+    let e : first + 1 + k ≡ first + suc k = omega arith in
+    ap is_narrow (sym e) ∙ narrow_at n (first + 1) k (and_parts (is_narrow first) (all_narrow n (first + 1)) h).1 (omega (arith, l))
+
+narrow_in : (first c : ℕ) → all_narrow 64 first ≡ true → first ≤ c → c < first + 64 → is_narrow c ≡ true
+narrow_in first c h low high =
+    let e : first + (c - first) ≡ c = omega (arith, low) in
+    ap is_narrow (sym e) ∙ narrow_at 64 first (c - first) h (omega (arith, low, high))
+
+letter_narrow : (c : ℕ) → 192 ≤ c → c < 576 → is_narrow c ≡ true
+letter_narrow c low high = c3 (cases_lt c 0x100) where
+  c7 : (c < 0x200) ⊎ (0x200 ≤ c) → 0x1C0 ≤ c → is_narrow c ≡ true
+  c7 (inl l) from = narrow_in 0x1C0 c narrow-c7 from (omega (arith, l))
+  c7 (inr m) from = narrow_in 0x200 c narrow-c8 m (omega (arith, high))
+
+  c6 : (c < 0x1C0) ⊎ (0x1C0 ≤ c) → 0x180 ≤ c → is_narrow c ≡ true
+  c6 (inl l) from = narrow_in 0x180 c narrow-c6 from (omega (arith, l))
+  c6 (inr m) from = c7 (cases_lt c 0x200) m
+
+  c5 : (c < 0x180) ⊎ (0x180 ≤ c) → 0x140 ≤ c → is_narrow c ≡ true
+  c5 (inl l) from = narrow_in 0x140 c narrow-c5 from (omega (arith, l))
+  c5 (inr m) from = c6 (cases_lt c 0x1C0) m
+
+  c4 : (c < 0x140) ⊎ (0x140 ≤ c) → 0x100 ≤ c → is_narrow c ≡ true
+  c4 (inl l) from = narrow_in 0x100 c narrow-c4 from (omega (arith, l))
+  c4 (inr m) from = c5 (cases_lt c 0x180) m
+
+  c3 : (c < 0x100) ⊎ (0x100 ≤ c) → is_narrow c ≡ true
+  c3 (inl l) = narrow_in 0x0C0 c narrow-c3 low (omega (arith, l))
+  c3 (inr m) = c4 (cases_lt c 0x140) m
+
+ascii_narrow : (c : ℕ) → is_in_range 0x20 0x7E c ≡ true → is_narrow c ≡ true
+unfolding char_width
+ascii_narrow c h = grind (arith, nat_tests)
+
+-- ---- the bytes of a character
+
+encode_one : (c : ℕ) → c < 128 → encode c ≡ c ∷ []
+unfolding encode
+encode_one c small = rw (lt-ltb c 128 small) refl
+
+encode_two : (c : ℕ) → 128 ≤ c → c < 2048 → encode c ≡ (192 + c / 64) ∷ (128 + c % 64) ∷ []
+unfolding encode
+encode_two c low high = rw (le-ltb c 128 low, lt-ltb c 2048 high) refl
+
+encode_three : (c : ℕ) → 2048 ≤ c → c < 65536 → encode c ≡ (224 + c / 4096) ∷ (128 + c / 64 % 64) ∷ (128 + c % 64) ∷ []
+unfolding encode
+encode_three c low high =
+    let above : 128 ≤ c = omega (arith, low) in
+    rw (le-ltb c 128 above, le-ltb c 2048 low, lt-ltb c 65536 high) refl
+
+encode_four : (c : ℕ) → 65536 ≤ c → encode c ≡ (240 + c / 262144) ∷ (128 + c / 4096 % 64) ∷ (128 + c / 64 % 64) ∷ (128 + c % 64) ∷ []
+unfolding encode
+encode_four c low =
+    let above : 128 ≤ c = omega (arith, low) in
+    let far : 2048 ≤ c = omega (arith, low) in
+    rw (le-ltb c 128 above, le-ltb c 2048 far, le-ltb c 65536 low) refl
+
+-- a lettered first byte
+lettered_ascii : (b : ℕ) → b < 128 → is_lettered b ≡ true → is_in_range 0x20 0x7E b ≡ true
+lettered_ascii b small h = grind (arith, nat_tests)
+
+lettered_first : (b : ℕ) → 0xC0 ≤ b → is_lettered b ≡ true → (0xC3 ≤ b) × (b ≤ 0xC8)
+lettered_first b low h = (grind (arith, nat_tests), grind (arith, nat_tests))
+
+begins_first : (b : ℕ) → 0xC0 ≤ b → begins b ≡ true
+begins_first b low = grind (arith, nat_tests)
+
+begins_ascii : (b : ℕ) → b < 128 → begins b ≡ true
+begins_ascii b small = grind (arith, nat_tests)
+
+begins_not : (b : ℕ) → 128 ≤ b → b < 192 → begins b ≡ false
+begins_not b low high = grind (arith, nat_tests)
+
+-- of a character with lettered bytes: it takes a column, and one of its bytes is a first one
+record IsLetter (c : ℕ) : Type 0 where
+  narrow : is_narrow c ≡ true
+  one : letters (encode c) ≡ 1
+
+first_of : (b : ℕ) (rest : List ℕ) (bytes : List ℕ) → bytes ≡ b ∷ rest → list_all is_lettered bytes ≡ true → is_lettered b ≡ true
+first_of b rest bytes e h = (and_parts (is_lettered b) (list_all is_lettered rest) (ap (list_all is_lettered) (sym e) ∙ h)).0
+
+letter_is : (c : ℕ) → list_all is_lettered (encode c) ≡ true → IsLetter c
+letter_is c h = one_byte (cases_lt c 128) where
+  four_bytes : (c < 65536) ⊎ (65536 ≤ c) → 2048 ≤ c → IsLetter c
+  four_bytes (inl high) low =
+      let first = first_of (224 + c / 4096) ((128 + c / 64 % 64) ∷ (128 + c % 64) ∷ []) (encode c) (encode_three c low high) h in
+      absurd (omega (arith, (lettered_first (224 + c / 4096) (omega arith) first).1))
+  four_bytes (inr high) low =
+      let first = first_of (240 + c / 262144) ((128 + c / 4096 % 64) ∷ (128 + c / 64 % 64) ∷ (128 + c % 64) ∷ []) (encode c) (encode_four c high) h in
+      absurd (omega (arith, (lettered_first (240 + c / 262144) (omega arith) first).1))
+
+  two_bytes : (c < 2048) ⊎ (2048 ≤ c) → 128 ≤ c → IsLetter c
+  two_bytes (inl high) low =
+      let is = encode_two c low high in
+      let first = lettered_first (192 + c / 64) (omega arith) (first_of (192 + c / 64) ((128 + c % 64) ∷ []) (encode c) is h) in
+      record {
+        narrow = letter_narrow c (omega (arith, first.0)) (omega (arith, first.1));
+        one = ap letters is ∙ rw (begins_first (192 + c / 64) (omega arith), begins_not (128 + c % 64) (omega arith) (omega arith)) refl;
+      }
+  two_bytes (inr low) above = four_bytes (cases_lt c 65536) low
+
+  one_byte : (c < 128) ⊎ (128 ≤ c) → IsLetter c
+  one_byte (inl small) =
+      let is = encode_one c small in
+      record {
+        narrow = ascii_narrow c (lettered_ascii c small (first_of c [] (encode c) is h));
+        one = ap letters is ∙ rw (begins_ascii c small) refl;
+      }
+  one_byte (inr low) = two_bytes (cases_lt c 2048) low
+
+-- ---- a text of such characters
+
+pub letters-append : (xs ys : List ℕ) → letters (xs ++ ys) ≡ letters xs + letters ys
+letters-append xs ys = sum_by-append (λ b. if begins b then 1 else 0) xs ys
+
+record AreLetters (cs : List ℕ) : Type 0 where
+  simple : list_all is_simple cs ≡ true
+  counted : sum_by (width_or_zero false) cs ≡ letters (encodes cs)
+
+are_letters : (cs : List ℕ) → list_all is_lettered (encodes cs) ≡ true → AreLetters cs
+are_letters [] h = record { simple = refl; counted = refl }
+are_letters (c ∷ cs) h =
+    let both = and_parts (list_all is_lettered (encode c)) (list_all is_lettered (encodes cs)) (sym (list_all-append is_lettered (encode c) (encodes cs)) ∙ h) in
+    let one = letter_is c both.0 in
+    let narrow = and_parts (is_simple c) (width_or_zero false c == 1) one.narrow in
+    let wide : width_or_zero false c ≡ 1 = eqb-true (width_or_zero false c) 1 narrow.1 in
+    let more = are_letters cs both.1 in
+    record {
+      simple = rw (narrow.0) more.simple;
+      counted =
+          sum_by-cons (width_or_zero false) c cs ∙ ap₂ (λ a b. a + b) (wide ∙ sym one.one) more.counted
+          ∙ sym (letters-append (encode c) (encodes cs));
+    }
+
+pub lettered_columns : (bytes : List ℕ) → IsUtf8 bytes → list_all is_lettered bytes ≡ true → letters bytes ≡ columns bytes
+lettered_columns bytes u h =
+    let are = are_letters u.0 (ap (list_all is_lettered) u.1.1 ∙ h) in
+    ap letters (sym u.1.1) ∙ sym are.counted ∙ sym (str_width-simple false u.0 are.simple)
+    ∙ ap (str_width false) (chars_from_encodes u.0 bytes u u.1.1)
+
+-- ---- runs of such characters
+
+-- printable ASCII is a part of them, and each of its bytes a character
+printable_lettered_one : (b : ℕ) → is_in_range 0x20 0x7E b ≡ true → is_lettered b ≡ true
+printable_lettered_one b h = grind (arith, nat_tests)
+
+printable_begins : (b : ℕ) → is_in_range 0x20 0x7E b ≡ true → begins b ≡ true
+printable_begins b h = grind (arith, nat_tests)
+
+printable_lettered : (bytes : List ℕ) → IsPrintable bytes → IsLettered bytes
+printable_lettered bytes h = each (is_in_range 0x20 0x7E) is_lettered bytes printable_lettered_one h
+
+printable_letters : (bytes : List ℕ) → IsPrintable bytes → letters bytes ≡ length bytes
+printable_letters [] h = refl
+printable_letters (b ∷ bytes) h =
+    let both = and_parts (is_in_range 0x20 0x7E b) (list_all (is_in_range 0x20 0x7E) bytes) h in
+    let one : letters (b ∷ []) ≡ 1 = rw (printable_begins b both.0) refl in
+    let whole : 1 + length bytes ≡ length (b ∷ bytes) = omega arith in
+    letters-append (b ∷ []) bytes ∙ ap₂ (λ n m. n + m) one (printable_letters bytes both.1) ∙ whole
+
+pub printable_front_lettered : (text : List ℕ) (i at : ℕ) → i ≤ at → IsPrintable (take at text) → IsLettered (take i text)
+printable_front_lettered text i at le h = printable_lettered (take i text) (printable_front text i at le h)
+
+pub printable_front_letters : (text : List ℕ) (i at : ℕ) → i ≤ at → at ≤ length text → IsPrintable (take at text) → i ≡ letters (take i text)
+printable_front_letters text i at le within h =
+    let long : i ≡ length (take i text) = omega (arith, le, within, length-take i text) in
+    long ∙ sym (printable_letters (take i text) (printable_front text i at le h))
+
+-- a front of them, and one byte more
+pub lettered_front : (text : List ℕ) (i j : ℕ) → i ≤ j → IsLettered (take j text) → IsLettered (take i text)
+lettered_front text i j le h = tested_front is_lettered text i j le h
+
+pub lettered_more : (text : List ℕ) (i : ℕ) → i < length text → IsLettered (take i text) → is_lettered (get_or text i 0) ≡ true → IsLettered (take (i + 1) text)
+lettered_more text i lt h one = list_all_more is_lettered text i 0 lt ∙ rw (h) one
+
+pub letters_more : (text : List ℕ) (i : ℕ) → i < length text → letters (take (i + 1) text) ≡ letters (take i text) + letters (get_or text i 0 ∷ [])
+letters_more text i lt = ap letters (take_more text i 0 lt) ∙ letters-append (take i text) (get_or text i 0 ∷ [])
+
+lettered_line_byte : (b : ℕ) → is_lettered b ≡ true → is_line_byte b ≡ true
+lettered_line_byte b h = grind (arith, nat_tests)
+
+-- a run of them
+pub lettered_run : (text : List ℕ) (end : ℕ) → end ≤ length text → IsLettered (take end text) → IsWordEnd (drop end text) → IsRunEnd text end
+lettered_run text end le h w = record { within = le; line = each is_lettered is_line_byte (take end text) lettered_line_byte h; word_end = w }
