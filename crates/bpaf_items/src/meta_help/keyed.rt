@@ -4,7 +4,7 @@ use crate::meta_help::entry::HelpItem;
 use std::alloc::Allocator;
 use std::hash::{Hash, Hasher};
 
-/// An entry that is equal to one with an equal key. A set of these is smaller than one of keys, which it makes again to compare.
+/// An entry, equal to another where their keys are. A set of these holds a pointer an entry, and makes the keys when it compares.
 #[derive_where(Clone, Copy)]
 pub struct Keyed<'a, 's, A: Allocator>(pub &'s HelpItem<'a, A>);
 
