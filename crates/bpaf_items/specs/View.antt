@@ -1,5 +1,6 @@
 -- What an entry of a list, a key, a map of texts and an answer say: their content.
 use Rattle.std.specs.Prelude.{[], Result, Ok, Err}
+use Rattle.std.specs.Borrow.{Bor}
 use Rattle.std.specs.Option.{option_copied}
 use Rattle.bpaf_meta.specs.Content.{any, positional, command, flag, argument}
 use Rattle.bpaf_meta.specs.View.{name_of, text_of, leaf_of, tree_of, head_of}
@@ -25,6 +26,10 @@ entry_of (entry.Flag n e h) = listed (flag (name_of n) [] (text_of e) (option_co
 entry_of (entry.Argument n m e h) = listed (argument (name_of n) [] m.0.now (text_of e) (option_copied h))
 entry_of (entry.AdjacentStart t k) = adjacent_start (tree_of t.now) k
 entry_of (entry.AdjacentStop k) = adjacent_stop k
+
+-- an entry that is borrowed from a list
+abbrev pub entry_at : {A : Type 0} → Bor (HelpItem A) → Entry
+entry_at e = entry_of e.now
 
 -- an `ItemKey`
 abbrev pub key_in : {A : Type 0} → ItemKey A → Key

@@ -6,6 +6,7 @@ mod error;
 mod given;
 mod groups;
 mod key;
+mod keyed;
 mod list;
 mod lists;
 mod page;

@@ -1,6 +1,7 @@
 -- Groups, and entries outside them, taken from the front of a list.
 use Rattle.std.proofs.Common.{get_or, ◌&&◌, ◌≡◌, ℕ, ◌+◌, ◌<◌, ◌≤◌, Bool, true, false, not, List, [], ◌∷◌, ◌++◌, length, map, take, drop, refl, sym, ap, ◌∙◌, subst, append_assoc, add-one, zero, suc, arith}
 use Rattle.std.specs.Prelude.{if◌then◌else◌, filter, flat_map, count_by, nat_lt, codes, Option, Some, None}
+use Rattle.std.specs.Borrow.{Bor}
 use Rattle.std.specs.List.{position, range_with_len}
 use Rattle.std.proofs.Math.Seq.{take-append_seam, drop-append_seam}
 use Rattle.std.proofs.lemmas.List.{map-append, length-append, take-map, drop-map}
@@ -18,7 +19,7 @@ use Rattle.bpaf_items.specs.Listing.Groups.{both_places, HasNoGroupMark, HasPair
 use Rattle.bpaf_items.specs.Page.EnvTexts.{Texts}
 use Rattle.bpaf_items.specs.Page.HelpPage.{groups_writes, heading_writes, list_writes}
 use Rattle.bpaf_items.specs.Page.Steps.Groups.{group_lists, group_len, heading_end, headings, len_through, Takes, title_front}
-use Rattle.bpaf_items.specs.View.{entry_of}
+use Rattle.bpaf_items.specs.View.{entry_at, entry_of}
 use Rattle.bpaf_items.proofs.Listing.Placing.{placed_after-append, placed-push, kept_map}
 use Rattle.bpaf_items.proofs.Listing.Blocks.{count-cons}
 use Rattle.bpaf_items.proofs.Listing.Headings.{headings_agree}
@@ -255,11 +256,11 @@ module _ {B : Type 0} where
   first_of [] first h is = absurd (omega arith)
   first_of (x ∷ items) first h is = ap (λ y. entry_of y ∷ map entry_of items) (sym is)
 
-  pub takes_item : (included : Bool) (texts : Texts) (items : List (HelpItem B)) (first : HelpItem B) (doc : List Part) (outside kept : List (HelpItem B)) → HasPairedGroups (map entry_of items)
-      → 0 < length items → first ≡ get_or items 0 first → is_group_start (entry_of first) ≡ false → kept ≡ outside ++ first ∷ [] → Takes included texts (map entry_of items) 1 doc doc (map entry_of outside) (map entry_of kept)
-  takes_item included texts items first doc outside kept paired some is starts more =
-      subst (Takes included texts (map entry_of items) 1 doc doc (map entry_of outside)) (sym (ap (map entry_of) more ∙ map-append entry_of outside (first ∷ [])))
-      (takes_outer included texts (map entry_of items) (entry_of first) (map entry_of (drop 1 items)) doc (map entry_of outside) paired (first_of items first some is) starts)
+  pub takes_item : (included : Bool) (texts : Texts) (items : List (HelpItem B)) (first : HelpItem B) (one : Bor (HelpItem B)) (doc : List Part) (outside kept : List (Bor (HelpItem B))) → HasPairedGroups (map entry_of items)
+      → 0 < length items → first ≡ get_or items 0 first → is_group_start (entry_of first) ≡ false → one.now ≡ first → kept ≡ outside ++ one ∷ [] → Takes included texts (map entry_of items) 1 doc doc (map entry_at outside) (map entry_at kept)
+  takes_item included texts items first one doc outside kept paired some is starts own more =
+      subst (Takes included texts (map entry_of items) 1 doc doc (map entry_at outside)) (sym (ap (map entry_at) more ∙ map-append entry_at outside (one ∷ []) ∙ ap (λ x. map entry_at outside ++ entry_of x ∷ []) own))
+      (takes_outer included texts (map entry_of items) (entry_of first) (map entry_of (drop 1 items)) doc (map entry_at outside) paired (first_of items first some is) starts)
 
   pub takes_marked : (included : Bool) (texts : Texts) (items front : List (HelpItem B)) (first : HelpItem B) (count : ℕ) (before now : List Part) (outside : List Entry) → HasPairedGroups (map entry_of items)
       → 0 < length items → first ≡ get_or items 0 first → is_group_start (entry_of first) ≡ true → count ≡ group_len (map entry_of items) → front ≡ take count items
@@ -273,11 +274,11 @@ module _ {B : Type 0} where
   pub left_behind : (items rest : List (HelpItem B)) (count : ℕ) → rest ≡ drop count items → map entry_of rest ≡ drop count (map entry_of items)
   left_behind items rest count is = ap (map entry_of) is ∙ sym (drop-map entry_of count items)
 
-  pub heading_is : (included : Bool) (texts : Texts) (title : List ℕ) (items : List (HelpItem B)) → 0 < length items
-      → title_front title ++ (list_writes included texts (map entry_of items) ++ heading_end) ≡ heading_writes included texts title (map entry_of items)
+  pub heading_is : (included : Bool) (texts : Texts) (title : List ℕ) (items : List (Bor (HelpItem B))) → 0 < length items
+      → title_front title ++ (list_writes included texts (map entry_at items) ++ heading_end) ≡ heading_writes included texts title (map entry_at items)
   heading_is included texts title [] h = absurd (omega arith)
   heading_is included texts title (x ∷ items) h =
-      ap (λ ws. title_front title ++ ws) (sym (append_assoc (list_writes included texts (map entry_of (x ∷ items))) (end block.DefinitionList ∷ []) (end block.Block ∷ [])))
+      ap (λ ws. title_front title ++ ws) (sym (append_assoc (list_writes included texts (map entry_at (x ∷ items))) (end block.DefinitionList ∷ []) (end block.Block ∷ [])))
 
 -- ---- groups and headings
 

@@ -13,15 +13,14 @@ use Rattle.bpaf_doc.specs.Buffer.Parts.{Part}
 use Rattle.bpaf_doc.specs.Buffer.Writes.{with_writes}
 use Rattle.bpaf_meta.specs.Content.{Leaf}
 use Rattle.bpaf_meta.proofs.lemmas.Usage.Written.{with_writes-append}
-use Rattle.bpaf_items.specs.declared.meta_help.key.ItemKey.{ItemKey}
+use Rattle.bpaf_items.specs.declared.meta_help.keyed.Keyed.{Keyed}
 use Rattle.bpaf_items.specs.Listing.ItemList.{Entry, listed, note, group_start, group_end, adjacent_start, adjacent_stop}
-use Rattle.bpaf_items.specs.Listing.Keys.{Key, key_of, entry_key, same_key, keys_equiv}
+use Rattle.bpaf_items.specs.Listing.Keys.{Key, key_of, entry_key}
 use Rattle.bpaf_items.specs.Listing.Falls.{Placed, placed, is_mark, has_key_of, is_mark_or_new, is_shown, shown_entries}
 use Rattle.bpaf_items.specs.Page.EnvTexts.{Texts}
 use Rattle.bpaf_items.specs.Page.EntryWrites.{entry_writes}
 use Rattle.bpaf_items.specs.Page.HelpPage.{list_writes}
-use Rattle.bpaf_items.specs.Page.Steps.Repeats.{has_key, is_last_shown, Remembers, shown_writes}
-use Rattle.bpaf_items.specs.View.{key_in}
+use Rattle.bpaf_items.specs.Page.Steps.Repeats.{entry_in, has_key, is_last_shown, key_at, Remembers, same_keys, same_keys_equiv, shown_writes}
 use Rattle.bpaf_items.proofs.Listing.Placing.{placed-push}
 use Rattle.bpaf_items.proofs.Listing.Shown.{shown-push}
 
@@ -80,27 +79,39 @@ any_same : {K : Type 0} (p q : K → Bool) → ((x : K) → p x ≡ q x) → (xs
 any_same p q h [] = refl
 any_same p q h (x ∷ xs) = ap (λ b. b || list_any p xs) (h x) ∙ ap (λ b. q x || b) (any_same p q h xs)
 
-some_is : (k l : Key) → Some k ≡ Some l → k ≡ l
-some_is k l h = cc
+-- two tests say the same of entries by their keys
+keyed_as : (m : Leaf) (e : Entry) → has_key_of m e ≡ same_keys (Some (key_of m)) (entry_key e)
+keyed_as m (listed l) = refl
+keyed_as m (note d k) = refl
+keyed_as m (group_start d k) = refl
+keyed_as m (group_end k) = refl
+keyed_as m (adjacent_start t k) = refl
+keyed_as m (adjacent_stop k) = refl
 
--- the keys after one is put among them, where the answer says whether it is new
-abbrev IsPut : {B : Type 0} → (keys after : List (ItemKey B)) → (shown : Bool) → ItemKey B → Type 0
-IsPut keys after shown key = (shown ≡ not (list_any (on key_in same_key key) keys)) × MatchBool shown (IsPermutation (key ∷ keys) after) (after ≡ keys)
+alike : (m : Leaf) (e f : Entry) → same_keys (entry_key e) (entry_key f) ≡ true → has_key_of m e ≡ has_key_of m f
+alike m e f h =
+    keyed_as m e
+    ∙ same_keys_equiv.symm (Some (key_of m)) (entry_key e)
+    ∙ same_keys_equiv.congr (entry_key e) (entry_key f) (Some (key_of m)) h
+    ∙ same_keys_equiv.symm (entry_key f) (Some (key_of m))
+    ∙ sym (keyed_as m f)
 
-module _ {B : Type 0} (keys : List (ItemKey B)) where
-  found : (key : ItemKey B) (l : Leaf) → key_of l ≡ key_in key → list_any (on key_in same_key key) keys ≡ has_key keys l
+-- the entries after one is put among them, where the answer says whether its key is new
+abbrev IsPut : {B : Type 0} → (keys after : List (Keyed B)) → (shown : Bool) → Keyed B → Type 0
+IsPut keys after shown key = (shown ≡ not (list_any (on key_at same_keys key) keys)) × MatchBool shown (IsPermutation (key ∷ keys) after) (after ≡ keys)
+
+module _ {B : Type 0} (keys : List (Keyed B)) where
+  found : (key : Keyed B) (l : Leaf) → entry_in key ≡ listed l → list_any (on key_at same_keys key) keys ≡ has_key keys l
   found key l is =
-      any_same (on key_in same_key key) (λ k. same_key (key_in k) (key_of l)) (λ k. keys_equiv.symm (key_in key) (key_in k) ∙ ap (same_key (key_in k)) (sym is)) keys
+      any_same (on key_at same_keys key) (λ k. has_key_of l (entry_in k)) (λ k. ap (λ e. same_keys (entry_key e) (key_at k)) is ∙ sym (keyed_as l (entry_in k))) keys
 
-  seen_item : (after : List (ItemKey B)) (shown : Bool) (key : ItemKey B) (l : Leaf) (before : List Entry) → key_of l ≡ key_in key → IsPut keys after shown key
-      → ((m : Leaf) → has_key keys m ≡ list_any (has_key_of m) before) → (m : Leaf) → has_key after m ≡ list_any (has_key_of m) (before ++ listed l ∷ [])
-  seen_item after shown key l before is put seen m =
-      any_put (on key_in same_key) (λ k. same_key (key_in k) (key_of m)) key (λ x e. keys_equiv.congr (key_in key) (key_in x) (key_of m) e) shown keys after put.0 put.1
-      ∙ ap (λ b. same_key (key_in key) (key_of m) || b) (seen m)
-      ∙ ap (λ k. same_key k (key_of m) || list_any (has_key_of m) before) (sym is)
-      ∙ ap (λ b. b || list_any (has_key_of m) before) (keys_equiv.symm (key_of l) (key_of m))
-      ∙ or_swap (same_key (key_of m) (key_of l)) (list_any (has_key_of m) before)
-      ∙ sym (list_any-append (has_key_of m) before (listed l ∷ []))
+  seen_item : (after : List (Keyed B)) (shown : Bool) (key : Keyed B) (before : List Entry) → IsPut keys after shown key
+      → ((m : Leaf) → has_key keys m ≡ list_any (has_key_of m) before) → (m : Leaf) → has_key after m ≡ list_any (has_key_of m) (before ++ entry_in key ∷ [])
+  seen_item after shown key before put seen m =
+      any_put (on key_at same_keys) (λ k. has_key_of m (entry_in k)) key (λ x h. alike m (entry_in key) (entry_in x) h) shown keys after put.0 put.1
+      ∙ ap (λ b. has_key_of m (entry_in key) || b) (seen m)
+      ∙ or_swap (has_key_of m (entry_in key)) (list_any (has_key_of m) before)
+      ∙ sym (list_any-append (has_key_of m) before (entry_in key ∷ []))
 
   seen_other : (e : Entry) (before : List Entry) → ((m : Leaf) → has_key_of m e ≡ false) → ((m : Leaf) → has_key keys m ≡ list_any (has_key_of m) before)
       → (m : Leaf) → has_key keys m ≡ list_any (has_key_of m) (before ++ e ∷ [])
@@ -109,29 +120,31 @@ module _ {B : Type 0} (keys : List (ItemKey B)) where
 
 -- ---- an entry with a key, and one without
 
-abbrev Goes : {B : Type 0} → List (ItemKey B) → (shown last : Bool) → (before : List Entry) → Entry → Type 0
+abbrev Goes : {B : Type 0} → List (Keyed B) → (shown last : Bool) → (before : List Entry) → Entry → Type 0
 Goes keys shown last before e = (shown ≡ is_shown (before, e)) × Remembers keys last (before ++ e ∷ [])
 
-item_shown : {B : Type 0} (keys after : List (ItemKey B)) (shown last now : Bool) (key : ItemKey B) (e : Entry) (before : List Entry)
-    → Some (key_in key) ≡ entry_key e → IsPut keys after shown key → now ≡ shown → Remembers keys last before → Goes after shown now before e
-item_shown keys after shown last now key (listed l) before is put same h =
-    let own : key_of l ≡ key_in key = some_is (key_of l) (key_in key) (sym is) in
+item_shown : {B : Type 0} (keys after : List (Keyed B)) (shown last now : Bool) (k : Key) (key : Keyed B) (e : Entry) (before : List Entry)
+    → entry_in key ≡ e → Some k ≡ entry_key e → IsPut keys after shown key → now ≡ shown → Remembers keys last before → Goes after shown now before e
+item_shown keys after shown last now k key (listed l) before own is put same h =
     let first : shown ≡ is_shown (before, listed l) = put.0 ∙ ap not (found keys key l own ∙ h.seen l) in (
       first,
-      record { seen = seen_item keys after shown key l before own put h.seen; last = same ∙ first ∙ sym (last_shown-push before (listed l)) },
+      record {
+        seen = λ m. seen_item keys after shown key before put h.seen m ∙ ap (λ e. list_any (has_key_of m) (before ++ e ∷ [])) own;
+        last = same ∙ first ∙ sym (last_shown-push before (listed l));
+      },
     )
-item_shown keys after shown last now key (note d k) before is put same h = cc
-item_shown keys after shown last now key (group_start d k) before is put same h = cc
-item_shown keys after shown last now key (group_end k) before is put same h = cc
-item_shown keys after shown last now key (adjacent_start t k) before is put same h = cc
-item_shown keys after shown last now key (adjacent_stop k) before is put same h = cc
+item_shown keys after shown last now k key (note d j) before own is put same h = cc
+item_shown keys after shown last now k key (group_start d j) before own is put same h = cc
+item_shown keys after shown last now k key (group_end j) before own is put same h = cc
+item_shown keys after shown last now k key (adjacent_start t j) before own is put same h = cc
+item_shown keys after shown last now k key (adjacent_stop j) before own is put same h = cc
 
-pub item_goes : {B E : Type 0} (r : Result Bool E) (keys after : List (ItemKey B)) (last now : Bool) (key : ItemKey B) (e : Entry) (before : List Entry)
-    → Some (key_in key) ≡ entry_key e
-    → IfOk r (λ shown. (shown ≡ not (list_any (on key_in same_key key) keys)) × MatchBool shown (IsPermutation (key ∷ keys) after) (after ≡ keys) × (now ≡ shown))
-    → Remembers keys last before → IfOk r (λ shown. Goes after shown now before e)
-item_goes (Ok shown) keys after last now key e before is f h = item_shown keys after shown last now key e before is (f.0, f.1) f.2 h
-item_goes (Err x) keys after last now key e before is f h = tt
+pub item_goes : {B E : Type 0} (r : Result Bool E) (keys after : List (Keyed B)) (last now : Bool) (k : Key) (key : Keyed B) (before : List Entry)
+    → Some k ≡ key_at key
+    → IfOk r (λ shown. (shown ≡ not (list_any (on key_at same_keys key) keys)) × MatchBool shown (IsPermutation (key ∷ keys) after) (after ≡ keys) × (now ≡ shown))
+    → Remembers keys last before → IfOk r (λ shown. Goes after shown now before (entry_in key))
+item_goes (Ok shown) keys after last now k key before is f h = item_shown keys after shown last now k key (entry_in key) before refl is (f.0, f.1) f.2 h
+item_goes (Err x) keys after last now k key before is f h = tt
 
 or_false : (b : Bool) → (b || false) ≡ b
 or_false true = refl
@@ -141,12 +154,12 @@ or_true : (b : Bool) → (b || true) ≡ true
 or_true true = refl
 or_true false = refl
 
-mark_shown : {B : Type 0} (keys : List (ItemKey B)) (last : Bool) (e : Entry) (before : List Entry) → is_mark_or_new (before, e) ≡ true → is_shown (before, e) ≡ true → ((m : Leaf) → has_key_of m e ≡ false)
+mark_shown : {B : Type 0} (keys : List (Keyed B)) (last : Bool) (e : Entry) (before : List Entry) → is_mark_or_new (before, e) ≡ true → is_shown (before, e) ≡ true → ((m : Leaf) → has_key_of m e ≡ false)
     → Remembers keys last before → Goes keys (last || true) true before e
 mark_shown keys last e before new is none h =
     (or_true last ∙ sym is, record { seen = seen_other keys e before none h.seen; last = sym new ∙ sym (last_shown-push before e) })
 
-pub other_shown : {B : Type 0} (keys after : List (ItemKey B)) (shown last now mark : Bool) (e : Entry) (before : List Entry)
+pub other_shown : {B : Type 0} (keys after : List (Keyed B)) (shown last now mark : Bool) (e : Entry) (before : List Entry)
     → None ≡ entry_key e → mark ≡ is_mark e → shown ≡ (last || mark) → now ≡ mark → after ≡ keys → Remembers keys last before → Goes after shown now before e
 other_shown keys after shown last now mark (listed l) before none is new same kept h = cc
 other_shown keys after shown last now mark (note d k) before none is new same kept h =
@@ -158,7 +171,7 @@ other_shown keys after shown last now mark (adjacent_start t k) before none is n
 other_shown keys after shown last now mark (adjacent_stop k) before none is new same kept h = rw (kept, same, new, is) (mark_shown keys last (adjacent_stop k) before refl refl (λ m. refl) h)
 
 -- at the start of a list
-pub nothing_seen : {B : Type 0} (keys : List (ItemKey B)) → keys ≡ [] → Remembers keys false []
+pub nothing_seen : {B : Type 0} (keys : List (Keyed B)) → keys ≡ [] → Remembers keys false []
 nothing_seen keys is = record { seen = λ l. ap (λ ks. has_key ks l) is; last = refl }
 
 -- ---- lists

@@ -1,8 +1,8 @@
 -- Going through a list with the block kept that was started last gives the entries of a heading.
-use Rattle.std.proofs.Common.{◌≡◌, Bool, true, false, List, [], ◌∷◌, ◌++◌, map, refl, sym, ap, ◌∙◌}
+use Rattle.std.proofs.Common.{◌≡◌, ℕ, ◌<◌, Bool, true, false, List, [], ◌∷◌, ◌++◌, append_assoc, drop, get_or, length, map, refl, sym, ap, ◌∙◌}
 use Rattle.std.specs.Prelude.{if◌then◌else◌, filter, cond, Option, Some, None, ◌+◌, not}
 use Rattle.std.specs.List.{position, prefix_len}
-use Rattle.std.proofs.lemmas.List.{length-map}
+use Rattle.std.proofs.lemmas.List.{drop_more, length-map}
 use Rattle.bpaf_items.specs.declared.meta_help.entry.HiTy.{HiTy}
 use Rattle.bpaf_items.specs.declared.meta_help.given.State.{State}
 use Rattle.bpaf_items.specs.declared.meta_help.given.State.TheVariants.{Outside}
@@ -53,6 +53,25 @@ module _ (k : HiTy) where
 
 pub given_of_type : (k : HiTy) (es : List Entry) → given_from Outside k es ≡ items_of_type es k
 given_of_type k es = given_after k [] es
+
+one_more : (b : Bool) (e : Entry) (es : List Entry) → (if b then e ∷ [] else []) ++ es ≡ (if b then e ∷ es else es)
+one_more true e es = refl
+one_more false e es = refl
+
+-- one more entry of a list that is gone through
+pub given_next : {X : Type 0} (view : X → Entry) (s after : State) (k : HiTy) (xs : List X) (i : ℕ) (x : X) (mid now all : List Entry) → i < length xs → x ≡ get_or xs i x
+    → after ≡ state_after s (view x) → now ≡ mid ++ (if is_given_in s k (view x) then view x ∷ [] else []) → mid ++ given_from s k (map view (drop i xs)) ≡ all
+    → now ++ given_from after k (map view (drop (i + 1) xs)) ≡ all
+given_next view s after k xs i x mid now all within is next put held =
+    let rest : List Entry = map view (drop (i + 1) xs) in
+    let one : List Entry = if is_given_in s k (view x) then view x ∷ [] else [] in
+    ap (λ es. es ++ given_from after k rest) put
+    ∙ append_assoc mid one (given_from after k rest)
+    ∙ ap (λ t. mid ++ (one ++ given_from t k rest)) next
+    ∙ ap (λ es. mid ++ es) (one_more (is_given_in s k (view x)) (view x) (given_from (state_after s (view x)) k rest))
+    ∙ ap (λ y. mid ++ given_from s k (view y ∷ rest)) is
+    ∙ ap (λ ys. mid ++ given_from s k (map view ys)) (sym (drop_more xs i x within))
+    ∙ held
 
 -- the first place that passes, of a list seen through a function
 prefix_len-map : {X Y : Type 0} (p : Y → Bool) (f : X → Y) (xs : List X) → prefix_len (λ x. p (f x)) xs ≡ prefix_len p (map f xs)

@@ -36,7 +36,7 @@ key_input (argument_key n m h) = name_input n ++ (m ∷ []) ++ help_input h
 
 -- ---- equal keys feed the same
 
-apart : {X : Type 0} → false ≡ true → X
+pub apart : {X : Type 0} → false ≡ true → X
 apart h = absurd (true≢false (sym h))
 
 text_is : (xs ys : List ℕ) → same_text xs ys ≡ true → xs ≡ ys

@@ -19,7 +19,7 @@ pub struct HelpItemsIter<'a, 's, A: Allocator = Global> {
 
 // Which block was started last, and not ended.
 #[derive(Clone, Copy, Debug)]
-enum State {
+pub enum State {
     Outside,
     Group(HiTy),
     Adjacent(HiTy),
@@ -78,7 +78,7 @@ impl<'a, 's, A: Allocator> Iterator for HelpItemsIter<'a, 's, A> {
 }
 
 impl State {
-    fn after<A: Allocator>(self, item: &HelpItem<'_, A>) -> State
+    pub fn after<A: Allocator>(self, item: &HelpItem<'_, A>) -> State
         ensures { result ≡ state_after self (entry_of item.now) }
     {
         match *item {
@@ -90,7 +90,7 @@ impl State {
     }
 
     // A mark goes by its own type, any other entry by the block that it stands in.
-    fn is_given<A: Allocator>(self, item: &HelpItem<'_, A>, ty: HiTy) -> bool
+    pub fn is_given<A: Allocator>(self, item: &HelpItem<'_, A>, ty: HiTy) -> bool
         ensures { result ≡ is_given_in self ty (entry_of item.now) }
     {
         if item.is_mark() {

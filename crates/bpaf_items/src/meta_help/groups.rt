@@ -8,11 +8,12 @@ ghost use Rattle.bpaf_items.specs.Page.EnvTexts.{texts_in};
 ghost use Rattle.bpaf_items.specs.Page.HelpPage.{groups_writes, heading_writes, list_writes};
 ghost use Rattle.bpaf_items.specs.Page.Steps.Groups.{Takes, group_len, group_lists, headings, title_front};
 ghost use Rattle.bpaf_items.specs.Page.Steps.Pieces.{Leaves};
-ghost use Rattle.bpaf_items.specs.View.{entry_of};
+ghost use Rattle.bpaf_items.specs.Steps.Given.{is_given_in};
+ghost use Rattle.bpaf_items.specs.View.{entry_at, entry_of};
 
 use crate::meta_help::entry::{HelpItem, HiTy};
 use crate::meta_help::env_texts::EnvTexts;
-use crate::meta_help::given::{HelpItemsIter, lacks_help};
+use crate::meta_help::given::{State, lacks_help};
 use crate::meta_help::list::group_end_place;
 use crate::meta_help::lists::put_list;
 use crate::meta_help::pieces::Piece;
@@ -21,9 +22,9 @@ use bpaf_doc::buffer::{Block, Doc, Style};
 use std::alloc::{AllocError, Allocator};
 
 /// Writes the groups of a list, and then the headings over what stands outside them. Lists on the way are in memory of `alloc`.
-pub fn put_all<'a, A: Allocator, B: Allocator + Copy, C: Allocator, L: Allocator + Copy>(
+pub fn put_all<'a, 's, A: Allocator, B: Allocator + Copy, C: Allocator, L: Allocator + Copy>(
     doc: &mut Doc<A>,
-    entries: &[HelpItem<'a, B>],
+    entries: &'s [HelpItem<'a, B>],
     include_env: bool,
     texts: &EnvTexts<C>,
     alloc: L,
@@ -31,16 +32,16 @@ pub fn put_all<'a, A: Allocator, B: Allocator + Copy, C: Allocator, L: Allocator
     requires { HasPairedGroups (map entry_of entries.now) }
     ensures { Leaves result doc.old doc.new (groups_writes include_env (texts_in texts.now) (map entry_of entries.now)) }
 {
-    let mut outside = Vec::new(alloc);
+    let mut outside: Vec<&'s HelpItem<'a, B>, L> = Vec::new(alloc);
     put_groups(doc, &mut outside, entries, include_env, texts, alloc)?;
     put_headings(doc, outside.as_slice(), include_env, texts, alloc)
 }
 
 // Writes the groups in order, and keeps what stands outside them.
-fn put_groups<'a, A: Allocator, B: Allocator + Copy, C: Allocator, L: Allocator + Copy>(
+fn put_groups<'a, 's, A: Allocator, B: Allocator + Copy, C: Allocator, L: Allocator + Copy>(
     doc: &mut Doc<A>,
-    outside: &mut Vec<HelpItem<'a, B>, L>,
-    entries: &[HelpItem<'a, B>],
+    outside: &mut Vec<&'s HelpItem<'a, B>, L>,
+    entries: &'s [HelpItem<'a, B>],
     include_env: bool,
     texts: &EnvTexts<C>,
     alloc: L,
@@ -48,7 +49,7 @@ fn put_groups<'a, A: Allocator, B: Allocator + Copy, C: Allocator, L: Allocator 
     requires { HasPairedGroups (map entry_of entries.now) }
     ensures grows { Grows doc.old doc.new }
     ensures groups { OnOk result (doc.new ≡ with_writes doc.old (group_lists include_env (texts_in texts.now) (map entry_of entries.now))) }
-    ensures outside { OnOk result (map entry_of outside.new.items ≡ map entry_of outside.old.items ++ outside_groups (map entry_of entries.now)) }
+    ensures outside { OnOk result (map entry_at outside.new.items ≡ map entry_at outside.old.items ++ outside_groups (map entry_of entries.now)) }
 {
     let mut rest = entries;
     while !rest.is_empty() {
@@ -59,10 +60,10 @@ fn put_groups<'a, A: Allocator, B: Allocator + Copy, C: Allocator, L: Allocator 
 }
 
 // Writes a first group, or keeps a first entry outside groups, and answers how many entries that takes.
-fn put_first<'a, A: Allocator, B: Allocator + Copy, C: Allocator, L: Allocator + Copy>(
+fn put_first<'a, 's, A: Allocator, B: Allocator + Copy, C: Allocator, L: Allocator + Copy>(
     doc: &mut Doc<A>,
-    outside: &mut Vec<HelpItem<'a, B>, L>,
-    rest: &[HelpItem<'a, B>],
+    outside: &mut Vec<&'s HelpItem<'a, B>, L>,
+    rest: &'s [HelpItem<'a, B>],
     include_env: bool,
     texts: &EnvTexts<C>,
     alloc: L,
@@ -71,9 +72,9 @@ fn put_first<'a, A: Allocator, B: Allocator + Copy, C: Allocator, L: Allocator +
     requires some { 0 < length rest.now }
     ensures grows { Grows doc.old doc.new }
     ensures takes { IfOk result (λ count. Takes include_env (texts_in texts.now) (map entry_of rest.now) count doc.old doc.new
-        (map entry_of outside.old.items) (map entry_of outside.new.items)) }
+        (map entry_at outside.old.items) (map entry_at outside.new.items)) }
 {
-    let first = rest[0];
+    let first = &rest[0];
     if !first.is_group_start() {
         outside.push(first)?;
         return Ok(1);
@@ -113,16 +114,16 @@ fn group_len<B: Allocator>(entries: &[HelpItem<'_, B>]) -> usize
     }
 }
 
-fn put_group<'a, A: Allocator, B: Allocator + Copy, C: Allocator, L: Allocator + Copy>(
+fn put_group<'a, 's, A: Allocator, B: Allocator + Copy, C: Allocator, L: Allocator + Copy>(
     doc: &mut Doc<A>,
-    entries: &[HelpItem<'a, B>],
+    entries: &'s [HelpItem<'a, B>],
     include_env: bool,
     texts: &EnvTexts<C>,
     alloc: L,
 ) -> Result<(), AllocError>
     ensures { Leaves result doc.old doc.new (list_writes include_env (texts_in texts.now) (kept_entries (map entry_of entries.now))) }
 {
-    let mut members = Vec::new(alloc);
+    let mut members: Vec<&'s HelpItem<'a, B>, L> = Vec::new(alloc);
     keep(&mut members, entries)?;
     put_list(doc, members.as_slice(), include_env, texts, alloc)
 }
@@ -135,11 +136,11 @@ struct Depth {
 }
 
 // Adds what is shown of a group: all but the items without help in an adjacent block of it.
-fn keep<'a, B: Allocator, L: Allocator + Copy>(
-    members: &mut Vec<HelpItem<'a, B>, L>,
-    entries: &[HelpItem<'a, B>],
+fn keep<'a, 's, B: Allocator, L: Allocator + Copy>(
+    members: &mut Vec<&'s HelpItem<'a, B>, L>,
+    entries: &'s [HelpItem<'a, B>],
 ) -> Result<(), AllocError>
-    ensures { OnOk result (map entry_of members.new.items ≡ map entry_of members.old.items ++ kept_entries (map entry_of entries.now)) }
+    ensures { OnOk result (map entry_at members.new.items ≡ map entry_at members.old.items ++ kept_entries (map entry_of entries.now)) }
 {
     let mut depth = Depth {
         starts: 0,
@@ -152,18 +153,18 @@ fn keep<'a, B: Allocator, L: Allocator + Copy>(
     Ok(())
 }
 
-fn keep_one<'a, B: Allocator, L: Allocator + Copy>(
-    members: &mut Vec<HelpItem<'a, B>, L>,
-    entry: &HelpItem<'a, B>,
+fn keep_one<'a, 's, B: Allocator, L: Allocator + Copy>(
+    members: &mut Vec<&'s HelpItem<'a, B>, L>,
+    entry: &'s HelpItem<'a, B>,
     depth: Depth,
 ) -> Result<(), AllocError>
-    ensures { OnOk result (map entry_of members.new.items ≡ map entry_of members.old.items
+    ensures { OnOk result (map entry_at members.new.items ≡ map entry_at members.old.items
         ++ (if not (lacks_help (entry_of entry.now) && nat_lt depth.stops depth.starts) then entry_of entry.now ∷ [] else [])) }
 {
     if lacks_help(entry) && depth.stops < depth.starts {
         return Ok(());
     }
-    members.push(*entry)?;
+    members.push(entry)?;
     Ok(())
 }
 
@@ -194,12 +195,12 @@ impl Depth {
 
 fn put_headings<'a, A: Allocator, B: Allocator + Copy, C: Allocator, L: Allocator + Copy>(
     doc: &mut Doc<A>,
-    outside: &[HelpItem<'a, B>],
+    outside: &[&HelpItem<'a, B>],
     include_env: bool,
     texts: &EnvTexts<C>,
     alloc: L,
 ) -> Result<(), AllocError>
-    ensures { Leaves result doc.old doc.new (headings include_env (texts_in texts.now) (map entry_of outside.now)) }
+    ensures { Leaves result doc.old doc.new (headings include_env (texts_in texts.now) (map entry_at outside.now)) }
 {
     put_heading(
         doc,
@@ -233,43 +234,61 @@ fn put_headings<'a, A: Allocator, B: Allocator + Copy, C: Allocator, L: Allocato
 fn put_heading<'a, A: Allocator, B: Allocator + Copy, C: Allocator, L: Allocator + Copy>(
     doc: &mut Doc<A>,
     title: &str,
-    outside: &[HelpItem<'a, B>],
+    outside: &[&HelpItem<'a, B>],
     ty: HiTy,
     include_env: bool,
     texts: &EnvTexts<C>,
     alloc: L,
 ) -> Result<(), AllocError>
-    ensures { Leaves result doc.old doc.new (heading_writes include_env (texts_in texts.now) title.now (items_of_type (map entry_of outside.now) ty)) }
+    ensures { Leaves result doc.old doc.new (heading_writes include_env (texts_in texts.now) title.now (items_of_type (map entry_at outside.now) ty)) }
 {
     let members = given(outside, ty, alloc)?;
     put_titled(doc, title, members.as_slice(), include_env, texts, alloc)
 }
 
 // The entries of a heading.
-fn given<'a, B: Allocator, L: Allocator + Copy>(
-    outside: &[HelpItem<'a, B>],
+#[tactic(auto, using(crate::proofs::Steps::Given::given_of_type))]
+fn given<'a, 's, B: Allocator, L: Allocator + Copy>(
+    outside: &[&'s HelpItem<'a, B>],
     ty: HiTy,
     alloc: L,
-) -> Result<Vec<HelpItem<'a, B>, L>, AllocError>
-    ensures { IfOk result (λ members. map entry_of members.items ≡ items_of_type (map entry_of outside.now) ty) }
+) -> Result<Vec<&'s HelpItem<'a, B>, L>, AllocError>
+    ensures { IfOk result (λ members. map entry_at members.items ≡ items_of_type (map entry_at outside.now) ty) }
 {
-    let mut members = Vec::new(alloc);
-    for item in HelpItemsIter::over(outside, ty) {
-        members.push(*item)?;
+    let mut members: Vec<&'s HelpItem<'a, B>, L> = Vec::new(alloc);
+    let mut state = State::Outside;
+    for entry in outside {
+        give_one(&mut members, *entry, state, ty)?;
+        state = state.after(*entry);
     }
     Ok(members)
+}
+
+fn give_one<'a, 's, B: Allocator, L: Allocator + Copy>(
+    members: &mut Vec<&'s HelpItem<'a, B>, L>,
+    entry: &'s HelpItem<'a, B>,
+    state: State,
+    ty: HiTy,
+) -> Result<(), AllocError>
+    ensures { OnOk result (map entry_at members.new.items ≡ map entry_at members.old.items
+        ++ (if is_given_in state ty (entry_of entry.now) then entry_of entry.now ∷ [] else [])) }
+{
+    if state.is_given(entry, ty) {
+        members.push(entry)?;
+    }
+    Ok(())
 }
 
 // A heading over its entries; nothing without entries.
 fn put_titled<'a, A: Allocator, B: Allocator + Copy, C: Allocator, L: Allocator + Copy>(
     doc: &mut Doc<A>,
     title: &str,
-    entries: &[HelpItem<'a, B>],
+    entries: &[&HelpItem<'a, B>],
     include_env: bool,
     texts: &EnvTexts<C>,
     alloc: L,
 ) -> Result<(), AllocError>
-    ensures { Leaves result doc.old doc.new (heading_writes include_env (texts_in texts.now) title.now (map entry_of entries.now)) }
+    ensures { Leaves result doc.old doc.new (heading_writes include_env (texts_in texts.now) title.now (map entry_at entries.now)) }
 {
     if entries.is_empty() {
         return Ok(());

@@ -7,7 +7,7 @@ ghost use Rattle.bpaf_items.specs.Page.EnvTexts.{texts_in};
 ghost use Rattle.bpaf_items.specs.Page.HelpPage.{list_writes};
 ghost use Rattle.bpaf_items.specs.Page.Steps.Pieces.{Leaves};
 ghost use Rattle.bpaf_items.specs.Page.Steps.Repeats.{Remembers, shown_writes};
-ghost use Rattle.bpaf_items.specs.View.{entry_of};
+ghost use Rattle.bpaf_items.specs.View.{entry_at, entry_of};
 
 use crate::meta_help::entry::HelpItem;
 use crate::meta_help::env_texts::EnvTexts;
@@ -17,26 +17,26 @@ use bpaf_doc::buffer::Doc;
 use std::alloc::{AllocError, Allocator};
 
 /// Writes what is shown of a list. The keys seen so far are kept in memory of `alloc`.
-pub fn put_list<'a, A: Allocator, B: Allocator + Copy, C: Allocator, L: Allocator + Copy>(
+pub fn put_list<'a, 's, A: Allocator, B: Allocator + Copy, C: Allocator, L: Allocator + Copy>(
     doc: &mut Doc<A>,
-    entries: &[HelpItem<'a, B>],
+    entries: &[&'s HelpItem<'a, B>],
     include_env: bool,
     texts: &EnvTexts<C>,
     alloc: L,
 ) -> Result<(), AllocError>
-    ensures { Leaves result doc.old doc.new (list_writes include_env (texts_in texts.now) (map entry_of entries.now)) }
+    ensures { Leaves result doc.old doc.new (list_writes include_env (texts_in texts.now) (map entry_at entries.now)) }
 {
-    let mut repeats = Repeats::with_room(alloc, entries.len())?;
+    let mut repeats: Repeats<'a, 's, B, L> = Repeats::with_room(alloc, entries.len())?;
     for entry in entries {
-        put_next(doc, &mut repeats, entry, include_env, texts)?;
+        put_next(doc, &mut repeats, *entry, include_env, texts)?;
     }
     Ok(())
 }
 
-fn put_next<'a, A: Allocator, B: Allocator + Copy, C: Allocator, L: Allocator + Copy>(
+fn put_next<'a, 's, A: Allocator, B: Allocator + Copy, C: Allocator, L: Allocator + Copy>(
     doc: &mut Doc<A>,
-    repeats: &mut Repeats<'a, B, L>,
-    entry: &HelpItem<'a, B>,
+    repeats: &mut Repeats<'a, 's, B, L>,
+    entry: &'s HelpItem<'a, B>,
     include_env: bool,
     texts: &EnvTexts<C>,
 ) -> Result<(), AllocError>

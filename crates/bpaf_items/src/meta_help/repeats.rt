@@ -4,26 +4,25 @@ ghost use Rattle.std.specs.HashSet.{PutsKey, contains};
 ghost use Rattle.std.specs.Ordering.{on};
 ghost use Rattle.bpaf_items.specs.Listing.ItemList.{Entry};
 ghost use Rattle.bpaf_items.specs.Listing.Falls.{is_shown};
-ghost use Rattle.bpaf_items.specs.Listing.Keys.{same_key};
-ghost use Rattle.bpaf_items.specs.Page.Steps.Repeats.{Remembers};
-ghost use Rattle.bpaf_items.specs.View.{entry_of, key_in};
+ghost use Rattle.bpaf_items.specs.Page.Steps.Repeats.{Remembers, key_at, same_keys};
+ghost use Rattle.bpaf_items.specs.View.{entry_of};
 
 use crate::meta_help::entry::HelpItem;
-use crate::meta_help::key::ItemKey;
+use crate::meta_help::keyed::Keyed;
 use std::alloc::{AllocError, Allocator};
 use std::collections::HashSet;
 use std::hash::{BuildHasherDefault, FoldHasher};
 
 /// What is remembered of the entries of one group or heading: the keys of its items, and whether a note would be shown now.
 #[derive(Drop)]
-pub struct Repeats<'a, B: Allocator, L: Allocator> {
-    keys: HashSet<ItemKey<'a, B>, BuildHasherDefault<FoldHasher>, L>,
+pub struct Repeats<'a, 's, B: Allocator, L: Allocator> {
+    keys: HashSet<Keyed<'a, 's, B>, BuildHasherDefault<FoldHasher>, L>,
     shown: bool,
 }
 
-impl<'a, B: Allocator, L: Allocator + Copy> Repeats<'a, B, L> {
+impl<'a, 's, B: Allocator, L: Allocator + Copy> Repeats<'a, 's, B, L> {
     /// Nothing is remembered. There is room for that many keys.
-    pub fn with_room(alloc: L, count: usize) -> Result<Repeats<'a, B, L>, AllocError>
+    pub fn with_room(alloc: L, count: usize) -> Result<Repeats<'a, 's, B, L>, AllocError>
         ensures { IfOk result (λ repeats. Remembers repeats.keys.keys repeats.shown []) }
     {
         Ok(Repeats {
@@ -33,21 +32,21 @@ impl<'a, B: Allocator, L: Allocator + Copy> Repeats<'a, B, L> {
     }
 
     /// Whether the next entry is shown: a mark; an item with a new key; a note directly after one of these.
-    pub fn shows(&mut self, entry: &HelpItem<'a, B>) -> Result<bool, AllocError>
+    pub fn shows(&mut self, entry: &'s HelpItem<'a, B>) -> Result<bool, AllocError>
         ensures { (before : List Entry) → Remembers self.old.keys.keys self.old.shown before → IfOk result (λ shown.
             (shown ≡ is_shown (before, entry_of entry.now)) × Remembers self.new.keys.keys self.new.shown (before ++ entry_of entry.now ∷ [])) }
     {
         match entry.key() {
-            Some(key) => self.shows_item(key),
+            Some(_) => self.shows_item(Keyed(entry)),
             None => Ok(self.shows_other(entry.is_mark())),
         }
     }
 
-    fn shows_item(&mut self, key: ItemKey<'a, B>) -> Result<bool, AllocError>
-        ensures { IfOk result (λ shown. (shown ≡ not (contains (on key_in same_key) self.old.keys key.entry))
-            × PutsKey self.old.keys self.new.keys key.entry shown × (self.new.shown ≡ shown)) }
+    fn shows_item(&mut self, entry: Keyed<'a, 's, B>) -> Result<bool, AllocError>
+        ensures { IfOk result (λ shown. (shown ≡ not (contains (on key_at same_keys) self.old.keys entry.entry))
+            × PutsKey self.old.keys self.new.keys entry.entry shown × (self.new.shown ≡ shown)) }
     {
-        let shown = self.keys.insert(key)?;
+        let shown = self.keys.insert(entry)?;
         self.shown = shown;
         Ok(shown)
     }

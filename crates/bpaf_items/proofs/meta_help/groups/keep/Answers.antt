@@ -1,6 +1,6 @@
 use Rattle.std.proofs.Common.{◌+◌, rules, map, take}
 use Rattle.bpaf_items.specs.Listing.Falls.{is_adjacent_start, is_adjacent_stop, is_group_start}
-use Rattle.bpaf_items.specs.View.{entry_of}
+use Rattle.bpaf_items.specs.View.{entry_at, entry_of}
 use Rattle.bpaf_items.proofs.Page.GroupSteps.{few, kept_next, since_next}
 use Rattle.bpaf_items.proofs.Page.Leaving.{map_next}
 use Rattle.bpaf_items.proofs.meta_help.groups.keep.Goals as goal
@@ -22,5 +22,5 @@ loop-entry-preserved g c =
       few_stops = few (is_group_start e) (is_adjacent_stop e) d.stops after.result.stops i after.ensures.stops known.few_stops;
       starts = since_next is_adjacent_start before next e d.starts after.result.starts after.ensures.starts known.starts more;
       stops = since_next is_adjacent_stop before next e d.stops after.result.stops after.ensures.stops known.stops more;
-      kept = kept_next (map entry_of c.args.members.now.items) (map entry_of c.loop-entry.members.items) (map entry_of c.keep_one.new.members.items) before next e d.starts d.stops c.in_ok-keep_one.ensures known.kept known.starts known.stops more;
+      kept = kept_next (map entry_at c.args.members.now.items) (map entry_at c.loop-entry.members.items) (map entry_at c.keep_one.new.members.items) before next e d.starts d.stops c.in_ok-keep_one.ensures known.kept known.starts known.stops more;
     }

@@ -1,7 +1,7 @@
 use Rattle.std.proofs.Common.{◌≡◌, ◌≤◌, ◌++◌, length, map, take}
 use Rattle.bpaf_items.specs.Listing.Falls.{is_adjacent_start, is_adjacent_stop}
 use Rattle.bpaf_items.specs.Listing.Groups.{kept_entries}
-use Rattle.bpaf_items.specs.View.{entry_of}
+use Rattle.bpaf_items.specs.View.{entry_at, entry_of}
 use Rattle.bpaf_items.proofs.Listing.Pushes.{since_start}
 use Rattle.bpaf_items.proofs.meta_help.groups.keep.Given as goal
 
@@ -12,5 +12,5 @@ invariant-loop-entry g l = record {
   few_stops : l.depth.stops ≤ l.entry-index;
   starts : l.depth.starts ≡ since_start is_adjacent_start (map entry_of (take l.entry-index l.entries));
   stops : l.depth.stops ≡ since_start is_adjacent_stop (map entry_of (take l.entry-index l.entries));
-  kept : map entry_of l.members.items ≡ map entry_of l.fn.members.items ++ kept_entries (map entry_of (take l.entry-index l.entries));
+  kept : map entry_at l.members.items ≡ map entry_at l.fn.members.items ++ kept_entries (map entry_of (take l.entry-index l.entries));
 }

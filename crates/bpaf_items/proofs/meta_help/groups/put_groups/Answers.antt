@@ -5,7 +5,7 @@ use Rattle.bpaf_items.specs.Listing.Falls.{outside_groups}
 use Rattle.bpaf_items.specs.Listing.Groups.{HasPairedGroups}
 use Rattle.bpaf_items.specs.Page.EnvTexts.{texts_in}
 use Rattle.bpaf_items.specs.Page.Steps.Groups.{group_lists}
-use Rattle.bpaf_items.specs.View.{entry_of}
+use Rattle.bpaf_items.specs.View.{entry_at}
 use Rattle.bpaf_items.proofs.Page.GroupSteps.{left_behind}
 use Rattle.bpaf_items.proofs.meta_help.groups.put_groups.Goals as goal
 
@@ -20,5 +20,5 @@ loop-rest-preserved g c =
       paired = subst HasPairedGroups (sym same) taken.paired;
       grows = Grows-then _ _ _ c.loop-rest.invariant.grows c.put_first.ensures.grows;
       written = ap (λ es. with_writes c.put_first.new.doc (group_lists c.args.include_env (texts_in c.args.texts.now) es)) same ∙ taken.written ∙ c.loop-rest.invariant.written;
-      others = ap (λ es. map entry_of c.put_first.new.outside.items ++ outside_groups es) same ∙ taken.others ∙ c.loop-rest.invariant.others;
+      others = ap (λ es. map entry_at c.put_first.new.outside.items ++ outside_groups es) same ∙ taken.others ∙ c.loop-rest.invariant.others;
     }

@@ -5,7 +5,7 @@ use Rattle.bpaf_items.specs.Listing.Falls.{outside_groups}
 use Rattle.bpaf_items.specs.Listing.Groups.{HasPairedGroups}
 use Rattle.bpaf_items.specs.Page.EnvTexts.{texts_in}
 use Rattle.bpaf_items.specs.Page.Steps.Groups.{group_lists}
-use Rattle.bpaf_items.specs.View.{entry_of}
+use Rattle.bpaf_items.specs.View.{entry_at, entry_of}
 use Rattle.bpaf_items.proofs.meta_help.groups.put_groups.Given as goal
 
 abbrev pub invariant-loop-rest : goal.invariant-loop-rest
@@ -13,7 +13,7 @@ invariant-loop-rest g l = record {
   paired : HasPairedGroups (map entry_of l.rest);
   grows : Grows l.fn.doc l.doc;
   written : with_writes l.doc (group_lists l.include_env (texts_in l.texts) (map entry_of l.rest)) ≡ with_writes l.fn.doc (group_lists l.include_env (texts_in l.texts) (map entry_of l.entries));
-  others : map entry_of l.outside.items ++ outside_groups (map entry_of l.rest) ≡ map entry_of l.fn.outside.items ++ outside_groups (map entry_of l.entries);
+  others : map entry_at l.outside.items ++ outside_groups (map entry_of l.rest) ≡ map entry_at l.fn.outside.items ++ outside_groups (map entry_of l.entries);
 }
 
 abbrev pub decreases-loop-rest : goal.decreases-loop-rest

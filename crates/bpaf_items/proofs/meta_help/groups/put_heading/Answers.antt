@@ -2,10 +2,10 @@ use Rattle.std.proofs.Common.{map, ap, ◌∙◌, subst}
 use Rattle.bpaf_items.specs.Page.EnvTexts.{texts_in}
 use Rattle.bpaf_items.specs.Page.HelpPage.{heading_writes}
 use Rattle.bpaf_items.specs.Page.Steps.Pieces.{Leaves}
-use Rattle.bpaf_items.specs.View.{entry_of}
+use Rattle.bpaf_items.specs.View.{entry_at}
 use Rattle.bpaf_items.proofs.meta_help.groups.put_heading.Goals as goal
 
 pub returns : goal.returns
 returns g c =
     subst (λ es. Leaves c.put_titled.result c.args.doc.now c.put_titled.new.doc (heading_writes c.args.include_env (texts_in c.args.texts.now) c.args.title.now es))
-    (ap (map entry_of) c.as_slice.ensures.value ∙ c.in_ok-members.ensures) c.put_titled.ensures
+    (ap (map entry_at) c.as_slice.ensures.value ∙ c.in_ok-members.ensures) c.put_titled.ensures
