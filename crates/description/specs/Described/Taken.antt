@@ -1,7 +1,7 @@
 -- Names that stand twice on a level. The options of its choices and groups count as its own, and so do the commands of its groups.
-use Rattle.std.specs.Prelude.{codes, ℕ, List, [], ◌∷◌, ◌++◌, flat_map, Bool, true, not, ◌&&◌, Option, Some, None, option_and_then, option_to_list, bytes_eq}
+use Rattle.std.specs.Prelude.{codes, ℕ, List, [], ◌∷◌, ◌++◌, flat_map, Bool, true, not, ◌&&◌, Option, Some, option_and_then, option_to_list, bytes_eq}
 use Rattle.std.specs.List.{list_any}
-use Rattle.toml.specs.Data.{Data, array, table, Items, no_items, item, Members, get_member, as_str, as_table}
+use Rattle.toml.specs.Data.{Data, array, Items, no_items, item, Members, get_member, as_str, as_table}
 
 -- the tables of an array, and those of the array at a key
 abbrev pub tables_in : Items → List Members

@@ -1,5 +1,5 @@
 -- What stands at a key of a table: a text, a flag, a character, a name, or tables. Each answer is `None` where the value is of another kind.
-use Rattle.std.specs.Prelude.{codes, chars, ℕ, List, [], ◌∷◌, ◌==◌, length, Bool, true, false, not, ◌&&◌, if◌then◌else◌, Option, Some, None, is_some, option_map, option_and_then, bytes_eq}
+use Rattle.std.specs.Prelude.{chars, ℕ, List, [], ◌∷◌, ◌==◌, length, Bool, true, false, not, ◌&&◌, if◌then◌else◌, Option, Some, None, is_some, option_map, option_and_then, bytes_eq}
 use Rattle.std.specs.Char.{is_control, is_whitespace}
 use Rattle.std.specs.List.{list_all, list_any}
 use Rattle.toml_datetime.specs.declared.datetime.Datetime.{Datetime}

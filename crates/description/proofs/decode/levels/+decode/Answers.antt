@@ -1,9 +1,9 @@
-use Rattle.std.proofs.Common.{rules, ◌≡◌, Some, None, [], ◌∷◌, map, get_or, ap, ◌∙◌, sym, arith}
+use Rattle.std.proofs.Common.{rules, ◌≡◌, Some, [], ◌∷◌, map, get_or, ap, ◌∙◌, sym, arith}
 use Rattle.std.proofs.lemmas.Grind.{common_steps}
 use Rattle.std.proofs.lemmas.List.{map-append}
-use Rattle.toml.specs.Data.{as_table, items_depth, members_depth}
-use Rattle.toml.specs.View.{items_view, table_view, view}
-use Rattle.description.specs.Described.{as_command, as_group, each_command, each_group, group_of, level_of}
+use Rattle.toml.specs.Data.{as_table}
+use Rattle.toml.specs.View.{table_view, view}
+use Rattle.description.specs.Described.{as_command, as_group, group_of, level_of}
 use Rattle.description.specs.Faults.{IsMemory}
 use Rattle.description.specs.View.{command_said, group_said}
 use Rattle.description.proofs.Depths.{inner_depth, is_table, no_command, no_group}

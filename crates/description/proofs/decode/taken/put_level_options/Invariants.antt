@@ -1,9 +1,7 @@
 use Rattle.std.proofs.Common.{◌≡◌, ◌++◌, drop}
-use Rattle.toml.specs.View.{items_view}
-use Rattle.toml.specs.Data.{get_member}
 use Rattle.std.specs.Prelude.{flat_map}
-use Rattle.description.specs.Described.Steps.{views_of, words_of}
-use Rattle.description.specs.Described.Taken.{own_options, tables_in, tables_under, texts_at}
+use Rattle.description.specs.Described.Steps.{views_of}
+use Rattle.description.specs.Described.Taken.{own_options}
 use Rattle.description.proofs.decode.taken.put_level_options.Given as goal
 
 abbrev pub invariant-loop-group : goal.invariant-loop-group

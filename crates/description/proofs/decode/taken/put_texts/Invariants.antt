@@ -1,9 +1,6 @@
 use Rattle.std.proofs.Common.{◌≡◌, ◌++◌, drop}
-use Rattle.toml.specs.View.{items_view}
-use Rattle.toml.specs.Data.{get_member}
-use Rattle.std.specs.Prelude.{flat_map}
 use Rattle.description.specs.Described.Steps.{views_of, words_of}
-use Rattle.description.specs.Described.Taken.{own_options, tables_in, tables_under, texts_at}
+use Rattle.description.specs.Described.Taken.{texts_at}
 use Rattle.description.proofs.decode.taken.put_texts.Given as goal
 
 abbrev pub invariant-loop-table : goal.invariant-loop-table

@@ -1,4 +1,4 @@
-use Rattle.std.proofs.Common.{rules, refl}
+use Rattle.std.proofs.Common.{refl}
 use Rattle.description.specs.Described.{described}
 use Rattle.description.proofs.Reading.{passed_on}
 use Rattle.description.proofs.descriptions.Description.from_table.Goals as goal
