@@ -5,7 +5,7 @@ ghost use Rattle.std.specs.Char.{is_ascii_graphic};
 ghost use Rattle.std.specs.Int.{is_in_range};
 ghost use Rattle.std.specs.Iterator.{YieldsFirstBy, item_count};
 ghost use Rattle.std.specs.List.{All, flat_map, list_all};
-ghost use Rattle.bpaf_doc.specs.Splitter.Chunks.{Paragraph, Plain, Opening, Later, Spells, IsLine, IsLineEnd, IsPastNewline, IsWordEnd, chunk_ink, chunks_in, chunks_of, columns, is_word_byte};
+ghost use Rattle.bpaf_doc.specs.Splitter.Chunks.{Raw, Paragraph, Plain, Opening, Later, Spells, IsLine, IsLineEnd, IsPastNewline, IsWordEnd, chunk_ink, chunks_in, chunks_of, code_weight, columns, is_word_byte};
 ghost use Rattle.bpaf_doc.specs.Splitter.Promises.{IsOneLine, StandInOrder};
 ghost use Rattle.bpaf_doc.specs.Buffer.Parts.{ink};
 ghost use Rattle.bpaf_doc.specs.Splitter.Steps.Runs.{IsRun, IsRunEnd, IsPrintable, IsLettered, is_lettered, letters};
@@ -130,6 +130,22 @@ impl<'a> Splitter<'a> {
         }
     }
 
+    /// Takes a code line off. None where something else comes next.
+    #[inline(always)]
+    pub(crate) fn take_code(&mut self) -> Option<&'a str>
+        ensures chunks { IfSome result (λ line. self.old ≡ Raw line.now code_weight ∷ self.new) }
+        ensures none { IfNone result (self.new ≡ self.old) }
+    {
+        match self.form {
+            Form::Plain => {
+                let (line, after) = cut_code(self.rest)?;
+                *self = after;
+                Some(line)
+            }
+            Form::Opening | Form::Later => None,
+        }
+    }
+
     /// Takes as many words of a line off as have no other characters than printable ASCII and Latin letters and fit these columns,
     /// with the columns that they take. None where none fits.
     #[inline(always)]
@@ -155,6 +171,16 @@ impl<'a> Splitter<'a> {
             Form::Opening | Form::Later => None,
         }
     }
+}
+
+// The code line that a text outside of a fence begins with, and the chunks after it.
+#[inline(always)]
+fn cut_code(text: &str) -> Option<(&str, Splitter<'_>)>
+    ensures { IfSome result (λ cut. chunks_in Plain text.now ≡ Raw cut.0.now code_weight ∷ cut.1) }
+{
+    let code = text.strip_prefix("\n    ")?;
+    let (line, rest) = cut_line(code);
+    Some((line, split(rest)))
 }
 
 // The run of a text up to this place, and the chunks after it.

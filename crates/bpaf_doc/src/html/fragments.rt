@@ -22,10 +22,11 @@ pub(super) enum Fragment<'a> {
     End(Block),
 }
 
-/// What is handed out at once: a run of a shown text, which stands for its chunks, or one fragment.
+/// What is handed out at once: a run of a shown text, which stands for its chunks, a code line, or another fragment.
 #[derive(Clone, Copy, Debug)]
 pub(super) enum Taken<'a> {
     Words(Style, &'a str),
+    Code(Style, &'a str),
     One(Fragment<'a>),
 }
 
@@ -147,6 +148,9 @@ impl<'a> Iterator for Fragments<'a> {
         if self.in_text {
             if let Some(run) = self.chunks.take_line() {
                 return Some(Taken::Words(self.style, run));
+            }
+            if let Some(line) = self.chunks.take_code() {
+                return Some(Taken::Code(self.style, line));
             }
         }
         let fragment = self.next_fragment()?;

@@ -297,6 +297,10 @@ impl<B: Allocator> Markdown<B> {
                 self.words(run)?;
                 Ok(())
             }
+            Taken::Code(_, line) => {
+                self.item(false)?;
+                self.code_line(line)
+            }
             Taken::One(fragment) => self.fragment(fragment),
         }
     }

@@ -228,6 +228,7 @@ impl<B: Allocator> Page<B> {
                 self.put_words(run)?;
                 Ok(())
             }
+            Taken::Code(_, line) => self.put_words(line),
             Taken::One(fragment) => self.fragment(fragment),
         }
     }

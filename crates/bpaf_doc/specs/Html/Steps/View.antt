@@ -6,7 +6,7 @@ use Rattle.bpaf_doc.specs.declared.html.fragments.Fragment as declared
 use Rattle.bpaf_doc.specs.declared.html.fragments.Fragment.TheVariants as handed
 use Rattle.bpaf_doc.specs.declared.html.fragments.Taken as declared_taken
 use Rattle.bpaf_doc.specs.declared.html.fragments.Taken.TheVariants as taken
-use Rattle.bpaf_doc.specs.Splitter.Chunks.{chunks_of}
+use Rattle.bpaf_doc.specs.Splitter.Chunks.{Raw, chunks_of, code_weight}
 use Rattle.bpaf_doc.specs.Splitter.Steps.Runs.{IsRun}
 use Rattle.bpaf_doc.specs.Splitter.View.{chunk_of}
 use Rattle.bpaf_doc.specs.Html.Fragments.{Fragment, TextStart, Shown, TextEnd, Hidden, Start, End}
@@ -22,14 +22,16 @@ fragment_of handed.Hidden = Hidden
 fragment_of (handed.Start block) = Start block
 fragment_of (handed.End block) = End block
 
--- the fragments that were handed out at once: those of the chunks of a run, or one
+-- the fragments that were handed out at once: those of the chunks of a run, that of a code line, or another one
 abbrev pub fragments_in : declared_taken.Taken → List Fragment
 fragments_in (taken.Words style run) = map (Shown style) (chunks_of run.now)
+fragments_in (taken.Code style line) = Shown style (Raw line.now code_weight) ∷ []
 fragments_in (taken.One fragment) = fragment_of fragment ∷ []
 
 -- what is handed out as a run is one
 abbrev pub IsTaken : declared_taken.Taken → Type 0
 IsTaken (taken.Words style run) = IsRun run.now
+IsTaken (taken.Code style line) = ⊤
 IsTaken (taken.One fragment) = ⊤
 
 -- a call gave the first of what was left, and left the others, or gave None where nothing was left

@@ -1,5 +1,7 @@
--- A run stands for the first chunks of what is left of its text.
-use Rattle.bpaf_doc.proofs.lemmas.Html.Fragments.Walking.{left_of, left_run, fewer_left}
+-- A run stands for the first chunks of what is left of its text, and a code line is the first one.
+use Rattle.std.proofs.Common.{refl, sym, inr, ◌∙◌}
+use Rattle.bpaf_doc.specs.Splitter.Chunks.{Raw, code_weight}
+use Rattle.bpaf_doc.proofs.lemmas.Html.Fragments.Walking.{left_of, left_more, left_run, fewer_left}
 use Rattle.bpaf_doc.proofs.html.fragments.FragmentsIterator.next.Goals as goal
 
 pub returns-in-Some-clause-steps : goal.returns-in-Some-clause-steps
@@ -18,3 +20,11 @@ returns-in-Some-clause-goes c =
       keeps = tt;
       rests = λ _. tt;
     }
+
+pub returns-in-Some-take_code-clause-steps : goal.returns-in-Some-take_code-clause-steps
+returns-in-Some-take_code-clause-steps c =
+    let f = c.self.inside in (
+      tt,
+      left_more c.args.self.now f.full f.in_text f.style (Raw c.in-Some-take_code.line.now code_weight) f.chunks c.take_code.new.self f.depth f.parts c.self.view_is c.if-self.true
+        (sym c.in_default.ensures.none ∙ c.in-Some-take_code.ensures.chunks) (inr refl),
+    )
