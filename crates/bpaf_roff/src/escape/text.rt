@@ -3,7 +3,7 @@
 
 ghost use Rattle.std.specs.Prelude.{◌≡◌, ◌<◌, ◌≤◌, ◌+◌, ◌++◌, [], ◌∷◌, List, ℕ, map, take, length, slice_index};
 ghost use Rattle.std.specs.List.{list_all};
-ghost use Rattle.bpaf_roff.specs.Escaping.{Byte, is_line_start, guard, apostrophe_text, byte_text, text_after};
+ghost use Rattle.bpaf_roff.specs.Escaping.{Byte, is_line_start, guard, apostrophe_text, special_text, byte_text, text_after};
 ghost use Rattle.bpaf_roff.specs.Steps.Output.{IsText, is_plain, written};
 
 use crate::escape::{Apostrophes, Escape};
@@ -121,6 +121,24 @@ fn put_guard(room: &mut [u8; ROOM], at: usize, at_line_start: bool, byte: u8) ->
     at
 }
 
+// A byte with a backslash before it where it needs one. That one is put in either case, and the byte over it or behind it: a branch
+// would be guessed wrong at every other sign.
+#[inline(always)]
+fn put_escaped(room: &mut [u8; ROOM], at: usize, byte: u8) -> usize
+    requires fits { at + 2 ≤ ROOM }
+    ensures next { result ≤ at + 2 }
+    ensures text { take result room.new ≡ take at room.old ++ special_text Apostrophes.DontHandle byte }
+{
+    room[at] = b'\\';
+    let start = if byte == b'\\' || byte == b'-' {
+        at + 1
+    } else {
+        at
+    };
+    room[start] = byte;
+    start + 1
+}
+
 #[inline(always)]
 fn put_sign(
     room: &mut [u8; ROOM],
@@ -134,17 +152,18 @@ fn put_sign(
     ensures text { take result room.new
         ≡ take at room.old ++ byte_text apostrophes (written at_line_start) Escape.Special byte }
 {
-    if byte == b'\\' || byte == b'-' {
-        return put_pair(room, at, b'\\', byte);
-    }
-    let start = put_guard(room, at, at_line_start, byte);
     if byte == b'\'' {
+        let start = put_guard(room, at, at_line_start, byte);
         return put_apostrophe(room, start, apostrophes);
     }
-    put(room, start, byte)
+    if byte == b'.' && at_line_start {
+        let start = put_guard(room, at, at_line_start, byte);
+        return put(room, start, byte);
+    }
+    put_escaped(room, at, byte)
 }
 
-// What the byte at an index becomes. Most bytes are plain, and only the others ask whether a line starts before them.
+// What the byte at an index becomes.
 #[inline(always)]
 fn put_byte(
     room: &mut [u8; ROOM],
@@ -165,9 +184,6 @@ fn put_byte(
         label (slice_index bytes.now index) }
 {
     let byte = shown(label, bytes[index]);
-    if is_plain(byte) {
-        return put(room, at, byte);
-    }
     let line_start = starts_line(at_line_start, label, &bytes[..index]);
     put_sign(room, at, apostrophes, line_start, byte)
 }
