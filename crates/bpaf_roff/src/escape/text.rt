@@ -121,8 +121,8 @@ fn put_guard(room: &mut [u8; ROOM], at: usize, at_line_start: bool, byte: u8) ->
     at
 }
 
-// A byte with a backslash before it where it needs one. That one is put in either case, and the byte over it or behind it: a branch
-// would be guessed wrong at every other sign.
+// A byte with a backslash before it where it needs one. That one is put in either case, and the byte over it or behind it: a
+// branch on the byte would often be guessed wrong.
 #[inline(always)]
 fn put_escaped(room: &mut [u8; ROOM], at: usize, byte: u8) -> usize
     requires fits { at + 2 ≤ ROOM }
@@ -152,18 +152,14 @@ fn put_sign(
     ensures text { take result room.new
         ≡ take at room.old ++ byte_text apostrophes (written at_line_start) Escape.Special byte }
 {
+    let start = put_guard(room, at, at_line_start, byte);
     if byte == b'\'' {
-        let start = put_guard(room, at, at_line_start, byte);
         return put_apostrophe(room, start, apostrophes);
     }
-    if byte == b'.' && at_line_start {
-        let start = put_guard(room, at, at_line_start, byte);
-        return put(room, start, byte);
-    }
-    put_escaped(room, at, byte)
+    put_escaped(room, start, byte)
 }
 
-// What the byte at an index becomes.
+// What the byte at an index becomes. No branch depends on the byte but for an apostrophe, or where a line starts.
 #[inline(always)]
 fn put_byte(
     room: &mut [u8; ROOM],
