@@ -1,6 +1,6 @@
 //! Which entries of a list are shown: each key once, and a note below what is shown.
-ghost use Rattle.std.specs.Prelude.{◌≡◌, not, ◌||◌, ◌++◌, ◌∷◌, [], IfOk, List};
-ghost use Rattle.std.specs.HashSet.{PutsKey, contains};
+ghost use Rattle.std.specs.Prelude.{◌≡◌, ◌≤◌, not, ◌||◌, ◌++◌, ◌∷◌, [], IfOk, List};
+ghost use Rattle.std.specs.HashSet.{PutsKey, contains, spare};
 ghost use Rattle.std.specs.Ordering.{on};
 ghost use Rattle.bpaf_items.specs.Listing.ItemList.{Entry};
 ghost use Rattle.bpaf_items.specs.Listing.Falls.{is_shown};
@@ -23,7 +23,8 @@ pub struct Repeats<'a, 's, B: Allocator, L: Allocator> {
 impl<'a, 's, B: Allocator, L: Allocator + Copy> Repeats<'a, 's, B, L> {
     /// Nothing is remembered. There is room for that many keys.
     pub fn with_room(alloc: L, count: usize) -> Result<Repeats<'a, 's, B, L>, AllocError>
-        ensures { IfOk result (λ repeats. Remembers repeats.keys.keys repeats.shown []) }
+        ensures nothing { IfOk result (λ repeats. Remembers repeats.keys.keys repeats.shown []) }
+        ensures room { IfOk result (λ repeats. count ≤ spare repeats.keys) }
     {
         Ok(Repeats {
             keys: HashSet::with_capacity(alloc, count)?,
