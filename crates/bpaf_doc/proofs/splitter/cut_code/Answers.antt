@@ -8,4 +8,4 @@ returns c =
     let code = c.in_ok-code.code.now in
     ap (chunks_in Plain) (stripped (codes "\n    ") c.args.text.now code c.in_ok-code.ensures.cases)
     ∙ code_line_first (codes "    " ++ code) c.cut_line.result.0.now c.cut_line.result.1.now c.split.result (ap (λ text. codes "    " ++ text) c.cut_line.ensures.whole)
-        c.cut_line.ensures.line c.cut_line.ensures.end c.split.ensures.value
+    c.cut_line.ensures.line c.cut_line.ensures.end c.split.ensures.value

@@ -26,5 +26,5 @@ returns-in-Some-take_code-clause-steps c =
     let f = c.self.inside in (
       tt,
       left_more c.args.self.now f.full f.in_text f.style (Raw c.in-Some-take_code.line.now code_weight) f.chunks c.take_code.new.self f.depth f.parts c.self.view_is c.if-self.true
-        (sym c.in_default.ensures.none ∙ c.in-Some-take_code.ensures.chunks) (inr refl),
+          (sym c.in_default.ensures.none ∙ c.in-Some-take_code.ensures.chunks) (inr refl),
     )
