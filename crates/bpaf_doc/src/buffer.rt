@@ -140,6 +140,21 @@ impl<A: Allocator + Copy> Doc<A> {
         Ok(doc)
     }
 
+    /// A document of one plain text, which it takes over: no byte is copied. Where the growth is refused, the text is given up.
+    pub fn from_string(text: String<A>) -> Result<Doc<A>, AllocError>
+        ensures { IfOk result (λ doc. doc ≡ with_text [] (string_bytes text) Style.Text) }
+    {
+        let mut ends = Vec::new(*text.allocator());
+        ends.push(PartEnd {
+            kind: Kind::Text(Style::Text),
+            end: text.len(),
+        })?;
+        Ok(Doc {
+            payload: text,
+            ends,
+        })
+    }
+
     /// A document of these texts with their styles, written in order.
     pub fn from_pairs(alloc: A, pairs: &[(&str, Style)]) -> Result<Doc<A>, AllocError>
         ensures ok { IfOk result (λ doc. doc ≡ document_of (map pair_write pairs.now)) }

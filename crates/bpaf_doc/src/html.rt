@@ -1,17 +1,20 @@
 //! A document as HTML and as markdown. `fragments` says for both what is shown, one piece after another; `page` writes the
 //! pieces as HTML, and `markdown` as markdown.
-ghost use Rattle.std.specs.Prelude.{◌≡◌, ◌≢◌, ◌∷◌, ◌++◌, [], MatchOption, OnOk, string_bytes};
+ghost use Rattle.std.specs.Prelude.{◌≡◌, ◌≤◌, ◌++◌, length, MatchOption, OnOk, string_bytes};
 ghost use Rattle.std.specs.List.{flat_map};
 ghost use Rattle.bpaf_doc.specs.Html.Styles.{styles_of};
 ghost use Rattle.bpaf_doc.specs.Html.Steps.View.{spelling_of, when, IsPlain, IsFirstSpelled};
 
+use self::spelling::{BLOCK, ROOM, fill};
 use crate::buffer::Style;
 use memchr::memchr2;
 use std::alloc::{AllocError, Allocator};
+use std::str;
 
 mod fragments;
 mod markdown;
 mod page;
+mod spelling;
 
 /// What a style turns on.
 #[derive(Clone, Copy, Debug, Default, PartialEq, Eq)]
@@ -70,22 +73,25 @@ impl Language {
             Language::Markdown => memchr2(b'[', b']', text.as_bytes()),
         }
     }
-
-    // The other spelling of a character that has one.
-    fn spelling(self, byte: u8) -> &'static str
-        requires { spelling_of self byte ≢ byte ∷ [] }
-        ensures { result.now ≡ spelling_of self byte }
-    {
-        match (self, byte) {
-            (Language::Html, b'<') => "&lt;",
-            (Language::Html, _) => "&gt;",
-            (Language::Markdown, b'[') => "\\[",
-            (Language::Markdown, _) => "\\]",
-        }
-    }
 }
 
-// Appends the text in the language's spelling: each run of characters that stay as they are is appended whole.
+// Appends a block in the language's spelling. That of each character is a text, so no pass looks whether the bytes are one.
+#[inline(always)]
+fn push_block<B: Allocator>(
+    out: &mut String<B>,
+    block: &str,
+    language: Language,
+) -> Result<(), AllocError>
+    requires short { length block.now ≤ BLOCK }
+    ensures { OnOk result (string_bytes out.new ≡ string_bytes out.old ++ flat_map (spelling_of language) block.now) }
+{
+    let mut room = [0; ROOM];
+    let end = fill(&mut room, language, block.as_bytes());
+    out.push_str(unsafe { str::from_utf8_unchecked(&room[..end]) })
+}
+
+// Appends the text in the language's spelling. A run of characters that stay as they are is appended whole, and the one behind it with
+// a block, since others often stand near.
 fn push_spelled<B: Allocator>(
     out: &mut String<B>,
     text: &str,
@@ -96,8 +102,10 @@ fn push_spelled<B: Allocator>(
     let mut rest = text;
     while let Some(at) = language.find(rest) {
         out.push_str(&rest[..at])?;
-        out.push_str(language.spelling(rest.as_bytes()[at]))?;
-        rest = &rest[at + 1..];
+        let spelled = &rest[at..];
+        let (block, after) = spelled.split_at(spelled.floor_char_boundary(BLOCK));
+        push_block(out, block, language)?;
+        rest = after;
     }
     out.push_str(rest)
 }

@@ -389,6 +389,7 @@ impl<A: Allocator + Copy> Roff<A> {
         let mut out = Vec::with_capacity(*self.payload.allocator(), self.payload.payload_size())?;
         out.extend_from_slice(preamble(apostrophes).as_bytes())?;
         escape(self.payload.iter(), &mut out, apostrophes)?;
-        Ok(String::from_utf8(out).unwrap())
+        // `escape` puts a text behind a text, and so no pass looks whether the bytes are one.
+        Ok(unsafe { String::from_utf8_unchecked(out) })
     }
 }

@@ -4,7 +4,7 @@ use std::alloc::{AllocError, Global};
 use std::test::Fail;
 
 fn each_call(alloc: Global) -> Result<Doc, AllocError> {
-    let mut doc = Doc::from_text(alloc, "a")?;
+    let mut doc = Doc::from_string(String::from_str(alloc, "a")?)?;
     doc.write_char('é', Style::Text)?;
     doc.literal("b")?;
     doc.emphasis("c")?;

@@ -24,6 +24,7 @@ enum Call {
     Line,
     Path,
     Text,
+    Owned,
     Pairs,
     Copy,
     FirstLine,
@@ -34,7 +35,7 @@ enum Call {
     Roff,
 }
 
-const CALLS: [Call; 21] = [
+const CALLS: [Call; 22] = [
     Call::Joined,
     Call::Apart,
     Call::Character,
@@ -48,6 +49,7 @@ const CALLS: [Call; 21] = [
     Call::Line,
     Call::Path,
     Call::Text,
+    Call::Owned,
     Call::Pairs,
     Call::Copy,
     Call::FirstLine,
@@ -151,13 +153,14 @@ fn made<A: Allocator + Copy>(
 ) -> Result<Doc<A>, AllocError> {
     match call {
         Call::Text => Doc::from_text(alloc, &lent.long),
+        Call::Owned => Doc::from_string(String::from_str(alloc, &lent.long)?),
         Call::Pairs => Doc::from_pairs(
             alloc,
             &[("one", Style::Text), (&lent.long, Style::Literal)],
         ),
         Call::Copy => doc.clone(),
         Call::FirstLine => doc.first_line()?.ok_or(AllocError),
-        _ => Doc::from_text(alloc, &page(alloc, doc, call)?),
+        _ => Doc::from_string(page(alloc, doc, call)?),
     }
 }
 

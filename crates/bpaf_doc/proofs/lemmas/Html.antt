@@ -1,6 +1,7 @@
 -- Lemmas about HTML pages. `Fragments`: what HTML and markdown are made of.
 pub mod Fragments
 pub mod Spelled
+pub mod SpelledText
 pub mod Cut
 pub mod Text
 pub mod Breaks

@@ -26,7 +26,7 @@ abbrev Low : List ℕ → Type 0
 Low bytes = AllByRecursion (λ b. b < 128) bytes
 
 -- no byte is ASCII
-abbrev High : List ℕ → Type 0
+abbrev pub High : List ℕ → Type 0
 High bytes = AllByRecursion (λ b. 128 ≤ b) bytes
 
 Low-append : (s t : List ℕ) → Low s → Low t → Low (s ++ t)
@@ -90,7 +90,7 @@ high_text : (q : Apostrophes) (label : Escape) (bytes before : List ℕ) → Hig
 high_text q label [] before h = refl
 high_text q label (b ∷ bytes) before h = rw (high_byte q before label b h.0) (ap (λ ys. b ∷ ys) (high_text q label bytes (before ++ b ∷ []) h.1))
 
-high_encode : (c : ℕ) → 128 ≤ c → High (encode c)
+pub high_encode : (c : ℕ) → 128 ≤ c → High (encode c)
 unfolding encode
 high_encode c h = rw (le-ltb c 128 h) (by (ltb c 2048) (ltb c 65536))
   where
@@ -107,7 +107,7 @@ map-append : (label : Escape) (s t : List ℕ) → map (Byte label) (s ++ t) ≡
 map-append label [] t = refl
 map-append label (b ∷ s) t = ap (λ ys. Byte label b ∷ ys) (map-append label s t)
 
-both : (x y : Bool) → (x && y) ≡ true → (x ≡ true) × (y ≡ true)
+pub both : (x y : Bool) → (x && y) ≡ true → (x ≡ true) × (y ≡ true)
 both true y h = (refl, h)
 both false y h = absurd cc
 

@@ -1,22 +1,36 @@
--- Each turn writes a run and a spelling.
-use Rattle.std.proofs.Common.{◌≡◌, ◌++◌, sym, ap, subst, ◌∙◌, ℕ, ◌-◌, List, get_or, take, arith}
+-- Each turn writes a run and a block.
+use Rattle.std.proofs.Common.{◌≡◌, ◌+◌, ◌++◌, ◌<◌, length, get_or, sym, ap, ap₂, subst, ◌∙◌, ◌-◌, take, arith}
 use Rattle.std.specs.Prelude.{string_bytes}
-use Rattle.std.specs.List.{flat_map}
-use Rattle.std.proofs.lemmas.Str.{IsCharBoundary-after_ascii}
+use Rattle.std.specs.Str.{IsUtf8}
+use Rattle.std.proofs.lemmas.List.{take-append-drop, get_or-drop}
+use Rattle.std.proofs.lemmas.Str.{IsUtf8-drop}
 use Rattle.bpaf_doc.specs.Html.Steps.View.{spelling_of}
-use Rattle.bpaf_doc.proofs.lemmas.Html.Spelled.{spelled_on}
+use Rattle.bpaf_doc.proofs.lemmas.Html.Spelled.{block_on, block_begins}
 use Rattle.bpaf_doc.proofs.html.push_spelled.Goals as goal
 
-pub range_from-rest-requires : goal.range_from-rest-requires
-range_from-rest-requires g c = λ _. IsCharBoundary-after_ascii c.loop-at.rest.now c.in-Some.at c.loop-at.invariant.0 c.in-Some.ensures.0 c.in-Some.ensures.2
+pub loop-at-smaller : goal.loop-at-smaller
+loop-at-smaller g c =
+    let rest = c.loop-at.rest.now in
+    let at = c.in-Some.at in
+    let spelled = c.range_from-spelled.result.now in
+    let itself : at + 0 ≡ at = omega arith in
+    let ascii : get_or spelled 0 0 < 128 = rw (c.range_from-spelled.ensures.value, get_or-drop at rest 0 0, itself) c.in-Some.ensures.2 in
+    let some : 0 < length spelled = omega (arith, c.range_from-spelled.ensures.len, c.in-Some.ensures.0) in
+    let begun = block_begins spelled c.floor_char_boundary.result 32 c.range_from-spelled.utf8 some ascii (omega arith) c.floor_char_boundary.ensures.nearest in
+    omega (arith, begun, c.split_at.ensures.back_len, c.range_from-spelled.ensures.len, c.in-Some.ensures.0)
 
 pub loop-at-preserved : goal.loop-at-preserved
 loop-at-preserved g c =
-    let f : ℕ → List ℕ = spelling_of c.args.language in
-    let from_start : c.in-Some.at - 0 ≡ c.in-Some.at = omega arith in (
-      c.range_from-rest.utf8,
-      subst (λ rest. string_bytes c.push_str-in-Some.new.self ++ flat_map f rest ≡ string_bytes c.args.out.now ++ flat_map f c.args.text.now) (sym c.range_from-rest.ensures.value)
-          (spelled_on f _ c.loop-at.rest.now c.spelling.result.now (string_bytes c.loop-at.out) (string_bytes c.push_str.new.self) (string_bytes c.push_str-in-Some.new.self) c.in-Some.at
-          c.in-Some.ensures.0 c.in-Some.ensures.1 (subst (λ bytes. f (get_or bytes c.in-Some.at 0) ≡ c.spelling.result.now) c.as_bytes.ensures.value (sym c.spelling.ensures))
-          (c.in_ok-push_str.ensures.bytes ∙ ap (λ run. string_bytes c.loop-at.out ++ run) (c.range.ensures.value ∙ ap (λ n. take n c.loop-at.rest.now) from_start)) c.in_ok-push_str-2.ensures.bytes c.loop-at.invariant.1),
+    let rest = c.loop-at.rest.now in
+    let at = c.in-Some.at in
+    let spelled = c.range_from-spelled.result.now in
+    let end = c.floor_char_boundary.result in
+    let from_start : at - 0 ≡ at = omega arith in (
+      subst IsUtf8 (sym c.split_at.ensures.back) (IsUtf8-drop spelled end c.range_from-spelled.utf8 c.floor_char_boundary.ensures.boundary),
+      block_on (spelling_of c.args.language) _ rest c.split_at.result.0.now c.split_at.result.1.now (string_bytes c.loop-at.out) (string_bytes c.push_str.new.self) (string_bytes c.push_block.new.out) at
+          c.in-Some.ensures.1
+          (sym c.range_from-spelled.ensures.value ∙ sym (take-append-drop end spelled) ∙ ap₂ (λ x y. x ++ y) (sym c.split_at.ensures.front) (sym c.split_at.ensures.back))
+          (c.in_ok-push_str.ensures.bytes ∙ ap (λ run. string_bytes c.loop-at.out ++ run) (c.range.ensures.value ∙ ap (λ n. take n rest) from_start))
+          c.in_ok-push_block.ensures
+          c.loop-at.invariant.1,
     )

@@ -1,8 +1,10 @@
 -- A text in another spelling: a run that stays as it is, a character that doesn't, and the rest.
-use Rattle.std.specs.Prelude.{◌≡◌, ◌≢◌, ℕ, suc, ◌+◌, ◌<◌, Bool, true, false, List, ◌⊎◌, [], ◌∷◌, ◌++◌, refl, length, take, drop, flat_map, Option, Some, None, MatchOption}
-use Rattle.std.proofs.Common.{sym, ap, ap₂, subst, ⊎_elim, ◌∙◌, arith, get_or, append_assoc, length-take, lit<}
-use Rattle.std.proofs.Math.Seq.{drop-cons}
+use Rattle.std.specs.Prelude.{◌≡◌, ◌≢◌, ℕ, suc, ◌<◌, ◌≤◌, Bool, true, false, List, ◌⊎◌, [], ◌∷◌, ◌++◌, refl, length, take, drop, flat_map, Option, Some, None, MatchOption}
+use Rattle.std.proofs.Common.{sym, ap, ap₂, subst, ⊎_elim, inl, inr, ◌∙◌, arith, get_or, append_assoc, length-take, lit<}
+use Rattle.std.specs.Str.{IsUtf8, IsCharBoundary}
+use Rattle.std.proofs.lemmas.Bool.{cases_lt}
 use Rattle.std.proofs.lemmas.Bool.Decides.{nat_tests}
+use Rattle.std.proofs.lemmas.Str.{IsCharBoundary-after_ascii}
 use Rattle.memchr.specs.Find.{Nowhere, NoneBefore, Passes, IsFirstByte, is_byte2}
 use Rattle.bpaf_doc.specs.declared.html.Language.{Language}
 use Rattle.bpaf_doc.specs.declared.html.Language.TheVariants as language
@@ -86,23 +88,21 @@ pub finds_markdown : (text : List ℕ) (r : Option ℕ) → IsFirstByte (is_byte
 finds_markdown text None none = no_marks language.Markdown 91 93 text markdown_marks none
 finds_markdown text (Some at) found = first_markdown text at found.0 found.1
 
-module _ (f : ℕ → List ℕ) where
-  cut : (text spelling : List ℕ) (at : ℕ) → at < length text → flat_map f (take at text) ≡ take at text → f (get_or text at 0) ≡ spelling
-      → flat_map f text ≡ take at text ++ (spelling ++ flat_map f (drop (suc at) text))
-  cut text spelling at inside plain spelled =
-      ap (λ x. flat_map f x) (sym (take-append-drop at text))
-      ∙ flat_map-append f (take at text) (drop at text)
-      ∙ ap₂ (λ x y. x ++ y) plain (ap (λ x. flat_map f x) (drop-cons text at 0 inside) ∙ ap (λ x. x ++ flat_map f (drop (suc at) text)) spelled)
+-- a run that stays as it is and a block behind it are written, and the rest is not yet
+pub block_on : (f : ℕ → List ℕ) (all text block after out longer last : List ℕ) (at : ℕ) → flat_map f (take at text) ≡ take at text → drop at text ≡ block ++ after
+    → longer ≡ out ++ take at text → last ≡ longer ++ flat_map f block → out ++ flat_map f text ≡ all → last ++ flat_map f after ≡ all
+block_on f all text block after out longer last at plain split l e so_far =
+    ap (λ x. x ++ flat_map f after) (e ∙ ap (λ x. x ++ flat_map f block) l)
+    ∙ append_assoc (out ++ take at text) (flat_map f block) (flat_map f after)
+    ∙ append_assoc out (take at text) (flat_map f block ++ flat_map f after)
+    ∙ ap (λ x. out ++ x) (sym whole)
+    ∙ so_far where
+      whole : flat_map f text ≡ take at text ++ (flat_map f block ++ flat_map f after)
+      whole =
+          ap (λ x. flat_map f x) (sym (take-append-drop at text))
+          ∙ flat_map-append f (take at text) (drop at text)
+          ∙ ap₂ (λ x y. x ++ y) plain (ap (λ x. flat_map f x) split ∙ flat_map-append f block after)
 
-  -- a run and a spelling are written, and the rest is not yet
-  pub spelled_on : (all text spelling out longer last : List ℕ) (at : ℕ) → at < length text → flat_map f (take at text) ≡ take at text → f (get_or text at 0) ≡ spelling
-      → longer ≡ out ++ take at text → last ≡ longer ++ spelling → out ++ flat_map f text ≡ all → last ++ flat_map f (drop (at + 1) text) ≡ all
-  spelled_on all text spelling out longer last at inside plain spelled l e so_far =
-      let rest : List ℕ = flat_map f (drop (suc at) text) in
-      let next : suc at ≡ at + 1 = omega arith in
-      subst (λ n. last ++ flat_map f (drop n text) ≡ all) next
-      (ap (λ x. x ++ rest) (e ∙ ap (λ x. x ++ spelling) l)
-      ∙ append_assoc (out ++ take at text) spelling rest
-      ∙ append_assoc out (take at text) (spelling ++ rest)
-      ∙ ap (λ x. out ++ x) (sym (cut text spelling at inside plain spelled))
-      ∙ so_far)
+-- a block of a text that begins with an ASCII character has this one at least
+pub block_begins : (text : List ℕ) (at most : ℕ) → IsUtf8 text → 0 < length text → get_or text 0 0 < 128 → 0 < most → ((i : ℕ) → at < i → i ≤ most → ¬ IsCharBoundary text i) → 0 < at
+block_begins text at most utf8 some ascii room nearest = elim (cases_lt at 1) [ inl none ↦ absurd (nearest 1 none (omega (arith, room)) (IsCharBoundary-after_ascii text 0 utf8 some ascii)) | inr begun ↦ omega (arith, begun) ]

@@ -8,6 +8,6 @@ pub returns : goal.returns
 returns g c =
     let run = c.in_ok-escape.ensures.ok in
     let pieces = drained c.iter.result run.0 run.1 ∙ c.iter.ensures in
-    let text : string_bytes c.unwrap.result ≡ c.escape.new.out.items = ap (λ v. v.items) (rw c.unwrap.ensures at c.from_utf8.ensures.ok) in
+    let text : string_bytes c.from_utf8_unchecked.result ≡ c.escape.new.out.items = ap (λ v. v.items) c.from_utf8_unchecked.ensures.value in
     let front : c.extend_from_slice.new.self.items ≡ preamble_for c.args.apostrophes = rw (c.in_ok-extend_from_slice.ensures.items, c.in_ok-out.ensures.items, c.as_bytes.ensures.value) c.preamble.ensures in
     rw (text, run.2, front, ← c.self.view_is) (ap (λ ps. preamble_for c.args.apostrophes ++ escaped c.args.apostrophes ps) pieces)

@@ -1,0 +1,61 @@
+-- A text in another spelling is a text.
+use Rattle.std.specs.Prelude.{◌≡◌, ℕ, ◌<◌, ◌≤◌, ◌==◌, ◌||◌, Bool, true, false, List, [], ◌∷◌, if◌then◌else◌, refl, flat_map, IsUtf8, IsAscii, codes}
+use Rattle.std.specs.Char.{IsScalar}
+use Rattle.std.proofs.Common.{inl, inr, arith}
+use Rattle.std.proofs.lemmas.List.{append-nil}
+use Rattle.std.proofs.lemmas.List.Concat.{flat_map-append}
+use Rattle.std.proofs.lemmas.Bool.{ne_eqb, cases_lt}
+use Rattle.std.proofs.lemmas.Str.{IsUtf8-append, IsUtf8-nil, IsUtf8-from_ascii, IsUtf8-encode, encode_ascii}
+use Rattle.std.proofs.lemmas.Str.Ascii.{IsAscii-nil, IsAscii-cons}
+use lib.Utf8.{encode, encodes, scalar, scalars}
+use Rattle.bpaf_roff.proofs.lemmas.EscapedText.{High, high_encode, both}
+use Rattle.bpaf_doc.specs.declared.html.Language.{Language}
+use Rattle.bpaf_doc.specs.declared.html.Language.TheVariants as language
+use Rattle.bpaf_doc.specs.Html.Steps.View.{spelling_of}
+
+-- ASCII is spelled in ASCII
+two_ascii : (a b : ℕ) → a < 128 → b < 128 → IsAscii (a ∷ b ∷ [])
+two_ascii a b h k = IsAscii-cons a (b ∷ []) h (IsAscii-cons b [] k IsAscii-nil)
+
+four_ascii : (a b c d : ℕ) → a < 128 → b < 128 → c < 128 → d < 128 → IsAscii (a ∷ b ∷ c ∷ d ∷ [])
+four_ascii a b c d h k l m = IsAscii-cons a (b ∷ c ∷ d ∷ []) h (IsAscii-cons b (c ∷ d ∷ []) k (two_ascii c d l m))
+
+low_html : (b : ℕ) → b < 128 → IsAscii (spelling_of language.Html b)
+low_html b h = by (b == 60) (b == 62)
+  where
+    by : (x y : Bool) → IsAscii (if x then codes "&lt;" else if y then codes "&gt;" else b ∷ [])
+    by true y = four_ascii 38 108 116 59 (omega arith) (omega arith) (omega arith) (omega arith)
+    by false true = four_ascii 38 103 116 59 (omega arith) (omega arith) (omega arith) (omega arith)
+    by false false = IsAscii-cons b [] h IsAscii-nil
+
+low_markdown : (b : ℕ) → b < 128 → IsAscii (spelling_of language.Markdown b)
+low_markdown b h = by (b == 91 || b == 93)
+  where
+    by : (x : Bool) → IsAscii (if x then 92 ∷ b ∷ [] else b ∷ [])
+    by true = two_ascii 92 b (omega arith) h
+    by false = IsAscii-cons b [] h IsAscii-nil
+
+low : (l : Language) (b : ℕ) → b < 128 → IsAscii (spelling_of l b)
+low language.Html = low_html
+low language.Markdown = low_markdown
+
+-- and no other byte is spelled in another way
+high : (l : Language) (b : ℕ) → 128 ≤ b → spelling_of l b ≡ b ∷ []
+high language.Html b h = rw (ne_eqb b 60 (omega arith), ne_eqb b 62 (omega arith)) refl
+high language.Markdown b h = rw (ne_eqb b 91 (omega arith), ne_eqb b 93 (omega arith)) refl
+
+high_bytes : (l : Language) (bytes : List ℕ) → High bytes → flat_map (spelling_of l) bytes ≡ bytes
+high_bytes l [] h = refl
+high_bytes l (b ∷ bytes) h = rw (high l b h.0, high_bytes l bytes h.1) refl
+
+spelled_character : (l : Language) (c : ℕ) → IsScalar c → IsUtf8 (flat_map (spelling_of l) (encode c))
+spelled_character l c h = elim (cases_lt c 128) [ inl ascii ↦ rw (encode_ascii c ascii, append-nil (spelling_of l c)) (IsUtf8-from_ascii (spelling_of l c) (low l c ascii)) | inr other ↦ rw (high_bytes l (encode c) (high_encode c other)) (IsUtf8-encode c h) ]
+
+spelled_characters : (l : Language) (cs : List ℕ) → scalars cs ≡ true → IsUtf8 (flat_map (spelling_of l) (encodes cs))
+spelled_characters l [] h = IsUtf8-nil
+spelled_characters l (c ∷ cs) h =
+    let parts = both (scalar c) (scalars cs) h in
+    rw (flat_map-append (spelling_of l) (encode c) (encodes cs)) (IsUtf8-append (flat_map (spelling_of l) (encode c)) (flat_map (spelling_of l) (encodes cs)) (spelled_character l c parts.0) (spelled_characters l cs parts.1))
+
+pub IsUtf8-spelled : (l : Language) (bytes : List ℕ) → IsUtf8 bytes → IsUtf8 (flat_map (spelling_of l) bytes)
+IsUtf8-spelled l bytes h = rw (← h.1.1) (spelled_characters l h.0 h.1.0)
