@@ -58,7 +58,7 @@ pub fn run_text<A: Allocator + Copy, R: Read, W: Write>(
 {
     let bytes = reader.read_all(alloc)?;
     let input = text_of(bytes)?;
-    let page = page_of(alloc, form, input.as_str())?;
+    let page = page_of(alloc, form, input)?;
     write_all(writer, page.as_str())
 }
 
@@ -102,11 +102,15 @@ fn text_of<A: Allocator>(bytes: Vec<u8, A>) -> Result<String<A>, Fault>
 }
 
 // The page of the document of one text.
-fn page_of<A: Allocator + Copy>(alloc: A, form: Form, text: &str) -> Result<String<A>, AllocError>
+fn page_of<A: Allocator + Copy>(
+    alloc: A,
+    form: Form,
+    text: String<A>,
+) -> Result<String<A>, AllocError>
     ensures { IfOk result (λ page.
-        IsPage text_title form (document_of_text text.now) (string_bytes page)) }
+        IsPage text_title form (document_of_text (string_bytes text)) (string_bytes page)) }
 {
-    let document = Doc::from_text(alloc, text)?;
+    let document = Doc::from_string(text)?;
     match form {
         Form::Full => document.render_console(alloc, true, MAX_WIDTH),
         Form::Brief => document.render_console(alloc, false, MAX_WIDTH),
