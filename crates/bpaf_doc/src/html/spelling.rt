@@ -74,8 +74,8 @@ pub fn fill(room: &mut [u8; ROOM], language: Language, bytes: &[u8]) -> usize
     ensures text { take result room.new ≡ flat_map (spelling_of language) bytes.now }
 {
     let mut end = 0;
-    for index in 0..bytes.len() {
-        end = put_spelled(room, end, language, bytes[index]);
+    for byte in bytes {
+        end = put_spelled(room, end, language, *byte);
     }
     end
 }
