@@ -1,6 +1,8 @@
 #!/usr/bin/env python3
 """Each public call of a library or of a program's engine that can refuse a growth stands in docs/REFUSALS.md with the test that refuses its growths in turn.
 
+Two crates are left out, `lasting_names` and `replay_engine`: they take their memory of `Global`, of which a test can refuse nothing.
+
 Prints what is missing there, and rows that name no such call or no test. Ends with status 1 where there is any.
 """
 import pathlib
