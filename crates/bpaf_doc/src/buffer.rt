@@ -385,6 +385,15 @@ impl<A: Allocator> Doc<A> {
         Ok(())
     }
 
+    /// Asks at once for the memory of that many more parts, and of that many more bytes of text, for a caller who knows what comes.
+    /// The document stays as it is, also after `AllocError`.
+    pub fn reserve(&mut self, parts: usize, bytes: usize) -> Result<(), AllocError>
+        ensures { self.new ≡ self.old }
+    {
+        self.ends.reserve(parts)?;
+        self.payload.reserve(bytes)
+    }
+
     /// How far the document has come. What is written behind it can be undone by `roll_back`.
     pub fn checkpoint(&self) -> Checkpoint
         ensures { IsCheckpointOf self.now result }
@@ -464,9 +473,12 @@ impl<A: Allocator> Doc<A> {
         self.ends.len()
     }
 
-    // How many bytes its texts have together.
-    pub(crate) fn text_len(&self) -> usize {
-        self.payload.len()
+    /// How many bytes the texts have together.
+    pub fn text_len(&self) -> usize
+        ensures { result ≡ length (document_bytes self.now) }
+    {
+        let texts = self.joined_texts();
+        texts.len()
     }
 
     // The allocator that its memory comes from.

@@ -44,6 +44,17 @@ impl<A: Allocator> Doc<A> {
         let page = written(page, self.parts())?;
         page.render(Apostrophes::Handle)
     }
+
+    /// The same text as that of `render_roff`. The document is used up: its memory is given back before the text is made, so that
+    /// no more than two of document, pieces and text stand beside one another.
+    pub fn into_roff<B: Allocator + Copy>(self, page: Roff<B>) -> Result<String<B>, AllocError>
+        ensures read { TakesDocument page → IfOk result (λ text. IsPageOf page self (string_bytes text)) }
+        ensures exact { IfOk result (λ text. string_bytes text ≡ roff_page page self) }
+    {
+        let pieces = written(page, self.parts())?;
+        drop(self);
+        pieces.render(Apostrophes::Handle)
+    }
 }
 
 // The page with the parts on it.

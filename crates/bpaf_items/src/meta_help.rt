@@ -12,6 +12,7 @@ mod lists;
 mod page;
 mod pieces;
 mod repeats;
+mod room;
 mod walk;
 mod writes;
 

@@ -386,7 +386,8 @@ impl<A: Allocator + Copy> Roff<A> {
     pub fn render(&self, apostrophes: Apostrophes) -> Result<String<A>, AllocError>
         ensures { IfOk result (λ text. string_bytes text ≡ rendering apostrophes self.now.pieces) }
     {
-        let mut out = Vec::with_capacity(*self.payload.allocator(), self.payload.payload_size())?;
+        let room = self.payload.payload_size().saturating_mul(2);
+        let mut out = Vec::with_capacity(*self.payload.allocator(), room)?;
         out.extend_from_slice(preamble(apostrophes).as_bytes())?;
         escape(self.payload.iter(), &mut out, apostrophes)?;
         // `escape` puts a text behind a text, and so no pass looks whether the bytes are one.

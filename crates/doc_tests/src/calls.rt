@@ -22,6 +22,7 @@ fn each_call_writes_its_part(rt: HostRuntime) -> Result<(), Fail> {
         r#"[Text("aé", Text), Text("b", Literal), Text("c", Emphasis), Text("d", Invalid), Start(Mono), End(Mono)]"#;
     assert!(rt; shown.as_str() == want, "{shown}");
     assert!(rt; doc.len() == 6);
+    assert!(rt; doc.text_len() == 6);
     assert!(rt; doc.part_at(1) == Some(Part::Text("b", Style::Literal)));
     assert!(rt; doc.part_at(6).is_none());
     Ok(())

@@ -23,6 +23,7 @@ enum Call {
     Title,
     Line,
     Path,
+    Room,
     Text,
     Owned,
     Pairs,
@@ -33,9 +34,10 @@ enum Call {
     Html,
     Markdown,
     Roff,
+    OwnedRoff,
 }
 
-const CALLS: [Call; 22] = [
+const CALLS: [Call; 24] = [
     Call::Joined,
     Call::Apart,
     Call::Character,
@@ -48,6 +50,7 @@ const CALLS: [Call; 22] = [
     Call::Title,
     Call::Line,
     Call::Path,
+    Call::Room,
     Call::Text,
     Call::Owned,
     Call::Pairs,
@@ -58,6 +61,7 @@ const CALLS: [Call; 22] = [
     Call::Html,
     Call::Markdown,
     Call::Roff,
+    Call::OwnedRoff,
 ];
 
 // What the calls are lent. The long text is longer than all that a list of ends gives back as it grows: so there is a budget at
@@ -138,6 +142,7 @@ fn apply<A: Allocator + Copy>(
         Call::Title => doc.em_doc(&lent.title),
         Call::Line => doc.em_doc(&lent.line),
         Call::Path => doc.write_path(lent.path.as_slice()),
+        Call::Room => doc.reserve(8, lent.long.len()),
         _ => {
             *doc = made(alloc, doc, call, lent)?;
             Ok(())
@@ -170,7 +175,8 @@ fn page<A: Allocator + Copy>(alloc: A, doc: &Doc<A>, call: Call) -> Result<Strin
         Call::Monochrome => doc.monochrome(alloc, true),
         Call::Html => doc.render_html(alloc, true, true),
         Call::Markdown => doc.render_markdown(alloc, true),
-        _ => doc.render_roff(Roff::new(alloc)),
+        Call::Roff => doc.render_roff(Roff::new(alloc)),
+        _ => doc.clone()?.into_roff(Roff::new(alloc)),
     }
 }
 

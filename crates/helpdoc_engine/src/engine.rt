@@ -116,7 +116,7 @@ fn page_of<A: Allocator + Copy>(
         Form::Brief => document.render_console(alloc, false, MAX_WIDTH),
         Form::Html => document.render_html(alloc, true, false),
         Form::Markdown => document.render_markdown(alloc, true),
-        Form::Man => document.render_roff(titled(alloc)?),
+        Form::Man => document.into_roff(titled(alloc)?),
     }
 }
 

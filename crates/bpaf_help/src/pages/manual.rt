@@ -44,7 +44,7 @@ pub fn render_manpage<A: Allocator + Copy, B: Allocator + Copy>(
             title.unwrap_or(""),
         ],
     )?;
-    document.render_roff(page)
+    document.into_roff(page)
 }
 
 // A page with this title line alone.

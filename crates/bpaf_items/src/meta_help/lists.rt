@@ -12,6 +12,7 @@ ghost use Rattle.bpaf_items.specs.View.{entry_at, entry_of};
 use crate::meta_help::entry::HelpItem;
 use crate::meta_help::env_texts::EnvTexts;
 use crate::meta_help::repeats::Repeats;
+use crate::meta_help::room::reserve_for;
 use crate::meta_help::writes::put_entry;
 use bpaf_doc::buffer::Doc;
 use std::alloc::{AllocError, Allocator};
@@ -26,6 +27,7 @@ pub fn put_list<'a, 's, A: Allocator, B: Allocator + Copy, C: Allocator, L: Allo
 ) -> Result<(), AllocError>
     ensures { Leaves result doc.old doc.new (list_writes include_env (texts_in texts.now) (map entry_at entries.now)) }
 {
+    reserve_for(doc, entries)?;
     let mut repeats: Repeats<'a, 's, B, L> = Repeats::with_room(alloc, entries.len())?;
     for entry in entries {
         put_next(doc, &mut repeats, *entry, include_env, texts)?;

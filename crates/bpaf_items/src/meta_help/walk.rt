@@ -51,6 +51,7 @@ fn append_parts<'a, A: Allocator, L: Allocator>(
     ensures ty { IfOk result (λ front. front ≡ first_front_type (trees_of parts.now.items)) }
     ensures front { IsFront items.old.items items.new.items }
 {
+    items.reserve(parts.len())?;
     let mut front = None;
     for part in parts {
         let own = append(items, part, groups)?;

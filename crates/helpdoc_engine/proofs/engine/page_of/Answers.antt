@@ -34,11 +34,13 @@ returns-in-Markdown g c =
     (page_of_answer text_title form.Markdown (document_of_text (string_bytes c.args.text)) c.render_markdown.result
     (rw c.in_ok-document.ensures at c.render_markdown.ensures.laws) (rw c.in_ok-document.ensures at c.render_markdown.ensures.exact))
 
-pub returns : goal.returns
-returns g c =
+pub returns-in_ok-titled-in-Man : goal.returns-in_ok-titled-in-Man
+returns-in_ok-titled-in-Man g c =
+    let page = c.in_ok-titled-in-Man.field-0 in
+    let titled = c.in_ok-titled-in-Man.ensures in
     let document = document_of_text (string_bytes c.args.text) in
     rw c.in-Man.is
-    (page_of_answer text_title form.Man document c.render_roff.result
-    (manual_page string_bytes c.render_roff.result c.in_ok-titled-in-Man.field-0 text_title document c.in_ok-titled-in-Man.ensures
-    (rw c.in_ok-document.ensures at c.render_roff.ensures.read))
-    (rw (c.in_ok-document.ensures, c.in_ok-titled-in-Man.ensures) at c.render_roff.ensures.exact))
+    (page_of_answer text_title form.Man document c.into_roff.result
+    (manual_page string_bytes c.into_roff.result page text_title document titled
+    (rw (c.document.view_is, c.in_ok-document.ensures) at c.into_roff.ensures.read))
+    (rw (c.document.view_is, c.in_ok-document.ensures, titled) at c.into_roff.ensures.exact))

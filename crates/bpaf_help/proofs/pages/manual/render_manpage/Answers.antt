@@ -10,5 +10,5 @@ pub returns-clause-read : goal.returns-clause-read
 returns-clause-read g c =
     let words = title_arguments c.args.app.now (section_name c.args.section) (text_of c.args.date) (text_of c.args.vendor) (text_of c.args.title) in
     let same = same_words c.args.app.now c.as_str.ensures (given_text c.args.date _ c.unwrap_or.result c.unwrap_or.ensures) (given_text c.args.vendor _ c.unwrap_or-2.result c.unwrap_or-2.ensures) (given_text c.args.title _ c.unwrap_or-3.result c.unwrap_or-3.ensures) in
-    manual_read c.titled_page.ensures.takes c.titled_page.ensures.manual words string_bytes c.in_ok-document.document (manual_document c.args.app.now (tree_of c.args.meta.now) (head_of c.args.info.now)) c.in_ok-page.page c.render_roff.result
-    (c.in_ok-page.ensures ∙ ap title_page same) c.in_ok-document.ensures c.render_roff.ensures.read
+    manual_read c.titled_page.ensures.takes c.titled_page.ensures.manual words string_bytes c.in_ok-document.document (manual_document c.args.app.now (tree_of c.args.meta.now) (head_of c.args.info.now)) c.in_ok-page.page c.into_roff.result
+    (c.in_ok-page.ensures ∙ ap title_page same) c.in_ok-document.ensures c.into_roff.ensures.read

@@ -12,7 +12,7 @@ use Rattle.bpaf_items.proofs.Steps.Kept.{type_turn, ungrouped, unnoted, away_fro
 use Rattle.bpaf_items.proofs.meta_help.walk.+append.Goals as goal
 
 pub append_parts-loop-part-init : goal.append_parts-loop-part-init
-append_parts-loop-part-init g t c = record { entries = cc; ty = cc; front = front_whole _ }
+append_parts-loop-part-init g t c = record { entries = cc (c.reserve.ensures.items); ty = cc; front = rw c.reserve.ensures.items (front_whole _) }
 
 pub append_parts-returns-in_err-own-clause-front : goal.append_parts-returns-in_err-own-clause-front
 append_parts-returns-in_err-own-clause-front g t c = front_then _ c.loop-part.items.items _ c.loop-part.invariant.front c.append.ensures.front
