@@ -239,3 +239,33 @@ fn a_refused_growth_is_an_error_of_display(rt: HostRuntime) -> Result<(), Fail> 
     }
     panic!(rt; "never shown")
 }
+
+// Takes what the heap has left, a little at a time.
+fn rest_of<'h>(
+    alloc: Global,
+    heap: &'h LocalHeap,
+) -> Result<Vec<Vec<u8, &'h LocalHeap>>, AllocError> {
+    let mut rest = Vec::new(alloc);
+    for _ in 0..1024usize {
+        if let Ok(block) = Vec::with_capacity(heap, 1) {
+            rest.push(block)?;
+        }
+    }
+    Ok(rest)
+}
+
+#[test]
+fn memory_that_was_asked_for_is_there(rt: HostRuntime) -> Result<(), Fail> {
+    let long = word(rt.alloc(), 598)?;
+    let heap = LocalHeap::new(rt.alloc(), 8192)?;
+    let mut doc = Doc::new(&heap);
+    doc.reserve(3, 600)?;
+    let _rest = rest_of(rt.alloc(), &heap)?;
+    assert!(rt; Doc::from_text(&heap, "a").is_err());
+    doc.literal(&long)?;
+    doc.text("b")?;
+    doc.literal("c")?;
+    assert!(rt; doc.len() == 3);
+    assert!(rt; doc.text_len() == 600);
+    Ok(())
+}
