@@ -46,7 +46,8 @@ impl<A: Allocator> Doc<A> {
     }
 
     /// The same text as that of `render_roff`. The document is used up: its memory is given back before the text is made, so that
-    /// no more than two of document, pieces and text stand beside one another.
+    /// no more than two of document, pieces and text stand beside one another. An `AllocError` says that a growth was refused;
+    /// nothing of document and page is left then.
     pub fn into_roff<B: Allocator + Copy>(self, page: Roff<B>) -> Result<String<B>, AllocError>
         ensures read { TakesDocument page → IfOk result (λ text. IsPageOf page self (string_bytes text)) }
         ensures exact { IfOk result (λ text. string_bytes text ≡ roff_page page self) }
