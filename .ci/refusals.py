@@ -10,7 +10,7 @@ import re
 import sys
 
 TOP = pathlib.Path(__file__).resolve().parent.parent
-LIBRARIES = ["bpaf_roff", "bpaf_doc", "bpaf_meta", "bpaf_items", "bpaf_help", "watched", "helpdoc_engine", "clidoc_engine", "description"]
+LIBRARIES = ["bpaf_roff", "bpaf_doc", "bpaf_meta", "bpaf_items", "bpaf_help", "watched", "helpdoc_engine", "clidoc_engine", "description_parts", "description"]
 REFUSES = re.compile(r"\b(AllocError|HelpError|ReadError|DescriptionError|Fault)\b")
 CALL = re.compile(r"(?m)^( *)pub fn (\w+)(?:<[^{}]*?>)?\(([^{}]*?)\)\s*->\s*(.*?)(?=\n\s*(?:where|requires|ensures|\{)|\s*\{)", re.S)
 ROW = re.compile(r"(?m)^\| `([\w:]+)` \| `(\w+)::(\w+)`")

@@ -6,7 +6,7 @@ use Rattle.std.specs.Ordering.{match_ordering}
 use Rattle.toml.specs.Data.{Data, string, integer, float, boolean, datetime, array, table, as_array, as_table, depth, items_depth, members_depth, Items, no_items, Members, no_members, member, get_member}
 use Rattle.toml.specs.View.{items_view, view}
 use Rattle.toml.specs.declared.value.Value.{Value}
-use Rattle.description.specs.Content.{CommandsSaid, GroupsSaid, no_commands, no_groups}
+use Rattle.description_parts.specs.Content.{CommandsSaid, GroupsSaid, no_commands, no_groups}
 use Rattle.description.specs.Described.{as_command, as_commands, as_group, as_groups, commands_at, each_command, each_group, groups_at}
 use Rattle.description.specs.Described.Values.{all_tables, are_tables, tables_at, value_or}
 

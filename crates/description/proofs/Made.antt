@@ -22,7 +22,8 @@ use Rattle.bpaf_help.specs.Chapters.{AreWellPlaced, Chapter, IsFirstMisplacedOf,
 use Rattle.bpaf_help.specs.PageAnswers as pages
 use Rattle.bpaf_help.specs.PageAnswers.{AreErrorOf}
 use Rattle.bpaf_help.proofs.Steps.{help_page_alone, view_info}
-use Rattle.description.specs.Content.{LevelSaid, level, DescriptionSaid}
+use Rattle.description.specs.Content.{DescriptionSaid}
+use Rattle.description_parts.specs.Content.{LevelSaid, level}
 use Rattle.description.specs.Trees.{description_head, description_tree, help_tree, level_head}
 use Rattle.description.specs.Pages.{collected_document, description_chapters, help_document}
 

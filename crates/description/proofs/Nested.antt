@@ -15,7 +15,8 @@ use Rattle.bpaf_help.specs.Chapters.{Chapter, command_chapters, part_chapters}
 use Rattle.bpaf_help.specs.NestedPages.{HasNestedChapter}
 use Rattle.bpaf_help.specs.NestedPages as pages
 use Rattle.bpaf_help.proofs.NestedPages.{collected_pages_are_nested, manual_pages_are_nested}
-use Rattle.description.specs.Content.{OptSaid, ChoiceSaid, PositionalSaid, LevelSaid, level, GroupsSaid, no_groups, groups, GroupSaid, group, CommandsSaid, no_commands, commands, CommandSaid, command, DescriptionSaid}
+use Rattle.description.specs.Content.{DescriptionSaid}
+use Rattle.description_parts.specs.Content.{OptSaid, ChoiceSaid, PositionalSaid, LevelSaid, level, GroupsSaid, no_groups, groups, GroupSaid, group, CommandsSaid, no_commands, commands, CommandSaid, command}
 use Rattle.description.specs.Trees.{text_document, document_said, named_leaf, option_item, wrapped, option_tree, choice_tree, behind_dashes, positional_tree, titled, one_of_commands, named_group, named_groups, level_head, level_tree, placed_groups, placed_group, command_items, command_item, help_tree, description_tree, description_head}
 use Rattle.description.specs.Pages.{ChaptersAreWellPlaced, PagesAreWellNested, description_chapters}
 use Rattle.description.proofs.Placed.{level_well_placed}

@@ -5,10 +5,10 @@ use Rattle.toml.proofs.Views.{items_view-drop}
 use Rattle.toml.specs.Data.{Members, as_table}
 use Rattle.toml.specs.View.{items_view, view}
 use Rattle.toml.specs.declared.value.Value.{Value}
-use Rattle.description.specs.Content.{CommandSaid, CommandsSaid, no_commands, commands, GroupSaid, GroupsSaid, no_groups, groups}
+use Rattle.description_parts.specs.Content.{CommandSaid, CommandsSaid, no_commands, commands, GroupSaid, GroupsSaid, no_groups, groups}
 use Rattle.description.specs.Described.{as_command, as_group, each_command, each_group}
 use Rattle.description.specs.Described.Values.{each_table}
-use Rattle.description.specs.View.{commands_in, groups_in}
+use Rattle.description_parts.specs.View.{commands_in, groups_in}
 
 -- after the first tables, which gave xs
 abbrev pub ReadSoFar : {X : Type 0} → (Members → Option X) → List Value → List X → ℕ → Type 0

@@ -7,7 +7,8 @@ use Rattle.std.specs.Ordering.{nat_cmp, match_ordering}
 use Rattle.std.specs.Cmp.Lexicographic.{slice_cmp}
 use Rattle.bpaf_meta.specs.Content.{Name, short, long, both}
 use Rattle.toml.specs.Data.{Data, array, table, Items, no_items, item, Members, no_members, member, as_str, get_member}
-use Rattle.description.specs.Content.{OptSaid, ChoiceSaid, PositionalSaid, TextsSaid, LevelSaid, level, GroupsSaid, no_groups, groups, GroupSaid, group, CommandsSaid, no_commands, commands, CommandSaid, command, DescriptionSaid}
+use Rattle.description.specs.Content.{DescriptionSaid}
+use Rattle.description_parts.specs.Content.{OptSaid, ChoiceSaid, PositionalSaid, TextsSaid, LevelSaid, level, GroupsSaid, no_groups, groups, GroupSaid, group, CommandsSaid, no_commands, commands, CommandSaid, command}
 use Rattle.description.specs.Described.Values.{has_only, flag_at, optional_at, required_at, tables_at, is_empty, each_table, as_name, as_short, as_date}
 use Rattle.description.specs.Described.Taken.{has_distinct_names}
 

@@ -1,6 +1,5 @@
 pub mod Content
 pub mod View
-pub mod Calls
 pub mod Trees
 pub mod Pages
 pub mod Described

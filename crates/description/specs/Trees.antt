@@ -7,7 +7,8 @@ use Rattle.bpaf_meta.specs.Content as content
 use Rattle.bpaf_meta.specs.Content.{Name, Tree, and_of, or_of, optional, required, item, many, subsection, strict, Leaf, positional, flag, argument, Head, head}
 use Rattle.bpaf_meta.specs.Names.{short_name}
 use Rattle.bpaf_meta.specs.View.{trees_in}
-use Rattle.description.specs.Content.{OptSaid, ChoiceSaid, PositionalSaid, TextsSaid, LevelSaid, level, GroupsSaid, no_groups, groups, GroupSaid, group, CommandsSaid, no_commands, commands, CommandSaid, command, DescriptionSaid}
+use Rattle.description.specs.Content.{DescriptionSaid}
+use Rattle.description_parts.specs.Content.{OptSaid, ChoiceSaid, PositionalSaid, TextsSaid, LevelSaid, level, GroupsSaid, no_groups, groups, GroupSaid, group, CommandsSaid, no_commands, commands, CommandSaid, command}
 
 -- ---- single items
 

@@ -1,57 +1,10 @@
--- What the records of a description say.
-use Rattle.std.specs.Prelude.{List, [], ◌∷◌, map}
-use Rattle.bpaf_meta.specs.View.{name_of, text_of}
-use Rattle.description.specs.Content.{OptSaid, ChoiceSaid, PositionalSaid, LevelSaid, level, GroupsSaid, no_groups, groups, GroupSaid, group, CommandsSaid, no_commands, commands, CommandSaid, command, DescriptionSaid}
+-- What a description says.
+use Rattle.std.specs.Prelude.{map}
 use Rattle.bpaf_help.specs.View.{section_name}
+use Rattle.bpaf_meta.specs.View.{text_of}
+use Rattle.description.specs.Content.{DescriptionSaid}
 use Rattle.description.specs.declared.descriptions.Description.{Description}
-use Rattle.description.specs.declared.options.Opt.{Opt}
-use Rattle.description.specs.declared.options.Choice.{Choice}
-use Rattle.description.specs.declared.positionals.Positional.{Positional}
-use Rattle.description.specs.declared.levels.Level.{Level, Level-F, fold-Level}
-use Rattle.description.specs.declared.levels.Group.{Group, Group-F, fold-Group}
-use Rattle.description.specs.declared.levels.Command.{Command, Command-F, fold-Command}
-
-abbrev pub opt_said : Opt → OptSaid
-opt_said o = record { name = name_of o.name; value = text_of o.value; help = text_of o.help; env = text_of o.env; required = o.required; repeated = o.repeated }
-
-abbrev pub choice_said : {A : Type 0} → Choice A → ChoiceSaid
-choice_said c = record { options = map opt_said c.options.items; required = c.required }
-
-abbrev pub positional_said : Positional → PositionalSaid
-positional_said p = record { value = p.value.now; help = text_of p.help; required = p.required; repeated = p.repeated; strict = p.strict }
-
-abbrev pub groups_in : List GroupSaid → GroupsSaid
-groups_in [] = no_groups
-groups_in (g ∷ gs) = groups g (groups_in gs)
-
-abbrev pub commands_in : List CommandSaid → CommandsSaid
-commands_in [] = no_commands
-commands_in (c ∷ cs) = commands c (commands_in cs)
-
--- one level, with what is inside already seen
-abbrev pub level_step : {A : Type 0} → Level-F A CommandSaid GroupSaid LevelSaid → LevelSaid
-level_step l = level (record { about = text_of l.about; header = text_of l.header; footer = text_of l.footer; usage = text_of l.usage }) l.command_required (map opt_said l.options.items) (map choice_said l.choices.items) (groups_in l.groups.items) (map positional_said l.positionals.items) (commands_in l.commands.items)
-
-abbrev pub group_step : {A : Type 0} → Group-F A CommandSaid GroupSaid LevelSaid → GroupSaid
-group_step g = group g.title.now (map opt_said g.options.items) (map choice_said g.choices.items) (map positional_said g.positionals.items) (commands_in g.commands.items)
-
-abbrev pub command_step : {A : Type 0} → Command-F A CommandSaid GroupSaid LevelSaid → CommandSaid
-command_step c = command c.name.now c.short (text_of c.help) c.level
-
-abbrev pub level_said : {A : Type 0} → Level A → LevelSaid
-level_said {A} = fold-Level A CommandSaid GroupSaid LevelSaid command_step group_step level_step
-
-abbrev pub group_said : {A : Type 0} → Group A → GroupSaid
-group_said {A} = fold-Group A CommandSaid GroupSaid LevelSaid command_step group_step level_step
-
-abbrev pub command_said : {A : Type 0} → Command A → CommandSaid
-command_said {A} = fold-Command A CommandSaid GroupSaid LevelSaid command_step group_step level_step
-
-abbrev pub groups_said : {A : Type 0} → List (Group A) → GroupsSaid
-groups_said gs = groups_in (map group_said gs)
-
-abbrev pub commands_said : {A : Type 0} → List (Command A) → CommandsSaid
-commands_said cs = commands_in (map command_said cs)
+use Rattle.description_parts.specs.View.{level_said, opt_said}
 
 abbrev pub description_said : {A : Type 0} → Description A → DescriptionSaid
 description_said d = record { name = d.name.now; section = section_name d.section; date = text_of d.date; vendor = text_of d.vendor; title = text_of d.title; help_options = map opt_said d.help_options.items; level = level_said d.level }

@@ -1,11 +1,12 @@
 //! Whole command lines.
 ghost use Rattle.std.specs.Prelude.{◌≡◌, ◌++◌, ◌∷◌, [], None, Some, OnErr, OnOk, codes};
 ghost use Rattle.bpaf_help.specs.View.{section_name};
-ghost use Rattle.description.specs.View.{description_said, level_said, opt_said};
+ghost use Rattle.description.specs.View.{description_said};
+ghost use Rattle.description_parts.specs.View.{level_said, opt_said};
 
-use crate::levels::Level;
-use crate::options::Opt;
 use bpaf_help::pages::Section;
+use description_parts::levels::Level;
+use description_parts::options::Opt;
 use std::alloc::{AllocError, Allocator, Global};
 
 /// A command line: its name, the words of the title line of its manual page, the options that ask for help, and its top level.

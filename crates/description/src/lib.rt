@@ -4,14 +4,11 @@
 pub mod decode;
 pub mod descriptions;
 pub mod laws;
-pub mod levels;
-pub mod options;
 mod pages;
-pub mod positionals;
 mod trees;
 
 pub use decode::DescriptionError;
+pub use description_parts::{
+    Choice, Command, Group, Level, Opt, Positional, levels, options, positionals,
+};
 pub use descriptions::Description;
-pub use levels::{Command, Group, Level};
-pub use options::{Choice, Opt};
-pub use positionals::Positional;

@@ -4,15 +4,15 @@ ghost use Rattle.bpaf_meta.specs.Content.{many as many_of, optional as optional_
 ghost use Rattle.bpaf_meta.specs.Names.{short_name};
 ghost use Rattle.bpaf_meta.specs.View.{head_of, name_of, text_of, tree_of, trees_in};
 ghost use Rattle.description.specs.Trees.{all_of, behind_dashes, choice_tree, command_item, command_items, document_said, level_head, level_tree, named_group, named_groups, one_of_commands, option_item, option_tree, options_tree, placed_group, placed_groups, positional_tree, text_document, titled, wrapped};
-ghost use Rattle.description.specs.View.{choice_said, command_said, commands_said, group_said, groups_said, level_said, opt_said, positional_said};
+ghost use Rattle.description_parts.specs.View.{choice_said, command_said, commands_said, group_said, groups_said, level_said, opt_said, positional_said};
 
-use crate::levels::{Command, Group, Level};
-use crate::options::{Choice, Opt};
-use crate::positionals::Positional;
 use bpaf_doc::buffer::Doc;
 use bpaf_help::item::{Item, ShortLong};
 use bpaf_help::meta::Meta;
 use bpaf_help::meta_help::{Info, Metavar};
+use description_parts::levels::{Command, Group, Level};
+use description_parts::options::{Choice, Opt};
+use description_parts::positionals::Positional;
 use std::alloc::{AllocError, Allocator};
 
 // Each `put` appends to `parts`; after `AllocError` some may stand there.

@@ -5,7 +5,7 @@ ghost use Rattle.toml.specs.View.{items_view, table_view};
 ghost use Rattle.description.specs.Described.{as_command, as_group, command_head, commands_at, each_command, each_group, group_head, groups_at, has_members, level_of, lists_from, outline_from, texts_from};
 ghost use Rattle.description.specs.Described.Steps.{command_head_seen, group_head_seen, lists_depth, lists_seen, outline_seen, texts_seen};
 ghost use Rattle.description.specs.Faults.{IsMemory};
-ghost use Rattle.description.specs.View.{command_said, commands_said, group_said, groups_said, level_said};
+ghost use Rattle.description_parts.specs.View.{command_said, commands_said, group_said, groups_said, level_said};
 
 use super::faults::{DescriptionError, Place};
 use super::options::{choices_in, options_in, positionals_in};
@@ -14,7 +14,7 @@ use super::values::{
     flag_at, is_empty, push, required_name_at, required_text_at, see_keys, short_at, tables_at,
     text_at,
 };
-use crate::levels::{Command, Group, Level};
+use description_parts::levels::{Command, Group, Level};
 use lasting_names::Names;
 use std::alloc::Allocator;
 use toml::{Table, Value};

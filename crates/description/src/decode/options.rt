@@ -5,15 +5,15 @@ ghost use Rattle.toml.specs.View.{items_view, table_view};
 ghost use Rattle.description.specs.Described.{alternative_from, choice_from, option_from, option_name, option_of, positional_from};
 ghost use Rattle.description.specs.Described.Values.{each_table};
 ghost use Rattle.description.specs.Faults.{IsMemory};
-ghost use Rattle.description.specs.View.{choice_said, opt_said, positional_said};
+ghost use Rattle.description_parts.specs.View.{choice_said, opt_said, positional_said};
 
 use super::faults::{DescriptionError, Place};
 use super::values::{
     flag_at, is_empty, name_at, push, required_text_at, see_keys, short_at, tables_at, text_at,
 };
-use crate::options::{Choice, Opt};
-use crate::positionals::Positional;
 use bpaf_help::item::ShortLong;
+use description_parts::options::{Choice, Opt};
+use description_parts::positionals::Positional;
 use lasting_names::Names;
 use std::alloc::Allocator;
 use toml::{Table, Value};

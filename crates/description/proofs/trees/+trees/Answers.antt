@@ -1,7 +1,7 @@
 use Rattle.std.proofs.Common.{ap, map}
 use Rattle.bpaf_meta.specs.View.{tree_of}
 use Rattle.description.specs.Trees.{options_tree}
-use Rattle.description.specs.View.{opt_said}
+use Rattle.description_parts.specs.View.{opt_said}
 use Rattle.description.proofs.Views.{level_whole}
 use Rattle.description.proofs.trees.+trees.Goals as goal
 

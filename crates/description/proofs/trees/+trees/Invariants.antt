@@ -1,7 +1,7 @@
 use Rattle.std.proofs.Common.{◌≡◌, ◌++◌, drop, map}
 use Rattle.bpaf_meta.specs.View.{tree_of}
 use Rattle.description.specs.Trees.{command_items, options_tree, placed_groups}
-use Rattle.description.specs.View.{commands_said, groups_said, opt_said}
+use Rattle.description_parts.specs.View.{commands_said, groups_said, opt_said}
 use Rattle.description.proofs.trees.+trees.Given as goal
 
 abbrev pub invariant-put_placed_groups-loop-group : goal.invariant-put_placed_groups-loop-group

@@ -1,7 +1,7 @@
 use Rattle.std.proofs.Common.{◌≡◌, ◌++◌, drop, map}
 use Rattle.bpaf_meta.specs.View.{tree_of}
 use Rattle.description.specs.Trees.{choice_tree}
-use Rattle.description.specs.View.{choice_said}
+use Rattle.description_parts.specs.View.{choice_said}
 use Rattle.description.proofs.trees.put_choices.Given as goal
 
 abbrev pub invariant-loop-choice : goal.invariant-loop-choice

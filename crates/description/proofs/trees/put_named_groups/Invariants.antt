@@ -1,7 +1,7 @@
 use Rattle.std.proofs.Common.{◌≡◌, ◌++◌, drop, map}
 use Rattle.bpaf_meta.specs.View.{tree_of}
 use Rattle.description.specs.Trees.{named_groups}
-use Rattle.description.specs.View.{groups_said}
+use Rattle.description_parts.specs.View.{groups_said}
 use Rattle.description.proofs.trees.put_named_groups.Given as goal
 
 abbrev pub invariant-loop-group : goal.invariant-loop-group

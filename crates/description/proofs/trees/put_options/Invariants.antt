@@ -1,7 +1,7 @@
 use Rattle.std.proofs.Common.{◌≡◌, ◌++◌, drop, map}
 use Rattle.bpaf_meta.specs.View.{tree_of}
 use Rattle.description.specs.Trees.{option_tree}
-use Rattle.description.specs.View.{opt_said}
+use Rattle.description_parts.specs.View.{opt_said}
 use Rattle.description.proofs.trees.put_options.Given as goal
 
 abbrev pub invariant-loop-option : goal.invariant-loop-option

@@ -1,7 +1,7 @@
 use Rattle.std.proofs.Common.{◌≡◌, ◌++◌, drop, map}
 use Rattle.bpaf_meta.specs.View.{tree_of}
 use Rattle.description.specs.Trees.{positional_tree}
-use Rattle.description.specs.View.{positional_said}
+use Rattle.description_parts.specs.View.{positional_said}
 use Rattle.description.proofs.trees.put_positionals.Given as goal
 
 abbrev pub invariant-loop-positional : goal.invariant-loop-positional

@@ -5,11 +5,11 @@ use Rattle.toml.specs.Data.{as_table}
 use Rattle.toml.specs.View.{table_view, view}
 use Rattle.description.specs.Described.{as_command, as_group, group_of, level_of}
 use Rattle.description.specs.Faults.{IsMemory}
-use Rattle.description.specs.View.{command_said, group_said}
+use Rattle.description_parts.specs.View.{command_said, group_said}
 use Rattle.description.proofs.Depths.{inner_depth, is_table, no_command, no_group}
 use Rattle.description.proofs.Reading.{passed_on}
 use Rattle.description.proofs.Tables.{command_faulty, command_read, commands_read, group_faulty, group_read, groups_read}
-use Rattle.description.proofs.Views.{made-Group, made-Level}
+use Rattle.description_parts.proofs.Views.{made-Group, made-Level}
 use Rattle.description.proofs.decode.levels.+decode.Goals as goal
 
 pub command_from-level_of-requires : goal.command_from-level_of-requires

@@ -2,7 +2,7 @@ use Rattle.std.proofs.Common.{◌+◌, ◌*◌, map}
 use Rattle.toml.specs.Data.{items_depth, members_depth}
 use Rattle.toml.specs.View.{items_view, table_view}
 use Rattle.description.specs.Described.Steps.{lists_depth, lists_seen}
-use Rattle.description.specs.View.{command_said, group_said}
+use Rattle.description_parts.specs.View.{command_said, group_said}
 use Rattle.description.proofs.Tables.{CommandsSoFar, GroupsSoFar}
 use Rattle.description.proofs.decode.levels.+decode.Given as goal
 

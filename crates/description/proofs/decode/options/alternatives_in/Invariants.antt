@@ -1,6 +1,6 @@
 use Rattle.std.proofs.Common.{map}
 use Rattle.description.specs.Described.{alternative_from}
-use Rattle.description.specs.View.{opt_said}
+use Rattle.description_parts.specs.View.{opt_said}
 use Rattle.description.proofs.Tables.{ReadSoFar}
 use Rattle.description.proofs.decode.options.alternatives_in.Given as goal
 

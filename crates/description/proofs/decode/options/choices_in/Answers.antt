@@ -4,7 +4,7 @@ use Rattle.std.proofs.lemmas.List.{map-append}
 use Rattle.toml.specs.Data.{as_table}
 use Rattle.toml.specs.View.{table_view, view}
 use Rattle.description.specs.Described.{choice_from}
-use Rattle.description.specs.View.{choice_said}
+use Rattle.description_parts.specs.View.{choice_said}
 use Rattle.description.proofs.Tables.{table_read}
 use Rattle.description.proofs.decode.options.choices_in.Goals as goal
 

@@ -1,6 +1,6 @@
 use Rattle.std.proofs.Common.{map}
 use Rattle.description.specs.Described.{choice_from}
-use Rattle.description.specs.View.{choice_said}
+use Rattle.description_parts.specs.View.{choice_said}
 use Rattle.description.proofs.Tables.{ReadSoFar}
 use Rattle.description.proofs.decode.options.choices_in.Given as goal
 

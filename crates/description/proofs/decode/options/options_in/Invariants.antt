@@ -1,6 +1,6 @@
 use Rattle.std.proofs.Common.{map}
 use Rattle.description.specs.Described.{option_from}
-use Rattle.description.specs.View.{opt_said}
+use Rattle.description_parts.specs.View.{opt_said}
 use Rattle.description.proofs.Tables.{ReadSoFar}
 use Rattle.description.proofs.decode.options.options_in.Given as goal
 

@@ -1,6 +1,6 @@
 use Rattle.std.proofs.Common.{map}
 use Rattle.description.specs.Described.{positional_from}
-use Rattle.description.specs.View.{positional_said}
+use Rattle.description_parts.specs.View.{positional_said}
 use Rattle.description.proofs.Tables.{ReadSoFar}
 use Rattle.description.proofs.decode.options.positionals_in.Given as goal
 

@@ -3,7 +3,8 @@ use Rattle.std.specs.Prelude.{◌≡◌, IfOk}
 use Rattle.bpaf_meta.specs.Meta.Misplaced.{IsWellPlaced}
 use Rattle.bpaf_meta.specs.View.{tree_of}
 use Rattle.description.specs.Trees.{description_tree, help_tree, level_tree, options_tree}
-use Rattle.description.specs.View.{description_said, opt_said}
+use Rattle.description.specs.View.{description_said}
+use Rattle.description_parts.specs.View.{opt_said}
 use Rattle.description.proofs.Made.{of_same}
 use Rattle.description.proofs.Placed.{level_well_placed}
 use Rattle.description.proofs.descriptions.Description.tree.Goals as goal

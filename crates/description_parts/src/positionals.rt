@@ -1,6 +1,6 @@
 //! Values that are taken by their place.
 ghost use Rattle.std.specs.Prelude.{◌≡◌, Some, None, true, false};
-ghost use Rattle.description.specs.View.{positional_said};
+ghost use Rattle.description_parts.specs.View.{positional_said};
 
 /// A value that is taken by its place. It has to be given if it is `required`, many of it are taken if it is `repeated`, and it
 /// stands behind `--` if it is `strict`.

@@ -1,10 +1,10 @@
 //! Options, and choices among options.
 ghost use Rattle.std.specs.Prelude.{◌≡◌, ◌++◌, ◌∷◌, [], Some, None, true, false, OnErr, OnOk};
 ghost use Rattle.bpaf_meta.specs.Content.{both, long as long_of, short as short_of};
-ghost use Rattle.description.specs.Calls.{plain_option};
-ghost use Rattle.description.specs.View.{choice_said, opt_said};
+ghost use Rattle.description_parts.specs.Calls.{plain_option};
+ghost use Rattle.description_parts.specs.View.{choice_said, opt_said};
 
-use bpaf_help::item::ShortLong;
+use bpaf_meta::item::ShortLong;
 use std::alloc::{AllocError, Allocator, Global};
 
 /// An option: a flag, or with a value an argument. It may be left out unless it is `required`, and be given many times if it

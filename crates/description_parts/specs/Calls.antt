@@ -1,7 +1,7 @@
--- What the calls on the records of a description leave.
+-- What the calls on the parts of a description leave.
 use Rattle.std.specs.Prelude.{ℕ, List, [], ◌∷◌, ◌++◌, true, false, Some, None}
 use Rattle.bpaf_meta.specs.Content.{Name}
-use Rattle.description.specs.Content.{OptSaid, ChoiceSaid, PositionalSaid, LevelSaid, level, GroupsSaid, no_groups, groups, GroupSaid, group, CommandsSaid, no_commands, commands, CommandSaid, command}
+use Rattle.description_parts.specs.Content.{OptSaid, ChoiceSaid, PositionalSaid, LevelSaid, level, GroupsSaid, no_groups, groups, GroupSaid, group, CommandsSaid, no_commands, commands, CommandSaid, command}
 
 -- a flag of which nothing but the name is said
 abbrev pub plain_option : Name → OptSaid

@@ -1,8 +1,8 @@
 //! Levels of a command line: the top, and each command. What stands on one, and groups of it.
 ghost use Rattle.std.specs.Prelude.{◌≡◌, Some, None, true, false, OnErr, OnOk};
-ghost use Rattle.description.specs.Content.{command as command_of};
-ghost use Rattle.description.specs.Calls.{empty_group, empty_level, group_with_choice, group_with_command, group_with_option, group_with_positional, with_about, with_choice, with_command, with_commands_optional, with_footer, with_group, with_header, with_initial, with_command_help, with_option, with_positional, with_usage};
-ghost use Rattle.description.specs.View.{choice_said, command_said, group_said, level_said, opt_said, positional_said};
+ghost use Rattle.description_parts.specs.Content.{command as command_of};
+ghost use Rattle.description_parts.specs.Calls.{empty_group, empty_level, group_with_choice, group_with_command, group_with_option, group_with_positional, with_about, with_choice, with_command, with_commands_optional, with_footer, with_group, with_header, with_initial, with_command_help, with_option, with_positional, with_usage};
+ghost use Rattle.description_parts.specs.View.{choice_said, command_said, group_said, level_said, opt_said, positional_said};
 
 use crate::options::{Choice, Opt};
 use crate::positionals::Positional;

@@ -1,0 +1,55 @@
+-- What the parts of a description say, with no memory in it: names and texts are bytes.
+use Rattle.std.specs.Prelude.{ℕ, List, Bool, Option}
+use Rattle.bpaf_meta.specs.Content.{Name}
+
+-- the content of an `Opt`
+pub record OptSaid : Type 0 where
+  pub name : Name
+  pub value : Option (List ℕ)
+  pub help : Option (List ℕ)
+  pub env : Option (List ℕ)
+  pub required : Bool
+  pub repeated : Bool
+
+-- the content of a `Choice`
+pub record ChoiceSaid : Type 0 where
+  pub options : List OptSaid
+  pub required : Bool
+
+-- the content of a `Positional`
+pub record PositionalSaid : Type 0 where
+  pub value : List ℕ
+  pub help : Option (List ℕ)
+  pub required : Bool
+  pub repeated : Bool
+  pub strict : Bool
+
+-- the texts of a level
+pub record TextsSaid : Type 0 where
+  pub about : Option (List ℕ)
+  pub header : Option (List ℕ)
+  pub footer : Option (List ℕ)
+  pub usage : Option (List ℕ)
+
+mutual
+  -- the content of a `Level`
+  pub data LevelSaid : Type 0 where
+    level : TextsSaid → (command_required : Bool) → List OptSaid → List ChoiceSaid → GroupsSaid → List PositionalSaid → CommandsSaid → LevelSaid
+
+  -- the groups of a level, in order
+  pub data GroupsSaid : Type 0 where
+    no_groups : GroupsSaid
+    groups : GroupSaid → GroupsSaid → GroupsSaid
+
+  -- the content of a `Group`
+  pub data GroupSaid : Type 0 where
+    group : (title : List ℕ) → List OptSaid → List ChoiceSaid → List PositionalSaid → CommandsSaid → GroupSaid
+
+  -- the commands of a level or of a group, in order
+  pub data CommandsSaid : Type 0 where
+    no_commands : CommandsSaid
+    commands : CommandSaid → CommandsSaid → CommandsSaid
+
+  -- the content of a `Command`
+  pub data CommandSaid : Type 0 where
+    command : (name : List ℕ) → (initial : Option ℕ) → (help : Option (List ℕ)) → LevelSaid → CommandSaid

@@ -1,0 +1,10 @@
+//! The parts of a description of a command line, as plain records.
+#![tactic(auto)]
+
+pub mod levels;
+pub mod options;
+pub mod positionals;
+
+pub use levels::{Command, Group, Level};
+pub use options::{Choice, Opt};
+pub use positionals::Positional;
