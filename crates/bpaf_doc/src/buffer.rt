@@ -100,6 +100,16 @@ pub struct Checkpoint {
     bytes: usize,
 }
 
+impl Model for Checkpoint {
+    ghost use Rattle.bpaf_doc.specs.Buffer.Growth.{Reached};
+
+    ghost Value = { Reached };
+
+    ghost view = { λ at. record { parts = at.parts; bytes = at.bytes } };
+
+    ghost inverse = { λ at. record { parts = at.parts; bytes = at.bytes } };
+}
+
 /// A document: styled texts, and marks that start and end blocks. A call that is refused memory answers `AllocError`, and leaves
 /// every document as it was.
 #[derive(Drop)]
@@ -306,8 +316,9 @@ impl<A: Allocator> Doc<A> {
         self.push_empty(Kind::End(Block::InlineBlock))
     }
 
-    /// Adds another document in an inline block, with a first plain text as a title: up to its first newline in emphasis, and
-    /// the rest of it, with the parts behind it, in a section. The parts of a document without that newline follow the title.
+    /// Adds another document in an inline block. Where its first part is a plain text, that is a title: up to its first newline
+    /// in emphasis, and the rest of it, with the parts behind it, in a section; without a newline in it the other parts follow
+    /// the title as they are. Any other document is added as it is.
     pub fn em_doc<B: Allocator>(&mut self, other: &Doc<B>) -> Result<(), AllocError>
         ensures ok { OnOk result (self.new ≡ with_writes self.old (em_doc_writes other.now)) }
         ensures err { OnErr result (self.new ≡ self.old) }
@@ -499,7 +510,7 @@ impl<A: Allocator> Doc<A> {
         }
     }
 
-    /// The part at that place, counted from 0. It makes no walk over the parts before.
+    /// The part at that place, counted from 0; `None` from `len` on. It makes no walk over the parts before.
     pub fn part_at(&self, index: usize) -> Option<Part<'_>>
         ensures { option_map part_of result ≡ slice_get self.now index }
     {

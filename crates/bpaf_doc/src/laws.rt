@@ -54,7 +54,8 @@ pub fn titled_page()
     ensures manual { TitledPageIsManualPage }
 {}
 
-/// The console page as a function of the document has the document's ink and is a layout of it.
+/// The console page as a function of the document has the document's ink and is a layout of it, for each document of UTF-8 texts and
+/// fewer than 2^59 parts.
 pub fn laws_of_exact_page()
     ensures { IsExactPageLayout }
 {}

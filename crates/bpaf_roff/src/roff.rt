@@ -21,11 +21,11 @@ pub enum Font {
     Italic,
 }
 
-/// What goes back to the font before.
+/// The escape that restores the font before.
 pub const RESTORE_FONT: &str = "\\fP";
 
 impl Font {
-    /// What changes to this font.
+    /// The escape that changes to this font: `\fR`, `\fB` or `\fI`.
     pub fn escape(self) -> &'static str
         ensures { result.now ≡ font_escape self }
     {

@@ -92,7 +92,7 @@ impl<R: Read> Watched<R> {
     }
 
     /// All that the reader has left. A read that fails ends it, of whatever kind its error is, and so does a
-    /// growth that is refused: a reader that never ends meets that. In both cases some was read, and is lost.
+    /// growth that is refused: a reader that never ends meets that. In both cases what was read until then is lost.
     pub fn read_all<A: Allocator>(&mut self, alloc: A) -> Result<Vec<u8, A>, ReadError>
         ensures ok { IfOk result (λ bytes.
             ReadsAll (R.remaining self.old.end) (R.remaining self.new.end) bytes.items) }

@@ -1,6 +1,5 @@
 -- How a document grows, and how far it had come.
-use Rattle.std.specs.Prelude.{◌≡◌, List, length}
-use Rattle.bpaf_doc.specs.declared.buffer.Checkpoint.{Checkpoint}
+use Rattle.std.specs.Prelude.{◌≡◌, ℕ, List, length}
 use Rattle.bpaf_doc.specs.Buffer.Parts.{Part, HasUtf8Texts, document_bytes}
 use Rattle.bpaf_doc.specs.Buffer.Writes.{Write, with_writes}
 
@@ -8,16 +7,21 @@ use Rattle.bpaf_doc.specs.Buffer.Writes.{Write, with_writes}
 abbrev pub Grows : List Part → List Part → Type 0
 Grows before now = (writes : List Write) × (now ≡ with_writes before writes)
 
+-- how far a document had come: how many parts it had, and how many bytes of text
+pub record Reached : Type 0 where
+  pub parts : ℕ
+  pub bytes : ℕ
+
 -- a checkpoint of a document counts its parts and the bytes of its texts
-pub record IsCheckpointOf (document : List Part) (at : Checkpoint) : Type 0 where
+pub record IsCheckpointOf (document : List Part) (at : Reached) : Type 0 where
   pub parts : at.parts ≡ length document
   pub bytes : at.bytes ≡ length (document_bytes document)
   pub utf8 : HasUtf8Texts document
 
 -- the document was once at this checkpoint, and was only written to since
-abbrev pub WasAt : Checkpoint → List Part → Type 0
+abbrev pub WasAt : Reached → List Part → Type 0
 WasAt at now = (before : List Part) × IsCheckpointOf before at × Grows before now
 
 -- the document is again as it was at the checkpoint
-abbrev pub RollsBack : Checkpoint → List Part → List Part → Type 0
+abbrev pub RollsBack : Reached → List Part → List Part → Type 0
 RollsBack at now after = (before : List Part) → IsCheckpointOf before at → Grows before now → after ≡ before

@@ -1,6 +1,6 @@
 -- The console page as a function of the document, the width, and full or brief: the rules of docs/console.md, one after another. What
 -- can be looked up by place, as margins and what brief hides, is looked up by the counting definitions of `Margin` and `Shown`.
--- The ink and the laws of `IsLayout` are theorems on this function (`ConsoleLaws`): who believes them need not read it.
+-- The ink and the laws of `IsLayout` are theorems on this function (`Console/Laws`): who believes them need not read it.
 use Rattle.std.specs.Prelude.{ℕ, ◌+◌, ◌-◌, Bool, true, false, not, ◌&&◌, ◌||◌, List, [], ◌∷◌, ◌++◌, codes, take, replicate, min, nat_eq, nat_lt, nat_le, if◌then◌else◌}
 use Rattle.std.specs.List.{ends_with}
 use Rattle.std.specs.Str.{trim_end, bytes_eq}

@@ -11,8 +11,7 @@ use Rattle.bpaf_doc.specs.declared.buffer.Kind.{Kind}
 use Rattle.bpaf_doc.specs.declared.buffer.Kind.TheVariants as kind
 use Rattle.bpaf_doc.specs.declared.buffer.PartEnd.{PartEnd}
 use Rattle.bpaf_doc.specs.Buffer.Steps.Ends.{AreEnds, IsEnd, MayTake, part_with, parts_from, with_last_end}
-use Rattle.bpaf_doc.specs.declared.buffer.Checkpoint.{Checkpoint}
-use Rattle.bpaf_doc.specs.Buffer.Growth.{Grows, IsCheckpointOf}
+use Rattle.bpaf_doc.specs.Buffer.Growth.{Grows, Reached, IsCheckpointOf}
 use Rattle.bpaf_doc.specs.Buffer.Parts.{Part, Text, Start, End, HasUtf8Texts, document_bytes, part_bytes}
 use Rattle.bpaf_doc.specs.Buffer.Writes as write
 use Rattle.bpaf_doc.specs.Buffer.Writes.{Write, part_then_text, same_style, with_text, with_write, with_writes}
@@ -196,7 +195,7 @@ cut_all (p ∷ q ∷ ps) start last (e ∷ f ∷ es) rest at are utf8 h =
     (All-tail (λ part. IsUtf8 (part_bytes part)) p (q ∷ ps) utf8) h.1)
 
 -- a document that only grew since the checkpoint, cut back
-pub is_cut : (es : List PartEnd) (payload : List ℕ) (before : List Part) (at : Checkpoint) → AreEnds 0 es payload → IsCheckpointOf before at → Grows before (parts_from 0 es payload)
+pub is_cut : (es : List PartEnd) (payload : List ℕ) (before : List Part) (at : Reached) → AreEnds 0 es payload → IsCheckpointOf before at → Grows before (parts_from 0 es payload)
     → IsCut 0 at.bytes es payload before
 is_cut es payload before at are was grows =
     cut_all before 0 at.bytes es payload (omega (arith, was.bytes)) are was.utf8 (Extends-Grows before (parts_from 0 es payload) grows)

@@ -1,4 +1,4 @@
--- An HTML page as the code keeps it while it writes one fragment after another. `HtmlPage` says what comes out; that these pages are those is proved
+-- An HTML page as the code keeps it while it writes one fragment after another. `Html/Exact` says what comes out; that these pages are those is proved
 -- (proofs/lemmas/Html/Exact), so this need not be believed.
 use Rattle.std.specs.Prelude.{ℕ, Bool, true, false, ◌&&◌, List, [], ◌∷◌, ◌++◌, flat_map, if◌then◌else◌, codes}
 use Rattle.bpaf_doc.specs.declared.buffer.Block.{Block}

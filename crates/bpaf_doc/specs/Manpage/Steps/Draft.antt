@@ -1,4 +1,4 @@
--- What a page under way holds after each part, as its writer keeps it. `PagePieces` says what comes out; that this comes to it is proved
+-- What a page under way holds after each part, as its writer keeps it. `Manpage/Exact` says what comes out; that this comes to it is proved
 -- (proofs/lemmas/Manpage/Drafts), so this need not be believed.
 use Rattle.std.specs.Prelude.{ℕ, Bool, true, false, List, [], ◌∷◌, ◌++◌, ◌||◌, Option, Some, None, flat_map, fold, codes, if◌then◌else◌}
 use Rattle.std.specs.Str.{str_to_ascii_uppercase}

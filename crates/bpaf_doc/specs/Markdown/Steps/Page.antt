@@ -1,4 +1,4 @@
--- A markdown text as the code keeps it while it writes one fragment after another. `MarkdownPage` says what comes out; that these texts are those is proved
+-- A markdown text as the code keeps it while it writes one fragment after another. `Markdown/Exact` says what comes out; that these texts are those is proved
 -- (proofs/lemmas/Markdown/Exact), so this need not be believed.
 use Rattle.std.specs.Prelude.{ℕ, ◌+◌, ◌-◌, ◌^◌, ◌==◌, Bool, true, false, List, [], ◌∷◌, ◌++◌, flat_map, if◌then◌else◌, codes, nat_lt, min}
 use Rattle.bpaf_doc.specs.declared.buffer.Style.{Style}
