@@ -34,7 +34,7 @@ pub fn key_once()
     ensures { KeyOnce }
 {}
 
-/// Under a heading fall the entries that the walk over the list gives of those outside groups.
+/// Of the entries outside groups, those that fall under a heading are those that `items_of_ty` gives for it.
 #[tactic(auto, using(crate::proofs::Listing::Headings::headings_agree))]
 pub fn headings_agree()
     ensures { HeadingsAgree }
@@ -58,7 +58,8 @@ pub fn groups_are_nested()
     ensures groups { GroupsAreNested }
 {}
 
-/// The groups of an item list can be taken out one after another: its members are those of the groups, in order.
+/// The groups of an item list can be taken out one after another: without its first group it has the other groups, in order, and
+/// the same entries outside groups, until `find_group` is `None`.
 pub fn groups_are_taken_out()
     ensures { GroupsAreTakenOut }
 {}

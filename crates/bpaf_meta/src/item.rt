@@ -26,15 +26,18 @@ pub enum ShortLong {
 #[derive(Drop)]
 #[derive_where(Debug)]
 pub enum Item<A: Allocator = Global> {
+    /// Anything that fits, shown as a document. With `anywhere` it may stand among the named items.
     Any {
         metavar: Doc<A>,
         anywhere: bool,
         help: Option<Doc<A>>,
     },
+    /// A value that is taken by its place.
     Positional {
         metavar: Metavar,
         help: Option<Doc<A>>,
     },
+    /// A command, with a command line of its own and the texts around its help page.
     Command {
         name: &'static str,
         short: Option<char>,
@@ -42,12 +45,14 @@ pub enum Item<A: Allocator = Global> {
         meta: Box<Meta<A>, A>,
         info: Box<Info<A>, A>,
     },
+    /// A name without a value. `shorts` are all its short names, and `env` a variable that stands for it.
     Flag {
         name: ShortLong,
         shorts: Vec<char, A>,
         env: Option<&'static str>,
         help: Option<Doc<A>>,
     },
+    /// A name with a value behind it.
     Argument {
         name: ShortLong,
         shorts: Vec<char, A>,
@@ -82,7 +87,7 @@ impl<A: Allocator> Item<A> {
 }
 
 impl<A: Allocator + Copy> Item<A> {
-    /// The item as a tree, inside `Optional` for false.
+    /// The item as a tree, inside `Optional` for false. After `AllocError` the item is dropped.
     pub fn required(self, alloc: A, required: bool) -> Result<Meta<A>, AllocError>
         ensures { IfOk result (λ m. tree_of m ≡ (if required then item (leaf_of self) else optional (item (leaf_of self)))) }
     {

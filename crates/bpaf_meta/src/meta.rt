@@ -24,17 +24,28 @@ use std::alloc::{AllocError, Allocator, Global};
 #[derive(Drop)]
 #[derive_where(Debug)]
 pub enum Meta<A: Allocator = Global> {
+    /// All of them.
     And(Vec<Meta<A>, A>),
+    /// One of them.
     Or(Vec<Meta<A>, A>),
+    /// It may be left out.
     Optional(Box<Meta<A>, A>),
+    /// Shown between parentheses where it has several parts.
     Required(Box<Meta<A>, A>),
+    /// Its items stand next to each other. A help page lists them as a block.
     Adjacent(Box<Meta<A>, A>),
     Item(Box<Item<A>, A>),
+    /// Once or more.
     Many(Box<Meta<A>, A>),
+    /// A group of the help page, under this title.
     Subsection(Box<Meta<A>, A>, Box<Doc<A>, A>),
+    /// On the help page this note follows its items.
     Suffix(Box<Meta<A>, A>, Box<Doc<A>, A>),
+    /// Nothing.
     Skip,
+    /// A usage line shows this document in its place, and nothing where the document has no parts.
     CustomUsage(Box<Meta<A>, A>, Box<Doc<A>, A>),
+    /// It has to stand behind `--`.
     Strict(Box<Meta<A>, A>),
 }
 
@@ -94,7 +105,7 @@ impl<A: Allocator> Meta<A> {
 }
 
 impl<A: Allocator + Copy> Meta<A> {
-    /// The item as a tree.
+    /// The item as a tree. After `AllocError` the item is dropped.
     pub fn from_item(alloc: A, item: Item<A>) -> Result<Meta<A>, AllocError>
         ensures { IfOk result (λ m. tree_of m ≡ item_of (leaf_of item)) }
     {
@@ -164,7 +175,7 @@ impl<A: Allocator + Copy> Meta<A> {
     /// The normal form of the tree, for a usage line or outside: made beside it, so that nothing in it changes.
     ///
     /// No `Adjacent`, `Subsection` or `Suffix` is left, and one name of each item. What is in no usage line is left out:
-    /// an answer `Skip` says that nothing is shown.
+    /// an answer `Skip` says that nothing is shown. An `AllocError` says that a growth was refused.
     pub fn normalized(&self, for_usage: bool) -> Result<Meta<A>, AllocError>
         ensures form { IfOk result (λ m. tree_of m ≡ normalized for_usage (tree_of self.now)) }
         ensures shape { IfOk result (λ m. HasUsageShape for_usage (tree_of m)) }
@@ -208,7 +219,7 @@ impl<A: Allocator + Copy> Meta<A> {
 
 impl<A: Allocator + Copy> Meta<A> {
     /// The alternatives of both: an `Or` gives its parts, `Skip` none, any other tree itself. None is `Skip`, one stands
-    /// alone, more are an `Or`.
+    /// alone, more are an `Or`. After `AllocError` both trees are dropped.
     #[tactic(auto, using(crate::proofs::lemmas::Normal::Parts::trees_of_append))]
     pub fn or(self, other: Meta<A>) -> Result<Meta<A>, AllocError>
         ensures { IfOk result (λ m. tree_of m ≡ either_form (tree_of self) (tree_of other)) }

@@ -15,9 +15,13 @@ pub struct Metavar(pub &'static str);
 #[derive(Drop)]
 #[derive_where(Debug)]
 pub struct Info<A: Allocator = Global> {
+    /// What the program does: the page begins with it.
     pub descr: Option<Doc<A>>,
+    /// Stands between the usage and the lists.
     pub header: Option<Doc<A>>,
+    /// Stands last.
     pub footer: Option<Doc<A>>,
+    /// Stands in place of the usage.
     pub usage: Option<Doc<A>>,
     pub help: Meta<A>,
 }

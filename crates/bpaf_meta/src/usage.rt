@@ -20,10 +20,9 @@ use bpaf_doc::buffer::{Block, Doc, Style, Token};
 use std::alloc::{AllocError, Allocator};
 use unicode::properties::is_uppercase;
 
-// Each public call leaves the document as it was where it answers `AllocError`: what was written before the growth that was
-// refused is taken back. The functions below them leave what they wrote.
+// What a public call wrote before a growth was refused is taken back. The functions below them leave what they wrote.
 
-/// Writes `-` and the short name, or `--` and the long name where there is one.
+/// Writes `-` and the short name, or `--` and the long name where there is one. After `AllocError` the document is as it was.
 pub fn write_shortlong<A: Allocator>(doc: &mut Doc<A>, name: &ShortLong) -> Result<(), AllocError>
     ensures ok { OnOk result (doc.new ≡ with_writes doc.old (name_writes (name_of name.now))) }
     ensures err { OnErr result (doc.new ≡ doc.old) }
@@ -38,7 +37,7 @@ pub fn write_shortlong<A: Allocator>(doc: &mut Doc<A>, name: &ShortLong) -> Resu
 }
 
 /// Writes the name of a value: bare where it is made of uppercase characters, ASCII digits, `-` and `_` alone, and else
-/// between `<` and `>`.
+/// between `<` and `>`. After `AllocError` the document is as it was.
 pub fn metavar<A: Allocator>(doc: &mut Doc<A>, name: Metavar) -> Result<(), AllocError>
     ensures ok { OnOk result (doc.new ≡ with_writes doc.old (metavar_writes name.0.now)) }
     ensures err { OnErr result (doc.new ≡ doc.old) }
@@ -53,7 +52,7 @@ pub fn metavar<A: Allocator>(doc: &mut Doc<A>, name: Metavar) -> Result<(), Allo
 }
 
 /// Writes an item: the name of a flag, the name of an argument with `=` and its value, the name of a positional value, the
-/// document of an `Any`, and `COMMAND ...` for each command.
+/// document of an `Any`, and `COMMAND ...` for each command. After `AllocError` the document is as it was.
 pub fn write_item<A: Allocator, B: Allocator>(
     doc: &mut Doc<A>,
     item: &Item<B>,
@@ -70,7 +69,8 @@ pub fn write_item<A: Allocator, B: Allocator>(
     written
 }
 
-/// Writes the normal form of a tree, between the marks of a `Mono` block.
+/// Writes the normal form of a tree, between the marks of a `Mono` block (`docs/tree.md`). The form takes memory where the tree
+/// stands. After `AllocError` the document is as it was.
 pub fn write_meta<A: Allocator, B: Allocator + Copy>(
     doc: &mut Doc<A>,
     meta: &Meta<B>,
@@ -84,7 +84,7 @@ pub fn write_meta<A: Allocator, B: Allocator + Copy>(
     write_form(doc, &form)
 }
 
-/// `write_meta` of the tree.
+/// `write_meta` of the tree, with the same error.
 pub fn meta<A: Allocator, B: Allocator + Copy>(
     doc: &mut Doc<A>,
     meta: MetaInfo<'_, B>,

@@ -46,6 +46,8 @@ def faults(table, kind, alternative):
     if kind in ["option", "command"]:
         for text in ["", "ab", "日本"]:
             yield {"short": text}, [], "short is not one character"
+        for text in ["-", "=", " "]:
+            yield {"short": text}, [], "short is no short name"
 
 
 def planted(table, random):

@@ -26,7 +26,7 @@ use watched::Watched;
 /// Reads all that the reader has left, as a description in TOML, and writes its page and nothing more.
 /// The whole page is made before the first write, so that an error other than `Write` leaves the writer
 /// as it was. The tables of the TOML, the description and its names are kept in `global`, and what is
-/// read and the page in `alloc`.
+/// read and the page in `alloc`. The names are never freed, so each call keeps its own.
 ///
 /// `Read` comes exactly where a read failed, `Write` exactly where a write failed or took nothing, and
 /// the faults of the input only where all was read: `NotUtf8` where it is no text, `NotToml` where it is

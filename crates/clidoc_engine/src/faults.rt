@@ -15,7 +15,7 @@ pub enum Fault {
     /// What was read is no text.
     #[error("clidoc: input is not UTF-8")]
     NotUtf8,
-    /// The text is no TOML: the place where its reader stopped, and why.
+    /// The text is no TOML: the place where the error begins, and why.
     #[error("clidoc: line {}, column {}: {}", .place.line, .place.column, .error.message())]
     NotToml {
         place: Place,

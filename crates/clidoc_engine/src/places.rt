@@ -3,7 +3,7 @@
 ghost use Rattle.std.specs.Prelude.{◌≡◌};
 ghost use Rattle.clidoc_engine.specs.Places.{begins_character, column_behind, line_behind};
 
-/// A place in a text, by its line and its column. Both are counted from 1.
+/// A place in a text, by its line and its column. Both are counted from 1, and a column is a character.
 #[derive(Clone, Copy, Debug, PartialEq, Eq)]
 pub struct Place {
     pub line: usize,

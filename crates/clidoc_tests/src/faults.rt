@@ -5,7 +5,7 @@ use std::process::ExitCode;
 use std::test::Fail;
 
 // An input, and the line that is said of it.
-const ROWS: [(&[u8], &str); 15] = [
+const ROWS: [(&[u8], &str); 17] = [
     // No text, and no TOML.
     (b"name = 'app\xff'\n", "clidoc: input is not UTF-8\n"),
     (
@@ -30,12 +30,20 @@ const ROWS: [(&[u8], &str); 15] = [
         "clidoc: description: no key lnog is known here\n",
     ),
     (
+        b"name = 'app'\n\"a\\nb\" = 1\n",
+        "clidoc: description: no key \"a\\nb\" is known here\n",
+    ),
+    (
         b"name = 'app'\n[[positional]]\n",
         "clidoc: positional 1: value is missing\n",
     ),
     (
         b"name = 'app'\n[[option]]\nshort = 'vv'\n",
         "clidoc: option 1: short is not one character\n",
+    ),
+    (
+        b"name = 'app'\n[[option]]\nshort = '-'\n",
+        "clidoc: option 1: short is no short name\n",
     ),
     (
         b"name = 'app'\n[[option]]\nlong = 'v'\nhelp = 1\n",

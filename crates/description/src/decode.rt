@@ -48,11 +48,12 @@ const DESCRIPTION_KEYS: [&str; 16] = [
 ];
 
 impl<'a, A: Allocator + Copy> Description<'a, A> {
-    /// The description that the table of a TOML text gives. Its texts are those of the table; its names are kept in `names`.
+    /// The description that the table of a TOML text gives (`docs/description.md`). Its texts are those of the table; its names, its
+    /// words for values and a TOML date are kept in `names` for good, also those that were read before an error.
     ///
-    /// After `Memory` a growth was refused. `Content` comes exactly where the table is no description, and says of the first fault
-    /// where it is: in a table first a key that is not known, then its keys in the order of the table of keys, then a name that is
-    /// taken, then the tables inside it.
+    /// `Memory` says that a growth was refused, and nothing of the table. While memory lasts, `Content` comes exactly where the table is
+    /// no description, and tells where the first fault is: in a table first a key that is not known, then its keys in the order of
+    /// `docs/description.md`, then a name that is taken, then the tables inside it.
     pub fn from_table(
         alloc: A,
         names: &mut Names,

@@ -72,7 +72,7 @@ impl<'a, A: Allocator> Description<'a, A> {
         self
     }
 
-    /// Puts an option that asks for help last. After `AllocError` the description is as it was.
+    /// Puts an option that asks for help last. After `AllocError` the description is as it was, and what was given is dropped.
     pub fn help_option(&mut self, option: Opt<'a>) -> Result<(), AllocError>
         ensures ok { OnOk result (description_said self.new ≡ record (description_said self.old) { help_options = (description_said self.old).help_options ++ opt_said option.entry ∷ [] }) }
         ensures err { OnErr result (description_said self.new ≡ description_said self.old) }

@@ -7,6 +7,8 @@ pub mod laws;
 mod pages;
 mod trees;
 
+pub use bpaf_help::item::ShortLong;
+pub use bpaf_help::pages::Section;
 pub use decode::DescriptionError;
 pub use description_parts::{
     Choice, Command, Group, Level, Opt, Positional, levels, options, positionals,

@@ -114,7 +114,7 @@ impl<'a, A: Allocator> Level<'a, A> {
         self
     }
 
-    /// Puts an option last among those of the level. After `AllocError` the level is as it was.
+    /// Puts an option last among those of the level. After `AllocError` the level is as it was, and what was given is dropped.
     pub fn option(&mut self, option: Opt<'a>) -> Result<(), AllocError>
         ensures ok { OnOk result (level_said self.new ≡ with_option (level_said self.old) (opt_said option.entry)) }
         ensures err { OnErr result (level_said self.new ≡ level_said self.old) }
@@ -123,7 +123,7 @@ impl<'a, A: Allocator> Level<'a, A> {
         Ok(())
     }
 
-    /// Puts a choice last among those of the level. After `AllocError` the level is as it was.
+    /// Puts a choice last among those of the level. After `AllocError` the level is as it was, and what was given is dropped.
     pub fn choice(&mut self, choice: Choice<'a, A>) -> Result<(), AllocError>
         ensures ok { OnOk result (level_said self.new ≡ with_choice (level_said self.old) (choice_said choice.entry)) }
         ensures err { OnErr result (level_said self.new ≡ level_said self.old) }
@@ -132,7 +132,7 @@ impl<'a, A: Allocator> Level<'a, A> {
         Ok(())
     }
 
-    /// Puts a group last among those of the level. After `AllocError` the level is as it was.
+    /// Puts a group last among those of the level. After `AllocError` the level is as it was, and what was given is dropped.
     pub fn group(&mut self, group: Group<'a, A>) -> Result<(), AllocError>
         ensures ok { OnOk result (level_said self.new ≡ with_group (level_said self.old) (group_said group.entry)) }
         ensures err { OnErr result (level_said self.new ≡ level_said self.old) }
@@ -141,7 +141,7 @@ impl<'a, A: Allocator> Level<'a, A> {
         Ok(())
     }
 
-    /// Puts a positional value last among those of the level. After `AllocError` the level is as it was.
+    /// Puts a positional value last among those of the level. After `AllocError` the level is as it was, and what was given is dropped.
     pub fn positional(&mut self, positional: Positional<'a>) -> Result<(), AllocError>
         ensures ok { OnOk result (level_said self.new ≡ with_positional (level_said self.old) (positional_said positional.entry)) }
         ensures err { OnErr result (level_said self.new ≡ level_said self.old) }
@@ -150,7 +150,7 @@ impl<'a, A: Allocator> Level<'a, A> {
         Ok(())
     }
 
-    /// Puts a command last among those of the level. After `AllocError` the level is as it was.
+    /// Puts a command last among those of the level. After `AllocError` the level is as it was, and what was given is dropped.
     pub fn command(&mut self, command: Command<'a, A>) -> Result<(), AllocError>
         ensures ok { OnOk result (level_said self.new ≡ with_command (level_said self.old) (command_said command.entry)) }
         ensures err { OnErr result (level_said self.new ≡ level_said self.old) }
@@ -176,7 +176,7 @@ impl<'a, A: Allocator + Copy> Group<'a, A> {
 }
 
 impl<'a, A: Allocator> Group<'a, A> {
-    /// Puts an option last among those of the group. After `AllocError` the group is as it was.
+    /// Puts an option last among those of the group. After `AllocError` the group is as it was, and what was given is dropped.
     pub fn option(&mut self, member: Opt<'a>) -> Result<(), AllocError>
         ensures ok { OnOk result (group_said self.new ≡ group_with_option (group_said self.old) (opt_said member.entry)) }
         ensures err { OnErr result (group_said self.new ≡ group_said self.old) }
@@ -185,7 +185,7 @@ impl<'a, A: Allocator> Group<'a, A> {
         Ok(())
     }
 
-    /// Puts a choice last among those of the group. After `AllocError` the group is as it was.
+    /// Puts a choice last among those of the group. After `AllocError` the group is as it was, and what was given is dropped.
     pub fn choice(&mut self, member: Choice<'a, A>) -> Result<(), AllocError>
         ensures ok { OnOk result (group_said self.new ≡ group_with_choice (group_said self.old) (choice_said member.entry)) }
         ensures err { OnErr result (group_said self.new ≡ group_said self.old) }
@@ -194,7 +194,7 @@ impl<'a, A: Allocator> Group<'a, A> {
         Ok(())
     }
 
-    /// Puts a positional value last among those of the group. After `AllocError` the group is as it was.
+    /// Puts a positional value last among those of the group. After `AllocError` the group is as it was, and what was given is dropped.
     pub fn positional(&mut self, member: Positional<'a>) -> Result<(), AllocError>
         ensures ok { OnOk result (group_said self.new ≡ group_with_positional (group_said self.old) (positional_said member.entry)) }
         ensures err { OnErr result (group_said self.new ≡ group_said self.old) }
@@ -203,7 +203,7 @@ impl<'a, A: Allocator> Group<'a, A> {
         Ok(())
     }
 
-    /// Puts a command last among those of the group. After `AllocError` the group is as it was.
+    /// Puts a command last among those of the group. After `AllocError` the group is as it was, and what was given is dropped.
     pub fn command(&mut self, member: Command<'a, A>) -> Result<(), AllocError>
         ensures ok { OnOk result (group_said self.new ≡ group_with_command (group_said self.old) (command_said member.entry)) }
         ensures err { OnErr result (group_said self.new ≡ group_said self.old) }

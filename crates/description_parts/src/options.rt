@@ -117,7 +117,7 @@ impl<'a, A: Allocator> Choice<'a, A> {
         }
     }
 
-    /// Puts an option last. After `AllocError` the choice is as it was.
+    /// Puts an option last. After `AllocError` the choice is as it was, and what was given is dropped.
     pub fn option(&mut self, option: Opt<'a>) -> Result<(), AllocError>
         ensures ok { OnOk result (choice_said self.new ≡ record (choice_said self.old) { options = (choice_said self.old).options ++ opt_said option.entry ∷ [] }) }
         ensures err { OnErr result (choice_said self.new ≡ choice_said self.old) }

@@ -104,19 +104,12 @@ fn manual(alloc: Global, title: &Title, tree: &Meta, info: &Info) -> Result<Stri
         alloc,
         title.name.as_str(),
         section_of(title.section.as_str()),
-        text_of(&title.date),
-        text_of(&title.vendor),
-        text_of(&title.title),
+        title.date.as_deref(),
+        title.vendor.as_deref(),
+        title.title.as_deref(),
         tree,
         info,
     )
-}
-
-fn text_of(text: &Option<String>) -> Option<&str> {
-    match text {
-        Some(text) => Some(text.as_str()),
-        None => None,
-    }
 }
 
 fn section_of(text: &str) -> Section<'_> {

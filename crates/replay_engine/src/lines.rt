@@ -32,7 +32,9 @@ impl Model for Lines {
 
 impl Lines {
     /// No line.
-    pub fn new(alloc: Global) -> Lines {
+    pub fn new(alloc: Global) -> Lines
+        ensures { result ≡ [] }
+    {
         Lines {
             alloc,
             text: String::new(alloc),

@@ -12,8 +12,8 @@ use std::io;
 use std::io::{ErrorKind, Read, Write};
 use std::marker::Model;
 
-/// An end, a reader or a writer, with a mark that a call on it has failed. Only `read` and `write`
-/// set the mark, and nothing clears it.
+/// An end, a reader or a writer, with a mark that a call on it has failed. Only calls that read or
+/// write set the mark, and nothing clears it.
 #[derive(Drop)]
 pub struct Watched<E> {
     inner: E,

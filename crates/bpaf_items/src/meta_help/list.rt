@@ -88,8 +88,9 @@ impl<'a, A: Allocator, L: Allocator> HelpItems<'a, A, L> {
         Some(start..=end)
     }
 
-    /// The entries of a heading, in order: marks of that type, outside blocks the items and notes of that type, in a group of
-    /// that type all of it, and in an adjacent block of that type what has help, notes too. It takes no memory.
+    /// The entries of a heading, in order. A mark goes by its own type. Any other entry goes by the last mark before it: behind the
+    /// start of a group by the type of the group, behind that of an adjacent block by the type of the block, and then only with
+    /// help, and else by its own type. A note counts as an item with help. It takes no memory.
     pub fn items_of_ty(&self, ty: HiTy) -> HelpItemsIter<'a, '_, A>
         ensures { result ≡ items_of_type self.now ty }
     {

@@ -11,7 +11,9 @@ use std::alloc::Allocator;
 
 impl<A: Allocator> Meta<A> {
     /// Whether each named item stands before the positional ones of its line. The `Err` is the first item that does not, in
-    /// tree order. An `Adjacent` that begins with a named item, and a command's own tree, are checked alone.
+    /// tree order, which has the items of a command's own tree right behind the command. An `Adjacent` that begins with a named
+    /// item is checked alone, and so is the own tree of each command that is reached; inside an `Adjacent` without a first item
+    /// nothing is looked at (`docs/tree.md`). It takes no memory.
     pub fn positional_invariant_check(&self) -> Result<(), &Item<A>>
         ensures ok { OnOk result (IsWellPlaced (tree_of self.now)) }
         ensures err { IfErr result (λ i. IsFirstMisplaced (tree_of self.now) (leaf_of i.now)) }

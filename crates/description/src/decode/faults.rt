@@ -95,10 +95,20 @@ impl<'p, A: Allocator + Copy> Place<'p, A> {
     fn message(&self, before: &str, name: &str, after: &str) -> Result<String<A>, AllocError> {
         let mut text = String::new(self.alloc());
         put_way(&mut text, self)?;
-        for part in [": ", before, name, after] {
-            text.push_str(part)?;
-        }
+        text.push_str(": ")?;
+        text.push_str(before)?;
+        put_name(&mut text, name)?;
+        text.push_str(after)?;
         Ok(text)
+    }
+}
+
+// Writes a name, quoted where it has a control character: what is said stays one line.
+fn put_name<A: Allocator>(text: &mut String<A>, name: &str) -> Result<(), AllocError> {
+    if name.chars().any(|character| character.is_control()) {
+        write!(text, "{name:?}").map_err(|_| AllocError)
+    } else {
+        text.push_str(name)
     }
 }
 

@@ -180,7 +180,8 @@ pub fn short_at<A: Allocator + Copy>(
     };
     match only_character(text) {
         Some(short) if is_short(short) => Ok(Some(short)),
-        _ => Err(at.fault("", key, " is not one character")),
+        Some(_) => Err(at.fault("", key, " is no short name")),
+        None => Err(at.fault("", key, " is not one character")),
     }
 }
 
