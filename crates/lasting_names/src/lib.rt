@@ -1,10 +1,12 @@
 //! Texts that last as long as the program.
 #![tactic(auto)]
 
-ghost use Rattle.std.specs.Prelude.{◌≡◌, IfOk};
+ghost use Rattle.std.specs.Prelude.{◌≡◌, [], IfOk, OnOk, OnErr};
+ghost use Rattle.lasting_names.specs.Kept.{KeepsTheSame, KeepsAlso, EachOnce};
 
 use std::alloc::{AllocError, Allocator, Global};
 use std::collections::HashSet;
+use std::marker::Model;
 use std::str;
 
 /// Texts that were asked for, each kept once: an item of a command line holds its names as texts that last as long as the program.
@@ -15,9 +17,25 @@ pub struct Names {
     kept: HashSet<&'static str>,
 }
 
+/// Contracts see the texts that are kept, each as its bytes.
+impl Model for Names {
+    ghost use Rattle.std.specs.Prelude.{List, ℕ, map};
+    ghost use Rattle.std.specs.HashSet.{IsUnique};
+    ghost use Rattle.std.specs.Str.{bytes_eq};
+
+    ghost Value = { List (List ℕ) };
+
+    ghost view = { λ n. map (λ k. k.now) n.kept.keys };
+
+    // No two keys are equal, as the set itself promises.
+    ghost invariant = { λ n. IsUnique (λ x y. bytes_eq x.now y.now) n.kept };
+}
+
 impl Names {
     /// No text yet. It takes no memory.
-    pub fn new(alloc: Global) -> Names {
+    pub fn new(alloc: Global) -> Names
+        ensures { result ≡ [] }
+    {
         Names {
             alloc,
             kept: HashSet::new(alloc),
@@ -25,8 +43,12 @@ impl Names {
     }
 
     /// The text as one that lasts: the one that was kept when it was first asked for.
+    /// `AllocError` comes where a growth was refused, and then the kept texts are as they were.
     pub fn get(&mut self, text: &str) -> Result<&'static str, AllocError>
-        ensures { IfOk result (λ name. name.now ≡ text.now) }
+        ensures text { IfOk result (λ name. name.now ≡ text.now) }
+        ensures ok { OnOk result (KeepsAlso text.now self.old self.new) }
+        ensures err { OnErr result (KeepsTheSame self.old self.new) }
+        ensures once { EachOnce self.new }
     {
         if let Some(known) = self.kept.get(text) {
             return Ok(*known);
