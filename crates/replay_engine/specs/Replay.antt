@@ -15,10 +15,6 @@ pub data AreAnswers : List ℕ → Type 0 where
   none : {answers : List ℕ} → answers ≡ [] → AreAnswers answers
   line : {answers : List ℕ} (before text : List ℕ) → answers ≡ before ++ (codes "= " ++ text ++ 10 ∷ []) → AreAnswers before → IsOneLine text → AreAnswers answers
 
--- one answer line more, behind those before
-abbrev pub AddsLine : List ℕ → List ℕ → Type 0
-AddsLine before after = (text : List ℕ) × (after ≡ before ++ (codes "= " ++ text ++ 10 ∷ []))
-
 -- an empty line, or one that begins with `#`
 abbrev pub is_passed_over : List ℕ → Bool
 is_passed_over [] = true

@@ -1,8 +1,8 @@
 //! Answer lines.
 
-ghost use Rattle.std.specs.Prelude.{◌≡◌, ◌++◌, [], ℕ, List, IfOk, OnOk, OnErr, codes, string_bytes};
+ghost use Rattle.std.specs.Prelude.{◌≡◌, ◌++◌, [], ◌∷◌, ℕ, List, IfOk, OnOk, OnErr, codes, string_bytes};
 ghost use Rattle.std.specs.List.{list_any};
-ghost use Rattle.replay_engine.specs.Replay.{AddsLine, AreAnswers, is_newline};
+ghost use Rattle.replay_engine.specs.Replay.{AreAnswers, is_newline};
 
 use crate::fault::{Answer, Bad};
 use std::alloc::Global;
@@ -44,7 +44,7 @@ impl Lines {
 
     /// Adds the line of an answer. One with a newline is refused, and after an error the lines are as they were.
     pub fn add(&mut self, key: &str, answer: String) -> Result<(), Bad>
-        ensures ok { OnOk result (AddsLine self.old self.new) }
+        ensures ok { OnOk result ((text : List ℕ) × (self.new ≡ self.old ++ (codes "= " ++ text ++ 10 ∷ []))) }
         ensures err { OnErr result (self.new ≡ self.old) }
     {
         if self.last.as_deref() == Some(answer.as_str()) {
@@ -57,7 +57,7 @@ impl Lines {
 
     // Adds a line, all of it or none.
     fn add_line(&mut self, key: &str, answer: &str) -> Result<(), Bad>
-        ensures ok { OnOk result (AddsLine self.old self.new) }
+        ensures ok { OnOk result ((text : List ℕ) × (self.new ≡ self.old ++ (codes "= " ++ text ++ 10 ∷ []))) }
         ensures err { OnErr result (self.new ≡ self.old) }
     {
         let mut line = answer_line(self.alloc, key, answer)?;
