@@ -1,9 +1,10 @@
 //! The check that no named item stands after a positional one.
 ghost use Rattle.std.specs.Prelude.{◌≡◌, OnOk, IfErr};
+ghost use Rattle.std.specs.Option.{option_map};
 ghost use Rattle.bpaf_meta.specs.View.{tree_of, trees_of, leaf_of};
-ghost use Rattle.bpaf_meta.specs.Meta.Misplaced.{IsWellPlaced, IsFirstMisplaced};
+ghost use Rattle.bpaf_meta.specs.Meta.Misplaced.{IsWellPlaced, IsFirstMisplaced, first_item, first_item_of_parts};
 ghost use Rattle.bpaf_meta.specs.Content.{item as item_of};
-ghost use Rattle.bpaf_meta.specs.Meta.Steps.Walk.{check_of, walked, walked_within, walked_parts, walked_branches};
+ghost use Rattle.bpaf_meta.specs.Meta.Steps.Walk.{IsKnown, check_of, walked, walked_within, walked_parts, walked_branches};
 
 use crate::item::Item;
 use crate::meta::Meta;
@@ -18,30 +19,36 @@ impl<A: Allocator> Meta<A> {
         ensures ok { OnOk result (IsWellPlaced (tree_of self.now)) }
         ensures err { IfErr result (λ i. IsFirstMisplaced (tree_of self.now) (leaf_of i.now)) }
     {
-        match walk(self, false) {
+        match walk(self, None, false) {
             Ok(_) => Ok(()),
             Err(item) => Err(item),
         }
     }
 }
 
-// Goes through a tree with a mark, whether a positional item was seen. Answers the mark afterwards.
+// Goes through a tree with a mark, whether a positional item was seen. Answers the mark afterwards. The tree's first item is `known`
+// where an `Adjacent` around it has looked for it: so each one is looked for once, however many stand around it.
 #[cycle(walk)]
-fn walk<A: Allocator>(meta: &Meta<A>, seen: bool) -> Result<bool, &Item<A>>
+fn walk<'a, A: Allocator>(
+    meta: &'a Meta<A>,
+    known: Option<&'a Item<A>>,
+    seen: bool,
+) -> Result<bool, &'a Item<A>>
+    requires known { IsKnown known (first_item (tree_of meta.now)) }
     ensures { check_of result ≡ walked (tree_of meta.now) seen }
 {
     match meta {
-        Meta::And(parts) => walk_parts(parts, seen),
+        Meta::And(parts) => walk_parts(parts, known, seen),
         Meta::Or(parts) => walk_branches(parts, seen),
         Meta::Item(item) => walk_item(item, seen),
         Meta::Skip => Ok(seen),
-        Meta::Adjacent(inner) => match inner.first_item() {
+        Meta::Adjacent(inner) => match first_of(inner, known) {
             None => Ok(seen),
             Some(first) => {
                 if first.is_pos() {
-                    walk(inner, seen)
+                    walk(inner, Some(first), seen)
                 } else {
-                    walk(inner, false)?;
+                    walk(inner, Some(first), false)?;
                     Ok(seen)
                 }
             }
@@ -52,7 +59,18 @@ fn walk<A: Allocator>(meta: &Meta<A>, seen: bool) -> Result<bool, &Item<A>>
         | Meta::Subsection(inner, _)
         | Meta::Suffix(inner, _)
         | Meta::CustomUsage(inner, _)
-        | Meta::Strict(inner) => walk(inner, seen),
+        | Meta::Strict(inner) => walk(inner, known, seen),
+    }
+}
+
+// The first item of a tree, which is looked for where it is not known yet.
+fn first_of<'a, A: Allocator>(meta: &'a Meta<A>, known: Option<&'a Item<A>>) -> Option<&'a Item<A>>
+    requires known { IsKnown known (first_item (tree_of meta.now)) }
+    ensures { option_map (λ i. leaf_of i.now) result ≡ first_item (tree_of meta.now) }
+{
+    match known {
+        Some(_) => known,
+        None => meta.first_item(),
     }
 }
 
@@ -65,18 +83,25 @@ fn walk_item<A: Allocator>(item: &Item<A>, seen: bool) -> Result<bool, &Item<A>>
         return Err(item);
     }
     if let Item::Command { meta, .. } = item {
-        walk(meta, false)?;
+        walk(meta, None, false)?;
     }
     Ok(seen || is_positional)
 }
 
 #[cycle(walk)]
-fn walk_parts<A: Allocator>(parts: &Vec<Meta<A>, A>, seen: bool) -> Result<bool, &Item<A>>
+fn walk_parts<'a, A: Allocator>(
+    parts: &'a Vec<Meta<A>, A>,
+    known: Option<&'a Item<A>>,
+    seen: bool,
+) -> Result<bool, &'a Item<A>>
+    requires known { IsKnown known (first_item_of_parts (trees_of parts.now.items)) }
     ensures { check_of result ≡ walked_parts (trees_of parts.now.items) seen }
 {
     let mut running = seen;
+    let mut known = known;
     for part in parts {
-        running = walk(part, running)?;
+        running = walk(part, known, running)?;
+        known = None;
     }
     Ok(running)
 }
@@ -88,7 +113,7 @@ fn walk_branches<A: Allocator>(branches: &Vec<Meta<A>, A>, seen: bool) -> Result
 {
     let mut after = seen;
     for branch in branches {
-        after |= walk(branch, seen)?;
+        after |= walk(branch, None, seen)?;
     }
     Ok(after)
 }

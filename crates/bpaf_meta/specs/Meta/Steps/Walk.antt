@@ -1,5 +1,5 @@
 -- The positional check as it goes through a tree. These words only lead from the code to `Misplaced`.
-use Rattle.std.specs.Prelude.{Bool, false, ◌&&◌, ◌||◌, not, if◌then◌else◌, Option, Some, None, Result, Ok, Err}
+use Rattle.std.specs.Prelude.{◌≡◌, Bool, false, ◌&&◌, ◌||◌, not, if◌then◌else◌, Option, Some, None, Result, Ok, Err, IfSome}
 use Rattle.std.specs.Borrow.{Bor}
 use Rattle.bpaf_meta.specs.Content.{Tree, and_of, or_of, optional, required, adjacent, item, many, subsection, suffix, skip, custom_usage, strict, Trees, no_trees, tree, Leaf, any, positional, command, flag, argument}
 use Rattle.bpaf_meta.specs.View.{leaf_of}
@@ -54,3 +54,7 @@ abbrev mutual
 abbrev pub check_of : {A : Type 0} → Result Bool (Bor (Item A)) → Check
 check_of (Ok b) = fine b
 check_of (Err i) = wrong (leaf_of i.now)
+
+-- an item that is given is the first one
+abbrev pub IsKnown : {A : Type 0} → Option (Bor (Item A)) → Option Leaf → Type 0
+IsKnown known first = IfSome known (λ i. first ≡ Some (leaf_of i.now))
