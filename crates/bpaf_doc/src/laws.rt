@@ -1,6 +1,7 @@
 //! Laws of the definitions that the contracts cite: nothing to call, but statements that the check proves.
 
 ghost use Rattle.bpaf_doc.specs.Console.Laws.{IsExactPageLayout};
+ghost use Rattle.bpaf_doc.specs.Html.Laws.{IsExactHtmlPage, IsExactHtmlText};
 ghost use Rattle.bpaf_doc.specs.Splitter.Promises.{EachTextIsSpelledOnce, ChunksKeepInk, ChunksAreLines, ChunksStandInOrder, ChunksAreTexts};
 ghost use Rattle.bpaf_doc.specs.Buffer.Equality.{IsEqualityOfParts};
 ghost use Rattle.bpaf_doc.specs.Manpage.Reader.{IsReadInOneWay};
@@ -58,4 +59,12 @@ pub fn titled_page()
 /// fewer than 2^59 parts.
 pub fn laws_of_exact_page()
     ensures { IsExactPageLayout }
+{}
+
+/// The HTML page as a function of the document is well nested, with the document's tags and breaks, where the document is well nested; and
+/// of each document it erases to the document's text.
+#[tactic(auto, using(crate::proofs::lemmas::Html::Exact::page_laws, crate::proofs::lemmas::Html::Exact::page_words))]
+pub fn laws_of_exact_html()
+    ensures page { IsExactHtmlPage }
+    ensures text { IsExactHtmlText }
 {}

@@ -1,25 +1,26 @@
 -- Texts that are no layout of their document, whatever their placing: what each law refuses.
-use Rattle.std.specs.Prelude.{◌≡◌, ℕ, ◌+◌, ◌<◌, ◌≤◌, Bool, true, false, not, ◌&&◌, ◌||◌, ◌==◌, List, [], ◌∷◌, ◌++◌, codes, length, reverse, sum_by, refl, if◌then◌else◌, ◌⊎◌}
-use Rattle.std.specs.List.{list_any}
+use Rattle.std.specs.Prelude.{◌≡◌, ℕ, ◌+◌, ◌<◌, ◌≤◌, Bool, true, false, not, ◌&&◌, ◌||◌, ◌==◌, ◌≢◌, max, List, [], ◌∷◌, ◌++◌, All, codes, length, reverse, sum_by, refl, if◌then◌else◌, ◌⊎◌}
+use Rattle.std.specs.List.{list_any, list_all, after_last, slice_split}
 use Rattle.std.specs.Str.{trim_end}
-use Rattle.std.proofs.Common.{sym, subst, ap, arith, inl, inr, ◌∙◌, append_assoc}
+use Rattle.std.proofs.Common.{sym, subst, ap, arith, inl, inr, ◌∙◌, append_assoc, length-append}
 use Rattle.std.proofs.lemmas.Bool.Decides.{nat_tests}
 use Rattle.std.proofs.lemmas.List.{reverse-append, reverse-reverse}
+use Rattle.std.proofs.lemmas.List.Elements.{All-head, All-tail}
 use Rattle.std.proofs.lemmas.List.Sums.{sum_by-cons}
 use Rattle.std.proofs.lemmas.List.Folds.{list_any-append}
 use Rattle.std.proofs.lemmas.Grind.{flat_map-append}
 use Rattle.bpaf_doc.specs.declared.buffer.Block.TheVariants as block
 use Rattle.bpaf_doc.specs.Buffer.Parts.{Part}
-use Rattle.bpaf_doc.specs.Splitter.Chunks.{Chunk, Raw, Paragraph, LineBreak, columns, code_weight, is_inked, is_whole_line, has_some, starts}
+use Rattle.bpaf_doc.specs.Splitter.Chunks.{Chunk, Raw, Paragraph, LineBreak, columns, code_weight, is_inked, is_ordinary, is_whole_line, has_some, starts}
 use Rattle.bpaf_doc.specs.Shown.{is_term_ref}
 use Rattle.bpaf_doc.specs.Console.Margin.{margin, greatest_margin}
-use Rattle.bpaf_doc.specs.Console.Layout.{Event, Shows, Opens, Closes, Stretch, Gap, Placed, Passed, Place, chunk_at, text_of, events_of, stretch_bytes, stretch_events, stretch_columns, shown_events, is_newline, is_inked_event, is_inked_stretch, is_raw_event, is_ref, asks_newline, room_of, event_bytes, AreApart, column, padding, line_before, holds_line, leads_to_place, MayStand, BeginsClear, IsLayout}
+use Rattle.bpaf_doc.specs.Console.Layout.{Event, Shows, Opens, Closes, Stretch, Gap, Placed, Passed, Place, chunk_at, text_of, events_of, stretch_bytes, stretch_events, stretch_columns, shown_events, is_newline, is_inked_event, is_inked_stretch, is_raw_event, is_ref, is_raw_or_ref, is_light, asks_newline, asks_blank_line, HasBlankLine, IsKept, room_of, event_bytes, event_columns, events_since_ink, widest, AreApart, column, padding, line_before, holds_line, leads_to_place, MayStand, BeginsClear, IsLayout}
 use Rattle.bpaf_doc.proofs.lemmas.Console.Layout.Back.{by_cases}
 use Rattle.bpaf_doc.proofs.lemmas.Console.Layout.Columns.{column_back, any_in_line}
 use Rattle.bpaf_doc.proofs.lemmas.Console.Layout.Text.{or_true_right, or_false_left, or_false_right}
 use Rattle.bpaf_doc.proofs.lemmas.Console.Layout.Pads.{pads_back}
 use Rattle.bpaf_doc.proofs.lemmas.Console.Layout.Split.{events_back, has_newline}
-use Rattle.bpaf_doc.proofs.lemmas.Console.Layout.Turned.{reverse_cons, any_turned, events_between, line_turned, sum_turned, column_turned, padding_turned}
+use Rattle.bpaf_doc.proofs.lemmas.Console.Layout.Turned.{reverse_cons, any_turned, since, after_last_turned, events_between, line_turned, sum_turned, column_turned, padding_turned}
 use Rattle.bpaf_doc.proofs.lemmas.Console.Rows.{computed, words, inside}
 
 -- ---- where an inked chunk stands
@@ -231,6 +232,9 @@ term_and_body = inside block.ItemTerm (words (codes "a")) ++ inside block.ItemBo
 
 bytes_of : (e : Place) (k : ℕ) (bytes : List ℕ) (weight : ℕ) → Shows e.part (chunk_at e) ≡ Shows k (Raw bytes weight) → e.bytes ≡ bytes
 bytes_of e k bytes weight s = cc
+
+chunk_of : (e : Place) (k : ℕ) (bytes : List ℕ) (weight : ℕ) → Shows e.part (chunk_at e) ≡ Shows k (Raw bytes weight) → chunk_at e ≡ Raw bytes weight
+chunk_of e k bytes weight s = cc
 
 part_of : (e : Place) (k : ℕ) (bytes : List ℕ) (weight : ℕ) → Shows e.part (chunk_at e) ≡ Shows k (Raw bytes weight) → e.part ≡ k
 part_of e k bytes weight s = cc
@@ -548,4 +552,261 @@ break_before_code layout =
     two_placed layout.stretches layout.placing.each_stretch [] (Shows 0 (Raw (codes "a") 1)) [] (Shows 0 (Raw (codes "c") code_weight)) [] layout.placing.all_events refl refl in
     let narrow : 100 < 1 + sum_by room_of [] + columns (codes "c") + greatest_margin word_then_code =
     narrow_page layout (omega arith) refl [] [] [] 0 0 99 code_weight (codes "c") two refl refl refl refl refl refl refl (omega arith) refl in
+    omega arith
+
+-- ---- ink that is lost
+
+-- ink: the line is cut at the width
+cut_at_the_width : IsLayout (words (codes "a b")) true 1 (codes "a") → ⊥
+unfolding computed
+cut_at_the_width layout = let same : codes "a" ≡ codes "ab" = layout.same_ink in cc
+
+-- ink: brief hides what stands behind the inline block
+hidden_for_ever : IsLayout (inside block.InlineBlock (words (codes "a\n\nb")) ++ words (codes "c")) false 100 (codes "a\n") → ⊥
+unfolding computed
+hidden_for_ever layout = let same : codes "a" ≡ codes "ac" = layout.same_ink in cc
+
+-- ---- a line or an empty line that is asked for
+
+two_apart : {stretches : List Stretch} {front middle back : List Event} {j k : ℕ} {bytes others : List ℕ} {weight more : ℕ}
+    → (two : TwoPlaced stretches front (Shows j (Raw bytes weight)) middle (Shows k (Raw others more)) back) → is_inked (Raw bytes weight) ≡ true → is_inked (Raw others more) ≡ true
+    → AreApart stretches two.before two.e two.between two.f
+two_apart two inked second_inked = record { after = two.after; order = two.order; first_inked = ap is_inked_event two.first_shows ∙ inked; second_inked = ap is_inked_event two.second_shows ∙ second_inked }
+
+-- asked: all texts flow into one line
+texts_in_one_line : IsLayout (words (codes "a\n b")) true 100 (codes "a b") → ⊥
+unfolding computed
+texts_in_one_line layout =
+    let two : TwoPlaced layout.stretches [] (Shows 0 (Raw (codes "a") 1)) (Shows 0 LineBreak ∷ []) (Shows 0 (Raw (codes "b") 1)) [] =
+    two_placed layout.stretches layout.placing.each_stretch [] (Shows 0 (Raw (codes "a") 1)) (Shows 0 LineBreak ∷ []) (Shows 0 (Raw (codes "b") 1)) [] layout.placing.all_events refl refl in
+    let none : list_any is_newline two.between ≡ false = no_line two.before two.between two.after two.e two.f (codes "a b") (sym (ap text_of two.order) ∙ layout.placing.whole_text) refl in
+    let line : list_any is_newline two.between ≡ true = layout.asked.newline two.before two.between two.e two.f (two_apart two refl refl) (ap (list_any asks_newline) two.events_between) in
+    let no : true ≡ false = sym line ∙ none in absurd cc
+
+-- whether two newlines stand together
+abbrev begins_with_newline : List ℕ → Bool
+begins_with_newline [] = false
+begins_with_newline (b ∷ bytes) = b == 10
+
+abbrev has_pair : List ℕ → Bool
+has_pair [] = false
+has_pair (b ∷ bytes) = ((b == 10) && begins_with_newline bytes) || has_pair bytes
+
+pair_behind : (front bytes : List ℕ) → has_pair bytes ≡ true → has_pair (front ++ bytes) ≡ true
+pair_behind [] bytes h = h
+pair_behind (b ∷ front) bytes h = or_true_right ((b == 10) && begins_with_newline (front ++ bytes)) (has_pair (front ++ bytes)) (pair_behind front bytes h)
+
+blank_line_within : (between rest : List ℕ) → HasBlankLine between → has_pair (between ++ rest) ≡ true
+blank_line_within between rest (front, back, is) =
+    ap (λ bytes. has_pair (bytes ++ rest)) is ∙ ap has_pair (append_assoc (front ++ codes "\n\n") back rest) ∙ ap has_pair (append_assoc front (codes "\n\n") (back ++ rest))
+    ∙ pair_behind front (codes "\n\n" ++ (back ++ rest)) refl
+
+abbrev two_blocks : List Part
+two_blocks = inside block.Block (words (codes "a")) ++ inside block.Block (words (codes "b"))
+
+-- asked: no empty line after a block
+no_empty_line : IsLayout two_blocks true 100 (codes "a\nb\n") → ⊥
+unfolding computed
+no_empty_line layout =
+    let two : TwoPlaced layout.stretches (Opens block.Block ∷ []) (Shows 1 (Raw (codes "a") 1)) (Closes block.Block ∷ (Opens block.Block ∷ [])) (Shows 4 (Raw (codes "b") 1)) (Closes block.Block ∷ []) =
+    two_placed layout.stretches layout.placing.each_stretch (Opens block.Block ∷ []) (Shows 1 (Raw (codes "a") 1)) (Closes block.Block ∷ (Opens block.Block ∷ [])) (Shows 4 (Raw (codes "b") 1))
+    (Closes block.Block ∷ []) layout.placing.all_events refl refl in
+    let narrow : columns two.f.bytes ≡ 1 = ap columns (bytes_of two.f 4 (codes "b") 1 two.second_shows) in
+    let fits : columns two.f.bytes ≤ 100 = omega arith in
+    let empty : HasBlankLine (text_of two.between) =
+    layout.asked.blank_line two.before two.between two.e two.f (two_apart two refl refl) (ap (list_any asks_blank_line) two.events_between) (ap (λ es. not (list_any is_raw_event es)) two.events_between) fits in
+    let rest : List ℕ = text_of (Placed two.f ∷ two.after) in
+    let text : text_of two.before ++ (two.e.shown ++ (text_of two.between ++ rest)) ≡ codes "a\nb\n" =
+    ap (λ bytes. text_of two.before ++ (two.e.shown ++ bytes)) (sym (flat_map-append stretch_bytes two.between (Placed two.f ∷ two.after)))
+    ∙ sym (flat_map-append stretch_bytes two.before (Placed two.e ∷ (two.between ++ Placed two.f ∷ two.after))) ∙ sym (ap text_of two.order) ∙ layout.placing.whole_text in
+    let pair : has_pair (text_of two.before ++ (two.e.shown ++ (text_of two.between ++ rest))) ≡ true =
+    pair_behind (text_of two.before) (two.e.shown ++ (text_of two.between ++ rest)) (pair_behind two.e.shown (text_of two.between ++ rest) (blank_line_within (text_of two.between) rest empty)) in
+    let no : true ≡ false = sym pair ∙ ap has_pair text in absurd cc
+
+-- ---- a blank between words that is lost
+
+abbrev has_blank : List ℕ → Bool
+has_blank text = list_any (λ b. b == 32) text
+
+inked_of_events : (xs : List Stretch) → list_any is_inked_stretch xs ≡ list_any is_inked_event (events_of xs)
+inked_of_events [] = refl
+inked_of_events (x ∷ xs) = ap (λ (t : Bool). is_inked_stretch x || t) (inked_of_events xs) ∙ sym (list_any-append is_inked_event (stretch_events x) (events_of xs))
+
+-- a blank that is kept stands in the text
+kept_blank : (may_add : Type 0) (xs : List Stretch) (k : ℕ) → All (IsKept may_add) xs → events_of xs ≡ Shows k (Raw (codes " ") 1) ∷ [] → has_blank (text_of xs) ≡ true
+kept_blank may_add [] k kept s = absurd cc
+kept_blank may_add (Gap b ∷ xs) k kept s = or_true_right (b == 32) (has_blank (text_of xs)) (kept_blank may_add xs k (All-tail (IsKept may_add) (Gap b) xs kept) s)
+kept_blank may_add (Placed e ∷ xs) k kept s =
+    let first : Shows e.part (chunk_at e) ≡ Shows k (Raw (codes " ") 1) = cc in
+    let shown : e.shown ≡ codes " " = All-head (IsKept may_add) (Placed e) xs kept ∙ bytes_of e k (codes " ") 1 first in
+    ap (λ bytes. has_blank (bytes ++ text_of xs)) shown
+kept_blank may_add (Passed event ∷ xs) k kept s =
+    let first : event ≡ Shows k (Raw (codes " ") 1) = cc in
+    let plain : not (is_raw_event event) ≡ true = All-head (IsKept may_add) (Passed event) xs kept in
+    let no : false ≡ true = sym (ap (λ (v : Event). not (is_raw_event v)) first) ∙ plain in absurd cc
+
+-- two words in one line with a blank between them: the text has a blank
+blank_in_line : {width : ℕ} {text : List ℕ} (layout : IsLayout (words (codes "a b")) true width text)
+    → (two : TwoPlaced layout.stretches [] (Shows 0 (Raw (codes "a") 1)) (Shows 0 (Raw (codes " ") 1) ∷ []) (Shows 0 (Raw (codes "b") 1)) []) → list_any is_newline two.between ≡ false → has_blank text ≡ true
+unfolding computed
+blank_in_line {width} {text} layout two none =
+    let bare : list_any is_inked_stretch two.between ≡ false = inked_of_events two.between ∙ ap (list_any is_inked_event) two.events_between in
+    let kept : (two.e.shown ≡ two.e.bytes) × All (IsKept (two.e.part ≢ two.f.part)) two.between = layout.kept two.before two.between two.e two.f (two_apart two refl refl) (ap not bare) (ap not none) in
+    let here : has_blank (text_of two.between) ≡ true = kept_blank (two.e.part ≢ two.f.part) two.between 0 kept.1 two.events_between in
+    let whole : text_of two.before ++ (two.e.shown ++ text_of (two.between ++ Placed two.f ∷ two.after)) ≡ text =
+    sym (flat_map-append stretch_bytes two.before (Placed two.e ∷ (two.between ++ Placed two.f ∷ two.after))) ∙ sym (ap text_of two.order) ∙ layout.placing.whole_text in
+    ap has_blank (sym whole) ∙ list_any-append (λ b. b == 32) (text_of two.before) (two.e.shown ++ text_of (two.between ++ Placed two.f ∷ two.after))
+    ∙ or_true_right (has_blank (text_of two.before)) (has_blank (two.e.shown ++ text_of (two.between ++ Placed two.f ∷ two.after)))
+    (list_any-append (λ b. b == 32) two.e.shown (text_of (two.between ++ Placed two.f ∷ two.after))
+    ∙ or_true_right (has_blank two.e.shown) (has_blank (text_of (two.between ++ Placed two.f ∷ two.after)))
+    (ap has_blank (flat_map-append stretch_bytes two.between (Placed two.f ∷ two.after)) ∙ list_any-append (λ b. b == 32) (text_of two.between) (text_of (Placed two.f ∷ two.after))
+    ∙ ap (λ (t : Bool). t || has_blank (text_of (Placed two.f ∷ two.after))) here))
+
+two_words : {width : ℕ} {text : List ℕ} (layout : IsLayout (words (codes "a b")) true width text)
+    → TwoPlaced layout.stretches [] (Shows 0 (Raw (codes "a") 1)) (Shows 0 (Raw (codes " ") 1) ∷ []) (Shows 0 (Raw (codes "b") 1)) []
+unfolding computed
+two_words layout = two_placed layout.stretches layout.placing.each_stretch [] (Shows 0 (Raw (codes "a") 1)) (Shows 0 (Raw (codes " ") 1) ∷ []) (Shows 0 (Raw (codes "b") 1)) [] layout.placing.all_events refl refl
+
+-- kept: the blanks between words are dropped
+blank_dropped : IsLayout (words (codes "a b")) true 100 (codes "ab") → ⊥
+unfolding computed
+blank_dropped layout =
+    let two = two_words layout in
+    let none : list_any is_newline two.between ≡ false = no_line two.before two.between two.after two.e two.f (codes "ab") (sym (ap text_of two.order) ∙ layout.placing.whole_text) refl in
+    let no : false ≡ true = blank_in_line layout two none in absurd cc
+
+-- needed, with kept: a break after every chunk
+break_after_each_word : IsLayout (words (codes "a b")) true 100 (codes "a\nb") → ⊥
+unfolding computed
+break_after_each_word layout = by (list_any is_newline two.between) refl
+  where
+    two : TwoPlaced layout.stretches [] (Shows 0 (Raw (codes "a") 1)) (Shows 0 (Raw (codes " ") 1) ∷ []) (Shows 0 (Raw (codes "b") 1)) []
+    two = two_words layout
+
+    by : (t : Bool) → list_any is_newline two.between ≡ t → ⊥
+    by false none = let no : false ≡ true = blank_in_line layout two none in absurd cc
+    by true line =
+        let light : list_all is_light (events_of two.between) ≡ true = ap (list_all is_light) two.events_between in
+        let whole : text_of (two.before ++ Placed two.e ∷ (two.between ++ Placed two.f ∷ two.after)) ≡ codes "a\nb" = sym (ap text_of two.order) ∙ layout.placing.whole_text in
+        let start : BeginsWith two.before (Placed two.e ∷ (two.between ++ Placed two.f ∷ two.after)) (codes "a\nb") =
+        begins_with two.before (Placed two.e ∷ (two.between ++ Placed two.f ∷ two.after)) (codes "a\nb") (codes "\nb") (subst EachMayStand two.order layout.placing.each_stretch) (ap (list_any is_raw_event) two.events_before) refl whole in
+        let zero_column : column two.before ≡ 0 = no_column two.before start.no_columns in
+        let first : columns two.e.bytes ≡ 1 = ap columns (bytes_of two.e 0 (codes "a") 1 two.first_shows) in
+        let second : columns two.f.bytes ≡ 1 = ap columns (bytes_of two.f 0 (codes "b") 1 two.second_shows) in
+        let middle : sum_by event_columns (events_of two.between) ≡ 1 = ap (λ es. sum_by event_columns es) two.events_between in
+        let over : 100 < column two.before + columns two.e.bytes + sum_by event_columns (events_of two.between) + columns two.f.bytes =
+        layout.needed (omega arith) refl two.before two.between two.e two.f (two_apart two refl refl) (ap is_ordinary (chunk_of two.e 0 (codes "a") 1 two.first_shows)) (ap is_ordinary (chunk_of two.f 0 (codes "b") 1 two.second_shows)) (inl light) line in
+        omega arith
+
+-- ---- a heading past its margin
+
+since_none : (p : Stretch → Bool) (r : List Stretch) → list_any p r ≡ false → since p r ≡ r
+since_none p [] h = refl
+since_none p (x ∷ r) h =
+    let first : p x ≡ false = or_false_left (p x) (list_any p r) h in
+    let rest : since p r ≡ r = since_none p r (or_false_right (p x) (list_any p r) h) in
+    rw (first, rest) refl
+
+after_last_none : (p : Stretch → Bool) (xs : List Stretch) → list_any p xs ≡ false → after_last p xs ≡ xs
+after_last_none p xs h =
+    ap (λ ys. after_last p ys) (sym (reverse-reverse xs)) ∙ after_last_turned p (reverse xs) ∙ ap (λ ys. reverse ys) (since_none p (reverse xs) (any_turned p xs ∙ h)) ∙ reverse-reverse xs
+
+-- where no chunk stands, each byte takes a column
+columns_of_text : (xs : List Stretch) → list_any is_raw_event (events_of xs) ≡ false → sum_by stretch_columns xs ≡ length (text_of xs)
+columns_of_text [] h = refl
+columns_of_text (Gap b ∷ xs) h =
+    let rest : sum_by stretch_columns xs ≡ length (text_of xs) = columns_of_text xs h in
+    let more : sum_by stretch_columns (Gap b ∷ xs) ≡ 1 + sum_by stretch_columns xs = sum_by-cons stretch_columns (Gap b) xs in
+    omega arith
+columns_of_text (Placed e ∷ xs) h = absurd cc
+columns_of_text (Passed event ∷ xs) h =
+    let rest : sum_by stretch_columns xs ≡ length (text_of xs) = columns_of_text xs (or_false_right (is_raw_event event) (list_any is_raw_event (events_of xs)) h) in
+    let more : sum_by stretch_columns (Passed event ∷ xs) ≡ length (event_bytes event) + sum_by stretch_columns xs = sum_by-cons stretch_columns (Passed event) xs in
+    let size : length (event_bytes event ++ text_of xs) ≡ length (event_bytes event) + length (text_of xs) = length-append (event_bytes event) (text_of xs) in
+    omega arith
+
+third_is_blank : (front back : List ℕ) (c : ℕ) → c ≡ 97 → length front ≡ 2 → front ++ (c ∷ back) ≡ codes "    a" → ⊥
+third_is_blank [] back c is size s = omega arith
+third_is_blank (x ∷ []) back c is size s = omega arith
+third_is_blank (x ∷ (y ∷ [])) back c is size s = let same : c ≡ 32 = cc in omega arith
+third_is_blank (x ∷ (y ∷ (z ∷ front))) back c is size s = omega arith
+
+abbrev heading : List Part
+heading = inside block.Section3 (words (codes "a"))
+
+-- margin: a heading is indented past its margin
+heading_past_its_margin : IsLayout heading true 100 (codes "    a") → ⊥
+unfolding computed
+heading_past_its_margin layout =
+    let one : PlacedAt layout.stretches (Opens block.Section3 ∷ []) (Shows 1 (Raw (codes "a") 1)) (Closes block.Section3 ∷ []) =
+    placed_at layout.stretches layout.placing.each_stretch (Opens block.Section3 ∷ []) (Shows 1 (Raw (codes "a") 1)) (Closes block.Section3 ∷ []) layout.placing.all_events refl in
+    let whole : text_of (one.before ++ Placed one.place ∷ one.after) ≡ codes "    a" = sym (ap text_of one.order) ∙ layout.placing.whole_text in
+    let none : list_any is_newline one.before ≡ false = no_line_before one.before (Placed one.place ∷ one.after) (codes "    a") whole refl in
+    let raw : list_any is_raw_event (events_of one.before) ≡ false = ap (list_any is_raw_event) one.events_before in
+    let bare : list_any is_inked_stretch one.before ≡ false = no_ink_between one.before raw in
+    let first : list_any is_inked_stretch (line_before one.before) ≡ false = ap (list_any is_inked_stretch) (after_last_none is_newline one.before none) ∙ bare in
+    let since_ink : list_any is_raw_or_ref (events_since_ink one.before) ≡ false = ap (λ xs. list_any is_raw_or_ref (events_of xs)) (after_last_none is_inked_stretch one.before bare) ∙ ap (list_any is_raw_or_ref) one.events_before in
+    let inked : is_inked (chunk_at one.place) ≡ true = ap is_inked_event one.shows in
+    let exact : column one.before ≡ margin heading one.place.part = (layout.margin (omega arith) refl).exact one.before one.after one.place one.order inked (ap not first) (inl (ap not since_ink)) in
+    let level : margin heading one.place.part ≡ 2 = ap (λ (k : ℕ). margin heading k) (part_of one.place 1 (codes "a") 1 one.shows) in
+    let size : length (text_of one.before) ≡ 2 = sym (columns_of_text one.before raw) ∙ ap (λ xs. sum_by stretch_columns xs) (sym (after_last_none is_newline one.before none)) ∙ exact ∙ level in
+    let shown : one.place.shown ≡ codes "a" =
+    place_is_whole one.before one.after one.place (codes "    a") (layout.placing.each_stretch one.before one.after (Placed one.place) one.order) whole refl ∙ bytes_of one.place 1 (codes "a") 1 one.shows in
+    third_is_blank (text_of one.before) (text_of one.after) 97 refl size
+    (ap (λ bytes. text_of one.before ++ (bytes ++ text_of one.after)) (sym shown) ∙ sym (flat_map-append stretch_bytes one.before (Placed one.place ∷ one.after)) ∙ whole)
+
+-- ---- a line that never ends
+
+one_line : (xs : List Stretch) → list_any is_newline xs ≡ false → slice_split is_newline xs ≡ xs ∷ []
+one_line [] h = refl
+one_line (x ∷ xs) h =
+    let first : is_newline x ≡ false = or_false_left (is_newline x) (list_any is_newline xs) h in
+    let rest : slice_split is_newline xs ≡ xs ∷ [] = one_line xs (or_false_right (is_newline x) (list_any is_newline xs) h) in
+    rw (first, rest) refl
+
+-- the columns of a chunk with ink
+abbrev inked_columns : Event → ℕ
+inked_columns event = if is_inked_event event then event_columns event else 0
+
+-- the stretches take at least the columns of their inked chunks
+inked_within : (xs : List Stretch) → EachMayStand xs → sum_by inked_columns (events_of xs) ≤ sum_by stretch_columns xs
+inked_within [] h = omega arith
+inked_within (Gap b ∷ xs) h =
+    let rest : sum_by inked_columns (events_of xs) ≤ sum_by stretch_columns xs = inked_within xs (may_stand_rest (Gap b) xs h) in
+    let more : sum_by stretch_columns (Gap b ∷ xs) ≡ 1 + sum_by stretch_columns xs = sum_by-cons stretch_columns (Gap b) xs in
+    omega arith
+inked_within (Placed e ∷ xs) h =
+    let rest : sum_by inked_columns (events_of xs) ≤ sum_by stretch_columns xs = inked_within xs (may_stand_rest (Placed e) xs h) in
+    let more : sum_by stretch_columns (Placed e ∷ xs) ≡ columns e.bytes + sum_by stretch_columns xs = sum_by-cons stretch_columns (Placed e) xs in
+    let all : sum_by inked_columns (events_of (Placed e ∷ xs)) ≡ inked_columns (Shows e.part (chunk_at e)) + sum_by inked_columns (events_of xs) = sum_by-cons inked_columns (Shows e.part (chunk_at e)) (events_of xs) in
+    let most : inked_columns (Shows e.part (chunk_at e)) ≤ columns e.bytes = at_most (is_inked_event (Shows e.part (chunk_at e))) (columns e.bytes) in
+    omega arith
+  where
+    at_most : (t : Bool) (n : ℕ) → (if t then n else 0) ≤ n
+    at_most true n = omega arith
+    at_most false n = omega arith
+inked_within (Passed event ∷ xs) h =
+    let rest : sum_by inked_columns (events_of xs) ≤ sum_by stretch_columns xs = inked_within xs (may_stand_rest (Passed event) xs h) in
+    let more : sum_by stretch_columns (Passed event ∷ xs) ≡ length (event_bytes event) + sum_by stretch_columns xs = sum_by-cons stretch_columns (Passed event) xs in
+    let all : sum_by inked_columns (events_of (Passed event ∷ xs)) ≡ inked_columns event + sum_by inked_columns (events_of xs) = sum_by-cons inked_columns event (events_of xs) in
+    let plain : not (is_inked_event event) ≡ true = h [] xs (Passed event) refl in
+    let none : inked_columns event ≡ 0 = no_ink (is_inked_event event) (event_columns event) plain in
+    omega arith
+  where
+    no_ink : (t : Bool) (n : ℕ) → not t ≡ true → (if t then n else 0) ≡ 0
+    no_ink true n h = absurd cc
+    no_ink false n h = refl
+
+-- bound: no line ever wraps
+line_past_the_bound : IsLayout (words (codes "a b c d")) true 1 (codes "a b c d") → ⊥
+unfolding computed
+line_past_the_bound layout =
+    let none : list_any is_newline layout.stretches ≡ false = no_line_in layout.stretches (codes "a b c d") layout.placing.whole_text refl in
+    let lines : All (λ line. sum_by stretch_columns line ≤ greatest_margin (words (codes "a b c d")) + 2 + max 1 (widest (events_of layout.stretches))) (layout.stretches ∷ []) =
+    subst (λ ls. All (λ line. sum_by stretch_columns line ≤ greatest_margin (words (codes "a b c d")) + 2 + max 1 (widest (events_of layout.stretches))) ls) (one_line layout.stretches none) (layout.bound (omega arith) refl) in
+    let line : sum_by stretch_columns layout.stretches ≤ greatest_margin (words (codes "a b c d")) + 2 + max 1 (widest (events_of layout.stretches)) =
+    All-head (λ line. sum_by stretch_columns line ≤ greatest_margin (words (codes "a b c d")) + 2 + max 1 (widest (events_of layout.stretches))) layout.stretches [] lines in
+    let most : greatest_margin (words (codes "a b c d")) + 2 + max 1 (widest (events_of layout.stretches)) ≡ 3 = ap (λ es. greatest_margin (words (codes "a b c d")) + 2 + max 1 (widest es)) layout.placing.all_events in
+    let some : sum_by inked_columns (events_of layout.stretches) ≡ 4 = ap (λ es. sum_by inked_columns es) layout.placing.all_events in
+    let least : sum_by inked_columns (events_of layout.stretches) ≤ sum_by stretch_columns layout.stretches = inked_within layout.stretches layout.placing.each_stretch in
     omega arith
