@@ -5,7 +5,7 @@ use std::process::ExitCode;
 use std::test::Fail;
 
 // An input, and the line that is said of it.
-const ROWS: [(&[u8], &str); 17] = [
+const ROWS: [(&[u8], &str); 25] = [
     // No text, and no TOML.
     (b"name = 'app\xff'\n", "clidoc: input is not UTF-8\n"),
     (
@@ -53,11 +53,25 @@ const ROWS: [(&[u8], &str); 17] = [
         b"name = 'app'\n[[option]]\nlong = 'v'\n[[option]]\nlong = 'v'\n",
         "clidoc: description: --v is taken\n",
     ),
+    // A name of a choice, of a group, and of a command.
+    (
+        b"name = 'app'\n[[option]]\nlong = 'v'\n[[choice]]\n[[choice.option]]\nlong = 'v'\n",
+        "clidoc: description: --v is taken\n",
+    ),
+    (
+        b"name = 'app'\n[[option]]\nshort = 'v'\n[[group]]\ntitle = 'G'\n[[group.option]]\nshort = 'v'\n",
+        "clidoc: description: -v is taken\n",
+    ),
+    (
+        b"name = 'app'\n[[command]]\nname = 'a'\n[[group]]\ntitle = 'G'\n[[group.command]]\nname = 'a'\n",
+        "clidoc: description: command a is taken\n",
+    ),
     (
         b"name = 'app'\n[[command]]\nname = 'a'\n[[command]]\nname = 'b'\n[[command.option]]\nlnog = 1\n",
         "clidoc: command 2, option 1: no key lnog is known here\n",
     ),
-    // Of several faults the first.
+    // Of several faults the first: unknown keys by their bytes, then the keys in their order, then what is taken, then the tables
+    // inside.
     (
         b"b = 1\na = 1\n[[option]]\n",
         "clidoc: description: no key a is known here\n",
@@ -65,6 +79,23 @@ const ROWS: [(&[u8], &str); 17] = [
     (
         b"name = 'app'\nabout = 1\n[[option]]\n",
         "clidoc: description: about is no text\n",
+    ),
+    (b"about = 1\n", "clidoc: description: name is missing\n"),
+    (
+        b"name = 'app'\nabout = 1\n[[option]]\nlong = 'v'\n[[option]]\nlong = 'v'\n",
+        "clidoc: description: about is no text\n",
+    ),
+    (
+        b"name = 'app'\n[[option]]\nlong = 'v'\nlnog = 1\n[[option]]\nlong = 'v'\n",
+        "clidoc: description: --v is taken\n",
+    ),
+    (
+        b"name = 'app'\n[[command]]\nlnog = 1\n[[option]]\nlnog = 1\n",
+        "clidoc: option 1: no key lnog is known here\n",
+    ),
+    (
+        b"name = 'app'\n[[option]]\nshort = 'vv'\n[[option]]\nlnog = 1\n",
+        "clidoc: option 1: short is not one character\n",
     ),
 ];
 

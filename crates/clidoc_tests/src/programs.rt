@@ -61,10 +61,12 @@ fn a_refused_growth_is_said(rt: HostRuntime) -> Result<(), Fail> {
     for budget in 1..4096usize {
         let heap = LocalHeap::new(rt.alloc(), budget * 16)?;
         let desk = Desk::new(rt.alloc(), &["clidoc", "full"], INPUT);
-        if run(&(&desk, &heap), rt.alloc()) == ExitCode::SUCCESS {
+        let status = run(&(&desk, &heap), rt.alloc());
+        if status == ExitCode::SUCCESS {
             assert!(rt; desk.has_printed(HELP, "") && refused > 0);
             return Ok(());
         }
+        assert!(rt; status == ExitCode::FAILURE, "{budget}");
         assert!(rt; desk.has_printed(b"", "clidoc: no memory\n"), "{budget}");
         refused = refused.saturating_add(1);
     }

@@ -7,6 +7,7 @@ use std::alloc::{AllocError, Allocator, Global};
 use std::process::Abort;
 use std::test::Fail;
 
+// What is made of a description. A tree and an info are seen as debug text, which is the same over all allocators.
 #[derive(Clone, Copy, Debug)]
 enum Page {
     Tree,
@@ -24,14 +25,8 @@ fn made<B: Allocator + Copy>(
     page: Page,
 ) -> Result<String<B>, AllocError> {
     match page {
-        Page::Tree => {
-            app.tree(alloc)?;
-            Ok(String::new(alloc))
-        }
-        Page::Info => {
-            app.info(alloc)?;
-            Ok(String::new(alloc))
-        }
+        Page::Tree => format!(in alloc; "{:?}", app.tree(alloc)?),
+        Page::Info => format!(in alloc; "{:?}", app.info(alloc)?),
         Page::Usage => app.usage(alloc),
         Page::Help => app.help(alloc, false),
         Page::Html => app.html(alloc),

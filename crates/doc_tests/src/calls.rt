@@ -28,6 +28,22 @@ fn each_call_writes_its_part(rt: HostRuntime) -> Result<(), Fail> {
     Ok(())
 }
 
+fn text_then_document(alloc: Global) -> Result<Doc, AllocError> {
+    let mut doc = Doc::from_text(alloc, "ab")?;
+    doc.doc(&Doc::from_text(alloc, "c")?)?;
+    Ok(doc)
+}
+
+#[test]
+fn part_at_counts_marks(rt: HostRuntime) -> Result<(), Fail> {
+    let doc = text_then_document(rt.alloc())?;
+    assert!(rt; doc.len() == 4);
+    assert!(rt; doc.part_at(0) == Some(Part::Text("ab", Style::Text)));
+    assert!(rt; doc.part_at(2) == Some(Part::Text("c", Style::Text)));
+    assert!(rt; doc.part_at(4).is_none());
+    Ok(())
+}
+
 #[test]
 fn a_document_rolls_back(rt: HostRuntime) -> Result<(), Fail> {
     let mut doc = Doc::from_text(rt.alloc(), "a")?;
@@ -97,5 +113,14 @@ fn a_word_of_1_000_000_columns_stays_whole(rt: HostRuntime) -> Result<(), Fail> 
     assert!(rt; doc.render_markdown(rt.alloc(), true)? == markdown);
     let html = format!(in rt.alloc(); "{word} b")?;
     assert!(rt; doc.render_html(rt.alloc(), true, false)? == html);
+    Ok(())
+}
+
+#[test]
+fn a_word_of_1_000_000_columns_alone_closes_its_fence(rt: HostRuntime) -> Result<(), Fail> {
+    let word = word(rt.alloc(), 1_000_000)?;
+    let doc = Doc::from_text(rt.alloc(), &word)?;
+    let markdown = format!(in rt.alloc(); "\n\n  ```text\n  {word}\n  ```\n")?;
+    assert!(rt; doc.render_markdown(rt.alloc(), true)? == markdown);
     Ok(())
 }

@@ -36,8 +36,8 @@ pub enum Answer {
     Misplaced(char),
 }
 
-/// The answer of a call over an arena with so many free bytes, and with the tree that the text spells. An error says that the
-/// call could not be prepared, or its text not be made.
+/// The answer of a call over an arena with so many free bytes, and with the tree that the text spells, which stands there too: what
+/// takes its memory where the tree does is refused as well. An error says that the call could not be prepared, or its text not be made.
 pub fn answer_of(
     out: Global,
     arena: &Bump,
@@ -45,7 +45,7 @@ pub fn answer_of(
     text: &str,
     call: Call,
 ) -> Result<Answer, AllocError> {
-    let tree = tree(out, text)?;
+    let tree = tree(arena, text)?;
     match call {
         Call::Append => append_answer(out, arena, room, &tree),
         Call::Insert => insert_answer(out, arena, room, EnvTexts::new(arena), "W"),
@@ -76,11 +76,11 @@ pub fn answered(left: String, outcome: Result<(), AllocError>) -> Answer {
 }
 
 /// A list in which the tree stands once.
-pub fn list_of<'a, L: Allocator>(
+pub fn list_of<'a, A: Allocator, L: Allocator>(
     alloc: L,
-    tree: &'a Meta,
-) -> Result<HelpItems<'a, Global, L>, AllocError> {
-    let mut list: HelpItems<'a, Global, L> = HelpItems::new(alloc);
+    tree: &'a Meta<A>,
+) -> Result<HelpItems<'a, A, L>, AllocError> {
+    let mut list: HelpItems<'a, A, L> = HelpItems::new(alloc);
     list.append_meta(tree)?;
     Ok(list)
 }
@@ -89,11 +89,11 @@ fn listed(out: Global, tree: &Meta) -> Result<String, AllocError> {
     format!(in out; "{:?}", list_of(out, tree)?)
 }
 
-fn append_answer(
+fn append_answer<'a>(
     out: Global,
-    arena: &Bump,
+    arena: &'a Bump,
     room: usize,
-    tree: &Meta,
+    tree: &Meta<&'a Bump>,
 ) -> Result<Answer, AllocError> {
     let mut list = list_of(arena, tree)?;
     let _taken = taken(arena, room)?;
@@ -138,11 +138,11 @@ fn written<A: Allocator, B: Allocator>(
     format!(in out; "{doc:?} {texts:?}")
 }
 
-fn groups_answer(
+fn groups_answer<'a>(
     out: Global,
-    arena: &Bump,
+    arena: &'a Bump,
     room: usize,
-    tree: &Meta,
+    tree: &Meta<&'a Bump>,
 ) -> Result<Answer, AllocError> {
     let mut doc = begun_doc(arena)?;
     let texts = begun_texts(out)?;
@@ -152,8 +152,13 @@ fn groups_answer(
     Ok(answered(written(out, &doc, &texts)?, outcome))
 }
 
-fn page_answer(out: Global, arena: &Bump, room: usize, tree: &Meta) -> Result<Answer, AllocError> {
-    let info = info(out, "Prints things")?;
+fn page_answer<'a>(
+    out: Global,
+    arena: &'a Bump,
+    room: usize,
+    tree: &Meta<&'a Bump>,
+) -> Result<Answer, AllocError> {
+    let info = info(arena, "Prints things")?;
     let path = path(out)?;
     let texts = EnvTexts::new(out);
     let _taken = taken(arena, room)?;
@@ -164,9 +169,9 @@ fn page_answer(out: Global, arena: &Bump, room: usize, tree: &Meta) -> Result<An
 }
 
 /// What a call gave that lends nothing which it could change.
-pub fn page_told<T: Debug + Drop>(
+pub fn page_told<T: Debug + Drop, A: Allocator>(
     out: Global,
-    outcome: Result<T, HelpError<'_>>,
+    outcome: Result<T, HelpError<'_, A>>,
 ) -> Result<Answer, AllocError> {
     match outcome {
         Ok(page) => Ok(Answer::Given(format!(in out; "{page:?}")?)),
@@ -175,7 +180,7 @@ pub fn page_told<T: Debug + Drop>(
     }
 }
 
-fn misplaced(out: Global, item: &Item) -> Answer {
+fn misplaced<A: Allocator>(out: Global, item: &Item<A>) -> Answer {
     match item {
         Item::Flag {
             name: ShortLong::Short(letter),

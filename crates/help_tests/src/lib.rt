@@ -9,6 +9,8 @@ mod arenas;
 #[cfg(test)]
 mod calls;
 #[cfg(test)]
+mod many;
+#[cfg(test)]
 mod pages_calls;
 #[cfg(test)]
 mod pages_rows;

@@ -13,14 +13,14 @@ use bumpalo::Bump;
 use std::alloc::{AllocError, Allocator, Global};
 
 /// The answer of a call of `pages`, as that of any other call.
-pub fn pages_answer(
+pub fn pages_answer<'a>(
     out: Global,
-    arena: &Bump,
+    arena: &'a Bump,
     room: usize,
-    tree: &Meta,
+    tree: &Meta<&'a Bump>,
     call: Call,
 ) -> Result<Answer, AllocError> {
-    let info = info(out, "Prints things")?;
+    let info = info(arena, "Prints things")?;
     match call {
         Call::Sections => sections_answer(out, arena, room, tree, &info),
         Call::Section => section_answer(out, arena, room, tree, &info),
@@ -40,24 +40,24 @@ pub fn pages_before(out: Global, tree: &Meta, call: Call) -> Result<String, Allo
 }
 
 /// The sections of an application in a list of their own.
-pub fn gathered<'a, L: Allocator + Copy>(
+pub fn gathered<'a, A: Allocator, L: Allocator + Copy>(
     alloc: L,
     path: &mut Vec<String<L>, L>,
-    tree: &'a Meta,
-    info: &'a Info,
-) -> Result<Vec<DocSection<'a, Global, L>, L>, AllocError> {
-    let mut sections: Vec<DocSection<'a, Global, L>, L> = Vec::new(alloc);
+    tree: &'a Meta<A>,
+    info: &'a Info<A>,
+) -> Result<Vec<DocSection<'a, A, L>, L>, AllocError> {
+    let mut sections: Vec<DocSection<'a, A, L>, L> = Vec::new(alloc);
     extract_sections(tree, info, path, &mut sections)?;
     Ok(sections)
 }
 
 // The list has the sections once already.
-fn sections_answer(
+fn sections_answer<'a>(
     out: Global,
-    arena: &Bump,
+    arena: &'a Bump,
     room: usize,
-    tree: &Meta,
-    info: &Info,
+    tree: &Meta<&'a Bump>,
+    info: &Info<&'a Bump>,
 ) -> Result<Answer, AllocError> {
     let mut path = path(arena)?;
     let mut sections = gathered(arena, &mut path, tree, info)?;
@@ -67,12 +67,12 @@ fn sections_answer(
 }
 
 // A copy of the last section.
-fn section_answer(
+fn section_answer<'a>(
     out: Global,
-    arena: &Bump,
+    arena: &'a Bump,
     room: usize,
-    tree: &Meta,
-    info: &Info,
+    tree: &Meta<&'a Bump>,
+    info: &Info<&'a Bump>,
 ) -> Result<Answer, AllocError> {
     let sections = gathered(arena, &mut path(arena)?, tree, info)?;
     let _taken = taken(arena, room)?;
@@ -86,9 +86,9 @@ fn section_answer(
     }
 }
 
-fn last_told<L: Allocator + Copy>(
+fn last_told<A: Allocator, L: Allocator + Copy>(
     out: Global,
-    sections: &[DocSection<'_, Global, L>],
+    sections: &[DocSection<'_, A, L>],
 ) -> Result<String, AllocError> {
     match sections.last() {
         Some(section) => format!(in out; "{section:?}"),
@@ -96,12 +96,12 @@ fn last_told<L: Allocator + Copy>(
     }
 }
 
-fn application_answer<'m>(
+fn application_answer<'a, 'm>(
     out: Global,
-    arena: &Bump,
+    arena: &'a Bump,
     room: usize,
-    tree: &'m Meta,
-    info: &'m Info,
+    tree: &'m Meta<&'a Bump>,
+    info: &'m Info<&'a Bump>,
     call: Call,
 ) -> Result<Answer, AllocError> {
     let _taken = taken(arena, room)?;
@@ -116,19 +116,19 @@ fn application_answer<'m>(
 
 fn manual<'a, 'm>(
     arena: &'a Bump,
-    tree: &'m Meta,
-    info: &'m Info,
-) -> Result<String<&'a Bump>, HelpError<'m>> {
+    tree: &'m Meta<&'a Bump>,
+    info: &'m Info<&'a Bump>,
+) -> Result<String<&'a Bump>, HelpError<'m, &'a Bump>> {
     let text = render_manpage(arena, "app", Section::General, None, None, None, tree, info)?;
     Ok(text)
 }
 
 // How many sections there are: gathered with a path of their own, as a page gathers them before it is begun.
-fn sections_gathered<'m>(
-    arena: &Bump,
-    tree: &'m Meta,
-    info: &'m Info,
-) -> Result<usize, HelpError<'m>> {
+fn sections_gathered<'a, 'm>(
+    arena: &'a Bump,
+    tree: &'m Meta<&'a Bump>,
+    info: &'m Info<&'a Bump>,
+) -> Result<usize, HelpError<'m, &'a Bump>> {
     let mut path = path(arena)?;
     let sections = gathered(arena, &mut path, tree, info)?;
     Ok(sections.len())

@@ -72,7 +72,8 @@ fn pages(rt: HostRuntime) -> Result<(), Fail> {
     Ok(())
 }
 
-fn groups(out: Global, parser: &Meta, texts: &EnvTexts) -> Result<String, AllocError> {
+/// The groups of a tree, as a console page.
+pub fn groups(out: Global, parser: &Meta, texts: &EnvTexts) -> Result<String, AllocError> {
     let mut doc = Doc::new(out);
     write_help_item_groups(&mut doc, list_of(out, parser)?, true, texts)?;
     doc.monochrome(out, true)

@@ -3,13 +3,13 @@ use bpaf_doc::buffer::Doc;
 use bpaf_help::item::{Item, ShortLong};
 use bpaf_help::meta::Meta;
 use bpaf_help::meta_help::{Info, Metavar};
-use std::alloc::{AllocError, Global};
+use std::alloc::{AllocError, Allocator};
 
 /// The tree that a text spells over a stack of trees. `X` is a positional value with help, `C` a command of the same name and
 /// help, `P` a positional value without help, `A` an argument, and `B` and each small letter a flag. Each other sign takes trees off
 /// and puts one on: `&` an `And` of two, `|` an `Or` of two, and of the last one `@` Adjacent, `#` and `%` Subsection, `~` and `!`
 /// Suffix, and each digit a command. Where there is none to take off, it takes `Skip`.
-pub fn tree(alloc: Global, text: &str) -> Result<Meta, AllocError> {
+pub fn tree<A: Allocator + Copy>(alloc: A, text: &str) -> Result<Meta<A>, AllocError> {
     let mut stack = Vec::new(alloc);
     for sign in text.chars() {
         let made = made(alloc, &mut stack, sign)?;
@@ -18,14 +18,18 @@ pub fn tree(alloc: Global, text: &str) -> Result<Meta, AllocError> {
     Ok(top(&mut stack))
 }
 
-fn top(stack: &mut Vec<Meta>) -> Meta {
+fn top<A: Allocator>(stack: &mut Vec<Meta<A>, A>) -> Meta<A> {
     match stack.pop() {
         Some(tree) => tree,
         None => Meta::Skip,
     }
 }
 
-fn made(alloc: Global, stack: &mut Vec<Meta>, sign: char) -> Result<Meta, AllocError> {
+fn made<A: Allocator + Copy>(
+    alloc: A,
+    stack: &mut Vec<Meta<A>, A>,
+    sign: char,
+) -> Result<Meta<A>, AllocError> {
     match sign {
         '&' => Ok(Meta::And(both(alloc, stack)?)),
         '|' => Ok(Meta::Or(both(alloc, stack)?)),
@@ -37,7 +41,10 @@ fn made(alloc: Global, stack: &mut Vec<Meta>, sign: char) -> Result<Meta, AllocE
 }
 
 // The last two trees of the stack.
-fn both(alloc: Global, stack: &mut Vec<Meta>) -> Result<Vec<Meta>, AllocError> {
+fn both<A: Allocator + Copy>(
+    alloc: A,
+    stack: &mut Vec<Meta<A>, A>,
+) -> Result<Vec<Meta<A>, A>, AllocError> {
     let last = top(stack);
     let first = top(stack);
     let mut parts = Vec::new(alloc);
@@ -46,7 +53,7 @@ fn both(alloc: Global, stack: &mut Vec<Meta>) -> Result<Vec<Meta>, AllocError> {
     Ok(parts)
 }
 
-fn noted(alloc: Global, inner: Meta, sign: char) -> Result<Meta, AllocError> {
+fn noted<A: Allocator + Copy>(alloc: A, inner: Meta<A>, sign: char) -> Result<Meta<A>, AllocError> {
     let inner = Box::new(alloc, inner)?;
     let note = Box::new(alloc, Doc::from_text(alloc, note(sign))?)?;
     Ok(match sign {
@@ -64,7 +71,7 @@ fn note(sign: char) -> &'static str {
     }
 }
 
-fn leaf(alloc: Global, sign: char) -> Result<Item, AllocError> {
+fn leaf<A: Allocator + Copy>(alloc: A, sign: char) -> Result<Item<A>, AllocError> {
     match sign {
         'X' => positional(alloc, "X", "h"),
         'P' => positional(alloc, "P", ""),
@@ -80,19 +87,24 @@ fn leaf(alloc: Global, sign: char) -> Result<Item, AllocError> {
     }
 }
 
-fn positional(alloc: Global, name: &'static str, help: &str) -> Result<Item, AllocError> {
+fn positional<A: Allocator + Copy>(
+    alloc: A,
+    name: &'static str,
+    help: &str,
+) -> Result<Item<A>, AllocError> {
     Ok(Item::Positional {
         metavar: Metavar(name),
         help: text_doc(alloc, help)?,
     })
 }
 
-fn flag(
-    alloc: Global,
+/// A flag with a help text, where the text is not empty.
+pub fn flag<A: Allocator + Copy>(
+    alloc: A,
     name: ShortLong,
     env: Option<&'static str>,
     help: &str,
-) -> Result<Item, AllocError> {
+) -> Result<Item<A>, AllocError> {
     Ok(Item::Flag {
         name,
         shorts: Vec::new(alloc),
@@ -101,7 +113,7 @@ fn flag(
     })
 }
 
-fn argument(alloc: Global) -> Result<Item, AllocError> {
+fn argument<A: Allocator + Copy>(alloc: A) -> Result<Item<A>, AllocError> {
     Ok(Item::Argument {
         name: ShortLong::Long("n"),
         shorts: Vec::new(alloc),
@@ -111,7 +123,12 @@ fn argument(alloc: Global) -> Result<Item, AllocError> {
     })
 }
 
-fn command(alloc: Global, name: &'static str, help: &str, below: Meta) -> Result<Item, AllocError> {
+fn command<A: Allocator + Copy>(
+    alloc: A,
+    name: &'static str,
+    help: &str,
+    below: Meta<A>,
+) -> Result<Item<A>, AllocError> {
     Ok(Item::Command {
         name,
         short: None,
@@ -136,7 +153,7 @@ fn numbered(digit: char) -> &'static str {
 }
 
 /// What goes with a page: its description, and nothing else.
-pub fn info(alloc: Global, description: &str) -> Result<Info, AllocError> {
+pub fn info<A: Allocator + Copy>(alloc: A, description: &str) -> Result<Info<A>, AllocError> {
     Ok(Info {
         descr: text_doc(alloc, description)?,
         header: None,
@@ -147,7 +164,7 @@ pub fn info(alloc: Global, description: &str) -> Result<Info, AllocError> {
 }
 
 // No document of an empty text.
-fn text_doc(alloc: Global, text: &str) -> Result<Option<Doc>, AllocError> {
+fn text_doc<A: Allocator + Copy>(alloc: A, text: &str) -> Result<Option<Doc<A>>, AllocError> {
     if text.is_empty() {
         Ok(None)
     } else {

@@ -88,10 +88,12 @@ fn says_until(
     for budget in 1..4096usize {
         let heap = LocalHeap::new(rt.alloc(), budget * 16)?;
         let desk = Desk::new(rt.alloc(), words, INPUT);
-        if run(&(&desk, &heap)) == ExitCode::SUCCESS {
+        let status = run(&(&desk, &heap));
+        if status == ExitCode::SUCCESS {
             assert!(rt; desk.has_printed(page, "") && refused > 0);
             return Ok(());
         }
+        assert!(rt; status == ExitCode::FAILURE, "{words:?} {budget}");
         assert!(rt;
             desk.has_printed(b"", "helpdoc: no memory\n"),
             "{words:?} {budget}"

@@ -54,13 +54,13 @@ pub enum Answer {
     Refused(String),
 }
 
-/// The tree that a text spells, and a document that has begun.
+/// The tree that a text spells, and a document and lists that have begun.
 pub fn make_given<A: Allocator + Copy>(alloc: A, text: &str) -> Result<Given<A>, AllocError> {
     Ok(Given {
         tree: tree(alloc, text)?,
         doc: literal_doc(alloc, "before")?,
-        flags: Vec::new(alloc),
-        args: Vec::new(alloc),
+        flags: Vec::from_slice(alloc, &['f'])?,
+        args: Vec::from_slice(alloc, &['g'])?,
     })
 }
 
@@ -84,7 +84,7 @@ pub fn before(out: Global, call: Call) -> Result<String, AllocError> {
     match call {
         Call::Write(_) => format!(in out; "{:?}", literal_doc(out, "before")?),
         Call::Make(_) | Call::Read => Ok(String::new(out)),
-        Call::Shorts => String::from_str(out, "[] []"),
+        Call::Shorts => String::from_str(out, "['f'] ['g']"),
     }
 }
 
