@@ -19,7 +19,7 @@ A row is an input with what comes of it. Each has a number here, in the order of
 - a test function, which says in its name what holds;
 - a program: its stored run.
 
-`.ci/rows.py`, which the gate begins with, fails where a row of these files is not on this page.
+`.ci/rows.py`, which `.ci/run` runs before the proofs, fails where a row of these files is not on this page.
 
 | Row | What it shows | Run by |
 |---|---|---|
