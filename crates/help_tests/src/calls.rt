@@ -6,7 +6,9 @@ use crate::trees::{info, tree};
 use bpaf_doc::buffer::Doc;
 use bpaf_help::item::{Item, ShortLong};
 use bpaf_help::meta::Meta;
-use bpaf_help::meta_help::{EnvTexts, HelpError, HelpItems, render_help, write_help_item_groups};
+use bpaf_help::meta_help::{
+    EnvTexts, HelpError, HelpItem, HelpItems, render_help, write_help_item_groups,
+};
 use bumpalo::Bump;
 use std::alloc::{AllocError, Allocator, Global};
 use std::fmt::Debug;
@@ -59,7 +61,7 @@ pub fn answer_of(
 /// What stands where a call is refused: what stood before, made with ample memory.
 pub fn before(out: Global, text: &str, call: Call) -> Result<String, AllocError> {
     match call {
-        Call::Append => listed(out, &tree(out, text)?),
+        Call::Append => listed(out, list_of(out, &tree(out, text)?)?.items()),
         Call::Insert => told(out, &EnvTexts::new(out)),
         Call::Replace => told(out, &begun_texts(out)?),
         Call::Groups => written(out, &begun_doc(out)?, &begun_texts(out)?),
@@ -85,8 +87,8 @@ pub fn list_of<'a, A: Allocator, L: Allocator>(
     Ok(list)
 }
 
-fn listed(out: Global, tree: &Meta) -> Result<String, AllocError> {
-    format!(in out; "{:?}", list_of(out, tree)?)
+fn listed<A: Allocator>(out: Global, items: &[HelpItem<'_, A>]) -> Result<String, AllocError> {
+    format!(in out; "{items:?}")
 }
 
 fn append_answer<'a>(
@@ -98,7 +100,7 @@ fn append_answer<'a>(
     let mut list = list_of(arena, tree)?;
     let _taken = taken(arena, room)?;
     let outcome = list.append_meta(tree);
-    Ok(answered(format!(in out; "{list:?}")?, outcome))
+    Ok(answered(listed(out, list.items())?, outcome))
 }
 
 // Texts in which one name has one.

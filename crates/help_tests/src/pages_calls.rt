@@ -35,7 +35,7 @@ pub fn pages_before(out: Global, tree: &Meta, call: Call) -> Result<String, Allo
     let sections = gathered(out, &mut path, tree, &info)?;
     match call {
         Call::Section => last_told(out, &sections),
-        _ => format!(in out; "{path:?} {sections:?}"),
+        _ => told(out, &path, &sections),
     }
 }
 
@@ -51,6 +51,14 @@ pub fn gathered<'a, A: Allocator, L: Allocator + Copy>(
     Ok(sections)
 }
 
+fn told<A: Allocator, L: Allocator + Copy>(
+    out: Global,
+    path: &[String<L>],
+    sections: &[DocSection<'_, A, L>],
+) -> Result<String, AllocError> {
+    format!(in out; "{path:?} {sections:?}")
+}
+
 // The list has the sections once already.
 fn sections_answer<'a>(
     out: Global,
@@ -63,7 +71,7 @@ fn sections_answer<'a>(
     let mut sections = gathered(arena, &mut path, tree, info)?;
     let _taken = taken(arena, room)?;
     let outcome = extract_sections(tree, info, &mut path, &mut sections);
-    Ok(answered(format!(in out; "{path:?} {sections:?}")?, outcome))
+    Ok(answered(told(out, &path, &sections)?, outcome))
 }
 
 // A copy of the last section.
