@@ -15,7 +15,7 @@ HEAD = """# Rows of the rules
 A row is an input with what comes of it. Each has a number here, in the order of the files that hold them, and what runs it in the gate:
 
 - `replay`: so many requests of its stored run, behind a remark of these words in `crates/replay/stdin`. Their answers are in `stdout` beside it;
-- a crate of equations: so many of them, behind a comment of these words in its `proofs/`. Each computes;
+- the crate `rows`: so many of its equations, behind a comment of these words in its `proofs/`. Each is proved, most by computing;
 - a test function, which says in its name what holds;
 - a program: its stored run.
 
@@ -39,10 +39,12 @@ def requests():
 
 
 def equations(crate):
-    """The comments between equations, with how many equations each has."""
-    for file in sorted((CRATES / crate / "proofs").glob("*.antt")):
+    """The comments between equations, with how many equations each has. Among those of documents stand lemmas that refuse an answer; of these the refusals count."""
+    for file in sorted((CRATES / crate / "proofs").rglob("*.antt")):
+        text = file.read_text(encoding="utf-8")
+        computed = set(re.findall(r"(?m)^(\w+) = refl$", text)) | set(re.findall(r"(?m)^(\w+_refused) : ", text))
         words, count, beside = [], 0, False
-        for line in file.read_text(encoding="utf-8").splitlines() + ["-- "]:
+        for line in text.splitlines() + ["-- "]:
             is_remark = line.startswith("-- ")
             if is_remark and not beside:
                 if words and count:
@@ -50,7 +52,7 @@ def equations(crate):
                 words, count = [], 0
             if is_remark:
                 words.append(line[3:].strip("- "))
-            elif re.match(r"\w+ : ", line):
+            elif (name := re.match(r"(\w+) : ", line)) and (file.parent.name != "Doc" or name[1] in computed):
                 count += 1
             beside = is_remark
 
@@ -71,8 +73,7 @@ def programs():
 
 def rows():
     yield from requests()
-    for crate in sorted(path.name for path in CRATES.glob("*_rows")):
-        yield from equations(crate)
+    yield from equations("rows")
     for crate in sorted(path.name for path in CRATES.glob("*_tests")):
         yield from tests(crate)
     yield from programs()

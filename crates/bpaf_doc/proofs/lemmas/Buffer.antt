@@ -5,4 +5,3 @@ pub mod Growing
 pub mod Nesting
 pub mod Lines
 pub mod Equality
-mod Rows

@@ -1,6 +1,5 @@
 -- Lemmas about console pages. `Layout`: a page that keeps the rules is a layout. `Sheet`: the page that the code makes is the exact
--- one, and keeps the rules. `Rows`: exact pages of small documents, computed. `Refused`:
--- texts that are no layout, whatever their placing.
+-- one, and keeps the rules.
 pub mod Hiding
 pub mod Ink
 pub mod Pages
@@ -11,5 +10,3 @@ pub mod Tabs
 pub mod Layout
 pub mod Sheet
 pub mod Runs
-mod Rows
-mod Refused

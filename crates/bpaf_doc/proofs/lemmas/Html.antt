@@ -7,8 +7,5 @@ pub mod Text
 pub mod Breaks
 pub mod Nests
 pub mod Meets
-mod Rows
-mod PageRows
 pub mod Exact
-mod Examples
 pub mod Runs

@@ -6,5 +6,3 @@ mod ReadBack
 pub mod PageRead
 mod LookingBack
 pub mod Drafts
-mod Rows
-mod PieceRows

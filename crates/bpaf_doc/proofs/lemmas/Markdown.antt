@@ -6,7 +6,5 @@ pub mod Fences
 pub mod Breaks
 pub mod Lines
 pub mod Meets
-mod Examples
 pub mod Exact
-mod PageRows
 pub mod Runs

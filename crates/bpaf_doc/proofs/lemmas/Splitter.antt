@@ -4,7 +4,6 @@ pub mod FirstChunk
 pub mod Cuts
 pub mod Pieces
 pub mod Facts
-mod Rows
 pub mod Ink
 pub mod Printable
 pub mod Letters

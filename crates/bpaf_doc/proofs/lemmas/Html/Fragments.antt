@@ -2,4 +2,3 @@
 pub mod Walking
 pub mod Lines
 pub mod Nests
-mod Rows

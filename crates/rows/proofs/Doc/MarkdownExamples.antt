@@ -1,4 +1,4 @@
--- Small answers that meet `IsMarkdownOf`.
+-- Small answers that meet `IsMarkdownOf`, and wrong ones that do not.
 use Rattle.std.proofs.Common.{◌≡◌, ℕ, ◌*◌, ◌<◌, Bool, true, false, List, [], ◌∷◌, ◌++◌, refl, sym, ◌∙◌, ap, subst, cond, ◌≤◌, length, take, drop, arith, length-append}
 use Rattle.std.proofs.lemmas.Bool.{false≢true, and_parts, ltb-true, eqb-true}
 use Rattle.std.proofs.Math.Bool.{or-true}

@@ -21,7 +21,7 @@ use Rattle.bpaf_doc.proofs.lemmas.Console.Layout.Text.{or_true_right, or_false_l
 use Rattle.bpaf_doc.proofs.lemmas.Console.Layout.Pads.{pads_back}
 use Rattle.bpaf_doc.proofs.lemmas.Console.Layout.Split.{events_back, has_newline}
 use Rattle.bpaf_doc.proofs.lemmas.Console.Layout.Turned.{reverse_cons, any_turned, since, after_last_turned, events_between, line_turned, sum_turned, column_turned, padding_turned}
-use Rattle.bpaf_doc.proofs.lemmas.Console.Rows.{computed, words, inside}
+use Rattle.rows.proofs.Doc.Console.{computed, words, inside}
 
 -- ---- where an inked chunk stands
 

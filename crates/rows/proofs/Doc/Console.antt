@@ -23,6 +23,7 @@ words bytes = Text bytes style.Text ∷ []
 abbrev pub inside : Block → List Part → List Part
 inside b parts = Start b ∷ (parts ++ End b ∷ [])
 
+-- pages of texts, blocks, lists, terms and code
 row_1 : console_page true 100 ([]) ≡ []
 unfolding computed
 row_1 = refl

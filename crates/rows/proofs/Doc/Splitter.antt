@@ -11,6 +11,7 @@ pub computed : ℕ
 unfolding chunks_of chunks_in chunks_within chars str_width step past_emoji
 computed = 0
 
+-- chunks of words, paragraphs and code
 row_1 : chunks_of (codes "a\n\n    a\n    b\n\ndf\n\n    c\n    d\n")
     ≡ Raw (codes "a") 1 ∷ Paragraph ∷ Raw (codes "a") 1000000 ∷ Raw (codes "b") 1000000 ∷ Paragraph ∷ Raw (codes "df") 2
     ∷ Paragraph ∷ Raw (codes "c") 1000000 ∷ Raw (codes "d") 1000000 ∷ Raw (codes " ") 1 ∷ []

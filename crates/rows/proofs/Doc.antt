@@ -1,0 +1,13 @@
+-- Documents, chunks and pages.
+mod Buffer
+mod Splitter
+mod Console
+mod ConsoleRefused
+mod Fragments
+mod Html
+mod HtmlPages
+mod HtmlExamples
+mod MarkdownPages
+mod MarkdownExamples
+mod Manpage
+mod ManpagePieces

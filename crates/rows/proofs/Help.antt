@@ -1,0 +1,3 @@
+-- Item lists, help pages and pages of applications.
+mod Small
+mod Pages

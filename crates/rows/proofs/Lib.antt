@@ -1,0 +1,3 @@
+mod Doc
+mod Trees
+mod Help
