@@ -1,6 +1,6 @@
 //! Small things that pages are written of.
 ghost use Rattle.std.specs.Prelude.{[], ◌∷◌, flat_map};
-ghost use Rattle.bpaf_doc.specs.Buffer.Writes.{doc_writes, end, start, text};
+ghost use Rattle.bpaf_doc.specs.Buffer.Writes.{text};
 ghost use Rattle.bpaf_items.specs.Page.Steps.Pieces.{Leaves, joined, piece_writes};
 
 use bpaf_doc::buffer::{Block, Doc, Style, Token};
@@ -57,30 +57,6 @@ pub fn put<A: Allocator, B: Allocator + Copy>(
         put_piece(doc, piece)?;
     }
     Ok(())
-}
-
-/// Writes the start of a block.
-pub fn put_start<A: Allocator>(doc: &mut Doc<A>, block: Block) -> Result<(), AllocError>
-    ensures { Leaves result doc.old doc.new (start block ∷ []) }
-{
-    doc.token(Token::BlockStart(block))
-}
-
-/// Writes the end of a block.
-pub fn put_end<A: Allocator>(doc: &mut Doc<A>, block: Block) -> Result<(), AllocError>
-    ensures { Leaves result doc.old doc.new (end block ∷ []) }
-{
-    doc.token(Token::BlockEnd(block))
-}
-
-/// Writes a document.
-pub fn put_document<A: Allocator, B: Allocator>(
-    doc: &mut Doc<A>,
-    other: &Doc<B>,
-) -> Result<(), AllocError>
-    ensures { Leaves result doc.old doc.new (doc_writes other.now) }
-{
-    doc.doc(other)
 }
 
 fn put_piece<A: Allocator, B: Allocator + Copy>(
