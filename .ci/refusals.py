@@ -1,5 +1,5 @@
 #!/usr/bin/env python3
-"""Each public call of a library that can meet an allocation failure stands in docs/REFUSALS.md, with the test that makes each of its allocations fail in turn.
+"""Each public call of a library that can meet an allocation failure stands in docs/lists/REFUSALS.md, with the test that makes each of its allocations fail in turn.
 
 The libraries are those of crates.txt. A call can meet a failure where it answers a `Result`, unless its error is one of those named here.
 Prints what is missing there, and rows that name no such call or no test. Ends with status 1 where there is any.
@@ -9,7 +9,7 @@ import re
 import sys
 
 TOP = pathlib.Path(sys.argv[1] if sys.argv[1:] else pathlib.Path(__file__).resolve().parent.parent)
-PAGE = TOP / "docs" / "REFUSALS.md"
+PAGE = TOP / "docs" / "lists" / "REFUSALS.md"
 # Crates that are no libraries for others: tests, what tests run on, equations, and callers.
 NO_LIBRARIES = re.compile(r"\w+_tests|stand_ins|rows|callers")
 # These take their memory of `Global`, in which a test can make nothing fail.

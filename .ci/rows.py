@@ -1,5 +1,5 @@
 #!/usr/bin/env python3
-"""Each row of the rules stands in docs/ROWS.md with what runs it: a request of a stored run, an equation or a test.
+"""Each row of the rules stands in docs/lists/ROWS.md with what runs it: a request of a program, an equation or a test.
 
 Prints the rows that are not there, and those that nothing runs. Ends with status 1 where there is any. `rows.py write` writes the page.
 """
@@ -9,17 +9,17 @@ import sys
 
 TOP = pathlib.Path(__file__).resolve().parent.parent
 CRATES = TOP / "crates"
-PAGE = TOP / "docs" / "ROWS.md"
+PAGE = TOP / "docs" / "lists" / "ROWS.md"
 HEAD = """# Rows of the rules
 
 A row is an input with what comes of it. Each has a number here, in the order of the files that hold them, and what runs it in the gate:
 
-- `replay`: so many requests of its stored run, behind a remark of these words in `crates/replay/stdin`. Their answers are in `stdout` beside it;
+- `replay`: so many requests, behind a remark of these words in `crates/replay/stdin`. Their answers are in the golden file `stdout` beside it;
 - the crate `rows`: so many of its equations, behind a comment of these words in its `proofs/`. Each is proved, most by computing;
 - a test function, which says in its name what holds;
-- a program: its stored run.
+- a program: what it is run on and its golden file, beside its sources.
 
-`.ci/rows.py`, which `.ci/run` runs before the proofs, fails where a row of these files is not on this page.
+`.ci/rows.py`, which `.ci/run` runs before the proofs, fails where a row of these files is not on this page; `.ci/rows.py write` writes it.
 
 | Row | What it shows | Run by |
 |---|---|---|
@@ -27,7 +27,7 @@ A row is an input with what comes of it. Each has a number here, in the order of
 
 
 def requests():
-    """The remarks of the stored run of `replay`, with how many requests each has."""
+    """The remarks among the requests of `replay`, with how many requests each has."""
     words, count = None, 0
     for line in (CRATES / "replay" / "stdin").read_text(encoding="utf-8").splitlines() + ["#"]:
         if line.startswith("#"):
@@ -85,9 +85,9 @@ def main():
     if sys.argv[1:] == ["write"]:
         PAGE.write_text(text, encoding="utf-8")
     held = PAGE.read_text(encoding="utf-8").splitlines() if PAGE.exists() else []
-    faults = [f"docs/ROWS.md has not: {line}" for line in text.splitlines() if line not in held]
+    faults = [f"docs/lists/ROWS.md has not: {line}" for line in text.splitlines() if line not in held]
     faults += [f"nothing runs: {line}" for line in held if line not in text.splitlines()]
-    print("\n".join(faults) if faults else f"{len(lines)} rows stand in docs/ROWS.md")
+    print("\n".join(faults) if faults else f"{len(lines)} rows stand in docs/lists/ROWS.md")
     sys.exit(1 if faults else 0)
 
 
