@@ -1,7 +1,7 @@
 //! A runtime for tests: known words and a known input, ends that may fail, and what was printed.
 
 ghost use Rattle.std.specs.Io.{WritesAtMost};
-ghost use Rattle.std.specs.Prelude.{◌≡◌, ◌+◌, IfOk, string_len};
+ghost use Rattle.std.specs.Prelude.{◌≡◌, ◌+◌, IfOk, IsErr, string_len};
 
 use crate::fakes::{Given, Plan, Taken};
 use std::alloc::{Allocator, Global};
@@ -66,7 +66,9 @@ impl<'a> Desk<'a> {
     }
 }
 
-fn unsupported<T>() -> io::Result<T> {
+fn unsupported<T>() -> io::Result<T>
+    ensures { IsErr result }
+{
     Err(io::Error::from(io::ErrorKind::Unsupported))
 }
 
@@ -135,8 +137,7 @@ impl Print for Desk<'_> {
         let Ok(mut output) = self.output.try_borrow_mut() else {
             return unsupported();
         };
-        let count = output.write(bytes)?;
-        Ok(count.min(bytes.len()))
+        output.write(bytes)
     }
 }
 
