@@ -7,7 +7,7 @@ use std::io;
 use std::io::Read;
 use watched::Watched;
 
-/// Drops the next byte, and answers whether there was one. An error comes exactly where the read failed.
+/// Drops the next byte, and answers whether there was one. An error comes exactly where the mark is then set.
 pub fn skip_byte<R: Read>(reader: &mut Watched<R>) -> io::Result<bool>
     requires { IsUnmarked reader.old }
     ensures { IsErr result ↔ IsMarked reader.new }

@@ -1,7 +1,7 @@
 -- What a text gives: a description, or nothing, and then why.
 use Rattle.std.specs.Prelude.{◌≡◌, ℕ, List, Some, None, take}
 use Rattle.toml.specs.Data.{Members}
-use Rattle.toml.specs.Errors.{span_start}
+use Rattle.toml.specs.Errors.{IsMemory, IsWithin, span_start}
 use Rattle.toml.specs.Parse.{parse_document}
 use Rattle.toml.specs.declared.de.error.Error.{Error}
 use Rattle.description.specs.Content.{DescriptionSaid}
@@ -15,9 +15,12 @@ pub record Describes (text : List ℕ) (d : DescriptionSaid) : Type 0 where
   pub toml : parse_document text ≡ Some table
   pub gives : described table ≡ Some d
 
--- the text is no TOML, and the place is that where the error begins
+-- The text is no TOML, the error has a span in it, and the place is that where this span begins. The kit says no more of an error: that
+-- reading this text gave it is only tested.
 pub record IsNoToml (text : List ℕ) (place : Place) (error : Error) : Type 0 where
   pub refused : parse_document text ≡ None
+  pub not_memory : ¬ IsMemory error
+  pub within : IsWithin text error
   pub line : place.line ≡ line_behind (take (span_start error) text)
   pub column : place.column ≡ column_behind (take (span_start error) text)
 

@@ -27,7 +27,7 @@ use watched::Watched;
 /// as it was. The tables of the TOML, the description and its names are kept in `global`, and what is
 /// read and the page in `alloc`. The names are never freed, so each call keeps its own.
 ///
-/// `Read` comes exactly where a read failed, `Write` exactly where a write failed or took nothing, and
+/// `Read` comes exactly where the reader's mark is then set, `Write` exactly where the writer's is, and
 /// the faults of the input only where all was read: `NotUtf8` where it is no text, `NotToml` where it is
 /// no TOML, and `NotDescription` where its data is no description. `Memory` comes only where a growth was
 /// refused, which no clause can say.

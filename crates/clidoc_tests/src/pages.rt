@@ -47,8 +47,8 @@ pub const PAGES: [(Form, &str, &[u8]); 6] = [
 pub const HELP: &[u8] =
     b"Prints things\n\nUsage: app -v\n\nAvailable options:\n    -v, --verbose  Talk more\n";
 
-// The page in memory. The engine's promises over ends that tell their bytes say which page it is.
-fn page(global: Global, form: Form, input: &[u8]) -> Result<Vec<u8>, Fault>
+/// The page in memory. The engine's promises over ends that tell their bytes say which page it is.
+pub fn page(global: Global, form: Form, input: &[u8]) -> Result<Vec<u8>, Fault>
     ensures { IfOk result (λ page. HasPage form input.now page.items) }
 {
     let mut reader = Watched::new(input);

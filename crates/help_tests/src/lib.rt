@@ -19,4 +19,6 @@ mod refusals;
 #[cfg(test)]
 mod rows;
 #[cfg(test)]
+mod shown;
+#[cfg(test)]
 mod trees;

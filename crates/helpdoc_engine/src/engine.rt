@@ -24,7 +24,7 @@ const SECTION: &str = "1";
 /// page is made before the first write, so that an error other than `Write` leaves the writer as it
 /// was.
 ///
-/// `Read` comes exactly where a read failed, `Write` exactly where a write failed or took nothing,
+/// `Read` comes exactly where the reader's mark is then set, `Write` exactly where the writer's is,
 /// and `NotUtf8` only where all was read and is no text. `Memory` comes only where a growth was
 /// refused, which no clause can say. `Misplaced` never comes.
 pub fn run_text<A: Allocator + Copy, R: Read, W: Write>(
@@ -63,7 +63,7 @@ pub fn run_text<A: Allocator + Copy, R: Read, W: Write>(
 /// Writes the page of the sample application and nothing more. The whole page is made before the
 /// first write, so that `Memory` leaves the writer as it was.
 ///
-/// `Write` comes exactly where a write failed or took nothing, and `Memory` only where a growth was
+/// `Write` comes exactly where the writer's mark is then set, and `Memory` only where a growth was
 /// refused, which no clause can say. No other fault comes.
 pub fn run_sample<A: Allocator + Copy, W: Write>(
     alloc: A,

@@ -4,9 +4,8 @@ use helpdoc_engine::engine::{run_sample, run_text};
 use helpdoc_engine::faults::Fault;
 use helpdoc_engine::words::Choice;
 use linked_list_allocator::LocalHeap;
-use stand_ins::fakes::{FAILURE, Given, Plan, Taken};
+use stand_ins::fakes::{Given, Plan, Taken};
 use std::alloc::{AllocError, Global};
-use std::io;
 use std::process::Abort;
 use std::test::Fail;
 use watched::Watched;
@@ -129,33 +128,4 @@ fn a_refused_growth_writes_nothing(rt: HostRuntime) -> Result<(), Fail> {
         refuses_until(&rt, choice, page)?;
     }
     Ok(())
-}
-
-fn kind_of(outcome: io::Result<usize>) -> Result<usize, io::ErrorKind> {
-    outcome.map_err(|error| error.kind())
-}
-
-#[test]
-fn passes_calls_on_and_keeps_the_mark(rt: HostRuntime) {
-    let mut reader = Watched::new(Given::new(b"ab", Plan::failing(1)));
-    let mut buf = [0; 4];
-    for (want, marked) in [
-        (Ok(1), false),
-        (Err(FAILURE), true),
-        (Ok(1), true),
-        (Ok(0), true),
-    ] {
-        assert!(rt; kind_of(reader.read(&mut buf)) == want && reader.failed() == marked);
-    }
-    let rows: [(&[u8], Result<usize, io::ErrorKind>, bool); 4] = [
-        (b"ab", Ok(1), false),
-        (b"", Ok(0), false),
-        (b"cd", Err(FAILURE), true),
-        (b"e", Ok(1), true),
-    ];
-    let mut writer = Watched::new(Taken::new(rt.alloc(), Plan::failing(2)));
-    for (bytes, want, marked) in rows {
-        assert!(rt; kind_of(writer.write(bytes)) == want && writer.failed() == marked);
-    }
-    assert!(rt; writer.into_inner().bytes.as_slice() == b"ae".as_slice());
 }

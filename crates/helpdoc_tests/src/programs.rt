@@ -1,9 +1,10 @@
 //! Whole runs of the program: the status, and what stands on the streams.
 use crate::pages::{INPUT, PAGE, PAGES, SAMPLE};
-use helpdoc_engine::program::{WRONG_WORDS, run};
+use helpdoc_engine::program::run;
 use helpdoc_engine::words::{Choice, Form};
 use linked_list_allocator::LocalHeap;
 use stand_ins::desk::Desk;
+use stand_ins::fakes::Plan;
 use std::alloc::AllocError;
 use std::process::{Abort, ExitCode};
 use std::test::Fail;
@@ -31,37 +32,50 @@ fn word_of(form: Form) -> &'static str {
     }
 }
 
-fn answers<'a>(
+// Statuses are numbers here, as in the table of the program.
+fn ends(
     rt: &(impl Abort + AllocGlobal),
-    words: &'a [&'a str],
-    input: &'a [u8],
-    status: ExitCode,
+    desk: &Desk<'_>,
+    status: u8,
     output: &[u8],
     said: &str,
 ) -> Result<(), AllocError> {
     let heap = LocalHeap::new(rt.alloc(), 1 << 20)?;
-    let desk = Desk::new(rt.alloc(), words, input);
-    assert!(rt; run(&(&desk, &heap)) == status, "{words:?}");
-    assert!(rt; desk.has_printed(output, said), "{words:?}");
+    assert!(rt; run(&(desk, &heap)) == ExitCode::from(status), "{said:?}");
+    assert!(rt; desk.has_printed(output, said), "{said:?}");
     Ok(())
+}
+
+fn answers<'a>(
+    rt: &(impl Abort + AllocGlobal),
+    words: &'a [&'a str],
+    input: &'a [u8],
+    status: u8,
+    output: &[u8],
+    said: &str,
+) -> Result<(), AllocError> {
+    let desk = Desk::new(rt.alloc(), words, input);
+    ends(rt, &desk, status, output, said)
 }
 
 #[test]
 fn shows_what_is_chosen(rt: HostRuntime) -> Result<(), Fail> {
     for (choice, page) in PAGES {
-        answers(&rt, &words_of(choice), INPUT, ExitCode::SUCCESS, page, "")?;
+        answers(&rt, &words_of(choice), INPUT, 0, page, "")?;
     }
     Ok(())
 }
 
+const TEXT: &[&str] = &["helpdoc", "text", "full"];
+
+const ON_SAMPLE: &[&str] = &["helpdoc", "sample", "full"];
+
 #[test]
 fn answers_a_status(rt: HostRuntime) -> Result<(), Fail> {
-    let text: &[&str] = &["helpdoc", "text", "full"];
-    answers(&rt, text, b"\xff", ExitCode::FAILURE, b"", NOT_UTF8)?;
-    answers(&rt, text, b"", ExitCode::SUCCESS, b"", "")?;
+    answers(&rt, TEXT, b"\xff", 1, b"", NOT_UTF8)?;
+    answers(&rt, TEXT, b"", 0, b"", "")?;
     // The sample does not look at its input.
-    let sample: &[&str] = &["helpdoc", "sample", "full"];
-    answers(&rt, sample, b"\xff", ExitCode::SUCCESS, SAMPLE, "")?;
+    answers(&rt, ON_SAMPLE, b"\xff", 0, SAMPLE, "")?;
     let rows: [&[&str]; 7] = [
         &["helpdoc"],
         &["helpdoc", "text"],
@@ -72,9 +86,48 @@ fn answers_a_status(rt: HostRuntime) -> Result<(), Fail> {
         &["helpdoc", "sample", "full", "full"],
     ];
     for words in rows {
-        let wrong = ExitCode::from(WRONG_WORDS);
-        answers(&rt, words, INPUT, wrong, b"", EXPECTED)?;
+        answers(&rt, words, INPUT, 2, b"", EXPECTED)?;
     }
+    Ok(())
+}
+
+const READ: &str = "helpdoc: read failed\n";
+
+const WRITE: &str = "helpdoc: write failed\n";
+
+const MEMORY: &str = "helpdoc: no memory\n";
+
+// Of several faults the first is told: words, then reads, then the input, then writes.
+#[test]
+fn tells_the_first_fault(rt: HostRuntime) -> Result<(), Fail> {
+    let (never, first, fourth) = (Plan::BYTES, Plan::failing(0), Plan::failing(3));
+    let rows: [(&[&str], &[u8], Plan, Plan, u8, &[u8], &str); 9] = [
+        (
+            &["helpdoc", "text"],
+            b"\xff",
+            first,
+            first,
+            2,
+            b"",
+            EXPECTED,
+        ),
+        (TEXT, INPUT, first, never, 1, b"", READ),
+        (TEXT, INPUT, fourth, never, 1, b"", READ),
+        (TEXT, b"\xff\xff\xff", fourth, first, 1, b"", READ),
+        (TEXT, b"\xff", never, first, 1, b"", NOT_UTF8),
+        (TEXT, INPUT, never, first, 1, b"", WRITE),
+        (TEXT, INPUT, never, fourth, 1, &PAGE[..3], WRITE),
+        (ON_SAMPLE, INPUT, first, never, 0, SAMPLE, ""),
+        (ON_SAMPLE, INPUT, first, fourth, 1, &SAMPLE[..3], WRITE),
+    ];
+    for (words, input, reads, writes, status, output, said) in rows {
+        let desk = Desk::planned(rt.alloc(), words, input, reads, writes);
+        ends(&rt, &desk, status, output, said)?;
+    }
+    // Where the words cannot be read, nothing else is looked at.
+    let mut desk = Desk::planned(rt.alloc(), TEXT, INPUT, first, first);
+    desk.garble_words();
+    ends(&rt, &desk, 1, b"", MEMORY)?;
     Ok(())
 }
 
@@ -89,15 +142,12 @@ fn says_until(
         let heap = LocalHeap::new(rt.alloc(), budget * 16)?;
         let desk = Desk::new(rt.alloc(), words, INPUT);
         let status = run(&(&desk, &heap));
-        if status == ExitCode::SUCCESS {
+        if status == ExitCode::from(0) {
             assert!(rt; desk.has_printed(page, "") && refused > 0);
             return Ok(());
         }
-        assert!(rt; status == ExitCode::FAILURE, "{words:?} {budget}");
-        assert!(rt;
-            desk.has_printed(b"", "helpdoc: no memory\n"),
-            "{words:?} {budget}"
-        );
+        assert!(rt; status == ExitCode::from(1), "{words:?} {budget}");
+        assert!(rt; desk.has_printed(b"", MEMORY), "{words:?} {budget}");
         refused = refused.saturating_add(1);
     }
     panic!(rt; "{words:?} never succeeds")
@@ -105,7 +155,7 @@ fn says_until(
 
 #[test]
 fn a_refused_growth_is_said(rt: HostRuntime) -> Result<(), Fail> {
-    says_until(&rt, &["helpdoc", "text", "full"], PAGE)?;
-    says_until(&rt, &["helpdoc", "sample", "full"], SAMPLE)?;
+    says_until(&rt, TEXT, PAGE)?;
+    says_until(&rt, ON_SAMPLE, SAMPLE)?;
     Ok(())
 }
