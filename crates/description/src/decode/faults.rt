@@ -1,5 +1,4 @@
 //! Why a table is no description, and where.
-ghost use Rattle.std.specs.Prelude.{◌≡◌};
 ghost use Rattle.description.specs.Faults.{IsMemory, IsRefusal, IsAsMuch};
 
 use std::alloc::{AllocError, Allocator, Global};
@@ -108,7 +107,12 @@ impl<A: Allocator + Copy> Way<A> {
     pub fn told(&self, fault: Fault<'_>) -> DescriptionError<A>
         ensures { ¬ IsMemory result → ¬ IsRefusal fault.entry }
     {
-        let Fault::Content { before, name, after } = fault else {
+        let Fault::Content {
+            before,
+            name,
+            after,
+        } = fault
+        else {
             return DescriptionError::Memory(AllocError);
         };
         match self.message(before, name, after) {

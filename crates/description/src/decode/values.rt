@@ -83,11 +83,7 @@ pub fn required_text_at<'a>(table: &'a Table, key: &'static str) -> Result<&'a s
 }
 
 /// The flag at a key.
-pub fn flag_at<'a>(
-    table: &'a Table,
-    key: &'static str,
-    default: bool,
-) -> Result<bool, Fault<'a>>
+pub fn flag_at<'a>(table: &'a Table, key: &'static str, default: bool) -> Result<bool, Fault<'a>>
     ensures { Reads (flag_at default key.now (table_view table.now)) (λ flag. flag) result }
 {
     match value_at(table, key) {

@@ -4,7 +4,6 @@ use Rattle.std.proofs.lemmas.List.{map-append}
 use Rattle.toml.specs.Data.{as_table, depth, items_depth}
 use Rattle.toml.specs.View.{items_view, table_view, view}
 use Rattle.description.specs.Described.{as_command, as_group, group_of, level_of}
-use Rattle.description.specs.Faults.{IsRefusal}
 use Rattle.description_parts.specs.View.{command_said, group_said}
 use Rattle.description.proofs.Depths.{item_depth, is_table, no_command, no_group, table_depth}
 use Rattle.description.proofs.Reading.{passed_on}
