@@ -1,19 +1,30 @@
 #!/usr/bin/env python3
-"""Each public call of a library or of a program's engine that can refuse a growth stands in docs/REFUSALS.md with the test that refuses its growths in turn.
+"""Each public call of a library that can meet an allocation failure stands in docs/REFUSALS.md, with the test that makes each of its allocations fail in turn.
 
-Two crates are left out, `lasting_names` and `replay_engine`: they take their memory of `Global`, of which a test can refuse nothing.
-
+The libraries are those of crates.txt. A call can meet a failure where it answers a `Result`, unless its error is one of those named here.
 Prints what is missing there, and rows that name no such call or no test. Ends with status 1 where there is any.
 """
 import pathlib
 import re
 import sys
 
-TOP = pathlib.Path(__file__).resolve().parent.parent
-LIBRARIES = ["bpaf_roff", "bpaf_doc", "bpaf_meta", "bpaf_items", "bpaf_help", "watched", "helpdoc_engine", "clidoc_engine", "description_parts", "description"]
-REFUSES = re.compile(r"\b(AllocError|HelpError|ReadError|DescriptionError|Fault)\b")
+TOP = pathlib.Path(sys.argv[1] if sys.argv[1:] else pathlib.Path(__file__).resolve().parent.parent)
+PAGE = TOP / "docs" / "REFUSALS.md"
+# Crates that are no libraries for others: tests, what tests run on, equations, and callers.
+NO_LIBRARIES = re.compile(r"\w+_tests|stand_ins|rows|callers")
+# These take their memory of `Global`, in which a test can make nothing fail.
+OF_GLOBAL = {"lasting_names", "replay_engine"}
+# Errors that are no allocation failure: `from_names` of two empty lists, a misplaced item, and what a stream answers.
+OTHER_ERRORS = {"NoName", "&Item", "io::Error"}
 CALL = re.compile(r"(?m)^( *)pub fn (\w+)(?:<[^{}]*?>)?\(([^{}]*?)\)\s*->\s*(.*?)(?=\n\s*(?:where|requires|ensures|\{)|\s*\{)", re.S)
 ROW = re.compile(r"(?m)^\| `([\w:]+)` \| `(\w+)::(\w+)`")
+
+
+def libraries():
+    for line in (TOP / "crates.txt").read_text(encoding="utf-8").splitlines():
+        name = re.match(r"\w*", line)[0]
+        if name and (TOP / "crates" / name / "src" / "lib.rt").exists() and not NO_LIBRARIES.fullmatch(name) and name not in OF_GLOBAL:
+            yield name
 
 
 def modules(library):
@@ -40,9 +51,34 @@ def handed_on(files):
     return names
 
 
+def arguments(text):
+    """The parts of a text between its commas, but for those inside brackets."""
+    parts, depth = [""], 0
+    for character in text:
+        depth += (character in "<([") - (character in ">)]")
+        if character == "," and not depth:
+            parts.append("")
+        else:
+            parts[-1] += character
+    return [part.strip() for part in parts if part.strip()]
+
+
+def error_of(result, aliases):
+    """The error that a result's type names, without its own arguments; None where it is no `Result`."""
+    result = " ".join(result.split())
+    if (name := re.match(r"\w+$", result)) and name[0] in aliases:
+        return error_of(aliases[name[0]], aliases)
+    if result.startswith("io::Result"):
+        return "io::Error"
+    if found := re.match(r"(?:\w+::)*Result<(.*)>$", result):
+        return re.match(r"&?(?:'\w+ )?[\w:]+", arguments(found[1])[-1])[0]
+    return "an unread error" if "Result" in result else None
+
+
 def public_calls(library):
     files = modules(library)
     handed = handed_on(files)
+    aliases = dict(re.findall(r"(?m)^pub type (\w+)(?:<.*?>)? = (.*?);", "\n".join(text for _, _, text in files)))
     types = {
         name
         for _, public, text in files
@@ -51,7 +87,7 @@ def public_calls(library):
     }
     for path, public, text in files:
         for match in CALL.finditer(text):
-            if not REFUSES.search(match[4]):
+            if (error_of(match[4], aliases) or "NoName") in OTHER_ERRORS:
                 continue
             if not match[1]:
                 if public or match[2] in handed:
@@ -63,16 +99,16 @@ def public_calls(library):
 
 
 def main():
-    calls = {call for library in LIBRARIES for call in public_calls(library)}
-    rows = ROW.findall((TOP / "docs" / "REFUSALS.md").read_text(encoding="utf-8"))
+    calls = {call for library in libraries() for call in public_calls(library)}
+    rows = ROW.findall(PAGE.read_text(encoding="utf-8"))
     named = {call for call, _, _ in rows}
     faults = [f"{call} has no row" for call in sorted(calls - named)]
-    faults += [f"{call} is no public call that can refuse a growth" for call in sorted(named - calls)]
+    faults += [f"{call} is no public call that can meet an allocation failure" for call in sorted(named - calls)]
     for call, crate, test in rows:
         sources = "".join(file.read_text(encoding="utf-8") for file in (TOP / "crates" / crate / "src").glob("*.rt"))
         if not re.search(rf"#\[test\]\nfn {test}\(", sources):
             faults.append(f"{call}: crate {crate} has no test {test}")
-    print("\n".join(faults) if faults else f"{len(calls)} calls that can refuse a growth, each with a test")
+    print("\n".join(faults) if faults else f"{len(calls)} calls that can meet an allocation failure, each with a test")
     sys.exit(1 if faults else 0)
 
 

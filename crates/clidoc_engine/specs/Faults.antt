@@ -12,6 +12,7 @@ use Rattle.clidoc_engine.specs.declared.faults.Fault.TheVariants.{NotUtf8, NotTo
 
 abbrev pub fault_of_read : ReadError → Fault
 fault_of_read (reading.Failed error) = Read
+fault_of_read reading.NotUtf8 = NotUtf8
 fault_of_read (reading.Refused error) = Memory
 
 abbrev pub fault_of_description : DescriptionError Global → Fault

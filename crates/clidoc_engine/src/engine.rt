@@ -1,11 +1,10 @@
 //! What the program does, over any reader and any writer.
 
-ghost use Rattle.std.specs.Prelude.{◌≡◌, ◌≢◌, ◌↔◌, IsUtf8, IsOk, IfOk, IfErr, OnOk, OnErr, IsErrOf, Some, None, string_bytes};
-ghost use Rattle.std.specs.Io.KnownBytes.{Appends};
+ghost use Rattle.std.specs.Prelude.{◌≡◌, ◌≢◌, ◌↔◌, IfOk, IfErr, OnOk, OnErr, IsErrOf, Some, None, string_bytes};
 ghost use Rattle.toml.specs.Errors.{IsMemory, IsWithin};
 ghost use Rattle.toml.specs.Parse.{parse_document};
 ghost use Rattle.toml.specs.View.{table_view};
-ghost use Rattle.watched.specs.Watched.{AppendsPart, IsMarked, IsUnmarked, ReadsText, ReadsNoText};
+ghost use Rattle.watched.specs.Watched.{IsMarked, IsUnmarked, ReadsText, ReadsNoText};
 ghost use Rattle.description.specs.View.{description_said};
 ghost use Rattle.clidoc_engine.specs.Faults.{IfNotToml, IfNotDescription};
 ghost use Rattle.clidoc_engine.specs.Inputs.{IsNoToml, IsNoDescription};
@@ -63,19 +62,9 @@ pub fn run_description<A: Allocator + Copy, R: Read, W: Write>(
     ensures not_description { IfErr result (λ fault. IfNotDescription fault (
         ReadsText (R.remaining reader.old.end) (R.remaining reader.new.end) IsNoDescription)) }
 {
-    let bytes = reader.read_all(alloc)?;
-    let input = text_of(bytes)?;
+    let input = reader.read_text(alloc)?;
     let page = page_of(alloc, global, form, input.as_str())?;
-    write_all(writer, page.as_str())
-}
-
-// The bytes as a text, without a copy.
-fn text_of<A: Allocator>(bytes: Vec<u8, A>) -> Result<String<A>, Fault>
-    ensures ok { IfOk result (λ text. string_bytes text ≡ bytes.items) }
-    ensures succeeds { IsOk result ↔ IsUtf8 bytes.items }
-    ensures fault { IfErr result (λ fault. fault ≡ Fault.NotUtf8) }
-{
-    String::from_utf8(bytes).map_err(|_| Fault::NotUtf8)
+    writer.write_all(page.as_bytes()).map_err(|_| Fault::Write)
 }
 
 // The page of the description that the text gives.
@@ -140,17 +129,4 @@ fn rendered<A: Allocator + Copy>(
         Form::Markdown => description.markdown(alloc),
         Form::Man => description.manpage(alloc),
     }
-}
-
-// Writes all of the text. Where a write fails, or takes nothing, a rest of it was not taken.
-fn write_all<W: Write>(writer: &mut Watched<W>, text: &str) -> Result<(), Fault>
-    requires { IsUnmarked writer.old }
-    ensures ok { OnOk result (
-        Appends (W.contents writer.old.end) (W.contents writer.new.end) text.now) }
-    ensures cut_short { OnErr result (
-        AppendsPart (W.contents writer.old.end) (W.contents writer.new.end) text.now) }
-    ensures write { IsErrOf result Fault.Write ↔ IsMarked writer.new }
-    ensures fault { IfErr result (λ fault. fault ≡ Fault.Write) }
-{
-    writer.write_all(text.as_bytes()).map_err(|_| Fault::Write)
 }

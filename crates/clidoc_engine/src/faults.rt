@@ -51,6 +51,7 @@ impl From<ReadError> for Fault {
     fn from(error: ReadError) -> Fault {
         match error {
             ReadError::Failed(_) => Fault::Read,
+            ReadError::NotUtf8 => Fault::NotUtf8,
             ReadError::Refused(_) => Fault::Memory,
         }
     }

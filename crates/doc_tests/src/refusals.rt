@@ -1,13 +1,12 @@
-//! Each growth refused in turn. Budgets rise from nothing, and each refuses the first growth that does not fit, until the call
+//! Each growth refused in turn: a call is made over an arena with room for nothing, then for a little more each time, until it
 //! succeeds. Each refusal leaves what was lent as it was, and the answer at the end is that of ample memory.
+use crate::arenas::{BYTES, STEP, roomy, taken};
 use crate::calls::word;
 use bpaf_doc::buffer::{Block, Doc, Style, Token};
 use bpaf_roff::roff::Roff;
-use linked_list_allocator::LocalHeap;
-use std::alloc::{AllocError, Allocator, Global};
+use std::alloc::{AllocError, Allocator};
 use std::fmt::Write;
 use std::process::Abort;
-use std::test::Fail;
 
 #[derive(Clone, Copy, Debug)]
 enum Call {
@@ -64,7 +63,7 @@ const CALLS: [Call; 24] = [
     Call::OwnedRoff,
 ];
 
-// What the calls are lent. The long text is longer than all that a list of ends gives back as it grows: so there is a budget at
+// What the calls are lent. The long text is longer than what a list of ends takes as it grows: so there is a room in
 // which the list grows and the payload is refused.
 #[derive(Drop)]
 struct Lent {
@@ -74,25 +73,30 @@ struct Lent {
     path: Vec<String>,
 }
 
-fn make_lent(alloc: Global) -> Result<Lent, AllocError> {
-    let long = word(alloc, 600)?;
-    Ok(Lent {
-        title: titled(alloc, "title", &long)?,
-        line: titled(alloc, "line\n", &long)?,
-        path: make_path(alloc, &long)?,
+fn make_lent(rt: &(impl Abort + AllocGlobal)) -> Lent {
+    let long = word(rt, 600);
+    Lent {
+        title: titled(rt, "title", &long),
+        line: titled(rt, "line\n", &long),
+        path: make_path(rt, &long),
         long,
-    })
+    }
 }
 
-fn titled(alloc: Global, title: &str, text: &str) -> Result<Doc, AllocError> {
-    Doc::from_pairs(alloc, &[(title, Style::Text), (text, Style::Literal)])
+fn titled(rt: &(impl Abort + AllocGlobal), title: &str, text: &str) -> Doc {
+    Doc::from_pairs(rt.alloc(), &[(title, Style::Text), (text, Style::Literal)]).expect(
+        rt,
+        "a document",
+    )
 }
 
-fn make_path(alloc: Global, name: &str) -> Result<Vec<String>, AllocError> {
-    let mut path = Vec::new(alloc);
-    path.push(String::from_str(alloc, "program")?)?;
-    path.push(String::from_str(alloc, name)?)?;
-    Ok(path)
+fn make_path(rt: &(impl Abort + AllocGlobal), name: &str) -> Vec<String> {
+    let mut path = Vec::new(rt.alloc());
+    for name in ["program", name] {
+        let name = String::from_str(rt.alloc(), name).expect(rt, "a name");
+        path.push(name).expect(rt, "a path");
+    }
+    path
 }
 
 fn is_as_lent(given: &Lent, copy: &Lent) -> bool {
@@ -103,8 +107,8 @@ fn is_as_lent(given: &Lent, copy: &Lent) -> bool {
 }
 
 // Sixteen parts, so that one more makes the list of their ends grow. The last one is a literal text.
-fn begun<A: Allocator + Copy>(alloc: A, first: &str) -> Result<Doc<A>, AllocError> {
-    let mut doc = Doc::from_text(alloc, first)?;
+fn begun<A: Allocator + Copy>(rt: &impl Abort, alloc: A, first: &str) -> Doc<A> {
+    let mut doc = Doc::from_text(alloc, first).expect(rt, "a document");
     for block in [
         Block::Section2,
         Block::Section3,
@@ -113,13 +117,14 @@ fn begun<A: Allocator + Copy>(alloc: A, first: &str) -> Result<Doc<A>, AllocErro
         Block::ItemTerm,
         Block::ItemBody,
     ] {
-        doc.token(Token::BlockStart(block))?;
-        doc.emphasis("one two")?;
+        doc.token(Token::BlockStart(block)).expect(rt, "a mark");
+        doc.emphasis("one two").expect(rt, "a text");
     }
-    doc.token(Token::BlockEnd(Block::ItemTerm))?;
-    doc.token(Token::BlockEnd(Block::Section2))?;
-    doc.literal("three")?;
-    Ok(doc)
+    for block in [Block::ItemTerm, Block::Section2] {
+        doc.token(Token::BlockEnd(block)).expect(rt, "a mark");
+    }
+    doc.literal("three").expect(rt, "a text");
+    doc
 }
 
 // A write changes the document, and a maker puts another one in its place.
@@ -184,88 +189,86 @@ fn same<A: Allocator, B: Allocator>(left: &Doc<A>, right: &Doc<B>) -> bool {
     left.parts().eq(right.parts())
 }
 
-// Answers how often the call was refused.
-fn refusals(rt: &impl Abort, alloc: Global, call: Call) -> Result<u64, AllocError> {
-    let given = make_lent(alloc)?;
-    let copy = make_lent(alloc)?;
-    let before = begun(alloc, &given.long)?;
-    let mut after = begun(alloc, &given.long)?;
-    apply(alloc, &mut after, call, &given)?;
-    let mut refused = 0u64;
-    for budget in 1..512usize {
-        let heap = LocalHeap::new(alloc, budget * 16)?;
-        if let Ok(mut doc) = begun(&heap, &given.long) {
-            match apply(&heap, &mut doc, call, &given) {
-                Err(AllocError) => {
-                    refused = refused.saturating_add(1);
-                    assert!(rt; same(&doc, &before), "{call:?} at {budget}");
-                    assert!(rt; is_as_lent(&given, &copy), "{call:?} at {budget}");
-                }
-                Ok(()) => {
-                    assert!(rt; same(&doc, &after), "{call:?} at {budget}");
-                    return Ok(refused);
-                }
-            }
+// What stands after the call with so many bytes, and whether it was refused.
+fn is_refused(
+    rt: &(impl Abort + AllocGlobal),
+    room: usize,
+    call: Call,
+    given: &Lent,
+    wanted: &[Doc; 2],
+) -> bool {
+    let arena = roomy(rt);
+    let mut doc = begun(rt, &arena, &given.long);
+    let _taken = taken(rt, &arena, room);
+    let refused = apply(&arena, &mut doc, call, given).is_err();
+    let [before, after] = wanted;
+    let wanted = if refused { before } else { after };
+    assert!(rt; same(&doc, wanted), "{call:?} in {room}");
+    refused
+}
+
+// Answers the room in which the call succeeds.
+fn needed(rt: &(impl Abort + AllocGlobal), call: Call, given: &Lent, copy: &Lent) -> usize {
+    let before = begun(rt, rt.alloc(), &given.long);
+    let mut after = begun(rt, rt.alloc(), &given.long);
+    apply(rt.alloc(), &mut after, call, given).expect(rt, "ample memory");
+    let wanted = [before, after];
+    for step in 0..BYTES / STEP {
+        let room = step.saturating_mul(STEP);
+        let refused = is_refused(rt, room, call, given, &wanted);
+        assert!(rt; is_as_lent(given, copy), "{call:?} in {room}");
+        if !refused {
+            return room;
         }
     }
     panic!(rt; "never made: {call:?}")
 }
 
 #[test]
-fn a_refused_call_changes_nothing(rt: HostRuntime) -> Result<(), Fail> {
+fn a_refused_call_changes_nothing(rt: HostRuntime) {
+    let given = make_lent(&rt);
+    let copy = make_lent(&rt);
     for call in CALLS {
-        let refused = refusals(&rt, rt.alloc(), call)?;
-        assert!(rt; refused > 0, "{call:?}");
+        assert!(rt; needed(&rt, call, &given, &copy) > 0, "{call:?}");
     }
-    Ok(())
+}
+
+// What is shown of a document with so many bytes left beside it; nothing where that is refused.
+fn shown(rt: &(impl Abort + AllocGlobal), room: usize, text: &str) -> String {
+    let arena = roomy(rt);
+    let doc = Doc::from_text(&arena, text).expect(rt, "a document");
+    let _taken = taken(rt, &arena, room);
+    let mut out = String::new(rt.alloc());
+    let outcome = write!(out, "{doc}");
+    assert!(rt; outcome.is_err() == out.is_empty());
+    out
 }
 
 // The text is made in the document's own memory, and nothing is written where that is refused.
 #[test]
-fn a_refused_growth_is_an_error_of_display(rt: HostRuntime) -> Result<(), Fail> {
-    let long = word(rt.alloc(), 600)?;
-    let mut refused = 0u64;
-    for budget in 1..512usize {
-        let heap = LocalHeap::new(rt.alloc(), budget * 16)?;
-        if let Ok(doc) = Doc::from_text(&heap, &long) {
-            let mut out = String::new(rt.alloc());
-            if write!(out, "{doc}").is_ok() {
-                assert!(rt; refused > 0);
-                return Ok(());
-            }
-            refused = refused.saturating_add(1);
-            assert_eq!(rt; out.as_str(), "");
+fn a_refused_growth_is_an_error_of_display(rt: HostRuntime) {
+    let long = word(&rt, 600);
+    assert!(rt; shown(&rt, 0, &long).is_empty());
+    for step in 1..BYTES / STEP {
+        let room = step.saturating_mul(STEP);
+        if shown(&rt, room, &long) == long {
+            return;
         }
     }
     panic!(rt; "never shown")
 }
 
-// Takes what the heap has left, a little at a time.
-fn rest_of<'h>(
-    alloc: Global,
-    heap: &'h LocalHeap,
-) -> Result<Vec<Vec<u8, &'h LocalHeap>>, AllocError> {
-    let mut rest = Vec::new(alloc);
-    for _ in 0..1024usize {
-        if let Ok(block) = Vec::with_capacity(heap, 1) {
-            rest.push(block)?;
-        }
-    }
-    Ok(rest)
-}
-
 #[test]
-fn memory_that_was_asked_for_is_there(rt: HostRuntime) -> Result<(), Fail> {
-    let long = word(rt.alloc(), 598)?;
-    let heap = LocalHeap::new(rt.alloc(), 8192)?;
-    let mut doc = Doc::new(&heap);
-    doc.reserve(3, 600)?;
-    let _rest = rest_of(rt.alloc(), &heap)?;
-    assert!(rt; Doc::from_text(&heap, "a").is_err());
-    doc.literal(&long)?;
-    doc.text("b")?;
-    doc.literal("c")?;
+fn memory_that_was_asked_for_is_there(rt: HostRuntime) {
+    let long = word(&rt, 598);
+    let arena = roomy(&rt);
+    let mut doc = Doc::new(&arena);
+    doc.reserve(3, 600).expect(&rt, "what is asked for");
+    let _taken = taken(&rt, &arena, 0);
+    assert!(rt; Doc::from_text(&arena, "a").is_err());
+    doc.literal(&long).expect(&rt, "a text");
+    doc.text("b").expect(&rt, "a text");
+    doc.literal("c").expect(&rt, "a text");
     assert!(rt; doc.len() == 3);
     assert!(rt; doc.text_len() == 600);
-    Ok(())
 }

@@ -1,3 +1,2 @@
 mod Pages
 mod SamplePages
-mod Texts

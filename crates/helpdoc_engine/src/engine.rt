@@ -1,8 +1,7 @@
 //! What the program does, over any reader and any writer.
 
-ghost use Rattle.std.specs.Prelude.{◌≡◌, ◌≢◌, ◌↔◌, ◌⊎◌, IsUtf8, IsOk, IfOk, IfErr, OnOk, OnErr, IsErrOf, string_bytes};
-ghost use Rattle.std.specs.Io.KnownBytes.{Appends};
-ghost use Rattle.watched.specs.Watched.{AppendsPart, IsMarked, IsUnmarked, ReadsText, ReadsNoText};
+ghost use Rattle.std.specs.Prelude.{◌≡◌, ◌≢◌, ◌↔◌, ◌⊎◌, IfOk, IfErr, OnOk, OnErr, IsErrOf, string_bytes};
+ghost use Rattle.watched.specs.Watched.{IsMarked, IsUnmarked, ReadsText, ReadsNoText};
 ghost use Rattle.bpaf_doc.specs.Manpage.Page.{title_page};
 ghost use Rattle.helpdoc_engine.specs.Rendering.{IsPage, document_of_text, text_title};
 ghost use Rattle.helpdoc_engine.specs.Runs.{WritesPage, WritesBeginning};
@@ -56,10 +55,9 @@ pub fn run_text<A: Allocator + Copy, R: Read, W: Write>(
     ensures not_utf8 { IsErrOf result Fault.NotUtf8 →
         ReadsNoText (R.remaining reader.old.end) (R.remaining reader.new.end) }
 {
-    let bytes = reader.read_all(alloc)?;
-    let input = text_of(bytes)?;
+    let input = reader.read_text(alloc)?;
     let page = page_of(alloc, form, input)?;
-    write_all(writer, page.as_str())
+    writer.write_all(page.as_bytes()).map_err(|_| Fault::Write)
 }
 
 /// Writes the page of the sample application and nothing more. The whole page is made before the
@@ -88,17 +86,8 @@ pub fn run_sample<A: Allocator + Copy, W: Write>(
         WritesBeginning sample_title form (sample_document form)
         (W.contents writer.old.end) (W.contents writer.new.end) }
 {
-    let sample = sample_page(alloc, form)?;
-    write_all(writer, sample.as_str())
-}
-
-// The bytes as a text, without a copy.
-fn text_of<A: Allocator>(bytes: Vec<u8, A>) -> Result<String<A>, Fault>
-    ensures ok { IfOk result (λ text. string_bytes text ≡ bytes.items) }
-    ensures succeeds { IsOk result ↔ IsUtf8 bytes.items }
-    ensures fault { IfErr result (λ fault. fault ≡ Fault.NotUtf8) }
-{
-    String::from_utf8(bytes).map_err(|_| Fault::NotUtf8)
+    let text = sample_page(alloc, form)?;
+    writer.write_all(text.as_bytes()).map_err(|_| Fault::Write)
 }
 
 // The page of the document of one text.
@@ -127,17 +116,4 @@ fn titled<A: Allocator + Copy>(alloc: A) -> Result<Roff<A>, AllocError>
     let mut page = Roff::new(alloc);
     page.append_control("TH", &["helpdoc", SECTION, "-", "-", ""])?;
     Ok(page)
-}
-
-// Writes all of the text. Where a write fails, or takes nothing, a rest of it was not taken.
-fn write_all<W: Write>(writer: &mut Watched<W>, text: &str) -> Result<(), Fault>
-    requires { IsUnmarked writer.old }
-    ensures ok { OnOk result (
-        Appends (W.contents writer.old.end) (W.contents writer.new.end) text.now) }
-    ensures cut_short { OnErr result (
-        AppendsPart (W.contents writer.old.end) (W.contents writer.new.end) text.now) }
-    ensures write { IsErrOf result Fault.Write ↔ IsMarked writer.new }
-    ensures fault { IfErr result (λ fault. fault ≡ Fault.Write) }
-{
-    writer.write_all(text.as_bytes()).map_err(|_| Fault::Write)
 }

@@ -2,20 +2,19 @@
 use crate::monoids::shown;
 use bpaf_roff::monoid::FreeMonoid;
 use bpaf_roff::roff::{Font, RESTORE_FONT};
-use std::alloc::{AllocError, Global};
-use std::test::Fail;
+use std::process::Abort;
 
 type Pieces = (bool, &'static [(char, &'static str)]);
 
-fn made(alloc: Global, (squash, texts): Pieces) -> Result<FreeMonoid<char>, AllocError> {
-    let mut monoid = FreeMonoid::new(alloc);
+fn made(rt: &(impl Abort + AllocGlobal), (squash, texts): Pieces) -> FreeMonoid<char> {
+    let mut monoid = FreeMonoid::new(rt.alloc());
     monoid.squash = squash;
-    monoid.extend(texts.iter().map(|(label, text)| (*label, *text)))?;
-    Ok(monoid)
+    monoid.extend(texts.iter().copied()).expect(rt, "a monoid");
+    monoid
 }
 
 #[test]
-fn texts_are_put_last(rt: HostRuntime) -> Result<(), Fail> {
+fn texts_are_put_last(rt: HostRuntime) {
     let rows: [(Pieces, usize, &str); 3] = [
         (
             (false, &[('a', "string"), ('b', "more"), ('d', "!")]),
@@ -30,15 +29,14 @@ fn texts_are_put_last(rt: HostRuntime) -> Result<(), Fail> {
         ((false, &[('a', "é"), ('a', "")]), 2, " a:é a:"),
     ];
     for (pieces, size, want) in rows {
-        let monoid = made(rt.alloc(), pieces)?;
+        let monoid = made(&rt, pieces);
         assert_eq!(rt; monoid.payload_size(), size, "{want}");
-        assert_eq!(rt; shown(rt.alloc(), &monoid)?.as_str(), want);
+        assert_eq!(rt; shown(&rt, &monoid).as_str(), want);
     }
-    Ok(())
 }
 
 #[test]
-fn equality_is_of_pieces_and_setting(rt: HostRuntime) -> Result<(), Fail> {
+fn equality_is_of_pieces_and_setting(rt: HostRuntime) {
     let rows: [(Pieces, Pieces, bool); 5] = [
         (
             (true, &[('a', "x"), ('a', "y")]),
@@ -59,10 +57,9 @@ fn equality_is_of_pieces_and_setting(rt: HostRuntime) -> Result<(), Fail> {
         ((false, &[('a', "x")]), (false, &[('b', "x")]), false),
     ];
     for (left, right, want) in rows {
-        let same = made(rt.alloc(), left)? == made(rt.alloc(), right)?;
+        let same = made(&rt, left) == made(&rt, right);
         assert_eq!(rt; same, want, "{left:?} {right:?}");
     }
-    Ok(())
 }
 
 #[test]

@@ -1,44 +1,31 @@
 //! Labels that are cloned to another place in memory: of a `String` a clone is equal, and no more.
 use bpaf_roff::monoid::FreeMonoid;
-use std::alloc::{AllocError, Allocator, Global};
+use std::fmt::Write;
 use std::process::Abort;
-use std::test::Fail;
 
-fn pair(alloc: Global, label: &str, text: &str) -> Result<FreeMonoid<String>, AllocError> {
-    let mut monoid = FreeMonoid::new(alloc);
-    monoid.append_str(String::from_str(alloc, label)?, text)?;
-    Ok(monoid)
+fn pair(rt: &(impl Abort + AllocGlobal), label: &str, text: &str) -> FreeMonoid<String> {
+    let label = String::from_str(rt.alloc(), label).expect(rt, "a label");
+    let mut monoid = FreeMonoid::new(rt.alloc());
+    monoid.append_str(label, text).expect(rt, "a piece");
+    monoid
 }
 
 // Each piece as its label, a colon, its text and a blank.
-fn shown(alloc: Global, monoid: &FreeMonoid<String>) -> Result<String, AllocError> {
-    let mut out = String::new(alloc);
+fn shown(rt: &(impl Abort + AllocGlobal), monoid: &FreeMonoid<String>) -> String {
+    let mut out = String::new(rt.alloc());
     for (label, text) in monoid {
-        out.push_str(label.as_str())?;
-        out.push(':')?;
-        out.push_str(text)?;
-        out.push(' ')?;
+        write!(out, "{label}:{text} ").expect(rt, "a text");
     }
-    Ok(out)
-}
-
-fn is_shown(
-    alloc: Global,
-    monoid: &FreeMonoid<String>,
-    expected: &str,
-) -> Result<bool, AllocError> {
-    let text = shown(alloc, monoid)?;
-    Ok(text.as_str() == expected)
+    out
 }
 
 #[test]
-fn sums_monoids_with_labels_of_text(rt: HostRuntime) -> Result<(), Fail> {
-    let left = pair(rt.alloc(), "first", "x")?;
-    let right = pair(rt.alloc(), "second", "yz")?;
-    let sum = left.add(&right)?;
-    assert!(rt; is_shown(rt.alloc(), &sum, "first:x second:yz ")?);
-    let copy = sum.clone()?;
-    assert!(rt; is_shown(rt.alloc(), &copy, "first:x second:yz ")?);
+fn sums_monoids_with_labels_of_text(rt: HostRuntime) {
+    let left = pair(&rt, "first", "x");
+    let right = pair(&rt, "second", "yz");
+    let sum = left.add(&right).expect(&rt, "a sum");
+    assert_eq!(rt; shown(&rt, &sum).as_str(), "first:x second:yz ");
+    let copy = sum.clone().expect(&rt, "a copy");
+    assert_eq!(rt; shown(&rt, &copy).as_str(), "first:x second:yz ");
     assert!(rt; copy == sum);
-    Ok(())
 }

@@ -4,6 +4,8 @@
 #![tactic(auto)]
 
 #[cfg(test)]
+mod arenas;
+#[cfg(test)]
 mod calls;
 #[cfg(test)]
 mod labels;

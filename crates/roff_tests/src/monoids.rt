@@ -1,8 +1,11 @@
-//! The calls of a monoid over a small heap.
+//! The calls of a monoid over a small arena.
+use crate::arenas::taken;
 use crate::refusals::{LONG, Outcome};
 use bpaf_roff::monoid::FreeMonoid;
-use linked_list_allocator::LocalHeap;
-use std::alloc::{AllocError, Allocator, Global};
+use bumpalo::Bump;
+use std::alloc::{AllocError, Allocator};
+use std::fmt::Write;
+use std::process::Abort;
 
 /// A call of a monoid.
 #[derive(Clone, Copy, Debug)]
@@ -17,89 +20,88 @@ pub enum MonoidCall {
     Clone,
 }
 
+const TEXTS: [(char, &str); 4] = [('a', "x"), ('a', LONG), ('b', ""), ('b', LONG)];
+
 // Pieces under one label, of which nothing was joined, and then with `squash` on.
-fn start<A: Allocator + Copy>(alloc: A, pieces: usize) -> Result<FreeMonoid<char, A>, AllocError> {
+fn start<A: Allocator + Copy>(rt: &impl Abort, alloc: A, pieces: usize) -> FreeMonoid<char, A> {
     let mut monoid = FreeMonoid::new(alloc);
     for _ in 0..pieces {
-        monoid.append_str('a', "text")?;
+        monoid.append_str('a', "text").expect(rt, "a piece");
     }
     monoid.squash = true;
-    Ok(monoid)
+    monoid
 }
 
 /// Each piece as a blank, its label, a colon and its text.
 pub fn shown<A: Allocator>(
-    alloc: Global,
+    rt: &(impl Abort + AllocGlobal),
     monoid: &FreeMonoid<char, A>,
-) -> Result<String, AllocError> {
-    let mut out = String::new(alloc);
+) -> String {
+    let mut out = String::new(rt.alloc());
     for (label, text) in monoid {
-        out.push(' ')?;
-        out.push(*label)?;
-        out.push(':')?;
-        out.push_str(text)?;
+        write!(out, " {label}:{text}").expect(rt, "a text");
     }
-    Ok(out)
+    out
 }
 
 fn outcome<A: Allocator>(
-    alloc: Global,
+    rt: &(impl Abort + AllocGlobal),
     done: bool,
     monoid: &FreeMonoid<char, A>,
-) -> Result<Outcome, AllocError> {
-    Ok(Outcome {
+) -> Outcome {
+    Outcome {
         done,
         setting: monoid.squash,
-        shown: shown(alloc, monoid)?,
-    })
-}
-
-/// What stands before the call.
-pub fn monoid_before(alloc: Global, pieces: usize) -> Result<Outcome, AllocError> {
-    outcome(alloc, false, &start(alloc, pieces)?)
-}
-
-fn apply<A: Allocator>(
-    monoid: &mut FreeMonoid<char, A>,
-    call: MonoidCall,
-    other: &FreeMonoid<char>,
-) -> Result<(), AllocError> {
-    match call {
-        MonoidCall::AppendStr => monoid.append_str('a', LONG),
-        MonoidCall::AppendChar => monoid.append_char('b', 'é'),
-        MonoidCall::PushStr => monoid.push_str('b', LONG).map(|_| ()),
-        MonoidCall::Push => monoid.push('a', 'é').map(|_| ()),
-        MonoidCall::Extend => {
-            monoid.extend([('a', "x"), ('a', LONG), ('b', ""), ('b', LONG)].into_iter())
-        }
-        MonoidCall::AddAssign | MonoidCall::Add | MonoidCall::Clone => monoid.add_assign(other),
+        shown: shown(rt, monoid),
     }
 }
 
-/// What stands after the call; none where the heap has no room for the value that it is called on.
+/// What stands before the call.
+pub fn monoid_before(rt: &(impl Abort + AllocGlobal), pieces: usize) -> Outcome {
+    outcome(rt, false, &start(rt, rt.alloc(), pieces))
+}
+
+// Whether the call was done.
+fn changes<A: Allocator>(
+    monoid: &mut FreeMonoid<char, A>,
+    call: MonoidCall,
+    other: &FreeMonoid<char>,
+) -> bool {
+    match call {
+        MonoidCall::AppendStr => monoid.append_str('a', LONG).is_ok(),
+        MonoidCall::AppendChar => monoid.append_char('b', 'é').is_ok(),
+        MonoidCall::PushStr => monoid.push_str('b', LONG).is_ok(),
+        MonoidCall::Push => monoid.push('a', 'é').is_ok(),
+        MonoidCall::Extend => monoid.extend(TEXTS.iter().copied()).is_ok(),
+        MonoidCall::AddAssign | MonoidCall::Add | MonoidCall::Clone => {
+            monoid.add_assign(other).is_ok()
+        }
+    }
+}
+
+/// What stands after the call, which has so many bytes.
 pub fn attempt_on_monoid(
-    heap: &LocalHeap,
-    alloc: Global,
+    rt: &(impl Abort + AllocGlobal),
+    arena: &Bump,
+    room: usize,
     call: MonoidCall,
     pieces: usize,
-) -> Result<Option<Outcome>, AllocError> {
-    let other = start(alloc, 2)?;
-    let Ok(mut monoid) = start(heap, pieces) else {
-        return Ok(None);
-    };
-    let after = match call {
+) -> Outcome {
+    let other = start(rt, rt.alloc(), 2);
+    let mut monoid = start(rt, arena, pieces);
+    let _taken = taken(rt, arena, room);
+    match call {
         MonoidCall::Add => match monoid.add(&other) {
-            Ok(sum) => outcome(alloc, true, &sum)?,
-            Err(AllocError) => monoid_before(alloc, pieces)?,
+            Ok(sum) => outcome(rt, true, &sum),
+            Err(AllocError) => monoid_before(rt, pieces),
         },
         MonoidCall::Clone => match monoid.clone() {
-            Ok(copy) => outcome(alloc, true, &copy)?,
-            Err(AllocError) => outcome(alloc, false, &monoid)?,
+            Ok(copy) => outcome(rt, true, &copy),
+            Err(AllocError) => outcome(rt, false, &monoid),
         },
         _ => {
-            let done = apply(&mut monoid, call, &other).is_ok();
-            outcome(alloc, done, &monoid)?
+            let done = changes(&mut monoid, call, &other);
+            outcome(rt, done, &monoid)
         }
-    };
-    Ok(Some(after))
+    }
 }

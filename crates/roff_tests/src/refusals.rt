@@ -1,13 +1,13 @@
-//! Each growth refused in turn. Budgets rise from nothing, and each refuses the first growth that does not fit, until the call
+//! Each growth refused in turn: a call is made over an arena with room for nothing, then for a little more each time, until it
 //! succeeds. Each refusal leaves what was lent as it was, and at the end stands what the call has to add.
+use crate::arenas::{BYTES, STEP, roomy, taken};
 use crate::monoids::{MonoidCall, attempt_on_monoid, monoid_before};
 use crate::roffs::{RoffCall, attempt_on_roff, roff_before};
 use bpaf_roff::escape::bytes::escape;
 use bpaf_roff::escape::{Apostrophes, Escape};
-use linked_list_allocator::LocalHeap;
-use std::alloc::{AllocError, Allocator, Global};
+use bumpalo::Bump;
+use std::alloc::{AllocError, Allocator};
 use std::process::Abort;
-use std::test::Fail;
 
 /// A text that no spare room holds.
 pub const LONG: &str = "long enough to grow";
@@ -131,93 +131,84 @@ fn escaped<A: Allocator>(out: &mut Vec<u8, A>) -> Result<(), AllocError> {
     )
 }
 
-fn bytes_before<A: Allocator>(alloc: A, count: usize) -> Result<Vec<u8, A>, AllocError> {
+fn bytes_before<A: Allocator>(rt: &impl Abort, alloc: A, count: usize) -> Vec<u8, A> {
     let mut out = Vec::new(alloc);
     for _ in 0..count {
-        out.push(b'z')?;
+        out.push(b'z').expect(rt, "a byte");
     }
-    Ok(out)
+    out
 }
 
-fn escape_outcome(alloc: Global, done: bool, bytes: &[u8]) -> Result<Outcome, AllocError> {
-    Ok(Outcome {
+fn escape_outcome(rt: &(impl Abort + AllocGlobal), done: bool, bytes: &[u8]) -> Outcome {
+    Outcome {
         done,
         setting: false,
-        shown: String::from_utf8_lossy(alloc, bytes)?,
-    })
+        shown: String::from_utf8_lossy(rt.alloc(), bytes).expect(rt, "a text"),
+    }
 }
 
 fn attempt_to_escape(
-    heap: &LocalHeap,
-    alloc: Global,
+    rt: &(impl Abort + AllocGlobal),
+    arena: &Bump,
+    room: usize,
     count: usize,
-) -> Result<Option<Outcome>, AllocError> {
-    let Ok(mut out) = bytes_before(heap, count) else {
-        return Ok(None);
-    };
+) -> Outcome {
+    let mut out = bytes_before(rt, arena, count);
+    let _taken = taken(rt, arena, room);
     let done = escaped(&mut out).is_ok();
-    Ok(Some(escape_outcome(alloc, done, &out)?))
+    escape_outcome(rt, done, &out)
 }
 
-fn before(alloc: Global, call: Call, pieces: usize) -> Result<Outcome, AllocError> {
+fn before(rt: &(impl Abort + AllocGlobal), call: Call, pieces: usize) -> Outcome {
     match call {
-        Call::OnMonoid(_) => monoid_before(alloc, pieces),
-        Call::OnRoff(_) => roff_before(alloc, pieces),
-        Call::Escape => escape_outcome(alloc, false, &bytes_before(alloc, pieces)?),
+        Call::OnMonoid(_) => monoid_before(rt, pieces),
+        Call::OnRoff(_) => roff_before(rt, pieces),
+        Call::Escape => escape_outcome(rt, false, &bytes_before(rt, rt.alloc(), pieces)),
     }
 }
 
-fn attempt(
-    heap: &LocalHeap,
-    alloc: Global,
-    call: Call,
-    pieces: usize,
-) -> Result<Option<Outcome>, AllocError> {
+fn attempt(rt: &(impl Abort + AllocGlobal), room: usize, call: Call, pieces: usize) -> Outcome {
+    let arena = roomy(rt);
     match call {
-        Call::OnMonoid(call) => attempt_on_monoid(heap, alloc, call, pieces),
-        Call::OnRoff(call) => attempt_on_roff(heap, alloc, call, pieces),
-        Call::Escape => attempt_to_escape(heap, alloc, pieces),
+        Call::OnMonoid(call) => attempt_on_monoid(rt, &arena, room, call, pieces),
+        Call::OnRoff(call) => attempt_on_roff(rt, &arena, room, call, pieces),
+        Call::Escape => attempt_to_escape(rt, &arena, room, pieces),
     }
 }
 
-// Answers how many budgets refused the call.
-fn refusals(
-    rt: &impl Abort,
-    alloc: Global,
+// Answers the room in which the call succeeds.
+fn needed(
+    rt: &(impl Abort + AllocGlobal),
     (call, setting, added): (Call, bool, &str),
     pieces: usize,
-) -> Result<u64, AllocError> {
-    let before = before(alloc, call, pieces)?;
-    let mut refused = 0u64;
-    for budget in 0..512usize {
-        let heap = LocalHeap::new(alloc, budget * 16)?;
-        if let Some(after) = attempt(&heap, alloc, call, pieces)? {
-            if after.done {
-                let more = after.shown.as_str().strip_prefix(before.shown.as_str());
-                assert!(rt;
-                    more == Some(added) && after.setting == setting,
-                    "{call:?} at {budget}"
-                );
-                return Ok(refused);
-            }
+) -> usize {
+    let before = before(rt, call, pieces);
+    for step in 0..BYTES / STEP {
+        let room = step.saturating_mul(STEP);
+        let after = attempt(rt, room, call, pieces);
+        if after.done {
+            let more = after.shown.as_str().strip_prefix(before.shown.as_str());
             assert!(rt;
-                after.shown == before.shown && after.setting == before.setting,
-                "{call:?} at {budget}"
+                more == Some(added) && after.setting == setting,
+                "{call:?} in {room}"
             );
-            refused = refused.saturating_add(1);
+            return room;
         }
+        assert!(rt;
+            after.shown == before.shown && after.setting == before.setting,
+            "{call:?} in {room}"
+        );
     }
     panic!(rt; "never done: {call:?}")
 }
 
 #[test]
-fn a_refused_growth_changes_nothing(rt: HostRuntime) -> Result<(), Fail> {
+fn a_refused_growth_changes_nothing(rt: HostRuntime) {
     for row in ROWS {
-        let mut refused = 0u64;
+        let mut room = 0usize;
         for pieces in 1..6usize {
-            refused = refused.saturating_add(refusals(&rt, rt.alloc(), row, pieces)?);
+            room = room.max(needed(&rt, row, pieces));
         }
-        assert!(rt; refused > 0, "{:?}", row.0);
+        assert!(rt; room > 0, "{:?}", row.0);
     }
-    Ok(())
 }

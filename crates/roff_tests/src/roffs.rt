@@ -1,9 +1,11 @@
-//! The calls of a roff over a small heap.
+//! The calls of a roff over a small arena.
+use crate::arenas::taken;
 use crate::refusals::{LONG, Outcome};
 use bpaf_roff::escape::Apostrophes;
 use bpaf_roff::roff::{Font, Roff};
-use linked_list_allocator::LocalHeap;
-use std::alloc::{AllocError, Allocator, Global};
+use bumpalo::Bump;
+use std::alloc::{AllocError, Allocator};
+use std::process::Abort;
 
 /// A call of a roff.
 #[derive(Clone, Copy, Debug)]
@@ -32,114 +34,100 @@ const WORDS: [&str; 3] = ["a b", LONG, ""];
 const ITEMS: [(Font, &str); 3] = [(Font::Bold, LONG), (Font::Bold, "-"), (Font::Roman, "")];
 
 // Plain texts, with newlines kept.
-fn start<A: Allocator + Copy>(alloc: A, pieces: usize) -> Result<Roff<A>, AllocError> {
+fn start<A: Allocator + Copy>(rt: &impl Abort, alloc: A, pieces: usize) -> Roff<A> {
     let mut roff = Roff::new(alloc);
     for _ in 0..pieces {
-        roff.append_plaintext("text")?;
+        roff.append_plaintext("text").expect(rt, "a piece");
     }
-    Ok(roff)
-}
-
-// The same pieces with the other setting.
-fn stripped(mut roff: Roff) -> Roff {
-    roff.strip_newlines = true;
     roff
 }
 
-// The page is that of a copy, since the roff's own heap has no room for one.
-fn outcome<A: Allocator>(alloc: Global, done: bool, roff: &Roff<A>) -> Result<Outcome, AllocError> {
-    let mut copy = Roff::new(alloc);
-    copy.add_assign(roff)?;
-    Ok(Outcome {
+// The page is that of a copy, since the roff's own arena has no room for one.
+fn outcome<A: Allocator>(rt: &(impl Abort + AllocGlobal), done: bool, roff: &Roff<A>) -> Outcome {
+    let mut copy = Roff::new(rt.alloc());
+    copy.add_assign(roff).expect(rt, "a copy");
+    Outcome {
         done,
         setting: roff.strip_newlines,
-        shown: copy.render(Apostrophes::DontHandle)?,
-    })
-}
-
-/// What stands before the call.
-pub fn roff_before(alloc: Global, pieces: usize) -> Result<Outcome, AllocError> {
-    outcome(alloc, false, &start(alloc, pieces)?)
-}
-
-fn append<A: Allocator>(
-    roff: &mut Roff<A>,
-    call: RoffCall,
-    other: &Roff,
-) -> Result<(), AllocError> {
-    match call {
-        RoffCall::AppendControl => roff.append_control(LONG, &WORDS),
-        RoffCall::AppendControl0 => roff.append_control0(LONG),
-        RoffCall::AppendLinebreak => roff.append_linebreak(),
-        RoffCall::AppendEscape => roff.append_escape(LONG),
-        RoffCall::AppendPlaintext => roff.append_plaintext(LONG),
-        RoffCall::AppendText => roff.append_text(&ITEMS),
-        RoffCall::Extend => roff.extend([other, other].into_iter()),
-        _ => roff.add_assign(other),
+        shown: copy.render(Apostrophes::DontHandle).expect(rt, "a page"),
     }
 }
 
-fn chain<A: Allocator>(roff: &mut Roff<A>, call: RoffCall) -> Result<&mut Roff<A>, AllocError> {
+/// What stands before the call.
+pub fn roff_before(rt: &(impl Abort + AllocGlobal), pieces: usize) -> Outcome {
+    outcome(rt, false, &start(rt, rt.alloc(), pieces))
+}
+
+// Whether the call was done.
+fn changes<A: Allocator>(roff: &mut Roff<A>, call: RoffCall, other: &Roff) -> bool {
     match call {
-        RoffCall::Control => roff.control(LONG, &WORDS),
-        RoffCall::Control0 => roff.control0(LONG),
-        RoffCall::Escape => roff.escape(LONG),
-        RoffCall::Plaintext => roff.plaintext(LONG),
-        RoffCall::Text => roff.text(&ITEMS),
-        _ => roff.roff_linebreak(),
+        RoffCall::AppendControl => roff.append_control(LONG, &WORDS).is_ok(),
+        RoffCall::AppendControl0 => roff.append_control0(LONG).is_ok(),
+        RoffCall::AppendLinebreak => roff.append_linebreak().is_ok(),
+        RoffCall::AppendEscape => roff.append_escape(LONG).is_ok(),
+        RoffCall::AppendPlaintext => roff.append_plaintext(LONG).is_ok(),
+        RoffCall::AppendText => roff.append_text(&ITEMS).is_ok(),
+        RoffCall::Control => roff.control(LONG, &WORDS).is_ok(),
+        RoffCall::Control0 => roff.control0(LONG).is_ok(),
+        RoffCall::RoffLinebreak => roff.roff_linebreak().is_ok(),
+        RoffCall::Escape => roff.escape(LONG).is_ok(),
+        RoffCall::Plaintext => roff.plaintext(LONG).is_ok(),
+        RoffCall::Text => roff.text(&ITEMS).is_ok(),
+        RoffCall::Extend => roff.extend([other, other].into_iter()).is_ok(),
+        _ => roff.add_assign(other).is_ok(),
     }
 }
 
 // A page that is made of the roff, or the roff itself where none is made.
-fn rendered(alloc: Global, roff: &Roff<&LocalHeap>) -> Result<Outcome, AllocError> {
+fn rendered(rt: &(impl Abort + AllocGlobal), roff: &Roff<&Bump>) -> Outcome {
     match roff.render(Apostrophes::DontHandle) {
-        Ok(page) => Ok(Outcome {
+        Ok(page) => Outcome {
             done: true,
             setting: roff.strip_newlines,
-            shown: String::from_str(alloc, page.as_str())?,
-        }),
-        Err(AllocError) => outcome(alloc, false, roff),
+            shown: String::from_str(rt.alloc(), page.as_str()).expect(rt, "a text"),
+        },
+        Err(AllocError) => outcome(rt, false, roff),
     }
 }
 
-fn copied(alloc: Global, roff: &Roff<&LocalHeap>) -> Result<Outcome, AllocError> {
+fn copied(rt: &(impl Abort + AllocGlobal), roff: &Roff<&Bump>) -> Outcome {
     match roff.clone() {
-        Ok(copy) => outcome(alloc, true, &copy),
-        Err(AllocError) => outcome(alloc, false, roff),
+        Ok(copy) => outcome(rt, true, &copy),
+        Err(AllocError) => outcome(rt, false, roff),
     }
 }
 
-/// What stands after the call; none where the heap has no room for the value that it is called on.
+fn added(
+    rt: &(impl Abort + AllocGlobal),
+    roff: Roff<&Bump>,
+    other: &Roff,
+    pieces: usize,
+) -> Outcome {
+    match roff.add(other) {
+        Ok(sum) => outcome(rt, true, &sum),
+        Err(AllocError) => roff_before(rt, pieces),
+    }
+}
+
+/// What stands after the call, which has so many bytes.
 pub fn attempt_on_roff(
-    heap: &LocalHeap,
-    alloc: Global,
+    rt: &(impl Abort + AllocGlobal),
+    arena: &Bump,
+    room: usize,
     call: RoffCall,
     pieces: usize,
-) -> Result<Option<Outcome>, AllocError> {
-    let other = stripped(start(alloc, 1)?);
-    let Ok(mut roff) = start(heap, pieces) else {
-        return Ok(None);
-    };
-    let after = match call {
-        RoffCall::Render => rendered(alloc, &roff)?,
-        RoffCall::Clone => copied(alloc, &roff)?,
-        RoffCall::Add => match roff.add(&other) {
-            Ok(sum) => outcome(alloc, true, &sum)?,
-            Err(AllocError) => roff_before(alloc, pieces)?,
-        },
-        RoffCall::Control
-        | RoffCall::Control0
-        | RoffCall::RoffLinebreak
-        | RoffCall::Escape
-        | RoffCall::Plaintext
-        | RoffCall::Text => {
-            let done = chain(&mut roff, call).is_ok();
-            outcome(alloc, done, &roff)?
-        }
+) -> Outcome {
+    let mut other = start(rt, rt.alloc(), 1);
+    other.strip_newlines(true);
+    let mut roff = start(rt, arena, pieces);
+    let _taken = taken(rt, arena, room);
+    match call {
+        RoffCall::Render => rendered(rt, &roff),
+        RoffCall::Clone => copied(rt, &roff),
+        RoffCall::Add => added(rt, roff, &other, pieces),
         _ => {
-            let done = append(&mut roff, call, &other).is_ok();
-            outcome(alloc, done, &roff)?
+            let done = changes(&mut roff, call, &other);
+            outcome(rt, done, &roff)
         }
-    };
-    Ok(Some(after))
+    }
 }

@@ -11,3 +11,4 @@ mod MarkdownPages
 mod MarkdownExamples
 mod Manpage
 mod ManpagePieces
+mod ManpageReading

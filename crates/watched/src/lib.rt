@@ -1,16 +1,18 @@
-//! Readers and writers that remember whether a call on them has failed.
+//! Readers and writers that remember whether a call on them has failed, and what programs that run on them have in common.
 #![tactic(auto)]
 
-ghost use Rattle.std.specs.Prelude.{◌≡◌, ◌||◌, IfOk, OnErr, OnOk, is_err};
+ghost use Rattle.std.specs.Prelude.{◌≡◌, ◌||◌, ◌↔◌, IfErr, IfOk, IsErrOf, IsOk, IsUtf8, OnErr, OnOk, is_err, string_bytes};
 ghost use Rattle.std.specs.Io.{ReadsAtMost, WritesAtMost};
 ghost use Rattle.std.specs.Io.KnownBytes.{Appends, ReadConsumes, WriteAppends};
 ghost use Rattle.watched.specs.Reading.{IsRefused, is_failed_read};
-ghost use Rattle.watched.specs.Watched.{AppendsPart, IsUnmarked, ReadsAll, is_failed_write};
+ghost use Rattle.watched.specs.Watched.{AppendsPart, IsUnmarked, ReadsAll, ReadsNoText, is_failed_write};
 
 use std::alloc::{AllocError, Allocator};
 use std::io;
 use std::io::{ErrorKind, Read, Write};
 use std::marker::Model;
+
+pub mod program;
 
 /// An end, a reader or a writer, with a mark that a call on it has failed. Only calls that read or
 /// write set the mark, and nothing clears it.
@@ -57,11 +59,13 @@ impl<E> Watched<E> {
     }
 }
 
-/// Why not all of an input was read.
+/// Why not all of an input was read, or not as a text.
 #[derive(Clone, Copy, Debug)]
 pub enum ReadError {
     /// A read failed.
     Failed(io::Error),
+    /// All was read, and is no text.
+    NotUtf8,
     /// A growth was refused.
     Refused(AllocError),
 }
@@ -93,9 +97,11 @@ impl<R: Read> Watched<R> {
 
     /// All that the reader has left. A read that fails ends it, of whatever kind its error is, and so does a
     /// growth that is refused: a reader that never ends meets that. In both cases what was read until then is lost.
+    /// `NotUtf8` never comes.
     pub fn read_all<A: Allocator>(&mut self, alloc: A) -> Result<Vec<u8, A>, ReadError>
         ensures ok { IfOk result (λ bytes.
             ReadsAll (R.remaining self.old.end) (R.remaining self.new.end) bytes.items) }
+        ensures not_utf8 { ¬ IsErrOf result ReadError.NotUtf8 }
         ensures mark { self.new.marked ≡ (self.old.marked || is_failed_read result) }
     {
         let mut chunk = [0; CHUNK];
@@ -108,6 +114,29 @@ impl<R: Read> Watched<R> {
             }
         }
     }
+
+    /// All that the reader has left, as one text that is no copy of what was read. It ends as `read_all` does, and with
+    /// `NotUtf8` where all was read and is no text; then too what was read is lost.
+    pub fn read_text<A: Allocator>(&mut self, alloc: A) -> Result<String<A>, ReadError>
+        ensures ok { IfOk result (λ text.
+            ReadsAll (R.remaining self.old.end) (R.remaining self.new.end) (string_bytes text)) }
+        ensures utf8 { IfOk result (λ text. IsUtf8 (string_bytes text)) }
+        ensures not_utf8 { IsErrOf result ReadError.NotUtf8 →
+            ReadsNoText (R.remaining self.old.end) (R.remaining self.new.end) }
+        ensures mark { self.new.marked ≡ (self.old.marked || is_failed_read result) }
+    {
+        let bytes = self.read_all(alloc)?;
+        text_of(bytes)
+    }
+}
+
+// The bytes as a text, without a copy.
+fn text_of<A: Allocator>(bytes: Vec<u8, A>) -> Result<String<A>, ReadError>
+    ensures ok { IfOk result (λ text. string_bytes text ≡ bytes.items) }
+    ensures succeeds { IsOk result ↔ IsUtf8 bytes.items }
+    ensures fault { IfErr result (λ error. error ≡ ReadError.NotUtf8) }
+{
+    String::from_utf8(bytes).map_err(|_| ReadError::NotUtf8)
 }
 
 impl<W: Write> Watched<W> {

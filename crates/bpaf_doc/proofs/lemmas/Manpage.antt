@@ -1,7 +1,6 @@
 -- Lemmas about manual pages and their reader.
-mod Program
+pub mod Program
 pub mod OneReading
-mod Soundness
 mod ReadBack
 pub mod PageRead
 mod LookingBack

@@ -4,11 +4,25 @@ use bpaf_meta::item::Item;
 use std::alloc::{AllocError, Allocator, Global};
 
 /// No help page: a growth was refused, or this named item stands after a positional one.
-#[derive_where(Clone, Copy, Debug)]
+#[derive_where(Debug)]
 pub enum HelpError<'m, A: Allocator = Global> {
     Memory(AllocError),
     Misplaced(&'m Item<A>),
 }
+
+impl<'m, A: Allocator> Clone for HelpError<'m, A> {
+    ghost use Rattle.std.specs.Prelude.{◌≡◌, ⊤};
+
+    ghost is_clone = { λ x y. y ≡ x };
+
+    ghost is_infallible = { λ _. ⊤ };
+
+    fn clone(&self) -> Result<HelpError<'m, A>, AllocError> {
+        Ok(*self)
+    }
+}
+
+impl<'m, A: Allocator> Copy for HelpError<'m, A> {}
 
 impl<'m, A: Allocator> From<AllocError> for HelpError<'m, A> {
     ghost use Rattle.std.specs.Prelude.{◌≡◌};

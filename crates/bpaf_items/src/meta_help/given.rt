@@ -18,7 +18,7 @@ pub struct HelpItemsIter<'a, 's, A: Allocator = Global> {
 }
 
 // Which block was started last, and not ended.
-#[derive(Clone, Copy, Debug)]
+#[derive(Clone, Copy)]
 pub enum State {
     Outside,
     Group(HiTy),

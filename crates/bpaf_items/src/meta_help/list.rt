@@ -108,11 +108,11 @@ impl<'a, A: Allocator, L: Allocator + Copy> HelpItems<'a, A, L> {
 fn group_start_place<A: Allocator>(items: &[HelpItem<'_, A>]) -> Option<usize>
     ensures { result ≡ position is_group_start (map entry_of items.now) }
 {
-    items.iter().position(|item| item.is_group_start())
+    items.iter().position(HelpItem::is_group_start)
 }
 
 pub(crate) fn group_end_place<A: Allocator>(items: &[HelpItem<'_, A>]) -> Option<usize>
     ensures { result ≡ position is_group_end (map entry_of items.now) }
 {
-    items.iter().position(|item| item.is_group_end())
+    items.iter().position(HelpItem::is_group_end)
 }

@@ -1,6 +1,6 @@
 //! Small things that pages are written of.
 ghost use Rattle.std.specs.Prelude.{[], ◌∷◌, flat_map};
-ghost use Rattle.bpaf_doc.specs.Buffer.Writes.{doc_writes, end, start, text};
+ghost use Rattle.bpaf_doc.specs.Buffer.Writes.{text};
 ghost use Rattle.bpaf_items.specs.Page.Steps.Pieces.{Leaves, joined, piece_writes};
 
 use bpaf_doc::buffer::{Block, Doc, Style, Token};
@@ -11,7 +11,6 @@ use bpaf_meta::usage::{metavar, write_meta, write_shortlong};
 use std::alloc::{AllocError, Allocator};
 
 /// What is written at once.
-#[derive_where(Clone, Copy)]
 pub enum Piece<'a, A: Allocator> {
     Start(Block),
     End(Block),
@@ -31,6 +30,20 @@ pub enum Piece<'a, A: Allocator> {
     Usage(&'a Meta<A>),
 }
 
+impl<'a, A: Allocator> Clone for Piece<'a, A> {
+    ghost use Rattle.std.specs.Prelude.{◌≡◌, ⊤};
+
+    ghost is_clone = { λ x y. y ≡ x };
+
+    ghost is_infallible = { λ _. ⊤ };
+
+    fn clone(&self) -> Result<Piece<'a, A>, AllocError> {
+        Ok(*self)
+    }
+}
+
+impl<'a, A: Allocator> Copy for Piece<'a, A> {}
+
 // What these functions wrote stays where a growth is refused: the public calls above them take it back.
 
 /// Writes the pieces in order.
@@ -44,30 +57,6 @@ pub fn put<A: Allocator, B: Allocator + Copy>(
         put_piece(doc, piece)?;
     }
     Ok(())
-}
-
-/// Writes the start of a block.
-pub fn put_start<A: Allocator>(doc: &mut Doc<A>, block: Block) -> Result<(), AllocError>
-    ensures { Leaves result doc.old doc.new (start block ∷ []) }
-{
-    doc.token(Token::BlockStart(block))
-}
-
-/// Writes the end of a block.
-pub fn put_end<A: Allocator>(doc: &mut Doc<A>, block: Block) -> Result<(), AllocError>
-    ensures { Leaves result doc.old doc.new (end block ∷ []) }
-{
-    doc.token(Token::BlockEnd(block))
-}
-
-/// Writes a document.
-pub fn put_document<A: Allocator, B: Allocator>(
-    doc: &mut Doc<A>,
-    other: &Doc<B>,
-) -> Result<(), AllocError>
-    ensures { Leaves result doc.old doc.new (doc_writes other.now) }
-{
-    doc.doc(other)
 }
 
 fn put_piece<A: Allocator, B: Allocator + Copy>(

@@ -12,7 +12,7 @@ ghost use Rattle.bpaf_items.specs.Page.Steps.Pieces.{Leaves, joined, piece_write
 
 use crate::meta_help::entry::HelpItem;
 use crate::meta_help::env_texts::EnvTexts;
-use crate::meta_help::pieces::{Piece, put, put_document, put_end, put_start};
+use crate::meta_help::pieces::{Piece, put};
 use bpaf_doc::buffer::{Block, Doc, Style};
 use bpaf_meta::item::ShortLong;
 use bpaf_meta::meta_help::Metavar;
@@ -122,12 +122,20 @@ fn put_help<A: Allocator, B: Allocator + Copy>(
     }
 }
 
-fn put_body<A: Allocator, B: Allocator>(doc: &mut Doc<A>, help: &Doc<B>) -> Result<(), AllocError>
+fn put_body<A: Allocator, B: Allocator + Copy>(
+    doc: &mut Doc<A>,
+    help: &Doc<B>,
+) -> Result<(), AllocError>
     ensures { Leaves result doc.old doc.new (body (doc_writes help.now)) }
 {
-    put_start(doc, Block::ItemBody)?;
-    put_document(doc, help)?;
-    put_end(doc, Block::ItemBody)
+    put(
+        doc,
+        &[
+            Piece::Start(Block::ItemBody),
+            Piece::Document(help),
+            Piece::End(Block::ItemBody),
+        ],
+    )
 }
 
 fn put_command<A: Allocator, B: Allocator + Copy>(
@@ -234,9 +242,9 @@ fn put_argument<A: Allocator, B: Allocator + Copy, C: Allocator>(
 fn put_flag_term<A: Allocator>(doc: &mut Doc<A>, name: ShortLong) -> Result<(), AllocError>
     ensures { Leaves result doc.old doc.new (term (names_writes (name_of name))) }
 {
-    put_start(doc, Block::ItemTerm)?;
+    put_words(doc, &[Piece::Start(Block::ItemTerm)])?;
     put_names(doc, name)?;
-    put_end(doc, Block::ItemTerm)
+    put_words(doc, &[Piece::End(Block::ItemTerm)])
 }
 
 fn put_argument_term<A: Allocator>(
@@ -246,7 +254,7 @@ fn put_argument_term<A: Allocator>(
 ) -> Result<(), AllocError>
     ensures { Leaves result doc.old doc.new (term (names_writes (name_of name) ++ plain (codes "=") ∷ metavar_writes metavar.0.now)) }
 {
-    put_start(doc, Block::ItemTerm)?;
+    put_words(doc, &[Piece::Start(Block::ItemTerm)])?;
     put_names(doc, name)?;
     put_words(
         doc,

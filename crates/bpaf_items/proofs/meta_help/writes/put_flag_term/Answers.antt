@@ -8,10 +8,10 @@ use Rattle.bpaf_items.proofs.Page.Leaving.{leaves_then}
 use Rattle.bpaf_items.proofs.meta_help.writes.put_flag_term.Goals as goal
 
 pub returns-in_err-put_names : goal.returns-in_err-put_names
-returns-in_err-put_names g c = (Grows-then _ _ _ (Grows-by _ _ (start block.ItemTerm ∷ []) c.in_ok-put_start.ensures.1) c.put_names.ensures.0, search rules)
+returns-in_err-put_names g c = (Grows-then _ _ _ (Grows-by _ _ (start block.ItemTerm ∷ []) c.in_ok-put_words.ensures.1) c.put_names.ensures.0, search rules)
 
 pub returns : goal.returns
 returns g c =
     let names = names_writes (name_of c.args.name) in
     let closing = end block.ItemTerm ∷ [] in
-    leaves_then _ _ _ _ (start block.ItemTerm ∷ []) (names ++ closing) c.in_ok-put_start.ensures.1 (leaves_then _ _ _ _ names closing c.in_ok-put_names.ensures.1 c.put_end.ensures)
+    leaves_then _ _ _ _ (start block.ItemTerm ∷ []) (names ++ closing) c.in_ok-put_words.ensures.1 (leaves_then _ _ _ _ names closing c.in_ok-put_names.ensures.1 c.put_words-2.ensures)

@@ -1,6 +1,6 @@
-use Rattle.helpdoc_engine.proofs.Texts.{IsUtf8-of_text}
+use Rattle.watched.proofs.Texts.{IsUtf8-of_text}
 use Rattle.std.proofs.Common.{sym, ◌∙◌, rules}
-use Rattle.helpdoc_engine.proofs.engine.text_of.Goals as goal
+use Rattle.watched.proofs.text_of.Goals as goal
 
 pub returns-clause-succeeds : goal.returns-clause-succeeds
 returns-clause-succeeds g c = (

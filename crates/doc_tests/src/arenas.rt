@@ -1,0 +1,22 @@
+//! Arenas with little room. An arena gives no room out twice, but for that of its last block: so with a little more room each time,
+//! one growth of a call after another is the first that is refused.
+use bumpalo::Bump;
+use std::process::Abort;
+
+/// How many bytes an arena has: more than a call of these tests takes beside what it is called on.
+pub const BYTES: usize = 65536;
+
+/// How many bytes more an arena has left each time. Few growths are smaller.
+pub const STEP: usize = 8;
+
+pub fn roomy(rt: &(impl Abort + AllocGlobal)) -> Bump {
+    let arena = Bump::try_with_capacity(rt.alloc(), BYTES).expect(rt, "an arena");
+    arena.set_allocation_limit(Some(0));
+    arena
+}
+
+/// Takes all that an arena has left but so many bytes. Where none is left each growth is refused.
+pub fn taken<'a>(rt: &impl Abort, arena: &'a Bump, room: usize) -> Vec<u8, &'a Bump> {
+    let rest = arena.chunk_capacity().saturating_sub(room);
+    Vec::with_capacity(arena, rest).expect(rt, "the rest of an arena")
+}

@@ -1,0 +1,42 @@
+//! What programs have in common: the words that choose what one does, and the status of its run.
+
+use std::fmt::Display;
+use std::process::ExitCode;
+use std::rt::Env;
+use std::{env, io};
+
+/// The status for words that choose nothing.
+pub const WRONG_WORDS: u8 = 2;
+
+/// What the words after the program's name choose. An error says that they could not be read, or a growth
+/// was refused.
+pub fn chosen<R: Alloc + Env, T, F: FnOnce(&[&str]) -> Option<T> + Drop>(
+    rt: &R,
+    choose: F,
+) -> io::Result<Option<T>>
+    requires { F.IsAlwaysCallable choose }
+{
+    let arguments: Vec<String<R::A>, R::A> = env::args(rt)?.skip(1).collect(rt.alloc())?;
+    let words: Vec<&str, R::A> = arguments
+        .iter()
+        .map(|word| word.as_str())
+        .collect(rt.alloc())?;
+    Ok(choose(&words))
+}
+
+/// Says on standard error which words are expected, and answers `WRONG_WORDS`.
+pub fn expecting<R: Eprint>(rt: &R, line: &str) -> ExitCode {
+    let _ = eprintln!(rt; "{line}");
+    ExitCode::from(WRONG_WORDS)
+}
+
+/// The status of a run: that which it answers, or failure, which says its fault on standard error.
+pub fn status_of<R: Eprint, F: Display + Drop>(rt: &R, outcome: Result<ExitCode, F>) -> ExitCode {
+    match outcome {
+        Ok(status) => status,
+        Err(fault) => {
+            let _ = eprintln!(rt; "{fault}");
+            ExitCode::FAILURE
+        }
+    }
+}
