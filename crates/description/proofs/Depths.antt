@@ -108,11 +108,8 @@ is_table (float x) ms h = absurd cc
 is_table (boolean b) ms h = absurd cc
 is_table (datetime dt) ms h = absurd cc
 
-pub inner_depth : (vs : List Value) (i : ℕ) (d : Value) (ms : Members) → i < length vs → as_table (view (get_or vs i d)) ≡ Some ms → members_depth ms < items_depth (items_view vs)
-inner_depth vs i d ms h e =
-    let below = item_depth vs i d h in
-    let same : depth (view (get_or vs i d)) ≡ suc (members_depth ms) = ap depth (is_table (view (get_or vs i d)) ms e) in
-    omega (arith, below, same)
+pub table_depth : (d : Data) (ms : Members) → as_table d ≡ Some ms → depth d ≡ suc (members_depth ms)
+table_depth d ms h = ap depth (is_table d ms h)
 
 pub no_command : (d : Data) → as_table d ≡ None → as_command d ≡ None
 no_command (table ms) h = absurd cc

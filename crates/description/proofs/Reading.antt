@@ -3,12 +3,12 @@ use Rattle.std.proofs.Common.{◌≡◌, ◌==◌, ℕ, true, false, length, ari
 use Rattle.std.proofs.lemmas.Bool.Decides.{nat_tests}
 use Rattle.std.proofs.Math.Utf8.{encode}
 use Rattle.std.proofs.lemmas.Str.{chars_past_char}
-use Rattle.std.specs.Prelude.{IfErr, IsErrAnd, Result, Ok, Err, IsUtf8, MatchOption, chars, is_some, slice_get}
+use Rattle.std.specs.Prelude.{IsErrAnd, Result, Ok, Err, IsUtf8, MatchOption, chars, is_some, slice_get}
 use Rattle.toml.specs.View.{items_view}
 use Rattle.toml.specs.declared.value.Value.{Value}
 use Rattle.description.specs.Described.Values.{is_empty, only_character}
-use Rattle.description.specs.Faults.{IsMemory}
-use Rattle.description.specs.declared.decode.faults.DescriptionError.{DescriptionError}
+use Rattle.description.specs.Faults.{IsRefusal, Reads}
+use Rattle.description.specs.declared.decode.faults.Fault.{Fault}
 
 -- a first character, and one behind it
 first_alone : (cs : List ℕ) (c : ℕ) (second : Option ℕ) → second ≡ slice_get cs 0 → is_some second ≡ false → Some c ≡ only_character (c ∷ cs)
@@ -37,7 +37,7 @@ pub no_items_there : (vs : List Value) → (length vs == 0) ≡ is_empty (items_
 no_items_there [] = refl
 no_items_there (v ∷ vs) = grind (arith, nat_tests)
 
--- an error that is passed on as it came
-pub passed_on : {T A : Type 0} (r : Result T (DescriptionError A)) (e : DescriptionError A) (X : Type 0) → IsErrAnd r (λ f. f ≡ e) → (¬ IsMemory e → X) → IfErr r (λ f. ¬ IsMemory f → X)
-passed_on (Ok x) e X h k = tt
-passed_on (Err f) e X h k = λ n. k (subst (λ z. ¬ IsMemory z) h n)
+-- a fault that is passed on as it came
+pub passed_on : {T X : Type 0} (there : Option X) (said : T → X) (r : Result T Fault) (e : Fault) → IsErrAnd r (λ f. f ≡ e) → (¬ IsRefusal e → there ≡ None) → Reads there said r
+passed_on there said (Ok x) e h k = absurd h
+passed_on there said (Err f) e h k = λ n. k (subst (λ z. ¬ IsRefusal z) h n)

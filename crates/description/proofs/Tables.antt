@@ -23,11 +23,14 @@ module _ {X : Type 0} (read : Members → Option X) where
   one_more xs x None = refl
   one_more xs x (Some ys) = ap Some (sym (append_assoc xs (x ∷ []) ys))
 
-  pub table_read : (vs : List Value) (xs ys : List X) (x : X) (i : ℕ) (d : Value) (ms : Members) → i < length vs → ReadSoFar read vs xs i → as_table (view (get_or vs i d)) ≡ Some ms → read ms ≡ Some x → ys ≡ xs ++ x ∷ []
+  pub table_read : (vs : List Value) (xs ys : List X) (x : X) (i : ℕ) (d : Value) → i < length vs → ReadSoFar read vs xs i → option_and_then read (as_table (view (get_or vs i d))) ≡ Some x → ys ≡ xs ++ x ∷ []
       → ReadSoFar read vs ys (i + 1)
-  table_read vs xs ys x i d ms h s e f g =
-      next_item vs xs i d h s ∙ rw (e, f) (one_more xs x (each_table read (items_view (drop (i + 1) vs))))
+  table_read vs xs ys x i d h s e g =
+      next_item vs xs i d h s ∙ rw e (one_more xs x (each_table read (items_view (drop (i + 1) vs))))
       ∙ ap (λ zs. option_map (λ rest. zs ++ rest) (each_table read (items_view (drop (i + 1) vs)))) (sym g)
+
+  pub table_faulty : (vs : List Value) (xs : List X) (i : ℕ) (d : Value) → i < length vs → ReadSoFar read vs xs i → option_and_then read (as_table (view (get_or vs i d))) ≡ None → each_table read (items_view vs) ≡ None
+  table_faulty vs xs i d h s e = next_item vs xs i d h s ∙ rw e refl
 
 -- ---- commands and groups
 

@@ -7,7 +7,7 @@ ghost use Rattle.toml_datetime.specs.Text.{date_text};
 ghost use Rattle.description.specs.Described.{commands_at, described, description_head, each_command, each_group, groups_at, section_from, title_words};
 ghost use Rattle.description.specs.Described.Steps.{description_head_seen, words_seen};
 ghost use Rattle.description.specs.Described.Values.{as_date, optional_at, text_of_date};
-ghost use Rattle.description.specs.Faults.{IsMemory};
+ghost use Rattle.description.specs.Faults.{IsMemory, Reads};
 ghost use Rattle.description.specs.View.{description_said};
 
 mod faults;
@@ -19,12 +19,12 @@ mod values;
 use crate::descriptions::Description;
 use bpaf_help::pages::Section;
 pub use faults::DescriptionError;
-use faults::Place;
+use faults::{Fault, Way};
 use lasting_names::Names;
 use levels::{Outline, level_of, outline_from};
 use options::options_in;
-use std::alloc::Allocator;
-use toml::value::Datetime;
+use std::alloc::{AllocError, Allocator};
+use toml::value::{Date, Datetime};
 use toml::{Table, Value};
 use values::{required_name_at, see_keys, tables_at, text_at, value_at};
 
@@ -62,20 +62,35 @@ impl<'a, A: Allocator + Copy> Description<'a, A> {
         ensures ok { IfOk result (λ d. described (table_view table.now) ≡ Some (description_said d)) }
         ensures refused { IfErr result (λ e. ¬ IsMemory e → described (table_view table.now) ≡ None) }
     {
-        let at = Place::top(&alloc);
-        let head = description_head(&at, names, table)?;
-        let help_options = options_in(&at, "help_option", names, head.help_options)?;
-        let level = level_of(&at, names, head.outline)?;
-        Ok(Description {
-            name: head.name,
-            section: head.words.section,
-            date: head.words.date,
-            vendor: head.words.vendor,
-            title: head.words.title,
-            help_options,
-            level,
-        })
+        let mut way = Way::new(alloc);
+        match description_of(&mut way, names, table) {
+            Ok(description) => Ok(description),
+            Err(fault) => Err(way.told(fault)),
+        }
     }
+}
+
+// What the table says, or its first fault, with the way to it.
+#[tactic(auto, unfolding(crate::specs::Described::described))]
+fn description_of<'a, A: Allocator + Copy>(
+    way: &mut Way<A>,
+    names: &mut Names,
+    table: &'a Table,
+) -> Result<Description<'a, A>, Fault<'a>>
+    ensures { Reads (described (table_view table.now)) (λ d. description_said d) result }
+{
+    let head = description_head(way.alloc(), names, table)?;
+    let help_options = options_in(way, "help_option", names, head.help_options)?;
+    let level = level_of(way, names, head.outline)?;
+    Ok(Description {
+        name: head.name,
+        section: head.words.section,
+        date: head.words.date,
+        vendor: head.words.vendor,
+        title: head.words.title,
+        help_options,
+        level,
+    })
 }
 
 // The words of the title line.
@@ -98,17 +113,16 @@ struct DescriptionHead<'a> {
 
 #[tactic(auto, unfolding(crate::specs::Described::title_words))]
 fn title_words<'a, A: Allocator + Copy>(
-    at: &Place<'_, A>,
+    alloc: A,
     names: &mut Names,
     table: &'a Table,
-) -> Result<TitleWords<'a>, DescriptionError<A>>
-    ensures ok { IfOk result (λ words. title_words (table_view table.now) ≡ Some (words_seen words)) }
-    ensures refused { IfErr result (λ e. ¬ IsMemory e → title_words (table_view table.now) ≡ None) }
+) -> Result<TitleWords<'a>, Fault<'a>>
+    ensures { Reads (title_words (table_view table.now)) (λ words. words_seen words) result }
 {
-    let section = section_of(text_at(at, table, "section")?);
-    let date = date_at(at, names, table)?;
-    let vendor = text_at(at, table, "vendor")?;
-    let title = text_at(at, table, "title")?;
+    let section = section_of(text_at(table, "section")?);
+    let date = date_at(alloc, names, table)?;
+    let vendor = text_at(table, "vendor")?;
+    let title = text_at(table, "title")?;
     Ok(TitleWords {
         section,
         date,
@@ -119,21 +133,20 @@ fn title_words<'a, A: Allocator + Copy>(
 
 #[tactic(auto, unfolding(crate::specs::Described::description_head))]
 fn description_head<'a, A: Allocator + Copy>(
-    at: &Place<'_, A>,
+    alloc: A,
     names: &mut Names,
     table: &'a Table,
-) -> Result<DescriptionHead<'a>, DescriptionError<A>>
-    ensures ok { IfOk result (λ head. description_head (table_view table.now) ≡ Some (description_head_seen head)) }
-    ensures refused { IfErr result (λ e. ¬ IsMemory e → description_head (table_view table.now) ≡ None) }
+) -> Result<DescriptionHead<'a>, Fault<'a>>
+    ensures head { Reads (description_head (table_view table.now)) (λ head. description_head_seen head) result }
     ensures groups { IfOk result (λ head. groups_at (codes "group") (table_view table.now) ≡ each_group (description_head_seen head).outline.lists.groups) }
     ensures commands { IfOk result (λ head. commands_at (codes "command") (table_view table.now) ≡ each_command (description_head_seen head).outline.lists.commands) }
 {
-    see_keys(at, table, &DESCRIPTION_KEYS)?;
+    see_keys(table, &DESCRIPTION_KEYS)?;
     Ok(DescriptionHead {
-        name: required_name_at(at, names, table, "name")?,
-        words: title_words(at, names, table)?,
-        help_options: tables_at(at, table, "help_option")?,
-        outline: outline_from(at, table)?,
+        name: required_name_at(names, table, "name")?,
+        words: title_words(alloc, names, table)?,
+        help_options: tables_at(table, "help_option")?,
+        outline: outline_from(alloc, table)?,
     })
 }
 
@@ -149,12 +162,11 @@ fn section_of(name: Option<&str>) -> Section<'_>
 
 // The date, as a text or as a TOML date, whose text is kept with the names.
 fn date_at<'a, A: Allocator + Copy>(
-    at: &Place<'_, A>,
+    alloc: A,
     names: &mut Names,
     table: &'a Table,
-) -> Result<Option<&'a str>, DescriptionError<A>>
-    ensures ok { IfOk result (λ date. optional_at as_date (codes "date") (table_view table.now) ≡ Some (text_of date)) }
-    ensures refused { IfErr result (λ e. ¬ IsMemory e → optional_at as_date (codes "date") (table_view table.now) ≡ None) }
+) -> Result<Option<&'a str>, Fault<'a>>
+    ensures { Reads (optional_at as_date (codes "date") (table_view table.now)) (λ date. text_of date) result }
 {
     match value_at(table, "date") {
         None => Ok(None),
@@ -167,10 +179,15 @@ fn date_at<'a, A: Allocator + Copy>(
                     offset: None,
                 },
             ),
-        ) => {
-            let text = format!(in at.alloc(); "{day}")?;
-            Ok(Some(names.get(&text)?))
-        }
-        Some(_) => Err(at.fault("", "date", " is no text and no date")),
+        ) => Ok(Some(day_of(alloc, names, *day)?)),
+        Some(_) => Err(Fault::at("date", " is no text and no date")),
     }
+}
+
+// The text of a day, kept with the names.
+fn day_of<A: Allocator>(alloc: A, names: &mut Names, day: Date) -> Result<&'static str, AllocError>
+    ensures { IfOk result (λ text. text.now ≡ date_text day) }
+{
+    let text = format!(in alloc; "{day}")?;
+    names.get(&text)
 }

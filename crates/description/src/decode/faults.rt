@@ -1,13 +1,9 @@
 //! Why a table is no description, and where.
-ghost use Rattle.std.specs.Prelude.{◌≡◌, Some, None, IfOk, IfErr};
-ghost use Rattle.toml.specs.Data.{as_table};
-ghost use Rattle.toml.specs.View.{table_view, view};
-ghost use Rattle.description.specs.Faults.{IsMemory};
+ghost use Rattle.description.specs.Faults.{IsMemory, IsRefusal, IsAsMuch};
 
 use std::alloc::{AllocError, Allocator, Global};
 use std::fmt;
 use std::fmt::Write;
-use toml::{Table, Value};
 
 /// Why a table gives no description.
 #[derive(Drop)]
@@ -38,54 +34,87 @@ impl<A: Allocator> fmt::Display for DescriptionError<A> {
 
 impl<A: Allocator> std::error::Error for DescriptionError<A> {}
 
-/// Where a table stands: at the top, or as one of those of a kind inside another, counted from 1. It has the memory for what is
-/// made of the table.
-#[derive(Drop)]
-pub enum Place<'p, A: Allocator> {
-    Top(A),
-    Inside {
-        alloc: A,
-        outer: &'p Place<'p, A>,
-        kind: &'static str,
-        number: usize,
+/// Why a table could not be read. It owns nothing, so the text is made of it once, where the whole reading ends.
+#[derive(Clone, Copy)]
+pub enum Fault<'a> {
+    /// A growth was refused, which says nothing of the table.
+    Memory,
+    /// What is wrong with the table, about a name in it.
+    Content {
+        before: &'static str,
+        name: &'a str,
+        after: &'static str,
     },
 }
 
-impl<'p, A: Allocator + Copy> Place<'p, A> {
-    /// The place of the whole description. What it borrows gives the place its lifetime.
-    pub fn top(alloc: &'p A) -> Place<'p, A> {
-        Place::Top(*alloc)
-    }
+impl From<AllocError> for Fault<'_> {
+    ghost from_gives = { λ _ fault. IsRefusal fault };
 
-    /// The place of the table at this index among those of its kind.
-    pub fn inside(&'p self, kind: &'static str, index: usize) -> Place<'p, A> {
-        Place::Inside {
-            alloc: self.alloc(),
-            outer: self,
-            kind,
-            number: index.saturating_add(1),
+    fn from(_error: AllocError) -> Self {
+        Fault::Memory
+    }
+}
+
+impl<'a> Fault<'a> {
+    /// What is wrong with a key.
+    pub fn at(key: &'a str, after: &'static str) -> Fault<'a> {
+        Fault::Content {
+            before: "",
+            name: key,
+            after,
+        }
+    }
+}
+
+// One table among those of its kind in another, counted from 1.
+#[derive(Clone, Copy)]
+struct Step {
+    kind: &'static str,
+    number: usize,
+}
+
+/// The way to a faulty table, from the table outwards: the top is not on it.
+#[derive(Drop)]
+pub struct Way<A: Allocator> {
+    alloc: A,
+    steps: Vec<Step, A>,
+}
+
+impl<A: Allocator + Copy> Way<A> {
+    pub fn new(alloc: A) -> Way<A> {
+        Way {
+            alloc,
+            steps: Vec::new(alloc),
         }
     }
 
     pub fn alloc(&self) -> A {
-        match self {
-            Place::Top(alloc) | Place::Inside { alloc, .. } => *alloc,
-        }
+        self.alloc
     }
 
-    /// The table that this value has to be.
-    pub fn table<'a>(&self, value: &'a Value) -> Result<&'a Table, DescriptionError<A>>
-        ensures ok { IfOk result (λ table. as_table (view value.now) ≡ Some (table_view table.now)) }
-        ensures refused { IfErr result (λ e. ¬ IsMemory e → as_table (view value.now) ≡ None) }
+    /// The fault of the table at this index among those of its kind, as one of the table around it.
+    pub fn outwards<'a>(&mut self, kind: &'static str, index: usize, fault: Fault<'a>) -> Fault<'a>
+        ensures { IsAsMuch fault.entry result }
     {
-        match value {
-            Value::Table(table) => Ok(table),
-            _ => Err(self.fault("this", "", " is no table")),
+        let number = index.saturating_add(1);
+        match self.steps.push(Step { kind, number }) {
+            Ok(_) => fault,
+            Err(_) => Fault::Memory,
         }
     }
 
-    /// What is wrong with the table that stands here, in three parts.
-    pub fn fault(&self, before: &str, name: &str, after: &str) -> DescriptionError<A> {
+    /// The error that tells the fault, with the way to it.
+    pub fn told(&self, fault: Fault<'_>) -> DescriptionError<A>
+        ensures { ¬ IsMemory result → ¬ IsRefusal fault.entry }
+    {
+        let Fault::Content {
+            before,
+            name,
+            after,
+        } = fault
+        else {
+            return DescriptionError::Memory(AllocError);
+        };
         match self.message(before, name, after) {
             Ok(text) => DescriptionError::Content(text),
             Err(refused) => DescriptionError::Memory(refused),
@@ -93,8 +122,8 @@ impl<'p, A: Allocator + Copy> Place<'p, A> {
     }
 
     fn message(&self, before: &str, name: &str, after: &str) -> Result<String<A>, AllocError> {
-        let mut text = String::new(self.alloc());
-        put_way(&mut text, self)?;
+        let mut text = String::new(self.alloc);
+        put_way(&mut text, &self.steps)?;
         text.push_str(": ")?;
         text.push_str(before)?;
         put_name(&mut text, name)?;
@@ -112,21 +141,16 @@ fn put_name<A: Allocator>(text: &mut String<A>, name: &str) -> Result<(), AllocE
     }
 }
 
-// Writes the way to a table, from the top.
-fn put_way<A: Allocator>(text: &mut String<A>, place: &Place<'_, A>) -> Result<(), AllocError> {
-    match place {
-        Place::Top(_) => text.push_str("description"),
-        Place::Inside {
-            outer,
-            kind,
-            number,
-            ..
-        } => {
-            if matches!(*outer, Place::Inside { .. }) {
-                put_way(text, outer)?;
-                text.push_str(", ")?;
-            }
-            write!(text, "{kind} {number}").map_err(|_| AllocError)
-        }
+// Writes the way to a table, from the top, into an empty text.
+fn put_way<A: Allocator>(text: &mut String<A>, steps: &[Step]) -> Result<(), AllocError> {
+    if steps.is_empty() {
+        return text.push_str("description");
     }
+    for step in steps.iter().rev() {
+        if !text.is_empty() {
+            text.push_str(", ")?;
+        }
+        write!(text, "{} {}", step.kind, step.number).map_err(|_| AllocError)?;
+    }
+    Ok(())
 }

@@ -1,15 +1,17 @@
 //! Options, choices and positional values, each from its table.
-ghost use Rattle.std.specs.Prelude.{◌≡◌, Some, None, IfOk, IfErr, map};
+ghost use Rattle.std.specs.Prelude.{IfOk, map, option_and_then, option_map};
 ghost use Rattle.bpaf_meta.specs.View.{name_of};
-ghost use Rattle.toml.specs.View.{items_view, table_view};
+ghost use Rattle.toml.specs.Data.{as_table};
+ghost use Rattle.toml.specs.View.{items_view, table_view, view};
 ghost use Rattle.description.specs.Described.{alternative_from, choice_from, option_from, option_name, option_of, positional_from};
 ghost use Rattle.description.specs.Described.Values.{each_table};
-ghost use Rattle.description.specs.Faults.{IsMemory};
+ghost use Rattle.description.specs.Faults.{Reads};
 ghost use Rattle.description_parts.specs.View.{choice_said, opt_said, positional_said};
 
-use super::faults::{DescriptionError, Place};
+use super::faults::{Fault, Way};
 use super::values::{
-    flag_at, is_empty, name_at, push, required_text_at, see_keys, short_at, tables_at, text_at,
+    flag_at, is_empty, name_at, push, required_text_at, see_keys, short_at, table_of, tables_at,
+    text_at,
 };
 use bpaf_help::item::ShortLong;
 use description_parts::options::{Choice, Opt};
@@ -28,40 +30,30 @@ const CHOICE_KEYS: [&str; 2] = ["option", "required"];
 
 const POSITIONAL_KEYS: [&str; 5] = ["value", "help", "required", "repeated", "strict"];
 
-fn option_name<A: Allocator + Copy>(
-    at: &Place<'_, A>,
-    names: &mut Names,
-    table: &Table,
-) -> Result<ShortLong, DescriptionError<A>>
-    ensures ok { IfOk result (λ name. option_name (table_view table.now) ≡ Some (name_of name)) }
-    ensures refused { IfErr result (λ e. ¬ IsMemory e → option_name (table_view table.now) ≡ None) }
+fn option_name<'a>(names: &mut Names, table: &'a Table) -> Result<ShortLong, Fault<'a>>
+    ensures { Reads (option_name (table_view table.now)) (λ name. name_of name) result }
 {
-    let short = short_at(at, table, "short")?;
-    let long = name_at(at, names, table, "long")?;
+    let short = short_at(table, "short")?;
+    let long = name_at(names, table, "long")?;
     match (short, long) {
         (Some(short), Some(long)) => Ok(ShortLong::Both(short, long)),
         (Some(short), None) => Ok(ShortLong::Short(short)),
         (None, Some(long)) => Ok(ShortLong::Long(long)),
-        (None, None) => Err(at.fault("", "short or long", " is missing")),
+        (None, None) => Err(Fault::at("short or long", " is missing")),
     }
 }
 
 // All of an option but whether it is required and repeated.
-fn option_of<'a, A: Allocator + Copy>(
-    at: &Place<'_, A>,
-    names: &mut Names,
-    table: &'a Table,
-) -> Result<Opt<'a>, DescriptionError<A>>
-    ensures ok { IfOk result (λ option. option_of (table_view table.now) ≡ Some (opt_said option)) }
-    ensures refused { IfErr result (λ e. ¬ IsMemory e → option_of (table_view table.now) ≡ None) }
+fn option_of<'a>(names: &mut Names, table: &'a Table) -> Result<Opt<'a>, Fault<'a>>
+    ensures { Reads (option_of (table_view table.now)) (λ option. opt_said option) result }
 {
-    let name = option_name(at, names, table)?;
-    let value = match text_at(at, table, "value")? {
+    let name = option_name(names, table)?;
+    let value = match text_at(table, "value")? {
         Some(value) => Some(names.get(value)?),
         None => None,
     };
-    let help = text_at(at, table, "help")?;
-    let env = name_at(at, names, table, "env")?;
+    let help = text_at(table, "help")?;
+    let env = name_at(names, table, "env")?;
     Ok(Opt {
         name,
         value,
@@ -73,31 +65,23 @@ fn option_of<'a, A: Allocator + Copy>(
 }
 
 #[tactic(auto, unfolding(crate::specs::Described::alternative_from))]
-fn alternative_from<'a, A: Allocator + Copy>(
-    at: &Place<'_, A>,
-    names: &mut Names,
-    table: &'a Table,
-) -> Result<Opt<'a>, DescriptionError<A>>
-    ensures ok { IfOk result (λ option. alternative_from (table_view table.now) ≡ Some (opt_said option)) }
-    ensures refused { IfErr result (λ e. ¬ IsMemory e → alternative_from (table_view table.now) ≡ None) }
+fn alternative_from<'a>(names: &mut Names, item: &'a Value) -> Result<Opt<'a>, Fault<'a>>
+    ensures { Reads (option_and_then alternative_from (as_table (view item.now))) (λ option. opt_said option) result }
 {
-    see_keys(at, table, &ALTERNATIVE_KEYS)?;
-    option_of(at, names, table)
+    let table = table_of(item)?;
+    see_keys(table, &ALTERNATIVE_KEYS)?;
+    option_of(names, table)
 }
 
 #[tactic(auto, unfolding(crate::specs::Described::option_from))]
-fn option_from<'a, A: Allocator + Copy>(
-    at: &Place<'_, A>,
-    names: &mut Names,
-    table: &'a Table,
-) -> Result<Opt<'a>, DescriptionError<A>>
-    ensures ok { IfOk result (λ option. option_from (table_view table.now) ≡ Some (opt_said option)) }
-    ensures refused { IfErr result (λ e. ¬ IsMemory e → option_from (table_view table.now) ≡ None) }
+fn option_from<'a>(names: &mut Names, item: &'a Value) -> Result<Opt<'a>, Fault<'a>>
+    ensures { Reads (option_and_then option_from (as_table (view item.now))) (λ option. opt_said option) result }
 {
-    see_keys(at, table, &OPTION_KEYS)?;
-    let option = option_of(at, names, table)?;
-    let required = flag_at(at, table, "required", false)?;
-    let repeated = flag_at(at, table, "repeated", false)?;
+    let table = table_of(item)?;
+    see_keys(table, &OPTION_KEYS)?;
+    let option = option_of(names, table)?;
+    let required = flag_at(table, "required", false)?;
+    let repeated = flag_at(table, "repeated", false)?;
     Ok(Opt {
         required,
         repeated,
@@ -106,96 +90,89 @@ fn option_from<'a, A: Allocator + Copy>(
 }
 
 fn alternatives_in<'a, A: Allocator + Copy>(
-    at: &Place<'_, A>,
+    way: &mut Way<A>,
     names: &mut Names,
     items: &'a [Value],
-) -> Result<Vec<Opt<'a>, A>, DescriptionError<A>>
-    ensures ok { IfOk result (λ options. each_table alternative_from (items_view items.now) ≡ Some (map opt_said options.items)) }
-    ensures refused { IfErr result (λ e. ¬ IsMemory e → each_table alternative_from (items_view items.now) ≡ None) }
+) -> Result<Vec<Opt<'a>, A>, Fault<'a>>
+    ensures { Reads (each_table alternative_from (items_view items.now)) (λ options. map opt_said options.items) result }
 {
-    let mut options = Vec::new(at.alloc());
+    let mut options = Vec::new(way.alloc());
     for item in items {
-        let place = (&*at).inside("option", options.len());
-        let table = place.table(item)?;
-        let one = alternative_from(&place, names, table)?;
-        push(&mut options, one)?;
+        match alternative_from(names, item) {
+            Ok(one) => push(&mut options, one)?,
+            Err(fault) => return Err(way.outwards("option", options.len(), fault)),
+        }
     }
     Ok(options)
 }
 
 /// Options, each from its table.
 pub fn options_in<'a, A: Allocator + Copy>(
-    at: &Place<'_, A>,
+    way: &mut Way<A>,
     kind: &'static str,
     names: &mut Names,
     items: &'a [Value],
-) -> Result<Vec<Opt<'a>, A>, DescriptionError<A>>
-    ensures ok { IfOk result (λ options. each_table option_from (items_view items.now) ≡ Some (map opt_said options.items)) }
-    ensures refused { IfErr result (λ e. ¬ IsMemory e → each_table option_from (items_view items.now) ≡ None) }
+) -> Result<Vec<Opt<'a>, A>, Fault<'a>>
+    ensures { Reads (each_table option_from (items_view items.now)) (λ options. map opt_said options.items) result }
 {
-    let mut options = Vec::new(at.alloc());
+    let mut options = Vec::new(way.alloc());
     for item in items {
-        let place = (&*at).inside(kind, options.len());
-        let table = place.table(item)?;
-        let one = option_from(&place, names, table)?;
-        push(&mut options, one)?;
+        match option_from(names, item) {
+            Ok(one) => push(&mut options, one)?,
+            Err(fault) => return Err(way.outwards(kind, options.len(), fault)),
+        }
     }
     Ok(options)
 }
 
 #[tactic(auto, unfolding(crate::specs::Described::choice_from))]
 fn choice_from<'a, A: Allocator + Copy>(
-    at: &Place<'_, A>,
+    way: &mut Way<A>,
     names: &mut Names,
-    table: &'a Table,
-) -> Result<Choice<'a, A>, DescriptionError<A>>
-    ensures ok { IfOk result (λ choice. choice_from (table_view table.now) ≡ Some (choice_said choice)) }
-    ensures refused { IfErr result (λ e. ¬ IsMemory e → choice_from (table_view table.now) ≡ None) }
+    item: &'a Value,
+) -> Result<Choice<'a, A>, Fault<'a>>
+    ensures { Reads (option_and_then choice_from (as_table (view item.now))) (λ choice. choice_said choice) result }
 {
-    see_keys(at, table, &CHOICE_KEYS)?;
-    let items = tables_at(at, table, "option")?;
+    let table = table_of(item)?;
+    see_keys(table, &CHOICE_KEYS)?;
+    let items = tables_at(table, "option")?;
     if is_empty(items) {
-        return Err(at.fault("", "option", " is missing"));
+        return Err(Fault::at("option", " is missing"));
     }
-    let required = flag_at(at, table, "required", false)?;
-    let options = alternatives_in(at, names, items)?;
+    let required = flag_at(table, "required", false)?;
+    let options = alternatives_in(way, names, items)?;
     Ok(Choice { options, required })
 }
 
 /// Choices, each from its table.
 pub fn choices_in<'a, A: Allocator + Copy>(
-    at: &Place<'_, A>,
+    way: &mut Way<A>,
     names: &mut Names,
     items: &'a [Value],
-) -> Result<Vec<Choice<'a, A>, A>, DescriptionError<A>>
-    ensures ok { IfOk result (λ choices. each_table choice_from (items_view items.now) ≡ Some (map choice_said choices.items)) }
-    ensures refused { IfErr result (λ e. ¬ IsMemory e → each_table choice_from (items_view items.now) ≡ None) }
+) -> Result<Vec<Choice<'a, A>, A>, Fault<'a>>
+    ensures { Reads (each_table choice_from (items_view items.now)) (λ choices. map choice_said choices.items) result }
 {
-    let mut choices = Vec::new(at.alloc());
+    let mut choices = Vec::new(way.alloc());
     for item in items {
-        let place = (&*at).inside("choice", choices.len());
-        let table = place.table(item)?;
-        let one = choice_from(&place, names, table)?;
-        push(&mut choices, one)?;
+        match choice_from(way, names, item) {
+            Ok(one) => push(&mut choices, one)?,
+            Err(fault) => return Err(way.outwards("choice", choices.len(), fault)),
+        }
     }
     Ok(choices)
 }
 
 #[tactic(auto, unfolding(crate::specs::Described::positional_from))]
-fn positional_from<'a, A: Allocator + Copy>(
-    at: &Place<'_, A>,
-    names: &mut Names,
-    table: &'a Table,
-) -> Result<Positional<'a>, DescriptionError<A>>
-    ensures ok { IfOk result (λ positional. positional_from (table_view table.now) ≡ Some (positional_said positional)) }
-    ensures refused { IfErr result (λ e. ¬ IsMemory e → positional_from (table_view table.now) ≡ None) }
+fn positional_from<'a>(names: &mut Names, item: &'a Value) -> Result<Positional<'a>, Fault<'a>>
+    ensures { Reads (option_and_then positional_from (as_table (view item.now))) (λ positional. positional_said positional) result }
 {
-    see_keys(at, table, &POSITIONAL_KEYS)?;
-    let value = names.get(required_text_at(at, table, "value")?)?;
-    let help = text_at(at, table, "help")?;
-    let required = flag_at(at, table, "required", true)?;
-    let repeated = flag_at(at, table, "repeated", false)?;
-    let strict = flag_at(at, table, "strict", false)?;
+    let table = table_of(item)?;
+    see_keys(table, &POSITIONAL_KEYS)?;
+    let value = names.get(required_text_at(table, "value")?)?;
+    let help = text_at(table, "help")?;
+    let required = flag_at(table, "required", true)?;
+    let repeated = flag_at(table, "repeated", false)?;
+    let strict = flag_at(table, "strict", false)?;
     Ok(Positional {
         value,
         help,
@@ -207,19 +184,18 @@ fn positional_from<'a, A: Allocator + Copy>(
 
 /// Positional values, each from its table.
 pub fn positionals_in<'a, A: Allocator + Copy>(
-    at: &Place<'_, A>,
+    way: &mut Way<A>,
     names: &mut Names,
     items: &'a [Value],
-) -> Result<Vec<Positional<'a>, A>, DescriptionError<A>>
-    ensures ok { IfOk result (λ positionals. each_table positional_from (items_view items.now) ≡ Some (map positional_said positionals.items)) }
-    ensures refused { IfErr result (λ e. ¬ IsMemory e → each_table positional_from (items_view items.now) ≡ None) }
+) -> Result<Vec<Positional<'a>, A>, Fault<'a>>
+    ensures { Reads (each_table positional_from (items_view items.now)) (λ positionals. map positional_said positionals.items) result }
 {
-    let mut positionals = Vec::new(at.alloc());
+    let mut positionals = Vec::new(way.alloc());
     for item in items {
-        let place = (&*at).inside("positional", positionals.len());
-        let table = place.table(item)?;
-        let one = positional_from(&place, names, table)?;
-        push(&mut positionals, one)?;
+        match positional_from(names, item) {
+            Ok(one) => push(&mut positionals, one)?,
+            Err(fault) => return Err(way.outwards("positional", positionals.len(), fault)),
+        }
     }
     Ok(positionals)
 }

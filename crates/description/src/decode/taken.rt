@@ -1,12 +1,12 @@
 //! Names that stand twice on a level.
-ghost use Rattle.std.specs.Prelude.{◌≡◌, ◌++◌, codes, IfOk, IfErr, OnOk, flat_map, is_none, option_to_list, true, false};
+ghost use Rattle.std.specs.Prelude.{◌≡◌, ◌++◌, codes, IfOk, OnOk, flat_map, is_none, option_to_list, true, false};
 ghost use Rattle.toml.specs.Data.{as_table};
 ghost use Rattle.toml.specs.View.{items_view, table_view, view};
 ghost use Rattle.description.specs.Described.Taken.{are_distinct, has_distinct_names, level_commands, level_options, own_options, tables_in, tables_under, texts_at};
 ghost use Rattle.description.specs.Described.Steps.{views_of, words_of};
-ghost use Rattle.description.specs.Faults.{IsMemory};
+ghost use Rattle.description.specs.Faults.{Sees};
 
-use super::faults::{DescriptionError, Place};
+use super::faults::Fault;
 use super::values::value_at;
 use std::alloc::{AllocError, Allocator};
 use std::collections::HashSet;
@@ -14,37 +14,41 @@ use toml::{Table, Value};
 
 /// Refuses a level on which two options share a short or a long name, or two commands a name. It looks at the names alone, since
 /// what stands inside the tables is read later.
-pub fn see_names<A: Allocator + Copy>(
-    at: &Place<'_, A>,
-    table: &Table,
-) -> Result<(), DescriptionError<A>>
-    ensures ok { IfOk result (λ _. has_distinct_names (table_view table.now) ≡ true) }
-    ensures refused { IfErr result (λ e. ¬ IsMemory e → has_distinct_names (table_view table.now) ≡ false) }
+pub fn see_names<'a, A: Allocator + Copy>(alloc: A, table: &'a Table) -> Result<(), Fault<'a>>
+    ensures { Sees (has_distinct_names (table_view table.now)) result }
 {
-    let alloc = at.alloc();
     let mut options = Vec::new(alloc);
     put_level_options(&mut options, table, alloc)?;
-    see_distinct(at, &options, "short", "-")?;
-    see_distinct(at, &options, "long", "--")?;
-    let mut commands = Vec::new(alloc);
-    put_level_commands(&mut commands, table, alloc)?;
-    see_distinct(at, &commands, "name", "command ")
+    see_distinct(alloc, &options, "short", "-")?;
+    see_distinct(alloc, &options, "long", "--")?;
+    see_commands(alloc, table)
 }
 
-fn see_distinct<A: Allocator + Copy>(
-    at: &Place<'_, A>,
-    tables: &[&Table],
-    key: &str,
-    prefix: &str,
-) -> Result<(), DescriptionError<A>>
-    ensures ok { IfOk result (λ _. are_distinct (texts_at key.now (views_of tables.now)) ≡ true) }
-    ensures refused { IfErr result (λ e. ¬ IsMemory e → are_distinct (texts_at key.now (views_of tables.now)) ≡ false) }
+fn see_commands<'a, A: Allocator + Copy>(alloc: A, table: &'a Table) -> Result<(), Fault<'a>>
+    ensures { Sees (are_distinct (texts_at (codes "name") (level_commands (table_view table.now)))) result }
 {
-    let mut texts = Vec::new(at.alloc());
+    let mut commands = Vec::new(alloc);
+    put_level_commands(&mut commands, table, alloc)?;
+    see_distinct(alloc, &commands, "name", "command ")
+}
+
+fn see_distinct<'a, A: Allocator + Copy>(
+    alloc: A,
+    tables: &[&'a Table],
+    key: &str,
+    prefix: &'static str,
+) -> Result<(), Fault<'a>>
+    ensures { Sees (are_distinct (texts_at key.now (views_of tables.now))) result }
+{
+    let mut texts = Vec::new(alloc);
     put_texts(&mut texts, tables, key)?;
-    match first_repeated(at.alloc(), &texts)? {
+    match first_repeated(alloc, &texts)? {
         None => Ok(()),
-        Some(text) => Err(at.fault(prefix, text, " is taken")),
+        Some(text) => Err(Fault::Content {
+            before: prefix,
+            name: text,
+            after: " is taken",
+        }),
     }
 }
 

@@ -1,30 +1,43 @@
 //! What stands at a key of a table.
-ghost use Rattle.std.specs.Prelude.{◌≡◌, Some, None, IfOk, IfErr, option_map, true, false, chars, bytes_eq, OnOk, [], ◌∷◌, ◌++◌};
+ghost use Rattle.std.specs.Prelude.{◌≡◌, option_map, true, false, chars, bytes_eq, OnOk, [], ◌∷◌, ◌++◌};
 ghost use Rattle.std.specs.List.{list_all, list_any};
 ghost use Rattle.bpaf_meta.specs.View.{text_of};
-ghost use Rattle.toml.specs.Data.{get_member, as_str};
+ghost use Rattle.toml.specs.Data.{as_str, as_table, get_member};
 ghost use Rattle.toml.specs.View.{items_view, table_view, view};
 ghost use Rattle.description.specs.Described.Values.{are_tables, is_empty, as_name, as_short, flag_at, has_only, is_name, is_name_character, optional_at, required_at, is_short, only_character, tables_at};
 ghost use Rattle.description.specs.Described.Steps.{words_of};
-ghost use Rattle.description.specs.Faults.{IsMemory};
+ghost use Rattle.description.specs.Faults.{Reads, Sees};
 
-use super::faults::{DescriptionError, Place};
+use super::faults::Fault;
 use lasting_names::Names;
 use std::alloc::{AllocError, Allocator};
 use toml::{Table, Value};
 
+/// The table that a value has to be.
+pub fn table_of<'a>(value: &'a Value) -> Result<&'a Table, Fault<'a>>
+    ensures { Reads (as_table (view value.now)) (λ table. table_view table.now) result }
+{
+    match value {
+        Value::Table(table) => Ok(table),
+        _ => Err(Fault::Content {
+            before: "this",
+            name: "",
+            after: " is no table",
+        }),
+    }
+}
+
 /// Refuses a table that has a key which is none of these.
-pub fn see_keys<A: Allocator + Copy>(
-    at: &Place<'_, A>,
-    table: &Table,
-    keys: &[&str],
-) -> Result<(), DescriptionError<A>>
-    ensures ok { IfOk result (λ _. has_only (words_of keys.now) (table_view table.now) ≡ true) }
-    ensures refused { IfErr result (λ e. ¬ IsMemory e → has_only (words_of keys.now) (table_view table.now) ≡ false) }
+pub fn see_keys<'a>(table: &'a Table, keys: &[&str]) -> Result<(), Fault<'a>>
+    ensures { Sees (has_only (words_of keys.now) (table_view table.now)) result }
 {
     for (key, _) in table.iter() {
         if !is_known(key.as_str(), keys) {
-            return Err(at.fault("no key ", key, " is known here"));
+            return Err(Fault::Content {
+                before: "no key ",
+                name: key.as_str(),
+                after: " is known here",
+            });
         }
     }
     Ok(())
@@ -49,50 +62,34 @@ pub fn value_at<'a>(table: &'a Table, key: &str) -> Option<&'a Value>
 }
 
 /// The text at a key.
-pub fn text_at<'a, A: Allocator + Copy>(
-    at: &Place<'_, A>,
-    table: &'a Table,
-    key: &str,
-) -> Result<Option<&'a str>, DescriptionError<A>>
-    ensures ok { IfOk result (λ text. optional_at as_str key.now (table_view table.now) ≡ Some (text_of text)) }
-    ensures refused { IfErr result (λ e. ¬ IsMemory e → optional_at as_str key.now (table_view table.now) ≡ None) }
+pub fn text_at<'a>(table: &'a Table, key: &'static str) -> Result<Option<&'a str>, Fault<'a>>
+    ensures { Reads (optional_at as_str key.now (table_view table.now)) (λ text. text_of text) result }
 {
     match value_at(table, key) {
         None => Ok(None),
         Some(Value::String(text)) => Ok(Some(text.as_str())),
-        Some(_) => Err(at.fault("", key, " is no text")),
+        Some(_) => Err(Fault::at(key, " is no text")),
     }
 }
 
 /// The text at a key that may not be left out.
-pub fn required_text_at<'a, A: Allocator + Copy>(
-    at: &Place<'_, A>,
-    table: &'a Table,
-    key: &str,
-) -> Result<&'a str, DescriptionError<A>>
-    ensures ok { IfOk result (λ text. required_at as_str key.now (table_view table.now) ≡ Some text.now) }
-    ensures refused { IfErr result (λ e. ¬ IsMemory e → required_at as_str key.now (table_view table.now) ≡ None) }
+pub fn required_text_at<'a>(table: &'a Table, key: &'static str) -> Result<&'a str, Fault<'a>>
+    ensures { Reads (required_at as_str key.now (table_view table.now)) (λ text. text.now) result }
 {
-    match text_at(at, table, key)? {
+    match text_at(table, key)? {
         Some(text) => Ok(text),
-        None => Err(at.fault("", key, " is missing")),
+        None => Err(Fault::at(key, " is missing")),
     }
 }
 
 /// The flag at a key.
-pub fn flag_at<A: Allocator + Copy>(
-    at: &Place<'_, A>,
-    table: &Table,
-    key: &str,
-    default: bool,
-) -> Result<bool, DescriptionError<A>>
-    ensures ok { IfOk result (λ flag. flag_at default key.now (table_view table.now) ≡ Some flag) }
-    ensures refused { IfErr result (λ e. ¬ IsMemory e → flag_at default key.now (table_view table.now) ≡ None) }
+pub fn flag_at<'a>(table: &'a Table, key: &'static str, default: bool) -> Result<bool, Fault<'a>>
+    ensures { Reads (flag_at default key.now (table_view table.now)) (λ flag. flag) result }
 {
     match value_at(table, key) {
         None => Ok(default),
         Some(Value::Boolean(flag)) => Ok(*flag),
-        Some(_) => Err(at.fault("", key, " is no flag")),
+        Some(_) => Err(Fault::at(key, " is no flag")),
     }
 }
 
@@ -115,35 +112,31 @@ fn are_name_characters(text: &str) -> bool
 }
 
 /// The name at a key, as a text that lasts.
-pub fn name_at<A: Allocator + Copy>(
-    at: &Place<'_, A>,
+pub fn name_at<'a>(
     names: &mut Names,
-    table: &Table,
-    key: &str,
-) -> Result<Option<&'static str>, DescriptionError<A>>
-    ensures ok { IfOk result (λ name. optional_at as_name key.now (table_view table.now) ≡ Some (text_of name)) }
-    ensures refused { IfErr result (λ e. ¬ IsMemory e → optional_at as_name key.now (table_view table.now) ≡ None) }
+    table: &'a Table,
+    key: &'static str,
+) -> Result<Option<&'static str>, Fault<'a>>
+    ensures { Reads (optional_at as_name key.now (table_view table.now)) (λ name. text_of name) result }
 {
-    match text_at(at, table, key)? {
+    match text_at(table, key)? {
         None => Ok(None),
         Some(text) if is_name(text) => Ok(Some(names.get(text)?)),
-        Some(_) => Err(at.fault("", key, " is no name")),
+        Some(_) => Err(Fault::at(key, " is no name")),
     }
 }
 
 /// The name at a key that may not be left out.
-pub fn required_name_at<A: Allocator + Copy>(
-    at: &Place<'_, A>,
+pub fn required_name_at<'a>(
     names: &mut Names,
-    table: &Table,
-    key: &str,
-) -> Result<&'static str, DescriptionError<A>>
-    ensures ok { IfOk result (λ name. required_at as_name key.now (table_view table.now) ≡ Some name.now) }
-    ensures refused { IfErr result (λ e. ¬ IsMemory e → required_at as_name key.now (table_view table.now) ≡ None) }
+    table: &'a Table,
+    key: &'static str,
+) -> Result<&'static str, Fault<'a>>
+    ensures { Reads (required_at as_name key.now (table_view table.now)) (λ name. name.now) result }
 {
-    match name_at(at, names, table, key)? {
+    match name_at(names, table, key)? {
         Some(name) => Ok(name),
-        None => Err(at.fault("", key, " is missing")),
+        None => Err(Fault::at(key, " is missing")),
     }
 }
 
@@ -167,37 +160,27 @@ fn is_short(character: char) -> bool
 }
 
 /// The short name at a key.
-pub fn short_at<A: Allocator + Copy>(
-    at: &Place<'_, A>,
-    table: &Table,
-    key: &str,
-) -> Result<Option<char>, DescriptionError<A>>
-    ensures ok { IfOk result (λ short. optional_at as_short key.now (table_view table.now) ≡ Some short) }
-    ensures refused { IfErr result (λ e. ¬ IsMemory e → optional_at as_short key.now (table_view table.now) ≡ None) }
+pub fn short_at<'a>(table: &'a Table, key: &'static str) -> Result<Option<char>, Fault<'a>>
+    ensures { Reads (optional_at as_short key.now (table_view table.now)) (λ short. short) result }
 {
-    let Some(text) = text_at(at, table, key)? else {
+    let Some(text) = text_at(table, key)? else {
         return Ok(None);
     };
     match only_character(text) {
         Some(short) if is_short(short) => Ok(Some(short)),
-        Some(_) => Err(at.fault("", key, " is no short name")),
-        None => Err(at.fault("", key, " is not one character")),
+        Some(_) => Err(Fault::at(key, " is no short name")),
+        None => Err(Fault::at(key, " is not one character")),
     }
 }
 
 /// The tables of the array at a key.
-pub fn tables_at<'a, A: Allocator + Copy>(
-    at: &Place<'_, A>,
-    table: &'a Table,
-    key: &str,
-) -> Result<&'a [Value], DescriptionError<A>>
-    ensures ok { IfOk result (λ tables. tables_at key.now (table_view table.now) ≡ Some (items_view tables.now)) }
-    ensures refused { IfErr result (λ e. ¬ IsMemory e → tables_at key.now (table_view table.now) ≡ None) }
+pub fn tables_at<'a>(table: &'a Table, key: &'static str) -> Result<&'a [Value], Fault<'a>>
+    ensures { Reads (tables_at key.now (table_view table.now)) (λ tables. items_view tables.now) result }
 {
     match value_at(table, key) {
         None => Ok(&[]),
         Some(Value::Array(items)) if are_tables(items) => Ok(items),
-        Some(_) => Err(at.fault("", key, " is no array of tables")),
+        Some(_) => Err(Fault::at(key, " is no array of tables")),
     }
 }
 

@@ -1,65 +1,41 @@
-use Rattle.std.proofs.Common.{rules, ◌≡◌, Some, [], ◌∷◌, map, get_or, ap, ◌∙◌, sym, arith}
+use Rattle.std.proofs.Common.{rules, ◌≡◌, ◌≤◌, Some, [], ◌∷◌, map, get_or, ap, ◌∙◌, refl, subst, sym, arith}
 use Rattle.std.proofs.lemmas.Grind.{common_steps}
 use Rattle.std.proofs.lemmas.List.{map-append}
-use Rattle.toml.specs.Data.{as_table}
-use Rattle.toml.specs.View.{table_view, view}
+use Rattle.toml.specs.Data.{as_table, depth, items_depth}
+use Rattle.toml.specs.View.{items_view, table_view, view}
 use Rattle.description.specs.Described.{as_command, as_group, group_of, level_of}
-use Rattle.description.specs.Faults.{IsMemory}
 use Rattle.description_parts.specs.View.{command_said, group_said}
-use Rattle.description.proofs.Depths.{inner_depth, is_table, no_command, no_group}
+use Rattle.description.proofs.Depths.{item_depth, is_table, no_command, no_group, table_depth}
 use Rattle.description.proofs.Reading.{passed_on}
 use Rattle.description.proofs.Tables.{command_faulty, command_read, commands_read, group_faulty, group_read, groups_read}
-use Rattle.description_parts.proofs.Views.{made-Group, made-Level}
+use Rattle.description_parts.proofs.Views.{made-Command, made-Group, made-Level}
 use Rattle.description.proofs.decode.levels.+decode.Goals as goal
 
-pub command_from-level_of-requires : goal.command_from-level_of-requires
-command_from-level_of-requires g t c κs within = (omega (arith, c.decreases, c.in_ok-head.ensures.depth), search rules)
-
-pub level_of-returns-in_err-options-clause-refused : goal.level_of-returns-in_err-options-clause-refused
+pub level_of-returns-in_err-options : goal.level_of-returns-in_err-options
 unfolding level_of
-level_of-returns-in_err-options-clause-refused g t c = search rules
+level_of-returns-in_err-options g t c = passed_on _ _ c.from_residual.result c.in_err-options.field-0.0 c.from_residual.ensures.1 (λ n. rw (c.in_err-options.ensures n) refl)
 
-pub level_of-returns-in_err-choices-clause-refused : goal.level_of-returns-in_err-choices-clause-refused
+pub level_of-returns-in_err-choices : goal.level_of-returns-in_err-choices
 unfolding level_of
-level_of-returns-in_err-choices-clause-refused g t c = search rules
+level_of-returns-in_err-choices g t c = passed_on _ _ c.from_residual-in_err-choices.result c.in_err-choices.field-0.0 c.from_residual-in_err-choices.ensures.1 (λ n. rw (c.in_ok-options.ensures, c.in_err-choices.ensures n) refl)
 
-pub level_of-returns-in_err-groups-clause-refused : goal.level_of-returns-in_err-groups-clause-refused
+pub level_of-returns-in_err-groups : goal.level_of-returns-in_err-groups
 unfolding level_of
-level_of-returns-in_err-groups-clause-refused g t c = search rules
+level_of-returns-in_err-groups g t c = passed_on _ _ c.from_residual-in_err-groups.result c.in_err-groups.field-0.0 c.from_residual-in_err-groups.ensures.1 (λ n. rw (c.in_ok-options.ensures, c.in_ok-choices.ensures, c.in_err-groups.ensures n) refl)
 
-pub level_of-returns-in_err-positionals-clause-refused : goal.level_of-returns-in_err-positionals-clause-refused
+pub level_of-returns-in_err-positionals : goal.level_of-returns-in_err-positionals
 unfolding level_of
-level_of-returns-in_err-positionals-clause-refused g t c = search (rules, c.in_ok-options.ensures.ok, c.in_ok-choices.ensures.ok, c.in_ok-groups.ensures.ok, c.in_err-positionals.ensures.refused, c.from_residual-in_err-positionals.ensures)
+level_of-returns-in_err-positionals g t c = passed_on _ _ c.from_residual-in_err-positionals.result c.in_err-positionals.field-0.0 c.from_residual-in_err-positionals.ensures.1
+    (λ n. rw (c.in_ok-options.ensures, c.in_ok-choices.ensures, c.in_ok-groups.ensures, c.in_err-positionals.ensures n) refl)
 
-pub level_of-returns-in_err-commands-clause-refused : goal.level_of-returns-in_err-commands-clause-refused
+pub level_of-returns-in_err-commands : goal.level_of-returns-in_err-commands
 unfolding level_of
-level_of-returns-in_err-commands-clause-refused g t c = search (rules, c.in_ok-options.ensures.ok, c.in_ok-choices.ensures.ok, c.in_ok-groups.ensures.ok, c.in_ok-positionals.ensures.ok, c.in_err-commands.ensures.refused, c.from_residual-in_err-commands.ensures)
+level_of-returns-in_err-commands g t c = passed_on _ _ c.from_residual-in_err-commands.result c.in_err-commands.field-0.0 c.from_residual-in_err-commands.ensures.1
+    (λ n. rw (c.in_ok-options.ensures, c.in_ok-choices.ensures, c.in_ok-groups.ensures, c.in_ok-positionals.ensures, c.in_err-commands.ensures n) refl)
 
-pub level_of-returns-clause-ok : goal.level_of-returns-clause-ok
+pub level_of-returns : goal.level_of-returns
 unfolding level_of
-level_of-returns-clause-ok g t c =
-    rw (c.in_ok-options.ensures.ok, c.in_ok-choices.ensures.ok, c.in_ok-groups.ensures.ok, c.in_ok-positionals.ensures.ok, c.in_ok-commands.ensures.ok) (ap Some (sym (made-Level _)))
-
-pub group_from-returns-in_err-options_in-clause-refused : goal.group_from-returns-in_err-options_in-clause-refused
-unfolding group_of
-group_from-returns-in_err-options_in-clause-refused g t c = search rules
-
-pub group_from-returns-in_err-choices_in-clause-refused : goal.group_from-returns-in_err-choices_in-clause-refused
-unfolding group_of
-group_from-returns-in_err-choices_in-clause-refused g t c = search rules
-
-pub group_from-returns-in_err-positionals_in-clause-refused : goal.group_from-returns-in_err-positionals_in-clause-refused
-unfolding group_of
-group_from-returns-in_err-positionals_in-clause-refused g t c = search rules
-
-pub group_from-returns-in_err-commands_in-clause-refused : goal.group_from-returns-in_err-commands_in-clause-refused
-unfolding group_of
-group_from-returns-in_err-commands_in-clause-refused g t c = search rules
-
-pub group_from-returns-clause-ok : goal.group_from-returns-clause-ok
-unfolding group_of
-group_from-returns-clause-ok g t c =
-    rw (c.in_ok-title.ensures.ok, c.in_ok-title.ensures.commands, c.in_ok-options_in.ensures.ok, c.in_ok-choices_in.ensures.ok, c.in_ok-positionals_in.ensures.ok, c.in_ok-commands_in.ensures.ok) (ap Some (sym (made-Group _)))
+level_of-returns g t c = rw (c.in_ok-options.ensures, c.in_ok-choices.ensures, c.in_ok-groups.ensures, c.in_ok-positionals.ensures, c.in_ok-commands.ensures) (ap Some (sym (made-Level _)))
 
 pub level_of-groups_in-requires : goal.level_of-groups_in-requires
 level_of-groups_in-requires g t c κs within = (omega (arith, c.decreases), search rules)
@@ -67,69 +43,116 @@ level_of-groups_in-requires g t c κs within = (omega (arith, c.decreases), sear
 pub level_of-commands_in-requires : goal.level_of-commands_in-requires
 level_of-commands_in-requires g t c κs within = (omega (arith, c.decreases), search rules)
 
+pub command_from-level_of-requires : goal.command_from-level_of-requires
+command_from-level_of-requires g t c κs within =
+    let deeper = table_depth (view c.args.item.now) (table_view c.in_ok-table.table.now) c.in_ok-table.ensures in
+    (omega (arith, c.decreases, c.in_ok-head.ensures.depth, deeper), search rules)
+
 pub group_from-commands_in-requires : goal.group_from-commands_in-requires
-group_from-commands_in-requires g t c κs within = (omega (arith, c.decreases, c.in_ok-title.ensures.depth), search rules)
+group_from-commands_in-requires g t c κs within =
+    let deeper = table_depth (view c.args.item.now) (table_view c.in_ok-table.table.now) c.in_ok-table.ensures in
+    (omega (arith, c.decreases, c.in_ok-title.ensures.depth, deeper), search rules)
 
 pub commands_in-command_from-requires : goal.commands_in-command_from-requires
 commands_in-command_from-requires g t c κs within =
     let at : get_or c.args.items.now c.loop-item.item-index c.item-item.result ≡ c.item-item.result = grind (arith, common_steps) in
-    let inner = inner_depth c.args.items.now c.loop-item.item-index c.item-item.result (table_view c.in_ok-table.table.now) c.loop-item-test.true (ap (λ v. as_table (view v)) at ∙ c.in_ok-table.ensures.ok) in
-    (omega (arith, c.decreases, inner), search rules)
-
-pub commands_in-returns-in_err-table-clause-refused : goal.commands_in-returns-in_err-table-clause-refused
-commands_in-returns-in_err-table-clause-refused g t c =
-    let at : get_or c.args.items.now c.loop-item.item-index c.item-item.result ≡ c.item-item.result = grind (arith, common_steps) in
-    let faulty = λ (n : ¬ IsMemory c.in_err-table.field-0.0). command_faulty c.args.items.now (map command_said c.loop-item.commands.items) c.loop-item.item-index c.item-item.result c.loop-item-test.true c.loop-item.invariant
-    (ap (λ v. as_command (view v)) at ∙ no_command (view c.item-item.result) (c.in_err-table.ensures.refused n)) in
-    passed_on c.from_residual.result c.in_err-table.field-0.0 _ c.from_residual.ensures.1 faulty
-
-pub commands_in-returns-in_err-one-clause-refused : goal.commands_in-returns-in_err-one-clause-refused
-commands_in-returns-in_err-one-clause-refused g t c =
-    let at : get_or c.args.items.now c.loop-item.item-index c.item-item.result ≡ c.item-item.result = grind (arith, common_steps) in
-    let same = is_table (view c.item-item.result) (table_view c.in_ok-table.table.now) c.in_ok-table.ensures.ok in
-    let faulty = λ (n : ¬ IsMemory c.in_err-one.field-0.0). command_faulty c.args.items.now (map command_said c.loop-item.commands.items) c.loop-item.item-index c.item-item.result c.loop-item-test.true c.loop-item.invariant
-    (ap (λ v. as_command (view v)) at ∙ ap as_command same ∙ c.in_err-one.ensures.refused n) in
-    passed_on c.from_residual-in_err-one.result c.in_err-one.field-0.0 _ c.from_residual-in_err-one.ensures.1 faulty
-
-pub commands_in-loop-item-preserved : goal.commands_in-loop-item-preserved
-commands_in-loop-item-preserved g t c =
-    let at : get_or c.args.items.now c.loop-item.item-index c.item-item.result ≡ c.item-item.result = grind (arith, common_steps) in
-    let same = is_table (view c.item-item.result) (table_view c.in_ok-table.table.now) c.in_ok-table.ensures.ok in
-    command_read c.args.items.now (map command_said c.loop-item.commands.items) (map command_said c.push.new.list.items) (command_said c.in_ok-one.one) c.loop-item.item-index c.item-item.result c.loop-item-test.true c.loop-item.invariant
-    (ap (λ v. as_command (view v)) at ∙ ap as_command same ∙ c.in_ok-one.ensures.ok)
-    (ap (map command_said) c.in_ok-push.ensures ∙ map-append command_said c.loop-item.commands.items (c.in_ok-one.one ∷ []))
-
-pub commands_in-returns-clause-ok : goal.commands_in-returns-clause-ok
-commands_in-returns-clause-ok g t c = commands_read c.args.items.now (map command_said c.loop-item.commands.items) c.loop-item.item-index c.loop-item.invariant (grind (arith, common_steps))
+    let below = subst (λ v. depth (view v) ≤ items_depth (items_view c.args.items.now)) at (item_depth c.args.items.now c.loop-item.item-index c.item-item.result c.loop-item-test.true) in
+    (omega (arith, c.decreases, below), search rules)
 
 pub groups_in-group_from-requires : goal.groups_in-group_from-requires
 groups_in-group_from-requires g t c κs within =
     let at : get_or c.args.items.now c.loop-item.item-index c.item-item.result ≡ c.item-item.result = grind (arith, common_steps) in
-    let inner = inner_depth c.args.items.now c.loop-item.item-index c.item-item.result (table_view c.in_ok-table.table.now) c.loop-item-test.true (ap (λ v. as_table (view v)) at ∙ c.in_ok-table.ensures.ok) in
-    (omega (arith, c.decreases, inner), search rules)
+    let below = subst (λ v. depth (view v) ≤ items_depth (items_view c.args.items.now)) at (item_depth c.args.items.now c.loop-item.item-index c.item-item.result c.loop-item-test.true) in
+    (omega (arith, c.decreases, below), search rules)
 
-pub groups_in-returns-in_err-table-clause-refused : goal.groups_in-returns-in_err-table-clause-refused
-groups_in-returns-in_err-table-clause-refused g t c =
+pub commands_in-returns-in-Err : goal.commands_in-returns-in-Err
+commands_in-returns-in-Err g t c =
     let at : get_or c.args.items.now c.loop-item.item-index c.item-item.result ≡ c.item-item.result = grind (arith, common_steps) in
-    let faulty = λ (n : ¬ IsMemory c.in_err-table.field-0.0). group_faulty c.args.items.now (map group_said c.loop-item.groups.items) c.loop-item.item-index c.item-item.result c.loop-item-test.true c.loop-item.invariant
-    (ap (λ v. as_group (view v)) at ∙ no_group (view c.item-item.result) (c.in_err-table.ensures.refused n)) in
-    passed_on c.from_residual.result c.in_err-table.field-0.0 _ c.from_residual.ensures.1 faulty
+    λ n. command_faulty c.args.items.now (map command_said c.loop-item.commands.items) c.loop-item.item-index c.item-item.result c.loop-item-test.true c.loop-item.invariant
+    (ap (λ v. as_command (view v)) at ∙ c.in-Err.ensures (c.outwards.ensures n))
 
-pub groups_in-returns-in_err-one-clause-refused : goal.groups_in-returns-in_err-one-clause-refused
-groups_in-returns-in_err-one-clause-refused g t c =
+pub commands_in-loop-item-preserved : goal.commands_in-loop-item-preserved
+commands_in-loop-item-preserved g t c =
     let at : get_or c.args.items.now c.loop-item.item-index c.item-item.result ≡ c.item-item.result = grind (arith, common_steps) in
-    let same = is_table (view c.item-item.result) (table_view c.in_ok-table.table.now) c.in_ok-table.ensures.ok in
-    let faulty = λ (n : ¬ IsMemory c.in_err-one.field-0.0). group_faulty c.args.items.now (map group_said c.loop-item.groups.items) c.loop-item.item-index c.item-item.result c.loop-item-test.true c.loop-item.invariant
-    (ap (λ v. as_group (view v)) at ∙ ap as_group same ∙ c.in_err-one.ensures.refused n) in
-    passed_on c.from_residual-in_err-one.result c.in_err-one.field-0.0 _ c.from_residual-in_err-one.ensures.1 faulty
+    command_read c.args.items.now (map command_said c.loop-item.commands.items) (map command_said c.push.new.list.items) (command_said c.in-Ok.one) c.loop-item.item-index c.item-item.result c.loop-item-test.true c.loop-item.invariant
+    (ap (λ v. as_command (view v)) at ∙ c.in-Ok.ensures)
+    (ap (map command_said) c.in_ok-push-in-Ok.ensures ∙ map-append command_said c.loop-item.commands.items (c.in-Ok.one ∷ []))
+
+pub commands_in-returns : goal.commands_in-returns
+commands_in-returns g t c = commands_read c.args.items.now (map command_said c.loop-item.commands.items) c.loop-item.item-index c.loop-item.invariant (grind (arith, common_steps))
+
+pub groups_in-returns-in-Err : goal.groups_in-returns-in-Err
+groups_in-returns-in-Err g t c =
+    let at : get_or c.args.items.now c.loop-item.item-index c.item-item.result ≡ c.item-item.result = grind (arith, common_steps) in
+    λ n. group_faulty c.args.items.now (map group_said c.loop-item.groups.items) c.loop-item.item-index c.item-item.result c.loop-item-test.true c.loop-item.invariant
+    (ap (λ v. as_group (view v)) at ∙ c.in-Err.ensures (c.outwards.ensures n))
 
 pub groups_in-loop-item-preserved : goal.groups_in-loop-item-preserved
 groups_in-loop-item-preserved g t c =
     let at : get_or c.args.items.now c.loop-item.item-index c.item-item.result ≡ c.item-item.result = grind (arith, common_steps) in
-    let same = is_table (view c.item-item.result) (table_view c.in_ok-table.table.now) c.in_ok-table.ensures.ok in
-    group_read c.args.items.now (map group_said c.loop-item.groups.items) (map group_said c.push.new.list.items) (group_said c.in_ok-one.one) c.loop-item.item-index c.item-item.result c.loop-item-test.true c.loop-item.invariant
-    (ap (λ v. as_group (view v)) at ∙ ap as_group same ∙ c.in_ok-one.ensures.ok)
-    (ap (map group_said) c.in_ok-push.ensures ∙ map-append group_said c.loop-item.groups.items (c.in_ok-one.one ∷ []))
+    group_read c.args.items.now (map group_said c.loop-item.groups.items) (map group_said c.push.new.list.items) (group_said c.in-Ok.one) c.loop-item.item-index c.item-item.result c.loop-item-test.true c.loop-item.invariant
+    (ap (λ v. as_group (view v)) at ∙ c.in-Ok.ensures)
+    (ap (map group_said) c.in_ok-push-in-Ok.ensures ∙ map-append group_said c.loop-item.groups.items (c.in-Ok.one ∷ []))
 
-pub groups_in-returns-clause-ok : goal.groups_in-returns-clause-ok
-groups_in-returns-clause-ok g t c = groups_read c.args.items.now (map group_said c.loop-item.groups.items) c.loop-item.item-index c.loop-item.invariant (grind (arith, common_steps))
+pub groups_in-returns : goal.groups_in-returns
+groups_in-returns g t c = groups_read c.args.items.now (map group_said c.loop-item.groups.items) c.loop-item.item-index c.loop-item.invariant (grind (arith, common_steps))
+
+pub command_from-returns-in_err-table : goal.command_from-returns-in_err-table
+command_from-returns-in_err-table g t c = passed_on _ _ c.from_residual.result c.in_err-table.field-0.0 c.from_residual.ensures.1 (λ n. no_command (view c.args.item.now) (c.in_err-table.ensures n))
+
+pub command_from-returns-in_err-head : goal.command_from-returns-in_err-head
+command_from-returns-in_err-head g t c =
+    let same = is_table (view c.args.item.now) (table_view c.in_ok-table.table.now) c.in_ok-table.ensures in
+    passed_on _ _ c.from_residual-in_err-head.result c.in_err-head.field-0.0 c.from_residual-in_err-head.ensures.1 (λ n. ap as_command same ∙ rw (c.in_err-head.ensures.head n) refl)
+
+pub command_from-returns-in_err-level_of : goal.command_from-returns-in_err-level_of
+command_from-returns-in_err-level_of g t c =
+    let same = is_table (view c.args.item.now) (table_view c.in_ok-table.table.now) c.in_ok-table.ensures in
+    passed_on _ _ c.from_residual-in_err-level_of.result c.in_err-level_of.field-0.0 c.from_residual-in_err-level_of.ensures.1
+    (λ n. ap as_command same ∙ rw (c.in_ok-head.ensures.head, c.in_ok-head.ensures.groups, c.in_ok-head.ensures.commands, c.in_err-level_of.ensures n) refl)
+
+pub command_from-returns : goal.command_from-returns
+command_from-returns g t c =
+    let same = is_table (view c.args.item.now) (table_view c.in_ok-table.table.now) c.in_ok-table.ensures in
+    ap as_command same ∙ rw (c.in_ok-head.ensures.head, c.in_ok-head.ensures.groups, c.in_ok-head.ensures.commands, c.in_ok-level_of.ensures) (ap Some (sym (made-Command _)))
+
+pub group_from-returns-in_err-table : goal.group_from-returns-in_err-table
+group_from-returns-in_err-table g t c = passed_on _ _ c.from_residual.result c.in_err-table.field-0.0 c.from_residual.ensures.1 (λ n. no_group (view c.args.item.now) (c.in_err-table.ensures n))
+
+pub group_from-returns-in_err-title : goal.group_from-returns-in_err-title
+group_from-returns-in_err-title g t c =
+    let same = is_table (view c.args.item.now) (table_view c.in_ok-table.table.now) c.in_ok-table.ensures in
+    passed_on _ _ c.from_residual-in_err-title.result c.in_err-title.field-0.0 c.from_residual-in_err-title.ensures.1 (λ n. ap as_group same ∙ rw (c.in_err-title.ensures.head n) refl)
+
+pub group_from-returns-in_err-options_in : goal.group_from-returns-in_err-options_in
+unfolding group_of
+group_from-returns-in_err-options_in g t c =
+    let same = is_table (view c.args.item.now) (table_view c.in_ok-table.table.now) c.in_ok-table.ensures in
+    passed_on _ _ c.from_residual-in_err-options_in.result c.in_err-options_in.field-0.0 c.from_residual-in_err-options_in.ensures.1 (λ n. ap as_group same ∙ rw (c.in_ok-title.ensures.head, c.in_err-options_in.ensures n) refl)
+
+pub group_from-returns-in_err-choices_in : goal.group_from-returns-in_err-choices_in
+unfolding group_of
+group_from-returns-in_err-choices_in g t c =
+    let same = is_table (view c.args.item.now) (table_view c.in_ok-table.table.now) c.in_ok-table.ensures in
+    passed_on _ _ c.from_residual-in_err-choices_in.result c.in_err-choices_in.field-0.0 c.from_residual-in_err-choices_in.ensures.1
+    (λ n. ap as_group same ∙ rw (c.in_ok-title.ensures.head, c.in_ok-options_in.ensures, c.in_err-choices_in.ensures n) refl)
+
+pub group_from-returns-in_err-positionals_in : goal.group_from-returns-in_err-positionals_in
+unfolding group_of
+group_from-returns-in_err-positionals_in g t c =
+    let same = is_table (view c.args.item.now) (table_view c.in_ok-table.table.now) c.in_ok-table.ensures in
+    passed_on _ _ c.from_residual-in_err-positionals_in.result c.in_err-positionals_in.field-0.0 c.from_residual-in_err-positionals_in.ensures.1
+    (λ n. ap as_group same ∙ rw (c.in_ok-title.ensures.head, c.in_ok-options_in.ensures, c.in_ok-choices_in.ensures, c.in_err-positionals_in.ensures n) refl)
+
+pub group_from-returns-in_err-commands_in : goal.group_from-returns-in_err-commands_in
+unfolding group_of
+group_from-returns-in_err-commands_in g t c =
+    let same = is_table (view c.args.item.now) (table_view c.in_ok-table.table.now) c.in_ok-table.ensures in
+    passed_on _ _ c.from_residual-in_err-commands_in.result c.in_err-commands_in.field-0.0 c.from_residual-in_err-commands_in.ensures.1
+    (λ n. ap as_group same ∙ rw (c.in_ok-title.ensures.head, c.in_ok-title.ensures.commands, c.in_ok-options_in.ensures, c.in_ok-choices_in.ensures, c.in_ok-positionals_in.ensures, c.in_err-commands_in.ensures n) refl)
+
+pub group_from-returns : goal.group_from-returns
+unfolding group_of
+group_from-returns g t c =
+    let same = is_table (view c.args.item.now) (table_view c.in_ok-table.table.now) c.in_ok-table.ensures in
+    ap as_group same ∙ rw (c.in_ok-title.ensures.head, c.in_ok-title.ensures.commands, c.in_ok-options_in.ensures, c.in_ok-choices_in.ensures, c.in_ok-positionals_in.ensures, c.in_ok-commands_in.ensures) (ap Some (sym (made-Group _)))

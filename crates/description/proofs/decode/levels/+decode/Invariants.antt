@@ -1,22 +1,22 @@
 use Rattle.std.proofs.Common.{◌+◌, ◌*◌, map}
-use Rattle.toml.specs.Data.{items_depth, members_depth}
-use Rattle.toml.specs.View.{items_view, table_view}
+use Rattle.toml.specs.Data.{depth, items_depth}
+use Rattle.toml.specs.View.{items_view, view}
 use Rattle.description.specs.Described.Steps.{lists_depth, lists_seen}
 use Rattle.description_parts.specs.View.{command_said, group_said}
 use Rattle.description.proofs.Tables.{CommandsSoFar, GroupsSoFar}
 use Rattle.description.proofs.decode.levels.+decode.Given as goal
 
 abbrev pub decreases-commands_in : goal.decreases-commands_in
-decreases-commands_in g l = 4 * items_depth (items_view l.items.now)
+decreases-commands_in g l = 4 * items_depth (items_view l.items.now) + 1
 
 abbrev pub decreases-groups_in : goal.decreases-groups_in
-decreases-groups_in g l = 4 * items_depth (items_view l.items.now)
+decreases-groups_in g l = 4 * items_depth (items_view l.items.now) + 1
 
 abbrev pub decreases-command_from : goal.decreases-command_from
-decreases-command_from g l = 4 * members_depth (table_view l.table.now) + 3
+decreases-command_from g l = 4 * depth (view l.item.now)
 
 abbrev pub decreases-group_from : goal.decreases-group_from
-decreases-group_from g l = 4 * members_depth (table_view l.table.now) + 3
+decreases-group_from g l = 4 * depth (view l.item.now)
 
 abbrev pub decreases-level_of : goal.decreases-level_of
 decreases-level_of g l = 4 * lists_depth (lists_seen l.outline.lists) + 2

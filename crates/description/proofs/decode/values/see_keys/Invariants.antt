@@ -5,4 +5,4 @@ use Rattle.description.specs.Described.Values.{has_only}
 use Rattle.description.proofs.decode.values.see_keys.Given as goal
 
 abbrev pub invariant-loop-key : goal.invariant-loop-key
-invariant-loop-key g l = has_only (words_of l.keys) (members_view l.key-iterator) ≡ has_only (words_of l.keys) (table_view l.table)
+invariant-loop-key l = has_only (words_of l.keys) (members_view l.key-iterator) ≡ has_only (words_of l.keys) (table_view l.table)
