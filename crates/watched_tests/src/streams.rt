@@ -97,6 +97,7 @@ fn reads_all(
         }
         Err(ReadError::Failed(error)) => Err(error.kind()),
         Err(ReadError::Refused(error)) => return Err(error),
+        Err(ReadError::NotUtf8) => panic!(rt; "bytes need be no text"),
     };
     assert!(rt; reader.failed() == outcome.is_err());
     let end = reader.into_inner();
