@@ -1,115 +1,78 @@
 //! Answers to requests on the pages of an application.
 
+use crate::documents::path_of;
 use crate::page_answers::refusal;
 use crate::request::Request;
 use crate::trees::read_info;
+use crate::words::Words;
 use bpaf_help::meta::Meta;
 use bpaf_help::meta_help::Info;
 use bpaf_help::pages::{
     DocSection, Section, extract_sections, render_html, render_manpage, render_markdown,
 };
 use bpaf_roff::escape::APOSTROPHE_PREABMLE;
-use replay_engine::encoding::{spelled, write_text};
+use replay_engine::encoding::spelled;
 use replay_engine::fault::{Answer, Bad};
-use std::alloc::{AllocError, Global};
+use replay_engine::lines::Lines;
+use std::alloc::Global;
 
 /// The sections of an application, or its pages as HTML or markdown.
 pub fn application_answer(request: &mut Request<'_>, key: &str) -> Answer {
-    let name = request.text()?;
-    let info = read_info(request)?;
-    let tree = request.tree()?;
+    let name = request.text();
+    let info = read_info(request);
+    let tree = request.tree();
     match key {
-        "apphtml" => html(request.alloc, name.as_str(), &tree, &info),
-        "appmarkdown" => markdown(request.alloc, name.as_str(), &tree, &info),
-        _ => sections(request.alloc, name.as_str(), &tree, &info),
+        "sections" => sections(request.alloc, name, &tree, &info),
+        _ => pages(request.alloc, name, &tree, &info, key == "apphtml"),
     }
 }
 
-/// The pages as HTML, or the item that is misplaced.
-pub fn html<'a>(alloc: Global, name: &str, tree: &'a Meta, info: &'a Info) -> Answer {
-    match render_html(alloc, name, tree, info) {
-        Ok(text) => Ok(spelled(alloc, text.as_str())?),
+// The pages as HTML or markdown, or the item that is misplaced.
+fn pages<'a>(alloc: Global, name: &str, tree: &'a Meta, info: &'a Info, as_html: bool) -> Answer {
+    let text = match as_html {
+        true => render_html(alloc, name, tree, info),
+        false => render_markdown(alloc, name, tree, info),
+    };
+    match text {
+        Ok(text) => spelled(alloc, text.as_str()),
         Err(error) => refusal(alloc, error),
     }
-}
-
-/// The pages as markdown, or the item that is misplaced.
-pub fn markdown<'a>(alloc: Global, name: &str, tree: &'a Meta, info: &'a Info) -> Answer {
-    match render_markdown(alloc, name, tree, info) {
-        Ok(text) => Ok(spelled(alloc, text.as_str())?),
-        Err(error) => refusal(alloc, error),
-    }
-}
-
-/// A path of one name.
-pub fn path_of(alloc: Global, name: &str) -> Result<Vec<String>, AllocError> {
-    let mut path = Vec::new(alloc);
-    path.push(String::from_str(alloc, name)?)?;
-    Ok(path)
 }
 
 /// The paths of the sections.
 pub fn sections<'a>(alloc: Global, name: &str, tree: &'a Meta, info: &'a Info) -> Answer {
-    let mut path = path_of(alloc, name)?;
+    let mut path = path_of(alloc, &[name])?;
     let mut sections: Vec<DocSection<'a>> = Vec::new(alloc);
     extract_sections(tree, info, &mut path, &mut sections)?;
-    let mut answer = String::from_str(alloc, " [")?;
+    let mut words = Words::new(alloc);
+    words.push(" [");
     for section in &sections {
-        write_path(&mut answer, &section.path)?;
+        write_path(&mut words, &section.path);
     }
-    answer.push_str(" ]")?;
-    Ok(answer)
+    words.push(" ]");
+    words.answer()
 }
 
-fn write_path(out: &mut String, path: &[String]) -> Result<(), AllocError> {
-    out.push_str(" (")?;
+fn write_path(words: &mut Words, path: &[String]) {
+    words.push(" (");
     for name in path {
-        out.push_str(" ")?;
-        write_text(out, name.as_str())?;
+        words.text(" ", name.as_str());
     }
-    out.push_str(" )")
-}
-
-// The words of a title line.
-#[derive(Drop)]
-struct Title {
-    name: String,
-    section: String,
-    date: Option<String>,
-    vendor: Option<String>,
-    title: Option<String>,
-}
-
-fn read_title(request: &mut Request<'_>) -> Result<Title, Bad> {
-    Ok(Title {
-        name: request.text()?,
-        section: request.text()?,
-        date: request.optional_text()?,
-        vendor: request.optional_text()?,
-        title: request.optional_text()?,
-    })
+    words.push(" )");
 }
 
 /// The manual page of an application.
 pub fn manual_answer(request: &mut Request<'_>) -> Answer {
-    let title = read_title(request)?;
-    let info = read_info(request)?;
-    let tree = request.tree()?;
-    let page = manual(request.alloc, &title, &tree, &info)?;
-    Ok(spelled(request.alloc, page.as_str())?)
-}
-
-fn manual(alloc: Global, title: &Title, tree: &Meta, info: &Info) -> Result<String, AllocError> {
-    render_manpage(
-        alloc,
-        title.name.as_str(),
-        section_of(title.section.as_str()),
-        title.date.as_deref(),
-        title.vendor.as_deref(),
-        title.title.as_deref(),
-        tree,
-        info,
-    )
+    let name = request.text();
+    let section = section_of(request.text());
+    let date = request.optional_text();
+    let vendor = request.optional_text();
+    let title = request.optional_text();
+    let info = read_info(request);
+    let tree = request.tree();
+    let alloc = request.alloc;
+    let page = render_manpage(alloc, name, section, date, vendor, title, &tree, &info)?;
+    spelled(alloc, page.as_str())
 }
 
 fn section_of(text: &str) -> Section<'_> {
@@ -126,13 +89,25 @@ fn section_of(text: &str) -> Section<'_> {
     }
 }
 
-/// The manual page of the application `app`, without the preamble and the title line.
-pub fn bare_manual(alloc: Global, tree: &Meta, info: &Info) -> Answer {
+/// Adds the pages of the application `app`: as HTML, as markdown and as a manual page.
+pub fn add_application_pages<'a>(
+    alloc: Global,
+    tree: &'a Meta,
+    info: &'a Info,
+    lines: &mut Lines,
+) -> Result<(), Bad> {
+    lines.add("ah", pages(alloc, "app", tree, info, true)?)?;
+    lines.add("am", pages(alloc, "app", tree, info, false)?)?;
+    lines.add("mn", bare_manual(alloc, tree, info)?)
+}
+
+// The manual page of the application `app`, without the preamble and the title line.
+fn bare_manual(alloc: Global, tree: &Meta, info: &Info) -> Answer {
     let page = render_manpage(alloc, "app", Section::General, None, None, None, tree, info)?;
     let text = page.as_str();
     let titled = text.strip_prefix(APOSTROPHE_PREABMLE).unwrap_or(text);
     let bare = titled
         .strip_prefix(".TH app 1 - - \"\"\n")
         .unwrap_or(titled);
-    Ok(spelled(alloc, bare)?)
+    spelled(alloc, bare)
 }

@@ -1,8 +1,7 @@
 //! Answers to requests on documents.
 
-use crate::documents::{bit, shown};
-use crate::pieces::append_control;
 use crate::request::Request;
+use crate::words::{Words, shown};
 use bpaf_doc::buffer::Doc;
 use bpaf_roff::escape::APOSTROPHE_PREABMLE;
 use bpaf_roff::roff::Roff;
@@ -11,56 +10,79 @@ use replay_engine::fault::{Answer, Bad};
 use replay_engine::lines::Lines;
 use std::alloc::Global;
 
+/// The form of a text that is made of a document. The first field says whether it is in full or in brief.
+#[derive(Clone, Copy)]
+pub enum Form {
+    /// with the width
+    Console(bool, usize),
+    /// at the width of a usage line
+    Monochrome(bool),
+    /// with or without the style sheet
+    Html(bool, bool),
+    Markdown(bool),
+}
+
+/// A document as a text.
+pub fn rendered(alloc: Global, document: &Doc, form: Form) -> Answer {
+    let page = match form {
+        Form::Console(full, width) => document.render_console(alloc, full, width)?,
+        Form::Monochrome(full) => document.monochrome(alloc, full)?,
+        Form::Html(full, styles) => document.render_html(alloc, full, styles)?,
+        Form::Markdown(full) => document.render_markdown(alloc, full)?,
+    };
+    spelled(alloc, page.as_str())
+}
+
+/// The answer to a request on a form of a document.
+pub fn form_answer(request: &mut Request<'_>, key: &str) -> Answer {
+    let full = read_extent(request);
+    let form = match key {
+        "console" => Form::Console(full, read_width(request)),
+        "html" => Form::Html(full, request.flag()),
+        _ => Form::Markdown(full),
+    };
+    rendered(request.alloc, &request.document(), form)
+}
+
 /// The answer to a request on a document alone.
 pub fn document_answer(request: &mut Request<'_>, key: &str) -> Answer {
-    let document = request.document()?;
+    let document = request.document();
     match key {
         "parts" => shown(request.alloc, &document),
         "firstline" => first_line(request.alloc, &document),
-        _ => word(request.alloc, bit(document.is_empty())),
+        _ => bit(request.alloc, document.is_empty()),
     }
-}
-
-pub fn console_answer(request: &mut Request<'_>) -> Answer {
-    let full = read_extent(request)?;
-    let width = width_of(request.word()?)?;
-    let document = request.document()?;
-    console(request.alloc, &document, full, width)
-}
-
-pub fn html_answer(request: &mut Request<'_>) -> Answer {
-    let full = read_extent(request)?;
-    let with_styles = request.flag()?;
-    let document = request.document()?;
-    html(request.alloc, &document, full, with_styles)
-}
-
-pub fn markdown_answer(request: &mut Request<'_>) -> Answer {
-    let full = read_extent(request)?;
-    let document = request.document()?;
-    markdown(request.alloc, &document, full)
 }
 
 pub fn roff_answer(request: &mut Request<'_>) -> Answer {
-    let title = request.texts()?;
-    let document = request.document()?;
-    let alloc = request.alloc;
-    let mut page = Roff::new(alloc);
-    append_control(&mut page, alloc, "TH", &title)?;
-    spelled(alloc, document.render_roff(page)?.as_str())
+    let mut page = Roff::new(request.alloc);
+    page.append_control("TH", &request.texts()?)?;
+    let text = request.document().render_roff(page)?;
+    spelled(request.alloc, text.as_str())
 }
 
 /// Takes a word that says whether a page is in full or in brief.
-pub fn read_extent(request: &mut Request<'_>) -> Result<bool, Bad> {
-    match request.word()? {
-        "full" => Ok(true),
-        "brief" => Ok(false),
-        _ => Err(Bad::Words("full or brief was expected")),
+pub fn read_extent(request: &mut Request<'_>) -> bool {
+    let word = request.word();
+    if word != "full" && word != "brief" {
+        request.fail(Bad::Words("full or brief was expected"));
+    }
+    word == "full"
+}
+
+/// Takes a width.
+pub fn read_width(request: &mut Request<'_>) -> usize {
+    let word = request.word();
+    match width_of(word) {
+        Ok(width) => width,
+        Err(bad) => {
+            request.fail(bad);
+            0
+        }
     }
 }
 
-/// The width that a word stands for.
-pub fn width_of(word: &str) -> Result<usize, Bad> {
+fn width_of(word: &str) -> Result<usize, Bad> {
     if word == "max" {
         return Ok(usize::MAX);
     }
@@ -69,8 +91,8 @@ pub fn width_of(word: &str) -> Result<usize, Bad> {
 
 /// Adds all answers to one document: console pages at the widths, and what needs no width.
 pub fn add_document_answers(request: &mut Request<'_>, lines: &mut Lines) -> Result<(), Bad> {
-    let widths = request.word()?;
-    let document = request.document()?;
+    let widths = request.word();
+    let document = request.document();
     request.end()?;
     for width in widths.split(',') {
         add_console_pages(request.alloc, &document, width, lines)?;
@@ -86,56 +108,48 @@ fn add_console_pages(
     lines: &mut Lines,
 ) -> Result<(), Bad> {
     let columns = width_of(width)?;
-    let full = key_of(alloc, "cf", width)?;
-    lines.add(full.as_str(), console(alloc, document, true, columns)?)?;
-    let brief = key_of(alloc, "cb", width)?;
-    lines.add(brief.as_str(), console(alloc, document, false, columns)?)
-}
-
-fn key_of(alloc: Global, kind: &str, width: &str) -> Answer {
-    let mut key = String::from_str(alloc, kind)?;
-    key.push_str(width)?;
-    Ok(key)
+    for (kind, full) in [("cf", true), ("cb", false)] {
+        let page = rendered(alloc, document, Form::Console(full, columns))?;
+        let key = format!(in alloc; "{kind}{width}")?;
+        lines.add(key.as_str(), page)?;
+    }
+    Ok(())
 }
 
 fn add_pages(alloc: Global, document: &Doc, lines: &mut Lines) -> Result<(), Bad> {
-    lines.add("hf", html(alloc, document, true, false)?)?;
-    lines.add("hb", html(alloc, document, false, false)?)?;
-    lines.add("mf", markdown(alloc, document, true)?)?;
-    lines.add("mb", markdown(alloc, document, false)?)?;
+    let forms = [
+        ("hf", Form::Html(true, false)),
+        ("hb", Form::Html(false, false)),
+        ("mf", Form::Markdown(true)),
+        ("mb", Form::Markdown(false)),
+    ];
+    for (key, form) in forms {
+        lines.add(key, rendered(alloc, document, form)?)?;
+    }
     lines.add("rf", bare_roff(alloc, document)?)?;
     lines.add("fl", first_line(alloc, document)?)
-}
-
-/// The text of a console page.
-pub fn console(alloc: Global, document: &Doc, full: bool, width: usize) -> Answer {
-    spelled(alloc, document.render_console(alloc, full, width)?.as_str())
-}
-
-fn html(alloc: Global, document: &Doc, full: bool, styles: bool) -> Answer {
-    spelled(alloc, document.render_html(alloc, full, styles)?.as_str())
-}
-
-fn markdown(alloc: Global, document: &Doc, full: bool) -> Answer {
-    spelled(alloc, document.render_markdown(alloc, full)?.as_str())
 }
 
 // The document on an empty page, without the preamble.
 fn bare_roff(alloc: Global, document: &Doc) -> Answer {
     let page = document.render_roff(Roff::new(alloc))?;
     let text = page.as_str();
-    let bare = text.strip_prefix(APOSTROPHE_PREABMLE).unwrap_or(text);
-    spelled(alloc, bare)
+    spelled(
+        alloc,
+        text.strip_prefix(APOSTROPHE_PREABMLE).unwrap_or(text),
+    )
 }
 
 fn first_line(alloc: Global, document: &Doc) -> Answer {
-    match document.first_line()? {
-        Some(line) => shown(alloc, &line),
-        None => word(alloc, " -"),
-    }
+    let line = document.first_line()?;
+    let mut words = Words::new(alloc);
+    words.optional_document(line.as_ref());
+    words.answer()
 }
 
-/// An answer of one word, which has its blank.
-pub fn word(alloc: Global, word: &str) -> Answer {
-    Ok(String::from_str(alloc, word)?)
+/// An answer of 0 or 1.
+pub fn bit(alloc: Global, is_so: bool) -> Answer {
+    let mut words = Words::new(alloc);
+    words.bit(is_so);
+    words.answer()
 }

@@ -4,13 +4,14 @@
 mod application_answers;
 mod document_answers;
 mod documents;
-mod entries;
 mod page_answers;
 mod pieces;
+mod printed;
 mod request;
 mod requests;
 mod tree_answers;
 mod trees;
+mod words;
 
 use replay_engine::run::{Stop, run};
 use requests::Library;

@@ -1,116 +1,54 @@
-//! Answers to requests on item lists and help pages.
+//! Answers to requests on help pages.
 
-use crate::application_answers::{bare_manual, html, markdown, path_of, sections};
-use crate::document_answers::{console, read_extent, width_of, word};
-use crate::documents::{shown, write_number};
-use crate::entries::write_listed;
+use crate::application_answers::{add_application_pages, sections};
+use crate::document_answers::{Form, read_extent, read_width, rendered};
+use crate::documents::path_of;
 use crate::request::Request;
-use crate::tree_answers::{add_forms, printed_item};
+use crate::tree_answers::{add_forms, group_places, listing, printed_item};
 use crate::trees::read_info;
+use crate::words::shown;
 use bpaf_doc::buffer::Doc;
 use bpaf_help::meta::Meta;
-use bpaf_help::meta_help::{
-    EnvTexts, HelpError, HelpItems, HiTy, Info, render_help, write_help_item_groups,
-};
+use bpaf_help::meta_help::{EnvTexts, HelpError, Info, render_help, write_help_item_groups};
 use replay_engine::fault::{Answer, Bad};
 use replay_engine::lines::Lines;
 use std::alloc::{AllocError, Global};
 
-/// The answer to a request on the item list of a tree.
-pub fn list_answer(request: &mut Request<'_>, key: &str) -> Answer {
-    let tree = request.tree()?;
-    match key {
-        "items" => all_items(request.alloc, &tree),
-        _ => group_places(request.alloc, &tree),
-    }
-}
-
-/// The entries of a heading.
-pub fn heading_answer(request: &mut Request<'_>) -> Answer {
-    let ty = type_of(request.word()?)?;
-    let tree = request.tree()?;
-    items_of_type(request.alloc, &tree, ty)
-}
-
-fn type_of(word: &str) -> Result<HiTy, Bad> {
-    match word {
-        "f" => Ok(HiTy::Flag),
-        "c" => Ok(HiTy::Command),
-        "p" => Ok(HiTy::Positional),
-        _ => Err(Bad::Words("f, c or p was expected")),
-    }
-}
-
-fn listing<'a>(alloc: Global, tree: &'a Meta) -> Result<HelpItems<'a>, AllocError> {
-    let mut items: HelpItems<'a> = HelpItems::new(alloc);
-    items.append_meta(tree)?;
-    Ok(items)
-}
-
-fn all_items(alloc: Global, tree: &Meta) -> Answer {
-    let items = listing(alloc, tree)?;
-    let mut answer = String::from_str(alloc, " [")?;
-    for entry in items.items() {
-        write_listed(&mut answer, entry)?;
-    }
-    answer.push_str(" ]")?;
-    Ok(answer)
-}
-
-fn items_of_type(alloc: Global, tree: &Meta, ty: HiTy) -> Answer {
-    let items = listing(alloc, tree)?;
-    let mut answer = String::from_str(alloc, " [")?;
-    for entry in items.items_of_ty(ty) {
-        write_listed(&mut answer, entry)?;
-    }
-    answer.push_str(" ]")?;
-    Ok(answer)
-}
-
-fn group_places(alloc: Global, tree: &Meta) -> Answer {
-    match listing(alloc, tree)?.find_group() {
-        Some(places) => two_numbers(alloc, *places.start(), *places.end()),
-        None => word(alloc, " -"),
-    }
-}
-
-fn two_numbers(alloc: Global, first: usize, last: usize) -> Answer {
-    let mut answer = String::from_str(alloc, " ")?;
-    write_number(&mut answer, first)?;
-    answer.push_str(" ")?;
-    write_number(&mut answer, last)?;
-    Ok(answer)
-}
-
-// Takes names of environment variables, each with its value behind it, in parentheses.
-fn read_environment(request: &mut Request<'_>) -> Result<EnvTexts, Bad> {
-    request.expect("(")?;
+// Takes names of environment variables, each with its value behind it, in parentheses. A last name has an empty one.
+fn read_environment(request: &mut Request<'_>) -> Result<EnvTexts, AllocError> {
+    request.expect("(");
     let mut environment = EnvTexts::new(request.alloc);
     for _ in 0..request.len() {
         if request.has(")") {
             return Ok(environment);
         }
-        let name = request.text()?;
-        let value = read_quoted(request)?;
-        environment.insert(name.as_str(), value.as_str())?;
+        let name = request.text();
+        let value = match request.peek() {
+            Some(")") => "",
+            _ => request.text(),
+        };
+        insert(&mut environment, request.alloc, name, value)?;
     }
-    Err(Bad::ENDS_EARLY)
+    request.fail(Bad::ENDS_EARLY);
+    Ok(environment)
 }
 
-// Takes a value, as a page shows it: in quotation marks, with escapes for some characters. A last name has an empty one.
-fn read_quoted(request: &mut Request<'_>) -> Answer {
-    let value = match request.peek() {
-        Some(")") => String::new(request.alloc),
-        _ => request.text()?,
-    };
-    Ok(format!(in request.alloc; "{:?}", value.as_str())?)
+// Puts in a value as a page shows it: in quotation marks, with escapes for some characters.
+fn insert(
+    environment: &mut EnvTexts,
+    alloc: Global,
+    name: &str,
+    value: &str,
+) -> Result<(), AllocError> {
+    let quoted = format!(in alloc; "{value:?}")?;
+    environment.insert(name, quoted.as_str())
 }
 
 /// The groups of a tree, as a document.
 pub fn groups_answer(request: &mut Request<'_>) -> Answer {
-    let include_env = request.flag()?;
+    let include_env = request.flag();
     let environment = read_environment(request)?;
-    let tree = request.tree()?;
+    let tree = request.tree();
     let page = groups(request.alloc, &tree, include_env, &environment)?;
     shown(request.alloc, &page)
 }
@@ -136,13 +74,14 @@ struct Application {
     tree: Meta,
 }
 
-fn read_application(request: &mut Request<'_>) -> Result<Application, Bad> {
-    let path = request.texts()?;
-    let include_env = request.flag()?;
+fn read_application(request: &mut Request<'_>) -> Result<Application, AllocError> {
+    let names = request.texts()?;
+    let path = path_of(request.alloc, &names)?;
+    let include_env = request.flag();
     let environment = read_environment(request)?;
-    let mut info = read_info(request)?;
-    let tree = request.tree()?;
-    info.help = request.tree()?;
+    let mut info = read_info(request);
+    let tree = request.tree();
+    info.help = request.tree();
     Ok(Application {
         path,
         include_env,
@@ -166,29 +105,21 @@ fn help_page(alloc: Global, app: &Application) -> Result<Doc, HelpError<'_>> {
 
 /// The help page on the console, or the item that is misplaced.
 pub fn help_answer(request: &mut Request<'_>) -> Answer {
-    let full = read_extent(request)?;
-    let width = width_of(request.word()?)?;
+    let full = read_extent(request);
+    let width = read_width(request);
     let app = read_application(request)?;
-    help_text(request.alloc, &app, full, width)
-}
-
-fn help_text(alloc: Global, app: &Application, full: bool, width: usize) -> Answer {
-    match help_page(alloc, app) {
-        Ok(page) => console(alloc, &page, full, width),
-        Err(error) => refusal(alloc, error),
+    match help_page(request.alloc, &app) {
+        Ok(page) => rendered(request.alloc, &page, Form::Console(full, width)),
+        Err(error) => refusal(request.alloc, error),
     }
 }
 
 /// The help page as a document, or the item that is misplaced.
 pub fn help_parts_answer(request: &mut Request<'_>) -> Answer {
     let app = read_application(request)?;
-    help_parts(request.alloc, &app)
-}
-
-fn help_parts(alloc: Global, app: &Application) -> Answer {
-    match help_page(alloc, app) {
-        Ok(page) => shown(alloc, &page),
-        Err(error) => refusal(alloc, error),
+    match help_page(request.alloc, &app) {
+        Ok(page) => shown(request.alloc, &page),
+        Err(error) => refusal(request.alloc, error),
     }
 }
 
@@ -204,47 +135,40 @@ pub fn refusal(alloc: Global, error: HelpError<'_>) -> Answer {
 pub fn add_tree_answers(request: &mut Request<'_>, lines: &mut Lines) -> Result<(), Bad> {
     let app = read_tree_of_app(request)?;
     request.end()?;
-    add_pages(request.alloc, &app, lines)
-}
-
-fn add_pages(alloc: Global, app: &Application, lines: &mut Lines) -> Result<(), Bad> {
+    let alloc = request.alloc;
     add_forms(alloc, &app.tree, lines)?;
     lines.add("se", sections(alloc, "app", &app.tree, &app.info)?)?;
     lines.add("fg", group_places(alloc, &app.tree)?)?;
-    add_help_pages(alloc, app, lines)?;
-    lines.add("gr", groups_page(alloc, app)?)?;
-    lines.add("ah", html(alloc, "app", &app.tree, &app.info)?)?;
-    lines.add("am", markdown(alloc, "app", &app.tree, &app.info)?)?;
-    lines.add("mn", bare_manual(alloc, &app.tree, &app.info)?)
+    add_help_pages(alloc, &app, lines)?;
+    add_application_pages(alloc, &app.tree, &app.info, lines)
 }
 
 // Takes a tree behind what goes with it. The path is `app`.
-fn read_tree_of_app(request: &mut Request<'_>) -> Result<Application, Bad> {
+fn read_tree_of_app(request: &mut Request<'_>) -> Result<Application, AllocError> {
+    let path = path_of(request.alloc, &["app"])?;
     let environment = read_environment(request)?;
-    let mut info = read_info(request)?;
-    info.help = request.tree()?;
+    let mut info = read_info(request);
+    info.help = request.tree();
+    let tree = request.tree();
     Ok(Application {
+        path,
+        include_env: true,
         environment,
         info,
-        include_env: true,
-        tree: request.tree()?,
-        path: path_of(request.alloc, "app")?,
+        tree,
     })
 }
 
-fn groups_page(alloc: Global, app: &Application) -> Answer {
-    let page = groups(alloc, &app.tree, true, &app.environment)?;
-    console(alloc, &page, true, 60)
-}
-
-// Adds nothing where an item is misplaced.
+// Adds the help page in full and in brief, unless an item is misplaced, and the groups.
 fn add_help_pages(alloc: Global, app: &Application, lines: &mut Lines) -> Result<(), Bad> {
     match help_page(alloc, app) {
         Ok(page) => {
-            lines.add("hf", console(alloc, &page, true, 100)?)?;
-            lines.add("hb", console(alloc, &page, false, 40)?)
+            lines.add("hf", rendered(alloc, &page, Form::Console(true, 100))?)?;
+            lines.add("hb", rendered(alloc, &page, Form::Console(false, 40))?)?;
         }
-        Err(HelpError::Misplaced(_)) => Ok(()),
-        Err(HelpError::Memory(_)) => Err(Bad::Memory),
+        Err(HelpError::Misplaced(_)) => {}
+        Err(HelpError::Memory(_)) => return Err(Bad::Memory),
     }
+    let page = groups(alloc, &app.tree, true, &app.environment)?;
+    lines.add("gr", rendered(alloc, &page, Form::Console(true, 60))?)
 }

@@ -1,42 +1,37 @@
 //! Answers to requests on texts and their pieces: chunks, roff, escaping and labelled texts.
 
-use crate::documents::{bit, write_number};
 use crate::request::Request;
+use crate::words::Words;
 use bpaf_doc::splitter::{Chunk, split};
 use bpaf_roff::escape::bytes::escape;
 use bpaf_roff::escape::{Apostrophes, Escape};
 use bpaf_roff::monoid::FreeMonoid;
 use bpaf_roff::roff::{Font, Roff};
-use replay_engine::encoding::{read_text, spelled, write_character, write_text};
+use replay_engine::encoding::spelled;
 use replay_engine::fault::{Answer, Bad};
-use std::alloc::{AllocError, Global};
+use std::alloc::AllocError;
 
 /// The chunks of a text.
 pub fn chunks_answer(request: &mut Request<'_>) -> Answer {
-    let text = request.text()?;
-    let mut answer = String::from_str(request.alloc, " [")?;
-    for chunk in split(text.as_str()) {
-        write_chunk(&mut answer, chunk)?;
-    }
-    answer.push_str(" ]")?;
-    Ok(answer)
-}
-
-fn write_chunk(out: &mut String, chunk: Chunk<'_>) -> Result<(), AllocError> {
-    match chunk {
-        Chunk::Raw(text, weight) => {
-            out.push_str(" r")?;
-            write_number(out, weight)?;
-            write_text(out, text)
+    let mut words = Words::new(request.alloc);
+    words.push(" [");
+    for chunk in split(request.text()) {
+        match chunk {
+            Chunk::Raw(text, weight) => {
+                words.number(" r", weight);
+                words.text("", text);
+            }
+            Chunk::Paragraph => words.push(" p"),
+            Chunk::LineBreak => words.push(" b"),
         }
-        Chunk::Paragraph => out.push_str(" p"),
-        Chunk::LineBreak => out.push_str(" b"),
     }
+    words.push(" ]");
+    words.answer()
 }
 
 /// The sum of some pages, rendered.
 pub fn roff_calls_answer(request: &mut Request<'_>) -> Answer {
-    let apostrophes = read_apostrophes(request)?;
+    let apostrophes = read_apostrophes(request);
     let mut sum = read_page(request)?;
     for _ in 0..request.len() {
         if request.has("+") {
@@ -46,16 +41,19 @@ pub fn roff_calls_answer(request: &mut Request<'_>) -> Answer {
     spelled(request.alloc, sum.render(apostrophes)?.as_str())
 }
 
-fn read_apostrophes(request: &mut Request<'_>) -> Result<Apostrophes, Bad> {
-    match request.word()? {
-        "h" => Ok(Apostrophes::Handle),
-        "d" => Ok(Apostrophes::DontHandle),
-        _ => Err(Bad::Words("h or d was expected")),
+fn read_apostrophes(request: &mut Request<'_>) -> Apostrophes {
+    match request.word() {
+        "h" => Apostrophes::Handle,
+        "d" => Apostrophes::DontHandle,
+        _ => {
+            request.fail(Bad::Words("h or d was expected"));
+            Apostrophes::Handle
+        }
     }
 }
 
 // Takes calls on a page, up to a plus or the end.
-fn read_page(request: &mut Request<'_>) -> Result<Roff, Bad> {
+fn read_page(request: &mut Request<'_>) -> Result<Roff, AllocError> {
     let mut page = Roff::new(request.alloc);
     for _ in 0..request.len() {
         match request.peek() {
@@ -66,92 +64,57 @@ fn read_page(request: &mut Request<'_>) -> Result<Roff, Bad> {
     Ok(page)
 }
 
-fn append_call(page: &mut Roff, request: &mut Request<'_>) -> Result<(), Bad> {
-    match request.word()? {
-        "control" => {
-            let name = request.text()?;
-            append_control(page, request.alloc, name.as_str(), &request.texts()?)?;
-        }
-        "control0" => page.append_control0(request.text()?.as_str())?,
-        "break" => page.append_linebreak()?,
-        "esc" => page.append_escape(request.text()?.as_str())?,
-        "plain" => page.append_plaintext(request.text()?.as_str())?,
+fn append_call(page: &mut Roff, request: &mut Request<'_>) -> Result<(), AllocError> {
+    match request.word() {
+        "control" => page.append_control(request.text(), &request.texts()?),
+        "control0" => page.append_control0(request.text()),
+        "break" => page.append_linebreak(),
+        "esc" => page.append_escape(request.text()),
+        "plain" => page.append_plaintext(request.text()),
+        "text" => page.append_text(&read_fonts(request)?),
         "strip" => {
-            page.strip_newlines(request.flag()?);
+            page.strip_newlines(request.flag());
+            Ok(())
         }
-        "text" => append_text(page, request)?,
-        _ => return Err(Bad::Words("no such call on a page")),
+        _ => {
+            request.fail(Bad::Words("no such call on a page"));
+            Ok(())
+        }
     }
-    Ok(())
 }
 
-/// Appends a control with these arguments.
-pub fn append_control(
-    page: &mut Roff,
-    alloc: Global,
-    name: &str,
-    arguments: &[String],
-) -> Result<(), AllocError> {
-    let mut texts = Vec::new(alloc);
-    for argument in arguments {
-        texts.push(argument.as_str())?;
-    }
-    page.append_control(name, &texts)
-}
-
-// Takes texts with fonts, in parentheses, and appends them.
-fn append_text(page: &mut Roff, request: &mut Request<'_>) -> Result<(), Bad> {
-    request.expect("(")?;
-    let pieces = read_pieces(request)?;
-    request.expect(")")?;
+// Takes texts with fonts, in parentheses.
+fn read_fonts(request: &mut Request<'_>) -> Result<Vec<(Font, &'static str)>, AllocError> {
+    request.expect("(");
     let mut texts = Vec::new(request.alloc);
-    for (label, text) in &pieces {
-        texts.push((font_of(*label)?, text.as_str()))?;
-    }
-    Ok(page.append_text(&texts)?)
-}
-
-// Takes labelled texts up to a closing bracket or the end.
-fn read_pieces(request: &mut Request<'_>) -> Result<Vec<(char, String)>, Bad> {
-    let mut pieces = Vec::new(request.alloc);
     for _ in 0..request.len() {
-        match request.peek() {
-            None | Some(")") => break,
-            Some(_) => pieces.push(read_labelled(request)?)?,
+        if request.has(")") {
+            return Ok(texts);
         }
+        let (label, text) = request.labelled();
+        texts.push((font_of(request, label), text))?;
     }
-    Ok(pieces)
+    request.fail(Bad::ENDS_EARLY);
+    Ok(texts)
 }
 
-// Takes a word that is a character, and a text behind it.
-fn read_labelled(request: &mut Request<'_>) -> Result<(char, String), Bad> {
-    let mut characters = request.word()?.chars();
-    if let Some(label) = characters.next() {
-        if let Some(spelled) = characters.as_str().strip_prefix('\'') {
-            return Ok((label, read_text(request.alloc, spelled)?));
-        }
-    }
-    Err(Bad::Words("a letter and a text were expected"))
-}
-
-fn font_of(label: char) -> Result<Font, Bad> {
+fn font_of(request: &mut Request<'_>, label: char) -> Font {
     match label {
-        'R' => Ok(Font::Roman),
-        'B' => Ok(Font::Bold),
-        'I' => Ok(Font::Italic),
-        _ => Err(Bad::Words("no such font")),
+        'R' => Font::Roman,
+        'B' => Font::Bold,
+        'I' => Font::Italic,
+        _ => {
+            request.fail(Bad::Words("no such font"));
+            Font::Roman
+        }
     }
 }
 
 /// A text and pieces behind it, escaped.
 pub fn escape_answer(request: &mut Request<'_>) -> Answer {
-    let apostrophes = read_apostrophes(request)?;
-    let mut bytes = request.text()?.into_bytes();
-    let pieces = read_pieces(request)?;
-    let mut items = Vec::new(request.alloc);
-    for (label, text) in &pieces {
-        items.push((escape_of(*label)?, text.as_str()))?;
-    }
+    let apostrophes = read_apostrophes(request);
+    let mut bytes = Vec::from_slice(request.alloc, request.text().as_bytes())?;
+    let items = read_escapes(request)?;
     escape(
         items.iter().map(|(how, text)| (how, *text)),
         &mut bytes,
@@ -163,14 +126,27 @@ pub fn escape_answer(request: &mut Request<'_>) -> Answer {
     }
 }
 
-fn escape_of(label: char) -> Result<Escape, Bad> {
+// Takes all that is left, as texts with ways to escape them.
+fn read_escapes(request: &mut Request<'_>) -> Result<Vec<(Escape, &'static str)>, AllocError> {
+    let mut texts = Vec::new(request.alloc);
+    for _ in 0..request.len() {
+        let (label, text) = request.labelled();
+        texts.push((escape_of(request, label), text))?;
+    }
+    Ok(texts)
+}
+
+fn escape_of(request: &mut Request<'_>, label: char) -> Escape {
     match label {
-        'N' => Ok(Escape::UnescapedAtNewline),
-        'S' => Ok(Escape::Spaces),
-        'X' => Ok(Escape::Special),
-        'Y' => Ok(Escape::SpecialNoNewline),
-        'U' => Ok(Escape::Unescaped),
-        _ => Err(Bad::Words("no such way to escape")),
+        'N' => Escape::UnescapedAtNewline,
+        'S' => Escape::Spaces,
+        'X' => Escape::Special,
+        'Y' => Escape::SpecialNoNewline,
+        'U' => Escape::Unescaped,
+        _ => {
+            request.fail(Bad::Words("no such way to escape"));
+            Escape::Unescaped
+        }
     }
 }
 
@@ -184,48 +160,42 @@ pub fn monoid_answer(request: &mut Request<'_>) -> Answer {
         if request.has("(") {
             sum = sum.add(&read_list(request)?)?;
         } else if request.peek().is_some() {
-            append_piece(&mut sum, &read_labelled(request)?)?;
+            append_piece(&mut sum, request)?;
         }
     }
-    monoid_text(request.alloc, &sum)
+    let mut words = Words::new(request.alloc);
+    words.push(" [");
+    words.bit(sum.squash);
+    for (label, text) in sum.iter() {
+        words.push(" ");
+        words.label(*label);
+        words.text("", text);
+    }
+    words.push(" ]");
+    words.answer()
 }
 
-// A text of one character goes in as one.
-fn append_piece(sum: &mut FreeMonoid<char>, piece: &(char, String)) -> Result<(), AllocError> {
-    let mut characters = piece.1.as_str().chars();
+// Takes a piece. A text of one character goes in as one.
+fn append_piece(sum: &mut FreeMonoid<char>, request: &mut Request<'_>) -> Result<(), AllocError> {
+    let (label, text) = request.labelled();
+    let mut characters = text.chars();
     match (characters.next(), characters.next()) {
-        (Some(character), None) => sum.append_char(piece.0, character),
-        _ => sum.append_str(piece.0, piece.1.as_str()),
+        (Some(character), None) => sum.append_char(label, character),
+        _ => sum.append_str(label, text),
     }
 }
 
 // Takes a list, behind its opening bracket.
-fn read_list(request: &mut Request<'_>) -> Result<FreeMonoid<char>, Bad> {
+fn read_list(request: &mut Request<'_>) -> Result<FreeMonoid<char>, AllocError> {
     let mut list = FreeMonoid::new(request.alloc);
-    list.squash = request.flag()?;
-    for (label, text) in &read_pieces(request)? {
-        list.append_str(*label, text.as_str())?;
+    list.squash = request.flag();
+    for _ in 0..request.len() {
+        if request.has(")") {
+            return Ok(list);
+        }
+        let (label, text) = request.labelled();
+        list.append_str(label, text)?;
     }
-    request.expect(")")?;
+    request.fail(Bad::ENDS_EARLY);
     Ok(list)
-}
-
-fn monoid_text(alloc: Global, sum: &FreeMonoid<char>) -> Answer {
-    let mut answer = String::from_str(alloc, " [")?;
-    answer.push_str(bit(sum.squash))?;
-    for (label, text) in sum.iter() {
-        answer.push_str(" ")?;
-        write_label(&mut answer, *label)?;
-        write_text(&mut answer, text)?;
-    }
-    answer.push_str(" ]")?;
-    Ok(answer)
-}
-
-// A label stands for itself, but for a newline, which no line has.
-fn write_label(out: &mut String, label: char) -> Result<(), AllocError> {
-    match label {
-        '\n' => write_character(out, label),
-        _ => out.push(label),
-    }
 }

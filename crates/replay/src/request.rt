@@ -7,31 +7,34 @@ use bpaf_help::meta::Meta;
 use lasting_names::Names;
 use replay_engine::encoding::read_text;
 use replay_engine::fault::Bad;
-use std::alloc::Global;
+use std::alloc::{AllocError, Global};
 
 // How many levels of trees and documents a line may nest.
 const DEEPEST: usize = 1_000;
 
-// A word with nothing to it, or what the first word of a document or a tree stands for with those behind it, and its levels.
+// A word with nothing to it, or the document or tree for which a word stands with those behind it, and its levels.
 #[derive(Drop)]
 enum Term<'a> {
     Word(&'a str),
-    Document(Result<Doc, Bad>, usize),
-    Tree(Result<Meta, Bad>, usize),
+    Document(Doc, usize),
+    Tree(Meta, usize),
+    // a document or a tree with a fault
+    Unread(Bad),
 }
 
 impl<'a> Term<'a> {
-    // The first word, or another that nobody asks for.
+    // The word, or another that nobody asks for.
     fn word(&self) -> &'a str {
         match self {
             Term::Word(word) => *word,
-            Term::Document(..) => "[",
-            Term::Tree(..) => "skip",
+            _ => "skip",
         }
     }
 }
 
 /// What is left of a line, the next term last. Blanks stand between words, and no word is empty.
+///
+/// Where another word stands than is taken, a default is answered. The first such fault is kept, and `end` tells it.
 #[derive(Drop)]
 pub struct Request<'a> {
     pub alloc: Global,
@@ -39,6 +42,7 @@ pub struct Request<'a> {
     terms: Vec<Term<'a>>,
     // one more than the most levels of the terms that were taken behind the word that is being read
     levels: usize,
+    fault: Option<Bad>,
 }
 
 impl<'a> Request<'a> {
@@ -49,28 +53,48 @@ impl<'a> Request<'a> {
             names,
             terms: Vec::new(alloc),
             levels: 0,
+            fault: None,
         };
         for word in line.rsplit(' ') {
             if !word.is_empty() {
-                request.read(word)?;
+                let term = request.read(word)?;
+                request.terms.push(term)?;
             }
         }
         Ok(request)
     }
 
     // Reads a word with those behind it that belong to it.
-    fn read(&mut self, word: &'a str) -> Result<(), Bad> {
+    fn read(&mut self, word: &'a str) -> Result<Term<'a>, AllocError> {
         self.levels = 1;
         let term = if word == "[" {
-            let document = read_document(self);
-            Term::Document(document, self.levels)
+            Term::Document(read_document(self)?, self.levels)
         } else {
-            match read_tree(self, word).transpose() {
+            match read_tree(self, word)? {
                 Some(tree) => Term::Tree(tree, self.levels),
                 None => Term::Word(word),
             }
         };
-        Ok(self.terms.push(term)?)
+        match self.fault.take() {
+            Some(bad) => Ok(Term::Unread(bad)),
+            None => Ok(term),
+        }
+    }
+
+    /// Keeps a fault if it is the first.
+    pub fn fail(&mut self, bad: Bad) {
+        if self.fault.is_none() {
+            self.fault = Some(bad);
+        }
+    }
+
+    /// No word is left, and there was no fault.
+    pub fn end(&self) -> Result<(), Bad> {
+        match self.fault {
+            Some(bad) => Err(bad),
+            None if self.terms.is_empty() => Ok(()),
+            None => Err(Bad::Words("words are left over")),
+        }
     }
 
     /// How many terms are left.
@@ -83,120 +107,154 @@ impl<'a> Request<'a> {
         Some(self.terms.last()?.word())
     }
 
-    /// Takes the next word where there is one.
-    pub fn next_word(&mut self) -> Option<&'a str> {
-        Some(self.terms.pop()?.word())
-    }
-
     /// Takes the next word.
-    pub fn word(&mut self) -> Result<&'a str, Bad> {
-        self.next_word().ok_or(Bad::ENDS_EARLY)
+    pub fn word(&mut self) -> &'a str {
+        match self.terms.pop() {
+            Some(term) => term.word(),
+            None => {
+                self.fail(Bad::ENDS_EARLY);
+                ""
+            }
+        }
     }
 
     /// Takes the next word if it is this one, and answers whether it was.
     pub fn has(&mut self, word: &str) -> bool {
         let is_next = self.peek() == Some(word);
         if is_next {
-            let _ = self.next_word();
+            let _ = self.word();
         }
         is_next
     }
 
     /// Takes the next word, which is to be this one.
-    pub fn expect(&mut self, word: &str) -> Result<(), Bad> {
-        if self.word()? != word {
-            return Err(Bad::Words("another word was expected"));
-        }
-        Ok(())
-    }
-
-    /// No word is left.
-    pub fn end(&self) -> Result<(), Bad> {
-        match self.peek() {
-            None => Ok(()),
-            Some(_) => Err(Bad::Words("words are left over")),
+    pub fn expect(&mut self, word: &str) {
+        if self.word() != word {
+            self.fail(Bad::Words("another word was expected"));
         }
     }
 
     /// Takes a word that is 0 or 1.
-    pub fn flag(&mut self) -> Result<bool, Bad> {
-        match self.word()? {
-            "0" => Ok(false),
-            "1" => Ok(true),
-            _ => Err(Bad::Words("0 or 1 was expected")),
+    pub fn flag(&mut self) -> bool {
+        let word = self.word();
+        if word != "0" && word != "1" {
+            self.fail(Bad::Words("0 or 1 was expected"));
+        }
+        word == "1"
+    }
+
+    /// The text that a word spells, as one that lasts as long as the program.
+    pub fn spelled(&mut self, word: &str) -> &'static str {
+        match self.lasting(word) {
+            Ok(text) => text,
+            Err(bad) => {
+                self.fail(bad);
+                ""
+            }
         }
     }
 
+    fn lasting(&mut self, word: &str) -> Result<&'static str, Bad> {
+        let text = read_text(self.alloc, word)?;
+        Ok(self.names.get(text.as_str())?)
+    }
+
     /// Takes a word that is a text, with its quote mark.
-    pub fn text(&mut self) -> Result<String, Bad> {
-        match self.word()?.strip_prefix('\'') {
-            Some(word) => read_text(self.alloc, word),
-            None => Err(Bad::Words("a text was expected")),
+    pub fn text(&mut self) -> &'static str {
+        match self.word().strip_prefix('\'') {
+            Some(word) => self.spelled(word),
+            None => {
+                self.fail(Bad::Words("a text was expected"));
+                ""
+            }
         }
     }
 
     /// Takes a text, or `-` where there is none.
-    pub fn optional_text(&mut self) -> Result<Option<String>, Bad> {
+    pub fn optional_text(&mut self) -> Option<&'static str> {
         if self.has("-") {
-            return Ok(None);
+            return None;
         }
-        Ok(Some(self.text()?))
+        Some(self.text())
     }
 
     /// Takes texts in parentheses.
-    pub fn texts(&mut self) -> Result<Vec<String>, Bad> {
-        self.expect("(")?;
+    pub fn texts(&mut self) -> Result<Vec<&'static str>, AllocError> {
+        self.expect("(");
         let mut texts = Vec::new(self.alloc);
         for _ in 0..self.len() {
             if self.has(")") {
                 return Ok(texts);
             }
-            texts.push(self.text()?)?;
+            texts.push(self.text())?;
         }
-        Err(Bad::ENDS_EARLY)
+        self.fail(Bad::ENDS_EARLY);
+        Ok(texts)
     }
 
-    /// The text as one that lasts as long as the program.
-    pub fn lasting(&mut self, text: &str) -> Result<&'static str, Bad> {
-        Ok(self.names.get(text)?)
-    }
-
-    /// Takes a text that is kept for good.
-    pub fn lasting_text(&mut self) -> Result<&'static str, Bad> {
-        let text = self.text()?;
-        self.lasting(text.as_str())
+    /// Takes a word that is a character, the label, and a text behind it.
+    pub fn labelled(&mut self) -> (char, &'static str) {
+        let mut characters = self.word().chars();
+        match (characters.next(), characters.as_str().strip_prefix('\'')) {
+            (Some(label), Some(word)) => (label, self.spelled(word)),
+            _ => {
+                self.fail(Bad::Words("a letter and a text were expected"));
+                (' ', "")
+            }
+        }
     }
 
     /// Takes a document.
-    pub fn document(&mut self) -> Result<Doc, Bad> {
+    pub fn document(&mut self) -> Doc {
         match self.terms.pop() {
             Some(Term::Document(document, levels)) => {
-                self.contain(levels)?;
+                self.contain(levels);
                 document
             }
-            Some(_) => Err(Bad::Words("another word was expected")),
-            None => Err(Bad::ENDS_EARLY),
+            other => {
+                self.miss(other, "another word was expected");
+                Doc::new(self.alloc)
+            }
         }
+    }
+
+    /// Takes a document, or `-` where there is none.
+    pub fn optional_document(&mut self) -> Option<Doc> {
+        if self.has("-") {
+            return None;
+        }
+        Some(self.document())
     }
 
     /// Takes a tree.
-    pub fn tree(&mut self) -> Result<Meta, Bad> {
+    pub fn tree(&mut self) -> Meta {
         match self.terms.pop() {
             Some(Term::Tree(tree, levels)) => {
-                self.contain(levels)?;
+                self.contain(levels);
                 tree
             }
-            Some(_) => Err(Bad::Words("a tree was expected")),
-            None => Err(Bad::ENDS_EARLY),
+            other => {
+                self.miss(other, "a tree was expected");
+                Meta::Skip
+            }
         }
     }
 
+    // Keeps the fault of a term that stands for what was wanted.
+    fn miss(&mut self, term: Option<Term<'a>>, wanted: &'static str) {
+        self.fail(match term {
+            Some(Term::Unread(bad)) => bad,
+            Some(_) => Bad::Words(wanted),
+            None => Bad::ENDS_EARLY,
+        });
+    }
+
     // Counts the levels of a term that was taken.
-    fn contain(&mut self, levels: usize) -> Result<(), Bad> {
+    fn contain(&mut self, levels: usize) {
         if levels > DEEPEST {
-            return Err(Bad::Words("nested too deep"));
+            self.fail(Bad::Words("nested too deep"));
+        } else {
+            self.levels = self.levels.max(levels + 1);
         }
-        self.levels = self.levels.max(levels + 1);
-        Ok(())
     }
 }

@@ -1,17 +1,12 @@
 //! Requests, and which answers each has.
 
 use crate::application_answers::{application_answer, manual_answer};
-use crate::document_answers::{
-    add_document_answers, console_answer, document_answer, html_answer, markdown_answer,
-    roff_answer,
-};
-use crate::page_answers::{
-    add_tree_answers, groups_answer, heading_answer, help_answer, help_parts_answer, list_answer,
-};
+use crate::document_answers::{add_document_answers, document_answer, form_answer, roff_answer};
+use crate::page_answers::{add_tree_answers, groups_answer, help_answer, help_parts_answer};
 use crate::pieces::{chunks_answer, escape_answer, monoid_answer, roff_calls_answer};
 use crate::request::Request;
 use crate::tree_answers::{
-    either_answer, first_name_answer, matches_answer, tree_answer, usage_answer,
+    either_answer, first_name_answer, heading_answer, matches_answer, tree_answer, usage_answer,
 };
 use lasting_names::Names;
 use replay_engine::fault::{Answer, Bad};
@@ -40,7 +35,7 @@ impl Answerer for Library {
     /// Adds the answers to the request of a line.
     fn add_answers(&mut self, line: &str, lines: &mut Lines) -> Result<(), Bad> {
         let mut request = Request::new(self.alloc, line, &mut self.names)?;
-        match request.word()? {
+        match request.word() {
             "alldoc" => add_document_answers(&mut request, lines),
             "alltree" => add_tree_answers(&mut request, lines),
             key => lines.add(key, only_answer(&mut request, key)?),
@@ -57,9 +52,7 @@ fn only_answer(request: &mut Request<'_>, key: &str) -> Answer {
 
 fn answer(request: &mut Request<'_>, key: &str) -> Answer {
     match key {
-        "console" => console_answer(request),
-        "html" => html_answer(request),
-        "markdown" => markdown_answer(request),
+        "console" | "html" | "markdown" => form_answer(request, key),
         "roff" => roff_answer(request),
         "parts" | "firstline" | "isempty" => document_answer(request, key),
         "split" => chunks_answer(request),
@@ -67,11 +60,12 @@ fn answer(request: &mut Request<'_>, key: &str) -> Answer {
         "escape" => escape_answer(request),
         "monoid" => monoid_answer(request),
         "norm" | "usage" | "usagemd" | "usageparts" => usage_answer(request, key),
-        "check" | "shorts" | "first" | "iscommand" | "ispos" => tree_answer(request, key),
+        "check" | "shorts" | "first" | "iscommand" | "ispos" | "items" | "findgroup" => {
+            tree_answer(request, key)
+        }
         "or2" => either_answer(request),
         "matches" => matches_answer(request),
         "names" => first_name_answer(request),
-        "items" | "findgroup" => list_answer(request, key),
         "itemsof" => heading_answer(request),
         "groups" => groups_answer(request),
         "help" => help_answer(request),

@@ -1,97 +1,103 @@
 //! Answers to requests on trees, items and names.
 
-use crate::document_answers::word;
-use crate::documents::{bit, shown};
+use crate::document_answers::{Form, bit, rendered};
+use crate::printed::{write_entry, write_item, write_tree};
 use crate::request::Request;
-use crate::trees::{read_name, write_item, write_name, write_shorts, write_tree};
+use crate::trees::{characters, read_name};
+use crate::words::{Words, shown};
 use bpaf_doc::buffer::Doc;
 use bpaf_help::item::{Item, ShortLong};
 use bpaf_help::meta::Meta;
+use bpaf_help::meta_help::{HelpItems, HiTy};
 use bpaf_help::usage::write_meta;
-use replay_engine::encoding::spelled;
 use replay_engine::fault::{Answer, Bad};
 use replay_engine::lines::Lines;
-use std::alloc::Global;
+use std::alloc::{AllocError, Global};
 
 /// The answer to a request on a tree and the use of it.
 pub fn usage_answer(request: &mut Request<'_>, key: &str) -> Answer {
-    let for_usage = request.flag()?;
-    let tree = request.tree()?;
-    let alloc = request.alloc;
+    let for_usage = request.flag();
+    form_of_use(request.alloc, &request.tree(), key, for_usage)
+}
+
+// The answer with this key.
+fn form_of_use(alloc: Global, tree: &Meta, key: &str, for_usage: bool) -> Answer {
+    if key == "norm" {
+        return printed(alloc, &tree.normalized(for_usage)?);
+    }
+    let mut usage = Doc::new(alloc);
+    write_meta(&mut usage, tree, for_usage)?;
     match key {
-        "norm" => normal_form(alloc, &tree, for_usage),
-        "usage" => usage_line(alloc, &tree, for_usage),
-        "usagemd" => usage_markdown(alloc, &tree, for_usage),
-        _ => shown(alloc, &usage(alloc, &tree, for_usage)?),
+        "usage" => rendered(alloc, &usage, Form::Monochrome(true)),
+        "usagemd" => rendered(alloc, &usage, Form::Markdown(true)),
+        _ => shown(alloc, &usage),
     }
 }
 
 /// The answer to a request on a tree alone.
 pub fn tree_answer(request: &mut Request<'_>, key: &str) -> Answer {
-    let tree = request.tree()?;
-    let alloc = request.alloc;
+    fact(request.alloc, &request.tree(), key)
+}
+
+// The answer with this key.
+fn fact(alloc: Global, tree: &Meta, key: &str) -> Answer {
     match key {
-        "check" => check(alloc, &tree),
-        "shorts" => shorts(alloc, &tree),
-        "first" => first_item(alloc, &tree),
-        "iscommand" => word(alloc, bit(tree.is_command())),
-        _ => is_positional(alloc, &tree),
+        "check" => match tree.positional_invariant_check() {
+            Ok(()) => word(alloc, " ok"),
+            Err(item) => printed_item(alloc, " err", item),
+        },
+        "first" => match tree.first_item() {
+            Some(item) => printed_item(alloc, "", item),
+            None => word(alloc, " -"),
+        },
+        "ispos" => match tree {
+            Meta::Item(item) => bit(alloc, item.is_pos()),
+            _ => word(alloc, " -"),
+        },
+        "iscommand" => bit(alloc, tree.is_command()),
+        "shorts" => shorts(alloc, tree),
+        "items" => items(alloc, tree),
+        _ => group_places(alloc, tree),
     }
 }
 
 /// Adds the answers to one tree that need nothing else.
 pub fn add_forms(alloc: Global, tree: &Meta, lines: &mut Lines) -> Result<(), Bad> {
-    lines.add("n1", normal_form(alloc, tree, true)?)?;
-    lines.add("u1", usage_line(alloc, tree, true)?)?;
-    lines.add("um1", usage_markdown(alloc, tree, true)?)?;
-    lines.add("n0", normal_form(alloc, tree, false)?)?;
-    lines.add("u0", usage_line(alloc, tree, false)?)?;
-    lines.add("um0", usage_markdown(alloc, tree, false)?)?;
-    lines.add("ck", check(alloc, tree)?)?;
-    lines.add("sh", shorts(alloc, tree)?)?;
-    lines.add("fi", first_item(alloc, tree)?)
+    let forms = [
+        ("n1", "norm", true),
+        ("u1", "usage", true),
+        ("um1", "usagemd", true),
+        ("n0", "norm", false),
+        ("u0", "usage", false),
+        ("um0", "usagemd", false),
+    ];
+    for (key, form, for_usage) in forms {
+        lines.add(key, form_of_use(alloc, tree, form, for_usage)?)?;
+    }
+    for (key, of) in [("ck", "check"), ("sh", "shorts"), ("fi", "first")] {
+        lines.add(key, fact(alloc, tree, of)?)?;
+    }
+    Ok(())
+}
+
+/// An answer of one word, which has its blank.
+pub fn word(alloc: Global, word: &str) -> Answer {
+    Ok(String::from_str(alloc, word)?)
 }
 
 // The printed form of a tree.
 fn printed(alloc: Global, tree: &Meta) -> Answer {
-    let mut answer = String::new(alloc);
-    write_tree(&mut answer, tree)?;
-    Ok(answer)
+    let mut words = Words::new(alloc);
+    write_tree(&mut words, tree);
+    words.answer()
 }
 
 /// An item behind a word, or behind none.
 pub fn printed_item(alloc: Global, word: &str, item: &Item) -> Answer {
-    let mut answer = String::from_str(alloc, word)?;
-    write_item(&mut answer, item)?;
-    Ok(answer)
-}
-
-fn normal_form(alloc: Global, tree: &Meta, for_usage: bool) -> Answer {
-    printed(alloc, &tree.normalized(for_usage)?)
-}
-
-// What is written of a tree, as a document of its own.
-fn usage(alloc: Global, tree: &Meta, for_usage: bool) -> Result<Doc, Bad> {
-    let mut document = Doc::new(alloc);
-    write_meta(&mut document, tree, for_usage)?;
-    Ok(document)
-}
-
-fn usage_line(alloc: Global, tree: &Meta, for_usage: bool) -> Answer {
-    let page = usage(alloc, tree, for_usage)?.monochrome(alloc, true)?;
-    spelled(alloc, page.as_str())
-}
-
-fn usage_markdown(alloc: Global, tree: &Meta, for_usage: bool) -> Answer {
-    let page = usage(alloc, tree, for_usage)?.render_markdown(alloc, true)?;
-    spelled(alloc, page.as_str())
-}
-
-fn check(alloc: Global, tree: &Meta) -> Answer {
-    match tree.positional_invariant_check() {
-        Ok(()) => word(alloc, " ok"),
-        Err(item) => printed_item(alloc, " err", item),
-    }
+    let mut words = Words::new(alloc);
+    words.push(word);
+    write_item(&mut words, item);
+    words.answer()
 }
 
 // The short names of flags, and those of arguments.
@@ -99,55 +105,90 @@ fn shorts(alloc: Global, tree: &Meta) -> Answer {
     let mut flags = Vec::new(alloc);
     let mut args = Vec::new(alloc);
     tree.collect_shorts(&mut flags, &mut args)?;
-    let mut answer = String::new(alloc);
-    write_shorts(&mut answer, &flags)?;
-    write_shorts(&mut answer, &args)?;
-    Ok(answer)
+    let mut words = Words::new(alloc);
+    words.characters(" '", &flags);
+    words.characters(" '", &args);
+    words.answer()
 }
 
-fn first_item(alloc: Global, tree: &Meta) -> Answer {
-    match tree.first_item() {
-        Some(item) => printed_item(alloc, "", item),
-        None => word(alloc, " -"),
+/// The item list of a tree.
+pub fn listing<'a>(alloc: Global, tree: &'a Meta) -> Result<HelpItems<'a>, AllocError> {
+    let mut items: HelpItems<'a> = HelpItems::new(alloc);
+    items.append_meta(tree)?;
+    Ok(items)
+}
+
+fn items(alloc: Global, tree: &Meta) -> Answer {
+    let items = listing(alloc, tree)?;
+    let mut words = Words::new(alloc);
+    words.push(" [");
+    for entry in items.items() {
+        write_entry(&mut words, entry);
+    }
+    words.push(" ]");
+    words.answer()
+}
+
+/// The entries of a heading.
+pub fn heading_answer(request: &mut Request<'_>) -> Answer {
+    let ty = read_type(request);
+    let tree = request.tree();
+    let items = listing(request.alloc, &tree)?;
+    let mut words = Words::new(request.alloc);
+    words.push(" [");
+    for entry in items.items_of_ty(ty) {
+        write_entry(&mut words, entry);
+    }
+    words.push(" ]");
+    words.answer()
+}
+
+fn read_type(request: &mut Request<'_>) -> HiTy {
+    match request.word() {
+        "f" => HiTy::Flag,
+        "c" => HiTy::Command,
+        "p" => HiTy::Positional,
+        _ => {
+            request.fail(Bad::Words("f, c or p was expected"));
+            HiTy::Flag
+        }
     }
 }
 
-// Of an item alone.
-fn is_positional(alloc: Global, tree: &Meta) -> Answer {
-    match tree {
-        Meta::Item(item) => word(alloc, bit(item.is_pos())),
-        _ => word(alloc, " -"),
+/// The places of the first start and of the first end of a group.
+pub fn group_places(alloc: Global, tree: &Meta) -> Answer {
+    let mut words = Words::new(alloc);
+    match listing(alloc, tree)?.find_group() {
+        Some(places) => {
+            words.number(" ", *places.start());
+            words.number(" ", *places.end());
+        }
+        None => words.push(" -"),
     }
+    words.answer()
 }
 
 /// Of two trees, one or the other.
 pub fn either_answer(request: &mut Request<'_>) -> Answer {
-    let first = request.tree()?;
-    let second = request.tree()?;
+    let first = request.tree();
+    let second = request.tree();
     printed(request.alloc, &first.or(second)?)
 }
 
 /// Whether a name matches a text.
 pub fn matches_answer(request: &mut Request<'_>) -> Answer {
-    let name = read_name(request)?;
-    let text = request.text()?;
-    word(request.alloc, bit(name.matches(text.as_str())))
+    let name = read_name(request);
+    bit(request.alloc, name.matches(request.text()))
 }
 
 /// The first of the short names and of the long names.
 pub fn first_name_answer(request: &mut Request<'_>) -> Answer {
-    let alloc = request.alloc;
-    let shorts = request.text()?;
-    let texts = request.texts()?;
-    let shorts: Vec<char> = shorts.as_str().chars().collect(alloc)?;
-    let mut longs = Vec::new(alloc);
-    for text in &texts {
-        longs.push(request.lasting(text.as_str())?)?;
-    }
-    let mut answer = String::from_str(alloc, " ")?;
+    let shorts = characters(request.alloc, request.text())?;
+    let longs = request.texts()?;
+    let mut words = Words::new(request.alloc);
     match ShortLong::from_names(&shorts, &longs) {
-        Ok(name) => write_name(&mut answer, &name)?,
-        Err(_) => answer.push_str("noname")?,
+        Ok(name) => words.name(" ", name),
+        Err(_) => words.push(" noname"),
     }
-    Ok(answer)
+    words.answer()
 }
