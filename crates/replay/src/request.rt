@@ -34,7 +34,7 @@ impl<'a> Term<'a> {
 
 /// What is left of a line, the next term last. Blanks stand between words, and no word is empty.
 ///
-/// Where something else stands than what is taken, a default is answered. The first such fault is kept, and `end` tells it.
+/// Where another word stands than is taken, a default is answered. The first such fault is kept, and `end` tells it.
 #[derive(Drop)]
 pub struct Request<'a> {
     pub alloc: Global,
