@@ -1,6 +1,7 @@
 //! What `Debug` shows of what is not derived.
+use crate::calls::list_of;
 use crate::trees::tree;
-use bpaf_help::meta_help::{EnvTexts, HelpItems};
+use bpaf_help::meta_help::EnvTexts;
 use std::test::Fail;
 
 #[test]
@@ -17,8 +18,7 @@ fn env_texts_show_what_they_hold(rt: HostRuntime) -> Result<(), Fail> {
 #[test]
 fn lists_show_their_entries(rt: HostRuntime) -> Result<(), Fail> {
     let tree = tree(rt.alloc(), "X")?;
-    let mut list = HelpItems::new(rt.alloc());
-    list.append_meta(&tree)?;
+    let list = list_of(rt.alloc(), &tree)?;
     let shown = format!(in rt.alloc(); "{list:?}")?;
     let want = r#"[Positional { metavar: Metavar("X"), help: Some([Text("h", Text)]) }]"#;
     assert_eq!(rt; shown.as_str(), want);
