@@ -1,5 +1,9 @@
 #!/usr/bin/env python3
-"""Tests of `.ci/refusals.py` and of `vendor`, on copies in a temporary folder: a second together."""
+"""Tests of `.ci/refusals.py`, `vendor`, `test` and `install`, on copies in a temporary folder: some seconds together.
+
+The last two call the toolchain's `rt`. Here a stand-in answers in its place.
+"""
+import os
 import pathlib
 import shutil
 import subprocess
@@ -107,6 +111,110 @@ class Vendor(InFolder):
     def test_refuses_what_is_not_there(self):
         self.assertEqual(self.call("no_crate")[::2], (1, "vendor: no crate no_crate stands in crates.txt\n"))
         self.assertEqual(self.held(), {})
+
+
+class OverStandIn(InFolder):
+    """Calls of scripts where `rt`, or another command, is a stand-in: a shell script."""
+
+    def stand_in(self, name, script):
+        place = self.folder / "bin" / name
+        place.parent.mkdir(exist_ok=True)
+        place.write_text(f"#!/bin/sh\n{script}\n")
+        place.chmod(0o755)
+
+    def call(self, *words):
+        path = f"{self.folder / 'bin'}:/usr/bin:/bin"
+        asked = subprocess.run([sys.executable, *words], capture_output=True, text=True, env={**os.environ, "PATH": path})
+        return asked.returncode, asked.stdout, asked.stderr
+
+
+class Tests(OverStandIn):
+    def setUp(self):
+        super().setUp()
+        shutil.copy(TOP / "test", self.folder)
+        (self.folder / "crates.txt").write_text("some_tests: app_engine\napp: app_engine # a program\napp_engine:\n")
+        held = {"some_tests/src/lib.rt": "#[test]\n", "app_engine/src/lib.rt": "\n", "app/src/main.rt": "\n", "app/stdin": "in\n"}
+        for path, text in {**held, "app/stdout": "words: full\nin\n", "app/args": "full\n", "app/status": "3\n"}.items():
+            (self.folder / "crates" / path).parent.mkdir(parents=True, exist_ok=True)
+            (self.folder / "crates" / path).write_text(text)
+
+    def told(self, tests, program):
+        self.stand_in("rt", f'case "$*" in *--test) {tests};; *) echo "words: ${{5}}"; cat; {program};; esac')
+        status, told, _ = self.call(self.folder / "test")
+        return status, told
+
+    def test_counts_what_passed(self):
+        tests = "echo 'tests: 2'; echo 'test a::b ... ok'; echo 'test c ... ok'"
+        status, told = self.told(tests, "echo 'run=ended status=3 runners=1 proved=no' >&2; exit 3")
+        self.assertEqual((status, told.splitlines()[-1]), (0, "3 passed, 0 failed"))
+
+    def test_counts_what_failed(self):
+        tests = "echo 'tests: 2'; echo 'test a::b ... ok'; echo 'test c ... FAILED'; exit 101"
+        status, told = self.told(tests, "echo 'run=ended status=0 runners=1 proved=no' >&2")
+        self.assertEqual((status, told.splitlines()[-1]), (1, "1 passed, 2 failed"))
+        self.assertIn("it ended with status 0", told)
+
+    def test_counts_what_does_not_run(self):
+        status, told = self.told("exit 1", "echo more; echo 'run=fault proved=no' >&2; exit 4")
+        self.assertEqual((status, told.splitlines()[-1]), (1, "0 passed, 2 failed"))
+        self.assertIn("it wrote something else than stdout from line 3 on", told)
+
+
+class Install(OverStandIn):
+    def setUp(self):
+        super().setUp()
+        self.ours, self.prefix = self.folder / "ours", self.folder / "prefix"
+        copy_to(self.ours, [path.name for path in (TOP / "crates").iterdir() if (path / "src").exists()])
+        for name in ("install", "HANDLES"):
+            shutil.copy(TOP / name, self.ours / name)
+        shutil.copytree(TOP / "examples", self.ours / "examples")
+        self.gives("page")
+
+    def gives(self, page):
+        """Lets the stand-in make a program that writes this page."""
+        program = f"printf '#!/bin/sh\\necho {page} $1\\n' > crates/clidoc/out/clidoc; chmod +x crates/clidoc/out/clidoc"
+        self.stand_in("rt", f"echo 'rt: watched proved'; echo 'rt: bpaf_roff is kept: by an earlier run'; mkdir crates/clidoc/out; {program}")
+
+    def install(self):
+        return self.call(self.ours / "install", self.prefix)
+
+    def held(self):
+        paths = [path for path in self.prefix.rglob("*") if path.is_file()] if self.prefix.is_dir() else []
+        return {str(path.relative_to(self.prefix)): (path.read_text(), path.stat().st_ino) for path in paths}
+
+    def test_installs_once(self):
+        status, told, _ = self.install()
+        self.assertEqual(status, 0)
+        self.assertRegex(told, r"0:00 2 of \d+ crates proved; at bpaf_doc, lasting_names\n")
+        held = self.held()
+        self.assertEqual(sorted(held), ["bin/clidoc", "share/man/man1/clidoc.1"])
+        self.assertEqual(held["share/man/man1/clidoc.1"][0], "page man\n")
+        self.assertEqual(self.install()[0], 0)
+        self.assertEqual(self.held(), held)
+        self.gives("newer")
+        self.assertEqual(self.install()[0], 0)
+        self.assertEqual(self.held()["share/man/man1/clidoc.1"][0], "newer man\n")
+
+    def refused(self):
+        status, told, why = self.install()
+        self.assertEqual((status, told, why.count("\n"), self.held()), (1, "", 1, {}))
+        return why
+
+    def test_refuses_in_one_line(self):
+        self.stand_in("uname", "echo Linux aarch64")
+        self.assertIn("x86-64 alone, and this is Linux aarch64", self.refused())
+        (self.folder / "bin" / "uname").unlink()
+        (self.folder / "bin" / "rt").unlink()
+        self.assertIn("rt, the command of the toolchain, is not found", self.refused())
+        self.gives("page")
+        self.prefix.write_text("a file")
+        self.assertIn("cannot be written", self.refused())
+
+    def test_leaves_nothing_of_what_is_not_proved(self):
+        self.stand_in("rt", "echo 'rt: watched NOT PROVED'; exit 1")
+        status, _, why = self.install()
+        self.assertEqual((status, self.held()), (1, {}))
+        self.assertIn("rt: watched NOT PROVED\ninstall: the program is not proved", why)
 
 
 unittest.main()
