@@ -15,10 +15,10 @@ def main():
     proved = [file.read_text(encoding="utf-8").split("\n\n", 1)[1] for file in (CRATES / "callers" / "src").glob("*.rt")]
     count, faults = 0, []
     for page in sorted(CRATES.glob("*/CALLING.md")):
-        for caller in re.findall(r"```rust\n(.*?)```", page.read_text(encoding="utf-8"), re.S):
+        for number, caller in enumerate(re.findall(r"```rust\n(.*?)```", page.read_text(encoding="utf-8"), re.S), 1):
             count += 1
             if not caller.startswith(FIRST) or caller[len(FIRST):] not in proved:
-                faults.append(f"{page.parent.name}/CALLING.md: no file of callers has its caller {count}")
+                faults.append(f"{page.parent.name}/CALLING.md: no file of callers has its caller {number}, word by word")
     print("\n".join(faults) if faults else f"{count} callers stand in the crate that proves them")
     sys.exit(1 if faults or not count else 0)
 
