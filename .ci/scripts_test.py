@@ -1,7 +1,7 @@
 #!/usr/bin/env python3
-"""Tests of `.ci/refusals.py`, `vendor`, `test` and `install`, on copies in a temporary folder: some seconds together.
+"""Tests of `.ci/refusals.py`, `.ci/mutants`, `vendor`, `test` and `install`, on copies in a temporary folder: some seconds together.
 
-The last two call the toolchain's `rt`. Here a stand-in answers in its place.
+All but the first and `vendor` call the toolchain's `rt`. Here a stand-in answers in its place.
 """
 import os
 import pathlib
@@ -215,6 +215,73 @@ class Install(OverStandIn):
         status, _, why = self.install()
         self.assertEqual((status, self.held()), (1, {}))
         self.assertIn("rt: watched NOT PROVED\ninstall: the program is not proved", why)
+
+
+# It stands for `rt`. Of a body `wrong` a goal is open, of `unsaid` no report tells, `same` is proved, and `stray` does not compile.
+STAND_IN = r"""
+import pathlib, re, sys
+if sys.argv[1] == "must-fail":
+    for edit in pathlib.Path("crates/one/must-fail").iterdir():
+        told = {"same": "NOT REFUSED: it is proved", "stray": "BAD EDIT: no"}
+        print(f"rt: must-fail one/{edit.name}: {told.get(re.search('new: (.*)', edit.read_text())[1], 'refused')}")
+    sys.exit()
+bodies = re.findall(r"fn (\w+)\(\) \{\n    (\w+)", pathlib.Path("src/lib.rt").read_text())
+if "stray" in dict(bodies).values():
+    sys.exit("src/lib.rt:1:1: error[unknown-name]: stray")
+for name, body in bodies:
+    told = {"wrong": "`search` did not prove `returns`", "unsaid": "it calls `one::a`, which is not proved"}
+    print(f"fn one::{name}:", "no proof: " + told[body] if body in told else "proved")
+pathlib.Path("out/incremental").mkdir(parents=True, exist_ok=True)
+sys.exit(1 if {"wrong", "unsaid"} & set(dict(bodies).values()) else 0)
+"""
+
+
+class Mutants(InFolder):
+    def setUp(self):
+        super().setUp()
+        self.write(".ci/mutants", (TOP / ".ci" / "mutants").read_text(encoding="utf-8"))
+        self.write("bin/rt", f"#!{sys.executable}{STAND_IN}").chmod(0o755)
+        self.write("crates/one/src/lib.rt", "\n".join(f"fn {name}() {{\n    {name}_body\n}}\n" for name in "abcd"))
+
+    def write(self, path, text):
+        file = self.folder / path
+        file.parent.mkdir(parents=True, exist_ok=True)
+        file.write_text(text, encoding="utf-8")
+        return file
+
+    def mutant(self, name, old, new, more=""):
+        self.write(f"crates/one/mutants/{name}.edit", f"file: src/lib.rt\nold: {old}\nnew: {new}\n{more}")
+
+    def told(self, *words):
+        path = {"PATH": f"{self.folder / 'bin'}:{os.environ['PATH']}"}
+        words = [sys.executable, self.folder / ".ci" / "mutants", *words]
+        asked = subprocess.run(words, capture_output=True, text=True, env={**os.environ, **path})
+        return asked.returncode, asked.stdout.splitlines()
+
+    def test_tells_what_does_not_apply(self):
+        self.mutant("twice", "_body", "wrong")
+        self.mutant("never", "e_body", "wrong")
+        self.mutant("untested", "a_body", "wrong", "test: one holds\n")
+        status, told = self.told("--applies")
+        self.assertEqual(status, 1)
+        for line, why in zip(told, ["'e_body' stands 0 times", "'_body' stands 4 times", "crate one has no test holds"], strict=True):
+            self.assertIn(why, line)
+
+    def test_tries_together_and_what_is_not_named_alone(self):
+        for number, new in enumerate(["wrong", "wrong", "unsaid", "wrong"]):
+            self.mutant(f"of_{'abcd'[number]}", f"{'abcd'[number]}_body", new)
+        self.mutant("other_of_a", "a_body", "wrong")
+        status, told = self.told()
+        self.assertEqual((status, told[-1]), (0, "5 refused, 0 let through"))
+        self.assertEqual(told[:3], ["one/of_a: refused", "one/of_b: refused", "one/of_d: refused"])
+
+    def test_lets_through_what_is_proved_or_does_not_compile(self):
+        for name, new in zip("abcd", ["same", "stray", "wrong", "wrong"]):
+            self.mutant(f"of_{name}", f"{name}_body", new)
+        status, told = self.told("one")
+        self.assertEqual((status, told[-1]), (1, "2 refused, 2 let through"))
+        self.assertIn("one/of_a: LET THROUGH: NOT REFUSED: it is proved", told)
+        self.assertIn("one/of_b: LET THROUGH: BAD EDIT: no", told)
 
 
 unittest.main()
