@@ -11,6 +11,6 @@ mod sections;
 mod titles;
 
 pub use collected::{collect_html, render_html, render_markdown};
-pub use manual::render_manpage;
+pub use manual::{ManualTitle, render_manpage};
 pub use section::Section;
 pub use sections::{DocSection, extract_sections};

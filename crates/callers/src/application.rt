@@ -13,7 +13,7 @@ ghost use Rattle.bpaf_help.specs.PageAnswers.{collected_document, manual_text};
 use bpaf_doc::buffer::Doc;
 use bpaf_help::meta::Meta;
 use bpaf_help::meta_help::{EnvTexts, HelpError, Info, render_help};
-use bpaf_help::pages::{Section, collect_html, render_manpage};
+use bpaf_help::pages::{ManualTitle, Section, collect_html};
 use std::alloc::Global;
 
 /// The help page of a program, without the texts of its environment.
@@ -60,6 +60,6 @@ pub fn texts_of<'m>(
         console: pages.render_console(alloc, true, 100)?,
         html: pages.render_html(alloc, true, false)?,
         markdown: pages.render_markdown(alloc, true)?,
-        manual: render_manpage(alloc, app, Section::General, None, None, None, parser, info)?,
+        manual: ManualTitle::new(Section::General).page(alloc, app, parser, info)?,
     })
 }

@@ -6,8 +6,7 @@ use crate::trees::info;
 use bpaf_help::meta::Meta;
 use bpaf_help::meta_help::{HelpError, Info};
 use bpaf_help::pages::{
-    DocSection, Section, collect_html, extract_sections, render_html, render_manpage,
-    render_markdown,
+    DocSection, ManualTitle, Section, collect_html, extract_sections, render_html, render_markdown,
 };
 use bumpalo::Bump;
 use std::alloc::{AllocError, Allocator, Global};
@@ -127,7 +126,7 @@ fn manual<'a, 'm>(
     tree: &'m Meta<&'a Bump>,
     info: &'m Info<&'a Bump>,
 ) -> Result<String<&'a Bump>, HelpError<'m, &'a Bump>> {
-    let text = render_manpage(arena, "app", Section::General, None, None, None, tree, info)?;
+    let text = ManualTitle::new(Section::General).page(arena, "app", tree, info)?;
     Ok(text)
 }
 

@@ -5,7 +5,9 @@ use crate::rows::path;
 use crate::trees::{info, tree};
 use bpaf_help::meta::Meta;
 use bpaf_help::meta_help::{HelpError, Info};
-use bpaf_help::pages::{DocSection, Section, render_html, render_manpage, render_markdown};
+use bpaf_help::pages::{
+    DocSection, ManualTitle, Section, render_html, render_manpage, render_markdown,
+};
 use std::alloc::{AllocError, Global};
 use std::process::Abort;
 use std::test::Fail;
@@ -93,28 +95,29 @@ fn pages_of_applications(rt: HostRuntime) -> Result<(), Fail> {
     Ok(())
 }
 
-fn titled(out: Global) -> Result<String, AllocError> {
+// A manual page of nothing, whose title line has these words.
+fn titled(out: Global, words: ManualTitle<'_>) -> Result<String, AllocError> {
     let info = info(out, "")?;
-    let section = Section::Custom("3\"x");
-    render_manpage(
-        out,
-        "a b\\",
-        section,
-        None,
-        Some(""),
-        Some("T\n"),
-        &Meta::Skip,
-        &info,
-    )
+    words.page(out, "a b\\", &Meta::Skip, &info)
 }
 
 #[test]
 fn a_title_line(rt: HostRuntime) -> Result<(), Fail> {
-    same(
-        &rt,
-        &titled(rt.alloc())?,
-        ".ie \\n(.g .ds Aq \\(aq\n.el .ds Aq '\n.TH a\\ b\\\\ 3\"x - \"\" T\\ \n.SH SYNOPSIS\n\\fBa b\\\\\\fP\\fR \\fP",
-    );
+    let custom = ManualTitle::new(Section::Custom("3\"x"));
+    for (words, expected) in [
+        (custom, "3\"x - - \"\""),
+        (custom.vendor("").title("T\n"), "3\"x - \"\" T\\ "),
+        (
+            custom.title("T").date("May 1").vendor("V 2"),
+            "3\"x May\\ 1 V\\ 2 T",
+        ),
+        (ManualTitle::new(Section::Game).date("D"), "6 D - \"\""),
+    ] {
+        let page = format!(in rt.alloc();
+            ".ie \\n(.g .ds Aq \\(aq\n.el .ds Aq '\n.TH a\\ b\\\\ {expected}\n.SH SYNOPSIS\n\\fBa b\\\\\\fP\\fR \\fP"
+        )?;
+        same(&rt, &titled(rt.alloc(), words)?, page.as_str());
+    }
     Ok(())
 }
 

@@ -17,10 +17,10 @@ use bpaf_items::meta_help::{HelpError, Info};
 use bpaf_meta::meta::Meta;
 use std::alloc::Allocator;
 
-/// The help pages of an application and of all its commands, each under its path, and above them a summary with a line for
-/// each where there are commands. `Misplaced` is the first named item, of the first page that has one, that stands behind a
-/// positional one. `Memory` says that a growth was refused; it may come before a page is checked. The rules are those of
-/// `docs/pages.md`.
+/// The help pages of an application and of all its commands, each under its path, and above them a summary with a
+/// line for each where there are commands. `Misplaced` is the first named item, of the first page that has one,
+/// that stands behind a positional one. `Memory` says that a growth was refused; it may come before a page is
+/// checked. The rules are those of `docs/pages.md`.
 pub fn collect_html<'m, A: Allocator + Copy, B: Allocator + Copy>(
     alloc: A,
     app: &str,
@@ -29,8 +29,10 @@ pub fn collect_html<'m, A: Allocator + Copy, B: Allocator + Copy>(
 ) -> Result<Doc<A>, HelpError<'m, B>>
     ensures placed { OnOk result (AreWellPlaced (chapters_of (app.now ∷ []) (head_of info.now) (tree_of meta.now))) }
     ensures misplaced { IfErr result (AreErrorOf (chapters_of (app.now ∷ []) (head_of info.now) (tree_of meta.now))) }
-    ensures document { IfOk result (λ document. document ≡ collected_document app.now (tree_of meta.now) (head_of info.now)) }
-    ensures nested { IfOk result (λ document. HasNestedPages app.now (head_of info.now) (tree_of meta.now) → IsWellNested document) }
+    ensures document { IfOk result (λ document. document
+        ≡ collected_document app.now (tree_of meta.now) (head_of info.now)) }
+    ensures nested { IfOk result (λ document. HasNestedPages app.now (head_of info.now) (tree_of meta.now)
+        → IsWellNested document) }
 {
     let sections = sections_of(alloc, app, meta, info)?;
     let mut document = Doc::new(alloc);
@@ -49,16 +51,22 @@ pub fn render_html<'m, A: Allocator + Copy, B: Allocator + Copy>(
 ) -> Result<String<A>, HelpError<'m, B>>
     ensures placed { OnOk result (AreWellPlaced (chapters_of (app.now ∷ []) (head_of info.now) (tree_of meta.now))) }
     ensures misplaced { IfErr result (AreErrorOf (chapters_of (app.now ∷ []) (head_of info.now) (tree_of meta.now))) }
-    ensures html { IfOk result (λ text. IsWellNested (collected_document app.now (tree_of meta.now) (head_of info.now)) → IsHtmlPageOf (collected_document app.now (tree_of meta.now) (head_of info.now)) true false (string_bytes text)) }
-    ensures text { IfOk result (λ text. IsHtmlTextPageOf (collected_document app.now (tree_of meta.now) (head_of info.now)) true false (string_bytes text)) }
-    ensures exact { IfOk result (λ text. string_bytes text ≡ html_page true false (collected_document app.now (tree_of meta.now) (head_of info.now))) }
+    ensures html { IfOk result (λ text.
+        IsWellNested (collected_document app.now (tree_of meta.now) (head_of info.now))
+        → IsHtmlPageOf (collected_document app.now (tree_of meta.now) (head_of info.now)) true false
+        (string_bytes text)) }
+    ensures text { IfOk result (λ text.
+        IsHtmlTextPageOf (collected_document app.now (tree_of meta.now) (head_of info.now)) true false
+        (string_bytes text)) }
+    ensures exact { IfOk result (λ text. string_bytes text
+        ≡ html_page true false (collected_document app.now (tree_of meta.now) (head_of info.now))) }
 {
     let document = collect_html(alloc, app, meta, info)?;
     Ok(document.render_html(alloc, true, false)?)
 }
 
-/// The markdown of the document that `collect_html` makes, in full. The errors are those of `collect_html`; `Memory` may
-/// also come while the text is made.
+/// The markdown of the document that `collect_html` makes, in full. The errors are those of `collect_html`;
+/// `Memory` may also come while the text is made.
 pub fn render_markdown<'m, A: Allocator + Copy, B: Allocator + Copy>(
     alloc: A,
     app: &str,
@@ -67,8 +75,10 @@ pub fn render_markdown<'m, A: Allocator + Copy, B: Allocator + Copy>(
 ) -> Result<String<A>, HelpError<'m, B>>
     ensures placed { OnOk result (AreWellPlaced (chapters_of (app.now ∷ []) (head_of info.now) (tree_of meta.now))) }
     ensures misplaced { IfErr result (AreErrorOf (chapters_of (app.now ∷ []) (head_of info.now) (tree_of meta.now))) }
-    ensures laws { IfOk result (λ text. IsMarkdownOf (collected_document app.now (tree_of meta.now) (head_of info.now)) true (string_bytes text)) }
-    ensures exact { IfOk result (λ text. string_bytes text ≡ markdown_page true (collected_document app.now (tree_of meta.now) (head_of info.now))) }
+    ensures laws { IfOk result (λ text.
+        IsMarkdownOf (collected_document app.now (tree_of meta.now) (head_of info.now)) true (string_bytes text)) }
+    ensures exact { IfOk result (λ text. string_bytes text
+        ≡ markdown_page true (collected_document app.now (tree_of meta.now) (head_of info.now))) }
 {
     let document = collect_html(alloc, app, meta, info)?;
     Ok(document.render_markdown(alloc, true)?)

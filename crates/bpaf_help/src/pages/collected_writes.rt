@@ -4,7 +4,8 @@ ghost use Rattle.bpaf_doc.specs.Buffer.Writes.{document_of, plain, with_writes};
 ghost use Rattle.bpaf_items.specs.Page.EntryWrites.{body};
 ghost use Rattle.bpaf_meta.specs.Meta.Misplaced.{IsWellPlaced};
 ghost use Rattle.bpaf_meta.specs.View.{tree_of};
-ghost use Rattle.bpaf_help.specs.Chapters.{AreWellPlaced, chapter_page, if_many, own_page_writes, summary_line, summary_text, summary_writes};
+ghost use Rattle.bpaf_help.specs.Chapters.{AreWellPlaced, chapter_page, if_many, own_page_writes, summary_line};
+ghost use Rattle.bpaf_help.specs.Chapters.{summary_text, summary_writes};
 ghost use Rattle.bpaf_help.specs.PageAnswers.{AreErrorOf, IsErrorOf};
 ghost use Rattle.bpaf_help.specs.View.{chapter_of};
 
@@ -21,7 +22,9 @@ pub fn put_summary<A: Allocator + Copy, B: Allocator>(
     doc: &mut Doc<A>,
     sections: &[DocSection<'_, B, A>],
 ) -> Result<(), AllocError>
-    ensures { OnOk result (doc.new ≡ with_writes doc.old (if_many (map chapter_of sections.now) (summary_writes (map chapter_of sections.now)))) }
+    ensures { OnOk result (doc.new
+        ≡ with_writes doc.old
+        (if_many (map chapter_of sections.now) (summary_writes (map chapter_of sections.now)))) }
 {
     if sections.len() < 2 {
         return Ok(());
@@ -48,7 +51,8 @@ fn put_summary_line<A: Allocator + Copy>(
     doc: &mut Doc<A>,
     path: &[String<A>],
 ) -> Result<(), AllocError>
-    ensures { OnOk result (doc.new ≡ with_writes doc.old (body (plain (summary_text (map string_bytes path.now)) ∷ []))) }
+    ensures { OnOk result (doc.new
+        ≡ with_writes doc.old (body (plain (summary_text (map string_bytes path.now)) ∷ []))) }
 {
     let line = summary_text(alloc, path)?;
     doc.token(Token::BlockStart(Block::ItemBody))?;
@@ -79,7 +83,8 @@ pub fn put_pages<'m, A: Allocator + Copy, B: Allocator + Copy>(
     sections: &[DocSection<'m, B, A>],
 ) -> Result<(), HelpError<'m, B>>
     ensures placed { OnOk result (AreWellPlaced (map chapter_of sections.now)) }
-    ensures pages { OnOk result (doc.new ≡ with_writes doc.old (flat_map chapter_page (map chapter_of sections.now))) }
+    ensures pages { OnOk result (doc.new
+        ≡ with_writes doc.old (flat_map chapter_page (map chapter_of sections.now))) }
     ensures misplaced { IfErr result (AreErrorOf (map chapter_of sections.now)) }
 {
     for section in sections {
@@ -97,13 +102,13 @@ fn put_page<'m, A: Allocator + Copy, B: Allocator + Copy>(
     ensures page { OnOk result (doc.new ≡ with_writes doc.old (chapter_page (chapter_of section.now))) }
     ensures misplaced { IfErr result (IsErrorOf (tree_of section.now.meta.now)) }
 {
-    let page = page_of(alloc, section)?;
+    let page = help_of(alloc, section)?;
     put_title(doc, joined(alloc, &section.path, ' ')?.as_str())?;
     doc.doc(&page)?;
     Ok(())
 }
 
-fn page_of<'m, A: Allocator + Copy, B: Allocator + Copy>(
+fn help_of<'m, A: Allocator + Copy, B: Allocator + Copy>(
     alloc: A,
     section: &DocSection<'m, B, A>,
 ) -> Result<Doc<A>, HelpError<'m, B>>

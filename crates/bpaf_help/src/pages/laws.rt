@@ -17,7 +17,8 @@ pub fn pages_are_nested()
     ensures manual { ManualPagesAreNested }
 {}
 
-/// What `IsHeadline` says of console page, HTML, roff, manual page and normal form together follows from what each call promises.
+/// What `IsHeadline` says of console page, HTML, roff, manual page and normal form together follows from what each
+/// call promises.
 pub fn headline_follows()
     ensures { HeadlineFollows }
 {}

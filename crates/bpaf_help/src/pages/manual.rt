@@ -1,5 +1,5 @@
 //! The manual page of an application.
-ghost use Rattle.std.specs.Prelude.{◌≡◌, ◌++◌, IfOk, map, string_bytes};
+ghost use Rattle.std.specs.Prelude.{◌≡◌, ◌++◌, IfOk, None, Some, map, string_bytes};
 ghost use Rattle.bpaf_doc.specs.Manpage.Page.{title_arguments, title_page};
 ghost use Rattle.bpaf_meta.specs.View.{head_of, text_of, tree_of};
 ghost use Rattle.bpaf_help.specs.PageAnswers.{IsManualOf, manual_document, manual_text};
@@ -15,10 +15,10 @@ use bpaf_meta::meta::Meta;
 use bpaf_roff::roff::Roff;
 use std::alloc::{AllocError, Allocator};
 
-/// The manual page of an application and of all its commands, behind the preamble for apostrophes and a title line with the
-/// application, the section, the date, the vendor and the title; where there is no date or vendor `-` stands for it, and where
-/// there is no title `""`, as for each empty word. No item's place is checked. `AllocError` says that a growth was refused. The
-/// rules are those of `docs/pages.md`.
+/// The manual page of an application and of all its commands, behind the preamble for apostrophes and a title line
+/// with the application, the section, the date, the vendor and the title; where there is no date or vendor `-`
+/// stands for it, and where there is no title `""`, as for each empty word. No item's place is checked.
+/// `AllocError` says that a growth was refused. The rules are those of `docs/pages.md`.
 pub fn render_manpage<A: Allocator + Copy, B: Allocator + Copy>(
     alloc: A,
     app: &str,
@@ -29,8 +29,12 @@ pub fn render_manpage<A: Allocator + Copy, B: Allocator + Copy>(
     meta: &Meta<B>,
     info: &Info<B>,
 ) -> Result<String<A>, AllocError>
-    ensures read { IfOk result (λ text. IsManualOf app.now (section_name section.entry) (text_of date.entry) (text_of vendor.entry) (text_of title.entry) (tree_of meta.now) (head_of info.now) (string_bytes text)) }
-    ensures exact { IfOk result (λ text. string_bytes text ≡ manual_text app.now (section_name section.entry) (text_of date.entry) (text_of vendor.entry) (text_of title.entry) (tree_of meta.now) (head_of info.now)) }
+    ensures read { IfOk result (λ text. IsManualOf app.now (section_name section.entry)
+        (text_of date.entry) (text_of vendor.entry) (text_of title.entry)
+        (tree_of meta.now) (head_of info.now) (string_bytes text)) }
+    ensures exact { IfOk result (λ text. string_bytes text ≡ manual_text app.now (section_name section.entry)
+        (text_of date.entry) (text_of vendor.entry) (text_of title.entry)
+        (tree_of meta.now) (head_of info.now)) }
 {
     titled_page();
     let document = manual_document(alloc, app, meta, info)?;
@@ -45,6 +49,84 @@ pub fn render_manpage<A: Allocator + Copy, B: Allocator + Copy>(
         ],
     )?;
     document.into_roff(page)
+}
+
+/// What the title line of a manual page has behind the application's name. A page is made of it so:
+/// `ManualTitle::new(Section::General).date("2026-01-01").page(alloc, "app", &tree, &info)`.
+#[derive(Clone, Copy)]
+pub struct ManualTitle<'a> {
+    pub section: Section<'a>,
+    pub date: Option<&'a str>,
+    pub vendor: Option<&'a str>,
+    pub title: Option<&'a str>,
+}
+
+impl<'a> ManualTitle<'a> {
+    /// A page in this section, without a date, a vendor and a title.
+    pub fn new(section: Section<'a>) -> ManualTitle<'a>
+        ensures { result ≡ record { section = section.entry; date = None; vendor = None; title = None } }
+    {
+        ManualTitle {
+            section,
+            date: None,
+            vendor: None,
+            title: None,
+        }
+    }
+
+    /// The same with this date.
+    pub fn date(self, date: &'a str) -> ManualTitle<'a>
+        ensures { result ≡ record self.entry { date = Some date.entry } }
+    {
+        ManualTitle {
+            date: Some(date),
+            ..self
+        }
+    }
+
+    /// The same with this vendor, as the name and version of what the application belongs to.
+    pub fn vendor(self, vendor: &'a str) -> ManualTitle<'a>
+        ensures { result ≡ record self.entry { vendor = Some vendor.entry } }
+    {
+        ManualTitle {
+            vendor: Some(vendor),
+            ..self
+        }
+    }
+
+    /// The same with this title.
+    pub fn title(self, title: &'a str) -> ManualTitle<'a>
+        ensures { result ≡ record self.entry { title = Some title.entry } }
+    {
+        ManualTitle {
+            title: Some(title),
+            ..self
+        }
+    }
+
+    /// The page that `render_manpage` makes with these words in its title line, and its error.
+    pub fn page<A: Allocator + Copy, B: Allocator + Copy>(
+        self,
+        alloc: A,
+        app: &str,
+        meta: &Meta<B>,
+        info: &Info<B>,
+    ) -> Result<String<A>, AllocError>
+        ensures read { IfOk result (λ text. IsManualOf app.now (section_name self.entry.section)
+            (text_of self.entry.date) (text_of self.entry.vendor) (text_of self.entry.title)
+            (tree_of meta.now) (head_of info.now) (string_bytes text)) }
+        ensures exact { IfOk result (λ text. string_bytes text ≡ manual_text app.now (section_name self.entry.section)
+            (text_of self.entry.date) (text_of self.entry.vendor) (text_of self.entry.title)
+            (tree_of meta.now) (head_of info.now)) }
+    {
+        let ManualTitle {
+            section,
+            date,
+            vendor,
+            title,
+        } = self;
+        render_manpage(alloc, app, section, date, vendor, title, meta, info)
+    }
 }
 
 // A page with this title line alone.

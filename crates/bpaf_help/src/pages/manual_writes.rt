@@ -22,7 +22,9 @@ pub fn put_synopsis<A: Allocator + Copy, B: Allocator + Copy>(
     doc: &mut Doc<A>,
     sections: &[DocSection<'_, B, A>],
 ) -> Result<(), AllocError>
-    ensures { OnOk result (doc.new ≡ with_writes doc.old (if_many (map chapter_of sections.now) (synopsis_writes (map chapter_of sections.now)))) }
+    ensures { OnOk result (doc.new
+        ≡ with_writes doc.old
+        (if_many (map chapter_of sections.now) (synopsis_writes (map chapter_of sections.now)))) }
 {
     if sections.len() < 2 {
         return Ok(());
@@ -64,7 +66,8 @@ pub fn put_chapters<A: Allocator + Copy, B: Allocator + Copy>(
     many: bool,
     sections: &[DocSection<'_, B, A>],
 ) -> Result<(), AllocError>
-    ensures { OnOk result (doc.new ≡ with_writes doc.old (flat_map (manual_part app.now many) (map chapter_of sections.now))) }
+    ensures { OnOk result (doc.new
+        ≡ with_writes doc.old (flat_map (manual_part app.now many) (map chapter_of sections.now))) }
 {
     for section in sections {
         put_chapter(alloc, doc, app, many, section)?;
@@ -110,7 +113,9 @@ fn put_front<A: Allocator, P: Allocator, B: Allocator + Copy>(
     meta: &Meta<B>,
     info: &Info<B>,
 ) -> Result<(), AllocError>
-    ensures { OnOk result (doc.new ≡ with_writes doc.old (manual_front app.now (map string_bytes path.now) (tree_of meta.now) (head_of info.now))) }
+    ensures { OnOk result (doc.new
+        ≡ with_writes doc.old
+        (manual_front app.now (map string_bytes path.now) (tree_of meta.now) (head_of info.now))) }
 {
     put_name(doc, app, &info.descr)?;
     put_title(doc, "SYNOPSIS")?;
@@ -142,7 +147,9 @@ fn put_list<A: Allocator + Copy, B: Allocator + Copy>(
     meta: &Meta<B>,
     help: &Meta<B>,
 ) -> Result<(), AllocError>
-    ensures { OnOk result (doc.new ≡ with_writes doc.old (groups_writes false no_texts (item_list (tree_of meta.now) ++ item_list (tree_of help.now)))) }
+    ensures { OnOk result (doc.new
+        ≡ with_writes doc.old (groups_writes false no_texts (item_list (tree_of meta.now)
+        ++ item_list (tree_of help.now)))) }
 {
     let items = listing(alloc, meta, help)?;
     write_help_item_groups(doc, items, false, &EnvTexts::new(alloc))

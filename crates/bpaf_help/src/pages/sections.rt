@@ -11,8 +11,8 @@ use bpaf_meta::item::Item;
 use bpaf_meta::meta::Meta;
 use std::alloc::{AllocError, Allocator, Global};
 
-/// An application or one of its commands: the path of names that leads to it, its texts and its tree. `A` is the allocator of
-/// the tree, `L` that of the path.
+/// An application or one of its commands: the path of names that leads to it, its texts and its tree. `A` is the
+/// allocator of the tree, `L` that of the path.
 #[derive(Drop)]
 #[derive_where(Debug)]
 pub struct DocSection<'a, A: Allocator = Global, L: Allocator = Global> {
@@ -34,16 +34,18 @@ impl<'a, A: Allocator, L: Allocator + Copy> DocSection<'a, A, L> {
     }
 }
 
-/// Puts the section of a command line behind `sections`, and then those of its commands, in the order in which its item list has
-/// them, each before the commands below it. `path` leads to the command line; each command's name is put behind it while the
-/// command is gone through, and taken off again. After `AllocError` `sections` is as it was, and `path` always is.
+/// Puts the section of a command line behind `sections`, and then those of its commands, in the order in which its
+/// item list has them, each before the commands below it. `path` leads to the command line; each command's name is
+/// put behind it while the command is gone through, and taken off again. After `AllocError` `sections` is as it
+/// was, and `path` always is.
 pub fn extract_sections<'a, A: Allocator, L: Allocator + Copy>(
     meta: &'a Meta<A>,
     info: &'a Info<A>,
     path: &mut Vec<String<L>, L>,
     sections: &mut Vec<DocSection<'a, A, L>, L>,
 ) -> Result<(), AllocError>
-    ensures ok { OnOk result (map chapter_of sections.new.items ≡ map chapter_of sections.old.items ++ chapters_of (map string_bytes path.old.items) (head_of info.now) (tree_of meta.now)) }
+    ensures ok { OnOk result (map chapter_of sections.new.items ≡ map chapter_of sections.old.items
+        ++ chapters_of (map string_bytes path.old.items) (head_of info.now) (tree_of meta.now)) }
     ensures err { OnErr result (sections.new.items ≡ sections.old.items) }
     ensures path { path.new.items ≡ path.old.items }
 {
@@ -58,14 +60,14 @@ pub fn extract_sections<'a, A: Allocator, L: Allocator + Copy>(
 // After `AllocError` these functions may have appended some of their sections.
 
 // Appends the section of a command line and those of its commands.
-#[cycle(append)]
 fn append<'a, A: Allocator, L: Allocator + Copy>(
     meta: &'a Meta<A>,
     info: &'a Info<A>,
     path: &mut Vec<String<L>, L>,
     sections: &mut Vec<DocSection<'a, A, L>, L>,
 ) -> Result<(), AllocError>
-    ensures ok { OnOk result (map chapter_of sections.new.items ≡ map chapter_of sections.old.items ++ chapters_of (map string_bytes path.old.items) (head_of info.now) (tree_of meta.now)) }
+    ensures ok { OnOk result (map chapter_of sections.new.items ≡ map chapter_of sections.old.items
+        ++ chapters_of (map string_bytes path.old.items) (head_of info.now) (tree_of meta.now)) }
     ensures front { IsFront sections.old.items sections.new.items }
     ensures path { path.new.items ≡ path.old.items }
 {
@@ -79,7 +81,8 @@ fn push<'a, A: Allocator, L: Allocator + Copy>(
     path: &Vec<String<L>, L>,
     sections: &mut Vec<DocSection<'a, A, L>, L>,
 ) -> Result<(), AllocError>
-    ensures ok { OnOk result (map chapter_of sections.new.items ≡ map chapter_of sections.old.items ++ record { path = map string_bytes path.now.items; info = head_of info.now; content = tree_of meta.now } ∷ []) }
+    ensures ok { OnOk result (map chapter_of sections.new.items ≡ map chapter_of sections.old.items
+        ++ record { path = map string_bytes path.now.items; info = head_of info.now; content = tree_of meta.now } ∷ []) }
     ensures front { IsFront sections.old.items sections.new.items }
 {
     let path = copy_of(*path.allocator(), path)?;
@@ -94,7 +97,8 @@ fn append_commands<'a, A: Allocator, L: Allocator + Copy>(
     path: &mut Vec<String<L>, L>,
     sections: &mut Vec<DocSection<'a, A, L>, L>,
 ) -> Result<(), AllocError>
-    ensures ok { OnOk result (map chapter_of sections.new.items ≡ map chapter_of sections.old.items ++ command_chapters (map string_bytes path.old.items) (tree_of meta.now)) }
+    ensures ok { OnOk result (map chapter_of sections.new.items ≡ map chapter_of sections.old.items
+        ++ command_chapters (map string_bytes path.old.items) (tree_of meta.now)) }
     ensures front { IsFront sections.old.items sections.new.items }
     ensures path { path.new.items ≡ path.old.items }
 {
@@ -119,7 +123,8 @@ fn append_parts<'a, A: Allocator, L: Allocator + Copy>(
     path: &mut Vec<String<L>, L>,
     sections: &mut Vec<DocSection<'a, A, L>, L>,
 ) -> Result<(), AllocError>
-    ensures ok { OnOk result (map chapter_of sections.new.items ≡ map chapter_of sections.old.items ++ part_chapters (map string_bytes path.old.items) (trees_of parts.now.items)) }
+    ensures ok { OnOk result (map chapter_of sections.new.items ≡ map chapter_of sections.old.items
+        ++ part_chapters (map string_bytes path.old.items) (trees_of parts.now.items)) }
     ensures front { IsFront sections.old.items sections.new.items }
     ensures path { path.new.items ≡ path.old.items }
 {
@@ -129,13 +134,15 @@ fn append_parts<'a, A: Allocator, L: Allocator + Copy>(
     Ok(())
 }
 
+// The name of a command stands behind the path while the command is gone through.
 #[cycle(append)]
 fn append_item<'a, A: Allocator, L: Allocator + Copy>(
     item: &'a Item<A>,
     path: &mut Vec<String<L>, L>,
     sections: &mut Vec<DocSection<'a, A, L>, L>,
 ) -> Result<(), AllocError>
-    ensures ok { OnOk result (map chapter_of sections.new.items ≡ map chapter_of sections.old.items ++ item_chapters (map string_bytes path.old.items) (leaf_of item.now)) }
+    ensures ok { OnOk result (map chapter_of sections.new.items ≡ map chapter_of sections.old.items
+        ++ item_chapters (map string_bytes path.old.items) (leaf_of item.now)) }
     ensures front { IsFront sections.old.items sections.new.items }
     ensures path { path.new.items ≡ path.old.items }
 {
@@ -145,30 +152,18 @@ fn append_item<'a, A: Allocator, L: Allocator + Copy>(
             meta,
             info,
             ..
-        } => append_command(name, meta, info, path, sections),
+        } => {
+            path.push(String::from_str(*path.allocator(), name)?)?;
+            let appended = match push(meta, info, path, sections) {
+                Ok(()) => append_commands(meta, path, sections),
+                Err(refused) => Err(refused),
+            };
+            let _name = path.pop();
+            appended
+        }
         Item::Any { .. } | Item::Positional { .. } | Item::Flag { .. } | Item::Argument { .. } =>
             Ok(()),
     }
-}
-
-// The name stands behind the path while the command is gone through.
-#[cycle(append)]
-fn append_command<'a, A: Allocator, L: Allocator + Copy>(
-    name: &str,
-    meta: &'a Meta<A>,
-    info: &'a Info<A>,
-    path: &mut Vec<String<L>, L>,
-    sections: &mut Vec<DocSection<'a, A, L>, L>,
-) -> Result<(), AllocError>
-    ensures ok { OnOk result (map chapter_of sections.new.items ≡ map chapter_of sections.old.items ++ chapters_of (map string_bytes path.old.items ++ name.now ∷ []) (head_of info.now) (tree_of meta.now)) }
-    ensures front { IsFront sections.old.items sections.new.items }
-    ensures path { path.new.items ≡ path.old.items }
-{
-    let own = String::from_str(*path.allocator(), name)?;
-    path.push(own)?;
-    let appended = append(meta, info, path, sections);
-    let _own = path.pop();
-    appended
 }
 
 /// The sections of an application and of all its commands.
@@ -178,7 +173,8 @@ pub(crate) fn sections_of<'a, A: Allocator, L: Allocator + Copy>(
     meta: &'a Meta<A>,
     info: &'a Info<A>,
 ) -> Result<Vec<DocSection<'a, A, L>, L>, AllocError>
-    ensures { IfOk result (λ sections. map chapter_of sections.items ≡ chapters_of (app.now ∷ []) (head_of info.now) (tree_of meta.now)) }
+    ensures { IfOk result (λ sections. map chapter_of sections.items
+        ≡ chapters_of (app.now ∷ []) (head_of info.now) (tree_of meta.now)) }
 {
     let mut path = Vec::new(alloc);
     path.push(String::from_str(alloc, app)?)?;

@@ -17,7 +17,8 @@ pub fn put_title<A: Allocator>(doc: &mut Doc<A>, title: &str) -> Result<(), Allo
 
 /// A title in a block of its own.
 pub fn put_title_block<A: Allocator>(doc: &mut Doc<A>, title: &str) -> Result<(), AllocError>
-    ensures { OnOk result (doc.new ≡ with_writes doc.old (inside Block.Block (inside Block.Header (plain title.now ∷ [])))) }
+    ensures { OnOk result (doc.new
+        ≡ with_writes doc.old (inside Block.Block (inside Block.Header (plain title.now ∷ [])))) }
 {
     doc.token(Token::BlockStart(Block::Block))?;
     put_title(doc, title)?;
