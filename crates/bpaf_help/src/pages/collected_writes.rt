@@ -64,14 +64,12 @@ fn put_summary_line<A: Allocator + Copy>(
 fn summary_text<A: Allocator + Copy>(alloc: A, path: &[String<A>]) -> Result<String<A>, AllocError>
     ensures { IfOk result (λ text. string_bytes text ≡ summary_text (map string_bytes path.now)) }
 {
-    let names = joined(alloc, path, ' ')?;
-    let address = anchor(alloc, path)?;
     let mut text = String::from_str(alloc, "* [`")?;
-    text.push_str(names.as_str())?;
+    text.push_str(joined(alloc, path, ' ')?.as_str())?;
     text.push_str("`")?;
     text.push('\u{21b4}')?;
     text.push_str("](#")?;
-    text.push_str(address.as_str())?;
+    text.push_str(anchor(alloc, path)?.as_str())?;
     text.push_str(")")?;
     Ok(text)
 }
