@@ -301,10 +301,7 @@ impl<A: Allocator> Doc<A> {
     {
         let before = self.checkpoint();
         let written = self.write_doc(other);
-        if written.is_err() {
-            self.roll_back(before);
-        }
-        written
+        self.settle(before, written)
     }
 
     fn write_doc<B: Allocator>(&mut self, other: &Doc<B>) -> Result<(), AllocError>
@@ -326,10 +323,7 @@ impl<A: Allocator> Doc<A> {
     {
         let before = self.checkpoint();
         let written = self.write_em_doc(other);
-        if written.is_err() {
-            self.roll_back(before);
-        }
-        written
+        self.settle(before, written)
     }
 
     fn write_em_doc<B: Allocator>(&mut self, other: &Doc<B>) -> Result<(), AllocError>
@@ -379,10 +373,7 @@ impl<A: Allocator> Doc<A> {
     {
         let before = self.checkpoint();
         let written = self.write_names(path);
-        if written.is_err() {
-            self.roll_back(before);
-        }
-        written
+        self.settle(before, written)
     }
 
     fn write_names<B: Allocator>(&mut self, path: &[String<B>]) -> Result<(), AllocError>
@@ -430,6 +421,24 @@ impl<A: Allocator> Doc<A> {
         self.payload.truncate(to.bytes);
         self.ends.truncate(to.parts);
         move_last_end(&mut self.ends, to.bytes);
+    }
+
+    /// Answers `written`, and where that is an error undoes what was written since the document was at that checkpoint. So what
+    /// is written in several steps is written whole or not at all.
+    pub fn settle(
+        &mut self,
+        before: Checkpoint,
+        written: Result<(), AllocError>,
+    ) -> Result<(), AllocError>
+        requires { OnErr written (WasAt before self.old) }
+        ensures same { result ≡ written }
+        ensures ok { OnOk written (self.new ≡ self.old) }
+        ensures err { OnErr written (RollsBack before self.old self.new) }
+    {
+        if written.is_err() {
+            self.roll_back(before);
+        }
+        written
     }
 
     // Adds a part without bytes.

@@ -1,10 +1,10 @@
 -- A document that grows by one write after another.
-use Rattle.std.proofs.Common.{◌≡◌, false, List, [], ◌++◌, sym, refl, ap, ◌∙◌, Result, Ok, Err}
+use Rattle.std.proofs.Common.{◌≡◌, false, List, [], ◌++◌, sym, refl, ap, subst, ◌∙◌, Result, Ok, Err}
 use Rattle.std.specs.Prelude.{OnErr, OnOk}
 use Rattle.std.specs.Result.{is_err}
 use Rattle.std.proofs.lemmas.List.Sums.{fold-append}
-use Rattle.bpaf_doc.specs.Buffer.Growth.{Grows}
-use Rattle.bpaf_doc.specs.Buffer.Parts.{Part}
+use Rattle.bpaf_doc.specs.Buffer.Growth.{Grows, IsCheckpointOf, Reached, RollsBack}
+use Rattle.bpaf_doc.specs.Buffer.Parts.{Part, IsWellNested}
 use Rattle.bpaf_doc.specs.Buffer.Writes.{Write, with_write, with_writes}
 
 -- what holds anyway holds on an error
@@ -25,3 +25,9 @@ Grows-more ps qs rs ws (vs, is) also = (vs ++ ws, also ∙ ap (λ xs. with_write
 
 pub Grows-grown : (ps qs rs : List Part) → Grows ps qs → Grows qs rs → Grows ps rs
 Grows-grown ps qs rs grown (ws, is) = Grows-more ps qs rs ws grown is
+
+-- a settled write leaves a well-nested document, if it does so where it is not undone
+pub settled_nested : {T E : Type 0} (r : Result T E) {before after new : List Part} (written : List Part) {at : Reached} → OnOk r (written ≡ new) → OnErr r (Grows before written)
+    → IsCheckpointOf before at → OnOk r (after ≡ written) → OnErr r (RollsBack at written after) → IsWellNested before → IsWellNested new → IsWellNested after
+settled_nested (Ok x) written is grows at kept back nested also = subst IsWellNested (sym (kept ∙ is)) also
+settled_nested (Err e) written is grows at kept back nested also = subst IsWellNested (sym (back _ at grows)) nested

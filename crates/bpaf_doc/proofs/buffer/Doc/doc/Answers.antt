@@ -1,10 +1,10 @@
-use Rattle.std.proofs.Common.{sym, ◌∙◌}
 use Rattle.bpaf_doc.specs.declared.buffer.Block.TheVariants.{InlineBlock}
-use Rattle.bpaf_doc.proofs.lemmas.Buffer.Growing.{without_err}
+use Rattle.bpaf_doc.proofs.lemmas.Buffer.Growing.{settled_nested}
 use Rattle.bpaf_doc.proofs.lemmas.Buffer.Nesting.{IsWellNested-in_block}
 use Rattle.bpaf_doc.proofs.buffer.Doc.doc.Goals as goal
 
-pub returns-else-is_err-clause-nested : goal.returns-else-is_err-clause-nested
-returns-else-is_err-clause-nested g c = λ nested also.
-    rw (without_err c.write_doc-written.result (sym c.is_err.ensures.value ∙ c.if-is_err.false) c.write_doc-written.ensures.ok)
+pub returns-clause-nested : goal.returns-clause-nested
+returns-clause-nested g c = λ nested also.
+    let write = c.write_doc-written in
+    settled_nested write.result write.new.self write.ensures.ok write.ensures.err c.checkpoint-before.ensures c.settle.ensures.ok c.settle.ensures.err nested
     (IsWellNested-in_block InlineBlock c.args.self.now c.args.other.now nested also)

@@ -1,9 +1,9 @@
-use Rattle.std.proofs.Common.{sym, ◌∙◌}
-use Rattle.bpaf_doc.proofs.lemmas.Buffer.Growing.{without_err}
+use Rattle.bpaf_doc.proofs.lemmas.Buffer.Growing.{settled_nested}
 use Rattle.bpaf_doc.proofs.lemmas.Buffer.Nesting.{IsWellNested-em_doc}
 use Rattle.bpaf_doc.proofs.buffer.Doc.em_doc.Goals as goal
 
-pub returns-else-is_err-clause-nested : goal.returns-else-is_err-clause-nested
-returns-else-is_err-clause-nested g c = λ nested also.
-    rw (without_err c.write_em_doc-written.result (sym c.is_err.ensures.value ∙ c.if-is_err.false) c.write_em_doc-written.ensures.ok)
+pub returns-clause-nested : goal.returns-clause-nested
+returns-clause-nested g c = λ nested also.
+    let write = c.write_em_doc-written in
+    settled_nested write.result write.new.self write.ensures.ok write.ensures.err c.checkpoint-before.ensures c.settle.ensures.ok c.settle.ensures.err nested
     (IsWellNested-em_doc c.args.self.now c.args.other.now nested also)

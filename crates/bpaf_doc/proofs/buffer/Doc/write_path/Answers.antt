@@ -1,9 +1,10 @@
-use Rattle.std.proofs.Common.{sym, ◌∙◌, map, string_bytes}
-use Rattle.bpaf_doc.proofs.lemmas.Buffer.Growing.{without_err}
+use Rattle.std.proofs.Common.{map, string_bytes}
+use Rattle.bpaf_doc.proofs.lemmas.Buffer.Growing.{settled_nested}
 use Rattle.bpaf_doc.proofs.lemmas.Buffer.Nesting.{IsWellNested-path}
 use Rattle.bpaf_doc.proofs.buffer.Doc.write_path.Goals as goal
 
-pub returns-else-is_err-clause-nested : goal.returns-else-is_err-clause-nested
-returns-else-is_err-clause-nested g c = λ nested.
-    rw (without_err c.write_names-written.result (sym c.is_err.ensures.value ∙ c.if-is_err.false) c.write_names-written.ensures.ok)
+pub returns-clause-nested : goal.returns-clause-nested
+returns-clause-nested g c = λ nested.
+    let write = c.write_names-written in
+    settled_nested write.result write.new.self write.ensures.ok write.ensures.err c.checkpoint-before.ensures c.settle.ensures.ok c.settle.ensures.err nested
     (IsWellNested-path (map string_bytes c.args.path.now) c.args.self.now nested)
