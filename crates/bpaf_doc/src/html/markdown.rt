@@ -4,6 +4,7 @@ ghost use Rattle.bpaf_doc.specs.Splitter.View.{chunk_of};
 ghost use Rattle.bpaf_doc.specs.Markdown.Page.{IsMarkdownOf};
 ghost use Rattle.bpaf_doc.specs.Markdown.Exact.{markdown_page};
 ghost use Rattle.bpaf_doc.specs.Html.Steps.View.{fragment_of, fragments_in, IsTaken};
+ghost use Rattle.bpaf_doc.specs.Markdown.Steps.Items.{is_pending, is_empty};
 ghost use Rattle.bpaf_doc.specs.Markdown.Steps.Page.{blank_text, put, with_new_line, with_blank_line, with_item, opening_marks, closing_marks, with_line, open_code, close_code, with_words, with_raw, with_chunk, text_ended, header_started, body_started, started, ended, is_term_end, marked_after, marked_after_all};
 
 use super::fragments::{Fragment, Taken, fragments_of};
@@ -13,6 +14,31 @@ use crate::splitter::Chunk;
 use std::alloc::{AllocError, Allocator};
 use std::marker::Model;
 
+// What stands before the item that was begun last. Before the first one nothing is pending.
+#[derive(Clone, Copy)]
+enum Item {
+    // Nothing yet: its dash waits for the next fragment.
+    Pending,
+    // The dash.
+    Dashed,
+    // Blanks in place of the dash, since its term is empty.
+    Empty,
+}
+
+impl Item {
+    fn is_pending(self) -> bool
+        ensures { result ≡ is_pending self }
+    {
+        matches!(self, Item::Pending)
+    }
+
+    fn is_empty(self) -> bool
+        ensures { result ≡ is_empty self }
+    {
+        matches!(self, Item::Empty)
+    }
+}
+
 /// The text so far, and what the next marks depend on.
 #[derive(Drop)]
 struct Markdown<B: Allocator> {
@@ -21,9 +47,7 @@ struct Markdown<B: Allocator> {
     headed: bool,
     // Whether the last mark of a definition list was a start.
     in_list: bool,
-    // Whether an item was begun, whose dash waits for the next fragment, and whether the last one was empty.
-    pending: bool,
-    empty_item: bool,
+    item: Item,
     // How many Mono starts and ends came.
     mono_starts: usize,
     mono_ends: usize,
@@ -34,10 +58,11 @@ struct Markdown<B: Allocator> {
 impl<B: Allocator> Model for Markdown<B> {
     ghost use Rattle.std.specs.Prelude.{string_bytes};
     ghost use Rattle.bpaf_doc.specs.Markdown.Steps.Page.{Marked};
+    ghost use Rattle.bpaf_doc.specs.Markdown.Steps.Items.{is_pending, is_empty};
 
     ghost Value = { Marked };
 
-    ghost view = { λ m. record { bytes = string_bytes m.text; headed = m.headed; in_list = m.in_list; pending = m.pending; empty_item = m.empty_item; starts = m.mono_starts; ends = m.mono_ends; in_code = m.in_code } };
+    ghost view = { λ m. record { bytes = string_bytes m.text; headed = m.headed; in_list = m.in_list; pending = is_pending m.item; empty_item = is_empty m.item; starts = m.mono_starts; ends = m.mono_ends; in_code = m.in_code } };
 }
 
 fn is_term_end(fragment: Fragment<'_>) -> bool
@@ -54,8 +79,7 @@ impl<B: Allocator> Markdown<B> {
             text: String::new(alloc),
             headed: false,
             in_list: false,
-            pending: false,
-            empty_item: false,
+            item: Item::Dashed,
             mono_starts: 0,
             mono_ends: 0,
             in_code: false,
@@ -109,10 +133,9 @@ impl<B: Allocator> Markdown<B> {
     fn item(&mut self, empty: bool) -> Result<(), AllocError>
         ensures { OnOk result (self.new ≡ with_item self.old empty) }
     {
-        if self.pending {
+        if self.item.is_pending() {
             self.put(if empty { "  " } else { "- " })?;
-            self.empty_item = empty;
-            self.pending = false;
+            self.item = if empty { Item::Empty } else { Item::Dashed };
         }
         Ok(())
     }
@@ -222,7 +245,11 @@ impl<B: Allocator> Markdown<B> {
         ensures { OnOk result (self.new ≡ body_started self.old) }
     {
         if self.in_list {
-            self.put(if self.empty_item { " " } else { " &mdash; " })?;
+            self.put(if self.item.is_empty() {
+                " "
+            } else {
+                " &mdash; "
+            })?;
         }
         self.new_line()?;
         self.put("  ")
@@ -236,7 +263,7 @@ impl<B: Allocator> Markdown<B> {
             Block::Section3 => self.put("### "),
             Block::Section4 | Block::ItemTerm => {
                 self.new_line()?;
-                self.pending = true;
+                self.item = Item::Pending;
                 Ok(())
             }
             Block::ItemBody => self.body(),

@@ -144,7 +144,7 @@ own_flags s f = record {
   headed = if is_header_start f then true else s.headed;
   in_list = if is_list_start f then true else (if is_list_end f then false else s.in_list);
   pending = if is_item_start f then true else s.pending;
-  empty_item = s.empty_item;
+  empty_item = if is_item_start f then false else s.empty_item;
   starts = if is_mono_start f then one_more s.starts else s.starts;
   ends = if is_mono_end f then one_more s.ends else s.ends;
 }
@@ -183,8 +183,8 @@ raw-flags p bytes weight =
 
 start-flags : (p : Marked) (b : Block) → flags (own_after p (Start b)) ≡ own_flags (flags p) (Start b)
 start-flags p blocks.Header = ap (λ (s : Flags). record s { headed = true }) (blank_line-flags p)
-start-flags p blocks.Section4 = ap (λ (s : Flags). record s { pending = true }) (new_line-flags p)
-start-flags p blocks.ItemTerm = ap (λ (s : Flags). record s { pending = true }) (new_line-flags p)
+start-flags p blocks.Section4 = ap (λ (s : Flags). record s { pending = true; empty_item = false }) (new_line-flags p)
+start-flags p blocks.ItemTerm = ap (λ (s : Flags). record s { pending = true; empty_item = false }) (new_line-flags p)
 start-flags p blocks.ItemBody =
     elim (p.in_list) as (λ b. flags (with_new_line (if b then put p (if p.empty_item then codes " " else codes " &mdash; ") else p)) ≡ flags p) [
       | true ↦ new_line-flags (put p (if p.empty_item then codes " " else codes " &mdash; "))

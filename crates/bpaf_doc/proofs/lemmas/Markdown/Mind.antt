@@ -64,9 +64,10 @@ after_empty_is {before} {pending} {empty} (waiting any last p) =
 after_empty_is {before} {pending} {empty} (past g rest any last p e) =
     ap (λ b. b && begins_with_term_end (after_last is_item_start before)) any ∙ ap begins_with_term_end last ∙ begins_is g rest ∙ sym (ap (λ b. if b then false else empty) p ∙ e)
 
-item_next : {before : List Fragment} {pending empty : Bool} (f : Fragment) → Item before pending empty → Item (before ++ f ∷ []) (if is_item_start f then true else false) (if pending then is_term_end f else empty)
+item_next : {before : List Fragment} {pending empty : Bool} (f : Fragment) → Item before pending empty
+    → Item (before ++ f ∷ []) (if is_item_start f then true else false) (if is_item_start f then false else (if pending then is_term_end f else empty))
 item_next {before} {pending} {empty} f item =
-    (elim (is_item_start f) as (λ b. is_item_start f ≡ b → Item (before ++ f ∷ []) (if b then true else false) (if pending then is_term_end f else empty)) [
+    (elim (is_item_start f) as (λ b. is_item_start f ≡ b → Item (before ++ f ∷ []) (if b then true else false) (if b then false else (if pending then is_term_end f else empty))) [
       | true ↦ λ e. waiting (any-push is_item_start before f ∙ ap (λ b. if b then true else list_any is_item_start before) e) (after_last-at is_item_start before f e) refl
       | false ↦ λ e. stays e item
     ]) refl

@@ -10,7 +10,7 @@ use Rattle.bpaf_doc.specs.Markdown.Page.{escaped_character}
 pub use Rattle.bpaf_doc.specs.Markdown.Exact.{starts_line, starts_paragraph, opening_marks, closing_marks}
 
 -- The bytes so far; whether a heading was written; whether the last mark of a definition list was a start; whether an item's dash waits for the
--- next fragment, and whether the last item was empty; the Mono starts and ends so far; whether a code block is open.
+-- next fragment, and else whether it is empty; the Mono starts and ends so far; whether a code block is open.
 pub record Marked : Type 0 where
   pub bytes : List ℕ
   pub headed : Bool
@@ -74,8 +74,8 @@ one_more n = min (n + 1) (2 ^ 64 - 1)
 abbrev pub started : Marked → Block → Marked
 started p blocks.Header = header_started p
 started p blocks.Section3 = put p (codes "### ")
-started p blocks.Section4 = record (with_new_line p) { pending = true }
-started p blocks.ItemTerm = record (with_new_line p) { pending = true }
+started p blocks.Section4 = record (with_new_line p) { pending = true; empty_item = false }
+started p blocks.ItemTerm = record (with_new_line p) { pending = true; empty_item = false }
 started p blocks.ItemBody = body_started p
 started p blocks.DefinitionList = record p { in_list = true }
 started p blocks.Block = put p (codes "\n")
