@@ -1,15 +1,19 @@
 //! Documents of styled text and block marks.
 
-ghost use Rattle.std.specs.Prelude.{◌≡◌, ◌+◌, ◌^◌, ◌<◌, ◌≤◌, ◌==◌, [], ◌∷◌, ◌++◌, All, Bool, true, false, drop, map, length, IfOk, IfSome, MatchOption, OnOk, OnErr, encode_utf8, slice_get, string_bytes, vec_len, vec_capacity};
+ghost use Rattle.std.specs.Prelude.{◌≡◌, ◌+◌, ◌^◌, ◌<◌, ◌≤◌, ◌==◌, [], ◌∷◌, ◌++◌, All, Bool, true, false, drop, map};
+ghost use Rattle.std.specs.Prelude.{length, IfOk, IfSome, MatchOption, OnOk, OnErr, encode_utf8, slice_get};
+ghost use Rattle.std.specs.Prelude.{string_bytes, vec_len, vec_capacity};
 ghost use Rattle.std.specs.List.{list_any};
 ghost use Rattle.std.specs.Option.{option_map};
-ghost use Rattle.bpaf_doc.specs.Buffer.Steps.Ends.{CanMove, end_before, is_text_of, moved, part_with, with_last_end, with_text_end};
+ghost use Rattle.bpaf_doc.specs.Buffer.Steps.Ends.{CanMove, end_before, is_text_of, moved, part_with, with_last_end};
+ghost use Rattle.bpaf_doc.specs.Buffer.Steps.Ends.{with_text_end};
 ghost use Rattle.bpaf_doc.specs.Buffer.Growth.{Grows, IsCheckpointOf, RollsBack, WasAt};
 ghost use Rattle.bpaf_doc.specs.Buffer.Marks.{IsMark, mark_parts};
 ghost use Rattle.bpaf_doc.specs.Buffer.View.{part_of};
 ghost use Rattle.bpaf_doc.specs.Buffer.Parts.{HasUtf8Texts, IsWellNested, document_bytes};
 ghost use Rattle.bpaf_doc.specs.Buffer.FirstLine.{IsSplitLine, first_line_of, leading_texts};
-ghost use Rattle.bpaf_doc.specs.Buffer.Writes.{doc_writes, document_of, em_doc_writes, is_newline, pair_write, path_writes, title_writes, titled, with_text, with_writes};
+ghost use Rattle.bpaf_doc.specs.Buffer.Writes.{doc_writes, document_of, em_doc_writes, is_newline, pair_write};
+ghost use Rattle.bpaf_doc.specs.Buffer.Writes.{path_writes, title_writes, titled, with_text, with_writes};
 
 use std::alloc::{AllocError, Allocator, Global};
 use std::marker::Model;
@@ -110,8 +114,8 @@ impl Model for Checkpoint {
     ghost inverse = { λ at. record { parts = at.parts; bytes = at.bytes } };
 }
 
-/// A document: styled texts, and marks that start and end blocks. A call that is refused memory answers `AllocError`, and leaves
-/// every document as it was.
+/// A document: styled texts, and marks that start and end blocks. A call that is refused memory answers `AllocError`,
+/// and leaves every document as it was.
 #[derive(Drop)]
 pub struct Doc<A: Allocator = Global> {
     payload: String<A>,
@@ -150,7 +154,8 @@ impl<A: Allocator + Copy> Doc<A> {
         Ok(doc)
     }
 
-    /// A document of one plain text, which it takes over: no byte is copied. Where the growth is refused, the text is given up.
+    /// A document of one plain text, which it takes over: no byte is copied. Where the growth is refused, the text is
+    /// given up.
     pub fn from_string(text: String<A>) -> Result<Doc<A>, AllocError>
         ensures { IfOk result (λ doc. doc ≡ with_text [] (string_bytes text) Style.Text) }
     {
@@ -188,7 +193,8 @@ impl<A: Allocator + Copy> Doc<A> {
         })
     }
 
-    /// A document of the leading texts, up to the first newline or mark and without them. `None` where there are no parts.
+    /// A document of the leading texts, up to the first newline or mark and without them. `None` where there are no
+    /// parts.
     pub fn first_line(&self) -> Result<Option<Doc<A>>, AllocError>
         ensures line { IfOk result (λ line. line ≡ first_line_of self.now) }
         ensures nested { IfOk result (λ line. IfSome line IsWellNested) }
@@ -220,7 +226,8 @@ impl<A: Allocator + Copy> Doc<A> {
 }
 
 impl<A: Allocator> Doc<A> {
-    /// Writes a text. It joins a last part that is a text of its style, and else it is a part of its own, also where it is empty.
+    /// Writes a text. It joins a last part that is a text of its style, and else it is a part of its own, also where it
+    /// is empty.
     pub fn write_str(&mut self, text: &str, style: Style) -> Result<(), AllocError>
         ensures ok { OnOk result (self.new ≡ with_text self.old text.now style) }
         ensures err { OnErr result (self.new ≡ self.old) }
@@ -313,9 +320,9 @@ impl<A: Allocator> Doc<A> {
         self.push_empty(Kind::End(Block::InlineBlock))
     }
 
-    /// Adds another document in an inline block. Where its first part is a plain text, that is a title: up to its first newline
-    /// in emphasis, and the rest of it, with the parts behind it, in a section; without a newline in it the other parts follow
-    /// the title as they are. Any other document is added as it is.
+    /// Adds another document in an inline block. Where its first part is a plain text, that is a title: up to its first
+    /// newline in emphasis, and the rest of it, with the parts behind it, in a section; without a newline in it the
+    /// other parts follow the title as they are. Any other document is added as it is.
     pub fn em_doc<B: Allocator>(&mut self, other: &Doc<B>) -> Result<(), AllocError>
         ensures ok { OnOk result (self.new ≡ with_writes self.old (em_doc_writes other.now)) }
         ensures err { OnErr result (self.new ≡ self.old) }
@@ -387,8 +394,8 @@ impl<A: Allocator> Doc<A> {
         Ok(())
     }
 
-    /// Asks at once for the memory of that many more parts, and of that many more bytes of text, for a caller who knows what comes.
-    /// The document stays as it is, also after `AllocError`.
+    /// Asks at once for the memory of that many more parts, and of that many more bytes of text, for a caller who knows
+    /// what comes. The document stays as it is, also after `AllocError`.
     pub fn reserve(&mut self, parts: usize, bytes: usize) -> Result<(), AllocError>
         ensures { self.new ≡ self.old }
     {
@@ -423,8 +430,8 @@ impl<A: Allocator> Doc<A> {
         move_last_end(&mut self.ends, to.bytes);
     }
 
-    /// Answers `written`, and where that is an error undoes what was written since the document was at that checkpoint. So what
-    /// is written in several steps is written whole or not at all.
+    /// Answers `written`, and where that is an error undoes what was written since the document was at that checkpoint.
+    /// So what is written in several steps is written whole or not at all.
     pub fn settle(
         &mut self,
         before: Checkpoint,
@@ -544,7 +551,8 @@ impl<A: Allocator> Doc<A> {
 
 // A text up to its first newline, and behind it.
 fn split_line(text: &str) -> Option<(&str, &str)>
-    ensures { MatchOption result (list_any is_newline text.now ≡ false) (λ lines. IsSplitLine text.now lines.0.now lines.1.now) }
+    ensures { MatchOption result (list_any is_newline text.now ≡ false)
+        (λ lines. IsSplitLine text.now lines.0.now lines.1.now) }
 {
     text.split_once('\n')
 }

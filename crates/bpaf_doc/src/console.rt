@@ -23,12 +23,13 @@ use tabs::tab_stop;
 pub const MAX_WIDTH: usize = 100;
 
 impl<A: Allocator> Doc<A> {
-    /// The document as lines that break before a chunk that would pass `max_width` columns, in full or in brief, as a text in
-    /// `alloc`.
+    /// The document as lines that break before a chunk that would pass `max_width` columns, in full or in brief, as a
+    /// text in `alloc`.
     ///
-    /// Each character of a shown text that is not White_Space stands there once and in order, with one backquote for each mark
-    /// of a term reference. Lines break where a mark or a break chunk asks for it and otherwise only where a chunk would pass
-    /// the width, and are indented by the margin of their block: `docs/console.md` says each rule, and `console_page` each byte.
+    /// Each character of a shown text that is not White_Space stands there once and in order, with one backquote for
+    /// each mark of a term reference. Lines break where a mark or a break chunk asks for it and otherwise only where a
+    /// chunk would pass the width, and are indented by the margin of their block: `docs/console.md` says each rule, and
+    /// `console_page` each byte.
     ///
     /// `AllocError` where a growth was refused.
     pub fn render_console<B: Allocator + Copy>(
@@ -57,7 +58,8 @@ impl<A: Allocator> Doc<A> {
         self.render_console(alloc, full, MAX_WIDTH)
     }
 
-    // Every byte of the text is said here, part by part as it is written; the clauses above are theorems on `console_text`.
+    // Every byte of the text is said here, part by part as it is written; the clauses above are theorems on
+    // `console_text`.
     fn lay_out<B: Allocator + Copy>(
         &self,
         alloc: B,

@@ -1,5 +1,5 @@
-//! A document as HTML and as markdown. `fragments` says for both what is shown, one piece after another; `page` writes the
-//! pieces as HTML, and `markdown` as markdown.
+//! A document as HTML and as markdown. `fragments` says for both what is shown, one piece after another; `page` writes
+//! the pieces as HTML, and `markdown` as markdown.
 ghost use Rattle.std.specs.Prelude.{◌≡◌, ◌≤◌, ◌++◌, length, MatchOption, OnOk, string_bytes};
 ghost use Rattle.std.specs.List.{flat_map};
 ghost use Rattle.bpaf_doc.specs.Html.Styles.{styles_of};
@@ -75,7 +75,8 @@ impl Language {
     }
 }
 
-// Appends a block in the language's spelling. That of each character is a text, so no pass looks whether the bytes are one.
+// Appends a block in the language's spelling. That of each character is a text, so no pass looks whether the bytes are
+// one.
 #[inline(always)]
 fn push_block<B: Allocator>(
     out: &mut String<B>,
@@ -90,8 +91,8 @@ fn push_block<B: Allocator>(
     out.push_str(unsafe { str::from_utf8_unchecked(&room[..end]) })
 }
 
-// Appends the text in the language's spelling. A run of characters that stay as they are is appended whole, and the one behind it with
-// a block, since others often stand near.
+// Appends the text in the language's spelling. A run of characters that stay as they are is appended whole, and the one
+// behind it with a block, since others often stand near.
 fn push_spelled<B: Allocator>(
     out: &mut String<B>,
     text: &str,

@@ -2,7 +2,8 @@
 
 ghost use Rattle.bpaf_doc.specs.Console.Laws.{IsExactPageLayout};
 ghost use Rattle.bpaf_doc.specs.Html.Laws.{IsExactHtmlPage, IsExactHtmlText};
-ghost use Rattle.bpaf_doc.specs.Splitter.Promises.{EachTextIsSpelledOnce, ChunksKeepInk, ChunksAreLines, ChunksStandInOrder, ChunksAreTexts};
+ghost use Rattle.bpaf_doc.specs.Splitter.Promises.{EachTextIsSpelledOnce, ChunksKeepInk, ChunksAreLines};
+ghost use Rattle.bpaf_doc.specs.Splitter.Promises.{ChunksStandInOrder, ChunksAreTexts};
 ghost use Rattle.bpaf_doc.specs.Buffer.Equality.{IsEqualityOfParts};
 ghost use Rattle.bpaf_doc.specs.Manpage.Reader.{IsReadInOneWay};
 ghost use Rattle.bpaf_doc.specs.Manpage.Page.{TitlePageTakesDocument, TitledPageIsManualPage};
@@ -55,14 +56,14 @@ pub fn titled_page()
     ensures manual { TitledPageIsManualPage }
 {}
 
-/// The console page as a function of the document has the document's ink and is a layout of it, for each document of UTF-8 texts and
-/// fewer than 2^59 parts.
+/// The console page as a function of the document has the document's ink and is a layout of it, for each document of
+/// UTF-8 texts and fewer than 2^59 parts.
 pub fn laws_of_exact_page()
     ensures { IsExactPageLayout }
 {}
 
-/// The HTML page as a function of the document is well nested, with the document's tags and breaks, where the document is well nested; and
-/// of each document it erases to the document's text.
+/// The HTML page as a function of the document is well nested, with the document's tags and breaks, where the document
+/// is well nested; and of each document it erases to the document's text.
 #[tactic(auto, using(crate::proofs::lemmas::Html::Exact::page_laws, crate::proofs::lemmas::Html::Exact::page_words))]
 pub fn laws_of_exact_html()
     ensures page { IsExactHtmlPage }

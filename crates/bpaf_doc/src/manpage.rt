@@ -32,11 +32,11 @@ impl From<Style> for Font {
 impl<A: Allocator> Doc<A> {
     /// The roff of the page with this document after what the page holds, behind the preamble for apostrophes.
     ///
-    /// For every page and every list of parts the bytes are those of `roff_page`: the page rendered with the pieces behind
-    /// its own that the rules of `docs/manpage.md` give (clause `exact`). Where the page keeps newlines and stands at a
-    /// line start, a reader of roff reads what comes after the page as the controls, headings and texts of the document
-    /// (`read`). Headings are in ASCII capitals. The page is used up, and the answer takes its memory where the page does.
-    /// An `AllocError` says that a growth was refused; nothing of the page is left then.
+    /// For every page and every list of parts the bytes are those of `roff_page`: the page rendered with the pieces
+    /// behind its own that the rules of `docs/manpage.md` give (clause `exact`). Where the page keeps newlines and
+    /// stands at a line start, a reader of roff reads what comes after the page as the controls, headings and texts of
+    /// the document (`read`). Headings are in ASCII capitals. The page is used up, and the answer takes its memory
+    /// where the page does. An `AllocError` says that a growth was refused; nothing of the page is left then.
     pub fn render_roff<B: Allocator + Copy>(&self, page: Roff<B>) -> Result<String<B>, AllocError>
         ensures read { TakesDocument page → IfOk result (λ text. IsPageOf page self.now (string_bytes text)) }
         ensures exact { IfOk result (λ text. string_bytes text ≡ roff_page page self.now) }
@@ -45,9 +45,9 @@ impl<A: Allocator> Doc<A> {
         page.render(Apostrophes::Handle)
     }
 
-    /// The same text as that of `render_roff`. The document is used up: its memory is given back before the text is made, so that
-    /// no more than two of document, pieces and text stand beside one another. An `AllocError` says that a growth was refused;
-    /// nothing of document and page is left then.
+    /// The same text as that of `render_roff`. The document is used up: its memory is given back before the text is
+    /// made, so that no more than two of document, pieces and text stand beside one another. An `AllocError` says that
+    /// a growth was refused; nothing of document and page is left then.
     pub fn into_roff<B: Allocator + Copy>(self, page: Roff<B>) -> Result<String<B>, AllocError>
         ensures read { TakesDocument page → IfOk result (λ text. IsPageOf page self (string_bytes text)) }
         ensures exact { IfOk result (λ text. string_bytes text ≡ roff_page page self) }
@@ -102,7 +102,8 @@ impl<A: Allocator + Copy> Writer<A> {
 }
 
 impl<A: Allocator> Writer<A> {
-    ghost use Rattle.bpaf_doc.specs.Manpage.Steps.Draft.{after_text, after_start, after_section, after_block, after_part};
+    ghost use Rattle.bpaf_doc.specs.Manpage.Steps.Draft.{after_text, after_start, after_section, after_block};
+    ghost use Rattle.bpaf_doc.specs.Manpage.Steps.Draft.{after_part};
     ghost use Rattle.bpaf_doc.specs.Buffer.View.{part_of};
 
     fn part(&mut self, part: Part<'_>) -> Result<(), AllocError>

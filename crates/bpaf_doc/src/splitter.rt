@@ -1,11 +1,14 @@
 //! A text into chunks: words, blanks, line breaks, paragraph breaks and code lines.
 
-ghost use Rattle.std.specs.Prelude.{◌≡◌, ◌≢◌, ◌<◌, ◌≤◌, [], ◌∷◌, ◌++◌, length, take, IfNone, IfSome, IsTrue, IsUtf8, List, MatchOption, ℕ};
+ghost use Rattle.std.specs.Prelude.{◌≡◌, ◌≢◌, ◌<◌, ◌≤◌, [], ◌∷◌, ◌++◌, length, take, IfNone, IfSome, IsTrue, IsUtf8};
+ghost use Rattle.std.specs.Prelude.{List, MatchOption, ℕ};
 ghost use Rattle.std.specs.Char.{is_ascii_graphic};
 ghost use Rattle.std.specs.Int.{is_in_range};
 ghost use Rattle.std.specs.Iterator.{YieldsFirstBy, item_count};
 ghost use Rattle.std.specs.List.{All, flat_map, list_all};
-ghost use Rattle.bpaf_doc.specs.Splitter.Chunks.{Raw, Paragraph, Plain, Opening, Later, Spells, IsLine, IsLineEnd, IsPastNewline, IsWordEnd, chunk_ink, chunks_in, chunks_of, code_weight, columns, is_word_byte};
+ghost use Rattle.bpaf_doc.specs.Splitter.Chunks.{Raw, Paragraph, Plain, Opening, Later, Spells, IsLine, IsLineEnd};
+ghost use Rattle.bpaf_doc.specs.Splitter.Chunks.{IsPastNewline, IsWordEnd, chunk_ink, chunks_in, chunks_of};
+ghost use Rattle.bpaf_doc.specs.Splitter.Chunks.{code_weight, columns, is_word_byte};
 ghost use Rattle.bpaf_doc.specs.Splitter.Promises.{IsOneLine, StandInOrder};
 ghost use Rattle.bpaf_doc.specs.Buffer.Parts.{ink};
 ghost use Rattle.bpaf_doc.specs.Splitter.Steps.Runs.{IsRun, IsRunEnd, IsPrintable, IsLettered, is_lettered, letters};
@@ -18,8 +21,8 @@ use unicode_width::UnicodeWidthStr;
 /// One piece of a text.
 #[derive(Clone, Copy, Debug, PartialEq, Eq)]
 pub enum Chunk<'a> {
-    /// A slice of the text with its weight: the columns of a word or a blank, or the mark of a code line or of a line of a
-    /// fence. A newline that stands for a blank is `" "`.
+    /// A slice of the text with its weight: the columns of a word or a blank, or the mark of a code line or of a line
+    /// of a fence. A newline that stands for a blank is `" "`.
     Raw(&'a str, usize),
     /// An empty line: what follows is another paragraph.
     Paragraph,
@@ -146,8 +149,8 @@ impl<'a> Splitter<'a> {
         }
     }
 
-    /// Takes as many words of a line off as have no other characters than printable ASCII and Latin letters and fit these columns,
-    /// with the columns that they take. None where none fits.
+    /// Takes as many words of a line off as have no other characters than printable ASCII and Latin letters and fit
+    /// these columns, with the columns that they take. None where none fits.
     #[inline(always)]
     pub(crate) fn take_fitting(&mut self, columns: usize) -> Option<(&'a str, usize)>
         ensures line { IfSome result (λ run. IsLine run.0.now) }
@@ -195,8 +198,8 @@ fn cut_run(text: &str, end: usize) -> (&str, Splitter<'_>)
     (run, split(rest))
 }
 
-// The place up to which the text is a run: the end of its line, or that of the last word that a run has room for. 0 where it
-// is none.
+// The place up to which the text is a run: the end of its line, or that of the last word that a run has room for. 0
+// where it is none.
 #[inline(always)]
 fn line_run_end(text: &str) -> usize
     ensures run { 0 < result → IsRunEnd text.now result }
@@ -223,8 +226,8 @@ fn first_line_end(bytes: &[u8]) -> usize
     memrchr(b' ', window).unwrap_or(0)
 }
 
-// The place up to which the text is a run of printable ASCII and Latin letters that has at most so many columns, and its columns.
-// The place is 0 where it is none.
+// The place up to which the text is a run of printable ASCII and Latin letters that has at most so many columns, and
+// its columns. The place is 0 where it is none.
 #[inline(always)]
 fn fitting_run_end(text: &str, columns: usize) -> (usize, usize)
     ensures run { 0 < result.0 → IsRunEnd text.now result.0 }
@@ -247,7 +250,8 @@ fn fitting_run_end(text: &str, columns: usize) -> (usize, usize)
     }
 }
 
-// Where printable ASCII ends, or one more of it stands than these columns hold, and the last blank before that place, or 0.
+// Where printable ASCII ends, or one more of it stands than these columns hold, and the last blank before that place,
+// or 0.
 #[inline(always)]
 fn printable_end(bytes: &[u8], columns: usize) -> (usize, usize)
     ensures run { 0 < result.0 → IsRunEnd bytes.now result.0 }
@@ -272,8 +276,8 @@ fn begins_with_letter(rest: &[u8]) -> bool {
     matches!(rest, [0xC3..=0xC8, ..])
 }
 
-// The end of such a run and its columns, where the text is printable up to one place, and `last` is the last blank before that.
-// Out of line: most texts have no such letters.
+// The end of such a run and its columns, where the text is printable up to one place, and `last` is the last blank
+// before that. Out of line: most texts have no such letters.
 #[inline(never)]
 fn lettered_run_end(bytes: &[u8], columns: usize, last: usize, printable: usize) -> (usize, usize)
     requires run { 0 < last → IsRunEnd bytes.now last }

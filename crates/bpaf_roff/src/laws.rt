@@ -18,7 +18,8 @@ pub fn sums_associate<T>()
         → sum_of (sum_of left middle) right ≡ sum_of left (sum_of middle right) }
 {}
 
-/// Where a clone of a label equals it, as of a `String`, copies of pieces equal them: label by label, with the same texts.
+/// Where a clone of a label equals it, as of a `String`, copies of pieces equal them: label by label, with the same
+/// texts.
 #[tactic(auto, using(crate::proofs::lemmas::Clones::equal_copies))]
 pub fn copies_are_equal<T: Clone + PartialEq>()
     ensures { ((x y : T) → T.is_clone x y → IsTrue (T.eq x y))

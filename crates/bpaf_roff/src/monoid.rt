@@ -1,9 +1,11 @@
 //! Labelled texts, one after another, over one payload.
 
-ghost use Rattle.std.specs.Prelude.{◌≡◌, ◌+◌, ◌<◌, ◌≤◌, ◌^◌, ◌&&◌, ◌++◌, length, map, take, ℕ, List, All, IfOk, OnOk, OnErr, vec_len, vec_capacity, string_bytes, encode_utf8};
+ghost use Rattle.std.specs.Prelude.{◌≡◌, ◌+◌, ◌<◌, ◌≤◌, ◌^◌, ◌&&◌, ◌++◌, length, map, take, ℕ, List, All, IfOk, OnOk};
+ghost use Rattle.std.specs.Prelude.{OnErr, vec_len, vec_capacity, string_bytes, encode_utf8};
 ghost use Rattle.std.specs.Borrow.{Bor};
 ghost use Rattle.std.specs.Iterator.{IsFinite, Drains};
-ghost use Rattle.bpaf_roff.specs.Pieces.{no_pieces, with_text, with_texts, sum_of, AreCopies, IsSumOf, ClonesAreSame, payload_len, labelled_text};
+ghost use Rattle.bpaf_roff.specs.Pieces.{no_pieces, with_text, with_texts, sum_of, AreCopies, IsSumOf, ClonesAreSame};
+ghost use Rattle.bpaf_roff.specs.Pieces.{payload_len, labelled_text};
 ghost use Rattle.bpaf_roff.specs.Steps.Labels.{with_label, ending_at, EndsInClones, end_of};
 
 use std::alloc::{AllocError, Allocator, Global};

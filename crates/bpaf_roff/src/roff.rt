@@ -1,10 +1,14 @@
 //! Roff as labelled pieces: controls, plain text and fonts.
 
-ghost use Rattle.std.specs.Prelude.{◌≡◌, ◌++◌, [], ◌∷◌, List, map, take, length, flat_map, IfOk, OnOk, OnErr, string_bytes, if◌then◌else◌};
+ghost use Rattle.std.specs.Prelude.{◌≡◌, ◌++◌, [], ◌∷◌, List, map, take, length, flat_map, IfOk, OnOk, OnErr};
+ghost use Rattle.std.specs.Prelude.{string_bytes, if◌then◌else◌};
 ghost use Rattle.std.specs.Borrow.{Bor};
 ghost use Rattle.std.specs.Iterator.{IsFinite, Drains};
 ghost use Rattle.bpaf_roff.specs.Pieces.{labelled_text};
-ghost use Rattle.bpaf_roff.specs.Roff.{Script, no_script, with_pieces, script_sum, scripts_sum, script_at, piece, font_escape, font_change, text_at, argument_word, argument_pieces, control_pieces, linebreak_pieces, escape_pieces, plaintext_pieces, text_pieces, preamble_for, rendering};
+ghost use Rattle.bpaf_roff.specs.Roff.{Script, no_script, with_pieces, script_sum, scripts_sum, script_at, piece};
+ghost use Rattle.bpaf_roff.specs.Roff.{font_escape, font_change, text_at, argument_word, argument_pieces};
+ghost use Rattle.bpaf_roff.specs.Roff.{control_pieces, linebreak_pieces, escape_pieces, plaintext_pieces, text_pieces};
+ghost use Rattle.bpaf_roff.specs.Roff.{preamble_for, rendering};
 ghost use Rattle.bpaf_roff.specs.Steps.Output.{OnlyAdds};
 
 use crate::escape::bytes::escape;

@@ -8,7 +8,11 @@ ghost use Rattle.bpaf_doc.specs.Splitter.Chunks.{chunks_of, columns};
 ghost use Rattle.bpaf_doc.specs.Shown.{mark_bytes};
 ghost use Rattle.bpaf_doc.specs.Console.Steps.Hiding.{hides};
 ghost use Rattle.bpaf_doc.specs.Console.Steps.Ink.{shown_ink};
-ghost use Rattle.bpaf_doc.specs.Console.Steps.Page.{sheet_of, blank_sheet, text_put, opened, closed, finished, raw_put, wraps, is_too_wide, room_made, placed, asked_put, lacks_newline, lacks_blank_line, wrapped, padded, blanks_put, newline_put, marked, margin_pushed, margin_of, innermost, HasFewMargins, IsWithinLine, columns_of, asked_by_start, asked_by_end, indent_of};
+ghost use Rattle.bpaf_doc.specs.Console.Steps.Page.{sheet_of, blank_sheet, text_put, opened, closed, finished, raw_put};
+ghost use Rattle.bpaf_doc.specs.Console.Steps.Page.{wraps, is_too_wide, room_made, placed, asked_put, lacks_newline};
+ghost use Rattle.bpaf_doc.specs.Console.Steps.Page.{lacks_blank_line, wrapped, padded, blanks_put, newline_put, marked};
+ghost use Rattle.bpaf_doc.specs.Console.Steps.Page.{margin_pushed, margin_of, innermost, HasFewMargins, IsWithinLine};
+ghost use Rattle.bpaf_doc.specs.Console.Steps.Page.{columns_of, asked_by_start, asked_by_end, indent_of};
 
 use super::tabs::MAX_TAB;
 use crate::buffer::Block;
@@ -57,11 +61,13 @@ impl<B: Allocator + Copy> Page<B> {
 }
 
 impl<B: Allocator> Page<B> {
-    /// Writes the chunks of a text, in brief up to the first paragraph break. Answers whether that break hides what follows.
+    /// Writes the chunks of a text, in brief up to the first paragraph break. Answers whether that break hides what
+    /// follows.
     pub fn put_text(&mut self, text: &str, full: bool) -> Result<bool, AllocError>
         ensures page { OnOk result (sheet_of self.new ≡ text_put full (chunks_of text.now) (sheet_of self.old)) }
         ensures hides { IfOk result (λ hidden. hidden ≡ hides full (chunks_of text.now)) }
-        ensures ink { OnOk result (ink (string_bytes self.new.out) ≡ ink (string_bytes self.old.out) ++ shown_ink full (chunks_of text.now)) }
+        ensures ink { OnOk result (ink (string_bytes self.new.out)
+            ≡ ink (string_bytes self.old.out) ++ shown_ink full (chunks_of text.now)) }
     {
         let mut chunks = split(text);
         while let Some(chunk) = chunks.next() {
@@ -86,7 +92,8 @@ impl<B: Allocator> Page<B> {
     #[tactic(auto, unfolding(crate::specs::Console::Steps::Page::opened))]
     pub fn open(&mut self, block: Block, adjacent: bool) -> Result<(), AllocError>
         ensures page { OnOk result (sheet_of self.new ≡ opened block adjacent (sheet_of self.old)) }
-        ensures ink { OnOk result (ink (string_bytes self.new.out) ≡ ink (string_bytes self.old.out) ++ mark_bytes block) }
+        ensures ink { OnOk result (ink (string_bytes self.new.out)
+            ≡ ink (string_bytes self.old.out) ++ mark_bytes block) }
         ensures few { OnOk result (HasFewMargins (sheet_of self.new)) }
     {
         self.asked = asked_by_start(self.asked, block);
@@ -101,7 +108,8 @@ impl<B: Allocator> Page<B> {
     #[tactic(auto, unfolding(crate::specs::Console::Steps::Page::closed))]
     pub fn close(&mut self, block: Block) -> Result<(), AllocError>
         ensures page { OnOk result (sheet_of self.new ≡ closed block (sheet_of self.old)) }
-        ensures ink { OnOk result (ink (string_bytes self.new.out) ≡ ink (string_bytes self.old.out) ++ mark_bytes block) }
+        ensures ink { OnOk result (ink (string_bytes self.new.out)
+            ≡ ink (string_bytes self.old.out) ++ mark_bytes block) }
         ensures few { OnOk result (HasFewMargins (sheet_of self.new)) }
     {
         let _ = self.margins.pop();
@@ -124,12 +132,15 @@ impl<B: Allocator> Page<B> {
         Ok(out)
     }
 
-    // Writes as many of the words that come next as fit behind the last one, all at once. Inlined, so that the chunks that are
-    // left need not lie in memory.
+    // Writes as many of the words that come next as fit behind the last one, all at once. Inlined, so that the chunks
+    // that are left need not lie in memory.
     #[inline(always)]
     fn put_run(&mut self, chunks: &mut Splitter<'_>) -> Result<(), AllocError>
-        ensures page { OnOk result ((full : Bool) → text_put full chunks.new (sheet_of self.new) ≡ text_put full chunks.old (sheet_of self.old)) }
-        ensures ink { OnOk result ((full : Bool) → ink (string_bytes self.new.out) ++ shown_ink full chunks.new ≡ ink (string_bytes self.old.out) ++ shown_ink full chunks.old) }
+        ensures page { OnOk result ((full : Bool)
+            → text_put full chunks.new (sheet_of self.new) ≡ text_put full chunks.old (sheet_of self.old)) }
+        ensures ink { OnOk result ((full : Bool)
+            → ink (string_bytes self.new.out) ++ shown_ink full chunks.new
+            ≡ ink (string_bytes self.old.out) ++ shown_ink full chunks.old) }
         ensures hides { (full : Bool) → hides full chunks.new ≡ hides full chunks.old }
         ensures left { length chunks.new ≤ length chunks.old }
     {
@@ -183,8 +194,8 @@ impl<B: Allocator> Page<B> {
         Ok(true)
     }
 
-    // Whether a Raw chunk fits the line: by its weight, unless it is a code or fence line. Behind such a line nothing fits, so that
-    // the columns of the next one are not counted.
+    // Whether a Raw chunk fits the line: by its weight, unless it is a code or fence line. Behind such a line nothing
+    // fits, so that the columns of the next one are not counted.
     fn has_room(&self, raw: &str, weight: usize) -> bool
         ensures { result ≡ not (is_too_wide (columns_of raw.now weight) (sheet_of self.now)) }
     {
@@ -279,7 +290,8 @@ impl<B: Allocator> Page<B> {
     // The backquote of a term reference.
     fn put_mark(&mut self, block: Block) -> Result<(), AllocError>
         ensures page { OnOk result (sheet_of self.new ≡ marked block (sheet_of self.old)) }
-        ensures ink { OnOk result (ink (string_bytes self.new.out) ≡ ink (string_bytes self.old.out) ++ mark_bytes block) }
+        ensures ink { OnOk result (ink (string_bytes self.new.out)
+            ≡ ink (string_bytes self.old.out) ++ mark_bytes block) }
     {
         if block == Block::TermRef {
             self.out.push('`')?;

@@ -2,7 +2,8 @@
 ghost use Rattle.std.specs.Prelude.{◌≡◌, ◌<◌, length};
 ghost use Rattle.std.specs.Option.{option_map};
 ghost use Rattle.bpaf_doc.specs.Buffer.View.{part_of};
-ghost use Rattle.bpaf_doc.specs.Console.Steps.Text.{no_pairs, pairs_at, is_adjacent, skips, section4_end, has_empty_block, is_section4_end, is_block_start, is_block_end};
+ghost use Rattle.bpaf_doc.specs.Console.Steps.Text.{no_pairs, pairs_at, is_adjacent, skips, section4_end};
+ghost use Rattle.bpaf_doc.specs.Console.Steps.Text.{has_empty_block, is_section4_end, is_block_start, is_block_end};
 
 use crate::buffer::{Block, Doc, Part};
 use std::alloc::Allocator;
@@ -25,7 +26,8 @@ impl Pairs {
         }
     }
 
-    /// Whether the start of `block` at `index` is that of a Section4 whose first following Section4 end has such a pair after it.
+    /// Whether the start of `block` at `index` is that of a Section4 whose first following Section4 end has such a pair
+    /// after it.
     ///
     /// Starts before the same end share its answer, so that nested sections are looked through once.
     pub fn is_before_pair<A: Allocator>(&mut self, doc: &Doc<A>, index: usize, block: Block) -> bool

@@ -50,9 +50,12 @@ impl<'a> Model for Fragments<'a> {
 
     ghost Value = { List Fragment };
 
-    ghost view = { λ f. if f.in_text then text_rest f.full f.style f.chunks ++ walk f.full (depth_after_text f.full f.chunks) f.parts else walk f.full f.depth f.parts };
+    ghost view = { λ f. if f.in_text
+        then text_rest f.full f.style f.chunks ++ walk f.full (depth_after_text f.full f.chunks) f.parts
+        else walk f.full f.depth f.parts };
 
-    ghost invariant = { λ f. (length f.parts + f.depth < 2 ^ 64) × (f.in_text ≡ true → (f.depth ≡ 0) × (length f.parts + 1 < 2 ^ 64)) };
+    ghost invariant = { λ f. (length f.parts + f.depth < 2 ^ 64)
+        × (f.in_text ≡ true → (f.depth ≡ 0) × (length f.parts + 1 < 2 ^ 64)) };
 }
 
 /// The fragments of a document: all of its texts in full, and in brief less.
@@ -87,7 +90,8 @@ impl<'a> Fragments<'a> {
     // The next fragment alone.
     #[inline(always)]
     fn next_fragment(&mut self) -> Option<Fragment<'a>>
-        ensures steps { MatchOption result ((self.old ≡ []) × (self.new ≡ [])) (λ x. self.old ≡ fragment_of x ∷ self.new) }
+        ensures steps { MatchOption result ((self.old ≡ []) × (self.new ≡ []))
+            (λ x. self.old ≡ fragment_of x ∷ self.new) }
     {
         if self.in_text {
             return match self.chunks.next() {

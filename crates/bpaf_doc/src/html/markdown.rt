@@ -5,7 +5,11 @@ ghost use Rattle.bpaf_doc.specs.Markdown.Page.{IsMarkdownOf};
 ghost use Rattle.bpaf_doc.specs.Markdown.Exact.{markdown_page};
 ghost use Rattle.bpaf_doc.specs.Html.Steps.View.{fragment_of, fragments_in, IsTaken};
 ghost use Rattle.bpaf_doc.specs.Markdown.Steps.Items.{is_pending, is_empty};
-ghost use Rattle.bpaf_doc.specs.Markdown.Steps.Page.{blank_text, put, with_new_line, with_blank_line, with_item, opening_marks, closing_marks, with_line, open_code, close_code, with_words, with_raw, with_chunk, text_ended, header_started, body_started, started, ended, is_term_end, marked_after, marked_after_all};
+ghost use Rattle.bpaf_doc.specs.Markdown.Steps.Page.{blank_text, put, with_new_line, with_blank_line, with_item};
+ghost use Rattle.bpaf_doc.specs.Markdown.Steps.Page.{opening_marks, closing_marks, with_line, open_code, close_code};
+ghost use Rattle.bpaf_doc.specs.Markdown.Steps.Page.{with_words, with_raw, with_chunk, text_ended, header_started};
+ghost use Rattle.bpaf_doc.specs.Markdown.Steps.Page.{body_started, started, ended, is_term_end, marked_after};
+ghost use Rattle.bpaf_doc.specs.Markdown.Steps.Page.{marked_after_all};
 
 use super::fragments::{Fragment, Taken, fragments_of};
 use super::{Language, Styles, push_spelled, when};
@@ -62,7 +66,16 @@ impl<B: Allocator> Model for Markdown<B> {
 
     ghost Value = { Marked };
 
-    ghost view = { λ m. record { bytes = string_bytes m.text; headed = m.headed; in_list = m.in_list; pending = is_pending m.item; empty_item = is_empty m.item; starts = m.mono_starts; ends = m.mono_ends; in_code = m.in_code } };
+    ghost view = { λ m. record {
+      bytes = string_bytes m.text;
+      headed = m.headed;
+      in_list = m.in_list;
+      pending = is_pending m.item;
+      empty_item = is_empty m.item;
+      starts = m.mono_starts;
+      ends = m.mono_ends;
+      in_code = m.in_code;
+    } };
 }
 
 fn is_term_end(fragment: Fragment<'_>) -> bool
@@ -337,10 +350,10 @@ impl<A: Allocator> Doc<A> {
     /// The document as markdown, as a text in `alloc`: all of it where `full`, and else without what brief hides.
     ///
     /// For every list of parts the bytes are those of `markdown_page`, a function of the document by the rules of
-    /// `docs/html.md` (clause `exact`). In them (`laws`) the slices that the shown texts are cut into stand in order, round
-    /// those of each text the marks of its style, and among them the marks of headings and lists; code lines stand inside
-    /// fences, each on a line of its own; and between two slices stand two newlines where they have a paragraph between
-    /// them, and a newline where they have a line break.
+    /// `docs/html.md` (clause `exact`). In them (`laws`) the slices that the shown texts are cut into stand in order,
+    /// round those of each text the marks of its style, and among them the marks of headings and lists; code lines
+    /// stand inside fences, each on a line of its own; and between two slices stand two newlines where they have a
+    /// paragraph between them, and a newline where they have a line break.
     ///
     /// An `AllocError` says that a growth was refused.
     pub fn render_markdown<B: Allocator>(

@@ -5,7 +5,9 @@ ghost use Rattle.bpaf_doc.specs.Splitter.View.{chunk_of};
 ghost use Rattle.bpaf_doc.specs.Html.Page.{IsHtmlPageOf, IsHtmlTextPageOf, is_definition_list};
 ghost use Rattle.bpaf_doc.specs.Html.Steps.View.{fragment_of, fragments_in, IsTaken};
 ghost use Rattle.bpaf_doc.specs.Html.Exact.{html_page};
-ghost use Rattle.bpaf_doc.specs.Html.Steps.Page.{blank_page, with_text, with_break, with_words, with_heading, is_header, start_tag, end_tag, opening_tags, closing_tags, started, ended, chunk_page, page_after, page_after_all};
+ghost use Rattle.bpaf_doc.specs.Html.Steps.Page.{blank_page, with_text, with_break, with_words, with_heading};
+ghost use Rattle.bpaf_doc.specs.Html.Steps.Page.{is_header, start_tag, end_tag, opening_tags, closing_tags, started};
+ghost use Rattle.bpaf_doc.specs.Html.Steps.Page.{ended, chunk_page, page_after, page_after_all};
 
 use super::fragments::{Fragment, Taken, fragments_of};
 use super::{Language, Styles, push_spelled, when};
@@ -47,7 +49,12 @@ impl<B: Allocator> Model for Page<B> {
 
     ghost Value = { Written };
 
-    ghost view = { λ page. record { bytes = string_bytes page.text; fresh = page.fresh; in_list = page.in_list; outer = reverse page.outer.items } };
+    ghost view = { λ page. record {
+      bytes = string_bytes page.text;
+      fresh = page.fresh;
+      in_list = page.in_list;
+      outer = reverse page.outer.items;
+    } };
 }
 
 // What the start of a block writes.
@@ -136,7 +143,8 @@ impl<B: Allocator> Page<B> {
         Ok(())
     }
 
-    // Writes a text with its angles as entities. Inlined, as `take` is, since a call for each chunk costs as much as a short one.
+    // Writes a text with its angles as entities. Inlined, as `take` is, since a call for each chunk costs as much as a
+    // short one.
     #[inline(always)]
     fn put_words(&mut self, text: &str) -> Result<(), AllocError>
         ensures { OnOk result (self.new ≡ with_words self.old text.now) }
@@ -239,11 +247,11 @@ impl<A: Allocator> Doc<A> {
     /// `include_css` the style sheet follows it.
     ///
     /// For every list of parts the bytes are those of `html_page`, a function of the document by the rules of
-    /// `docs/html.md` (clause `exact`). What stands before the style sheet is, without tags and newlines, the slices that
-    /// the shown texts are cut into, with `<` and `>` as entities, and `# ` at each start of a header (`text`). For a
-    /// well-nested document (`html`) it is well-nested HTML, in which each shown text has the tags of its style and each
-    /// block its own, and `<br>` stands between two inked slices that have a paragraph, a line break or a mark of a header
-    /// between them.
+    /// `docs/html.md` (clause `exact`). What stands before the style sheet is, without tags and newlines, the slices
+    /// that the shown texts are cut into, with `<` and `>` as entities, and `# ` at each start of a header (`text`).
+    /// For a well-nested document (`html`) it is well-nested HTML, in which each shown text has the tags of its style
+    /// and each block its own, and `<br>` stands between two inked slices that have a paragraph, a line break or a mark
+    /// of a header between them.
     ///
     /// An `AllocError` says that a growth was refused, of the text or of the list of open blocks.
     pub fn render_html<B: Allocator + Copy>(
@@ -252,7 +260,8 @@ impl<A: Allocator> Doc<A> {
         full: bool,
         include_css: bool,
     ) -> Result<String<B>, AllocError>
-        ensures html { IfOk result (λ answer. IsWellNested self.now → IsHtmlPageOf self.now full include_css (string_bytes answer)) }
+        ensures html { IfOk result (λ answer. IsWellNested self.now
+            → IsHtmlPageOf self.now full include_css (string_bytes answer)) }
         ensures text { IfOk result (λ answer. IsHtmlTextPageOf self.now full include_css (string_bytes answer)) }
         ensures exact { IfOk result (λ answer. string_bytes answer ≡ html_page full include_css self.now) }
     {

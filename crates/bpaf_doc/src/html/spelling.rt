@@ -1,5 +1,5 @@
-//! A block of a text as a language spells it, put into a room on the stack. No branch depends on a byte: where many bytes have
-//! another spelling, it would often be guessed wrong.
+//! A block of a text as a language spells it, put into a room on the stack. No branch depends on a byte: where many
+//! bytes have another spelling, it would often be guessed wrong.
 
 ghost use Rattle.std.specs.Prelude.{◌≡◌, ◌+◌, ◌≤◌, ◌++◌, [], ◌∷◌, take, length, flat_map, codes};
 ghost use Rattle.bpaf_doc.specs.Html.Steps.View.{spelling_of};

@@ -81,8 +81,8 @@ fn write_break<A: Allocator>(
     }
 }
 
-// A text is copied whole where its bytes are written as they are. No text in which newlines are stripped is looked at for that,
-// since these are short.
+// A text is copied whole where its bytes are written as they are. No text in which newlines are stripped is looked at
+// for that, since these are short.
 #[inline(always)]
 fn write_bytes<A: Allocator>(
     out: &mut Vec<u8, A>,

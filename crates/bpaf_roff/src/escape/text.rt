@@ -1,9 +1,10 @@
-//! What the bytes of a plain text become, put into a room on the stack. It goes from there to the output at once, since each push
-//! to the output asks whether there is space.
+//! What the bytes of a plain text become, put into a room on the stack. It goes from there to the output at once, since
+//! each push to the output asks whether there is space.
 
 ghost use Rattle.std.specs.Prelude.{◌≡◌, ◌<◌, ◌≤◌, ◌+◌, ◌++◌, [], ◌∷◌, List, ℕ, map, take, length, slice_index};
 ghost use Rattle.std.specs.List.{list_all};
-ghost use Rattle.bpaf_roff.specs.Escaping.{Byte, is_line_start, guard, apostrophe_text, special_text, byte_text, text_after};
+ghost use Rattle.bpaf_roff.specs.Escaping.{Byte, is_line_start, guard, apostrophe_text, special_text, byte_text};
+ghost use Rattle.bpaf_roff.specs.Escaping.{text_after};
 ghost use Rattle.bpaf_roff.specs.Steps.Output.{IsText, is_plain, written};
 
 use crate::escape::{Apostrophes, Escape};
@@ -121,8 +122,8 @@ fn put_guard(room: &mut [u8; ROOM], at: usize, at_line_start: bool, byte: u8) ->
     at
 }
 
-// A byte with a backslash before it where it needs one. That one is put in either case, and the byte over it or behind it: a
-// branch on the byte would often be guessed wrong.
+// A byte with a backslash before it where it needs one. That one is put in either case, and the byte over it or behind
+// it: a branch on the byte would often be guessed wrong.
 #[inline(always)]
 fn put_escaped(room: &mut [u8; ROOM], at: usize, byte: u8) -> usize
     requires fits { at + 2 ≤ ROOM }
