@@ -52,6 +52,18 @@ fn a_document_rolls_back(rt: HostRuntime) -> Result<(), Fail> {
     Ok(())
 }
 
+#[test]
+fn an_error_is_settled(rt: HostRuntime) -> Result<(), Fail> {
+    let mut doc = Doc::from_text(rt.alloc(), "a")?;
+    let before = doc.checkpoint();
+    doc.text("b")?;
+    assert!(rt; doc.settle(before, Ok(())).is_ok());
+    assert!(rt; doc == Doc::from_text(rt.alloc(), "ab")?);
+    assert!(rt; doc.settle(before, Err(AllocError)).is_err());
+    assert!(rt; doc == Doc::from_text(rt.alloc(), "a")?);
+    Ok(())
+}
+
 // In order: a beginning comes first, then texts decide, then styles.
 const IN_ORDER: [&[(&str, Style)]; 6] = [
     &[],
@@ -116,6 +128,16 @@ fn a_word_of_1_000_000_columns_stays_whole(rt: HostRuntime) {
             .expect(&rt, "a page")
             == text
     );
+}
+
+#[test]
+fn html_is_made_in_full_by_name(rt: HostRuntime) {
+    let doc = document(&rt, "a\n\n<b>");
+    let full = doc.full_html(rt.alloc()).expect(&rt, "a page");
+    assert!(rt; full.as_str() == "a<br>\n&lt;b&gt;");
+    let styled = doc.styled_html(rt.alloc()).expect(&rt, "a page");
+    assert!(rt; styled.starts_with("a<br>\n&lt;b&gt;\n<style>\n"));
+    assert!(rt; styled.ends_with("\n</style>"));
 }
 
 #[test]

@@ -32,12 +32,14 @@ enum Call {
     Console,
     Monochrome,
     Html,
+    FullHtml,
+    StyledHtml,
     Markdown,
     Roff,
     OwnedRoff,
 }
 
-const CALLS: [Call; 25] = [
+const CALLS: [Call; 27] = [
     Call::Joined,
     Call::Apart,
     Call::Character,
@@ -60,6 +62,8 @@ const CALLS: [Call; 25] = [
     Call::Console,
     Call::Monochrome,
     Call::Html,
+    Call::FullHtml,
+    Call::StyledHtml,
     Call::Markdown,
     Call::Roff,
     Call::OwnedRoff,
@@ -194,7 +198,9 @@ fn page<A: Allocator + Copy>(alloc: A, doc: &Doc<A>, call: Call) -> Result<Strin
     match call {
         Call::Console => doc.render_console(alloc, true, 2),
         Call::Monochrome => doc.monochrome(alloc, true),
-        Call::Html => doc.render_html(alloc, true, true),
+        Call::Html => doc.render_html(alloc, false, true),
+        Call::FullHtml => doc.full_html(alloc),
+        Call::StyledHtml => doc.styled_html(alloc),
         Call::Markdown => doc.render_markdown(alloc, true),
         Call::Roff => doc.render_roff(Roff::new(alloc)),
         _ => doc.clone()?.into_roff(Roff::new(alloc)),

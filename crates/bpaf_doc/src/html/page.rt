@@ -1,5 +1,5 @@
 //! HTML: a page that grows by one fragment after another.
-ghost use Rattle.std.specs.Prelude.{◌≡◌, ◌++◌, [], if◌then◌else◌, OnOk, IfOk, string_bytes, filter};
+ghost use Rattle.std.specs.Prelude.{◌≡◌, ◌++◌, [], if◌then◌else◌, true, false, OnOk, IfOk, string_bytes, filter};
 ghost use Rattle.bpaf_doc.specs.Buffer.Parts.{IsWellNested};
 ghost use Rattle.bpaf_doc.specs.Splitter.View.{chunk_of};
 ghost use Rattle.bpaf_doc.specs.Html.Page.{IsHtmlPageOf, IsHtmlTextPageOf, is_definition_list};
@@ -272,5 +272,25 @@ impl<A: Allocator> Doc<A> {
         let mut text = page.into_text();
         text.push_str(when(include_css, STYLE_SHEET))?;
         Ok(text)
+    }
+
+    /// `render_html` in full and without the style sheet: for a page that has its own.
+    pub fn full_html<B: Allocator + Copy>(&self, alloc: B) -> Result<String<B>, AllocError>
+        ensures html { IfOk result (λ answer. IsWellNested self.now
+            → IsHtmlPageOf self.now true false (string_bytes answer)) }
+        ensures text { IfOk result (λ answer. IsHtmlTextPageOf self.now true false (string_bytes answer)) }
+        ensures exact { IfOk result (λ answer. string_bytes answer ≡ html_page true false self.now) }
+    {
+        self.render_html(alloc, true, false)
+    }
+
+    /// `render_html` in full, with the style sheet behind it: for a page that has none.
+    pub fn styled_html<B: Allocator + Copy>(&self, alloc: B) -> Result<String<B>, AllocError>
+        ensures html { IfOk result (λ answer. IsWellNested self.now
+            → IsHtmlPageOf self.now true true (string_bytes answer)) }
+        ensures text { IfOk result (λ answer. IsHtmlTextPageOf self.now true true (string_bytes answer)) }
+        ensures exact { IfOk result (λ answer. string_bytes answer ≡ html_page true true self.now) }
+    {
+        self.render_html(alloc, true, true)
     }
 }
