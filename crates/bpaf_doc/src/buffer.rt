@@ -62,7 +62,7 @@ pub enum Part<'a> {
 }
 
 /// What a part is, without its text.
-#[derive(Clone, Copy, Debug)]
+#[derive(Clone, Copy)]
 enum Kind {
     Text(Style),
     Start(Block),
@@ -91,7 +91,7 @@ impl Kind {
 }
 
 /// A part's kind, and where the payload ends up to and with it: a mark ends where the part before it does.
-#[derive(Clone, Copy, Debug)]
+#[derive(Clone, Copy)]
 struct PartEnd {
     kind: Kind,
     end: usize,

@@ -12,7 +12,7 @@ use std::alloc::Allocator;
 use std::marker::Model;
 
 /// The start of a shown text, a chunk of it, its end, a hidden text, or a mark.
-#[derive(Clone, Copy, Debug)]
+#[derive(Clone, Copy)]
 pub(super) enum Fragment<'a> {
     TextStart(Style),
     Shown(Style, Chunk<'a>),
@@ -23,7 +23,7 @@ pub(super) enum Fragment<'a> {
 }
 
 /// What is handed out at once: a run of a shown text, which stands for its chunks, a code line, or another fragment.
-#[derive(Clone, Copy, Debug)]
+#[derive(Clone, Copy)]
 pub(super) enum Taken<'a> {
     Words(Style, &'a str),
     Code(Style, &'a str),
