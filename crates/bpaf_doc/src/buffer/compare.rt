@@ -18,20 +18,7 @@ impl<A: Allocator> fmt::Debug for Doc<A> {
 fn is_same(left: &Part<'_>, right: &Part<'_>) -> bool
     ensures { result ≡ same_part (part_of left.now) (part_of right.now) }
 {
-    match left {
-        Part::Text(left, style) => match right {
-            Part::Text(right, other) => left == right && style == other,
-            Part::Start(_) | Part::End(_) => false,
-        },
-        Part::Start(left) => match right {
-            Part::Start(right) => left == right,
-            Part::Text(_, _) | Part::End(_) => false,
-        },
-        Part::End(left) => match right {
-            Part::End(right) => left == right,
-            Part::Text(_, _) | Part::Start(_) => false,
-        },
-    }
+    left == right
 }
 
 impl<A: Allocator> PartialEq for Doc<A> {
