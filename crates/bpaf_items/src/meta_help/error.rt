@@ -2,6 +2,8 @@
 
 use bpaf_meta::item::Item;
 use std::alloc::{AllocError, Allocator, Global};
+use std::error::Error;
+use std::fmt;
 
 /// No help page: a growth was refused, or this named item stands after a positional one.
 #[derive_where(Debug)]
@@ -23,6 +25,18 @@ impl<'m, A: Allocator> Clone for HelpError<'m, A> {
 }
 
 impl<'m, A: Allocator> Copy for HelpError<'m, A> {}
+
+/// `no memory` or `misplaced item`, without the item.
+impl<'m, A: Allocator> fmt::Display for HelpError<'m, A> {
+    fn fmt<W: fmt::Write>(&self, f: &mut fmt::Formatter<W>) -> fmt::Result {
+        match self {
+            HelpError::Memory(_) => f.write_str("no memory"),
+            HelpError::Misplaced(_) => f.write_str("misplaced item"),
+        }
+    }
+}
+
+impl<'m, A: Allocator> Error for HelpError<'m, A> {}
 
 impl<'m, A: Allocator> From<AllocError> for HelpError<'m, A> {
     ghost use Rattle.std.specs.Prelude.{◌≡◌};
