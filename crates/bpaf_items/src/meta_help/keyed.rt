@@ -1,12 +1,26 @@
 //! Entries of a list, told apart by their keys.
 
 use crate::meta_help::entry::HelpItem;
-use std::alloc::Allocator;
+use std::alloc::{AllocError, Allocator};
 use std::hash::{Hash, Hasher};
 
-/// An entry, equal to another where their keys are. A set of these holds a pointer an entry, and makes the keys when it compares.
-#[derive_where(Clone, Copy)]
+/// An entry, equal to another where their keys are. A set of these holds a pointer an entry, and makes the keys when it
+/// compares.
 pub struct Keyed<'a, 's, A: Allocator>(pub &'s HelpItem<'a, A>);
+
+impl<'a, 's, A: Allocator> Clone for Keyed<'a, 's, A> {
+    ghost use Rattle.std.specs.Prelude.{◌≡◌, ⊤};
+
+    ghost is_clone = { λ x y. y ≡ x };
+
+    ghost is_infallible = { λ _. ⊤ };
+
+    fn clone(&self) -> Result<Keyed<'a, 's, A>, AllocError> {
+        Ok(*self)
+    }
+}
+
+impl<'a, 's, A: Allocator> Copy for Keyed<'a, 's, A> {}
 
 impl<'a, 's, A: Allocator> PartialEq for Keyed<'a, 's, A> {
     ghost use Rattle.std.specs.Ordering.{on};
