@@ -58,8 +58,8 @@ pub fn groups_are_nested()
     ensures groups { GroupsAreNested }
 {}
 
-/// The groups of an item list can be taken out one after another: without its first group it has the other groups, in order, and
-/// the same entries outside groups, until `find_group` is `None`.
+/// The groups of an item list can be taken out one after another: without its first group it has the other groups, in
+/// order, and the same entries outside groups, until `find_group` is `None`.
 pub fn groups_are_taken_out()
     ensures { GroupsAreTakenOut }
 {}

@@ -20,8 +20,8 @@ pub enum HiTy {
     Positional,
 }
 
-/// An entry of an item list: an item, a note below the items before it (`DecorSuffix`), or a mark that starts or ends a group
-/// or an adjacent block. Texts and trees are borrowed.
+/// An entry of an item list: an item, a note below the items before it (`DecorSuffix`), or a mark that starts or ends a
+/// group or an adjacent block. Texts and trees are borrowed.
 #[derive_where(Debug)]
 pub enum HelpItem<'a, A: Allocator = Global> {
     DecorSuffix {
@@ -92,7 +92,8 @@ impl<'a, A: Allocator> From<&'a Item<A>> for HiTy {
 
     ghost from_gives = { λ item ty. ty ≡ type_of_item (leaf_of item.now) };
 
-    /// The heading of an item: an `Any` that may stand anywhere is with the flags, and any other with the positional values.
+    /// The heading of an item: an `Any` that may stand anywhere is with the flags, and any other with the positional
+    /// values.
     fn from(item: &'a Item<A>) -> HiTy {
         match item {
             Item::Any { anywhere, .. } => {

@@ -14,8 +14,9 @@ use std::alloc::{AllocError, Allocator, Global};
 use std::cmp::Ordering;
 use std::hash::{Hash, Hasher};
 
-/// The key of an item: two items of one group or heading with equal keys are shown once. A positional value and a command
-/// share a class; short command names, names of environment variables and `anywhere` are in no key. Each key ends in the help.
+/// The key of an item: two items of one group or heading with equal keys are shown once. A positional value and a
+/// command share a class; short command names, names of environment variables and `anywhere` are in no key. Each key
+/// ends in the help.
 #[derive_where(Debug)]
 pub enum ItemKey<'a, A: Allocator = Global> {
     /// The metavar of an `Any`.

@@ -80,7 +80,8 @@ impl<'a, A: Allocator, L: Allocator> HelpItems<'a, A, L> {
 
     /// The places from the first start of a group to the first end of one; `None` unless the list has both.
     pub fn find_group(&self) -> Option<RangeInclusive<usize>>
-        ensures places { option_map (λ range. (range_inclusive_start range, range_inclusive_end range)) result ≡ find_group self.now }
+        ensures places { option_map (λ range. (range_inclusive_start range, range_inclusive_end range)) result
+            ≡ find_group self.now }
         ensures whole { IfSome result (λ range. range_inclusive_exhausted range ≡ false) }
     {
         let start = group_start_place(self.items())?;
@@ -88,9 +89,10 @@ impl<'a, A: Allocator, L: Allocator> HelpItems<'a, A, L> {
         Some(start..=end)
     }
 
-    /// The entries of a heading, in order. A mark goes by its own type. Any other entry goes by the last mark before it: behind the
-    /// start of a group by the type of the group, behind that of an adjacent block by the type of the block, and then only with
-    /// help, and else by its own type. A note counts as an item with help. It takes no memory.
+    /// The entries of a heading, in order. A mark goes by its own type. Any other entry goes by the last mark before
+    /// it: behind the start of a group by the type of the group, behind that of an adjacent block by the type of the
+    /// block, and then only with help, and else by its own type. A note counts as an item with help. It takes no
+    /// memory.
     pub fn items_of_ty(&self, ty: HiTy) -> HelpItemsIter<'a, '_, A>
         ensures { result ≡ items_of_type self.now ty }
     {

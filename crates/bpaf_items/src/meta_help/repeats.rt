@@ -13,7 +13,8 @@ use std::alloc::{AllocError, Allocator};
 use std::collections::HashSet;
 use std::hash::{BuildHasherDefault, FoldHasher};
 
-/// What is remembered of the entries of one group or heading: the keys of its items, and whether a note would be shown now.
+/// What is remembered of the entries of one group or heading: the keys of its items, and whether a note would be shown
+/// now.
 #[derive(Drop)]
 pub struct Repeats<'a, 's, B: Allocator, L: Allocator> {
     keys: HashSet<Keyed<'a, 's, B>, BuildHasherDefault<FoldHasher>, L>,
@@ -35,7 +36,8 @@ impl<'a, 's, B: Allocator, L: Allocator + Copy> Repeats<'a, 's, B, L> {
     /// Whether the next entry is shown: a mark; an item with a new key; a note directly after one of these.
     pub fn shows(&mut self, entry: &'s HelpItem<'a, B>) -> Result<bool, AllocError>
         ensures { (before : List Entry) → Remembers self.old.keys.keys self.old.shown before → IfOk result (λ shown.
-            (shown ≡ is_shown (before, entry_of entry.now)) × Remembers self.new.keys.keys self.new.shown (before ++ entry_of entry.now ∷ [])) }
+            (shown ≡ is_shown (before, entry_of entry.now))
+            × Remembers self.new.keys.keys self.new.shown (before ++ entry_of entry.now ∷ [])) }
     {
         match entry.key() {
             Some(_) => self.shows_item(Keyed(entry)),

@@ -19,8 +19,8 @@ struct Room {
     bytes: usize,
 }
 
-/// Asks at once for about the memory that the entries take, so that the document does not grow by turns. No contract rests on the
-/// number: what is missing is asked for where it is written.
+/// Asks at once for about the memory that the entries take, so that the document does not grow by turns. No contract
+/// rests on the number: what is missing is asked for where it is written.
 pub fn reserve_for<'a, A: Allocator, B: Allocator>(
     doc: &mut Doc<A>,
     entries: &[&HelpItem<'a, B>],

@@ -1,9 +1,11 @@
 //! A tree, gone through for its item list.
-ghost use Rattle.std.specs.Prelude.{◌≡◌, ◌<◌, Some, [], ◌∷◌, ◌++◌, IfOk, OnOk, map, slice_set, take, vec_len};
+ghost use Rattle.std.specs.Prelude.{◌≡◌, ◌<◌, Some, [], ◌∷◌, ◌++◌, IfOk, OnOk, map};
+ghost use Rattle.std.specs.Prelude.{slice_set, take, vec_len};
 ghost use Rattle.std.specs.Option.{option_or};
 ghost use Rattle.bpaf_meta.specs.Content.{adjacent, subsection, suffix};
 ghost use Rattle.bpaf_meta.specs.View.{leaf_of, tree_of, trees_of};
-ghost use Rattle.bpaf_items.specs.Listing.ItemList.{entries_of, entries_of_parts, front_type, first_front_type, item_entries, type_of_item};
+ghost use Rattle.bpaf_items.specs.Listing.ItemList.{entries_of, entries_of_parts, first_front_type, front_type};
+ghost use Rattle.bpaf_items.specs.Listing.ItemList.{item_entries, type_of_item};
 ghost use Rattle.bpaf_items.specs.Steps.Given.{is_listed};
 ghost use Rattle.bpaf_items.specs.Steps.Growth.{IsFront};
 ghost use Rattle.bpaf_items.specs.View.{entry_of};
@@ -14,15 +16,16 @@ use bpaf_meta::item::Item;
 use bpaf_meta::meta::Meta;
 use std::alloc::{AllocError, Allocator};
 
-// Appends the item list of a tree, with marks of groups where groups are allowed, and answers the type of the tree's first
-// item, so that no item is looked at twice. After `AllocError` some of the list may have been appended.
+// Appends the item list of a tree, with marks of groups where groups are allowed, and answers the type of the tree's
+// first item, so that no item is looked at twice. After `AllocError` some of the list may have been appended.
 #[cycle(append)]
 pub(crate) fn append<'a, A: Allocator, L: Allocator>(
     items: &mut Vec<HelpItem<'a, A>, L>,
     meta: &'a Meta<A>,
     groups: bool,
 ) -> Result<Option<HiTy>, AllocError>
-    ensures entries { OnOk result (map entry_of items.new.items ≡ map entry_of items.old.items ++ entries_of groups (tree_of meta.now)) }
+    ensures entries { OnOk result (map entry_of items.new.items
+        ≡ map entry_of items.old.items ++ entries_of groups (tree_of meta.now)) }
     ensures ty { IfOk result (λ front. front ≡ front_type (tree_of meta.now)) }
     ensures front { IsFront items.old.items items.new.items }
 {
@@ -47,7 +50,8 @@ fn append_parts<'a, A: Allocator, L: Allocator>(
     parts: &'a Vec<Meta<A>, A>,
     groups: bool,
 ) -> Result<Option<HiTy>, AllocError>
-    ensures entries { OnOk result (map entry_of items.new.items ≡ map entry_of items.old.items ++ entries_of_parts groups (trees_of parts.now.items)) }
+    ensures entries { OnOk result (map entry_of items.new.items
+        ≡ map entry_of items.old.items ++ entries_of_parts groups (trees_of parts.now.items)) }
     ensures ty { IfOk result (λ front. front ≡ first_front_type (trees_of parts.now.items)) }
     ensures front { IsFront items.old.items items.new.items }
 {
@@ -74,7 +78,8 @@ fn append_item<'a, A: Allocator, L: Allocator>(
     items: &mut Vec<HelpItem<'a, A>, L>,
     item: &'a Item<A>,
 ) -> Result<Option<HiTy>, AllocError>
-    ensures entries { OnOk result (map entry_of items.new.items ≡ map entry_of items.old.items ++ item_entries (leaf_of item.now)) }
+    ensures entries { OnOk result (map entry_of items.new.items
+        ≡ map entry_of items.old.items ++ item_entries (leaf_of item.now)) }
     ensures ty { IfOk result (λ front. front ≡ Some (type_of_item (leaf_of item.now))) }
     ensures front { IsFront items.old.items items.new.items }
 {
@@ -101,7 +106,8 @@ fn append_adjacent<'a, A: Allocator, L: Allocator>(
     inner: &'a Meta<A>,
     groups: bool,
 ) -> Result<Option<HiTy>, AllocError>
-    ensures entries { OnOk result (map entry_of items.new.items ≡ map entry_of items.old.items ++ entries_of groups (adjacent (tree_of inner.now))) }
+    ensures entries { OnOk result (map entry_of items.new.items
+        ≡ map entry_of items.old.items ++ entries_of groups (adjacent (tree_of inner.now))) }
     ensures ty { IfOk result (λ front. front ≡ front_type (tree_of inner.now)) }
     ensures front { IsFront items.old.items items.new.items }
 {
@@ -130,7 +136,8 @@ fn append_group<'a, A: Allocator, L: Allocator>(
     help: &'a Doc<A>,
     groups: bool,
 ) -> Result<Option<HiTy>, AllocError>
-    ensures entries { OnOk result (map entry_of items.new.items ≡ map entry_of items.old.items ++ entries_of groups (subsection (tree_of inner.now) help.now)) }
+    ensures entries { OnOk result (map entry_of items.new.items
+        ≡ map entry_of items.old.items ++ entries_of groups (subsection (tree_of inner.now) help.now)) }
     ensures ty { IfOk result (λ front. front ≡ front_type (tree_of inner.now)) }
     ensures front { IsFront items.old.items items.new.items }
 {
@@ -161,7 +168,8 @@ fn append_noted<'a, A: Allocator, L: Allocator>(
     help: &'a Doc<A>,
     groups: bool,
 ) -> Result<Option<HiTy>, AllocError>
-    ensures entries { OnOk result (map entry_of items.new.items ≡ map entry_of items.old.items ++ entries_of groups (suffix (tree_of inner.now) help.now)) }
+    ensures entries { OnOk result (map entry_of items.new.items
+        ≡ map entry_of items.old.items ++ entries_of groups (suffix (tree_of inner.now) help.now)) }
     ensures ty { IfOk result (λ front. front ≡ front_type (tree_of inner.now)) }
     ensures front { IsFront items.old.items items.new.items }
 {
