@@ -9,7 +9,8 @@ use Rattle.bpaf_doc.specs.declared.buffer.Style.{Style}
 use Rattle.bpaf_doc.specs.Buffer.Parts.{Part}
 use Rattle.bpaf_doc.specs.Buffer.Writes.{Write, text, with_text, with_writes}
 use Rattle.bpaf_meta.proofs.lemmas.Usage.Written.{with_writes-append, with_text_twice, Grows-then, Grows-call}
-use Rattle.bpaf_items.specs.Page.Steps.Pieces.{Leaves, joined}
+use Rattle.bpaf_items.specs.declared.meta_help.pieces.Piece.{Piece}
+use Rattle.bpaf_items.specs.Page.Steps.Pieces.{Leaves, joined, piece_writes, pieces_write}
 
 take_next : {X : Type 0} (xs : List X) (i : ℕ) (d : X) → i < length xs → take (i + 1) xs ≡ take i xs ++ get_or xs i d ∷ []
 take_next xs i d within = let e : i + 1 ≡ suc i = omega arith in rw e (take-suc xs i d within)
@@ -32,6 +33,11 @@ pub joined-all : (texts : List (Bor (List ℕ))) → joined texts ≡ flat_map (
 joined-all [] = refl
 joined-all (t ∷ []) = sym (append-nil t.now)
 joined-all (t ∷ u ∷ ts) = ap (λ bytes. t.now ++ bytes) (joined-all (u ∷ ts))
+
+pub pieces-all : {A : Type 0} (ps : List (Piece A)) → pieces_write ps ≡ flat_map piece_writes ps
+pieces-all [] = refl
+pieces-all (p ∷ []) = sym (append-nil (piece_writes p))
+pieces-all (p ∷ q ∷ ps) = ap (λ ws. piece_writes p ++ ws) (pieces-all (q ∷ ps))
 
 -- a call that leaves everything where it fails
 pub leaves_call : {T E : Type 0} (r : Result T E) (before now : List Part) (ws : List Write) → OnOk r (now ≡ with_writes before ws) → OnErr r (now ≡ before) → Leaves r before now ws

@@ -1,15 +1,21 @@
 -- The parts of a help page, one after another.
-use Rattle.std.proofs.Common.{◌≡◌, ℕ, Bool, List, [], ◌++◌, sym, ap, ◌∙◌, refl, subst, Result, Ok, Err}
+use Rattle.std.proofs.Common.{rules, ◌≡◌, ℕ, Bool, List, [], ◌++◌, sym, ap, ◌∙◌, refl, subst, Result, Ok, Err}
 use Rattle.std.specs.Prelude.{OnOk, OnErr}
 use Rattle.bpaf_doc.specs.Buffer.Parts.{Part, IsWellNested}
 use Rattle.bpaf_doc.specs.Buffer.Writes.{Write, with_writes, document_of}
+use Rattle.bpaf_doc.specs.declared.buffer.Block.TheVariants as block
 use Rattle.bpaf_meta.specs.Content.{Tree, Head, head}
+use Rattle.bpaf_meta.specs.View.{head_of}
+use Rattle.bpaf_meta.specs.declared.meta_help.Info.{Info, the_lemmas}
 use Rattle.bpaf_items.specs.Listing.ItemList.{Entry, item_list}
 use Rattle.bpaf_items.specs.Page.EnvTexts.{Texts}
-use Rattle.bpaf_items.specs.Page.HelpPage.{groups_writes, help_page_writes}
+use Rattle.bpaf_items.specs.Page.HelpPage.{doc_within, groups_writes, help_page_writes}
 use Rattle.bpaf_items.specs.Page.NestedTexts.{KeepsNested}
 use Rattle.bpaf_items.specs.Page.Steps.Pages.{footer_writes, front_writes}
 use Rattle.bpaf_items.proofs.Page.Leaving.{written_then}
+
+pub footer_is : {A : Type 0} (i : Info A) → doc_within block.Block i.footer ≡ footer_writes (head_of i)
+footer_is i = search (rules, the_lemmas)
 
 page_writes : (path : List (List ℕ)) (i : Head) (t help : Tree) (included : Bool) (texts : Texts)
     → (front_writes path i t ++ groups_writes included texts (item_list t ++ item_list help)) ++ footer_writes i ≡ help_page_writes path i t help included texts

@@ -1,87 +1,154 @@
 //! Groups, one after another, and the headings over the entries outside them.
-ghost use Rattle.std.specs.Prelude.{◌≡◌, ◌+◌, ◌<◌, ◌≤◌, nat_lt, not, ◌&&◌, ◌++◌, ◌∷◌, [], if◌then◌else◌, IfOk, OnOk, drop, length, map, take};
+ghost use Rattle.std.specs.Prelude.{◌≡◌, ◌+◌, ◌<◌, ◌≤◌, nat_lt, not, ◌&&◌, ◌++◌, ◌∷◌, [], if◌then◌else◌, IfOk, OnOk};
+ghost use Rattle.std.specs.Prelude.{drop, length, map, take};
 ghost use Rattle.bpaf_doc.specs.Buffer.Growth.{Grows};
 ghost use Rattle.bpaf_doc.specs.Buffer.Writes.{with_writes};
-ghost use Rattle.bpaf_items.specs.Listing.Falls.{is_adjacent_start, is_adjacent_stop, is_group_start, items_of_type, lacks_help, outside_groups};
+ghost use Rattle.bpaf_items.specs.Listing.Falls.{is_adjacent_start, is_adjacent_stop, is_group_start};
+ghost use Rattle.bpaf_items.specs.Listing.Falls.{items_of_type, lacks_help, outside_groups};
 ghost use Rattle.bpaf_items.specs.Listing.Groups.{HasPairedGroups, kept_entries};
 ghost use Rattle.bpaf_items.specs.Page.EnvTexts.{texts_in};
 ghost use Rattle.bpaf_items.specs.Page.HelpPage.{groups_writes, heading_writes, list_writes};
-ghost use Rattle.bpaf_items.specs.Page.Steps.Groups.{Takes, group_len, group_lists, headings, title_front};
+ghost use Rattle.bpaf_items.specs.Page.Steps.Groups.{Takes, group_len, group_lists, headings};
 ghost use Rattle.bpaf_items.specs.Page.Steps.Pieces.{Leaves};
 ghost use Rattle.bpaf_items.specs.Steps.Given.{is_given_in};
 ghost use Rattle.bpaf_items.specs.View.{entry_at, entry_of};
 
 use crate::meta_help::entry::{HelpItem, HiTy};
-use crate::meta_help::env_texts::EnvTexts;
 use crate::meta_help::given::{State, lacks_help};
 use crate::meta_help::list::group_end_place;
-use crate::meta_help::lists::put_list;
 use crate::meta_help::pieces::Piece;
-use crate::meta_help::writes::put_words;
-use bpaf_doc::buffer::{Block, Doc, Style};
-use std::alloc::{AllocError, Allocator};
+use crate::meta_help::writes::{Writer, put_list_end, put_list_start};
+use bpaf_doc::buffer::{Doc, Style};
+use std::alloc::{AllocError, Allocator, Global};
 
-/// Writes the groups of a list, and then the headings over what stands outside them. Lists on the way are in memory of `alloc`.
-pub fn put_all<'a, 's, A: Allocator, B: Allocator + Copy, C: Allocator, L: Allocator + Copy>(
-    doc: &mut Doc<A>,
-    entries: &'s [HelpItem<'a, B>],
-    include_env: bool,
-    texts: &EnvTexts<C>,
-    alloc: L,
-) -> Result<(), AllocError>
-    requires { HasPairedGroups (map entry_of entries.now) }
-    ensures { Leaves result doc.old doc.new (groups_writes include_env (texts_in texts.now) (map entry_of entries.now)) }
-{
-    let mut outside: Vec<&'s HelpItem<'a, B>, L> = Vec::new(alloc);
-    put_groups(doc, &mut outside, entries, include_env, texts, alloc)?;
-    put_headings(doc, outside.as_slice(), include_env, texts, alloc)
-}
-
-// Writes the groups in order, and keeps what stands outside them.
-fn put_groups<'a, 's, A: Allocator, B: Allocator + Copy, C: Allocator, L: Allocator + Copy>(
-    doc: &mut Doc<A>,
-    outside: &mut Vec<&'s HelpItem<'a, B>, L>,
-    entries: &'s [HelpItem<'a, B>],
-    include_env: bool,
-    texts: &EnvTexts<C>,
-    alloc: L,
-) -> Result<(), AllocError>
-    requires { HasPairedGroups (map entry_of entries.now) }
-    ensures grows { Grows doc.old doc.new }
-    ensures groups { OnOk result (doc.new ≡ with_writes doc.old (group_lists include_env (texts_in texts.now) (map entry_of entries.now))) }
-    ensures outside { OnOk result (map entry_at outside.new.items ≡ map entry_at outside.old.items ++ outside_groups (map entry_of entries.now)) }
-{
-    let mut rest = entries;
-    while !rest.is_empty() {
-        let count = put_first(doc, outside, rest, include_env, texts, alloc)?;
-        rest = behind(rest, count);
+impl<'t, C: Allocator, L: Allocator + Copy> Writer<'t, C, L> {
+    /// Writes the groups of a list, and then the headings over what stands outside them.
+    pub fn put_all<'a, 's, A: Allocator, B: Allocator + Copy>(
+        &self,
+        doc: &mut Doc<A>,
+        entries: &'s [HelpItem<'a, B>],
+    ) -> Result<(), AllocError>
+        requires { HasPairedGroups (map entry_of entries.now) }
+        ensures { Leaves result doc.old doc.new
+            (groups_writes self.now.include_env (texts_in self.now.texts.now) (map entry_of entries.now)) }
+    {
+        let mut outside: Vec<&'s HelpItem<'a, B>, L> = Vec::new(self.alloc);
+        self.put_groups(doc, &mut outside, entries)?;
+        self.put_headings(doc, outside.as_slice())
     }
-    Ok(())
-}
 
-// Writes a first group, or keeps a first entry outside groups, and answers how many entries that takes.
-fn put_first<'a, 's, A: Allocator, B: Allocator + Copy, C: Allocator, L: Allocator + Copy>(
-    doc: &mut Doc<A>,
-    outside: &mut Vec<&'s HelpItem<'a, B>, L>,
-    rest: &'s [HelpItem<'a, B>],
-    include_env: bool,
-    texts: &EnvTexts<C>,
-    alloc: L,
-) -> Result<usize, AllocError>
-    requires paired { HasPairedGroups (map entry_of rest.now) }
-    requires some { 0 < length rest.now }
-    ensures grows { Grows doc.old doc.new }
-    ensures takes { IfOk result (λ count. Takes include_env (texts_in texts.now) (map entry_of rest.now) count doc.old doc.new
-        (map entry_at outside.old.items) (map entry_at outside.new.items)) }
-{
-    let first = &rest[0];
-    if !first.is_group_start() {
-        outside.push(first)?;
-        return Ok(1);
+    // Writes the groups in order, and keeps what stands outside them.
+    fn put_groups<'a, 's, A: Allocator, B: Allocator + Copy>(
+        &self,
+        doc: &mut Doc<A>,
+        outside: &mut Vec<&'s HelpItem<'a, B>, L>,
+        entries: &'s [HelpItem<'a, B>],
+    ) -> Result<(), AllocError>
+        requires { HasPairedGroups (map entry_of entries.now) }
+        ensures grows { Grows doc.old doc.new }
+        ensures groups { OnOk result (doc.new ≡ with_writes doc.old
+            (group_lists self.now.include_env (texts_in self.now.texts.now) (map entry_of entries.now))) }
+        ensures outside { OnOk result (map entry_at outside.new.items
+            ≡ map entry_at outside.old.items ++ outside_groups (map entry_of entries.now)) }
+    {
+        let mut rest = entries;
+        while !rest.is_empty() {
+            let count = self.put_first(doc, outside, rest)?;
+            rest = behind(rest, count);
+        }
+        Ok(())
     }
-    let count = group_len(rest);
-    put_group(doc, front(rest, count), include_env, texts, alloc)?;
-    Ok(count)
+
+    // Writes a first group, or keeps a first entry outside groups, and answers how many entries that takes.
+    fn put_first<'a, 's, A: Allocator, B: Allocator + Copy>(
+        &self,
+        doc: &mut Doc<A>,
+        outside: &mut Vec<&'s HelpItem<'a, B>, L>,
+        rest: &'s [HelpItem<'a, B>],
+    ) -> Result<usize, AllocError>
+        requires paired { HasPairedGroups (map entry_of rest.now) }
+        requires some { 0 < length rest.now }
+        ensures grows { Grows doc.old doc.new }
+        ensures takes { IfOk result (λ count.
+            Takes self.now.include_env (texts_in self.now.texts.now) (map entry_of rest.now) count doc.old doc.new
+            (map entry_at outside.old.items) (map entry_at outside.new.items)) }
+    {
+        let first = &rest[0];
+        if !first.is_group_start() {
+            outside.push(first)?;
+            return Ok(1);
+        }
+        let count = group_len(rest);
+        self.put_group(doc, front(rest, count))?;
+        Ok(count)
+    }
+
+    fn put_group<'a, 's, A: Allocator, B: Allocator + Copy>(
+        &self,
+        doc: &mut Doc<A>,
+        entries: &'s [HelpItem<'a, B>],
+    ) -> Result<(), AllocError>
+        ensures { Leaves result doc.old doc.new
+            (list_writes self.now.include_env (texts_in self.now.texts.now)
+            (kept_entries (map entry_of entries.now))) }
+    {
+        let mut members: Vec<&'s HelpItem<'a, B>, L> = Vec::new(self.alloc);
+        keep(&mut members, entries)?;
+        self.put_list(doc, members.as_slice())
+    }
+
+    fn put_headings<'a, A: Allocator, B: Allocator + Copy>(
+        &self,
+        doc: &mut Doc<A>,
+        outside: &[&HelpItem<'a, B>],
+    ) -> Result<(), AllocError>
+        ensures { Leaves result doc.old doc.new
+            (headings self.now.include_env (texts_in self.now.texts.now) (map entry_at outside.now)) }
+    {
+        self.put_heading(
+            doc,
+            "Available positional items:",
+            outside,
+            HiTy::Positional,
+        )?;
+        self.put_heading(doc, "Available options:", outside, HiTy::Flag)?;
+        self.put_heading(doc, "Available commands:", outside, HiTy::Command)
+    }
+
+    fn put_heading<'a, A: Allocator, B: Allocator + Copy>(
+        &self,
+        doc: &mut Doc<A>,
+        title: &str,
+        outside: &[&HelpItem<'a, B>],
+        ty: HiTy,
+    ) -> Result<(), AllocError>
+        ensures { Leaves result doc.old doc.new
+            (heading_writes self.now.include_env (texts_in self.now.texts.now) title.now
+            (items_of_type (map entry_at outside.now) ty)) }
+    {
+        let members = given(self.alloc, outside, ty)?;
+        self.put_titled(doc, title, members.as_slice())
+    }
+
+    // A heading over its entries; nothing without entries.
+    fn put_titled<'a, A: Allocator, B: Allocator + Copy>(
+        &self,
+        doc: &mut Doc<A>,
+        title: &str,
+        entries: &[&HelpItem<'a, B>],
+    ) -> Result<(), AllocError>
+        ensures { Leaves result doc.old doc.new
+            (heading_writes self.now.include_env (texts_in self.now.texts.now) title.now
+            (map entry_at entries.now)) }
+    {
+        if entries.is_empty() {
+            return Ok(());
+        }
+        let title: Piece<'_, Global> = Piece::Text(title, Style::Emphasis);
+        put_list_start(doc, title)?;
+        self.put_list(doc, entries)?;
+        put_list_end(doc)
+    }
 }
 
 fn front<'a, 's, B: Allocator>(
@@ -114,20 +181,6 @@ fn group_len<B: Allocator>(entries: &[HelpItem<'_, B>]) -> usize
     }
 }
 
-fn put_group<'a, 's, A: Allocator, B: Allocator + Copy, C: Allocator, L: Allocator + Copy>(
-    doc: &mut Doc<A>,
-    entries: &'s [HelpItem<'a, B>],
-    include_env: bool,
-    texts: &EnvTexts<C>,
-    alloc: L,
-) -> Result<(), AllocError>
-    ensures { Leaves result doc.old doc.new (list_writes include_env (texts_in texts.now) (kept_entries (map entry_of entries.now))) }
-{
-    let mut members: Vec<&'s HelpItem<'a, B>, L> = Vec::new(alloc);
-    keep(&mut members, entries)?;
-    put_list(doc, members.as_slice(), include_env, texts, alloc)
-}
-
 // How many adjacent blocks were started and stopped since the group started.
 #[derive(Clone, Copy)]
 struct Depth {
@@ -140,7 +193,8 @@ fn keep<'a, 's, B: Allocator, L: Allocator + Copy>(
     members: &mut Vec<&'s HelpItem<'a, B>, L>,
     entries: &'s [HelpItem<'a, B>],
 ) -> Result<(), AllocError>
-    ensures { OnOk result (map entry_at members.new.items ≡ map entry_at members.old.items ++ kept_entries (map entry_of entries.now)) }
+    ensures { OnOk result (map entry_at members.new.items
+        ≡ map entry_at members.old.items ++ kept_entries (map entry_of entries.now)) }
 {
     let mut depth = Depth {
         starts: 0,
@@ -159,7 +213,8 @@ fn keep_one<'a, 's, B: Allocator, L: Allocator + Copy>(
     depth: Depth,
 ) -> Result<(), AllocError>
     ensures { OnOk result (map entry_at members.new.items ≡ map entry_at members.old.items
-        ++ (if not (lacks_help (entry_of entry.now) && nat_lt depth.stops depth.starts) then entry_of entry.now ∷ [] else [])) }
+        ++ (if not (lacks_help (entry_of entry.now) && nat_lt depth.stops depth.starts)
+        then entry_of entry.now ∷ [] else [])) }
 {
     if lacks_help(entry) && depth.stops < depth.starts {
         return Ok(());
@@ -172,8 +227,10 @@ impl Depth {
     fn after<B: Allocator>(self, entry: &HelpItem<'_, B>) -> Depth
         requires starts { self.starts < usize.MAX }
         requires stops { self.stops < usize.MAX }
-        ensures starts { result.starts ≡ (if is_group_start (entry_of entry.now) then 0 else self.starts + (if is_adjacent_start (entry_of entry.now) then 1 else 0)) }
-        ensures stops { result.stops ≡ (if is_group_start (entry_of entry.now) then 0 else self.stops + (if is_adjacent_stop (entry_of entry.now) then 1 else 0)) }
+        ensures starts { result.starts ≡ (if is_group_start (entry_of entry.now) then 0
+            else self.starts + (if is_adjacent_start (entry_of entry.now) then 1 else 0)) }
+        ensures stops { result.stops ≡ (if is_group_start (entry_of entry.now) then 0
+            else self.stops + (if is_adjacent_stop (entry_of entry.now) then 1 else 0)) }
     {
         match entry {
             HelpItem::GroupStart { .. } => Depth {
@@ -193,65 +250,12 @@ impl Depth {
     }
 }
 
-fn put_headings<'a, A: Allocator, B: Allocator + Copy, C: Allocator, L: Allocator + Copy>(
-    doc: &mut Doc<A>,
-    outside: &[&HelpItem<'a, B>],
-    include_env: bool,
-    texts: &EnvTexts<C>,
-    alloc: L,
-) -> Result<(), AllocError>
-    ensures { Leaves result doc.old doc.new (headings include_env (texts_in texts.now) (map entry_at outside.now)) }
-{
-    put_heading(
-        doc,
-        "Available positional items:",
-        outside,
-        HiTy::Positional,
-        include_env,
-        texts,
-        alloc,
-    )?;
-    put_heading(
-        doc,
-        "Available options:",
-        outside,
-        HiTy::Flag,
-        include_env,
-        texts,
-        alloc,
-    )?;
-    put_heading(
-        doc,
-        "Available commands:",
-        outside,
-        HiTy::Command,
-        include_env,
-        texts,
-        alloc,
-    )
-}
-
-fn put_heading<'a, A: Allocator, B: Allocator + Copy, C: Allocator, L: Allocator + Copy>(
-    doc: &mut Doc<A>,
-    title: &str,
-    outside: &[&HelpItem<'a, B>],
-    ty: HiTy,
-    include_env: bool,
-    texts: &EnvTexts<C>,
-    alloc: L,
-) -> Result<(), AllocError>
-    ensures { Leaves result doc.old doc.new (heading_writes include_env (texts_in texts.now) title.now (items_of_type (map entry_at outside.now) ty)) }
-{
-    let members = given(outside, ty, alloc)?;
-    put_titled(doc, title, members.as_slice(), include_env, texts, alloc)
-}
-
 // The entries of a heading.
 #[tactic(auto, using(crate::proofs::Steps::Given::given_of_type))]
 fn given<'a, 's, B: Allocator, L: Allocator + Copy>(
+    alloc: L,
     outside: &[&'s HelpItem<'a, B>],
     ty: HiTy,
-    alloc: L,
 ) -> Result<Vec<&'s HelpItem<'a, B>, L>, AllocError>
     ensures { IfOk result (λ members. map entry_at members.items ≡ items_of_type (map entry_at outside.now) ty) }
 {
@@ -277,41 +281,4 @@ fn give_one<'a, 's, B: Allocator, L: Allocator + Copy>(
         members.push(entry)?;
     }
     Ok(())
-}
-
-// A heading over its entries; nothing without entries.
-fn put_titled<'a, A: Allocator, B: Allocator + Copy, C: Allocator, L: Allocator + Copy>(
-    doc: &mut Doc<A>,
-    title: &str,
-    entries: &[&HelpItem<'a, B>],
-    include_env: bool,
-    texts: &EnvTexts<C>,
-    alloc: L,
-) -> Result<(), AllocError>
-    ensures { Leaves result doc.old doc.new (heading_writes include_env (texts_in texts.now) title.now (map entry_at entries.now)) }
-{
-    if entries.is_empty() {
-        return Ok(());
-    }
-    put_title(doc, title)?;
-    put_list(doc, entries, include_env, texts, alloc)?;
-    put_words(
-        doc,
-        &[Piece::End(Block::DefinitionList), Piece::End(Block::Block)],
-    )
-}
-
-fn put_title<A: Allocator>(doc: &mut Doc<A>, title: &str) -> Result<(), AllocError>
-    ensures { Leaves result doc.old doc.new (title_front title.now) }
-{
-    put_words(
-        doc,
-        &[
-            Piece::Start(Block::Block),
-            Piece::Start(Block::Section2),
-            Piece::Text(title, Style::Emphasis),
-            Piece::End(Block::Section2),
-            Piece::Start(Block::DefinitionList),
-        ],
-    )
 }

@@ -10,45 +10,45 @@ ghost use Rattle.bpaf_items.specs.Page.Steps.Repeats.{Remembers, shown_writes};
 ghost use Rattle.bpaf_items.specs.View.{entry_at, entry_of};
 
 use crate::meta_help::entry::HelpItem;
-use crate::meta_help::env_texts::EnvTexts;
 use crate::meta_help::repeats::Repeats;
 use crate::meta_help::room::reserve_for;
-use crate::meta_help::writes::put_entry;
+use crate::meta_help::writes::Writer;
 use bpaf_doc::buffer::Doc;
 use std::alloc::{AllocError, Allocator};
 
-/// Writes what is shown of a list. The keys seen so far are kept in memory of `alloc`.
-pub fn put_list<'a, 's, A: Allocator, B: Allocator + Copy, C: Allocator, L: Allocator + Copy>(
-    doc: &mut Doc<A>,
-    entries: &[&'s HelpItem<'a, B>],
-    include_env: bool,
-    texts: &EnvTexts<C>,
-    alloc: L,
-) -> Result<(), AllocError>
-    ensures { Leaves result doc.old doc.new (list_writes include_env (texts_in texts.now) (map entry_at entries.now)) }
-{
-    reserve_for(doc, entries)?;
-    let mut repeats: Repeats<'a, 's, B, L> = Repeats::with_room(alloc, entries.len())?;
-    for entry in entries {
-        put_next(doc, &mut repeats, *entry, include_env, texts)?;
+impl<'t, C: Allocator, L: Allocator + Copy> Writer<'t, C, L> {
+    /// Writes what is shown of a list. The keys seen so far are kept in memory of the writer's allocator.
+    pub fn put_list<'a, 's, A: Allocator, B: Allocator + Copy>(
+        &self,
+        doc: &mut Doc<A>,
+        entries: &[&'s HelpItem<'a, B>],
+    ) -> Result<(), AllocError>
+        ensures { Leaves result doc.old doc.new
+            (list_writes self.now.include_env (texts_in self.now.texts.now) (map entry_at entries.now)) }
+    {
+        reserve_for(doc, entries)?;
+        let mut repeats: Repeats<'a, 's, B, L> = Repeats::with_room(self.alloc, entries.len())?;
+        for entry in entries {
+            self.put_next(doc, &mut repeats, *entry)?;
+        }
+        Ok(())
     }
-    Ok(())
-}
 
-fn put_next<'a, 's, A: Allocator, B: Allocator + Copy, C: Allocator, L: Allocator + Copy>(
-    doc: &mut Doc<A>,
-    repeats: &mut Repeats<'a, 's, B, L>,
-    entry: &'s HelpItem<'a, B>,
-    include_env: bool,
-    texts: &EnvTexts<C>,
-) -> Result<(), AllocError>
-    ensures grows { Grows doc.old doc.new }
-    ensures next { (before : List Entry) → Remembers repeats.old.keys.keys repeats.old.shown before → OnOk result (
-        (doc.new ≡ with_writes doc.old (shown_writes include_env (texts_in texts.now) before (entry_of entry.now)))
-        × Remembers repeats.new.keys.keys repeats.new.shown (before ++ entry_of entry.now ∷ [])) }
-{
-    if !repeats.shows(entry)? {
-        return Ok(());
+    fn put_next<'a, 's, A: Allocator, B: Allocator + Copy>(
+        &self,
+        doc: &mut Doc<A>,
+        repeats: &mut Repeats<'a, 's, B, L>,
+        entry: &'s HelpItem<'a, B>,
+    ) -> Result<(), AllocError>
+        ensures grows { Grows doc.old doc.new }
+        ensures next { (before : List Entry) → Remembers repeats.old.keys.keys repeats.old.shown before → OnOk result (
+            (doc.new ≡ with_writes doc.old
+            (shown_writes self.now.include_env (texts_in self.now.texts.now) before (entry_of entry.now)))
+            × Remembers repeats.new.keys.keys repeats.new.shown (before ++ entry_of entry.now ∷ [])) }
+    {
+        if !repeats.shows(entry)? {
+            return Ok(());
+        }
+        self.put_entry(doc, entry)
     }
-    put_entry(doc, entry, include_env, texts)
 }

@@ -9,61 +9,67 @@ ghost use Rattle.bpaf_items.specs.Page.EnvTexts.{texts_in};
 ghost use Rattle.bpaf_items.specs.Page.HelpPage.{doc_within, groups_writes, help_page_writes, usage_line_writes};
 ghost use Rattle.bpaf_items.specs.Page.NestedTexts.{HasNestedEntry, HasNestedHead, HasNestedTexts};
 ghost use Rattle.bpaf_items.specs.Page.PageAnswers.{IsHelpPageAnswer};
-ghost use Rattle.bpaf_items.specs.Page.Steps.Pages.{footer_writes, front_writes};
+ghost use Rattle.bpaf_items.specs.Page.Steps.Pages.{front_writes};
 ghost use Rattle.bpaf_items.specs.View.{answer_of, entry_of};
 
 use crate::meta_help::entry::HelpItem;
 use crate::meta_help::env_texts::EnvTexts;
 use crate::meta_help::error::HelpError;
-use crate::meta_help::groups::put_all;
 use crate::meta_help::list::HelpItems;
-use crate::meta_help::pieces::{Piece, put};
-use crate::meta_help::writes::put_words;
+use crate::meta_help::pieces::{Piece, put_inside, put_words};
+use crate::meta_help::writes::Writer;
 use bpaf_doc::buffer::{Block, Doc, Style};
 use bpaf_meta::meta::Meta;
 use bpaf_meta::meta_help::Info;
 use bpaf_meta::usage::write_meta;
 use std::alloc::{AllocError, Allocator};
 
-/// Writes the groups of the list in order, and then what stands outside them under the headings of positional items, options
-/// and commands. Each group and each heading shows a key once, at its first place. The texts of `texts` are shown for names of
-/// environment variables if `include_env` says so, and else the names alone. Memory for the list is used on the way.
-/// After `AllocError` the document is as it was.
+/// Writes the groups of the list in order, and then what stands outside them under the headings of positional items,
+/// options and commands. Each group and each heading shows a key once, at its first place. The texts of `texts` are
+/// shown for names of environment variables if `include_env` says so, and else the names alone. Memory for the list is
+/// used on the way. After `AllocError` the document is as it was.
 pub fn write_help_item_groups<A: Allocator, B: Allocator + Copy, L: Allocator + Copy, C: Allocator>(
     doc: &mut Doc<A>,
     items: HelpItems<'_, B, L>,
     include_env: bool,
     texts: &EnvTexts<C>,
 ) -> Result<(), AllocError>
-    ensures ok { OnOk result (doc.new ≡ with_writes doc.old (groups_writes include_env (texts_in texts.now) items.entry)) }
+    ensures ok { OnOk result (doc.new ≡ with_writes doc.old
+        (groups_writes include_env (texts_in texts.now) items.entry)) }
     ensures err { OnErr result (doc.new ≡ doc.old) }
     ensures nested { All HasNestedEntry items.entry → IsWellNested doc.old → IsWellNested doc.new }
 {
-    put_or_undo(doc, items.items(), include_env, texts, items.allocator())
+    let writer = Writer {
+        include_env,
+        texts,
+        alloc: items.allocator(),
+    };
+    writer.put_or_undo(doc, items.items())
 }
 
-fn put_or_undo<'a, A: Allocator, B: Allocator + Copy, C: Allocator, L: Allocator + Copy>(
-    doc: &mut Doc<A>,
-    entries: &[HelpItem<'a, B>],
-    include_env: bool,
-    texts: &EnvTexts<C>,
-    alloc: L,
-) -> Result<(), AllocError>
-    requires { HasPairedGroups (map entry_of entries.now) }
-    ensures ok { OnOk result (doc.new ≡ with_writes doc.old (groups_writes include_env (texts_in texts.now) (map entry_of entries.now))) }
-    ensures err { OnErr result (doc.new ≡ doc.old) }
-{
-    let before = doc.checkpoint();
-    let written = put_all(doc, entries, include_env, texts, alloc);
-    if written.is_err() {
-        doc.roll_back(before);
+impl<'t, C: Allocator, L: Allocator + Copy> Writer<'t, C, L> {
+    fn put_or_undo<'a, A: Allocator, B: Allocator + Copy>(
+        &self,
+        doc: &mut Doc<A>,
+        entries: &[HelpItem<'a, B>],
+    ) -> Result<(), AllocError>
+        requires { HasPairedGroups (map entry_of entries.now) }
+        ensures ok { OnOk result (doc.new ≡ with_writes doc.old
+            (groups_writes self.now.include_env (texts_in self.now.texts.now) (map entry_of entries.now))) }
+        ensures err { OnErr result (doc.new ≡ doc.old) }
+    {
+        let before = doc.checkpoint();
+        let written = self.put_all(doc, entries);
+        if written.is_err() {
+            doc.roll_back(before);
+        }
+        written
     }
-    written
 }
 
-/// The help page of a command line: its texts, its usage line behind the path to it, and the items of `parser` and then of
-/// `help` under their groups and headings. `Misplaced` is the first named item of `parser` that stands behind a positional one; it
-/// comes before memory is asked for. `Memory` says that a growth was refused.
+/// The help page of a command line: its texts, its usage line behind the path to it, and the items of `parser` and then
+/// of `help` under their groups and headings. `Misplaced` is the first named item of `parser` that stands behind a
+/// positional one; it comes before memory is asked for. `Memory` says that a growth was refused.
 pub fn render_help<'m, A: Allocator + Copy, P: Allocator, B: Allocator + Copy, C: Allocator>(
     alloc: A,
     path: &[String<P>],
@@ -73,8 +79,10 @@ pub fn render_help<'m, A: Allocator + Copy, P: Allocator, B: Allocator + Copy, C
     include_env: bool,
     texts: &EnvTexts<C>,
 ) -> Result<Doc<A>, HelpError<'m, B>>
-    ensures answer { IsHelpPageAnswer (map string_bytes path.now) (head_of info.now) (tree_of parser.now) (tree_of help.now) include_env (texts_in texts.now) (answer_of result) }
-    ensures nested { IfOk result (λ page. HasNestedHead (head_of info.now) → HasNestedTexts (tree_of parser.now) → HasNestedTexts (tree_of help.now) → IsWellNested page) }
+    ensures answer { IsHelpPageAnswer (map string_bytes path.now) (head_of info.now) (tree_of parser.now)
+        (tree_of help.now) include_env (texts_in texts.now) (answer_of result) }
+    ensures nested { IfOk result (λ page. HasNestedHead (head_of info.now) → HasNestedTexts (tree_of parser.now)
+        → HasNestedTexts (tree_of help.now) → IsWellNested page) }
 {
     if let Err(item) = parser.positional_invariant_check() {
         return Err(HelpError::Misplaced(item));
@@ -94,13 +102,14 @@ fn page<A: Allocator + Copy, P: Allocator, B: Allocator + Copy, C: Allocator>(
     include_env: bool,
     texts: &EnvTexts<C>,
 ) -> Result<Doc<A>, AllocError>
-    ensures { IfOk result (λ page. page ≡ document_of (help_page_writes (map string_bytes path.now) (head_of info.now) (tree_of parser.now) (tree_of help.now) include_env (texts_in texts.now))) }
+    ensures { IfOk result (λ page. page ≡ document_of (help_page_writes (map string_bytes path.now) (head_of info.now)
+        (tree_of parser.now) (tree_of help.now) include_env (texts_in texts.now))) }
 {
     let items = listing(alloc, parser, help)?;
     let mut page = Doc::new(alloc);
     put_front(&mut page, path, info, parser)?;
     write_help_item_groups(&mut page, items, include_env, texts)?;
-    put_footer(&mut page, info)?;
+    put_within(&mut page, &info.footer)?;
     Ok(page)
 }
 
@@ -124,20 +133,12 @@ fn put_front<A: Allocator, P: Allocator, B: Allocator + Copy>(
     info: &Info<B>,
     parser: &Meta<B>,
 ) -> Result<(), AllocError>
-    ensures { OnOk result (doc.new ≡ with_writes doc.old (front_writes (map string_bytes path.now) (head_of info.now) (tree_of parser.now))) }
+    ensures { OnOk result (doc.new ≡ with_writes doc.old
+        (front_writes (map string_bytes path.now) (head_of info.now) (tree_of parser.now))) }
 {
     put_within(doc, &info.descr)?;
     put_usage(doc, path, &info.usage, parser)?;
     put_within(doc, &info.header)
-}
-
-fn put_footer<A: Allocator, B: Allocator + Copy>(
-    doc: &mut Doc<A>,
-    info: &Info<B>,
-) -> Result<(), AllocError>
-    ensures { OnOk result (doc.new ≡ with_writes doc.old (footer_writes (head_of info.now))) }
-{
-    put_within(doc, &info.footer)
 }
 
 fn put_within<A: Allocator, B: Allocator + Copy>(
@@ -148,14 +149,7 @@ fn put_within<A: Allocator, B: Allocator + Copy>(
 {
     match text {
         None => Ok(()),
-        Some(text) => put(
-            doc,
-            &[
-                Piece::Start(Block::Block),
-                Piece::Document(text),
-                Piece::End(Block::Block),
-            ],
-        ),
+        Some(text) => put_inside(doc, Block::Block, &[Piece::Document(text)]),
     }
 }
 
@@ -165,7 +159,8 @@ fn put_usage<A: Allocator, P: Allocator, B: Allocator + Copy>(
     usage: &Option<Doc<B>>,
     parser: &Meta<B>,
 ) -> Result<(), AllocError>
-    ensures { OnOk result (doc.new ≡ with_writes doc.old (inside Block.Block (usage_line_writes (map string_bytes path.now) usage.now (tree_of parser.now)))) }
+    ensures { OnOk result (doc.new ≡ with_writes doc.old
+        (inside Block.Block (usage_line_writes (map string_bytes path.now) usage.now (tree_of parser.now)))) }
 {
     put_words(doc, &[Piece::Start(Block::Block)])?;
     put_usage_text(doc, path, usage, parser)?;
@@ -178,7 +173,8 @@ fn put_usage_text<A: Allocator, P: Allocator, B: Allocator + Copy>(
     usage: &Option<Doc<B>>,
     parser: &Meta<B>,
 ) -> Result<(), AllocError>
-    ensures { OnOk result (doc.new ≡ with_writes doc.old (usage_line_writes (map string_bytes path.now) usage.now (tree_of parser.now))) }
+    ensures { OnOk result (doc.new ≡ with_writes doc.old
+        (usage_line_writes (map string_bytes path.now) usage.now (tree_of parser.now))) }
 {
     match usage {
         None => put_usage_line(doc, path, parser),
@@ -191,7 +187,8 @@ fn put_usage_line<A: Allocator, P: Allocator, B: Allocator + Copy>(
     path: &[String<P>],
     parser: &Meta<B>,
 ) -> Result<(), AllocError>
-    ensures { OnOk result (doc.new ≡ with_writes doc.old (usage_line_writes (map string_bytes path.now) None (tree_of parser.now))) }
+    ensures { OnOk result (doc.new ≡ with_writes doc.old
+        (usage_line_writes (map string_bytes path.now) None (tree_of parser.now))) }
 {
     put_words(
         doc,

@@ -1,14 +1,17 @@
 //! Small things that pages are written of.
-ghost use Rattle.std.specs.Prelude.{[], ◌∷◌, flat_map};
-ghost use Rattle.bpaf_doc.specs.Buffer.Writes.{text};
-ghost use Rattle.bpaf_items.specs.Page.Steps.Pieces.{Leaves, joined, piece_writes};
+ghost use Rattle.std.specs.Prelude.{[], ◌∷◌};
+ghost use Rattle.bpaf_doc.specs.Buffer.Writes.{inside, text};
+ghost use Rattle.bpaf_meta.specs.Content.{both};
+ghost use Rattle.bpaf_meta.specs.View.{name_of};
+ghost use Rattle.bpaf_items.specs.Page.EntryWrites.{names_writes};
+ghost use Rattle.bpaf_items.specs.Page.Steps.Pieces.{Leaves, joined, piece_writes, pieces_write};
 
 use bpaf_doc::buffer::{Block, Doc, Style, Token};
 use bpaf_meta::item::ShortLong;
 use bpaf_meta::meta::Meta;
 use bpaf_meta::meta_help::Metavar;
 use bpaf_meta::usage::{metavar, write_meta, write_shortlong};
-use std::alloc::{AllocError, Allocator};
+use std::alloc::{AllocError, Allocator, Global};
 
 /// What is written at once.
 pub enum Piece<'a, A: Allocator> {
@@ -19,8 +22,9 @@ pub enum Piece<'a, A: Allocator> {
     Character(char),
     /// Texts that are one.
     Joined(&'a [&'a str], Style),
-    /// A name, the long one where there are both.
-    Name(ShortLong),
+    /// The names of a flag or an argument. A lone long name is set in by four blanks, so that it stands below those
+    /// behind a short one.
+    Names(ShortLong),
     /// The name of a value.
     Value(Metavar),
     Document(&'a Doc<A>),
@@ -51,12 +55,35 @@ pub fn put<A: Allocator, B: Allocator + Copy>(
     doc: &mut Doc<A>,
     pieces: &[Piece<'_, B>],
 ) -> Result<(), AllocError>
-    ensures { Leaves result doc.old doc.new (flat_map piece_writes pieces.now) }
+    ensures { Leaves result doc.old doc.new (pieces_write pieces.now) }
 {
     for piece in pieces {
         put_piece(doc, piece)?;
     }
     Ok(())
+}
+
+/// Writes pieces that borrow no document and no tree.
+pub fn put_words<A: Allocator>(
+    doc: &mut Doc<A>,
+    pieces: &[Piece<'_, Global>],
+) -> Result<(), AllocError>
+    ensures { Leaves result doc.old doc.new (pieces_write pieces.now) }
+{
+    put(doc, pieces)
+}
+
+/// Writes the pieces between the marks of a block.
+pub fn put_inside<A: Allocator, B: Allocator + Copy>(
+    doc: &mut Doc<A>,
+    block: Block,
+    pieces: &[Piece<'_, B>],
+) -> Result<(), AllocError>
+    ensures { Leaves result doc.old doc.new (inside block (pieces_write pieces.now)) }
+{
+    put_words(doc, &[Piece::Start(block)])?;
+    put(doc, pieces)?;
+    put_words(doc, &[Piece::End(block)])
 }
 
 fn put_piece<A: Allocator, B: Allocator + Copy>(
@@ -71,7 +98,7 @@ fn put_piece<A: Allocator, B: Allocator + Copy>(
         Piece::Text(text, style) => doc.write_str(text, style),
         Piece::Character(character) => doc.write_char(character, Style::Literal),
         Piece::Joined(texts, style) => put_joined(doc, texts, style),
-        Piece::Name(name) => write_shortlong(doc, &name),
+        Piece::Names(name) => put_names(doc, name),
         Piece::Value(name) => metavar(doc, name),
         Piece::Document(other) => doc.doc(other),
         Piece::Title(other) => doc.em_doc(other),
@@ -92,4 +119,26 @@ fn put_joined<A: Allocator>(
         doc.write_str(text, style)?;
     }
     Ok(())
+}
+
+fn put_names<A: Allocator>(doc: &mut Doc<A>, name: ShortLong) -> Result<(), AllocError>
+    ensures { Leaves result doc.old doc.new (names_writes (name_of name)) }
+{
+    match name {
+        ShortLong::Short(_) => write_shortlong(doc, &name),
+        ShortLong::Long(long) => put_joined(doc, &["    --", long], Style::Literal),
+        ShortLong::Both(short, long) => put_both(doc, short, long),
+    }
+}
+
+fn put_both<A: Allocator>(
+    doc: &mut Doc<A>,
+    short: char,
+    long: &'static str,
+) -> Result<(), AllocError>
+    ensures { Leaves result doc.old doc.new (names_writes (both short long.now)) }
+{
+    write_shortlong(doc, &ShortLong::Short(short))?;
+    doc.text(", ")?;
+    write_shortlong(doc, &ShortLong::Long(long))
 }

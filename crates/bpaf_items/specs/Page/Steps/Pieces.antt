@@ -5,7 +5,8 @@ use Rattle.bpaf_doc.specs.Buffer.Parts.{Part}
 use Rattle.bpaf_doc.specs.Buffer.Growth.{Grows}
 use Rattle.bpaf_doc.specs.Buffer.Writes.{Write, start, end, text, literal, doc_writes, em_doc_writes, with_writes}
 use Rattle.bpaf_meta.specs.View.{name_of, tree_of}
-use Rattle.bpaf_meta.specs.Usage.Writes.{metavar_writes, name_writes, usage_writes}
+use Rattle.bpaf_meta.specs.Usage.Writes.{metavar_writes, usage_writes}
+use Rattle.bpaf_items.specs.Page.EntryWrites.{names_writes}
 use Rattle.bpaf_items.specs.declared.meta_help.pieces.Piece.{Piece}
 use Rattle.bpaf_items.specs.declared.meta_help.pieces.Piece.TheVariants as piece
 
@@ -22,11 +23,17 @@ piece_writes (piece.End b) = end b ∷ []
 piece_writes (piece.Text bytes how) = text bytes.now how ∷ []
 piece_writes (piece.Character c) = literal (encode_utf8 c) ∷ []
 piece_writes (piece.Joined texts how) = text (joined texts.now) how ∷ []
-piece_writes (piece.Name n) = name_writes (name_of n)
+piece_writes (piece.Names n) = names_writes (name_of n)
 piece_writes (piece.Value m) = metavar_writes m.0.now
 piece_writes (piece.Document d) = doc_writes d.now
 piece_writes (piece.Title d) = em_doc_writes d.now
 piece_writes (piece.Usage t) = usage_writes true (tree_of t.now)
+
+-- and pieces one after another
+abbrev pub pieces_write : {A : Type 0} → List (Piece A) → List Write
+pieces_write [] = []
+pieces_write (p ∷ []) = piece_writes p
+pieces_write (p ∷ q ∷ ps) = piece_writes p ++ pieces_write (q ∷ ps)
 
 -- the document grew by some writes, and at Ok by these
 abbrev pub Leaves : {T E : Type 0} → Result T E → List Part → List Part → List Write → Type 0

@@ -6,13 +6,13 @@ use Rattle.bpaf_items.specs.Listing.Groups.{HasPairedGroups}
 use Rattle.bpaf_items.specs.Page.EnvTexts.{texts_in}
 use Rattle.bpaf_items.specs.Page.Steps.Groups.{group_lists}
 use Rattle.bpaf_items.specs.View.{entry_at, entry_of}
-use Rattle.bpaf_items.proofs.meta_help.groups.put_groups.Given as goal
+use Rattle.bpaf_items.proofs.meta_help.writes.Writer.put_groups.Given as goal
 
 abbrev pub invariant-loop-rest : goal.invariant-loop-rest
 invariant-loop-rest g l = record {
   paired : HasPairedGroups (map entry_of l.rest);
   grows : Grows l.fn.doc l.doc;
-  written : with_writes l.doc (group_lists l.include_env (texts_in l.texts) (map entry_of l.rest)) ≡ with_writes l.fn.doc (group_lists l.include_env (texts_in l.texts) (map entry_of l.entries));
+  written : with_writes l.doc (group_lists l.self.include_env (texts_in l.self.texts.now) (map entry_of l.rest)) ≡ with_writes l.fn.doc (group_lists l.self.include_env (texts_in l.self.texts.now) (map entry_of l.entries));
   others : map entry_at l.outside.items ++ outside_groups (map entry_of l.rest) ≡ map entry_at l.fn.outside.items ++ outside_groups (map entry_of l.entries);
 }
 

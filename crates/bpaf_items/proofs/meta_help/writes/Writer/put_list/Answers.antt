@@ -7,11 +7,11 @@ use Rattle.bpaf_items.specs.Page.Steps.Repeats.{Remembers}
 use Rattle.bpaf_items.specs.View.{entry_at}
 use Rattle.bpaf_items.proofs.Page.Leaving.{map_next}
 use Rattle.bpaf_items.proofs.Page.Repeating.{list_next}
-use Rattle.bpaf_items.proofs.meta_help.lists.put_list.Goals as goal
+use Rattle.bpaf_items.proofs.meta_help.writes.Writer.put_list.Goals as goal
 
 pub returns-in_err-put_next : goal.returns-in_err-put_next
 returns-in_err-put_next g c =
-    let so_far = Grows-by c.args.doc.now c.loop-entry.doc (list_writes c.args.include_env (texts_in c.args.texts.now) (map entry_at (take c.loop-entry.entry-index c.args.entries.now))) c.loop-entry.invariant.written in
+    let so_far = Grows-by c.args.doc.now c.loop-entry.doc (list_writes c.args.self.now.include_env (texts_in c.args.self.now.texts.now) (map entry_at (take c.loop-entry.entry-index c.args.entries.now))) c.loop-entry.invariant.written in
     (Grows-then _ _ _ so_far c.put_next.ensures.grows, search rules)
 
 pub loop-entry-preserved : goal.loop-entry-preserved
@@ -23,12 +23,12 @@ loop-entry-preserved g c =
     let done = c.in_ok-put_next.ensures.next (map entry_at (take i es)) c.loop-entry.invariant.remembers in
     record {
       in_range = search rules;
-      written = list_next c.args.include_env (texts_in c.args.texts.now) (map entry_at (take i es)) (map entry_at (take (i + 1) es)) e c.args.doc.now c.loop-entry.doc c.put_next.new.doc more c.loop-entry.invariant.written done.0;
+      written = list_next c.args.self.now.include_env (texts_in c.args.self.now.texts.now) (map entry_at (take i es)) (map entry_at (take (i + 1) es)) e c.args.doc.now c.loop-entry.doc c.put_next.new.doc more c.loop-entry.invariant.written done.0;
       remembers = subst (Remembers c.put_next.new.repeats.keys.keys c.put_next.new.repeats.shown) (sym more) done.1;
     }
 
 pub returns : goal.returns
 returns g c =
     let all : map entry_at (take c.loop-entry.entry-index c.args.entries.now) ≡ map entry_at c.args.entries.now = ap (map entry_at) (take_all c.loop-entry.entry-index c.args.entries.now (search rules)) in
-    let e = c.loop-entry.invariant.written ∙ ap (λ es. with_writes c.args.doc.now (list_writes c.args.include_env (texts_in c.args.texts.now) es)) all in
-    (Grows-by _ _ (list_writes c.args.include_env (texts_in c.args.texts.now) (map entry_at c.args.entries.now)) e, e)
+    let e = c.loop-entry.invariant.written ∙ ap (λ es. with_writes c.args.doc.now (list_writes c.args.self.now.include_env (texts_in c.args.self.now.texts.now) es)) all in
+    (Grows-by _ _ (list_writes c.args.self.now.include_env (texts_in c.args.self.now.texts.now) (map entry_at c.args.entries.now)) e, e)

@@ -4,11 +4,11 @@ use Rattle.bpaf_items.specs.Page.EnvTexts.{texts_in}
 use Rattle.bpaf_items.specs.Page.HelpPage.{list_writes}
 use Rattle.bpaf_items.specs.Page.Steps.Repeats.{Remembers}
 use Rattle.bpaf_items.specs.View.{entry_at}
-use Rattle.bpaf_items.proofs.meta_help.lists.put_list.Given as goal
+use Rattle.bpaf_items.proofs.meta_help.writes.Writer.put_list.Given as goal
 
 abbrev pub invariant-loop-entry : goal.invariant-loop-entry
 invariant-loop-entry g l = record {
   in_range : l.entry-index ≤ length l.entries;
-  written : l.doc ≡ with_writes l.fn.doc (list_writes l.include_env (texts_in l.texts) (map entry_at (take l.entry-index l.entries)));
+  written : l.doc ≡ with_writes l.fn.doc (list_writes l.self.include_env (texts_in l.self.texts.now) (map entry_at (take l.entry-index l.entries)));
   remembers : Remembers l.repeats.keys.keys l.repeats.shown (map entry_at (take l.entry-index l.entries));
 }
