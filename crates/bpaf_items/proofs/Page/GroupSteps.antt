@@ -239,10 +239,11 @@ pub since_next : (p : Entry → Bool) (before next : List Entry) (e : Entry) (n 
 since_next p before next e n m is old more =
     is ∙ ap (λ k. if is_group_start e then 0 else k + (if p e then 1 else 0)) old ∙ sym (since_start-push p before e) ∙ ap (since_start p) (sym more)
 
-pub kept_next : (first mid now before next : List Entry) (e : Entry) (starts stops : ℕ) → now ≡ mid ++ (if not (lacks_help e && nat_lt stops starts) then e ∷ [] else []) → mid ≡ first ++ kept_entries before
+pub kept_next : (first mid now before next : List Entry) (e : Entry) (starts stops : ℕ) (wanted : Bool) → now ≡ mid ++ (if wanted then e ∷ [] else []) → wanted ≡ not (lacks_help e && nat_lt stops starts) → mid ≡ first ++ kept_entries before
     → starts ≡ since_start is_adjacent_start before → stops ≡ since_start is_adjacent_stop before → next ≡ before ++ e ∷ [] → now ≡ first ++ kept_entries next
-kept_next first mid now before next e starts stops is old a z more =
+kept_next first mid now before next e starts stops wanted is own old a z more =
     is
+    ∙ ap (λ b. mid ++ (if b then e ∷ [] else [])) own
     ∙ ap (λ n. mid ++ (if not (lacks_help e && nat_lt stops n) then e ∷ [] else [])) a
     ∙ ap (λ n. mid ++ (if not (lacks_help e && nat_lt n (since_start is_adjacent_start before)) then e ∷ [] else [])) z
     ∙ ap (λ xs. xs ++ (if stays (before, e) then e ∷ [] else [])) old

@@ -59,13 +59,13 @@ one_more true e es = refl
 one_more false e es = refl
 
 -- one more entry of a list that is gone through
-pub given_next : {X : Type 0} (view : X → Entry) (s after : State) (k : HiTy) (xs : List X) (i : ℕ) (x : X) (mid now all : List Entry) → i < length xs → x ≡ get_or xs i x
-    → after ≡ state_after s (view x) → now ≡ mid ++ (if is_given_in s k (view x) then view x ∷ [] else []) → mid ++ given_from s k (map view (drop i xs)) ≡ all
+pub given_next : {X : Type 0} (view : X → Entry) (s after : State) (k : HiTy) (xs : List X) (i : ℕ) (x : X) (mid now all : List Entry) (wanted : Bool) → i < length xs → x ≡ get_or xs i x
+    → after ≡ state_after s (view x) → now ≡ mid ++ (if wanted then view x ∷ [] else []) → wanted ≡ is_given_in s k (view x) → mid ++ given_from s k (map view (drop i xs)) ≡ all
     → now ++ given_from after k (map view (drop (i + 1) xs)) ≡ all
-given_next view s after k xs i x mid now all within is next put held =
+given_next view s after k xs i x mid now all wanted within is next put own held =
     let rest : List Entry = map view (drop (i + 1) xs) in
     let one : List Entry = if is_given_in s k (view x) then view x ∷ [] else [] in
-    ap (λ es. es ++ given_from after k rest) put
+    ap (λ es. es ++ given_from after k rest) (put ∙ ap (λ b. mid ++ (if b then view x ∷ [] else [])) own)
     ∙ append_assoc mid one (given_from after k rest)
     ∙ ap (λ t. mid ++ (one ++ given_from t k rest)) next
     ∙ ap (λ es. mid ++ es) (one_more (is_given_in s k (view x)) (view x) (given_from (state_after s (view x)) k rest))

@@ -10,7 +10,6 @@ ghost use Rattle.bpaf_items.specs.Page.EnvTexts.{texts_in};
 ghost use Rattle.bpaf_items.specs.Page.HelpPage.{groups_writes, heading_writes, list_writes};
 ghost use Rattle.bpaf_items.specs.Page.Steps.Groups.{Takes, group_len, group_lists, headings};
 ghost use Rattle.bpaf_items.specs.Page.Steps.Pieces.{Leaves};
-ghost use Rattle.bpaf_items.specs.Steps.Given.{is_given_in};
 ghost use Rattle.bpaf_items.specs.View.{entry_at, entry_of};
 
 use crate::meta_help::entry::{HelpItem, HiTy};
@@ -201,29 +200,19 @@ fn keep<'a, 's, B: Allocator, L: Allocator + Copy>(
         stops: 0,
     };
     for entry in entries {
-        keep_one(members, entry, depth)?;
+        push_if(members, entry, depth.keeps(entry))?;
         depth = depth.after(entry);
     }
     Ok(())
 }
 
-fn keep_one<'a, 's, B: Allocator, L: Allocator + Copy>(
-    members: &mut Vec<&'s HelpItem<'a, B>, L>,
-    entry: &'s HelpItem<'a, B>,
-    depth: Depth,
-) -> Result<(), AllocError>
-    ensures { OnOk result (map entry_at members.new.items ≡ map entry_at members.old.items
-        ++ (if not (lacks_help (entry_of entry.now) && nat_lt depth.stops depth.starts)
-        then entry_of entry.now ∷ [] else [])) }
-{
-    if lacks_help(entry) && depth.stops < depth.starts {
-        return Ok(());
-    }
-    members.push(entry)?;
-    Ok(())
-}
-
 impl Depth {
+    fn keeps<B: Allocator>(self, entry: &HelpItem<'_, B>) -> bool
+        ensures { result ≡ not (lacks_help (entry_of entry.now) && nat_lt self.stops self.starts) }
+    {
+        !(lacks_help(entry) && self.stops < self.starts)
+    }
+
     fn after<B: Allocator>(self, entry: &HelpItem<'_, B>) -> Depth
         requires starts { self.starts < usize.MAX }
         requires stops { self.stops < usize.MAX }
@@ -262,22 +251,21 @@ fn given<'a, 's, B: Allocator, L: Allocator + Copy>(
     let mut members: Vec<&'s HelpItem<'a, B>, L> = Vec::new(alloc);
     let mut state = State::Outside;
     for entry in outside {
-        give_one(&mut members, *entry, state, ty)?;
+        push_if(&mut members, *entry, state.is_given(*entry, ty))?;
         state = state.after(*entry);
     }
     Ok(members)
 }
 
-fn give_one<'a, 's, B: Allocator, L: Allocator + Copy>(
+fn push_if<'a, 's, B: Allocator, L: Allocator + Copy>(
     members: &mut Vec<&'s HelpItem<'a, B>, L>,
     entry: &'s HelpItem<'a, B>,
-    state: State,
-    ty: HiTy,
+    wanted: bool,
 ) -> Result<(), AllocError>
     ensures { OnOk result (map entry_at members.new.items ≡ map entry_at members.old.items
-        ++ (if is_given_in state ty (entry_of entry.now) then entry_of entry.now ∷ [] else [])) }
+        ++ (if wanted then entry_of entry.now ∷ [] else [])) }
 {
-    if state.is_given(entry, ty) {
+    if wanted {
         members.push(entry)?;
     }
     Ok(())

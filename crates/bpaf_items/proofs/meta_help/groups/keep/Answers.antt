@@ -22,5 +22,5 @@ loop-entry-preserved g c =
       few_stops = few (is_group_start e) (is_adjacent_stop e) d.stops after.result.stops i after.ensures.stops known.few_stops;
       starts = since_next is_adjacent_start before next e d.starts after.result.starts after.ensures.starts known.starts more;
       stops = since_next is_adjacent_stop before next e d.stops after.result.stops after.ensures.stops known.stops more;
-      kept = kept_next (map entry_at c.args.members.now.items) (map entry_at c.loop-entry.members.items) (map entry_at c.keep_one.new.members.items) before next e d.starts d.stops c.in_ok-keep_one.ensures known.kept known.starts known.stops more;
+      kept = kept_next (map entry_at c.args.members.now.items) (map entry_at c.loop-entry.members.items) (map entry_at c.push_if.new.members.items) before next e d.starts d.stops c.keeps.result c.in_ok-push_if.ensures c.keeps.ensures known.kept known.starts known.stops more;
     }

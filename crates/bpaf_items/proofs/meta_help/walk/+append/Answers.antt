@@ -90,7 +90,7 @@ pub append_group-returns-then-not-groups-clause-entries : goal.append_group-retu
 append_group-returns-then-not-groups-clause-entries g t c =
     let old = map entry_of c.args.items.now.items in
     let inner = tree_of c.args.inner.now in
-    OnOk-map c.append.result (λ e. e ∙ ap (λ es. old ++ es) (sym (ungrouped inner c.args.help.now) ∙ ap (λ b. entries_of b (subsection inner c.args.help.now)) (sym c.if-not-groups.true))) c.append.ensures.entries
+    OnOk-map {P = map entry_of c.append.new.items.items ≡ old ++ entries_of false inner} c.append.result (λ e. e ∙ ap (λ es. old ++ es) (sym (ungrouped inner c.args.help.now) ∙ ap (λ b. entries_of b (subsection inner c.args.help.now)) (sym c.if-not-groups.true))) c.append.ensures.entries
 
 pub append_noted-returns-in_default-clause-entries : goal.append_noted-returns-in_default-clause-entries
 append_noted-returns-in_default-clause-entries g t c =
