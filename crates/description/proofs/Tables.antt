@@ -1,5 +1,6 @@
 -- Tables that are read one after another.
-use Rattle.std.proofs.Common.{◌≡◌, ℕ, ◌+◌, ◌<◌, List, [], ◌∷◌, ◌++◌, length, drop, get_or, Option, Some, None, option_map, refl, sym, ap, ◌∙◌, append_assoc}
+use Rattle.std.proofs.Common.{◌≡◌, ℕ, ◌+◌, ◌<◌, ◌≤◌, List, [], ◌∷◌, ◌++◌, length, drop, get_or, map, Option, Some, None, option_map, refl, sym, ap, ◌∙◌, append_assoc, append-nil}
+use Rattle.std.proofs.lemmas.List.{drop_all, map-append}
 use Rattle.std.specs.Prelude.{option_and_then}
 use Rattle.toml.proofs.Views.{items_view-drop}
 use Rattle.toml.specs.Data.{Members, as_table}
@@ -31,6 +32,19 @@ module _ {X : Type 0} (read : Members → Option X) where
 
   pub table_faulty : (vs : List Value) (xs : List X) (i : ℕ) (d : Value) → i < length vs → ReadSoFar read vs xs i → option_and_then read (as_table (view (get_or vs i d))) ≡ None → each_table read (items_view vs) ≡ None
   table_faulty vs xs i d h s e = next_item vs xs i d h s ∙ rw e refl
+
+-- ---- a loop over tables that pushes what each gives
+
+module _ {T X : Type 0} (read : Members → Option X) (said : T → X) (vs : List Value) (ts : List T) (i : ℕ) where
+  pub item_read : (t : T) {us : List T} {d : Value} → i < length vs → d ≡ get_or vs i d → ReadSoFar read vs (map said ts) i → option_and_then read (as_table (view d)) ≡ Some (said t) → us ≡ ts ++ t ∷ [] → ReadSoFar read vs (map said us) (i + 1)
+  item_read t {us} {d} h at s e g =
+      table_read read vs (map said ts) (map said us) (said t) i d h s (ap (λ v. option_and_then read (as_table (view v))) (sym at) ∙ e) (ap (map said) g ∙ map-append said ts (t ∷ []))
+
+  pub item_faulty : {d : Value} → i < length vs → d ≡ get_or vs i d → ReadSoFar read vs (map said ts) i → option_and_then read (as_table (view d)) ≡ None → each_table read (items_view vs) ≡ None
+  item_faulty {d} h at s e = table_faulty read vs (map said ts) i d h s (ap (λ v. option_and_then read (as_table (view v))) (sym at) ∙ e)
+
+  pub items_read : length vs ≤ i → ReadSoFar read vs (map said ts) i → each_table read (items_view vs) ≡ Some (map said ts)
+  items_read h s = s ∙ ap (λ us. option_map (λ rest. map said ts ++ rest) (each_table read (items_view us))) (drop_all i vs h) ∙ ap Some (append-nil (map said ts))
 
 -- ---- commands and groups
 

@@ -77,11 +77,14 @@ unfoldable pub choice_from : Members → Option ChoiceSaid
 choice_from = with_only choice_keys (λ ms. tables_at (codes "option") ms >>= (λ os. if is_empty os then None else
     flag_at false (codes "required") ms >>= (λ required. option_map (λ alternatives. record { options = alternatives; required = required }) (each_table alternative_from os))))
 
-unfoldable pub positional_from : Members → Option PositionalSaid
-positional_from = with_only positional_keys (λ ms.
+abbrev pub positional_of : Members → Option PositionalSaid
+positional_of ms =
     required_at as_str (codes "value") ms >>= (λ value. optional_at as_str (codes "help") ms >>= (λ help.
     flag_at true (codes "required") ms >>= (λ required. flag_at false (codes "repeated") ms >>= (λ repeated. flag_at false (codes "strict") ms >>= (λ strict.
-    Some (record { value = value; help = help; required = required; repeated = repeated; strict = strict })))))))
+    Some (record { value = value; help = help; required = required; repeated = repeated; strict = strict }))))))
+
+unfoldable pub positional_from : Members → Option PositionalSaid
+positional_from = with_only positional_keys positional_of
 
 -- ---- groups, levels and commands, whose inner groups and commands were read already
 

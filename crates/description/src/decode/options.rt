@@ -1,17 +1,17 @@
 //! Options, choices and positional values, each from its table.
-ghost use Rattle.std.specs.Prelude.{IfOk, map, option_and_then, option_map};
-ghost use Rattle.bpaf_meta.specs.View.{name_of};
+ghost use Rattle.std.specs.Prelude.{◌≡◌, map, option_and_then, option_map};
+ghost use Rattle.bpaf_meta.specs.View.{name_of, text_of};
 ghost use Rattle.toml.specs.Data.{as_table};
 ghost use Rattle.toml.specs.View.{items_view, table_view, view};
-ghost use Rattle.description.specs.Described.{alternative_from, choice_from, option_from, option_name, option_of, positional_from};
+ghost use Rattle.description.specs.Described.{alternative_from, choice_from, name_from, option_from, option_name, option_of, positional_from, positional_of};
 ghost use Rattle.description.specs.Described.Values.{each_table};
 ghost use Rattle.description.specs.Faults.{Reads};
 ghost use Rattle.description_parts.specs.View.{choice_said, opt_said, positional_said};
 
 use super::faults::{Fault, Way};
 use super::values::{
-    flag_at, is_empty, name_at, push, required_text_at, see_keys, short_at, table_of, tables_at,
-    text_at,
+    flag_at, is_empty, name_at, push, required_word_at, see_keys, short_at, table_of, tables_at,
+    text_at, word_at,
 };
 use bpaf_help::item::ShortLong;
 use description_parts::options::{Choice, Opt};
@@ -35,11 +35,21 @@ fn option_name<'a>(names: &mut Names, table: &'a Table) -> Result<ShortLong, Fau
 {
     let short = short_at(table, "short")?;
     let long = name_at(names, table, "long")?;
+    match either_name(short, long) {
+        Some(name) => Ok(name),
+        None => Err(Fault::at("short or long", " is missing")),
+    }
+}
+
+// The name of these, if there is one.
+fn either_name(short: Option<char>, long: Option<&'static str>) -> Option<ShortLong>
+    ensures { option_map (λ name. name_of name) result ≡ name_from short (text_of long.entry) }
+{
     match (short, long) {
-        (Some(short), Some(long)) => Ok(ShortLong::Both(short, long)),
-        (Some(short), None) => Ok(ShortLong::Short(short)),
-        (None, Some(long)) => Ok(ShortLong::Long(long)),
-        (None, None) => Err(Fault::at("short or long", " is missing")),
+        (Some(short), Some(long)) => Some(ShortLong::Both(short, long)),
+        (Some(short), None) => Some(ShortLong::Short(short)),
+        (None, Some(long)) => Some(ShortLong::Long(long)),
+        (None, None) => None,
     }
 }
 
@@ -48,10 +58,7 @@ fn option_of<'a>(names: &mut Names, table: &'a Table) -> Result<Opt<'a>, Fault<'
     ensures { Reads (option_of (table_view table.now)) (λ option. opt_said option) result }
 {
     let name = option_name(names, table)?;
-    let value = match text_at(table, "value")? {
-        Some(value) => Some(names.get(value)?),
-        None => None,
-    };
+    let value = word_at(names, table, "value")?;
     let help = text_at(table, "help")?;
     let env = name_at(names, table, "env")?;
     Ok(Opt {
@@ -168,17 +175,18 @@ fn positional_from<'a>(names: &mut Names, item: &'a Value) -> Result<Positional<
 {
     let table = table_of(item)?;
     see_keys(table, &POSITIONAL_KEYS)?;
-    let value = names.get(required_text_at(table, "value")?)?;
-    let help = text_at(table, "help")?;
-    let required = flag_at(table, "required", true)?;
-    let repeated = flag_at(table, "repeated", false)?;
-    let strict = flag_at(table, "strict", false)?;
+    positional_of(names, table)
+}
+
+fn positional_of<'a>(names: &mut Names, table: &'a Table) -> Result<Positional<'a>, Fault<'a>>
+    ensures { Reads (positional_of (table_view table.now)) (λ positional. positional_said positional) result }
+{
     Ok(Positional {
-        value,
-        help,
-        required,
-        repeated,
-        strict,
+        value: required_word_at(names, table, "value")?,
+        help: text_at(table, "help")?,
+        required: flag_at(table, "required", true)?,
+        repeated: flag_at(table, "repeated", false)?,
+        strict: flag_at(table, "strict", false)?,
     })
 }
 

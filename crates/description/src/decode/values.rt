@@ -82,6 +82,34 @@ pub fn required_text_at<'a>(table: &'a Table, key: &'static str) -> Result<&'a s
     }
 }
 
+/// The text at a key, as one that lasts.
+pub fn word_at<'a>(
+    names: &mut Names,
+    table: &'a Table,
+    key: &'static str,
+) -> Result<Option<&'static str>, Fault<'a>>
+    ensures { Reads (optional_at as_str key.now (table_view table.now)) (λ word. text_of word) result }
+{
+    match text_at(table, key)? {
+        Some(text) => Ok(Some(names.get(text)?)),
+        None => Ok(None),
+    }
+}
+
+/// The text at a key that may not be left out, as one that lasts.
+pub fn required_word_at<'a>(
+    names: &mut Names,
+    table: &'a Table,
+    key: &'static str,
+) -> Result<&'static str, Fault<'a>>
+    ensures { Reads (required_at as_str key.now (table_view table.now)) (λ word. word.now) result }
+{
+    match word_at(names, table, key)? {
+        Some(word) => Ok(word),
+        None => Err(Fault::at(key, " is missing")),
+    }
+}
+
 /// The flag at a key.
 pub fn flag_at<'a>(table: &'a Table, key: &'static str, default: bool) -> Result<bool, Fault<'a>>
     ensures { Reads (flag_at default key.now (table_view table.now)) (λ flag. flag) result }

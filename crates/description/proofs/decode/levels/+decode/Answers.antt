@@ -1,6 +1,5 @@
 use Rattle.std.proofs.Common.{rules, ◌≡◌, ◌≤◌, Some, [], ◌∷◌, map, get_or, ap, ◌∙◌, refl, subst, sym, arith}
-use Rattle.std.proofs.lemmas.Grind.{common_steps}
-use Rattle.std.proofs.lemmas.List.{map-append}
+use Rattle.std.proofs.lemmas.List.{drop_all, map-append}
 use Rattle.toml.specs.Data.{as_table, depth, items_depth}
 use Rattle.toml.specs.View.{items_view, table_view, view}
 use Rattle.description.specs.Described.{as_command, as_group, group_of, level_of}
@@ -55,47 +54,47 @@ group_from-commands_in-requires g t c κs within =
 
 pub commands_in-command_from-requires : goal.commands_in-command_from-requires
 commands_in-command_from-requires g t c κs within =
-    let at : get_or c.args.items.now c.loop-item.item-index c.item-item.result ≡ c.item-item.result = grind (arith, common_steps) in
+    let at : get_or c.args.items.now c.loop-item.item-index c.item-item.result ≡ c.item-item.result = sym c.item-item.is in
     let below = subst (λ v. depth (view v) ≤ items_depth (items_view c.args.items.now)) at (item_depth c.args.items.now c.loop-item.item-index c.item-item.result c.loop-item-test.true) in
     (omega (arith, c.decreases, below), search rules)
 
 pub groups_in-group_from-requires : goal.groups_in-group_from-requires
 groups_in-group_from-requires g t c κs within =
-    let at : get_or c.args.items.now c.loop-item.item-index c.item-item.result ≡ c.item-item.result = grind (arith, common_steps) in
+    let at : get_or c.args.items.now c.loop-item.item-index c.item-item.result ≡ c.item-item.result = sym c.item-item.is in
     let below = subst (λ v. depth (view v) ≤ items_depth (items_view c.args.items.now)) at (item_depth c.args.items.now c.loop-item.item-index c.item-item.result c.loop-item-test.true) in
     (omega (arith, c.decreases, below), search rules)
 
 pub commands_in-returns-in-Err : goal.commands_in-returns-in-Err
 commands_in-returns-in-Err g t c =
-    let at : get_or c.args.items.now c.loop-item.item-index c.item-item.result ≡ c.item-item.result = grind (arith, common_steps) in
+    let at : get_or c.args.items.now c.loop-item.item-index c.item-item.result ≡ c.item-item.result = sym c.item-item.is in
     λ n. command_faulty c.args.items.now (map command_said c.loop-item.commands.items) c.loop-item.item-index c.item-item.result c.loop-item-test.true c.loop-item.invariant
     (ap (λ v. as_command (view v)) at ∙ c.in-Err.ensures (c.outwards.ensures n))
 
 pub commands_in-loop-item-preserved : goal.commands_in-loop-item-preserved
 commands_in-loop-item-preserved g t c =
-    let at : get_or c.args.items.now c.loop-item.item-index c.item-item.result ≡ c.item-item.result = grind (arith, common_steps) in
+    let at : get_or c.args.items.now c.loop-item.item-index c.item-item.result ≡ c.item-item.result = sym c.item-item.is in
     command_read c.args.items.now (map command_said c.loop-item.commands.items) (map command_said c.push.new.list.items) (command_said c.in-Ok.one) c.loop-item.item-index c.item-item.result c.loop-item-test.true c.loop-item.invariant
     (ap (λ v. as_command (view v)) at ∙ c.in-Ok.ensures)
     (ap (map command_said) c.in_ok-push-in-Ok.ensures ∙ map-append command_said c.loop-item.commands.items (c.in-Ok.one ∷ []))
 
 pub commands_in-returns : goal.commands_in-returns
-commands_in-returns g t c = commands_read c.args.items.now (map command_said c.loop-item.commands.items) c.loop-item.item-index c.loop-item.invariant (grind (arith, common_steps))
+commands_in-returns g t c = commands_read c.args.items.now (map command_said c.loop-item.commands.items) c.loop-item.item-index c.loop-item.invariant (drop_all c.loop-item.item-index c.args.items.now c.loop-item-test.false)
 
 pub groups_in-returns-in-Err : goal.groups_in-returns-in-Err
 groups_in-returns-in-Err g t c =
-    let at : get_or c.args.items.now c.loop-item.item-index c.item-item.result ≡ c.item-item.result = grind (arith, common_steps) in
+    let at : get_or c.args.items.now c.loop-item.item-index c.item-item.result ≡ c.item-item.result = sym c.item-item.is in
     λ n. group_faulty c.args.items.now (map group_said c.loop-item.groups.items) c.loop-item.item-index c.item-item.result c.loop-item-test.true c.loop-item.invariant
     (ap (λ v. as_group (view v)) at ∙ c.in-Err.ensures (c.outwards.ensures n))
 
 pub groups_in-loop-item-preserved : goal.groups_in-loop-item-preserved
 groups_in-loop-item-preserved g t c =
-    let at : get_or c.args.items.now c.loop-item.item-index c.item-item.result ≡ c.item-item.result = grind (arith, common_steps) in
+    let at : get_or c.args.items.now c.loop-item.item-index c.item-item.result ≡ c.item-item.result = sym c.item-item.is in
     group_read c.args.items.now (map group_said c.loop-item.groups.items) (map group_said c.push.new.list.items) (group_said c.in-Ok.one) c.loop-item.item-index c.item-item.result c.loop-item-test.true c.loop-item.invariant
     (ap (λ v. as_group (view v)) at ∙ c.in-Ok.ensures)
     (ap (map group_said) c.in_ok-push-in-Ok.ensures ∙ map-append group_said c.loop-item.groups.items (c.in-Ok.one ∷ []))
 
 pub groups_in-returns : goal.groups_in-returns
-groups_in-returns g t c = groups_read c.args.items.now (map group_said c.loop-item.groups.items) c.loop-item.item-index c.loop-item.invariant (grind (arith, common_steps))
+groups_in-returns g t c = groups_read c.args.items.now (map group_said c.loop-item.groups.items) c.loop-item.item-index c.loop-item.invariant (drop_all c.loop-item.item-index c.args.items.now c.loop-item-test.false)
 
 pub command_from-returns-in_err-table : goal.command_from-returns-in_err-table
 command_from-returns-in_err-table g t c = passed_on _ _ c.from_residual.result c.in_err-table.field-0.0 c.from_residual.ensures.1 (λ n. no_command (view c.args.item.now) (c.in_err-table.ensures n))
