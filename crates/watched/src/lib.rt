@@ -4,15 +4,19 @@
 ghost use Rattle.std.specs.Prelude.{◌≡◌, ◌||◌, ◌↔◌, IfErr, IfOk, IsErrOf, IsOk, IsUtf8, OnErr, OnOk, is_err, string_bytes};
 ghost use Rattle.std.specs.Io.{ReadsAtMost, WritesAtMost};
 ghost use Rattle.std.specs.Io.KnownBytes.{Appends, ReadConsumes, WriteAppends};
+ghost use Rattle.watched.specs.Calls.{Moves, ReadStops, ReadsToEnd, WriteFails};
 ghost use Rattle.watched.specs.Reading.{IsRefused, is_failed_read};
 ghost use Rattle.watched.specs.Watched.{AppendsPart, IsUnmarked, ReadsAll, ReadsNoText, is_failed_write};
 
 use std::alloc::{AllocError, Allocator};
 use std::io;
-use std::io::{ErrorKind, Read, Write};
+use std::io::ErrorKind;
 use std::marker::Model;
+pub use streams::{Sink, Source};
+use thiserror::Error;
 
 pub mod program;
+pub mod streams;
 
 /// An end, a reader or a writer, with a mark that a call on it has failed. Only calls that read or
 /// write set the mark, and nothing clears it.
@@ -60,13 +64,16 @@ impl<E> Watched<E> {
 }
 
 /// Why not all of an input was read, or not as a text.
-#[derive(Clone, Copy, Debug)]
+#[derive(Clone, Copy, Debug, Error)]
 pub enum ReadError {
     /// A read failed.
+    #[error("read failed: {0}")]
     Failed(io::Error),
     /// All was read, and is no text.
+    #[error("input is not UTF-8")]
     NotUtf8,
     /// A growth was refused.
+    #[error("no memory")]
     Refused(AllocError),
 }
 
@@ -81,13 +88,14 @@ impl From<AllocError> for ReadError {
 // How many bytes a read asks for.
 const CHUNK: usize = 64 * 1024;
 
-impl<R: Read> Watched<R> {
-    /// Reads into the buffer, and answers what the reader answers. An error sets the mark, of
-    /// whatever kind it is.
+impl<R: Source> Watched<R> {
+    /// Reads into the buffer by one read of the reader, and answers what it answers. An error sets the
+    /// mark, of whatever kind it is.
     pub fn read(&mut self, buf: &mut [u8]) -> io::Result<usize>
         ensures bound { ReadsAtMost result buf.new }
         ensures bytes { ReadConsumes (R.remaining self.old.end) (R.remaining self.new.end)
             result buf.new }
+        ensures called { R.reads self.old.end result buf.new self.new.end }
         ensures mark { self.new.marked ≡ (self.old.marked || is_err result) }
     {
         let result = self.inner.read(buf);
@@ -95,13 +103,17 @@ impl<R: Read> Watched<R> {
         result
     }
 
-    /// All that the reader has left. A read that fails ends it, of whatever kind its error is, and so does a
-    /// growth that is refused: a reader that never ends meets that. In both cases what was read until then is lost.
+    /// All that the reader has left. A read that fails ends it with its error, of whatever kind this is, and so does
+    /// a growth that is refused: a reader that never ends meets that. In both cases what was read until then is lost.
     /// `NotUtf8` never comes.
     pub fn read_all<A: Allocator>(&mut self, alloc: A) -> Result<Vec<u8, A>, ReadError>
         ensures ok { IfOk result (λ bytes.
             ReadsAll (R.remaining self.old.end) (R.remaining self.new.end) bytes.items) }
         ensures not_utf8 { ¬ IsErrOf result ReadError.NotUtf8 }
+        ensures reads { IfOk result (λ bytes.
+            ReadsToEnd R.reads self.old.end bytes.items self.new.end) }
+        ensures stops { IfErr result (λ error.
+            ReadStops R.reads self.old.end error self.new.end) }
         ensures mark { self.new.marked ≡ (self.old.marked || is_failed_read result) }
     {
         let mut chunk = [0; CHUNK];
@@ -123,6 +135,10 @@ impl<R: Read> Watched<R> {
         ensures utf8 { IfOk result (λ text. IsUtf8 (string_bytes text)) }
         ensures not_utf8 { IsErrOf result ReadError.NotUtf8 →
             ReadsNoText (R.remaining self.old.end) (R.remaining self.new.end) }
+        ensures reads { IfOk result (λ text.
+            ReadsToEnd R.reads self.old.end (string_bytes text) self.new.end) }
+        ensures stops { IfErr result (λ error.
+            ReadStops R.reads self.old.end error self.new.end) }
         ensures mark { self.new.marked ≡ (self.old.marked || is_failed_read result) }
     {
         let bytes = self.read_all(alloc)?;
@@ -139,14 +155,15 @@ fn text_of<A: Allocator>(bytes: Vec<u8, A>) -> Result<String<A>, ReadError>
     String::from_utf8(bytes).map_err(|_| ReadError::NotUtf8)
 }
 
-impl<W: Write> Watched<W> {
-    /// Writes some of the bytes, and answers what the writer answers. An error sets the mark, of
-    /// whatever kind it is, and so does a write of at least one byte that takes none: its answer is
+impl<W: Sink> Watched<W> {
+    /// Writes some of the bytes by one write of the writer, and answers what it answers. An error sets
+    /// the mark, of whatever kind it is, and so does a write of at least one byte that takes none: its answer is
     /// `Ok(0)`, and yet it has failed.
     pub fn write(&mut self, buf: &[u8]) -> io::Result<usize>
         ensures bound { WritesAtMost result buf.now }
         ensures bytes { WriteAppends (W.contents self.old.end) (W.contents self.new.end)
             result buf.now }
+        ensures called { W.writes self.old.end result buf.now self.new.end }
         ensures mark { self.new.marked ≡ (self.old.marked || is_failed_write result buf.now) }
     {
         let result = self.inner.write(buf);
@@ -157,14 +174,17 @@ impl<W: Write> Watched<W> {
         result
     }
 
-    /// Writes all of the bytes, in as many writes as the writer takes. The first that fails ends it, of
-    /// whatever kind its error is, and then the writer has a beginning of the bytes, and not all of them.
+    /// Writes all of the bytes, in as many writes as the writer takes. The first that fails ends it with its
+    /// error, of whatever kind this is, and then the writer has a beginning of the bytes, and not all of them.
     /// A write that takes none answers `WriteZero`.
     pub fn write_all(&mut self, buf: &[u8]) -> io::Result<()>
         ensures ok { OnOk result (
             Appends (W.contents self.old.end) (W.contents self.new.end) buf.now) }
         ensures cut_short { OnErr result (
             AppendsPart (W.contents self.old.end) (W.contents self.new.end) buf.now) }
+        ensures writes { OnOk result (Moves W.writes self.old.end buf.now self.new.end) }
+        ensures stops { IfErr result (λ error.
+            WriteFails W.writes self.old.end buf.now error self.new.end) }
         ensures mark { self.new.marked ≡ (self.old.marked || is_err result) }
     {
         let mut rest = buf;

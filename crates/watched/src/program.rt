@@ -1,5 +1,8 @@
 //! What programs have in common: the words that choose what one does, and the status of its run.
 
+ghost use Rattle.std.specs.Prelude.{◌≡◌, IfOk, OnErr};
+ghost use Rattle.std.specs.Process.{exit_status};
+
 use std::fmt::Display;
 use std::process::ExitCode;
 use std::rt::Env;
@@ -25,13 +28,18 @@ pub fn chosen<R: Alloc + Env, T, F: FnOnce(&[&str]) -> Option<T> + Drop>(
 }
 
 /// Says on standard error which words are expected, and answers `WRONG_WORDS`.
-pub fn expecting<R: Eprint>(rt: &R, line: &str) -> ExitCode {
+pub fn expecting<R: Eprint>(rt: &R, line: &str) -> ExitCode
+    ensures { exit_status result ≡ WRONG_WORDS }
+{
     let _ = eprintln!(rt; "{line}");
     ExitCode::from(WRONG_WORDS)
 }
 
-/// The status of a run: that which it answers, or failure, which says its fault on standard error.
-pub fn status_of<R: Eprint, F: Display + Drop>(rt: &R, outcome: Result<ExitCode, F>) -> ExitCode {
+/// The status of a run: that which it answers, or `FAILURE`, and then its fault is said on standard error.
+pub fn status_of<R: Eprint, F: Display + Drop>(rt: &R, outcome: Result<ExitCode, F>) -> ExitCode
+    ensures ok { IfOk outcome (λ status. result ≡ status) }
+    ensures err { OnErr outcome (result ≡ ExitCode.FAILURE) }
+{
     match outcome {
         Ok(status) => status,
         Err(fault) => {

@@ -155,3 +155,17 @@ fn each_error_is_handed_out(rt: HostRuntime) -> Result<(), Fail> {
     writes_all(&rt, b"", &[Answer::Moves(0)]);
     Ok(())
 }
+
+#[test]
+fn a_failed_reading_is_told(rt: HostRuntime) -> Result<(), Fail> {
+    let failed = ReadError::Failed(ErrorKind::TimedOut.into());
+    let lines = [
+        (failed, "read failed: timed out"),
+        (ReadError::NotUtf8, "input is not UTF-8"),
+        (ReadError::Refused(AllocError), "no memory"),
+    ];
+    for (error, line) in lines {
+        assert_eq!(rt; error.to_string(rt.alloc())?.as_str(), line);
+    }
+    Ok(())
+}

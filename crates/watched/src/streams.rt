@@ -1,0 +1,64 @@
+//! What `Watched` reads from and writes to: any `Read`, and any `Write`.
+//!
+//! By the traits of std each call may fail, with any error. Here a stream has a relation for what a call answers, and code that
+//! takes any `Source` or `Sink` can show it of an answer only by the call that gave it.
+
+ghost use Rattle.std.specs.Prelude.{ℕ, List, Option, Result};
+ghost use Rattle.std.specs.Io.{ReadsAtMost, WritesAtMost};
+ghost use Rattle.std.specs.Io.KnownBytes.{ReadConsumes, WriteAppends};
+ghost use Rattle.std_io.specs.declared.io.error.Error.{Error};
+
+use std::io;
+use std::io::{Read, Write};
+
+/// Where bytes come from: any `Read`.
+pub trait Source {
+    // The bytes that reads will give from here on, where they are known.
+    ghost remaining: { Self → Option (List ℕ) };
+
+    // A read: the source before, the answer, the buffer then, and the source after.
+    ghost reads: { Self → Result ℕ Error → List ℕ → Self → Type 0 };
+
+    /// Reads into the buffer, as `Read` does.
+    fn read(&mut self, buf: &mut [u8]) -> io::Result<usize>
+        ensures bound { ReadsAtMost result buf.new }
+        ensures bytes { ReadConsumes (remaining self.old) (remaining self.new) result buf.new }
+        ensures called { reads self.old result buf.new self.new };
+}
+
+impl<R: Read> Source for R {
+    ghost remaining = { R.remaining };
+
+    ghost reads = { λ before result bytes after.
+        ReadConsumes (R.remaining before) (R.remaining after) result bytes };
+
+    fn read(&mut self, buf: &mut [u8]) -> io::Result<usize> {
+        Read::read(self, buf)
+    }
+}
+
+/// Where bytes go: any `Write`.
+pub trait Sink {
+    // The bytes that it holds, where they are known.
+    ghost contents: { Self → Option (List ℕ) };
+
+    // A write: the sink before, the answer, the bytes that were offered, and the sink after.
+    ghost writes: { Self → Result ℕ Error → List ℕ → Self → Type 0 };
+
+    /// Writes some of the bytes, as `Write` does.
+    fn write(&mut self, buf: &[u8]) -> io::Result<usize>
+        ensures bound { WritesAtMost result buf.now }
+        ensures bytes { WriteAppends (contents self.old) (contents self.new) result buf.now }
+        ensures called { writes self.old result buf.now self.new };
+}
+
+impl<W: Write> Sink for W {
+    ghost contents = { W.contents };
+
+    ghost writes = { λ before result bytes after.
+        WriteAppends (W.contents before) (W.contents after) result bytes };
+
+    fn write(&mut self, buf: &[u8]) -> io::Result<usize> {
+        Write::write(self, buf)
+    }
+}
