@@ -1,10 +1,11 @@
 //! What the program does, over any reader and any writer.
 
 ghost use Rattle.std.specs.Prelude.{◌≡◌, ◌≢◌, ◌↔◌, ◌⊎◌, IfOk, IfErr, OnOk, OnErr, IsErrOf, string_bytes};
+ghost use Rattle.watched.specs.Calls.{GivesNoText, GivesText, Moves, ReadFails, WriteFails};
 ghost use Rattle.watched.specs.Watched.{IsMarked, IsUnmarked, ReadsText, ReadsNoText};
 ghost use Rattle.bpaf_doc.specs.Manpage.Page.{title_page};
 ghost use Rattle.helpdoc_engine.specs.Rendering.{IsPage, document_of_text, text_title};
-ghost use Rattle.helpdoc_engine.specs.Runs.{WritesPage, WritesBeginning};
+ghost use Rattle.helpdoc_engine.specs.Runs.{HasPage, WritesPage, WritesBeginning};
 ghost use Rattle.helpdoc_engine.specs.Sample.{sample_document, sample_title};
 
 use crate::faults::Fault;
@@ -14,8 +15,7 @@ use bpaf_doc::buffer::Doc;
 use bpaf_doc::console::MAX_WIDTH;
 use bpaf_roff::roff::Roff;
 use std::alloc::{AllocError, Allocator};
-use std::io::{Read, Write};
-use watched::Watched;
+use watched::{Sink, Source, Watched};
 
 // The section of a manual page for programs.
 const SECTION: &str = "1";
@@ -24,10 +24,11 @@ const SECTION: &str = "1";
 /// page is made before the first write, so that an error other than `Write` leaves the writer as it
 /// was.
 ///
-/// `Read` comes exactly where the reader's mark is then set, `Write` exactly where the writer's is,
-/// and `NotUtf8` only where all was read and is no text. `Memory` comes only where a growth was
-/// refused, which no clause can say. `Misplaced` never comes.
-pub fn run_text<A: Allocator + Copy, R: Read, W: Write>(
+/// `Read` comes exactly where the reader's mark is then set, since its last read failed, `Write`
+/// exactly where the writer's is, since its last write failed or took none, and `NotUtf8` only where
+/// all was read and is no text. `Memory` comes only where a growth was refused, which no clause can
+/// say. `Misplaced` never comes.
+pub fn run_text<A: Allocator + Copy, R: Source, W: Sink>(
     alloc: A,
     form: Form,
     reader: &mut Watched<R>,
@@ -42,6 +43,20 @@ pub fn run_text<A: Allocator + Copy, R: Read, W: Write>(
     ensures not_misplaced { ¬ IsErrOf result Fault.Misplaced }
     ensures untouched { IfErr result (λ fault.
         fault ≢ Fault.Write → writer.new ≡ writer.old) }
+
+    // Over all ends: which calls of theirs gave and took the bytes, and failed.
+    ensures given { OnOk result (
+        GivesText R.reads reader.old.end reader.new.end (λ input.
+        HasPage text_title form (document_of_text input) (λ page.
+        Moves W.writes writer.old.end page writer.new.end))) }
+    ensures read_failed { IsErrOf result Fault.Read →
+        (error : _) × ReadFails R.reads reader.old.end error reader.new.end }
+    ensures write_failed { IsErrOf result Fault.Write →
+        GivesText R.reads reader.old.end reader.new.end (λ input.
+        HasPage text_title form (document_of_text input) (λ page.
+        (error : _) × WriteFails W.writes writer.old.end page error writer.new.end)) }
+    ensures no_text { IsErrOf result Fault.NotUtf8 →
+        GivesNoText R.reads reader.old.end reader.new.end }
 
     // Over ends that tell their bytes: which are read and written.
     ensures ok { OnOk result (
@@ -63,9 +78,9 @@ pub fn run_text<A: Allocator + Copy, R: Read, W: Write>(
 /// Writes the page of the sample application and nothing more. The whole page is made before the
 /// first write, so that `Memory` leaves the writer as it was.
 ///
-/// `Write` comes exactly where the writer's mark is then set, and `Memory` only where a growth was
-/// refused, which no clause can say. No other fault comes.
-pub fn run_sample<A: Allocator + Copy, W: Write>(
+/// `Write` comes exactly where the writer's mark is then set, since its last write failed or took
+/// none, and `Memory` only where a growth was refused, which no clause can say. No other fault comes.
+pub fn run_sample<A: Allocator + Copy, W: Sink>(
     alloc: A,
     form: Form,
     writer: &mut Watched<W>,
@@ -77,6 +92,14 @@ pub fn run_sample<A: Allocator + Copy, W: Write>(
     ensures fault { IfErr result (λ fault. (fault ≡ Fault.Write) ⊎ (fault ≡ Fault.Memory)) }
     ensures untouched { IfErr result (λ fault.
         fault ≢ Fault.Write → writer.new ≡ writer.old) }
+
+    // Over all ends: which calls of the writer took the bytes, and failed.
+    ensures taken { OnOk result (
+        HasPage sample_title form (sample_document form) (λ page.
+        Moves W.writes writer.old.end page writer.new.end)) }
+    ensures write_failed { IsErrOf result Fault.Write →
+        HasPage sample_title form (sample_document form) (λ page.
+        (error : _) × WriteFails W.writes writer.old.end page error writer.new.end) }
 
     // Over ends that tell their bytes: which are written.
     ensures ok { OnOk result (
