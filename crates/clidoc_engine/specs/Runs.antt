@@ -24,3 +24,7 @@ pub record WritesBeginning (form : Form) (text : List ℕ) (before after : Optio
   pub page : List ℕ
   pub whole : HasPage form text page
   pub written : AppendsPart before after page
+
+-- there is a page of the description that the text gives of which the fact holds
+abbrev pub MakesPage : Form → List ℕ → (List ℕ → Type 0) → Type 0
+MakesPage form text Fact = (page : List ℕ) × HasPage form text page × Fact page

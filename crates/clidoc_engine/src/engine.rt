@@ -4,12 +4,13 @@ ghost use Rattle.std.specs.Prelude.{◌≡◌, ◌≢◌, ◌↔◌, IfOk, IfErr
 ghost use Rattle.toml.specs.Errors.{IsMemory, IsWithin};
 ghost use Rattle.toml.specs.Parse.{parse_document};
 ghost use Rattle.toml.specs.View.{table_view};
+ghost use Rattle.watched.specs.Calls.{GivesNoText, GivesText, Moves, ReadFails, WriteFails};
 ghost use Rattle.watched.specs.Watched.{IsMarked, IsUnmarked, ReadsText, ReadsNoText};
 ghost use Rattle.description.specs.View.{description_said};
 ghost use Rattle.clidoc_engine.specs.Faults.{IfNotToml, IfNotDescription};
 ghost use Rattle.clidoc_engine.specs.Inputs.{IsNoToml, IsNoDescription};
 ghost use Rattle.clidoc_engine.specs.Rendering.{IsPage};
-ghost use Rattle.clidoc_engine.specs.Runs.{HasPage, WritesPage, WritesBeginning};
+ghost use Rattle.clidoc_engine.specs.Runs.{HasPage, MakesPage, WritesPage, WritesBeginning};
 ghost use Rattle.clidoc_engine.specs.Steps.{IsOfContent, IsSyntaxFault};
 
 use crate::faults::Fault;
@@ -18,20 +19,19 @@ use crate::words::Form;
 use description::Description;
 use lasting_names::Names;
 use std::alloc::{AllocError, Allocator, Global};
-use std::io::{Read, Write};
 use toml::Table;
-use watched::Watched;
+use watched::{Sink, Source, Watched};
 
 /// Reads all that the reader has left, as a description in TOML, and writes its page and nothing more.
 /// The whole page is made before the first write, so that an error other than `Write` leaves the writer
 /// as it was. The tables of the TOML, the description and its names are kept in `global`, and what is
 /// read and the page in `alloc`. The names are never freed, so each call keeps its own.
 ///
-/// `Read` comes exactly where the reader's mark is then set, `Write` exactly where the writer's is, and
-/// the faults of the input only where all was read: `NotUtf8` where it is no text, `NotToml` where it is
-/// no TOML, and `NotDescription` where its data is no description. `Memory` comes only where a growth was
-/// refused, which no clause can say.
-pub fn run_description<A: Allocator + Copy, R: Read, W: Write>(
+/// `Read` comes exactly where the reader's mark is then set, since its last read failed, `Write` exactly
+/// where the writer's is, since its last write failed or took none, and the faults of the input only where
+/// all was read: `NotUtf8` where it is no text, `NotToml` where it is no TOML, and `NotDescription` where
+/// its data is no description. `Memory` comes only where a growth was refused, which no clause can say.
+pub fn run_description<A: Allocator + Copy, R: Source, W: Sink>(
     alloc: A,
     global: Global,
     form: Form,
@@ -46,6 +46,23 @@ pub fn run_description<A: Allocator + Copy, R: Read, W: Write>(
     ensures write { IsErrOf result Fault.Write ↔ IsMarked writer.new }
     ensures untouched { IfErr result (λ fault.
         fault ≢ Fault.Write → writer.new ≡ writer.old) }
+
+    // Over all ends: which calls of theirs gave and took the bytes, and failed.
+    ensures given { OnOk result (
+        GivesText R.reads reader.old.end reader.new.end (λ input.
+        MakesPage form input (λ page. Moves W.writes writer.old.end page writer.new.end))) }
+    ensures read_failed { IsErrOf result Fault.Read →
+        (error : _) × ReadFails R.reads reader.old.end error reader.new.end }
+    ensures write_failed { IsErrOf result Fault.Write →
+        GivesText R.reads reader.old.end reader.new.end (λ input.
+        MakesPage form input (λ page.
+        (error : _) × WriteFails W.writes writer.old.end page error writer.new.end)) }
+    ensures no_text { IsErrOf result Fault.NotUtf8 →
+        GivesNoText R.reads reader.old.end reader.new.end }
+    ensures no_toml { IfErr result (λ fault. IfNotToml fault (λ place error.
+        GivesText R.reads reader.old.end reader.new.end (λ input. IsNoToml input place error))) }
+    ensures no_description { IfErr result (λ fault. IfNotDescription fault (
+        GivesText R.reads reader.old.end reader.new.end IsNoDescription)) }
 
     // Over ends that tell their bytes: which are read and written.
     ensures ok { OnOk result (
