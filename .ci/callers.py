@@ -1,14 +1,26 @@
 #!/usr/bin/env python3
-"""Each caller in a crate's CALLING.md stands word by word in the crate `callers`, which the gate proves.
+"""What pages show stands word by word in a file: each caller of a crate's CALLING.md in the crate `callers`, which the gate proves, and the
+description of README.md in `examples/`. The description of the README's pictures is the one that the gate runs `clidoc` on.
 
-Prints the callers that do not. Ends with status 1 where there is any.
+Prints what does not. Ends with status 1 where there is any.
 """
 import pathlib
 import re
 import sys
 
-CRATES = pathlib.Path(__file__).resolve().parent.parent / "crates"
+TOP = pathlib.Path(sys.argv[1] if sys.argv[1:] else pathlib.Path(__file__).resolve().parent.parent)
+CRATES, EXAMPLES = TOP / "crates", TOP / "examples"
 FIRST = "#![tactic(auto)]\n\n"
+
+
+def unlike_their_files():
+    """What is said of the descriptions of README.md that are not those of their files."""
+    readme = (TOP / "README.md").read_text(encoding="utf-8")
+    shown = re.search(r"(?m)^The description is `examples/greet\.toml`,\n\n((?: {4}.*\n)+)", readme)
+    if not shown or re.sub(r"(?m)^ {4}", "", shown[1]) != (EXAMPLES / "greet.toml").read_text(encoding="utf-8"):
+        yield "README.md does not show examples/greet.toml"
+    if (EXAMPLES / "fetch.toml").read_bytes() != (CRATES / "clidoc" / "stdin").read_bytes():
+        yield "crates/clidoc/stdin is not examples/fetch.toml"
 
 
 def main():
@@ -19,6 +31,7 @@ def main():
             count += 1
             if not caller.startswith(FIRST) or caller[len(FIRST):] not in proved:
                 faults.append(f"{page.parent.name}/CALLING.md: no file of callers has its caller {number}, word by word")
+    faults += unlike_their_files()
     print("\n".join(faults) if faults else f"{count} callers stand in the crate that proves them")
     sys.exit(1 if faults or not count else 0)
 

@@ -17,7 +17,7 @@ OF_GLOBAL = {"lasting_names", "replay_engine"}
 # Errors that are no allocation failure: `from_names` of two empty lists, a misplaced item, and what a stream answers.
 OTHER_ERRORS = {"NoName", "&Item", "io::Error"}
 CALL = re.compile(r"(?m)^( *)pub fn (\w+)(?:<[^{}]*?>)?\(([^{}]*?)\)\s*->\s*(.*?)(?=\n\s*(?:where|requires|ensures|\{)|\s*\{)", re.S)
-ROW = re.compile(r"(?m)^\| `([\w:]+)` \| `(\w+)::(\w+)`")
+ROW = re.compile(r"(?m)^\| `([\w:]+)` \| `(\w+)::((?:\w+::)*)(\w+)`")
 
 
 def libraries():
@@ -101,11 +101,12 @@ def public_calls(library):
 def main():
     calls = {call for library in libraries() for call in public_calls(library)}
     rows = ROW.findall(PAGE.read_text(encoding="utf-8"))
-    named = {call for call, _, _ in rows}
+    named = {call for call, *_ in rows}
     faults = [f"{call} has no row" for call in sorted(calls - named)]
     faults += [f"{call} is no public call that can meet an allocation failure" for call in sorted(named - calls)]
-    for call, crate, test in rows:
-        sources = "".join(file.read_text(encoding="utf-8") for file in (TOP / "crates" / crate / "src").glob("*.rt"))
+    for call, crate, path, test in rows:
+        files = (TOP / "crates" / crate / "src").rglob(f"{path[:-2].replace('::', '/') or '*'}.rt")
+        sources = "".join(file.read_text(encoding="utf-8") for file in files)
         if not re.search(rf"#\[test\]\nfn {test}\(", sources):
             faults.append(f"{call}: crate {crate} has no test {test}")
     print("\n".join(faults) if faults else f"{len(calls)} calls that can meet an allocation failure, each with a test")

@@ -58,9 +58,11 @@ def equations(crate):
 
 
 def tests(crate):
-    for file in sorted((CRATES / crate / "src").glob("*.rt")):
+    root = CRATES / crate / "src"
+    for file in sorted(root.rglob("*.rt")):
+        module = "::".join(file.relative_to(root).with_suffix("").parts)
         for name in re.findall(r"#\[test\]\n *(?:pub )?fn (\w+)", file.read_text(encoding="utf-8")):
-            yield name.replace("_", " "), f"`{crate}::{file.stem}::{name}`"
+            yield name.replace("_", " "), f"`{crate}::{module}::{name}`"
 
 
 def programs():

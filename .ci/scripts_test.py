@@ -1,7 +1,7 @@
 #!/usr/bin/env python3
-"""Tests of `.ci/refusals.py`, `.ci/mutants`, `vendor`, `test` and `install`, on copies in a temporary folder: some seconds together.
+"""Tests of `.ci/refusals.py`, `.ci/callers.py`, `.ci/mutants`, `vendor`, `test` and `install`, on copies in a temporary folder: some seconds.
 
-All but the first and `vendor` call the toolchain's `rt`. Here a stand-in answers in its place.
+All but the first two and `vendor` call the toolchain's `rt`. Here a stand-in answers in its place.
 """
 import os
 import pathlib
@@ -57,11 +57,44 @@ class Refusals(InFolder):
         self.assertEqual(self.told(), (1, "bpaf_doc::Doc::text has no row\n"))
 
     def test_finds_a_test_that_went(self):
-        for source in (self.folder / "crates" / "doc_tests" / "src").glob("*.rt"):
+        for source in (self.folder / "crates" / "doc_tests" / "src").rglob("*.rt"):
             source.write_text(source.read_text(encoding="utf-8").replace("#[test]\n", ""), encoding="utf-8")
         status, told = self.told()
         self.assertEqual(status, 1)
         self.assertIn("bpaf_doc::Doc::text: crate doc_tests has no test", told)
+
+
+class Callers(InFolder):
+    def setUp(self):
+        super().setUp()
+        for name in ("callers", "clidoc", "bpaf_help"):
+            shutil.copytree(TOP / "crates" / name, self.folder / "crates" / name, ignore=shutil.ignore_patterns("out"))
+        shutil.copytree(TOP / "examples", self.folder / "examples")
+        shutil.copy(TOP / "README.md", self.folder)
+
+    def told(self):
+        asked = subprocess.run([sys.executable, TOP / ".ci" / "callers.py", self.folder], capture_output=True, text=True)
+        return asked.returncode, asked.stdout
+
+    def change(self, path, old, new):
+        text = (self.folder / path).read_text(encoding="utf-8")
+        self.assertIn(old, text)
+        (self.folder / path).write_text(text.replace(old, new), encoding="utf-8")
+
+    def test_finds_a_description_that_is_not_its_file(self):
+        self.assertEqual(self.told()[0], 0)
+        self.change("examples/greet.toml", "Whom to greet", "Whom")
+        self.assertEqual(self.told(), (1, "README.md does not show examples/greet.toml\n"))
+        self.change("README.md", "Whom to greet\"\n", "Whom\"\n")
+        self.assertEqual(self.told()[0], 0)
+        self.change("examples/fetch.toml", "Say nothing", "Say little")
+        self.assertEqual(self.told(), (1, "crates/clidoc/stdin is not examples/fetch.toml\n"))
+
+    def test_finds_a_caller_that_is_not_proved(self):
+        self.change("crates/bpaf_help/CALLING.md", "#![tactic(auto)]\n\n", "#![tactic(auto)]\n\n// mine\n")
+        status, told = self.told()
+        self.assertEqual(status, 1)
+        self.assertIn("bpaf_help/CALLING.md: no file of callers has its caller 1", told)
 
 
 class Vendor(InFolder):
@@ -262,9 +295,13 @@ class Mutants(InFolder):
         self.mutant("twice", "_body", "wrong")
         self.mutant("never", "e_body", "wrong")
         self.mutant("untested", "a_body", "wrong", "test: one holds\n")
+        self.write("crates/one/src/of/calls.rt", "#[test]\nfn passes(rt: HostRuntime) {}\n")
+        self.mutant("tested", "a_body", "wrong", "test: one passes\ntest: one of::calls::passes\n")
+        self.mutant("astray", "a_body", "wrong", "test: one of::rows::passes\n")
         status, told = self.told("--applies")
         self.assertEqual(status, 1)
-        for line, why in zip(told, ["'e_body' stands 0 times", "'_body' stands 4 times", "crate one has no test holds"], strict=True):
+        faults = ["no test of::rows::passes", "'e_body' stands 0 times", "'_body' stands 4 times", "crate one has no test holds"]
+        for line, why in zip(told, faults, strict=True):
             self.assertIn(why, line)
 
     def test_tries_together_and_what_is_not_named_alone(self):

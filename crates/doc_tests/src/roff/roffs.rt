@@ -1,6 +1,6 @@
 //! The calls of a roff over a small arena.
 use crate::arenas::taken;
-use crate::refusals::{LONG, Outcome};
+use crate::roff::refusals::{LONG, Outcome};
 use bpaf_roff::escape::Apostrophes;
 use bpaf_roff::roff::{Font, Roff};
 use bumpalo::Bump;

@@ -1,6 +1,6 @@
 //! The calls of a monoid over a small arena.
 use crate::arenas::taken;
-use crate::refusals::{LONG, Outcome};
+use crate::roff::refusals::{LONG, Outcome};
 use bpaf_roff::monoid::FreeMonoid;
 use bumpalo::Bump;
 use std::alloc::{AllocError, Allocator};

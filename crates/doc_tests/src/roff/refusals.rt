@@ -1,8 +1,8 @@
 //! Each growth refused in turn: a call is made over an arena with room for nothing, then for a little more each time, until it
 //! succeeds. Each refusal leaves what was lent as it was, and at the end stands what the call has to add.
 use crate::arenas::{BYTES, STEP, roomy, taken};
-use crate::monoids::{MonoidCall, attempt_on_monoid, monoid_before};
-use crate::roffs::{RoffCall, attempt_on_roff, roff_before};
+use crate::roff::monoids::{MonoidCall, attempt_on_monoid, monoid_before};
+use crate::roff::roffs::{RoffCall, attempt_on_roff, roff_before};
 use bpaf_roff::escape::bytes::escape;
 use bpaf_roff::escape::{Apostrophes, Escape};
 use bumpalo::Bump;

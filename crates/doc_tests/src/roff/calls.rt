@@ -1,5 +1,5 @@
 //! The calls of which no request shows the answer.
-use crate::monoids::shown;
+use crate::roff::monoids::shown;
 use bpaf_roff::monoid::FreeMonoid;
 use bpaf_roff::roff::{Font, RESTORE_FONT};
 use std::process::Abort;

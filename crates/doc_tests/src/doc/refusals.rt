@@ -1,7 +1,7 @@
 //! Each growth refused in turn: a call is made over an arena with room for nothing, then for a little more each time, until it
 //! succeeds. Each refusal leaves what was lent as it was, and the answer at the end is that of ample memory.
 use crate::arenas::{BYTES, STEP, roomy, taken};
-use crate::calls::word;
+use crate::doc::calls::word;
 use bpaf_doc::buffer::{Block, Doc, Style, Token};
 use bpaf_roff::roff::Roff;
 use std::alloc::{AllocError, Allocator};

@@ -1,0 +1,4 @@
+//! Tests of documents and their pages.
+
+mod calls;
+mod refusals;

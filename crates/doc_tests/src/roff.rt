@@ -1,0 +1,7 @@
+//! Tests of pieces of text, their escaping, and pages of roff.
+
+mod calls;
+mod labels;
+mod monoids;
+mod refusals;
+mod roffs;
