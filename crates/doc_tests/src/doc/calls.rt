@@ -52,18 +52,6 @@ fn a_document_rolls_back(rt: HostRuntime) -> Result<(), Fail> {
     Ok(())
 }
 
-#[test]
-fn an_error_is_settled(rt: HostRuntime) -> Result<(), Fail> {
-    let mut doc = Doc::from_text(rt.alloc(), "a")?;
-    let before = doc.checkpoint();
-    doc.text("b")?;
-    assert!(rt; doc.settle(before, Ok(())).is_ok());
-    assert!(rt; doc == Doc::from_text(rt.alloc(), "ab")?);
-    assert!(rt; doc.settle(before, Err(AllocError)).is_err());
-    assert!(rt; doc == Doc::from_text(rt.alloc(), "a")?);
-    Ok(())
-}
-
 // In order: a beginning comes first, then texts decide, then styles.
 const IN_ORDER: [&[(&str, Style)]; 6] = [
     &[],

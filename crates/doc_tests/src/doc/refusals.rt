@@ -22,7 +22,6 @@ enum Call {
     Title,
     Line,
     Path,
-    Settled,
     Room,
     Text,
     Owned,
@@ -39,7 +38,7 @@ enum Call {
     OwnedRoff,
 }
 
-const CALLS: [Call; 27] = [
+const CALLS: [Call; 26] = [
     Call::Joined,
     Call::Apart,
     Call::Character,
@@ -52,7 +51,6 @@ const CALLS: [Call; 27] = [
     Call::Title,
     Call::Line,
     Call::Path,
-    Call::Settled,
     Call::Room,
     Call::Text,
     Call::Owned,
@@ -133,19 +131,6 @@ fn begun<A: Allocator + Copy>(rt: &impl Abort, alloc: A, first: &str) -> Doc<A> 
     doc
 }
 
-// Three writes as one.
-fn in_mono<A: Allocator>(doc: &mut Doc<A>, text: &str) -> Result<(), AllocError> {
-    let before = doc.checkpoint();
-    let written = write_mono(doc, text);
-    doc.settle(before, written)
-}
-
-fn write_mono<A: Allocator>(doc: &mut Doc<A>, text: &str) -> Result<(), AllocError> {
-    doc.token(Token::BlockStart(Block::Mono))?;
-    doc.text(text)?;
-    doc.token(Token::BlockEnd(Block::Mono))
-}
-
 // A write changes the document, and a maker puts another one in its place.
 fn apply<A: Allocator + Copy>(
     alloc: A,
@@ -166,7 +151,6 @@ fn apply<A: Allocator + Copy>(
         Call::Title => doc.em_doc(&lent.title),
         Call::Line => doc.em_doc(&lent.line),
         Call::Path => doc.write_path(lent.path.as_slice()),
-        Call::Settled => in_mono(doc, &lent.long),
         Call::Room => doc.reserve(8, lent.long.len()),
         _ => {
             *doc = made(alloc, doc, call, lent)?;
