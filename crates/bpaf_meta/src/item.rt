@@ -12,6 +12,8 @@ use crate::meta::{Meta, clone_boxed};
 use crate::meta_help::{Info, Metavar, clone_help, clone_info};
 use bpaf_doc::buffer::Doc;
 use std::alloc::{AllocError, Allocator, Global};
+use std::error::Error;
+use std::fmt;
 
 /// A short name, a long name, or both.
 #[derive(Clone, Copy, Debug, PartialEq, Eq, PartialOrd, Ord)]
@@ -63,7 +65,8 @@ pub enum Item<A: Allocator = Global> {
 }
 
 impl<A: Allocator> Item<A> {
-    /// Whether the item is taken by its place: a positional value, a command, and an `Any` that does not stand anywhere.
+    /// Whether the item is taken by its place: a positional value, a command, and an `Any` that does not stand
+    /// anywhere.
     pub fn is_pos(&self) -> bool
         ensures { result ≡ is_positional (leaf_of self.now) }
     {
@@ -89,7 +92,8 @@ impl<A: Allocator> Item<A> {
 impl<A: Allocator + Copy> Item<A> {
     /// The item as a tree, inside `Optional` for false. After `AllocError` the item is dropped.
     pub fn required(self, alloc: A, required: bool) -> Result<Meta<A>, AllocError>
-        ensures { IfOk result (λ m. tree_of m ≡ (if required then item (leaf_of self) else optional (item (leaf_of self)))) }
+        ensures { IfOk result (λ m. tree_of m
+            ≡ (if required then item (leaf_of self) else optional (item (leaf_of self)))) }
     {
         let tree = Meta::from_item(alloc, self)?;
         if required {
@@ -245,3 +249,11 @@ fn is_long(long: &str, text: &str) -> bool
 /// Neither a short name nor a long one was given.
 #[derive(Clone, Copy, Debug, PartialEq, Eq)]
 pub struct NoName;
+
+impl fmt::Display for NoName {
+    fn fmt<W: fmt::Write>(&self, f: &mut fmt::Formatter<W>) -> fmt::Result {
+        f.write_str("no name")
+    }
+}
+
+impl Error for NoName {}

@@ -66,8 +66,8 @@ impl<A: Allocator> Default for Meta<A> {
 pub struct MetaInfo<'a, A: Allocator = Global>(pub &'a Meta<A>);
 
 impl<A: Allocator> Meta<A> {
-    /// The item that stands first where one stands for all: an item itself, of an `And` that of its first part, none of
-    /// `Skip` and of `Or`, and else that of the inner tree.
+    /// The item that stands first where one stands for all: an item itself, of an `And` that of its first part,
+    /// none of `Skip` and of `Or`, and else that of the inner tree.
     pub fn first_item(&self) -> Option<&Item<A>>
         ensures { option_map (λ i. leaf_of i.now) result ≡ first_item (tree_of self.now) }
     {
@@ -174,15 +174,17 @@ fn clone_parts<A: Allocator + Copy>(parts: &Vec<Meta<A>, A>) -> Result<Vec<Meta<
 impl<A: Allocator + Copy> Meta<A> {
     /// The normal form of the tree, for a usage line or outside: made beside it, so that nothing in it changes.
     ///
-    /// No `Adjacent`, `Subsection` or `Suffix` is left, and one name of each item. What is in no usage line is left out:
-    /// an answer `Skip` says that nothing is shown. An `AllocError` says that a growth was refused.
+    /// No `Adjacent`, `Subsection` or `Suffix` is left, and one name of each item. What is in no usage line is
+    /// left out: an answer `Skip` says that nothing is shown. An `AllocError` says that a growth was refused.
     pub fn normalized(&self, for_usage: bool) -> Result<Meta<A>, AllocError>
         ensures form { IfOk result (λ m. tree_of m ≡ normalized for_usage (tree_of self.now)) }
         ensures shape { IfOk result (λ m. HasUsageShape for_usage (tree_of m)) }
         ensures shows { IfOk result (λ m. ShowsSame for_usage (tree_of m) (tree_of self.now)) }
         ensures strict { IfOk result (λ m. KeepsStrict for_usage (tree_of self.now) (tree_of m)) }
-        ensures twice { IfOk result (λ m. ¬ HasStrict (tree_of self.now) → normalized for_usage (tree_of m) ≡ tree_of m) }
-        ensures skip { IfOk result (λ m. ¬ HasStrict (tree_of self.now) → (tree_of m ≡ skip) ↔ (is_hidden for_usage (tree_of self.now) ≡ true)) }
+        ensures twice { IfOk result (λ m. ¬ HasStrict (tree_of self.now) → normalized for_usage (tree_of m)
+            ≡ tree_of m) }
+        ensures skip { IfOk result (λ m. ¬ HasStrict (tree_of self.now) → (tree_of m ≡ skip)
+            ↔ (is_hidden for_usage (tree_of self.now) ≡ true)) }
     {
         self.form_of_table(for_usage)
     }
@@ -218,8 +220,8 @@ impl<A: Allocator + Copy> Meta<A> {
 }
 
 impl<A: Allocator + Copy> Meta<A> {
-    /// The alternatives of both: an `Or` gives its parts, `Skip` none, any other tree itself. None is `Skip`, one stands
-    /// alone, more are an `Or`. After `AllocError` both trees are dropped.
+    /// The alternatives of both: an `Or` gives its parts, `Skip` none, any other tree itself. None is `Skip`, one
+    /// stands alone, more are an `Or`. After `AllocError` both trees are dropped.
     #[tactic(auto, using(crate::proofs::lemmas::Normal::Parts::trees_of_append))]
     pub fn or(self, other: Meta<A>) -> Result<Meta<A>, AllocError>
         ensures { IfOk result (λ m. tree_of m ≡ either_form (tree_of self) (tree_of other)) }

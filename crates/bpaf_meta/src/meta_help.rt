@@ -26,6 +26,25 @@ pub struct Info<A: Allocator = Global> {
     pub help: Meta<A>,
 }
 
+/// No text, and no flag that asks for help.
+impl<A: Allocator> Default for Info<A> {
+    ghost use Rattle.std.specs.Prelude.{◌≡◌, None};
+    ghost use Rattle.bpaf_meta.specs.Content.{head, skip};
+    ghost use Rattle.bpaf_meta.specs.View.{head_of};
+
+    ghost is_default = { λ info. head_of info ≡ head None None None None skip };
+
+    fn default() -> Info<A> {
+        Info {
+            descr: None,
+            header: None,
+            footer: None,
+            usage: None,
+            help: Meta::Skip,
+        }
+    }
+}
+
 impl<A: Allocator + Copy> Info<A> {
     /// A copy with the same content.
     #[cycle(copy)]

@@ -9,7 +9,8 @@ ghost use Rattle.bpaf_meta.specs.Meta.Normal.{item_form, name_form};
 ghost use Rattle.bpaf_meta.specs.Meta.Steps.Forms.{form_of, forms_of};
 ghost use Rattle.bpaf_meta.specs.Names.{short_text, long_text};
 ghost use Rattle.bpaf_meta.specs.Usage.Nested.{HasNestedDoc, HasNestedDocs};
-ghost use Rattle.bpaf_meta.specs.Usage.Writes.{is_bare_character, metavar_writes, name_writes, item_writes, separated, tree_writes, part_writes, usage_writes};
+ghost use Rattle.bpaf_meta.specs.Usage.Writes.{is_bare_character, metavar_writes, name_writes, item_writes};
+ghost use Rattle.bpaf_meta.specs.Usage.Writes.{separated, tree_writes, part_writes, usage_writes};
 
 use crate::item::{Item, ShortLong};
 use crate::meta::form::Form;
@@ -22,7 +23,8 @@ use unicode::properties::is_uppercase;
 
 // What a public call wrote before a growth was refused is taken back. The functions below them leave what they wrote.
 
-/// Writes `-` and the short name, or `--` and the long name where there is one. After `AllocError` the document is as it was.
+/// Writes `-` and the short name, or `--` and the long name where there is one. After `AllocError` the document is
+/// as it was.
 pub fn write_shortlong<A: Allocator>(doc: &mut Doc<A>, name: &ShortLong) -> Result<(), AllocError>
     ensures ok { OnOk result (doc.new ≡ with_writes doc.old (name_writes (name_of name.now))) }
     ensures err { OnErr result (doc.new ≡ doc.old) }
@@ -36,8 +38,8 @@ pub fn write_shortlong<A: Allocator>(doc: &mut Doc<A>, name: &ShortLong) -> Resu
     written
 }
 
-/// Writes the name of a value: bare where it is made of uppercase characters, ASCII digits, `-` and `_` alone, and else
-/// between `<` and `>`. After `AllocError` the document is as it was.
+/// Writes the name of a value: bare where it is made of uppercase characters, ASCII digits, `-` and `_` alone, and
+/// else between `<` and `>`. After `AllocError` the document is as it was.
 pub fn metavar<A: Allocator>(doc: &mut Doc<A>, name: Metavar) -> Result<(), AllocError>
     ensures ok { OnOk result (doc.new ≡ with_writes doc.old (metavar_writes name.0.now)) }
     ensures err { OnErr result (doc.new ≡ doc.old) }
@@ -51,8 +53,9 @@ pub fn metavar<A: Allocator>(doc: &mut Doc<A>, name: Metavar) -> Result<(), Allo
     written
 }
 
-/// Writes an item: the name of a flag, the name of an argument with `=` and its value, the name of a positional value, the
-/// document of an `Any`, and `COMMAND ...` for each command. After `AllocError` the document is as it was.
+/// Writes an item: the name of a flag, the name of an argument with `=` and its value, the name of a positional
+/// value, the document of an `Any`, and `COMMAND ...` for each command. After `AllocError` the document is as it
+/// was.
 pub fn write_item<A: Allocator, B: Allocator>(
     doc: &mut Doc<A>,
     item: &Item<B>,
@@ -69,8 +72,8 @@ pub fn write_item<A: Allocator, B: Allocator>(
     written
 }
 
-/// Writes the normal form of a tree, between the marks of a `Mono` block (`docs/tree.md`). The form takes memory where the tree
-/// stands. After `AllocError` the document is as it was.
+/// Writes the normal form of a tree, between the marks of a `Mono` block (`docs/tree.md`). The form takes memory
+/// where the tree stands. After `AllocError` the document is as it was.
 pub fn write_meta<A: Allocator, B: Allocator + Copy>(
     doc: &mut Doc<A>,
     meta: &Meta<B>,
@@ -208,7 +211,9 @@ fn put_argument<A: Allocator>(
     name: &ShortLong,
     metavar: Metavar,
 ) -> Result<(), AllocError>
-    ensures ok { OnOk result (doc.new ≡ with_writes doc.old (name_writes (name_of name.now) ++ plain (codes "=") ∷ metavar_writes metavar.0.now)) }
+    ensures ok { OnOk result (doc.new
+        ≡ with_writes doc.old (name_writes (name_of name.now) ++ plain (codes "=")
+        ∷ metavar_writes metavar.0.now)) }
     ensures grows { Grows doc.old doc.new }
 {
     put_name(doc, name)?;
@@ -263,7 +268,9 @@ fn put_between<A: Allocator, B: Allocator>(
     inner: &Box<Form<'_, B>, B>,
     closing: &str,
 ) -> Result<(), AllocError>
-    ensures ok { OnOk result (doc.new ≡ with_writes doc.old (plain opening.now ∷ tree_writes (form_of inner.now.value) ++ plain closing.now ∷ [])) }
+    ensures ok { OnOk result (doc.new
+        ≡ with_writes doc.old (plain opening.now ∷ tree_writes (form_of inner.now.value) ++ plain closing.now
+        ∷ [])) }
     ensures grows { Grows doc.old doc.new }
 {
     doc.text(opening)?;
@@ -277,7 +284,8 @@ fn put_parts<A: Allocator, B: Allocator>(
     parts: &Vec<Form<'_, B>, B>,
     between: &str,
 ) -> Result<(), AllocError>
-    ensures ok { OnOk result (doc.new ≡ with_writes doc.old (separated between.now (part_writes (forms_of parts.now.items)))) }
+    ensures ok { OnOk result (doc.new
+        ≡ with_writes doc.old (separated between.now (part_writes (forms_of parts.now.items)))) }
     ensures grows { Grows doc.old doc.new }
 {
     let mut is_first = true;

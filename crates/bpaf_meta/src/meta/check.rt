@@ -4,17 +4,19 @@ ghost use Rattle.std.specs.Option.{option_map};
 ghost use Rattle.bpaf_meta.specs.View.{tree_of, trees_of, leaf_of};
 ghost use Rattle.bpaf_meta.specs.Meta.Misplaced.{IsWellPlaced, IsFirstMisplaced, first_item, first_item_of_parts};
 ghost use Rattle.bpaf_meta.specs.Content.{item as item_of};
-ghost use Rattle.bpaf_meta.specs.Meta.Steps.Walk.{IsKnown, check_of, walked, walked_within, walked_parts, walked_branches};
+ghost use Rattle.bpaf_meta.specs.Meta.Steps.Walk.{IsKnown, check_of, walked, walked_within, walked_parts};
+ghost use Rattle.bpaf_meta.specs.Meta.Steps.Walk.{walked_branches};
 
 use crate::item::Item;
 use crate::meta::Meta;
 use std::alloc::Allocator;
 
 impl<A: Allocator> Meta<A> {
-    /// Whether each named item stands before the positional ones of its line. The `Err` is the first item that does not, in
-    /// tree order, which has the items of a command's own tree right behind the command. An `Adjacent` that begins with a named
-    /// item is checked alone, and so is the own tree of each command that is reached; inside an `Adjacent` without a first item
-    /// nothing is looked at (`docs/tree.md`). It takes no memory.
+    /// Whether each named item stands before the positional ones of its line. The `Err` is the first item that
+    /// does not, in tree order, which has the items of a command's own tree right behind the command. An
+    /// `Adjacent` that begins with a named item is checked alone, and so is the own tree of each command that is
+    /// reached; inside an `Adjacent` without a first item nothing is looked at (`docs/tree.md`). It takes no
+    /// memory.
     pub fn positional_invariant_check(&self) -> Result<(), &Item<A>>
         ensures ok { OnOk result (IsWellPlaced (tree_of self.now)) }
         ensures err { IfErr result (λ i. IsFirstMisplaced (tree_of self.now) (leaf_of i.now)) }
@@ -26,8 +28,9 @@ impl<A: Allocator> Meta<A> {
     }
 }
 
-// Goes through a tree with a mark, whether a positional item was seen. Answers the mark afterwards. The tree's first item is `known`
-// where an `Adjacent` around it has looked for it: so each one is looked for once, however many stand around it.
+// Goes through a tree with a mark, whether a positional item was seen. Answers the mark afterwards. The tree's
+// first item is `known` where an `Adjacent` around it has looked for it: so each one is looked for once, however
+// many stand around it.
 #[cycle(walk)]
 fn walk<'a, A: Allocator>(
     meta: &'a Meta<A>,

@@ -1,4 +1,5 @@
-//! A tree in normal form over the items and documents of the tree that it is made of, so that nothing in these is copied.
+//! A tree in normal form over the items and documents of the tree that it is made of, so that nothing in these is
+//! copied.
 ghost use Rattle.std.specs.Prelude.{◌≡◌, IfOk};
 ghost use Rattle.bpaf_meta.specs.View.{tree_of, trees_of, leaf_of};
 ghost use Rattle.bpaf_meta.specs.Meta.Normal.{is_command_tree, item_form};

@@ -1,7 +1,10 @@
 //! The normal form of a tree, made beside the tree, over the items and documents that stand in it.
 ghost use Rattle.std.specs.Prelude.{◌≡◌, IfOk, OnOk, []};
 ghost use Rattle.bpaf_meta.specs.View.{tree_of, trees_of};
-ghost use Rattle.bpaf_meta.specs.Meta.Normal.{normal_form, state_out, and_form, or_form, optional_form, optional_many_form, required_form, many_form, custom_usage_form, outer_form, guarded, state_after, strict_state, shown_trees, and_parts, or_parts, or_state, with_first_command, normalized};
+ghost use Rattle.bpaf_meta.specs.Meta.Normal.{normal_form, state_out, and_form, or_form, optional_form};
+ghost use Rattle.bpaf_meta.specs.Meta.Normal.{optional_many_form, required_form, many_form, custom_usage_form};
+ghost use Rattle.bpaf_meta.specs.Meta.Normal.{outer_form, guarded, state_after, strict_state, shown_trees};
+ghost use Rattle.bpaf_meta.specs.Meta.Normal.{and_parts, or_parts, or_state, with_first_command, normalized};
 ghost use Rattle.bpaf_meta.specs.Meta.Alternatives.{trees_then};
 ghost use Rattle.bpaf_meta.specs.Meta.Steps.Forms.{form_of, forms_of};
 ghost use Rattle.bpaf_meta.specs.Meta.Steps.Passes.{state_of, with_shown, after_commands, sees_command, bracketed_or};
@@ -139,7 +142,8 @@ fn normalize_and<'a, A: Allocator + Copy>(
     for_usage: bool,
     state: State,
 ) -> Result<Vec<Form<'a, A>, A>, AllocError>
-    ensures { IfOk result (λ v. forms_of v.items ≡ shown_trees (and_parts for_usage (state_of state) (trees_of parts.now.items))) }
+    ensures { IfOk result (λ v. forms_of v.items
+        ≡ shown_trees (and_parts for_usage (state_of state) (trees_of parts.now.items))) }
 {
     let mut kept: Vec<Form<'a, A>, A> = room_for(*parts.allocator(), parts.len())?;
     let mut running = state;
@@ -151,15 +155,20 @@ fn normalize_and<'a, A: Allocator + Copy>(
     Ok(kept)
 }
 
-// The parts of an `Or`, each from the state that came in, without those that are `Skip` and of the commands only the first.
+// The parts of an `Or`, each from the state that came in, without those that are `Skip` and of the commands only
+// the first.
 #[cycle(normal)]
 fn normalize_or<'a, A: Allocator + Copy>(
     parts: &'a Vec<Meta<A>, A>,
     for_usage: bool,
     state: State,
 ) -> Result<Outcome<'a, A>, AllocError>
-    ensures form { IfOk result (λ o. form_of o.form ≡ or_form (with_first_command (shown_trees (or_parts for_usage (state_of state) (state_of state) (trees_of parts.now.items))))) }
-    ensures state { IfOk result (λ o. state_of o.state ≡ or_state (state_of state) (state_of state) (trees_of parts.now.items)) }
+    ensures form { IfOk result (λ o. form_of o.form
+        ≡ or_form
+        (with_first_command
+        (shown_trees (or_parts for_usage (state_of state) (state_of state) (trees_of parts.now.items))))) }
+    ensures state { IfOk result (λ o. state_of o.state
+        ≡ or_state (state_of state) (state_of state) (trees_of parts.now.items)) }
 {
     let mut kept: Vec<Form<'a, A>, A> = room_for(*parts.allocator(), parts.len())?;
     let mut seen_command = false;
@@ -206,7 +215,8 @@ fn keep<'a, A: Allocator>(
     kept: &mut Vec<Form<'a, A>, A>,
     part: Form<'a, A>,
 ) -> Result<(), AllocError>
-    ensures { OnOk result (forms_of kept.new.items ≡ trees_then (forms_of kept.old.items) (with_shown (form_of part.entry))) }
+    ensures { OnOk result (forms_of kept.new.items
+        ≡ trees_then (forms_of kept.old.items) (with_shown (form_of part.entry))) }
 {
     if !part.is_skip() {
         kept.push(part)?;
@@ -221,7 +231,8 @@ fn keep_alternative<'a, A: Allocator>(
     seen_command: bool,
     part: Form<'a, A>,
 ) -> Result<bool, AllocError>
-    ensures kept { OnOk result (forms_of kept.new.items ≡ trees_then (forms_of kept.old.items) (after_commands seen_command (with_shown (form_of part.entry)))) }
+    ensures kept { OnOk result (forms_of kept.new.items
+        ≡ trees_then (forms_of kept.old.items) (after_commands seen_command (with_shown (form_of part.entry)))) }
     ensures seen { IfOk result (λ seen. seen ≡ sees_command seen_command (form_of part.entry)) }
 {
     let is_command = part.is_command();

@@ -2,15 +2,16 @@
 ghost use Rattle.std.specs.Prelude.{◌≡◌, ◌∷◌, ◌++◌, OnOk, OnErr};
 ghost use Rattle.bpaf_meta.specs.View.{tree_of, trees_of, leaf_of};
 ghost use Rattle.std.specs.List.{flat_map};
-ghost use Rattle.bpaf_meta.specs.Meta.Shorts.{flag_shorts, argument_shorts, shorts_of_flag, shorts_of_argument, open_items_of_parts, open_items_within, IsFront};
+ghost use Rattle.bpaf_meta.specs.Meta.Shorts.{flag_shorts, argument_shorts, shorts_of_flag, shorts_of_argument};
+ghost use Rattle.bpaf_meta.specs.Meta.Shorts.{open_items_of_parts, open_items_within, IsFront};
 
 use crate::item::Item;
 use crate::meta::Meta;
 use std::alloc::{AllocError, Allocator};
 
 impl<A: Allocator> Meta<A> {
-    /// Appends, in tree order, the `shorts` of flags to `flags` and those of arguments to `args`, also of commands' own
-    /// trees, nothing inside `Strict`. After `AllocError` both lists are as they were.
+    /// Appends, in tree order, the `shorts` of flags to `flags` and those of arguments to `args`, also of
+    /// commands' own trees, nothing inside `Strict`. After `AllocError` both lists are as they were.
     pub fn collect_shorts<B: Allocator, C: Allocator>(
         &self,
         flags: &mut Vec<char, B>,
@@ -64,8 +65,10 @@ fn gather_item<A: Allocator, B: Allocator, C: Allocator>(
     flags: &mut Vec<char, B>,
     args: &mut Vec<char, C>,
 ) -> Result<(), AllocError>
-    ensures flags { OnOk result (flags.new.items ≡ flags.old.items ++ flat_map shorts_of_flag (leaf_of item.now ∷ open_items_within (leaf_of item.now))) }
-    ensures args { OnOk result (args.new.items ≡ args.old.items ++ flat_map shorts_of_argument (leaf_of item.now ∷ open_items_within (leaf_of item.now))) }
+    ensures flags { OnOk result (flags.new.items ≡ flags.old.items
+        ++ flat_map shorts_of_flag (leaf_of item.now ∷ open_items_within (leaf_of item.now))) }
+    ensures args { OnOk result (args.new.items ≡ args.old.items
+        ++ flat_map shorts_of_argument (leaf_of item.now ∷ open_items_within (leaf_of item.now))) }
     ensures flags_front { IsFront flags.old.items flags.new.items }
     ensures args_front { IsFront args.old.items args.new.items }
 {
@@ -83,8 +86,10 @@ fn gather_parts<A: Allocator, B: Allocator, C: Allocator>(
     flags: &mut Vec<char, B>,
     args: &mut Vec<char, C>,
 ) -> Result<(), AllocError>
-    ensures flags { OnOk result (flags.new.items ≡ flags.old.items ++ flat_map shorts_of_flag (open_items_of_parts (trees_of parts.now.items))) }
-    ensures args { OnOk result (args.new.items ≡ args.old.items ++ flat_map shorts_of_argument (open_items_of_parts (trees_of parts.now.items))) }
+    ensures flags { OnOk result (flags.new.items ≡ flags.old.items
+        ++ flat_map shorts_of_flag (open_items_of_parts (trees_of parts.now.items))) }
+    ensures args { OnOk result (args.new.items ≡ args.old.items
+        ++ flat_map shorts_of_argument (open_items_of_parts (trees_of parts.now.items))) }
     ensures flags_front { IsFront flags.old.items flags.new.items }
     ensures args_front { IsFront args.old.items args.new.items }
 {
