@@ -1,5 +1,6 @@
 //! The calls that may answer `AllocError`, what each of them gives, and what it leaves where it is refused.
 use crate::arenas::taken;
+use crate::meta::calls::{MetaCall, meta_answer, meta_before};
 use crate::pages_calls::{pages_answer, pages_before};
 use crate::rows::path;
 use crate::trees::{info, tree};
@@ -27,6 +28,7 @@ pub enum Call {
     Html,
     Markdown,
     Manual,
+    OfMeta(MetaCall),
 }
 
 /// What a call gave, or what it left where it was refused, as debug text, which is the same over all allocators.
@@ -54,6 +56,7 @@ pub fn answer_of(
         Call::Replace => insert_answer(out, arena, room, begun_texts(arena)?, "V"),
         Call::Groups => groups_answer(out, arena, room, &tree),
         Call::Page => page_answer(out, arena, room, &tree),
+        Call::OfMeta(call) => meta_answer(out, arena, room, &tree, call),
         _ => pages_answer(out, arena, room, &tree, call),
     }
 }
@@ -65,6 +68,7 @@ pub fn before(out: Global, text: &str, call: Call) -> Result<String, AllocError>
         Call::Insert => told(out, &EnvTexts::new(out)),
         Call::Replace => told(out, &begun_texts(out)?),
         Call::Groups => written(out, &begun_doc(out)?, &begun_texts(out)?),
+        Call::OfMeta(call) => meta_before(out, call),
         Call::Sections | Call::Section => pages_before(out, &tree(out, text)?, call),
         _ => Ok(String::new(out)),
     }
@@ -126,7 +130,8 @@ fn insert_answer<'a>(
     Ok(answered(told(out, &texts)?, outcome))
 }
 
-fn begun_doc<A: Allocator + Copy>(alloc: A) -> Result<Doc<A>, AllocError> {
+/// A document of one text.
+pub fn begun_doc<A: Allocator + Copy>(alloc: A) -> Result<Doc<A>, AllocError> {
     let mut doc = Doc::new(alloc);
     doc.literal("before")?;
     Ok(doc)

@@ -11,7 +11,7 @@ fn answer_within(out: Global, room: usize, text: &str, call: Call) -> Result<Ans
     answer_of(out, &arena, room, text, call)
 }
 
-fn answer_with_ample_memory(
+pub fn answer_with_ample_memory(
     rt: &impl Abort,
     out: Global,
     text: &str,
@@ -27,8 +27,8 @@ pub fn same(rt: &impl Abort, left: &str, right: &str) {
     assert_eq!(rt; left, right);
 }
 
-// Answers the room in which the call succeeds.
-fn needed(rt: &impl Abort, out: Global, text: &str, call: Call) -> Result<usize, AllocError> {
+/// Answers the room in which the call succeeds.
+pub fn needed(rt: &impl Abort, out: Global, text: &str, call: Call) -> Result<usize, AllocError> {
     let before = before(out, text, call)?;
     let expected = answer_with_ample_memory(rt, out, text, call)?;
     for step in 0..BYTES / STEP {

@@ -6,9 +6,10 @@ use bpaf_help::meta_help::{Info, Metavar};
 use std::alloc::{AllocError, Allocator};
 
 /// The tree that a text spells over a stack of trees. `X` is a positional value with help, `C` a command of the same name and
-/// help, `P` a positional value without help, `A` an argument, and `B` and each small letter a flag. Each other sign takes trees off
-/// and puts one on: `&` an `And` of two, `|` an `Or` of two, and of the last one `@` Adjacent, `#` and `%` Subsection, `~` and `!`
-/// Suffix, and each digit a command. Where there is none to take off, it takes `Skip`.
+/// help, `P` a positional value without help, `A` and `S` an argument, `Y` an `Any`, `.` a `Skip`, and `B` and each small letter a
+/// flag. Each other sign takes trees off and puts one on: `&` an `And` of two, `|` an `Or` of two, and of the last one `?` Optional, `^`
+/// Required, `@` Adjacent, `+` Many, `-` Strict, `#` and `%` Subsection, `~` and `!` Suffix, `$` CustomUsage, and each digit and `R` a
+/// command. Where there is none to take off, it takes `Skip`.
 pub fn tree<A: Allocator + Copy>(alloc: A, text: &str) -> Result<Meta<A>, AllocError> {
     let mut stack = Vec::new(alloc);
     for sign in text.chars() {
@@ -33,8 +34,10 @@ fn made<A: Allocator + Copy>(
     match sign {
         '&' => Ok(Meta::And(both(alloc, stack)?)),
         '|' => Ok(Meta::Or(both(alloc, stack)?)),
-        '@' => Ok(Meta::Adjacent(Box::new(alloc, top(stack))?)),
-        '#' | '%' | '~' | '!' => noted(alloc, top(stack), sign),
+        '.' => Ok(Meta::Skip),
+        '?' | '^' | '@' | '+' | '-' => wrapped(alloc, top(stack), sign),
+        '#' | '%' | '~' | '!' | '$' => noted(alloc, top(stack), sign),
+        'R' => Meta::from_item(alloc, full_command(alloc, top(stack))?),
         '0'..='7' => Meta::from_item(alloc, command(alloc, numbered(sign), "", top(stack))?),
         _ => Meta::from_item(alloc, leaf(alloc, sign)?),
     }
@@ -53,11 +56,27 @@ fn both<A: Allocator + Copy>(
     Ok(parts)
 }
 
+fn wrapped<A: Allocator + Copy>(
+    alloc: A,
+    inner: Meta<A>,
+    sign: char,
+) -> Result<Meta<A>, AllocError> {
+    let inner = Box::new(alloc, inner)?;
+    Ok(match sign {
+        '?' => Meta::Optional(inner),
+        '^' => Meta::Required(inner),
+        '@' => Meta::Adjacent(inner),
+        '+' => Meta::Many(inner),
+        _ => Meta::Strict(inner),
+    })
+}
+
 fn noted<A: Allocator + Copy>(alloc: A, inner: Meta<A>, sign: char) -> Result<Meta<A>, AllocError> {
     let inner = Box::new(alloc, inner)?;
     let note = Box::new(alloc, Doc::from_text(alloc, note(sign))?)?;
     Ok(match sign {
         '#' | '%' => Meta::Subsection(inner, note),
+        '$' => Meta::CustomUsage(inner, note),
         _ => Meta::Suffix(inner, note),
     })
 }
@@ -76,7 +95,15 @@ fn leaf<A: Allocator + Copy>(alloc: A, sign: char) -> Result<Item<A>, AllocError
         'X' => positional(alloc, "X", "h"),
         'P' => positional(alloc, "P", ""),
         'C' => command(alloc, "X", "h", Meta::Skip),
-        'A' => argument(alloc),
+        'A' => argument(alloc, ShortLong::Long("n"), "N", "V", "N it"),
+        'S' => argument(
+            alloc,
+            ShortLong::Both('s', "speed"),
+            "the number of units",
+            "SPEED",
+            "a number",
+        ),
+        'Y' => any(alloc),
         'a' => flag(alloc, ShortLong::Short('a'), None, "A"),
         'B' => flag(alloc, ShortLong::Short('b'), None, "B"),
         'e' => flag(alloc, ShortLong::Short('e'), Some("V"), "E"),
@@ -107,19 +134,41 @@ pub fn flag<A: Allocator + Copy>(
 ) -> Result<Item<A>, AllocError> {
     Ok(Item::Flag {
         name,
-        shorts: Vec::new(alloc),
+        shorts: shorts(alloc, name)?,
         env,
         help: text_doc(alloc, help)?,
     })
 }
 
-fn argument<A: Allocator + Copy>(alloc: A) -> Result<Item<A>, AllocError> {
+fn argument<A: Allocator + Copy>(
+    alloc: A,
+    name: ShortLong,
+    value: &'static str,
+    env: &'static str,
+    help: &str,
+) -> Result<Item<A>, AllocError> {
     Ok(Item::Argument {
-        name: ShortLong::Long("n"),
-        shorts: Vec::new(alloc),
-        metavar: Metavar("N"),
-        env: Some("V"),
-        help: text_doc(alloc, "N it")?,
+        name,
+        shorts: shorts(alloc, name)?,
+        metavar: Metavar(value),
+        env: Some(env),
+        help: text_doc(alloc, help)?,
+    })
+}
+
+// The short name among these.
+fn shorts<A: Allocator>(alloc: A, name: ShortLong) -> Result<Vec<char, A>, AllocError> {
+    match name {
+        ShortLong::Short(short) | ShortLong::Both(short, _) => Vec::from_slice(alloc, &[short]),
+        ShortLong::Long(_) => Ok(Vec::new(alloc)),
+    }
+}
+
+fn any<A: Allocator + Copy>(alloc: A) -> Result<Item<A>, AllocError> {
+    Ok(Item::Any {
+        metavar: Doc::from_text(alloc, "rest")?,
+        anywhere: false,
+        help: text_doc(alloc, "all else")?,
     })
 }
 
@@ -136,6 +185,37 @@ fn command<A: Allocator + Copy>(
         meta: Box::new(alloc, below)?,
         info: Box::new(alloc, info(alloc, "")?)?,
     })
+}
+
+// A command with each text that goes with one.
+fn full_command<A: Allocator + Copy>(alloc: A, below: Meta<A>) -> Result<Item<A>, AllocError> {
+    Ok(Item::Command {
+        name: "run",
+        short: Some('r'),
+        help: text_doc(alloc, "a command")?,
+        meta: Box::new(alloc, below)?,
+        info: Box::new(alloc, full_info(alloc)?)?,
+    })
+}
+
+// Texts of a help page, each of them another.
+fn full_info<A: Allocator + Copy>(alloc: A) -> Result<Info<A>, AllocError> {
+    let mut texts = texts(alloc)?;
+    Ok(Info {
+        descr: texts.pop(),
+        header: texts.pop(),
+        footer: texts.pop(),
+        usage: texts.pop(),
+        help: Meta::Skip,
+    })
+}
+
+fn texts<A: Allocator + Copy>(alloc: A) -> Result<Vec<Doc<A>, A>, AllocError> {
+    let mut docs = Vec::new(alloc);
+    for text in ["use", "foot", "head", "what"] {
+        docs.push(Doc::from_text(alloc, text)?)?;
+    }
+    Ok(docs)
 }
 
 // The names of commands.

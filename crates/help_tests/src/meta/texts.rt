@@ -1,7 +1,8 @@
 //! Copies part by part, and what no clause says of debug texts and orders.
-use crate::calls::{Call, Make};
+use crate::calls::Call;
+use crate::meta::calls::{FORMS, Make, MetaCall};
 use crate::refusals::{answer_with_ample_memory, same};
-use crate::trees::{FORMS, tree};
+use crate::trees::tree;
 use bpaf_meta::item::ShortLong;
 use bpaf_meta::meta_help::Metavar;
 use std::alloc::{AllocError, Global};
@@ -14,7 +15,7 @@ fn shown(out: Global, text: &str) -> Result<String, AllocError> {
 #[test]
 fn debug_texts(rt: HostRuntime) -> Result<(), Fail> {
     for (text, expected) in [
-        (".?!@+-", "Strict(Many(Adjacent(Required(Optional(Skip)))))"),
+        (".?^@+-", "Strict(Many(Adjacent(Required(Optional(Skip)))))"),
         ("..&..|&", "And([And([Skip, Skip]), Or([Skip, Skip])])"),
     ] {
         same(&rt, &shown(rt.alloc(), text)?, expected);
@@ -26,7 +27,8 @@ fn debug_texts(rt: HostRuntime) -> Result<(), Fail> {
 fn a_copy_has_every_part(rt: HostRuntime) -> Result<(), Fail> {
     let out = rt.alloc();
     for text in FORMS {
-        let copy = answer_with_ample_memory(&rt, out, text, Call::Make(Make::Copy))?;
+        let call = Call::OfMeta(MetaCall::Make(Make::Copy));
+        let copy = answer_with_ample_memory(&rt, out, text, call)?;
         same(&rt, &copy, &shown(out, text)?);
     }
     Ok(())

@@ -1,14 +1,16 @@
-//! Each call that may answer `AllocError`, and what it leaves; and the calls that take no memory.
-use crate::trees::{literal_doc, tree};
+//! The calls of `bpaf_meta` that may answer `AllocError`, and those that take no memory.
+use crate::arenas::taken;
+use crate::calls::{Answer, answered, begun_doc};
 use bpaf_doc::buffer::Doc;
 use bpaf_meta::item::{Item, ShortLong};
 use bpaf_meta::meta::{Meta, MetaInfo};
 use bpaf_meta::meta_help::Metavar;
 use bpaf_meta::usage::{meta, metavar, write_item, write_meta, write_shortlong};
+use bumpalo::Bump;
 use std::alloc::{AllocError, Allocator, Global};
 
 #[derive(Clone, Copy)]
-pub enum Call {
+pub enum MetaCall {
     Write(Write),
     Make(Make),
     Shorts,
@@ -38,70 +40,47 @@ pub enum Make {
     Or,
 }
 
-/// What the calls are lent.
-#[derive(Drop)]
-pub struct Given<A: Allocator> {
-    tree: Meta<A>,
-    doc: Doc<A>,
-    flags: Vec<char, A>,
-    args: Vec<char, A>,
-}
+/// A tree of each variant and of each kind of item. `Skip` is the tree of help flags in what goes with a command.
+pub const FORMS: [&str; 15] = [
+    "ab&", "ab|", "a?", "ab&^", "ab&@", "a", "S", "X", "Y", "aR", "a+", "a#", "a~", "a$", "a-",
+];
 
-/// What a call gave, or what it left where it was refused, as debug text, which is the same over all allocators.
-#[derive(Drop)]
-pub enum Answer {
-    Given(String),
-    Refused(String),
-}
-
-/// The tree that a text spells, and a document and lists that have begun.
-pub fn make_given<A: Allocator + Copy>(alloc: A, text: &str) -> Result<Given<A>, AllocError> {
-    Ok(Given {
-        tree: tree(alloc, text)?,
-        doc: literal_doc(alloc, "before")?,
-        flags: Vec::from_slice(alloc, &['f'])?,
-        args: Vec::from_slice(alloc, &['g'])?,
-    })
-}
-
-/// The answer of a call. An error says that its text could not be made.
-pub fn answer_of<A: Allocator + Copy>(
-    alloc: A,
+/// The answer of a call, as that of any other call.
+pub fn meta_answer<'a>(
     out: Global,
-    given: &mut Given<A>,
-    call: Call,
+    arena: &'a Bump,
+    room: usize,
+    tree: &Meta<&'a Bump>,
+    call: MetaCall,
 ) -> Result<Answer, AllocError> {
     match call {
-        Call::Write(call) => write_answer(out, given, call),
-        Call::Make(call) => make_answer(alloc, out, &given.tree, call),
-        Call::Shorts => shorts_answer(out, given),
-        Call::Read => Ok(Answer::Given(read(out, &given.tree)?)),
+        MetaCall::Write(call) => write_answer(out, arena, room, tree, call),
+        MetaCall::Make(call) => make_answer(out, arena, room, tree, call),
+        MetaCall::Shorts => shorts_answer(out, arena, room, tree),
+        MetaCall::Read => read_answer(out, arena, room, tree),
     }
 }
 
 /// What stands where a call is refused: what stood before.
-pub fn before(out: Global, call: Call) -> Result<String, AllocError> {
+pub fn meta_before(out: Global, call: MetaCall) -> Result<String, AllocError> {
     match call {
-        Call::Write(_) => format!(in out; "{:?}", literal_doc(out, "before")?),
-        Call::Make(_) | Call::Read => Ok(String::new(out)),
-        Call::Shorts => String::from_str(out, "['f'] ['g']"),
+        MetaCall::Write(_) => format!(in out; "{:?}", begun_doc(out)?),
+        MetaCall::Make(_) | MetaCall::Read => Ok(String::new(out)),
+        MetaCall::Shorts => String::from_str(out, "['f'] ['g']"),
     }
 }
 
-fn answered(left: String, outcome: Result<(), AllocError>) -> Answer {
-    match outcome {
-        Ok(()) => Answer::Given(left),
-        Err(AllocError) => Answer::Refused(left),
-    }
-}
-
-fn write_answer<A: Allocator + Copy>(
+fn write_answer<'a>(
     out: Global,
-    given: &mut Given<A>,
+    arena: &'a Bump,
+    room: usize,
+    tree: &Meta<&'a Bump>,
     call: Write,
 ) -> Result<Answer, AllocError> {
-    let outcome = written(&mut given.doc, &given.tree, call);
-    Ok(answered(format!(in out; "{:?}", given.doc)?, outcome))
+    let mut doc = begun_doc(arena)?;
+    let _taken = taken(arena, room)?;
+    let outcome = written(&mut doc, tree, call);
+    Ok(answered(format!(in out; "{doc:?}")?, outcome))
 }
 
 fn written<A: Allocator, B: Allocator + Copy>(
@@ -122,13 +101,15 @@ fn written<A: Allocator, B: Allocator + Copy>(
     }
 }
 
-fn make_answer<A: Allocator + Copy>(
-    alloc: A,
+fn make_answer<'a>(
     out: Global,
-    tree: &Meta<A>,
+    arena: &'a Bump,
+    room: usize,
+    tree: &Meta<&'a Bump>,
     call: Make,
 ) -> Result<Answer, AllocError> {
-    match made(alloc, tree, call) {
+    let _taken = taken(arena, room)?;
+    match made(arena, tree, call) {
         Ok(meta) => Ok(Answer::Given(format!(in out; "{meta:?}")?)),
         Err(AllocError) => Ok(Answer::Refused(String::new(out))),
     }
@@ -154,17 +135,31 @@ fn value<A: Allocator>() -> Item<A> {
     }
 }
 
-fn shorts_answer<A: Allocator>(out: Global, given: &mut Given<A>) -> Result<Answer, AllocError> {
-    let outcome = given.tree.collect_shorts(&mut given.flags, &mut given.args);
-    let left = format!(in out; "{:?} {:?}", given.flags, given.args)?;
-    Ok(answered(left, outcome))
+fn shorts_answer<'a>(
+    out: Global,
+    arena: &'a Bump,
+    room: usize,
+    tree: &Meta<&'a Bump>,
+) -> Result<Answer, AllocError> {
+    let mut flags = Vec::from_slice(arena, &['f'])?;
+    let mut args = Vec::from_slice(arena, &['g'])?;
+    let _taken = taken(arena, room)?;
+    let outcome = tree.collect_shorts(&mut flags, &mut args);
+    Ok(answered(format!(in out; "{flags:?} {args:?}")?, outcome))
 }
 
 // What the calls that take no memory say of a tree.
-fn read<A: Allocator>(out: Global, tree: &Meta<A>) -> Result<String, AllocError> {
+fn read_answer<'a>(
+    out: Global,
+    arena: &'a Bump,
+    room: usize,
+    tree: &Meta<&'a Bump>,
+) -> Result<Answer, AllocError> {
+    let _taken = taken(arena, room)?;
     let first = tree.first_item();
     let is_pos = first.map(Item::is_pos);
     let check = tree.positional_invariant_check();
     let is_command = tree.is_command();
-    format!(in out; "{first:?} {is_pos:?} {check:?} {is_command}")
+    let read = format!(in out; "{first:?} {is_pos:?} {check:?} {is_command}")?;
+    Ok(Answer::Given(read))
 }
