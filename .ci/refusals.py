@@ -10,8 +10,8 @@ import sys
 
 TOP = pathlib.Path(sys.argv[1] if sys.argv[1:] else pathlib.Path(__file__).resolve().parent.parent)
 PAGE = TOP / "docs" / "lists" / "REFUSALS.md"
-# Crates that are no libraries for others: tests, what tests run on, equations, and callers.
-NO_LIBRARIES = re.compile(r"\w+_tests|stand_ins|rows|callers")
+# Crates that are no libraries for others: tests, equations, and callers.
+NO_LIBRARIES = re.compile(r"\w+_tests|rows|callers")
 # These take their memory of `Global`, in which a test can make nothing fail.
 OF_GLOBAL = {"lasting_names", "replay_engine"}
 # Errors that are no allocation failure: `from_names` of two empty lists, a misplaced item, and what a stream answers.

@@ -1,11 +1,11 @@
 //! Pages of any size come through, whatever the ends answer.
-use crate::pages::{PAGES, page};
+use crate::clidoc::pages::{PAGES, page};
+use crate::stand_ins::scripts::{
+    Answer, Draws, LARGE, SIZES, ScriptedReader, ScriptedWriter, read_by, written_by,
+};
 use clidoc_engine::engine::run_description;
 use clidoc_engine::faults::Fault;
 use clidoc_engine::words::Form;
-use stand_ins::scripts::{
-    Answer, Draws, LARGE, SIZES, ScriptedReader, ScriptedWriter, read_by, written_by,
-};
 use std::alloc::{AllocError, Global};
 use std::process::Abort;
 use std::test::Fail;

@@ -1,10 +1,10 @@
 //! Whole runs of the program: the status, and what stands on the streams.
-use crate::pages::{INPUT, PAGE, PAGES, SAMPLE};
+use crate::helpdoc::pages::{INPUT, PAGE, PAGES, SAMPLE};
+use crate::stand_ins::desk::Desk;
+use crate::stand_ins::fakes::Plan;
 use helpdoc_engine::program::run;
 use helpdoc_engine::words::{Choice, Form};
 use linked_list_allocator::LocalHeap;
-use stand_ins::desk::Desk;
-use stand_ins::fakes::Plan;
 use std::alloc::AllocError;
 use std::process::{Abort, ExitCode};
 use std::test::Fail;

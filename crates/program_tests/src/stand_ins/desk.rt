@@ -3,7 +3,7 @@
 ghost use Rattle.std.specs.Io.{WritesAtMost};
 ghost use Rattle.std.specs.Prelude.{◌≡◌, ◌+◌, IfOk, IsErr, string_len};
 
-use crate::fakes::{Given, Plan, Taken};
+use crate::stand_ins::fakes::{Given, Plan, Taken};
 use std::alloc::{Allocator, Global};
 use std::cell::RefCell;
 use std::env::FillError;

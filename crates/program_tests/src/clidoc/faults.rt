@@ -1,5 +1,5 @@
 //! What is said of bad input.
-use crate::programs::answers;
+use crate::clidoc::programs::answers;
 use std::alloc::{AllocError, Global};
 use std::test::Fail;
 

@@ -1,10 +1,10 @@
 //! Ends that fail at each step, and growths that are refused.
-use crate::pages::{INPUT, PAGES};
+use crate::clidoc::pages::{INPUT, PAGES};
+use crate::stand_ins::fakes::{Given, Plan, Taken};
 use clidoc_engine::engine::run_description;
 use clidoc_engine::faults::Fault;
 use clidoc_engine::words::Form;
 use linked_list_allocator::LocalHeap;
-use stand_ins::fakes::{Given, Plan, Taken};
 use std::alloc::Global;
 use std::process::Abort;
 use std::test::Fail;

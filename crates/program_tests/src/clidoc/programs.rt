@@ -1,9 +1,9 @@
 //! Whole runs of the program: the status, and what stands on the streams.
-use crate::pages::{HELP, INPUT, PAGES};
+use crate::clidoc::pages::{HELP, INPUT, PAGES};
+use crate::stand_ins::desk::Desk;
+use crate::stand_ins::fakes::Plan;
 use clidoc_engine::program::run;
 use linked_list_allocator::LocalHeap;
-use stand_ins::desk::Desk;
-use stand_ins::fakes::Plan;
 use std::process::{Abort, ExitCode};
 use std::test::Fail;
 

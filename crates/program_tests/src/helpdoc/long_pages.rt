@@ -1,10 +1,10 @@
 //! Pages of any size come through, whatever the ends answer.
+use crate::stand_ins::scripts::{
+    Answer, Draws, LARGE, SIZES, ScriptedReader, ScriptedWriter, bytes_of, read_by, written_by,
+};
 use helpdoc_engine::engine::run_text;
 use helpdoc_engine::faults::Fault;
 use helpdoc_engine::words::Form;
-use stand_ins::scripts::{
-    Answer, Draws, LARGE, SIZES, ScriptedReader, ScriptedWriter, bytes_of, read_by, written_by,
-};
 use std::alloc::{AllocError, Global};
 use std::process::Abort;
 use std::test::Fail;

@@ -1,10 +1,10 @@
 //! Ends that fail at each step, and growths that are refused.
-use crate::pages::{INPUT, PAGES};
+use crate::helpdoc::pages::{INPUT, PAGES};
+use crate::stand_ins::fakes::{Given, Plan, Taken};
 use helpdoc_engine::engine::{run_sample, run_text};
 use helpdoc_engine::faults::Fault;
 use helpdoc_engine::words::Choice;
 use linked_list_allocator::LocalHeap;
-use stand_ins::fakes::{Given, Plan, Taken};
 use std::alloc::{AllocError, Global};
 use std::process::Abort;
 use std::test::Fail;

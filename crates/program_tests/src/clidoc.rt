@@ -1,0 +1,7 @@
+//! Tests of `clidoc_engine`, and what is said of bad input.
+
+mod ends;
+mod faults;
+mod long_pages;
+mod pages;
+mod programs;

@@ -1,0 +1,14 @@
+//! Tests of the programs, and of what they stand on: what no clause says of the calls that `watched` passes on, and of each program
+//! a page of each form, ends that fail at each step or answer by a script, refused growths, and what a whole run says.
+//!
+//! They stand apart from what they test, since a crate with tests is proved twice.
+#![tactic(auto)]
+
+#[cfg(test)]
+mod clidoc;
+#[cfg(test)]
+mod helpdoc;
+#[cfg(test)]
+mod stand_ins;
+#[cfg(test)]
+mod streams;
