@@ -1,6 +1,9 @@
 //! Answers to requests on the pages of an application.
 
 use crate::documents::path_of;
+use crate::encoding::spelled;
+use crate::fault::{Answer, Bad};
+use crate::lines::Lines;
 use crate::page_answers::refusal;
 use crate::request::Request;
 use crate::trees::read_info;
@@ -11,9 +14,6 @@ use bpaf_help::pages::{
     DocSection, Section, extract_sections, render_html, render_manpage, render_markdown,
 };
 use bpaf_roff::escape::APOSTROPHE_PREABMLE;
-use replay_engine::encoding::spelled;
-use replay_engine::fault::{Answer, Bad};
-use replay_engine::lines::Lines;
 use std::alloc::Global;
 
 /// The sections of an application, or its pages as HTML or markdown.

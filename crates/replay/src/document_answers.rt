@@ -1,13 +1,13 @@
 //! Answers to requests on documents.
 
+use crate::encoding::spelled;
+use crate::fault::{Answer, Bad};
+use crate::lines::Lines;
 use crate::request::Request;
 use crate::words::{Words, shown};
 use bpaf_doc::buffer::Doc;
 use bpaf_roff::escape::APOSTROPHE_PREABMLE;
 use bpaf_roff::roff::Roff;
-use replay_engine::encoding::spelled;
-use replay_engine::fault::{Answer, Bad};
-use replay_engine::lines::Lines;
 use std::alloc::Global;
 
 /// The form of a text that is made of a document. The first field says whether it is in full or in brief.

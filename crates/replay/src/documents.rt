@@ -1,13 +1,13 @@
 //! Documents, read.
 
+use crate::encoding::read_text;
+use crate::fault::Bad;
 use crate::request::Request;
 use crate::trees::read_name;
 use bpaf_doc::buffer::{Block, Doc, Style, Token};
 use bpaf_help::meta::Meta;
 use bpaf_help::meta_help::Metavar;
 use bpaf_help::usage::{metavar, write_item, write_meta, write_shortlong};
-use replay_engine::encoding::read_text;
-use replay_engine::fault::Bad;
 use std::alloc::{AllocError, Global};
 
 /// Takes the parts of a document, behind its bracket.

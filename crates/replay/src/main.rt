@@ -4,17 +4,22 @@
 mod application_answers;
 mod document_answers;
 mod documents;
+mod encoding;
+mod fault;
+mod laws;
+mod lines;
 mod page_answers;
 mod pieces;
 mod printed;
 mod request;
 mod requests;
+mod run;
 mod tree_answers;
 mod trees;
 mod words;
 
-use replay_engine::run::{Stop, run};
 use requests::Library;
+use run::{Stop, run};
 use std::io;
 use std::process::ExitCode;
 

@@ -3,6 +3,8 @@
 use crate::application_answers::{add_application_pages, sections};
 use crate::document_answers::{Form, read_extent, read_width, rendered};
 use crate::documents::path_of;
+use crate::fault::{Answer, Bad};
+use crate::lines::Lines;
 use crate::request::Request;
 use crate::tree_answers::{add_forms, group_places, listing, printed_item};
 use crate::trees::read_info;
@@ -10,8 +12,6 @@ use crate::words::shown;
 use bpaf_doc::buffer::Doc;
 use bpaf_help::meta::Meta;
 use bpaf_help::meta_help::{EnvTexts, HelpError, Info, render_help, write_help_item_groups};
-use replay_engine::fault::{Answer, Bad};
-use replay_engine::lines::Lines;
 use std::alloc::{AllocError, Global};
 
 // Takes names of environment variables, each with its value behind it, in parentheses. A last name has an empty one.

@@ -1,5 +1,7 @@
 //! Answers to requests on texts and their pieces: chunks, roff, escaping and labelled texts.
 
+use crate::encoding::spelled;
+use crate::fault::{Answer, Bad};
 use crate::request::Request;
 use crate::words::Words;
 use bpaf_doc::splitter::{Chunk, split};
@@ -7,8 +9,6 @@ use bpaf_roff::escape::bytes::escape;
 use bpaf_roff::escape::{Apostrophes, Escape};
 use bpaf_roff::monoid::FreeMonoid;
 use bpaf_roff::roff::{Font, Roff};
-use replay_engine::encoding::spelled;
-use replay_engine::fault::{Answer, Bad};
 use std::alloc::AllocError;
 
 /// The chunks of a text.

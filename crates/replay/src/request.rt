@@ -1,12 +1,12 @@
 //! The words of a request, and the documents and trees that they stand for.
 
 use crate::documents::read_document;
+use crate::encoding::read_text;
+use crate::fault::Bad;
 use crate::trees::read_tree;
 use bpaf_doc::buffer::Doc;
 use bpaf_help::meta::Meta;
 use lasting_names::Names;
-use replay_engine::encoding::read_text;
-use replay_engine::fault::Bad;
 use std::alloc::{AllocError, Global};
 
 // How many levels of trees and documents a line may nest.

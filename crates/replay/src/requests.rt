@@ -2,16 +2,16 @@
 
 use crate::application_answers::{application_answer, manual_answer};
 use crate::document_answers::{add_document_answers, document_answer, form_answer, roff_answer};
+use crate::fault::{Answer, Bad};
+use crate::lines::Lines;
 use crate::page_answers::{add_tree_answers, groups_answer, help_answer, help_parts_answer};
 use crate::pieces::{chunks_answer, escape_answer, monoid_answer, roff_calls_answer};
 use crate::request::Request;
+use crate::run::Answerer;
 use crate::tree_answers::{
     either_answer, first_name_answer, heading_answer, matches_answer, tree_answer, usage_answer,
 };
 use lasting_names::Names;
-use replay_engine::fault::{Answer, Bad};
-use replay_engine::lines::Lines;
-use replay_engine::run::Answerer;
 use std::alloc::Global;
 
 /// What answers requests: the library, with the names that were asked for so far.

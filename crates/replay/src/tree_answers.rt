@@ -1,6 +1,8 @@
 //! Answers to requests on trees, items and names.
 
 use crate::document_answers::{Form, bit, rendered};
+use crate::fault::{Answer, Bad};
+use crate::lines::Lines;
 use crate::printed::{write_entry, write_item, write_tree};
 use crate::request::Request;
 use crate::trees::{characters, read_name};
@@ -10,8 +12,6 @@ use bpaf_help::item::{Item, ShortLong};
 use bpaf_help::meta::Meta;
 use bpaf_help::meta_help::{HelpItems, HiTy};
 use bpaf_help::usage::write_meta;
-use replay_engine::fault::{Answer, Bad};
-use replay_engine::lines::Lines;
 use std::alloc::{AllocError, Global};
 
 /// The answer to a request on a tree and the use of it.

@@ -1,10 +1,10 @@
 //! Trees, items and names of a command line, read. What stands behind their first word was read before.
 
+use crate::fault::Bad;
 use crate::request::Request;
 use bpaf_help::item::{Item, ShortLong};
 use bpaf_help::meta::Meta;
 use bpaf_help::meta_help::{Info, Metavar};
-use replay_engine::fault::Bad;
 use std::alloc::{AllocError, Global};
 
 /// Takes what stands behind the first word of a tree. Answers none for a word that begins no tree.

@@ -1,9 +1,9 @@
 //! The words of an answer, printed.
 
+use crate::encoding::{write_character, write_characters, write_text};
+use crate::fault::{Answer, Bad};
 use bpaf_doc::buffer::{Block, Doc, Part, Style};
 use bpaf_help::item::ShortLong;
-use replay_engine::encoding::{write_character, write_characters, write_text};
-use replay_engine::fault::{Answer, Bad};
 use std::alloc::Global;
 
 /// The words of an answer, each with a blank before it. A refused growth leaves something out, and `answer` says so.

@@ -1,0 +1,93 @@
+//! Answer lines.
+
+ghost use Rattle.std.specs.Prelude.{◌≡◌, ◌++◌, [], ◌∷◌, ℕ, List, IfOk, OnOk, OnErr, codes, string_bytes};
+ghost use Rattle.std.specs.List.{list_any};
+ghost use Rattle.replay.specs.Replay.{AreAnswers, is_newline};
+
+use crate::fault::{Answer, Bad};
+use std::alloc::Global;
+use std::marker::Model;
+
+// Stands for the answer of the line before.
+const SAME: &str = " ^";
+
+/// The answer lines of one request, `= KEY ANSWER` each. An answer that is the one before is printed as `^`.
+#[derive(Drop)]
+pub struct Lines {
+    alloc: Global,
+    text: String,
+    last: Option<String>,
+}
+
+impl Model for Lines {
+    ghost use Rattle.std.specs.Prelude.{ℕ, List, string_bytes};
+    ghost use Rattle.replay.specs.Replay.{AreAnswers};
+
+    ghost Value = { List ℕ };
+
+    ghost view = { λ lines. string_bytes lines.text };
+
+    ghost invariant = { λ lines. AreAnswers (string_bytes lines.text) };
+}
+
+impl Lines {
+    /// No line.
+    pub fn new(alloc: Global) -> Lines
+        ensures { result ≡ [] }
+    {
+        Lines {
+            alloc,
+            text: String::new(alloc),
+            last: None,
+        }
+    }
+
+    /// Adds the line of an answer. One with a newline is refused, and after an error the lines are as they were.
+    pub fn add(&mut self, key: &str, answer: String) -> Result<(), Bad>
+        ensures ok { OnOk result ((text : List ℕ) × (self.new ≡ self.old ++ (codes "= " ++ text ++ 10 ∷ []))) }
+        ensures err { OnErr result (self.new ≡ self.old) }
+    {
+        if self.last.as_deref() == Some(answer.as_str()) {
+            return self.add_line(key, SAME);
+        }
+        self.add_line(key, answer.as_str())?;
+        self.last = Some(answer);
+        Ok(())
+    }
+
+    // Adds a line, all of it or none.
+    fn add_line(&mut self, key: &str, answer: &str) -> Result<(), Bad>
+        ensures ok { OnOk result ((text : List ℕ) × (self.new ≡ self.old ++ (codes "= " ++ text ++ 10 ∷ []))) }
+        ensures err { OnErr result (self.new ≡ self.old) }
+    {
+        let mut line = answer_line(self.alloc, key, answer)?;
+        if has_newline(line.as_str().as_bytes()) {
+            return Err(Bad::Words("an answer has a newline"));
+        }
+        line.push_str("\n")?;
+        Ok(self.text.push_str(line.as_str())?)
+    }
+
+    /// The lines as one text.
+    pub fn as_str(&self) -> &str
+        ensures { result.now ≡ self.now }
+    {
+        self.text.as_str()
+    }
+}
+
+fn answer_line(alloc: Global, key: &str, answer: &str) -> Answer
+    ensures { IfOk result (λ line. (text : List ℕ) × (string_bytes line ≡ codes "= " ++ text)) }
+{
+    let mut line = String::from_str(alloc, "= ")?;
+    line.push_str(key)?;
+    line.push_str(answer)?;
+    Ok(line)
+}
+
+/// Whether a byte is a newline.
+pub fn has_newline(bytes: &[u8]) -> bool
+    ensures { result ≡ list_any is_newline bytes.now }
+{
+    bytes.iter().any(|byte| *byte == b'\n')
+}

@@ -1,5 +1,0 @@
-use Rattle.replay_engine.proofs.Replies.{GoesOn}
-use Rattle.replay_engine.proofs.run.run.Given as goal
-
-abbrev pub invariant-loop : goal.invariant-loop
-invariant-loop g l = GoesOn (g.R.Read.remaining l.fn.reader) (g.R.Read.remaining l.reader) (g.W.Write.contents l.fn.writer) (g.W.Write.contents l.writer)
