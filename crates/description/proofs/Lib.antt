@@ -5,5 +5,6 @@ pub mod Views
 pub mod Made
 pub mod Reading
 pub mod Tables
+pub mod Pushed
 pub mod Depths
 pub mod Distinct

@@ -413,14 +413,14 @@ fn command_item<A: Allocator, B: Allocator + Copy>(
 ) -> Result<Meta<B>, AllocError>
     ensures { IfOk result (λ m. tree_of m ≡ command_item (options_tree (map opt_said help_options.now)) (command_said command.now)) }
 {
-    let meta = level_tree(alloc, &command.level, help_options)?;
-    let info = level_info(alloc, &command.level, help_options)?;
+    let meta = Box::new(alloc, level_tree(alloc, &command.level, help_options)?)?;
+    let info = Box::new(alloc, level_info(alloc, &command.level, help_options)?)?;
     let item = Item::Command {
         name: command.name,
         short: command.short,
         help: document(alloc, command.help)?,
-        meta: Box::new(alloc, meta)?,
-        info: Box::new(alloc, info)?,
+        meta,
+        info,
     };
     Meta::from_item(alloc, item)
 }
