@@ -39,7 +39,8 @@ pub struct Texts {
     pub manual: String,
 }
 
-/// The pages of an application: for a console of 100 columns, as HTML, as markdown and as a page of section 1 of the manual.
+/// The pages of an application: for a console of 100 columns, as HTML, as markdown and as a page of section 1 of
+/// the manual.
 pub fn texts_of<'m>(
     alloc: Global,
     app: &str,

@@ -13,8 +13,8 @@ use bpaf_help::pages::{ManualTitle, Section};
 use bpaf_roff::roff::Roff;
 use std::alloc::{AllocError, Global};
 
-/// What a document and an application are shown as: the document for a console, as HTML and as roff, the application as a
-/// manual page, and the normal form of its tree.
+/// What a document and an application are shown as: the document for a console, as HTML and as roff, the
+/// application as a manual page, and the normal form of its tree.
 #[derive(Drop)]
 pub struct Shown {
     pub console: String,

@@ -12,8 +12,8 @@ use lasting_names::Names;
 use std::alloc::Global;
 use toml::Table;
 
-/// The manual page of the command line that the table describes. An error says what is wrong in the table, or that memory
-/// was refused.
+/// The manual page of the command line that the table describes. An error says what is wrong in the table, or that
+/// memory was refused.
 pub fn manual_of(alloc: Global, table: &Table) -> Result<String, DescriptionError>
     ensures page { IfOk result (λ page. (app : DescriptionSaid)
         × described (table_view table.now) ≡ Some app × IsDescriptionManual app (string_bytes page)) }

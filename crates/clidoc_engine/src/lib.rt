@@ -1,5 +1,5 @@
-//! What the program `clidoc` does: the word that chooses a page, and the making of the page of a description in TOML, over any
-//! reader and any writer.
+//! What the program `clidoc` does: the word that chooses a page, and the making of the page of a description in
+//! TOML, over any reader and any writer.
 #![tactic(auto)]
 
 pub mod engine;

@@ -1,8 +1,13 @@
 //! Levels of a command line: the top, and each command. What stands on one, and groups of it.
 ghost use Rattle.std.specs.Prelude.{◌≡◌, Some, None, true, false, OnErr, OnOk};
 ghost use Rattle.description_parts.specs.Content.{command as command_of};
-ghost use Rattle.description_parts.specs.Calls.{empty_group, empty_level, group_with_choice, group_with_command, group_with_option, group_with_positional, with_about, with_choice, with_command, with_commands_optional, with_footer, with_group, with_header, with_initial, with_command_help, with_option, with_positional, with_usage};
-ghost use Rattle.description_parts.specs.View.{choice_said, command_said, group_said, level_said, opt_said, positional_said};
+ghost use Rattle.description_parts.specs.Calls.{empty_group, empty_level, group_with_choice};
+ghost use Rattle.description_parts.specs.Calls.{group_with_command, group_with_option, group_with_positional};
+ghost use Rattle.description_parts.specs.Calls.{with_about, with_choice, with_command, with_commands_optional};
+ghost use Rattle.description_parts.specs.Calls.{with_footer, with_group, with_header, with_initial};
+ghost use Rattle.description_parts.specs.Calls.{with_command_help, with_option, with_positional, with_usage};
+ghost use Rattle.description_parts.specs.View.{choice_said, command_said, group_said, level_said, opt_said};
+ghost use Rattle.description_parts.specs.View.{positional_said};
 
 use crate::options::{Choice, Opt};
 use crate::positionals::Positional;
@@ -114,7 +119,8 @@ impl<'a, A: Allocator> Level<'a, A> {
         self
     }
 
-    /// Puts an option last among those of the level. After `AllocError` the level is as it was, and what was given is dropped.
+    /// Puts an option last among those of the level. After `AllocError` the level is as it was, and what was given
+    /// is dropped.
     pub fn option(&mut self, option: Opt<'a>) -> Result<(), AllocError>
         ensures ok { OnOk result (level_said self.new ≡ with_option (level_said self.old) (opt_said option.entry)) }
         ensures err { OnErr result (level_said self.new ≡ level_said self.old) }
@@ -123,16 +129,19 @@ impl<'a, A: Allocator> Level<'a, A> {
         Ok(())
     }
 
-    /// Puts a choice last among those of the level. After `AllocError` the level is as it was, and what was given is dropped.
+    /// Puts a choice last among those of the level. After `AllocError` the level is as it was, and what was given
+    /// is dropped.
     pub fn choice(&mut self, choice: Choice<'a, A>) -> Result<(), AllocError>
-        ensures ok { OnOk result (level_said self.new ≡ with_choice (level_said self.old) (choice_said choice.entry)) }
+        ensures ok { OnOk result (level_said self.new
+            ≡ with_choice (level_said self.old) (choice_said choice.entry)) }
         ensures err { OnErr result (level_said self.new ≡ level_said self.old) }
     {
         self.choices.push(choice)?;
         Ok(())
     }
 
-    /// Puts a group last among those of the level. After `AllocError` the level is as it was, and what was given is dropped.
+    /// Puts a group last among those of the level. After `AllocError` the level is as it was, and what was given
+    /// is dropped.
     pub fn group(&mut self, group: Group<'a, A>) -> Result<(), AllocError>
         ensures ok { OnOk result (level_said self.new ≡ with_group (level_said self.old) (group_said group.entry)) }
         ensures err { OnErr result (level_said self.new ≡ level_said self.old) }
@@ -141,18 +150,22 @@ impl<'a, A: Allocator> Level<'a, A> {
         Ok(())
     }
 
-    /// Puts a positional value last among those of the level. After `AllocError` the level is as it was, and what was given is dropped.
+    /// Puts a positional value last among those of the level. After `AllocError` the level is as it was, and what
+    /// was given is dropped.
     pub fn positional(&mut self, positional: Positional<'a>) -> Result<(), AllocError>
-        ensures ok { OnOk result (level_said self.new ≡ with_positional (level_said self.old) (positional_said positional.entry)) }
+        ensures ok { OnOk result (level_said self.new
+            ≡ with_positional (level_said self.old) (positional_said positional.entry)) }
         ensures err { OnErr result (level_said self.new ≡ level_said self.old) }
     {
         self.positionals.push(positional)?;
         Ok(())
     }
 
-    /// Puts a command last among those of the level. After `AllocError` the level is as it was, and what was given is dropped.
+    /// Puts a command last among those of the level. After `AllocError` the level is as it was, and what was given
+    /// is dropped.
     pub fn command(&mut self, command: Command<'a, A>) -> Result<(), AllocError>
-        ensures ok { OnOk result (level_said self.new ≡ with_command (level_said self.old) (command_said command.entry)) }
+        ensures ok { OnOk result (level_said self.new
+            ≡ with_command (level_said self.old) (command_said command.entry)) }
         ensures err { OnErr result (level_said self.new ≡ level_said self.old) }
     {
         self.commands.push(command)?;
@@ -176,36 +189,44 @@ impl<'a, A: Allocator + Copy> Group<'a, A> {
 }
 
 impl<'a, A: Allocator> Group<'a, A> {
-    /// Puts an option last among those of the group. After `AllocError` the group is as it was, and what was given is dropped.
+    /// Puts an option last among those of the group. After `AllocError` the group is as it was, and what was given
+    /// is dropped.
     pub fn option(&mut self, member: Opt<'a>) -> Result<(), AllocError>
-        ensures ok { OnOk result (group_said self.new ≡ group_with_option (group_said self.old) (opt_said member.entry)) }
+        ensures ok { OnOk result (group_said self.new
+            ≡ group_with_option (group_said self.old) (opt_said member.entry)) }
         ensures err { OnErr result (group_said self.new ≡ group_said self.old) }
     {
         self.options.push(member)?;
         Ok(())
     }
 
-    /// Puts a choice last among those of the group. After `AllocError` the group is as it was, and what was given is dropped.
+    /// Puts a choice last among those of the group. After `AllocError` the group is as it was, and what was given
+    /// is dropped.
     pub fn choice(&mut self, member: Choice<'a, A>) -> Result<(), AllocError>
-        ensures ok { OnOk result (group_said self.new ≡ group_with_choice (group_said self.old) (choice_said member.entry)) }
+        ensures ok { OnOk result (group_said self.new
+            ≡ group_with_choice (group_said self.old) (choice_said member.entry)) }
         ensures err { OnErr result (group_said self.new ≡ group_said self.old) }
     {
         self.choices.push(member)?;
         Ok(())
     }
 
-    /// Puts a positional value last among those of the group. After `AllocError` the group is as it was, and what was given is dropped.
+    /// Puts a positional value last among those of the group. After `AllocError` the group is as it was, and what
+    /// was given is dropped.
     pub fn positional(&mut self, member: Positional<'a>) -> Result<(), AllocError>
-        ensures ok { OnOk result (group_said self.new ≡ group_with_positional (group_said self.old) (positional_said member.entry)) }
+        ensures ok { OnOk result (group_said self.new
+            ≡ group_with_positional (group_said self.old) (positional_said member.entry)) }
         ensures err { OnErr result (group_said self.new ≡ group_said self.old) }
     {
         self.positionals.push(member)?;
         Ok(())
     }
 
-    /// Puts a command last among those of the group. After `AllocError` the group is as it was, and what was given is dropped.
+    /// Puts a command last among those of the group. After `AllocError` the group is as it was, and what was given
+    /// is dropped.
     pub fn command(&mut self, member: Command<'a, A>) -> Result<(), AllocError>
-        ensures ok { OnOk result (group_said self.new ≡ group_with_command (group_said self.old) (command_said member.entry)) }
+        ensures ok { OnOk result (group_said self.new
+            ≡ group_with_command (group_said self.old) (command_said member.entry)) }
         ensures err { OnErr result (group_said self.new ≡ group_said self.old) }
     {
         self.commands.push(member)?;

@@ -7,8 +7,8 @@ ghost use Rattle.description_parts.specs.View.{choice_said, opt_said};
 use bpaf_meta::item::ShortLong;
 use std::alloc::{AllocError, Allocator, Global};
 
-/// An option: a flag, or with a value an argument. It may be left out unless it is `required`, and be given many times if it
-/// is `repeated`.
+/// An option: a flag, or with a value an argument. It may be left out unless it is `required`, and be given many
+/// times if it is `repeated`.
 #[derive(Clone, Copy, Debug)]
 pub struct Opt<'a> {
     pub name: ShortLong,
@@ -44,7 +44,14 @@ impl<'a> Opt<'a> {
     }
 
     fn named(name: ShortLong) -> Opt<'a>
-        ensures { result ≡ record { name = name; value = None; help = None; env = None; required = false; repeated = false } }
+        ensures { result ≡ record {
+          name = name;
+          value = None;
+          help = None;
+          env = None;
+          required = false;
+          repeated = false;
+        } }
     {
         Opt {
             name,
@@ -97,8 +104,8 @@ impl<'a> Opt<'a> {
     }
 }
 
-/// Options of which one is given, or none unless the choice is `required`. Whether an option of it is required or repeated by
-/// itself counts for nothing.
+/// Options of which one is given, or none unless the choice is `required`. Whether an option of it is required or
+/// repeated by itself counts for nothing.
 #[derive(Drop)]
 #[derive_where(Debug)]
 pub struct Choice<'a, A: Allocator = Global> {
@@ -119,7 +126,11 @@ impl<'a, A: Allocator> Choice<'a, A> {
 
     /// Puts an option last. After `AllocError` the choice is as it was, and what was given is dropped.
     pub fn option(&mut self, option: Opt<'a>) -> Result<(), AllocError>
-        ensures ok { OnOk result (choice_said self.new ≡ record (choice_said self.old) { options = (choice_said self.old).options ++ opt_said option.entry ∷ [] }) }
+        ensures ok { OnOk result (choice_said self.new
+            ≡ record (choice_said self.old) {
+              options = (choice_said self.old).options ++ opt_said option.entry
+                  ∷ [];
+            }) }
         ensures err { OnErr result (choice_said self.new ≡ choice_said self.old) }
     {
         self.options.push(option)?;

@@ -2,8 +2,8 @@
 ghost use Rattle.std.specs.Prelude.{◌≡◌, Some, None, true, false};
 ghost use Rattle.description_parts.specs.View.{positional_said};
 
-/// A value that is taken by its place. It has to be given if it is `required`, many of it are taken if it is `repeated`, and it
-/// stands behind `--` if it is `strict`.
+/// A value that is taken by its place. It has to be given if it is `required`, many of it are taken if it is
+/// `repeated`, and it stands behind `--` if it is `strict`.
 #[derive(Clone, Copy, Debug)]
 pub struct Positional<'a> {
     /// What the value is called, as `FILE`.
@@ -17,7 +17,8 @@ pub struct Positional<'a> {
 impl<'a> Positional<'a> {
     /// A value that has to be given, once.
     pub fn new(value: &'static str) -> Positional<'a>
-        ensures { positional_said result ≡ record { value = value.now; help = None; required = true; repeated = false; strict = false } }
+        ensures { positional_said result
+            ≡ record { value = value.now; help = None; required = true; repeated = false; strict = false } }
     {
         Positional {
             value,

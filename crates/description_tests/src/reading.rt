@@ -1,4 +1,5 @@
-//! Descriptions that are read from TOML, with each growth of theirs refused in turn. The tables and the names stand in other memory.
+//! Descriptions that are read from TOML, with each growth of theirs refused in turn. The tables and the names
+//! stand in other memory.
 use description::{Description, DescriptionError};
 use lasting_names::Names;
 use linked_list_allocator::LocalHeap;

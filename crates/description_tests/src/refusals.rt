@@ -1,5 +1,6 @@
-//! Each growth refused in turn. Budgets rise from nothing, and each refuses the first growth that does not fit, until the call
-//! succeeds. Each refusal leaves what was lent as it was, and the answer at the end is that of ample memory.
+//! Each growth refused in turn. Budgets rise from nothing, and each refuses the first growth that does not fit,
+//! until the call succeeds. Each refusal leaves what was lent as it was, and the answer at the end is that of
+//! ample memory.
 use crate::samples::with_help;
 use description::{Choice, Command, Description, Group, Level, Opt, Positional};
 use linked_list_allocator::LocalHeap;

@@ -1,5 +1,5 @@
-//! Arenas with little room. An arena gives no room out twice, but for that of its last block: so with a little more room each time,
-//! one growth of a call after another is the first that is refused.
+//! Arenas with little room. An arena gives no room out twice, but for that of its last block: so with a little
+//! more room each time, one growth of a call after another is the first that is refused.
 use bumpalo::Bump;
 use std::process::Abort;
 

@@ -40,8 +40,9 @@ pub enum Answer {
     Misplaced(char),
 }
 
-/// The answer of a call over an arena with so many free bytes, and with the tree that the text spells, which stands there too: what
-/// takes its memory where the tree does is refused as well. An error says that the call could not be prepared, or its text not be made.
+/// The answer of a call over an arena with so many free bytes, and with the tree that the text spells, which
+/// stands there too: what takes its memory where the tree does is refused as well. An error says that the call
+/// could not be prepared, or its text not be made.
 pub fn answer_of(
     out: Global,
     arena: &Bump,

@@ -1,8 +1,9 @@
-//! Tests of `bpaf_meta`, `bpaf_items` and `bpaf_help`: of trees and usage lines, item lists, texts of environment variables, help pages
-//! and pages of applications. There are rows with ample memory, and each growth is refused in turn.
+//! Tests of `bpaf_meta`, `bpaf_items` and `bpaf_help`: of trees and usage lines, item lists, texts of environment
+//! variables, help pages and pages of applications. There are rows with ample memory, and each growth is refused
+//! in turn.
 //!
-//! They stand apart from what they test, since a crate with tests is proved twice. A function here makes few calls that may fail
-//! while it holds a tree: the proof has a step for each value that each of them may have to drop.
+//! They stand apart from what they test, since a crate with tests is proved twice. A function here makes few calls
+//! that may fail while it holds a tree: the proof has a step for each value that each of them may have to drop.
 #![tactic(auto)]
 
 #[cfg(test)]

@@ -1,5 +1,6 @@
-//! Each growth refused in turn: a call is made over an arena with room for nothing, then for a little more each time, until it
-//! succeeds. Each refusal leaves what was lent as it was, and the answer at the end is that of ample memory.
+//! Each growth refused in turn: a call is made over an arena with room for nothing, then for a little more each
+//! time, until it succeeds. Each refusal leaves what was lent as it was, and the answer at the end is that of
+//! ample memory.
 use crate::arenas::{BYTES, STEP, roomy};
 use crate::calls::{Answer, Call, answer_of, before};
 use std::alloc::{AllocError, Global};

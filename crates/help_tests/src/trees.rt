@@ -5,11 +5,12 @@ use bpaf_help::meta::Meta;
 use bpaf_help::meta_help::{Info, Metavar};
 use std::alloc::{AllocError, Allocator};
 
-/// The tree that a text spells over a stack of trees. `X` is a positional value with help, `C` a command of the same name and
-/// help, `P` a positional value without help, `A` and `S` an argument, `Y` an `Any`, `.` a `Skip`, and `B` and each small letter a
-/// flag. Each other sign takes trees off and puts one on: `&` an `And` of two, `|` an `Or` of two, and of the last one `?` Optional, `^`
-/// Required, `@` Adjacent, `+` Many, `-` Strict, `#` and `%` Subsection, `~` and `!` Suffix, `$` CustomUsage, and each digit and `R` a
-/// command. Where there is none to take off, it takes `Skip`.
+/// The tree that a text spells over a stack of trees. `X` is a positional value with help, `C` a command of the
+/// same name and help, `P` a positional value without help, `A` and `S` an argument, `Y` an `Any`, `.` a `Skip`,
+/// and `B` and each small letter a flag. Each other sign takes trees off and puts one on: `&` an `And` of two, `|`
+/// an `Or` of two, and of the last one `?` Optional, `^` Required, `@` Adjacent, `+` Many, `-` Strict, `#` and `%`
+/// Subsection, `~` and `!` Suffix, `$` CustomUsage, and each digit and `R` a command. Where there is none to take
+/// off, it takes `Skip`.
 pub fn tree<A: Allocator + Copy>(alloc: A, text: &str) -> Result<Meta<A>, AllocError> {
     let mut stack = Vec::new(alloc);
     for sign in text.chars() {

@@ -9,8 +9,8 @@ use std::collections::HashSet;
 use std::marker::Model;
 use std::str;
 
-/// Texts that were asked for, each kept once: an item of a command line holds its names as texts that last as long as the program.
-/// So memory grows with the distinct texts that were asked for, and none of it is freed.
+/// Texts that were asked for, each kept once: an item of a command line holds its names as texts that last as long
+/// as the program. So memory grows with the distinct texts that were asked for, and none of it is freed.
 #[derive(Drop)]
 pub struct Names {
     alloc: Global,

@@ -1,4 +1,5 @@
-//! Each call is passed on once, its answer is handed out as it was, and the mark stands exactly where a call has failed.
+//! Each call is passed on once, its answer is handed out as it was, and the mark stands exactly where a call has
+//! failed.
 use crate::stand_ins::scripts::{
     Answer, Call, Draws, KINDS, LARGE, MESSAGE, SIZES, ScriptedReader, ScriptedWriter, bytes_of,
     read_by, written_by,

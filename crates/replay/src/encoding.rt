@@ -2,7 +2,8 @@
 
 ghost use Rattle.std.specs.Prelude.{◌≡◌, ◌≤◌, ◌∷◌, ◌++◌, Some, IfOk, IfSome, OnOk, encode_utf8, length, string_bytes};
 ghost use Rattle.std.specs.Str.Iter.{chars_rest};
-ghost use Rattle.replay.specs.Encoding.{Spells, StandFor, character_spelling, code_at, escape_at, hex_digits, spelling};
+ghost use Rattle.replay.specs.Encoding.{Spells, StandFor, character_spelling, code_at, escape_at, hex_digits};
+ghost use Rattle.replay.specs.Encoding.{spelling};
 
 use crate::fault::{Answer, Bad};
 use std::alloc::{AllocError, Global};
@@ -36,7 +37,8 @@ fn read_character(mark: char, marks: &mut Chars<'_>) -> Option<char>
 
 // Takes what stands behind a backslash.
 fn read_escape(marks: &mut Chars<'_>) -> Option<char>
-    ensures found { IfSome result (λ character. escape_at (chars_rest marks.old) ≡ Some (character, chars_rest marks.new)) }
+    ensures found { IfSome result (λ character. escape_at (chars_rest marks.old)
+        ≡ Some (character, chars_rest marks.new)) }
     ensures no_longer { length (chars_rest marks.new) ≤ length (chars_rest marks.old) }
 {
     match marks.next()? {
@@ -52,7 +54,8 @@ fn read_escape(marks: &mut Chars<'_>) -> Option<char>
 
 // Takes so many digits of a character's code, behind those that gave a number.
 fn read_code(marks: &mut Chars<'_>, count: u32, number: u32) -> Option<char>
-    ensures found { IfSome result (λ character. code_at count number (chars_rest marks.old) ≡ Some (character, chars_rest marks.new)) }
+    ensures found { IfSome result (λ character. code_at count number (chars_rest marks.old)
+        ≡ Some (character, chars_rest marks.new)) }
     ensures no_longer { length (chars_rest marks.new) ≤ length (chars_rest marks.old) }
 {
     if count == 0 {

@@ -1,4 +1,5 @@
-//! `replay` reads requests from standard input, one a line, and prints each line with the answers that the library gives.
+//! `replay` reads requests from standard input, one a line, and prints each line with the answers that the library
+//! gives.
 #![tactic(auto)]
 
 mod application_answers;

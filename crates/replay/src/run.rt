@@ -29,7 +29,8 @@ pub enum Stop {
 
 /// Reads lines up to the end, and writes each with its answers. A line is kept until it is answered, and no longer.
 ///
-/// After an error the lines before were written with their answers, and of the next one and its answers a beginning may be.
+/// After an error the lines before were written with their answers, and of the next one and its answers a
+/// beginning may be.
 pub fn run<T: Answerer, R: BufRead, W: Write>(
     alloc: Global,
     answerer: &mut T,

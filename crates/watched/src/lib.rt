@@ -1,7 +1,9 @@
-//! Readers and writers that remember whether a call on them has failed, and what programs that run on them have in common.
+//! Readers and writers that remember whether a call on them has failed, and what programs that run on them have in
+//! common.
 #![tactic(auto)]
 
-ghost use Rattle.std.specs.Prelude.{◌≡◌, ◌||◌, ◌↔◌, IfErr, IfOk, IsErrOf, IsOk, IsUtf8, OnErr, OnOk, is_err, string_bytes};
+ghost use Rattle.std.specs.Prelude.{◌≡◌, ◌||◌, ◌↔◌, IfErr, IfOk, IsErrOf, IsOk, IsUtf8, OnErr, OnOk, is_err};
+ghost use Rattle.std.specs.Prelude.{string_bytes};
 ghost use Rattle.std.specs.Io.{ReadsAtMost, WritesAtMost};
 ghost use Rattle.std.specs.Io.KnownBytes.{Appends, ReadConsumes, WriteAppends};
 ghost use Rattle.watched.specs.Calls.{Moves, ReadStops, ReadsToEnd, WriteFails};
@@ -127,8 +129,8 @@ impl<R: Source> Watched<R> {
         }
     }
 
-    /// All that the reader has left, as one text that is no copy of what was read. It ends as `read_all` does, and with
-    /// `NotUtf8` where all was read and is no text; then too what was read is lost.
+    /// All that the reader has left, as one text that is no copy of what was read. It ends as `read_all` does, and
+    /// with `NotUtf8` where all was read and is no text; then too what was read is lost.
     pub fn read_text<A: Allocator>(&mut self, alloc: A) -> Result<String<A>, ReadError>
         ensures ok { IfOk result (λ text.
             ReadsAll (R.remaining self.old.end) (R.remaining self.new.end) (string_bytes text)) }

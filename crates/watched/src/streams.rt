@@ -1,7 +1,7 @@
 //! What `Watched` reads from and writes to: any `Read`, and any `Write`.
 //!
-//! By the traits of std each call may fail, with any error. Here a stream has a relation for what a call answers, and code that
-//! takes any `Source` or `Sink` can show it of an answer only by the call that gave it.
+//! By the traits of std each call may fail, with any error. Here a stream has a relation for what a call answers,
+//! and code that takes any `Source` or `Sink` can show it of an answer only by the call that gave it.
 
 ghost use Rattle.std.specs.Prelude.{ℕ, List, Option, Result};
 ghost use Rattle.std.specs.Io.{ReadsAtMost, WritesAtMost};

@@ -82,7 +82,11 @@ fn push<'a, A: Allocator, L: Allocator + Copy>(
     sections: &mut Vec<DocSection<'a, A, L>, L>,
 ) -> Result<(), AllocError>
     ensures ok { OnOk result (map chapter_of sections.new.items ≡ map chapter_of sections.old.items
-        ++ record { path = map string_bytes path.now.items; info = head_of info.now; content = tree_of meta.now } ∷ []) }
+        ++ record {
+          path = map string_bytes path.now.items;
+          info = head_of info.now;
+          content = tree_of meta.now;
+        } ∷ []) }
     ensures front { IsFront sections.old.items sections.new.items }
 {
     let path = copy_of(*path.allocator(), path)?;

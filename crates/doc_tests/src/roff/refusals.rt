@@ -1,5 +1,6 @@
-//! Each growth refused in turn: a call is made over an arena with room for nothing, then for a little more each time, until it
-//! succeeds. Each refusal leaves what was lent as it was, and at the end stands what the call has to add.
+//! Each growth refused in turn: a call is made over an arena with room for nothing, then for a little more each
+//! time, until it succeeds. Each refusal leaves what was lent as it was, and at the end stands what the call has
+//! to add.
 use crate::arenas::{BYTES, STEP, roomy, taken};
 use crate::roff::monoids::{MonoidCall, attempt_on_monoid, monoid_before};
 use crate::roff::roffs::{RoffCall, attempt_on_roff, roff_before};

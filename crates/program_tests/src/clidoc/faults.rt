@@ -69,8 +69,8 @@ const ROWS: [(&[u8], &str); 25] = [
         b"name = 'app'\n[[command]]\nname = 'a'\n[[command]]\nname = 'b'\n[[command.option]]\nlnog = 1\n",
         "clidoc: command 2, option 1: no key lnog is known here\n",
     ),
-    // Of several faults the first: unknown keys by their bytes, then the keys in their order, then what is taken, then the tables
-    // inside.
+    // Of several faults the first: unknown keys by their bytes, then the keys in their order, then what is taken,
+    // then the tables inside.
     (
         b"b = 1\na = 1\n[[option]]\n",
         "clidoc: description: no key a is known here\n",

@@ -17,8 +17,8 @@ const WRITE: &str = "clidoc: write failed\n";
 
 const MEMORY: &str = "clidoc: no memory\n";
 
-// Runs the program on so much memory beside its own, and sees what it answers and prints. Statuses are numbers here, as in the
-// table of the program.
+// Runs the program on so much memory beside its own, and sees what it answers and prints. Statuses are numbers
+// here, as in the table of the program.
 fn ends(
     rt: &(impl Abort + AllocGlobal),
     desk: &Desk<'_>,

@@ -86,7 +86,8 @@ pub struct Call {
     pub outcome: Outcome,
 }
 
-/// The answers of an end, one a call, and the calls that came. Behind the last answer each call moves all that it can.
+/// The answers of an end, one a call, and the calls that came. Behind the last answer each call moves all that it
+/// can.
 #[derive(Drop)]
 struct Script<'a> {
     answers: &'a [Answer],
@@ -195,8 +196,8 @@ pub fn bytes_of(alloc: Global, size: usize) -> Result<Vec<u8>, AllocError> {
     Ok(bytes)
 }
 
-/// What reading to the end answers by the calls that came: how many bytes there were, or the kind of the error. None where a
-/// call came that should not have come.
+/// What reading to the end answers by the calls that came: how many bytes there were, or the kind of the error.
+/// None where a call came that should not have come.
 pub fn read_by(calls: &[Call]) -> Option<Outcome> {
     let mut total = 0usize;
     let mut end = None;
@@ -213,8 +214,8 @@ pub fn read_by(calls: &[Call]) -> Option<Outcome> {
     end
 }
 
-/// What writing so many bytes answers by the calls that came, and how many of them were taken. None where a call came that
-/// should not have come, or is missing.
+/// What writing so many bytes answers by the calls that came, and how many of them were taken. None where a call
+/// came that should not have come, or is missing.
 pub fn written_by(calls: &[Call], length: usize) -> Option<(Result<(), ErrorKind>, usize)> {
     let mut taken = 0usize;
     let mut end = if length == 0 { Some(Ok(())) } else { None };
