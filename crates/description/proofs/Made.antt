@@ -3,17 +3,14 @@ use Rattle.std.proofs.Common.{◌≡◌, ℕ, true, false, List, [], ◌∷◌, 
 use Rattle.std.specs.Borrow.{Bor}
 use Rattle.std.specs.Prelude.{All, Contains, ◌<◌}
 use Rattle.std.proofs.lemmas.List.Elements.{All-head, All-tail}
-use Rattle.bpaf_doc.specs.declared.buffer.Block.TheVariants as block
-use Rattle.bpaf_doc.specs.Buffer.Parts.{IsWellNested, Part, Start, End}
-use Rattle.bpaf_doc.specs.Buffer.Writes.{end, inside, path_writes, with_writes, document_of}
+use Rattle.bpaf_doc.specs.Buffer.Parts.{IsWellNested, Part}
+use Rattle.bpaf_doc.specs.Buffer.Writes.{document_of}
 use Rattle.bpaf_doc.specs.Html.Page.{IsHtmlPageOf}
 use Rattle.bpaf_meta.specs.Content.{Tree, Leaf, Head}
 use Rattle.bpaf_meta.specs.View.{head_of, leaf_of, tree_of}
 use Rattle.bpaf_meta.specs.declared.item.Item.{Item}
 use Rattle.bpaf_meta.specs.declared.meta_help.Info.{Info}
 use Rattle.bpaf_meta.specs.Meta.Misplaced.{IsWellPlaced, IsFirstMisplaced}
-use Rattle.bpaf_meta.specs.Usage.Writes.{usage_writes}
-use Rattle.bpaf_items.proofs.Page.Leaving.{written_then}
 use Rattle.bpaf_items.specs.declared.meta_help.error.HelpError.{HelpError}
 use Rattle.bpaf_items.specs.declared.meta_help.error.HelpError.TheVariants as error
 use Rattle.bpaf_items.specs.Page.EnvTexts.{Texts, no_texts}
@@ -46,18 +43,6 @@ all_middle P (w ∷ xs) x ys h = all_middle P xs x ys (All-tail P w (xs ++ x ∷
 
 pub none_misplaced_of : (cs : List Chapter) (l : Leaf) → AreWellPlaced cs → ¬ IsFirstMisplacedOf cs l
 none_misplaced_of cs l h m = none_misplaced m.faulty.content l (all_middle (λ c. IsWellPlaced c.content) m.front m.faulty m.back (subst AreWellPlaced m.order h)) m.first
-
--- ---- the usage line
-
-pub usage_whole : (name : List ℕ) (t u : Tree) (names : List (List ℕ)) (d0 d1 d2 d3 d4 : List Part) → t ≡ u → names ≡ name ∷ [] → d0 ≡ [] → d1 ≡ d0 ++ Start block.Mono ∷ []
-    → d2 ≡ with_writes d1 (path_writes names) → d3 ≡ with_writes d2 (usage_writes true t) → d4 ≡ d3 ++ End block.Mono ∷ []
-    → d4 ≡ document_of (inside block.Mono (path_writes (name ∷ []) ++ usage_writes true u))
-usage_whole name t u names d0 d1 d2 d3 d4 et en e0 e1 e2 e3 e4 =
-    let line = path_writes names ++ usage_writes true t in
-    written_then d1 d3 d4 line (end block.Mono ∷ []) (written_then d1 d2 d3 (path_writes names) (usage_writes true t) e2 e3) e4
-    ∙ ap (λ ps. with_writes ps (line ++ end block.Mono ∷ [])) (e1 ∙ ap (λ ps. ps ++ Start block.Mono ∷ []) e0)
-    ∙ ap (λ ns. document_of (inside block.Mono (path_writes ns ++ usage_writes true t))) en
-    ∙ ap (λ v. document_of (inside block.Mono (path_writes (name ∷ []) ++ usage_writes true v))) et
 
 -- ---- pages of trees and infos that are those of a description
 

@@ -4,7 +4,8 @@ ghost use Rattle.bpaf_help.specs.View.{section_name};
 ghost use Rattle.bpaf_meta.specs.View.{text_of};
 ghost use Rattle.toml.specs.View.{table_view};
 ghost use Rattle.toml_datetime.specs.Text.{date_text};
-ghost use Rattle.description.specs.Described.{commands_at, described, description_head, each_command, each_group, groups_at, section_from, title_words};
+ghost use Rattle.description.specs.Described.{commands_at, described, description_head, each_command};
+ghost use Rattle.description.specs.Described.{each_group, groups_at, section_from, title_words};
 ghost use Rattle.description.specs.Described.Steps.{description_head_seen, words_seen};
 ghost use Rattle.description.specs.Described.Values.{as_date, optional_at, text_of_date};
 ghost use Rattle.description.specs.Faults.{IsMemory, Reads};
@@ -48,12 +49,14 @@ const DESCRIPTION_KEYS: [&str; 16] = [
 ];
 
 impl<'a, A: Allocator + Copy> Description<'a, A> {
-    /// The description that the table of a TOML text gives (`docs/description.md`). Its texts are those of the table; its names, its
-    /// words for values and a TOML date are kept in `names` for good, also those that were read before an error.
+    /// The description that the table of a TOML text gives (`docs/description.md`). Its texts are those of the
+    /// table; its names, its words for values and a TOML date are kept in `names` for good, also those that were
+    /// read before an error.
     ///
-    /// `Memory` says that a growth was refused, and nothing of the table. While memory lasts, `Content` comes exactly where the table is
-    /// no description, and tells where the first fault is: in a table first a key that is not known, then its keys in the order of
-    /// `docs/description.md`, then a name that is taken, then the tables inside it.
+    /// `Memory` says that a growth was refused, and nothing of the table. While memory lasts, `Content` comes
+    /// exactly where the table is no description, and tells where the first fault is: in a table first a key that
+    /// is not known, then its keys in the order of `docs/description.md`, then a name that is taken, then the
+    /// tables inside it.
     pub fn from_table(
         alloc: A,
         names: &mut Names,
@@ -138,8 +141,10 @@ fn description_head<'a, A: Allocator + Copy>(
     table: &'a Table,
 ) -> Result<DescriptionHead<'a>, Fault<'a>>
     ensures head { Reads (description_head (table_view table.now)) (λ head. description_head_seen head) result }
-    ensures groups { IfOk result (λ head. groups_at (codes "group") (table_view table.now) ≡ each_group (description_head_seen head).outline.lists.groups) }
-    ensures commands { IfOk result (λ head. commands_at (codes "command") (table_view table.now) ≡ each_command (description_head_seen head).outline.lists.commands) }
+    ensures groups { IfOk result (λ head. groups_at (codes "group") (table_view table.now)
+        ≡ each_group (description_head_seen head).outline.lists.groups) }
+    ensures commands { IfOk result (λ head. commands_at (codes "command") (table_view table.now)
+        ≡ each_command (description_head_seen head).outline.lists.commands) }
 {
     see_keys(table, &DESCRIPTION_KEYS)?;
     Ok(DescriptionHead {

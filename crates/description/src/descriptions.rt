@@ -9,7 +9,8 @@ use description_parts::levels::Level;
 use description_parts::options::Opt;
 use std::alloc::{AllocError, Allocator, Global};
 
-/// A command line: its name, the words of the title line of its manual page, the options that ask for help, and its top level.
+/// A command line: its name, the words of the title line of its manual page, the options that ask for help, and
+/// its top level.
 #[derive(Drop)]
 #[derive_where(Debug)]
 pub struct Description<'a, A: Allocator = Global> {
@@ -24,10 +25,19 @@ pub struct Description<'a, A: Allocator = Global> {
 }
 
 impl<'a, A: Allocator> Description<'a, A> {
-    /// A command line of this name, in the general section of the manual, without other words for its title line and without
-    /// options that ask for help.
+    /// A command line of this name, in the general section of the manual, without other words for its title line
+    /// and without options that ask for help.
     pub fn new(alloc: A, name: &'static str, level: Level<'a, A>) -> Description<'a, A>
-        ensures { description_said result ≡ record { name = name.now; section = codes "1"; date = None; vendor = None; title = None; help_options = []; level = level_said level.entry } }
+        ensures { description_said result
+            ≡ record {
+              name = name.now;
+              section = codes "1";
+              date = None;
+              vendor = None;
+              title = None;
+              help_options = [];
+              level = level_said level.entry;
+            } }
     {
         Description {
             name,
@@ -42,7 +52,8 @@ impl<'a, A: Allocator> Description<'a, A> {
 
     /// The command line in another section of the manual.
     pub fn section(mut self, section: Section<'a>) -> Description<'a, A>
-        ensures { description_said result ≡ record (description_said self.entry) { section = section_name section.entry } }
+        ensures { description_said result
+            ≡ record (description_said self.entry) { section = section_name section.entry } }
     {
         self.section = section;
         self
@@ -72,9 +83,14 @@ impl<'a, A: Allocator> Description<'a, A> {
         self
     }
 
-    /// Puts an option that asks for help last. After `AllocError` the description is as it was, and what was given is dropped.
+    /// Puts an option that asks for help last. After `AllocError` the description is as it was, and what was given
+    /// is dropped.
     pub fn help_option(&mut self, option: Opt<'a>) -> Result<(), AllocError>
-        ensures ok { OnOk result (description_said self.new ≡ record (description_said self.old) { help_options = (description_said self.old).help_options ++ opt_said option.entry ∷ [] }) }
+        ensures ok { OnOk result (description_said self.new
+            ≡ record (description_said self.old) {
+              help_options = (description_said self.old).help_options
+                  ++ opt_said option.entry ∷ [];
+            }) }
         ensures err { OnErr result (description_said self.new ≡ description_said self.old) }
     {
         self.help_options.push(option)?;

@@ -1,5 +1,7 @@
 //! The pages of a description.
-ghost use Rattle.std.specs.Prelude.{◌≡◌, ◌++◌, ◌∷◌, [], true, false, IfOk, map, string_bytes};
+ghost use Rattle.std.specs.Prelude.{◌≡◌, ◌++◌, ◌∷◌, [], true, false, IfOk, OnOk, map, string_bytes};
+ghost use Rattle.bpaf_doc.specs.declared.buffer.Block.TheVariants as block;
+ghost use Rattle.bpaf_doc.specs.Buffer.Writes.{document_of, inside, path_writes, with_writes};
 ghost use Rattle.bpaf_doc.specs.Console.Exact.{console_page};
 ghost use Rattle.bpaf_doc.specs.Console.Layout.{IsLayout};
 ghost use Rattle.bpaf_doc.specs.Html.Exact.{html_page};
@@ -7,8 +9,10 @@ ghost use Rattle.bpaf_doc.specs.Html.Page.{IsHtmlPageOf};
 ghost use Rattle.bpaf_doc.specs.Markdown.Exact.{markdown_page};
 ghost use Rattle.bpaf_doc.specs.Markdown.Page.{IsMarkdownOf};
 ghost use Rattle.bpaf_meta.specs.Meta.Misplaced.{IsWellPlaced};
+ghost use Rattle.bpaf_meta.specs.Usage.Writes.{usage_writes};
 ghost use Rattle.bpaf_meta.specs.View.{head_of, tree_of};
-ghost use Rattle.description.specs.Pages.{IsDescriptionManual, IsUsageLineOf, collected_document, help_document, manual_text, usage_document};
+ghost use Rattle.description.specs.Pages.{IsDescriptionManual, IsUsageLineOf, collected_document};
+ghost use Rattle.description.specs.Pages.{help_document, manual_text, usage_document};
 ghost use Rattle.description.specs.Trees.{description_head, description_tree};
 ghost use Rattle.description.specs.View.{description_said};
 
@@ -21,6 +25,13 @@ use bpaf_help::meta_help::{EnvTexts, HelpError, Info, render_help};
 use bpaf_help::pages::{render_html, render_manpage, render_markdown};
 use bpaf_help::usage::write_meta;
 use std::alloc::{AllocError, Allocator};
+
+// What a page is made of.
+#[derive(Drop)]
+struct Parts<B: Allocator> {
+    tree: Meta<B>,
+    info: Info<B>,
+}
 
 impl<A: Allocator> Description<'_, A> {
     /// The tree of the command line. No named item of it stands after a positional one.
@@ -41,7 +52,8 @@ impl<A: Allocator> Description<'_, A> {
     /// The usage line, in full and at 100 columns, and a newline.
     pub fn usage<B: Allocator + Copy>(&self, alloc: B) -> Result<String<B>, AllocError>
         ensures laid_out { IfOk result (λ text. IsUsageLineOf (description_said self.now) (string_bytes text)) }
-        ensures exact { IfOk result (λ text. string_bytes text ≡ console_page true 100 (usage_document (description_said self.now)) ++ 10 ∷ []) }
+        ensures exact { IfOk result (λ text. string_bytes text
+            ≡ console_page true 100 (usage_document (description_said self.now)) ++ 10 ∷ []) }
     {
         let document = self.usage_document(alloc)?;
         let mut text = document.monochrome(alloc, true)?;
@@ -54,12 +66,7 @@ impl<A: Allocator> Description<'_, A> {
     {
         let tree = self.tree(alloc)?;
         let path = self.path(alloc)?;
-        let mut document = Doc::new(alloc);
-        document.token(Token::BlockStart(Block::Mono))?;
-        document.write_path(&path)?;
-        write_meta(&mut document, &tree, true)?;
-        document.token(Token::BlockEnd(Block::Mono))?;
-        Ok(document)
+        usage_of(alloc, &path, &tree)
     }
 
     fn path<B: Allocator + Copy>(&self, alloc: B) -> Result<Vec<String<B>, B>, AllocError>
@@ -70,10 +77,13 @@ impl<A: Allocator> Description<'_, A> {
         Ok(path)
     }
 
-    /// The help page, in full or in brief and at 100 columns. It names the environment variables, but shows none of their texts.
+    /// The help page, in full or in brief and at 100 columns. It names the environment variables, but shows none
+    /// of their texts.
     pub fn help<B: Allocator + Copy>(&self, alloc: B, full: bool) -> Result<String<B>, AllocError>
-        ensures laid_out { IfOk result (λ text. IsLayout (help_document (description_said self.now)) full 100 (string_bytes text)) }
-        ensures exact { IfOk result (λ text. string_bytes text ≡ console_page full 100 (help_document (description_said self.now))) }
+        ensures laid_out { IfOk result (λ text.
+            IsLayout (help_document (description_said self.now)) full 100 (string_bytes text)) }
+        ensures exact { IfOk result (λ text. string_bytes text
+            ≡ console_page full 100 (help_document (description_said self.now))) }
     {
         self.help_document(alloc)?.monochrome(alloc, full)
     }
@@ -81,27 +91,68 @@ impl<A: Allocator> Description<'_, A> {
     fn help_document<B: Allocator + Copy>(&self, alloc: B) -> Result<Doc<B>, AllocError>
         ensures { IfOk result (λ document. document ≡ help_document (description_said self.now)) }
     {
-        let tree = self.tree(alloc)?;
-        let info = self.info(alloc)?;
+        let parts = self.parts(alloc)?;
         let path = self.path(alloc)?;
+        self.help_of(alloc, &path, &parts)
+    }
+
+    fn help_of<B: Allocator + Copy>(
+        &self,
+        alloc: B,
+        path: &[String<B>],
+        parts: &Parts<B>,
+    ) -> Result<Doc<B>, AllocError>
+        requires path { map string_bytes path.now ≡ (description_said self.now).name ∷ [] }
+        requires tree { tree_of parts.now.tree ≡ description_tree (description_said self.now) }
+        requires info { head_of parts.now.info ≡ description_head (description_said self.now) }
+        requires placed { IsWellPlaced (tree_of parts.now.tree) }
+        ensures { IfOk result (λ document. document ≡ help_document (description_said self.now)) }
+    {
+        let Parts { tree, info } = parts;
         let texts = EnvTexts::new(alloc);
-        match render_help(alloc, &path, &info, &tree, &info.help, false, &texts) {
+        match render_help(alloc, path, info, tree, &info.help, false, &texts) {
             Ok(document) => Ok(document),
             Err(HelpError::Memory(refused)) => Err(refused),
             Err(HelpError::Misplaced(_)) => unreachable!(),
         }
     }
 
+    fn parts<B: Allocator + Copy>(&self, alloc: B) -> Result<Parts<B>, AllocError>
+        ensures tree { IfOk result (λ parts. tree_of parts.tree ≡ description_tree (description_said self.now)) }
+        ensures info { IfOk result (λ parts. head_of parts.info ≡ description_head (description_said self.now)) }
+        ensures placed { IfOk result (λ parts. IsWellPlaced (tree_of parts.tree)) }
+    {
+        let tree = self.tree(alloc)?;
+        let info = self.info(alloc)?;
+        Ok(Parts { tree, info })
+    }
+
     /// The help pages of the command line and of all its commands as HTML, in full and without a style sheet.
     pub fn html<B: Allocator + Copy>(&self, alloc: B) -> Result<String<B>, AllocError>
-        ensures html { IfOk result (λ text. IsHtmlPageOf (collected_document (description_said self.now)) true false (string_bytes text)) }
-        ensures exact { IfOk result (λ text. string_bytes text ≡ html_page true false (collected_document (description_said self.now))) }
+        ensures html { IfOk result (λ text.
+            IsHtmlPageOf (collected_document (description_said self.now)) true false (string_bytes text)) }
+        ensures exact { IfOk result (λ text. string_bytes text
+            ≡ html_page true false (collected_document (description_said self.now))) }
+    {
+        let parts = self.parts(alloc)?;
+        self.html_of(alloc, &parts)
+    }
+
+    fn html_of<B: Allocator + Copy>(
+        &self,
+        alloc: B,
+        parts: &Parts<B>,
+    ) -> Result<String<B>, AllocError>
+        requires tree { tree_of parts.now.tree ≡ description_tree (description_said self.now) }
+        requires info { head_of parts.now.info ≡ description_head (description_said self.now) }
+        ensures html { IfOk result (λ text.
+            IsHtmlPageOf (collected_document (description_said self.now)) true false (string_bytes text)) }
+        ensures exact { IfOk result (λ text. string_bytes text
+            ≡ html_page true false (collected_document (description_said self.now))) }
     {
         chapters_are_placed();
         pages_are_nested();
-        let tree = self.tree(alloc)?;
-        let info = self.info(alloc)?;
-        match render_html(alloc, self.name, &tree, &info) {
+        match render_html(alloc, self.name, &parts.tree, &parts.info) {
             Ok(text) => Ok(text),
             Err(HelpError::Memory(refused)) => Err(refused),
             Err(HelpError::Misplaced(_)) => unreachable!(),
@@ -110,13 +161,29 @@ impl<A: Allocator> Description<'_, A> {
 
     /// The same pages as markdown, in full.
     pub fn markdown<B: Allocator + Copy>(&self, alloc: B) -> Result<String<B>, AllocError>
-        ensures laws { IfOk result (λ text. IsMarkdownOf (collected_document (description_said self.now)) true (string_bytes text)) }
-        ensures exact { IfOk result (λ text. string_bytes text ≡ markdown_page true (collected_document (description_said self.now))) }
+        ensures laws { IfOk result (λ text.
+            IsMarkdownOf (collected_document (description_said self.now)) true (string_bytes text)) }
+        ensures exact { IfOk result (λ text. string_bytes text
+            ≡ markdown_page true (collected_document (description_said self.now))) }
+    {
+        let parts = self.parts(alloc)?;
+        self.markdown_of(alloc, &parts)
+    }
+
+    fn markdown_of<B: Allocator + Copy>(
+        &self,
+        alloc: B,
+        parts: &Parts<B>,
+    ) -> Result<String<B>, AllocError>
+        requires tree { tree_of parts.now.tree ≡ description_tree (description_said self.now) }
+        requires info { head_of parts.now.info ≡ description_head (description_said self.now) }
+        ensures laws { IfOk result (λ text.
+            IsMarkdownOf (collected_document (description_said self.now)) true (string_bytes text)) }
+        ensures exact { IfOk result (λ text. string_bytes text
+            ≡ markdown_page true (collected_document (description_said self.now))) }
     {
         chapters_are_placed();
-        let tree = self.tree(alloc)?;
-        let info = self.info(alloc)?;
-        match render_markdown(alloc, self.name, &tree, &info) {
+        match render_markdown(alloc, self.name, &parts.tree, &parts.info) {
             Ok(text) => Ok(text),
             Err(HelpError::Memory(refused)) => Err(refused),
             Err(HelpError::Misplaced(_)) => unreachable!(),
@@ -141,4 +208,32 @@ impl<A: Allocator> Description<'_, A> {
             &info,
         )
     }
+}
+
+// The usage line of a tree, behind a path.
+fn usage_of<B: Allocator + Copy>(
+    alloc: B,
+    path: &[String<B>],
+    tree: &Meta<B>,
+) -> Result<Doc<B>, AllocError>
+    ensures { IfOk result (λ document. document ≡ document_of (inside block.Mono
+        (path_writes (map string_bytes path.now) ++ usage_writes true (tree_of tree.now)))) }
+{
+    let mut document = Doc::new(alloc);
+    put_usage(&mut document, path, tree)?;
+    Ok(document)
+}
+
+fn put_usage<B: Allocator + Copy>(
+    document: &mut Doc<B>,
+    path: &[String<B>],
+    tree: &Meta<B>,
+) -> Result<(), AllocError>
+    ensures { OnOk result (document.new ≡ with_writes document.old (inside block.Mono
+        (path_writes (map string_bytes path.now) ++ usage_writes true (tree_of tree.now)))) }
+{
+    document.token(Token::BlockStart(Block::Mono))?;
+    document.write_path(path)?;
+    write_meta(document, tree, true)?;
+    document.token(Token::BlockEnd(Block::Mono))
 }

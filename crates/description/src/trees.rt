@@ -1,10 +1,16 @@
 //! The tree and the texts of a description.
 ghost use Rattle.std.specs.Prelude.{◌≡◌, ◌++◌, ◌∷◌, [], IfOk, OnOk, map, option_to_list};
-ghost use Rattle.bpaf_meta.specs.Content.{many as many_of, optional as optional_of, required as required_of, strict as strict_of, or_of, subsection as subsection_of};
+ghost use Rattle.bpaf_meta.specs.Content.{many as many_of, optional as optional_of, required as required_of};
+ghost use Rattle.bpaf_meta.specs.Content.{strict as strict_of, or_of, subsection as subsection_of};
 ghost use Rattle.bpaf_meta.specs.Names.{short_name};
 ghost use Rattle.bpaf_meta.specs.View.{head_of, name_of, text_of, tree_of, trees_in};
-ghost use Rattle.description.specs.Trees.{all_of, behind_dashes, choice_tree, command_item, command_items, document_said, level_head, level_tree, named_group, named_groups, one_of_commands, option_item, option_tree, options_tree, placed_group, placed_groups, positional_tree, text_document, titled, wrapped};
-ghost use Rattle.description_parts.specs.View.{choice_said, command_said, commands_said, group_said, groups_said, level_said, opt_said, positional_said};
+ghost use Rattle.description.specs.Trees.{all_of, behind_dashes, choice_tree, command_item, command_items};
+ghost use Rattle.description.specs.Trees.{document_said, level_head, level_tree, named_group, named_groups};
+ghost use Rattle.description.specs.Trees.{one_of_commands, option_item, option_tree, options_tree};
+ghost use Rattle.description.specs.Trees.{placed_group, placed_groups, positional_tree, text_document, titled};
+ghost use Rattle.description.specs.Trees.{wrapped};
+ghost use Rattle.description_parts.specs.View.{choice_said, command_said, commands_said, group_said};
+ghost use Rattle.description_parts.specs.View.{groups_said, level_said, opt_said, positional_said};
 
 use bpaf_doc::buffer::Doc;
 use bpaf_help::item::{Item, ShortLong};
@@ -132,7 +138,8 @@ fn put_options<B: Allocator + Copy>(
     parts: &mut Vec<Meta<B>, B>,
     options: &[Opt<'_>],
 ) -> Result<(), AllocError>
-    ensures { OnOk result (map tree_of parts.new.items ≡ map tree_of parts.old.items ++ map option_tree (map opt_said options.now)) }
+    ensures { OnOk result (map tree_of parts.new.items ≡ map tree_of parts.old.items
+        ++ map option_tree (map opt_said options.now)) }
 {
     for option in options {
         put(parts, option_tree(alloc, option)?)?;
@@ -146,7 +153,8 @@ fn put_alternatives<B: Allocator + Copy>(
     parts: &mut Vec<Meta<B>, B>,
     options: &[Opt<'_>],
 ) -> Result<(), AllocError>
-    ensures { OnOk result (map tree_of parts.new.items ≡ map tree_of parts.old.items ++ map option_item (map opt_said options.now)) }
+    ensures { OnOk result (map tree_of parts.new.items ≡ map tree_of parts.old.items
+        ++ map option_item (map opt_said options.now)) }
 {
     for option in options {
         put(parts, option_item(alloc, option)?)?;
@@ -170,7 +178,8 @@ fn put_choices<A: Allocator, B: Allocator + Copy>(
     parts: &mut Vec<Meta<B>, B>,
     choices: &[Choice<'_, A>],
 ) -> Result<(), AllocError>
-    ensures { OnOk result (map tree_of parts.new.items ≡ map tree_of parts.old.items ++ map choice_tree (map choice_said choices.now)) }
+    ensures { OnOk result (map tree_of parts.new.items ≡ map tree_of parts.old.items
+        ++ map choice_tree (map choice_said choices.now)) }
 {
     for choice in choices {
         put(parts, choice_tree(alloc, choice)?)?;
@@ -199,7 +208,8 @@ fn put_positionals<B: Allocator + Copy>(
     parts: &mut Vec<Meta<B>, B>,
     positionals: &[Positional<'_>],
 ) -> Result<(), AllocError>
-    ensures { OnOk result (map tree_of parts.new.items ≡ map tree_of parts.old.items ++ map positional_tree (map positional_said positionals.now)) }
+    ensures { OnOk result (map tree_of parts.new.items ≡ map tree_of parts.old.items
+        ++ map positional_tree (map positional_said positionals.now)) }
 {
     for positional in positionals {
         put(parts, positional_tree(alloc, positional)?)?;
@@ -214,7 +224,8 @@ fn put_titled<B: Allocator + Copy>(
     title: &str,
     members: Vec<Meta<B>, B>,
 ) -> Result<(), AllocError>
-    ensures { OnOk result (map tree_of parts.new.items ≡ map tree_of parts.old.items ++ titled title.now (map tree_of members.items)) }
+    ensures { OnOk result (map tree_of parts.new.items ≡ map tree_of parts.old.items
+        ++ titled title.now (map tree_of members.items)) }
 {
     if members.is_empty() {
         return Ok(());
@@ -227,7 +238,8 @@ fn under_title<B: Allocator + Copy>(
     title: &str,
     members: Vec<Meta<B>, B>,
 ) -> Result<Meta<B>, AllocError>
-    ensures { IfOk result (λ m. tree_of m ≡ subsection_of (all_of (map tree_of members.items)) (text_document title.now)) }
+    ensures { IfOk result (λ m. tree_of m
+        ≡ subsection_of (all_of (map tree_of members.items)) (text_document title.now)) }
 {
     let title = Box::new(alloc, Doc::from_text(alloc, title)?)?;
     Ok(Meta::Subsection(Box::new(alloc, Meta::And(members))?, title))
@@ -240,7 +252,8 @@ fn put_one_of<B: Allocator + Copy>(
     is_required: bool,
     commands: Vec<Meta<B>, B>,
 ) -> Result<(), AllocError>
-    ensures { OnOk result (map tree_of parts.new.items ≡ map tree_of parts.old.items ++ one_of_commands is_required (map tree_of commands.items)) }
+    ensures { OnOk result (map tree_of parts.new.items ≡ map tree_of parts.old.items
+        ++ one_of_commands is_required (map tree_of commands.items)) }
 {
     if commands.is_empty() {
         return Ok(());
@@ -254,7 +267,8 @@ fn put_named_group<A: Allocator, B: Allocator + Copy>(
     parts: &mut Vec<Meta<B>, B>,
     group: &Group<'_, A>,
 ) -> Result<(), AllocError>
-    ensures { OnOk result (map tree_of parts.new.items ≡ map tree_of parts.old.items ++ named_group (group_said group.now)) }
+    ensures { OnOk result (map tree_of parts.new.items ≡ map tree_of parts.old.items
+        ++ named_group (group_said group.now)) }
 {
     let mut members = Vec::new(alloc);
     put_options(alloc, &mut members, &group.options)?;
@@ -267,7 +281,8 @@ fn put_named_groups<A: Allocator, B: Allocator + Copy>(
     parts: &mut Vec<Meta<B>, B>,
     groups: &[Group<'_, A>],
 ) -> Result<(), AllocError>
-    ensures { OnOk result (map tree_of parts.new.items ≡ map tree_of parts.old.items ++ named_groups (groups_said groups.now)) }
+    ensures { OnOk result (map tree_of parts.new.items ≡ map tree_of parts.old.items
+        ++ named_groups (groups_said groups.now)) }
 {
     for group in groups {
         put_named_group(alloc, parts, group)?;
@@ -293,7 +308,8 @@ pub(crate) fn level_info<A: Allocator, B: Allocator + Copy>(
     level: &Level<'_, A>,
     help_options: &[Opt<'_>],
 ) -> Result<Info<B>, AllocError>
-    ensures { IfOk result (λ i. head_of i ≡ level_head (options_tree (map opt_said help_options.now)) (level_said level.now)) }
+    ensures { IfOk result (λ i. head_of i
+        ≡ level_head (options_tree (map opt_said help_options.now)) (level_said level.now)) }
 {
     Ok(Info {
         descr: document(alloc, level.about)?,
@@ -311,7 +327,8 @@ pub(crate) fn level_tree<A: Allocator, B: Allocator + Copy>(
     level: &Level<'_, A>,
     help_options: &[Opt<'_>],
 ) -> Result<Meta<B>, AllocError>
-    ensures { IfOk result (λ m. tree_of m ≡ level_tree (options_tree (map opt_said help_options.now)) (level_said level.now)) }
+    ensures { IfOk result (λ m. tree_of m
+        ≡ level_tree (options_tree (map opt_said help_options.now)) (level_said level.now)) }
 {
     let mut parts = Vec::new(alloc);
     put_options(alloc, &mut parts, &level.options)?;
@@ -343,7 +360,9 @@ fn put_placed_groups<A: Allocator, B: Allocator + Copy>(
     is_required: bool,
     help_options: &[Opt<'_>],
 ) -> Result<(), AllocError>
-    ensures { OnOk result (map tree_of parts.new.items ≡ map tree_of parts.old.items ++ placed_groups (options_tree (map opt_said help_options.now)) is_required (groups_said groups.now.items)) }
+    ensures { OnOk result (map tree_of parts.new.items ≡ map tree_of parts.old.items
+        ++ placed_groups (options_tree (map opt_said help_options.now)) is_required
+        (groups_said groups.now.items)) }
 {
     for group in groups {
         put_placed_group(alloc, parts, group, is_required, help_options)?;
@@ -360,7 +379,8 @@ fn put_placed_group<A: Allocator, B: Allocator + Copy>(
     is_required: bool,
     help_options: &[Opt<'_>],
 ) -> Result<(), AllocError>
-    ensures { OnOk result (map tree_of parts.new.items ≡ map tree_of parts.old.items ++ placed_group (options_tree (map opt_said help_options.now)) is_required (group_said group.now)) }
+    ensures { OnOk result (map tree_of parts.new.items ≡ map tree_of parts.old.items
+        ++ placed_group (options_tree (map opt_said help_options.now)) is_required (group_said group.now)) }
 {
     let mut members = Vec::new(alloc);
     put_positionals(alloc, &mut members, &group.positionals)?;
@@ -383,7 +403,9 @@ fn put_commands<A: Allocator, B: Allocator + Copy>(
     is_required: bool,
     help_options: &[Opt<'_>],
 ) -> Result<(), AllocError>
-    ensures { OnOk result (map tree_of parts.new.items ≡ map tree_of parts.old.items ++ one_of_commands is_required (command_items (options_tree (map opt_said help_options.now)) (commands_said commands.now.items))) }
+    ensures { OnOk result (map tree_of parts.new.items ≡ map tree_of parts.old.items
+        ++ one_of_commands is_required
+        (command_items (options_tree (map opt_said help_options.now)) (commands_said commands.now.items))) }
 {
     let mut items = Vec::new(alloc);
     put_command_items(alloc, &mut items, commands, help_options)?;
@@ -397,7 +419,8 @@ fn put_command_items<A: Allocator, B: Allocator + Copy>(
     commands: &Vec<Command<'_, A>, A>,
     help_options: &[Opt<'_>],
 ) -> Result<(), AllocError>
-    ensures { OnOk result (map tree_of items.new.items ≡ map tree_of items.old.items ++ command_items (options_tree (map opt_said help_options.now)) (commands_said commands.now.items)) }
+    ensures { OnOk result (map tree_of items.new.items ≡ map tree_of items.old.items
+        ++ command_items (options_tree (map opt_said help_options.now)) (commands_said commands.now.items)) }
 {
     for command in commands {
         put(items, command_item(alloc, command, help_options)?)?;
@@ -411,7 +434,8 @@ fn command_item<A: Allocator, B: Allocator + Copy>(
     command: &Command<'_, A>,
     help_options: &[Opt<'_>],
 ) -> Result<Meta<B>, AllocError>
-    ensures { IfOk result (λ m. tree_of m ≡ command_item (options_tree (map opt_said help_options.now)) (command_said command.now)) }
+    ensures { IfOk result (λ m. tree_of m
+        ≡ command_item (options_tree (map opt_said help_options.now)) (command_said command.now)) }
 {
     let meta = Box::new(alloc, level_tree(alloc, &command.level, help_options)?)?;
     let info = Box::new(alloc, level_info(alloc, &command.level, help_options)?)?;

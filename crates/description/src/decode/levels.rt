@@ -2,8 +2,11 @@
 ghost use Rattle.std.specs.Prelude.{◌≡◌, IfOk, ◌≤◌, codes};
 ghost use Rattle.toml.specs.Data.{members_depth};
 ghost use Rattle.toml.specs.View.{items_view, table_view, view};
-ghost use Rattle.description.specs.Described.{as_command, as_group, command_head, commands_at, each_command, each_group, group_head, groups_at, has_members, level_of, lists_from, outline_from, texts_from};
-ghost use Rattle.description.specs.Described.Steps.{command_head_seen, group_head_seen, lists_depth, lists_seen, outline_seen, texts_seen};
+ghost use Rattle.description.specs.Described.{as_command, as_group, command_head, commands_at, each_command};
+ghost use Rattle.description.specs.Described.{each_group, group_head, groups_at, has_members, level_of};
+ghost use Rattle.description.specs.Described.{lists_from, outline_from, texts_from};
+ghost use Rattle.description.specs.Described.Steps.{command_head_seen, group_head_seen, lists_depth};
+ghost use Rattle.description.specs.Described.Steps.{lists_seen, outline_seen, texts_seen};
 ghost use Rattle.description.specs.Faults.{Reads};
 ghost use Rattle.description_parts.specs.View.{command_said, commands_said, group_said, groups_said, level_said};
 
@@ -95,8 +98,10 @@ fn texts_from<'a>(table: &'a Table) -> Result<Texts<'a>, Fault<'a>>
 #[tactic(auto, using(crate::proofs::Depths::tables_groups, crate::proofs::Depths::tables_commands, crate::proofs::Depths::tables_depth), unfolding(crate::specs::Described::lists_from))]
 fn lists_from<'a>(table: &'a Table) -> Result<Lists<'a>, Fault<'a>>
     ensures lists { Reads (lists_from (table_view table.now)) (λ lists. lists_seen lists) result }
-    ensures groups { IfOk result (λ lists. groups_at (codes "group") (table_view table.now) ≡ each_group (lists_seen lists).groups) }
-    ensures commands { IfOk result (λ lists. commands_at (codes "command") (table_view table.now) ≡ each_command (lists_seen lists).commands) }
+    ensures groups { IfOk result (λ lists. groups_at (codes "group") (table_view table.now)
+        ≡ each_group (lists_seen lists).groups) }
+    ensures commands { IfOk result (λ lists. commands_at (codes "command") (table_view table.now)
+        ≡ each_command (lists_seen lists).commands) }
     ensures depth { IfOk result (λ lists. lists_depth (lists_seen lists) ≤ members_depth (table_view table.now)) }
 {
     Ok(Lists {
@@ -115,9 +120,12 @@ pub fn outline_from<'a, A: Allocator + Copy>(
     table: &'a Table,
 ) -> Result<Outline<'a>, Fault<'a>>
     ensures outline { Reads (outline_from (table_view table.now)) (λ outline. outline_seen outline) result }
-    ensures groups { IfOk result (λ outline. groups_at (codes "group") (table_view table.now) ≡ each_group ((outline_seen outline).lists).groups) }
-    ensures commands { IfOk result (λ outline. commands_at (codes "command") (table_view table.now) ≡ each_command ((outline_seen outline).lists).commands) }
-    ensures depth { IfOk result (λ outline. lists_depth ((outline_seen outline).lists) ≤ members_depth (table_view table.now)) }
+    ensures groups { IfOk result (λ outline. groups_at (codes "group") (table_view table.now)
+        ≡ each_group ((outline_seen outline).lists).groups) }
+    ensures commands { IfOk result (λ outline. commands_at (codes "command") (table_view table.now)
+        ≡ each_command ((outline_seen outline).lists).commands) }
+    ensures depth { IfOk result (λ outline.
+        lists_depth ((outline_seen outline).lists) ≤ members_depth (table_view table.now)) }
 {
     let texts = texts_from(table)?;
     let command_required = flag_at(table, "command_required", true)?;
@@ -146,7 +154,9 @@ pub fn level_of<'a, A: Allocator + Copy>(
     names: &mut Names,
     outline: Outline<'a>,
 ) -> Result<Level<'a, A>, Fault<'a>>
-    ensures { Reads (level_of (each_group (outline_seen outline.entry).lists.groups) (each_command (outline_seen outline.entry).lists.commands) (outline_seen outline.entry)) (λ l. level_said l) result }
+    ensures { Reads (level_of (each_group (outline_seen outline.entry).lists.groups)
+        (each_command (outline_seen outline.entry).lists.commands) (outline_seen outline.entry)) (λ l.
+        level_said l) result }
 {
     let Outline {
         texts,
@@ -179,9 +189,12 @@ fn command_head<'a, A: Allocator + Copy>(
     table: &'a Table,
 ) -> Result<CommandHead<'a>, Fault<'a>>
     ensures head { Reads (command_head (table_view table.now)) (λ head. command_head_seen head) result }
-    ensures groups { IfOk result (λ head. groups_at (codes "group") (table_view table.now) ≡ each_group ((command_head_seen head).outline.lists).groups) }
-    ensures commands { IfOk result (λ head. commands_at (codes "command") (table_view table.now) ≡ each_command ((command_head_seen head).outline.lists).commands) }
-    ensures depth { IfOk result (λ head. lists_depth ((command_head_seen head).outline.lists) ≤ members_depth (table_view table.now)) }
+    ensures groups { IfOk result (λ head. groups_at (codes "group") (table_view table.now)
+        ≡ each_group ((command_head_seen head).outline.lists).groups) }
+    ensures commands { IfOk result (λ head. commands_at (codes "command") (table_view table.now)
+        ≡ each_command ((command_head_seen head).outline.lists).commands) }
+    ensures depth { IfOk result (λ head.
+        lists_depth ((command_head_seen head).outline.lists) ≤ members_depth (table_view table.now)) }
 {
     see_keys(table, &COMMAND_KEYS)?;
     Ok(CommandHead {
@@ -231,9 +244,12 @@ fn commands_in<'a, A: Allocator + Copy>(
 #[tactic(auto, unfolding(crate::specs::Described::group_head))]
 fn group_head<'a>(table: &'a Table) -> Result<GroupHead<'a>, Fault<'a>>
     ensures head { Reads (group_head (table_view table.now)) (λ head. group_head_seen head) result }
-    ensures groups { IfOk result (λ head. groups_at (codes "group") (table_view table.now) ≡ each_group ((group_head_seen head).lists).groups) }
-    ensures commands { IfOk result (λ head. commands_at (codes "command") (table_view table.now) ≡ each_command ((group_head_seen head).lists).commands) }
-    ensures depth { IfOk result (λ head. lists_depth ((group_head_seen head).lists) ≤ members_depth (table_view table.now)) }
+    ensures groups { IfOk result (λ head. groups_at (codes "group") (table_view table.now)
+        ≡ each_group ((group_head_seen head).lists).groups) }
+    ensures commands { IfOk result (λ head. commands_at (codes "command") (table_view table.now)
+        ≡ each_command ((group_head_seen head).lists).commands) }
+    ensures depth { IfOk result (λ head.
+        lists_depth ((group_head_seen head).lists) ≤ members_depth (table_view table.now)) }
 {
     see_keys(table, &GROUP_KEYS)?;
     let title = required_text_at(table, "title")?;

@@ -3,7 +3,8 @@ ghost use Rattle.std.specs.Prelude.{◌≡◌, map, option_and_then, option_map}
 ghost use Rattle.bpaf_meta.specs.View.{name_of, text_of};
 ghost use Rattle.toml.specs.Data.{as_table};
 ghost use Rattle.toml.specs.View.{items_view, table_view, view};
-ghost use Rattle.description.specs.Described.{alternative_from, choice_from, name_from, option_from, option_name, option_of, positional_from, positional_of};
+ghost use Rattle.description.specs.Described.{alternative_from, choice_from, name_from, option_from};
+ghost use Rattle.description.specs.Described.{option_name, option_of, positional_from, positional_of};
 ghost use Rattle.description.specs.Described.Values.{each_table};
 ghost use Rattle.description.specs.Faults.{Reads};
 ghost use Rattle.description_parts.specs.View.{choice_said, opt_said, positional_said};
@@ -101,7 +102,8 @@ fn alternatives_in<'a, A: Allocator + Copy>(
     names: &mut Names,
     items: &'a [Value],
 ) -> Result<Vec<Opt<'a>, A>, Fault<'a>>
-    ensures { Reads (each_table alternative_from (items_view items.now)) (λ options. map opt_said options.items) result }
+    ensures { Reads (each_table alternative_from (items_view items.now)) (λ options. map opt_said options.items)
+        result }
 {
     let mut options = Vec::new(way.alloc());
     for item in items {
@@ -157,7 +159,8 @@ pub fn choices_in<'a, A: Allocator + Copy>(
     names: &mut Names,
     items: &'a [Value],
 ) -> Result<Vec<Choice<'a, A>, A>, Fault<'a>>
-    ensures { Reads (each_table choice_from (items_view items.now)) (λ choices. map choice_said choices.items) result }
+    ensures { Reads (each_table choice_from (items_view items.now)) (λ choices. map choice_said choices.items)
+        result }
 {
     let mut choices = Vec::new(way.alloc());
     for item in items {
@@ -171,7 +174,8 @@ pub fn choices_in<'a, A: Allocator + Copy>(
 
 #[tactic(auto, unfolding(crate::specs::Described::positional_from))]
 fn positional_from<'a>(names: &mut Names, item: &'a Value) -> Result<Positional<'a>, Fault<'a>>
-    ensures { Reads (option_and_then positional_from (as_table (view item.now))) (λ positional. positional_said positional) result }
+    ensures { Reads (option_and_then positional_from (as_table (view item.now))) (λ positional.
+        positional_said positional) result }
 {
     let table = table_of(item)?;
     see_keys(table, &POSITIONAL_KEYS)?;
@@ -196,7 +200,8 @@ pub fn positionals_in<'a, A: Allocator + Copy>(
     names: &mut Names,
     items: &'a [Value],
 ) -> Result<Vec<Positional<'a>, A>, Fault<'a>>
-    ensures { Reads (each_table positional_from (items_view items.now)) (λ positionals. map positional_said positionals.items) result }
+    ensures { Reads (each_table positional_from (items_view items.now))
+        (λ positionals. map positional_said positionals.items) result }
 {
     let mut positionals = Vec::new(way.alloc());
     for item in items {

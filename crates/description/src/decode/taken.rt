@@ -2,7 +2,9 @@
 ghost use Rattle.std.specs.Prelude.{◌≡◌, ◌++◌, codes, IfOk, OnOk, flat_map, is_none, option_to_list, true, false};
 ghost use Rattle.toml.specs.Data.{as_table};
 ghost use Rattle.toml.specs.View.{items_view, table_view, view};
-ghost use Rattle.description.specs.Described.Taken.{are_distinct, has_distinct_names, level_commands, level_options, own_options, tables_in, tables_under, texts_at};
+ghost use Rattle.description.specs.Described.Taken.{are_distinct, has_distinct_names, level_commands};
+ghost use Rattle.description.specs.Described.Taken.{level_options, own_options, tables_in, tables_under};
+ghost use Rattle.description.specs.Described.Taken.{texts_at};
 ghost use Rattle.description.specs.Described.Steps.{views_of, words_of};
 ghost use Rattle.description.specs.Faults.{Sees};
 
@@ -12,8 +14,8 @@ use std::alloc::{AllocError, Allocator};
 use std::collections::HashSet;
 use toml::{Table, Value};
 
-/// Refuses a level on which two options share a short or a long name, or two commands a name. It looks at the names alone, since
-/// what stands inside the tables is read later.
+/// Refuses a level on which two options share a short or a long name, or two commands a name. It looks at the
+/// names alone, since what stands inside the tables is read later.
 pub fn see_names<'a, A: Allocator + Copy>(alloc: A, table: &'a Table) -> Result<(), Fault<'a>>
     ensures { Sees (has_distinct_names (table_view table.now)) result }
 {
@@ -75,7 +77,8 @@ fn put_texts<'a, A: Allocator>(
     tables: &[&'a Table],
     key: &str,
 ) -> Result<(), AllocError>
-    ensures { OnOk result (words_of texts.new.items ≡ words_of texts.old.items ++ texts_at key.now (views_of tables.now)) }
+    ensures { OnOk result (words_of texts.new.items ≡ words_of texts.old.items
+        ++ texts_at key.now (views_of tables.now)) }
 {
     for table in tables {
         if let Some(Value::String(text)) = value_at(*table, key) {
@@ -90,7 +93,8 @@ fn put_tables<'a, A: Allocator>(
     table: &'a Table,
     key: &str,
 ) -> Result<(), AllocError>
-    ensures { OnOk result (views_of tables.new.items ≡ views_of tables.old.items ++ tables_under key.now (table_view table.now)) }
+    ensures { OnOk result (views_of tables.new.items ≡ views_of tables.old.items
+        ++ tables_under key.now (table_view table.now)) }
 {
     match value_at(table, key) {
         Some(Value::Array(items)) => put_tables_in(tables, items),
@@ -102,7 +106,8 @@ fn put_tables_in<'a, A: Allocator>(
     tables: &mut Vec<&'a Table, A>,
     items: &'a [Value],
 ) -> Result<(), AllocError>
-    ensures { OnOk result (views_of tables.new.items ≡ views_of tables.old.items ++ tables_in (items_view items.now)) }
+    ensures { OnOk result (views_of tables.new.items ≡ views_of tables.old.items
+        ++ tables_in (items_view items.now)) }
 {
     for item in items {
         put_table(tables, item)?;
@@ -114,7 +119,8 @@ fn put_table<'a, A: Allocator>(
     tables: &mut Vec<&'a Table, A>,
     item: &'a Value,
 ) -> Result<(), AllocError>
-    ensures { OnOk result (views_of tables.new.items ≡ views_of tables.old.items ++ option_to_list (as_table (view item.now))) }
+    ensures { OnOk result (views_of tables.new.items ≡ views_of tables.old.items
+        ++ option_to_list (as_table (view item.now))) }
 {
     if let Value::Table(table) = item {
         tables.push(table)?;
@@ -130,7 +136,8 @@ fn put_inner_tables<'a, A: Allocator + Copy>(
     key: &str,
     alloc: A,
 ) -> Result<(), AllocError>
-    ensures { OnOk result (views_of tables.new.items ≡ views_of tables.old.items ++ flat_map (tables_under key.now) (tables_under outer.now (table_view table.now))) }
+    ensures { OnOk result (views_of tables.new.items ≡ views_of tables.old.items
+        ++ flat_map (tables_under key.now) (tables_under outer.now (table_view table.now))) }
 {
     let mut holders = Vec::new(alloc);
     put_tables(&mut holders, table, outer)?;
@@ -145,7 +152,8 @@ fn put_own_options<'a, A: Allocator + Copy>(
     table: &'a Table,
     alloc: A,
 ) -> Result<(), AllocError>
-    ensures { OnOk result (views_of tables.new.items ≡ views_of tables.old.items ++ own_options (table_view table.now)) }
+    ensures { OnOk result (views_of tables.new.items ≡ views_of tables.old.items
+        ++ own_options (table_view table.now)) }
 {
     put_tables(tables, table, "option")?;
     put_inner_tables(tables, table, "choice", "option", alloc)
@@ -156,7 +164,8 @@ fn put_level_options<'a, A: Allocator + Copy>(
     table: &'a Table,
     alloc: A,
 ) -> Result<(), AllocError>
-    ensures { OnOk result (views_of tables.new.items ≡ views_of tables.old.items ++ level_options (table_view table.now)) }
+    ensures { OnOk result (views_of tables.new.items ≡ views_of tables.old.items
+        ++ level_options (table_view table.now)) }
 {
     put_own_options(tables, table, alloc)?;
     let mut groups = Vec::new(alloc);
@@ -172,7 +181,8 @@ fn put_level_commands<'a, A: Allocator + Copy>(
     table: &'a Table,
     alloc: A,
 ) -> Result<(), AllocError>
-    ensures { OnOk result (views_of tables.new.items ≡ views_of tables.old.items ++ level_commands (table_view table.now)) }
+    ensures { OnOk result (views_of tables.new.items ≡ views_of tables.old.items
+        ++ level_commands (table_view table.now)) }
 {
     put_tables(tables, table, "command")?;
     put_inner_tables(tables, table, "group", "command", alloc)

@@ -4,7 +4,9 @@ ghost use Rattle.std.specs.List.{list_all, list_any};
 ghost use Rattle.bpaf_meta.specs.View.{text_of};
 ghost use Rattle.toml.specs.Data.{as_str, as_table, get_member};
 ghost use Rattle.toml.specs.View.{items_view, table_view, view};
-ghost use Rattle.description.specs.Described.Values.{are_tables, is_empty, as_name, as_short, flag_at, has_only, is_name, is_name_character, optional_at, required_at, is_short, only_character, tables_at};
+ghost use Rattle.description.specs.Described.Values.{are_tables, is_empty, as_name, as_short, flag_at};
+ghost use Rattle.description.specs.Described.Values.{has_only, is_name, is_name_character, optional_at};
+ghost use Rattle.description.specs.Described.Values.{required_at, is_short, only_character, tables_at};
 ghost use Rattle.description.specs.Described.Steps.{words_of};
 ghost use Rattle.description.specs.Faults.{Reads, Sees};
 
