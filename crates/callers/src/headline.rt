@@ -9,7 +9,7 @@ use bpaf_doc::buffer::Doc;
 use bpaf_help::meta::Meta;
 use bpaf_help::meta_help::Info;
 use bpaf_help::pages::laws::headline_follows;
-use bpaf_help::pages::{ManualTitle, Section};
+use bpaf_help::pages::{Section, render_manpage};
 use bpaf_roff::roff::Roff;
 use std::alloc::{AllocError, Global};
 
@@ -44,7 +44,7 @@ pub fn show(
     let html = document.render_html(alloc, true, false)?;
     let roff = document.render_roff(Roff::new(alloc))?;
     let normal = tree.normalized(for_usage)?;
-    let manual = ManualTitle::new(Section::General).page(alloc, app, tree, info)?;
+    let manual = render_manpage(alloc, app, Section::General, None, None, None, tree, info)?;
     Ok(Shown {
         console,
         html,
