@@ -7,6 +7,7 @@ pub mod describing;
 pub mod ends;
 pub mod headline;
 pub mod naming;
+pub mod note;
 pub mod reading;
 pub mod roff;
 pub mod usage;

@@ -1,0 +1,67 @@
+-- A new page.
+use Rattle.std.proofs.Common.{◌≡◌, ◌<◌, ℕ, Bool, true, false, not, ◌&&◌, suc, zero, List, [], ◌∷◌, length, refl, ap, ◌∙◌, reverse, arith, Ok}
+use Rattle.std.specs.Prelude.{Option, Some, None, ◌==◌}
+use Rattle.std.specs.List.{list_any, list_all}
+use Rattle.std.specs.Str.{IsUtf8, IsAscii}
+use Rattle.std.proofs.lemmas.Bool.{and_parts, and_from}
+use Rattle.std.proofs.lemmas.Bool.Decides.{nat_tests}
+use Rattle.std.proofs.lemmas.Str.{chars-IsAscii}
+use Rattle.web_page.specs.Models.{is_ink, is_language, is_language_byte}
+use Rattle.web_page.specs.Calls.{are_written, has_end_sign, is_written, new_page, page_fault, unless}
+use Rattle.web_page.specs.Exact.{page_front}
+use Rattle.web_page.specs.Steps.Open.{checked}
+use Rattle.web_page.proofs.Held.{new_held}
+use Rattle.web_page.proofs.Outcomes.{Outcome, outcome}
+use Rattle.web_page.proofs.Pages.{clean_front}
+use Rattle.web_page.proofs.Texts.{kept_text}
+use Rattle.web_page.specs.declared.elements.Tag.TheVariants.{Body}
+use Rattle.web_page.specs.declared.errors.PageError.{PageError}
+use Rattle.web_page.specs.declared.errors.PageError.TheVariants as errors
+use Rattle.web_page.specs.declared.writer.Open.{Open}
+
+pub no_fault : (fault : Option PageError) → checked fault ≡ Ok tt → fault ≡ None
+no_fault None e = refl
+no_fault (Some fault) e = cc
+
+holds : (b : Bool) (fault : PageError) (next : Option PageError) → unless b fault next ≡ None → (b ≡ true) × (next ≡ None)
+holds true fault next e = (refl, e)
+holds false fault next e = cc
+
+small : (b : ℕ) → is_language_byte b ≡ true → b < 128
+small b h = grind (arith, nat_tests)
+
+written : (b : ℕ) → is_language_byte b ≡ true → is_written b ≡ true
+written b h = let s : b < 128 = small b h in grind (arith, nat_tests)
+
+ascii : (bytes : List ℕ) → list_all is_language_byte bytes ≡ true → IsAscii bytes
+ascii [] h i = omega arith
+ascii (b ∷ bytes) h zero = small b (and_parts (is_language_byte b) (list_all is_language_byte bytes) h).0
+ascii (b ∷ bytes) h (suc i) = ascii bytes (and_parts (is_language_byte b) (list_all is_language_byte bytes) h).1 i
+
+all_written : (bytes : List ℕ) → list_all is_language_byte bytes ≡ true → list_all is_written bytes ≡ true
+all_written [] h = refl
+all_written (b ∷ bytes) h =
+    let p = and_parts (is_language_byte b) (list_all is_language_byte bytes) h in
+    and_from (is_written b) (list_all is_written bytes) (written b p.0) (all_written bytes p.1)
+
+language_written : (bytes : List ℕ) → is_language bytes ≡ true → are_written bytes ≡ true
+language_written bytes h =
+    let p = and_parts (not (length bytes == 0)) (list_all is_language_byte bytes) h in
+    ap (list_all is_written) (chars-IsAscii bytes (ascii bytes p.1)) ∙ all_written bytes p.1
+
+not_so : (b : Bool) → not b ≡ true → b ≡ false
+not_so true h = cc
+not_so false h = refl
+
+pub new_one : (language title style bytes : List ℕ) (here : Open) (outer : List Open) → IsUtf8 language → IsUtf8 title → IsUtf8 style → page_fault language title style ≡ None → bytes ≡ page_front language title style
+    → here ≡ record { tag = Body; before = None; has_ink = false; in_link = false } → outer ≡ [] → Outcome bytes here (reverse outer) (new_page language title style)
+new_one language title style bytes here outer a b c fault e h os =
+    let characters = unless (are_written title && are_written style) errors.Character None in
+    let signs = unless (not (has_end_sign style)) errors.Style characters in
+    let first = holds (is_language language) errors.Language (unless (list_any is_ink title) errors.Title signs) fault in
+    let second = holds (list_any is_ink title) errors.Title signs first.1 in
+    let third = holds (not (has_end_sign style)) errors.Style characters second.1 in
+    let fourth = and_parts (are_written title) (are_written style) (holds (are_written title && are_written style) errors.Character None third.1).0 in
+    let spoken : are_written language ≡ true = language_written language first.0 in
+    let held = new_held language title style (clean_front language title style a spoken b fourth.0 c fourth.1) (kept_text language a spoken) (kept_text title b fourth.0) (kept_text style c fourth.1) (not_so (has_end_sign style) third.0) first.0 second.0 here h in
+    outcome (page_front language title style) bytes here here [] (reverse outer) (new_page language title style) held.0 held.1 e refl (ap reverse os)

@@ -1,0 +1,348 @@
+-- What each call keeps of an open page.
+use Rattle.std.proofs.Common.{◌≡◌, ℕ, Bool, true, false, not, ◌&&◌, ◌||◌, List, [], ◌∷◌, ◌++◌, refl, sym, ap, ◌∙◌, subst}
+use Rattle.std.specs.Prelude.{Option, Some, None, codes, unwrap_or}
+use Rattle.std.specs.List.{list_any, list_all}
+use Rattle.std.specs.Str.{IsUtf8, chars}
+use Rattle.std.proofs.lemmas.Bool.{and_parts, and_from}
+use Rattle.std.proofs.lemmas.Str.{IsUtf8-append}
+use Rattle.web_page.specs.Tree.{Attribute, Nodes, none, element, is_tag}
+use Rattle.web_page.specs.Reader.{Draft, Frame, Reading, Content, are_attributes, are_kept, begin, is_kept, is_permitted, is_void, joined, no_draft, reading, reading_of, takes_elements, with_element, with_start}
+use Rattle.web_page.specs.Models.{ReadsAs, are_fit, are_in_order, fits_attributes, fits_model, has_ink, is_ink, is_language, last_child, may_end, may_hold, wants_ink}
+use Rattle.web_page.specs.Calls.{are_written, has_end_sign, has_ink_in, is_in_link, is_inside_body, is_link, may_end_in, may_stand_in, new_page, whole_page, with_end, with_end_in, with_text, with_words}
+use Rattle.web_page.specs.Exact.{end_text, escaped, page_end, page_front, start_text}
+use Rattle.web_page.specs.Steps.Open.{AreOpen, Describes, IsOngoing, behind_child, behind_text, draft_of, ends, inked, opened}
+use Rattle.web_page.proofs.Nodes.{are_fit-joined, are_fit-with_words, are_in_order-joined, are_in_order-with_words, are_kept-joined, are_kept-with_words, has_ink-joined, has_ink-with_words, last_child-joined, last_child-with_words}
+use Rattle.web_page.proofs.Pages.{body_draft, end_of_page, front_reads, is_page, is_whole_text}
+use Rattle.web_page.proofs.Readings.{CanStart, ReadAttributes, break_reads, each_tag, end_reads, run, run-append, start_reads, text_reads}
+use Rattle.web_page.proofs.Settles.{settles}
+use Rattle.web_page.proofs.Texts.{IsClean, is_ascii_byte, clean-append, clean-ascii, clean-escaped, kept_text}
+use Rattle.web_page.specs.declared.elements.Child.{Child}
+use Rattle.web_page.specs.declared.elements.Child.TheVariants.{Words, Inner}
+use Rattle.web_page.specs.declared.elements.Element.TheVariants.{Header, Nav, Main, Section, Heading, P, Pre, Ul, Li, Dl, Dt, Dd, Code, Strong, Em, Var}
+use Rattle.web_page.specs.declared.elements.Tag.{Tag}
+use Rattle.web_page.specs.declared.elements.Tag.TheVariants.{Html, Head, Meta, Title, Style, Body, Br, A, Of}
+use Rattle.web_page.specs.declared.writer.Open.{Open}
+
+-- ---- what is written reads on
+
+-- a text of a page is read further
+reads_on : (bytes more : List ℕ) (draft next : Draft) → reading_of bytes ≡ reading Content (Some draft) → run (reading Content (Some draft)) more ≡ reading Content (Some next) → reading_of (bytes ++ more) ≡ reading Content (Some next)
+unfolding reading_of
+reads_on bytes more draft next e f = run-append begin bytes more ∙ ap (λ r. run r more) e ∙ f
+
+permitted_on : (bytes more : List ℕ) → IsUtf8 bytes → list_all is_permitted (chars bytes) ≡ true → IsClean more → list_all is_permitted (chars (bytes ++ more)) ≡ true
+permitted_on bytes more u h c = (clean-append bytes more (record { utf8 = u; permitted = h }) c).permitted
+
+-- the page that a text reads as
+pub draft_is : (bytes : List ℕ) (draft : Draft) → reading_of bytes ≡ reading Content (Some draft) → draft_of bytes ≡ draft
+draft_is bytes draft e = ap (λ (r : Reading). unwrap_or r.draft no_draft) e
+
+-- ---- the innermost element
+
+-- a child may stand in it just where the code's answer is so
+abbrev pub stands : Open → Child → Bool
+stands here child = may_hold here.tag here.before child && not (here.in_link && is_link child)
+
+stands_in : (here : Open) (frame : Frame) (frames : List Frame) (nodes : Nodes) (child : Child) → Describes here frame frames nodes → stands here child ≡ may_stand_in (frame ∷ frames) nodes child
+stands_in here frame frames nodes child d =
+    ap (λ tag. may_hold tag here.before child && not (here.in_link && is_link child)) d.tag
+    ∙ ap (λ before. may_hold frame.tag before child && not (here.in_link && is_link child)) d.before
+    ∙ ap (λ linked. may_hold frame.tag (last_child None nodes) child && not (linked && is_link child)) d.in_link
+
+pub stands_is : (here : Open) (outers : List Open) (frames : List Frame) (nodes : Nodes) (child : Child) → AreOpen here outers frames nodes → stands here child ≡ may_stand_in frames nodes child
+stands_is here outers [] nodes child a = absurd a
+stands_is here [] (frame ∷ frames) nodes child a = stands_in here frame frames nodes child a.0
+stands_is here (outer ∷ outers) (frame ∷ frames) nodes child a = stands_in here frame frames nodes child a.0
+
+-- ---- a text
+
+described_text : (here : Open) (frame : Frame) (frames : List Frame) (nodes : Nodes) (bytes : List ℕ) → may_stand_in (frame ∷ frames) nodes Words ≡ true → list_all is_kept bytes ≡ true → Describes here frame frames nodes → Describes (behind_text here bytes) frame frames (with_words nodes bytes)
+described_text here frame frames nodes [] may kept d = d
+described_text here frame frames nodes (b ∷ bytes) may kept d = record {
+  tag = d.tag;
+  before = sym (last_child-with_words None nodes b bytes);
+  ink = ap (λ x. x || list_any is_ink (b ∷ bytes)) d.ink ∙ sym (has_ink-with_words nodes (b ∷ bytes));
+  in_link = d.in_link;
+  ordered = are_in_order-with_words frame.tag None nodes (b ∷ bytes) (and_parts (may_hold frame.tag (last_child None nodes) Words) (not (is_in_link (frame ∷ frames) && false)) may).0 d.ordered;
+  fit = are_fit-with_words (is_in_link (frame ∷ frames)) nodes (b ∷ bytes) ∙ d.fit;
+  kept = are_kept-with_words nodes (b ∷ bytes) kept d.kept;
+  attributes = d.attributes;
+}
+
+text_inside : (here : Open) (outers : List Open) (frames : List Frame) (nodes : Nodes) (bytes : List ℕ) → may_stand_in frames nodes Words ≡ true → list_all is_kept bytes ≡ true → AreOpen here outers frames nodes → AreOpen (behind_text here bytes) outers frames (with_words nodes bytes)
+text_inside here outers [] nodes bytes may kept a = a
+text_inside here [] (frame ∷ frames) nodes bytes may kept a = (described_text here frame frames nodes bytes may kept a.0, a.1)
+text_inside here (outer ∷ outers) (frame ∷ frames) nodes bytes may kept a = (described_text here frame frames nodes bytes may kept a.0, a.1, a.2)
+
+pub text_held : (bytes : List ℕ) (here : Open) (outers : List Open) (words : List ℕ) (o : IsOngoing bytes here outers) → IsUtf8 bytes → IsUtf8 words → are_written words ≡ true → stands here Words ≡ true
+    → (p : IsOngoing (bytes ++ escaped false words) (behind_text here words) outers) × (p.draft ≡ with_text o.draft words)
+text_held bytes here outers words o u v w may = (
+  record {
+    draft = with_text o.draft words;
+    reads = reads_on bytes (escaped false words) o.draft (with_text o.draft words) o.reads (text_reads o.draft words);
+    permitted = permitted_on bytes (escaped false words) u o.permitted (clean-escaped false words v w);
+    are_open = text_inside here outers o.draft.open_elements o.draft.nodes words (sym (stands_is here outers o.draft.open_elements o.draft.nodes Words o.are_open) ∙ may) (kept_text words v w) o.are_open;
+  },
+  refl,
+)
+
+-- ---- an element in an element
+
+or_nothing : (a : Bool) → a ≡ (a || false)
+or_nothing true = refl
+or_nothing false = refl
+
+-- with one more element, which is as its model has it
+with_inner : (here : Open) (frame : Frame) (frames : List Frame) (nodes : Nodes) (tag : Tag) (given : List Attribute) (content : Nodes) (ink : Bool)
+    → may_stand_in (frame ∷ frames) nodes (Inner tag) ≡ true → fits_model tag given content ≡ true → are_fit (is_tag A tag || is_in_link (frame ∷ frames)) content ≡ true → ink ≡ has_ink content
+    → Describes here frame frames nodes → Describes (behind_child here tag ink) frame frames (joined nodes (element tag given content none))
+with_inner here frame frames nodes tag given content ink may model fit inked d =
+    let linked : Bool = is_in_link (frame ∷ frames) in
+    let parts = and_parts (may_hold frame.tag (last_child None nodes) (Inner tag)) (not (linked && is_tag A tag)) may in
+    record {
+      tag = d.tag;
+      before = sym (last_child-joined None nodes (element tag given content none));
+      ink = ap (λ x. x || ink) d.ink ∙ ap (λ x. has_ink nodes || x) (inked ∙ or_nothing (has_ink content)) ∙ sym (has_ink-joined nodes (element tag given content none));
+      in_link = d.in_link;
+      ordered = are_in_order-joined frame.tag None nodes (element tag given content none) ∙ and_from (are_in_order frame.tag None nodes) (may_hold frame.tag (last_child None nodes) (Inner tag) && true) d.ordered (and_from (may_hold frame.tag (last_child None nodes) (Inner tag)) true parts.0 refl);
+      fit = are_fit-joined linked nodes (element tag given content none)
+          ∙ and_from (are_fit linked nodes) (fits_model tag given content && not (linked && is_tag A tag) && are_fit (is_tag A tag || linked) content && true) d.fit
+          (and_from (fits_model tag given content && not (linked && is_tag A tag) && are_fit (is_tag A tag || linked) content) true
+          (and_from (fits_model tag given content && not (linked && is_tag A tag)) (are_fit (is_tag A tag || linked) content) (and_from (fits_model tag given content) (not (linked && is_tag A tag)) model parts.1) fit) refl);
+      kept = are_kept-joined nodes (element tag given content none) ∙ and_from (are_kept nodes) true d.kept refl;
+      attributes = d.attributes;
+    }
+
+-- ---- a break
+
+break_inside : (here : Open) (outers : List Open) (frames : List Frame) (nodes : Nodes) → may_stand_in frames nodes (Inner Br) ≡ true → AreOpen here outers frames nodes → AreOpen (behind_child here Br false) outers frames (joined nodes (element Br [] none none))
+break_inside here outers [] nodes may a = a
+break_inside here [] (frame ∷ frames) nodes may a = (with_inner here frame frames nodes Br [] none false may refl refl refl a.0, a.1)
+break_inside here (outer ∷ outers) (frame ∷ frames) nodes may a = (with_inner here frame frames nodes Br [] none false may refl refl refl a.0, a.1, a.2)
+
+-- what holds an element takes elements
+holder_takes : (tag : Tag) (before : Option Child) (inner : Tag) → may_hold tag before (Inner inner) ≡ true → not (is_tag Title tag || is_tag Style tag) ≡ true
+holder_takes Html before inner h = refl
+holder_takes Head before inner h = refl
+holder_takes Meta before inner h = refl
+holder_takes Title before inner h = cc
+holder_takes Style before inner h = cc
+holder_takes Body before inner h = refl
+holder_takes Br before inner h = refl
+holder_takes A before inner h = refl
+holder_takes (Of Header) before inner h = refl
+holder_takes (Of Nav) before inner h = refl
+holder_takes (Of Main) before inner h = refl
+holder_takes (Of Section) before inner h = refl
+holder_takes (Of (Heading level)) before inner h = refl
+holder_takes (Of P) before inner h = refl
+holder_takes (Of Pre) before inner h = refl
+holder_takes (Of Ul) before inner h = refl
+holder_takes (Of Li) before inner h = refl
+holder_takes (Of Dl) before inner h = refl
+holder_takes (Of Dt) before inner h = refl
+holder_takes (Of Dd) before inner h = refl
+holder_takes (Of Code) before inner h = refl
+holder_takes (Of Strong) before inner h = refl
+holder_takes (Of Em) before inner h = refl
+holder_takes (Of Var) before inner h = refl
+
+takes : (frames : List Frame) (nodes : Nodes) (tag : Tag) → may_stand_in frames nodes (Inner tag) ≡ true → takes_elements frames ≡ true
+takes [] nodes tag may = refl
+takes (frame ∷ frames) nodes tag may = holder_takes frame.tag (last_child None nodes) tag (and_parts (may_hold frame.tag (last_child None nodes) (Inner tag)) (not (is_in_link (frame ∷ frames) && is_tag A tag)) may).0
+
+pub break_held : (bytes : List ℕ) (here : Open) (outers : List Open) (o : IsOngoing bytes here outers) → IsUtf8 bytes → stands here (Inner Br) ≡ true
+    → (p : IsOngoing (bytes ++ codes "<br>") (behind_child here Br false) outers) × (p.draft ≡ with_element o.draft Br [] none)
+break_held bytes here outers o u stood =
+    let may : may_stand_in o.draft.open_elements o.draft.nodes (Inner Br) ≡ true = sym (stands_is here outers o.draft.open_elements o.draft.nodes (Inner Br) o.are_open) ∙ stood in (
+      record {
+        draft = with_element o.draft Br [] none;
+        reads = reads_on bytes (codes "<br>") o.draft (with_element o.draft Br [] none) o.reads (break_reads o.draft (takes o.draft.open_elements o.draft.nodes Br may));
+        permitted = permitted_on bytes (codes "<br>") u o.permitted (clean-ascii (codes "<br>") refl);
+        are_open = break_inside here outers o.draft.open_elements o.draft.nodes may o.are_open;
+      },
+      refl,
+    )
+
+-- ---- a start
+
+described_start : (here : Open) (frame : Frame) (frames : List Frame) (nodes : Nodes) (tag : Tag) (given : List Attribute) → fits_attributes tag given ≡ true → Describes here frame frames nodes
+    → Describes (opened here tag) (record { tag = tag; attributes = given; before = nodes }) (frame ∷ frames) none
+described_start here frame frames nodes tag given fits d = record {
+  tag = refl;
+  before = refl;
+  ink = refl;
+  in_link = ap (λ linked. is_tag A tag || linked) d.in_link;
+  ordered = refl;
+  fit = refl;
+  kept = refl;
+  attributes = fits;
+}
+
+start_inside : (here : Open) (outers : List Open) (frames : List Frame) (nodes : Nodes) (tag : Tag) (given : List Attribute) → fits_attributes tag given ≡ true → may_stand_in frames nodes (Inner tag) ≡ true → AreOpen here outers frames nodes
+    → AreOpen (opened here tag) (here ∷ outers) (record { tag = tag; attributes = given; before = nodes } ∷ frames) none
+start_inside here outers [] nodes tag given fits may a = absurd a
+start_inside here [] (frame ∷ frames) nodes tag given fits may a = (described_start here frame frames nodes tag given fits a.0, may, a)
+start_inside here (outer ∷ outers) (frame ∷ frames) nodes tag given fits may a = (described_start here frame frames nodes tag given fits a.0, may, a)
+
+-- an element with its attributes that can be started anywhere where it may stand
+pub record IsStart (tag : Tag) (given : List Attribute) : Type 0 where
+  pub fits : fits_attributes tag given ≡ true
+  pub distinct : are_attributes given ≡ true
+  pub ends : is_void tag ≡ false
+  pub not_style : is_tag Style tag ≡ false
+  pub read : ReadAttributes given
+  pub clean : IsClean (start_text tag given)
+
+pub start_held : (bytes : List ℕ) (here : Open) (outers : List Open) (tag : Tag) (given : List Attribute) (o : IsOngoing bytes here outers) → IsUtf8 bytes → stands here (Inner tag) ≡ true → IsStart tag given
+    → (p : IsOngoing (bytes ++ start_text tag given) (opened here tag) (here ∷ outers)) × (p.draft ≡ with_start o.draft tag given)
+start_held bytes here outers tag given o u stood s =
+    let may : may_stand_in o.draft.open_elements o.draft.nodes (Inner tag) ≡ true = sym (stands_is here outers o.draft.open_elements o.draft.nodes (Inner tag) o.are_open) ∙ stood in
+    let can : CanStart o.draft tag given = record { takes = takes o.draft.open_elements o.draft.nodes tag may; distinct = s.distinct; ends = s.ends; not_style = s.not_style } in (
+      record {
+        draft = with_start o.draft tag given;
+        reads = reads_on bytes (start_text tag given) o.draft (with_start o.draft tag given) o.reads (start_reads o.draft tag given can s.read);
+        permitted = permitted_on bytes (start_text tag given) u o.permitted s.clean;
+        are_open = start_inside here outers o.draft.open_elements o.draft.nodes tag given s.fits may o.are_open;
+      },
+      refl,
+    )
+
+-- ---- an end
+
+ends_in : (here : Open) (frame : Frame) (frames : List Frame) (nodes : Nodes) → Describes here frame frames nodes → ends here ≡ may_end frame.tag (last_child None nodes)
+ends_in here frame frames nodes d = ap (λ tag. may_end tag here.before) d.tag ∙ ap (may_end frame.tag) d.before
+
+inked_in : (here : Open) (frame : Frame) (frames : List Frame) (nodes : Nodes) → Describes here frame frames nodes → inked here ≡ (not (wants_ink frame.tag) || has_ink nodes)
+inked_in here frame frames nodes d = ap (λ tag. not (wants_ink tag) || here.has_ink) d.tag ∙ ap (λ ink. not (wants_ink frame.tag) || ink) d.ink
+
+pub ends_is : (here : Open) (outers : List Open) (frames : List Frame) (nodes : Nodes) → AreOpen here outers frames nodes → ends here ≡ may_end_in frames nodes
+ends_is here outers [] nodes a = absurd a
+ends_is here [] (frame ∷ frames) nodes a = ends_in here frame frames nodes a.0
+ends_is here (outer ∷ outers) (frame ∷ frames) nodes a = ends_in here frame frames nodes a.0
+
+pub inked_is : (here : Open) (outers : List Open) (frames : List Frame) (nodes : Nodes) → AreOpen here outers frames nodes → inked here ≡ has_ink_in frames nodes
+inked_is here outers [] nodes a = absurd a
+inked_is here [] (frame ∷ frames) nodes a = inked_in here frame frames nodes a.0
+inked_is here (outer ∷ outers) (frame ∷ frames) nodes a = inked_in here frame frames nodes a.0
+
+-- whether there is an element in the body that is open
+abbrev pub is_around : List Open → Bool
+is_around [] = false
+is_around (outer ∷ outers) = true
+
+two : (here : Open) (outers : List Open) (frames : List Frame) (nodes : Nodes) → AreOpen here outers frames nodes → (first : Frame) × (second : Frame) × (others : List Frame) × (frames ≡ first ∷ second ∷ others)
+two here outers [] nodes a = absurd a
+two here [] (frame ∷ []) nodes a = let same = a.1.is in cc
+two here [] (frame ∷ second ∷ frames) nodes a = (frame, second, frames, refl)
+two here (outer ∷ outers) (frame ∷ []) nodes a = absurd (none_open a.2) where
+  none_open : AreOpen outer outers [] frame.before → ⊥
+  none_open b = elim outers as (λ o. AreOpen outer o [] frame.before → ⊥) [ [] ↦ λ x. x | o ∷ os ↦ λ x. x ] b
+two here (outer ∷ outers) (frame ∷ second ∷ frames) nodes a = (frame, second, frames, refl)
+
+pub around_is : (here : Open) (outers : List Open) (frames : List Frame) (nodes : Nodes) → AreOpen here outers frames nodes → is_around outers ≡ is_inside_body frames
+around_is here outers [] nodes a = absurd a
+around_is here [] (frame ∷ frames) nodes a = sym (ap is_inside_body a.1.is)
+around_is here (outer ∷ outers) (frame ∷ frames) nodes a = let around = two outer outers frames frame.before a.2 in sym (ap (λ x. is_inside_body (frame ∷ x)) around.3)
+
+model_from : (here : Open) (frame : Frame) (frames : List Frame) (nodes : Nodes) → Describes here frame frames nodes → ends here ≡ true → inked here ≡ true → fits_model frame.tag frame.attributes nodes ≡ true
+model_from here frame frames nodes d may ink =
+    and_from (fits_attributes frame.tag frame.attributes && are_in_order frame.tag None nodes && may_end frame.tag (last_child None nodes)) (not (wants_ink frame.tag) || has_ink nodes)
+    (and_from (fits_attributes frame.tag frame.attributes && are_in_order frame.tag None nodes) (may_end frame.tag (last_child None nodes)) (and_from (fits_attributes frame.tag frame.attributes) (are_in_order frame.tag None nodes) d.attributes d.ordered) (sym (ends_in here frame frames nodes d) ∙ may))
+    (sym (inked_in here frame frames nodes d) ∙ ink)
+
+-- behind the end of an element that is as its model has it
+end_inside : (here outer : Open) (outers : List Open) (frame : Frame) (frames : List Frame) (nodes : Nodes) → ends here ≡ true → inked here ≡ true → AreOpen here (outer ∷ outers) (frame ∷ frames) nodes
+    → AreOpen (behind_child outer here.tag here.has_ink) outers frames (joined frame.before (element frame.tag frame.attributes nodes none))
+end_inside here outer outers frame [] nodes may ink a = absurd (none_open a.2) where
+  none_open : AreOpen outer outers [] frame.before → ⊥
+  none_open b = elim outers as (λ o. AreOpen outer o [] frame.before → ⊥) [ [] ↦ λ x. x | o ∷ os ↦ λ x. x ] b
+end_inside here outer [] frame (around ∷ frames) nodes may ink a = (inner around frames a.0 a.1 a.2.0, a.2.1) where
+  inner : (around : Frame) (frames : List Frame) → Describes here frame (around ∷ frames) nodes → may_stand_in (around ∷ frames) frame.before (Inner frame.tag) ≡ true → Describes outer around frames frame.before
+      → Describes (behind_child outer here.tag here.has_ink) around frames (joined frame.before (element frame.tag frame.attributes nodes none))
+  inner around frames d stood e =
+      subst (λ tag. Describes (behind_child outer tag here.has_ink) around frames (joined frame.before (element frame.tag frame.attributes nodes none))) (sym d.tag)
+      (with_inner outer around frames frame.before frame.tag frame.attributes nodes here.has_ink stood (model_from here frame (around ∷ frames) nodes d may ink) d.fit d.ink e)
+end_inside here outer (next ∷ outers) frame (around ∷ frames) nodes may ink a = (inner around frames a.0 a.1 a.2.0, a.2.1, a.2.2) where
+  inner : (around : Frame) (frames : List Frame) → Describes here frame (around ∷ frames) nodes → may_stand_in (around ∷ frames) frame.before (Inner frame.tag) ≡ true → Describes outer around frames frame.before
+      → Describes (behind_child outer here.tag here.has_ink) around frames (joined frame.before (element frame.tag frame.attributes nodes none))
+  inner around frames d stood e =
+      subst (λ tag. Describes (behind_child outer tag here.has_ink) around frames (joined frame.before (element frame.tag frame.attributes nodes none))) (sym d.tag)
+      (with_inner outer around frames frame.before frame.tag frame.attributes nodes here.has_ink stood (model_from here frame (around ∷ frames) nodes d may ink) d.fit d.ink e)
+
+clean_end : (tag : Tag) → IsClean (end_text tag)
+clean_end tag = clean-ascii (end_text tag) (each_tag (λ other. list_all is_ascii_byte (end_text other)) refl tag)
+
+end_held_at : (bytes : List ℕ) (here outer : Open) (outers : List Open) (frames : List Frame) (nodes : Nodes) → reading_of bytes ≡ reading Content (Some (record { open_elements = frames; nodes = nodes })) → list_all is_permitted (chars bytes) ≡ true
+    → AreOpen here (outer ∷ outers) frames nodes → IsUtf8 bytes → ends here ≡ true → inked here ≡ true → (o : IsOngoing (bytes ++ end_text here.tag) (behind_child outer here.tag here.has_ink) outers) × (o.draft ≡ with_end_in frames nodes)
+end_held_at bytes here outer outers [] nodes reads permitted a u may ink = absurd a
+end_held_at bytes here outer outers (frame ∷ frames) nodes reads permitted a u may ink =
+    let draft : Draft = record { open_elements = frame ∷ frames; nodes = nodes } in (
+      record {
+        draft = with_end_in (frame ∷ frames) nodes;
+        reads = ap (λ tag. reading_of (bytes ++ end_text tag)) a.0.tag ∙ reads_on bytes (end_text frame.tag) draft (with_end_in (frame ∷ frames) nodes) reads (end_reads frame frames nodes (settles frame.tag nodes a.0.ordered a.0.kept));
+        permitted = permitted_on bytes (end_text here.tag) u permitted (clean_end here.tag);
+        are_open = end_inside here outer outers frame frames nodes may ink a;
+      },
+      refl,
+    )
+
+pub end_held : (bytes : List ℕ) (here outer : Open) (outers : List Open) (o : IsOngoing bytes here (outer ∷ outers)) → IsUtf8 bytes → ends here ≡ true → inked here ≡ true
+    → (p : IsOngoing (bytes ++ end_text here.tag) (behind_child outer here.tag here.has_ink) outers) × (p.draft ≡ with_end o.draft)
+end_held bytes here outer outers o u may ink = end_held_at bytes here outer outers o.draft.open_elements o.draft.nodes o.reads o.permitted o.are_open u may ink
+
+-- ---- the whole
+
+pub new_held : (language title style : List ℕ) → IsClean (page_front language title style) → list_all is_kept language ≡ true → list_all is_kept title ≡ true → list_all is_kept style ≡ true → has_end_sign style ≡ false
+    → is_language language ≡ true → list_any is_ink title ≡ true → (here : Open) → here ≡ record { tag = Body; before = None; has_ink = false; in_link = false }
+    → (p : IsOngoing (page_front language title style) here []) × (p.draft ≡ new_page language title style)
+new_held language title style clean kept_language kept_title kept_style no_sign is has here e = (
+  record {
+    draft = new_page language title style;
+    reads = front_reads language title style kept_language kept_title kept_style no_sign;
+    permitted = clean.permitted;
+    are_open = (
+      record {
+        tag = ap (λ (o : Open). o.tag) e;
+        before = ap (λ (o : Open). o.before) e;
+        ink = ap (λ (o : Open). o.has_ink) e;
+        in_link = ap (λ (o : Open). o.in_link) e;
+        ordered = refl;
+        fit = refl;
+        kept = refl;
+        attributes = refl;
+      },
+      record { language = language; title = title; style = style; is = refl; is_language = is; has_title = has },
+    );
+  },
+  refl,
+)
+
+whole_at : (bytes : List ℕ) (here : Open) (frames : List Frame) (nodes : Nodes) → reading_of bytes ≡ reading Content (Some (record { open_elements = frames; nodes = nodes })) → list_all is_permitted (chars bytes) ≡ true
+    → AreOpen here [] frames nodes → IsUtf8 bytes → ends here ≡ true → ReadsAs (bytes ++ page_end) (whole_page (record { open_elements = frames; nodes = nodes }))
+whole_at bytes here [] nodes reads permitted a u may = absurd a
+whole_at bytes here (frame ∷ frames) nodes reads permitted a u may =
+    let body = a.1 in
+    let draft : Draft = body_draft body.language body.title body.style nodes in
+    let same : frame ∷ frames ≡ draft.open_elements = body.is in
+    let is_body : frame.tag ≡ Body = ap (λ list. tag_at list) same in
+    let ordered : are_in_order Body None nodes ≡ true = subst (λ tag. are_in_order tag None nodes ≡ true) is_body a.0.ordered in
+    let no_link : is_in_link (frame ∷ frames) ≡ false = ap is_in_link same in
+    let fit : are_fit false nodes ≡ true = subst (λ linked. are_fit linked nodes ≡ true) no_link a.0.fit in
+    let ended : may_end Body (last_child None nodes) ≡ true = subst (λ tag. may_end tag (last_child None nodes) ≡ true) is_body (sym (ends_in here frame frames nodes a.0) ∙ may) in
+    let reads_body : reading_of bytes ≡ reading Content (Some draft) = reads ∙ ap (λ list. reading Content (Some (record { open_elements = list; nodes = nodes }))) same in
+    let reads_end = reads_on bytes page_end draft (record { open_elements = []; nodes = whole_page draft }) reads_body (end_of_page body.language body.title body.style nodes ordered a.0.kept) in
+    let utf8_end : IsUtf8 (bytes ++ page_end) = IsUtf8-append bytes page_end u (clean-ascii page_end refl).utf8 in
+    let permitted_end = permitted_on bytes page_end u permitted (clean-ascii page_end refl) in
+    subst (λ list. ReadsAs (bytes ++ page_end) (whole_page (record { open_elements = list; nodes = nodes }))) (sym same)
+    (record {
+      reads = is_whole_text (bytes ++ page_end) body.language body.title body.style nodes utf8_end permitted_end reads_end;
+      page = is_page body.language body.title body.style nodes body.is_language body.has_title ordered fit ended;
+    })
+  where
+    tag_at : List Frame → Tag
+    tag_at [] = Html
+    tag_at (frame ∷ frames) = frame.tag
+
+pub whole_held : (bytes : List ℕ) (here : Open) (o : IsOngoing bytes here []) → IsUtf8 bytes → ends here ≡ true → ReadsAs (bytes ++ page_end) (whole_page o.draft)
+whole_held bytes here o u may = whole_at bytes here o.draft.open_elements o.draft.nodes o.reads o.permitted o.are_open u may

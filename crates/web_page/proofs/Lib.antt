@@ -1,0 +1,12 @@
+pub mod Rows
+pub mod Escapes
+pub mod Texts
+pub mod Nodes
+pub mod Readings
+pub mod Settles
+pub mod Pages
+pub mod Held
+pub mod Starts
+pub mod Outcomes
+pub mod Fronts
+pub mod TextLaws

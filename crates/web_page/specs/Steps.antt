@@ -1,0 +1,4 @@
+-- How the code holds a page. Nobody has to believe it.
+pub mod Open
+pub mod Pieces
+pub mod Stored

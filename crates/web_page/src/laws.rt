@@ -1,0 +1,24 @@
+//! Laws of the definitions that the contracts cite. Each function is a law: it holds where the function is proved, and
+//! calling it does nothing.
+
+ghost use Rattle.std.specs.Prelude.{◌≡◌, ◌++◌, ◌∷◌, [], List, ℕ};
+ghost use Rattle.web_page.specs.Reader.{Draft, joined};
+ghost use Rattle.web_page.specs.Tree.{Attribute, Nodes, element, none, text};
+ghost use Rattle.web_page.specs.Calls.{with_text, with_words};
+ghost use Rattle.web_page.specs.declared.elements.Tag.{Tag};
+
+/// A text that is added in two parts is one text, and an empty one is none.
+pub fn texts_join()
+    ensures joined { (draft : Draft) (first second : List ℕ)
+        → with_text (with_text draft first) second ≡ with_text draft (first ++ second) }
+    ensures empty { (draft : Draft) → with_text draft [] ≡ draft }
+{}
+
+/// A text is letter for letter a node of its own, at the front or behind an element, and goes on a text that is last.
+pub fn texts_stay()
+    ensures first { (b : ℕ) (bytes : List ℕ) → with_words none (b ∷ bytes) ≡ text (b ∷ bytes) none }
+    ensures behind_element { (nodes content : Nodes) (tag : Tag) (given : List Attribute) (b : ℕ) (bytes : List ℕ)
+        → with_words (joined nodes (element tag given content none)) (b ∷ bytes)
+        ≡ joined nodes (element tag given content (text (b ∷ bytes) none)) }
+    ensures behind_text { (before bytes : List ℕ) → with_words (text before none) bytes ≡ text (before ++ bytes) none }
+{}

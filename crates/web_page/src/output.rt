@@ -1,0 +1,147 @@
+//! Pieces of HTML text, written all or not at all.
+
+ghost use Rattle.std.specs.Prelude.{◌≡◌, ◌++◌, MatchOption, OnErr, OnOk, encode_utf8, string_bytes};
+ghost use Rattle.web_page.specs.Exact.{end_text, escaped, escaped_byte, start_text, tag_end};
+ghost use Rattle.web_page.specs.Steps.Open.{attributes_of};
+ghost use Rattle.web_page.specs.Steps.Pieces.{Extends, piece_text, pieces_text};
+
+use crate::elements::{Element, Tag};
+use std::alloc::{AllocError, Allocator};
+
+/// A piece of HTML text: as it is, a text that is shown, or the value of an attribute.
+#[derive(Clone, Copy)]
+pub enum Piece<'a> {
+    Plain(&'a str),
+    Text(&'a str),
+    Value(&'a str),
+}
+
+// What stands for a character that may not stand for itself.
+fn reference(character: char, in_value: bool) -> Option<&'static str>
+    ensures { MatchOption result (escaped in_value (encode_utf8 character) ≡ encode_utf8 character)
+        (λ text. escaped in_value (encode_utf8 character) ≡ text.now) }
+{
+    if character == '&' {
+        Some("&amp;")
+    } else if character == '<' {
+        Some("&lt;")
+    } else if character == '>' {
+        Some("&gt;")
+    } else if in_value && character == '"' {
+        Some("&quot;")
+    } else {
+        None
+    }
+}
+
+fn push_escaped<A: Allocator>(
+    out: &mut String<A>,
+    text: &str,
+    in_value: bool,
+) -> Result<(), AllocError>
+    ensures ok { OnOk result (string_bytes out.new ≡ string_bytes out.old ++ escaped in_value text.now) }
+    ensures kept { Extends (string_bytes out.old) (string_bytes out.new) }
+{
+    for character in text.chars() {
+        match reference(character, in_value) {
+            Some(text) => out.push_str(text)?,
+            None => out.push(character)?,
+        }
+    }
+    Ok(())
+}
+
+fn push_piece<A: Allocator>(out: &mut String<A>, piece: Piece<'_>) -> Result<(), AllocError>
+    ensures ok { OnOk result (string_bytes out.new ≡ string_bytes out.old ++ piece_text piece.entry) }
+    ensures kept { Extends (string_bytes out.old) (string_bytes out.new) }
+{
+    match piece {
+        Piece::Plain(text) => out.push_str(text),
+        Piece::Text(text) => push_escaped(out, text, false),
+        Piece::Value(text) => push_escaped(out, text, true),
+    }
+}
+
+/// Writes pieces behind a text. An error comes where an allocation failed, and then the text is as before.
+pub fn write<A: Allocator>(out: &mut String<A>, pieces: &[Piece<'_>]) -> Result<(), AllocError>
+    ensures ok { OnOk result (string_bytes out.new ≡ string_bytes out.old ++ pieces_text pieces.now) }
+    ensures err { OnErr result (string_bytes out.new ≡ string_bytes out.old) }
+{
+    let len = out.len();
+    for piece in pieces {
+        if let Err(refused) = push_piece(out, *piece) {
+            out.truncate(len);
+            return Err(refused);
+        }
+    }
+    Ok(())
+}
+
+/// The attribute of a start tag, if it has one.
+#[derive(Clone, Copy)]
+pub enum Key {
+    Nothing,
+    Id,
+    Target,
+}
+
+// The end of a start tag. A newline directly behind that of a pre is none of its text, and so one is always there.
+fn tag_end(tag: Tag) -> &'static str
+    ensures { result.now ≡ tag_end tag }
+{
+    match tag {
+        Tag::Of(Element::Pre) => ">\n",
+        _ => ">",
+    }
+}
+
+/// Writes a start tag. An error comes where an allocation failed, and then the text is as before.
+pub fn write_start<A: Allocator>(
+    out: &mut String<A>,
+    tag: Tag,
+    key: Key,
+    value: &str,
+) -> Result<(), AllocError>
+    ensures ok { OnOk result (string_bytes out.new
+        ≡ string_bytes out.old ++ start_text tag (attributes_of key value.now)) }
+    ensures err { OnErr result (string_bytes out.new ≡ string_bytes out.old) }
+{
+    let opening = match key {
+        Key::Nothing => return write(
+            out,
+            &[
+                Piece::Plain("<"),
+                Piece::Plain(tag.name()),
+                Piece::Plain(tag_end(tag)),
+            ],
+        ),
+        Key::Id => " id=\"",
+        Key::Target => " href=\"",
+    };
+    write(
+        out,
+        &[
+            Piece::Plain("<"),
+            Piece::Plain(tag.name()),
+            Piece::Plain(opening),
+            Piece::Value(value),
+            Piece::Plain("\""),
+            Piece::Plain(tag_end(tag)),
+        ],
+    )
+}
+
+/// Writes an end tag. An error comes where an allocation failed, and then the text is as before.
+pub fn write_end<A: Allocator>(out: &mut String<A>, tag: Tag) -> Result<(), AllocError>
+    ensures ok { OnOk result (string_bytes out.new ≡ string_bytes out.old ++ end_text tag) }
+    ensures err { OnErr result (string_bytes out.new ≡ string_bytes out.old) }
+{
+    write(
+        out,
+        &[
+            Piece::Plain("</"),
+            Piece::Plain(tag.name()),
+            Piece::Plain(">"),
+        ],
+    )
+}
