@@ -1,6 +1,7 @@
 #!/usr/bin/env python3
 """What pages show stands word by word in a file: each caller of a crate's CALLING.md in the crate `callers`, which the gate proves, and the
-description of README.md in `examples/`. The description of the README's pictures is the one that the gate runs `clidoc` on.
+description of README.md in `examples/`. The description of the README's pictures is the one that the gate runs `clidoc` on, and that of
+`clidoc` itself the one that it holds.
 
 Prints what does not. Ends with status 1 where there is any.
 """
@@ -19,8 +20,11 @@ def unlike_their_files():
     shown = re.search(r"(?m)^The description is `examples/greet\.toml`,\n\n((?: {4}.*\n)+)", readme)
     if not shown or re.sub(r"(?m)^ {4}", "", shown[1]) != (EXAMPLES / "greet.toml").read_text(encoding="utf-8"):
         yield "README.md does not show examples/greet.toml"
-    if (EXAMPLES / "fetch.toml").read_bytes() != (CRATES / "clidoc" / "stdin").read_bytes():
-        yield "crates/clidoc/stdin is not examples/fetch.toml"
+    if (EXAMPLES / "fetch.toml").read_bytes() != (CRATES / "clidoc" / "data" / "fetch.toml").read_bytes():
+        yield "crates/clidoc/data/fetch.toml is not examples/fetch.toml"
+    own = (CRATES / "clidoc_engine" / "src" / "own.rt").read_text(encoding="utf-8")
+    if 'r#"' + (EXAMPLES / "clidoc.toml").read_text(encoding="utf-8") + '"#' not in own:
+        yield "crates/clidoc_engine/src/own.rt does not hold examples/clidoc.toml"
 
 
 def main():

@@ -67,7 +67,7 @@ class Refusals(InFolder):
 class Callers(InFolder):
     def setUp(self):
         super().setUp()
-        for name in ("callers", "clidoc", "bpaf_help"):
+        for name in ("callers", "clidoc", "clidoc_engine", "bpaf_help"):
             shutil.copytree(TOP / "crates" / name, self.folder / "crates" / name, ignore=shutil.ignore_patterns("out"))
         shutil.copytree(TOP / "examples", self.folder / "examples")
         shutil.copy(TOP / "README.md", self.folder)
@@ -88,7 +88,11 @@ class Callers(InFolder):
         self.change("README.md", "Whom to greet\"\n", "Whom\"\n")
         self.assertEqual(self.told()[0], 0)
         self.change("examples/fetch.toml", "Say nothing", "Say little")
-        self.assertEqual(self.told(), (1, "crates/clidoc/stdin is not examples/fetch.toml\n"))
+        self.assertEqual(self.told(), (1, "crates/clidoc/data/fetch.toml is not examples/fetch.toml\n"))
+
+    def test_finds_that_the_program_holds_another_description_of_itself(self):
+        self.change("examples/clidoc.toml", "Print the version", "Print a version")
+        self.assertEqual(self.told(), (1, "crates/clidoc_engine/src/own.rt does not hold examples/clidoc.toml\n"))
 
     def test_finds_a_caller_that_is_not_proved(self):
         self.change("crates/bpaf_help/CALLING.md", "#![tactic(auto)]\n\n", "#![tactic(auto)]\n\n// mine\n")

@@ -110,7 +110,7 @@ def requests(table):
         "brief": f"help brief 100 ( {app} ) 0 ( ) {texts} {tree} {help_tree}",
         "html": f"apphtml {app} {texts} {tree}",
         "markdown": f"appmarkdown {app} {texts} {tree}",
-        "man": f"appman {app} {word(table.get('section', '1'))} {' '.join(title)} {texts} {tree}",
+        "man": f"appman {app} {word(str(table.get('section', '1')))} {' '.join(title)} {texts} {tree}",
     }
 
 

@@ -4,12 +4,13 @@ import unicodedata
 WORDS = [
     "word", "Prints things", "-v", "--verbose", "FILE", "a<b", "<tag>", "&amp;", "&", "'q'", "“quoted”", "don't", ".dot", "..",
     "\\", "\\-", "a\\b", "`", "``", "[x]", "]", "*", "_", "#", "# h", ">", "-", "--", "|", "é", "ßtraße", "日本", "日本語", "한국",
-    "ｆｕｌｌ", "カタ", "😀", "👩‍👩‍👧", "❤️", "☺️ok", "İ", "ǆ", "a\u0301", "\u200b", "\u00a0", "\u2003", "\u3000", "\u0085", "\u001b[1m",
-    "\u0000", "\u007f", "\t", "\"", "\"\"\"", "'''", "long-long-word-of-some-length", "a" * 40, "x", "", "name", "=", "$HOME", "{}", "%s",
+    "ｆｕｌｌ", "カタ", "😀", "👩‍👩‍👧", "❤️", "☺️ok", "İ", "ǆ", "a\u0301", "\u200b", "\u202e", "\u00a0", "\u2003", "\u3000", "\ufdf0", "\ufffd",
+    "\t", "\"", "\"\"\"", "'''", "long-long-word-of-some-length", "a" * 40, "x", "", "name", "=", "$HOME", "{}", "%s",
 ]
-JOINTS = [" ", " ", " ", " ", "", "  ", "\n", "\n ", "\n\n", "\n\n\n", "\n    ", "\r\n", "\n```\n", "\n\n```text\n", "\n- ", ", "]
+JOINTS = [" ", " ", " ", " ", "", "  ", "\n", "\n ", "\n\n", "\n\n\n", "\n    ", "\n```\n", "\n\n```text\n", "\n- ", ", "]
 LETTERS = "abcdefghijklmnopqrstuvwxyzABCXYZ0123456789-_.'\"\\<>&*`[]/:@éß日한ｆ😀❤\u0301\u200b#$%+~|"
-SECTIONS = ["1", "2", "3", "4", "5", "6", "7", "8", "9", "1p", "", "n m", "\\", "日本"]
+SECTIONS = ["1", "2", "3", "4", "5", "6", "7", "8", "9", "0", "1p", "3posix2X", "n", "lx", 0, 1, 7, 9]
+TWICE = "\\\""
 KEY_LETTERS = set("abcdefghijklmnopqrstuvwxyzABCDEFGHIJKLMNOPQRSTUVWXYZ0123456789-_")
 
 
@@ -28,8 +29,22 @@ class Describer:
             pieces += [self.random.choice(WORDS), self.random.choice(JOINTS)]
         return "".join(pieces if self.some(0.3) else pieces[:-1])
 
+    def word(self):
+        """A text on one line with something in it."""
+        return self.text().replace("\n", " ").replace("\t", " ") or "x"
+
+    def title(self):
+        """A text that a macro of roff may read twice."""
+        return "".join(c for c in self.word() if c not in TWICE)
+
     def name(self):
         return "".join(self.random.choice(LETTERS) for _ in range(self.random.choice([1, 2, 3, 4, 6, 8, 12, 30])))
+
+    def long(self):
+        return self.name().lstrip("-") or "x"
+
+    def command_name(self):
+        return "".join(c for c in self.long() if c not in TWICE).lstrip("-") or "x"
 
     def fresh(self, taken, make):
         while True:
@@ -54,8 +69,8 @@ class Describer:
         if which != "long":
             table["short"] = self.fresh(shorts, self.short)
         if which != "short":
-            table["long"] = self.fresh(longs, self.name)
-        self.maybe(table, "value", lambda: self.random.choice(["FILE", "N", "a b", "", "日本", self.text()]))
+            table["long"] = self.fresh(longs, self.long)
+        self.maybe(table, "value", lambda: self.random.choice(["FILE", "N", "a b", "日本", self.word()]))
         self.maybe(table, "help", self.text, 0.7)
         self.maybe(table, "env", self.name, 0.3)
         if wraps:
@@ -69,7 +84,7 @@ class Describer:
         return table
 
     def positional(self):
-        table = {"value": self.random.choice(["FILE", "INPUT", "", "a b", self.text()])}
+        table = {"value": self.random.choice(["FILE", "INPUT", "a b", self.word()])}
         self.maybe(table, "help", self.text, 0.7)
         for key in ["required", "repeated", "strict"]:
             self.maybe(table, key, self.flag, 0.4)
@@ -91,7 +106,9 @@ class Describer:
                 table[kind] = [make[kind]() for _ in range(min(count, most))]
 
     def group(self, depth, names):
-        table = {"title": self.text()}
+        table = {"title": self.title() + self.random.choice(["", "x", "é"])}
+        if not table["title"].strip():
+            table["title"] = "Group"
         while not any(table.get(kind) for kind in ["option", "choice", "positional", "command"]):
             self.lists(table, depth, names, ["option", "choice", "positional", "command"])
         return table
@@ -108,17 +125,17 @@ class Describer:
         return table
 
     def command(self, depth, names):
-        table = {"name": self.fresh(names, self.name)}
-        self.maybe(table, "short", self.short, 0.3)
+        table = {"name": self.fresh(names, self.command_name)}
+        self.maybe(table, "short", lambda: self.fresh(names, self.short), 0.3)
         self.maybe(table, "help", self.text, 0.7)
         return self.level(table, depth)
 
     def description(self):
-        table = {"name": self.random.choice(["app", "git-log", self.name()])}
+        table = {"name": self.random.choice(["app", "git-log", "-" + self.command_name(), self.command_name()])}
         self.maybe(table, "section", lambda: self.random.choice(SECTIONS))
-        self.maybe(table, "date", lambda: self.random.choice(["November 2026", self.text(), Day(2026, 11, 23), Day(987, 1, 2)]))
-        self.maybe(table, "vendor", self.text, 0.3)
-        self.maybe(table, "title", self.text, 0.3)
+        self.maybe(table, "date", lambda: self.random.choice(["November 2026", "", self.title(), Day(2026, 11, 23), Day(987, 1, 2)]))
+        self.maybe(table, "vendor", self.title, 0.3)
+        self.maybe(table, "title", self.title, 0.3)
         self.level(table, 0)
         if self.some(0.5):
             names = (set(), set())

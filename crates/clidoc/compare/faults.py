@@ -2,7 +2,7 @@
 import copy
 
 TEXTS = {
-    "description": ["section", "vendor", "title", "about", "header", "footer", "usage"],
+    "description": ["vendor", "title", "about", "header", "footer", "usage"],
     "command": ["help", "about", "header", "footer", "usage"],
     "option": ["value", "help"],
     "positional": ["value", "help"],
@@ -10,6 +10,9 @@ TEXTS = {
     "choice": [],
 }
 NEEDED = {"description": "name", "command": "name", "positional": "value", "group": "title"}
+WORDS = {"option": ["value"], "positional": ["value"]}
+TITLES = {"description": ["date", "vendor", "title"], "group": ["title"]}
+NAMES = {"description": ["name"], "command": ["name"], "option": ["long", "env"]}
 FLAGS = {
     "description": ["command_required"],
     "command": ["command_required"],
@@ -32,7 +35,7 @@ def tables(table, kind="description", way=(), alternative=False):
 def faults(table, kind, alternative):
     """Each way to plant a fault in a table, and what is said of it."""
     keys = list(table)
-    yield {"lnog": "x"}, [], "no key lnog is known here"
+    yield {"lnog": "x"}, [], "no key lnog is known here" + ("; is it long?" if kind == "option" else "")
     if kind != "description":
         yield {"vendor": "x"}, [], "no key vendor is known here"
     if alternative:
@@ -43,11 +46,55 @@ def faults(table, kind, alternative):
         yield {key: 1}, [], f"{key} is no text"
     for key in [] if alternative else FLAGS[kind]:
         yield {key: "x"}, [], f"{key} is no flag"
+    yield from characters(kind)
+    yield from names(kind)
+    if kind == "description":
+        for section in ["", "m", "N", "1 ", "1é", "-1", 10, -1, True]:
+            yield {"section": section}, [], said_of_a_section(section)
+
+
+def characters(kind):
+    """Faults in what texts and titles hold."""
+    for key in TEXTS[kind] + TITLES.get(kind, []):
+        yield {key: "a\u001bb"}, [], f"{key} holds a control character"
+        yield {key: "a\ufffeb"}, [], f"{key} holds a noncharacter"
+    for key in WORDS.get(kind, []) + TITLES.get(kind, []):
+        yield {key: "a\nb"}, [], f"{key} holds a control character"
+    for key in WORDS.get(kind, []):
+        yield {key: ""}, [], f"{key} is empty"
+    for key in TITLES.get(kind, []):
+        yield {key: "a\\b"}, [], f"{key} holds a backslash"
+        yield {key: "a\"b"}, [], f"{key} holds a double quote"
+    if kind == "group":
+        yield {"title": " \u3000"}, [], "title is blank"
+
+
+WHY = {"": "is empty", "a b": "holds a blank", "a\n": "holds a blank", "a\u0007": "holds a control character", "a=": "holds =", "a\ufdd0": "holds a noncharacter"}
+
+
+def names(kind):
+    """Names that are none."""
+    for key in NAMES.get(kind, []):
+        for name, why in WHY.items():
+            yield {key: name}, [], f"{key} {why}"
+        if key == "name":
+            yield {key: "a\\"}, [], f"{key} holds a backslash"
+            yield {key: "a\""}, [], f"{key} holds a double quote"
+        if key == "long" or kind == "command":
+            yield {key: "-a"}, [], f"{key} begins with -"
     if kind in ["option", "command"]:
         for text in ["", "ab", "日本"]:
             yield {"short": text}, [], "short is not one character"
-        for text in ["-", "=", " "]:
-            yield {"short": text}, [], "short is no short name"
+        for text, why in [("-", "begins with -"), ("=", "holds ="), (" ", "holds a blank"), ("\uffff", "holds a noncharacter")]:
+            yield {"short": text}, [], f"short {why}"
+
+
+def said_of_a_section(section):
+    if section is True:
+        return "section is no text and no number"
+    if isinstance(section, int):
+        return "section is no number from 0 to 9"
+    return "section is no section of a manual"
 
 
 def planted(table, random):

@@ -1,5 +1,5 @@
-//! `clidoc FORM` reads a description of a command line in TOML from standard input, and writes one of its pages;
-//! FORM is `usage`, `full`, `brief`, `html`, `markdown` or `man`.
+//! `clidoc FORM [FILE]` reads a description of a command line in TOML from a file or from standard input, and
+//! writes one of its pages; FORM is `usage`, `full`, `brief`, `html`, `markdown`, `man` or `check`.
 #![tactic(auto)]
 
 use clidoc_engine::program::run;

@@ -1,2 +1,6 @@
 mod Lines
 mod Pages
+mod Gathered
+mod Choosing
+mod Led
+mod Returns

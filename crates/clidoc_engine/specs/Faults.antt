@@ -8,7 +8,7 @@ use Rattle.description.specs.declared.decode.faults.DescriptionError.{Descriptio
 use Rattle.description.specs.declared.decode.faults.DescriptionError.TheVariants as describing
 use Rattle.clidoc_engine.specs.declared.places.Place.{Place}
 use Rattle.clidoc_engine.specs.declared.faults.Fault.{Fault}
-use Rattle.clidoc_engine.specs.declared.faults.Fault.TheVariants.{NotUtf8, NotToml, NotDescription, Read, Write, Memory}
+use Rattle.clidoc_engine.specs.declared.faults.Fault.TheVariants.{NotUtf8, NotToml, NotDescription, NoCommand, Read, Write, Memory}
 
 abbrev pub fault_of_read : ReadError → Fault
 fault_of_read (reading.Failed error) = Read
@@ -24,6 +24,7 @@ abbrev pub IfNotToml : Fault → (Place → Error → Type 0) → Type 0
 IfNotToml (NotToml place error) P = P place error
 IfNotToml NotUtf8 P = ⊤
 IfNotToml (NotDescription text) P = ⊤
+IfNotToml (NoCommand name path) P = ⊤
 IfNotToml Read P = ⊤
 IfNotToml Write P = ⊤
 IfNotToml Memory P = ⊤
@@ -33,6 +34,17 @@ abbrev pub IfNotDescription : Fault → Type 0 → Type 0
 IfNotDescription (NotDescription text) P = P
 IfNotDescription NotUtf8 P = ⊤
 IfNotDescription (NotToml place error) P = ⊤
+IfNotDescription (NoCommand name path) P = ⊤
 IfNotDescription Read P = ⊤
 IfNotDescription Write P = ⊤
 IfNotDescription Memory P = ⊤
+
+-- where a fault says that there is no such command, this holds
+abbrev pub IfNoCommand : Fault → Type 0 → Type 0
+IfNoCommand (NoCommand name path) P = P
+IfNoCommand (NotDescription text) P = ⊤
+IfNoCommand NotUtf8 P = ⊤
+IfNoCommand (NotToml place error) P = ⊤
+IfNoCommand Read P = ⊤
+IfNoCommand Write P = ⊤
+IfNoCommand Memory P = ⊤

@@ -7,25 +7,33 @@ use Rattle.toml.specs.declared.de.error.Error.{Error}
 use Rattle.description.specs.Content.{DescriptionSaid}
 use Rattle.description.specs.Described.{described}
 use Rattle.clidoc_engine.specs.declared.places.Place.{Place}
+use Rattle.clidoc_engine.specs.Newlines.{without_returns}
 use Rattle.clidoc_engine.specs.Places.{column_behind, line_behind}
 
--- the text is TOML that gives this description
+-- the text is TOML that gives this description, once no carriage return stands before a newline
 pub record Describes (text : List ℕ) (d : DescriptionSaid) : Type 0 where
   pub table : Members
-  pub toml : parse_document text ≡ Some table
+  pub toml : parse_document (without_returns text) ≡ Some table
   pub gives : described table ≡ Some d
+
+-- the text is TOML that gives a description
+abbrev pub IsDescribed : (text : List ℕ) → Type 0
+IsDescribed text = (d : DescriptionSaid) × Describes text d
 
 -- The text is no TOML, the error has a span in it, and the place is that where this span begins. The kit says no more of an error: that
 -- reading this text gave it is only tested.
-pub record IsNoToml (text : List ℕ) (place : Place) (error : Error) : Type 0 where
+pub record IsNoTomlText (text : List ℕ) (place : Place) (error : Error) : Type 0 where
   pub refused : parse_document text ≡ None
   pub not_memory : ¬ IsMemory error
   pub within : IsWithin text error
   pub line : place.line ≡ line_behind (take (span_start error) text)
   pub column : place.column ≡ column_behind (take (span_start error) text)
 
+abbrev pub IsNoToml : (text : List ℕ) → Place → Error → Type 0
+IsNoToml text place error = IsNoTomlText (without_returns text) place error
+
 -- the text is TOML that gives no description
 pub record IsNoDescription (text : List ℕ) : Type 0 where
   pub table : Members
-  pub toml : parse_document text ≡ Some table
+  pub toml : parse_document (without_returns text) ≡ Some table
   pub refused : described table ≡ None

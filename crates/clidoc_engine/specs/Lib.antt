@@ -5,3 +5,6 @@ pub mod Rendering
 pub mod Runs
 pub mod Steps
 pub mod Words
+pub mod Chosen
+pub mod Reading
+pub mod Newlines

@@ -1,5 +1,5 @@
--- What is promised of a page of a description, form by form.
-use Rattle.std.specs.Prelude.{◌≡◌, ℕ, true, false, List, [], ◌∷◌, ◌++◌, IsUtf8}
+-- What is promised of a page of a description.
+use Rattle.std.specs.Prelude.{◌≡◌, ℕ, true, false, List, [], ◌∷◌, ◌++◌, IsUtf8, Option, Some, option_map}
 use Rattle.bpaf_doc.specs.Console.Layout.{IsLayout}
 use Rattle.bpaf_doc.specs.Console.Exact.{console_page}
 use Rattle.bpaf_doc.specs.Html.Page.{IsHtmlPageOf}
@@ -7,31 +7,41 @@ use Rattle.bpaf_doc.specs.Html.Exact.{html_page}
 use Rattle.bpaf_doc.specs.Markdown.Page.{IsMarkdownOf}
 use Rattle.bpaf_doc.specs.Markdown.Exact.{markdown_page}
 use Rattle.description.specs.Content.{DescriptionSaid}
-use Rattle.description.specs.Pages.{IsDescriptionManual, IsUsageLineOf, collected_document, help_document, manual_text, usage_document}
-use Rattle.clidoc_engine.specs.declared.words.Form.{Form}
-use Rattle.clidoc_engine.specs.declared.words.Form.TheVariants.{Usage, Full, Brief, Html, Markdown, Man}
+use Rattle.description.specs.Pages.{IsDescriptionManual, IsUsageOf, collected_document, manual_text, subject_help, subject_usage}
+use Rattle.description.specs.Subjects.{SubjectSaid, application, led_to}
+use Rattle.clidoc_engine.specs.declared.words.ConsoleForm.{ConsoleForm}
+use Rattle.clidoc_engine.specs.declared.words.ConsoleForm.TheVariants.{Usage, Full, Brief}
+use Rattle.clidoc_engine.specs.Words.{PageSaid, console, html, markdown, man}
 
--- What the form's renderer promises of the bytes that it makes. A usage line and a help page are layouts at 100 columns, the HTML
--- has no style sheet, and a manual page is read as its title and the document.
-abbrev pub IsRendering : Form → DescriptionSaid → List ℕ → Type 0
-IsRendering Usage d output = IsUsageLineOf d output
-IsRendering Full d output = IsLayout (help_document d) true 100 output
-IsRendering Brief d output = IsLayout (help_document d) false 100 output
-IsRendering Html d output = IsHtmlPageOf (collected_document d) true false output
-IsRendering Markdown d output = IsMarkdownOf (collected_document d) true output
-IsRendering Man d output = IsDescriptionManual d output
+-- What the form's renderer promises of the bytes that it makes of the application or of a command: a layout at some columns.
+abbrev pub IsConsoleRendering : ConsoleForm → (width : ℕ) → SubjectSaid → List ℕ → Type 0
+IsConsoleRendering Usage width s output = IsUsageOf s width output
+IsConsoleRendering Full width s output = IsLayout (subject_help s) true width output
+IsConsoleRendering Brief width s output = IsLayout (subject_help s) false width output
 
 -- exactly the bytes that it makes
-abbrev pub page_bytes : Form → DescriptionSaid → List ℕ
-page_bytes Usage d = console_page true 100 (usage_document d) ++ 10 ∷ []
-page_bytes Full d = console_page true 100 (help_document d)
-page_bytes Brief d = console_page false 100 (help_document d)
-page_bytes Html d = html_page true false (collected_document d)
-page_bytes Markdown d = markdown_page true (collected_document d)
-page_bytes Man d = manual_text d
+abbrev pub console_bytes : ConsoleForm → (width : ℕ) → SubjectSaid → List ℕ
+console_bytes Usage width s = console_page true width (subject_usage s) ++ 10 ∷ []
+console_bytes Full width s = console_page true width (subject_help s)
+console_bytes Brief width s = console_page false width (subject_help s)
 
--- a page of the description in this form: a text of which the renderer's promise holds, and its exact clause
-pub record IsPage (form : Form) (d : DescriptionSaid) (output : List ℕ) : Type 0 where
+-- What the page's renderer promises. On the console it is one of what the commands lead to. The HTML has no style sheet, and a
+-- manual page is read as its title and the document.
+abbrev pub IsRendering : PageSaid → DescriptionSaid → List ℕ → Type 0
+IsRendering (console form commands width) d output = (s : SubjectSaid) × (led_to commands (application d) ≡ Some s) × IsConsoleRendering form width s output
+IsRendering html d output = IsHtmlPageOf (collected_document d) true false output
+IsRendering markdown d output = IsMarkdownOf (collected_document d) true output
+IsRendering man d output = IsDescriptionManual d output
+
+-- exactly the bytes; none, where the commands lead nowhere
+abbrev pub page_bytes : PageSaid → DescriptionSaid → Option (List ℕ)
+page_bytes (console form commands width) d = option_map (console_bytes form width) (led_to commands (application d))
+page_bytes html d = Some (html_page true false (collected_document d))
+page_bytes markdown d = Some (markdown_page true (collected_document d))
+page_bytes man d = Some (manual_text d)
+
+-- this page of the description: a text of which the renderer's promise holds, and its exact clause
+pub record IsPage (p : PageSaid) (d : DescriptionSaid) (output : List ℕ) : Type 0 where
   pub utf8 : IsUtf8 output
-  pub rendering : IsRendering form d output
-  pub exact : output ≡ page_bytes form d
+  pub rendering : IsRendering p d output
+  pub exact : page_bytes p d ≡ Some output

@@ -6,35 +6,41 @@ ghost use Rattle.toml.specs.Parse.{parse_document};
 ghost use Rattle.toml.specs.View.{table_view};
 ghost use Rattle.watched.specs.Calls.{GivesNoText, GivesText, Moves, ReadFails, WriteFails};
 ghost use Rattle.watched.specs.Watched.{IsMarked, IsUnmarked, ReadsText, ReadsNoText};
-ghost use Rattle.description.specs.View.{description_said};
-ghost use Rattle.clidoc_engine.specs.Faults.{IfNotToml, IfNotDescription};
-ghost use Rattle.clidoc_engine.specs.Inputs.{IsNoToml, IsNoDescription};
-ghost use Rattle.clidoc_engine.specs.Rendering.{IsPage};
-ghost use Rattle.clidoc_engine.specs.Runs.{HasPage, MakesPage, WritesPage, WritesBeginning};
-ghost use Rattle.clidoc_engine.specs.Steps.{IsOfContent, IsSyntaxFault};
+ghost use Rattle.description.specs.View.{description_said, subject_said};
+ghost use Rattle.description.specs.Subjects.{application, led_to};
+ghost use Rattle.clidoc_engine.specs.Chosen.{commands_of, console_said, page_said, words_said};
+ghost use Rattle.clidoc_engine.specs.Faults.{IfNoCommand, IfNotDescription, IfNotToml};
+ghost use Rattle.clidoc_engine.specs.Newlines.{without_returns};
+ghost use Rattle.clidoc_engine.specs.Inputs.{IsDescribed, IsNoDescription, IsNoToml};
+ghost use Rattle.clidoc_engine.specs.Rendering.{IsConsoleRendering, IsPage, console_bytes};
+ghost use Rattle.clidoc_engine.specs.Runs.{HasNoCommand, HasPage, MakesPage, WritesBeginning, WritesPage};
+ghost use Rattle.clidoc_engine.specs.Steps.{IsLost, IsNoCommand, IsOfContent, IsOfReading, IsOfText, IsSyntaxFault};
 
 use crate::faults::Fault;
+use crate::newlines::without_returns;
 use crate::places::place_behind;
-use crate::words::Form;
-use description::Description;
+use crate::words::{Console, ConsoleForm, Page};
+use description::{Description, Subject};
 use lasting_names::Names;
 use std::alloc::{AllocError, Allocator, Global};
 use toml::Table;
 use watched::{Sink, Source, Watched};
 
-/// Reads all that the reader has left, as a description in TOML, and writes its page and nothing more.
+/// Reads all that the reader has left, as a description in TOML, and writes a page of it and nothing more. A carriage
+/// return directly before a newline counts for nothing.
 /// The whole page is made before the first write, so that an error other than `Write` leaves the writer
 /// as it was. The tables of the TOML, the description and its names are kept in `global`, and what is
 /// read and the page in `alloc`. The names are never freed, so each call keeps its own.
 ///
 /// `Read` comes exactly where the reader's mark is then set, since its last read failed, `Write` exactly
 /// where the writer's is, since its last write failed or took none, and the faults of the input only where
-/// all was read: `NotUtf8` where it is no text, `NotToml` where it is no TOML, and `NotDescription` where
-/// its data is no description. `Memory` comes only where a growth was refused, which no clause can say.
-pub fn run_description<A: Allocator + Copy, R: Source, W: Sink>(
+/// all was read: `NotUtf8` where it is no text, `NotToml` where it is no TOML, `NotDescription` where its data is
+/// no description, and `NoCommand` where the commands of the page lead nowhere. `Memory` comes only where a growth
+/// was refused, which no clause can say.
+pub fn run_description<A: Allocator + Copy, B: Allocator, R: Source, W: Sink>(
     alloc: A,
     global: Global,
-    form: Form,
+    page: &Page<'_, B>,
     reader: &mut Watched<R>,
     writer: &mut Watched<W>,
 ) -> Result<(), Fault>
@@ -50,13 +56,60 @@ pub fn run_description<A: Allocator + Copy, R: Source, W: Sink>(
     // Over all ends: which calls of theirs gave and took the bytes, and failed.
     ensures given { OnOk result (
         GivesText R.reads reader.old.end reader.new.end (λ input.
-        MakesPage form input (λ page. Moves W.writes writer.old.end page writer.new.end))) }
+        MakesPage (page_said page.now) input (λ text. Moves W.writes writer.old.end text writer.new.end))) }
     ensures read_failed { IsErrOf result Fault.Read →
         (error : _) × ReadFails R.reads reader.old.end error reader.new.end }
     ensures write_failed { IsErrOf result Fault.Write →
         GivesText R.reads reader.old.end reader.new.end (λ input.
-        MakesPage form input (λ page.
-        (error : _) × WriteFails W.writes writer.old.end page error writer.new.end)) }
+        MakesPage (page_said page.now) input (λ text.
+        (error : _) × WriteFails W.writes writer.old.end text error writer.new.end)) }
+    ensures no_text { IsErrOf result Fault.NotUtf8 →
+        GivesNoText R.reads reader.old.end reader.new.end }
+    ensures no_toml { IfErr result (λ fault. IfNotToml fault (λ place error.
+        GivesText R.reads reader.old.end reader.new.end (λ input. IsNoToml input place error))) }
+    ensures no_description { IfErr result (λ fault. IfNotDescription fault (
+        GivesText R.reads reader.old.end reader.new.end IsNoDescription)) }
+    ensures no_command { IfErr result (λ fault. IfNoCommand fault (
+        GivesText R.reads reader.old.end reader.new.end (HasNoCommand (page_said page.now)))) }
+
+    // Over ends that tell their bytes: which are read and written.
+    ensures ok { OnOk result (
+        ReadsText (R.remaining reader.old.end) (R.remaining reader.new.end) (λ input.
+        WritesPage (page_said page.now) input (W.contents writer.old.end) (W.contents writer.new.end))) }
+    ensures cut_short { IsErrOf result Fault.Write →
+        ReadsText (R.remaining reader.old.end) (R.remaining reader.new.end) (λ input.
+        WritesBeginning (page_said page.now) input (W.contents writer.old.end) (W.contents writer.new.end)) }
+    ensures not_utf8 { IsErrOf result Fault.NotUtf8 →
+        ReadsNoText (R.remaining reader.old.end) (R.remaining reader.new.end) }
+    ensures not_toml { IfErr result (λ fault. IfNotToml fault (λ place error.
+        ReadsText (R.remaining reader.old.end) (R.remaining reader.new.end) (λ input.
+        IsNoToml input place error))) }
+    ensures not_description { IfErr result (λ fault. IfNotDescription fault (
+        ReadsText (R.remaining reader.old.end) (R.remaining reader.new.end) IsNoDescription)) }
+    ensures lost_command { IfErr result (λ fault. IfNoCommand fault (
+        ReadsText (R.remaining reader.old.end) (R.remaining reader.new.end)
+        (HasNoCommand (page_said page.now)))) }
+{
+    let input = reader.read_text(alloc)?;
+    let text = page_of(alloc, global, page, input.as_str())?;
+    writer.write_all(text.as_bytes()).map_err(|_| Fault::Write)
+}
+
+/// Reads all that the reader has left, and judges whether it is a description in TOML. Its faults are those of
+/// `run_description` that come of reading, and they come where those do.
+pub fn check_description<A: Allocator + Copy, R: Source>(
+    alloc: A,
+    global: Global,
+    reader: &mut Watched<R>,
+) -> Result<(), Fault>
+    requires reader { IsUnmarked reader.old }
+
+    // Over all ends.
+    ensures read { IsErrOf result Fault.Read ↔ IsMarked reader.new }
+    ensures fault { IfErr result IsOfReading }
+    ensures given { OnOk result (GivesText R.reads reader.old.end reader.new.end IsDescribed) }
+    ensures read_failed { IsErrOf result Fault.Read →
+        (error : _) × ReadFails R.reads reader.old.end error reader.new.end }
     ensures no_text { IsErrOf result Fault.NotUtf8 →
         GivesNoText R.reads reader.old.end reader.new.end }
     ensures no_toml { IfErr result (λ fault. IfNotToml fault (λ place error.
@@ -64,13 +117,9 @@ pub fn run_description<A: Allocator + Copy, R: Source, W: Sink>(
     ensures no_description { IfErr result (λ fault. IfNotDescription fault (
         GivesText R.reads reader.old.end reader.new.end IsNoDescription)) }
 
-    // Over ends that tell their bytes: which are read and written.
+    // Over ends that tell their bytes.
     ensures ok { OnOk result (
-        ReadsText (R.remaining reader.old.end) (R.remaining reader.new.end) (λ input.
-        WritesPage form input (W.contents writer.old.end) (W.contents writer.new.end))) }
-    ensures cut_short { IsErrOf result Fault.Write →
-        ReadsText (R.remaining reader.old.end) (R.remaining reader.new.end) (λ input.
-        WritesBeginning form input (W.contents writer.old.end) (W.contents writer.new.end)) }
+        ReadsText (R.remaining reader.old.end) (R.remaining reader.new.end) IsDescribed) }
     ensures not_utf8 { IsErrOf result Fault.NotUtf8 →
         ReadsNoText (R.remaining reader.old.end) (R.remaining reader.new.end) }
     ensures not_toml { IfErr result (λ fault. IfNotToml fault (λ place error.
@@ -79,32 +128,55 @@ pub fn run_description<A: Allocator + Copy, R: Source, W: Sink>(
     ensures not_description { IfErr result (λ fault. IfNotDescription fault (
         ReadsText (R.remaining reader.old.end) (R.remaining reader.new.end) IsNoDescription)) }
 {
-    let input = reader.read_text(alloc)?;
-    let page = page_of(alloc, global, form, input.as_str())?;
-    writer.write_all(page.as_bytes()).map_err(|_| Fault::Write)
+    let text = reader.read_text(alloc)?;
+    judge(global, text.as_str())
 }
 
-// The page of the description that the text gives.
-fn page_of<A: Allocator + Copy>(
-    alloc: A,
-    global: Global,
-    form: Form,
-    text: &str,
-) -> Result<String<A>, Fault>
-    ensures page { IfOk result (λ page. HasPage form text.now (string_bytes page)) }
-    ensures fault { IfErr result IsOfContent }
+// Whether the text is a description.
+fn judge(global: Global, text: &str) -> Result<(), Fault>
+    ensures ok { OnOk result (IsDescribed text.now) }
+    ensures fault { IfErr result IsOfText }
     ensures not_toml { IfErr result (λ fault. IfNotToml fault (IsNoToml text.now)) }
     ensures not_description { IfErr result (λ fault.
         IfNotDescription fault (IsNoDescription text.now)) }
 {
+    let data = table_of(global, text)?;
+    let mut kept = Names::new(global);
+    Description::from_table(global, &mut kept, &data)?;
+    Ok(())
+}
+
+// The page of the description that the text gives.
+pub(crate) fn page_of<A: Allocator + Copy, B: Allocator>(
+    alloc: A,
+    global: Global,
+    page: &Page<'_, B>,
+    text: &str,
+) -> Result<String<A>, Fault>
+    ensures page { IfOk result (λ made. HasPage (page_said page.now) text.now (string_bytes made)) }
+    ensures fault { IfErr result IsOfContent }
+    ensures not_toml { IfErr result (λ fault. IfNotToml fault (IsNoToml text.now)) }
+    ensures not_description { IfErr result (λ fault.
+        IfNotDescription fault (IsNoDescription text.now)) }
+    ensures no_command { IfErr result (λ fault.
+        IfNoCommand fault (HasNoCommand (page_said page.now) text.now)) }
+{
     let table = table_of(global, text)?;
     let mut names = Names::new(global);
     let description = Description::from_table(global, &mut names, &table)?;
-    Ok(rendered(alloc, form, &description)?)
+    rendered(alloc, global, page, &description)
 }
 
-// The data of the text.
+// The data of the text, in which lines may end with a carriage return too.
 fn table_of(global: Global, text: &str) -> Result<Table, Fault>
+    ensures ok { IfOk result (λ table. parse_document (without_returns text.now) ≡ Some (table_view table)) }
+    ensures fault { IfErr result (IsSyntaxFault (without_returns text.now)) }
+{
+    let plain = without_returns(global, text)?;
+    plain_table(global, &plain)
+}
+
+fn plain_table(global: Global, text: &str) -> Result<Table, Fault>
     ensures ok { IfOk result (λ table. parse_document text.now ≡ Some (table_view table)) }
     ensures fault { IfErr result (IsSyntaxFault text.now) }
 {
@@ -129,21 +201,93 @@ fn syntax_fault(text: &str, error: toml::de::Error) -> Fault
     }
 }
 
-// The page of the description.
-fn rendered<A: Allocator + Copy>(
+// A page of the description.
+fn rendered<A: Allocator + Copy, B: Allocator>(
     alloc: A,
-    form: Form,
+    global: Global,
+    page: &Page<'_, B>,
     description: &Description<'_>,
+) -> Result<String<A>, Fault>
+    ensures page { IfOk result (λ made.
+        IsPage (page_said page.now) (description_said description.now) (string_bytes made)) }
+    ensures lost { IfErr result (IsLost (commands_of (page_said page.now)) (description_said description.now)) }
+{
+    match page {
+        Page::Console(console) => on_console(alloc, global, console, description),
+        Page::Html => Ok(description.html(alloc)?),
+        Page::Markdown => Ok(description.markdown(alloc)?),
+        Page::Man => Ok(description.manpage(alloc)?),
+    }
+}
+
+// A page of what the commands lead to.
+fn on_console<A: Allocator + Copy, B: Allocator>(
+    alloc: A,
+    global: Global,
+    console: &Console<'_, B>,
+    description: &Description<'_>,
+) -> Result<String<A>, Fault>
+    ensures page { IfOk result (λ made.
+        IsPage (console_said console.now) (description_said description.now) (string_bytes made)) }
+    ensures lost { IfErr result (IsLost (words_said console.now.commands.items) (description_said description.now)) }
+{
+    let subject = led_to(alloc, global, &console.commands, description)?;
+    Ok(shown(&subject, console.form, console.width)?)
+}
+
+fn shown<A: Allocator + Copy>(
+    subject: &Subject<'_, '_, Global, A>,
+    form: ConsoleForm,
+    width: usize,
 ) -> Result<String<A>, AllocError>
-    ensures { IfOk result (λ page.
-        IsPage form (description_said description.now) (string_bytes page)) }
+    ensures rendering { IfOk result (λ made.
+        IsConsoleRendering form width (subject_said subject.now) (string_bytes made)) }
+    ensures exact { IfOk result (λ made.
+        string_bytes made ≡ console_bytes form width (subject_said subject.now)) }
 {
     match form {
-        Form::Usage => description.usage(alloc),
-        Form::Full => description.help(alloc, true),
-        Form::Brief => description.help(alloc, false),
-        Form::Html => description.html(alloc),
-        Form::Markdown => description.markdown(alloc),
-        Form::Man => description.manpage(alloc),
+        ConsoleForm::Usage => subject.usage(width),
+        ConsoleForm::Full => subject.help(true, width),
+        ConsoleForm::Brief => subject.help(false, width),
     }
+}
+
+// What the commands lead to, one after another.
+#[tactic(auto, using(crate::proofs::Led::led_on, crate::proofs::Led::led_nowhere, crate::proofs::Led::lost))]
+fn led_to<'d, 'a, A: Allocator + Copy>(
+    alloc: A,
+    global: Global,
+    commands: &[&str],
+    description: &'d Description<'a>,
+) -> Result<Subject<'d, 'a, Global, A>, Fault>
+    ensures ok { IfOk result (λ subject.
+        led_to (words_said commands.now) (application (description_said description.now)) ≡ Some (subject_said subject)) }
+    ensures lost { IfErr result (IsLost (words_said commands.now) (description_said description.now)) }
+{
+    let mut subject = description.subject(alloc)?;
+    for command in commands {
+        if !subject.enter(*command)? {
+            return Err(no_command(global, *command, &subject)?);
+        }
+    }
+    Ok(subject)
+}
+
+// The fault of a command that is not there.
+fn no_command<A: Allocator + Copy>(
+    global: Global,
+    command: &str,
+    subject: &Subject<'_, '_, Global, A>,
+) -> Result<Fault, AllocError>
+    ensures { IfOk result IsNoCommand }
+{
+    let mut path = String::new(global);
+    for (index, name) in subject.path.iter().enumerate() {
+        if index > 0 {
+            path.push(' ')?;
+        }
+        path.push_str(name)?;
+    }
+    let name = String::from_str(global, command)?;
+    Ok(Fault::NoCommand { name, path })
 }

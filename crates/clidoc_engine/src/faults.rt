@@ -4,6 +4,7 @@ ghost use Rattle.std.specs.Prelude.{◌≡◌};
 ghost use Rattle.clidoc_engine.specs.declared.faults.Fault.TheVariants.{Memory};
 
 use crate::places::Place;
+use crate::shown::Shown;
 use description::DescriptionError;
 use std::alloc::AllocError;
 use thiserror::Error;
@@ -24,6 +25,13 @@ pub enum Fault {
     /// The TOML is no description: the way to the faulty table in it, and what is wrong there.
     #[error("clidoc: {0}")]
     NotDescription(String),
+    /// The page is that of a command, and the description has no such command: its name, and the names of the
+    /// commands above it, the application's first.
+    #[error("clidoc: no command {} in {path}", Shown(name.as_str()))]
+    NoCommand {
+        name: String,
+        path: String,
+    },
     /// A read failed.
     #[error("clidoc: read failed")]
     Read,

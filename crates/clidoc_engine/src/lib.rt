@@ -1,9 +1,14 @@
-//! What the program `clidoc` does: the word that chooses a page, and the making of the page of a description in
+//! What the program `clidoc` does: the words that choose a page, and the making of the page of a description in
 //! TOML, over any reader and any writer.
 #![tactic(auto)]
 
 pub mod engine;
 pub mod faults;
+mod newlines;
+mod own;
 pub mod places;
 pub mod program;
+pub mod reading;
+mod shown;
 pub mod words;
+mod wrong;

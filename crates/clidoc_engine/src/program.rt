@@ -1,42 +1,167 @@
 //! A whole run of the program, over any runtime.
 
-use crate::engine::run_description;
+use crate::engine::{check_description, page_of, run_description};
 use crate::faults::Fault;
-use crate::words::{Form, choose};
-use std::alloc::Global;
-use std::io;
+use crate::own::{DESCRIPTION, VERSION};
+use crate::reading::WordFault;
+use crate::shown::Shown;
+use crate::words::{Choice, Console, ConsoleForm, Page, choose};
+use crate::wrong::line_of;
+use bpaf_doc::console::MAX_WIDTH;
+use std::alloc::{AllocError, Global};
+use std::io::Read;
 use std::process::ExitCode;
-use std::rt::Env;
+use std::rt::{Env, Files};
+use std::{fs, io};
+use thiserror::Error;
 use watched::Watched;
 pub use watched::program::WRONG_WORDS;
-use watched::program::{chosen, expecting, status_of};
+use watched::program::{expecting, status_of, with_words};
 
-/// The line for words that choose nothing.
-const EXPECTED: &str = "clidoc: expected usage, full, brief, html, markdown or man";
-
-/// Writes the page that the word after the program's name chooses, of the description that standard input
-/// holds, and answers the status: success, `WRONG_WORDS` where the words choose nothing, and failure where
-/// the run failed. On standard error it says why it was no success. The TOML and the description are kept
-/// in `global`, and all else in the runtime's memory. No clause can say what a runtime reads and prints.
-pub fn run<R: Alloc + Env + Input + Print + Eprint>(rt: &R, global: Global) -> ExitCode
-where
-    R::A: Copy,
-{
-    status_of(rt, try_run(rt, global))
+/// Why a run fails.
+#[derive(Debug, Drop, Error)]
+enum Failure {
+    #[error("{0}")]
+    Fault(Fault),
+    /// The file cannot be opened.
+    #[error("clidoc: can't open {}", Shown(.0.as_str()))]
+    NoFile(String),
 }
 
-fn try_run<R: Alloc + Env + Input + Print + Eprint>(
-    rt: &R,
-    global: Global,
-) -> Result<ExitCode, Fault>
+impl From<Fault> for Failure {
+    fn from(fault: Fault) -> Failure {
+        Failure::Fault(fault)
+    }
+}
+
+impl From<AllocError> for Failure {
+    fn from(_error: AllocError) -> Failure {
+        Failure::Fault(Fault::Memory)
+    }
+}
+
+/// Does what the words after the program's name choose, and answers the status: success, `WRONG_WORDS` where they
+/// choose nothing, and failure where the run failed. On standard error it says why it was no success. The TOML and
+/// the description are kept in `global`, and all else in the runtime's memory. No clause can say what a runtime
+/// reads and prints.
+pub fn run<R: Alloc + Env + Files + Input + Print + Eprint>(rt: &R, global: Global) -> ExitCode
 where
     R::A: Copy,
 {
-    let Some(form) = chosen(rt, choose).map_err(|_| Fault::Memory)? else {
-        return Ok(expecting(rt, EXPECTED));
+    let outcome = match with_words(rt, |words| follow(rt, global, words)) {
+        Ok(outcome) => outcome,
+        Err(_) => Err(Failure::Fault(Fault::Memory)),
     };
-    let mut reader = Watched::new(rt.reader());
+    status_of(rt, outcome)
+}
+
+fn follow<R: Alloc + Env + Files + Input + Print + Eprint>(
+    rt: &R,
+    global: Global,
+    words: &[&str],
+) -> Result<ExitCode, Failure>
+where
+    R::A: Copy,
+{
+    if words.is_empty() {
+        return usage(rt, global);
+    }
+    match choose(global, words) {
+        Ok(choice) => {
+            perform(rt, global, &choice)?;
+            Ok(ExitCode::SUCCESS)
+        }
+        Err(fault) => refuse(rt, global, &fault),
+    }
+}
+
+// Says how it is used, where there are no words.
+fn usage<R: Alloc + Eprint>(rt: &R, global: Global) -> Result<ExitCode, Failure> {
+    let page = own_page(global, ConsoleForm::Usage);
+    let line = page_of(global, global, &page, DESCRIPTION)?;
+    Ok(expecting(rt, line.trim_end()))
+}
+
+// Says why the words choose nothing.
+fn refuse<R: Alloc + Eprint>(
+    rt: &R,
+    global: Global,
+    fault: &WordFault<'_>,
+) -> Result<ExitCode, Failure> {
+    if let WordFault::Refused(_) = fault {
+        return Err(Failure::Fault(Fault::Memory));
+    }
+    let line = line_of(global, fault)?;
+    Ok(expecting(rt, &line))
+}
+
+fn perform<R: Alloc + Env + Files + Input + Print + Eprint>(
+    rt: &R,
+    global: Global,
+    choice: &Choice<'_, Global>,
+) -> Result<(), Failure>
+where
+    R::A: Copy,
+{
+    match choice {
+        Choice::Page(page, None | Some("-")) => write_page(rt, global, page, rt.reader()),
+        Choice::Page(page, Some(file)) => {
+            write_page(rt, global, page, opened(rt, global, *file)?)
+        }
+        Choice::Check(None | Some("-")) => check(rt, global, rt.reader()),
+        Choice::Check(Some(file)) => check(rt, global, opened(rt, global, *file)?),
+        Choice::Help => {
+            let page = own_page(global, ConsoleForm::Full);
+            write_page(rt, global, &page, DESCRIPTION.as_bytes())
+        }
+        Choice::Version => write_version(rt),
+    }
+}
+
+fn opened<R: Files>(rt: &R, global: Global, file: &str) -> Result<R::File, Failure> {
+    match fs::open(rt, file) {
+        Ok(opened) => Ok(opened),
+        Err(_) => Err(Failure::NoFile(String::from_str(global, file)?)),
+    }
+}
+
+fn write_page<R: Alloc + Print, S: Read + Drop>(
+    rt: &R,
+    global: Global,
+    page: &Page<'_, Global>,
+    input: S,
+) -> Result<(), Failure>
+where
+    R::A: Copy,
+{
+    let mut reader = Watched::new(input);
     let mut writer = Watched::new(io::writer(rt));
-    run_description(rt.alloc(), global, form, &mut reader, &mut writer)?;
-    Ok(ExitCode::SUCCESS)
+    run_description(rt.alloc(), global, page, &mut reader, &mut writer)?;
+    Ok(())
+}
+
+fn check<R: Alloc, S: Read + Drop>(rt: &R, global: Global, input: S) -> Result<(), Failure>
+where
+    R::A: Copy,
+{
+    let mut reader = Watched::new(input);
+    check_description(rt.alloc(), global, &mut reader)?;
+    Ok(())
+}
+
+// A page of the program itself.
+fn own_page(global: Global, form: ConsoleForm) -> Page<'static, Global> {
+    Page::Console(Console {
+        form,
+        commands: Vec::new(global),
+        width: MAX_WIDTH,
+    })
+}
+
+fn write_version<R: Print>(rt: &R) -> Result<(), Failure> {
+    let mut writer = Watched::new(io::writer(rt));
+    match writer.write_all(VERSION.as_bytes()) {
+        Ok(()) => Ok(()),
+        Err(_) => Err(Failure::Fault(Fault::Write)),
+    }
 }

@@ -1,18 +1,41 @@
-//! The word that chooses what the program writes.
+//! What the words after the program's name choose.
 
-ghost use Rattle.std.specs.Prelude.{◌≡◌, ◌↔◌, ◌∷◌, [], Some, map};
-ghost use Rattle.clidoc_engine.specs.declared.words.Form.{Form};
-ghost use Rattle.clidoc_engine.specs.Words.{form_word};
+ghost use Rattle.std.specs.Prelude.{◌≡◌, ◌≢◌, ◌⊎◌, ◌++◌, ◌∷◌, [], IfErr, IfOk, option_to_list};
+ghost use Rattle.bpaf_meta.specs.View.{text_of};
+ghost use Rattle.clidoc_engine.specs.Chosen.{choice_said, page_said, words_said};
+ghost use Rattle.clidoc_engine.specs.Reading.{IsRefused, given_of};
+ghost use Rattle.clidoc_engine.specs.Words.{ChoiceSaid, Chooses, HasNoValues, IsColumns, IsWidth, NamesPage};
+ghost use Rattle.clidoc_engine.specs.Words.{PageSaid, check, form_word, is_one_of, page};
 
-/// Which page of a description.
+use crate::reading::{Given, Valued, WordFault, given_in};
+use bpaf_doc::console::MAX_WIDTH;
+use std::alloc::Allocator;
+
+/// A page on a console.
 #[derive(Clone, Copy, Debug, PartialEq, Eq)]
-pub enum Form {
+pub enum ConsoleForm {
     /// The usage line.
     Usage,
-    /// The help page on a console, in full.
+    /// The help page, in full.
     Full,
-    /// The help page on a console, each text up to its first paragraph break.
+    /// The help page, each text up to its first paragraph break.
     Brief,
+}
+
+/// A page on a console, of the application or of a command.
+#[derive(Drop)]
+pub struct Console<'w, A: Allocator> {
+    pub form: ConsoleForm,
+    /// The commands that lead to what is shown, one for each level.
+    pub commands: Vec<&'w str, A>,
+    /// The columns of a line.
+    pub width: usize,
+}
+
+/// Which page of a description.
+#[derive(Drop)]
+pub enum Page<'w, A: Allocator> {
+    Console(Console<'w, A>),
     /// All help pages as HTML, in full and without a style sheet.
     Html,
     /// All help pages as markdown, in full.
@@ -21,29 +44,161 @@ pub enum Form {
     Man,
 }
 
-/// What the words after the program's name choose, by their bytes. None where they are not one word for
-/// a form. It takes no memory.
-pub fn choose(words: &[&str]) -> Option<Form>
-    ensures { (form : Form)
-        → (result ≡ Some form) ↔ (map (λ word. word.now) words.now ≡ form_word form ∷ []) }
-{
-    let [word] = words else {
-        return None;
-    };
-    form_of(word)
+/// What the program does.
+#[derive(Drop)]
+pub enum Choice<'w, A: Allocator> {
+    /// Writes a page of the description in a file, or on standard input.
+    Page(Page<'w, A>, Option<&'w str>),
+    /// Judges whether there is a description in a file, or on standard input.
+    Check(Option<&'w str>),
+    /// Writes its own help page.
+    Help,
+    /// Writes its name and its version.
+    Version,
 }
 
-// The form that a word spells.
-fn form_of(word: &str) -> Option<Form>
-    ensures { (form : Form) → (result ≡ Some form) ↔ (word.now ≡ form_word form) }
+/// What the words after the program's name choose: `docs/description.md` has the forms. An error where they
+/// choose nothing, or a growth was refused.
+pub fn choose<'w, A: Allocator + Copy>(
+    alloc: A,
+    words: &[&'w str],
+) -> Result<Choice<'w, A>, WordFault<'w>>
+    ensures ok { IfOk result (λ choice. Chooses (words_said words.now) (choice_said choice)) }
+    ensures err { IfErr result (λ fault. IsRefused fault ⊎ ((choice : ChoiceSaid)
+        → ¬ Chooses (words_said words.now) choice)) }
+{
+    if is_one_of(words, "--help", "-h") {
+        return Ok(Choice::Help);
+    }
+    if is_one_of(words, "--version", "-V") {
+        return Ok(Choice::Version);
+    }
+    with_input(alloc, words)
+}
+
+// Whether there is one word, and it is one of these.
+#[tactic(auto, using(crate::proofs::Choosing::one_word))]
+fn is_one_of(words: &[&str], long: &str, short: &str) -> bool
+    ensures { result ≡ is_one_of (words_said words.now) long.now short.now }
+{
+    match words {
+        [word] => **word == *long || **word == *short,
+        _ => false,
+    }
+}
+
+// What words choose that stand for a page, or for the judging of a description.
+fn with_input<'w, A: Allocator + Copy>(
+    alloc: A,
+    words: &[&'w str],
+) -> Result<Choice<'w, A>, WordFault<'w>>
+    ensures ok { IfOk result (λ choice. Chooses (words_said words.now) (choice_said choice)) }
+    ensures no_check { IfErr result (λ fault. IsRefused fault ⊎ ((file : _)
+        → ¬ Chooses (words_said words.now) (check file))) }
+    ensures no_page { IfErr result (λ fault. IsRefused fault ⊎ ((p file : _)
+        → ¬ Chooses (words_said words.now) (page p file))) }
+{
+    let given = given_in(alloc, words)?;
+    let (word, file) = names(&given.plain, &given.files)?;
+    if word == "check" {
+        see_no_values(&given, word)?;
+        return Ok(Choice::Check(file));
+    }
+    Ok(Choice::Page(page_named(word, given)?, file))
+}
+
+// The first of the plain words, and the file, if there is one: the second of them or one behind `--`.
+#[tactic(auto, using(crate::proofs::Choosing::too_many))]
+fn names<'w>(
+    plain: &[&'w str],
+    files: &[&'w str],
+) -> Result<(&'w str, Option<&'w str>), WordFault<'w>>
+    ensures ok { IfOk result (λ names. words_said plain.now ++ words_said files.now
+        ≡ names.0.now ∷ option_to_list (text_of names.1)) }
+    ensures first { IfOk result (λ _. words_said plain.now ≢ []) }
+    ensures err { IfErr result (λ _. words_said plain.now ≢ [] → (word file : _)
+        → words_said plain.now ++ words_said files.now ≢ word ∷ option_to_list file) }
+{
+    match (plain, files) {
+        ([], _) => Err(WordFault::NoForm),
+        ([word], []) => Ok((*word, None)),
+        ([word], [file]) | ([word, file], []) => Ok((*word, Some(*file))),
+        ([_], [_, word, ..]) => Err(WordFault::TooMany(*word)),
+        ([_, _], [word, ..]) => Err(WordFault::TooMany(*word)),
+        ([_, _, word, ..], _) => Err(WordFault::TooMany(*word)),
+    }
+}
+
+// The page that the word names with the values of options.
+fn page_named<'w, A: Allocator>(
+    word: &'w str,
+    given: Given<'w, A>,
+) -> Result<Page<'w, A>, WordFault<'w>>
+    ensures ok { IfOk result (λ page. NamesPage word.now (given_of given.entry) (page_said page)) }
+    ensures err { IfErr result (λ _. (p : PageSaid) → ¬ NamesPage word.now (given_of given.entry) p) }
 {
     match word {
-        "usage" => Some(Form::Usage),
-        "full" => Some(Form::Full),
-        "brief" => Some(Form::Brief),
-        "html" => Some(Form::Html),
-        "markdown" => Some(Form::Markdown),
-        "man" => Some(Form::Man),
-        _ => None,
+        "usage" => on_console(ConsoleForm::Usage, given),
+        "full" => on_console(ConsoleForm::Full, given),
+        "brief" => on_console(ConsoleForm::Brief, given),
+        "html" => see_no_values(&given, word).map(|_| Page::Html),
+        "markdown" => see_no_values(&given, word).map(|_| Page::Markdown),
+        "man" => see_no_values(&given, word).map(|_| Page::Man),
+        _ => Err(WordFault::NoSuchForm(word)),
     }
+}
+
+fn on_console<'w, A: Allocator>(
+    form: ConsoleForm,
+    given: Given<'w, A>,
+) -> Result<Page<'w, A>, WordFault<'w>>
+    ensures ok { IfOk result (λ page. NamesPage (form_word form) (given_of given.entry) (page_said page)) }
+    ensures err { IfErr result (λ _. (n : _) → ¬ IsWidth (given_of given.entry).widths n) }
+{
+    let width = width_of(&given.widths)?;
+    let commands = given.commands;
+    Ok(Page::Console(Console {
+        form,
+        commands,
+        width,
+    }))
+}
+
+fn width_of<'w>(texts: &[&'w str]) -> Result<usize, WordFault<'w>>
+    ensures ok { IfOk result (λ n. IsWidth (words_said texts.now) n) }
+    ensures err { IfErr result (λ _. (n : _) → ¬ IsWidth (words_said texts.now) n) }
+{
+    match texts {
+        [] => Ok(MAX_WIDTH),
+        [text] => columns(text),
+        _ => Err(WordFault::TwoWidths),
+    }
+}
+
+fn columns(text: &str) -> Result<usize, WordFault<'_>>
+    ensures ok { IfOk result (λ n. IsColumns text.now n) }
+    ensures err { IfErr result (λ _. (n : _) → ¬ IsColumns text.now n) }
+{
+    if text.as_bytes().first() == Some(&b'+') {
+        return Err(WordFault::NoColumns(text));
+    }
+    match usize::from_str_radix(text, 10) {
+        Ok(count) if count > 0 => Ok(count),
+        _ => Err(WordFault::NoColumns(text)),
+    }
+}
+
+// Refuses a command or a width, where the word takes none.
+fn see_no_values<'w, A: Allocator>(given: &Given<'w, A>, word: &'w str) -> Result<(), WordFault<'w>>
+    ensures ok { IfOk result (λ _. HasNoValues (given_of given.now)) }
+    ensures err { IfErr result (λ _. ¬ HasNoValues (given_of given.now)) }
+{
+    let option = if !given.commands.is_empty() {
+        Valued::Command
+    } else if !given.widths.is_empty() {
+        Valued::Width
+    } else {
+        return Ok(());
+    };
+    Err(WordFault::NotWith { option, word })
 }

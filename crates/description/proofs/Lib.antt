@@ -8,3 +8,9 @@ pub mod Tables
 pub mod Pushed
 pub mod Depths
 pub mod Distinct
+pub mod Named
+pub mod Refused
+pub mod Gives
+pub mod Characters
+pub mod Plain
+pub mod ReadOnce

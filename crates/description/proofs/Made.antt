@@ -21,8 +21,9 @@ use Rattle.bpaf_help.specs.PageAnswers.{AreErrorOf}
 use Rattle.bpaf_help.proofs.Steps.{help_page_alone, view_info}
 use Rattle.description.specs.Content.{DescriptionSaid}
 use Rattle.description_parts.specs.Content.{LevelSaid, level}
-use Rattle.description.specs.Trees.{description_head, description_tree, help_tree, level_head}
-use Rattle.description.specs.Pages.{collected_document, description_chapters, help_document}
+use Rattle.description.specs.Subjects.{SubjectSaid}
+use Rattle.description.specs.Trees.{description_head, description_tree, level_head, options_tree}
+use Rattle.description.specs.Pages.{collected_document, description_chapters, subject_head, subject_help, subject_tree}
 
 -- what holds of a content holds of the answer with that content
 pub of_same : {T E X : Type 0} (f : T → X) (r : Result T E) (x : X) (P : X → Type 0) → P x → IfOk r (λ t. f t ≡ x) → IfOk r (λ t. P (f t))
@@ -62,12 +63,13 @@ html_whole d t i text et ei nested h =
 head_help : (help : Tree) (l : LevelSaid) → page.help_tree (level_head help l) ≡ help
 head_help help (level t r os cs gs ps ms) = refl
 
-pub help_whole : {A : Type 0} (d : DescriptionSaid) (t : Tree) (i : Info A) (names : List (List ℕ)) (texts : Texts) (document : List Part) → t ≡ description_tree d → head_of i ≡ description_head d → names ≡ d.name ∷ []
-    → document ≡ document_of (page.help_page_writes names (head_of i) t (tree_of i.help) false texts) → document ≡ help_document d
-help_whole d t i names texts document et ei en e =
-    let own : tree_of i.help ≡ help_tree d = sym (ap page.help_tree (view_info i)) ∙ ap page.help_tree ei ∙ head_help (help_tree d) d.level in
+pub help_whole : {A : Type 0} (s : SubjectSaid) (t : Tree) (i : Info A) (names : List (List ℕ)) (texts : Texts) (document : List Part) → t ≡ subject_tree s → head_of i ≡ subject_head s → names ≡ s.path
+    → document ≡ document_of (page.help_page_writes names (head_of i) t (tree_of i.help) false texts) → document ≡ subject_help s
+help_whole s t i names texts document et ei en e =
+    let help = options_tree s.help_options in
+    let own : tree_of i.help ≡ help = sym (ap page.help_tree (view_info i)) ∙ ap page.help_tree ei ∙ head_help help s.level in
     e ∙ ap document_of (help_page_alone texts no_texts names (head_of i) t (tree_of i.help))
     ∙ ap (λ ns. document_of (page.help_page_writes ns (head_of i) t (tree_of i.help) false no_texts)) en
-    ∙ ap (λ x. document_of (page.help_page_writes (d.name ∷ []) (head_of i) x (tree_of i.help) false no_texts)) et
-    ∙ ap (λ h. document_of (page.help_page_writes (d.name ∷ []) (head_of i) (description_tree d) h false no_texts)) own
-    ∙ ap (λ h. document_of (page.help_page_writes (d.name ∷ []) h (description_tree d) (help_tree d) false no_texts)) ei
+    ∙ ap (λ x. document_of (page.help_page_writes s.path (head_of i) x (tree_of i.help) false no_texts)) et
+    ∙ ap (λ h. document_of (page.help_page_writes s.path (head_of i) (subject_tree s) h false no_texts)) own
+    ∙ ap (λ h. document_of (page.help_page_writes s.path h (subject_tree s) help false no_texts)) ei

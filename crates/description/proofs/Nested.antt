@@ -16,9 +16,10 @@ use Rattle.bpaf_help.specs.NestedPages.{HasNestedChapter}
 use Rattle.bpaf_help.specs.NestedPages as pages
 use Rattle.bpaf_help.proofs.NestedPages.{collected_pages_are_nested, manual_pages_are_nested}
 use Rattle.description.specs.Content.{DescriptionSaid}
+use Rattle.description.specs.Subjects.{application}
 use Rattle.description_parts.specs.Content.{OptSaid, ChoiceSaid, PositionalSaid, LevelSaid, level, GroupsSaid, no_groups, groups, GroupSaid, group, CommandsSaid, no_commands, commands, CommandSaid, command}
-use Rattle.description.specs.Trees.{text_document, document_said, named_leaf, option_item, wrapped, option_tree, choice_tree, behind_dashes, positional_tree, titled, one_of_commands, named_group, named_groups, level_head, level_tree, placed_groups, placed_group, command_items, command_item, help_tree, description_tree, description_head}
-use Rattle.description.specs.Pages.{ChaptersAreWellPlaced, PagesAreWellNested, description_chapters}
+use Rattle.description.specs.Trees.{text_document, document_said, named_leaf, option_item, wrapped, option_tree, options_tree, choice_tree, behind_dashes, positional_tree, titled, one_of_commands, named_group, named_groups, level_head, level_tree, placed_groups, placed_group, command_items, command_item, help_tree, description_tree, description_head}
+use Rattle.description.specs.Pages.{ChaptersAreWellPlaced, PagesAreWellNested, SubjectsAreWellNested, description_chapters, subject_head, subject_tree}
 use Rattle.description.proofs.Placed.{level_well_placed}
 use Rattle.description.proofs.Each.{Each, each_append, each_map}
 
@@ -126,8 +127,21 @@ mutual
       let own = level_sound help k l in
       (said_nested h, λ path. All-cons IsChapterSound (record { path = path ++ name ∷ []; info = level_head help l; content = level_tree help l }) (command_chapters (path ++ name ∷ []) (level_tree help l)) ((head_nested help k l, own.0), level_well_placed help l) (own.1 (path ++ name ∷ [])))
 
+options_nested : (os : List OptSaid) → HasNestedTexts (options_tree os)
+options_nested os = (parts_sound (map option_tree os) (each_map IsSound option_tree option_sound os)).0
+
+pub subjects_are_well_nested : SubjectsAreWellNested
+subjects_are_well_nested s =
+    let help = options_tree s.help_options in
+    let nested = options_nested s.help_options in
+    let whole = (level_sound help nested s.level).0 in
+    record {
+      usage = written_keeps (inside_keeps block.Mono (both_keep (path_keeps s.path) (usage_keeps (subject_tree s) (docs_nested (subject_tree s) whole))));
+      help = help_pages_are_nested s.path (subject_head s) (subject_tree s) help false no_texts (head_nested help nested s.level) whole nested;
+    }
+
 help_nested : (d : DescriptionSaid) → HasNestedTexts (help_tree d)
-help_nested d = (parts_sound (map option_tree d.help_options) (each_map IsSound option_tree option_sound d.help_options)).0
+help_nested d = options_nested d.help_options
 
 chapters_sound : (d : DescriptionSaid) → All IsChapterSound (description_chapters d)
 chapters_sound d =
@@ -141,14 +155,13 @@ chapters_are_well_placed d = λ k c within. (chapters_sound d k c within).1
 
 pub pages_are_well_nested : PagesAreWellNested
 pages_are_well_nested d =
-    let help = help_tree d in
     let t = description_tree d in
     let i = description_head d in
-    let whole = (level_sound help (help_nested d) d.level).0 in
+    let own = subjects_are_well_nested (application d) in
     let all : pages.HasNestedPages d.name i t = λ k c within. (chapters_sound d k c within).0 in
     record {
-      usage = written_keeps (inside_keeps block.Mono (both_keep (path_keeps (d.name ∷ [])) (usage_keeps t (docs_nested t whole))));
-      help = help_pages_are_nested (d.name ∷ []) i t help false no_texts (head_nested help (help_nested d) d.level) whole (help_nested d);
+      usage = own.usage;
+      help = own.help;
       collected = collected_pages_are_nested d.name t i all;
       manual = manual_pages_are_nested d.name t i all;
     }

@@ -1,15 +1,18 @@
 -- The description that the data of a TOML text gives, or `None`. Each kind of table has the keys that are listed for it, and no others.
+pub mod Texts
 pub mod Values
 pub mod Taken
+pub mod Kinds
 pub mod Steps
 use Rattle.std.specs.Prelude.{codes, ℕ, List, [], ◌∷◌, ◌++◌, Bool, true, false, not, ◌&&◌, if◌then◌else◌, Option, Some, None, option_map, option_and_then}
 use Rattle.std.specs.Ordering.{nat_cmp, match_ordering}
 use Rattle.std.specs.Cmp.Lexicographic.{slice_cmp}
 use Rattle.bpaf_meta.specs.Content.{Name, short, long, both}
-use Rattle.toml.specs.Data.{Data, array, table, Items, no_items, item, Members, no_members, member, as_str, get_member}
+use Rattle.toml.specs.Data.{Data, array, table, Items, no_items, item, Members, no_members, member, get_member}
 use Rattle.description.specs.Content.{DescriptionSaid}
 use Rattle.description_parts.specs.Content.{OptSaid, ChoiceSaid, PositionalSaid, TextsSaid, LevelSaid, level, GroupsSaid, no_groups, groups, GroupSaid, group, CommandsSaid, no_commands, commands, CommandSaid, command}
-use Rattle.description.specs.Described.Values.{has_only, flag_at, optional_at, required_at, tables_at, is_empty, each_table, as_name, as_short, as_date}
+use Rattle.description.specs.Described.Texts.{as_command_name, as_heading, as_long, as_name, as_program_name, as_text, as_title, as_value}
+use Rattle.description.specs.Described.Values.{has_only, flag_at, optional_at, required_at, tables_at, is_empty, each_table, as_short, as_section, as_date}
 use Rattle.description.specs.Described.Taken.{has_distinct_names}
 
 -- ---- keys
@@ -57,12 +60,12 @@ o >>= f = option_and_then f o
 
 -- the short and the long name, of which one at least stands there
 abbrev pub option_name : Members → Option Name
-option_name ms = optional_at as_short (codes "short") ms >>= (λ s. optional_at as_name (codes "long") ms >>= name_from s)
+option_name ms = optional_at as_short (codes "short") ms >>= (λ s. optional_at as_long (codes "long") ms >>= name_from s)
 
 -- an option that is neither required nor repeated
 abbrev pub option_of : Members → Option OptSaid
 option_of ms =
-    option_name ms >>= (λ name. optional_at as_str (codes "value") ms >>= (λ value. optional_at as_str (codes "help") ms >>= (λ help. optional_at as_name (codes "env") ms >>= (λ env.
+    option_name ms >>= (λ name. optional_at as_value (codes "value") ms >>= (λ value. optional_at as_text (codes "help") ms >>= (λ help. optional_at as_name (codes "env") ms >>= (λ env.
     Some (record { name = name; value = value; help = help; env = env; required = false; repeated = false })))))
 
 unfoldable pub alternative_from : Members → Option OptSaid
@@ -79,7 +82,7 @@ choice_from = with_only choice_keys (λ ms. tables_at (codes "option") ms >>= (�
 
 abbrev pub positional_of : Members → Option PositionalSaid
 positional_of ms =
-    required_at as_str (codes "value") ms >>= (λ value. optional_at as_str (codes "help") ms >>= (λ help.
+    required_at as_value (codes "value") ms >>= (λ value. optional_at as_text (codes "help") ms >>= (λ help.
     flag_at true (codes "required") ms >>= (λ required. flag_at false (codes "repeated") ms >>= (λ repeated. flag_at false (codes "strict") ms >>= (λ strict.
     Some (record { value = value; help = help; required = required; repeated = repeated; strict = strict }))))))
 
@@ -111,7 +114,7 @@ pub record GroupHead : Type 0 where
   pub lists : Lists
 
 unfoldable pub group_head : Members → Option GroupHead
-group_head = with_only group_keys (λ ms. required_at as_str (codes "title") ms >>= (λ title. lists_from ms >>= (λ lists.
+group_head = with_only group_keys (λ ms. required_at as_heading (codes "title") ms >>= (λ title. lists_from ms >>= (λ lists.
     if has_members lists then Some (record { title = title; lists = lists }) else None)))
 
 unfoldable pub group_of : Option CommandsSaid → GroupHead → Option GroupSaid
@@ -120,7 +123,7 @@ group_of inner g =
     option_map (group g.title os cs ps) inner)))
 
 unfoldable pub texts_from : Members → Option TextsSaid
-texts_from ms = optional_at as_str (codes "about") ms >>= (λ about. optional_at as_str (codes "header") ms >>= (λ header. optional_at as_str (codes "footer") ms >>= (λ footer. optional_at as_str (codes "usage") ms >>= (λ usage.
+texts_from ms = optional_at as_text (codes "about") ms >>= (λ about. optional_at as_text (codes "header") ms >>= (λ header. optional_at as_text (codes "footer") ms >>= (λ footer. optional_at as_text (codes "usage") ms >>= (λ usage.
     Some (record { about = about; header = header; footer = footer; usage = usage })))))
 
 -- what a level says of itself: its own texts and its arrays, where no name is taken
@@ -148,7 +151,7 @@ pub record CommandHead : Type 0 where
 
 unfoldable pub command_head : Members → Option CommandHead
 command_head = with_only command_keys (λ ms.
-    required_at as_name (codes "name") ms >>= (λ name. optional_at as_short (codes "short") ms >>= (λ initial. optional_at as_str (codes "help") ms >>= (λ help.
+    required_at as_command_name (codes "name") ms >>= (λ name. optional_at as_short (codes "short") ms >>= (λ initial. optional_at as_text (codes "help") ms >>= (λ help.
     outline_from ms >>= (λ outline. Some (record { name = name; initial = initial; help = help; outline = outline }))))))
 
 abbrev pub command_of : Option GroupsSaid → Option CommandsSaid → CommandHead → Option CommandSaid
@@ -205,7 +208,7 @@ pub record TitleWords : Type 0 where
 
 unfoldable pub title_words : Members → Option TitleWords
 title_words ms =
-    optional_at as_str (codes "section") ms >>= (λ section. optional_at as_date (codes "date") ms >>= (λ date. optional_at as_str (codes "vendor") ms >>= (λ vendor. optional_at as_str (codes "title") ms >>= (λ title.
+    optional_at as_section (codes "section") ms >>= (λ section. optional_at as_date (codes "date") ms >>= (λ date. optional_at as_title (codes "vendor") ms >>= (λ vendor. optional_at as_title (codes "title") ms >>= (λ title.
     Some (record { section = section_from section; date = date; vendor = vendor; title = title })))))
 
 -- what a description says of itself
@@ -217,7 +220,7 @@ pub record DescriptionHead : Type 0 where
 
 unfoldable pub description_head : Members → Option DescriptionHead
 description_head = with_only description_keys (λ ms.
-    required_at as_name (codes "name") ms >>= (λ name. title_words ms >>= (λ words. tables_at (codes "help_option") ms >>= (λ helps. outline_from ms >>= (λ outline.
+    required_at as_program_name (codes "name") ms >>= (λ name. title_words ms >>= (λ words. tables_at (codes "help_option") ms >>= (λ helps. outline_from ms >>= (λ outline.
     Some (record { name = name; words = words; help_options = helps; outline = outline }))))))
 
 abbrev pub description_of : DescriptionHead → List OptSaid → LevelSaid → DescriptionSaid

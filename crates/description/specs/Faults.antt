@@ -13,6 +13,7 @@ IsMemory (Content text) = ⊥
 abbrev pub IsRefusal : Fault → Type 0
 IsRefusal fault.Memory = ⊤
 IsRefusal (fault.Content before name after) = ⊥
+IsRefusal (fault.Unknown key known) = ⊥
 
 -- a fault that tells of the table tells as much as the one before it
 abbrev pub IsAsMuch : (before after : Fault) → Type 0

@@ -1,6 +1,9 @@
 pub mod Content
+pub mod Subjects
 pub mod View
 pub mod Trees
 pub mod Pages
 pub mod Described
+pub mod Plain
+pub mod ReadOnce
 pub mod Faults

@@ -4,25 +4,47 @@ use Rattle.bpaf_doc.specs.declared.buffer.Block.TheVariants as block
 use Rattle.bpaf_doc.specs.Buffer.Parts.{Part, IsWellNested}
 use Rattle.bpaf_doc.specs.Buffer.Writes.{inside, path_writes, document_of}
 use Rattle.bpaf_doc.specs.Console.Layout.{IsLayout}
+use Rattle.bpaf_meta.specs.Content.{Tree, Head}
 use Rattle.bpaf_meta.specs.Usage.Writes.{usage_writes}
 use Rattle.bpaf_items.specs.Page.EnvTexts.{no_texts}
 use Rattle.bpaf_items.specs.Page.HelpPage.{help_page_writes}
 use Rattle.bpaf_help.specs.Chapters.{AreWellPlaced, Chapter, chapters_of}
 use Rattle.bpaf_help.specs.PageAnswers as pages
 use Rattle.description.specs.Content.{DescriptionSaid}
-use Rattle.description.specs.Trees.{help_tree, description_tree, description_head}
+use Rattle.description.specs.Subjects.{SubjectSaid, application}
+use Rattle.description.specs.Trees.{description_tree, description_head, level_head, level_tree, options_tree}
 
--- the usage line: the name and the usage of the tree, in Mono marks
+-- ---- of the application, or of a command
+
+abbrev pub subject_tree : SubjectSaid → Tree
+subject_tree s = level_tree (options_tree s.help_options) s.level
+
+abbrev pub subject_head : SubjectSaid → Head
+subject_head s = level_head (options_tree s.help_options) s.level
+
+-- the usage line: the path and the usage of the tree, in Mono marks
+abbrev pub subject_usage : SubjectSaid → List Part
+subject_usage s = document_of (inside block.Mono (path_writes s.path ++ usage_writes true (subject_tree s)))
+
+-- its text: the line as a full page of some columns, and a newline
+abbrev pub IsUsageOf : SubjectSaid → (width : ℕ) → List ℕ → Type 0
+IsUsageOf s width text = (page : List ℕ) × IsLayout (subject_usage s) true width page × (text ≡ page ++ 10 ∷ [])
+
+-- the help page, under the path alone and without texts of environment variables
+abbrev pub subject_help : SubjectSaid → List Part
+subject_help s = document_of (help_page_writes s.path (subject_head s) (subject_tree s) (options_tree s.help_options) false no_texts)
+
+-- ---- of the application alone
+
 abbrev pub usage_document : DescriptionSaid → List Part
-usage_document d = document_of (inside block.Mono (path_writes (d.name ∷ []) ++ usage_writes true (description_tree d)))
+usage_document d = subject_usage (application d)
 
--- its text: the line as a full page of 100 columns, and a newline
+-- at 100 columns
 abbrev pub IsUsageLineOf : DescriptionSaid → List ℕ → Type 0
-IsUsageLineOf d text = (page : List ℕ) × IsLayout (usage_document d) true 100 page × (text ≡ page ++ 10 ∷ [])
+IsUsageLineOf d text = IsUsageOf (application d) 100 text
 
--- the help page, under the name alone and without texts of environment variables
 abbrev pub help_document : DescriptionSaid → List Part
-help_document d = document_of (help_page_writes (d.name ∷ []) (description_head d) (description_tree d) (help_tree d) false no_texts)
+help_document d = subject_help (application d)
 
 -- the help pages of the description and of all its commands
 abbrev pub collected_document : DescriptionSaid → List Part
@@ -48,6 +70,14 @@ description_chapters d = chapters_of (d.name ∷ []) (description_head d) (descr
 -- no named item of a description, or of a command of it, stands after a positional one
 abbrev pub ChaptersAreWellPlaced : Type 0
 ChaptersAreWellPlaced = (d : DescriptionSaid) → AreWellPlaced (description_chapters d)
+
+-- the documents of a usage line and of a help page are well nested
+pub record HasNestedSubject (s : SubjectSaid) : Type 0 where
+  pub usage : IsWellNested (subject_usage s)
+  pub help : IsWellNested (subject_help s)
+
+abbrev pub SubjectsAreWellNested : Type 0
+SubjectsAreWellNested = (s : SubjectSaid) → HasNestedSubject s
 
 -- the document of each page of a description is well nested
 pub record HasNestedPages (d : DescriptionSaid) : Type 0 where

@@ -15,6 +15,7 @@ mod faults;
 mod levels;
 mod options;
 mod taken;
+mod texts;
 mod values;
 
 use crate::descriptions::Description;
@@ -25,9 +26,10 @@ use lasting_names::Names;
 use levels::{Outline, level_of, outline_from};
 use options::options_in;
 use std::alloc::{AllocError, Allocator};
+use texts::{Kind, checked};
 use toml::value::{Date, Datetime};
 use toml::{Table, Value};
-use values::{required_name_at, see_keys, tables_at, text_at, value_at};
+use values::{required_word_at, section_at, see_keys, tables_at, text_at, value_at};
 
 const DESCRIPTION_KEYS: [&str; 16] = [
     "name",
@@ -122,10 +124,10 @@ fn title_words<'a, A: Allocator + Copy>(
 ) -> Result<TitleWords<'a>, Fault<'a>>
     ensures { Reads (title_words (table_view table.now)) (λ words. words_seen words) result }
 {
-    let section = section_of(text_at(table, "section")?);
+    let section = section_of(section_at(table, "section")?);
     let date = date_at(alloc, names, table)?;
-    let vendor = text_at(table, "vendor")?;
-    let title = text_at(table, "title")?;
+    let vendor = text_at(table, "vendor", Kind::Title)?;
+    let title = text_at(table, "title", Kind::Title)?;
     Ok(TitleWords {
         section,
         date,
@@ -148,7 +150,7 @@ fn description_head<'a, A: Allocator + Copy>(
 {
     see_keys(table, &DESCRIPTION_KEYS)?;
     Ok(DescriptionHead {
-        name: required_name_at(names, table, "name")?,
+        name: required_word_at(names, table, "name", Kind::Program)?,
         words: title_words(alloc, names, table)?,
         help_options: tables_at(table, "help_option")?,
         outline: outline_from(alloc, table)?,
@@ -175,7 +177,7 @@ fn date_at<'a, A: Allocator + Copy>(
 {
     match value_at(table, "date") {
         None => Ok(None),
-        Some(Value::String(text)) => Ok(Some(text.as_str())),
+        Some(Value::String(text)) => Ok(Some(checked(text.as_str(), "date", Kind::Title)?)),
         Some(
             Value::Datetime(
                 Datetime {

@@ -1,6 +1,8 @@
 //! Laws of the definitions that the contracts cite: nothing to call, but statements that the check proves.
 
-ghost use Rattle.description.specs.Pages.{ChaptersAreWellPlaced, PagesAreWellNested};
+ghost use Rattle.description.specs.Pages.{ChaptersAreWellPlaced, PagesAreWellNested, SubjectsAreWellNested};
+ghost use Rattle.description.specs.Plain.{TextsArePlain};
+ghost use Rattle.description.specs.ReadOnce.{TitlesAreReadOnce};
 
 /// No named item of a description, or of a command of it, stands after a positional one. So each has a help page.
 pub fn chapters_are_placed()
@@ -10,4 +12,22 @@ pub fn chapters_are_placed()
 /// The documents of all pages of a description are well nested.
 pub fn pages_are_nested()
     ensures { PagesAreWellNested }
+{}
+
+/// The documents of a usage line and of a help page are well nested, for the application and for each command.
+pub fn subjects_are_nested()
+    ensures { SubjectsAreWellNested }
+{}
+
+/// No text and no name of a description that a TOML text gives holds a control character but newline and tab, nor a
+/// noncharacter of Unicode.
+pub fn texts_are_plain()
+    ensures { TextsArePlain }
+{}
+
+/// Of a description that a TOML text gives, no argument of the title line of the manual page, no title of a group and
+/// no name of a command holds a backslash or a double quote, but the argument of two quotes. So a macro of roff that
+/// reads its arguments a second time reads the same words.
+pub fn titles_are_read_once()
+    ensures { TitlesAreReadOnce }
 {}

@@ -5,6 +5,7 @@ pub mod decode;
 pub mod descriptions;
 pub mod laws;
 mod pages;
+pub mod subjects;
 mod trees;
 
 pub use bpaf_help::item::ShortLong;
@@ -14,3 +15,4 @@ pub use description_parts::{
     Choice, Command, Group, Level, Opt, Positional, levels, options, positionals,
 };
 pub use descriptions::Description;
+pub use subjects::Subject;

@@ -11,15 +11,18 @@ ghost use Rattle.bpaf_doc.specs.Markdown.Page.{IsMarkdownOf};
 ghost use Rattle.bpaf_meta.specs.Meta.Misplaced.{IsWellPlaced};
 ghost use Rattle.bpaf_meta.specs.Usage.Writes.{usage_writes};
 ghost use Rattle.bpaf_meta.specs.View.{head_of, tree_of};
-ghost use Rattle.description.specs.Pages.{IsDescriptionManual, IsUsageLineOf, collected_document};
+ghost use Rattle.description.specs.Pages.{IsDescriptionManual, IsUsageLineOf, IsUsageOf, collected_document};
 ghost use Rattle.description.specs.Pages.{help_document, manual_text, usage_document};
+ghost use Rattle.description.specs.Pages.{subject_head, subject_help, subject_tree, subject_usage};
 ghost use Rattle.description.specs.Trees.{description_head, description_tree};
-ghost use Rattle.description.specs.View.{description_said};
+ghost use Rattle.description.specs.View.{description_said, subject_said};
 
 use crate::descriptions::Description;
 use crate::laws::{chapters_are_placed, pages_are_nested};
+use crate::subjects::Subject;
 use crate::trees::{level_info, level_tree};
 use bpaf_doc::buffer::{Block, Doc, Token};
+use bpaf_doc::console::MAX_WIDTH;
 use bpaf_help::meta::Meta;
 use bpaf_help::meta_help::{EnvTexts, HelpError, Info, render_help};
 use bpaf_help::pages::{render_html, render_manpage, render_markdown};
@@ -55,26 +58,7 @@ impl<A: Allocator> Description<'_, A> {
         ensures exact { IfOk result (λ text. string_bytes text
             ≡ console_page true 100 (usage_document (description_said self.now)) ++ 10 ∷ []) }
     {
-        let document = self.usage_document(alloc)?;
-        let mut text = document.monochrome(alloc, true)?;
-        text.push('\n')?;
-        Ok(text)
-    }
-
-    fn usage_document<B: Allocator + Copy>(&self, alloc: B) -> Result<Doc<B>, AllocError>
-        ensures { IfOk result (λ document. document ≡ usage_document (description_said self.now)) }
-    {
-        let tree = self.tree(alloc)?;
-        let path = self.path(alloc)?;
-        usage_of(alloc, &path, &tree)
-    }
-
-    fn path<B: Allocator + Copy>(&self, alloc: B) -> Result<Vec<String<B>, B>, AllocError>
-        ensures { IfOk result (λ path. map string_bytes path.items ≡ (description_said self.now).name ∷ []) }
-    {
-        let mut path = Vec::new(alloc);
-        path.push(String::from_str(alloc, self.name)?)?;
-        Ok(path)
+        self.subject(alloc)?.usage(MAX_WIDTH)
     }
 
     /// The help page, in full or in brief and at 100 columns. It names the environment variables, but shows none
@@ -85,42 +69,12 @@ impl<A: Allocator> Description<'_, A> {
         ensures exact { IfOk result (λ text. string_bytes text
             ≡ console_page full 100 (help_document (description_said self.now))) }
     {
-        self.help_document(alloc)?.monochrome(alloc, full)
-    }
-
-    fn help_document<B: Allocator + Copy>(&self, alloc: B) -> Result<Doc<B>, AllocError>
-        ensures { IfOk result (λ document. document ≡ help_document (description_said self.now)) }
-    {
-        let parts = self.parts(alloc)?;
-        let path = self.path(alloc)?;
-        self.help_of(alloc, &path, &parts)
-    }
-
-    fn help_of<B: Allocator + Copy>(
-        &self,
-        alloc: B,
-        path: &[String<B>],
-        parts: &Parts<B>,
-    ) -> Result<Doc<B>, AllocError>
-        requires path { map string_bytes path.now ≡ (description_said self.now).name ∷ [] }
-        requires tree { tree_of parts.now.tree ≡ description_tree (description_said self.now) }
-        requires info { head_of parts.now.info ≡ description_head (description_said self.now) }
-        requires placed { IsWellPlaced (tree_of parts.now.tree) }
-        ensures { IfOk result (λ document. document ≡ help_document (description_said self.now)) }
-    {
-        let Parts { tree, info } = parts;
-        let texts = EnvTexts::new(alloc);
-        match render_help(alloc, path, info, tree, &info.help, false, &texts) {
-            Ok(document) => Ok(document),
-            Err(HelpError::Memory(refused)) => Err(refused),
-            Err(HelpError::Misplaced(_)) => unreachable!(),
-        }
+        self.subject(alloc)?.help(full, MAX_WIDTH)
     }
 
     fn parts<B: Allocator + Copy>(&self, alloc: B) -> Result<Parts<B>, AllocError>
         ensures tree { IfOk result (λ parts. tree_of parts.tree ≡ description_tree (description_said self.now)) }
         ensures info { IfOk result (λ parts. head_of parts.info ≡ description_head (description_said self.now)) }
-        ensures placed { IfOk result (λ parts. IsWellPlaced (tree_of parts.tree)) }
     {
         let tree = self.tree(alloc)?;
         let info = self.info(alloc)?;
@@ -207,6 +161,79 @@ impl<A: Allocator> Description<'_, A> {
             &tree,
             &info,
         )
+    }
+}
+
+impl<A: Allocator, B: Allocator + Copy> Subject<'_, '_, A, B> {
+    /// The usage line, in full and at `width` columns, and a newline.
+    pub fn usage(&self, width: usize) -> Result<String<B>, AllocError>
+        ensures laid_out { IfOk result (λ text. IsUsageOf (subject_said self.now) width (string_bytes text)) }
+        ensures exact { IfOk result (λ text. string_bytes text
+            ≡ console_page true width (subject_usage (subject_said self.now)) ++ 10 ∷ []) }
+    {
+        let document = self.usage_document()?;
+        let mut text = document.render_console(self.allocator(), true, width)?;
+        text.push('\n')?;
+        Ok(text)
+    }
+
+    fn usage_document(&self) -> Result<Doc<B>, AllocError>
+        ensures { IfOk result (λ document. document ≡ subject_usage (subject_said self.now)) }
+    {
+        let tree = level_tree(self.allocator(), self.level, self.help_options)?;
+        usage_of(self.allocator(), &self.path, &tree)
+    }
+
+    /// The help page, in full or in brief and at `width` columns. It names the environment variables, but shows
+    /// none of their texts.
+    pub fn help(&self, full: bool, width: usize) -> Result<String<B>, AllocError>
+        ensures laid_out { IfOk result (λ text.
+            IsLayout (subject_help (subject_said self.now)) full width (string_bytes text)) }
+        ensures exact { IfOk result (λ text. string_bytes text
+            ≡ console_page full width (subject_help (subject_said self.now))) }
+    {
+        self.help_document()?
+            .render_console(self.allocator(), full, width)
+    }
+
+    fn help_document(&self) -> Result<Doc<B>, AllocError>
+        ensures { IfOk result (λ document. document ≡ subject_help (subject_said self.now)) }
+    {
+        let parts = self.parts()?;
+        self.help_of(&parts)
+    }
+
+    fn parts(&self) -> Result<Parts<B>, AllocError>
+        ensures tree { IfOk result (λ parts. tree_of parts.tree ≡ subject_tree (subject_said self.now)) }
+        ensures info { IfOk result (λ parts. head_of parts.info ≡ subject_head (subject_said self.now)) }
+        ensures placed { IfOk result (λ parts. IsWellPlaced (tree_of parts.tree)) }
+    {
+        let tree = level_tree(self.allocator(), self.level, self.help_options)?;
+        let info = level_info(self.allocator(), self.level, self.help_options)?;
+        Ok(Parts { tree, info })
+    }
+
+    fn help_of(&self, parts: &Parts<B>) -> Result<Doc<B>, AllocError>
+        requires tree { tree_of parts.now.tree ≡ subject_tree (subject_said self.now) }
+        requires info { head_of parts.now.info ≡ subject_head (subject_said self.now) }
+        requires placed { IsWellPlaced (tree_of parts.now.tree) }
+        ensures { IfOk result (λ document. document ≡ subject_help (subject_said self.now)) }
+    {
+        let Parts { tree, info } = parts;
+        let texts = EnvTexts::new(self.allocator());
+        match render_help(
+            self.allocator(),
+            &self.path,
+            info,
+            tree,
+            &info.help,
+            false,
+            &texts,
+        ) {
+            Ok(document) => Ok(document),
+            Err(HelpError::Memory(refused)) => Err(refused),
+            Err(HelpError::Misplaced(_)) => unreachable!(),
+        }
     }
 }
 

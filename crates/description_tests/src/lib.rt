@@ -5,6 +5,8 @@
 #![tactic(auto)]
 
 #[cfg(test)]
+mod faults;
+#[cfg(test)]
 mod pages;
 #[cfg(test)]
 mod reading;
@@ -14,3 +16,5 @@ mod refusals;
 mod rows;
 #[cfg(test)]
 mod samples;
+#[cfg(test)]
+mod subjects;

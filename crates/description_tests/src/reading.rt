@@ -17,7 +17,7 @@ const WHOLE: (&str, &str) = (
 // No description, and what is said of it.
 const FAULTY: (&str, &str) = (
     "name = 'app'\n[[command]]\nname = 'run'\n[[command.option]]\nshort = 'n'\n[[command.option]]\nlong = 'x y'\n",
-    "command 1, option 2: long is no name",
+    "command 1, option 2: long holds a blank",
 );
 
 // The usage line of what was read, or its fault. None where a growth was refused.

@@ -8,7 +8,7 @@ use std::process::ExitCode;
 use std::rt::Env;
 use watched::Watched;
 pub use watched::program::WRONG_WORDS;
-use watched::program::{chosen, expecting, status_of};
+use watched::program::{expecting, status_of, with_words};
 
 /// The line for words that choose nothing.
 const EXPECTED: &str = "helpdoc: expected text or sample, then full, brief, html, markdown or man";
@@ -27,7 +27,7 @@ fn try_run<R: Alloc + Env + Input + Print + Eprint>(rt: &R) -> Result<ExitCode, 
 where
     R::A: Copy,
 {
-    let Some(choice) = chosen(rt, choose).map_err(|_| Fault::Memory)? else {
+    let Some(choice) = with_words(rt, choose).map_err(|_| Fault::Memory)? else {
         return Ok(expecting(rt, EXPECTED));
     };
     let mut writer = Watched::new(io::writer(rt));

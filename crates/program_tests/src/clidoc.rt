@@ -5,3 +5,4 @@ mod faults;
 mod long_pages;
 mod pages;
 mod programs;
+mod words;

@@ -1,6 +1,5 @@
 //! Tests of `helpdoc_engine`.
 
 mod ends;
-mod long_pages;
 mod pages;
 mod programs;

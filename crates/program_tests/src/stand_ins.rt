@@ -1,6 +1,7 @@
-//! What the tests run the programs on: a reader and a writer that fail where they are told to, others that answer
-//! by a script and keep a log, and a runtime with known words and a known input that keeps what was printed.
+//! What the tests run the programs on: a reader and a writer that answer by a script and judge the calls that come, a
+//! writer of text that knows what is to come, and a runtime with known words and a known input.
 
 pub mod desk;
-pub mod fakes;
+pub mod lines;
+pub mod runs;
 pub mod scripts;

@@ -1,172 +1,170 @@
 //! Each call is passed on once, its answer is handed out as it was, and the mark stands exactly where a call has
 //! failed.
+use crate::stand_ins::lines::says;
 use crate::stand_ins::scripts::{
-    Answer, Call, Draws, KINDS, LARGE, MESSAGE, SIZES, ScriptedReader, ScriptedWriter, bytes_of,
-    read_by, written_by,
+    Answer, Draws, KINDS, LARGE, MESSAGE, SIZES, Script, ScriptedReader, ScriptedWriter, bytes_of,
+    front,
 };
-use std::alloc::AllocError;
+use std::alloc::{AllocError, Global};
 use std::io;
 use std::io::ErrorKind;
-use std::process::Abort;
 use std::test::Fail;
 use watched::{ReadError, Watched};
 
 // How many scripts are drawn for each size.
-const SCRIPTS: u64 = 3;
+const SCRIPTS: usize = 3;
 
-fn kind_of<T: Drop>(outcome: io::Result<T>) -> Result<T, ErrorKind> {
-    outcome.map_err(|error| error.kind())
+fn kind_of<T: Copy>(outcome: io::Result<T>) -> Result<T, ErrorKind> {
+    match outcome {
+        Ok(value) => Ok(value),
+        Err(error) => Err(error.kind()),
+    }
 }
 
-// What is left of the bytes behind so many of these.
-fn behind<'a>(bytes: &'a [u8], front: &[u8], count: usize) -> Option<&'a [u8]> {
-    bytes.strip_prefix(front.get(..count)?)
-}
-
-// Whether so many calls came, and each had this length.
-fn came(calls: &[Call], count: usize, length: usize) -> bool {
-    calls.len() == count && calls.iter().all(|call| call.length == length)
-}
-
-fn reads_each_once(
-    rt: &(impl Abort + AllocGlobal),
-    bytes: &[u8],
-    answers: &[Answer],
-) -> Result<(), AllocError> {
-    let mut room = vec![in rt.alloc(); 0u8; bytes.len()]?;
-    let mut reader = Watched::new(ScriptedReader::new(rt.alloc(), bytes, answers));
+fn reads_each_once(bytes: &[u8], room: &mut [u8], answers: &[Answer]) -> bool {
+    let end = ScriptedReader::new(bytes, Script::of(answers)).with_room(room.len());
+    let mut reader = Watched::new(end);
     let mut left = bytes;
-    let mut marked = false;
+    let mut is_marked = false;
     for answer in answers {
-        let want = answer.outcome(left.len());
-        marked |= want.is_err();
-        assert!(rt; kind_of(reader.read(&mut room)) == want && reader.failed() == marked);
-        let Some(rest) = behind(left, &room, want.unwrap_or(0)) else {
-            panic!(rt; "other bytes came: {answers:?}")
-        };
+        let want = answer.outcome(left.len().min(room.len()));
+        is_marked |= want.is_err();
+        if kind_of(reader.read(room)) != want || reader.failed() != is_marked {
+            return false;
+        }
+        let (given, rest) = left.split_at(want.unwrap_or(0));
+        if !room.starts_with(given) {
+            return false;
+        }
         left = rest;
     }
-    assert!(rt; came(reader.into_inner().calls(), answers.len(), bytes.len()));
-    Ok(())
+    let calls = reader.into_inner().calls;
+    calls.fit && calls.count == answers.len()
 }
 
-fn writes_each_once(rt: &(impl Abort + AllocGlobal), bytes: &[u8], answers: &[Answer]) {
-    let mut writer = Watched::new(ScriptedWriter::new(rt.alloc(), answers));
-    let mut marked = false;
+fn writes_each_once(bytes: &[u8], answers: &[Answer]) -> bool {
+    let mut writer = Watched::new(ScriptedWriter::new(bytes, Script::of(answers)).again());
+    let mut is_marked = false;
     for answer in answers {
         let want = answer.outcome(bytes.len());
-        marked |= want == Ok(0) || want.is_err();
-        assert!(rt; kind_of(writer.write(bytes)) == want && writer.failed() == marked);
+        is_marked |= want.unwrap_or(0) == 0;
+        if kind_of(writer.write(bytes)) != want || writer.failed() != is_marked {
+            return false;
+        }
     }
-    let end = writer.into_inner();
-    assert!(rt; came(end.calls(), answers.len(), bytes.len()));
-    let mut left = end.bytes();
-    for answer in answers {
-        let count = answer.outcome(bytes.len()).unwrap_or(0);
-        let Some(rest) = behind(left, bytes, count) else {
-            panic!(rt; "other bytes were taken: {answers:?}")
-        };
-        left = rest;
-    }
-    assert!(rt; left.is_empty());
+    let calls = writer.into_inner().calls;
+    calls.fit && calls.count == answers.len()
+}
+
+// Whether each call on so many bytes is passed on, by this script and that.
+fn passes_each_once(bytes: &[u8], room: &mut [u8], draws: &mut Draws) -> bool {
+    let (reads, writes) = (draws.answers(), draws.answers());
+    reads_each_once(bytes, room, &reads[..4]) && writes_each_once(bytes, &writes[..4])
 }
 
 #[test]
 fn each_call_is_passed_on_once(rt: HostRuntime) -> Result<(), Fail> {
+    let bytes = bytes_of(rt.alloc(), LARGE)?;
     let mut draws = Draws::new(1);
     for size in SIZES {
-        let bytes = bytes_of(rt.alloc(), size)?;
+        let mut room = vec![in rt.alloc(); 0u8; size]?;
         for _ in 0..SCRIPTS {
-            let answers = draws.answers(rt.alloc(), 4, true)?;
-            reads_each_once(&rt, &bytes, &answers)?;
-            writes_each_once(&rt, &bytes, &answers);
+            let bytes = front(&bytes, size);
+            assert!(rt; passes_each_once(bytes, &mut room, &mut draws), "{size}");
         }
     }
     Ok(())
 }
 
-fn reads_all(
-    rt: &(impl Abort + AllocGlobal),
+// What reading all of it answers, but for the bytes, which should be a beginning of these.
+fn read(
+    global: Global,
+    reader: &mut Watched<ScriptedReader<'_>>,
     bytes: &[u8],
-    answers: &[Answer],
-) -> Result<(), AllocError> {
-    let mut reader = Watched::new(ScriptedReader::new(rt.alloc(), bytes, answers));
-    let outcome = match reader.read_all(rt.alloc()) {
-        Ok(read) => {
-            assert!(rt; bytes.starts_with(&read));
-            Ok(read.len())
-        }
-        Err(ReadError::Failed(error)) => Err(error.kind()),
-        Err(ReadError::Refused(error)) => return Err(error),
-        Err(ReadError::NotUtf8) => panic!(rt; "bytes need be no text"),
-    };
-    assert!(rt; reader.failed() == outcome.is_err());
-    let end = reader.into_inner();
-    assert!(rt; read_by(end.calls()) == Some(outcome), "{answers:?}");
-    Ok(())
+) -> Option<Result<usize, ErrorKind>> {
+    match reader.read_all(global) {
+        Ok(read) if bytes.starts_with(&read) => Some(Ok(read.len())),
+        Err(ReadError::Failed(error)) => Some(Err(error.kind())),
+        _ => None,
+    }
 }
 
-fn writes_all(rt: &(impl Abort + AllocGlobal), bytes: &[u8], answers: &[Answer]) {
-    let mut writer = Watched::new(ScriptedWriter::new(rt.alloc(), answers));
+fn reads_all(global: Global, bytes: &[u8], script: Script<'_>) -> bool {
+    let mut reader = Watched::new(ScriptedReader::new(bytes, script));
+    let Some(outcome) = read(global, &mut reader, bytes) else {
+        return false;
+    };
+    reader.failed() == outcome.is_err() && reader.into_inner().calls.read() == Some(outcome)
+}
+
+fn writes_all(bytes: &[u8], script: Script<'_>) -> bool {
+    let mut writer = Watched::new(ScriptedWriter::new(bytes, script));
     let outcome = kind_of(writer.write_all(bytes));
-    assert!(rt; writer.failed() == outcome.is_err());
-    let end = writer.into_inner();
-    let taken = end.bytes().len();
-    assert!(rt;
-        written_by(end.calls(), bytes.len()) == Some((outcome, taken)),
-        "{answers:?}"
-    );
-    assert!(rt; bytes.starts_with(end.bytes()));
+    let is_marked = writer.failed();
+    let calls = writer.into_inner().calls;
+    is_marked == outcome.is_err() && calls.written(bytes.len()) == Some(outcome)
+}
+
+// Whether all is read, and all is written, whatever the scripts are.
+fn moves_all(global: Global, bytes: &[u8], draws: &mut Draws) -> bool {
+    for _ in 0..SCRIPTS {
+        let (reads, writes) = (draws.answers(), draws.answers());
+        if !reads_all(global, bytes, Script::of(&reads))
+            || !writes_all(bytes, Script::of(&writes))
+        {
+            return false;
+        }
+    }
+    reads_all(global, bytes, Script::WHOLE) && writes_all(bytes, Script::WHOLE)
 }
 
 #[test]
 fn all_is_read_and_written(rt: HostRuntime) -> Result<(), Fail> {
+    let bytes = bytes_of(rt.alloc(), LARGE)?;
     let mut draws = Draws::new(2);
     for size in SIZES {
-        let bytes = bytes_of(rt.alloc(), size)?;
-        reads_all(&rt, &bytes, &[])?;
-        writes_all(&rt, &bytes, &[]);
-        for _ in 0..SCRIPTS {
-            let answers = draws.answers(rt.alloc(), 16, true)?;
-            reads_all(&rt, &bytes, &answers)?;
-            writes_all(&rt, &bytes, &answers);
-        }
+        assert!(rt;
+            moves_all(rt.alloc(), front(&bytes, size), &mut draws),
+            "{size}"
+        );
     }
-    let bytes = bytes_of(rt.alloc(), LARGE)?;
-    reads_all(&rt, &bytes, &[])?;
+    let bytes = front(&bytes, LARGE);
     // All but one byte, and then that one.
-    writes_all(&rt, &bytes, &[Answer::Moves(LARGE - 1)]);
+    let all_but_one = [Answer::Moves(LARGE - 1)];
+    assert!(rt; reads_all(rt.alloc(), bytes, Script::WHOLE));
+    assert!(rt; writes_all(bytes, Script::of(&all_but_one)));
     Ok(())
 }
 
+// Whether writing answers this error of the writer, with all that it says.
+fn hands_out(kind: ErrorKind) -> bool {
+    let answers = [Answer::Moves(2), Answer::Fails(kind)];
+    let mut writer = Watched::new(ScriptedWriter::new(b"abcd", Script::of(&answers)));
+    match writer.write_all(b"abcd") {
+        Ok(()) => false,
+        Err(error) => error.kind() == kind && says(&error, MESSAGE),
+    }
+}
+
+// Whether this error behind two bytes comes out of each call.
+fn comes_out(global: Global, kind: ErrorKind) -> bool {
+    let answers = [Answer::Moves(2), Answer::Fails(kind)];
+    let script = Script::of(&answers);
+    reads_all(global, b"abcd", script) && writes_all(b"abcd", script) && hands_out(kind)
+}
+
 #[test]
-fn each_error_is_handed_out(rt: HostRuntime) -> Result<(), Fail> {
+fn each_error_is_handed_out(rt: HostRuntime) {
     for kind in KINDS {
-        let answers = [Answer::Moves(2), Answer::Fails(kind)];
-        reads_all(&rt, b"abcd", &answers)?;
-        writes_all(&rt, b"abcd", &answers);
-        let mut writer = Watched::new(ScriptedWriter::new(rt.alloc(), &answers));
-        let Err(error) = writer.write_all(b"abcd") else {
-            panic!(rt; "{kind:?} is lost")
-        };
-        assert_eq!(rt; error.kind(), kind);
-        assert_eq!(rt; error.to_string(rt.alloc())?.as_str(), MESSAGE);
+        assert!(rt; comes_out(rt.alloc(), kind), "{kind:?}");
     }
-    writes_all(&rt, b"abcd", &[Answer::Moves(0)]);
-    writes_all(&rt, b"", &[Answer::Moves(0)]);
-    Ok(())
+    assert!(rt; writes_all(b"abcd", Script::NONE) && writes_all(b"", Script::NONE));
 }
 
 #[test]
-fn a_failed_reading_is_told(rt: HostRuntime) -> Result<(), Fail> {
+fn a_failed_reading_is_told(rt: HostRuntime) {
     let failed = ReadError::Failed(ErrorKind::TimedOut.into());
-    let lines = [
-        (failed, "read failed: timed out"),
-        (ReadError::NotUtf8, "input is not UTF-8"),
-        (ReadError::Refused(AllocError), "no memory"),
-    ];
-    for (error, line) in lines {
-        assert_eq!(rt; error.to_string(rt.alloc())?.as_str(), line);
-    }
-    Ok(())
+    assert!(rt; says(&failed, "read failed: timed out"));
+    assert!(rt; says(&ReadError::NotUtf8, "input is not UTF-8"));
+    assert!(rt; says(&ReadError::Refused(AllocError), "no memory"));
 }

@@ -11,20 +11,20 @@ use std::{env, io};
 /// The status for words that choose nothing.
 pub const WRONG_WORDS: u8 = 2;
 
-/// What the words after the program's name choose. An error says that they could not be read, or a growth
+/// What is done with the words after the program's name. An error says that they could not be read, or a growth
 /// was refused.
-pub fn chosen<R: Alloc + Env, T, F: FnOnce(&[&str]) -> Option<T> + Drop>(
+pub fn with_words<R: Alloc + Env, T, F: FnOnce(&[&str]) -> T + Drop>(
     rt: &R,
-    choose: F,
-) -> io::Result<Option<T>>
-    requires { F.IsAlwaysCallable choose }
+    follow: F,
+) -> io::Result<T>
+    requires { F.IsAlwaysCallable follow }
 {
     let arguments: Vec<String<R::A>, R::A> = env::args(rt)?.skip(1).collect(rt.alloc())?;
     let words: Vec<&str, R::A> = arguments
         .iter()
         .map(|word| word.as_str())
         .collect(rt.alloc())?;
-    Ok(choose(&words))
+    Ok(follow(&words))
 }
 
 /// Says on standard error which words are expected, and answers `WRONG_WORDS`.

@@ -1,5 +1,5 @@
 -- Names that stand twice on a level. The options of its choices and groups count as its own, and so do the commands of its groups.
-use Rattle.std.specs.Prelude.{codes, ℕ, List, [], ◌∷◌, ◌++◌, flat_map, Bool, true, not, ◌&&◌, Option, Some, option_and_then, option_to_list, bytes_eq}
+use Rattle.std.specs.Prelude.{codes, ℕ, List, [], ◌∷◌, ◌++◌, flat_map, Bool, true, not, ◌&&◌, if◌then◌else◌, Option, Some, None, option_and_then, option_to_list, bytes_eq}
 use Rattle.std.specs.List.{list_any}
 use Rattle.toml.specs.Data.{Data, array, Items, no_items, item, Members, get_member, as_str, as_table}
 
@@ -25,16 +25,27 @@ level_options ms = own_options ms ++ flat_map own_options (tables_under (codes "
 abbrev pub level_commands : Members → List Members
 level_commands ms = tables_under (codes "command") ms ++ flat_map (tables_under (codes "command")) (tables_under (codes "group") ms)
 
--- the text at a key of each table that has one there
+-- the text at a key, and those of each table
+abbrev pub text_under : (key : List ℕ) → Members → Option (List ℕ)
+text_under key ms = option_and_then as_str (get_member key ms)
+
 abbrev pub texts_at : (key : List ℕ) → List Members → List (List ℕ)
-texts_at key = flat_map (λ ms. option_to_list (option_and_then as_str (get_member key ms)))
+texts_at key = flat_map (λ ms. option_to_list (text_under key ms))
+
+-- the words for a command: its name, and its short name where that is another word
+abbrev pub other_word : (name initial : Option (List ℕ)) → Option (List ℕ)
+other_word (Some name) (Some initial) = if bytes_eq name initial then None else Some initial
+other_word name initial = initial
+
+abbrev pub command_words : Members → List (List ℕ)
+command_words ms = option_to_list (text_under (codes "name") ms) ++ option_to_list (other_word (text_under (codes "name") ms) (text_under (codes "short") ms))
 
 -- no text stands twice
 abbrev pub are_distinct : List (List ℕ) → Bool
 are_distinct [] = true
 are_distinct (text ∷ texts) = not (list_any (bytes_eq text) texts) && are_distinct texts
 
--- no two options of a level share a short or a long name, and no two commands a name
+-- no two options of a level share a short or a long name, and no two commands a word
 abbrev pub has_distinct_names : Members → Bool
 has_distinct_names ms = are_distinct (texts_at (codes "short") (level_options ms))
-    && (are_distinct (texts_at (codes "long") (level_options ms)) && are_distinct (texts_at (codes "name") (level_commands ms)))
+    && (are_distinct (texts_at (codes "long") (level_options ms)) && are_distinct (flat_map command_words (level_commands ms)))

@@ -1,13 +1,13 @@
--- What stands at a key of a table: a text, a flag, a character, a name, or tables. Each answer is `None` where the value is of another kind.
-use Rattle.std.specs.Prelude.{chars, ℕ, List, [], ◌∷◌, ◌==◌, length, Bool, true, false, not, ◌&&◌, if◌then◌else◌, Option, Some, None, is_some, option_map, option_and_then, bytes_eq}
-use Rattle.std.specs.Char.{is_control, is_whitespace}
-use Rattle.std.specs.List.{list_all, list_any}
+-- What stands at a key of a table: a flag, a character, a section, a date, or tables. Each answer is `None` where the value is of another kind.
+use Rattle.std.specs.Prelude.{chars, ℕ, ◌+◌, nat_lt, ℤ, pos, negsuc, List, [], ◌∷◌, Bool, true, false, ◌&&◌, if◌then◌else◌, Option, Some, None, is_some, option_map, option_and_then, bytes_eq}
+use Rattle.std.specs.List.{list_any}
 use Rattle.toml_datetime.specs.declared.datetime.Datetime.{Datetime}
 use Rattle.toml_datetime.specs.declared.datetime.Date.{Date}
 use Rattle.toml_datetime.specs.declared.datetime.Offset.{Offset}
 use Rattle.toml_datetime.specs.declared.datetime.Time.{Time}
 use Rattle.toml_datetime.specs.Text.{date_text}
-use Rattle.toml.specs.Data.{Data, string, datetime, Items, no_items, item, Members, no_members, member, get_member, as_array, as_bool, as_str, as_table}
+use Rattle.toml.specs.Data.{Data, string, integer, datetime, Items, no_items, item, Members, no_members, member, get_member, as_array, as_bool, as_str, as_table}
+use Rattle.description.specs.Described.Texts.{if_passes, is_section, is_short, is_title}
 
 -- each key of the table is one of these
 abbrev pub has_only : (keys : List (List ℕ)) → Members → Bool
@@ -32,32 +32,26 @@ required_at = at_key None
 abbrev pub flag_at : (default : Bool) → (key : List ℕ) → Members → Option Bool
 flag_at default = at_key (Some default) as_bool
 
--- a name is not empty, and has no white space, no control character and no `=` in it
-abbrev pub is_name_character : ℕ → Bool
-is_name_character c = not (is_whitespace c) && (not (is_control c) && not (c == 61))
-
-abbrev pub is_name : List ℕ → Bool
-is_name text = not (length text == 0) && list_all is_name_character (chars text)
-
-abbrev pub name_in : List ℕ → Option (List ℕ)
-name_in text = if is_name text then Some text else None
-
-abbrev pub as_name : Data → Option (List ℕ)
-as_name d = option_and_then name_in (as_str d)
-
--- a short name is a text of one character, which may stand in a name and is not `-`
+-- a short name is a text of one character
 abbrev pub only_character : (characters : List ℕ) → Option ℕ
 only_character (c ∷ []) = Some c
 only_character _ = None
-
-abbrev pub is_short : ℕ → Bool
-is_short c = is_name_character c && not (c == 45)
 
 abbrev pub if_short : ℕ → Option ℕ
 if_short c = if is_short c then Some c else None
 
 abbrev pub as_short : Data → Option ℕ
 as_short d = option_and_then (λ text. option_and_then if_short (only_character (chars text))) (as_str d)
+
+-- a section of the manual, or a number of one digit
+abbrev pub digit_text : ℤ → Option (List ℕ)
+digit_text (pos n) = if nat_lt n 10 then Some ((48 + n) ∷ []) else None
+digit_text (negsuc n) = None
+
+abbrev pub as_section : Data → Option (List ℕ)
+as_section (string text) = if_passes is_section text
+as_section (integer z) = digit_text z
+as_section _ = None
 
 -- a text, or a TOML date without a time
 abbrev pub day_text : Option Date → Option Time → Option Offset → Option (List ℕ)
@@ -68,7 +62,7 @@ abbrev pub text_of_date : Datetime → Option (List ℕ)
 text_of_date dt = day_text dt.date dt.time dt.offset
 
 abbrev pub as_date : Data → Option (List ℕ)
-as_date (string text) = Some text
+as_date (string text) = if_passes is_title text
 as_date (datetime dt) = text_of_date dt
 as_date _ = None
 

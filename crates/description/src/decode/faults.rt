@@ -4,6 +4,7 @@ ghost use Rattle.description.specs.Faults.{IsMemory, IsRefusal, IsAsMuch};
 use std::alloc::{AllocError, Allocator, Global};
 use std::fmt;
 use std::fmt::Write;
+use strsim::osa_distance;
 
 /// Why a table gives no description.
 #[derive(Drop)]
@@ -44,6 +45,11 @@ pub enum Fault<'a> {
         before: &'static str,
         name: &'a str,
         after: &'static str,
+    },
+    /// A key that is none of the known ones.
+    Unknown {
+        key: &'a str,
+        known: &'static [&'static str],
     },
 }
 
@@ -107,18 +113,25 @@ impl<A: Allocator + Copy> Way<A> {
     pub fn told(&self, fault: Fault<'_>) -> DescriptionError<A>
         ensures { ¬ IsMemory result → ¬ IsRefusal fault.entry }
     {
-        let Fault::Content {
-            before,
-            name,
-            after,
-        } = fault
-        else {
-            return DescriptionError::Memory(AllocError);
-        };
-        match self.message(before, name, after) {
-            Ok(text) => DescriptionError::Content(text),
-            Err(refused) => DescriptionError::Memory(refused),
+        match fault {
+            Fault::Memory => DescriptionError::Memory(AllocError),
+            Fault::Content {
+                before,
+                name,
+                after,
+            } => content(self.message(before, name, after)),
+            Fault::Unknown { key, known } => content(self.message_of_a_key(key, known)),
         }
+    }
+
+    fn message_of_a_key(&self, key: &str, known: &[&'static str]) -> Result<String<A>, AllocError> {
+        let mut text = self.message("no key ", key, " is known here")?;
+        if let Some(near) = nearest(self.alloc, key, known)? {
+            text.push_str("; is it ")?;
+            text.push_str(near)?;
+            text.push('?')?;
+        }
+        Ok(text)
     }
 
     fn message(&self, before: &str, name: &str, after: &str) -> Result<String<A>, AllocError> {
@@ -130,6 +143,39 @@ impl<A: Allocator + Copy> Way<A> {
         text.push_str(after)?;
         Ok(text)
     }
+}
+
+// The error of this text.
+fn content<A: Allocator>(text: Result<String<A>, AllocError>) -> DescriptionError<A> {
+    match text {
+        Ok(text) => DescriptionError::Content(text),
+        Err(refused) => DescriptionError::Memory(refused),
+    }
+}
+
+// A key of more bytes is near none of the known ones, whatever they are.
+const LONGEST: usize = 32;
+
+// The known key, the first of some, that takes the fewest edits: at most two, and fewer than half as many as the key
+// has letters. Two neighbours that change places are one edit.
+fn nearest<A: Allocator + Copy>(
+    alloc: A,
+    key: &str,
+    known: &[&'static str],
+) -> Result<Option<&'static str>, AllocError> {
+    if key.len() > LONGEST {
+        return Ok(None);
+    }
+    let mut bound = key.chars().count().div_ceil(2).min(3);
+    let mut near = None;
+    for word in known {
+        let edits = osa_distance(alloc, key, *word)?;
+        if edits < bound {
+            bound = edits;
+            near = Some(*word);
+        }
+    }
+    Ok(near)
 }
 
 // Writes a name, quoted where it has a control character: what is said stays one line.

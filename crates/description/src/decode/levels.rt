@@ -13,8 +13,9 @@ ghost use Rattle.description_parts.specs.View.{command_said, commands_said, grou
 use super::faults::{Fault, Way};
 use super::options::{choices_in, options_in, positionals_in};
 use super::taken::see_names;
+use super::texts::Kind;
 use super::values::{
-    flag_at, is_empty, push, required_name_at, required_text_at, see_keys, short_at, table_of,
+    flag_at, is_empty, push, required_text_at, required_word_at, see_keys, short_at, table_of,
     tables_at, text_at,
 };
 use description_parts::levels::{Command, Group, Level};
@@ -88,10 +89,10 @@ fn texts_from<'a>(table: &'a Table) -> Result<Texts<'a>, Fault<'a>>
     ensures { Reads (texts_from (table_view table.now)) (λ texts. texts_seen texts) result }
 {
     Ok(Texts {
-        about: text_at(table, "about")?,
-        header: text_at(table, "header")?,
-        footer: text_at(table, "footer")?,
-        usage: text_at(table, "usage")?,
+        about: text_at(table, "about", Kind::Text)?,
+        header: text_at(table, "header", Kind::Text)?,
+        footer: text_at(table, "footer", Kind::Text)?,
+        usage: text_at(table, "usage", Kind::Text)?,
     })
 }
 
@@ -198,9 +199,9 @@ fn command_head<'a, A: Allocator + Copy>(
 {
     see_keys(table, &COMMAND_KEYS)?;
     Ok(CommandHead {
-        name: required_name_at(names, table, "name")?,
+        name: required_word_at(names, table, "name", Kind::Command)?,
         short: short_at(table, "short")?,
-        help: text_at(table, "help")?,
+        help: text_at(table, "help", Kind::Text)?,
         outline: outline_from(alloc, table)?,
     })
 }
@@ -252,7 +253,7 @@ fn group_head<'a>(table: &'a Table) -> Result<GroupHead<'a>, Fault<'a>>
         lists_depth ((group_head_seen head).lists) ≤ members_depth (table_view table.now)) }
 {
     see_keys(table, &GROUP_KEYS)?;
-    let title = required_text_at(table, "title")?;
+    let title = required_text_at(table, "title", Kind::Heading)?;
     let lists = lists_from(table)?;
     if has_members(&lists) {
         Ok(GroupHead { title, lists })

@@ -10,9 +10,10 @@ ghost use Rattle.description.specs.Faults.{Reads};
 ghost use Rattle.description_parts.specs.View.{choice_said, opt_said, positional_said};
 
 use super::faults::{Fault, Way};
+use super::texts::Kind;
 use super::values::{
-    flag_at, is_empty, name_at, push, required_word_at, see_keys, short_at, table_of, tables_at,
-    text_at, word_at,
+    flag_at, is_empty, push, required_word_at, see_keys, short_at, table_of, tables_at, text_at,
+    word_at,
 };
 use bpaf_help::item::ShortLong;
 use description_parts::options::{Choice, Opt};
@@ -35,7 +36,7 @@ fn option_name<'a>(names: &mut Names, table: &'a Table) -> Result<ShortLong, Fau
     ensures { Reads (option_name (table_view table.now)) (λ name. name_of name) result }
 {
     let short = short_at(table, "short")?;
-    let long = name_at(names, table, "long")?;
+    let long = word_at(names, table, "long", Kind::Long)?;
     match either_name(short, long) {
         Some(name) => Ok(name),
         None => Err(Fault::at("short or long", " is missing")),
@@ -59,9 +60,9 @@ fn option_of<'a>(names: &mut Names, table: &'a Table) -> Result<Opt<'a>, Fault<'
     ensures { Reads (option_of (table_view table.now)) (λ option. opt_said option) result }
 {
     let name = option_name(names, table)?;
-    let value = word_at(names, table, "value")?;
-    let help = text_at(table, "help")?;
-    let env = name_at(names, table, "env")?;
+    let value = word_at(names, table, "value", Kind::Value)?;
+    let help = text_at(table, "help", Kind::Text)?;
+    let env = word_at(names, table, "env", Kind::Name)?;
     Ok(Opt {
         name,
         value,
@@ -186,8 +187,8 @@ fn positional_of<'a>(names: &mut Names, table: &'a Table) -> Result<Positional<'
     ensures { Reads (positional_of (table_view table.now)) (λ positional. positional_said positional) result }
 {
     Ok(Positional {
-        value: required_word_at(names, table, "value")?,
-        help: text_at(table, "help")?,
+        value: required_word_at(names, table, "value", Kind::Value)?,
+        help: text_at(table, "help", Kind::Text)?,
         required: flag_at(table, "required", true)?,
         repeated: flag_at(table, "repeated", false)?,
         strict: flag_at(table, "strict", false)?,

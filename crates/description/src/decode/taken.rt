@@ -2,9 +2,10 @@
 ghost use Rattle.std.specs.Prelude.{◌≡◌, ◌++◌, codes, IfOk, OnOk, flat_map, is_none, option_to_list, true, false};
 ghost use Rattle.toml.specs.Data.{as_table};
 ghost use Rattle.toml.specs.View.{items_view, table_view, view};
-ghost use Rattle.description.specs.Described.Taken.{are_distinct, has_distinct_names, level_commands};
-ghost use Rattle.description.specs.Described.Taken.{level_options, own_options, tables_in, tables_under};
-ghost use Rattle.description.specs.Described.Taken.{texts_at};
+ghost use Rattle.bpaf_meta.specs.View.{text_of};
+ghost use Rattle.description.specs.Described.Taken.{are_distinct, command_words, has_distinct_names};
+ghost use Rattle.description.specs.Described.Taken.{level_commands, level_options, other_word, own_options};
+ghost use Rattle.description.specs.Described.Taken.{tables_in, tables_under, text_under, texts_at};
 ghost use Rattle.description.specs.Described.Steps.{views_of, words_of};
 ghost use Rattle.description.specs.Faults.{Sees};
 
@@ -14,37 +15,50 @@ use std::alloc::{AllocError, Allocator};
 use std::collections::HashSet;
 use toml::{Table, Value};
 
-/// Refuses a level on which two options share a short or a long name, or two commands a name. It looks at the
-/// names alone, since what stands inside the tables is read later.
+/// Refuses a level on which two options share a short or a long name, or two commands a name or a
+/// short name. It looks at the names alone, since what stands inside the tables is read later.
 pub fn see_names<'a, A: Allocator + Copy>(alloc: A, table: &'a Table) -> Result<(), Fault<'a>>
     ensures { Sees (has_distinct_names (table_view table.now)) result }
 {
     let mut options = Vec::new(alloc);
     put_level_options(&mut options, table, alloc)?;
-    see_distinct(alloc, &options, "short", "-")?;
-    see_distinct(alloc, &options, "long", "--")?;
+    see_options(alloc, &options, "short", "-")?;
+    see_options(alloc, &options, "long", "--")?;
     see_commands(alloc, table)
 }
 
+// The short name of a command may be its own name, but no word of another command.
 fn see_commands<'a, A: Allocator + Copy>(alloc: A, table: &'a Table) -> Result<(), Fault<'a>>
-    ensures { Sees (are_distinct (texts_at (codes "name") (level_commands (table_view table.now)))) result }
+    ensures { Sees (are_distinct (flat_map command_words (level_commands (table_view table.now)))) result }
 {
     let mut commands = Vec::new(alloc);
     put_level_commands(&mut commands, table, alloc)?;
-    see_distinct(alloc, &commands, "name", "command ")
+    let mut words = Vec::new(alloc);
+    put_command_words(&mut words, &commands)?;
+    see_distinct(alloc, &words, "command ")
+}
+
+fn see_options<'a, A: Allocator + Copy>(
+    alloc: A,
+    options: &[&'a Table],
+    key: &str,
+    prefix: &'static str,
+) -> Result<(), Fault<'a>>
+    ensures { Sees (are_distinct (texts_at key.now (views_of options.now))) result }
+{
+    let mut texts = Vec::new(alloc);
+    put_texts(&mut texts, options, key)?;
+    see_distinct(alloc, &texts, prefix)
 }
 
 fn see_distinct<'a, A: Allocator + Copy>(
     alloc: A,
-    tables: &[&'a Table],
-    key: &str,
+    texts: &[&'a str],
     prefix: &'static str,
 ) -> Result<(), Fault<'a>>
-    ensures { Sees (are_distinct (texts_at key.now (views_of tables.now))) result }
+    ensures { Sees (are_distinct (words_of texts.now)) result }
 {
-    let mut texts = Vec::new(alloc);
-    put_texts(&mut texts, tables, key)?;
-    match first_repeated(alloc, &texts)? {
+    match first_repeated(alloc, texts)? {
         None => Ok(()),
         Some(text) => Err(Fault::Content {
             before: prefix,
@@ -81,9 +95,64 @@ fn put_texts<'a, A: Allocator>(
         ++ texts_at key.now (views_of tables.now)) }
 {
     for table in tables {
-        if let Some(Value::String(text)) = value_at(*table, key) {
-            texts.push(text.as_str())?;
-        }
+        put_text(texts, text_under(*table, key))?;
+    }
+    Ok(())
+}
+
+fn put_command_words<'a, A: Allocator>(
+    words: &mut Vec<&'a str, A>,
+    commands: &[&'a Table],
+) -> Result<(), AllocError>
+    ensures { OnOk result (words_of words.new.items ≡ words_of words.old.items
+        ++ flat_map command_words (views_of commands.now)) }
+{
+    for command in commands {
+        put_words_of(words, *command)?;
+    }
+    Ok(())
+}
+
+fn put_words_of<'a, A: Allocator>(
+    words: &mut Vec<&'a str, A>,
+    command: &'a Table,
+) -> Result<(), AllocError>
+    ensures { OnOk result (words_of words.new.items ≡ words_of words.old.items
+        ++ command_words (table_view command.now)) }
+{
+    let name = text_under(command, "name");
+    put_text(words, name)?;
+    put_text(words, other_word(name, text_under(command, "short")))
+}
+
+// The short name, where it is another word than the name.
+fn other_word<'a>(name: Option<&str>, short: Option<&'a str>) -> Option<&'a str>
+    ensures { text_of result ≡ other_word (text_of name.entry) (text_of short.entry) }
+{
+    match (name, short) {
+        (Some(name), Some(short)) => { if name == short { None } else { Some(short) } }
+        (_, short) => short,
+    }
+}
+
+fn text_under<'a>(table: &'a Table, key: &str) -> Option<&'a str>
+    ensures { text_of result ≡ text_under key.now (table_view table.now) }
+{
+    match value_at(table, key) {
+        Some(Value::String(text)) => Some(text.as_str()),
+        _ => None,
+    }
+}
+
+fn put_text<'a, A: Allocator>(
+    texts: &mut Vec<&'a str, A>,
+    text: Option<&'a str>,
+) -> Result<(), AllocError>
+    ensures { OnOk result (words_of texts.new.items ≡ words_of texts.old.items
+        ++ option_to_list (text_of text.entry)) }
+{
+    if let Some(text) = text {
+        texts.push(text)?;
     }
     Ok(())
 }

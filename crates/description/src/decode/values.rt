@@ -1,16 +1,18 @@
 //! What stands at a key of a table.
-ghost use Rattle.std.specs.Prelude.{◌≡◌, option_map, true, false, chars, bytes_eq, OnOk, [], ◌∷◌, ◌++◌};
-ghost use Rattle.std.specs.List.{list_all, list_any};
+ghost use Rattle.std.specs.Prelude.{◌≡◌, option_and_then, option_map, chars, bytes_eq, OnOk, [], ◌∷◌, ◌++◌};
+ghost use Rattle.std.specs.List.{list_any};
 ghost use Rattle.bpaf_meta.specs.View.{text_of};
-ghost use Rattle.toml.specs.Data.{as_str, as_table, get_member};
+ghost use Rattle.toml.specs.Data.{as_table, get_member};
 ghost use Rattle.toml.specs.View.{items_view, table_view, view};
-ghost use Rattle.description.specs.Described.Values.{are_tables, is_empty, as_name, as_short, flag_at};
-ghost use Rattle.description.specs.Described.Values.{has_only, is_name, is_name_character, optional_at};
-ghost use Rattle.description.specs.Described.Values.{required_at, is_short, only_character, tables_at};
+ghost use Rattle.description.specs.Described.Kinds.{as_kind};
+ghost use Rattle.description.specs.Described.Values.{are_tables, is_empty, as_section, as_short, digit_text};
+ghost use Rattle.description.specs.Described.Values.{flag_at, has_only};
+ghost use Rattle.description.specs.Described.Values.{if_short, optional_at, required_at, only_character, tables_at};
 ghost use Rattle.description.specs.Described.Steps.{words_of};
 ghost use Rattle.description.specs.Faults.{Reads, Sees};
 
 use super::faults::Fault;
+use super::texts::{Kind, checked, refused_as_short};
 use lasting_names::Names;
 use std::alloc::{AllocError, Allocator};
 use toml::{Table, Value};
@@ -30,15 +32,14 @@ pub fn table_of<'a>(value: &'a Value) -> Result<&'a Table, Fault<'a>>
 }
 
 /// Refuses a table that has a key which is none of these.
-pub fn see_keys<'a>(table: &'a Table, keys: &[&str]) -> Result<(), Fault<'a>>
+pub fn see_keys<'a>(table: &'a Table, keys: &'static [&'static str]) -> Result<(), Fault<'a>>
     ensures { Sees (has_only (words_of keys.now) (table_view table.now)) result }
 {
     for (key, _) in table.iter() {
         if !is_known(key.as_str(), keys) {
-            return Err(Fault::Content {
-                before: "no key ",
-                name: key.as_str(),
-                after: " is known here",
+            return Err(Fault::Unknown {
+                key: key.as_str(),
+                known: keys,
             });
         }
     }
@@ -63,50 +64,60 @@ pub fn value_at<'a>(table: &'a Table, key: &str) -> Option<&'a Value>
     table.get(key)
 }
 
-/// The text at a key.
-pub fn text_at<'a>(table: &'a Table, key: &'static str) -> Result<Option<&'a str>, Fault<'a>>
-    ensures { Reads (optional_at as_str key.now (table_view table.now)) (λ text. text_of text) result }
+/// The text of a kind at a key.
+pub fn text_at<'a>(
+    table: &'a Table,
+    key: &'static str,
+    kind: Kind,
+) -> Result<Option<&'a str>, Fault<'a>>
+    ensures { Reads (optional_at (as_kind kind) key.now (table_view table.now)) (λ text. text_of text) result }
 {
     match value_at(table, key) {
         None => Ok(None),
-        Some(Value::String(text)) => Ok(Some(text.as_str())),
+        Some(Value::String(text)) => Ok(Some(checked(text.as_str(), key, kind)?)),
         Some(_) => Err(Fault::at(key, " is no text")),
     }
 }
 
-/// The text at a key that may not be left out.
-pub fn required_text_at<'a>(table: &'a Table, key: &'static str) -> Result<&'a str, Fault<'a>>
-    ensures { Reads (required_at as_str key.now (table_view table.now)) (λ text. text.now) result }
+/// The text of a kind at a key that may not be left out.
+pub fn required_text_at<'a>(
+    table: &'a Table,
+    key: &'static str,
+    kind: Kind,
+) -> Result<&'a str, Fault<'a>>
+    ensures { Reads (required_at (as_kind kind) key.now (table_view table.now)) (λ text. text.now) result }
 {
-    match text_at(table, key)? {
+    match text_at(table, key, kind)? {
         Some(text) => Ok(text),
         None => Err(Fault::at(key, " is missing")),
     }
 }
 
-/// The text at a key, as one that lasts.
+/// The text of a kind at a key, as one that lasts.
 pub fn word_at<'a>(
     names: &mut Names,
     table: &'a Table,
     key: &'static str,
+    kind: Kind,
 ) -> Result<Option<&'static str>, Fault<'a>>
-    ensures { Reads (optional_at as_str key.now (table_view table.now)) (λ word. text_of word) result }
+    ensures { Reads (optional_at (as_kind kind) key.now (table_view table.now)) (λ word. text_of word) result }
 {
-    match text_at(table, key)? {
+    match text_at(table, key, kind)? {
         Some(text) => Ok(Some(names.get(text)?)),
         None => Ok(None),
     }
 }
 
-/// The text at a key that may not be left out, as one that lasts.
+/// The text of a kind at a key that may not be left out, as one that lasts.
 pub fn required_word_at<'a>(
     names: &mut Names,
     table: &'a Table,
     key: &'static str,
+    kind: Kind,
 ) -> Result<&'static str, Fault<'a>>
-    ensures { Reads (required_at as_str key.now (table_view table.now)) (λ word. word.now) result }
+    ensures { Reads (required_at (as_kind kind) key.now (table_view table.now)) (λ word. word.now) result }
 {
-    match word_at(names, table, key)? {
+    match word_at(names, table, key, kind)? {
         Some(word) => Ok(word),
         None => Err(Fault::at(key, " is missing")),
     }
@@ -123,53 +134,6 @@ pub fn flag_at<'a>(table: &'a Table, key: &'static str, default: bool) -> Result
     }
 }
 
-fn is_name_character(character: char) -> bool
-    ensures { result ≡ is_name_character character }
-{
-    !character.is_whitespace() && !character.is_control() && character != '='
-}
-
-fn is_name(text: &str) -> bool
-    ensures { result ≡ is_name text.now }
-{
-    !text.is_empty() && are_name_characters(text)
-}
-
-fn are_name_characters(text: &str) -> bool
-    ensures { result ≡ list_all is_name_character (chars text.now) }
-{
-    text.chars().all(is_name_character)
-}
-
-/// The name at a key, as a text that lasts.
-pub fn name_at<'a>(
-    names: &mut Names,
-    table: &'a Table,
-    key: &'static str,
-) -> Result<Option<&'static str>, Fault<'a>>
-    ensures { Reads (optional_at as_name key.now (table_view table.now)) (λ name. text_of name) result }
-{
-    match text_at(table, key)? {
-        None => Ok(None),
-        Some(text) if is_name(text) => Ok(Some(names.get(text)?)),
-        Some(_) => Err(Fault::at(key, " is no name")),
-    }
-}
-
-/// The name at a key that may not be left out.
-pub fn required_name_at<'a>(
-    names: &mut Names,
-    table: &'a Table,
-    key: &'static str,
-) -> Result<&'static str, Fault<'a>>
-    ensures { Reads (required_at as_name key.now (table_view table.now)) (λ name. name.now) result }
-{
-    match name_at(names, table, key)? {
-        Some(name) => Ok(name),
-        None => Err(Fault::at(key, " is missing")),
-    }
-}
-
 // The character of a text that has one.
 fn only_character(text: &str) -> Option<char>
     ensures { result ≡ only_character (chars text.now) }
@@ -183,23 +147,60 @@ fn only_character(text: &str) -> Option<char>
     }
 }
 
-fn is_short(character: char) -> bool
-    ensures { result ≡ is_short character }
-{
-    is_name_character(character) && character != '-'
-}
-
 /// The short name at a key.
 pub fn short_at<'a>(table: &'a Table, key: &'static str) -> Result<Option<char>, Fault<'a>>
     ensures { Reads (optional_at as_short key.now (table_view table.now)) (λ short. short) result }
 {
-    let Some(text) = text_at(table, key)? else {
-        return Ok(None);
+    match value_at(table, key) {
+        None => Ok(None),
+        Some(Value::String(text)) => Ok(Some(short_in(text.as_str(), key)?)),
+        Some(_) => Err(Fault::at(key, " is no text")),
+    }
+}
+
+fn short_in<'a>(text: &str, key: &'static str) -> Result<char, Fault<'a>>
+    ensures { Reads (option_and_then if_short (only_character (chars text.now))) (λ short. short) result }
+{
+    let Some(short) = only_character(text) else {
+        return Err(Fault::at(key, " is not one character"));
     };
-    match only_character(text) {
-        Some(short) if is_short(short) => Ok(Some(short)),
-        Some(_) => Err(Fault::at(key, " is no short name")),
-        None => Err(Fault::at(key, " is not one character")),
+    match refused_as_short(short) {
+        None => Ok(short),
+        Some(after) => Err(Fault::at(key, after)),
+    }
+}
+
+/// The section of the manual at a key, as a text or as a number of one digit.
+pub fn section_at<'a>(table: &'a Table, key: &'static str) -> Result<Option<&'a str>, Fault<'a>>
+    ensures { Reads (optional_at as_section key.now (table_view table.now)) (λ section. text_of section) result }
+{
+    match value_at(table, key) {
+        None => Ok(None),
+        Some(Value::String(text)) => Ok(Some(checked(text.as_str(), key, Kind::Section)?)),
+        Some(Value::Integer(number)) => match digit_text(*number) {
+            None => Err(Fault::at(key, " is no number from 0 to 9")),
+            digit => Ok(digit),
+        },
+        Some(_) => Err(Fault::at(key, " is no text and no number")),
+    }
+}
+
+// The text of a number of one digit.
+fn digit_text(number: i64) -> Option<&'static str>
+    ensures { text_of result ≡ digit_text number }
+{
+    match number {
+        0 => Some("0"),
+        1 => Some("1"),
+        2 => Some("2"),
+        3 => Some("3"),
+        4 => Some("4"),
+        5 => Some("5"),
+        6 => Some("6"),
+        7 => Some("7"),
+        8 => Some("8"),
+        9 => Some("9"),
+        _ => None,
     }
 }
 

@@ -1,5 +1,9 @@
 //! What is said of bad input.
-use crate::clidoc::programs::answers;
+use crate::clidoc::ends::AMPLE;
+use crate::clidoc::long_pages::{front, push_between};
+use crate::clidoc::programs::ends;
+use crate::stand_ins::desk::Desk;
+use linked_list_allocator::LocalHeap;
 use std::alloc::{AllocError, Global};
 use std::test::Fail;
 
@@ -23,7 +27,7 @@ const ROWS: [(&[u8], &str); 25] = [
     // No description.
     (b"", "clidoc: description: name is missing\n"),
     (b"[name]\n", "clidoc: description: name is no text\n"),
-    (b"name = ''\n", "clidoc: description: name is no name\n"),
+    (b"name = ''\n", "clidoc: description: name is empty\n"),
     (
         b"name = 'app'\nlnog = 1\n",
         "clidoc: description: no key lnog is known here\n",
@@ -42,7 +46,7 @@ const ROWS: [(&[u8], &str); 25] = [
     ),
     (
         b"name = 'app'\n[[option]]\nshort = '-'\n",
-        "clidoc: option 1: short is no short name\n",
+        "clidoc: option 1: short begins with -\n",
     ),
     (
         b"name = 'app'\n[[option]]\nlong = 'v'\nhelp = 1\n",
@@ -67,7 +71,7 @@ const ROWS: [(&[u8], &str); 25] = [
     ),
     (
         b"name = 'app'\n[[command]]\nname = 'a'\n[[command]]\nname = 'b'\n[[command.option]]\nlnog = 1\n",
-        "clidoc: command 2, option 1: no key lnog is known here\n",
+        "clidoc: command 2, option 1: no key lnog is known here; is it long?\n",
     ),
     // Of several faults the first: unknown keys by their bytes, then the keys in their order, then what is taken,
     // then the tables inside.
@@ -90,7 +94,7 @@ const ROWS: [(&[u8], &str); 25] = [
     ),
     (
         b"name = 'app'\n[[command]]\nlnog = 1\n[[option]]\nlnog = 1\n",
-        "clidoc: option 1: no key lnog is known here\n",
+        "clidoc: option 1: no key lnog is known here; is it long?\n",
     ),
     (
         b"name = 'app'\n[[option]]\nshort = 'vv'\n[[option]]\nlnog = 1\n",
@@ -100,71 +104,37 @@ const ROWS: [(&[u8], &str); 25] = [
 
 #[test]
 fn says_what_is_wrong(rt: HostRuntime) -> Result<(), Fail> {
-    for (input, said) in ROWS {
-        answers(&rt, &["clidoc", "full"], input, 1, b"", said)?;
+    let heap = LocalHeap::new(rt.alloc(), AMPLE)?;
+    for (input, line) in ROWS {
+        let desk = Desk::new(rt.alloc(), &["clidoc", "full"], input, b"", line);
+        assert!(rt; ends(&heap, rt.alloc(), &desk, 1, 0), "{line}");
     }
     Ok(())
 }
 
 // Commands in one another.
 fn nested(global: Global, depth: usize) -> Result<String, AllocError> {
+    let path = ".command".repeat(global, depth)?;
     let mut text = String::from_str(global, "name = 'app'\n")?;
-    let mut header = String::from_str(global, "command")?;
-    for _ in 0..depth {
-        text.push_str("[[")?;
-        text.push_str(header.as_str())?;
-        text.push_str("]]\nname = 'c'\n")?;
-        header.push_str(".command")?;
+    for level in 0..depth {
+        let above = front(&path, level.saturating_mul(8));
+        push_between(&mut text, ["[[command", "]]\nname = 'c'\n"], above)?;
     }
     Ok(text)
 }
+
+const ON_USAGE: &[&str] = &["clidoc", "usage"];
 
 #[test]
 fn commands_stand_in_one_another(rt: HostRuntime) -> Result<(), Fail> {
+    let heap = LocalHeap::new(rt.alloc(), AMPLE)?;
     let deep = nested(rt.alloc(), 80)?;
     let page = b"app COMMAND ...\n";
-    answers(&rt, &["clidoc", "usage"], deep.as_bytes(), 0, page, "")?;
+    let desk = Desk::new(rt.alloc(), ON_USAGE, deep.as_bytes(), page, "");
+    assert!(rt; ends(&heap, rt.alloc(), &desk, 0, page.len()));
     let deeper = nested(rt.alloc(), 81)?;
-    let said = "clidoc: line 162, column 3: cannot recurse further; max recursion depth met\n";
-    answers(&rt, &["clidoc", "usage"], deeper.as_bytes(), 1, b"", said)
-}
-
-const LONG: usize = 10_000_000;
-
-const SENTENCE: &str = "One of many, with a help text that says nothing and takes space. ";
-
-// A long description of many options, each with a name of its own.
-fn many_options(global: Global) -> Result<String, AllocError> {
-    let help = SENTENCE.repeat(global, 8)?;
-    let mut text = String::from_str(global, "name = 'app'\n")?;
-    for number in 0..20_000usize {
-        let option = format!(in global; "[[option]]\nlong = 'option-{number}'\nhelp = '{help}'\n")?;
-        text.push_str(option.as_str())?;
-    }
-    Ok(text)
-}
-
-#[test]
-fn a_long_description_is_read_to_its_end(rt: HostRuntime) -> Result<(), Fail> {
-    let mut text = many_options(rt.alloc())?;
-    assert!(rt; text.len() > LONG);
-    text.push_str("[[option]]\nlong = 'option-0'\n")?;
-    answers(
-        &rt,
-        &["clidoc", "usage"],
-        text.as_bytes(),
-        1,
-        b"",
-        "clidoc: description: --option-0 is taken\n",
-    )
-}
-
-#[test]
-fn a_long_text_is_read(rt: HostRuntime) -> Result<(), Fail> {
-    let mut text = String::from_str(rt.alloc(), "name = 'app'\nabout = '")?;
-    for _ in 0..LONG / 10 {
-        text.push_str("Many words")?;
-    }
-    text.push_str("'\n")?;
-    answers(&rt, &["clidoc", "usage"], text.as_bytes(), 0, b"app \n", "")
+    let line = "clidoc: line 162, column 3: cannot recurse further; max recursion depth met\n";
+    let desk = Desk::new(rt.alloc(), ON_USAGE, deeper.as_bytes(), b"", line);
+    assert!(rt; ends(&heap, rt.alloc(), &desk, 1, 0));
+    Ok(())
 }

@@ -1,12 +1,13 @@
 //! The page of each form, and places in a text.
 
-ghost use Rattle.std.specs.Prelude.{IfOk};
+ghost use Rattle.std.specs.Prelude.{IfSome};
+ghost use Rattle.clidoc_engine.specs.Chosen.{page_said};
 ghost use Rattle.clidoc_engine.specs.Runs.{HasPage};
 
 use clidoc_engine::engine::run_description;
-use clidoc_engine::faults::Fault;
 use clidoc_engine::places::{Place, place_behind};
-use clidoc_engine::words::{Form, choose};
+use clidoc_engine::words::{Console, ConsoleForm, Page};
+use linked_list_allocator::LocalHeap;
 use std::alloc::Global;
 use std::test::Fail;
 use watched::Watched;
@@ -20,6 +21,34 @@ long = 'verbose'
 help = 'Talk more'
 required = true
 ";
+
+/// A page of the application.
+#[derive(Clone, Copy, Debug)]
+pub enum Form {
+    Usage,
+    Full,
+    Brief,
+    Html,
+    Markdown,
+    Man,
+}
+
+/// The page, of 100 columns where it has any.
+pub fn page_of(global: Global, form: Form) -> Page<'static, Global> {
+    let form = match form {
+        Form::Usage => ConsoleForm::Usage,
+        Form::Full => ConsoleForm::Full,
+        Form::Brief => ConsoleForm::Brief,
+        Form::Html => return Page::Html,
+        Form::Markdown => return Page::Markdown,
+        Form::Man => return Page::Man,
+    };
+    Page::Console(Console {
+        form,
+        commands: Vec::new(global),
+        width: 100,
+    })
+}
 
 /// Each form with its word and the page of the description.
 pub const PAGES: [(Form, &str, &[u8]); 6] = [
@@ -47,34 +76,34 @@ pub const PAGES: [(Form, &str, &[u8]); 6] = [
 pub const HELP: &[u8] =
     b"Prints things\n\nUsage: app -v\n\nAvailable options:\n    -v, --verbose  Talk more\n";
 
-/// The page in memory. The engine's promises over ends that tell their bytes say which page it is.
-pub fn page(global: Global, form: Form, input: &[u8]) -> Result<Vec<u8>, Fault>
-    ensures { IfOk result (λ page. HasPage form input.now page.items) }
+// The page in memory. The engine's promises over ends that tell their bytes say which page it is.
+fn page<'a>(
+    heap: &'a LocalHeap,
+    global: Global,
+    asked: &Page<'_, Global>,
+    input: &[u8],
+) -> Option<Vec<u8, &'a LocalHeap>>
+    ensures { IfSome result (λ page. HasPage (page_said asked.now) input.now page.items) }
 {
     let mut reader = Watched::new(input);
-    let mut writer = Watched::new(Vec::new(global));
-    run_description(global, global, form, &mut reader, &mut writer)?;
-    Ok(writer.into_inner())
+    let mut writer = Watched::new(Vec::new(heap));
+    let outcome = run_description(heap, global, asked, &mut reader, &mut writer);
+    if outcome.is_ok() {
+        Some(writer.into_inner())
+    } else {
+        None
+    }
 }
 
 #[test]
 fn shows_each_page(rt: HostRuntime) -> Result<(), Fail> {
+    let heap = LocalHeap::new(rt.alloc(), 1 << 20)?;
     for (form, word, want) in PAGES {
-        assert!(rt; page(rt.alloc(), form, INPUT)?.as_slice() == want, "{word}");
+        let asked = page_of(rt.alloc(), form);
+        let page = page(&heap, rt.alloc(), &asked, INPUT);
+        assert!(rt; page.is_some_and(|page| page.as_slice() == want), "{word}");
     }
     Ok(())
-}
-
-#[test]
-fn chooses_by_one_word(rt: HostRuntime) {
-    for (form, word, _) in PAGES {
-        assert!(rt; choose(&[word]) == Some(form), "{word}");
-        assert!(rt; choose(&[word, word]) == None, "{word}");
-    }
-    for word in ["", "Full", "full ", "ful", "fulll", "text"] {
-        assert!(rt; choose(&[word]) == None, "{word}");
-    }
-    assert!(rt; choose(&[]) == None);
 }
 
 #[test]
@@ -91,6 +120,6 @@ fn counts_lines_and_characters(rt: HostRuntime) {
     ];
     for (front, line, column) in rows {
         let want = Place { line, column };
-        assert!(rt; place_behind(front.as_bytes()) == want, "{front:?}");
+        assert!(rt; place_behind(front.as_bytes()) == want, "{line} {column}");
     }
 }

@@ -4,10 +4,11 @@ ghost use Rattle.std.specs.Prelude.{IfOk};
 ghost use Rattle.helpdoc_engine.specs.Rendering.{IsPage, document_of_text, text_title};
 ghost use Rattle.helpdoc_engine.specs.Sample.{sample_document, sample_title};
 
+use crate::stand_ins::lines::says;
 use helpdoc_engine::engine::{run_sample, run_text};
 use helpdoc_engine::faults::Fault;
 use helpdoc_engine::words::{Choice, Form};
-use std::alloc::Global;
+use linked_list_allocator::LocalHeap;
 use std::test::Fail;
 use watched::Watched;
 
@@ -47,64 +48,68 @@ pub const PAGES: [(Choice, &[u8]); 10] = [
     ),
 ];
 
+// What other texts give.
+const TEXTS: [(Form, &[u8], &[u8]); 6] = [
+    (Form::Full, b"", b""),
+    (Form::Brief, b"", b""),
+    (Form::Html, b"", b""),
+    (Form::Markdown, b"", b""),
+    (
+        Form::Man,
+        b"",
+        b".ie \\n(.g .ds Aq \\(aq\n.el .ds Aq '\n.TH helpdoc 1 - - \"\"\n\\fR\\fP",
+    ),
+    (Form::Brief, b"shown\n\nmore", b"shown\n"),
+];
+
 // A text's page in memory. The engine's promises over ends that tell their bytes say which page it is.
-fn text_page(alloc: Global, form: Form, input: &[u8]) -> Result<Vec<u8>, Fault>
+fn text_page<'a>(
+    heap: &'a LocalHeap,
+    form: Form,
+    input: &[u8],
+) -> Result<Vec<u8, &'a LocalHeap>, Fault>
     ensures { IfOk result (λ page. IsPage text_title form (document_of_text input.now) page.items) }
 {
     let mut reader = Watched::new(input);
-    let mut writer = Watched::new(Vec::new(alloc));
-    run_text(alloc, form, &mut reader, &mut writer)?;
+    let mut writer = Watched::new(Vec::new(heap));
+    run_text(heap, form, &mut reader, &mut writer)?;
     Ok(writer.into_inner())
 }
 
 // The sample's page in memory.
-fn sample_page(alloc: Global, form: Form) -> Result<Vec<u8>, Fault>
+fn sample_page<'a>(heap: &'a LocalHeap, form: Form) -> Result<Vec<u8, &'a LocalHeap>, Fault>
     ensures { IfOk result (λ page. IsPage sample_title form (sample_document form) page.items) }
 {
-    let mut writer = Watched::new(Vec::new(alloc));
-    run_sample(alloc, form, &mut writer)?;
+    let mut writer = Watched::new(Vec::new(heap));
+    run_sample(heap, form, &mut writer)?;
     Ok(writer.into_inner())
+}
+
+fn has_page(heap: &LocalHeap, choice: Choice, input: &[u8], want: &[u8]) -> bool {
+    let page = match choice {
+        Choice::Text(form) => text_page(heap, form, input),
+        Choice::Sample(form) => sample_page(heap, form),
+    };
+    page.is_ok_and(|page| page.as_slice() == want)
 }
 
 #[test]
 fn shows_each_page(rt: HostRuntime) -> Result<(), Fail> {
+    let heap = LocalHeap::new(rt.alloc(), 1 << 20)?;
     for (choice, want) in PAGES {
-        let page = match choice {
-            Choice::Text(form) => text_page(rt.alloc(), form, INPUT)?,
-            Choice::Sample(form) => sample_page(rt.alloc(), form)?,
-        };
-        assert!(rt; page.as_slice() == want, "{choice:?}");
+        assert!(rt; has_page(&heap, choice, INPUT, want), "{choice:?}");
+    }
+    for (form, input, want) in TEXTS {
+        assert!(rt;
+            has_page(&heap, Choice::Text(form), input, want),
+            "{form:?}"
+        );
     }
     Ok(())
 }
 
 #[test]
-fn shows_other_texts(rt: HostRuntime) -> Result<(), Fail> {
-    for form in [
-        Form::Full,
-        Form::Brief,
-        Form::Html,
-        Form::Markdown,
-        Form::Man,
-    ] {
-        let nothing = text_page(rt.alloc(), form, b"")?;
-        assert!(rt; nothing.is_empty() != (form == Form::Man), "{form:?}");
-    }
-    let brief = text_page(rt.alloc(), Form::Brief, b"shown\n\nmore")?;
-    assert!(rt; brief.as_slice() == b"shown\n".as_slice());
-    Ok(())
-}
-
-#[test]
-fn refuses_what_is_no_text(rt: HostRuntime) {
-    for input in [b"\xff".as_slice(), b"hello \xff", b"\xe2\x82"] {
-        let refused = text_page(rt.alloc(), Form::Full, input);
-        assert!(rt; refused.err() == Some(Fault::NotUtf8), "{input:?}");
-    }
-}
-
-#[test]
-fn says_each_fault(rt: HostRuntime) -> Result<(), Fail> {
+fn says_each_fault(rt: HostRuntime) {
     let rows = [
         (Fault::NotUtf8, "helpdoc: input is not UTF-8"),
         (Fault::Read, "helpdoc: read failed"),
@@ -113,7 +118,6 @@ fn says_each_fault(rt: HostRuntime) -> Result<(), Fail> {
         (Fault::Misplaced, "helpdoc: misplaced item"),
     ];
     for (fault, want) in rows {
-        assert_eq!(rt; fault.to_string(rt.alloc())?.as_str(), want);
+        assert!(rt; says(&fault, want), "{want}");
     }
-    Ok(())
 }

@@ -1,68 +1,79 @@
-//! A runtime for tests: known words and a known input, ends that may fail, and what was printed.
+//! A runtime for tests: known words and a known input, ends that answer by a script, and what should be printed.
 
 ghost use Rattle.std.specs.Io.{WritesAtMost};
 ghost use Rattle.std.specs.Prelude.{◌≡◌, ◌+◌, IfOk, IsErr, string_len};
 
-use crate::stand_ins::fakes::{Given, Plan, Taken};
+use crate::stand_ins::lines::Line;
+use crate::stand_ins::scripts::{Script, ScriptedReader, ScriptedWriter};
 use std::alloc::{Allocator, Global};
-use std::cell::RefCell;
+use std::cell::Cell;
 use std::env::FillError;
-use std::fmt::Display;
+use std::fmt::{Display, Write as _};
+use std::fs::{File, Metadata, OpenOptions};
 use std::io;
 use std::io::{BufRead, BufReader, Lines, Write};
-use std::rt::Env;
+use std::rt::{Env, Files};
 
 /// The byte behind each word that cannot be read: no text holds it.
 const GARBLE: u8 = 0xFF;
 
-/// What a program is run on, and what it prints.
+/// What a program is run on, and what it should print.
 #[derive(Drop)]
 pub struct Desk<'a> {
-    alloc: Global,
+    global: Global,
     words: &'a [&'a str],
     garbles_words: bool,
     input: &'a [u8],
-    reads: Plan,
-    output: RefCell<Taken>,
-    said: RefCell<String>,
+    reads: Script<'a>,
+    output: Cell<ScriptedWriter<'a>>,
+    said: Cell<Line<'a>>,
 }
 
 impl<'a> Desk<'a> {
-    /// The words begin with the program's name.
-    pub fn new(alloc: Global, words: &'a [&'a str], input: &'a [u8]) -> Desk<'a> {
-        Desk::planned(alloc, words, input, Plan::WHOLE, Plan::WHOLE)
-    }
-
-    /// The same, with ends by these plans.
-    pub fn planned(
-        alloc: Global,
+    /// The words begin with the program's name. This page should be written on standard output, and this line, which
+    /// ends with a newline, on standard error.
+    pub fn new(
+        global: Global,
         words: &'a [&'a str],
         input: &'a [u8],
-        reads: Plan,
-        writes: Plan,
+        page: &'a [u8],
+        line: &'a str,
     ) -> Desk<'a> {
         Desk {
-            alloc,
+            global,
             words,
             garbles_words: false,
             input,
-            reads,
-            output: RefCell::new(Taken::new(alloc, writes)),
-            said: RefCell::new(String::new(alloc)),
+            reads: Script::WHOLE,
+            output: Cell::new(ScriptedWriter::new(page, Script::WHOLE)),
+            said: Cell::new(Line::new(line)),
         }
     }
 
-    /// From here on no word is a text, so the words cannot be read.
-    pub fn garble_words(&mut self) {
+    /// The same, with ends that answer by these scripts.
+    pub fn answering(mut self, reads: Script<'a>, writes: Script<'a>) -> Desk<'a> {
+        self.reads = reads;
+        self.output = Cell::new(self.output.get().answering(writes));
+        self
+    }
+
+    /// The same, but no word is a text, so the words cannot be read.
+    pub fn garbled(mut self) -> Desk<'a> {
         self.garbles_words = true;
+        self
     }
 
-    /// Whether this was written on standard output, and this on standard error.
-    pub fn has_printed(&self, output: &[u8], said: &str) -> bool {
-        match (self.output.try_borrow(), self.said.try_borrow()) {
-            (Ok(all), Ok(text)) => all.bytes.as_slice() == output && text.as_str() == said,
-            _ => false,
-        }
+    /// Whether so many bytes of the page were written, and nothing else, and the line where it should be, else nothing.
+    pub fn has_printed(&self, count: usize, says: bool) -> bool {
+        let calls = self.output.get().calls;
+        let said = self.said.get();
+        calls.fit
+            && calls.moved == count
+            && if says {
+                said.is_full()
+            } else {
+                said.is_untouched()
+            }
     }
 }
 
@@ -100,20 +111,67 @@ impl Env for Desk<'_> {
 }
 
 impl<'a> Input for Desk<'a> {
-    type Reader = BufReader<Given<'a>>;
+    type Reader = BufReader<ScriptedReader<'a>>;
 
-    fn read_line<A: Allocator + Clone>(&self, buf: &mut String<A>) -> io::Result<usize> {
-        self.reader().read_line(buf)
+    fn read_line<A: Allocator + Clone>(&self, _buf: &mut String<A>) -> io::Result<usize> {
+        unsupported()
     }
 
-    fn lines<A: Allocator>(&self, alloc: A) -> Lines<BufReader<Given<'a>>, A> {
+    fn lines<A: Allocator>(&self, alloc: A) -> Lines<BufReader<ScriptedReader<'a>>, A> {
         self.reader().lines(alloc)
     }
 
     // Without a room of its own the reader passes each call on.
-    fn reader(&self) -> BufReader<Given<'a>> {
-        let given = Given::new(self.input, self.reads);
-        BufReader::with_capacity(self.alloc, 0, given).unwrap()
+    fn reader(&self) -> BufReader<ScriptedReader<'a>> {
+        let input = ScriptedReader::new(self.input, self.reads);
+        BufReader::with_capacity(self.global, 0, input).unwrap()
+    }
+}
+
+// There are no files.
+impl Files for Desk<'_> {
+    type File = File;
+
+    type Dir = File;
+
+    fn open_file(&self, _how: &OpenOptions, _path: &str) -> io::Result<File> {
+        unsupported()
+    }
+
+    fn open_dir(&self, _path: &str) -> io::Result<File> {
+        unsupported()
+    }
+
+    fn metadata(&self, _path: &str) -> io::Result<Metadata> {
+        unsupported()
+    }
+
+    fn symlink_metadata(&self, _path: &str) -> io::Result<Metadata> {
+        unsupported()
+    }
+
+    fn copy(&self, _from: &str, _to: &str) -> io::Result<u64> {
+        unsupported()
+    }
+
+    fn rename(&self, _from: &str, _to: &str) -> io::Result<()> {
+        unsupported()
+    }
+
+    fn remove_file(&self, _path: &str) -> io::Result<()> {
+        unsupported()
+    }
+
+    fn create_dir(&self, _path: &str) -> io::Result<()> {
+        unsupported()
+    }
+
+    fn remove_dir(&self, _path: &str) -> io::Result<()> {
+        unsupported()
+    }
+
+    fn remove_dir_all<B: Allocator>(&self, _alloc: B, _path: &str) -> io::Result<()> {
+        unsupported()
     }
 }
 
@@ -126,18 +184,15 @@ impl Print for Desk<'_> {
         unsupported()
     }
 
-    fn write_all(&self, bytes: &[u8]) -> io::Result<()> {
-        let Ok(mut output) = self.output.try_borrow_mut() else {
-            return unsupported();
-        };
-        output.write_all(bytes)
+    fn write_all(&self, _bytes: &[u8]) -> io::Result<()> {
+        unsupported()
     }
 
     fn write_some(&self, bytes: &[u8]) -> io::Result<usize> {
-        let Ok(mut output) = self.output.try_borrow_mut() else {
-            return unsupported();
-        };
-        output.write(bytes)
+        let mut output = self.output.get();
+        let written = output.write(bytes);
+        self.output.set(output);
+        written
     }
 }
 
@@ -147,10 +202,9 @@ impl Eprint for Desk<'_> {
     }
 
     fn eprintln<D: Display + Drop>(&self, value: D) -> io::Result<()> {
-        let Ok(mut said) = self.said.try_borrow_mut() else {
-            return unsupported();
-        };
-        writeln!(said, "{value}")?;
-        Ok(())
+        let mut said = self.said.get();
+        let written = writeln!(said, "{value}");
+        self.said.set(said);
+        Ok(written?)
     }
 }

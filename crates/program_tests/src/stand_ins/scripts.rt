@@ -1,4 +1,4 @@
-//! Ends that answer by a script, and keep a log of the calls.
+//! Ends that answer by a script, and judge the calls that come.
 
 ghost use Rattle.std.specs.Prelude.{◌≤◌, ◌<◌, IfOk};
 
@@ -59,7 +59,7 @@ pub const MESSAGE: &str = "so says the script";
 pub type Outcome = Result<usize, ErrorKind>;
 
 /// What an end answers to a call.
-#[derive(Clone, Copy, Debug)]
+#[derive(Clone, Copy)]
 pub enum Answer {
     /// It moves as many bytes as it can, but no more than these.
     Moves(usize),
@@ -79,108 +79,239 @@ impl Answer {
     }
 }
 
-/// A call on an end: how many bytes it offered or had room for, and what was answered.
-#[derive(Clone, Copy, Debug)]
-pub struct Call {
-    pub length: usize,
-    pub outcome: Outcome,
-}
-
-/// The answers of an end, one a call, and the calls that came. Behind the last answer each call moves all that it
-/// can.
-#[derive(Drop)]
-struct Script<'a> {
+/// The answers of an end: these, one a call, and then so many bytes at most a call, but for one that may fail.
+#[derive(Clone, Copy)]
+pub struct Script<'a> {
     answers: &'a [Answer],
-    calls: Vec<Call>,
+    most: usize,
+    fails_at: Option<usize>,
 }
 
 impl<'a> Script<'a> {
-    fn new(alloc: Global, answers: &'a [Answer]) -> Script<'a> {
+    /// All that there is room for at each call.
+    pub const WHOLE: Script<'static> = Script {
+        answers: &[],
+        most: usize::MAX,
+        fails_at: None,
+    };
+
+    /// One byte a call.
+    pub const BYTES: Script<'static> = Script {
+        answers: &[],
+        most: 1,
+        fails_at: None,
+    };
+
+    /// None at any call.
+    pub const NONE: Script<'static> = Script {
+        answers: &[],
+        most: 0,
+        fails_at: None,
+    };
+
+    /// One byte a call, and an error at this one, counted from 0.
+    pub fn failing(call: usize) -> Script<'static> {
         Script {
-            answers,
-            calls: Vec::new(alloc),
+            fails_at: Some(call),
+            ..Script::BYTES
         }
     }
 
-    // Answers a call of this length, which can move so many bytes.
-    fn answer(&mut self, length: usize, most: usize) -> io::Result<usize>
-        ensures { IfOk result (λ moved. moved ≤ most) }
-    {
-        let answer = match self.answers.get(self.calls.len()) {
-            Some(answer) => *answer,
-            None => Answer::Moves(usize::MAX),
-        };
-        let outcome = answer.outcome(most);
-        self.calls.push(Call { length, outcome })?;
-        outcome.map_err(|kind| io::Error::new(kind, MESSAGE))
+    /// These answers, and then all that there is room for.
+    pub fn of(answers: &'a [Answer]) -> Script<'a> {
+        Script {
+            answers,
+            ..Script::WHOLE
+        }
+    }
+
+    fn answer(&self, call: usize) -> Answer {
+        if let Some(answer) = self.answers.get(call) {
+            return *answer;
+        }
+        if self.fails_at == Some(call) {
+            return Answer::Fails(ErrorKind::TimedOut);
+        }
+        Answer::Moves(self.most)
+    }
+}
+
+/// The calls on an end.
+#[derive(Clone, Copy)]
+pub struct Calls {
+    /// How many came.
+    pub count: usize,
+    /// How many bytes were moved.
+    pub moved: usize,
+    /// How many of them moved none or failed.
+    pub ends: usize,
+    /// What the last one answered.
+    pub last: Outcome,
+    /// Whether each of them offered, or had room for, as many bytes as it should.
+    pub fit: bool,
+}
+
+impl Calls {
+    const NONE: Calls = Calls {
+        count: 0,
+        moved: 0,
+        ends: 0,
+        last: Ok(0),
+        fit: true,
+    };
+
+    fn note(&mut self, outcome: Outcome, fits: bool) {
+        self.count = self.count.saturating_add(1);
+        self.moved = self.moved.saturating_add(outcome.unwrap_or(0));
+        if outcome.unwrap_or(0) == 0 {
+            self.ends = self.ends.saturating_add(1);
+        }
+        self.last = outcome;
+        self.fit &= fits;
+    }
+
+    /// What reading to the end answers by these calls: how many bytes there were, or the kind of the error. None where
+    /// a call came that should not have come.
+    pub fn read(&self) -> Option<Outcome> {
+        match (self.ends, self.last) {
+            _ if !self.fit => None,
+            (1, Ok(0)) => Some(Ok(self.moved)),
+            (1, Err(kind)) => Some(Err(kind)),
+            _ => None,
+        }
+    }
+
+    /// What writing so many bytes answers by these calls. None where a call came that should not have come, or is
+    /// missing.
+    pub fn written(&self, length: usize) -> Option<Result<(), ErrorKind>> {
+        match (self.ends, self.last) {
+            _ if !self.fit => None,
+            (0, _) if self.moved == length => Some(Ok(())),
+            (1, Ok(0)) => Some(Err(ErrorKind::WriteZero)),
+            (1, Err(kind)) => Some(Err(kind)),
+            _ => None,
+        }
     }
 }
 
 /// A reader of these bytes.
-#[derive(Drop)]
+#[derive(Clone, Copy)]
 pub struct ScriptedReader<'a> {
+    pub calls: Calls,
     left: &'a [u8],
     script: Script<'a>,
+    room: Option<usize>,
 }
 
 impl<'a> ScriptedReader<'a> {
-    pub fn new(alloc: Global, bytes: &'a [u8], answers: &'a [Answer]) -> ScriptedReader<'a> {
+    /// Each call should have room for a byte at least.
+    pub fn new(bytes: &'a [u8], script: Script<'a>) -> ScriptedReader<'a> {
         ScriptedReader {
+            calls: Calls::NONE,
             left: bytes,
-            script: Script::new(alloc, answers),
+            script,
+            room: None,
         }
     }
 
-    pub fn calls(&self) -> &[Call] {
-        &self.script.calls
+    /// Each call should have this much room.
+    pub fn with_room(mut self, room: usize) -> ScriptedReader<'a> {
+        self.room = Some(room);
+        self
     }
 }
 
 impl Read for ScriptedReader<'_> {
     fn read(&mut self, buf: &mut [u8]) -> io::Result<usize> {
+        let fits = match self.room {
+            Some(room) => buf.len() == room,
+            None => !buf.is_empty(),
+        };
         let most = self.left.len().min(buf.len());
-        let count = self.script.answer(buf.len(), most)?;
-        let (given, left) = self.left.split_at(count);
-        buf[..count].copy_from_slice(given);
-        self.left = left;
-        Ok(count)
+        let outcome = self.script.answer(self.calls.count).outcome(most);
+        self.calls.note(outcome, fits);
+        match outcome {
+            Ok(count) => {
+                let (given, left) = self.left.split_at(count);
+                buf[..count].copy_from_slice(given);
+                self.left = left;
+                Ok(count)
+            }
+            Err(kind) => Err(io::Error::new(kind, MESSAGE)),
+        }
     }
 }
 
-/// A writer that keeps what it takes.
-#[derive(Drop)]
+/// A writer that should be offered these bytes.
+#[derive(Clone, Copy)]
 pub struct ScriptedWriter<'a> {
-    bytes: Vec<u8>,
+    pub calls: Calls,
+    left: &'a [u8],
     script: Script<'a>,
+    takes_again: bool,
 }
 
 impl<'a> ScriptedWriter<'a> {
-    pub fn new(alloc: Global, answers: &'a [Answer]) -> ScriptedWriter<'a> {
+    /// Each call should offer all that is left of the bytes.
+    pub fn new(bytes: &'a [u8], script: Script<'a>) -> ScriptedWriter<'a> {
         ScriptedWriter {
-            bytes: Vec::new(alloc),
-            script: Script::new(alloc, answers),
+            calls: Calls::NONE,
+            left: bytes,
+            script,
+            takes_again: false,
         }
     }
 
-    pub fn bytes(&self) -> &[u8] {
-        &self.bytes
+    /// The same, which answers by this script.
+    pub fn answering(mut self, script: Script<'a>) -> ScriptedWriter<'a> {
+        self.script = script;
+        self
     }
 
-    pub fn calls(&self) -> &[Call] {
-        &self.script.calls
+    /// Each call should offer all of the bytes.
+    pub fn again(mut self) -> ScriptedWriter<'a> {
+        self.takes_again = true;
+        self
+    }
+
+    // Takes these of so many bytes, and answers whether they are those that should be offered.
+    fn take(&mut self, taken: &[u8], offered: usize) -> bool {
+        let Some((front, left)) = self.left.split_at_checked(taken.len()) else {
+            return false;
+        };
+        let fits = offered == self.left.len() && offered > 0 && front == taken;
+        if !self.takes_again {
+            self.left = left;
+        }
+        fits
     }
 }
 
 impl Write for ScriptedWriter<'_> {
     fn write(&mut self, buf: &[u8]) -> io::Result<usize> {
-        let count = self.script.answer(buf.len(), buf.len())?;
-        self.bytes.extend_from_slice(&buf[..count])?;
-        Ok(count)
+        let outcome = self.script.answer(self.calls.count).outcome(buf.len());
+        let taken = match outcome {
+            Ok(count) => &buf[..count],
+            Err(_) => &[],
+        };
+        let fits = self.take(taken, buf.len());
+        self.calls.note(outcome, fits);
+        match outcome {
+            Ok(count) => Ok(count),
+            Err(kind) => Err(io::Error::new(kind, MESSAGE)),
+        }
     }
 
     fn flush(&mut self) -> io::Result<()> {
         Ok(())
     }
+}
+
+/// How far places stand apart of which so many are tried, at most 64.
+pub fn stride(places: usize) -> usize
+    ensures { 0 < result }
+{
+    places / 64 + 1
 }
 
 /// The sizes around each small constant of the code.
@@ -189,54 +320,23 @@ pub const SIZES: [usize; 9] = [1, 63, 64, 65, 4095, 4096, 4097, 64 * 1024, 64 * 
 /// More than any buffer.
 pub const LARGE: usize = (1 << 20) + 1;
 
-/// So many bytes, of which neighbours differ.
-pub fn bytes_of(alloc: Global, size: usize) -> Result<Vec<u8>, AllocError> {
-    let mut bytes = "abcdefghijk".repeat(alloc, size / 11 + 1)?.into_bytes();
-    bytes.truncate(size);
-    Ok(bytes)
+/// At least so many bytes, of which neighbours differ.
+pub fn bytes_of(global: Global, size: usize) -> Result<Vec<u8>, AllocError> {
+    let unit = "abcdefghijk".repeat(global, 64)?;
+    let text = unit.repeat(global, size / unit.len() + 1)?;
+    Ok(text.into_bytes())
 }
 
-/// What reading to the end answers by the calls that came: how many bytes there were, or the kind of the error.
-/// None where a call came that should not have come.
-pub fn read_by(calls: &[Call]) -> Option<Outcome> {
-    let mut total = 0usize;
-    let mut end = None;
-    for call in calls {
-        if end.is_some() || call.length == 0 {
-            return None;
-        }
-        match call.outcome {
-            Ok(0) => end = Some(Ok(total)),
-            Ok(count) => total = total.saturating_add(count),
-            Err(kind) => end = Some(Err(kind)),
-        }
-    }
-    end
-}
+/// How many answers are drawn at once.
+pub const TURNS: usize = 16;
 
-/// What writing so many bytes answers by the calls that came, and how many of them were taken. None where a call
-/// came that should not have come, or is missing.
-pub fn written_by(calls: &[Call], length: usize) -> Option<(Result<(), ErrorKind>, usize)> {
-    let mut taken = 0usize;
-    let mut end = if length == 0 { Some(Ok(())) } else { None };
-    for call in calls {
-        if end.is_some() || call.length != length.saturating_sub(taken) {
-            return None;
-        }
-        match call.outcome {
-            Ok(0) => end = Some(Err(ErrorKind::WriteZero)),
-            Ok(count) => taken = taken.saturating_add(count),
-            Err(kind) => end = Some(Err(kind)),
-        }
-        if taken == length {
-            end = Some(Ok(()));
-        }
-    }
-    end.map(|outcome| (outcome, taken))
+/// So many of the bytes, from the first one on, or all where there are no more.
+pub fn front(bytes: &[u8], size: usize) -> &[u8] {
+    bytes.get(..size).unwrap_or(bytes)
 }
 
 /// Numbers drawn from a seed.
-#[derive(Clone, Copy, Debug)]
+#[derive(Clone, Copy)]
 pub struct Draws {
     state: u64,
 }
@@ -256,28 +356,39 @@ impl Draws {
         (self.state >> 33) as u32 % end
     }
 
-    /// An answer that moves a byte, few or many bytes, or fails. One in 32 moves none, where that is asked for.
-    pub fn answer(&mut self, may_move_none: bool) -> Answer {
-        let size = 1u32 << self.below(20);
-        match self.below(32) {
-            0 if may_move_none => Answer::Moves(0),
-            1 => Answer::Fails(KINDS[self.below(42) as usize]),
-            2..=8 => Answer::Moves(1),
-            _ => Answer::Moves(size as usize + self.below(2) as usize),
+    /// Answers that move a byte, few or many bytes.
+    pub fn moves(&mut self) -> [Answer; TURNS] {
+        let mut answers = [Answer::Moves(1); TURNS];
+        for answer in &mut answers {
+            if self.below(4) > 0 {
+                let size = 1u32 << self.below(20);
+                *answer = Answer::Moves(size as usize + self.below(2) as usize);
+            }
         }
+        answers
     }
 
-    /// As many answers.
-    pub fn answers(
-        &mut self,
-        alloc: Global,
-        count: usize,
-        may_move_none: bool,
-    ) -> Result<Vec<Answer>, AllocError> {
-        let mut answers = Vec::new(alloc);
-        for _ in 0..count {
-            answers.push(self.answer(may_move_none))?;
+    /// The same, but one of the first four fails.
+    pub fn broken(&mut self) -> [Answer; TURNS] {
+        let mut answers = self.moves();
+        answers[self.below(4) as usize] = self.failure();
+        answers
+    }
+
+    /// The same, but of 32 one moves none and one fails.
+    pub fn answers(&mut self) -> [Answer; TURNS] {
+        let mut answers = self.moves();
+        for answer in &mut answers {
+            match self.below(32) {
+                0 => *answer = Answer::Moves(0),
+                1 => *answer = self.failure(),
+                _ => {}
+            }
         }
-        Ok(answers)
+        answers
+    }
+
+    fn failure(&mut self) -> Answer {
+        Answer::Fails(KINDS[self.below(42) as usize])
     }
 }

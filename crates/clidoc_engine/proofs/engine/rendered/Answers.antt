@@ -1,29 +1,23 @@
+use Rattle.std.proofs.Common.{true, false, refl}
+use Rattle.bpaf_doc.specs.Html.Exact.{html_page}
+use Rattle.bpaf_doc.specs.Markdown.Exact.{markdown_page}
+use Rattle.description.specs.Pages.{collected_document, manual_text}
 use Rattle.description.specs.View.{description_said}
-use Rattle.clidoc_engine.specs.declared.words.Form.TheVariants as form
-use Rattle.clidoc_engine.proofs.Pages.{page_of_answer}
+use Rattle.clidoc_engine.specs.Words.{html, markdown, man}
+use Rattle.clidoc_engine.proofs.Pages.{a_page}
 use Rattle.clidoc_engine.proofs.engine.rendered.Goals as goal
 
-pub returns-in-Usage : goal.returns-in-Usage
-returns-in-Usage g c =
-    rw c.in-Usage.is (page_of_answer form.Usage (description_said c.args.description.now) c.usage.result c.usage.ensures.laid_out c.usage.ensures.exact)
+pub returns-in_ok-html-in-Html-clause-page : goal.returns-in_ok-html-in-Html-clause-page
+returns-in_ok-html-in-Html-clause-page g c =
+    let d = description_said c.args.description.now in
+    rw c.in-Html.is (a_page html d c.in_ok-html-in-Html.field-0 (html_page true false (collected_document d)) refl c.in_ok-html-in-Html.ensures.html c.in_ok-html-in-Html.ensures.exact)
 
-pub returns-in-Full : goal.returns-in-Full
-returns-in-Full g c =
-    rw c.in-Full.is (page_of_answer form.Full (description_said c.args.description.now) c.help.result c.help.ensures.laid_out c.help.ensures.exact)
+pub returns-in_ok-markdown-in-Markdown-clause-page : goal.returns-in_ok-markdown-in-Markdown-clause-page
+returns-in_ok-markdown-in-Markdown-clause-page g c =
+    let d = description_said c.args.description.now in
+    rw c.in-Markdown.is (a_page markdown d c.in_ok-markdown-in-Markdown.field-0 (markdown_page true (collected_document d)) refl c.in_ok-markdown-in-Markdown.ensures.laws c.in_ok-markdown-in-Markdown.ensures.exact)
 
-pub returns-in-Brief : goal.returns-in-Brief
-returns-in-Brief g c =
-    rw c.in-Brief.is
-    (page_of_answer form.Brief (description_said c.args.description.now) c.help-in-Brief.result c.help-in-Brief.ensures.laid_out c.help-in-Brief.ensures.exact)
-
-pub returns-in-Html : goal.returns-in-Html
-returns-in-Html g c =
-    rw c.in-Html.is (page_of_answer form.Html (description_said c.args.description.now) c.html.result c.html.ensures.html c.html.ensures.exact)
-
-pub returns-in-Markdown : goal.returns-in-Markdown
-returns-in-Markdown g c =
-    rw c.in-Markdown.is
-    (page_of_answer form.Markdown (description_said c.args.description.now) c.markdown.result c.markdown.ensures.laws c.markdown.ensures.exact)
-
-pub returns-in-Man : goal.returns-in-Man
-returns-in-Man g c = rw c.in-Man.is (page_of_answer form.Man (description_said c.args.description.now) c.manpage.result c.manpage.ensures.read c.manpage.ensures.exact)
+pub returns-in_ok-manpage-in-Man-clause-page : goal.returns-in_ok-manpage-in-Man-clause-page
+returns-in_ok-manpage-in-Man-clause-page g c =
+    let d = description_said c.args.description.now in
+    rw c.in-Man.is (a_page man d c.in_ok-manpage-in-Man.field-0 (manual_text d) refl c.in_ok-manpage-in-Man.ensures.read c.in_ok-manpage-in-Man.ensures.exact)

@@ -1,6 +1,6 @@
 use Rattle.std.proofs.Common.{rules, ◌≡◌, ◌≤◌, Some, [], ◌∷◌, map, get_or, ap, ◌∙◌, refl, subst, sym, arith}
 use Rattle.std.proofs.lemmas.List.{drop_all, map-append}
-use Rattle.toml.specs.Data.{as_table, depth, items_depth}
+use Rattle.toml.specs.Data.{depth, items_depth}
 use Rattle.toml.specs.View.{items_view, table_view, view}
 use Rattle.description.specs.Described.{as_command, as_group, group_of, level_of}
 use Rattle.description_parts.specs.View.{command_said, group_said}

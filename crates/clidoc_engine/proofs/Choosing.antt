@@ -1,0 +1,67 @@
+-- What words choose, by what they give.
+use Rattle.std.proofs.Common.{◌≡◌, ◌≢◌, ◌⊎◌, ℕ, List, [], ◌∷◌, ◌++◌, Option, Some, None, false, length, get_or, ◌+◌, ◌≤◌, ◌<◌, arith, refl, sym, ap, ◌∙◌, inl, inr, Result, Ok, Err, IfErr}
+use Rattle.std.specs.Prelude.{codes, option_to_list, ◌||◌, bytes_eq}
+use Rattle.std.proofs.lemmas.Bool.{false≢true}
+use Rattle.std.proofs.lemmas.List.{length-append, length-map}
+use Rattle.std.specs.Borrow.{Bor}
+use Rattle.clidoc_engine.specs.Chosen.{words_said}
+use Rattle.clidoc_engine.specs.declared.reading.WordFault.{WordFault}
+use Rattle.clidoc_engine.specs.Reading.{IsRefused}
+use Rattle.clidoc_engine.specs.Words.{Given, given_in, Names, PageSaid, ChoiceSaid, Chooses, page, check, help, version, is_one_of}
+
+abbrev given_or : Given → Option Given → Given
+given_or g None = g
+given_or g (Some h) = h
+
+-- the plain words and the files are no word with at most one file
+abbrev pub NamesNothing : Given → Type 0
+NamesNothing g = g.plain ≢ [] → (word : List ℕ) (file : Option (List ℕ)) → g.plain ++ g.files ≢ word ∷ option_to_list file
+
+at_most_two : (word : List ℕ) (file : Option (List ℕ)) → length (word ∷ option_to_list file) ≤ 2
+at_most_two word None = omega arith
+at_most_two word (Some text) = omega arith
+
+no_names : (words : List (List ℕ)) (g h : Given) → given_in words ≡ Some g → NamesNothing g → (word : List ℕ) (file : Option (List ℕ)) → ¬ Names words word file h
+no_names words g h e none word file n =
+    let same : g ≡ h = ap (given_or g) (sym e ∙ n.given) in
+    none (λ k. n.first (sym (ap (λ x. x.plain) same) ∙ k)) word file (ap (λ x. x.plain ++ x.files) same ∙ n.plain)
+
+pub no_check : (words : List (List ℕ)) (g : Given) → given_in words ≡ Some g → NamesNothing g → (file : Option (List ℕ)) → ¬ Chooses words (check file)
+no_check words g e none file h = no_names words g h.0 e none (codes "check") file h.1
+
+pub no_page : (words : List (List ℕ)) (g : Given) → given_in words ≡ Some g → NamesNothing g → (p : PageSaid) (file : Option (List ℕ)) → ¬ Chooses words (page p file)
+no_page words g e none p file h = no_names words g h.1 e none h.0 file h.2
+
+-- what holds of each fault
+pub always : {T : Type 0} (r : Result T WordFault) (P : WordFault → Type 0) → ((fault : WordFault) → P fault) → IfErr r P
+always (Ok t) P h = tt
+always (Err f) P h = h f
+
+nothing : (words : List (List ℕ)) → ((file : Option (List ℕ)) → ¬ Chooses words (check file)) → ((p : PageSaid) (file : Option (List ℕ)) → ¬ Chooses words (page p file)) → ¬ Chooses words help → ¬ Chooses words version → (choice : ChoiceSaid) → ¬ Chooses words choice
+nothing words c p h v (page q file) = p q file
+nothing words c p h v (check file) = c file
+nothing words c p h v help = h
+nothing words c p h v version = v
+
+-- where the words choose no page and no check, and do not ask for the program itself, they choose nothing
+pub no_choice : {T : Type 0} (words : List (List ℕ)) (r : Result T WordFault) → IfErr r (λ fault. IsRefused fault ⊎ ((file : Option (List ℕ)) → ¬ Chooses words (check file)))
+    → IfErr r (λ fault. IsRefused fault ⊎ ((p : PageSaid) (file : Option (List ℕ)) → ¬ Chooses words (page p file))) → is_one_of words (codes "--help") (codes "-h") ≡ false → is_one_of words (codes "--version") (codes "-V") ≡ false
+    → IfErr r (λ fault. IsRefused fault ⊎ ((choice : ChoiceSaid) → ¬ Chooses words choice))
+no_choice words (Ok t) c p h v = tt
+no_choice words (Err f) c p h v = elim c [
+  | inl refused ↦ inl refused
+  | inr c' ↦ elim p [ inl refused ↦ inl refused | inr p' ↦ inr (nothing words c' p' (λ e. false≢true (sym h ∙ e)) (λ e. false≢true (sym v ∙ e))) ]
+]
+
+pub one_word : (words : List (Bor (List ℕ))) (d : Bor (List ℕ)) (long short : List ℕ) → 1 ≤ length words → length words < 2 → is_one_of (words_said words) long short ≡ (bytes_eq (get_or words 0 d).now long || bytes_eq (get_or words 0 d).now short)
+one_word [] d long short some few = absurd (omega arith)
+one_word (w ∷ []) d long short some few = refl
+one_word (w ∷ v ∷ ws) d long short some few = absurd (omega arith)
+
+-- what three and more words are not
+pub too_many : (xs ys : List (Bor (List ℕ))) → 3 ≤ length xs + length ys → (word : List ℕ) (file : Option (List ℕ)) → words_said xs ++ words_said ys ≢ word ∷ option_to_list file
+too_many xs ys many word file e =
+    let long : length (words_said xs ++ words_said ys) ≡ length xs + length ys = length-append (words_said xs) (words_said ys) ∙ ap (λ n. n + length (words_said ys)) (length-map xs (λ w. w.now)) ∙ ap (λ n. length xs + n) (length-map ys (λ w. w.now)) in
+    let same : length (words_said xs ++ words_said ys) ≡ length (word ∷ option_to_list file) = ap length e in
+    let few = at_most_two word file in
+    omega arith

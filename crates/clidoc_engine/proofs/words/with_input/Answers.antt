@@ -1,0 +1,34 @@
+use Rattle.std.proofs.Common.{◌⊎◌, ◌++◌, List, ℕ, Option, sym, ap, ◌∙◌, inr}
+use Rattle.clidoc_engine.specs.Chosen.{words_said}
+use Rattle.clidoc_engine.specs.Reading.{IsRefused, given_of}
+use Rattle.clidoc_engine.specs.Words.{Chooses, PageSaid, check, page}
+use Rattle.clidoc_engine.proofs.Choosing.{always, no_check, no_page}
+use Rattle.clidoc_engine.proofs.words.with_input.Goals as goal
+
+pub returns-in_err-word-clause-no_check : goal.returns-in_err-word-clause-no_check
+returns-in_err-word-clause-no_check g c =
+    let words = words_said c.args.words.now in
+    always c.from_residual-in_err-word.result (λ fault. IsRefused fault ⊎ ((file : Option (List ℕ)) → ¬ Chooses words (check file)))
+    (λ fault. inr (no_check words (given_of c.in_ok-given.given) c.in_ok-given.ensures.ok
+    (λ some word file e. c.in_err-word.ensures.err (λ none. some (sym (ap words_said c.deref.ensures.value) ∙ none)) word file
+    (ap (λ ws. words_said ws ++ words_said c.deref-2.result.now) c.deref.ensures.value ∙ ap (λ ws. words_said c.in_ok-given.given.plain.items ++ words_said ws) c.deref-2.ensures.value ∙ e))))
+
+pub returns-in_err-word-clause-no_page : goal.returns-in_err-word-clause-no_page
+returns-in_err-word-clause-no_page g c =
+    let words = words_said c.args.words.now in
+    always c.from_residual-in_err-word.result (λ fault. IsRefused fault ⊎ ((p : PageSaid) (file : Option (List ℕ)) → ¬ Chooses words (page p file)))
+    (λ fault. inr (no_page words (given_of c.in_ok-given.given) c.in_ok-given.ensures.ok
+    (λ some word file e. c.in_err-word.ensures.err (λ none. some (sym (ap words_said c.deref.ensures.value) ∙ none)) word file
+    (ap (λ ws. words_said ws ++ words_said c.deref-2.result.now) c.deref.ensures.value ∙ ap (λ ws. words_said c.in_ok-given.given.plain.items ++ words_said ws) c.deref-2.ensures.value ∙ e))))
+
+pub returns-clause-ok : goal.returns-clause-ok
+returns-clause-ok g c = (
+  c.in_ok-word.word.now,
+  given_of c.in_ok-given.given,
+  record {
+    given = c.in_ok-given.ensures.ok;
+    plain = sym (ap (λ ws. words_said ws ++ words_said c.deref-2.result.now) c.deref.ensures.value ∙ ap (λ ws. words_said c.in_ok-given.given.plain.items ++ words_said ws) c.deref-2.ensures.value) ∙ c.in_ok-word.ensures.ok;
+    first = λ none. c.in_ok-word.ensures.first (ap words_said c.deref.ensures.value ∙ none);
+  },
+  c.in_ok-page_named.ensures.ok,
+)

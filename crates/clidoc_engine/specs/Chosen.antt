@@ -1,0 +1,35 @@
+-- What the types of words say.
+use Rattle.std.specs.Prelude.{ℕ, List, [], map, Option}
+use Rattle.std.specs.Borrow.{Bor}
+use Rattle.bpaf_meta.specs.View.{text_of}
+use Rattle.clidoc_engine.specs.declared.words.Console.{Console}
+use Rattle.clidoc_engine.specs.declared.words.Page.{Page}
+use Rattle.clidoc_engine.specs.declared.words.Page.TheVariants as of_page
+use Rattle.clidoc_engine.specs.declared.words.Choice.{Choice}
+use Rattle.clidoc_engine.specs.declared.words.Choice.TheVariants as of_choice
+use Rattle.clidoc_engine.specs.Words.{PageSaid, console, html, markdown, man, ChoiceSaid, page, check, help, version}
+
+abbrev pub words_said : List (Bor (List ℕ)) → List (List ℕ)
+words_said = map (λ word. word.now)
+
+abbrev pub console_said : {A : Type 0} → Console A → PageSaid
+console_said c = console c.form (words_said c.commands.items) c.width
+
+abbrev pub page_said : {A : Type 0} → Page A → PageSaid
+page_said (of_page.Console c) = console_said c
+page_said of_page.Html = html
+page_said of_page.Markdown = markdown
+page_said of_page.Man = man
+
+abbrev pub choice_said : {A : Type 0} → Choice A → ChoiceSaid
+choice_said (of_choice.Page p file) = page (page_said p) (text_of file)
+choice_said (of_choice.Check file) = check (text_of file)
+choice_said of_choice.Help = help
+choice_said of_choice.Version = version
+
+-- the commands that lead to what a page on the console shows
+abbrev pub commands_of : PageSaid → List (List ℕ)
+commands_of (console form commands width) = commands
+commands_of html = []
+commands_of markdown = []
+commands_of man = []

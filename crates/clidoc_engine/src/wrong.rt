@@ -1,0 +1,107 @@
+//! What is said of words that choose nothing.
+
+use crate::reading::{Valued, WordFault};
+use crate::shown::Shown;
+use std::alloc::{AllocError, Global};
+use std::fmt::Write;
+use strsim::osa_distance;
+
+const FORMS: [&str; 7] = ["usage", "full", "brief", "html", "markdown", "man", "check"];
+
+const OPTIONS: [&str; 4] = ["--command", "--width", "--help", "--version"];
+
+/// The line for standard error. For a word that is unknown it names the one that is near, or else those that there
+/// are.
+pub fn line_of(global: Global, fault: &WordFault<'_>) -> Result<String, AllocError> {
+    let mut line = String::from_str(global, "clidoc: ")?;
+    match fault {
+        WordFault::NoForm => put(&mut line, "no form", "")?,
+        WordFault::NoSuchForm(word) => put(&mut line, "no form ", word)?,
+        WordFault::NoSuchOption(word) => put(&mut line, "no option ", word)?,
+        WordFault::NoValue(option) => put(&mut line, "no value behind ", word_of(*option))?,
+        WordFault::NoColumns(word) => put(&mut line, "no number of columns: ", word)?,
+        WordFault::TwoWidths => put(&mut line, "--width stands twice", "")?,
+        WordFault::NotAlone(word) => put(&mut line, "other words stand beside ", word)?,
+        WordFault::TooMany(word) => put(&mut line, "one word too many: ", word)?,
+        WordFault::NotWith { option, word } => {
+            put(&mut line, word_of(*option), " is no option of ")?;
+            line.push_str(*word)?;
+        }
+        WordFault::Refused(_) => put(&mut line, "no memory", "")?,
+    }
+    put_known(&mut line, global, fault)?;
+    Ok(line)
+}
+
+fn word_of(option: Valued) -> &'static str {
+    match option {
+        Valued::Command => "--command",
+        Valued::Width => "--width",
+    }
+}
+
+fn put(line: &mut String, words: &str, word: &str) -> Result<(), AllocError> {
+    line.push_str(words)?;
+    match write!(line, "{}", Shown(word)) {
+        Ok(()) => Ok(()),
+        Err(_) => Err(AllocError),
+    }
+}
+
+// What the word may have been, or all words that stand in its place.
+fn put_known(line: &mut String, global: Global, fault: &WordFault<'_>) -> Result<(), AllocError> {
+    match fault {
+        WordFault::NoForm => put_all(line, "; forms are ", &FORMS),
+        WordFault::NoSuchForm(word) => match nearest(global, word, &FORMS)? {
+            Some(form) => put_question(line, form),
+            None => put_all(line, "; forms are ", &FORMS),
+        },
+        WordFault::NoSuchOption(word) => match nearest(global, word, &OPTIONS)? {
+            Some(option) => put_question(line, option),
+            None => put_all(line, "; options are ", &OPTIONS),
+        },
+        _ => Ok(()),
+    }
+}
+
+fn put_question(line: &mut String, word: &str) -> Result<(), AllocError> {
+    line.push_str("; is it ")?;
+    line.push_str(word)?;
+    line.push('?')?;
+    Ok(())
+}
+
+fn put_all(line: &mut String, words: &str, known: &[&str]) -> Result<(), AllocError> {
+    line.push_str(words)?;
+    for (index, word) in known.iter().enumerate() {
+        if index > 0 {
+            line.push_str(if index + 1 == known.len() {
+                " and "
+            } else {
+                ", "
+            })?;
+        }
+        line.push_str(*word)?;
+    }
+    Ok(())
+}
+
+// The first known word that the fewest edits lead to: at most two, and fewer than half as many as the word has
+// letters.
+fn nearest(
+    global: Global,
+    word: &str,
+    known: &[&'static str],
+) -> Result<Option<&'static str>, AllocError> {
+    let mut found = None;
+    let mut least = 3;
+    let letters = word.chars().count();
+    for candidate in known {
+        let edits = osa_distance(global, word, *candidate)?;
+        if edits < least && edits.saturating_mul(2) < letters {
+            found = Some(*candidate);
+            least = edits;
+        }
+    }
+    Ok(found)
+}

@@ -1,0 +1,52 @@
+-- What a macro of roff may read a second time: it is the same then. Such macros read the title line of a manual page, and its headings.
+use Rattle.std.specs.Prelude.{◌≡◌, bytes_eq, codes, ℕ, List, [], ◌++◌, map, Bool, true, ◌||◌, Some}
+use Rattle.std.specs.List.{list_all}
+use Rattle.bpaf_doc.specs.Manpage.Events.{word_of}
+use Rattle.bpaf_doc.specs.Manpage.Page.{title_arguments}
+use Rattle.toml.specs.Data.{Members}
+use Rattle.description_parts.specs.Content.{LevelSaid, level, GroupsSaid, no_groups, groups, GroupSaid, group, CommandsSaid, no_commands, commands, CommandSaid, command}
+use Rattle.description.specs.Content.{DescriptionSaid}
+use Rattle.description.specs.Described.{described}
+use Rattle.description.specs.Described.Texts.{is_read_once}
+
+-- ---- the title line
+
+-- two quotes, or a word without backslash and double quote
+abbrev pub is_word_read_once : List ℕ → Bool
+is_word_read_once word = bytes_eq word (codes "\"\"") || list_all is_read_once word
+
+-- the words of the title line, as a reader of roff reads them
+abbrev pub title_line : DescriptionSaid → List (List ℕ)
+title_line d = map word_of (title_arguments d.name d.section d.date d.vendor d.title)
+
+-- ---- what headings are made of: the titles of groups, and the names of commands
+
+abbrev mutual
+  pub level_headings : LevelSaid → List ℕ
+  level_headings (level t r os cs gs ps ms) = groups_headings gs ++ commands_headings ms
+
+  pub groups_headings : GroupsSaid → List ℕ
+  groups_headings no_groups = []
+  groups_headings (groups g gs) = group_headings g ++ groups_headings gs
+
+  pub group_headings : GroupSaid → List ℕ
+  group_headings (group title os cs ps ms) = title ++ commands_headings ms
+
+  pub commands_headings : CommandsSaid → List ℕ
+  commands_headings no_commands = []
+  commands_headings (commands m ms) = command_headings m ++ commands_headings ms
+
+  pub command_headings : CommandSaid → List ℕ
+  command_headings (command name initial help l) = name ++ level_headings l
+
+-- ---- law
+
+-- of a description that a TOML text gives
+pub record IsReadOnce (d : DescriptionSaid) : Type 0 where
+  -- no argument of the title line holds a backslash, and none a double quote but two quotes alone
+  pub title_line : list_all is_word_read_once (title_line d) ≡ true
+  -- no title of a group and no name of a command holds one
+  pub headings : list_all is_read_once (level_headings d.level) ≡ true
+
+abbrev pub TitlesAreReadOnce : Type 0
+TitlesAreReadOnce = (ms : Members) (d : DescriptionSaid) → described ms ≡ Some d → IsReadOnce d

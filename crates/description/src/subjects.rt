@@ -1,0 +1,147 @@
+//! What a page shows: the application that a description describes, or a command of it.
+ghost use Rattle.std.specs.Prelude.{◌≡◌, ◌++◌, ◌∷◌, [], None, Some, IfOk, OnErr, OnOk, MatchBool, map, string_bytes};
+ghost use Rattle.std.specs.List.{find};
+ghost use Rattle.std.specs.Option.{option_map};
+ghost use Rattle.description.specs.Subjects.{application, below, command_named, grouped, is_named, level_in};
+ghost use Rattle.description.specs.View.{description_said, subject_said};
+ghost use Rattle.description_parts.specs.View.{command_said, groups_said, level_said};
+
+use crate::descriptions::Description;
+use description_parts::levels::{Command, Group, Level};
+use description_parts::options::Opt;
+use std::alloc::{AllocError, Allocator};
+
+/// The application that a description describes, or a command of it, and the names that lead there. A usage line
+/// and a help page can be made of each.
+#[derive(Drop)]
+pub struct Subject<'d, 'a, A: Allocator, B: Allocator> {
+    /// The names, the application's first.
+    pub path: Vec<String<B>, B>,
+    /// The options that ask for help.
+    pub help_options: &'d [Opt<'a>],
+    pub level: &'d Level<'a, A>,
+}
+
+impl<'a, A: Allocator> Description<'a, A> {
+    /// The application itself, under its name. Its path and its pages are kept in `alloc`. `AllocError` where a growth
+    /// was refused.
+    pub fn subject<B: Allocator + Copy>(
+        &self,
+        alloc: B,
+    ) -> Result<Subject<'_, 'a, A, B>, AllocError>
+        ensures { IfOk result (λ subject. subject_said subject ≡ application (description_said self.now)) }
+    {
+        let mut path = Vec::new(alloc);
+        put_name(&mut path, alloc, self.name)?;
+        Ok(Subject {
+            path,
+            help_options: &self.help_options,
+            level: &self.level,
+        })
+    }
+}
+
+impl<'d, 'a, A: Allocator, B: Allocator + Copy> Subject<'d, 'a, A, B> {
+    pub(crate) fn allocator(&self) -> B {
+        *self.path.allocator()
+    }
+
+    /// Goes on to a command of what is shown: the first one that `word` is the name or the short name of, where
+    /// those of groups come before the others. False where there is none. Then, and after `AllocError`, nothing
+    /// has changed.
+    #[tactic(auto, using(crate::proofs::Named::entered))]
+    pub fn enter(&mut self, word: &str) -> Result<bool, AllocError>
+        ensures entered { IfOk result (λ is_there. MatchBool is_there
+            ((m : _) × (command_named word.now (subject_said self.old).level ≡ Some m)
+            × (subject_said self.new ≡ below (subject_said self.old) m))
+            ((command_named word.now (subject_said self.old).level ≡ None)
+            × (subject_said self.new ≡ subject_said self.old))) }
+        ensures err { OnErr result (subject_said self.new ≡ subject_said self.old) }
+    {
+        let level: &'d Level<'a, A> = self.level;
+        let Some(command) = command_on(level, word) else {
+            return Ok(false);
+        };
+        let alloc = self.allocator();
+        put_name(&mut self.path, alloc, command.name)?;
+        self.level = level_of(command);
+        Ok(true)
+    }
+}
+
+fn level_of<'d, 'a, A: Allocator>(command: &'d Command<'a, A>) -> &'d Level<'a, A>
+    ensures { level_said result.now ≡ level_in (command_said command.now) }
+{
+    &command.level
+}
+
+// Puts a copy of the name last.
+fn put_name<B: Allocator>(
+    path: &mut Vec<String<B>, B>,
+    alloc: B,
+    name: &str,
+) -> Result<(), AllocError>
+    ensures ok { OnOk result (map string_bytes path.new.items ≡ map string_bytes path.old.items ++ name.now ∷ []) }
+    ensures err { OnErr result (path.new.items ≡ path.old.items) }
+{
+    path.push(String::from_str(alloc, name)?)?;
+    Ok(())
+}
+
+// The first command of the level that the word is a name of.
+#[tactic(auto, using(crate::proofs::Named::on_level))]
+fn command_on<'d, 'a, A: Allocator>(
+    level: &'d Level<'a, A>,
+    word: &str,
+) -> Option<&'d Command<'a, A>>
+    ensures { option_map (λ m. command_said m.now) result ≡ command_named word.now (level_said level.now) }
+{
+    match grouped_command(&level.groups, word) {
+        Some(command) => Some(command),
+        None => listed_command(&level.commands, word),
+    }
+}
+
+#[tactic(auto, using(crate::proofs::Named::no_group_left))]
+fn grouped_command<'d, 'a, A: Allocator>(
+    groups: &'d [Group<'a, A>],
+    word: &str,
+) -> Option<&'d Command<'a, A>>
+    ensures { option_map (λ m. command_said m.now) result
+        ≡ find (is_named word.now) (grouped (groups_said groups.now)) }
+{
+    for group in groups {
+        if let Some(command) = listed_command(&group.commands, word) {
+            return Some(command);
+        }
+    }
+    None
+}
+
+#[tactic(auto, using(crate::proofs::Named::found, crate::proofs::Named::passed, crate::proofs::Named::none_left))]
+fn listed_command<'d, 'a, A: Allocator>(
+    commands: &'d [Command<'a, A>],
+    word: &str,
+) -> Option<&'d Command<'a, A>>
+    ensures { option_map (λ m. command_said m.now) result
+        ≡ find (is_named word.now) (map command_said commands.now) }
+{
+    for command in commands {
+        if has_name(command, word) {
+            return Some(command);
+        }
+    }
+    None
+}
+
+fn has_name<A: Allocator>(command: &Command<'_, A>, word: &str) -> bool
+    ensures { result ≡ is_named word.now (command_said command.now) }
+{
+    if *word == *command.name {
+        return true;
+    }
+    match command.short {
+        None => false,
+        Some(short) => *word == *short.encode_utf8(&mut [0; 4]),
+    }
+}

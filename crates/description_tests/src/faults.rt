@@ -1,0 +1,494 @@
+//! What is said of texts and names that no description holds, and that others are read.
+use description::{Description, DescriptionError};
+use lasting_names::Names;
+use std::alloc::{AllocError, Global};
+use std::process::Abort;
+use std::test::Fail;
+
+// A description, and what is said of it.
+const TEXTS: [(&str, &str); 21] = [
+    (
+        "name = 'a'\nabout = \"\\u0000\"\n",
+        "description: about holds a control character",
+    ),
+    (
+        "name = 'a'\nheader = \"a\\u001b[1mb\"\n",
+        "description: header holds a control character",
+    ),
+    (
+        "name = 'a'\nfooter = \"a\\rb\"\n",
+        "description: footer holds a control character",
+    ),
+    (
+        "name = 'a'\nusage = \"\\u007f\"\n",
+        "description: usage holds a control character",
+    ),
+    (
+        "name = 'a'\nabout = \"\\u009f\"\n",
+        "description: about holds a control character",
+    ),
+    (
+        "name = 'a'\nabout = \"\\ufdd0\"\n",
+        "description: about holds a noncharacter",
+    ),
+    (
+        "name = 'a'\nabout = \"\\ufdef\"\n",
+        "description: about holds a noncharacter",
+    ),
+    (
+        "name = 'a'\nabout = \"\\ufffe\"\n",
+        "description: about holds a noncharacter",
+    ),
+    (
+        "name = 'a'\nabout = \"\\uffff\"\n",
+        "description: about holds a noncharacter",
+    ),
+    (
+        "name = 'a'\nabout = \"\\U0010fffe\"\n",
+        "description: about holds a noncharacter",
+    ),
+    (
+        "name = 'a'\nabout = \"\\U0001ffff\"\n",
+        "description: about holds a noncharacter",
+    ),
+    (
+        "name = 'a'\n[[option]]\nshort = 'a'\n[[option]]\nshort = 'b'\nhelp = \"\\u0007\"\n",
+        "option 2: help holds a control character",
+    ),
+    (
+        "name = 'a'\n[[help_option]]\nshort = 'a'\nhelp = \"\\u0007\"\n",
+        "help_option 1: help holds a control character",
+    ),
+    (
+        "name = 'a'\n[[choice]]\n[[choice.option]]\nshort = 'b'\nhelp = \"\\u0007\"\n",
+        "choice 1, option 1: help holds a control character",
+    ),
+    (
+        "name = 'a'\n[[positional]]\nvalue = 'A'\nhelp = \"\\u0007\"\n",
+        "positional 1: help holds a control character",
+    ),
+    (
+        "name = 'a'\n[[command]]\nname = 'b'\nhelp = \"\\u0007\"\n",
+        "command 1: help holds a control character",
+    ),
+    // The first key at fault, in the order of keys; in a text the first character.
+    (
+        "name = 'a'\nusage = \"\\u0007\"\nabout = \"\\uffff\\u0007\"\n",
+        "description: about holds a noncharacter",
+    ),
+    // A name that is taken is told behind the keys of its level, and before the tables inside.
+    (
+        "name = 'a'\nabout = \"\\u0007\"\n[[option]]\nshort = 'b'\n[[option]]\nshort = 'b'\n",
+        "description: about holds a control character",
+    ),
+    (
+        "name = 'a'\n[[option]]\nshort = 'b'\nhelp = \"\\u0007\"\n[[option]]\nshort = 'b'\n",
+        "description: -b is taken",
+    ),
+    ("name = 'a'\nabout = \"a\\n\\tb\"\n", "a"),
+    (
+        "name = 'a'\nabout = \"\\u202e\\u00a0\\ufdcf\\ufdf0\\ufffd\\u0085\"\n",
+        "description: about holds a control character",
+    ),
+];
+
+const LINES: [(&str, &str); 22] = [
+    (
+        "name = 'a'\n[[option]]\nshort = 'b'\nvalue = ''\n",
+        "option 1: value is empty",
+    ),
+    (
+        "name = 'a'\n[[option]]\nshort = 'b'\nvalue = \"A\\tB\"\n",
+        "option 1: value holds a control character",
+    ),
+    (
+        "name = 'a'\n[[positional]]\nvalue = \"A\\nB\"\n",
+        "positional 1: value holds a control character",
+    ),
+    (
+        "name = 'a'\n[[positional]]\nvalue = ''\n",
+        "positional 1: value is empty",
+    ),
+    (
+        "name = 'a'\n[[positional]]\nvalue = \"\\ufffe\"\n",
+        "positional 1: value holds a noncharacter",
+    ),
+    (
+        "name = 'a'\n[[positional]]\nvalue = 'A \"B\\'\n",
+        "a <A \"B\\>",
+    ),
+    (
+        "name = 'a'\ndate = \"a\\nb\"\n",
+        "description: date holds a control character",
+    ),
+    (
+        "name = 'a'\ndate = 'a\\b'\n",
+        "description: date holds a backslash",
+    ),
+    (
+        "name = 'a'\nvendor = 'a \"b\"'\n",
+        "description: vendor holds a double quote",
+    ),
+    (
+        "name = 'a'\nvendor = \"a\\tb\"\n",
+        "description: vendor holds a control character",
+    ),
+    (
+        "name = 'a'\ntitle = '\\V[HOME]'\n",
+        "description: title holds a backslash",
+    ),
+    (
+        "name = 'a'\ntitle = \"\\uffff\"\n",
+        "description: title holds a noncharacter",
+    ),
+    ("name = 'a'\ntitle = ''\nvendor = \"a's\"\ndate = ''\n", "a"),
+    (
+        "name = 'a'\n[[group]]\ntitle = \"a\\nb\"\n",
+        "group 1: title holds a control character",
+    ),
+    (
+        "name = 'a'\n[[group]]\ntitle = 'a\\b'\n",
+        "group 1: title holds a backslash",
+    ),
+    (
+        "name = 'a'\n[[group]]\ntitle = '\"'\n",
+        "group 1: title holds a double quote",
+    ),
+    (
+        "name = 'a'\n[[group]]\ntitle = ''\n",
+        "group 1: title is blank",
+    ),
+    (
+        "name = 'a'\n[[group]]\ntitle = \" \\u00a0\\u3000\"\n",
+        "group 1: title is blank",
+    ),
+    (
+        "name = 'a'\n[[group]]\ntitle = 'G'\n",
+        "group 1: option, choice, positional or command is missing",
+    ),
+    ("name = 'a'\n[[group]]\n", "group 1: title is missing"),
+    (
+        "name = 'a'\n[[group]]\ntitle = 1\n",
+        "group 1: title is no text",
+    ),
+    ("name = 'a'\ndate = 2026-11-26\n", "a"),
+];
+
+const SECTIONS: [(&str, &str); 18] = [
+    ("section = 0", "a"),
+    ("section = 1", "a"),
+    ("section = 9", "a"),
+    (
+        "section = 10",
+        "description: section is no number from 0 to 9",
+    ),
+    (
+        "section = -1",
+        "description: section is no number from 0 to 9",
+    ),
+    (
+        "section = 1.0",
+        "description: section is no text and no number",
+    ),
+    (
+        "section = true",
+        "description: section is no text and no number",
+    ),
+    ("section = '1'", "a"),
+    ("section = '3posix2X'", "a"),
+    ("section = 'n'", "a"),
+    ("section = 'lx'", "a"),
+    (
+        "section = ''",
+        "description: section is no section of a manual",
+    ),
+    (
+        "section = 'm'",
+        "description: section is no section of a manual",
+    ),
+    (
+        "section = 'N'",
+        "description: section is no section of a manual",
+    ),
+    (
+        "section = '1 '",
+        "description: section is no section of a manual",
+    ),
+    (
+        "section = '1é'",
+        "description: section is no section of a manual",
+    ),
+    (
+        "section = \"1\\n\"",
+        "description: section holds a control character",
+    ),
+    (
+        "section = '1\\'",
+        "description: section is no section of a manual",
+    ),
+];
+
+const NAMES: [(&str, &str); 40] = [
+    ("name = ''", "description: name is empty"),
+    ("name = 'a b'", "description: name holds a blank"),
+    ("name = \"a\\tb\"", "description: name holds a blank"),
+    ("name = \"a\\u00a0\"", "description: name holds a blank"),
+    (
+        "name = \"a\\u0007\"",
+        "description: name holds a control character",
+    ),
+    ("name = 'a='", "description: name holds ="),
+    (
+        "name = \"a\\ufffe\"",
+        "description: name holds a noncharacter",
+    ),
+    ("name = 'a\\'", "description: name holds a backslash"),
+    ("name = 'a\"'", "description: name holds a double quote"),
+    ("name = '-a'", "-a"),
+    ("name = \"a's\"", "a's"),
+    (
+        "name = 'a'\n[[command]]\nname = ''",
+        "command 1: name is empty",
+    ),
+    (
+        "name = 'a'\n[[command]]\nname = '-b'",
+        "command 1: name begins with -",
+    ),
+    (
+        "name = 'a'\n[[command]]\nname = 'b='",
+        "command 1: name holds =",
+    ),
+    (
+        "name = 'a'\n[[command]]\nname = 'b\\'",
+        "command 1: name holds a backslash",
+    ),
+    (
+        "name = 'a'\n[[command]]\nname = 'b\"'",
+        "command 1: name holds a double quote",
+    ),
+    ("name = 'a'\n[[command]]\nname = 'b-'", "a COMMAND ..."),
+    (
+        "name = 'a'\n[[command]]\nname = 'b'\nshort = '-'",
+        "command 1: short begins with -",
+    ),
+    (
+        "name = 'a'\n[[command]]\nname = 'b'\nshort = \"\\uffff\"",
+        "command 1: short holds a noncharacter",
+    ),
+    (
+        "name = 'a'\n[[command]]\nname = 'b'\nshort = 'bb'",
+        "command 1: short is not one character",
+    ),
+    (
+        "name = 'a'\n[[option]]\nlong = ''",
+        "option 1: long is empty",
+    ),
+    (
+        "name = 'a'\n[[option]]\nlong = '-'",
+        "option 1: long begins with -",
+    ),
+    (
+        "name = 'a'\n[[option]]\nlong = '--b'",
+        "option 1: long begins with -",
+    ),
+    (
+        "name = 'a'\n[[option]]\nlong = '-b='",
+        "option 1: long holds =",
+    ),
+    (
+        "name = 'a'\n[[option]]\nlong = 'b c'",
+        "option 1: long holds a blank",
+    ),
+    ("name = 'a'\n[[option]]\nlong = 'b\\\"'", "a [--b\\\"]"),
+    (
+        "name = 'a'\n[[option]]\nshort = '-'",
+        "option 1: short begins with -",
+    ),
+    (
+        "name = 'a'\n[[option]]\nshort = '='",
+        "option 1: short holds =",
+    ),
+    (
+        "name = 'a'\n[[option]]\nshort = ' '",
+        "option 1: short holds a blank",
+    ),
+    (
+        "name = 'a'\n[[option]]\nshort = \"\\u0007\"",
+        "option 1: short holds a control character",
+    ),
+    (
+        "name = 'a'\n[[option]]\nshort = \"\\ufdd1\"",
+        "option 1: short holds a noncharacter",
+    ),
+    (
+        "name = 'a'\n[[option]]\nshort = ''",
+        "option 1: short is not one character",
+    ),
+    (
+        "name = 'a'\n[[option]]\nshort = 1",
+        "option 1: short is no text",
+    ),
+    ("name = 'a'\n[[option]]\nshort = '\\'", "a [-\\]"),
+    (
+        "name = 'a'\n[[option]]\nshort = 'b'\nenv = ''",
+        "option 1: env is empty",
+    ),
+    (
+        "name = 'a'\n[[option]]\nshort = 'b'\nenv = 'A='",
+        "option 1: env holds =",
+    ),
+    (
+        "name = 'a'\n[[option]]\nshort = 'b'\nenv = \"\\ufffe\"",
+        "option 1: env holds a noncharacter",
+    ),
+    ("name = 'a'\n[[option]]\nshort = 'b'\nenv = '-\\'", "a [-b]"),
+    (
+        "name = 'a'\n[[option]]\nshort = 'b'\nenv = 1",
+        "option 1: env is no text",
+    ),
+    ("name = 1", "description: name is no text"),
+];
+
+const TAKEN: [(&str, &str); 7] = [
+    // A short name that is the name or the short name of another command, in either order, also of a group.
+    (
+        "name = 'a'\n[[command]]\nname = 'b'\n[[command]]\nname = 'c'\nshort = 'b'\n",
+        "description: command b is taken",
+    ),
+    (
+        "name = 'a'\n[[command]]\nname = 'c'\nshort = 'b'\n[[command]]\nname = 'b'\n",
+        "description: command b is taken",
+    ),
+    (
+        "name = 'a'\n[[command]]\nname = 'b'\nshort = 'x'\n[[command]]\nname = 'c'\nshort = 'x'\n",
+        "description: command x is taken",
+    ),
+    (
+        "name = 'a'\n[[command]]\nname = 'b'\nshort = 'x'\n[[group]]\ntitle = 'G'\n[[group.command]]\nname = 'c'\nshort = 'x'\n",
+        "description: command x is taken",
+    ),
+    (
+        "name = 'a'\n[[command]]\nname = 'r'\n[[command.command]]\nname = 'b'\n[[command.command]]\nname = 'c'\nshort = 'b'\n",
+        "command 1: command b is taken",
+    ),
+    // Its own name it may be, and a word of another level.
+    (
+        "name = 'a'\n[[command]]\nname = 'b'\nshort = 'b'\n",
+        "a COMMAND ...",
+    ),
+    (
+        "name = 'a'\n[[command]]\nname = 'b'\nshort = 'x'\n[[command.command]]\nname = 'x'\n",
+        "a COMMAND ...",
+    ),
+];
+
+const KEYS: [(&str, &str); 14] = [
+    (
+        "[[option]]\nlnog = 1",
+        "option 1: no key lnog is known here; is it long?",
+    ),
+    (
+        "[[option]]\nLong = 1",
+        "option 1: no key Long is known here; is it long?",
+    ),
+    (
+        "[[option]]\nlong_name = 1",
+        "option 1: no key long_name is known here",
+    ),
+    (
+        "[[option]]\nhlp = 1",
+        "option 1: no key hlp is known here; is it help?",
+    ),
+    ("[[option]]\nev = 1", "option 1: no key ev is known here"),
+    (
+        "[[option]]\nrequird = 1",
+        "option 1: no key requird is known here; is it required?",
+    ),
+    (
+        "[[choice]]\n[[choice.option]]\nrequired = 1",
+        "choice 1, option 1: no key required is known here",
+    ),
+    (
+        "[[command]]\nsort = 'a'",
+        "command 1: no key sort is known here; is it short?",
+    ),
+    (
+        "nmae = 1",
+        "description: no key nmae is known here; is it name?",
+    ),
+    (
+        "optoin = 1",
+        "description: no key optoin is known here; is it option?",
+    ),
+    (
+        "help_options = 1",
+        "description: no key help_options is known here; is it help_option?",
+    ),
+    ("x = 1", "description: no key x is known here"),
+    ("'' = 1", "description: no key  is known here"),
+    (
+        "aaaaaaaaaaaaaaaaaaaaaaaaaaaaaaaaa = 1",
+        "description: no key aaaaaaaaaaaaaaaaaaaaaaaaaaaaaaaaa is known here",
+    ),
+];
+
+// The usage line of what was read, or its fault.
+fn said(alloc: Global, text: &str) -> Result<String, AllocError> {
+    let table = toml::table_from_str(alloc, text).map_err(|_| AllocError)?;
+    let mut names = Names::new(alloc);
+    match Description::from_table(alloc, &mut names, &table) {
+        Ok(app) => app.usage(alloc),
+        Err(DescriptionError::Content(line)) => Ok(line),
+        Err(DescriptionError::Memory(refused)) => Err(refused),
+    }
+}
+
+fn says(
+    rt: &impl Abort,
+    alloc: Global,
+    rows: &[(&str, &str)],
+    head: &str,
+) -> Result<(), AllocError> {
+    for (text, wanted) in rows {
+        let whole = format!(in alloc; "{head}{text}")?;
+        let line = said(alloc, whole.as_str())?;
+        assert_eq!(rt; line.trim_end(), *wanted, "{text}");
+    }
+    Ok(())
+}
+
+#[test]
+fn texts_hold_lines_alone(rt: HostRuntime) -> Result<(), Fail> {
+    says(&rt, rt.alloc(), &TEXTS, "")?;
+    Ok(())
+}
+
+#[test]
+fn words_stand_on_one_line(rt: HostRuntime) -> Result<(), Fail> {
+    says(&rt, rt.alloc(), &LINES, "")?;
+    Ok(())
+}
+
+#[test]
+fn sections_of_the_manual(rt: HostRuntime) -> Result<(), Fail> {
+    says(&rt, rt.alloc(), &SECTIONS, "name = 'a'\n")?;
+    Ok(())
+}
+
+#[test]
+fn names_say_why_they_are_none(rt: HostRuntime) -> Result<(), Fail> {
+    says(&rt, rt.alloc(), &NAMES, "")?;
+    Ok(())
+}
+
+#[test]
+fn words_of_commands_are_taken_once(rt: HostRuntime) -> Result<(), Fail> {
+    says(&rt, rt.alloc(), &TAKEN, "")?;
+    Ok(())
+}
+
+#[test]
+fn keys_that_are_near_are_named(rt: HostRuntime) -> Result<(), Fail> {
+    says(&rt, rt.alloc(), &KEYS, "name = 'a'\n")?;
+    Ok(())
+}
