@@ -1,5 +1,5 @@
 -- What the types of words say.
-use Rattle.std.specs.Prelude.{ℕ, List, [], map, Option}
+use Rattle.std.specs.Prelude.{ℕ, List, [], map}
 use Rattle.std.specs.Borrow.{Bor}
 use Rattle.bpaf_meta.specs.View.{text_of}
 use Rattle.clidoc_engine.specs.declared.words.Console.{Console}

@@ -1,5 +1,5 @@
 -- Which words choose what.
-use Rattle.std.specs.Prelude.{codes, ℕ, ◌≡◌, ◌≢◌, ◌⊎◌, ◌+◌, ◌^◌, ◌<◌, ◌==◌, ◌||◌, List, [], ◌∷◌, ◌++◌, Bool, true, false, not, if◌then◌else◌, Option, Some, None, option_map, option_to_list, bytes_eq, slice_index}
+use Rattle.std.specs.Prelude.{codes, ℕ, ◌≡◌, ◌≢◌, ◌^◌, ◌<◌, ◌==◌, ◌||◌, List, [], ◌∷◌, ◌++◌, Bool, true, false, not, if◌then◌else◌, Option, Some, None, option_map, option_to_list, bytes_eq, slice_index}
 use Rattle.std.specs.Str.Parse.{IsNumeral, digits_value}
 use Rattle.clidoc_engine.specs.declared.words.ConsoleForm.{ConsoleForm}
 use Rattle.clidoc_engine.specs.declared.words.ConsoleForm.TheVariants.{Usage, Full, Brief}
