@@ -11,12 +11,12 @@ use Rattle.bpaf_items.specs.declared.meta_help.error.HelpError.{HelpError}
 use Rattle.bpaf_items.specs.declared.meta_help.error.HelpError.TheVariants as error
 use Rattle.bpaf_help.specs.Chapters.{Chapter, IsFirstMisplacedOf, collected_writes, manual_writes}
 
--- why there is no page of a tree: this is its first misplaced item, or a growth was refused
+-- why there is no page of a tree: this is its first misplaced item, or an allocation failed
 abbrev pub IsErrorOf : {A : Type 0} → Tree → HelpError A → Type 0
 IsErrorOf t (error.Memory e) = ⊤
 IsErrorOf t (error.Misplaced i) = IsFirstMisplaced t (leaf_of i.now)
 
--- why there is none of some chapters: this is the first misplaced item of the first chapter that has one, or a growth was refused, at any time
+-- why there is none of some chapters: this is the first misplaced item of the first chapter that has one, or an allocation failed, at any time
 abbrev pub AreErrorOf : {A : Type 0} → List Chapter → HelpError A → Type 0
 AreErrorOf chapters (error.Memory e) = ⊤
 AreErrorOf chapters (error.Misplaced i) = IsFirstMisplacedOf chapters (leaf_of i.now)

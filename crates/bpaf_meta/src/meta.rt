@@ -175,7 +175,7 @@ impl<A: Allocator + Copy> Meta<A> {
     /// The normal form of the tree, for a usage line or outside: made beside it, so that nothing in it changes.
     ///
     /// No `Adjacent`, `Subsection` or `Suffix` is left, and one name of each item. What is in no usage line is
-    /// left out: an answer `Skip` says that nothing is shown. An `AllocError` says that a growth was refused.
+    /// left out: an answer `Skip` says that nothing is shown. An `AllocError` says that an allocation failed.
     pub fn normalized(&self, for_usage: bool) -> Result<Meta<A>, AllocError>
         ensures form { IfOk result (λ m. tree_of m ≡ normalized for_usage (tree_of self.now)) }
         ensures shape { IfOk result (λ m. HasUsageShape for_usage (tree_of m)) }

@@ -21,7 +21,7 @@ use bpaf_doc::buffer::{Block, Doc, Style, Token};
 use std::alloc::{AllocError, Allocator};
 use unicode::properties::is_uppercase;
 
-// What a public call wrote before a growth was refused is taken back. The functions below them leave what they wrote.
+// What a public call wrote before an allocation failed is taken back. The functions below them leave what they wrote.
 
 /// Writes `-` and the short name, or `--` and the long name where there is one. After `AllocError` the document is
 /// as it was.

@@ -19,7 +19,7 @@ use std::alloc::Allocator;
 
 /// The help pages of an application and of all its commands, each under its path, and above them a summary with a
 /// line for each where there are commands. `Misplaced` is the first named item, of the first page that has one,
-/// that stands behind a positional one. `Memory` says that a growth was refused; it may come before a page is
+/// that stands behind a positional one. `Memory` says that an allocation failed; it may come before a page is
 /// checked. The rules are those of `docs/pages.md`.
 pub fn collect_html<'m, A: Allocator + Copy, B: Allocator + Copy>(
     alloc: A,

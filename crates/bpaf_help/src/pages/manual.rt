@@ -18,7 +18,7 @@ use std::alloc::{AllocError, Allocator};
 /// The manual page of an application and of all its commands, behind the preamble for apostrophes and a title line
 /// with the application, the section, the date, the vendor and the title; where there is no date or vendor `-`
 /// stands for it, and where there is no title `""`, as for each empty word. No item's place is checked.
-/// `AllocError` says that a growth was refused. The rules are those of `docs/pages.md`.
+/// `AllocError` says that an allocation failed. The rules are those of `docs/pages.md`.
 pub fn render_manpage<A: Allocator + Copy, B: Allocator + Copy>(
     alloc: A,
     app: &str,

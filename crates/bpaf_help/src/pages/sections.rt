@@ -22,7 +22,7 @@ pub struct DocSection<'a, A: Allocator = Global, L: Allocator = Global> {
 }
 
 impl<'a, A: Allocator, L: Allocator + Copy> DocSection<'a, A, L> {
-    /// A section of the same texts and tree with a copy of the path. An `AllocError` says that a growth was refused.
+    /// A section of the same texts and tree with a copy of the path. An `AllocError` says that an allocation failed.
     pub fn clone(&self) -> Result<DocSection<'a, A, L>, AllocError>
         ensures { IfOk result (λ copy. chapter_of copy ≡ chapter_of self.now) }
     {

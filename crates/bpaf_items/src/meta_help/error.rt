@@ -5,7 +5,7 @@ use std::alloc::{AllocError, Allocator, Global};
 use std::error::Error;
 use std::fmt;
 
-/// No help page: a growth was refused, or this named item stands after a positional one.
+/// No help page: an allocation failed, or this named item stands after a positional one.
 #[derive_where(Debug)]
 pub enum HelpError<'m, A: Allocator = Global> {
     Memory(AllocError),
@@ -44,7 +44,7 @@ impl<'m, A: Allocator> From<AllocError> for HelpError<'m, A> {
 
     ghost from_gives = { λ refused error. error ≡ Memory refused };
 
-    /// A refused growth.
+    /// An allocation failed.
     fn from(refused: AllocError) -> HelpError<'m, A> {
         HelpError::Memory(refused)
     }

@@ -69,7 +69,7 @@ impl<'t, C: Allocator, L: Allocator + Copy> Writer<'t, C, L> {
 
 /// The help page of a command line: its texts, its usage line behind the path to it, and the items of `parser` and then
 /// of `help` under their groups and headings. `Misplaced` is the first named item of `parser` that stands behind a
-/// positional one; it comes before memory is asked for. `Memory` says that a growth was refused.
+/// positional one; it comes before memory is asked for. `Memory` says that an allocation failed.
 pub fn render_help<'m, A: Allocator + Copy, P: Allocator, B: Allocator + Copy, C: Allocator>(
     alloc: A,
     path: &[String<P>],

@@ -48,7 +48,7 @@ impl<'a, A: Allocator> Clone for Piece<'a, A> {
 
 impl<'a, A: Allocator> Copy for Piece<'a, A> {}
 
-// What these functions wrote stays where a growth is refused: the public calls above them take it back.
+// What these functions wrote stays where an allocation fails: the public calls above them take it back.
 
 /// Writes the pieces in order.
 pub fn put<A: Allocator, B: Allocator + Copy>(

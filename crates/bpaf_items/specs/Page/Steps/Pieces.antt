@@ -1,4 +1,4 @@
--- Pieces that are written into a document, and what a call leaves there that may be refused a growth.
+-- Pieces that are written into a document, and what a call leaves there whose allocations may fail.
 use Rattle.std.specs.Prelude.{◌≡◌, ℕ, true, List, [], ◌∷◌, ◌++◌, Result, OnOk, encode_utf8}
 use Rattle.std.specs.Borrow.{Bor}
 use Rattle.bpaf_doc.specs.Buffer.Parts.{Part}
