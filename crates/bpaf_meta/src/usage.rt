@@ -32,10 +32,7 @@ pub fn write_shortlong<A: Allocator>(doc: &mut Doc<A>, name: &ShortLong) -> Resu
 {
     let before = doc.checkpoint();
     let written = put_name(doc, name);
-    if written.is_err() {
-        doc.roll_back(before);
-    }
-    written
+    doc.settle(before, written)
 }
 
 /// Writes the name of a value: bare where it is made of uppercase characters, ASCII digits, `-` and `_` alone, and
@@ -47,10 +44,7 @@ pub fn metavar<A: Allocator>(doc: &mut Doc<A>, name: Metavar) -> Result<(), Allo
 {
     let before = doc.checkpoint();
     let written = put_metavar(doc, name.0);
-    if written.is_err() {
-        doc.roll_back(before);
-    }
-    written
+    doc.settle(before, written)
 }
 
 /// Writes an item: the name of a flag, the name of an argument with `=` and its value, the name of a positional
@@ -66,10 +60,7 @@ pub fn write_item<A: Allocator, B: Allocator>(
 {
     let before = doc.checkpoint();
     let written = put_item(doc, item);
-    if written.is_err() {
-        doc.roll_back(before);
-    }
-    written
+    doc.settle(before, written)
 }
 
 /// Writes the normal form of a tree, between the marks of a `Mono` block (`docs/tree.md`). The form takes memory
@@ -111,10 +102,7 @@ fn write_form<A: Allocator, B: Allocator>(
 {
     let before = doc.checkpoint();
     let written = put_usage(doc, form);
-    if written.is_err() {
-        doc.roll_back(before);
-    }
-    written
+    doc.settle(before, written)
 }
 
 fn put_name<A: Allocator>(doc: &mut Doc<A>, name: &ShortLong) -> Result<(), AllocError>

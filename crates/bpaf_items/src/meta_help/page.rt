@@ -60,10 +60,7 @@ impl<'t, C: Allocator, L: Allocator + Copy> Writer<'t, C, L> {
     {
         let before = doc.checkpoint();
         let written = self.put_all(doc, entries);
-        if written.is_err() {
-            doc.roll_back(before);
-        }
-        written
+        doc.settle(before, written)
     }
 }
 
