@@ -67,3 +67,5 @@ manual_pages_are_nested app t i h =
     (inside_keeps block.Meta (each_keeps HasNestedChapter synopsis_line synopsis_keeps chapters h))))
     (each_keeps HasNestedChapter (λ c. if_many chapters (inside block.Header (path_writes c.path)) ++ manual_chapter app c.path c.content c.info)
     (λ c k. both_keep (many_keep chapters (inside_keeps block.Header (path_keeps c.path))) (manual_chapter_keeps app c.path c.content c.info k.0 k.1)) chapters h))
+
+pub ruleset nested_pages = (collected_pages_are_nested, manual_pages_are_nested)

@@ -11,7 +11,7 @@ pub fn chapters_are_listed()
 {}
 
 /// The pages of an application with well-nested texts are well nested.
-#[tactic(auto, using(crate::proofs::NestedPages::collected_pages_are_nested, crate::proofs::NestedPages::manual_pages_are_nested))]
+#[tactic(auto, using(crate::proofs::NestedPages::nested_pages))]
 pub fn pages_are_nested()
     ensures collected { CollectedPagesAreNested }
     ensures manual { ManualPagesAreNested }
