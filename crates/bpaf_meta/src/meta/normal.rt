@@ -7,7 +7,7 @@ ghost use Rattle.bpaf_meta.specs.Meta.Normal.{outer_form, guarded, state_after, 
 ghost use Rattle.bpaf_meta.specs.Meta.Normal.{and_parts, or_parts, or_state, with_first_command, normalized};
 ghost use Rattle.bpaf_meta.specs.Meta.Alternatives.{trees_then};
 ghost use Rattle.bpaf_meta.specs.Meta.Steps.Forms.{form_of, forms_of};
-ghost use Rattle.bpaf_meta.specs.Meta.Steps.Passes.{state_of, with_shown, after_commands, sees_command, bracketed_or};
+ghost use Rattle.bpaf_meta.specs.Meta.Steps.Passes.{state_of, with_shown, after_commands, sees_command};
 
 use crate::meta::Meta;
 use crate::meta::form::Form;
@@ -49,13 +49,6 @@ impl State {
     }
 }
 
-// What a tree becomes, and the state that comes out of it.
-#[derive(Drop)]
-struct Outcome<'a, A: Allocator> {
-    form: Form<'a, A>,
-    state: State,
-}
-
 /// The normal form of a tree, over its items and documents.
 pub(crate) fn borrowed_form<'a, A: Allocator + Copy>(
     meta: &'a Meta<A>,
@@ -63,75 +56,50 @@ pub(crate) fn borrowed_form<'a, A: Allocator + Copy>(
 ) -> Result<Form<'a, A>, AllocError>
     ensures { IfOk result (λ f. form_of f ≡ normalized for_usage (tree_of meta.now)) }
 {
-    let Outcome { form, state } = normalize(meta, for_usage, State::Pull)?;
-    let form = make_outer(form)?;
+    let mut state = State::Pull;
+    let form = make_outer(normalize(meta, for_usage, &mut state)?)?;
     match (state, meta.allocator()) {
         (State::Push, Some(alloc)) => Ok(Form::Strict(Box::new(alloc, form)?)),
         _ => Ok(form),
     }
 }
 
+// The form of a tree. The state that comes in gives way to the one that comes out.
 #[cycle(normal)]
 fn normalize<'a, A: Allocator + Copy>(
     meta: &'a Meta<A>,
     for_usage: bool,
-    state: State,
-) -> Result<Outcome<'a, A>, AllocError>
-    ensures form { IfOk result (λ o. form_of o.form ≡ normal_form for_usage (state_of state) (tree_of meta.now)) }
-    ensures state { IfOk result (λ o. state_of o.state ≡ state_out (state_of state) (tree_of meta.now)) }
+    state: &mut State,
+) -> Result<Form<'a, A>, AllocError>
+    ensures form { IfOk result (λ f. form_of f ≡ normal_form for_usage (state_of state.old) (tree_of meta.now)) }
+    ensures state { OnOk result (state_of state.new ≡ state_out (state_of state.old) (tree_of meta.now)) }
 {
     match meta {
-        Meta::And(parts) => Ok(Outcome {
-            form: make_and(normalize_and(parts, for_usage, state)?),
-            state,
-        }),
+        Meta::And(parts) => Ok(make_and(normalize_and(parts, for_usage, *state)?)),
         Meta::Or(parts) => normalize_or(parts, for_usage, state),
         Meta::Optional(inner) => {
-            let Outcome { form, state } = normalize(inner, for_usage, state)?;
-            Ok(Outcome {
-                form: make_optional(*Box::allocator(inner), form)?,
-                state,
-            })
+            make_optional(*Box::allocator(inner), normalize(inner, for_usage, state)?)
         }
         Meta::Required(inner) => {
-            let Outcome { form, state } = normalize(inner, for_usage, state)?;
-            Ok(Outcome {
-                form: make_required(*Box::allocator(inner), form)?,
-                state,
-            })
+            make_required(*Box::allocator(inner), normalize(inner, for_usage, state)?)
         }
         Meta::Many(inner) => {
-            let Outcome { form, state } = normalize(inner, for_usage, state)?;
-            Ok(Outcome {
-                form: make_many(*Box::allocator(inner), form)?,
-                state,
-            })
+            make_many(*Box::allocator(inner), normalize(inner, for_usage, state)?)
         }
         Meta::Adjacent(inner) | Meta::Subsection(inner, _) | Meta::Suffix(inner, _) => {
             normalize(inner, for_usage, state)
         }
         Meta::CustomUsage(inner, usage) => {
-            let Outcome { form, state } = normalize(inner, for_usage, state)?;
-            Ok(Outcome {
-                form: make_custom_usage(*Box::allocator(inner), for_usage, form, usage)?,
-                state,
-            })
+            let form = normalize(inner, for_usage, state)?;
+            make_custom_usage(*Box::allocator(inner), for_usage, form, usage)
         }
         Meta::Strict(inner) => {
-            let Outcome { form, state } = normalize(inner, for_usage, state)?;
-            Ok(Outcome {
-                form,
-                state: state.strict(),
-            })
+            let form = normalize(inner, for_usage, state)?;
+            *state = state.strict();
+            Ok(form)
         }
-        Meta::Item(item) => Ok(Outcome {
-            form: Form::Item(item, for_usage),
-            state,
-        }),
-        Meta::Skip => Ok(Outcome {
-            form: Form::Skip,
-            state,
-        }),
+        Meta::Item(item) => Ok(Form::Item(item, for_usage)),
+        Meta::Skip => Ok(Form::Skip),
     }
 }
 
@@ -148,9 +116,10 @@ fn normalize_and<'a, A: Allocator + Copy>(
     let mut kept: Vec<Form<'a, A>, A> = room_for(*parts.allocator(), parts.len())?;
     let mut running = state;
     for part in parts {
-        let Outcome { form, state } = normalize(part, for_usage, running)?;
-        keep(&mut kept, guard(*parts.allocator(), running, state, form)?)?;
-        running = running.after(state);
+        let mut given = running;
+        let form = normalize(part, for_usage, &mut given)?;
+        keep(&mut kept, guard(*parts.allocator(), running, given, form)?)?;
+        running = running.after(given);
     }
     Ok(kept)
 }
@@ -161,28 +130,26 @@ fn normalize_and<'a, A: Allocator + Copy>(
 fn normalize_or<'a, A: Allocator + Copy>(
     parts: &'a Vec<Meta<A>, A>,
     for_usage: bool,
-    state: State,
-) -> Result<Outcome<'a, A>, AllocError>
-    ensures form { IfOk result (λ o. form_of o.form
+    state: &mut State,
+) -> Result<Form<'a, A>, AllocError>
+    ensures form { IfOk result (λ f. form_of f
         ≡ or_form
         (with_first_command
-        (shown_trees (or_parts for_usage (state_of state) (state_of state) (trees_of parts.now.items))))) }
-    ensures state { IfOk result (λ o. state_of o.state
-        ≡ or_state (state_of state) (state_of state) (trees_of parts.now.items)) }
+        (shown_trees (or_parts for_usage (state_of state.old) (state_of state.old) (trees_of parts.now.items))))) }
+    ensures state { OnOk result (state_of state.new
+        ≡ or_state (state_of state.old) (state_of state.old) (trees_of parts.now.items)) }
 {
     let mut kept: Vec<Form<'a, A>, A> = room_for(*parts.allocator(), parts.len())?;
     let mut seen_command = false;
-    let mut last = state;
+    let first = *state;
     for part in parts {
-        let Outcome { form, state } = normalize(part, for_usage, state)?;
-        let form = guard(*parts.allocator(), last, state, form)?;
+        let mut given = first;
+        let form = normalize(part, for_usage, &mut given)?;
+        let form = guard(*parts.allocator(), *state, given, form)?;
         seen_command = keep_alternative(&mut kept, seen_command, form)?;
-        last = last.after(state);
+        *state = state.after(given);
     }
-    Ok(Outcome {
-        form: make_or(kept)?,
-        state: last,
-    })
+    make_or(kept)
 }
 
 fn room_for<'a, A: Allocator>(alloc: A, count: usize) -> Result<Vec<Form<'a, A>, A>, AllocError>
@@ -311,8 +278,7 @@ fn make_required<'a, A: Allocator + Copy>(
     ensures { IfOk result (λ m. form_of m ≡ required_form (form_of form.entry)) }
 {
     match form {
-        Form::And(parts) => Ok(Form::Required(Box::new(alloc, Form::And(parts))?)),
-        Form::Or(parts) => Ok(Form::Required(Box::new(alloc, Form::Or(parts))?)),
+        Form::And(_) | Form::Or(_) => Ok(Form::Required(Box::new(alloc, form)?)),
         other => Ok(other),
     }
 }
@@ -346,20 +312,15 @@ fn make_custom_usage<'a, A: Allocator + Copy>(
     Ok(Form::CustomUsage(Box::new(alloc, form)?, usage))
 }
 
-// One outer `Required` taken off, then `Required` put around a bare `Or`.
+// One outer `Required` taken off, unless it is around an `Or`; one put around a bare `Or`.
 fn make_outer<'a, A: Allocator + Copy>(form: Form<'a, A>) -> Result<Form<'a, A>, AllocError>
     ensures { IfOk result (λ m. form_of m ≡ outer_form (form_of form.entry)) }
 {
     match form {
-        Form::Required(inner) => bracket_or(Box::into_inner(inner)),
-        other => bracket_or(other),
-    }
-}
-
-fn bracket_or<'a, A: Allocator + Copy>(form: Form<'a, A>) -> Result<Form<'a, A>, AllocError>
-    ensures { IfOk result (λ m. form_of m ≡ bracketed_or (form_of form.entry)) }
-{
-    match form {
+        Form::Required(inner) => match *inner {
+            Form::Or(_) => Ok(Form::Required(inner)),
+            _ => Ok(Box::into_inner(inner)),
+        },
         Form::Or(parts) => {
             let alloc = *parts.allocator();
             Ok(Form::Required(Box::new(alloc, Form::Or(parts))?))

@@ -2,7 +2,7 @@
 use Rattle.std.specs.Prelude.{Bool, true, false, ◌||◌, if◌then◌else◌}
 use Rattle.bpaf_meta.specs.declared.meta.normal.State.TheVariants as code
 use Rattle.bpaf_meta.specs.declared.meta.normal.State as declared
-use Rattle.bpaf_meta.specs.Content.{Tree, or_of, required, skip, Trees, no_trees, tree}
+use Rattle.bpaf_meta.specs.Content.{Tree, skip, Trees, no_trees, tree}
 use Rattle.bpaf_meta.specs.Meta.Normal.{State, pull, push, strip, is_command_tree, without_commands, with_first_command}
 
 abbrev pub state_of : declared.State → State
@@ -25,8 +25,3 @@ after_commands false ts = with_first_command ts
 
 abbrev pub sees_command : (seen : Bool) → Tree → Bool
 sees_command seen t = seen || is_command_tree t
-
--- a bare Or in a Required
-abbrev pub bracketed_or : Tree → Tree
-bracketed_or (or_of ts) = required (or_of ts)
-bracketed_or t = t

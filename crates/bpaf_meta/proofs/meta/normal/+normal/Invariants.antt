@@ -12,6 +12,6 @@ invariant-normalize_and-loop-part g l =
 
 abbrev pub invariant-normalize_or-loop-part : goal.invariant-normalize_or-loop-part
 invariant-normalize_or-loop-part g l = record {
-  form : trees_then (forms_of l.kept.items) (after_commands l.seen_command (shown_trees (or_parts l.for_usage (state_of l.state) (state_of l.last) (trees_of (drop l.part-index l.part-items))))) ≡ with_first_command (shown_trees (or_parts l.for_usage (state_of l.state) (state_of l.state) (trees_of l.parts.items)));
-  state : or_state (state_of l.state) (state_of l.last) (trees_of (drop l.part-index l.part-items)) ≡ or_state (state_of l.state) (state_of l.state) (trees_of l.parts.items);
+  form : trees_then (forms_of l.kept.items) (after_commands l.seen_command (shown_trees (or_parts l.for_usage (state_of l.first) (state_of l.state) (trees_of (drop l.part-index l.part-items))))) ≡ with_first_command (shown_trees (or_parts l.for_usage (state_of l.first) (state_of l.first) (trees_of l.parts.items)));
+  state : or_state (state_of l.first) (state_of l.state) (trees_of (drop l.part-index l.part-items)) ≡ or_state (state_of l.first) (state_of l.first) (trees_of l.parts.items);
 }
