@@ -1,8 +1,8 @@
 //! Tests of `clidoc_engine`, and what is said of bad input.
 
-mod ends;
+pub mod ends;
 mod faults;
 mod long_pages;
-mod pages;
+pub mod pages;
 mod programs;
 mod words;

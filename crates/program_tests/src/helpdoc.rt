@@ -1,5 +1,5 @@
 //! Tests of `helpdoc_engine`.
 
-mod ends;
+pub mod ends;
 mod pages;
 mod programs;

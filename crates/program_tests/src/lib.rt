@@ -8,7 +8,13 @@
 #[cfg(test)]
 mod clidoc;
 #[cfg(test)]
+mod engines;
+#[cfg(test)]
+mod frames;
+#[cfg(test)]
 mod helpdoc;
+#[cfg(test)]
+mod programs;
 #[cfg(test)]
 mod stand_ins;
 #[cfg(test)]

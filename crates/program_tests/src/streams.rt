@@ -2,13 +2,12 @@
 //! failed.
 use crate::stand_ins::lines::says;
 use crate::stand_ins::scripts::{
-    Answer, Draws, KINDS, LARGE, MESSAGE, SIZES, Script, ScriptedReader, ScriptedWriter, bytes_of,
-    front,
+    Answer, Calls, Draws, KINDS, LARGE, MESSAGE, Outcome, SIZES, Script, ScriptedReader,
+    ScriptedWriter, front, letters,
 };
 use std::alloc::{AllocError, Global};
 use std::io;
 use std::io::ErrorKind;
-use std::test::Fail;
 use watched::{ReadError, Watched};
 
 // How many scripts are drawn for each size.
@@ -21,6 +20,20 @@ fn kind_of<T: Copy>(outcome: io::Result<T>) -> Result<T, ErrorKind> {
     }
 }
 
+// Whether a read has this outcome, and gives these bytes.
+fn reads(
+    reader: &mut Watched<ScriptedReader<'_>>,
+    room: &mut [u8],
+    want: Outcome,
+    given: &[u8],
+) -> bool {
+    kind_of(reader.read(room)) == want && room.starts_with(given)
+}
+
+fn are_passed_on(calls: Calls, answers: &[Answer]) -> bool {
+    calls.fit && calls.count == answers.len()
+}
+
 fn reads_each_once(bytes: &[u8], room: &mut [u8], answers: &[Answer]) -> bool {
     let end = ScriptedReader::new(bytes, Script::of(answers)).with_room(room.len());
     let mut reader = Watched::new(end);
@@ -28,18 +41,14 @@ fn reads_each_once(bytes: &[u8], room: &mut [u8], answers: &[Answer]) -> bool {
     let mut is_marked = false;
     for answer in answers {
         let want = answer.outcome(left.len().min(room.len()));
-        is_marked |= want.is_err();
-        if kind_of(reader.read(room)) != want || reader.failed() != is_marked {
-            return false;
-        }
         let (given, rest) = left.split_at(want.unwrap_or(0));
-        if !room.starts_with(given) {
+        is_marked |= want.is_err();
+        if !reads(&mut reader, room, want, given) || reader.failed() != is_marked {
             return false;
         }
         left = rest;
     }
-    let calls = reader.into_inner().calls;
-    calls.fit && calls.count == answers.len()
+    are_passed_on(reader.into_inner().calls, answers)
 }
 
 fn writes_each_once(bytes: &[u8], answers: &[Answer]) -> bool {
@@ -52,28 +61,35 @@ fn writes_each_once(bytes: &[u8], answers: &[Answer]) -> bool {
             return false;
         }
     }
-    let calls = writer.into_inner().calls;
-    calls.fit && calls.count == answers.len()
+    are_passed_on(writer.into_inner().calls, answers)
 }
 
-// Whether each call on so many bytes is passed on, by this script and that.
+// Whether each call on these bytes is passed on, by this script and that.
 fn passes_each_once(bytes: &[u8], room: &mut [u8], draws: &mut Draws) -> bool {
     let (reads, writes) = (draws.answers(), draws.answers());
     reads_each_once(bytes, room, &reads[..4]) && writes_each_once(bytes, &writes[..4])
 }
 
-#[test]
-fn each_call_is_passed_on_once(rt: HostRuntime) -> Result<(), Fail> {
-    let bytes = bytes_of(rt.alloc(), LARGE)?;
-    let mut draws = Draws::new(1);
-    for size in SIZES {
-        let mut room = vec![in rt.alloc(); 0u8; size]?;
-        for _ in 0..SCRIPTS {
-            let bytes = front(&bytes, size);
-            assert!(rt; passes_each_once(bytes, &mut room, &mut draws), "{size}");
+// Whether each call on so many bytes is passed on.
+fn passes_on(global: Global, size: usize, draws: &mut Draws) -> Result<bool, AllocError> {
+    let letters = letters(global, size)?;
+    let bytes = front(&letters, size).as_bytes();
+    let mut room = vec![in global; 0u8; size]?;
+    for _ in 0..SCRIPTS {
+        if !passes_each_once(bytes, &mut room, draws) {
+            return Ok(false);
         }
     }
-    Ok(())
+    Ok(true)
+}
+
+#[test]
+fn each_call_is_passed_on_once(rt: HostRuntime) {
+    let mut draws = Draws::new(1);
+    for &size in &SIZES {
+        let passes_on = passes_on(rt.alloc(), size, &mut draws);
+        assert!(rt; passes_on.unwrap_or(false), "{size}");
+    }
 }
 
 // What reading all of it answers, but for the bytes, which should be a beginning of these.
@@ -105,35 +121,40 @@ fn writes_all(bytes: &[u8], script: Script<'_>) -> bool {
     is_marked == outcome.is_err() && calls.written(bytes.len()) == Some(outcome)
 }
 
-// Whether all is read, and all is written, whatever the scripts are.
+// Whether all of these is read, and all is written, by these answers and those.
 fn moves_all(global: Global, bytes: &[u8], draws: &mut Draws) -> bool {
+    let (reads, writes) = (draws.answers(), draws.answers());
+    reads_all(global, bytes, Script::of(&reads)) && writes_all(bytes, Script::of(&writes))
+}
+
+// Whether all of so many bytes is read, and all is written, whatever the scripts are.
+fn moves(global: Global, size: usize, draws: &mut Draws) -> Result<bool, AllocError> {
+    let letters = letters(global, size)?;
+    let bytes = front(&letters, size).as_bytes();
     for _ in 0..SCRIPTS {
-        let (reads, writes) = (draws.answers(), draws.answers());
-        if !reads_all(global, bytes, Script::of(&reads))
-            || !writes_all(bytes, Script::of(&writes))
-        {
-            return false;
+        if !moves_all(global, bytes, draws) {
+            return Ok(false);
         }
     }
-    reads_all(global, bytes, Script::WHOLE) && writes_all(bytes, Script::WHOLE)
+    Ok(reads_all(global, bytes, Script::WHOLE) && writes_all(bytes, Script::WHOLE))
+}
+
+// Whether many bytes are read at once, and written as all but one byte, and then that one.
+fn moves_many(global: Global) -> Result<bool, AllocError> {
+    let letters = letters(global, LARGE)?;
+    let bytes = front(&letters, LARGE).as_bytes();
+    let all_but_one = Script::of(&[Answer::Moves(LARGE - 1)]);
+    Ok(reads_all(global, bytes, Script::WHOLE) && writes_all(bytes, all_but_one))
 }
 
 #[test]
-fn all_is_read_and_written(rt: HostRuntime) -> Result<(), Fail> {
-    let bytes = bytes_of(rt.alloc(), LARGE)?;
+fn all_is_read_and_written(rt: HostRuntime) {
     let mut draws = Draws::new(2);
-    for size in SIZES {
-        assert!(rt;
-            moves_all(rt.alloc(), front(&bytes, size), &mut draws),
-            "{size}"
-        );
+    for &size in &SIZES {
+        let moves = moves(rt.alloc(), size, &mut draws);
+        assert!(rt; moves.unwrap_or(false), "{size}");
     }
-    let bytes = front(&bytes, LARGE);
-    // All but one byte, and then that one.
-    let all_but_one = [Answer::Moves(LARGE - 1)];
-    assert!(rt; reads_all(rt.alloc(), bytes, Script::WHOLE));
-    assert!(rt; writes_all(bytes, Script::of(&all_but_one)));
-    Ok(())
+    assert!(rt; moves_many(rt.alloc()).unwrap_or(false));
 }
 
 // Whether writing answers this error of the writer, with all that it says.
@@ -153,18 +174,28 @@ fn comes_out(global: Global, kind: ErrorKind) -> bool {
     reads_all(global, b"abcd", script) && writes_all(b"abcd", script) && hands_out(kind)
 }
 
+// Whether a writer that takes nothing fails where there is something to write.
+fn says_none_is_taken() -> bool {
+    writes_all(b"abcd", Script::NONE) && writes_all(b"", Script::NONE)
+}
+
 #[test]
 fn each_error_is_handed_out(rt: HostRuntime) {
-    for kind in KINDS {
+    for &kind in &KINDS {
         assert!(rt; comes_out(rt.alloc(), kind), "{kind:?}");
     }
-    assert!(rt; writes_all(b"abcd", Script::NONE) && writes_all(b"", Script::NONE));
+    assert!(rt; says_none_is_taken());
+}
+
+fn are_told() -> bool {
+    says(
+        &ReadError::Failed(ErrorKind::TimedOut.into()),
+        "read failed: timed out",
+    ) && says(&ReadError::NotUtf8, "input is not UTF-8")
+        && says(&ReadError::Refused(AllocError), "no memory")
 }
 
 #[test]
 fn a_failed_reading_is_told(rt: HostRuntime) {
-    let failed = ReadError::Failed(ErrorKind::TimedOut.into());
-    assert!(rt; says(&failed, "read failed: timed out"));
-    assert!(rt; says(&ReadError::NotUtf8, "input is not UTF-8"));
-    assert!(rt; says(&ReadError::Refused(AllocError), "no memory"));
+    assert!(rt; are_told());
 }

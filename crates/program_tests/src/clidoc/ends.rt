@@ -1,17 +1,15 @@
 //! Runs over ends that fail or answer by a script, and growths that are refused.
 use crate::clidoc::pages::{Form, INPUT, PAGES, page_of};
-use crate::stand_ins::runs::{Ending, has_read, has_written};
-use crate::stand_ins::scripts::{Script, ScriptedReader, ScriptedWriter, stride};
+use crate::engines::{
+    AMPLE, Asked, moves_bytes, refuses_until_ample, says_failed_reads, says_failed_writes,
+};
+use crate::stand_ins::runs::{Ending, Ends};
+use crate::stand_ins::scripts::Script;
 use clidoc_engine::engine::{check_description, run_description};
 use clidoc_engine::faults::Fault;
 use linked_list_allocator::LocalHeap;
-use std::alloc::{AllocError, Global};
-use std::process::Abort;
-use std::test::Fail;
+use std::alloc::Global;
 use watched::Watched;
-
-/// How many bytes are ample.
-pub const AMPLE: usize = 1 << 20;
 
 fn ending_of(outcome: &Result<(), Fault>) -> Ending {
     match outcome {
@@ -23,160 +21,108 @@ fn ending_of(outcome: &Result<(), Fault>) -> Ending {
     }
 }
 
-/// How a run on this description ends, which should write this page. None where its ends tell otherwise.
-pub fn ran(
-    (heap, global): (&LocalHeap, Global),
-    form: Form,
-    input: &[u8],
-    page: &[u8],
-    reads: Script<'_>,
-    writes: Script<'_>,
-) -> Option<Ending> {
-    let mut reader = Watched::new(ScriptedReader::new(input, reads));
-    let mut writer = Watched::new(ScriptedWriter::new(page, writes));
-    let asked = page_of(global, form);
-    let outcome = run_description(heap, global, &asked, &mut reader, &mut writer);
-    let ending = ending_of(&outcome);
-    if has_read(ending, reader, input.len()) && has_written(ending, writer, page.len()) {
-        Some(ending)
-    } else {
-        None
-    }
-}
-
-#[test]
-fn moves_a_byte_at_a_time(rt: HostRuntime) -> Result<(), Fail> {
-    let heap = LocalHeap::new(rt.alloc(), AMPLE)?;
-    let memory = (&heap, rt.alloc());
-    for (form, word, page) in PAGES {
-        let rows = [
-            (Script::BYTES, Script::WHOLE, Ending::Done),
-            (Script::WHOLE, Script::BYTES, Ending::Done),
-            (Script::WHOLE, Script::NONE, Ending::WriteFailed),
-        ];
-        for (reads, writes, ending) in rows {
-            let ran = ran(memory, form, INPUT, page, reads, writes);
-            assert!(rt; ran == Some(ending), "{word} {ending:?}");
-        }
-    }
-    Ok(())
-}
-
-#[test]
-fn a_failed_read_is_said(rt: HostRuntime) -> Result<(), Fail> {
-    let heap = LocalHeap::new(rt.alloc(), AMPLE)?;
-    let memory = (&heap, rt.alloc());
-    for (form, word, page) in PAGES {
-        // One read a byte, and one that finds the end.
-        for call in 0..=INPUT.len() {
-            let reads = Script::failing(call);
-            let ran = ran(memory, form, INPUT, page, reads, Script::WHOLE);
-            assert!(rt; ran == Some(Ending::ReadFailed), "{word} {call}");
-        }
-    }
-    Ok(())
-}
-
-#[test]
-fn a_failed_write_is_said(rt: HostRuntime) -> Result<(), Fail> {
-    let heap = LocalHeap::new(rt.alloc(), AMPLE)?;
-    let memory = (&heap, rt.alloc());
-    for (form, word, page) in PAGES {
-        for call in (0..page.len()).step_by(stride(page.len())) {
-            let writes = Script::failing(call);
-            let ran = ran(memory, form, INPUT, page, Script::WHOLE, writes);
-            assert!(rt; ran == Some(Ending::WriteFailed), "{word} {call}");
-        }
-    }
-    Ok(())
-}
-
-// How a run ends on so much memory.
-fn ran_on(
+/// How a run on a description ends. None where its ends tell otherwise.
+pub fn description_ran(
+    heap: &LocalHeap,
     global: Global,
-    budget: usize,
     form: Form,
-    page: &[u8],
-) -> Result<Option<Ending>, AllocError> {
-    let heap = LocalHeap::new(global, budget)?;
-    Ok(ran(
-        (&heap, global),
-        form,
-        INPUT,
-        page,
-        Script::BYTES,
-        Script::WHOLE,
-    ))
-}
-
-// Each budget refuses the first growth that does not fit it; the budgets rise until one suffices.
-fn refuses_until(
-    rt: &(impl Abort + AllocGlobal),
-    form: Form,
-    page: &[u8],
-) -> Result<(), AllocError> {
-    for budget in 1..4096usize {
-        let ran = ran_on(rt.alloc(), budget * 16, form, page)?;
-        if ran == Some(Ending::Done) {
-            assert!(rt; budget > 1, "{form:?}");
-            return Ok(());
-        }
-        assert!(rt; ran == Some(Ending::NoMemory), "{form:?} {budget}");
-    }
-    panic!(rt; "{form:?} never succeeds")
-}
-
-#[test]
-fn a_refused_growth_writes_nothing(rt: HostRuntime) -> Result<(), Fail> {
-    for (form, _, page) in PAGES {
-        refuses_until(&rt, form, page)?;
-    }
-    Ok(())
-}
-
-// How a judgement of the description ends. None where its reader tells otherwise.
-fn judged((heap, global): (&LocalHeap, Global), input: &[u8], reads: Script<'_>) -> Option<Ending> {
-    let mut reader = Watched::new(ScriptedReader::new(input, reads));
-    let outcome = check_description(heap, global, &mut reader);
-    let ending = ending_of(&outcome);
-    if has_read(ending, reader, input.len()) {
+    ends: &Ends<'_>,
+) -> Option<Ending> {
+    let mut reader = Watched::new(ends.reader());
+    let mut writer = Watched::new(ends.writer());
+    let asked = page_of(global, form);
+    let ending = ending_of(&run_description(heap, global, &asked, &mut reader, &mut writer));
+    if ends.have_read(ending, reader) && ends.have_written(ending, writer) {
         Some(ending)
     } else {
         None
     }
 }
 
-// How a judgement ends on so much memory.
-fn judged_on(global: Global, budget: usize) -> Result<Option<Ending>, AllocError> {
-    let heap = LocalHeap::new(global, budget)?;
-    Ok(judged((&heap, global), INPUT, Script::BYTES))
-}
-
 #[test]
-fn judges_a_description(rt: HostRuntime) -> Result<(), Fail> {
-    let heap = LocalHeap::new(rt.alloc(), AMPLE)?;
-    let memory = (&heap, rt.alloc());
-    let rows: [(&[u8], Script<'_>, Ending); 4] = [
-        (INPUT, Script::BYTES, Ending::Done),
-        (b"", Script::WHOLE, Ending::BadInput),
-        (b"\xff", Script::WHOLE, Ending::BadInput),
-        (INPUT, Script::failing(3), Ending::ReadFailed),
-    ];
-    for (input, reads, ending) in rows {
-        assert!(rt; judged(memory, input, reads) == Some(ending), "{ending:?}");
+fn moves_a_byte_at_a_time(rt: HostRuntime) {
+    for &(form, word, page) in PAGES {
+        let asked = Asked::Clidoc(form);
+        assert!(rt; moves_bytes(rt.alloc(), asked, INPUT, page), "{word}");
     }
-    Ok(())
 }
 
 #[test]
-fn a_refused_growth_ends_a_judgement(rt: HostRuntime) -> Result<(), Fail> {
+fn a_failed_read_is_said(rt: HostRuntime) {
+    for &(form, word, page) in PAGES {
+        let asked = Asked::Clidoc(form);
+        assert!(rt; says_failed_reads(rt.alloc(), asked, INPUT, page), "{word}");
+    }
+}
+
+#[test]
+fn a_failed_write_is_said(rt: HostRuntime) {
+    for &(form, word, page) in PAGES {
+        let asked = Asked::Clidoc(form);
+        assert!(rt;
+            says_failed_writes(rt.alloc(), asked, INPUT, page),
+            "{word}"
+        );
+    }
+}
+
+#[test]
+fn a_refused_growth_writes_nothing(rt: HostRuntime) {
+    for &(form, word, page) in PAGES {
+        let asked = Asked::Clidoc(form);
+        assert!(rt;
+            refuses_until_ample(rt.alloc(), asked, INPUT, page),
+            "{word}"
+        );
+    }
+}
+
+// How a judgement of the description ends, on so much memory. None where its reader tells otherwise.
+fn judged(global: Global, budget: usize, input: &[u8], reads: Script<'_>) -> Option<Ending> {
+    let Ok(heap) = LocalHeap::new(global, budget) else {
+        return None;
+    };
+    let ends = Ends::new(input, b"").reading(reads);
+    let mut reader = Watched::new(ends.reader());
+    let ending = ending_of(&check_description(&heap, global, &mut reader));
+    if ends.have_read(ending, reader) {
+        Some(ending)
+    } else {
+        None
+    }
+}
+
+// A description, how its reader answers, and how the judgement ends.
+const JUDGEMENTS: &[(&[u8], Script<'static>, Ending)] = &[
+    (INPUT, Script::BYTES, Ending::Done),
+    (b"", Script::WHOLE, Ending::BadInput),
+    (b"\xff", Script::WHOLE, Ending::BadInput),
+    (INPUT, Script::FOURTH_FAILS, Ending::ReadFailed),
+];
+
+#[test]
+fn judges_a_description(rt: HostRuntime) {
+    for &(input, reads, ending) in JUDGEMENTS {
+        assert!(rt;
+            judged(rt.alloc(), AMPLE, input, reads) == Some(ending),
+            "{input:?}"
+        );
+    }
+}
+
+// Whether each budget refuses the first growth that does not fit it; the budgets rise until one suffices, and the first
+// is too small.
+fn judges_when_ample(global: Global) -> bool {
     for budget in 1..4096usize {
-        let judged = judged_on(rt.alloc(), budget * 16)?;
-        if judged == Some(Ending::Done) {
-            assert!(rt; budget > 1);
-            return Ok(());
+        let judged = judged(global, budget * 16, INPUT, Script::BYTES);
+        if judged != Some(Ending::NoMemory) {
+            return judged == Some(Ending::Done) && budget > 1;
         }
-        assert!(rt; judged == Some(Ending::NoMemory), "{budget}");
     }
-    panic!(rt; "it never succeeds")
+    false
+}
+
+#[test]
+fn a_refused_growth_ends_a_judgement(rt: HostRuntime) {
+    assert!(rt; judges_when_ample(rt.alloc()));
 }

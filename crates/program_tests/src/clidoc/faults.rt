@@ -1,14 +1,15 @@
 //! What is said of bad input.
-use crate::clidoc::ends::AMPLE;
-use crate::clidoc::long_pages::{front, push_between};
-use crate::clidoc::programs::ends;
-use crate::stand_ins::desk::Desk;
-use linked_list_allocator::LocalHeap;
+use crate::clidoc::long_pages::push_between;
+use crate::clidoc::programs::answers;
+use crate::stand_ins::scripts::front;
 use std::alloc::{AllocError, Global};
-use std::test::Fail;
+
+const ON_FULL: &[&str] = &["clidoc", "full"];
+
+const ON_USAGE: &[&str] = &["clidoc", "usage"];
 
 // An input, and the line that is said of it.
-const ROWS: [(&[u8], &str); 25] = [
+const ROWS: &[(&[u8], &str)] = &[
     // No text, and no TOML.
     (b"name = 'app\xff'\n", "clidoc: input is not UTF-8\n"),
     (
@@ -103,13 +104,13 @@ const ROWS: [(&[u8], &str); 25] = [
 ];
 
 #[test]
-fn says_what_is_wrong(rt: HostRuntime) -> Result<(), Fail> {
-    let heap = LocalHeap::new(rt.alloc(), AMPLE)?;
-    for (input, line) in ROWS {
-        let desk = Desk::new(rt.alloc(), &["clidoc", "full"], input, b"", line);
-        assert!(rt; ends(&heap, rt.alloc(), &desk, 1, 0), "{line}");
+fn says_what_is_wrong(rt: HostRuntime) {
+    for &(input, line) in ROWS {
+        assert!(rt;
+            answers(rt.alloc(), ON_FULL, input, 1, (b"", line)),
+            "{line}"
+        );
     }
-    Ok(())
 }
 
 // Commands in one another.
@@ -123,18 +124,24 @@ fn nested(global: Global, depth: usize) -> Result<String, AllocError> {
     Ok(text)
 }
 
-const ON_USAGE: &[&str] = &["clidoc", "usage"];
+// Whether so many commands in one another give this status, and this page or this line.
+fn nested_answer(
+    global: Global,
+    depth: usize,
+    status: u8,
+    printed: (&[u8], &str),
+) -> Result<bool, AllocError> {
+    let input = nested(global, depth)?;
+    Ok(answers(global, ON_USAGE, input.as_bytes(), status, printed))
+}
+
+const TOO_DEEP: &str =
+    "clidoc: line 162, column 3: cannot recurse further; max recursion depth met\n";
 
 #[test]
-fn commands_stand_in_one_another(rt: HostRuntime) -> Result<(), Fail> {
-    let heap = LocalHeap::new(rt.alloc(), AMPLE)?;
-    let deep = nested(rt.alloc(), 80)?;
-    let page = b"app COMMAND ...\n";
-    let desk = Desk::new(rt.alloc(), ON_USAGE, deep.as_bytes(), page, "");
-    assert!(rt; ends(&heap, rt.alloc(), &desk, 0, page.len()));
-    let deeper = nested(rt.alloc(), 81)?;
-    let line = "clidoc: line 162, column 3: cannot recurse further; max recursion depth met\n";
-    let desk = Desk::new(rt.alloc(), ON_USAGE, deeper.as_bytes(), b"", line);
-    assert!(rt; ends(&heap, rt.alloc(), &desk, 1, 0));
-    Ok(())
+fn commands_stand_in_one_another(rt: HostRuntime) {
+    let deep = nested_answer(rt.alloc(), 80, 0, (b"app COMMAND ...\n", ""));
+    assert!(rt; deep.unwrap_or(false));
+    let deeper = nested_answer(rt.alloc(), 81, 1, (b"", TOO_DEEP));
+    assert!(rt; deeper.unwrap_or(false));
 }

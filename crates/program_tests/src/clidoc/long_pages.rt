@@ -1,61 +1,84 @@
 //! Pages of any size come through, whatever the ends answer.
-use crate::clidoc::ends::{AMPLE, ran};
 use crate::clidoc::pages::Form;
-use crate::stand_ins::runs::Ending;
-use crate::stand_ins::scripts::{Draws, LARGE, SIZES, Script};
-use linked_list_allocator::LocalHeap;
+use crate::engines::{AMPLE, Asked, is_shown};
+use crate::frames::Frame;
+use crate::stand_ins::scripts::{Draws, LARGE, SIZES, front};
 use std::alloc::{AllocError, Global};
-use std::test::Fail;
 
-// How many bytes are ample for a large page.
-const AMPLE_FOR_LARGE: usize = 16 << 20;
+// Around a name on the usage line. Behind one that fills a line stands a newline in place of the blank.
+const SHORT_NAME: Frame = Frame {
+    asked: Asked::Clidoc(Form::Usage),
+    input: ["name = \"", "\"\n"],
+    page: ["", " \n"],
+};
 
-// What stands before and behind a word in a description, and then on its page.
-type Frame = [&'static str; 4];
+const LONG_NAME: Frame = Frame {
+    asked: Asked::Clidoc(Form::Usage),
+    input: ["name = \"", "\"\n"],
+    page: ["", "\n\n"],
+};
 
-// A name on the usage line. Behind one that fills a line stands a newline in place of the blank.
-const SHORT_NAME: Frame = ["name = \"", "\"\n", "", " \n"];
+// Around what a description says in short.
+const ABOUT: [&str; 2] = ["name = \"app\"\nabout = \"", "\"\n"];
 
-const LONG_NAME: Frame = ["name = \"", "\"\n", "", "\n\n"];
+const FULL: Frame = Frame {
+    asked: Asked::Clidoc(Form::Full),
+    input: ABOUT,
+    page: ["", "\n\nUsage: app \n"],
+};
 
-const BEFORE_ABOUT: &str = "name = \"app\"\nabout = \"";
+const BRIEF: Frame = Frame {
+    asked: Asked::Clidoc(Form::Brief),
+    input: ABOUT,
+    page: ["", "\n\nUsage: app \n"],
+};
 
-const BEHIND_ABOUT: &str = "\"\n";
+const HTML: Frame = Frame {
+    asked: Asked::Clidoc(Form::Html),
+    input: ABOUT,
+    page: [
+        "# app<br>\n<p>",
+        "</p><p><b>Usage</b>: <tt><b>app</b></tt> </p>",
+    ],
+};
 
-const CONSOLE: Frame = [BEFORE_ABOUT, BEHIND_ABOUT, "", "\n\nUsage: app \n"];
+const MARKDOWN: Frame = Frame {
+    asked: Asked::Clidoc(Form::Markdown),
+    input: ABOUT,
+    page: ["# app\n\n", "\n\n**Usage**: **`app`** \n"],
+};
 
-const HTML: Frame = [
-    BEFORE_ABOUT,
-    BEHIND_ABOUT,
-    "# app<br>\n<p>",
-    "</p><p><b>Usage</b>: <tt><b>app</b></tt> </p>",
-];
+const MAN: Frame = Frame {
+    asked: Asked::Clidoc(Form::Man),
+    input: ABOUT,
+    page: [
+        ".ie \\n(.g .ds Aq \\(aq\n.el .ds Aq '\n.TH app 1 - - \"\"\n.SH NAME\n\\fRapp \\- \\fP\\fR",
+        "\\fP\n.SH SYNOPSIS\n\\fBapp\\fP\\fR \\fP",
+    ],
+};
 
-const MARKDOWN: Frame = [
-    BEFORE_ABOUT,
-    BEHIND_ABOUT,
-    "# app\n\n",
-    "\n\n**Usage**: **`app`** \n",
-];
-
-const MAN: Frame = [
-    BEFORE_ABOUT,
-    BEHIND_ABOUT,
-    ".ie \\n(.g .ds Aq \\(aq\n.el .ds Aq '\n.TH app 1 - - \"\"\n.SH NAME\n\\fRapp \\- \\fP\\fR",
-    "\\fP\n.SH SYNOPSIS\n\\fBapp\\fP\\fR \\fP",
-];
-// A help text whose lines stand below one another.
-const HELP: Frame = [
+// Around a help text whose lines stand below one another.
+const HELP_IN: [&str; 2] = [
     "name = \"app\"\n[[option]]\nlong = \"verbose-as-can\"\nhelp = \"\"\"a",
     "\"\"\"\n",
+];
+
+const HELP_OUT: [&str; 2] = [
     "Usage: app [--verbose-as-can]\n\nAvailable options:\n        --verbose-as-can  a",
     "\n",
 ];
 
-// The word between these two.
-fn between(global: Global, front: &str, word: &str, back: &str) -> Result<String, AllocError> {
-    format!(in global; "{front}{word}{back}")
-}
+const FULL_HELP: Frame = Frame {
+    asked: Asked::Clidoc(Form::Full),
+    input: HELP_IN,
+    page: HELP_OUT,
+};
+
+const BRIEF_HELP: Frame = Frame {
+    asked: Asked::Clidoc(Form::Brief),
+    input: HELP_IN,
+    page: HELP_OUT,
+};
 
 /// Pushes a word between these two.
 pub fn push_between(
@@ -68,63 +91,37 @@ pub fn push_between(
     text.push_str(behind)
 }
 
+const SHORT_FRAMES: &[Frame] = &[SHORT_NAME, FULL, BRIEF, HTML, MARKDOWN, MAN];
+
+const FRAMES: &[Frame] = &[LONG_NAME, FULL, BRIEF, HTML, MARKDOWN, MAN];
+
 // A frame for each form, and for words of this size.
-fn frames(size: usize) -> [(Form, Frame); 6] {
-    [
-        (Form::Usage, if size < 100 { SHORT_NAME } else { LONG_NAME }),
-        (Form::Full, CONSOLE),
-        (Form::Brief, CONSOLE),
-        (Form::Html, HTML),
-        (Form::Markdown, MARKDOWN),
-        (Form::Man, MAN),
-    ]
+fn frames(size: usize) -> &'static [Frame] {
+    if size < 100 { SHORT_FRAMES } else { FRAMES }
 }
 
-/// So many of the characters, from the first one on.
-pub fn front(text: &str, size: usize) -> &str {
-    text.get(..size).unwrap_or(text)
-}
-
-// Whether the page of this word comes through drawn ends.
-fn comes_through(
-    memory: (&LocalHeap, Global),
-    draws: &mut Draws,
-    (form, frame): (Form, Frame),
-    word: &str,
-) -> Result<bool, AllocError> {
-    let input = between(memory.1, frame[0], word, frame[1])?;
-    let page = between(memory.1, frame[2], word, frame[3])?;
-    let (input, page) = (input.as_bytes(), page.as_bytes());
-    let (moves, broken, writes) = (draws.moves(), draws.broken(), draws.answers());
-    let writes = Script::of(&writes);
-    let moved = ran(memory, form, input, page, Script::of(&moves), writes);
-    let broken = ran(memory, form, input, page, Script::of(&broken), writes);
-    Ok(moved.is_some_and(Ending::is_of_ends) && broken.is_some_and(Ending::is_of_ends))
+// Whether the page of each form comes through drawn ends, with words of these sizes by turns.
+fn each_form_comes_through(global: Global, draws: &mut Draws, sizes: [usize; 2]) -> bool {
+    for (index, frame) in frames(sizes[0]).iter().enumerate() {
+        let comes_through = frame.comes_through(global, AMPLE, draws, sizes[index % 2]);
+        if !comes_through.unwrap_or(false) {
+            return false;
+        }
+    }
+    true
 }
 
 #[test]
-fn pages_come_through_any_ends(rt: HostRuntime) -> Result<(), Fail> {
-    let heap = LocalHeap::new(rt.alloc(), AMPLE)?;
-    let memory = (&heap, rt.alloc());
-    let text = "abcdefghijk".repeat(rt.alloc(), 6000)?;
+fn pages_come_through_any_ends(rt: HostRuntime) {
     let mut draws = Draws::new(4);
-    for size in &SIZES[..7] {
-        for form in frames(*size) {
-            assert!(rt;
-                comes_through(memory, &mut draws, form, front(&text, *size))?,
-                "{size}"
-            );
-        }
-    }
-    // Of the two largest sizes one a form.
-    for (index, form) in frames(SIZES[7]).into_iter().enumerate() {
-        let size = SIZES[7 + index % 2];
+    for &size in &SIZES[..7] {
         assert!(rt;
-            comes_through(memory, &mut draws, form, front(&text, size))?,
+            each_form_comes_through(rt.alloc(), &mut draws, [size, size]),
             "{size}"
         );
     }
-    Ok(())
+    // Of the two largest sizes one a form.
+    assert!(rt; each_form_comes_through(rt.alloc(), &mut draws, [SIZES[7], SIZES[8]]));
 }
 
 // So many of these pieces that a page shows more than a large one by them.
@@ -133,46 +130,35 @@ fn pieces(global: Global, piece: &str, count: usize) -> Result<String, AllocErro
     some.repeat(global, count / 64 + 1)
 }
 
-// How a run ends whose page shows this piece many times, on a description that has it as it is written there.
+// Whether a large page comes through that shows this piece many times, on a description that has it as it is written
+// there.
 fn shows_pieces(
-    memory: (&LocalHeap, Global),
-    (form, frame): (Form, Frame),
+    global: Global,
+    frame: &Frame,
     piece: &str,
     shown: &str,
-) -> Result<Option<Ending>, AllocError> {
+) -> Result<bool, AllocError> {
     let count = LARGE / shown.len().max(1) + 1;
-    let input = between(
-        memory.1,
-        frame[0],
-        &pieces(memory.1, piece, count)?,
-        frame[1],
-    )?;
-    let page = between(
-        memory.1,
-        frame[2],
-        &pieces(memory.1, shown, count)?,
-        frame[3],
-    )?;
-    let (input, page) = (input.as_bytes(), page.as_bytes());
-    Ok(ran(memory, form, input, page, Script::WHOLE, Script::WHOLE))
+    let given = pieces(global, piece, count)?;
+    let shown = pieces(global, shown, count)?;
+    frame.shows(global, &given, &shown)
 }
 
+// A frame, a piece of a description, and how a page shows it.
+const PIECES: &[(Frame, &str, &str)] = &[
+    (FULL_HELP, "\n a", "\n                          a"),
+    (BRIEF_HELP, "\n a", "\n                          a"),
+    (HTML, "<", "&lt;"),
+    (MARKDOWN, "Many words", "Many words"),
+    (MAN, "'", "\\*(Aq"),
+];
+
 #[test]
-fn large_pages_come_through(rt: HostRuntime) -> Result<(), Fail> {
-    let heap = LocalHeap::new(rt.alloc(), AMPLE_FOR_LARGE)?;
-    let line = "\n                          a";
-    let rows = [
-        (Form::Full, HELP, "\n a", line),
-        (Form::Brief, HELP, "\n a", line),
-        (Form::Html, HTML, "<", "&lt;"),
-        (Form::Markdown, MARKDOWN, "Many words", "Many words"),
-        (Form::Man, MAN, "'", "\\*(Aq"),
-    ];
-    for (form, frame, piece, shown) in rows {
-        let ending = shows_pieces((&heap, rt.alloc()), (form, frame), piece, shown)?;
-        assert!(rt; ending == Some(Ending::Done), "{form:?}");
+fn large_pages_come_through(rt: HostRuntime) {
+    for (frame, piece, shown) in PIECES {
+        let shows = shows_pieces(rt.alloc(), frame, piece, shown);
+        assert!(rt; shows.unwrap_or(false), "{shown}");
     }
-    Ok(())
 }
 
 // A text with many names of their own, each of which fills a line, between these two.
@@ -186,23 +172,20 @@ fn names(global: Global, head: &str, around: [&str; 2], back: &str) -> Result<St
     Ok(text)
 }
 
-#[test]
-fn a_long_description_is_read_to_its_end(rt: HostRuntime) -> Result<(), Fail> {
-    let heap = LocalHeap::new(rt.alloc(), AMPLE_FOR_LARGE)?;
-    let memory = (&heap, rt.alloc());
+// Whether a large page comes through whose description is large too.
+fn shows_names(global: Global) -> Result<bool, AllocError> {
     let option = ["[[option]]\nlong = '", "'\nrequired = true\n"];
-    let input = names(rt.alloc(), "name = 'app'\n", option, "")?;
-    let page = names(rt.alloc(), "app", ["\n--", ""], "\n")?;
+    let input = names(global, "name = 'app'\n", option, "")?;
+    let page = names(global, "app", ["\n--", ""], "\n")?;
     let (input, page) = (input.as_bytes(), page.as_bytes());
-    assert!(rt; input.len() > LARGE && page.len() > LARGE);
-    let ending = ran(
-        memory,
-        Form::Usage,
-        input,
-        page,
-        Script::WHOLE,
-        Script::WHOLE,
-    );
-    assert!(rt; ending == Some(Ending::Done));
-    Ok(())
+    Ok(
+        input.len() > LARGE
+            && page.len() > LARGE
+            && is_shown(global, Asked::Clidoc(Form::Usage), input, page),
+    )
+}
+
+#[test]
+fn a_long_description_is_read_to_its_end(rt: HostRuntime) {
+    assert!(rt; shows_names(rt.alloc()).unwrap_or(false));
 }

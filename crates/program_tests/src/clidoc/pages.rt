@@ -4,12 +4,12 @@ ghost use Rattle.std.specs.Prelude.{IfSome};
 ghost use Rattle.clidoc_engine.specs.Chosen.{page_said};
 ghost use Rattle.clidoc_engine.specs.Runs.{HasPage};
 
+use crate::engines::AMPLE;
 use clidoc_engine::engine::run_description;
 use clidoc_engine::places::{Place, place_behind};
 use clidoc_engine::words::{Console, ConsoleForm, Page};
 use linked_list_allocator::LocalHeap;
 use std::alloc::Global;
-use std::test::Fail;
 use watched::Watched;
 
 /// A description.
@@ -23,7 +23,7 @@ required = true
 ";
 
 /// A page of the application.
-#[derive(Clone, Copy, Debug)]
+#[derive(Clone, Copy)]
 pub enum Form {
     Usage,
     Full,
@@ -51,7 +51,7 @@ pub fn page_of(global: Global, form: Form) -> Page<'static, Global> {
 }
 
 /// Each form with its word and the page of the description.
-pub const PAGES: [(Form, &str, &[u8]); 6] = [
+pub const PAGES: &[(Form, &str, &[u8])] = &[
     (Form::Usage, "usage", b"app -v\n"),
     (Form::Full, "full", HELP),
     (Form::Brief, "brief", HELP),
@@ -95,31 +95,41 @@ fn page<'a>(
     }
 }
 
-#[test]
-fn shows_each_page(rt: HostRuntime) -> Result<(), Fail> {
-    let heap = LocalHeap::new(rt.alloc(), 1 << 20)?;
-    for (form, word, want) in PAGES {
-        let asked = page_of(rt.alloc(), form);
-        let page = page(&heap, rt.alloc(), &asked, INPUT);
-        assert!(rt; page.is_some_and(|page| page.as_slice() == want), "{word}");
+// Whether the page of the description in this form is this one.
+fn shows(global: Global, form: Form, want: &[u8]) -> bool {
+    let Ok(heap) = LocalHeap::new(global, AMPLE) else {
+        return false;
+    };
+    let asked = page_of(global, form);
+    match page(&heap, global, &asked, INPUT) {
+        Some(page) => page.as_slice() == want,
+        None => false,
     }
-    Ok(())
 }
 
 #[test]
+fn shows_each_page(rt: HostRuntime) {
+    for &(form, word, want) in PAGES {
+        assert!(rt; shows(rt.alloc(), form, want), "{word}");
+    }
+}
+
+// A front of a text, and the line and the column of the place behind it.
+const FRONTS: &[(&str, usize, usize)] = &[
+    ("", 1, 1),
+    ("ab", 1, 3),
+    ("ab\n", 2, 1),
+    ("ab\nc", 2, 2),
+    ("\n\n\n", 4, 1),
+    ("\r\nx", 2, 2),
+    ("é日😀", 1, 4),
+    ("é\n日\n😀a\u{301}", 3, 4),
+];
+
+#[test]
 fn counts_lines_and_characters(rt: HostRuntime) {
-    let rows: [(&str, usize, usize); 8] = [
-        ("", 1, 1),
-        ("ab", 1, 3),
-        ("ab\n", 2, 1),
-        ("ab\nc", 2, 2),
-        ("\n\n\n", 4, 1),
-        ("\r\nx", 2, 2),
-        ("é日😀", 1, 4),
-        ("é\n日\n😀a\u{301}", 3, 4),
-    ];
-    for (front, line, column) in rows {
-        let want = Place { line, column };
-        assert!(rt; place_behind(front.as_bytes()) == want, "{line} {column}");
+    for &(front, line, column) in FRONTS {
+        let place = place_behind(front.as_bytes());
+        assert!(rt; place == (Place { line, column }), "{line} {column}");
     }
 }

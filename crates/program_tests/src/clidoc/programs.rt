@@ -1,13 +1,10 @@
 //! Whole runs of the program: the status, and what stands on the streams.
-use crate::clidoc::ends::AMPLE;
 use crate::clidoc::pages::{HELP, INPUT, PAGES};
+use crate::programs::{Program, ends_with, refuses_until_ample};
 use crate::stand_ins::desk::Desk;
+use crate::stand_ins::runs::Ends;
 use crate::stand_ins::scripts::Script;
-use clidoc_engine::program::run;
-use linked_list_allocator::LocalHeap;
-use std::alloc::{AllocError, Global};
-use std::process::ExitCode;
-use std::test::Fail;
+use std::alloc::Global;
 
 const USAGE: &str = "clidoc [--command=NAME]... [--width=COLUMNS] FORM [FILE]\n";
 
@@ -22,31 +19,30 @@ const WRITE: &str = "clidoc: write failed\n";
 
 const MEMORY: &str = "clidoc: no memory\n";
 
-// What a run of the program on so much memory beside its own answers.
-fn program_status(heap: &LocalHeap, global: Global, desk: &Desk<'_>) -> ExitCode {
-    run(&(desk, heap), global)
-}
-
-/// Whether a run of the program on so much memory beside its own answers this status, and prints so many bytes of the
-/// page and, where it is no success, the line. Statuses are numbers here, as in the table of the program.
-pub fn ends(heap: &LocalHeap, global: Global, desk: &Desk<'_>, status: u8, count: usize) -> bool {
-    let is_wanted = program_status(heap, global, desk) == ExitCode::from(status);
-    is_wanted && desk.has_printed(count, status > 0)
+/// Whether a run of the program answers this status, and prints this page and, where it is no success, the line.
+pub fn answers(
+    global: Global,
+    words: &[&str],
+    input: &[u8],
+    status: u8,
+    (page, line): (&[u8], &str),
+) -> bool {
+    let desk = Desk::new(global, words, Ends::new(input, page), line);
+    ends_with(Program::Clidoc, global, &desk, status, page.len())
 }
 
 #[test]
-fn shows_what_is_chosen(rt: HostRuntime) -> Result<(), Fail> {
-    let heap = LocalHeap::new(rt.alloc(), AMPLE)?;
-    for (_, word, page) in PAGES {
-        let words = ["clidoc", word];
-        let desk = Desk::new(rt.alloc(), &words, INPUT, page, "");
-        assert!(rt; ends(&heap, rt.alloc(), &desk, 0, page.len()), "{word}");
+fn shows_what_is_chosen(rt: HostRuntime) {
+    for &(_, word, page) in PAGES {
+        assert!(rt;
+            answers(rt.alloc(), &["clidoc", word], INPUT, 0, (page, "")),
+            "{word}"
+        );
     }
-    Ok(())
 }
 
 /// Wrong words behind the program's name, and the line that says so.
-const WRONG: [(&[&str], &str); 18] = [
+const WRONG: &[(&[&str], &str)] = &[
     (&["clidoc"], USAGE),
     (&["clidoc", "--width=3"], NO_FORM),
     (&["clidoc", "--", "full"], NO_FORM),
@@ -110,13 +106,10 @@ const WRONG: [(&[&str], &str); 18] = [
 ];
 
 #[test]
-fn wrong_words_have_a_status(rt: HostRuntime) -> Result<(), Fail> {
-    let heap = LocalHeap::new(rt.alloc(), AMPLE)?;
-    for (words, line) in WRONG {
-        let desk = Desk::new(rt.alloc(), words, INPUT, b"", line);
-        assert!(rt; ends(&heap, rt.alloc(), &desk, 2, 0), "{line}");
+fn wrong_words_have_a_status(rt: HostRuntime) {
+    for &(words, line) in WRONG {
+        assert!(rt; answers(rt.alloc(), words, INPUT, 2, (b"", line)), "{line}");
     }
-    Ok(())
 }
 
 /// A description with commands, whose lines end with carriage returns too.
@@ -124,7 +117,7 @@ const NESTED: &[u8] =
     b"name = 'app'\r\nabout = \"\"\"\r\nOne\r\n\r\nTwo\"\"\"\r\n[[command]]\r\nname = 'remote'\r\nshort = 'r'\r\n[[command.command]]\r\nname = 'add'\r\nabout = 'Adds one'\r\n";
 
 /// Words behind the program's name, the status, what is written, and the line on standard error.
-const RIGHT: [(&[&str], u8, &[u8], &str); 11] = [
+const RIGHT: &[(&[&str], u8, &[u8], &str)] = &[
     (
         &["clidoc", "--width=100", "full", "-"],
         0,
@@ -179,77 +172,77 @@ const RIGHT: [(&[&str], u8, &[u8], &str); 11] = [
 ];
 
 #[test]
-fn does_what_is_chosen(rt: HostRuntime) -> Result<(), Fail> {
-    let heap = LocalHeap::new(rt.alloc(), AMPLE)?;
-    for (words, status, page, line) in RIGHT {
-        let desk = Desk::new(rt.alloc(), words, NESTED, page, line);
+fn does_what_is_chosen(rt: HostRuntime) {
+    for &(words, status, page, line) in RIGHT {
         assert!(rt;
-            ends(&heap, rt.alloc(), &desk, status, page.len()),
+            answers(rt.alloc(), words, NESTED, status, (page, line)),
             "{words:?}"
         );
     }
-    Ok(())
 }
 
 const ON_FULL: &[&str] = &["clidoc", "full"];
 
+const TWICE: &[u8] = b"lnog = 1\nlnog = 1\n";
+
+const NO_TOML: &str = "clidoc: line 2, column 1: duplicate key\n";
+
+const NAMELESS: &str = "clidoc: description: name is missing\n";
+
+const NEVER: Script<'static> = Script::BYTES;
+
+const FIRST: Script<'static> = Script::FIRST_FAILS;
+
+const FOURTH: Script<'static> = Script::FOURTH_FAILS;
+
+// Words and an input, how the reader and the writer answer, the status, how much of the page is written, and the line.
+type Faulty = (
+    &'static [&'static str],
+    &'static [u8],
+    Script<'static>,
+    Script<'static>,
+    u8,
+    usize,
+    &'static str,
+);
+
+const FAULTY: &[Faulty] = &[
+    (&["clidoc"], b"\xff", FIRST, FIRST, 2, 0, USAGE),
+    (ON_FULL, INPUT, FIRST, NEVER, 1, 0, READ),
+    (ON_FULL, INPUT, FOURTH, NEVER, 1, 0, READ),
+    (ON_FULL, b"= \xff", FOURTH, FIRST, 1, 0, READ),
+    (ON_FULL, b"= \xff", NEVER, FIRST, 1, 0, NOT_UTF8),
+    (ON_FULL, TWICE, NEVER, FIRST, 1, 0, NO_TOML),
+    (ON_FULL, b"", NEVER, FIRST, 1, 0, NAMELESS),
+    (ON_FULL, INPUT, NEVER, FIRST, 1, 0, WRITE),
+    (ON_FULL, INPUT, NEVER, FOURTH, 1, 3, WRITE),
+];
+
+fn tells(global: Global, row: &Faulty) -> bool {
+    let &(words, input, reads, writes, status, count, line) = row;
+    let ends = Ends::new(input, HELP).reading(reads).writing(writes);
+    let desk = Desk::new(global, words, ends, line);
+    ends_with(Program::Clidoc, global, &desk, status, count)
+}
+
+// Where the words cannot be read, nothing else is looked at.
+fn tells_garbled_words(global: Global) -> bool {
+    let ends = Ends::new(INPUT, HELP).reading(FIRST).writing(FIRST);
+    let desk = Desk::new(global, ON_FULL, ends, MEMORY).garbled();
+    ends_with(Program::Clidoc, global, &desk, 1, 0)
+}
+
 // Of several faults the first is told: words, then reads, then the text, its TOML, its description, then writes.
 #[test]
-fn tells_the_first_fault(rt: HostRuntime) -> Result<(), Fail> {
-    let heap = LocalHeap::new(rt.alloc(), AMPLE)?;
-    let (never, first, fourth) = (Script::BYTES, Script::failing(0), Script::failing(3));
-    let twice = b"lnog = 1\nlnog = 1\n";
-    let no_toml = "clidoc: line 2, column 1: duplicate key\n";
-    let nameless = "clidoc: description: name is missing\n";
-    let rows: [(&[&str], &[u8], Script<'_>, Script<'_>, u8, usize, &str); 9] = [
-        (&["clidoc"], b"\xff", first, first, 2, 0, USAGE),
-        (ON_FULL, INPUT, first, never, 1, 0, READ),
-        (ON_FULL, INPUT, fourth, never, 1, 0, READ),
-        (ON_FULL, b"= \xff", fourth, first, 1, 0, READ),
-        (ON_FULL, b"= \xff", never, first, 1, 0, NOT_UTF8),
-        (ON_FULL, twice, never, first, 1, 0, no_toml),
-        (ON_FULL, b"", never, first, 1, 0, nameless),
-        (ON_FULL, INPUT, never, first, 1, 0, WRITE),
-        (ON_FULL, INPUT, never, fourth, 1, 3, WRITE),
-    ];
-    for (words, input, reads, writes, status, count, line) in rows {
-        let desk = Desk::new(rt.alloc(), words, input, HELP, line).answering(reads, writes);
-        assert!(rt;
-            ends(&heap, rt.alloc(), &desk, status, count),
-            "{line} {count}"
-        );
+fn tells_the_first_fault(rt: HostRuntime) {
+    for row in FAULTY {
+        assert!(rt; tells(rt.alloc(), row), "{} {}", row.6, row.5);
     }
-    // Where the words cannot be read, nothing else is looked at.
-    let desk = Desk::new(rt.alloc(), ON_FULL, INPUT, HELP, MEMORY).answering(first, first);
-    assert!(rt; ends(&heap, rt.alloc(), &desk.garbled(), 1, 0));
-    Ok(())
+    assert!(rt; tells_garbled_words(rt.alloc()));
 }
 
-// Whether a growth is refused on so much memory, and this said, or the page written. None where neither is so.
-fn is_refused(global: Global, budget: usize) -> Result<Option<bool>, AllocError> {
-    let heap = LocalHeap::new(global, budget)?;
-    let desk = Desk::new(global, ON_FULL, INPUT, HELP, MEMORY);
-    let status = program_status(&heap, global, &desk);
-    let (is_done, is_failure) = (status == ExitCode::from(0), status == ExitCode::from(1));
-    Ok(if is_done && desk.has_printed(HELP.len(), false) {
-        Some(false)
-    } else if is_failure && desk.has_printed(0, true) {
-        Some(true)
-    } else {
-        None
-    })
-}
-
-// The words take memory too.
 #[test]
-fn a_refused_growth_is_said(rt: HostRuntime) -> Result<(), Fail> {
-    for budget in 1..4096usize {
-        let is_refused = is_refused(rt.alloc(), budget * 16)?;
-        if is_refused == Some(false) {
-            assert!(rt; budget > 1);
-            return Ok(());
-        }
-        assert!(rt; is_refused == Some(true), "{budget}");
-    }
-    panic!(rt; "it never succeeds")
+fn a_refused_growth_is_said(rt: HostRuntime) {
+    let ends = Ends::new(INPUT, HELP);
+    assert!(rt; refuses_until_ample(Program::Clidoc, rt.alloc(), ON_FULL, ends, MEMORY));
 }

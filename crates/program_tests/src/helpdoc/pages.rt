@@ -4,12 +4,13 @@ ghost use Rattle.std.specs.Prelude.{IfOk};
 ghost use Rattle.helpdoc_engine.specs.Rendering.{IsPage, document_of_text, text_title};
 ghost use Rattle.helpdoc_engine.specs.Sample.{sample_document, sample_title};
 
+use crate::engines::AMPLE;
 use crate::stand_ins::lines::says;
 use helpdoc_engine::engine::{run_sample, run_text};
 use helpdoc_engine::faults::Fault;
 use helpdoc_engine::words::{Choice, Form};
 use linked_list_allocator::LocalHeap;
-use std::test::Fail;
+use std::alloc::Global;
 use watched::Watched;
 
 /// What the runs read.
@@ -23,7 +24,7 @@ pub const SAMPLE: &[u8] =
     b"Prints things\n\nUsage: app -v\n\nAvailable options:\n    -v, --verbose  Talk more\n";
 
 /// Each choice with its page, that of a text with the page of the input.
-pub const PAGES: [(Choice, &[u8]); 10] = [
+pub const PAGES: &[(Choice, &[u8])] = &[
     (Choice::Text(Form::Full), PAGE),
     (Choice::Text(Form::Brief), PAGE),
     (Choice::Text(Form::Html), b"hello<br>\nworld "),
@@ -49,7 +50,7 @@ pub const PAGES: [(Choice, &[u8]); 10] = [
 ];
 
 // What other texts give.
-const TEXTS: [(Form, &[u8], &[u8]); 6] = [
+const TEXTS: &[(Form, &[u8], &[u8])] = &[
     (Form::Full, b"", b""),
     (Form::Brief, b"", b""),
     (Form::Html, b"", b""),
@@ -85,39 +86,42 @@ fn sample_page<'a>(heap: &'a LocalHeap, form: Form) -> Result<Vec<u8, &'a LocalH
     Ok(writer.into_inner())
 }
 
-fn has_page(heap: &LocalHeap, choice: Choice, input: &[u8], want: &[u8]) -> bool {
-    let page = match choice {
-        Choice::Text(form) => text_page(heap, form, input),
-        Choice::Sample(form) => sample_page(heap, form),
+fn has_page(global: Global, choice: Choice, input: &[u8], want: &[u8]) -> bool {
+    let Ok(heap) = LocalHeap::new(global, AMPLE) else {
+        return false;
     };
-    page.is_ok_and(|page| page.as_slice() == want)
+    let page = match choice {
+        Choice::Text(form) => text_page(&heap, form, input),
+        Choice::Sample(form) => sample_page(&heap, form),
+    };
+    match page {
+        Ok(page) => page.as_slice() == want,
+        Err(_) => false,
+    }
 }
 
 #[test]
-fn shows_each_page(rt: HostRuntime) -> Result<(), Fail> {
-    let heap = LocalHeap::new(rt.alloc(), 1 << 20)?;
-    for (choice, want) in PAGES {
-        assert!(rt; has_page(&heap, choice, INPUT, want), "{choice:?}");
+fn shows_each_page(rt: HostRuntime) {
+    for &(choice, want) in PAGES {
+        assert!(rt; has_page(rt.alloc(), choice, INPUT, want), "{choice:?}");
     }
-    for (form, input, want) in TEXTS {
-        assert!(rt;
-            has_page(&heap, Choice::Text(form), input, want),
-            "{form:?}"
-        );
+    for &(form, input, want) in TEXTS {
+        let choice = Choice::Text(form);
+        assert!(rt; has_page(rt.alloc(), choice, input, want), "{form:?}");
     }
-    Ok(())
 }
+
+const FAULTS: &[(Fault, &str)] = &[
+    (Fault::NotUtf8, "helpdoc: input is not UTF-8"),
+    (Fault::Read, "helpdoc: read failed"),
+    (Fault::Write, "helpdoc: write failed"),
+    (Fault::Memory, "helpdoc: no memory"),
+    (Fault::Misplaced, "helpdoc: misplaced item"),
+];
 
 #[test]
 fn says_each_fault(rt: HostRuntime) {
-    let rows = [
-        (Fault::NotUtf8, "helpdoc: input is not UTF-8"),
-        (Fault::Read, "helpdoc: read failed"),
-        (Fault::Write, "helpdoc: write failed"),
-        (Fault::Memory, "helpdoc: no memory"),
-        (Fault::Misplaced, "helpdoc: misplaced item"),
-    ];
-    for (fault, want) in rows {
-        assert!(rt; says(&fault, want), "{want}");
+    for (fault, want) in FAULTS {
+        assert!(rt; says(fault, want), "{want}");
     }
 }

@@ -4,7 +4,8 @@ ghost use Rattle.std.specs.Io.{WritesAtMost};
 ghost use Rattle.std.specs.Prelude.{◌≡◌, ◌+◌, IfOk, IsErr, string_len};
 
 use crate::stand_ins::lines::Line;
-use crate::stand_ins::scripts::{Script, ScriptedReader, ScriptedWriter};
+use crate::stand_ins::runs::Ends;
+use crate::stand_ins::scripts::{ScriptedReader, ScriptedWriter};
 use std::alloc::{Allocator, Global};
 use std::cell::Cell;
 use std::env::FillError;
@@ -23,38 +24,23 @@ pub struct Desk<'a> {
     global: Global,
     words: &'a [&'a str],
     garbles_words: bool,
-    input: &'a [u8],
-    reads: Script<'a>,
+    input: ScriptedReader<'a>,
     output: Cell<ScriptedWriter<'a>>,
     said: Cell<Line<'a>>,
 }
 
 impl<'a> Desk<'a> {
-    /// The words begin with the program's name. This page should be written on standard output, and this line, which
-    /// ends with a newline, on standard error.
-    pub fn new(
-        global: Global,
-        words: &'a [&'a str],
-        input: &'a [u8],
-        page: &'a [u8],
-        line: &'a str,
-    ) -> Desk<'a> {
+    /// The words begin with the program's name. Standard input and standard output are these ends, and this line, which
+    /// ends with a newline, should be written on standard error.
+    pub fn new(global: Global, words: &'a [&'a str], ends: Ends<'a>, line: &'a str) -> Desk<'a> {
         Desk {
             global,
             words,
             garbles_words: false,
-            input,
-            reads: Script::WHOLE,
-            output: Cell::new(ScriptedWriter::new(page, Script::WHOLE)),
+            input: ends.reader(),
+            output: Cell::new(ends.writer()),
             said: Cell::new(Line::new(line)),
         }
-    }
-
-    /// The same, with ends that answer by these scripts.
-    pub fn answering(mut self, reads: Script<'a>, writes: Script<'a>) -> Desk<'a> {
-        self.reads = reads;
-        self.output = Cell::new(self.output.get().answering(writes));
-        self
     }
 
     /// The same, but no word is a text, so the words cannot be read.
@@ -123,8 +109,7 @@ impl<'a> Input for Desk<'a> {
 
     // Without a room of its own the reader passes each call on.
     fn reader(&self) -> BufReader<ScriptedReader<'a>> {
-        let input = ScriptedReader::new(self.input, self.reads);
-        BufReader::with_capacity(self.global, 0, input).unwrap()
+        BufReader::with_capacity(self.global, 0, self.input).unwrap()
     }
 }
 

@@ -7,7 +7,7 @@ use std::io;
 use std::io::{ErrorKind, Read, Write};
 
 /// Each kind of error that the kit has.
-pub const KINDS: [ErrorKind; 42] = [
+pub static KINDS: [ErrorKind; 42] = [
     ErrorKind::NotFound,
     ErrorKind::PermissionDenied,
     ErrorKind::ConnectionRefused,
@@ -109,11 +109,26 @@ impl<'a> Script<'a> {
         fails_at: None,
     };
 
+    /// One byte a call, but the first fails.
+    pub const FIRST_FAILS: Script<'static> = Script {
+        answers: &[],
+        most: 1,
+        fails_at: Some(0),
+    };
+
+    /// One byte a call, but the fourth fails.
+    pub const FOURTH_FAILS: Script<'static> = Script {
+        answers: &[],
+        most: 1,
+        fails_at: Some(3),
+    };
+
     /// One byte a call, and an error at this one, counted from 0.
     pub fn failing(call: usize) -> Script<'static> {
         Script {
+            answers: &[],
+            most: 1,
             fails_at: Some(call),
-            ..Script::BYTES
         }
     }
 
@@ -121,7 +136,8 @@ impl<'a> Script<'a> {
     pub fn of(answers: &'a [Answer]) -> Script<'a> {
         Script {
             answers,
-            ..Script::WHOLE
+            most: usize::MAX,
+            fails_at: None,
         }
     }
 
@@ -262,12 +278,6 @@ impl<'a> ScriptedWriter<'a> {
         }
     }
 
-    /// The same, which answers by this script.
-    pub fn answering(mut self, script: Script<'a>) -> ScriptedWriter<'a> {
-        self.script = script;
-        self
-    }
-
     /// Each call should offer all of the bytes.
     pub fn again(mut self) -> ScriptedWriter<'a> {
         self.takes_again = true;
@@ -315,24 +325,23 @@ pub fn stride(places: usize) -> usize
 }
 
 /// The sizes around each small constant of the code.
-pub const SIZES: [usize; 9] = [1, 63, 64, 65, 4095, 4096, 4097, 64 * 1024, 64 * 1024 + 1];
+pub static SIZES: [usize; 9] = [1, 63, 64, 65, 4095, 4096, 4097, 64 * 1024, 64 * 1024 + 1];
 
 /// More than any buffer.
 pub const LARGE: usize = (1 << 20) + 1;
 
-/// At least so many bytes, of which neighbours differ.
-pub fn bytes_of(global: Global, size: usize) -> Result<Vec<u8>, AllocError> {
+/// At least so many letters, of which neighbours differ.
+pub fn letters(global: Global, size: usize) -> Result<String, AllocError> {
     let unit = "abcdefghijk".repeat(global, 64)?;
-    let text = unit.repeat(global, size / unit.len() + 1)?;
-    Ok(text.into_bytes())
+    unit.repeat(global, size / 704 + 1)
 }
 
 /// How many answers are drawn at once.
 pub const TURNS: usize = 16;
 
-/// So many of the bytes, from the first one on, or all where there are no more.
-pub fn front(bytes: &[u8], size: usize) -> &[u8] {
-    bytes.get(..size).unwrap_or(bytes)
+/// So many of the letters, from the first one on, or all where there are no more.
+pub fn front(letters: &str, size: usize) -> &str {
+    letters.get(..size).unwrap_or(letters)
 }
 
 /// Numbers drawn from a seed.

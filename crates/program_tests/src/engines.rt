@@ -1,0 +1,111 @@
+//! Runs of the engines over ends that answer by a script, and what is seen of each of them.
+//!
+//! What is seen is so where the call answers true. It is not, either, where a test itself has too little memory.
+
+use crate::clidoc::ends::description_ran;
+use crate::clidoc::pages::Form;
+use crate::helpdoc::ends::{sample_ran, text_ran};
+use crate::stand_ins::runs::{Ending, Ends};
+use crate::stand_ins::scripts::{Draws, Script, stride};
+use helpdoc_engine::words::Choice;
+use linked_list_allocator::LocalHeap;
+use std::alloc::Global;
+
+/// How many bytes are ample for a small page.
+pub const AMPLE: usize = 1 << 20;
+
+/// How many bytes are ample for a large page.
+pub const AMPLE_FOR_LARGE: usize = 16 << 20;
+
+/// What an engine is asked for.
+#[derive(Clone, Copy)]
+pub enum Asked {
+    Helpdoc(Choice),
+    Clidoc(Form),
+}
+
+/// How a run on so much memory ends. None where its ends tell otherwise.
+pub fn ran(global: Global, budget: usize, asked: Asked, ends: &Ends<'_>) -> Option<Ending> {
+    let Ok(heap) = LocalHeap::new(global, budget) else {
+        return None;
+    };
+    match asked {
+        Asked::Helpdoc(Choice::Text(form)) => text_ran(&heap, form, ends),
+        Asked::Helpdoc(Choice::Sample(form)) => sample_ran(&heap, form, ends),
+        Asked::Clidoc(form) => description_ran(&heap, global, form, ends),
+    }
+}
+
+/// Whether the page comes through where either end moves a byte at a time, and fails where none is written.
+pub fn moves_bytes(global: Global, asked: Asked, input: &[u8], page: &[u8]) -> bool {
+    let whole = Ends::new(input, page);
+    let bytes_read = whole.reading(Script::BYTES);
+    let bytes_written = whole.writing(Script::BYTES);
+    let none_written = whole.writing(Script::NONE);
+    ran(global, AMPLE, asked, &bytes_read) == Some(Ending::Done)
+        && ran(global, AMPLE, asked, &bytes_written) == Some(Ending::Done)
+        && ran(global, AMPLE, asked, &none_written) == Some(Ending::WriteFailed)
+}
+
+/// Whether each failed read is said: one a byte, and one that finds the end.
+pub fn says_failed_reads(global: Global, asked: Asked, input: &[u8], page: &[u8]) -> bool {
+    for call in 0..=input.len() {
+        let ends = Ends::new(input, page).reading(Script::failing(call));
+        if ran(global, AMPLE, asked, &ends) != Some(Ending::ReadFailed) {
+            return false;
+        }
+    }
+    true
+}
+
+/// Whether each failed write is said, one a byte, or of a page that is long some of them.
+pub fn says_failed_writes(global: Global, asked: Asked, input: &[u8], page: &[u8]) -> bool {
+    for call in (0..page.len()).step_by(stride(page.len())) {
+        let ends = Ends::new(input, page).writing(Script::failing(call));
+        if ran(global, AMPLE, asked, &ends) != Some(Ending::WriteFailed) {
+            return false;
+        }
+    }
+    true
+}
+
+/// Whether each budget refuses the first growth that does not fit it, and nothing is written then; the budgets rise
+/// until one suffices, and the first is too small.
+pub fn refuses_until_ample(global: Global, asked: Asked, input: &[u8], page: &[u8]) -> bool {
+    let ends = Ends::new(input, page).reading(Script::BYTES);
+    for budget in 1..4096usize {
+        let ran = ran(global, budget * 16, asked, &ends);
+        if ran != Some(Ending::NoMemory) {
+            return ran == Some(Ending::Done) && budget > 1;
+        }
+    }
+    false
+}
+
+// Whether a run ends so that it tells of its ends alone.
+fn is_of_ends(ran: Option<Ending>) -> bool {
+    matches!(
+        ran,
+        Some(Ending::Done | Ending::ReadFailed | Ending::WriteFailed)
+    )
+}
+
+/// Whether the page comes through drawn ends.
+pub fn comes_through(
+    global: Global,
+    budget: usize,
+    draws: &mut Draws,
+    asked: Asked,
+    (input, page): (&[u8], &[u8]),
+) -> bool {
+    let (moves, broken, writes) = (draws.moves(), draws.broken(), draws.answers());
+    let ends = Ends::new(input, page).writing(Script::of(&writes));
+    let moved = ran(global, budget, asked, &ends.reading(Script::of(&moves)));
+    let broken = ran(global, budget, asked, &ends.reading(Script::of(&broken)));
+    is_of_ends(moved) && is_of_ends(broken)
+}
+
+/// Whether a large page comes through ends that move all at once.
+pub fn is_shown(global: Global, asked: Asked, input: &[u8], page: &[u8]) -> bool {
+    ran(global, AMPLE_FOR_LARGE, asked, &Ends::new(input, page)) == Some(Ending::Done)
+}
