@@ -1,6 +1,6 @@
 //! Runs of the engines over ends that answer by a script, and what is seen of each of them.
 //!
-//! What is seen is so where the call answers true. It is not, either, where a test itself has too little memory.
+//! Each call answers whether what it says is so. Where a test itself has too little memory, it is not.
 
 use crate::clidoc::ends::description_ran;
 use crate::clidoc::pages::Form;
