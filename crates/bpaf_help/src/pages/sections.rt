@@ -60,6 +60,7 @@ pub fn extract_sections<'a, A: Allocator, L: Allocator + Copy>(
 // After `AllocError` these functions may have appended some of their sections.
 
 // Appends the section of a command line and those of its commands.
+#[cycle(append)]
 fn append<'a, A: Allocator, L: Allocator + Copy>(
     meta: &'a Meta<A>,
     info: &'a Info<A>,
@@ -158,10 +159,7 @@ fn append_item<'a, A: Allocator, L: Allocator + Copy>(
             ..
         } => {
             path.push(String::from_str(*path.allocator(), name)?)?;
-            let appended = match push(meta, info, path, sections) {
-                Ok(()) => append_commands(meta, path, sections),
-                Err(refused) => Err(refused),
-            };
+            let appended = append(meta, info, path, sections);
             let _name = path.pop();
             appended
         }
