@@ -1,8 +1,12 @@
-use Rattle.std.proofs.Common.{◌≡◌, Some, None, false, List, ◌++◌, ◌+◌, ◌∙◌, ap, sym, drop, length, map, arith, rules}
+use Rattle.std.proofs.Common.{◌≡◌, Some, None, false, List, ◌++◌, ◌+◌, ◌∙◌, ◌⊎◌, inl, inr, ap, sym, subst, refl, drop, length, map, arith, rules, Box}
+use Rattle.std.specs.Prelude.{OnOk, IfOk}
 use Rattle.std.proofs.lemmas.List.{at_drop_more}
-use Rattle.bpaf_meta.specs.Content.{subsection}
+use Rattle.bpaf_doc.specs.declared.buffer.Doc.{Doc}
+use Rattle.bpaf_meta.specs.Content.{Tree, optional, required, many, subsection, custom_usage, strict}
+use Rattle.bpaf_meta.specs.declared.item.Item.{the_lemmas}
 use Rattle.bpaf_meta.specs.View.{tree_of, trees_of}
 use Rattle.bpaf_meta.specs.declared.meta.Meta.{Meta}
+use Rattle.bpaf_meta.specs.declared.meta.Meta.TheVariants.{Optional, Required, Many, CustomUsage, Strict}
 use Rattle.bpaf_items.specs.declared.meta_help.entry.HiTy.TheVariants as ty
 use Rattle.bpaf_items.specs.declared.meta_help.entry.HelpItem.TheVariants as entry
 use Rattle.bpaf_items.specs.Listing.ItemList.{front_type, first_front_type, adjacent_entries, group_entries, entries_of, entries_of_parts}
@@ -97,3 +101,29 @@ append_noted-returns-in_default-clause-entries g t c =
     let inner = tree_of c.args.inner.now in
     let none : front_type inner ≡ None = cc (c.in_ok-front.ensures.ty, c.in_default.is) in
     c.in_ok-front.ensures.entries ∙ ap (λ es. map entry_of c.args.items.now.items ++ es) (sym (unnoted c.args.groups inner c.args.help.now none))
+
+-- a tree around another one, but for a block of its own
+tree_around : {A : Type 0} (m : Meta A) (inner : Box (Meta A) A) → (m ≡ Optional inner) ⊎ ((m ≡ Required inner) ⊎ ((m ≡ Many inner) ⊎ (((d : Box (Doc A) A) × (m ≡ CustomUsage inner d)) ⊎ (m ≡ Strict inner)))) → {X : Type 0} (f : Tree → X)
+    → ((t : Tree) → f (optional t) ≡ f t) → ((t : Tree) → f (required t) ≡ f t) → ((t : Tree) → f (many t) ≡ f t) → ((t : Tree) (d : _) → f (custom_usage t d) ≡ f t) → ((t : Tree) → f (strict t) ≡ f t)
+    → f (tree_of inner.value) ≡ f (tree_of m)
+tree_around m inner (inl e) f o r n c s = search (rules, the_lemmas, e, o)
+tree_around m inner (inr (inl e)) f o r n c s = search (rules, the_lemmas, e, r)
+tree_around m inner (inr (inr (inl e))) f o r n c s = search (rules, the_lemmas, e, n)
+tree_around m inner (inr (inr (inr (inl e)))) f o r n c s = search (rules, the_lemmas, e.1, c)
+tree_around m inner (inr (inr (inr (inr e)))) f o r n c s = search (rules, the_lemmas, e, s)
+
+pub append-returns-in-Optional-clause-entries : goal.append-returns-in-Optional-clause-entries
+append-returns-in-Optional-clause-entries g t c =
+    let groups = c.args.groups in
+    subst (λ own. OnOk c.append.result (map entry_of c.append.new.items.items ≡ map entry_of c.args.items.now.items ++ own))
+    (ap (λ m. entries_of groups (tree_of m)) c.deref-in-Optional.ensures ∙ tree_around c.args.meta.now c.in-Optional.inner c.in-Optional.is (entries_of groups) (λ t. refl) (λ t. refl) (λ t. refl) (λ t d. refl) (λ t. refl))
+    c.append.ensures.entries
+
+pub append-returns-in-Optional-clause-ty : goal.append-returns-in-Optional-clause-ty
+append-returns-in-Optional-clause-ty g t c =
+    subst (λ own. IfOk c.append.result (λ front. front ≡ own))
+    (ap (λ m. front_type (tree_of m)) c.deref-in-Optional.ensures ∙ tree_around c.args.meta.now c.in-Optional.inner c.in-Optional.is front_type (λ t. refl) (λ t. refl) (λ t. refl) (λ t d. refl) (λ t. refl))
+    c.append.ensures.ty
+
+pub append-returns-in-Optional-clause-front : goal.append-returns-in-Optional-clause-front
+append-returns-in-Optional-clause-front g t c = c.append.ensures.front
