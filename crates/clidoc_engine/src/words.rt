@@ -101,7 +101,7 @@ fn with_input<'w, A: Allocator + Copy>(
     let given = given_in(alloc, words)?;
     let (word, file) = names(&given.plain, &given.files)?;
     if word == "check" {
-        see_no_values(&given, word)?;
+        check_no_values(&given, word)?;
         return Ok(Choice::Check(file));
     }
     Ok(Choice::Page(page_named(word, given)?, file))
@@ -141,9 +141,9 @@ fn page_named<'w, A: Allocator>(
         "usage" => on_console(ConsoleForm::Usage, given),
         "full" => on_console(ConsoleForm::Full, given),
         "brief" => on_console(ConsoleForm::Brief, given),
-        "html" => see_no_values(&given, word).map(|_| Page::Html),
-        "markdown" => see_no_values(&given, word).map(|_| Page::Markdown),
-        "man" => see_no_values(&given, word).map(|_| Page::Man),
+        "html" => check_no_values(&given, word).map(|_| Page::Html),
+        "markdown" => check_no_values(&given, word).map(|_| Page::Markdown),
+        "man" => check_no_values(&given, word).map(|_| Page::Man),
         _ => Err(WordFault::NoSuchForm(word)),
     }
 }
@@ -189,7 +189,10 @@ fn columns(text: &str) -> Result<usize, WordFault<'_>>
 }
 
 // Refuses a command or a width, where the word takes none.
-fn see_no_values<'w, A: Allocator>(given: &Given<'w, A>, word: &'w str) -> Result<(), WordFault<'w>>
+fn check_no_values<'w, A: Allocator>(
+    given: &Given<'w, A>,
+    word: &'w str,
+) -> Result<(), WordFault<'w>>
     ensures ok { IfOk result (λ _. HasNoValues (given_of given.now)) }
     ensures err { IfErr result (λ _. ¬ HasNoValues (given_of given.now)) }
 {

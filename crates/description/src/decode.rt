@@ -29,7 +29,7 @@ use std::alloc::{AllocError, Allocator};
 use texts::{Kind, checked};
 use toml::value::{Date, Datetime};
 use toml::{Table, Value};
-use values::{required_word_at, section_at, see_keys, tables_at, text_at, value_at};
+use values::{check_keys, required_word_at, section_at, tables_at, text_at, value_at};
 
 const DESCRIPTION_KEYS: [&str; 16] = [
     "name",
@@ -148,7 +148,7 @@ fn description_head<'a, A: Allocator + Copy>(
     ensures commands { IfOk result (λ head. commands_at (codes "command") (table_view table.now)
         ≡ each_command (description_head_seen head).outline.lists.commands) }
 {
-    see_keys(table, &DESCRIPTION_KEYS)?;
+    check_keys(table, &DESCRIPTION_KEYS)?;
     Ok(DescriptionHead {
         name: required_word_at(names, table, "name", Kind::Program)?,
         words: title_words(alloc, names, table)?,

@@ -12,10 +12,10 @@ ghost use Rattle.description_parts.specs.View.{command_said, commands_said, grou
 
 use super::faults::{Fault, Way};
 use super::options::{choices_in, options_in, positionals_in};
-use super::taken::see_names;
+use super::taken::check_names;
 use super::texts::Kind;
 use super::values::{
-    flag_at, is_empty, push, required_text_at, required_word_at, see_keys, short_at, table_of,
+    check_keys, flag_at, is_empty, push, required_text_at, required_word_at, short_at, table_of,
     tables_at, text_at,
 };
 use description_parts::levels::{Command, Group, Level};
@@ -131,7 +131,7 @@ pub fn outline_from<'a, A: Allocator + Copy>(
     let texts = texts_from(table)?;
     let command_required = flag_at(table, "command_required", true)?;
     let lists = lists_from(table)?;
-    see_names(alloc, table)?;
+    check_names(alloc, table)?;
     Ok(Outline {
         texts,
         command_required,
@@ -197,7 +197,7 @@ fn command_head<'a, A: Allocator + Copy>(
     ensures depth { IfOk result (λ head.
         lists_depth ((command_head_seen head).outline.lists) ≤ members_depth (table_view table.now)) }
 {
-    see_keys(table, &COMMAND_KEYS)?;
+    check_keys(table, &COMMAND_KEYS)?;
     Ok(CommandHead {
         name: required_word_at(names, table, "name", Kind::Command)?,
         short: short_at(table, "short")?,
@@ -252,7 +252,7 @@ fn group_head<'a>(table: &'a Table) -> Result<GroupHead<'a>, Fault<'a>>
     ensures depth { IfOk result (λ head.
         lists_depth ((group_head_seen head).lists) ≤ members_depth (table_view table.now)) }
 {
-    see_keys(table, &GROUP_KEYS)?;
+    check_keys(table, &GROUP_KEYS)?;
     let title = required_text_at(table, "title", Kind::Heading)?;
     let lists = lists_from(table)?;
     if has_members(&lists) {

@@ -12,7 +12,7 @@ ghost use Rattle.description_parts.specs.View.{choice_said, opt_said, positional
 use super::faults::{Fault, Way};
 use super::texts::Kind;
 use super::values::{
-    flag_at, is_empty, push, required_word_at, see_keys, short_at, table_of, tables_at, text_at,
+    check_keys, flag_at, is_empty, push, required_word_at, short_at, table_of, tables_at, text_at,
     word_at,
 };
 use bpaf_help::item::ShortLong;
@@ -78,7 +78,7 @@ fn alternative_from<'a>(names: &mut Names, item: &'a Value) -> Result<Opt<'a>, F
     ensures { Reads (option_and_then alternative_from (as_table (view item.now))) (λ option. opt_said option) result }
 {
     let table = table_of(item)?;
-    see_keys(table, &ALTERNATIVE_KEYS)?;
+    check_keys(table, &ALTERNATIVE_KEYS)?;
     option_of(names, table)
 }
 
@@ -87,7 +87,7 @@ fn option_from<'a>(names: &mut Names, item: &'a Value) -> Result<Opt<'a>, Fault<
     ensures { Reads (option_and_then option_from (as_table (view item.now))) (λ option. opt_said option) result }
 {
     let table = table_of(item)?;
-    see_keys(table, &OPTION_KEYS)?;
+    check_keys(table, &OPTION_KEYS)?;
     let option = option_of(names, table)?;
     let required = flag_at(table, "required", false)?;
     let repeated = flag_at(table, "repeated", false)?;
@@ -144,7 +144,7 @@ fn choice_from<'a, A: Allocator + Copy>(
     ensures { Reads (option_and_then choice_from (as_table (view item.now))) (λ choice. choice_said choice) result }
 {
     let table = table_of(item)?;
-    see_keys(table, &CHOICE_KEYS)?;
+    check_keys(table, &CHOICE_KEYS)?;
     let items = tables_at(table, "option")?;
     if is_empty(items) {
         return Err(Fault::at("option", " is missing"));
@@ -179,7 +179,7 @@ fn positional_from<'a>(names: &mut Names, item: &'a Value) -> Result<Positional<
         positional_said positional) result }
 {
     let table = table_of(item)?;
-    see_keys(table, &POSITIONAL_KEYS)?;
+    check_keys(table, &POSITIONAL_KEYS)?;
     positional_of(names, table)
 }
 

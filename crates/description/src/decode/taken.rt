@@ -17,28 +17,28 @@ use toml::{Table, Value};
 
 /// Refuses a level on which two options share a short or a long name, or two commands a name or a
 /// short name. It looks at the names alone, since what stands inside the tables is read later.
-pub fn see_names<'a, A: Allocator + Copy>(alloc: A, table: &'a Table) -> Result<(), Fault<'a>>
+pub fn check_names<'a, A: Allocator + Copy>(alloc: A, table: &'a Table) -> Result<(), Fault<'a>>
     ensures { Sees (has_distinct_names (table_view table.now)) result }
 {
     let mut options = Vec::new(alloc);
     put_level_options(&mut options, table, alloc)?;
-    see_options(alloc, &options, "short", "-")?;
-    see_options(alloc, &options, "long", "--")?;
-    see_commands(alloc, table)
+    check_options(alloc, &options, "short", "-")?;
+    check_options(alloc, &options, "long", "--")?;
+    check_commands(alloc, table)
 }
 
 // The short name of a command may be its own name, but no word of another command.
-fn see_commands<'a, A: Allocator + Copy>(alloc: A, table: &'a Table) -> Result<(), Fault<'a>>
+fn check_commands<'a, A: Allocator + Copy>(alloc: A, table: &'a Table) -> Result<(), Fault<'a>>
     ensures { Sees (are_distinct (flat_map command_words (level_commands (table_view table.now)))) result }
 {
     let mut commands = Vec::new(alloc);
     put_level_commands(&mut commands, table, alloc)?;
     let mut words = Vec::new(alloc);
     put_command_words(&mut words, &commands)?;
-    see_distinct(alloc, &words, "command ")
+    check_distinct(alloc, &words, "command ")
 }
 
-fn see_options<'a, A: Allocator + Copy>(
+fn check_options<'a, A: Allocator + Copy>(
     alloc: A,
     options: &[&'a Table],
     key: &str,
@@ -48,10 +48,10 @@ fn see_options<'a, A: Allocator + Copy>(
 {
     let mut texts = Vec::new(alloc);
     put_texts(&mut texts, options, key)?;
-    see_distinct(alloc, &texts, prefix)
+    check_distinct(alloc, &texts, prefix)
 }
 
-fn see_distinct<'a, A: Allocator + Copy>(
+fn check_distinct<'a, A: Allocator + Copy>(
     alloc: A,
     texts: &[&'a str],
     prefix: &'static str,

@@ -32,7 +32,7 @@ pub fn table_of<'a>(value: &'a Value) -> Result<&'a Table, Fault<'a>>
 }
 
 /// Refuses a table that has a key which is none of these.
-pub fn see_keys<'a>(table: &'a Table, keys: &'static [&'static str]) -> Result<(), Fault<'a>>
+pub fn check_keys<'a>(table: &'a Table, keys: &'static [&'static str]) -> Result<(), Fault<'a>>
     ensures { Sees (has_only (words_of keys.now) (table_view table.now)) result }
 {
     for (key, _) in table.iter() {
