@@ -13,7 +13,7 @@ use std::alloc::Global;
 use toml::Table;
 
 /// The manual page of the command line that the table describes. An error says what is wrong in the table, or that
-/// memory was refused.
+/// an allocation failed.
 pub fn manual_of(alloc: Global, table: &Table) -> Result<String, DescriptionError>
     ensures page { IfOk result (λ page. (app : DescriptionSaid)
         × described (table_view table.now) ≡ Some app × IsDescriptionManual app (string_bytes page)) }

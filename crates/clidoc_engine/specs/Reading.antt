@@ -20,7 +20,7 @@ kind_said (kinds.Apart o) = apart o
 kind_said (kinds.Joined o value) = joined o value.now
 kind_said kinds.Unknown = unknown
 
--- a growth was refused
+-- an allocation failed
 abbrev pub IsRefused : WordFault → Type 0
 IsRefused (Refused error) = ⊤
 IsRefused NoForm = ⊥

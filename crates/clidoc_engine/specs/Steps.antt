@@ -6,7 +6,7 @@ use Rattle.description.specs.Content.{DescriptionSaid}
 use Rattle.description.specs.Subjects.{application, led_to}
 use Rattle.clidoc_engine.specs.Inputs.{IsNoTomlText}
 
--- the fault says that the text is no TOML, and where; or that memory was refused
+-- the fault says that the text is no TOML, and where; or that an allocation failed
 abbrev pub IsSyntaxFault : (text : List ℕ) → Fault → Type 0
 IsSyntaxFault text (NotToml place error) = IsNoTomlText text place error
 IsSyntaxFault text Memory = ⊤
@@ -16,7 +16,7 @@ IsSyntaxFault text (NoCommand name path) = ⊥
 IsSyntaxFault text Read = ⊥
 IsSyntaxFault text Write = ⊥
 
--- the fault is none of an end, and none of bytes that are no text
+-- the fault is none of a stream, and none of bytes that are no text
 abbrev pub IsOfContent : Fault → Type 0
 IsOfContent (NotToml place error) = ⊤
 IsOfContent (NotDescription text) = ⊤
@@ -26,7 +26,7 @@ IsOfContent NotUtf8 = ⊥
 IsOfContent Read = ⊥
 IsOfContent Write = ⊥
 
--- the fault says that the commands lead nowhere; or that memory was refused
+-- the fault says that the commands lead nowhere; or that an allocation failed
 abbrev pub IsLost : (commands : List (List ℕ)) → DescriptionSaid → Fault → Type 0
 IsLost commands d (NoCommand name path) = led_to commands (application d) ≡ None
 IsLost commands d Memory = ⊤

@@ -35,8 +35,8 @@ use watched::{Sink, Source, Watched};
 /// `Read` comes exactly where the reader's mark is then set, since its last read failed, `Write` exactly
 /// where the writer's is, since its last write failed or took none, and the faults of the input only where
 /// all was read: `NotUtf8` where it is no text, `NotToml` where it is no TOML, `NotDescription` where its data is
-/// no description, and `NoCommand` where the commands of the page lead nowhere. `Memory` comes only where a growth
-/// was refused, which no clause can say.
+/// no description, and `NoCommand` where the commands of the page lead nowhere. `Memory` comes only where an
+/// allocation failed, which no clause can say.
 pub fn run_description<A: Allocator + Copy, B: Allocator, R: Source, W: Sink>(
     alloc: A,
     global: Global,
@@ -47,13 +47,13 @@ pub fn run_description<A: Allocator + Copy, B: Allocator, R: Source, W: Sink>(
     requires reader { IsUnmarked reader.old }
     requires writer { IsUnmarked writer.old }
 
-    // Over all ends: when each fault comes, and what it leaves.
+    // Over all streams: when each fault comes, and what it leaves.
     ensures read { IsErrOf result Fault.Read ↔ IsMarked reader.new }
     ensures write { IsErrOf result Fault.Write ↔ IsMarked writer.new }
     ensures untouched { IfErr result (λ fault.
         fault ≢ Fault.Write → writer.new ≡ writer.old) }
 
-    // Over all ends: which calls of theirs gave and took the bytes, and failed.
+    // Over all streams: which calls of theirs gave and took the bytes, and failed.
     ensures given { OnOk result (
         GivesText R.reads reader.old.end reader.new.end (λ input.
         MakesPage (page_said page.now) input (λ text. Moves W.writes writer.old.end text writer.new.end))) }
@@ -72,7 +72,7 @@ pub fn run_description<A: Allocator + Copy, B: Allocator, R: Source, W: Sink>(
     ensures no_command { IfErr result (λ fault. IfNoCommand fault (
         GivesText R.reads reader.old.end reader.new.end (HasNoCommand (page_said page.now)))) }
 
-    // Over ends that tell their bytes: which are read and written.
+    // Over streams that tell their bytes: which are read and written.
     ensures ok { OnOk result (
         ReadsText (R.remaining reader.old.end) (R.remaining reader.new.end) (λ input.
         WritesPage (page_said page.now) input (W.contents writer.old.end) (W.contents writer.new.end))) }
@@ -104,7 +104,7 @@ pub fn check_description<A: Allocator + Copy, R: Source>(
 ) -> Result<(), Fault>
     requires reader { IsUnmarked reader.old }
 
-    // Over all ends.
+    // Over all streams.
     ensures read { IsErrOf result Fault.Read ↔ IsMarked reader.new }
     ensures fault { IfErr result IsOfReading }
     ensures given { OnOk result (GivesText R.reads reader.old.end reader.new.end IsDescribed) }
@@ -117,7 +117,7 @@ pub fn check_description<A: Allocator + Copy, R: Source>(
     ensures no_description { IfErr result (λ fault. IfNotDescription fault (
         GivesText R.reads reader.old.end reader.new.end IsNoDescription)) }
 
-    // Over ends that tell their bytes.
+    // Over streams that tell their bytes.
     ensures ok { OnOk result (
         ReadsText (R.remaining reader.old.end) (R.remaining reader.new.end) IsDescribed) }
     ensures not_utf8 { IsErrOf result Fault.NotUtf8 →

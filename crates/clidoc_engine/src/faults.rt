@@ -38,7 +38,7 @@ pub enum Fault {
     /// A write failed, or took nothing.
     #[error("clidoc: write failed")]
     Write,
-    /// A growth was refused, or the arguments could not be read.
+    /// An allocation failed, or the arguments could not be read.
     #[error("clidoc: no memory")]
     Memory,
 }

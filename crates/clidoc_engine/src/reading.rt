@@ -37,7 +37,7 @@ pub enum WordFault<'w> {
     NotWith { option: Valued, word: &'w str },
     /// This option stands with other words, where it has to stand alone.
     NotAlone(&'w str),
-    /// A growth was refused.
+    /// An allocation failed.
     Refused(AllocError),
 }
 
@@ -82,7 +82,7 @@ pub(crate) enum Kind<'w> {
     Unknown,
 }
 
-/// What all the words give. An error where one gives nothing, or a growth was refused.
+/// What all the words give. An error where one gives nothing, or an allocation failed.
 #[tactic(auto, using(crate::proofs::Gathered::before_nothing, crate::proofs::Gathered::together_nothing, crate::proofs::Gathered::next_word))]
 pub(crate) fn given_in<'w, A: Allocator + Copy>(
     alloc: A,

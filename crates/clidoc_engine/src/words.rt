@@ -58,7 +58,7 @@ pub enum Choice<'w, A: Allocator> {
 }
 
 /// What the words after the program's name choose: `docs/description.md` has the forms. An error where they
-/// choose nothing, or a growth was refused.
+/// choose nothing, or an allocation failed.
 pub fn choose<'w, A: Allocator + Copy>(
     alloc: A,
     words: &[&'w str],

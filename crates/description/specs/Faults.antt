@@ -5,7 +5,7 @@ use Rattle.description.specs.declared.decode.faults.DescriptionError.TheVariants
 use Rattle.description.specs.declared.decode.faults.Fault.{Fault}
 use Rattle.description.specs.declared.decode.faults.Fault.TheVariants as fault
 
--- a growth was refused
+-- an allocation failed
 abbrev pub IsMemory : {A : Type 0} → DescriptionError A → Type 0
 IsMemory (Memory e) = ⊤
 IsMemory (Content text) = ⊥

@@ -55,7 +55,7 @@ impl<'a, A: Allocator + Copy> Description<'a, A> {
     /// table; its names, its words for values and a TOML date are kept in `names` for good, also those that were
     /// read before an error.
     ///
-    /// `Memory` says that a growth was refused, and nothing of the table. While memory lasts, `Content` comes
+    /// `Memory` says that an allocation failed, and nothing of the table. While memory lasts, `Content` comes
     /// exactly where the table is no description, and tells where the first fault is: in a table first a key that
     /// is not known, then its keys in the order of `docs/description.md`, then a name that is taken, then the
     /// tables inside it.

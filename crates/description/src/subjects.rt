@@ -23,8 +23,8 @@ pub struct Subject<'d, 'a, A: Allocator, B: Allocator> {
 }
 
 impl<'a, A: Allocator> Description<'a, A> {
-    /// The application itself, under its name. Its path and its pages are kept in `alloc`. `AllocError` where a growth
-    /// was refused.
+    /// The application itself, under its name. Its path and its pages are kept in `alloc`. `AllocError` where an
+    /// allocation failed.
     pub fn subject<B: Allocator + Copy>(
         &self,
         alloc: B,

@@ -26,8 +26,8 @@ const SECTION: &str = "1";
 ///
 /// `Read` comes exactly where the reader's mark is then set, since its last read failed, `Write`
 /// exactly where the writer's is, since its last write failed or took none, and `NotUtf8` only where
-/// all was read and is no text. `Memory` comes only where a growth was refused, which no clause can
-/// say. `Misplaced` never comes.
+/// all was read and is no text. `Memory` comes only where an allocation failed, which no clause
+/// can say. `Misplaced` never comes.
 pub fn run_text<A: Allocator + Copy, R: Source, W: Sink>(
     alloc: A,
     form: Form,
@@ -37,14 +37,14 @@ pub fn run_text<A: Allocator + Copy, R: Source, W: Sink>(
     requires reader { IsUnmarked reader.old }
     requires writer { IsUnmarked writer.old }
 
-    // Over all ends: when each fault comes, and what it leaves.
+    // Over all streams: when each fault comes, and what it leaves.
     ensures read { IsErrOf result Fault.Read ↔ IsMarked reader.new }
     ensures write { IsErrOf result Fault.Write ↔ IsMarked writer.new }
     ensures not_misplaced { ¬ IsErrOf result Fault.Misplaced }
     ensures untouched { IfErr result (λ fault.
         fault ≢ Fault.Write → writer.new ≡ writer.old) }
 
-    // Over all ends: which calls of theirs gave and took the bytes, and failed.
+    // Over all streams: which calls of theirs gave and took the bytes, and failed.
     ensures given { OnOk result (
         GivesText R.reads reader.old.end reader.new.end (λ input.
         HasPage text_title form (document_of_text input) (λ page.
@@ -58,7 +58,7 @@ pub fn run_text<A: Allocator + Copy, R: Source, W: Sink>(
     ensures no_text { IsErrOf result Fault.NotUtf8 →
         GivesNoText R.reads reader.old.end reader.new.end }
 
-    // Over ends that tell their bytes: which are read and written.
+    // Over streams that tell their bytes: which are read and written.
     ensures ok { OnOk result (
         ReadsText (R.remaining reader.old.end) (R.remaining reader.new.end) (λ input.
         WritesPage text_title form (document_of_text input)
@@ -79,7 +79,7 @@ pub fn run_text<A: Allocator + Copy, R: Source, W: Sink>(
 /// first write, so that `Memory` leaves the writer as it was.
 ///
 /// `Write` comes exactly where the writer's mark is then set, since its last write failed or took
-/// none, and `Memory` only where a growth was refused, which no clause can say. No other fault comes.
+/// none, and `Memory` only where an allocation failed, which no clause can say. No other fault comes.
 pub fn run_sample<A: Allocator + Copy, W: Sink>(
     alloc: A,
     form: Form,
@@ -87,13 +87,13 @@ pub fn run_sample<A: Allocator + Copy, W: Sink>(
 ) -> Result<(), Fault>
     requires { IsUnmarked writer.old }
 
-    // Over all ends: when each fault comes, and what it leaves.
+    // Over all streams: when each fault comes, and what it leaves.
     ensures write { IsErrOf result Fault.Write ↔ IsMarked writer.new }
     ensures fault { IfErr result (λ fault. (fault ≡ Fault.Write) ⊎ (fault ≡ Fault.Memory)) }
     ensures untouched { IfErr result (λ fault.
         fault ≢ Fault.Write → writer.new ≡ writer.old) }
 
-    // Over all ends: which calls of the writer took the bytes, and failed.
+    // Over all streams: which calls of the writer took the bytes, and failed.
     ensures taken { OnOk result (
         HasPage sample_title form (sample_document form) (λ page.
         Moves W.writes writer.old.end page writer.new.end)) }
@@ -101,7 +101,7 @@ pub fn run_sample<A: Allocator + Copy, W: Sink>(
         HasPage sample_title form (sample_document form) (λ page.
         (error : _) × WriteFails W.writes writer.old.end page error writer.new.end) }
 
-    // Over ends that tell their bytes: which are written.
+    // Over streams that tell their bytes: which are written.
     ensures ok { OnOk result (
         WritesPage sample_title form (sample_document form)
         (W.contents writer.old.end) (W.contents writer.new.end)) }

@@ -20,7 +20,7 @@ pub enum Fault {
     /// A write failed, or took nothing.
     #[error("helpdoc: write failed")]
     Write,
-    /// A growth was refused, or the arguments could not be read.
+    /// An allocation failed, or the arguments could not be read.
     #[error("helpdoc: no memory")]
     Memory,
     /// A named item stands after a positional one.

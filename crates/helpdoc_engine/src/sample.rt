@@ -19,7 +19,7 @@ use std::alloc::{AllocError, Allocator};
 // The name of the application.
 const NAME: &str = "app";
 
-/// The page of the application in this form. It fails only where a growth was refused.
+/// The page of the application in this form. It fails only where an allocation failed.
 pub fn sample_page<A: Allocator + Copy>(alloc: A, form: Form) -> Result<String<A>, Fault>
     ensures page { IfOk result (λ page.
         IsPage sample_title form (sample_document form) (string_bytes page)) }

@@ -10,7 +10,7 @@ use strsim::osa_distance;
 #[derive(Drop)]
 #[derive_where(Debug)]
 pub enum DescriptionError<A: Allocator = Global> {
-    /// A growth was refused, which says nothing of the table.
+    /// An allocation failed, which says nothing of the table.
     Memory(AllocError),
     /// The table is no description: the way to the faulty table in it, and what is wrong there.
     Content(String<A>),
@@ -38,7 +38,7 @@ impl<A: Allocator> std::error::Error for DescriptionError<A> {}
 /// Why a table could not be read. It owns nothing, so the text is made of it once, where the whole reading ends.
 #[derive(Clone, Copy)]
 pub enum Fault<'a> {
-    /// A growth was refused, which says nothing of the table.
+    /// An allocation failed, which says nothing of the table.
     Memory,
     /// What is wrong with the table, about a name in it.
     Content {
