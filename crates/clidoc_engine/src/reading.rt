@@ -59,7 +59,7 @@ pub(crate) struct Given<'w, A: Allocator> {
 }
 
 /// What the next word is.
-#[derive(Clone, Copy, Debug)]
+#[derive(Clone, Copy)]
 pub(crate) enum Next {
     Any,
     /// The value of this option.
@@ -69,7 +69,7 @@ pub(crate) enum Next {
 }
 
 /// What a word is.
-#[derive(Clone, Copy, Debug)]
+#[derive(Clone, Copy)]
 pub(crate) enum Kind<'w> {
     /// `--`: each word behind it is a file.
     Dashes,
