@@ -2,17 +2,19 @@
 ghost use Rattle.description.specs.Faults.{IsMemory, IsRefusal, IsAsMuch};
 
 use std::alloc::{AllocError, Allocator, Global};
-use std::fmt;
 use std::fmt::Write;
 use strsim::osa_distance;
+use thiserror::Error;
 
 /// Why a table gives no description.
-#[derive(Drop)]
+#[derive(Drop, Error)]
 #[derive_where(Debug)]
 pub enum DescriptionError<A: Allocator = Global> {
     /// An allocation failed, which says nothing of the table.
+    #[error("no memory")]
     Memory(AllocError),
     /// The table is no description: the way to the faulty table in it, and what is wrong there.
+    #[error("{0}")]
     Content(String<A>),
 }
 
@@ -23,17 +25,6 @@ impl<A: Allocator> From<AllocError> for DescriptionError<A> {
         DescriptionError::Memory(error)
     }
 }
-
-impl<A: Allocator> fmt::Display for DescriptionError<A> {
-    fn fmt<W: fmt::Write>(&self, f: &mut fmt::Formatter<W>) -> fmt::Result {
-        match self {
-            DescriptionError::Memory(_) => f.write_str("no memory"),
-            DescriptionError::Content(text) => f.write_str(text),
-        }
-    }
-}
-
-impl<A: Allocator> std::error::Error for DescriptionError<A> {}
 
 /// Why a table could not be read. It owns nothing, so the text is made of it once, where the whole reading ends.
 #[derive(Clone, Copy)]
