@@ -4,8 +4,8 @@ ghost use Rattle.std.specs.Prelude.{◌≡◌};
 ghost use Rattle.clidoc_engine.specs.declared.faults.Fault.TheVariants.{Memory};
 
 use crate::places::Place;
-use crate::shown::Shown;
 use description::DescriptionError;
+use description::words::Shown;
 use std::alloc::AllocError;
 use thiserror::Error;
 use watched::ReadError;

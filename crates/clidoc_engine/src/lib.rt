@@ -9,6 +9,5 @@ mod own;
 pub mod places;
 pub mod program;
 pub mod reading;
-mod shown;
 pub mod words;
 mod wrong;

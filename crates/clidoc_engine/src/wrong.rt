@@ -1,10 +1,9 @@
 //! What is said of words that choose nothing.
 
 use crate::reading::{Valued, WordFault};
-use crate::shown::Shown;
+use description::words::{Shown, nearest};
 use std::alloc::{AllocError, Global};
 use std::fmt::Write;
-use strsim::osa_distance;
 
 const FORMS: [&str; 7] = ["usage", "full", "brief", "html", "markdown", "man", "check"];
 
@@ -84,24 +83,4 @@ fn put_all(line: &mut String, words: &str, known: &[&str]) -> Result<(), AllocEr
         line.push_str(*word)?;
     }
     Ok(())
-}
-
-// The first known word that the fewest edits lead to: at most two, and fewer than half as many as the word has
-// letters.
-fn nearest(
-    global: Global,
-    word: &str,
-    known: &[&'static str],
-) -> Result<Option<&'static str>, AllocError> {
-    let mut found = None;
-    let mut least = 3;
-    let letters = word.chars().count();
-    for candidate in known {
-        let edits = osa_distance(global, word, *candidate)?;
-        if edits < least && edits.saturating_mul(2) < letters {
-            found = Some(*candidate);
-            least = edits;
-        }
-    }
-    Ok(found)
 }

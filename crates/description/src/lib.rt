@@ -7,6 +7,7 @@ pub mod laws;
 mod pages;
 pub mod subjects;
 mod trees;
+pub mod words;
 
 pub use bpaf_help::item::ShortLong;
 pub use bpaf_help::pages::Section;

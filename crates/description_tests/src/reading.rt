@@ -20,6 +20,12 @@ const FAULTY: (&str, &str) = (
     "command 1, option 2: long holds a blank",
 );
 
+// No description, since a key is not known, and the known one is near.
+const MISSPELT: (&str, &str) = (
+    "name = 'app'\n[[option]]\nlnog = 'x'\n",
+    "option 1: no key lnog is known here; is it long?",
+);
+
 // The usage line of what was read, or its fault. None where a growth was refused.
 fn said<A: Allocator + Copy>(
     out: Global,
@@ -53,7 +59,7 @@ fn refusals(rt: &impl Abort, out: Global, text: &str, wanted: &str) -> Result<us
 
 #[test]
 fn a_refused_table_is_read_with_more(rt: HostRuntime) -> Result<(), Fail> {
-    for (text, wanted) in [WHOLE, FAULTY] {
+    for (text, wanted) in [WHOLE, FAULTY, MISSPELT] {
         let refused = refusals(&rt, rt.alloc(), text, wanted)?;
         assert!(rt; refused > 0, "{wanted}");
     }

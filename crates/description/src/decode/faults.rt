@@ -1,9 +1,10 @@
 //! Why a table is no description, and where.
 ghost use Rattle.description.specs.Faults.{IsMemory, IsRefusal, IsAsMuch};
 
+use crate::words::{Shown, nearest};
 use std::alloc::{AllocError, Allocator, Global};
-use std::fmt::Write;
-use strsim::osa_distance;
+use std::fmt;
+use std::fmt::Display;
 use thiserror::Error;
 
 /// Why a table gives no description.
@@ -116,23 +117,22 @@ impl<A: Allocator + Copy> Way<A> {
     }
 
     fn message_of_a_key(&self, key: &str, known: &[&'static str]) -> Result<String<A>, AllocError> {
-        let mut text = self.message("no key ", key, " is known here")?;
-        if let Some(near) = nearest(self.alloc, key, known)? {
-            text.push_str("; is it ")?;
-            text.push_str(near)?;
-            text.push('?')?;
+        match nearest(self.alloc, key, known)? {
+            None => self.message("no key ", key, " is known here"),
+            Some(near) => self.message_of_a_near_key(key, near),
         }
-        Ok(text)
+    }
+
+    fn message_of_a_near_key(&self, key: &str, near: &str) -> Result<String<A>, AllocError> {
+        format!(in self.alloc;
+            "{}: no key {} is known here; is it {near}?",
+            Place(&self.steps),
+            Shown(key)
+        )
     }
 
     fn message(&self, before: &str, name: &str, after: &str) -> Result<String<A>, AllocError> {
-        let mut text = String::new(self.alloc);
-        put_way(&mut text, &self.steps)?;
-        text.push_str(": ")?;
-        text.push_str(before)?;
-        put_name(&mut text, name)?;
-        text.push_str(after)?;
-        Ok(text)
+        format!(in self.alloc; "{}: {before}{}{after}", Place(&self.steps), Shown(name))
     }
 }
 
@@ -144,50 +144,24 @@ fn content<A: Allocator>(text: Result<String<A>, AllocError>) -> DescriptionErro
     }
 }
 
-// A key of more bytes is near none of the known ones, whatever they are.
-const LONGEST: usize = 32;
+// Where a table stands, from the top: the steps lead from it outwards.
+#[derive(Clone, Copy)]
+struct Place<'s>(&'s [Step]);
 
-// The known key, the first of some, that takes the fewest edits: at most two, and fewer than half as many as the key
-// has letters. Two neighbours that change places are one edit.
-fn nearest<A: Allocator + Copy>(
-    alloc: A,
-    key: &str,
-    known: &[&'static str],
-) -> Result<Option<&'static str>, AllocError> {
-    if key.len() > LONGEST {
-        return Ok(None);
-    }
-    let mut bound = key.chars().count().div_ceil(2).min(3);
-    let mut near = None;
-    for word in known {
-        let edits = osa_distance(alloc, key, *word)?;
-        if edits < bound {
-            bound = edits;
-            near = Some(*word);
+impl Display for Place<'_> {
+    fn fmt<W: fmt::Write>(&self, f: &mut fmt::Formatter<W>) -> fmt::Result {
+        let Place(steps) = self;
+        if steps.is_empty() {
+            return f.write_str("description");
         }
-    }
-    Ok(near)
-}
-
-// Writes a name, quoted where it has a control character: what is said stays one line.
-fn put_name<A: Allocator>(text: &mut String<A>, name: &str) -> Result<(), AllocError> {
-    if name.chars().any(|character| character.is_control()) {
-        write!(text, "{name:?}").map_err(|_| AllocError)
-    } else {
-        text.push_str(name)
-    }
-}
-
-// Writes the way to a table, from the top, into an empty text.
-fn put_way<A: Allocator>(text: &mut String<A>, steps: &[Step]) -> Result<(), AllocError> {
-    if steps.is_empty() {
-        return text.push_str("description");
-    }
-    for step in steps.iter().rev() {
-        if !text.is_empty() {
-            text.push_str(", ")?;
+        let mut is_first = true;
+        for step in steps.iter().rev() {
+            if !is_first {
+                f.write_str(", ")?;
+            }
+            write!(f, "{} {}", step.kind, step.number)?;
+            is_first = false;
         }
-        write!(text, "{} {}", step.kind, step.number).map_err(|_| AllocError)?;
+        Ok(())
     }
-    Ok(())
 }
