@@ -1,4 +1,7 @@
 //! The pages of a description.
+//!
+//! What a page is made of is let go by a call of `drop`: the prover takes it as one step, and the end of a block as one for
+//! each part of the value and each of its variants.
 ghost use Rattle.std.specs.Prelude.{◌≡◌, ◌++◌, ◌∷◌, [], true, false, IfOk, OnOk, map, string_bytes};
 ghost use Rattle.bpaf_doc.specs.declared.buffer.Block.TheVariants as block;
 ghost use Rattle.bpaf_doc.specs.Buffer.Writes.{document_of, inside, path_writes, with_writes};
@@ -58,7 +61,10 @@ impl<A: Allocator> Description<'_, A> {
         ensures exact { IfOk result (λ text. string_bytes text
             ≡ console_page true 100 (usage_document (description_said self.now)) ++ 10 ∷ []) }
     {
-        self.subject(alloc)?.usage(MAX_WIDTH)
+        let subject = self.subject(alloc)?;
+        let line = subject.usage(MAX_WIDTH);
+        drop(subject);
+        line
     }
 
     /// The help page, in full or in brief and at 100 columns. It names the environment variables, but shows none
@@ -69,7 +75,10 @@ impl<A: Allocator> Description<'_, A> {
         ensures exact { IfOk result (λ text. string_bytes text
             ≡ console_page full 100 (help_document (description_said self.now))) }
     {
-        self.subject(alloc)?.help(full, MAX_WIDTH)
+        let subject = self.subject(alloc)?;
+        let page = subject.help(full, MAX_WIDTH);
+        drop(subject);
+        page
     }
 
     fn parts<B: Allocator + Copy>(&self, alloc: B) -> Result<Parts<B>, AllocError>
@@ -77,8 +86,13 @@ impl<A: Allocator> Description<'_, A> {
         ensures info { IfOk result (λ parts. head_of parts.info ≡ description_head (description_said self.now)) }
     {
         let tree = self.tree(alloc)?;
-        let info = self.info(alloc)?;
-        Ok(Parts { tree, info })
+        match self.info(alloc) {
+            Ok(info) => Ok(Parts { tree, info }),
+            Err(refused) => {
+                drop(tree);
+                Err(refused)
+            }
+        }
     }
 
     /// The help pages of the command line and of all its commands as HTML, in full and without a style sheet.
@@ -89,7 +103,9 @@ impl<A: Allocator> Description<'_, A> {
             ≡ html_page true false (collected_document (description_said self.now))) }
     {
         let parts = self.parts(alloc)?;
-        self.html_of(alloc, &parts)
+        let page = self.html_of(alloc, &parts);
+        drop(parts);
+        page
     }
 
     fn html_of<B: Allocator + Copy>(
@@ -121,7 +137,9 @@ impl<A: Allocator> Description<'_, A> {
             ≡ markdown_page true (collected_document (description_said self.now))) }
     {
         let parts = self.parts(alloc)?;
-        self.markdown_of(alloc, &parts)
+        let page = self.markdown_of(alloc, &parts);
+        drop(parts);
+        page
     }
 
     fn markdown_of<B: Allocator + Copy>(
@@ -149,18 +167,19 @@ impl<A: Allocator> Description<'_, A> {
         ensures read { IfOk result (λ text. IsDescriptionManual (description_said self.now) (string_bytes text)) }
         ensures exact { IfOk result (λ text. string_bytes text ≡ manual_text (description_said self.now)) }
     {
-        let tree = self.tree(alloc)?;
-        let info = self.info(alloc)?;
-        render_manpage(
+        let parts = self.parts(alloc)?;
+        let page = render_manpage(
             alloc,
             self.name,
             self.section,
             self.date,
             self.vendor,
             self.title,
-            &tree,
-            &info,
-        )
+            &parts.tree,
+            &parts.info,
+        );
+        drop(parts);
+        page
     }
 }
 
@@ -172,7 +191,9 @@ impl<A: Allocator, B: Allocator + Copy> Subject<'_, '_, A, B> {
             ≡ console_page true width (subject_usage (subject_said self.now)) ++ 10 ∷ []) }
     {
         let document = self.usage_document()?;
-        let mut text = document.render_console(self.allocator(), true, width)?;
+        let text = document.render_console(self.allocator(), true, width);
+        drop(document);
+        let mut text = text?;
         text.push('\n')?;
         Ok(text)
     }
@@ -181,7 +202,9 @@ impl<A: Allocator, B: Allocator + Copy> Subject<'_, '_, A, B> {
         ensures { IfOk result (λ document. document ≡ subject_usage (subject_said self.now)) }
     {
         let tree = level_tree(self.allocator(), self.level, self.help_options)?;
-        usage_of(self.allocator(), &self.path, &tree)
+        let document = usage_of(self.allocator(), &self.path, &tree);
+        drop(tree);
+        document
     }
 
     /// The help page, in full or in brief and at `width` columns. It names the environment variables, but shows
@@ -192,15 +215,19 @@ impl<A: Allocator, B: Allocator + Copy> Subject<'_, '_, A, B> {
         ensures exact { IfOk result (λ text. string_bytes text
             ≡ console_page full width (subject_help (subject_said self.now))) }
     {
-        self.help_document()?
-            .render_console(self.allocator(), full, width)
+        let document = self.help_document()?;
+        let page = document.render_console(self.allocator(), full, width);
+        drop(document);
+        page
     }
 
     fn help_document(&self) -> Result<Doc<B>, AllocError>
         ensures { IfOk result (λ document. document ≡ subject_help (subject_said self.now)) }
     {
         let parts = self.parts()?;
-        self.help_of(&parts)
+        let document = self.help_of(&parts);
+        drop(parts);
+        document
     }
 
     fn parts(&self) -> Result<Parts<B>, AllocError>
@@ -209,8 +236,13 @@ impl<A: Allocator, B: Allocator + Copy> Subject<'_, '_, A, B> {
         ensures placed { IfOk result (λ parts. IsWellPlaced (tree_of parts.tree)) }
     {
         let tree = level_tree(self.allocator(), self.level, self.help_options)?;
-        let info = level_info(self.allocator(), self.level, self.help_options)?;
-        Ok(Parts { tree, info })
+        match level_info(self.allocator(), self.level, self.help_options) {
+            Ok(info) => Ok(Parts { tree, info }),
+            Err(refused) => {
+                drop(tree);
+                Err(refused)
+            }
+        }
     }
 
     fn help_of(&self, parts: &Parts<B>) -> Result<Doc<B>, AllocError>
@@ -221,7 +253,7 @@ impl<A: Allocator, B: Allocator + Copy> Subject<'_, '_, A, B> {
     {
         let Parts { tree, info } = parts;
         let texts = EnvTexts::new(self.allocator());
-        match render_help(
+        let document = render_help(
             self.allocator(),
             &self.path,
             info,
@@ -229,7 +261,9 @@ impl<A: Allocator, B: Allocator + Copy> Subject<'_, '_, A, B> {
             &info.help,
             false,
             &texts,
-        ) {
+        );
+        drop(texts);
+        match document {
             Ok(document) => Ok(document),
             Err(HelpError::Memory(refused)) => Err(refused),
             Err(HelpError::Misplaced(_)) => unreachable!(),

@@ -5,7 +5,7 @@ use Rattle.description.specs.View.{subject_said}
 use Rattle.description.proofs.Placed.{level_well_placed}
 use Rattle.description.proofs.subjects.Subject.parts.Goals as goal
 
-pub returns-clause-placed : goal.returns-clause-placed
-returns-clause-placed g c =
+pub returns-in-Ok-clause-placed : goal.returns-in-Ok-clause-placed
+returns-in-Ok-clause-placed g c =
     let s = subject_said c.args.self.now in
     subst IsWellPlaced (sym c.in_ok-tree.ensures) (level_well_placed (options_tree s.help_options) s.level)
