@@ -142,7 +142,8 @@ fn judge(global: Global, text: &str) -> Result<(), Fault>
 {
     let data = table_of(global, text)?;
     let mut kept = Names::new(global);
-    Description::from_table(global, &mut kept, &data)?;
+    let description = Description::from_table(global, &mut kept, &data)?;
+    drop(description);
     Ok(())
 }
 
@@ -164,7 +165,9 @@ pub(crate) fn page_of<A: Allocator + Copy, B: Allocator>(
     let table = table_of(global, text)?;
     let mut names = Names::new(global);
     let description = Description::from_table(global, &mut names, &table)?;
-    rendered(alloc, global, page, &description)
+    let made = rendered(alloc, global, page, &description);
+    drop(description);
+    made
 }
 
 // The data of the text, in which lines may end with a carriage return too.

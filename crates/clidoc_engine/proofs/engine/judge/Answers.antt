@@ -3,4 +3,4 @@ use Rattle.description.specs.View.{description_said}
 use Rattle.clidoc_engine.proofs.engine.judge.Goals as goal
 
 pub returns-clause-ok : goal.returns-clause-ok
-returns-clause-ok c = (description_said c.in_ok-from_table.field-0, record { table = table_view c.in_ok-data.data; toml = c.in_ok-data.ensures.ok; gives = c.in_ok-from_table.ensures.ok })
+returns-clause-ok c = (description_said c.in_ok-description.description, record { table = table_view c.in_ok-data.data; toml = c.in_ok-data.ensures.ok; gives = c.in_ok-description.ensures.ok })

@@ -6,5 +6,5 @@ use Rattle.clidoc_engine.proofs.engine.page_of.Goals as goal
 
 pub returns-clause-no_command : goal.returns-clause-no_command
 returns-clause-no_command g c =
-    lost_page (page_said c.args.page.now) c.args.text.now (description_said c.in_ok-description.description) c.rendered.result
-    (record { table = table_view c.in_ok-table.table; toml = c.in_ok-table.ensures.ok; gives = c.in_ok-description.ensures.ok }) c.rendered.ensures.lost
+    lost_page (page_said c.args.page.now) c.args.text.now (description_said c.in_ok-description.description) c.rendered-made.result
+    (record { table = table_view c.in_ok-table.table; toml = c.in_ok-table.ensures.ok; gives = c.in_ok-description.ensures.ok }) c.rendered-made.ensures.lost
