@@ -78,8 +78,9 @@ where
 // Says how it is used, where there are no words.
 fn usage<R: Alloc + Eprint>(rt: &R, global: Global) -> Result<ExitCode, Failure> {
     let page = own_page(global, ConsoleForm::Usage);
-    let line = page_of(global, global, &page, DESCRIPTION)?;
-    Ok(expecting(rt, line.trim_end()))
+    let line = page_of(global, global, &page, DESCRIPTION);
+    drop(page);
+    Ok(expecting(rt, line?.trim_end()))
 }
 
 // Says why the words choose nothing.
@@ -112,7 +113,9 @@ where
         Choice::Check(Some(file)) => check(rt, global, opened(rt, global, *file)?),
         Choice::Help => {
             let page = own_page(global, ConsoleForm::Full);
-            write_page(rt, global, &page, DESCRIPTION.as_bytes())
+            let written = write_page(rt, global, &page, DESCRIPTION.as_bytes());
+            drop(page);
+            written
         }
         Choice::Version => write_version(rt),
     }
