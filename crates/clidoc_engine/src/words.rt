@@ -101,7 +101,9 @@ fn with_input<'w, A: Allocator + Copy>(
     let given = given_in(alloc, words)?;
     let (word, file) = names(&given.plain, &given.files)?;
     if word == "check" {
-        check_no_values(&given, word)?;
+        let checked = check_no_values(&given, word);
+        drop(given);
+        checked?;
         return Ok(Choice::Check(file));
     }
     Ok(Choice::Page(page_named(word, given)?, file))
@@ -141,10 +143,34 @@ fn page_named<'w, A: Allocator>(
         "usage" => on_console(ConsoleForm::Usage, given),
         "full" => on_console(ConsoleForm::Full, given),
         "brief" => on_console(ConsoleForm::Brief, given),
-        "html" => check_no_values(&given, word).map(|_| Page::Html),
-        "markdown" => check_no_values(&given, word).map(|_| Page::Markdown),
-        "man" => check_no_values(&given, word).map(|_| Page::Man),
-        _ => Err(WordFault::NoSuchForm(word)),
+        "html" => without_values(Page::Html, given, word),
+        "markdown" => without_values(Page::Markdown, given, word),
+        "man" => without_values(Page::Man, given, word),
+        _ => {
+            drop(given);
+            Err(WordFault::NoSuchForm(word))
+        }
+    }
+}
+
+// The page that the word names, where it takes neither a command nor a width.
+fn without_values<'w, A: Allocator>(
+    named: Page<'w, A>,
+    given: Given<'w, A>,
+    word: &'w str,
+) -> Result<Page<'w, A>, WordFault<'w>>
+    ensures same { IfOk result (λ made. page_said made ≡ page_said named.entry) }
+    ensures ok { IfOk result (λ _. HasNoValues (given_of given.entry)) }
+    ensures err { IfErr result (λ _. ¬ HasNoValues (given_of given.entry)) }
+{
+    let checked = check_no_values(&given, word);
+    drop(given);
+    match checked {
+        Ok(()) => Ok(named),
+        Err(fault) => {
+            drop(named);
+            Err(fault)
+        }
     }
 }
 
