@@ -1,11 +1,11 @@
 -- The first command that a word names.
-use Rattle.std.proofs.Common.{◌≡◌, ℕ, ◌+◌, ◌<◌, ◌≤◌, Bool, true, false, cond, List, [], ◌∷◌, ◌++◌, length, drop, get_or, map, refl, sym, ap, ◌∙◌, Option, Some, None}
+use Rattle.std.proofs.Common.{◌≡◌, ℕ, ◌+◌, ◌<◌, ◌≤◌, Bool, true, false, cond, List, [], ◌∷◌, ◌++◌, length, drop, get_or, map, refl, sym, ap, ◌∙◌, Some, None}
 use Rattle.std.proofs.lemmas.List.{drop_all, drop_more}
 use Rattle.std.specs.List.{find}
 use Rattle.std.specs.Option.{option_or}
 use Rattle.std.proofs.lemmas.List.Folds.{find-append}
 use Rattle.description_parts.specs.Content.{CommandSaid, groups}
-use Rattle.description_parts.specs.View.{command_said, commands_in, group_said, groups_said, level_said}
+use Rattle.description_parts.specs.View.{command_said, commands_in, groups_said, level_said}
 use Rattle.description_parts.specs.declared.levels.Level.{Level, out-Level}
 use Rattle.description_parts.specs.declared.levels.Group.{Group, out-Group}
 use Rattle.description_parts.specs.declared.levels.Command.{Command, out-Command}
