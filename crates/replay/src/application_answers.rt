@@ -1,10 +1,9 @@
 //! Answers to requests on the pages of an application.
 
-use crate::documents::path_of;
-use crate::encoding::spelled;
-use crate::fault::{Answer, Bad};
+use crate::calls::Call;
+use crate::documents::push_name;
 use crate::lines::Lines;
-use crate::page_answers::refusal;
+use crate::page_answers::write_error;
 use crate::request::Request;
 use crate::trees::read_info;
 use crate::words::Words;
@@ -14,43 +13,44 @@ use bpaf_help::pages::{
     DocSection, Section, extract_sections, render_html, render_manpage, render_markdown,
 };
 use bpaf_roff::escape::APOSTROPHE_PREABMLE;
-use std::alloc::Global;
 
-/// The sections of an application, or its pages as HTML or markdown.
-pub fn application_answer(request: &mut Request<'_>, key: &str) -> Answer {
+/// Prints the sections of an application, or its pages as HTML or markdown.
+pub fn answer_application(request: &mut Request<'_>, call: Call, words: &mut Words) {
     let name = request.text();
     let info = read_info(request);
     let tree = request.tree();
-    match key {
-        "sections" => sections(request.alloc, name, &tree, &info),
-        _ => pages(request.alloc, name, &tree, &info, key == "apphtml"),
+    match call {
+        Call::Sections => write_sections(words, name, &tree, &info),
+        Call::ApplicationHtml => write_pages(words, name, &tree, &info, true),
+        _ => write_pages(words, name, &tree, &info, false),
     }
 }
 
-// The pages as HTML or markdown, or the item that is misplaced.
-fn pages<'a>(alloc: Global, name: &str, tree: &'a Meta, info: &'a Info, as_html: bool) -> Answer {
+// Prints the pages as HTML or markdown, or the item that is misplaced.
+fn write_pages<'a>(words: &mut Words, name: &str, tree: &'a Meta, info: &'a Info, as_html: bool) {
     let text = match as_html {
-        true => render_html(alloc, name, tree, info),
-        false => render_markdown(alloc, name, tree, info),
+        true => render_html(words.alloc, name, tree, info),
+        false => render_markdown(words.alloc, name, tree, info),
     };
     match text {
-        Ok(text) => spelled(alloc, text.as_str()),
-        Err(error) => refusal(alloc, error),
+        Ok(text) => words.text(" ", text.as_str()),
+        Err(error) => write_error(words, error),
     }
 }
 
-/// The paths of the sections.
-pub fn sections<'a>(alloc: Global, name: &str, tree: &'a Meta, info: &'a Info) -> Answer {
-    let mut path = path_of(alloc, &[name])?;
-    let mut sections: Vec<DocSection<'a>> = Vec::new(alloc);
-    extract_sections(tree, info, &mut path, &mut sections)?;
-    let mut words = Words::new(alloc);
+/// Prints the paths of the sections.
+pub fn write_sections<'a>(words: &mut Words, name: &str, tree: &'a Meta, info: &'a Info) {
+    let mut path = Vec::new(words.alloc);
+    let named = push_name(&mut path, words.alloc, name);
+    words.keep(named);
+    let mut sections: Vec<DocSection<'a>> = Vec::new(words.alloc);
+    let done = extract_sections(tree, info, &mut path, &mut sections);
+    words.keep(done);
     words.push(" [");
     for section in &sections {
-        write_path(&mut words, &section.path);
+        write_path(words, &section.path);
     }
     words.push(" ]");
-    words.answer()
 }
 
 fn write_path(words: &mut Words, path: &[String]) {
@@ -61,8 +61,8 @@ fn write_path(words: &mut Words, path: &[String]) {
     words.push(" )");
 }
 
-/// The manual page of an application.
-pub fn manual_answer(request: &mut Request<'_>) -> Answer {
+/// Prints the manual page of an application.
+pub fn answer_manual(request: &mut Request<'_>, words: &mut Words) {
     let name = request.text();
     let section = section_of(request.text());
     let date = request.optional_text();
@@ -70,9 +70,17 @@ pub fn manual_answer(request: &mut Request<'_>) -> Answer {
     let title = request.optional_text();
     let info = read_info(request);
     let tree = request.tree();
-    let alloc = request.alloc;
-    let page = render_manpage(alloc, name, section, date, vendor, title, &tree, &info)?;
-    spelled(alloc, page.as_str())
+    let page = render_manpage(
+        words.alloc,
+        name,
+        section,
+        date,
+        vendor,
+        title,
+        &tree,
+        &info,
+    );
+    words.page(page);
 }
 
 fn section_of(text: &str) -> Section<'_> {
@@ -91,23 +99,30 @@ fn section_of(text: &str) -> Section<'_> {
 
 /// Adds the pages of the application `app`: as HTML, as markdown and as a manual page.
 pub fn add_application_pages<'a>(
-    alloc: Global,
+    words: &mut Words,
     tree: &'a Meta,
     info: &'a Info,
     lines: &mut Lines,
-) -> Result<(), Bad> {
-    lines.add("ah", pages(alloc, "app", tree, info, true)?)?;
-    lines.add("am", pages(alloc, "app", tree, info, false)?)?;
-    lines.add("mn", bare_manual(alloc, tree, info)?)
+) {
+    write_pages(words, "app", tree, info, true);
+    words.end("ah", lines);
+    write_pages(words, "app", tree, info, false);
+    words.end("am", lines);
+    write_bare_manual(words, tree, info);
+    words.end("mn", lines);
 }
 
-// The manual page of the application `app`, without the preamble and the title line.
-fn bare_manual(alloc: Global, tree: &Meta, info: &Info) -> Answer {
-    let page = render_manpage(alloc, "app", Section::General, None, None, None, tree, info)?;
-    let text = page.as_str();
-    let titled = text.strip_prefix(APOSTROPHE_PREABMLE).unwrap_or(text);
-    let bare = titled
-        .strip_prefix(".TH app 1 - - \"\"\n")
-        .unwrap_or(titled);
-    spelled(alloc, bare)
+// Prints the manual page of the application `app`, without the preamble and the title line.
+fn write_bare_manual(words: &mut Words, tree: &Meta, info: &Info) {
+    let page = render_manpage(
+        words.alloc,
+        "app",
+        Section::General,
+        None,
+        None,
+        None,
+        tree,
+        info,
+    );
+    words.page_behind(&[APOSTROPHE_PREABMLE, ".TH app 1 - - \"\"\n"], page);
 }

@@ -1,14 +1,13 @@
 //! Answers to requests on documents.
 
-use crate::encoding::spelled;
-use crate::fault::{Answer, Bad};
+use crate::calls::Call;
+use crate::fault::Bad;
 use crate::lines::Lines;
 use crate::request::Request;
-use crate::words::{Words, shown};
+use crate::words::Words;
 use bpaf_doc::buffer::Doc;
 use bpaf_roff::escape::APOSTROPHE_PREABMLE;
 use bpaf_roff::roff::Roff;
-use std::alloc::Global;
 
 /// The form of a text that is made of a document. The first field says whether it is in full or in brief.
 #[derive(Clone, Copy)]
@@ -22,43 +21,44 @@ pub enum Form {
     Markdown(bool),
 }
 
-/// A document as a text.
-pub fn rendered(alloc: Global, document: &Doc, form: Form) -> Answer {
-    let page = match form {
-        Form::Console(full, width) => document.render_console(alloc, full, width)?,
-        Form::Monochrome(full) => document.monochrome(alloc, full)?,
-        Form::Html(full, styles) => document.render_html(alloc, full, styles)?,
-        Form::Markdown(full) => document.render_markdown(alloc, full)?,
-    };
-    spelled(alloc, page.as_str())
+/// Prints a document as a text.
+pub fn write_form(words: &mut Words, document: &Doc, form: Form) {
+    let alloc = words.alloc;
+    words.page(match form {
+        Form::Console(full, width) => document.render_console(alloc, full, width),
+        Form::Monochrome(full) => document.monochrome(alloc, full),
+        Form::Html(full, styles) => document.render_html(alloc, full, styles),
+        Form::Markdown(full) => document.render_markdown(alloc, full),
+    });
 }
 
-/// The answer to a request on a form of a document.
-pub fn form_answer(request: &mut Request<'_>, key: &str) -> Answer {
+/// Answers a request on a form of a document.
+pub fn answer_form(request: &mut Request<'_>, call: Call, words: &mut Words) {
     let full = read_extent(request);
-    let form = match key {
-        "console" => Form::Console(full, read_width(request)),
-        "html" => Form::Html(full, request.flag()),
+    let form = match call {
+        Call::Console => Form::Console(full, read_width(request)),
+        Call::Html => Form::Html(full, request.flag()),
         _ => Form::Markdown(full),
     };
-    rendered(request.alloc, &request.document(), form)
+    write_form(words, &request.document(), form);
 }
 
-/// The answer to a request on a document alone.
-pub fn document_answer(request: &mut Request<'_>, key: &str) -> Answer {
+/// Answers a request on a document alone.
+pub fn answer_document(request: &mut Request<'_>, call: Call, words: &mut Words) {
     let document = request.document();
-    match key {
-        "parts" => shown(request.alloc, &document),
-        "firstline" => first_line(request.alloc, &document),
-        _ => bit(request.alloc, document.is_empty()),
+    match call {
+        Call::Parts => words.document(&document),
+        Call::FirstLine => write_first_line(words, &document),
+        _ => words.bit(document.is_empty()),
     }
 }
 
-pub fn roff_answer(request: &mut Request<'_>) -> Answer {
+/// Prints the manual page behind a title line.
+pub fn answer_roff(request: &mut Request<'_>, words: &mut Words) {
     let mut page = Roff::new(request.alloc);
-    page.append_control("TH", &request.texts()?)?;
-    let text = request.document().render_roff(page)?;
-    spelled(request.alloc, text.as_str())
+    let done = page.append_control("TH", &request.texts());
+    request.keep(done);
+    words.page(request.document().render_roff(page));
 }
 
 /// Takes a word that says whether a page is in full or in brief.
@@ -74,49 +74,54 @@ pub fn read_extent(request: &mut Request<'_>) -> bool {
 pub fn read_width(request: &mut Request<'_>) -> usize {
     let word = request.word();
     match width_of(word) {
-        Ok(width) => width,
-        Err(bad) => {
-            request.fail(bad);
+        Some(width) => width,
+        None => {
+            request.fail(Bad::NO_WIDTH);
             0
         }
     }
 }
 
-fn width_of(word: &str) -> Result<usize, Bad> {
+fn width_of(word: &str) -> Option<usize> {
     if word == "max" {
-        return Ok(usize::MAX);
+        return Some(usize::MAX);
     }
-    word.parse().map_err(|_| Bad::Words("a width was expected"))
+    word.parse().ok()
 }
 
-/// Adds all answers to one document: console pages at the widths, and what needs no width.
-pub fn add_document_answers(request: &mut Request<'_>, lines: &mut Lines) -> Result<(), Bad> {
+/// Adds all answers to one document: console pages at the widths, and what needs no width. A word that is no width is
+/// told only where the rest of the line is right.
+pub fn add_document_answers(request: &mut Request<'_>, words: &mut Words, lines: &mut Lines) {
     let widths = request.word();
     let document = request.document();
-    request.end()?;
-    for width in widths.split(',') {
-        add_console_pages(request.alloc, &document, width, lines)?;
+    if request.end().is_ok() {
+        for width in widths.split(',') {
+            add_console_pages(words, &document, width, lines);
+        }
+        add_pages(words, &document, lines);
     }
-    add_pages(request.alloc, &document, lines)
 }
 
 // Adds a page in full and one in brief.
-fn add_console_pages(
-    alloc: Global,
-    document: &Doc,
-    width: &str,
-    lines: &mut Lines,
-) -> Result<(), Bad> {
-    let columns = width_of(width)?;
+fn add_console_pages(words: &mut Words, document: &Doc, width: &str, lines: &mut Lines) {
+    let Some(columns) = width_of(width) else {
+        return words.fail(Bad::NO_WIDTH);
+    };
     for (kind, full) in [("cf", true), ("cb", false)] {
-        let page = rendered(alloc, document, Form::Console(full, columns))?;
-        let key = format!(in alloc; "{kind}{width}")?;
-        lines.add(key.as_str(), page)?;
+        write_form(words, document, Form::Console(full, columns));
+        add_with_width(words, kind, width, lines);
     }
-    Ok(())
 }
 
-fn add_pages(alloc: Global, document: &Doc, lines: &mut Lines) -> Result<(), Bad> {
+// Ends an answer whose key has the width as it stands in the request.
+fn add_with_width(words: &mut Words, kind: &str, width: &str, lines: &mut Lines) {
+    match format!(in words.alloc; "{kind}{width}") {
+        Ok(key) => words.end(key.as_str(), lines),
+        Err(_) => words.fail(Bad::Memory),
+    }
+}
+
+fn add_pages(words: &mut Words, document: &Doc, lines: &mut Lines) {
     let forms = [
         ("hf", Form::Html(true, false)),
         ("hb", Form::Html(false, false)),
@@ -124,32 +129,19 @@ fn add_pages(alloc: Global, document: &Doc, lines: &mut Lines) -> Result<(), Bad
         ("mb", Form::Markdown(false)),
     ];
     for (key, form) in forms {
-        lines.add(key, rendered(alloc, document, form)?)?;
+        write_form(words, document, form);
+        words.end(key, lines);
     }
-    lines.add("rf", bare_roff(alloc, document)?)?;
-    lines.add("fl", first_line(alloc, document)?)
+    let page = document.render_roff(Roff::new(words.alloc));
+    words.page_behind(&[APOSTROPHE_PREABMLE], page);
+    words.end("rf", lines);
+    write_first_line(words, document);
+    words.end("fl", lines);
 }
 
-// The document on an empty page, without the preamble.
-fn bare_roff(alloc: Global, document: &Doc) -> Answer {
-    let page = document.render_roff(Roff::new(alloc))?;
-    let text = page.as_str();
-    spelled(
-        alloc,
-        text.strip_prefix(APOSTROPHE_PREABMLE).unwrap_or(text),
-    )
-}
-
-fn first_line(alloc: Global, document: &Doc) -> Answer {
-    let line = document.first_line()?;
-    let mut words = Words::new(alloc);
-    words.optional_document(line.as_ref());
-    words.answer()
-}
-
-/// An answer of 0 or 1.
-pub fn bit(alloc: Global, is_so: bool) -> Answer {
-    let mut words = Words::new(alloc);
-    words.bit(is_so);
-    words.answer()
+fn write_first_line(words: &mut Words, document: &Doc) {
+    match document.first_line() {
+        Ok(line) => words.optional_document(line.as_ref()),
+        Err(_) => words.fail(Bad::Memory),
+    }
 }

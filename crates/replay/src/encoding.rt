@@ -5,7 +5,7 @@ ghost use Rattle.std.specs.Str.Iter.{chars_rest};
 ghost use Rattle.replay.specs.Encoding.{Spells, StandFor, character_spelling, code_at, escape_at, hex_digits};
 ghost use Rattle.replay.specs.Encoding.{spelling};
 
-use crate::fault::{Answer, Bad};
+use crate::fault::Bad;
 use std::alloc::{AllocError, Global};
 use std::str::Chars;
 
@@ -66,15 +66,6 @@ fn read_code(marks: &mut Chars<'_>, count: u32, number: u32) -> Option<char>
     let longer = number.checked_mul(16)?.checked_add(digit)?;
     let character = read_code(marks, count - 1, longer)?;
     Some(character)
-}
-
-/// A blank, the quote mark and the text's spelling behind it, as a text of its own.
-pub fn spelled(alloc: Global, text: &str) -> Answer
-    ensures { IfOk result (λ word. string_bytes word ≡ 32 ∷ 39 ∷ spelling text.now) }
-{
-    let mut word = String::from_str(alloc, " ")?;
-    write_text(&mut word, text)?;
-    Ok(word)
 }
 
 /// Writes a quote mark and the text behind it.

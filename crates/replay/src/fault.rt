@@ -1,6 +1,6 @@
 //! Why a line has no answer.
 
-use std::alloc::{AllocError, AllocFailed};
+use std::alloc::AllocError;
 
 /// Why a line has no answer.
 #[derive(Clone, Copy)]
@@ -14,19 +14,13 @@ pub enum Bad {
 impl Bad {
     /// A word is missing.
     pub const ENDS_EARLY: Bad = Bad::Words("the line ends early");
-}
 
-/// The words of an answer, each with a blank before it.
-pub type Answer = Result<String, Bad>;
+    /// A word is no width.
+    pub const NO_WIDTH: Bad = Bad::Words("a width was expected");
+}
 
 impl From<AllocError> for Bad {
     fn from(_error: AllocError) -> Bad {
-        Bad::Memory
-    }
-}
-
-impl<T: Drop> From<AllocFailed<T>> for Bad {
-    fn from(_error: AllocFailed<T>) -> Bad {
         Bad::Memory
     }
 }

@@ -4,19 +4,15 @@ ghost use Rattle.std.specs.Prelude.{◌≡◌, ◌++◌, [], ◌∷◌, ℕ, Lis
 ghost use Rattle.std.specs.List.{list_any};
 ghost use Rattle.replay.specs.Replay.{AreAnswers, is_newline};
 
-use crate::fault::{Answer, Bad};
-use std::alloc::Global;
+use crate::fault::Bad;
+use std::alloc::{AllocError, Global};
 use std::marker::Model;
 
-// Stands for the answer of the line before.
-const SAME: &str = " ^";
-
-/// The answer lines of one request, `= KEY ANSWER` each. An answer that is the one before is printed as `^`.
+/// The answer lines of one request, `= KEY ANSWER` each.
 #[derive(Drop)]
 pub struct Lines {
     alloc: Global,
     text: String,
-    last: Option<String>,
 }
 
 impl Model for Lines {
@@ -38,25 +34,11 @@ impl Lines {
         Lines {
             alloc,
             text: String::new(alloc),
-            last: None,
         }
     }
 
     /// Adds the line of an answer. One with a newline is refused, and after an error the lines are as they were.
-    pub fn add(&mut self, key: &str, answer: String) -> Result<(), Bad>
-        ensures ok { OnOk result ((text : List ℕ) × (self.new ≡ self.old ++ (codes "= " ++ text ++ 10 ∷ []))) }
-        ensures err { OnErr result (self.new ≡ self.old) }
-    {
-        if self.last.as_deref() == Some(answer.as_str()) {
-            return self.add_line(key, SAME);
-        }
-        self.add_line(key, answer.as_str())?;
-        self.last = Some(answer);
-        Ok(())
-    }
-
-    // Adds a line, all of it or none.
-    fn add_line(&mut self, key: &str, answer: &str) -> Result<(), Bad>
+    pub fn add(&mut self, key: &str, answer: &str) -> Result<(), Bad>
         ensures ok { OnOk result ((text : List ℕ) × (self.new ≡ self.old ++ (codes "= " ++ text ++ 10 ∷ []))) }
         ensures err { OnErr result (self.new ≡ self.old) }
     {
@@ -76,7 +58,7 @@ impl Lines {
     }
 }
 
-fn answer_line(alloc: Global, key: &str, answer: &str) -> Answer
+fn answer_line(alloc: Global, key: &str, answer: &str) -> Result<String, AllocError>
     ensures { IfOk result (λ line. (text : List ℕ) × (string_bytes line ≡ codes "= " ++ text)) }
 {
     let mut line = String::from_str(alloc, "= ")?;

@@ -3,6 +3,7 @@
 #![tactic(auto)]
 
 mod application_answers;
+mod calls;
 mod document_answers;
 mod documents;
 mod encoding;

@@ -1,36 +1,43 @@
 //! Answers to requests on help pages.
 
-use crate::application_answers::{add_application_pages, sections};
-use crate::document_answers::{Form, read_extent, read_width, rendered};
-use crate::documents::path_of;
-use crate::fault::{Answer, Bad};
+use crate::application_answers::{add_application_pages, write_sections};
+use crate::calls::Call;
+use crate::document_answers::{Form, read_extent, read_width, write_form};
+use crate::documents::{push_name, read_path};
+use crate::fault::Bad;
 use crate::lines::Lines;
+use crate::printed::write_item;
 use crate::request::Request;
-use crate::tree_answers::{add_forms, group_places, listing, printed_item};
+use crate::tree_answers::{add_forms, listing, write_group};
 use crate::trees::read_info;
-use crate::words::shown;
+use crate::words::Words;
 use bpaf_doc::buffer::Doc;
 use bpaf_help::meta::Meta;
 use bpaf_help::meta_help::{EnvTexts, HelpError, Info, render_help, write_help_item_groups};
 use std::alloc::{AllocError, Global};
 
 // Takes names of environment variables, each with its value behind it, in parentheses. A last name has an empty one.
-fn read_environment(request: &mut Request<'_>) -> Result<EnvTexts, AllocError> {
+fn read_environment(request: &mut Request<'_>) -> EnvTexts {
     request.expect("(");
     let mut environment = EnvTexts::new(request.alloc);
     for _ in 0..request.len() {
         if request.has(")") {
-            return Ok(environment);
+            return environment;
         }
-        let name = request.text();
-        let value = match request.peek() {
-            Some(")") => "",
-            _ => request.text(),
-        };
-        insert(&mut environment, request.alloc, name, value)?;
+        read_variable(request, &mut environment);
     }
     request.fail(Bad::ENDS_EARLY);
-    Ok(environment)
+    environment
+}
+
+fn read_variable(request: &mut Request<'_>, environment: &mut EnvTexts) {
+    let name = request.text();
+    let value = match request.peek() {
+        Some(")") => "",
+        _ => request.text(),
+    };
+    let done = insert(environment, request.alloc, name, value);
+    request.keep(done);
 }
 
 // Puts in a value as a page shows it: in quotation marks, with escapes for some characters.
@@ -44,24 +51,20 @@ fn insert(
     environment.insert(name, quoted.as_str())
 }
 
-/// The groups of a tree, as a document.
-pub fn groups_answer(request: &mut Request<'_>) -> Answer {
+/// Prints the groups of a tree, as a document.
+pub fn answer_groups(request: &mut Request<'_>, words: &mut Words) {
     let include_env = request.flag();
-    let environment = read_environment(request)?;
-    let tree = request.tree();
-    let page = groups(request.alloc, &tree, include_env, &environment)?;
-    shown(request.alloc, &page)
+    let environment = read_environment(request);
+    let page = groups(words, &request.tree(), include_env, &environment);
+    words.document(&page);
 }
 
-fn groups(
-    alloc: Global,
-    tree: &Meta,
-    include_env: bool,
-    environment: &EnvTexts,
-) -> Result<Doc, AllocError> {
-    let mut page = Doc::new(alloc);
-    write_help_item_groups(&mut page, listing(alloc, tree)?, include_env, environment)?;
-    Ok(page)
+fn groups(words: &mut Words, tree: &Meta, include_env: bool, environment: &EnvTexts) -> Doc {
+    let mut page = Doc::new(words.alloc);
+    let items = listing(words, tree);
+    let done = write_help_item_groups(&mut page, items, include_env, environment);
+    words.keep(done);
+    page
 }
 
 // What a help page is made of. The help tree is that of the info.
@@ -74,21 +77,20 @@ struct Application {
     tree: Meta,
 }
 
-fn read_application(request: &mut Request<'_>) -> Result<Application, AllocError> {
-    let names = request.texts()?;
-    let path = path_of(request.alloc, &names)?;
+fn read_application(request: &mut Request<'_>) -> Application {
+    let path = read_path(request);
     let include_env = request.flag();
-    let environment = read_environment(request)?;
+    let environment = read_environment(request);
     let mut info = read_info(request);
     let tree = request.tree();
     info.help = request.tree();
-    Ok(Application {
+    Application {
         path,
         include_env,
         environment,
         info,
         tree,
-    })
+    }
 }
 
 fn help_page(alloc: Global, app: &Application) -> Result<Doc, HelpError<'_>> {
@@ -103,72 +105,85 @@ fn help_page(alloc: Global, app: &Application) -> Result<Doc, HelpError<'_>> {
     )
 }
 
-/// The help page on the console, or the item that is misplaced.
-pub fn help_answer(request: &mut Request<'_>) -> Answer {
-    let full = read_extent(request);
-    let width = read_width(request);
-    let app = read_application(request)?;
-    match help_page(request.alloc, &app) {
-        Ok(page) => rendered(request.alloc, &page, Form::Console(full, width)),
-        Err(error) => refusal(request.alloc, error),
+/// Prints the help page as on the console or as a document, or the item that is misplaced.
+pub fn answer_help(request: &mut Request<'_>, call: Call, words: &mut Words) {
+    let form = match call {
+        Call::Help => Some(Form::Console(read_extent(request), read_width(request))),
+        _ => None,
+    };
+    let app = read_application(request);
+    match help_page(words.alloc, &app) {
+        Ok(page) => write_page(words, &page, form),
+        Err(error) => write_error(words, error),
     }
 }
 
-/// The help page as a document, or the item that is misplaced.
-pub fn help_parts_answer(request: &mut Request<'_>) -> Answer {
-    let app = read_application(request)?;
-    match help_page(request.alloc, &app) {
-        Ok(page) => shown(request.alloc, &page),
-        Err(error) => refusal(request.alloc, error),
+// Prints a document in a form, or as it is.
+fn write_page(words: &mut Words, page: &Doc, form: Option<Form>) {
+    match form {
+        Some(form) => write_form(words, page, form),
+        None => words.document(page),
     }
 }
 
-/// The item that is misplaced. A refused growth is no answer.
-pub fn refusal(alloc: Global, error: HelpError<'_>) -> Answer {
+/// Prints the item that is misplaced. A refused growth is a fault.
+pub fn write_error(words: &mut Words, error: HelpError<'_>) {
     match error {
-        HelpError::Misplaced(item) => printed_item(alloc, " err", item),
-        HelpError::Memory(_) => Err(Bad::Memory),
+        HelpError::Misplaced(item) => {
+            words.push(" err");
+            write_item(words, item);
+        }
+        HelpError::Memory(_) => words.fail(Bad::Memory),
     }
 }
 
 /// Adds all answers to one tree, behind what goes with it.
-pub fn add_tree_answers(request: &mut Request<'_>, lines: &mut Lines) -> Result<(), Bad> {
-    let app = read_tree_of_app(request)?;
-    request.end()?;
-    let alloc = request.alloc;
-    add_forms(alloc, &app.tree, lines)?;
-    lines.add("se", sections(alloc, "app", &app.tree, &app.info)?)?;
-    lines.add("fg", group_places(alloc, &app.tree)?)?;
-    add_help_pages(alloc, &app, lines)?;
-    add_application_pages(alloc, &app.tree, &app.info, lines)
+pub fn add_tree_answers(request: &mut Request<'_>, words: &mut Words, lines: &mut Lines) {
+    let app = read_tree_of_app(request);
+    add_forms(words, &app.tree, lines);
+    write_sections(words, "app", &app.tree, &app.info);
+    words.end("se", lines);
+    write_group(words, &app.tree);
+    words.end("fg", lines);
+    add_help_pages(words, &app, lines);
+    add_groups(words, &app, lines);
+    add_application_pages(words, &app.tree, &app.info, lines);
 }
 
 // Takes a tree behind what goes with it. The path is `app`.
-fn read_tree_of_app(request: &mut Request<'_>) -> Result<Application, AllocError> {
-    let path = path_of(request.alloc, &["app"])?;
-    let environment = read_environment(request)?;
+fn read_tree_of_app(request: &mut Request<'_>) -> Application {
+    let mut path = Vec::new(request.alloc);
+    let done = push_name(&mut path, request.alloc, "app");
+    request.keep(done);
+    let environment = read_environment(request);
     let mut info = read_info(request);
     info.help = request.tree();
     let tree = request.tree();
-    Ok(Application {
+    Application {
         path,
         include_env: true,
         environment,
         info,
         tree,
-    })
+    }
 }
 
-// Adds the help page in full and in brief, unless an item is misplaced, and the groups.
-fn add_help_pages(alloc: Global, app: &Application, lines: &mut Lines) -> Result<(), Bad> {
-    match help_page(alloc, app) {
+// Adds the help page in full and in brief, unless an item is misplaced.
+fn add_help_pages(words: &mut Words, app: &Application, lines: &mut Lines) {
+    match help_page(words.alloc, app) {
         Ok(page) => {
-            lines.add("hf", rendered(alloc, &page, Form::Console(true, 100))?)?;
-            lines.add("hb", rendered(alloc, &page, Form::Console(false, 40))?)?;
+            write_form(words, &page, Form::Console(true, 100));
+            words.end("hf", lines);
+            write_form(words, &page, Form::Console(false, 40));
+            words.end("hb", lines);
         }
         Err(HelpError::Misplaced(_)) => {}
-        Err(HelpError::Memory(_)) => return Err(Bad::Memory),
+        Err(HelpError::Memory(_)) => words.fail(Bad::Memory),
     }
-    let page = groups(alloc, &app.tree, true, &app.environment)?;
-    lines.add("gr", rendered(alloc, &page, Form::Console(true, 60))?)
+}
+
+fn add_groups(words: &mut Words, app: &Application, lines: &mut Lines) {
+    let page = groups(words, &app.tree, true, &app.environment);
+    write_form(words, &page, Form::Console(true, 60));
+    words.end("gr", lines);
 }

@@ -1,9 +1,10 @@
 //! Trees, items and entries of an item list, printed.
 
 use crate::words::Words;
-use bpaf_help::item::Item;
+use bpaf_doc::buffer::Doc;
+use bpaf_help::item::{Item, ShortLong};
 use bpaf_help::meta::Meta;
-use bpaf_help::meta_help::{HelpItem, HiTy, Info};
+use bpaf_help::meta_help::{HelpItem, HiTy, Info, Metavar};
 
 /// Prints a tree.
 #[cycle(write)]
@@ -17,21 +18,9 @@ pub fn write_tree(words: &mut Words, tree: &Meta) {
         Meta::Many(inner) => write_inner(words, " many", inner),
         Meta::Strict(inner) => write_inner(words, " strict", inner),
         Meta::Item(item) => write_item(words, item),
-        Meta::Subsection(inner, title) => {
-            words.push(" sub");
-            words.document(title);
-            write_tree(words, inner);
-        }
-        Meta::Suffix(inner, note) => {
-            words.push(" suf");
-            words.document(note);
-            write_tree(words, inner);
-        }
-        Meta::CustomUsage(inner, usage) => {
-            words.push(" cu");
-            words.document(usage);
-            write_tree(words, inner);
-        }
+        Meta::Subsection(inner, title) => write_noted(words, " sub", title, inner),
+        Meta::Suffix(inner, note) => write_noted(words, " suf", note, inner),
+        Meta::CustomUsage(inner, usage) => write_noted(words, " cu", usage, inner),
         Meta::Skip => words.push(" skip"),
     }
 }
@@ -39,6 +28,13 @@ pub fn write_tree(words: &mut Words, tree: &Meta) {
 #[cycle(write)]
 fn write_inner(words: &mut Words, word: &str, inner: &Box<Meta>) {
     words.push(word);
+    write_tree(words, inner);
+}
+
+#[cycle(write)]
+fn write_noted(words: &mut Words, word: &str, note: &Doc, inner: &Box<Meta>) {
+    words.push(word);
+    words.document(note);
     write_tree(words, inner);
 }
 
@@ -59,16 +55,8 @@ pub fn write_item(words: &mut Words, item: &Item) {
             metavar,
             anywhere,
             help,
-        } => {
-            words.push(" any");
-            words.document(metavar);
-            words.bit(*anywhere);
-            words.optional_document(help.as_ref());
-        }
-        Item::Positional { metavar, help } => {
-            words.text(" pos ", metavar.0);
-            words.optional_document(help.as_ref());
-        }
+        } => write_any(words, metavar, *anywhere, help.as_ref()),
+        Item::Positional { metavar, help } => write_positional(words, *metavar, help.as_ref()),
         Item::Command {
             name,
             short,
@@ -76,12 +64,7 @@ pub fn write_item(words: &mut Words, item: &Item) {
             meta,
             info,
         } => {
-            words.text(" cmd ", *name);
-            match *short {
-                None => words.push(" -"),
-                Some(short) => words.characters(" '", &[short]),
-            }
-            words.optional_document(help.as_ref());
+            write_command(words, *name, *short, help);
             write_tree(words, meta);
             write_info(words, info);
         }
@@ -91,10 +74,8 @@ pub fn write_item(words: &mut Words, item: &Item) {
             env,
             help,
         } => {
-            words.name(" flag ", *name);
-            words.characters(" '", shorts);
-            words.optional_text(*env);
-            words.optional_document(help.as_ref());
+            write_shorts(words, " flag ", *name, shorts);
+            write_notes(words, *env, help);
         }
         Item::Argument {
             name,
@@ -103,11 +84,9 @@ pub fn write_item(words: &mut Words, item: &Item) {
             env,
             help,
         } => {
-            words.name(" arg ", *name);
-            words.characters(" '", shorts);
+            write_shorts(words, " arg ", *name, shorts);
             words.text(" ", metavar.0);
-            words.optional_text(*env);
-            words.optional_document(help.as_ref());
+            write_notes(words, *env, help);
         }
     }
 }
@@ -115,14 +94,11 @@ pub fn write_item(words: &mut Words, item: &Item) {
 #[cycle(write)]
 fn write_info(words: &mut Words, info: &Box<Info>) {
     if is_default(info) {
-        return words.push(" -");
+        words.push(" -");
+    } else {
+        write_texts(words, info);
+        write_tree(words, &info.help);
     }
-    words.push(" info");
-    words.optional_document(info.descr.as_ref());
-    words.optional_document(info.header.as_ref());
-    words.optional_document(info.footer.as_ref());
-    words.optional_document(info.usage.as_ref());
-    write_tree(words, &info.help);
 }
 
 // Whether it has no text, and no tree.
@@ -139,17 +115,53 @@ fn is_default(info: &Info) -> bool {
     )
 }
 
+fn write_texts(words: &mut Words, info: &Info) {
+    words.push(" info");
+    words.optional_document(info.descr.as_ref());
+    words.optional_document(info.header.as_ref());
+    words.optional_document(info.footer.as_ref());
+    words.optional_document(info.usage.as_ref());
+}
+
+fn write_any(words: &mut Words, metavar: &Doc, anywhere: bool, help: Option<&Doc>) {
+    words.push(" any");
+    words.document(metavar);
+    words.bit(anywhere);
+    words.optional_document(help);
+}
+
+fn write_positional(words: &mut Words, metavar: Metavar, help: Option<&Doc>) {
+    words.text(" pos ", metavar.0);
+    words.optional_document(help);
+}
+
+// A command, without its tree and what goes with that.
+fn write_command(words: &mut Words, name: &str, short: Option<char>, help: &Option<Doc>) {
+    words.text(" cmd ", name);
+    match short {
+        None => words.push(" -"),
+        Some(short) => words.characters(" '", &[short]),
+    }
+    words.optional_document(help.as_ref());
+}
+
+// A name behind its word, and all short names.
+fn write_shorts(words: &mut Words, word: &str, name: ShortLong, shorts: &[char]) {
+    words.name(word, name);
+    words.characters(" '", shorts);
+}
+
+// A variable of the environment, and the help.
+fn write_notes(words: &mut Words, env: Option<&str>, help: &Option<Doc>) {
+    words.optional_text(env);
+    words.optional_document(help.as_ref());
+}
+
 /// Prints an entry of an item list, with `;` behind it.
 pub fn write_entry(words: &mut Words, entry: &HelpItem<'_>) {
     match *entry {
-        HelpItem::DecorSuffix { help, ty } => {
-            write_mark(words, " decor", ty);
-            words.document(help);
-        }
-        HelpItem::GroupStart { help, ty } => {
-            write_mark(words, " gstart", ty);
-            words.document(help);
-        }
+        HelpItem::DecorSuffix { help, ty } => write_noted_mark(words, " decor", ty, help),
+        HelpItem::GroupStart { help, ty } => write_noted_mark(words, " gstart", ty, help),
         HelpItem::GroupEnd { ty } => write_mark(words, " gend", ty),
         HelpItem::AdjacentStart { ty, .. } => write_mark(words, " astart", ty),
         HelpItem::AdjacentStop { ty } => write_mark(words, " astop", ty),
@@ -157,16 +169,8 @@ pub fn write_entry(words: &mut Words, entry: &HelpItem<'_>) {
             metavar,
             anywhere,
             help,
-        } => {
-            words.push(" any");
-            words.document(metavar);
-            words.bit(anywhere);
-            words.optional_document(help);
-        }
-        HelpItem::Positional { metavar, help } => {
-            words.text(" pos ", metavar.0);
-            words.optional_document(help);
-        }
+        } => write_any(words, metavar, anywhere, help),
+        HelpItem::Positional { metavar, help } => write_positional(words, metavar, help),
         HelpItem::Command { name, help, .. } => {
             words.text(" cmd ", name);
             words.optional_document(help);
@@ -197,4 +201,9 @@ fn write_mark(words: &mut Words, word: &str, ty: HiTy) {
         HiTy::Command => " c",
         HiTy::Positional => " p",
     });
+}
+
+fn write_noted_mark(words: &mut Words, word: &str, ty: HiTy, note: &Doc) {
+    write_mark(words, word, ty);
+    words.document(note);
 }

@@ -12,24 +12,14 @@ use std::alloc::{AllocError, Global};
 // How many levels of trees and documents a line may nest.
 const DEEPEST: usize = 1_000;
 
-// A word with nothing to it, or the document or tree for which a word stands with those behind it, and its levels.
-#[derive(Drop)]
+// A word with nothing to it, or the document or tree for which a word stands with those behind it: its levels.
+#[derive(Clone, Copy)]
 enum Term<'a> {
     Word(&'a str),
-    Document(Doc, usize),
-    Tree(Meta, usize),
+    Document(usize),
+    Tree(usize),
     // a document or a tree with a fault
     Unread(Bad),
-}
-
-impl<'a> Term<'a> {
-    // The word, or another that nobody asks for.
-    fn word(&self) -> &'a str {
-        match self {
-            Term::Word(word) => *word,
-            _ => "skip",
-        }
-    }
 }
 
 /// What is left of a line, the next term last. Blanks stand between words, and no word is empty.
@@ -40,6 +30,9 @@ pub struct Request<'a> {
     pub alloc: Global,
     names: &'a mut Names,
     terms: Vec<Term<'a>>,
+    // those of the terms, in order; behind a fault they are of no account
+    documents: Vec<Doc>,
+    trees: Vec<Meta>,
     // one more than the most levels of the terms that were taken behind the word that is being read
     levels: usize,
     fault: Option<Bad>,
@@ -47,44 +40,73 @@ pub struct Request<'a> {
 
 impl<'a> Request<'a> {
     /// Reads a line from its last word to the first. So what stands behind a word is read before it.
-    pub fn new(alloc: Global, line: &'a str, names: &'a mut Names) -> Result<Request<'a>, Bad> {
+    pub fn new(alloc: Global, line: &'a str, names: &'a mut Names) -> Request<'a> {
         let mut request = Request {
             alloc,
             names,
             terms: Vec::new(alloc),
+            documents: Vec::new(alloc),
+            trees: Vec::new(alloc),
             levels: 0,
             fault: None,
         };
         for word in line.rsplit(' ') {
             if !word.is_empty() {
-                let term = request.read(word)?;
-                request.terms.push(term)?;
+                request.read(word);
             }
         }
-        Ok(request)
+        request
     }
 
-    // Reads a word with those behind it that belong to it.
-    fn read(&mut self, word: &'a str) -> Result<Term<'a>, AllocError> {
+    // Reads a word with those behind it that belong to it. A fault in them becomes the term.
+    fn read(&mut self, word: &'a str) {
         self.levels = 1;
-        let term = if word == "[" {
-            Term::Document(read_document(self)?, self.levels)
-        } else {
-            match read_tree(self, word)? {
-                Some(tree) => Term::Tree(tree, self.levels),
-                None => Term::Word(word),
-            }
+        let term = self.term(word);
+        let kept = match self.fault.take() {
+            Some(bad) => Term::Unread(bad),
+            None => term,
         };
-        match self.fault.take() {
-            Some(bad) => Ok(Term::Unread(bad)),
-            None => Ok(term),
+        if self.terms.push(kept).is_err() {
+            self.fail(Bad::Memory);
         }
+    }
+
+    fn term(&mut self, word: &'a str) -> Term<'a> {
+        if word == "[" {
+            let document = read_document(self);
+            return self.with_document(document);
+        }
+        match read_tree(self, word) {
+            Some(tree) => self.with_tree(tree),
+            None => Term::Word(word),
+        }
+    }
+
+    fn with_document(&mut self, document: Doc) -> Term<'a> {
+        if self.documents.push(document).is_err() {
+            self.fail(Bad::Memory);
+        }
+        Term::Document(self.levels)
+    }
+
+    fn with_tree(&mut self, tree: Meta) -> Term<'a> {
+        if self.trees.push(tree).is_err() {
+            self.fail(Bad::Memory);
+        }
+        Term::Tree(self.levels)
     }
 
     /// Keeps a fault if it is the first.
     pub fn fail(&mut self, bad: Bad) {
         if self.fault.is_none() {
             self.fault = Some(bad);
+        }
+    }
+
+    /// Keeps what a call that takes memory answered.
+    pub fn keep(&mut self, done: Result<(), AllocError>) {
+        if done.is_err() {
+            self.fail(Bad::Memory);
         }
     }
 
@@ -102,15 +124,20 @@ impl<'a> Request<'a> {
         self.terms.len()
     }
 
-    /// The next word, which stays.
+    /// The next word, which stays. In place of a document or a tree another word that nobody asks for.
     pub fn peek(&self) -> Option<&'a str> {
-        Some(self.terms.last()?.word())
+        match self.terms.last() {
+            Some(Term::Word(word)) => Some(*word),
+            Some(_) => Some("skip"),
+            None => None,
+        }
     }
 
     /// Takes the next word.
     pub fn word(&mut self) -> &'a str {
         match self.terms.pop() {
-            Some(term) => term.word(),
+            Some(Term::Word(word)) => word,
+            Some(_) => "skip",
             None => {
                 self.fail(Bad::ENDS_EARLY);
                 ""
@@ -145,8 +172,8 @@ impl<'a> Request<'a> {
 
     /// The text that a word spells, as one that lasts as long as the program.
     pub fn spelled(&mut self, word: &str) -> &'static str {
-        match self.lasting(word) {
-            Ok(text) => text,
+        match read_text(self.alloc, word) {
+            Ok(text) => self.lasting(text.as_str()),
             Err(bad) => {
                 self.fail(bad);
                 ""
@@ -154,9 +181,14 @@ impl<'a> Request<'a> {
         }
     }
 
-    fn lasting(&mut self, word: &str) -> Result<&'static str, Bad> {
-        let text = read_text(self.alloc, word)?;
-        Ok(self.names.get(text.as_str())?)
+    fn lasting(&mut self, text: &str) -> &'static str {
+        match self.names.get(text) {
+            Ok(name) => name,
+            Err(_) => {
+                self.fail(Bad::Memory);
+                ""
+            }
+        }
     }
 
     /// Takes a word that is a text, with its quote mark.
@@ -179,17 +211,30 @@ impl<'a> Request<'a> {
     }
 
     /// Takes texts in parentheses.
-    pub fn texts(&mut self) -> Result<Vec<&'static str>, AllocError> {
+    pub fn texts(&mut self) -> Vec<&'static str> {
         self.expect("(");
         let mut texts = Vec::new(self.alloc);
         for _ in 0..self.len() {
             if self.has(")") {
-                return Ok(texts);
+                return texts;
             }
-            texts.push(self.text())?;
+            if texts.push(self.text()).is_err() {
+                self.fail(Bad::Memory);
+            }
         }
         self.fail(Bad::ENDS_EARLY);
-        Ok(texts)
+        texts
+    }
+
+    /// Takes a text, as its characters.
+    pub fn characters(&mut self) -> Vec<char> {
+        match self.text().chars().collect(self.alloc) {
+            Ok(characters) => characters,
+            Err(_) => {
+                self.fail(Bad::Memory);
+                Vec::new(self.alloc)
+            }
+        }
     }
 
     /// Takes a word that is a character, the label, and a text behind it.
@@ -207,14 +252,12 @@ impl<'a> Request<'a> {
     /// Takes a document.
     pub fn document(&mut self) -> Doc {
         match self.terms.pop() {
-            Some(Term::Document(document, levels)) => {
-                self.contain(levels);
-                document
-            }
-            other => {
-                self.miss(other, "another word was expected");
-                Doc::new(self.alloc)
-            }
+            Some(Term::Document(levels)) => self.contain(levels),
+            other => self.miss(other, "another word was expected"),
+        }
+        match self.documents.pop() {
+            Some(document) => document,
+            None => Doc::new(self.alloc),
         }
     }
 
@@ -229,14 +272,12 @@ impl<'a> Request<'a> {
     /// Takes a tree.
     pub fn tree(&mut self) -> Meta {
         match self.terms.pop() {
-            Some(Term::Tree(tree, levels)) => {
-                self.contain(levels);
-                tree
-            }
-            other => {
-                self.miss(other, "a tree was expected");
-                Meta::Skip
-            }
+            Some(Term::Tree(levels)) => self.contain(levels),
+            other => self.miss(other, "a tree was expected"),
+        }
+        match self.trees.pop() {
+            Some(tree) => tree,
+            None => Meta::Skip,
         }
     }
 

@@ -1,16 +1,18 @@
 //! Requests, and which answers each has.
 
-use crate::application_answers::{application_answer, manual_answer};
-use crate::document_answers::{add_document_answers, document_answer, form_answer, roff_answer};
-use crate::fault::{Answer, Bad};
+use crate::application_answers::{answer_application, answer_manual};
+use crate::calls::{CALLS, Call, find};
+use crate::document_answers::{add_document_answers, answer_document, answer_form, answer_roff};
+use crate::fault::Bad;
 use crate::lines::Lines;
-use crate::page_answers::{add_tree_answers, groups_answer, help_answer, help_parts_answer};
-use crate::pieces::{chunks_answer, escape_answer, monoid_answer, roff_calls_answer};
+use crate::page_answers::{add_tree_answers, answer_groups, answer_help};
+use crate::pieces::{answer_chunks, answer_escape, answer_monoid, answer_roff_calls};
 use crate::request::Request;
 use crate::run::Answerer;
 use crate::tree_answers::{
-    either_answer, first_name_answer, heading_answer, matches_answer, tree_answer, usage_answer,
+    answer_either, answer_first_name, answer_heading, answer_matches, answer_tree, answer_use,
 };
+use crate::words::Words;
 use lasting_names::Names;
 use std::alloc::Global;
 
@@ -34,44 +36,50 @@ impl Library {
 impl Answerer for Library {
     /// Adds the answers to the request of a line.
     fn add_answers(&mut self, line: &str, lines: &mut Lines) -> Result<(), Bad> {
-        let mut request = Request::new(self.alloc, line, &mut self.names)?;
-        match request.word() {
-            "alldoc" => add_document_answers(&mut request, lines),
-            "alltree" => add_tree_answers(&mut request, lines),
-            key => lines.add(key, only_answer(&mut request, key)?),
-        }
+        let mut words = Words::new(self.alloc);
+        let mut request = Request::new(self.alloc, line, &mut self.names);
+        answer(&mut request, &mut words, lines);
+        words.finish()?;
+        request.end()
     }
 }
 
-// The answer to a request that has one.
-fn only_answer(request: &mut Request<'_>, key: &str) -> Answer {
-    let answer = answer(request, key)?;
-    request.end()?;
-    Ok(answer)
+fn answer(request: &mut Request<'_>, words: &mut Words, lines: &mut Lines) {
+    let key = request.word();
+    match find(&CALLS, key) {
+        Some(Call::AllOfDocument) => add_document_answers(request, words, lines),
+        Some(Call::AllOfTree) => add_tree_answers(request, words, lines),
+        Some(call) => {
+            write_answer(request, call, words);
+            words.end(key, lines);
+        }
+        None => words.fail(Bad::Words("no such request")),
+    }
 }
 
-fn answer(request: &mut Request<'_>, key: &str) -> Answer {
-    match key {
-        "console" | "html" | "markdown" => form_answer(request, key),
-        "roff" => roff_answer(request),
-        "parts" | "firstline" | "isempty" => document_answer(request, key),
-        "split" => chunks_answer(request),
-        "roffops" => roff_calls_answer(request),
-        "escape" => escape_answer(request),
-        "monoid" => monoid_answer(request),
-        "norm" | "usage" | "usagemd" | "usageparts" => usage_answer(request, key),
-        "check" | "shorts" | "first" | "iscommand" | "ispos" | "items" | "findgroup" => {
-            tree_answer(request, key)
+// Prints the answer to a request that has one.
+fn write_answer(request: &mut Request<'_>, call: Call, words: &mut Words) {
+    match call {
+        Call::Console | Call::Html | Call::Markdown => answer_form(request, call, words),
+        Call::Parts | Call::FirstLine | Call::IsEmpty => answer_document(request, call, words),
+        Call::Roff => answer_roff(request, words),
+        Call::Chunks => answer_chunks(request, words),
+        Call::RoffCalls => answer_roff_calls(request, words),
+        Call::Escape => answer_escape(request, words),
+        Call::Monoid => answer_monoid(request, words),
+        Call::Normal | Call::Usage | Call::UsageMarkdown | Call::UsageParts => {
+            answer_use(request, call, words)
         }
-        "or2" => either_answer(request),
-        "matches" => matches_answer(request),
-        "names" => first_name_answer(request),
-        "itemsof" => heading_answer(request),
-        "groups" => groups_answer(request),
-        "help" => help_answer(request),
-        "helpparts" => help_parts_answer(request),
-        "apphtml" | "appmarkdown" | "sections" => application_answer(request, key),
-        "appman" => manual_answer(request),
-        _ => Err(Bad::Words("no such request")),
+        Call::Either => answer_either(request, words),
+        Call::Matches => answer_matches(request, words),
+        Call::FirstName => answer_first_name(request, words),
+        Call::ItemsOfType => answer_heading(request, words),
+        Call::Groups => answer_groups(request, words),
+        Call::Help | Call::HelpParts => answer_help(request, call, words),
+        Call::ApplicationHtml | Call::ApplicationMarkdown | Call::Sections => {
+            answer_application(request, call, words)
+        }
+        Call::Manual => answer_manual(request, words),
+        _ => answer_tree(request, call, words),
     }
 }

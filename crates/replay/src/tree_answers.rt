@@ -1,146 +1,154 @@
 //! Answers to requests on trees, items and names.
 
-use crate::document_answers::{Form, bit, rendered};
-use crate::fault::{Answer, Bad};
+use crate::calls::Call;
+use crate::document_answers::{Form, write_form};
+use crate::fault::Bad;
 use crate::lines::Lines;
 use crate::printed::{write_entry, write_item, write_tree};
 use crate::request::Request;
-use crate::trees::{characters, read_name};
-use crate::words::{Words, shown};
+use crate::trees::read_name;
+use crate::words::Words;
 use bpaf_doc::buffer::Doc;
-use bpaf_help::item::{Item, ShortLong};
+use bpaf_help::item::ShortLong;
 use bpaf_help::meta::Meta;
 use bpaf_help::meta_help::{HelpItems, HiTy};
 use bpaf_help::usage::write_meta;
-use std::alloc::{AllocError, Global};
+use std::alloc::AllocError;
 
-/// The answer to a request on a tree and the use of it.
-pub fn usage_answer(request: &mut Request<'_>, key: &str) -> Answer {
+/// Answers a request on a tree and the use of it.
+pub fn answer_use(request: &mut Request<'_>, call: Call, words: &mut Words) {
     let for_usage = request.flag();
-    form_of_use(request.alloc, &request.tree(), key, for_usage)
+    write_use(words, &request.tree(), call, for_usage);
 }
 
-// The answer with this key.
-fn form_of_use(alloc: Global, tree: &Meta, key: &str, for_usage: bool) -> Answer {
-    if key == "norm" {
-        return printed(alloc, &tree.normalized(for_usage)?);
-    }
-    let mut usage = Doc::new(alloc);
-    write_meta(&mut usage, tree, for_usage)?;
-    match key {
-        "usage" => rendered(alloc, &usage, Form::Monochrome(true)),
-        "usagemd" => rendered(alloc, &usage, Form::Markdown(true)),
-        _ => shown(alloc, &usage),
+fn write_use(words: &mut Words, tree: &Meta, call: Call, for_usage: bool) {
+    match call {
+        Call::Normal => write_made(words, tree.normalized(for_usage)),
+        _ => write_usage(words, tree, call, for_usage),
     }
 }
 
-/// The answer to a request on a tree alone.
-pub fn tree_answer(request: &mut Request<'_>, key: &str) -> Answer {
-    fact(request.alloc, &request.tree(), key)
+// Prints a tree that a call made.
+fn write_made(words: &mut Words, tree: Result<Meta, AllocError>) {
+    match tree {
+        Ok(tree) => write_tree(words, &tree),
+        Err(_) => words.fail(Bad::Memory),
+    }
 }
 
-// The answer with this key.
-fn fact(alloc: Global, tree: &Meta, key: &str) -> Answer {
-    match key {
-        "check" => match tree.positional_invariant_check() {
-            Ok(()) => word(alloc, " ok"),
-            Err(item) => printed_item(alloc, " err", item),
-        },
-        "first" => match tree.first_item() {
-            Some(item) => printed_item(alloc, "", item),
-            None => word(alloc, " -"),
-        },
-        "ispos" => match tree {
-            Meta::Item(item) => bit(alloc, item.is_pos()),
-            _ => word(alloc, " -"),
-        },
-        "iscommand" => bit(alloc, tree.is_command()),
-        "shorts" => shorts(alloc, tree),
-        "items" => items(alloc, tree),
-        _ => group_places(alloc, tree),
+fn write_usage(words: &mut Words, tree: &Meta, call: Call, for_usage: bool) {
+    let mut usage = Doc::new(words.alloc);
+    let done = write_meta(&mut usage, tree, for_usage);
+    words.keep(done);
+    match call {
+        Call::Usage => write_form(words, &usage, Form::Monochrome(true)),
+        Call::UsageMarkdown => write_form(words, &usage, Form::Markdown(true)),
+        _ => words.document(&usage),
+    }
+}
+
+/// Answers a request on a tree alone.
+pub fn answer_tree(request: &mut Request<'_>, call: Call, words: &mut Words) {
+    write_fact(words, &request.tree(), call);
+}
+
+fn write_fact(words: &mut Words, tree: &Meta, call: Call) {
+    match call {
+        Call::Check => write_check(words, tree),
+        Call::FirstItem => write_first(words, tree),
+        Call::IsPositional => write_is_positional(words, tree),
+        Call::IsCommand => words.bit(tree.is_command()),
+        Call::Shorts => write_shorts(words, tree),
+        Call::Items => write_items(words, tree),
+        _ => write_group(words, tree),
+    }
+}
+
+fn write_check(words: &mut Words, tree: &Meta) {
+    match tree.positional_invariant_check() {
+        Ok(()) => words.push(" ok"),
+        Err(item) => {
+            words.push(" err");
+            write_item(words, item);
+        }
+    }
+}
+
+fn write_first(words: &mut Words, tree: &Meta) {
+    match tree.first_item() {
+        Some(item) => write_item(words, item),
+        None => words.push(" -"),
+    }
+}
+
+fn write_is_positional(words: &mut Words, tree: &Meta) {
+    match tree {
+        Meta::Item(item) => words.bit(item.is_pos()),
+        _ => words.push(" -"),
     }
 }
 
 /// Adds the answers to one tree that need nothing else.
-pub fn add_forms(alloc: Global, tree: &Meta, lines: &mut Lines) -> Result<(), Bad> {
-    let forms = [
-        ("n1", "norm", true),
-        ("u1", "usage", true),
-        ("um1", "usagemd", true),
-        ("n0", "norm", false),
-        ("u0", "usage", false),
-        ("um0", "usagemd", false),
+pub fn add_forms(words: &mut Words, tree: &Meta, lines: &mut Lines) {
+    let uses = [
+        ("n1", Call::Normal, true),
+        ("u1", Call::Usage, true),
+        ("um1", Call::UsageMarkdown, true),
+        ("n0", Call::Normal, false),
+        ("u0", Call::Usage, false),
+        ("um0", Call::UsageMarkdown, false),
     ];
-    for (key, form, for_usage) in forms {
-        lines.add(key, form_of_use(alloc, tree, form, for_usage)?)?;
+    for (key, call, for_usage) in uses {
+        write_use(words, tree, call, for_usage);
+        words.end(key, lines);
     }
-    for (key, of) in [("ck", "check"), ("sh", "shorts"), ("fi", "first")] {
-        lines.add(key, fact(alloc, tree, of)?)?;
+    for (key, call) in [
+        ("ck", Call::Check),
+        ("sh", Call::Shorts),
+        ("fi", Call::FirstItem),
+    ] {
+        write_fact(words, tree, call);
+        words.end(key, lines);
     }
-    Ok(())
 }
 
-/// An answer of one word, which has its blank.
-pub fn word(alloc: Global, word: &str) -> Answer {
-    Ok(String::from_str(alloc, word)?)
-}
-
-// The printed form of a tree.
-fn printed(alloc: Global, tree: &Meta) -> Answer {
-    let mut words = Words::new(alloc);
-    write_tree(&mut words, tree);
-    words.answer()
-}
-
-/// An item behind a word, or behind none.
-pub fn printed_item(alloc: Global, word: &str, item: &Item) -> Answer {
-    let mut words = Words::new(alloc);
-    words.push(word);
-    write_item(&mut words, item);
-    words.answer()
-}
-
-// The short names of flags, and those of arguments.
-fn shorts(alloc: Global, tree: &Meta) -> Answer {
-    let mut flags = Vec::new(alloc);
-    let mut args = Vec::new(alloc);
-    tree.collect_shorts(&mut flags, &mut args)?;
-    let mut words = Words::new(alloc);
+// Prints the short names of flags, and those of arguments.
+fn write_shorts(words: &mut Words, tree: &Meta) {
+    let mut flags = Vec::new(words.alloc);
+    let mut args = Vec::new(words.alloc);
+    let done = tree.collect_shorts(&mut flags, &mut args);
+    words.keep(done);
     words.characters(" '", &flags);
     words.characters(" '", &args);
-    words.answer()
 }
 
 /// The item list of a tree.
-pub fn listing<'a>(alloc: Global, tree: &'a Meta) -> Result<HelpItems<'a>, AllocError> {
-    let mut items: HelpItems<'a> = HelpItems::new(alloc);
-    items.append_meta(tree)?;
-    Ok(items)
+pub fn listing<'a>(words: &mut Words, tree: &'a Meta) -> HelpItems<'a> {
+    let mut items: HelpItems<'a> = HelpItems::new(words.alloc);
+    let done = items.append_meta(tree);
+    words.keep(done);
+    items
 }
 
-fn items(alloc: Global, tree: &Meta) -> Answer {
-    let items = listing(alloc, tree)?;
-    let mut words = Words::new(alloc);
+fn write_items(words: &mut Words, tree: &Meta) {
+    let items = listing(words, tree);
     words.push(" [");
     for entry in items.items() {
-        write_entry(&mut words, entry);
+        write_entry(words, entry);
     }
     words.push(" ]");
-    words.answer()
 }
 
-/// The entries of a heading.
-pub fn heading_answer(request: &mut Request<'_>) -> Answer {
+/// Prints the entries of a heading.
+pub fn answer_heading(request: &mut Request<'_>, words: &mut Words) {
     let ty = read_type(request);
     let tree = request.tree();
-    let items = listing(request.alloc, &tree)?;
-    let mut words = Words::new(request.alloc);
+    let items = listing(words, &tree);
     words.push(" [");
     for entry in items.items_of_ty(ty) {
-        write_entry(&mut words, entry);
+        write_entry(words, entry);
     }
     words.push(" ]");
-    words.answer()
 }
 
 fn read_type(request: &mut Request<'_>) -> HiTy {
@@ -155,40 +163,36 @@ fn read_type(request: &mut Request<'_>) -> HiTy {
     }
 }
 
-/// The places of the first start and of the first end of a group.
-pub fn group_places(alloc: Global, tree: &Meta) -> Answer {
-    let mut words = Words::new(alloc);
-    match listing(alloc, tree)?.find_group() {
+/// Prints the places of the first start and of the first end of a group.
+pub fn write_group(words: &mut Words, tree: &Meta) {
+    match listing(words, tree).find_group() {
         Some(places) => {
             words.number(" ", *places.start());
             words.number(" ", *places.end());
         }
         None => words.push(" -"),
     }
-    words.answer()
 }
 
-/// Of two trees, one or the other.
-pub fn either_answer(request: &mut Request<'_>) -> Answer {
+/// Prints of two trees one or the other.
+pub fn answer_either(request: &mut Request<'_>, words: &mut Words) {
     let first = request.tree();
     let second = request.tree();
-    printed(request.alloc, &first.or(second)?)
+    write_made(words, first.or(second));
 }
 
-/// Whether a name matches a text.
-pub fn matches_answer(request: &mut Request<'_>) -> Answer {
+/// Prints whether a name matches a text.
+pub fn answer_matches(request: &mut Request<'_>, words: &mut Words) {
     let name = read_name(request);
-    bit(request.alloc, name.matches(request.text()))
+    words.bit(name.matches(request.text()));
 }
 
-/// The first of the short names and of the long names.
-pub fn first_name_answer(request: &mut Request<'_>) -> Answer {
-    let shorts = characters(request.alloc, request.text())?;
-    let longs = request.texts()?;
-    let mut words = Words::new(request.alloc);
+/// Prints the first of the short names and of the long names.
+pub fn answer_first_name(request: &mut Request<'_>, words: &mut Words) {
+    let shorts = request.characters();
+    let longs = request.texts();
     match ShortLong::from_names(&shorts, &longs) {
         Ok(name) => words.name(" ", name),
         Err(_) => words.push(" noname"),
     }
-    words.answer()
 }

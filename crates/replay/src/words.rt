@@ -1,38 +1,77 @@
 //! The words of an answer, printed.
 
 use crate::encoding::{write_character, write_characters, write_text};
-use crate::fault::{Answer, Bad};
+use crate::fault::Bad;
+use crate::lines::Lines;
 use bpaf_doc::buffer::{Block, Doc, Part, Style};
 use bpaf_help::item::ShortLong;
-use std::alloc::Global;
+use std::alloc::{AllocError, Global};
+use std::mem;
 
-/// The words of an answer, each with a blank before it. A refused growth leaves something out, and `answer` says so.
+// Stands for the answer of the line before.
+const SAME: &str = " ^";
+
+/// The words of an answer, each with a blank before it. The first fault is kept, and `finish` tells it: what is
+/// printed afterwards is of no account.
 #[derive(Drop)]
 pub struct Words {
+    pub alloc: Global,
     text: String,
-    is_refused: bool,
+    // the answer before; there is none yet where it is empty, since a blank begins each answer
+    last: String,
+    fault: Option<Bad>,
 }
 
 impl Words {
     /// No word.
     pub fn new(alloc: Global) -> Words {
         Words {
+            alloc,
             text: String::new(alloc),
-            is_refused: false,
+            last: String::new(alloc),
+            fault: None,
         }
     }
 
-    /// All words, or that memory did not last.
-    pub fn answer(self) -> Answer {
-        if self.is_refused {
-            return Err(Bad::Memory);
+    /// Ends the answer, and adds its line. An answer that is the one before is printed as `^`.
+    pub fn end(&mut self, key: &str, lines: &mut Lines) {
+        let added = match self.text.as_str() == self.last.as_str() {
+            true => lines.add(key, SAME),
+            false => lines.add(key, self.text.as_str()),
+        };
+        if let Err(bad) = added {
+            self.fail(bad);
         }
-        Ok(self.text)
+        mem::swap(&mut self.text, &mut self.last);
+        self.text.clear();
+    }
+
+    /// There was no fault.
+    pub fn finish(&self) -> Result<(), Bad> {
+        match self.fault {
+            Some(bad) => Err(bad),
+            None => Ok(()),
+        }
+    }
+
+    /// Keeps a fault if it is the first.
+    pub fn fail(&mut self, bad: Bad) {
+        if self.fault.is_none() {
+            self.fault = Some(bad);
+        }
+    }
+
+    /// Keeps what a call that takes memory answered.
+    pub fn keep(&mut self, done: Result<(), AllocError>) {
+        if done.is_err() {
+            self.fail(Bad::Memory);
+        }
     }
 
     /// Prints what stands for itself.
     pub fn push(&mut self, words: &str) {
-        self.is_refused |= self.text.push_str(words).is_err();
+        let done = self.text.push_str(words);
+        self.keep(done);
     }
 
     /// Prints ` 1` if something holds, and else ` 0`.
@@ -42,13 +81,15 @@ impl Words {
 
     /// Prints a number behind what stands before it.
     pub fn number(&mut self, before: &str, number: usize) {
-        self.is_refused |= write!(self.text, "{before}{number}").is_err();
+        let done = write!(self.text, "{before}{number}");
+        self.keep(done);
     }
 
     /// Prints a text behind what stands before its quote mark.
     pub fn text(&mut self, before: &str, text: &str) {
         self.push(before);
-        self.is_refused |= write_text(&mut self.text, text).is_err();
+        let done = write_text(&mut self.text, text);
+        self.keep(done);
     }
 
     /// Prints a text, or `-` for none.
@@ -59,20 +100,35 @@ impl Words {
         }
     }
 
+    /// Prints the text that a call made.
+    pub fn page(&mut self, page: Result<String, AllocError>) {
+        self.page_behind(&[], page);
+    }
+
+    /// Prints the text that a call made, without these texts at its head.
+    pub fn page_behind(&mut self, heads: &[&str], page: Result<String, AllocError>) {
+        match page {
+            Ok(page) => self.text(" ", behind(heads, page.as_str())),
+            Err(_) => self.fail(Bad::Memory),
+        }
+    }
+
     /// Prints characters as they stand in a text.
     pub fn characters(&mut self, before: &str, characters: &[char]) {
         self.push(before);
         for character in characters {
-            self.is_refused |= write_character(&mut self.text, *character).is_err();
+            let done = write_character(&mut self.text, *character);
+            self.keep(done);
         }
     }
 
     /// Prints a label, which stands for itself, but for a newline, which no line has.
     pub fn label(&mut self, label: char) {
-        self.is_refused |= match label {
-            '\n' => write_character(&mut self.text, label).is_err(),
-            _ => self.text.push(label).is_err(),
+        let done = match label {
+            '\n' => write_character(&mut self.text, label),
+            _ => self.text.push(label),
         };
+        self.keep(done);
     }
 
     /// Prints a name behind a word.
@@ -83,7 +139,8 @@ impl Words {
             ShortLong::Long(long) => self.text("l", long),
             ShortLong::Both(short, long) => {
                 self.characters("b'", &[short]);
-                self.is_refused |= write_characters(&mut self.text, long).is_err();
+                let done = write_characters(&mut self.text, long);
+                self.keep(done);
             }
         }
     }
@@ -127,11 +184,13 @@ impl Words {
     }
 }
 
-/// The answer that is one document.
-pub fn shown(alloc: Global, document: &Doc) -> Answer {
-    let mut words = Words::new(alloc);
-    words.document(document);
-    words.answer()
+// A text without these texts at its head.
+fn behind<'a>(heads: &[&str], text: &'a str) -> &'a str {
+    let mut rest = text;
+    for head in heads {
+        rest = rest.strip_prefix(*head).unwrap_or(rest);
+    }
+    rest
 }
 
 fn style_code(style: Style) -> &'static str {

@@ -1,6 +1,6 @@
 use Rattle.std.proofs.Common.{string_bytes, rules}
 use Rattle.replay.proofs.Replies.{added}
-use Rattle.replay.proofs.lines.Lines.add_line.Goals as goal
+use Rattle.replay.proofs.lines.Lines.add.Goals as goal
 
 pub invariant_of-self-2 : goal.invariant_of-self-2
 invariant_of-self-2 c =
