@@ -1,199 +1,208 @@
-//! The calls that may answer `AllocError`, what each of them gives, and what it leaves where it is refused.
-use crate::arenas::taken;
-use crate::meta::calls::{MetaCall, meta_answer, meta_before};
-use crate::pages_calls::{pages_answer, pages_before};
-use crate::rows::path;
-use crate::trees::{info, tree};
+//! The calls that may answer `AllocError`, how each of them ends over an arena, and what it shows then: what it gave,
+//! or what it left where it was refused, as debug text, which is the same over all allocators.
+use crate::arenas::{leave, roomy};
+use crate::meta::calls::{Make, Write, is_made, read_is_shown, shorts_are_put, write_in};
+use crate::pages_calls::{PageCall, page_ended};
+use crate::trees::tree;
 use bpaf_doc::buffer::Doc;
-use bpaf_help::item::{Item, ShortLong};
 use bpaf_help::meta::Meta;
-use bpaf_help::meta_help::{
-    EnvTexts, HelpError, HelpItem, HelpItems, render_help, write_help_item_groups,
-};
+use bpaf_help::meta_help::{EnvTexts, HelpItem, HelpItems, write_help_item_groups};
 use bumpalo::Bump;
-use std::alloc::{AllocError, Allocator, Global};
-use std::fmt::Debug;
+use std::alloc::{Allocator, Global};
+use std::fmt::Write as _;
+use std::process::Abort;
 
 #[derive(Clone, Copy)]
 pub enum Call {
+    /// The tree behind itself in a list.
     Append,
+    /// What stands before `Append`.
+    List,
     Insert,
     Replace,
     Groups,
-    Page,
-    Gathered,
-    Sections,
-    Section,
-    Collected,
-    Html,
-    Markdown,
-    Manual,
-    OfMeta(MetaCall),
+    Write(Write),
+    Make(Make),
+    Shorts,
+    Read,
+    Page(PageCall),
 }
 
-/// What a call gave, or what it left where it was refused, as debug text, which is the same over all allocators.
-#[derive(Drop)]
-pub enum Answer {
-    Given(String),
-    Refused(String),
+/// How a call ended.
+#[derive(Clone, Copy, PartialEq, Eq)]
+pub enum Ended {
+    Given,
+    Refused,
     /// A flag with this short name stands behind a positional value.
     Misplaced(char),
 }
 
-/// The answer of a call over an arena with so many free bytes, and with the tree that the text spells, which
-/// stands there too: what takes its memory where the tree does is refused as well. An error says that the call
-/// could not be prepared, or its text not be made.
-pub fn answer_of(
+impl Ended {
+    pub fn of(is_done: bool) -> Ended {
+        if is_done {
+            Ended::Given
+        } else {
+            Ended::Refused
+        }
+    }
+}
+
+/// How a call ends over an arena with so many free bytes. The tree that the text spells stands there too: what takes
+/// its memory where the tree does is refused as well.
+pub fn end_of(
+    rt: &impl Abort,
     out: Global,
+    room: usize,
+    text: &str,
+    call: Call,
+    shown: &mut String,
+) -> Ended {
+    let arena = roomy(rt, out);
+    let ended = end_over(rt, &arena, room, text, call, shown);
+    drop(arena);
+    ended
+}
+
+fn end_over(
+    rt: &impl Abort,
     arena: &Bump,
     room: usize,
     text: &str,
     call: Call,
-) -> Result<Answer, AllocError> {
-    let tree = tree(arena, text)?;
-    match call {
-        Call::Append => append_answer(out, arena, room, &tree),
-        Call::Insert => insert_answer(out, arena, room, EnvTexts::new(arena), "W"),
-        Call::Replace => insert_answer(out, arena, room, begun_texts(arena)?, "V"),
-        Call::Groups => groups_answer(out, arena, room, &tree),
-        Call::Page => page_answer(out, arena, room, &tree),
-        Call::OfMeta(call) => meta_answer(out, arena, room, &tree, call),
-        _ => pages_answer(out, arena, room, &tree, call),
-    }
+    shown: &mut String,
+) -> Ended {
+    let tree = tree(rt, arena, text);
+    let ended = match call {
+        Call::Page(call) => page_ended(rt, arena, room, &tree, call, shown),
+        _ => Ended::of(is_done(rt, arena, room, &tree, call, shown)),
+    };
+    drop(tree);
+    ended
 }
 
-/// What stands where a call is refused: what stood before, made with ample memory.
-pub fn before(out: Global, text: &str, call: Call) -> Result<String, AllocError> {
+fn is_done<'a>(
+    rt: &impl Abort,
+    arena: &'a Bump,
+    room: usize,
+    tree: &Meta<&'a Bump>,
+    call: Call,
+    shown: &mut String,
+) -> bool {
     match call {
-        Call::Append => listed(out, list_of(out, &tree(out, text)?)?.items()),
-        Call::Insert => told(out, &EnvTexts::new(out)),
-        Call::Replace => told(out, &begun_texts(out)?),
-        Call::Groups => written(out, &begun_doc(out)?, &begun_texts(out)?),
-        Call::OfMeta(call) => meta_before(out, call),
-        Call::Sections | Call::Section => pages_before(out, &tree(out, text)?, call),
-        _ => Ok(String::new(out)),
-    }
-}
-
-pub fn answered(left: String, outcome: Result<(), AllocError>) -> Answer {
-    match outcome {
-        Ok(()) => Answer::Given(left),
-        Err(AllocError) => Answer::Refused(left),
+        Call::Append | Call::List => is_appended(rt, arena, room, tree, call, shown),
+        Call::Insert => is_inserted(rt, arena, room, EnvTexts::new(arena), "W", shown),
+        Call::Replace => is_inserted(rt, arena, room, begun_texts(rt, arena), "V", shown),
+        Call::Make(call) => is_made(rt, arena, room, tree, call, shown),
+        Call::Shorts => shorts_are_put(rt, arena, room, tree, shown),
+        Call::Read => {
+            leave(rt, arena, room);
+            read_is_shown(tree, shown)
+        }
+        _ => doc_is_written(rt, arena, room, tree, call, shown),
     }
 }
 
 /// A list in which the tree stands once.
 pub fn list_of<'a, A: Allocator, L: Allocator>(
+    rt: &impl Abort,
     alloc: L,
     tree: &'a Meta<A>,
-) -> Result<HelpItems<'a, A, L>, AllocError> {
+) -> HelpItems<'a, A, L> {
     let mut list: HelpItems<'a, A, L> = HelpItems::new(alloc);
-    list.append_meta(tree)?;
-    Ok(list)
+    list.append_meta(tree).expect(rt, "a list");
+    list
 }
 
-fn listed<A: Allocator>(out: Global, items: &[HelpItem<'_, A>]) -> Result<String, AllocError> {
-    format!(in out; "{items:?}")
-}
-
-fn append_answer<'a>(
-    out: Global,
+// Puts the tree into a list in which it stands once, or shows that list.
+fn is_appended<'a>(
+    rt: &impl Abort,
     arena: &'a Bump,
     room: usize,
     tree: &Meta<&'a Bump>,
-) -> Result<Answer, AllocError> {
-    let mut list = list_of(arena, tree)?;
-    let _taken = taken(arena, room)?;
-    let outcome = list.append_meta(tree);
-    Ok(answered(listed(out, list.items())?, outcome))
+    call: Call,
+    shown: &mut String,
+) -> bool {
+    let mut list = list_of(rt, arena, tree);
+    leave(rt, arena, room);
+    let is_done = match call {
+        Call::Append => list.append_meta(tree).is_ok(),
+        _ => true,
+    };
+    show_items(rt, list.items(), shown);
+    drop(list);
+    is_done
+}
+
+fn show_items<A: Allocator>(rt: &impl Abort, items: &[HelpItem<'_, A>], shown: &mut String) {
+    write!(shown, "{items:?}").expect(rt, "a text");
 }
 
 // Texts in which one name has one.
-fn begun_texts<A: Allocator + Copy>(alloc: A) -> Result<EnvTexts<A>, AllocError> {
+fn begun_texts<A: Allocator + Copy>(rt: &impl Abort, alloc: A) -> EnvTexts<A> {
     let mut texts = EnvTexts::new(alloc);
-    texts.insert("V", "7")?;
-    Ok(texts)
+    texts.insert("V", "7").expect(rt, "a text");
+    texts
 }
 
-fn told<A: Allocator>(out: Global, texts: &EnvTexts<A>) -> Result<String, AllocError> {
-    format!(in out; "{texts:?} {:?} {:?}", texts.get("V"), texts.get("W"))
-}
-
-fn insert_answer<'a>(
-    out: Global,
+fn is_inserted<'a>(
+    rt: &impl Abort,
     arena: &'a Bump,
     room: usize,
     mut texts: EnvTexts<&'a Bump>,
     name: &str,
-) -> Result<Answer, AllocError> {
-    let _taken = taken(arena, room)?;
-    let outcome = texts.insert(name, "a text of an environment variable");
-    Ok(answered(told(out, &texts)?, outcome))
+    shown: &mut String,
+) -> bool {
+    leave(rt, arena, room);
+    let is_done = texts
+        .insert(name, "a text of an environment variable")
+        .is_ok();
+    show_texts(rt, &texts, shown);
+    drop(texts);
+    is_done
 }
 
-/// A document of one text.
-pub fn begun_doc<A: Allocator + Copy>(alloc: A) -> Result<Doc<A>, AllocError> {
-    let mut doc = Doc::new(alloc);
-    doc.literal("before")?;
-    Ok(doc)
+fn show_texts(rt: &impl Abort, texts: &EnvTexts<&Bump>, shown: &mut String) {
+    let (first, second) = (texts.get("V"), texts.get("W"));
+    write!(shown, "{texts:?} {first:?} {second:?}").expect(rt, "a text");
 }
 
-fn written<A: Allocator, B: Allocator>(
-    out: Global,
-    doc: &Doc<A>,
-    texts: &EnvTexts<B>,
-) -> Result<String, AllocError> {
-    format!(in out; "{doc:?} {texts:?}")
-}
-
-fn groups_answer<'a>(
-    out: Global,
+// A call that writes into a document, which holds a text.
+fn doc_is_written<'a>(
+    rt: &impl Abort,
     arena: &'a Bump,
     room: usize,
     tree: &Meta<&'a Bump>,
-) -> Result<Answer, AllocError> {
-    let mut doc = begun_doc(arena)?;
-    let texts = begun_texts(out)?;
-    let list = list_of(arena, tree)?;
-    let _taken = taken(arena, room)?;
-    let outcome = write_help_item_groups(&mut doc, list, true, &texts);
-    Ok(answered(written(out, &doc, &texts)?, outcome))
+    call: Call,
+    shown: &mut String,
+) -> bool {
+    let mut doc = Doc::new(arena);
+    doc.literal("before").expect(rt, "a document");
+    let is_done = match call {
+        Call::Write(call) => {
+            leave(rt, arena, room);
+            write_in(&mut doc, tree, call).is_ok()
+        }
+        _ => are_written(rt, arena, room, tree, &mut doc, shown),
+    };
+    write!(shown, "{doc:?}").expect(rt, "a text");
+    drop(doc);
+    is_done
 }
 
-fn page_answer<'a>(
-    out: Global,
+// The groups of the tree.
+fn are_written<'a>(
+    rt: &impl Abort,
     arena: &'a Bump,
     room: usize,
     tree: &Meta<&'a Bump>,
-) -> Result<Answer, AllocError> {
-    let info = info(arena, "Prints things")?;
-    let path = path(out)?;
-    let texts = EnvTexts::new(out);
-    let _taken = taken(arena, room)?;
-    page_told(
-        out,
-        render_help(arena, &path, &info, tree, tree, true, &texts),
-    )
-}
-
-/// What a call gave that lends nothing which it could change.
-pub fn page_told<T: Debug + Drop, A: Allocator>(
-    out: Global,
-    outcome: Result<T, HelpError<'_, A>>,
-) -> Result<Answer, AllocError> {
-    match outcome {
-        Ok(page) => Ok(Answer::Given(format!(in out; "{page:?}")?)),
-        Err(HelpError::Memory(_)) => Ok(Answer::Refused(String::new(out))),
-        Err(HelpError::Misplaced(item)) => Ok(misplaced(out, item)),
-    }
-}
-
-fn misplaced<A: Allocator>(out: Global, item: &Item<A>) -> Answer {
-    match item {
-        Item::Flag {
-            name: ShortLong::Short(letter),
-            ..
-        } => Answer::Misplaced(*letter),
-        _ => Answer::Refused(String::new(out)),
-    }
+    doc: &mut Doc<&'a Bump>,
+    shown: &mut String,
+) -> bool {
+    let texts = begun_texts(rt, arena);
+    let list = list_of(rt, arena, tree);
+    leave(rt, arena, room);
+    let is_done = write_help_item_groups(doc, list, true, &texts).is_ok();
+    write!(shown, "{texts:?} ").expect(rt, "a text");
+    drop(texts);
+    is_done
 }

@@ -3,7 +3,8 @@ use bpaf_doc::buffer::Doc;
 use bpaf_help::item::{Item, ShortLong};
 use bpaf_help::meta::Meta;
 use bpaf_help::meta_help::{Info, Metavar};
-use std::alloc::{AllocError, Allocator};
+use std::alloc::Allocator;
+use std::process::Abort;
 
 /// The tree that a text spells over a stack of trees. `X` is a positional value with help, `C` a command of the
 /// same name and help, `P` a positional value without help, `A` and `S` an argument, `Y` an `Any`, `.` a `Skip`,
@@ -11,13 +12,19 @@ use std::alloc::{AllocError, Allocator};
 /// an `Or` of two, and of the last one `?` Optional, `^` Required, `@` Adjacent, `+` Many, `-` Strict, `#` and `%`
 /// Subsection, `~` and `!` Suffix, `$` CustomUsage, and each digit and `R` a command. Where there is none to take
 /// off, it takes `Skip`.
-pub fn tree<A: Allocator + Copy>(alloc: A, text: &str) -> Result<Meta<A>, AllocError> {
+pub fn tree<A: Allocator + Copy>(rt: &impl Abort, alloc: A, text: &str) -> Meta<A> {
     let mut stack = Vec::new(alloc);
     for sign in text.chars() {
-        let made = made(alloc, &mut stack, sign)?;
-        stack.push(made)?;
+        put(rt, alloc, &mut stack, sign);
     }
-    Ok(top(&mut stack))
+    let tree = top(&mut stack);
+    drop(stack);
+    tree
+}
+
+fn put<A: Allocator + Copy>(rt: &impl Abort, alloc: A, stack: &mut Vec<Meta<A>, A>, sign: char) {
+    let made = made(rt, alloc, stack, sign);
+    stack.push(made).expect(rt, "a tree");
 }
 
 fn top<A: Allocator>(stack: &mut Vec<Meta<A>, A>) -> Meta<A> {
@@ -28,58 +35,56 @@ fn top<A: Allocator>(stack: &mut Vec<Meta<A>, A>) -> Meta<A> {
 }
 
 fn made<A: Allocator + Copy>(
+    rt: &impl Abort,
     alloc: A,
     stack: &mut Vec<Meta<A>, A>,
     sign: char,
-) -> Result<Meta<A>, AllocError> {
+) -> Meta<A> {
     match sign {
-        '&' => Ok(Meta::And(both(alloc, stack)?)),
-        '|' => Ok(Meta::Or(both(alloc, stack)?)),
-        '.' => Ok(Meta::Skip),
-        '?' | '^' | '@' | '+' | '-' => wrapped(alloc, top(stack), sign),
-        '#' | '%' | '~' | '!' | '$' => noted(alloc, top(stack), sign),
-        'R' => Meta::from_item(alloc, full_command(alloc, top(stack))?),
-        '0'..='7' => Meta::from_item(alloc, command(alloc, numbered(sign), "", top(stack))?),
-        _ => Meta::from_item(alloc, leaf(alloc, sign)?),
+        '.' => Meta::Skip,
+        '&' => Meta::And(both(rt, alloc, stack)),
+        '|' => Meta::Or(both(rt, alloc, stack)),
+        '?' | '^' | '@' | '+' | '-' => wrapped(rt, alloc, top(stack), sign),
+        '#' | '%' | '~' | '!' | '$' => noted(rt, alloc, top(stack), sign),
+        'R' | '0'..='7' => command(rt, alloc, top(stack), sign),
+        'C' => command(rt, alloc, Meta::Skip, sign),
+        _ => leaf(rt, alloc, sign),
     }
 }
 
 // The last two trees of the stack.
 fn both<A: Allocator + Copy>(
+    rt: &impl Abort,
     alloc: A,
     stack: &mut Vec<Meta<A>, A>,
-) -> Result<Vec<Meta<A>, A>, AllocError> {
+) -> Vec<Meta<A>, A> {
     let last = top(stack);
     let first = top(stack);
-    let mut parts = Vec::new(alloc);
-    parts.push(first)?;
-    parts.push(last)?;
-    Ok(parts)
+    let mut trees = Vec::new(alloc);
+    trees.push(first).expect(rt, "a tree");
+    trees.push(last).expect(rt, "a tree");
+    trees
 }
 
-fn wrapped<A: Allocator + Copy>(
-    alloc: A,
-    inner: Meta<A>,
-    sign: char,
-) -> Result<Meta<A>, AllocError> {
-    let inner = Box::new(alloc, inner)?;
-    Ok(match sign {
+fn wrapped<A: Allocator>(rt: &impl Abort, alloc: A, inner: Meta<A>, sign: char) -> Meta<A> {
+    let inner = Box::new(alloc, inner).expect(rt, "a tree");
+    match sign {
         '?' => Meta::Optional(inner),
         '^' => Meta::Required(inner),
         '@' => Meta::Adjacent(inner),
         '+' => Meta::Many(inner),
         _ => Meta::Strict(inner),
-    })
+    }
 }
 
-fn noted<A: Allocator + Copy>(alloc: A, inner: Meta<A>, sign: char) -> Result<Meta<A>, AllocError> {
-    let inner = Box::new(alloc, inner)?;
-    let note = Box::new(alloc, Doc::from_text(alloc, note(sign))?)?;
-    Ok(match sign {
+fn noted<A: Allocator + Copy>(rt: &impl Abort, alloc: A, inner: Meta<A>, sign: char) -> Meta<A> {
+    let inner = Box::new(alloc, inner).expect(rt, "a tree");
+    let note = Box::new(alloc, doc(rt, alloc, note(sign))).expect(rt, "a note");
+    match sign {
         '#' | '%' => Meta::Subsection(inner, note),
         '$' => Meta::CustomUsage(inner, note),
         _ => Meta::Suffix(inner, note),
-    })
+    }
 }
 
 fn note(sign: char) -> &'static str {
@@ -91,164 +96,174 @@ fn note(sign: char) -> &'static str {
     }
 }
 
-fn leaf<A: Allocator + Copy>(alloc: A, sign: char) -> Result<Item<A>, AllocError> {
+fn command<A: Allocator + Copy>(rt: &impl Abort, alloc: A, below: Meta<A>, sign: char) -> Meta<A> {
+    let (short, help) = command_words(sign);
+    let info = if sign == 'R' {
+        full_info(rt, alloc)
+    } else {
+        info(rt, alloc, "")
+    };
+    let command = Item::Command {
+        name: command_name(sign),
+        short,
+        help: text_doc(rt, alloc, help),
+        meta: Box::new(alloc, below).expect(rt, "a tree"),
+        info: Box::new(alloc, info).expect(rt, "an info"),
+    };
+    Meta::from_item(alloc, command).expect(rt, "a command")
+}
+
+fn command_name(sign: char) -> &'static str {
     match sign {
-        'X' => positional(alloc, "X", "h"),
-        'P' => positional(alloc, "P", ""),
-        'C' => command(alloc, "X", "h", Meta::Skip),
-        'A' => argument(alloc, ShortLong::Long("n"), "N", "V", "N it"),
-        'S' => argument(
-            alloc,
-            ShortLong::Both('s', "speed"),
-            "the number of units",
-            "SPEED",
-            "a number",
-        ),
-        'Y' => any(alloc),
-        'a' => flag(alloc, ShortLong::Short('a'), None, "A"),
-        'B' => flag(alloc, ShortLong::Short('b'), None, "B"),
-        'e' => flag(alloc, ShortLong::Short('e'), Some("V"), "E"),
-        'f' => flag(alloc, ShortLong::Short('e'), Some("W"), "E"),
-        'x' => flag(alloc, ShortLong::Long("x"), None, "X it"),
-        'v' => flag(alloc, ShortLong::Both('v', "verbose"), None, "Talk more"),
-        _ => flag(alloc, ShortLong::Short(sign), None, ""),
-    }
-}
-
-fn positional<A: Allocator + Copy>(
-    alloc: A,
-    name: &'static str,
-    help: &str,
-) -> Result<Item<A>, AllocError> {
-    Ok(Item::Positional {
-        metavar: Metavar(name),
-        help: text_doc(alloc, help)?,
-    })
-}
-
-/// A flag with a help text, where the text is not empty.
-pub fn flag<A: Allocator + Copy>(
-    alloc: A,
-    name: ShortLong,
-    env: Option<&'static str>,
-    help: &str,
-) -> Result<Item<A>, AllocError> {
-    Ok(Item::Flag {
-        name,
-        shorts: shorts(alloc, name)?,
-        env,
-        help: text_doc(alloc, help)?,
-    })
-}
-
-fn argument<A: Allocator + Copy>(
-    alloc: A,
-    name: ShortLong,
-    value: &'static str,
-    env: &'static str,
-    help: &str,
-) -> Result<Item<A>, AllocError> {
-    Ok(Item::Argument {
-        name,
-        shorts: shorts(alloc, name)?,
-        metavar: Metavar(value),
-        env: Some(env),
-        help: text_doc(alloc, help)?,
-    })
-}
-
-// The short name among these.
-fn shorts<A: Allocator>(alloc: A, name: ShortLong) -> Result<Vec<char, A>, AllocError> {
-    match name {
-        ShortLong::Short(short) | ShortLong::Both(short, _) => Vec::from_slice(alloc, &[short]),
-        ShortLong::Long(_) => Ok(Vec::new(alloc)),
-    }
-}
-
-fn any<A: Allocator + Copy>(alloc: A) -> Result<Item<A>, AllocError> {
-    Ok(Item::Any {
-        metavar: Doc::from_text(alloc, "rest")?,
-        anywhere: false,
-        help: text_doc(alloc, "all else")?,
-    })
-}
-
-fn command<A: Allocator + Copy>(
-    alloc: A,
-    name: &'static str,
-    help: &str,
-    below: Meta<A>,
-) -> Result<Item<A>, AllocError> {
-    Ok(Item::Command {
-        name,
-        short: None,
-        help: text_doc(alloc, help)?,
-        meta: Box::new(alloc, below)?,
-        info: Box::new(alloc, info(alloc, "")?)?,
-    })
-}
-
-// A command with each text that goes with one.
-fn full_command<A: Allocator + Copy>(alloc: A, below: Meta<A>) -> Result<Item<A>, AllocError> {
-    Ok(Item::Command {
-        name: "run",
-        short: Some('r'),
-        help: text_doc(alloc, "a command")?,
-        meta: Box::new(alloc, below)?,
-        info: Box::new(alloc, full_info(alloc)?)?,
-    })
-}
-
-// Texts of a help page, each of them another.
-fn full_info<A: Allocator + Copy>(alloc: A) -> Result<Info<A>, AllocError> {
-    let mut texts = texts(alloc)?;
-    Ok(Info {
-        descr: texts.pop(),
-        header: texts.pop(),
-        footer: texts.pop(),
-        usage: texts.pop(),
-        help: Meta::Skip,
-    })
-}
-
-fn texts<A: Allocator + Copy>(alloc: A) -> Result<Vec<Doc<A>, A>, AllocError> {
-    let mut docs = Vec::new(alloc);
-    for text in ["use", "foot", "head", "what"] {
-        docs.push(Doc::from_text(alloc, text)?)?;
-    }
-    Ok(docs)
-}
-
-// The names of commands.
-fn numbered(digit: char) -> &'static str {
-    match digit {
-        '0' => "run",
+        'C' => "X",
         '1' => "put",
         '2' => "get",
         '3' => "list",
         '4' => "show",
         '5' => "find",
         '6' => "drop",
-        _ => "help",
+        '7' => "help",
+        _ => "run",
+    }
+}
+
+// The short name of a command and its help.
+fn command_words(sign: char) -> (Option<char>, &'static str) {
+    match sign {
+        'R' => (Some('r'), "a command"),
+        'C' => (None, "h"),
+        _ => (None, ""),
+    }
+}
+
+// Texts of a help page, each of them another.
+fn full_info<A: Allocator + Copy>(rt: &impl Abort, alloc: A) -> Info<A> {
+    Info {
+        descr: text_doc(rt, alloc, "what"),
+        header: text_doc(rt, alloc, "head"),
+        footer: text_doc(rt, alloc, "foot"),
+        usage: text_doc(rt, alloc, "use"),
+        help: Meta::Skip,
     }
 }
 
 /// What goes with a page: its description, and nothing else.
-pub fn info<A: Allocator + Copy>(alloc: A, description: &str) -> Result<Info<A>, AllocError> {
-    Ok(Info {
-        descr: text_doc(alloc, description)?,
+pub fn info<A: Allocator + Copy>(rt: &impl Abort, alloc: A, description: &str) -> Info<A> {
+    Info {
+        descr: text_doc(rt, alloc, description),
         header: None,
         footer: None,
         usage: None,
         help: Meta::Skip,
-    })
+    }
+}
+
+fn leaf<A: Allocator + Copy>(rt: &impl Abort, alloc: A, sign: char) -> Meta<A> {
+    let item = match sign {
+        'X' => positional(rt, alloc, "X", "h"),
+        'P' => positional(rt, alloc, "P", ""),
+        'Y' => any(rt, alloc),
+        'A' | 'S' => argument(rt, alloc, sign),
+        _ => {
+            let (name, env, help) = flag_words(sign);
+            flag(rt, alloc, name, env, help)
+        }
+    };
+    Meta::from_item(alloc, item).expect(rt, "an item")
+}
+
+fn positional<A: Allocator + Copy>(
+    rt: &impl Abort,
+    alloc: A,
+    name: &'static str,
+    help: &str,
+) -> Item<A> {
+    Item::Positional {
+        metavar: Metavar(name),
+        help: text_doc(rt, alloc, help),
+    }
+}
+
+fn any<A: Allocator + Copy>(rt: &impl Abort, alloc: A) -> Item<A> {
+    Item::Any {
+        metavar: doc(rt, alloc, "rest"),
+        anywhere: false,
+        help: text_doc(rt, alloc, "all else"),
+    }
+}
+
+fn argument<A: Allocator + Copy>(rt: &impl Abort, alloc: A, sign: char) -> Item<A> {
+    let (name, value, env, help) = if sign == 'A' {
+        (ShortLong::Long("n"), "N", "V", "N it")
+    } else {
+        let name = ShortLong::Both('s', "speed");
+        (name, "the number of units", "SPEED", "a number")
+    };
+    Item::Argument {
+        name,
+        shorts: shorts(rt, alloc, name),
+        metavar: Metavar(value),
+        env: Some(env),
+        help: text_doc(rt, alloc, help),
+    }
+}
+
+// The names of a flag, its environment variable and its help.
+fn flag_words(sign: char) -> (ShortLong, Option<&'static str>, &'static str) {
+    match sign {
+        'a' => (ShortLong::Short('a'), None, "A"),
+        'B' => (ShortLong::Short('b'), None, "B"),
+        'e' => (ShortLong::Short('e'), Some("V"), "E"),
+        'f' => (ShortLong::Short('e'), Some("W"), "E"),
+        'x' => (ShortLong::Long("x"), None, "X it"),
+        'v' => (ShortLong::Both('v', "verbose"), None, "Talk more"),
+        _ => (ShortLong::Short(sign), None, ""),
+    }
+}
+
+/// A flag with a help text, where the text is not empty.
+pub fn flag<A: Allocator + Copy>(
+    rt: &impl Abort,
+    alloc: A,
+    name: ShortLong,
+    env: Option<&'static str>,
+    help: &str,
+) -> Item<A> {
+    Item::Flag {
+        name,
+        shorts: shorts(rt, alloc, name),
+        env,
+        help: text_doc(rt, alloc, help),
+    }
+}
+
+// The short name among these.
+fn shorts<A: Allocator>(rt: &impl Abort, alloc: A, name: ShortLong) -> Vec<char, A> {
+    match name {
+        ShortLong::Short(short) | ShortLong::Both(short, _) => {
+            Vec::from_slice(alloc, &[short]).expect(rt, "a name")
+        }
+        ShortLong::Long(_) => Vec::new(alloc),
+    }
+}
+
+fn doc<A: Allocator + Copy>(rt: &impl Abort, alloc: A, text: &str) -> Doc<A> {
+    Doc::from_text(alloc, text).expect(rt, "a document")
 }
 
 // No document of an empty text.
-fn text_doc<A: Allocator + Copy>(alloc: A, text: &str) -> Result<Option<Doc<A>>, AllocError> {
+fn text_doc<A: Allocator + Copy>(rt: &impl Abort, alloc: A, text: &str) -> Option<Doc<A>> {
     if text.is_empty() {
-        Ok(None)
+        None
     } else {
-        Ok(Some(Doc::from_text(alloc, text)?))
+        Some(doc(rt, alloc, text))
     }
+}
+
+/// A path of the application's name.
+pub fn path<L: Allocator + Copy>(rt: &impl Abort, alloc: L) -> Vec<String<L>, L> {
+    let app = String::from_str(alloc, "app").expect(rt, "a name");
+    let mut path = Vec::new(alloc);
+    path.push(app).expect(rt, "a path");
+    path
 }

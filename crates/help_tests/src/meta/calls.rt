@@ -1,21 +1,14 @@
 //! The calls of `bpaf_meta` that may answer `AllocError`, and those that take no memory.
-use crate::arenas::taken;
-use crate::calls::{Answer, answered, begun_doc};
+use crate::arenas::leave;
 use bpaf_doc::buffer::Doc;
 use bpaf_meta::item::{Item, ShortLong};
 use bpaf_meta::meta::{Meta, MetaInfo};
 use bpaf_meta::meta_help::Metavar;
 use bpaf_meta::usage::{meta, metavar, write_item, write_meta, write_shortlong};
 use bumpalo::Bump;
-use std::alloc::{AllocError, Allocator, Global};
-
-#[derive(Clone, Copy)]
-pub enum MetaCall {
-    Write(Write),
-    Make(Make),
-    Shorts,
-    Read,
-}
+use std::alloc::{AllocError, Allocator};
+use std::fmt::Write as _;
+use std::process::Abort;
 
 /// The calls that write into a document.
 #[derive(Clone, Copy)]
@@ -41,51 +34,14 @@ pub enum Make {
 }
 
 /// A tree of each variant and of each kind of item. `Skip` is the tree of help flags in what goes with a command.
-pub const FORMS: [&str; 15] = [
+pub const FORMS: &[&str] = &[
     "ab&", "ab|", "a?", "ab&^", "ab&@", "a", "S", "X", "Y", "aR", "a+", "a#", "a~", "a$", "a-",
 ];
 
-/// The answer of a call, as that of any other call.
-pub fn meta_answer<'a>(
-    out: Global,
-    arena: &'a Bump,
-    room: usize,
+/// Makes a call that writes into a document.
+pub fn write_in<'a>(
+    doc: &mut Doc<&'a Bump>,
     tree: &Meta<&'a Bump>,
-    call: MetaCall,
-) -> Result<Answer, AllocError> {
-    match call {
-        MetaCall::Write(call) => write_answer(out, arena, room, tree, call),
-        MetaCall::Make(call) => make_answer(out, arena, room, tree, call),
-        MetaCall::Shorts => shorts_answer(out, arena, room, tree),
-        MetaCall::Read => read_answer(out, arena, room, tree),
-    }
-}
-
-/// What stands where a call is refused: what stood before.
-pub fn meta_before(out: Global, call: MetaCall) -> Result<String, AllocError> {
-    match call {
-        MetaCall::Write(_) => format!(in out; "{:?}", begun_doc(out)?),
-        MetaCall::Make(_) | MetaCall::Read => Ok(String::new(out)),
-        MetaCall::Shorts => String::from_str(out, "['f'] ['g']"),
-    }
-}
-
-fn write_answer<'a>(
-    out: Global,
-    arena: &'a Bump,
-    room: usize,
-    tree: &Meta<&'a Bump>,
-    call: Write,
-) -> Result<Answer, AllocError> {
-    let mut doc = begun_doc(arena)?;
-    let _taken = taken(arena, room)?;
-    let outcome = written(&mut doc, tree, call);
-    Ok(answered(format!(in out; "{doc:?}")?, outcome))
-}
-
-fn written<A: Allocator, B: Allocator + Copy>(
-    doc: &mut Doc<A>,
-    tree: &Meta<B>,
     call: Write,
 ) -> Result<(), AllocError> {
     match call {
@@ -101,29 +57,39 @@ fn written<A: Allocator, B: Allocator + Copy>(
     }
 }
 
-fn make_answer<'a>(
-    out: Global,
+/// Whether a call has made a tree, which is shown, with so many free bytes.
+pub fn is_made<'a>(
+    rt: &impl Abort,
     arena: &'a Bump,
     room: usize,
     tree: &Meta<&'a Bump>,
     call: Make,
-) -> Result<Answer, AllocError> {
-    let _taken = taken(arena, room)?;
+    shown: &mut String,
+) -> bool {
+    leave(rt, arena, room);
     match made(arena, tree, call) {
-        Ok(meta) => Ok(Answer::Given(format!(in out; "{meta:?}")?)),
-        Err(AllocError) => Ok(Answer::Refused(String::new(out))),
+        Ok(meta) => {
+            write!(shown, "{meta:?}").expect(rt, "a text");
+            drop(meta);
+            true
+        }
+        Err(AllocError) => false,
     }
 }
 
-fn made<A: Allocator + Copy>(alloc: A, tree: &Meta<A>, call: Make) -> Result<Meta<A>, AllocError> {
+fn made<'a>(
+    arena: &'a Bump,
+    tree: &Meta<&'a Bump>,
+    call: Make,
+) -> Result<Meta<&'a Bump>, AllocError> {
     match call {
         Make::Copy => tree.clone(),
         Make::Usage => tree.normalized(true),
         Make::Outside => tree.normalized(false),
-        Make::Item => Meta::from_item(alloc, value()),
-        Make::Required => value().required(alloc, true),
-        Make::Optional => value().required(alloc, false),
-        Make::Or => Meta::And(Vec::new(alloc)).or(Meta::And(Vec::new(alloc))),
+        Make::Item => Meta::from_item(arena, value()),
+        Make::Required => value().required(arena, true),
+        Make::Optional => value().required(arena, false),
+        Make::Or => Meta::And(Vec::new(arena)).or(Meta::And(Vec::new(arena))),
     }
 }
 
@@ -135,31 +101,39 @@ fn value<A: Allocator>() -> Item<A> {
     }
 }
 
-fn shorts_answer<'a>(
-    out: Global,
+/// Whether the short names of the tree were put behind others, with so many free bytes.
+pub fn shorts_are_put<'a>(
+    rt: &impl Abort,
     arena: &'a Bump,
     room: usize,
     tree: &Meta<&'a Bump>,
-) -> Result<Answer, AllocError> {
-    let mut flags = Vec::from_slice(arena, &['f'])?;
-    let mut args = Vec::from_slice(arena, &['g'])?;
-    let _taken = taken(arena, room)?;
-    let outcome = tree.collect_shorts(&mut flags, &mut args);
-    Ok(answered(format!(in out; "{flags:?} {args:?}")?, outcome))
+    shown: &mut String,
+) -> bool {
+    let mut flags = Vec::from_slice(arena, &['f']).expect(rt, "a list");
+    let mut args = Vec::from_slice(arena, &['g']).expect(rt, "a list");
+    leave(rt, arena, room);
+    let is_done = tree.collect_shorts(&mut flags, &mut args).is_ok();
+    show_letters(rt, &flags, shown);
+    show_letters(rt, &args, shown);
+    drop(args);
+    drop(flags);
+    is_done
 }
 
-// What the calls that take no memory say of a tree.
-fn read_answer<'a>(
-    out: Global,
-    arena: &'a Bump,
-    room: usize,
-    tree: &Meta<&'a Bump>,
-) -> Result<Answer, AllocError> {
-    let _taken = taken(arena, room)?;
-    let first = tree.first_item();
-    let is_pos = first.map(Item::is_pos);
+fn show_letters(rt: &impl Abort, letters: &[char], shown: &mut String) {
+    write!(shown, "{letters:?} ").expect(rt, "a text");
+}
+
+/// Shows what the calls that take no memory say of a tree.
+pub fn read_is_shown<A: Allocator + Copy>(tree: &Meta<A>, shown: &mut String) -> bool {
     let check = tree.positional_invariant_check();
     let is_command = tree.is_command();
-    let read = format!(in out; "{first:?} {is_pos:?} {check:?} {is_command}")?;
-    Ok(Answer::Given(read))
+    let is_shown = write!(shown, "{check:?} {is_command} ").is_ok();
+    is_shown && first_is_shown(tree, shown)
+}
+
+fn first_is_shown<A: Allocator + Copy>(tree: &Meta<A>, shown: &mut String) -> bool {
+    let first = tree.first_item();
+    let is_pos = first.map(Item::is_pos);
+    write!(shown, "{first:?} {is_pos:?}").is_ok()
 }

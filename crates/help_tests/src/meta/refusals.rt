@@ -1,65 +1,67 @@
 //! The calls of `bpaf_meta` with each growth refused in turn, as in the crate's `refusals`.
 use crate::calls::Call;
-use crate::meta::calls::{FORMS, Make, MetaCall, Write};
-use crate::refusals::needed;
-use std::test::Fail;
+use crate::meta::calls::{FORMS, Make, Write};
+use crate::refusals::{needed, takes_room};
 
 const SAMPLE: &str = "Sab|^+?&X$&aXR-&&";
 
+const WRITES: &[Write] = &[
+    Write::Name,
+    Write::Metavar,
+    Write::Item,
+    Write::Usage,
+    Write::Outside,
+    Write::Info,
+];
+
 #[test]
-fn a_refused_write_leaves_the_document(rt: HostRuntime) -> Result<(), Fail> {
-    for call in [
-        Write::Name,
-        Write::Metavar,
-        Write::Item,
-        Write::Usage,
-        Write::Outside,
-        Write::Info,
-    ] {
-        let room = needed(&rt, rt.alloc(), SAMPLE, Call::OfMeta(MetaCall::Write(call)))?;
-        assert!(rt; room > 0);
+fn a_refused_write_leaves_the_document(rt: HostRuntime) {
+    for &write in WRITES {
+        let call = Call::Write(write);
+        let before = r#"[Text("before", Literal)]"#;
+        assert!(rt; takes_room(&rt, rt.alloc(), SAMPLE, call, before));
     }
-    Ok(())
 }
 
 #[test]
-fn a_refused_collection_leaves_both_lists(rt: HostRuntime) -> Result<(), Fail> {
-    let room = needed(&rt, rt.alloc(), SAMPLE, Call::OfMeta(MetaCall::Shorts))?;
-    assert!(rt; room > 0);
-    Ok(())
+fn a_refused_collection_leaves_both_lists(rt: HostRuntime) {
+    let before = "['f'] ['g'] ";
+    assert!(rt; takes_room(&rt, rt.alloc(), SAMPLE, Call::Shorts, before));
+}
+
+const MAKES: &[Make] = &[
+    Make::Usage,
+    Make::Outside,
+    Make::Item,
+    Make::Required,
+    Make::Optional,
+    Make::Or,
+];
+
+#[test]
+fn a_tree_is_made_once_memory_lasts(rt: HostRuntime) {
+    for &make in MAKES {
+        let call = Call::Make(make);
+        assert!(rt; takes_room(&rt, rt.alloc(), SAMPLE, call, ""));
+    }
 }
 
 #[test]
-fn a_tree_is_made_once_memory_lasts(rt: HostRuntime) -> Result<(), Fail> {
-    for call in [
-        Make::Usage,
-        Make::Outside,
-        Make::Item,
-        Make::Required,
-        Make::Optional,
-        Make::Or,
-    ] {
-        let room = needed(&rt, rt.alloc(), SAMPLE, Call::OfMeta(MetaCall::Make(call)))?;
-        assert!(rt; room > 0);
+fn a_copy_of_each_form_is_made_once_memory_lasts(rt: HostRuntime) {
+    for &text in FORMS {
+        let call = Call::Make(Make::Copy);
+        assert!(rt; takes_room(&rt, rt.alloc(), text, call, ""), "{text}");
     }
-    Ok(())
 }
 
-#[test]
-fn a_copy_of_each_form_is_made_once_memory_lasts(rt: HostRuntime) -> Result<(), Fail> {
-    for text in FORMS {
-        let call = Call::OfMeta(MetaCall::Make(Make::Copy));
-        let room = needed(&rt, rt.alloc(), text, call)?;
-        assert!(rt; room > 0);
-    }
-    Ok(())
-}
+const READ: &[&str] = &["Xa&", "aXR|", "aX&@b&", "XR#"];
 
 #[test]
-fn what_takes_no_memory_is_never_refused(rt: HostRuntime) -> Result<(), Fail> {
-    for text in ["Xa&", "aXR|", "aX&@b&", "XR#"] {
-        let room = needed(&rt, rt.alloc(), text, Call::OfMeta(MetaCall::Read))?;
-        assert!(rt; room == 0);
+fn what_takes_no_memory_is_never_refused(rt: HostRuntime) {
+    for &text in READ {
+        assert!(rt;
+            needed(&rt, rt.alloc(), text, Call::Read, "") == Some(0),
+            "{text}"
+        );
     }
-    Ok(())
 }
