@@ -5,6 +5,7 @@ description of README.md in `examples/`. The description of the README's picture
 
 Prints what does not. Ends with status 1 where there is any.
 """
+import difflib
 import pathlib
 import re
 import sys
@@ -27,14 +28,24 @@ def unlike_their_files():
         yield "crates/clidoc_engine/src/own.rt does not hold examples/clidoc.toml"
 
 
+def nearest(caller, proved):
+    """The file of callers that is most like a caller, and the first line of it that the caller has not."""
+    lines = caller.splitlines()
+    name = max(sorted(proved), key=lambda it: difflib.SequenceMatcher(None, lines, proved[it].splitlines()).ratio())
+    other = next((it for it in proved[name].splitlines() if it not in lines), "")
+    return f"{name} is the most like it, with the line '{other.strip()}'"
+
+
 def main():
-    proved = [file.read_text(encoding="utf-8").split("\n\n", 1)[1] for file in (CRATES / "callers" / "src").glob("*.rt")]
+    files = (CRATES / "callers" / "src").glob("*.rt")
+    proved = {file.name: file.read_text(encoding="utf-8").split("\n\n", 1)[1] for file in files}
     count, faults = 0, []
     for page in sorted(CRATES.glob("*/CALLING.md")):
         for number, caller in enumerate(re.findall(r"```rust\n(.*?)```", page.read_text(encoding="utf-8"), re.S), 1):
             count += 1
-            if not caller.startswith(FIRST) or caller[len(FIRST):] not in proved:
-                faults.append(f"{page.parent.name}/CALLING.md: no file of callers has its caller {number}, word by word")
+            if not caller.startswith(FIRST) or caller[len(FIRST):] not in proved.values():
+                said = nearest(caller.removeprefix(FIRST), proved)
+                faults.append(f"{page.parent.name}/CALLING.md: no file of callers has its caller {number}, word by word; {said}")
     faults += unlike_their_files()
     print("\n".join(faults) if faults else f"{count} callers stand in the crate that proves them")
     sys.exit(1 if faults or not count else 0)

@@ -82,11 +82,11 @@ class Callers(InFolder):
         (self.folder / path).write_text(text.replace(old, new), encoding="utf-8")
 
     def test_finds_a_description_that_is_not_its_file(self):
-        self.assertEqual(self.told()[0], 0)
+        self.assertEqual(self.told()[0], 0, self.told())
         self.change("examples/greet.toml", "Whom to greet", "Whom")
         self.assertEqual(self.told(), (1, "README.md does not show examples/greet.toml\n"))
         self.change("README.md", "Whom to greet\"\n", "Whom\"\n")
-        self.assertEqual(self.told()[0], 0)
+        self.assertEqual(self.told()[0], 0, self.told())
         self.change("examples/fetch.toml", "Say nothing", "Say little")
         self.assertEqual(self.told(), (1, "crates/clidoc/data/fetch.toml is not examples/fetch.toml\n"))
 
