@@ -1,14 +1,30 @@
-//! Callers of the libraries: those of each crate's `CALLING.md`, word by word, and one that makes all kinds of text.
+//! Callers of the libraries: those of each crate's `CALLING.md`, word by word, below the crate's name, and one that makes all kinds of text.
 #![tactic(auto)]
 
-pub mod application;
-pub mod console;
-pub mod describing;
-pub mod ends;
-pub mod headline;
-pub mod naming;
-pub mod note;
-pub mod reading;
+// bpaf_roff
 pub mod roff;
-pub mod usage;
+
+// bpaf_doc
+pub mod console;
 pub mod web;
+
+// bpaf_help
+pub mod application;
+pub mod usage;
+
+// description
+pub mod describing;
+pub mod levels;
+pub mod reading;
+
+// lasting_names
+pub mod naming;
+
+// watched
+pub mod ends;
+
+// web_page
+pub mod note;
+
+// All of them.
+pub mod headline;

@@ -62,12 +62,14 @@ def positional_trees(positionals):
     return trees
 
 
-def command_trees(commands, required, help_tree):
+def command_trees(commands, shown, required, help_tree):
+    """The place of some commands. A usage line shows one of a level."""
     items = [
         f"cmd {word(command['name'])} {maybe(command.get('short'))} {document(command.get('help'))} {level(command, help_tree)} {info(command, help_tree)}"
         for command in commands
     ]
-    return [wrapped(required, False, seq("or", items))] if items else []
+    place = wrapped(required, False, seq("or", items))
+    return [f"cu [ ] {place}" if shown else place] if items else []
 
 
 def titled(title, members):
@@ -78,8 +80,8 @@ def named(table):
     return option_trees(table.get("option", [])) + choice_trees(table.get("choice", []))
 
 
-def placed(table, required, help_tree):
-    return positional_trees(table.get("positional", [])) + command_trees(table.get("command", []), required, help_tree)
+def placed(table, shown, required, help_tree):
+    return positional_trees(table.get("positional", [])) + command_trees(table.get("command", []), shown, required, help_tree)
 
 
 def level(table, help_tree):
@@ -88,9 +90,11 @@ def level(table, help_tree):
     parts = named(table)
     for group in groups:
         parts += titled(group["title"], named(group))
-    for group in groups:
-        parts += titled(group["title"], placed(group, required, help_tree))
-    return seq("and", parts + placed(table, required, help_tree))
+    for index, group in enumerate(groups):
+        shown = any(before.get("command") for before in groups[:index])
+        parts += titled(group["title"], placed(group, shown, required, help_tree))
+    shown = any(group.get("command") for group in groups)
+    return seq("and", parts + placed(table, shown, required, help_tree))
 
 
 def info(table, help_tree):

@@ -19,7 +19,7 @@ abbrev pub page_said : {A : Type 0} → Page A → PageSaid
 page_said (of_page.Console c) = console_said c
 page_said of_page.Html = html
 page_said of_page.Markdown = markdown
-page_said of_page.Man = man
+page_said (of_page.Man commands) = man (words_said commands.items)
 
 abbrev pub choice_said : {A : Type 0} → Choice A → ChoiceSaid
 choice_said (of_choice.Page p file) = page (page_said p) (text_of file)
@@ -27,9 +27,9 @@ choice_said (of_choice.Check file) = check (text_of file)
 choice_said of_choice.Help = help
 choice_said of_choice.Version = version
 
--- the commands that lead to what a page on the console shows
+-- the commands that lead to what a page shows
 abbrev pub commands_of : PageSaid → List (List ℕ)
 commands_of (console form commands width) = commands
 commands_of html = []
 commands_of markdown = []
-commands_of man = []
+commands_of (man commands) = commands

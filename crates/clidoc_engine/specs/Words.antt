@@ -8,12 +8,13 @@ use Rattle.clidoc_engine.specs.declared.reading.Valued.TheVariants.{Command, Wid
 
 -- ---- what is chosen
 
--- a page: on the console, of what some words lead to, and of a width; or the one page of all
+-- a page: on the console, of what some words lead to, and of a width; or one page of all; or the manual page of what some words lead to, and of all where
+-- there are none
 pub data PageSaid : Type 0 where
   console : ConsoleForm → (commands : List (List ℕ)) → (width : ℕ) → PageSaid
   html : PageSaid
   markdown : PageSaid
-  man : PageSaid
+  man : (commands : List (List ℕ)) → PageSaid
 
 pub data ChoiceSaid : Type 0 where
   page : PageSaid → (file : Option (List ℕ)) → ChoiceSaid
@@ -119,7 +120,7 @@ abbrev pub NamesPage : (word : List ℕ) → Given → PageSaid → Type 0
 NamesPage word g (console form commands width) = (word ≡ form_word form) × (commands ≡ g.commands) × IsWidth g.widths width
 NamesPage word g html = (word ≡ codes "html") × HasNoValues g
 NamesPage word g markdown = (word ≡ codes "markdown") × HasNoValues g
-NamesPage word g man = (word ≡ codes "man") × HasNoValues g
+NamesPage word g (man commands) = (word ≡ codes "man") × (commands ≡ g.commands) × (g.widths ≡ [])
 
 -- the first word that stands for itself, and the one file, if there is one: a second such word, or one behind `--`
 pub record Names (words : List (List ℕ)) (word : List ℕ) (file : Option (List ℕ)) (g : Given) : Type 0 where

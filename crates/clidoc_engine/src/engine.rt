@@ -14,6 +14,7 @@ ghost use Rattle.clidoc_engine.specs.Newlines.{without_returns};
 ghost use Rattle.clidoc_engine.specs.Inputs.{IsDescribed, IsNoDescription, IsNoToml};
 ghost use Rattle.clidoc_engine.specs.Rendering.{IsConsoleRendering, IsPage, console_bytes};
 ghost use Rattle.clidoc_engine.specs.Runs.{HasNoCommand, HasPage, MakesPage, WritesBeginning, WritesPage};
+ghost use Rattle.clidoc_engine.specs.Words.{man};
 ghost use Rattle.clidoc_engine.specs.Steps.{IsLost, IsNoCommand, IsOfContent, IsOfReading, IsOfText, IsSyntaxFault};
 
 use crate::faults::Fault;
@@ -219,8 +220,26 @@ fn rendered<A: Allocator + Copy, B: Allocator>(
         Page::Console(console) => on_console(alloc, global, console, description),
         Page::Html => Ok(description.html(alloc)?),
         Page::Markdown => Ok(description.markdown(alloc)?),
-        Page::Man => Ok(description.manpage(alloc)?),
+        Page::Man(commands) => manual(alloc, global, commands, description),
     }
+}
+
+// The manual page of all, or of the level that commands lead to.
+fn manual<A: Allocator + Copy>(
+    alloc: A,
+    global: Global,
+    commands: &[&str],
+    description: &Description<'_>,
+) -> Result<String<A>, Fault>
+    ensures page { IfOk result (λ made.
+        IsPage (man (words_said commands.now)) (description_said description.now) (string_bytes made)) }
+    ensures lost { IfErr result (IsLost (words_said commands.now) (description_said description.now)) }
+{
+    if commands.is_empty() {
+        return Ok(description.manpage(alloc)?);
+    }
+    let subject = led_to(alloc, global, commands, description)?;
+    Ok(subject.manpage()?)
 }
 
 // A page of what the commands lead to.

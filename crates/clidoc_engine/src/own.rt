@@ -41,7 +41,7 @@ value = "NAME"
 help = """
 Show this command, by its name or its short name.
 
-It is given once for each level down, with usage, full and brief."""
+It is given once for each level down, with usage, full, brief and man."""
 repeated = true
 
 [[option]]
@@ -62,7 +62,7 @@ The form of the page: usage, full, brief, html, markdown, man or check
     brief     the help page, first paragraphs alone
     html      the help pages of all commands, in HTML
     markdown  the same, in markdown
-    man       the manual page
+    man       the manual page of all, or of what --command shows
     check     nothing: only whether FILE is a description"""
 
 [[positional]]

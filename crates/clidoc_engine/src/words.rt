@@ -5,7 +5,7 @@ ghost use Rattle.bpaf_meta.specs.View.{text_of};
 ghost use Rattle.clidoc_engine.specs.Chosen.{choice_said, page_said, words_said};
 ghost use Rattle.clidoc_engine.specs.Reading.{IsRefused, given_of};
 ghost use Rattle.clidoc_engine.specs.Words.{ChoiceSaid, Chooses, HasNoValues, IsColumns, IsWidth, NamesPage};
-ghost use Rattle.clidoc_engine.specs.Words.{PageSaid, check, form_word, is_one_of, page};
+ghost use Rattle.clidoc_engine.specs.Words.{PageSaid, check, form_word, is_one_of, man, page};
 
 use crate::reading::{Given, Valued, WordFault, given_in};
 use bpaf_doc::console::MAX_WIDTH;
@@ -40,8 +40,8 @@ pub enum Page<'w, A: Allocator> {
     Html,
     /// All help pages as markdown, in full.
     Markdown,
-    /// The manual page.
-    Man,
+    /// The manual page: of all, or, where there are commands, of the level that they lead to.
+    Man(Vec<&'w str, A>),
 }
 
 /// What the program does.
@@ -145,7 +145,7 @@ fn page_named<'w, A: Allocator>(
         "brief" => on_console(ConsoleForm::Brief, given),
         "html" => without_values(Page::Html, given, word),
         "markdown" => without_values(Page::Markdown, given, word),
-        "man" => without_values(Page::Man, given, word),
+        "man" => manual(given, word),
         _ => {
             drop(given);
             Err(WordFault::NoSuchForm(word))
@@ -172,6 +172,24 @@ fn without_values<'w, A: Allocator>(
             Err(fault)
         }
     }
+}
+
+fn manual<'w, A: Allocator>(
+    given: Given<'w, A>,
+    word: &'w str,
+) -> Result<Page<'w, A>, WordFault<'w>>
+    ensures ok { IfOk result (λ page. page_said page ≡ man (given_of given.entry).commands) }
+    ensures no_width { IfOk result (λ _. (given_of given.entry).widths ≡ []) }
+    ensures err { IfErr result (λ _. (given_of given.entry).widths ≢ []) }
+{
+    if !given.widths.is_empty() {
+        drop(given);
+        return Err(WordFault::NotWith {
+            option: Valued::Width,
+            word,
+        });
+    }
+    Ok(Page::Man(given.commands))
 }
 
 fn on_console<'w, A: Allocator>(

@@ -14,3 +14,8 @@ pub mod Gives
 pub mod Characters
 pub mod Plain
 pub mod ReadOnce
+pub mod Parted
+pub mod Margins
+pub mod PageNames
+pub mod LevelPages
+pub mod NestedLevels

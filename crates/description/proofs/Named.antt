@@ -10,7 +10,7 @@ use Rattle.description_parts.specs.declared.levels.Level.{Level, out-Level}
 use Rattle.description_parts.specs.declared.levels.Group.{Group, out-Group}
 use Rattle.description_parts.specs.declared.levels.Command.{Command, out-Command}
 use Rattle.description_parts.proofs.Views.{open-Level, open-Group, open-Command}
-use Rattle.description.specs.Subjects.{SubjectSaid, below, commands_on, grouped, level_in, listed}
+use Rattle.description.specs.Subjects.{SubjectSaid, below, commands_on, grouped, help_in, level_in, listed}
 
 -- ---- what the first that passes is, in a list that is looked at from a place on
 
@@ -30,11 +30,11 @@ module _ {X Y : Type 0} (said : X → Y) (test : Y → Bool) (xs : List X) (i : 
 
 -- ---- the commands of groups and levels
 
-listed_all : (ms : List CommandSaid) → listed (commands_in ms) ≡ ms
+pub listed_all : (ms : List CommandSaid) → listed (commands_in ms) ≡ ms
 listed_all [] = refl
 listed_all (m ∷ ms) = ap (λ ns. m ∷ ns) (listed_all ms)
 
-grouped_more : {A : Type 0} (g : Group A) (gs : List (Group A)) → grouped (groups_said (g ∷ gs)) ≡ map command_said (out-Group A g).commands.items ++ grouped (groups_said gs)
+pub grouped_more : {A : Type 0} (g : Group A) (gs : List (Group A)) → grouped (groups_said (g ∷ gs)) ≡ map command_said (out-Group A g).commands.items ++ grouped (groups_said gs)
 grouped_more {A} g gs =
     ap (λ s. grouped (groups s (groups_said gs))) (open-Group g) ∙ ap (λ ms. ms ++ grouped (groups_said gs)) (listed_all (map command_said (out-Group A g).commands.items))
 
@@ -52,5 +52,10 @@ on_level {A} test l =
     ap (λ s. find test (commands_on s)) (open-Level l) ∙ ap (λ ms. find test (grouped (groups_said (out-Level A l).groups.items) ++ ms)) (listed_all (map command_said (out-Level A l).commands.items))
     ∙ find-append test (grouped (groups_said (out-Level A l).groups.items)) (map command_said (out-Level A l).commands.items)
 
-pub entered : {A : Type 0} (s : SubjectSaid) (m : Command A) → below s (command_said m) ≡ record { path = s.path ++ (out-Command A m).name.now ∷ []; help_options = s.help_options; level = level_in (command_said m) }
-entered {A} s m = ap (below s) (open-Command m) ∙ ap (λ l. record { path = s.path ++ (out-Command A m).name.now ∷ []; help_options = s.help_options; level = l }) (sym (ap level_in (open-Command m)))
+pub entered : {A : Type 0} (s : SubjectSaid) (m : Command A)
+    → below s (command_said m) ≡ record { path = s.path ++ (out-Command A m).name.now ∷ []; words = s.words; help = help_in (command_said m); help_options = s.help_options; level = level_in (command_said m) }
+entered {A} s m =
+    let path : List (List ℕ) = s.path ++ (out-Command A m).name.now ∷ [] in
+    ap (below s) (open-Command m)
+    ∙ ap (λ h. record { path = path; words = s.words; help = h; help_options = s.help_options; level = level_said (out-Command A m).level }) (sym (ap help_in (open-Command m)))
+    ∙ ap (λ l. record { path = path; words = s.words; help = help_in (command_said m); help_options = s.help_options; level = l }) (sym (ap level_in (open-Command m)))

@@ -1,10 +1,10 @@
 -- The chapters of a description are well placed, and the documents of its pages are well nested.
 use Rattle.std.proofs.Common.{ℕ, Bool, true, false, List, [], ◌∷◌, ◌++◌, map, refl, Option, Some, None}
-use Rattle.std.specs.Prelude.{All}
+use Rattle.std.specs.Prelude.{All, ◌||◌}
 use Rattle.std.proofs.lemmas.List.Elements.{All-nil, All-cons, All-append}
 use Rattle.bpaf_doc.specs.declared.buffer.Style.TheVariants as style
 use Rattle.bpaf_doc.specs.declared.buffer.Block.TheVariants as block
-use Rattle.bpaf_doc.specs.Buffer.Parts.{IsWellNested, text}
+use Rattle.bpaf_doc.specs.Buffer.Parts.{IsWellNested, nothing, text}
 use Rattle.bpaf_meta.specs.Content.{Name, Tree, or_of, item, positional}
 use Rattle.bpaf_meta.specs.View.{trees_in}
 use Rattle.bpaf_meta.specs.Meta.Misplaced.{IsWellPlaced}
@@ -18,15 +18,15 @@ use Rattle.bpaf_help.proofs.NestedPages.{collected_pages_are_nested, manual_page
 use Rattle.description.specs.Content.{DescriptionSaid}
 use Rattle.description.specs.Subjects.{application}
 use Rattle.description_parts.specs.Content.{OptSaid, ChoiceSaid, PositionalSaid, LevelSaid, level, GroupsSaid, no_groups, groups, GroupSaid, group, CommandsSaid, no_commands, commands, CommandSaid, command}
-use Rattle.description.specs.Trees.{text_document, document_said, named_leaf, option_item, wrapped, option_tree, options_tree, choice_tree, behind_dashes, positional_tree, titled, one_of_commands, named_group, named_groups, level_head, level_tree, placed_groups, placed_group, command_items, command_item, help_tree, description_tree, description_head}
+use Rattle.description.specs.Trees.{text_document, document_said, named_leaf, option_item, wrapped, option_tree, options_tree, choice_tree, behind_dashes, positional_tree, titled, once_in_usage, one_of_commands, holds_command, hold_commands, named_group, named_groups, level_head, level_tree, placed_groups, placed_group, command_items, command_item, help_tree, description_tree, description_head}
 use Rattle.description.specs.Pages.{ChaptersAreWellPlaced, PagesAreWellNested, SubjectsAreWellNested, description_chapters, subject_head, subject_tree}
 use Rattle.description.proofs.Placed.{level_well_placed}
 use Rattle.description.proofs.Each.{Each, each_append, each_map}
 
-text_nested : (t : List ℕ) → IsWellNested (text_document t)
+pub text_nested : (t : List ℕ) → IsWellNested (text_document t)
 text_nested t = text t style.Text refl
 
-said_nested : (t : Option (List ℕ)) → IsNestedText (document_said t)
+pub said_nested : (t : Option (List ℕ)) → IsNestedText (document_said t)
 said_nested None = tt
 said_nested (Some t) = text_nested t
 
@@ -75,9 +75,15 @@ titled_sound : (title : List ℕ) (ts : List Tree) → Each IsSound ts → Each 
 titled_sound title [] h = tt
 titled_sound title (t ∷ ts) h = let parts = parts_sound (t ∷ ts) h in (((text_nested title, parts.0), parts.1), tt)
 
-one_of_sound : (r : Bool) (ts : List Tree) → Each IsSound ts → Each IsSound (one_of_commands r ts)
-one_of_sound r [] h = tt
-one_of_sound r (t ∷ ts) h = (wrapped_sound r false (or_of (trees_in (t ∷ ts))) (parts_sound (t ∷ ts) h), tt)
+once_sound : (shown : Bool) (t : Tree) → IsSound t → IsSound (once_in_usage shown t)
+once_sound true t h = ((nothing refl, h.0), h.1)
+once_sound false t h = h
+
+one_of_sound : (shown r : Bool) (ts : List Tree) → Each IsSound ts → Each IsSound (one_of_commands shown r ts)
+one_of_sound shown r [] h = tt
+one_of_sound shown r (t ∷ ts) h =
+    let any : Tree = or_of (trees_in (t ∷ ts)) in
+    (once_sound shown (wrapped r false any) (wrapped_sound r false any (parts_sound (t ∷ ts) h)), tt)
 
 group_sound : (g : GroupSaid) → Each IsSound (named_group g)
 group_sound (group title os cs ps ms) = titled_sound title (map option_tree os ++ map choice_tree cs) (each_append IsSound (map option_tree os) (map choice_tree cs) (each_map IsSound option_tree option_sound os) (each_map IsSound choice_tree choice_sound cs))
@@ -90,14 +96,14 @@ head_nested : (help : Tree) → HasNestedTexts help → (l : LevelSaid) → HasN
 head_nested help k (level t r os cs gs ps ms) = (said_nested t.about, said_nested t.header, said_nested t.footer, said_nested t.usage, k)
 
 mutual
-  level_sound : (help : Tree) → HasNestedTexts help → (l : LevelSaid) → IsSound (level_tree help l)
+  pub level_sound : (help : Tree) → HasNestedTexts help → (l : LevelSaid) → IsSound (level_tree help l)
   level_sound help k (level t r os cs gs ps ms) =
       let os' = map option_tree os in
       let cs' = map choice_tree cs in
       let gs' = named_groups gs in
-      let qs' = placed_groups help r gs in
+      let qs' = placed_groups help false r gs in
       let ps' = map positional_tree ps in
-      let ms' = one_of_commands r (command_items help ms) in
+      let ms' = one_of_commands (hold_commands gs) r (command_items help ms) in
       parts_sound (os' ++ cs' ++ gs' ++ qs' ++ ps' ++ ms')
       (each_append IsSound (os' ++ cs' ++ gs' ++ qs' ++ ps') ms'
       (each_append IsSound (os' ++ cs' ++ gs' ++ qs') ps'
@@ -105,18 +111,20 @@ mutual
       (each_append IsSound (os' ++ cs') gs'
       (each_append IsSound os' cs' (each_map IsSound option_tree option_sound os) (each_map IsSound choice_tree choice_sound cs))
       (groups_sound gs))
-      (placed_sound help k r gs))
+      (placed_sound help k false r gs))
       (each_map IsSound positional_tree positional_sound ps))
-      (one_of_sound r (command_items help ms) (commands_sound help k ms)))
+      (one_of_sound (hold_commands gs) r (command_items help ms) (commands_sound help k ms)))
 
-  placed_sound : (help : Tree) → HasNestedTexts help → (r : Bool) (gs : GroupsSaid) → Each IsSound (placed_groups help r gs)
-  placed_sound help k r no_groups = tt
-  placed_sound help k r (groups g gs) = each_append IsSound (placed_group help r g) (placed_groups help r gs) (placed_group_sound help k r g) (placed_sound help k r gs)
+  placed_sound : (help : Tree) → HasNestedTexts help → (shown r : Bool) (gs : GroupsSaid) → Each IsSound (placed_groups help shown r gs)
+  placed_sound help k shown r no_groups = tt
+  placed_sound help k shown r (groups g gs) =
+      let after = shown || holds_command g in
+      each_append IsSound (placed_group help shown r g) (placed_groups help after r gs) (placed_group_sound help k shown r g) (placed_sound help k after r gs)
 
-  placed_group_sound : (help : Tree) → HasNestedTexts help → (r : Bool) (g : GroupSaid) → Each IsSound (placed_group help r g)
-  placed_group_sound help k r (group title os cs ps ms) =
-      let ms' = one_of_commands r (command_items help ms) in
-      titled_sound title (map positional_tree ps ++ ms') (each_append IsSound (map positional_tree ps) ms' (each_map IsSound positional_tree positional_sound ps) (one_of_sound r (command_items help ms) (commands_sound help k ms)))
+  placed_group_sound : (help : Tree) → HasNestedTexts help → (shown r : Bool) (g : GroupSaid) → Each IsSound (placed_group help shown r g)
+  placed_group_sound help k shown r (group title os cs ps ms) =
+      let ms' = one_of_commands shown r (command_items help ms) in
+      titled_sound title (map positional_tree ps ++ ms') (each_append IsSound (map positional_tree ps) ms' (each_map IsSound positional_tree positional_sound ps) (one_of_sound shown r (command_items help ms) (commands_sound help k ms)))
 
   commands_sound : (help : Tree) → HasNestedTexts help → (ms : CommandsSaid) → Each IsSound (command_items help ms)
   commands_sound help k no_commands = tt
@@ -127,7 +135,7 @@ mutual
       let own = level_sound help k l in
       (said_nested h, λ path. All-cons IsChapterSound (record { path = path ++ name ∷ []; info = level_head help l; content = level_tree help l }) (command_chapters (path ++ name ∷ []) (level_tree help l)) ((head_nested help k l, own.0), level_well_placed help l) (own.1 (path ++ name ∷ [])))
 
-options_nested : (os : List OptSaid) → HasNestedTexts (options_tree os)
+pub options_nested : (os : List OptSaid) → HasNestedTexts (options_tree os)
 options_nested os = (parts_sound (map option_tree os) (each_map IsSound option_tree option_sound os)).0
 
 pub subjects_are_well_nested : SubjectsAreWellNested

@@ -8,7 +8,7 @@ use Rattle.bpaf_meta.specs.Meta.Misplaced.{IsWellPlaced}
 use Rattle.bpaf_meta.specs.Meta.Steps.Walk.{Check, fine, wrong, then_check, walked, walked_parts, walked_branches}
 use Rattle.bpaf_meta.proofs.lemmas.Misplaced.Lines.{well_placed}
 use Rattle.description_parts.specs.Content.{OptSaid, ChoiceSaid, PositionalSaid, LevelSaid, level, GroupsSaid, no_groups, groups, GroupSaid, group, CommandsSaid, no_commands, commands, CommandSaid, command}
-use Rattle.description.specs.Trees.{document_said, named_leaf, option_item, wrapped, option_tree, choice_tree, behind_dashes, positional_tree, titled, one_of_commands, named_group, named_groups, level_tree, placed_groups, placed_group, command_items, command_item}
+use Rattle.description.specs.Trees.{document_said, named_leaf, option_item, wrapped, option_tree, choice_tree, behind_dashes, positional_tree, titled, once_in_usage, one_of_commands, holds_command, hold_commands, named_group, named_groups, level_tree, placed_groups, placed_group, command_items, command_item}
 use Rattle.description.proofs.Each.{Each, each_append, each_map}
 
 -- ---- trees of named items
@@ -94,9 +94,15 @@ titled_placed : (title : List ℕ) (ts : List Tree) → Each IsPlaced ts → Eac
 titled_placed title [] h = tt
 titled_placed title (t ∷ ts) h = (parts_placed (t ∷ ts) h, tt)
 
-one_of_placed : (r : Bool) (ts : List Tree) → Each IsPlaced ts → Each IsPlaced (one_of_commands r ts)
-one_of_placed r [] h = tt
-one_of_placed r (t ∷ ts) h = (wrapped_placed r false (or_of (trees_in (t ∷ ts))) (λ a. branches_placed (t ∷ ts) h a a), tt)
+once_placed : (shown : Bool) (t : Tree) → IsPlaced t → IsPlaced (once_in_usage shown t)
+once_placed true t h = h
+once_placed false t h = h
+
+one_of_placed : (shown r : Bool) (ts : List Tree) → Each IsPlaced ts → Each IsPlaced (one_of_commands shown r ts)
+one_of_placed shown r [] h = tt
+one_of_placed shown r (t ∷ ts) h =
+    let any : Tree = or_of (trees_in (t ∷ ts)) in
+    (once_placed shown (wrapped r false any) (wrapped_placed r false any (λ a. branches_placed (t ∷ ts) h a a)), tt)
 
 -- ---- one after the other
 
@@ -128,18 +134,18 @@ mutual
       let choices = each_map IsNamed choice_tree choice_named cs in
       let named = map option_tree os ++ map choice_tree cs ++ named_groups gs in
       let named_pass : Passes named = (false, parts_named named (each_append IsNamed (map option_tree os ++ map choice_tree cs) (named_groups gs) (each_append IsNamed (map option_tree os) (map choice_tree cs) options choices) (groups_named gs))) in
-      let in_groups : Passes (named ++ placed_groups help r gs) = passes_then named (placed_groups help r gs) named_pass (groups_placed help r gs) in
-      let with_values : Passes (named ++ placed_groups help r gs ++ map positional_tree ps) = passes_then (named ++ placed_groups help r gs) (map positional_tree ps) in_groups (each_map IsPlaced positional_tree positional_placed ps) in
-      passes_then (named ++ placed_groups help r gs ++ map positional_tree ps) (one_of_commands r (command_items help ms)) with_values (one_of_placed r (command_items help ms) (commands_placed help ms))
+      let in_groups : Passes (named ++ placed_groups help false r gs) = passes_then named (placed_groups help false r gs) named_pass (groups_placed help false r gs) in
+      let with_values : Passes (named ++ placed_groups help false r gs ++ map positional_tree ps) = passes_then (named ++ placed_groups help false r gs) (map positional_tree ps) in_groups (each_map IsPlaced positional_tree positional_placed ps) in
+      passes_then (named ++ placed_groups help false r gs ++ map positional_tree ps) (one_of_commands (hold_commands gs) r (command_items help ms)) with_values (one_of_placed (hold_commands gs) r (command_items help ms) (commands_placed help ms))
 
-  groups_placed : (help : Tree) (r : Bool) (gs : GroupsSaid) → Each IsPlaced (placed_groups help r gs)
-  groups_placed help r no_groups = tt
-  groups_placed help r (groups g gs) = each_append IsPlaced (placed_group help r g) (placed_groups help r gs) (group_placed help r g) (groups_placed help r gs)
+  groups_placed : (help : Tree) (shown r : Bool) (gs : GroupsSaid) → Each IsPlaced (placed_groups help shown r gs)
+  groups_placed help shown r no_groups = tt
+  groups_placed help shown r (groups g gs) = each_append IsPlaced (placed_group help shown r g) (placed_groups help (shown || holds_command g) r gs) (group_placed help shown r g) (groups_placed help (shown || holds_command g) r gs)
 
-  group_placed : (help : Tree) (r : Bool) (g : GroupSaid) → Each IsPlaced (placed_group help r g)
-  group_placed help r (group title os cs ps ms) =
-      let commands_there = one_of_commands r (command_items help ms) in
-      titled_placed title (map positional_tree ps ++ commands_there) (each_append IsPlaced (map positional_tree ps) commands_there (each_map IsPlaced positional_tree positional_placed ps) (one_of_placed r (command_items help ms) (commands_placed help ms)))
+  group_placed : (help : Tree) (shown r : Bool) (g : GroupSaid) → Each IsPlaced (placed_group help shown r g)
+  group_placed help shown r (group title os cs ps ms) =
+      let commands_there = one_of_commands shown r (command_items help ms) in
+      titled_placed title (map positional_tree ps ++ commands_there) (each_append IsPlaced (map positional_tree ps) commands_there (each_map IsPlaced positional_tree positional_placed ps) (one_of_placed shown r (command_items help ms) (commands_placed help ms)))
 
   commands_placed : (help : Tree) (ms : CommandsSaid) → Each IsPlaced (command_items help ms)
   commands_placed help no_commands = tt

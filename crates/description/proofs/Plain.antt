@@ -9,8 +9,8 @@ use Rattle.toml_datetime.specs.declared.datetime.Date.{Date}
 use Rattle.toml_datetime.specs.declared.datetime.Time.{Time}
 use Rattle.toml_datetime.specs.declared.datetime.Offset.{Offset}
 use Rattle.description_parts.specs.Content.{OptSaid, ChoiceSaid, PositionalSaid, TextsSaid, LevelSaid, GroupsSaid, GroupSaid, CommandsSaid, CommandSaid}
-use Rattle.description.specs.Content.{DescriptionSaid}
-use Rattle.description.specs.Described.{alternative_from, alternative_keys, as_command, as_commands, as_group, as_groups, choice_from, choice_keys, command_head, command_keys, command_of, CommandHead, commands_at, described, description_head, description_keys, description_of, DescriptionHead, each_command, each_group, group_head, group_keys, group_of, GroupHead, groups_at, has_members, level_of, lists_from, name_from, option_from, option_keys, option_name, option_of, Outline, outline_from, positional_from, positional_keys, positional_of, section_from, texts_from, title_words, TitleWords}
+use Rattle.description.specs.Content.{DescriptionSaid, TitleWords}
+use Rattle.description.specs.Described.{alternative_from, alternative_keys, as_command, as_commands, as_group, as_groups, choice_from, choice_keys, command_head, command_keys, command_of, CommandHead, commands_at, described, description_head, description_keys, description_of, DescriptionHead, each_command, each_group, group_head, group_keys, group_of, GroupHead, groups_at, has_members, level_of, lists_from, name_from, option_from, option_keys, option_name, option_of, Outline, outline_from, positional_from, positional_keys, positional_of, section_from, texts_from, title_words}
 use Rattle.description.specs.Described.Taken.{has_distinct_names}
 use Rattle.description.specs.Described.Texts.{as_command_name, as_heading, as_long, as_name, as_program_name, as_text, as_title, as_value, is_command_name, is_heading, is_long, is_name, is_program_name, is_section, is_short, is_text, is_title, is_value}
 use Rattle.description.specs.Described.Values.{as_date, as_section, as_short, day_text, digit_text, each_table, flag_at, if_short, is_empty, only_character, optional_at, required_at, tables_at}

@@ -16,7 +16,8 @@ use Rattle.toml_datetime.specs.declared.datetime.Date.{Date}
 use Rattle.toml_datetime.specs.declared.datetime.Time.{Time}
 use Rattle.toml_datetime.specs.declared.datetime.Offset.{Offset}
 use Rattle.description_parts.specs.Content.{OptSaid, LevelSaid, GroupsSaid, GroupSaid, CommandsSaid, CommandSaid}
-use Rattle.description.specs.Described.{as_command, as_commands, as_group, as_groups, choice_from, command_head, command_keys, command_of, CommandHead, commands_at, described, description_head, description_keys, description_of, DescriptionHead, each_command, each_group, group_head, group_keys, group_of, GroupHead, groups_at, has_members, level_of, lists_from, option_from, Outline, outline_from, positional_from, section_from, title_words, TitleWords}
+use Rattle.description.specs.Content.{TitleWords}
+use Rattle.description.specs.Described.{as_command, as_commands, as_group, as_groups, choice_from, command_head, command_keys, command_of, CommandHead, commands_at, described, description_head, description_keys, description_of, DescriptionHead, each_command, each_group, group_head, group_keys, group_of, GroupHead, groups_at, has_members, level_of, lists_from, option_from, Outline, outline_from, positional_from, section_from, title_words}
 use Rattle.description.specs.Described.Texts.{as_command_name, as_heading, as_program_name, as_text, as_title, begins, begins_a_section, has_ink, is_command_name, is_heading, is_line_character, is_long, is_name, is_program_name, is_read_once, is_section, is_title}
 use Rattle.description.specs.Described.Values.{as_date, as_section, as_short, day_text, digit_text, each_table, optional_at, required_at, tables_at}
 use Rattle.description.specs.ReadOnce.{command_headings, commands_headings, group_headings, groups_headings, is_word_read_once, IsReadOnce, level_headings, TitlesAreReadOnce}

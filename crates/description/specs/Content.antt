@@ -11,3 +11,10 @@ pub record DescriptionSaid : Type 0 where
   pub title : Option (List ℕ)
   pub help_options : List OptSaid
   pub level : LevelSaid
+
+-- the words of the title line of a manual page, behind its name
+pub record TitleWords : Type 0 where
+  pub section : List ℕ
+  pub date : Option (List ℕ)
+  pub vendor : Option (List ℕ)
+  pub title : Option (List ℕ)

@@ -9,7 +9,7 @@ use Rattle.std.specs.Ordering.{nat_cmp, match_ordering}
 use Rattle.std.specs.Cmp.Lexicographic.{slice_cmp}
 use Rattle.bpaf_meta.specs.Content.{Name, short, long, both}
 use Rattle.toml.specs.Data.{Data, array, table, Items, no_items, item, Members, no_members, member, get_member}
-use Rattle.description.specs.Content.{DescriptionSaid}
+use Rattle.description.specs.Content.{DescriptionSaid, TitleWords}
 use Rattle.description_parts.specs.Content.{OptSaid, ChoiceSaid, PositionalSaid, TextsSaid, LevelSaid, level, GroupsSaid, no_groups, groups, GroupSaid, group, CommandsSaid, no_commands, commands, CommandSaid, command}
 use Rattle.description.specs.Described.Texts.{as_command_name, as_heading, as_long, as_name, as_program_name, as_text, as_title, as_value}
 use Rattle.description.specs.Described.Values.{has_only, flag_at, optional_at, required_at, tables_at, is_empty, each_table, as_short, as_section, as_date}
@@ -200,12 +200,6 @@ section_from None = codes "1"
 section_from (Some text) = text
 
 -- the words of the title line
-pub record TitleWords : Type 0 where
-  pub section : List ℕ
-  pub date : Option (List ℕ)
-  pub vendor : Option (List ℕ)
-  pub title : Option (List ℕ)
-
 unfoldable pub title_words : Members → Option TitleWords
 title_words ms =
     optional_at as_section (codes "section") ms >>= (λ section. optional_at as_date (codes "date") ms >>= (λ date. optional_at as_title (codes "vendor") ms >>= (λ vendor. optional_at as_title (codes "title") ms >>= (λ title.

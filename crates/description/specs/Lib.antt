@@ -3,6 +3,8 @@ pub mod Subjects
 pub mod View
 pub mod Trees
 pub mod Pages
+pub mod Paragraphs
+pub mod Manuals
 pub mod Described
 pub mod Plain
 pub mod ReadOnce

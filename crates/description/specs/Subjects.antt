@@ -1,18 +1,24 @@
 -- What a page of a description shows, the application or a command of it, and which words lead there.
-use Rattle.std.specs.Prelude.{ℕ, List, [], ◌∷◌, ◌++◌, Bool, Option, Some, option_map, option_and_then, option_to_list, bytes_eq}
+use Rattle.std.specs.Prelude.{ℕ, List, [], ◌∷◌, ◌++◌, Bool, Option, Some, None, option_map, option_and_then, option_to_list, bytes_eq}
 use Rattle.std.specs.List.{find, list_any}
 use Rattle.std.specs.Char.{encode_utf8}
-use Rattle.description.specs.Content.{DescriptionSaid}
+use Rattle.description.specs.Content.{DescriptionSaid, TitleWords}
 use Rattle.description_parts.specs.Content.{OptSaid, LevelSaid, level, GroupsSaid, no_groups, groups, group, CommandsSaid, no_commands, commands, CommandSaid, command}
 
--- the names that lead there, the application's first; the options that ask for help; and what can be given there
+-- the names that lead there, the application's first; the words of the title line of its manual page; what the level above says of it, if it
+-- is a command; the options that ask for help; and what can be given there
 pub record SubjectSaid : Type 0 where
   pub path : List (List ℕ)
+  pub words : TitleWords
+  pub help : Option (List ℕ)
   pub help_options : List OptSaid
   pub level : LevelSaid
 
+abbrev pub title_words_of : DescriptionSaid → TitleWords
+title_words_of d = record { section = d.section; date = d.date; vendor = d.vendor; title = d.title }
+
 abbrev pub application : DescriptionSaid → SubjectSaid
-application d = record { path = d.name ∷ []; help_options = d.help_options; level = d.level }
+application d = record { path = d.name ∷ []; words = title_words_of d; help = None; help_options = d.help_options; level = d.level }
 
 -- ---- which command a word names
 
@@ -44,9 +50,12 @@ command_named word l = find (is_named word) (commands_on l)
 abbrev pub level_in : CommandSaid → LevelSaid
 level_in (command name initial h l) = l
 
+abbrev pub help_in : CommandSaid → Option (List ℕ)
+help_in (command name initial h l) = h
+
 -- a command of the subject
 abbrev pub below : SubjectSaid → CommandSaid → SubjectSaid
-below s (command name initial h l) = record { path = s.path ++ name ∷ []; help_options = s.help_options; level = l }
+below s (command name initial h l) = record { path = s.path ++ name ∷ []; words = s.words; help = h; help_options = s.help_options; level = l }
 
 -- down from command to command; nowhere, where a word names none
 abbrev pub led_to : (words : List (List ℕ)) → SubjectSaid → Option SubjectSaid

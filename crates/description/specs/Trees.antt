@@ -1,10 +1,10 @@
 -- The tree and the info of a description.
-use Rattle.std.specs.Prelude.{ℕ, Bool, true, false, List, [], ◌∷◌, ◌++◌, map, Option, Some, None, option_to_list}
+use Rattle.std.specs.Prelude.{ℕ, Bool, true, false, ◌||◌, List, [], ◌∷◌, ◌++◌, map, Option, Some, None, option_to_list}
 use Rattle.std.specs.Option.{option_map}
 use Rattle.bpaf_doc.specs.declared.buffer.Style.TheVariants as style
 use Rattle.bpaf_doc.specs.Buffer.Parts.{Part, Text}
 use Rattle.bpaf_meta.specs.Content as content
-use Rattle.bpaf_meta.specs.Content.{Name, Tree, and_of, or_of, optional, required, item, many, subsection, strict, Leaf, positional, flag, argument, Head, head}
+use Rattle.bpaf_meta.specs.Content.{Name, Tree, and_of, or_of, optional, required, item, many, subsection, custom_usage, strict, Leaf, positional, flag, argument, Head, head}
 use Rattle.bpaf_meta.specs.Names.{short_name}
 use Rattle.bpaf_meta.specs.View.{trees_in}
 use Rattle.description.specs.Content.{DescriptionSaid}
@@ -61,10 +61,23 @@ abbrev pub titled : (title : List ℕ) → List Tree → List Tree
 titled title [] = []
 titled title (t ∷ ts) = subsection (all_of (t ∷ ts)) (text_document title) ∷ []
 
+-- the usage line of a level shows a place for a command once: the groups may hold commands, and the level itself
+abbrev pub once_in_usage : (shown : Bool) → Tree → Tree
+once_in_usage true t = custom_usage t []
+once_in_usage false t = t
+
 -- one of the commands, which may be left out where none is required; nothing where there are none
-abbrev pub one_of_commands : (required : Bool) → List Tree → List Tree
-one_of_commands r [] = []
-one_of_commands r (t ∷ ts) = wrapped r false (or_of (trees_in (t ∷ ts))) ∷ []
+abbrev pub one_of_commands : (shown required : Bool) → List Tree → List Tree
+one_of_commands shown r [] = []
+one_of_commands shown r (t ∷ ts) = once_in_usage shown (wrapped r false (or_of (trees_in (t ∷ ts)))) ∷ []
+
+abbrev pub holds_command : GroupSaid → Bool
+holds_command (group title os cs ps no_commands) = false
+holds_command (group title os cs ps (commands m ms)) = true
+
+abbrev pub hold_commands : GroupsSaid → Bool
+hold_commands no_groups = false
+hold_commands (groups g gs) = holds_command g || hold_commands gs
 
 -- what a group has of options and choices, and of each group of a level: these stand before all that is taken by its place
 abbrev pub named_group : GroupSaid → List Tree
@@ -85,15 +98,15 @@ abbrev mutual
   -- the parts of a level, in the order of their kinds: what is named stands before what is taken by its place, so a group with both
   -- stands in two places
   pub level_tree : (help : Tree) → LevelSaid → Tree
-  level_tree help (level t r os cs gs ps ms) = all_of (map option_tree os ++ map choice_tree cs ++ named_groups gs ++ placed_groups help r gs ++ map positional_tree ps ++ one_of_commands r (command_items help ms))
+  level_tree help (level t r os cs gs ps ms) = all_of (map option_tree os ++ map choice_tree cs ++ named_groups gs ++ placed_groups help false r gs ++ map positional_tree ps ++ one_of_commands (hold_commands gs) r (command_items help ms))
 
-  -- what each group has of positional values and commands
-  pub placed_groups : (help : Tree) → (command_required : Bool) → GroupsSaid → List Tree
-  placed_groups help r no_groups = []
-  placed_groups help r (groups g gs) = placed_group help r g ++ placed_groups help r gs
+  -- what each group has of positional values and commands; `shown` says whether a group before holds a command
+  pub placed_groups : (help : Tree) → (shown command_required : Bool) → GroupsSaid → List Tree
+  placed_groups help shown r no_groups = []
+  placed_groups help shown r (groups g gs) = placed_group help shown r g ++ placed_groups help (shown || holds_command g) r gs
 
-  pub placed_group : (help : Tree) → (command_required : Bool) → GroupSaid → List Tree
-  placed_group help r (group title os cs ps ms) = titled title (map positional_tree ps ++ one_of_commands r (command_items help ms))
+  pub placed_group : (help : Tree) → (shown command_required : Bool) → GroupSaid → List Tree
+  placed_group help shown r (group title os cs ps ms) = titled title (map positional_tree ps ++ one_of_commands shown r (command_items help ms))
 
   pub command_items : (help : Tree) → CommandsSaid → List Tree
   command_items help no_commands = []

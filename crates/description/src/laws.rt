@@ -1,5 +1,6 @@
 //! Laws of the definitions that the contracts cite: nothing to call, but statements that the check proves.
 
+ghost use Rattle.description.specs.Manuals.{SubjectManualsAreWellNested};
 ghost use Rattle.description.specs.Pages.{ChaptersAreWellPlaced, PagesAreWellNested, SubjectsAreWellNested};
 ghost use Rattle.description.specs.Plain.{TextsArePlain};
 ghost use Rattle.description.specs.ReadOnce.{TitlesAreReadOnce};
@@ -14,9 +15,11 @@ pub fn pages_are_nested()
     ensures { PagesAreWellNested }
 {}
 
-/// The documents of a usage line and of a help page are well nested, for the application and for each command.
+/// The documents of a usage line, of a help page and of a manual page are well nested, for the application and for each
+/// command.
 pub fn subjects_are_nested()
-    ensures { SubjectsAreWellNested }
+    ensures console { SubjectsAreWellNested }
+    ensures manual { SubjectManualsAreWellNested }
 {}
 
 /// No text and no name of a description that a TOML text gives holds a control character but newline and tab, nor a

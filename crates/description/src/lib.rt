@@ -4,7 +4,10 @@
 pub mod decode;
 pub mod descriptions;
 pub mod laws;
+mod manuals;
+mod neighbours;
 mod pages;
+mod paragraphs;
 pub mod subjects;
 mod trees;
 pub mod words;

@@ -2,21 +2,28 @@
 ghost use Rattle.std.specs.Prelude.{◌≡◌, ◌++◌, ◌∷◌, [], None, Some, IfOk, OnErr, OnOk, MatchBool, map, string_bytes};
 ghost use Rattle.std.specs.List.{find};
 ghost use Rattle.std.specs.Option.{option_map};
-ghost use Rattle.description.specs.Subjects.{application, below, command_named, grouped, is_named, level_in};
-ghost use Rattle.description.specs.View.{description_said, subject_said};
+ghost use Rattle.bpaf_meta.specs.View.{text_of};
+ghost use Rattle.description.specs.Subjects.{application, below, command_named, grouped, help_in, is_named};
+ghost use Rattle.description.specs.Subjects.{level_in, title_words_of};
+ghost use Rattle.description.specs.View.{description_said, subject_said, words_of};
 ghost use Rattle.description_parts.specs.View.{command_said, groups_said, level_said};
 
 use crate::descriptions::Description;
+use bpaf_help::pages::ManualTitle;
 use description_parts::levels::{Command, Group, Level};
 use description_parts::options::Opt;
 use std::alloc::{AllocError, Allocator};
 
-/// The application that a description describes, or a command of it, and the names that lead there. A usage line
-/// and a help page can be made of each.
+/// The application that a description describes, or a command of it, and the names that lead there. A usage line,
+/// a help page and a manual page can be made of each.
 #[derive(Drop)]
 pub struct Subject<'d, 'a, A: Allocator, B: Allocator> {
     /// The names, the application's first.
     pub path: Vec<String<B>, B>,
+    /// What the title line of its manual page says behind the name of the page.
+    pub title: ManualTitle<'a>,
+    /// What the level above says of a command. `None` of the application.
+    pub help: Option<&'a str>,
     /// The options that ask for help.
     pub help_options: &'d [Opt<'a>],
     pub level: &'d Level<'a, A>,
@@ -35,9 +42,22 @@ impl<'a, A: Allocator> Description<'a, A> {
         put_name(&mut path, alloc, self.name)?;
         Ok(Subject {
             path,
+            title: self.manual_title(),
+            help: None,
             help_options: &self.help_options,
             level: &self.level,
         })
+    }
+
+    fn manual_title(&self) -> ManualTitle<'a>
+        ensures { words_of result ≡ title_words_of (description_said self.now) }
+    {
+        ManualTitle {
+            section: self.section,
+            date: self.date,
+            vendor: self.vendor,
+            title: self.title,
+        }
     }
 }
 
@@ -64,9 +84,16 @@ impl<'d, 'a, A: Allocator, B: Allocator + Copy> Subject<'d, 'a, A, B> {
         };
         let alloc = self.allocator();
         put_name(&mut self.path, alloc, command.name)?;
+        self.help = help_of(command);
         self.level = level_of(command);
         Ok(true)
     }
+}
+
+fn help_of<'a, A: Allocator>(command: &Command<'a, A>) -> Option<&'a str>
+    ensures { text_of result ≡ help_in (command_said command.now) }
+{
+    command.help
 }
 
 fn level_of<'d, 'a, A: Allocator>(command: &'d Command<'a, A>) -> &'d Level<'a, A>

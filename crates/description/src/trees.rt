@@ -1,12 +1,13 @@
 //! The tree and the texts of a description.
-ghost use Rattle.std.specs.Prelude.{◌≡◌, ◌++◌, ◌∷◌, [], IfOk, OnOk, map, option_to_list};
+ghost use Rattle.std.specs.Prelude.{◌≡◌, ◌++◌, ◌∷◌, [], IfOk, OnOk, false, map, option_to_list};
 ghost use Rattle.bpaf_meta.specs.Content.{many as many_of, optional as optional_of, required as required_of};
 ghost use Rattle.bpaf_meta.specs.Content.{strict as strict_of, or_of, subsection as subsection_of};
 ghost use Rattle.bpaf_meta.specs.Names.{short_name};
 ghost use Rattle.bpaf_meta.specs.View.{head_of, name_of, text_of, tree_of, trees_in};
 ghost use Rattle.description.specs.Trees.{all_of, behind_dashes, choice_tree, command_item, command_items};
-ghost use Rattle.description.specs.Trees.{document_said, level_head, level_tree, named_group, named_groups};
-ghost use Rattle.description.specs.Trees.{one_of_commands, option_item, option_tree, options_tree};
+ghost use Rattle.description.specs.Trees.{document_said, hold_commands, holds_command, level_head, level_tree};
+ghost use Rattle.description.specs.Trees.{named_group, named_groups, once_in_usage, one_of_commands};
+ghost use Rattle.description.specs.Trees.{option_item, option_tree, options_tree};
 ghost use Rattle.description.specs.Trees.{placed_group, placed_groups, positional_tree, text_document, titled};
 ghost use Rattle.description.specs.Trees.{wrapped};
 ghost use Rattle.description_parts.specs.View.{choice_said, command_said, commands_said, group_said};
@@ -245,20 +246,56 @@ fn under_title<B: Allocator + Copy>(
     Ok(Meta::Subsection(Box::new(alloc, Meta::And(members))?, title))
 }
 
+// A place for a command, which a usage line does not show where it has shown one.
+fn once_in_usage<B: Allocator + Copy>(
+    alloc: B,
+    is_shown: bool,
+    place: Meta<B>,
+) -> Result<Meta<B>, AllocError>
+    ensures { IfOk result (λ m. tree_of m ≡ once_in_usage is_shown (tree_of place)) }
+{
+    if is_shown {
+        let place = Box::new(alloc, place)?;
+        Ok(Meta::CustomUsage(place, Box::new(alloc, Doc::new(alloc))?))
+    } else {
+        Ok(place)
+    }
+}
+
 // Puts one of the commands; nothing where there are none.
 fn put_one_of<B: Allocator + Copy>(
     alloc: B,
     parts: &mut Vec<Meta<B>, B>,
+    is_shown: bool,
     is_required: bool,
     commands: Vec<Meta<B>, B>,
 ) -> Result<(), AllocError>
     ensures { OnOk result (map tree_of parts.new.items ≡ map tree_of parts.old.items
-        ++ one_of_commands is_required (map tree_of commands.items)) }
+        ++ one_of_commands is_shown is_required (map tree_of commands.items)) }
 {
     if commands.is_empty() {
         return Ok(());
     }
-    put(parts, wrapped(alloc, is_required, false, either(commands))?)
+    let place = wrapped(alloc, is_required, false, either(commands))?;
+    put(parts, once_in_usage(alloc, is_shown, place)?)
+}
+
+#[tactic(auto, using(crate::proofs::Views::group_holds))]
+fn holds_command<A: Allocator>(group: &Group<'_, A>) -> bool
+    ensures { result ≡ holds_command (group_said group.now) }
+{
+    !group.commands.is_empty()
+}
+
+fn hold_commands<A: Allocator>(groups: &[Group<'_, A>]) -> bool
+    ensures { result ≡ hold_commands (groups_said groups.now) }
+{
+    for group in groups {
+        if holds_command(group) {
+            return true;
+        }
+    }
+    false
 }
 
 // The options and the choices of a group.
@@ -346,6 +383,7 @@ pub(crate) fn level_tree<A: Allocator, B: Allocator + Copy>(
         alloc,
         &mut parts,
         &level.commands,
+        hold_commands(&level.groups),
         level.command_required,
         help_options,
     )?;
@@ -361,11 +399,13 @@ fn put_placed_groups<A: Allocator, B: Allocator + Copy>(
     help_options: &[Opt<'_>],
 ) -> Result<(), AllocError>
     ensures { OnOk result (map tree_of parts.new.items ≡ map tree_of parts.old.items
-        ++ placed_groups (options_tree (map opt_said help_options.now)) is_required
+        ++ placed_groups (options_tree (map opt_said help_options.now)) false is_required
         (groups_said groups.now.items)) }
 {
+    let mut shown = false;
     for group in groups {
-        put_placed_group(alloc, parts, group, is_required, help_options)?;
+        put_placed_group(alloc, parts, group, shown, is_required, help_options)?;
+        shown = shown || holds_command(group);
     }
     Ok(())
 }
@@ -376,11 +416,13 @@ fn put_placed_group<A: Allocator, B: Allocator + Copy>(
     alloc: B,
     parts: &mut Vec<Meta<B>, B>,
     group: &Group<'_, A>,
+    is_shown: bool,
     is_required: bool,
     help_options: &[Opt<'_>],
 ) -> Result<(), AllocError>
     ensures { OnOk result (map tree_of parts.new.items ≡ map tree_of parts.old.items
-        ++ placed_group (options_tree (map opt_said help_options.now)) is_required (group_said group.now)) }
+        ++ placed_group (options_tree (map opt_said help_options.now)) is_shown is_required
+        (group_said group.now)) }
 {
     let mut members = Vec::new(alloc);
     put_positionals(alloc, &mut members, &group.positionals)?;
@@ -388,6 +430,7 @@ fn put_placed_group<A: Allocator, B: Allocator + Copy>(
         alloc,
         &mut members,
         &group.commands,
+        is_shown,
         is_required,
         help_options,
     )?;
@@ -400,16 +443,17 @@ fn put_commands<A: Allocator, B: Allocator + Copy>(
     alloc: B,
     parts: &mut Vec<Meta<B>, B>,
     commands: &Vec<Command<'_, A>, A>,
+    is_shown: bool,
     is_required: bool,
     help_options: &[Opt<'_>],
 ) -> Result<(), AllocError>
     ensures { OnOk result (map tree_of parts.new.items ≡ map tree_of parts.old.items
-        ++ one_of_commands is_required
+        ++ one_of_commands is_shown is_required
         (command_items (options_tree (map opt_said help_options.now)) (commands_said commands.now.items))) }
 {
     let mut items = Vec::new(alloc);
     put_command_items(alloc, &mut items, commands, help_options)?;
-    put_one_of(alloc, parts, is_required, items)
+    put_one_of(alloc, parts, is_shown, is_required, items)
 }
 
 #[cycle(trees)]

@@ -1,12 +1,10 @@
 //! What is said of texts and names that no description holds, and that others are read.
-use description::{Description, DescriptionError};
-use lasting_names::Names;
-use std::alloc::{AllocError, Global};
+use crate::reading::{said, table};
+use std::alloc::Global;
 use std::process::Abort;
-use std::test::Fail;
 
 // A description, and what is said of it.
-const TEXTS: [(&str, &str); 21] = [
+const TEXTS: &[(&str, &str)] = &[
     (
         "name = 'a'\nabout = \"\\u0000\"\n",
         "description: about holds a control character",
@@ -92,7 +90,7 @@ const TEXTS: [(&str, &str); 21] = [
     ),
 ];
 
-const LINES: [(&str, &str); 22] = [
+const LINES: &[(&str, &str)] = &[
     (
         "name = 'a'\n[[option]]\nshort = 'b'\nvalue = ''\n",
         "option 1: value is empty",
@@ -174,7 +172,7 @@ const LINES: [(&str, &str); 22] = [
     ("name = 'a'\ndate = 2026-11-26\n", "a"),
 ];
 
-const SECTIONS: [(&str, &str); 18] = [
+const SECTIONS: &[(&str, &str)] = &[
     ("section = 0", "a"),
     ("section = 1", "a"),
     ("section = 9", "a"),
@@ -228,7 +226,7 @@ const SECTIONS: [(&str, &str); 18] = [
     ),
 ];
 
-const NAMES: [(&str, &str); 40] = [
+const NAMES: &[(&str, &str)] = &[
     ("name = ''", "description: name is empty"),
     ("name = 'a b'", "description: name holds a blank"),
     ("name = \"a\\tb\"", "description: name holds a blank"),
@@ -349,7 +347,7 @@ const NAMES: [(&str, &str); 40] = [
     ("name = 1", "description: name is no text"),
 ];
 
-const TAKEN: [(&str, &str); 7] = [
+const TAKEN: &[(&str, &str)] = &[
     // A short name that is the name or the short name of another command, in either order, also of a group.
     (
         "name = 'a'\n[[command]]\nname = 'b'\n[[command]]\nname = 'c'\nshort = 'b'\n",
@@ -382,7 +380,7 @@ const TAKEN: [(&str, &str); 7] = [
     ),
 ];
 
-const KEYS: [(&str, &str); 14] = [
+const KEYS: &[(&str, &str)] = &[
     (
         "[[option]]\nlnog = 1",
         "option 1: no key lnog is known here; is it long?",
@@ -432,63 +430,56 @@ const KEYS: [(&str, &str); 14] = [
     ),
 ];
 
-// The usage line of what was read, or its fault.
-fn said(alloc: Global, text: &str) -> Result<String, AllocError> {
-    let table = toml::table_from_str(alloc, text).map_err(|_| AllocError)?;
-    let mut names = Names::new(alloc);
-    match Description::from_table(alloc, &mut names, &table) {
-        Ok(app) => app.usage(alloc),
-        Err(DescriptionError::Content(line)) => Ok(line),
-        Err(DescriptionError::Memory(refused)) => Err(refused),
+// Whether the usage line of what was read, or its fault, is this.
+fn says(rt: &impl Abort, out: Global, text: &str, want: &str) -> bool {
+    let table = table(rt, out, text);
+    let line = said(rt, out, out, &table).expect(rt, "a line");
+    drop(table);
+    let is_that = line.as_str().trim_end() == want;
+    drop(line);
+    is_that
+}
+
+// The rows stand behind a head that is the same for all.
+fn says_behind(rt: &impl Abort, out: Global, head: &str, text: &str, want: &str) -> bool {
+    let whole = format!(in out; "{head}{text}").expect(rt, "a text");
+    let is_that = says(rt, out, &whole, want);
+    drop(whole);
+    is_that
+}
+
+fn check(rt: &impl Abort, out: Global, head: &str, rows: &[(&str, &str)]) {
+    for &(text, want) in rows {
+        assert!(rt; says_behind(rt, out, head, text, want), "{text}");
     }
 }
 
-fn says(
-    rt: &impl Abort,
-    alloc: Global,
-    rows: &[(&str, &str)],
-    head: &str,
-) -> Result<(), AllocError> {
-    for (text, wanted) in rows {
-        let whole = format!(in alloc; "{head}{text}")?;
-        let line = said(alloc, whole.as_str())?;
-        assert_eq!(rt; line.trim_end(), *wanted, "{text}");
-    }
-    Ok(())
+#[test]
+fn texts_hold_lines_alone(rt: HostRuntime) {
+    check(&rt, rt.alloc(), "", TEXTS);
 }
 
 #[test]
-fn texts_hold_lines_alone(rt: HostRuntime) -> Result<(), Fail> {
-    says(&rt, rt.alloc(), &TEXTS, "")?;
-    Ok(())
+fn words_stand_on_one_line(rt: HostRuntime) {
+    check(&rt, rt.alloc(), "", LINES);
 }
 
 #[test]
-fn words_stand_on_one_line(rt: HostRuntime) -> Result<(), Fail> {
-    says(&rt, rt.alloc(), &LINES, "")?;
-    Ok(())
+fn sections_of_the_manual(rt: HostRuntime) {
+    check(&rt, rt.alloc(), "name = 'a'\n", SECTIONS);
 }
 
 #[test]
-fn sections_of_the_manual(rt: HostRuntime) -> Result<(), Fail> {
-    says(&rt, rt.alloc(), &SECTIONS, "name = 'a'\n")?;
-    Ok(())
+fn names_say_why_they_are_none(rt: HostRuntime) {
+    check(&rt, rt.alloc(), "", NAMES);
 }
 
 #[test]
-fn names_say_why_they_are_none(rt: HostRuntime) -> Result<(), Fail> {
-    says(&rt, rt.alloc(), &NAMES, "")?;
-    Ok(())
+fn words_of_commands_are_taken_once(rt: HostRuntime) {
+    check(&rt, rt.alloc(), "", TAKEN);
 }
 
 #[test]
-fn words_of_commands_are_taken_once(rt: HostRuntime) -> Result<(), Fail> {
-    says(&rt, rt.alloc(), &TAKEN, "")?;
-    Ok(())
-}
-
-#[test]
-fn keys_that_are_near_are_named(rt: HostRuntime) -> Result<(), Fail> {
-    says(&rt, rt.alloc(), &KEYS, "name = 'a'\n")?;
-    Ok(())
+fn keys_that_are_near_are_named(rt: HostRuntime) {
+    check(&rt, rt.alloc(), "name = 'a'\n", KEYS);
 }

@@ -3,65 +3,92 @@
 use description::{Description, DescriptionError};
 use lasting_names::Names;
 use linked_list_allocator::LocalHeap;
-use std::alloc::{AllocError, Allocator, Global};
+use std::alloc::{Allocator, Global};
 use std::process::Abort;
-use std::test::Fail;
 use toml::Table;
 
-// A description with a table of each kind, and its usage line.
-const WHOLE: (&str, &str) = (
-    "name = 'app'\ndate = 2026-11-23\n[[help_option]]\nshort = 'h'\n[[option]]\nlong = 'output'\nvalue = 'FILE'\nenv = 'OUT'\n[[choice]]\n[[choice.option]]\nshort = 'a'\n[[choice.option]]\nshort = 'b'\n[[group]]\ntitle = 'More'\n[[group.option]]\nshort = 'm'\nrepeated = true\n[[positional]]\nvalue = 'INPUT'\n[[command]]\nname = 'run'\n[[command.option]]\nshort = 'n'\n",
-    "app [--output=FILE] [-a | -b] [-m]... INPUT COMMAND ...\n",
-);
+// A text, and the usage line of what is read, or its fault.
+const ROWS: &[(&str, &str)] = &[
+    // A description with a table of each kind.
+    (
+        "name = 'app'\ndate = 2026-11-23\n[[help_option]]\nshort = 'h'\n[[option]]\nlong = 'output'\nvalue = 'FILE'\nenv = 'OUT'\n[[choice]]\n[[choice.option]]\nshort = 'a'\n[[choice.option]]\nshort = 'b'\n[[group]]\ntitle = 'More'\n[[group.option]]\nshort = 'm'\nrepeated = true\n[[positional]]\nvalue = 'INPUT'\n[[command]]\nname = 'run'\n[[command.option]]\nshort = 'n'\n",
+        "app [--output=FILE] [-a | -b] [-m]... INPUT COMMAND ...\n",
+    ),
+    // No description.
+    (
+        "name = 'app'\n[[command]]\nname = 'run'\n[[command.option]]\nshort = 'n'\n[[command.option]]\nlong = 'x y'\n",
+        "command 1, option 2: long holds a blank",
+    ),
+    // None either, since a key is not known, and the known one is near.
+    (
+        "name = 'app'\n[[option]]\nlnog = 'x'\n",
+        "option 1: no key lnog is known here; is it long?",
+    ),
+];
 
-// No description, and what is said of it.
-const FAULTY: (&str, &str) = (
-    "name = 'app'\n[[command]]\nname = 'run'\n[[command.option]]\nshort = 'n'\n[[command.option]]\nlong = 'x y'\n",
-    "command 1, option 2: long holds a blank",
-);
+/// The table of a text.
+pub fn table(rt: &impl Abort, out: Global, text: &str) -> Table {
+    toml::table_from_str(out, text).ok().expect(rt, "a table")
+}
 
-// No description, since a key is not known, and the known one is near.
-const MISSPELT: (&str, &str) = (
-    "name = 'app'\n[[option]]\nlnog = 'x'\n",
-    "option 1: no key lnog is known here; is it long?",
-);
-
-// The usage line of what was read, or its fault. None where a growth was refused.
-fn said<A: Allocator + Copy>(
+/// The usage line of what was read, or its fault. None where a growth was refused.
+pub fn said<A: Allocator + Copy>(
+    rt: &impl Abort,
     out: Global,
     alloc: A,
     table: &Table,
-) -> Result<Option<String>, AllocError> {
+) -> Option<String> {
     let mut names = Names::new(out);
     match Description::from_table(alloc, &mut names, table) {
-        Ok(app) => Ok(Some(app.usage(out)?)),
-        Err(DescriptionError::Content(line)) => Ok(Some(String::from_str(out, line.as_str())?)),
-        Err(DescriptionError::Memory(_)) => Ok(None),
+        Ok(app) => {
+            let line = app.usage(out).expect(rt, "a line");
+            drop(app);
+            Some(line)
+        }
+        Err(DescriptionError::Content(line)) => {
+            let copy = String::from_str(out, line.as_str()).expect(rt, "a line");
+            drop(line);
+            Some(copy)
+        }
+        Err(DescriptionError::Memory(_)) => None,
     }
 }
 
-// How many budgets were refused, until what is said is what is wanted.
-fn refusals(rt: &impl Abort, out: Global, text: &str, wanted: &str) -> Result<usize, AllocError> {
-    let table = toml::table_from_str(out, text).map_err(|_| AllocError)?;
-    let mut refused = 0usize;
+// Whether this is said on so much memory. None where a growth is refused.
+fn is_said(rt: &impl Abort, out: Global, budget: usize, table: &Table, want: &str) -> Option<bool> {
+    let heap = LocalHeap::new(out, budget).expect(rt, "a heap");
+    let is_said = match said(rt, out, &heap, table) {
+        Some(line) => {
+            let is_that = line.as_str() == want;
+            drop(line);
+            Some(is_that)
+        }
+        None => None,
+    };
+    drop(heap);
+    is_said
+}
+
+// Whether some budget is refused, and with the first that is not this is said.
+fn is_said_with_more(rt: &impl Abort, out: Global, table: &Table, want: &str) -> bool {
     for budget in 0..4096usize {
-        let heap = LocalHeap::new(out, budget * 16)?;
-        match said(out, &heap, &table)? {
-            None => refused = refused.saturating_add(1),
-            Some(line) => {
-                assert_eq!(rt; line.as_str(), wanted);
-                return Ok(refused);
-            }
+        if let Some(is_that) = is_said(rt, out, budget * 16, table, want) {
+            return is_that && budget > 0;
         }
     }
-    panic!(rt; "never read: {text}")
+    false
+}
+
+fn takes_memory(rt: &impl Abort, out: Global, text: &str, want: &str) -> bool {
+    let table = table(rt, out, text);
+    let is_said = is_said_with_more(rt, out, &table, want);
+    drop(table);
+    is_said
 }
 
 #[test]
-fn a_refused_table_is_read_with_more(rt: HostRuntime) -> Result<(), Fail> {
-    for (text, wanted) in [WHOLE, FAULTY, MISSPELT] {
-        let refused = refusals(&rt, rt.alloc(), text, wanted)?;
-        assert!(rt; refused > 0, "{wanted}");
+fn a_refused_table_is_read_with_more(rt: HostRuntime) {
+    for &(text, want) in ROWS {
+        assert!(rt; takes_memory(&rt, rt.alloc(), text, want), "{want}");
     }
-    Ok(())
 }

@@ -1,98 +1,117 @@
 //! Usage lines with ample memory.
+use crate::pages::shows;
+use crate::refusals::Page;
 use crate::samples::{
-    named_group, placed_group, with_all, with_choice, with_commands, with_group, with_option,
-    with_positional,
+    named_group, placed_group, two_options, with_all, with_choice, with_commands, with_group,
+    with_option, with_positional,
 };
-use description::{Description, Level, Opt, Positional};
-use std::alloc::{AllocError, Global};
+use description::{Choice, Description, Group, Level, Opt, Positional};
+use std::alloc::Global;
 use std::process::Abort;
-use std::test::Fail;
 
-fn usage(alloc: Global, level: Level<'static>) -> Result<String, AllocError> {
-    Description::new(alloc, "app", level).usage(alloc)
+fn usage_is(rt: &impl Abort, out: Global, level: Level<'static>, want: &str) -> bool {
+    shows(
+        rt,
+        out,
+        Description::new(out, "app", level),
+        Page::Usage,
+        want,
+    )
 }
 
-fn help(alloc: Global, level: Level<'static>) -> Result<String, AllocError> {
-    Description::new(alloc, "app", level).help(alloc, true)
-}
-
-pub fn same(rt: &impl Abort, left: &str, right: &str) {
-    assert_eq!(rt; left, right);
+fn option_is(rt: &impl Abort, out: Global, option: Opt<'static>, want: &str) -> bool {
+    usage_is(rt, out, with_option(rt, out, option), want)
 }
 
 #[test]
-fn options(rt: HostRuntime) -> Result<(), Fail> {
+fn options(rt: HostRuntime) {
     let option = Opt::long("output").value("FILE");
-    for (option, expected) in [
-        (option.required(), "app --output=FILE\n"),
-        (option, "app [--output=FILE]\n"),
-        (option.required().repeated(), "app --output=FILE...\n"),
-        (option.repeated(), "app [--output=FILE]...\n"),
-        (Opt::short('n'), "app [-n]\n"),
-        (Opt::flag('v', "verbose"), "app [-v]\n"),
-    ] {
-        let line = usage(rt.alloc(), with_option(rt.alloc(), option)?)?;
-        same(&rt, &line, expected);
-    }
-    Ok(())
+    let required = option.required();
+    assert!(rt; option_is(&rt, rt.alloc(), required, "app --output=FILE\n"));
+    assert!(rt; option_is(&rt, rt.alloc(), option, "app [--output=FILE]\n"));
+    assert!(rt;
+        option_is(
+            &rt,
+            rt.alloc(),
+            required.repeated(),
+            "app --output=FILE...\n"
+        )
+    );
+    assert!(rt;
+        option_is(
+            &rt,
+            rt.alloc(),
+            option.repeated(),
+            "app [--output=FILE]...\n"
+        )
+    );
+    assert!(rt; option_is(&rt, rt.alloc(), Opt::short('n'), "app [-n]\n"));
+    assert!(rt; option_is(&rt, rt.alloc(), Opt::flag('v', "verbose"), "app [-v]\n"));
+}
+
+fn value_is(rt: &impl Abort, out: Global, value: Positional<'static>, want: &str) -> bool {
+    usage_is(rt, out, with_positional(rt, out, value), want)
 }
 
 #[test]
-fn positional_values(rt: HostRuntime) -> Result<(), Fail> {
+fn positional_values(rt: HostRuntime) {
     let value = Positional::new("INPUT");
-    for (value, expected) in [
-        (value, "app INPUT\n"),
-        (value.optional(), "app [INPUT]\n"),
-        (value.repeated(), "app INPUT...\n"),
-        (value.optional().repeated(), "app [INPUT]...\n"),
-        (value.strict(), "app -- INPUT\n"),
-        (value.strict().optional(), "app -- [INPUT]\n"),
-        (Positional::new("file"), "app <file>\n"),
-    ] {
-        let line = usage(rt.alloc(), with_positional(rt.alloc(), value)?)?;
-        same(&rt, &line, expected);
-    }
-    Ok(())
+    assert!(rt; value_is(&rt, rt.alloc(), value, "app INPUT\n"));
+    assert!(rt; value_is(&rt, rt.alloc(), value.optional(), "app [INPUT]\n"));
+    assert!(rt; value_is(&rt, rt.alloc(), value.repeated(), "app INPUT...\n"));
+    let both = value.optional().repeated();
+    assert!(rt; value_is(&rt, rt.alloc(), both, "app [INPUT]...\n"));
+    assert!(rt; value_is(&rt, rt.alloc(), value.strict(), "app -- INPUT\n"));
+    let both = value.strict().optional();
+    assert!(rt; value_is(&rt, rt.alloc(), both, "app -- [INPUT]\n"));
+    assert!(rt; value_is(&rt, rt.alloc(), Positional::new("file"), "app <file>\n"));
+}
+
+fn choice_is(rt: &impl Abort, out: Global, choice: Choice<'static>, want: &str) -> bool {
+    usage_is(rt, out, with_choice(rt, out, choice), want)
 }
 
 #[test]
-fn choices_of_options_that_are_not_wrapped(rt: HostRuntime) -> Result<(), Fail> {
-    let line = usage(rt.alloc(), with_choice(rt.alloc(), true)?)?;
-    same(&rt, &line, "app (-a | -b)\n");
-    let line = usage(rt.alloc(), with_choice(rt.alloc(), false)?)?;
-    same(&rt, &line, "app [-a | -b]\n");
-    Ok(())
+fn choices_of_options_that_are_not_wrapped(rt: HostRuntime) {
+    let required = two_options(&rt, rt.alloc()).required();
+    assert!(rt; choice_is(&rt, rt.alloc(), required, "app (-a | -b)\n"));
+    let optional = two_options(&rt, rt.alloc());
+    assert!(rt; choice_is(&rt, rt.alloc(), optional, "app [-a | -b]\n"));
 }
 
 #[test]
-fn commands(rt: HostRuntime) -> Result<(), Fail> {
-    let line = usage(rt.alloc(), with_commands(rt.alloc())?)?;
-    same(&rt, &line, "app COMMAND ...\n");
-    let line = usage(rt.alloc(), with_commands(rt.alloc())?.commands_optional())?;
-    same(&rt, &line, "app [COMMAND ...]\n");
-    Ok(())
+fn commands(rt: HostRuntime) {
+    let required = with_commands(&rt, rt.alloc());
+    assert!(rt; usage_is(&rt, rt.alloc(), required, "app COMMAND ...\n"));
+    let optional = with_commands(&rt, rt.alloc()).commands_optional();
+    assert!(rt; usage_is(&rt, rt.alloc(), optional, "app [COMMAND ...]\n"));
 }
 
 #[test]
-fn kinds_in_their_order(rt: HostRuntime) -> Result<(), Fail> {
-    let line = usage(rt.alloc(), with_all(rt.alloc())?)?;
-    same(&rt, &line, "app -b [--output=FILE] -a P Q COMMAND ...\n");
-    let line = usage(rt.alloc(), Level::new(rt.alloc()))?;
-    same(&rt, &line, "app \n");
-    Ok(())
+fn kinds_in_their_order(rt: HostRuntime) {
+    let all = with_all(&rt, rt.alloc());
+    let want = "app -b [--output=FILE] -a P Q COMMAND ...\n";
+    assert!(rt; usage_is(&rt, rt.alloc(), all, want));
+    assert!(rt; usage_is(&rt, rt.alloc(), Level::new(rt.alloc()), "app \n"));
+}
+
+fn help_is(rt: &impl Abort, out: Global, group: Group<'static>, want: &str) -> bool {
+    let level = with_group(rt, out, group);
+    shows(
+        rt,
+        out,
+        Description::new(out, "app", level),
+        Page::Full,
+        want,
+    )
 }
 
 #[test]
-fn groups(rt: HostRuntime) -> Result<(), Fail> {
-    let page = help(
-        rt.alloc(),
-        with_group(rt.alloc(), named_group(rt.alloc())?)?,
-    )?;
-    same(&rt, &page, "Usage: app -a\n\nExtra\n    -a  A\n");
-    let page = help(
-        rt.alloc(),
-        with_group(rt.alloc(), placed_group(rt.alloc())?)?,
-    )?;
-    same(&rt, &page, "Usage: app X COMMAND ...\n\nG\n    X  h\n");
-    Ok(())
+fn groups(rt: HostRuntime) {
+    let named = named_group(&rt, rt.alloc());
+    let want = "Usage: app -a\n\nExtra\n    -a  A\n";
+    assert!(rt; help_is(&rt, rt.alloc(), named, want));
+    let placed = placed_group(&rt, rt.alloc());
+    let want = "Usage: app X COMMAND ...\n\nG\n    X  h\n";
+    assert!(rt; help_is(&rt, rt.alloc(), placed, want));
 }

@@ -1,106 +1,119 @@
 //! Descriptions to be tested.
 use description::{Choice, Command, Description, Group, Level, Opt, Positional};
-use std::alloc::{AllocError, Allocator, Global};
+use std::alloc::Global;
+use std::process::Abort;
 
 /// A level with one option.
-pub fn with_option<A: Allocator + Copy>(
-    alloc: A,
-    option: Opt<'static>,
-) -> Result<Level<'static, A>, AllocError> {
-    let mut options = Vec::new(alloc);
-    options.push(option)?;
-    let mut level = Level::new(alloc);
-    level.options = options;
-    Ok(level)
+pub fn with_option(rt: &impl Abort, out: Global, option: Opt<'static>) -> Level<'static> {
+    let mut level: Level<'static> = Level::new(out);
+    level.option(option).expect(rt, "an option");
+    level
 }
 
+/// A level with one positional value.
 pub fn with_positional(
-    alloc: Global,
+    rt: &impl Abort,
+    out: Global,
     positional: Positional<'static>,
-) -> Result<Level<'static>, AllocError> {
-    let mut positionals = Vec::new(alloc);
-    positionals.push(positional)?;
-    let mut level = Level::new(alloc);
-    level.positionals = positionals;
-    Ok(level)
+) -> Level<'static> {
+    let mut level: Level<'static> = Level::new(out);
+    level.positional(positional).expect(rt, "a value");
+    level
 }
 
-/// A level with a choice of `-a` and `-b`.
-pub fn with_choice(alloc: Global, required: bool) -> Result<Level<'static>, AllocError> {
-    let mut choice = Choice::new(alloc);
-    choice.option(Opt::short('a').required())?;
-    choice.option(Opt::short('b').repeated())?;
-    let mut level = Level::new(alloc);
-    level.choice(if required { choice.required() } else { choice })?;
-    Ok(level)
+/// A choice of `-a` and `-b`.
+pub fn two_options(rt: &impl Abort, out: Global) -> Choice<'static> {
+    let mut choice = Choice::new(out);
+    choice
+        .option(Opt::short('a').required())
+        .expect(rt, "an option");
+    choice
+        .option(Opt::short('b').repeated())
+        .expect(rt, "an option");
+    choice
+}
+
+/// A level with this choice.
+pub fn with_choice(rt: &impl Abort, out: Global, choice: Choice<'static>) -> Level<'static> {
+    let mut level: Level<'static> = Level::new(out);
+    level.choice(choice).expect(rt, "a choice");
+    level
 }
 
 /// A level with the commands `x` and `y`.
-pub fn with_commands(alloc: Global) -> Result<Level<'static>, AllocError> {
-    let mut level = Level::new(alloc);
-    level.command(Command::new("x", Level::new(alloc)))?;
-    level.command(Command::new("y", Level::new(alloc)))?;
-    Ok(level)
+pub fn with_commands(rt: &impl Abort, out: Global) -> Level<'static> {
+    let mut level = Level::new(out);
+    let command = Command::new("x", Level::new(out));
+    level.command(command).expect(rt, "a command");
+    let command = Command::new("y", Level::new(out));
+    level.command(command).expect(rt, "a command");
+    level
 }
 
 /// A level with one group.
-pub fn with_group(alloc: Global, group: Group<'static>) -> Result<Level<'static>, AllocError> {
-    let mut groups = Vec::new(alloc);
-    groups.push(group)?;
-    let mut level = Level::new(alloc);
-    level.groups = groups;
-    Ok(level)
+pub fn with_group(rt: &impl Abort, out: Global, group: Group<'static>) -> Level<'static> {
+    let mut level: Level<'static> = Level::new(out);
+    level.group(group).expect(rt, "a group");
+    level
 }
 
 /// A group with the option `-a` alone.
-pub fn named_group(alloc: Global) -> Result<Group<'static>, AllocError> {
-    let mut group = Group::new(alloc, "Extra");
-    group.option(Opt::short('a').help("A").required())?;
-    Ok(group)
+pub fn named_group(rt: &impl Abort, out: Global) -> Group<'static> {
+    let mut group = Group::new(out, "Extra");
+    let option = Opt::short('a').help("A").required();
+    group.option(option).expect(rt, "an option");
+    group
 }
 
 /// A group with a value and a command.
-pub fn placed_group(alloc: Global) -> Result<Group<'static>, AllocError> {
-    let mut group = Group::new(alloc, "G");
-    group.command(Command::new("X", Level::new(alloc)).help("h"))?;
-    group.positional(Positional::new("X").help("h"))?;
-    Ok(group)
+pub fn placed_group(rt: &impl Abort, out: Global) -> Group<'static> {
+    let mut group = Group::new(out, "G");
+    let command = Command::new("X", Level::new(out)).help("h");
+    group.command(command).expect(rt, "a command");
+    let positional = Positional::new("X").help("h");
+    group.positional(positional).expect(rt, "a value");
+    group
 }
 
 /// A group with the option `-a` and the value `P`.
-pub fn split_group(alloc: Global) -> Result<Group<'static>, AllocError> {
-    let mut group = Group::new(alloc, "Both");
-    group.positional(Positional::new("P"))?;
-    group.option(Opt::short('a').required())?;
-    Ok(group)
+pub fn split_group(rt: &impl Abort, out: Global) -> Group<'static> {
+    let mut group = Group::new(out, "Both");
+    group.positional(Positional::new("P")).expect(rt, "a value");
+    let option = Opt::short('a').required();
+    group.option(option).expect(rt, "an option");
+    group
 }
 
 /// A level with something of each kind that a usage line shows, put in another order than that of the line.
-pub fn with_all(alloc: Global) -> Result<Level<'static>, AllocError> {
-    let mut level = with_commands(alloc)?;
-    level.positional(Positional::new("Q"))?;
-    level.group(split_group(alloc)?)?;
-    put_options(&mut level)?;
-    Ok(level)
+pub fn with_all(rt: &impl Abort, out: Global) -> Level<'static> {
+    let mut level = with_commands(rt, out);
+    level.positional(Positional::new("Q")).expect(rt, "a value");
+    level.group(split_group(rt, out)).expect(rt, "a group");
+    put_options(rt, &mut level);
+    level
 }
 
-fn put_options(level: &mut Level<'static>) -> Result<(), AllocError> {
-    level.option(Opt::short('b').required())?;
-    level.option(Opt::long("output").value("FILE"))
+fn put_options(rt: &impl Abort, level: &mut Level<'static>) {
+    let option = Opt::short('b').required();
+    level.option(option).expect(rt, "an option");
+    let option = Opt::long("output").value("FILE");
+    level.option(option).expect(rt, "an option");
 }
 
 /// The application that shows one flag.
-pub fn sample(alloc: Global) -> Result<Description<'static>, AllocError> {
+pub fn sample(rt: &impl Abort, out: Global) -> Description<'static> {
     let option = Opt::flag('v', "verbose").help("Talk more").required();
-    let level = with_option(alloc, option)?.about("Prints things");
-    Ok(Description::new(alloc, "app", level))
+    let level = with_option(rt, out, option).about("Prints things");
+    Description::new(out, "app", level)
 }
 
 /// An application with one command, with options that ask for help.
-pub fn with_help(alloc: Global) -> Result<Description<'static>, AllocError> {
-    let mut level = Level::new(alloc);
-    level.command(Command::new("run", Level::new(alloc)))?;
-    let mut description = Description::new(alloc, "app", level);
-    description.help_option(Opt::flag('h', "help").help("Print this help"))?;
-    Ok(description)
+pub fn with_help(rt: &impl Abort, out: Global) -> Description<'static> {
+    let mut level = Level::new(out);
+    let command = Command::new("run", Level::new(out));
+    level.command(command).expect(rt, "a command");
+    let mut app = Description::new(out, "app", level);
+    let option = Opt::flag('h', "help").help("Print this help");
+    app.help_option(option).expect(rt, "an option");
+    app
 }

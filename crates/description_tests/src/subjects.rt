@@ -3,32 +3,51 @@ use description::{Command, Description, Group, Level, Opt, Subject};
 use linked_list_allocator::LocalHeap;
 use std::alloc::{AllocError, Allocator, Global};
 use std::process::Abort;
-use std::test::Fail;
 
-// `app`, with a command `remote`, or `r`, that has a command `add`; in a group stands another `add`.
-fn app(alloc: Global) -> Result<Description<'static>, AllocError> {
-    let mut add = Level::new(alloc).about("Adds a remote place");
-    add.option(Opt::short('f').help("Fetch from it at once"))?;
-    let mut remote = Level::new(alloc);
-    remote.command(Command::new("add", add))?;
-    let mut files = Group::new(alloc, "Files");
-    files.command(Command::new("add", Level::new(alloc).about("Adds a file")))?;
-    let mut top = Level::new(alloc);
-    top.group(files)?;
-    top.command(Command::new("remote", remote).short('r'))?;
-    let mut app = Description::new(alloc, "app", top);
-    app.help_option(Opt::flag('h', "help").help("Print this page"))?;
-    Ok(app)
+// `remote`, or `r`, which has a command `add`.
+fn remote(rt: &impl Abort, out: Global) -> Command<'static> {
+    let mut add: Level<'static> = Level::new(out).about("Adds a remote place");
+    let option = Opt::short('f').help("Fetch from it at once");
+    add.option(option).expect(rt, "an option");
+    let mut remote: Level<'static> = Level::new(out);
+    remote
+        .command(Command::new("add", add))
+        .expect(rt, "a command");
+    Command::new("remote", remote).short('r')
 }
 
-/// The words, the columns, the usage line, and the help page in full.
-const ROWS: [(&[&str], usize, &str, &str); 4] = [
-    (
-        &["remote", "add"],
-        100,
-        "app remote add [-f]\n",
-        "Adds a remote place\n\nUsage: app remote add [-f]\n\nAvailable options:\n    -f          Fetch from it at once\n    -h, --help  Print this page\n",
-    ),
+// A group in which another `add` stands.
+fn files(rt: &impl Abort, out: Global) -> Group<'static> {
+    let add = Level::new(out).about("Adds a file");
+    let mut files = Group::new(out, "Files");
+    files
+        .command(Command::new("add", add))
+        .expect(rt, "a command");
+    files
+}
+
+fn app(rt: &impl Abort, out: Global) -> Description<'static> {
+    let mut top: Level<'static> = Level::new(out);
+    top.group(files(rt, out)).expect(rt, "a group");
+    top.command(remote(rt, out)).expect(rt, "a command");
+    let mut app: Description<'static> = Description::new(out, "app", top);
+    let option = Opt::flag('h', "help").help("Print this page");
+    app.help_option(option).expect(rt, "an option");
+    app
+}
+
+/// The words, the columns, the usage line, and where it is not empty the help page in full.
+type Row = (&'static [&'static str], usize, &'static str, &'static str);
+
+const ADD: Row = (
+    &["remote", "add"],
+    100,
+    "app remote add [-f]\n",
+    "Adds a remote place\n\nUsage: app remote add [-f]\n\nAvailable options:\n    -f          Fetch from it at once\n    -h, --help  Print this page\n",
+);
+
+const ROWS: &[Row] = &[
+    ADD,
     (&["r", "add"], 12, "app remote\nadd [-f]\n", ""),
     (
         &["add"],
@@ -36,80 +55,150 @@ const ROWS: [(&[&str], usize, &str, &str); 4] = [
         "app add \n",
         "Adds a file\n\nUsage: app add \n\nAvailable options:\n    -h, --help  Print this page\n",
     ),
-    (&[], 100, "app COMMAND ... COMMAND ...\n", ""),
+    (
+        &[],
+        100,
+        "app COMMAND ...\n",
+        "Usage: app COMMAND ...\n\nFiles\n    add\n\nAvailable options:\n    -h, --help  Print this page\n\nAvailable commands:\n    remote, r\n",
+    ),
 ];
 
-// What the words lead to. None where one names no command.
-fn led<'d, B: Allocator + Copy>(
+// Whether a command of this name is there, which is gone on to. None where a growth is refused.
+fn enters<B: Allocator + Copy>(
+    rt: &impl Abort,
+    subject: &mut Subject<'_, 'static, Global, B>,
+    word: &str,
+) -> Option<bool> {
+    let before = subject.path.len();
+    let entered = subject.enter(word).ok();
+    let want = if entered == Some(true) {
+        before.saturating_add(1)
+    } else {
+        before
+    };
+    assert!(rt; subject.path.len() == want, "{word}");
+    entered
+}
+
+// Whether each word leads on. None where a growth is refused.
+fn leads<B: Allocator + Copy>(
+    rt: &impl Abort,
+    subject: &mut Subject<'_, 'static, Global, B>,
+    words: &[&str],
+) -> Option<bool> {
+    for &word in words {
+        let entered = enters(rt, subject, word);
+        if entered != Some(true) {
+            return entered;
+        }
+    }
+    Some(true)
+}
+
+fn usage_is<B: Allocator + Copy>(
+    subject: &Subject<'_, 'static, Global, B>,
+    &(_, width, want, _): &Row,
+) -> Option<bool> {
+    match subject.usage(width) {
+        Ok(line) => {
+            let is_that = line.as_str() == want;
+            drop(line);
+            Some(is_that)
+        }
+        Err(AllocError) => None,
+    }
+}
+
+fn help_is<B: Allocator + Copy>(
+    subject: &Subject<'_, 'static, Global, B>,
+    &(_, width, _, want): &Row,
+) -> Option<bool> {
+    if want.is_empty() {
+        return Some(true);
+    }
+    match subject.help(true, width) {
+        Ok(page) => {
+            let is_that = page.as_str() == want;
+            drop(page);
+            Some(is_that)
+        }
+        Err(AllocError) => None,
+    }
+}
+
+fn pages_are<B: Allocator + Copy>(
+    subject: &Subject<'_, 'static, Global, B>,
+    row: &Row,
+) -> Option<bool> {
+    Some(usage_is(subject, row)? && help_is(subject, row)?)
+}
+
+// Whether the words lead to these pages. None where a growth is refused.
+fn leads_to<B: Allocator + Copy>(
     rt: &impl Abort,
     alloc: B,
-    app: &'d Description<'static>,
-    words: &[&str],
-) -> Result<Option<Subject<'d, 'static, Global, B>>, AllocError> {
-    let mut subject = app.subject(alloc)?;
-    for word in words {
-        let before = subject.path.len();
-        let entered = subject.enter(*word);
-        let is_there = matches!(entered, Ok(true));
-        assert_eq!(rt;
-            subject.path.len(),
-            if is_there {
-                before.saturating_add(1)
-            } else {
-                before
-            }
-        );
-        if !entered? {
-            return Ok(None);
-        }
-    }
-    Ok(Some(subject))
-}
-
-#[test]
-fn a_command_has_its_own_pages(rt: HostRuntime) -> Result<(), Fail> {
-    let app = app(rt.alloc())?;
-    for (words, width, usage, help) in ROWS {
-        let Some(subject) = led(&rt, rt.alloc(), &app, words)? else {
-            panic!(rt; "{usage:?} is not there");
-        };
-        assert_eq!(rt; subject.usage(width)?.as_str(), usage);
-        if !help.is_empty() {
-            assert_eq!(rt; subject.help(true, width)?.as_str(), help);
-        }
-    }
-    for words in [["push"], ["rem"], [""], ["-r"]] {
-        assert!(rt; led(&rt, rt.alloc(), &app, &words)?.is_none());
-    }
-    Ok(())
-}
-
-// Whether the help page of `app remote add` was made on so much memory, and is that of ample memory.
-fn is_made(
-    rt: &impl Abort,
     app: &Description<'static>,
-    heap: &LocalHeap,
-) -> Result<bool, AllocError> {
-    let Some(subject) = led(rt, heap, app, ROWS[0].0)? else {
-        return Ok(false);
+    row: &Row,
+) -> Option<bool> {
+    let mut subject = app.subject(alloc).ok()?;
+    let leads_to = match leads(rt, &mut subject, row.0) {
+        Some(true) => pages_are(&subject, row),
+        other => other,
     };
-    let usage = subject.usage(100)?;
-    let help = subject.help(true, 100)?;
-    Ok(usage.as_str() == ROWS[0].2 && help.as_str() == ROWS[0].3)
+    drop(subject);
+    leads_to
+}
+
+const UNKNOWN: &[&str] = &["push", "rem", "", "-r"];
+
+fn leads_nowhere(rt: &impl Abort, out: Global, app: &Description<'static>, word: &str) -> bool {
+    let mut subject = app.subject(out).expect(rt, "the application");
+    let entered = enters(rt, &mut subject, word);
+    drop(subject);
+    entered == Some(false)
 }
 
 #[test]
-fn a_refused_page_of_a_command_is_made_with_more(rt: HostRuntime) -> Result<(), Fail> {
-    let app = app(rt.alloc())?;
+fn a_command_has_its_own_pages(rt: HostRuntime) {
+    let app = app(&rt, rt.alloc());
+    for row in ROWS {
+        assert!(rt;
+            leads_to(&rt, rt.alloc(), &app, row) == Some(true),
+            "{}",
+            row.2
+        );
+    }
+    for &word in UNKNOWN {
+        assert!(rt; leads_nowhere(&rt, rt.alloc(), &app, word), "{word}");
+    }
+    drop(app);
+}
+
+// Whether the pages of `app remote add` are made on so much memory. None where a growth is refused.
+fn are_made(
+    rt: &impl Abort,
+    out: Global,
+    budget: usize,
+    app: &Description<'static>,
+) -> Option<bool> {
+    let heap = LocalHeap::new(out, budget).expect(rt, "a heap");
+    let are_made = leads_to(rt, &heap, app, &ADD);
+    drop(heap);
+    are_made
+}
+
+fn are_made_with_more(rt: &impl Abort, out: Global, app: &Description<'static>) -> bool {
     for budget in 0..4096usize {
-        let heap = LocalHeap::new(rt.alloc(), budget * 16)?;
-        match is_made(&rt, &app, &heap) {
-            Err(AllocError) => {}
-            Ok(is_that) => {
-                assert!(rt; is_that && budget > 0);
-                return Ok(());
-            }
+        if let Some(are_those) = are_made(rt, out, budget * 16, app) {
+            return are_those && budget > 0;
         }
     }
-    panic!(rt; "never made")
+    false
+}
+
+#[test]
+fn a_refused_page_of_a_command_is_made_with_more(rt: HostRuntime) {
+    let app = app(&rt, rt.alloc());
+    assert!(rt; are_made_with_more(&rt, rt.alloc(), &app));
+    drop(app);
 }

@@ -9,7 +9,8 @@ use Rattle.toml.specs.View.{items_view, table_view}
 use Rattle.toml.specs.declared.value.Value.{Value}
 use Rattle.bpaf_meta.specs.View.{text_of}
 use Rattle.description_parts.specs.Content.{TextsSaid}
-use Rattle.description.specs.Described.{CommandHead, DescriptionHead, GroupHead, Lists, Outline, TitleWords}
+use Rattle.description.specs.Content.{TitleWords}
+use Rattle.description.specs.Described.{CommandHead, DescriptionHead, GroupHead, Lists, Outline}
 use Rattle.description.specs.declared.decode.levels.Texts.{Texts}
 use Rattle.description.specs.declared.decode.levels.Lists.{Lists as Code}
 use Rattle.description.specs.declared.decode.levels.Outline.{Outline as Seen}

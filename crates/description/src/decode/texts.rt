@@ -1,6 +1,6 @@
 //! The kinds of texts, and why one is none of its kind.
 ghost use Rattle.std.specs.Prelude.{◌≡◌, ◌&&◌, chars, is_none, not};
-ghost use Rattle.std.specs.Char.{is_ascii_alphanumeric, is_not_whitespace};
+ghost use Rattle.std.specs.Char.{is_ascii_alphanumeric};
 ghost use Rattle.std.specs.List.{list_all};
 ghost use Rattle.description.specs.Described.Kinds.{allows, has_form, is_of};
 ghost use Rattle.description.specs.Described.Texts.{begins, begins_a_section, has_ink, if_passes, is_dash};
@@ -9,6 +9,7 @@ ghost use Rattle.description.specs.Described.Texts.{is_noncharacter, is_read_onc
 ghost use Rattle.description.specs.Faults.{Reads};
 
 use super::faults::Fault;
+use crate::paragraphs::has_ink;
 
 /// What a text at a key is, which decides what it may hold.
 #[derive(Clone, Copy)]
@@ -111,18 +112,6 @@ fn refused_with_a_dash(text: &str) -> Refusal
             }
         }
     }
-}
-
-fn is_ink(character: char) -> bool
-    ensures { result ≡ is_not_whitespace character }
-{
-    !character.is_whitespace()
-}
-
-fn has_ink(text: &str) -> bool
-    ensures { result ≡ has_ink text.now }
-{
-    text.chars().any(is_ink)
 }
 
 fn refused_without_ink(text: &str) -> Refusal

@@ -41,7 +41,7 @@ pub fn page_of(global: Global, form: Form) -> Page<'static, Global> {
         Form::Brief => ConsoleForm::Brief,
         Form::Html => return Page::Html,
         Form::Markdown => return Page::Markdown,
-        Form::Man => return Page::Man,
+        Form::Man => return Page::Man(Vec::new(global)),
     };
     Page::Console(Console {
         form,

@@ -92,8 +92,12 @@ const WRONG: &[(&[&str], &str)] = &[
         "clidoc: no value behind --command\n",
     ),
     (
-        &["clidoc", "man", "--command=x"],
-        "clidoc: --command is no option of man\n",
+        &["clidoc", "man", "--width=3", "--command=x"],
+        "clidoc: --width is no option of man\n",
+    ),
+    (
+        &["clidoc", "html", "--command=x"],
+        "clidoc: --command is no option of html\n",
     ),
     (
         &["clidoc", "check", "--width", "3"],
@@ -148,6 +152,12 @@ const RIGHT: &[(&[&str], u8, &[u8], &str)] = &[
         b"Adds one\n\nUsage: app remote add \n",
         "",
     ),
+    (
+        &["clidoc", "man", "--command=r", "--command=add"],
+        0,
+        b".ie \\n(.g .ds Aq \\(aq\n.el .ds Aq '\n.TH app-remote-add 1 - - \"\"\n.SH NAME\n\\fRapp\\-remote\\-add \\- \\fP\\fRAdds one\\fP\n.SH SYNOPSIS\n\\fBapp\\fP\\fR \\fP\\fBremote\\fP\\fR \\fP\\fBadd\\fP\\fR \\fP\n.SH SEE\\ ALSO\n\\fBapp\\-remote\\fP\\fR(1)\\fP",
+        "",
+    ),
     (&["clidoc", "check"], 0, b"", ""),
     (&["clidoc", "--version"], 0, b"clidoc 0.9.28\n", ""),
     (&["clidoc", "-V"], 0, b"clidoc 0.9.28\n", ""),
@@ -156,6 +166,12 @@ const RIGHT: &[(&[&str], u8, &[u8], &str)] = &[
         1,
         b"",
         "clidoc: no command push in app remote\n",
+    ),
+    (
+        &["clidoc", "--command", "add", "man"],
+        1,
+        b"",
+        "clidoc: no command add in app\n",
     ),
     (
         &["clidoc", "full", "nowhere.toml"],

@@ -1,0 +1,35 @@
+-- The paragraphs of a text.
+use Rattle.std.specs.Prelude.{ℕ, ◌-◌, ◌==◌, ◌&&◌, ◌||◌, nat_lt, List, [], ◌∷◌, take, drop, length, find, count_by, Bool, if◌then◌else◌, Option, option_map}
+use Rattle.std.specs.List.{onto_first, prefix_len, suffix_len}
+use Rattle.description.specs.Described.Texts.{has_ink}
+
+abbrev pub is_newline : ℕ → Bool
+is_newline b = b == 10
+
+-- what two newlines part, from left to right
+abbrev pub paragraphs : List ℕ → List (List ℕ)
+paragraphs [] = [] ∷ []
+paragraphs (b ∷ []) = (b ∷ []) ∷ []
+paragraphs (b ∷ c ∷ bs) = if is_newline b && is_newline c then [] ∷ paragraphs bs else onto_first b (paragraphs (c ∷ bs))
+
+-- a blank or a newline
+abbrev pub is_margin : ℕ → Bool
+is_margin b = b == 32 || is_newline b
+
+-- the text without those at its ends
+abbrev pub without_front : List ℕ → List ℕ
+without_front text = drop (prefix_len is_margin text) text
+
+abbrev pub without_back : List ℕ → List ℕ
+without_back text = take (length text - suffix_len is_margin text) text
+
+abbrev pub without_margins : List ℕ → List ℕ
+without_margins text = without_back (without_front text)
+
+-- the first paragraph with ink, if there is one
+abbrev pub summary_of : List ℕ → Option (List ℕ)
+summary_of text = option_map without_margins (find has_ink (paragraphs text))
+
+-- one behind it has ink too
+abbrev pub goes_on : List ℕ → Bool
+goes_on text = nat_lt 1 (count_by has_ink (paragraphs text))
