@@ -127,7 +127,7 @@ def on_console(page, text):
         pyte.Stream(screen).feed(page.replace("\n", "\r\n"))
         if [ink(line) for line in screen.display[:len(lines)]] != [ink(line) for line in lines] and page.isascii():
             yield "a terminal shows something else"
-    if "before" in page and not shows(page, text.split("\n\n")[0] if "\n" in text else text):
+    if "before" in ink(page) and not shows(page, text.split("\n\n")[0] if "\n" in text else text):
         yield "the text is not there"
 
 
