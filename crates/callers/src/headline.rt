@@ -35,9 +35,15 @@ pub fn show(
     for_usage: bool,
 ) -> Result<Shown, AllocError>
     ensures { IfOk result (λ shown. IsWellNested document.now → IsHeadline document.now width
-        (record { console = string_bytes shown.console; html = string_bytes shown.html; page = no_script; roff = string_bytes shown.roff })
+        (record {
+          console = string_bytes shown.console;
+          html = string_bytes shown.html;
+          page = no_script;
+          roff = string_bytes shown.roff;
+        })
         for_usage (tree_of tree.now) (tree_of shown.normal)
-        (record { app = app.now; section = codes "1"; date = None; vendor = None; title = None }) (head_of info.now) (string_bytes shown.manual)) }
+        (record { app = app.now; section = codes "1"; date = None; vendor = None; title = None })
+        (head_of info.now) (string_bytes shown.manual)) }
 {
     headline_follows();
     let console = document.render_console(alloc, true, width)?;

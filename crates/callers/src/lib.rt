@@ -1,5 +1,5 @@
-//! Callers of the libraries: those of each crate's `CALLING.md`, word by word, below the crate's name, and one that makes
-//! all kinds of text.
+//! Callers of the libraries: those of each crate's `CALLING.md`, word by word, below the crate's name, and one that
+//! makes all kinds of text.
 #![tactic(auto)]
 
 // bpaf_roff

@@ -283,7 +283,8 @@ fn led_to<'d, 'a, A: Allocator + Copy>(
     description: &'d Description<'a>,
 ) -> Result<Subject<'d, 'a, Global, A>, Fault>
     ensures ok { IfOk result (λ subject.
-        led_to (words_said commands.now) (application (description_said description.now)) ≡ Some (subject_said subject)) }
+        led_to (words_said commands.now) (application (description_said description.now))
+        ≡ Some (subject_said subject)) }
     ensures lost { IfErr result (IsLost (words_said commands.now) (description_said description.now)) }
 {
     let mut subject = description.subject(alloc)?;

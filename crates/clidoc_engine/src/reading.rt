@@ -1,6 +1,7 @@
 //! What words give, one after another, and why they choose nothing.
 
-ghost use Rattle.std.specs.Prelude.{◌≡◌, ◌≢◌, ◌⊎◌, ◌++◌, ◌∷◌, [], List, ℕ, IfErr, IfOk, None, OnOk, Some, codes, option_map};
+ghost use Rattle.std.specs.Prelude.{◌≡◌, ◌≢◌, ◌⊎◌, ◌++◌, ◌∷◌, [], List, ℕ, IfErr, IfOk, None, OnOk, Some};
+ghost use Rattle.std.specs.Prelude.{codes, option_map};
 ghost use Rattle.clidoc_engine.specs.Chosen.{words_said};
 ghost use Rattle.clidoc_engine.specs.Reading.{IsRefused, before, given_after, given_of, kind_said, together};
 ghost use Rattle.clidoc_engine.specs.Words.{behind, given_in, kind_of, only_files, with_value};

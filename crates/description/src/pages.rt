@@ -1,7 +1,7 @@
 //! The pages of a description.
 //!
-//! What a page is made of is let go by a call of `drop`: the prover takes it as one step, and the end of a block as one for
-//! each part of the value and each of its variants.
+//! What a page is made of is let go by a call of `drop`: the prover takes it as one step, and the end of a block as one
+//! for each part of the value and each of its variants.
 ghost use Rattle.std.specs.Prelude.{◌≡◌, ◌++◌, ◌∷◌, [], true, false, IfOk, OnOk, map, string_bytes};
 ghost use Rattle.bpaf_doc.specs.declared.buffer.Block.TheVariants as block;
 ghost use Rattle.bpaf_doc.specs.Buffer.Writes.{document_of, inside, path_writes, with_writes};
