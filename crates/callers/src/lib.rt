@@ -15,6 +15,7 @@ pub mod usage;
 
 // description
 pub mod describing;
+pub mod files;
 pub mod levels;
 pub mod reading;
 

@@ -12,7 +12,7 @@ use Rattle.std.proofs.lemmas.List.Folds.{list_all-append}
 use Rattle.std.proofs.lemmas.Str.{chars-IsAscii}
 use Rattle.toml_datetime.specs.Text.{two_wide, date_text}
 use Rattle.toml_datetime.specs.declared.datetime.Date.{Date}
-use Rattle.description.specs.Described.Texts.{has_ink, begins, begins_a_section, is_dash, is_empty_text, is_value, is_title, is_heading, is_section, is_name, is_long, is_program_name, is_command_name, is_line_character, is_name_character, is_read_once, is_short, is_text_character}
+use Rattle.description.specs.Described.Texts.{has_ink, begins, begins_a_section, is_body, is_dash, is_empty_text, is_text, is_value, is_title, is_heading, is_section, is_name, is_long, is_program_name, is_command_name, is_line_character, is_name_character, is_read_once, is_short, is_text_character, is_line}
 use Rattle.description.proofs.Each.{Each}
 
 -- each of the characters may stand in a text
@@ -52,6 +52,12 @@ short_plain c h = let both = and_parts (not (c == 45)) (is_name_character c) h i
 
 low : (c : ℕ) → 32 ≤ c → c < 127 → PlainCharacter c
 low c h k = grind (arith, nat_tests)
+
+pub body_plain : (text : List ℕ) → is_body text ≡ true → PlainText text
+body_plain text h = let both = and_parts (is_text text) (not (is_empty_text text)) h in both.0
+
+pub line_plain : (text : List ℕ) → is_line text ≡ true → PlainText text
+line_plain text h = weaker is_line_character is_text_character line (chars text) h
 
 pub value_plain : (text : List ℕ) → is_value text ≡ true → PlainText text
 value_plain text h = let both = and_parts (list_all is_line_character (chars text)) (not (is_empty_text text)) h in weaker is_line_character is_text_character line (chars text) both.0

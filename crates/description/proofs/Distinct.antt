@@ -1,12 +1,13 @@
 -- Texts that stand twice in a list.
-use Rattle.std.proofs.Common.{◌≡◌, ℕ, ◌+◌, ◌<◌, Bool, true, false, not, cond, ◌&&◌, ◌||◌, List, [], ◌∷◌, ◌++◌, length, take, drop, get_or, refl, sym, ap, ◌∙◌, Bor}
+use Rattle.std.proofs.Common.{◌≡◌, ℕ, ◌+◌, ◌<◌, Bool, true, false, not, cond, ◌&&◌, ◌||◌, List, [], ◌∷◌, ◌++◌, length, take, drop, get_or, refl, sym, ap, ◌∙◌, append_assoc, append-nil, Bor}
 use Rattle.std.proofs.lemmas.List.{drop_more, map-append, take_more, take-append-drop}
 use Rattle.std.specs.Prelude.{bytes_eq}
-use Rattle.std.specs.List.{list_any}
+use Rattle.std.specs.List.{filter, list_any}
+use Rattle.std.proofs.lemmas.List.Elements.{filter-append}
 use Rattle.std.specs.Cmp.Lexicographic.{on_texts_equal}
 use Rattle.std.proofs.lemmas.List.Folds.{list_any-append}
 use Rattle.description.specs.Described.Steps.{words_of}
-use Rattle.description.specs.Described.Taken.{are_distinct}
+use Rattle.description.specs.Described.Taken.{are_distinct, distinct}
 
 texts_equal : (s t : List ℕ) → bytes_eq s t ≡ bytes_eq t s
 texts_equal s t = (on_texts_equal (λ (x : List ℕ). x)).symm s t
@@ -86,12 +87,62 @@ one_more true c false e = refl
 one_more false c true e = e
 one_more false c false e = e
 
+abbrev Held : List (Bor (List ℕ)) → List (Bor (List ℕ)) → ℕ → Type 0
+Held keys ts i = (q : Bor (List ℕ)) → has_text keys q ≡ list_any (bytes_eq q.now) (words_of (take i ts))
+
+held_more : (keys more ts : List (Bor (List ℕ))) (i : ℕ) (d : Bor (List ℕ)) → i < length ts → Held keys ts i → ((q : Bor (List ℕ)) → has_text more q ≡ cond (bytes_eq (get_or ts i d).now q.now) true (has_text keys q)) → Held more ts (i + 1)
+held_more keys more ts i d h s u q =
+    let text = (get_or ts i d).now in
+    u q ∙ ap (λ b. cond b true (has_text keys q)) (texts_equal text q.now) ∙ one_more (bytes_eq q.now text) (has_text keys q) (list_any (bytes_eq q.now) (words_of (take i ts))) (s q)
+    ∙ sym (ap (list_any (bytes_eq q.now)) (front_words ts i d h) ∙ list_any-append (bytes_eq q.now) (words_of (take i ts)) (text ∷ []))
+
 pub seen_more : (keys more ts : List (Bor (List ℕ))) (i : ℕ) (d : Bor (List ℕ)) (added : Bool) → i < length ts → Seen keys ts i → added ≡ not (has_text keys (get_or ts i d)) → added ≡ true
     → ((q : Bor (List ℕ)) → has_text more q ≡ cond (bytes_eq (get_or ts i d).now q.now) true (has_text keys q)) → Seen more ts (i + 1)
 seen_more keys more ts i d added h s e f u =
-    let text = (get_or ts i d).now in
     let absent : has_text keys (get_or ts i d) ≡ false = not_true (has_text keys (get_or ts i d)) (sym e ∙ f) in (
-      ap are_distinct (front_words ts i d h) ∙ distinct_then (words_of (take i ts)) text s.0 (sym (s.1 (get_or ts i d)) ∙ absent),
-      λ q. u q ∙ ap (λ b. cond b true (has_text keys q)) (texts_equal text q.now) ∙ one_more (bytes_eq q.now text) (has_text keys q) (list_any (bytes_eq q.now) (words_of (take i ts))) (s.1 q)
-          ∙ sym (ap (list_any (bytes_eq q.now)) (front_words ts i d h) ∙ list_any-append (bytes_eq q.now) (words_of (take i ts)) (text ∷ [])),
+      ap are_distinct (front_words ts i d h) ∙ distinct_then (words_of (take i ts)) (get_or ts i d).now s.0 (sym (s.1 (get_or ts i d)) ∙ absent),
+      held_more keys more ts i d h s.1 u,
     )
+
+-- ---- each text once
+
+-- a text behind others, which do not hold it, or do
+once_then : (x t : List ℕ) (xs : List (List ℕ)) (b : Bool) → bytes_eq x t ≡ b → filter (λ o. not (bytes_eq x o)) (distinct xs ++ t ∷ []) ≡ filter (λ o. not (bytes_eq x o)) (distinct xs) ++ cond (not b) (t ∷ []) []
+once_then x t xs b e = filter-append (λ o. not (bytes_eq x o)) (distinct xs) (t ∷ []) ∙ ap (λ c. filter (λ o. not (bytes_eq x o)) (distinct xs) ++ cond (not c) (t ∷ []) []) e
+
+distinct_new : (xs : List (List ℕ)) (t : List ℕ) → list_any (bytes_eq t) xs ≡ false → distinct (xs ++ t ∷ []) ≡ distinct xs ++ t ∷ []
+distinct_new [] t h = refl
+distinct_new (x ∷ xs) t h =
+    let (other, absent) = either_false (bytes_eq t x) (list_any (bytes_eq t) xs) h in
+    ap (λ ts. x ∷ filter (λ o. not (bytes_eq x o)) ts) (distinct_new xs t absent) ∙ ap (λ ts. x ∷ ts) (once_then x t xs false (texts_equal x t ∙ other))
+
+distinct_old : (xs : List (List ℕ)) (t : List ℕ) → list_any (bytes_eq t) xs ≡ true → distinct (xs ++ t ∷ []) ≡ distinct xs
+distinct_old [] t h = cc
+distinct_old (x ∷ xs) t h = by (list_any (bytes_eq t) xs) refl (bytes_eq t x) refl h (distinct_old xs t) where
+  by : (a : Bool) → list_any (bytes_eq t) xs ≡ a → (b : Bool) → bytes_eq t x ≡ b → (b || a) ≡ true → (list_any (bytes_eq t) xs ≡ true → distinct (xs ++ t ∷ []) ≡ distinct xs) → distinct (x ∷ (xs ++ t ∷ [])) ≡ distinct (x ∷ xs)
+  by true e b f g rest = ap (λ ts. x ∷ filter (λ o. not (bytes_eq x o)) ts) (rest e)
+  by false e true f g rest =
+      ap (λ ts. x ∷ filter (λ o. not (bytes_eq x o)) ts) (distinct_new xs t e) ∙ ap (λ ts. x ∷ ts) (once_then x t xs true (texts_equal x t ∙ f) ∙ append-nil (filter (λ o. not (bytes_eq x o)) (distinct xs)))
+  by false e false f g rest = cc
+
+-- the first texts, each once, behind those that stood there
+abbrev pub Kept : (old new : List (List ℕ)) → List (Bor (List ℕ)) → List (Bor (List ℕ)) → ℕ → Type 0
+Kept old new keys ts i = (new ≡ old ++ distinct (words_of (take i ts))) × Held keys ts i
+
+module _ (old w : List (List ℕ)) (keys more ts : List (Bor (List ℕ))) (i : ℕ) (d : Bor (List ℕ)) (added : Bool) (below : i < length ts) (kept : Kept old w keys ts i) (is : added ≡ not (has_text keys (get_or ts i d)))
+    (u : (q : Bor (List ℕ)) → has_text more q ≡ cond (bytes_eq (get_or ts i d).now q.now) true (has_text keys q)) where
+  pub kept_new : (v : List (List ℕ)) → added ≡ true → v ≡ w ++ (get_or ts i d).now ∷ [] → Kept old v more ts (i + 1)
+  kept_new v f e =
+      let t = (get_or ts i d).now in
+      let absent : list_any (bytes_eq t) (words_of (take i ts)) ≡ false = sym (kept.1 (get_or ts i d)) ∙ not_true (has_text keys (get_or ts i d)) (sym is ∙ f) in (
+        e ∙ ap (λ ws. ws ++ t ∷ []) kept.0 ∙ append_assoc old (distinct (words_of (take i ts))) (t ∷ []) ∙ ap (λ ws. old ++ ws) (sym (ap distinct (front_words ts i d below) ∙ distinct_new (words_of (take i ts)) t absent)),
+        held_more keys more ts i d below kept.1 u,
+      )
+
+  pub kept_old : added ≡ false → Kept old w more ts (i + 1)
+  kept_old f =
+      let t = (get_or ts i d).now in
+      let there : list_any (bytes_eq t) (words_of (take i ts)) ≡ true = sym (kept.1 (get_or ts i d)) ∙ not_false (has_text keys (get_or ts i d)) (sym is ∙ f) in (
+        kept.0 ∙ ap (λ ws. old ++ ws) (sym (ap distinct (front_words ts i d below) ∙ distinct_old (words_of (take i ts)) t there)),
+        held_more keys more ts i d below kept.1 u,
+      )

@@ -1,10 +1,10 @@
 -- What holds of that which a reader gives, reader by reader.
-use Rattle.std.proofs.Common.{◌≡◌, ℕ, List, ◌∷◌, Bool, true, false, Option, Some, None, refl, subst}
+use Rattle.std.proofs.Common.{◌≡◌, ℕ, List, [], ◌∷◌, Bool, true, false, Option, Some, None, refl, subst}
 use Rattle.std.specs.Prelude.{if◌then◌else◌, option_map, option_and_then}
-use Rattle.toml.specs.Data.{Data, Members, Items, no_items, item, get_member, as_table, as_str}
+use Rattle.toml.specs.Data.{Data, Members, Items, no_items, item, get_member, as_array, as_table, as_str}
 use Rattle.description.specs.Described.{with_only}
 use Rattle.description.specs.Described.Texts.{as_text_of, if_passes}
-use Rattle.description.specs.Described.Values.{has_only, value_or, optional_at, required_at, each_table}
+use Rattle.description.specs.Described.Values.{as_texts, each_item, each_table, has_only, in_table, is_empty, optional_at, required_at, value_or, words_at}
 use Rattle.description.proofs.Each.{Each}
 
 abbrev pub Gives : {X : Type 0} → (X → Type 0) → Option X → Type 0
@@ -62,10 +62,18 @@ gives_passing P test h text = by (test text) (h text) where
 pub gives_text : (P : List ℕ → Type 0) (test : List ℕ → Bool) → ((text : List ℕ) → test text ≡ true → P text) → (d : Data) → Gives P (as_text_of test d)
 gives_text P test h d = gives_then Whatever P (as_str d) (if_passes test) (gives_whatever (as_str d)) (λ text u. gives_passing P test h text)
 
--- ---- tables
+-- ---- items and tables
+
+pub gives_items : {X : Type 0} (P : X → Type 0) (read : Data → Option X) → ((d : Data) → Gives P (read d)) → (ds : Items) → Gives (Each P) (each_item read ds)
+gives_items P read h no_items = tt
+gives_items P read h (item d ds) =
+    gives_then P (Each P) (read d) (λ x. option_map (λ xs. x ∷ xs) (each_item read ds)) (h d) (λ x p. gives_map (Each P) (Each P) (each_item read ds) (λ xs. x ∷ xs) (gives_items P read h ds) (λ xs ps. (p, ps)))
 
 pub gives_each : {X : Type 0} (P : X → Type 0) (read : Members → Option X) → ((ms : Members) → Gives P (read ms)) → (ds : Items) → Gives (Each P) (each_table read ds)
-gives_each P read h no_items = tt
-gives_each P read h (item d ds) =
-    gives_then P (Each P) (option_and_then read (as_table d)) (λ x. option_map (λ xs. x ∷ xs) (each_table read ds)) (gives_then Whatever P (as_table d) read (gives_whatever (as_table d)) (λ ms u. h ms))
-    (λ x p. gives_map (Each P) (Each P) (each_table read ds) (λ xs. x ∷ xs) (gives_each P read h ds) (λ xs ps. (p, ps)))
+gives_each P read h = gives_items P (in_table read) (λ d. gives_then Whatever P (as_table d) read (gives_whatever (as_table d)) (λ ms u. h ms))
+
+pub gives_texts : (P : List ℕ → Type 0) (read : Data → Option (List ℕ)) → ((d : Data) → Gives P (read d)) → (d : Data) → Gives (Each P) (as_texts read d)
+gives_texts P read h d = gives_then Whatever (Each P) (as_array d) _ (gives_whatever (as_array d)) (λ ds u. gives_unless (Each P) (is_empty ds) (each_item read ds) (gives_items P read h ds))
+
+pub gives_words : (P : List ℕ → Type 0) (read : Data → Option (List ℕ)) → ((d : Data) → Gives P (read d)) → (key : List ℕ) (ms : Members) → Gives (Each P) (words_at read key ms)
+gives_words P read h key ms = found (Each P) (Some []) (as_texts read) (get_member key ms) tt (gives_texts P read h)

@@ -1,5 +1,5 @@
 -- The manual page of a level, part by part.
-use Rattle.std.proofs.Common.{◌≡◌, ℕ, ◌+◌, ◌≤◌, Bool, true, false, if◌then◌else◌, List, [], ◌∷◌, ◌++◌, length, drop, take, map, flat_map, codes, refl, sym, ap, ◌∙◌, subst, arith, append_assoc, Option, Some, None, option_and_then, Result, Ok, Err, OnOk, bytes_eq, MatchOption, MatchBool}
+use Rattle.std.proofs.Common.{◌≡◌, ℕ, ◌+◌, ◌≤◌, Bool, true, false, if◌then◌else◌, List, [], ◌∷◌, ◌++◌, length, drop, take, map, flat_map, codes, refl, sym, ap, ◌∙◌, subst, arith, append_assoc, Option, Some, None, option_and_then, Result, Ok, Err, OnOk, bytes_eq, MatchOption, MatchBool, take_all}
 use Rattle.std.specs.Borrow.{Bor}
 use Rattle.std.specs.List.{join_by}
 use Rattle.std.specs.Option.{option_or, unwrap_or}
@@ -19,7 +19,7 @@ use Rattle.bpaf_items.specs.Page.HelpPage.{doc_within, groups_writes}
 use Rattle.bpaf_items.proofs.Page.Leaving.{written_then}
 use Rattle.bpaf_help.specs.Chapters.{manual_name}
 use Rattle.description_parts.specs.Content.{TextsSaid}
-use Rattle.description_parts.specs.View.{level_said}
+use Rattle.description_parts.specs.View.{level_said, topic_said}
 use Rattle.description_parts.specs.declared.levels.Level.{Level, Level-F, out-Level}
 use Rattle.description_parts.specs.declared.levels.Group.{Group}
 use Rattle.description_parts.specs.declared.levels.Command.{Command}
@@ -29,12 +29,13 @@ use Rattle.description.specs.Manuals.Steps.{front_writes, list_writes}
 use Rattle.description.specs.Pages.{subject_tree}
 use Rattle.description.specs.Paragraphs.{summary_of}
 use Rattle.description.specs.Subjects.{SubjectSaid}
+use Rattle.description.specs.Topics.{topic_writes}
 use Rattle.description.specs.Trees.{document_said, options_tree}
 
 -- ---- the texts of a level
 
 abbrev texts_layer : {A : Type 0} → Level-F A (Command A) (Group A) (Level A) → TextsSaid
-texts_layer l = record { about = text_of l.about; header = text_of l.header; footer = text_of l.footer; usage = text_of l.usage }
+texts_layer l = record { about = text_of l.about; header = text_of l.header; footer = text_of l.footer; usage = text_of l.usage; topics = map topic_said l.topics.items }
 
 pub level_texts : {A : Type 0} (l : Level A) → texts_in (level_said l) ≡ texts_layer (out-Level A l)
 level_texts l = ap texts_in (open-Level l)
@@ -65,6 +66,11 @@ pub three_put : {T E : Type 0} (r : Result T E) (d0 d1 d2 d3 : List Part) (us vs
 three_put (Ok x) d0 d1 d2 d3 us vs ws whole same e f g = written_then d0 d2 d3 (us ++ vs) ws (written_then d0 d1 d2 us vs e f) g ∙ ap (with_writes d0) same
 three_put (Err x) d0 d1 d2 d3 us vs ws whole same e f g = tt
 
+-- and a fourth
+four_put : {T E : Type 0} (r : Result T E) (d0 d1 d2 d3 d4 : List Part) (us vs ws xs whole : List Write) → ((us ++ vs) ++ ws) ++ xs ≡ whole
+    → d1 ≡ with_writes d0 us → d2 ≡ with_writes d1 vs → d3 ≡ with_writes d2 ws → OnOk r (d4 ≡ with_writes d3 xs) → OnOk r (d4 ≡ with_writes d0 whole)
+four_put r d0 d1 d2 d3 d4 us vs ws xs whole same e f g h = three_put r d0 d2 d3 d4 (us ++ vs) ws xs whole same (written_then d0 d1 d2 us vs e f) g h
+
 module _ {A : Type 0} (s : SubjectSaid) (l : Level A) (of_level : s.level ≡ level_said l) where
   texts : texts_in s.level ≡ texts_layer (out-Level A l)
   texts = ap texts_in of_level ∙ level_texts l
@@ -76,21 +82,24 @@ module _ {A : Type 0} (s : SubjectSaid) (l : Level A) (of_level : s.level ≡ le
       ∙ ap (λ x. (manual_name (page_name s.path) (document_said (summary s)) ++ synopsis_writes s.path x (text_of (out-Level A l).usage)) ++ description_writes (text_of (out-Level A l).about)) of_tree
       ∙ ap (λ ts. (manual_name (page_name s.path) (document_said (summary s)) ++ synopsis_writes s.path (subject_tree s) ts.usage) ++ description_writes ts.about) (sym texts)
 
-  pub lists_same : (t : Tree) → t ≡ subject_tree s → (doc_within block.Block (document_said (text_of (out-Level A l).header)) ++ groups_writes false no_texts (item_list t ++ item_list (options_tree s.help_options))) ++ doc_within block.Block (document_said (text_of (out-Level A l).footer)) ≡ list_writes s
+  pub lists_same : (t : Tree) → t ≡ subject_tree s
+      → ((doc_within block.Block (document_said (text_of (out-Level A l).header)) ++ groups_writes false no_texts (item_list t ++ item_list (options_tree s.help_options))) ++ flat_map (topic_writes true) (map topic_said (out-Level A l).topics.items))
+      ++ doc_within block.Block (document_said (text_of (out-Level A l).footer)) ≡ list_writes s
   lists_same t of_tree =
-      ap (λ x. (doc_within block.Block (document_said (text_of (out-Level A l).header)) ++ groups_writes false no_texts (item_list x ++ item_list (options_tree s.help_options))) ++ doc_within block.Block (document_said (text_of (out-Level A l).footer))) of_tree
-      ∙ ap (λ ts. (doc_within block.Block (document_said ts.header) ++ groups_writes false no_texts (item_list (subject_tree s) ++ item_list (options_tree s.help_options))) ++ doc_within block.Block (document_said ts.footer)) (sym texts)
+      ap (λ x. ((doc_within block.Block (document_said (text_of (out-Level A l).header)) ++ groups_writes false no_texts (item_list x ++ item_list (options_tree s.help_options))) ++ flat_map (topic_writes true) (map topic_said (out-Level A l).topics.items)) ++ doc_within block.Block (document_said (text_of (out-Level A l).footer))) of_tree
+      ∙ ap (λ ts. ((doc_within block.Block (document_said ts.header) ++ groups_writes false no_texts (item_list (subject_tree s) ++ item_list (options_tree s.help_options))) ++ flat_map (topic_writes true) ts.topics) ++ doc_within block.Block (document_said ts.footer)) (sym texts)
 
   pub front_put : {T E : Type 0} (r : Result T E) (d0 d1 d2 d3 : List Part) (t : Tree) → t ≡ subject_tree s → (named : Option (List ℕ)) → named ≡ summary s → d1 ≡ with_writes d0 (manual_name (page_name s.path) (document_said named))
       → d2 ≡ with_writes d1 (synopsis_writes s.path t (text_of (out-Level A l).usage)) → OnOk r (d3 ≡ with_writes d2 (description_writes (text_of (out-Level A l).about))) → OnOk r (d3 ≡ with_writes d0 (front_writes s))
   front_put r d0 d1 d2 d3 t of_tree named e f g h =
       three_put r d0 d1 d2 d3 (manual_name (page_name s.path) (document_said named)) (synopsis_writes s.path t (text_of (out-Level A l).usage)) (description_writes (text_of (out-Level A l).about)) (front_writes s) (front_same t of_tree named e) f g h
 
-  pub lists_put : {T E : Type 0} (r : Result T E) (d0 d1 d2 d3 : List Part) (t : Tree) → t ≡ subject_tree s → d1 ≡ with_writes d0 (doc_within block.Block (document_said (text_of (out-Level A l).header)))
-      → d2 ≡ with_writes d1 (groups_writes false no_texts (item_list t ++ item_list (options_tree s.help_options))) → OnOk r (d3 ≡ with_writes d2 (doc_within block.Block (document_said (text_of (out-Level A l).footer)))) → OnOk r (d3 ≡ with_writes d0 (list_writes s))
-  lists_put r d0 d1 d2 d3 t of_tree f g h =
-      three_put r d0 d1 d2 d3 (doc_within block.Block (document_said (text_of (out-Level A l).header))) (groups_writes false no_texts (item_list t ++ item_list (options_tree s.help_options))) (doc_within block.Block (document_said (text_of (out-Level A l).footer))) (list_writes s)
-      (lists_same t of_tree) f g h
+  pub lists_put : {T E : Type 0} (r : Result T E) (d0 d1 d2 d3 d4 : List Part) (t : Tree) → t ≡ subject_tree s → d1 ≡ with_writes d0 (doc_within block.Block (document_said (text_of (out-Level A l).header)))
+      → d2 ≡ with_writes d1 (groups_writes false no_texts (item_list t ++ item_list (options_tree s.help_options))) → d3 ≡ with_writes d2 (flat_map (topic_writes true) (map topic_said (out-Level A l).topics.items))
+      → OnOk r (d4 ≡ with_writes d3 (doc_within block.Block (document_said (text_of (out-Level A l).footer)))) → OnOk r (d4 ≡ with_writes d0 (list_writes s))
+  lists_put r d0 d1 d2 d3 d4 t of_tree e f g h =
+      four_put r d0 d1 d2 d3 d4 (doc_within block.Block (document_said (text_of (out-Level A l).header))) (groups_writes false no_texts (item_list t ++ item_list (options_tree s.help_options))) (flat_map (topic_writes true) (map topic_said (out-Level A l).topics.items))
+      (doc_within block.Block (document_said (text_of (out-Level A l).footer))) (list_writes s) (lists_same t of_tree) e f g h
 
   pub own_summary : (text : List ℕ) → Some text ≡ option_and_then summary_of (text_of (out-Level A l).about) → Some text ≡ summary s
   own_summary text h = ap (λ o. option_or o (option_and_then summary_of s.help)) (h ∙ ap (λ ts. option_and_then summary_of ts.about) (sym texts))
@@ -100,9 +109,10 @@ module _ {A : Type 0} (s : SubjectSaid) (l : Level A) (of_level : s.level ≡ le
 
 -- the whole
 whole_writes : (s : SubjectSaid) → document_of ((front_writes s ++ list_writes s) ++ see_also_writes s.words.section (neighbours s)) ≡ subject_manual s
-whole_writes s = regrouped (front_writes s) _ _ _ (see_also_writes s.words.section (neighbours s)) where
-  regrouped : (us bs cs ds es : List Write) → document_of ((us ++ ((bs ++ cs) ++ ds)) ++ es) ≡ document_of ((((us ++ bs) ++ cs) ++ ds) ++ es)
-  regrouped us bs cs ds es = ap (λ xs. document_of (xs ++ es)) (sym (append_assoc us (bs ++ cs) ds) ∙ ap (λ xs. xs ++ ds) (sym (append_assoc us bs cs)))
+whole_writes s = regrouped (front_writes s) _ _ _ _ (see_also_writes s.words.section (neighbours s)) where
+  regrouped : (us bs cs ts ds es : List Write) → document_of ((us ++ (((bs ++ cs) ++ ts) ++ ds)) ++ es) ≡ document_of (((((us ++ bs) ++ cs) ++ ts) ++ ds) ++ es)
+  regrouped us bs cs ts ds es =
+      ap (λ xs. document_of (xs ++ es)) (sym (append_assoc us ((bs ++ cs) ++ ts) ds) ∙ ap (λ xs. xs ++ ds) (sym (append_assoc us (bs ++ cs) ts) ∙ ap (λ xs. xs ++ ts) (sym (append_assoc us bs cs))))
 
 pub manual_whole : (s : SubjectSaid) (d0 d1 d2 d3 : List Part) (section : List ℕ) (names : List (List ℕ)) → d0 ≡ [] → d1 ≡ with_writes d0 (front_writes s) → d2 ≡ with_writes d1 (list_writes s)
     → section ≡ s.words.section → names ≡ neighbours s → d3 ≡ with_writes d2 (see_also_writes section names) → d3 ≡ subject_manual s
@@ -112,11 +122,16 @@ manual_whole s d0 d1 d2 d3 section names e0 e1 e2 es en e3 =
     ∙ ap (λ ps. with_writes ps ((front_writes s ++ list_writes s) ++ see_also_writes s.words.section (neighbours s))) e0
     ∙ whole_writes s
 
--- ---- the names of other pages
+-- ---- what each element of a list writes
 
-pub flat_names : {X : Type 0} (f : List ℕ → List Write) (bytes : X → List ℕ) (xs : List X) → flat_map (λ x. f (bytes x)) xs ≡ flat_map f (map bytes xs)
-flat_names f bytes [] = refl
-flat_names f bytes (x ∷ xs) = ap (λ ws. f (bytes x) ++ ws) (flat_names f bytes xs)
+flat_said : {X Y : Type 0} (f : Y → List Write) (said : X → Y) (xs : List X) → flat_map (λ x. f (said x)) xs ≡ flat_map f (map said xs)
+flat_said f said [] = refl
+flat_said f said (x ∷ xs) = ap (λ ws. f (said x) ++ ws) (flat_said f said xs)
+
+pub all_put : {X Y : Type 0} (f : Y → List Write) (said : X → Y) (xs : List X) (i : ℕ) (d e : List Part) → length xs ≤ i → e ≡ with_writes d (flat_map (λ x. f (said x)) (take i xs)) → e ≡ with_writes d (flat_map f (map said xs))
+all_put f said xs i d e h s = s ∙ ap (λ ys. with_writes d (flat_map (λ x. f (said x)) ys)) (take_all i xs h) ∙ ap (with_writes d) (flat_said f said xs)
+
+-- ---- the names of other pages
 
 -- a reference that is not the first
 abbrev pub further : (section name : List ℕ) → List Write
@@ -129,6 +144,6 @@ references_put section bytes all first others done d0 d1 d2 d3 is whole e f g =
     let title = heading (codes "SEE ALSO") in
     let one = reference section (bytes first) in
     let rest = flat_map (further section) (map bytes others) in
-    let more : d3 ≡ with_writes d2 rest = g ∙ ap (λ xs. with_writes d2 (flat_map (λ x. further section (bytes x)) xs)) whole ∙ ap (with_writes d2) (flat_names (further section) bytes others) in
+    let more : d3 ≡ with_writes d2 rest = g ∙ ap (λ xs. with_writes d2 (flat_map (λ x. further section (bytes x)) xs)) whole ∙ ap (with_writes d2) (flat_said (further section) bytes others) in
     written_then d0 d1 d3 title (one ++ rest) e (written_then d1 d2 d3 one rest f more)
     ∙ ap (λ xs. with_writes d0 (see_also_writes section (map bytes xs))) (sym is)

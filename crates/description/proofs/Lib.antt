@@ -1,5 +1,6 @@
 pub mod Each
 pub mod Placed
+pub mod NestedTexts
 pub mod Nested
 pub mod Views
 pub mod Made
@@ -15,7 +16,10 @@ pub mod Characters
 pub mod Plain
 pub mod ReadOnce
 pub mod Parted
+pub mod Literals
+pub mod Notes
 pub mod Margins
 pub mod PageNames
 pub mod LevelPages
 pub mod NestedLevels
+pub mod ManualFiles

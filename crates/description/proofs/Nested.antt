@@ -1,34 +1,54 @@
 -- The chapters of a description are well placed, and the documents of its pages are well nested.
-use Rattle.std.proofs.Common.{ℕ, Bool, true, false, List, [], ◌∷◌, ◌++◌, map, refl, Option, Some, None}
-use Rattle.std.specs.Prelude.{All, ◌||◌}
+use Rattle.std.proofs.Common.{ℕ, Bool, true, false, List, [], ◌∷◌, ◌++◌, map, refl, Option, Some, None, codes}
+use Rattle.std.specs.Prelude.{All, ◌||◌, option_map, ◌&&◌, unwrap_or}
 use Rattle.std.proofs.lemmas.List.Elements.{All-nil, All-cons, All-append}
 use Rattle.bpaf_doc.specs.declared.buffer.Style.TheVariants as style
 use Rattle.bpaf_doc.specs.declared.buffer.Block.TheVariants as block
-use Rattle.bpaf_doc.specs.Buffer.Parts.{IsWellNested, nothing, text}
+use Rattle.bpaf_doc.specs.Buffer.Parts.{Part, IsWellNested, nothing}
+use Rattle.bpaf_meta.specs.Content as content
 use Rattle.bpaf_meta.specs.Content.{Name, Tree, or_of, item, positional}
 use Rattle.bpaf_meta.specs.View.{trees_in}
 use Rattle.bpaf_meta.specs.Meta.Misplaced.{IsWellPlaced}
 use Rattle.bpaf_items.specs.Page.EnvTexts.{no_texts}
 use Rattle.bpaf_items.specs.Page.NestedTexts.{IsNestedText, HasNestedTexts, EachHasNestedTexts, HasNestedHead}
-use Rattle.bpaf_items.proofs.Page.NestedPages.{both_keep, inside_keeps, path_keeps, usage_keeps, written_keeps, docs_nested, help_pages_are_nested}
-use Rattle.bpaf_help.specs.Chapters.{Chapter, command_chapters, part_chapters}
+use Rattle.bpaf_items.proofs.Page.NestedPages.{Keeps, nothing_keeps, text_then, both_keep, inside_keeps, path_keeps, usage_keeps, written_keeps, docs_nested, help_pages_are_nested}
+use Rattle.bpaf_help.specs.Chapters.{Chapter, command_chapters, part_chapters, spaced}
 use Rattle.bpaf_help.specs.NestedPages.{HasNestedChapter}
 use Rattle.bpaf_help.specs.NestedPages as pages
 use Rattle.bpaf_help.proofs.NestedPages.{collected_pages_are_nested, manual_pages_are_nested}
 use Rattle.description.specs.Content.{DescriptionSaid}
 use Rattle.description.specs.Subjects.{application}
 use Rattle.description_parts.specs.Content.{OptSaid, ChoiceSaid, PositionalSaid, LevelSaid, level, GroupsSaid, no_groups, groups, GroupSaid, group, CommandsSaid, no_commands, commands, CommandSaid, command}
-use Rattle.description.specs.Trees.{text_document, document_said, named_leaf, option_item, wrapped, option_tree, options_tree, choice_tree, behind_dashes, positional_tree, titled, once_in_usage, one_of_commands, holds_command, hold_commands, named_group, named_groups, level_head, level_tree, placed_groups, placed_group, command_items, command_item, help_tree, description_tree, description_head}
+use Rattle.description.specs.Texts.{plain_document, has_literals}
+use Rattle.description.specs.Trees.{document_said, named_leaf, option_item, wrapped, option_tree, options_tree, choice_tree, behind_dashes, positional_tree, titled, once_in_usage, one_of_commands, holds_command, hold_commands, named_group, named_groups, level_head, level_tree, placed_groups, placed_group, command_items, command_item, help_tree, description_tree, description_head, help_said, unless_hidden, alternative_tree, show_command}
+use Rattle.description.specs.Notes.{command_notes, noted_writes, rest_writes, value_notes}
+use Rattle.description.specs.Paragraphs.{behind_lead, lead, without_back}
 use Rattle.description.specs.Pages.{ChaptersAreWellPlaced, PagesAreWellNested, SubjectsAreWellNested, description_chapters, subject_head, subject_tree}
 use Rattle.description.proofs.Placed.{level_well_placed}
 use Rattle.description.proofs.Each.{Each, each_append, each_map}
+use Rattle.description.proofs.NestedTexts.{footer_nested, plain_nested, said_nested, text_keeps}
 
-pub text_nested : (t : List ℕ) → IsWellNested (text_document t)
-text_nested t = text t style.Text refl
+usage_nested : (t : Option (List ℕ)) → IsNestedText (option_map plain_document t)
+usage_nested None = tt
+usage_nested (Some t) = plain_nested t
 
-pub said_nested : (t : Option (List ℕ)) → IsNestedText (document_said t)
-said_nested None = tt
-said_nested (Some t) = text_nested t
+-- ---- a help with notes
+
+rest_nested : (help rest : List ℕ) → Keeps (rest_writes help rest)
+rest_nested help [] = nothing_keeps
+rest_nested help (b ∷ bs) = text_keeps (has_literals help) (b ∷ bs)
+
+noted_nested : (help notes : List ℕ) → Keeps (noted_writes help notes)
+noted_nested [] notes = text_then notes style.Text nothing_keeps
+noted_nested (b ∷ bs) notes =
+    let help : List ℕ = b ∷ bs in
+    both_keep (text_keeps (has_literals help) (lead help)) (text_then (codes "\n ") style.Text (text_then notes style.Text (rest_nested help (behind_lead help))))
+
+help_said_nested : (help : Option (List ℕ)) (notes : List (List ℕ)) → IsNestedText (help_said help notes)
+help_said_nested help [] = said_nested help
+help_said_nested help (note ∷ notes) = written_keeps (noted_nested (without_back (unwrap_or help [])) (spaced (note ∷ notes)))
+
+-- ---- trees
 
 abbrev IsChapterSound : Chapter → Type 0
 IsChapterSound c = HasNestedChapter c × IsWellPlaced c.content
@@ -43,15 +63,22 @@ wrapped_sound false false t h = h
 wrapped_sound true true t h = h
 wrapped_sound false true t h = h
 
-leaf_sound : (value : Option (List ℕ)) (name : Name) (env help : Option (List ℕ)) → IsSound (item (named_leaf value name env (document_said help)))
-leaf_sound None name env help = (said_nested help, λ path. All-nil IsChapterSound)
-leaf_sound (Some value) name env help = (said_nested help, λ path. All-nil IsChapterSound)
+leaf_sound : (value : Option (List ℕ)) (name : Name) (env : Option (List ℕ)) (help : Option (List Part)) → IsNestedText help → IsSound (item (named_leaf value name env help))
+leaf_sound None name env help h = (h, λ path. All-nil IsChapterSound)
+leaf_sound (Some value) name env help h = (h, λ path. All-nil IsChapterSound)
 
 item_sound : (o : OptSaid) → IsSound (option_item o)
-item_sound o = leaf_sound o.value o.name o.env o.help
+item_sound o = leaf_sound o.value o.name o.env (help_said o.help (value_notes o.default o.values)) (help_said_nested o.help (value_notes o.default o.values))
+
+hidden_sound : (hidden : Bool) (t : Tree) → IsSound t → IsSound (unless_hidden hidden t)
+hidden_sound true t h = (tt, λ path. All-nil IsChapterSound)
+hidden_sound false t h = h
 
 option_sound : (o : OptSaid) → IsSound (option_tree o)
-option_sound o = wrapped_sound o.required o.repeated (option_item o) (item_sound o)
+option_sound o = hidden_sound o.hidden (wrapped o.required o.repeated (option_item o)) (wrapped_sound o.required o.repeated (option_item o) (item_sound o))
+
+alternative_sound : (o : OptSaid) → IsSound (alternative_tree o)
+alternative_sound o = hidden_sound o.hidden (option_item o) (item_sound o)
 
 parts_sound : (ts : List Tree) → Each IsSound ts → EachHasNestedTexts (trees_in ts) × ((path : List (List ℕ)) → All IsChapterSound (part_chapters path (trees_in ts)))
 parts_sound [] h = (tt, λ path. All-nil IsChapterSound)
@@ -60,7 +87,7 @@ parts_sound (t ∷ ts) h =
     ((h.0.0, rest.0), λ path. All-append IsChapterSound (command_chapters path t) (part_chapters path (trees_in ts)) (h.0.1 path) (rest.1 path))
 
 choice_sound : (c : ChoiceSaid) → IsSound (choice_tree c)
-choice_sound c = wrapped_sound c.required false (or_of (trees_in (map option_item c.options))) (parts_sound (map option_item c.options) (each_map IsSound option_item item_sound c.options))
+choice_sound c = wrapped_sound c.required false (or_of (trees_in (map alternative_tree c.options))) (parts_sound (map alternative_tree c.options) (each_map IsSound alternative_tree alternative_sound c.options))
 
 dashes_sound : (s : Bool) (t : Tree) → IsSound t → IsSound (behind_dashes s t)
 dashes_sound true t h = h
@@ -68,12 +95,14 @@ dashes_sound false t h = h
 
 positional_sound : (p : PositionalSaid) → IsSound (positional_tree p)
 positional_sound p =
-    let value : Tree = item (positional p.value (document_said p.help)) in
-    dashes_sound p.strict (wrapped p.required p.repeated value) (wrapped_sound p.required p.repeated value (said_nested p.help, λ path. All-nil IsChapterSound))
+    let notes : List (List ℕ) = value_notes p.default p.values in
+    let value : Tree = item (positional p.value (help_said p.help notes)) in
+    let whole : Tree = wrapped p.required p.repeated value in
+    hidden_sound p.hidden (behind_dashes p.strict whole) (dashes_sound p.strict whole (wrapped_sound p.required p.repeated value (help_said_nested p.help notes, λ path. All-nil IsChapterSound)))
 
 titled_sound : (title : List ℕ) (ts : List Tree) → Each IsSound ts → Each IsSound (titled title ts)
 titled_sound title [] h = tt
-titled_sound title (t ∷ ts) h = let parts = parts_sound (t ∷ ts) h in (((text_nested title, parts.0), parts.1), tt)
+titled_sound title (t ∷ ts) h = let parts = parts_sound (t ∷ ts) h in (((plain_nested title, parts.0), parts.1), tt)
 
 once_sound : (shown : Bool) (t : Tree) → IsSound t → IsSound (once_in_usage shown t)
 once_sound true t h = ((nothing refl, h.0), h.1)
@@ -93,7 +122,7 @@ groups_sound no_groups = tt
 groups_sound (groups g gs) = each_append IsSound (named_group g) (named_groups gs) (group_sound g) (groups_sound gs)
 
 head_nested : (help : Tree) → HasNestedTexts help → (l : LevelSaid) → HasNestedHead (level_head help l)
-head_nested help k (level t r os cs gs ps ms) = (said_nested t.about, said_nested t.header, said_nested t.footer, said_nested t.usage, k)
+head_nested help k (level t r os cs gs ps ms) = (said_nested t.about, said_nested t.header, footer_nested t.topics t.footer, usage_nested t.usage, k)
 
 mutual
   pub level_sound : (help : Tree) → HasNestedTexts help → (l : LevelSaid) → IsSound (level_tree help l)
@@ -103,7 +132,8 @@ mutual
       let gs' = named_groups gs in
       let qs' = placed_groups help false r gs in
       let ps' = map positional_tree ps in
-      let ms' = one_of_commands (hold_commands gs) r (command_items help ms) in
+      let further = hold_commands gs && show_command ms in
+      let ms' = one_of_commands further r (command_items help ms) in
       parts_sound (os' ++ cs' ++ gs' ++ qs' ++ ps' ++ ms')
       (each_append IsSound (os' ++ cs' ++ gs' ++ qs' ++ ps') ms'
       (each_append IsSound (os' ++ cs' ++ gs' ++ qs') ps'
@@ -113,7 +143,7 @@ mutual
       (groups_sound gs))
       (placed_sound help k false r gs))
       (each_map IsSound positional_tree positional_sound ps))
-      (one_of_sound (hold_commands gs) r (command_items help ms) (commands_sound help k ms)))
+      (one_of_sound further r (command_items help ms) (commands_sound help k ms)))
 
   placed_sound : (help : Tree) → HasNestedTexts help → (shown r : Bool) (gs : GroupsSaid) → Each IsSound (placed_groups help shown r gs)
   placed_sound help k shown r no_groups = tt
@@ -123,17 +153,20 @@ mutual
 
   placed_group_sound : (help : Tree) → HasNestedTexts help → (shown r : Bool) (g : GroupSaid) → Each IsSound (placed_group help shown r g)
   placed_group_sound help k shown r (group title os cs ps ms) =
-      let ms' = one_of_commands shown r (command_items help ms) in
-      titled_sound title (map positional_tree ps ++ ms') (each_append IsSound (map positional_tree ps) ms' (each_map IsSound positional_tree positional_sound ps) (one_of_sound shown r (command_items help ms) (commands_sound help k ms)))
+      let further = shown && show_command ms in
+      let ms' = one_of_commands further r (command_items help ms) in
+      titled_sound title (map positional_tree ps ++ ms') (each_append IsSound (map positional_tree ps) ms' (each_map IsSound positional_tree positional_sound ps) (one_of_sound further r (command_items help ms) (commands_sound help k ms)))
 
   commands_sound : (help : Tree) → HasNestedTexts help → (ms : CommandsSaid) → Each IsSound (command_items help ms)
   commands_sound help k no_commands = tt
   commands_sound help k (commands m ms) = (command_sound help k m, commands_sound help k ms)
 
   command_sound : (help : Tree) → HasNestedTexts help → (m : CommandSaid) → IsSound (command_item help m)
-  command_sound help k (command name initial h l) =
+  command_sound help k (command names h l) =
       let own = level_sound help k l in
-      (said_nested h, λ path. All-cons IsChapterSound (record { path = path ++ name ∷ []; info = level_head help l; content = level_tree help l }) (command_chapters (path ++ name ∷ []) (level_tree help l)) ((head_nested help k l, own.0), level_well_placed help l) (own.1 (path ++ name ∷ [])))
+      let text : Option (List Part) = help_said h (command_notes names.aliases) in
+      hidden_sound names.hidden (item (content.command names.name names.initial text (level_tree help l) (level_head help l)))
+      (help_said_nested h (command_notes names.aliases), λ path. All-cons IsChapterSound (record { path = path ++ names.name ∷ []; info = level_head help l; content = level_tree help l }) (command_chapters (path ++ names.name ∷ []) (level_tree help l)) ((head_nested help k l, own.0), level_well_placed help l) (own.1 (path ++ names.name ∷ [])))
 
 pub options_nested : (os : List OptSaid) → HasNestedTexts (options_tree os)
 options_nested os = (parts_sound (map option_tree os) (each_map IsSound option_tree option_sound os)).0

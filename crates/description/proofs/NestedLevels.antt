@@ -12,8 +12,10 @@ use Rattle.description.specs.Manuals.{SubjectManualsAreWellNested, description_w
 use Rattle.description.specs.Paragraphs.{goes_on}
 use Rattle.description.specs.Pages.{subject_tree}
 use Rattle.description.specs.Subjects.{SubjectSaid}
-use Rattle.description.specs.Trees.{document_said, options_tree, text_document}
-use Rattle.description.proofs.Nested.{level_sound, options_nested, said_nested, text_nested}
+use Rattle.description.specs.Texts.{plain_document, text_document}
+use Rattle.description.specs.Trees.{document_said, options_tree}
+use Rattle.description.proofs.Nested.{level_sound, options_nested}
+use Rattle.description.proofs.NestedTexts.{plain_nested, said_nested, text_nested, topics_keep}
 
 heading_keeps : (title : List ℕ) → Keeps (heading title)
 heading_keeps title = inside_keeps block.Header (text_then title style.Text nothing_keeps)
@@ -24,7 +26,7 @@ name_keeps name (Some words) = both_keep (heading_keeps (codes "NAME")) (text_th
 
 usage_keeps_it : (path : List (List ℕ)) (t : Tree) → HasNestedDocs t → (usage : Option (List ℕ)) → Keeps (usage_part path t usage)
 usage_keeps_it path t h None = both_keep (path_keeps path) (usage_keeps t h)
-usage_keeps_it path t h (Some words) = doc_keeps (text_document (without_lead words)) (text_nested (without_lead words))
+usage_keeps_it path t h (Some words) = doc_keeps (plain_document (without_lead words)) (plain_nested (without_lead words))
 
 if_keeps : (b : Bool) {ws : List Write} → Keeps ws → Keeps (if b then ws else [])
 if_keeps true f = f
@@ -53,11 +55,12 @@ subject_manuals_are_well_nested s =
     let whole = (level_sound help nested s.level).0 in
     let texts = texts_in s.level in
     written_keeps
-    (both_keep (both_keep (both_keep (both_keep (both_keep (both_keep
+    (both_keep (both_keep (both_keep (both_keep (both_keep (both_keep (both_keep
     (name_keeps (page_name s.path) (summary s))
     (both_keep (heading_keeps (codes "SYNOPSIS")) (usage_keeps_it s.path t (docs_nested t whole) texts.usage)))
     (description_keeps texts.about))
     (within_keeps (document_said texts.header) (said_nested texts.header)))
     (two_keep false no_texts t help whole nested))
+    (topics_keep true texts.topics))
     (within_keeps (document_said texts.footer) (said_nested texts.footer)))
     (see_also_keeps s.words.section (neighbours s)))

@@ -1,6 +1,7 @@
 -- The names of the pages of levels.
 use Rattle.std.proofs.Common.{◌≡◌, ℕ, suc, ◌+◌, ◌-◌, ◌<◌, ◌≤◌, ◌==◌, Bool, true, false, if◌then◌else◌, List, [], ◌∷◌, ◌++◌, length, drop, take, get_or, map, flat_map, codes, encode_utf8, refl, sym, ap, ◌∙◌, arith, append_assoc, append-nil, nat_lt, true≢false}
 use Rattle.std.proofs.lemmas.Bool.{lt-ltb, le-ltb}
+use Rattle.std.proofs.lemmas.Grind.{flat_map-append}
 use Rattle.std.proofs.lemmas.List.{drop_all, drop_more, length-map, map-append, take-map}
 use Rattle.std.proofs.lemmas.Str.{encode_ascii}
 use Rattle.std.specs.List.{join_by, join_with_byte}
@@ -11,7 +12,7 @@ use Rattle.description_parts.specs.declared.levels.Level.{Level, out-Level}
 use Rattle.description_parts.specs.declared.levels.Group.{Group, out-Group}
 use Rattle.description_parts.specs.declared.levels.Command.{Command, out-Command}
 use Rattle.description_parts.proofs.Views.{open-Level}
-use Rattle.description.specs.Manuals.{name_above, name_below, neighbours, page_name}
+use Rattle.description.specs.Manuals.{name_above, names_below, neighbours, page_name}
 use Rattle.description.specs.Subjects.{SubjectSaid, commands_on, grouped, listed}
 use Rattle.description.proofs.Named.{grouped_more, listed_all}
 
@@ -65,21 +66,21 @@ module _ {X : Type 0} (bytes : X → List ℕ) (xs : List X) (name : List ℕ) w
 
 -- ---- the loops
 
-module _ {A : Type 0} (f : CommandSaid → List ℕ) (gs : List (Group A)) (i : ℕ) (before : List (List ℕ)) where
-  pub group_pushed : (g d : Group A) {after whole : List (List ℕ)} → g ≡ get_or gs i d → i < length gs → before ++ map f (grouped (groups_said (drop i gs))) ≡ whole
-      → after ≡ before ++ map f (map command_said (out-Group A g).commands.items) → after ++ map f (grouped (groups_said (drop (i + 1) gs))) ≡ whole
+module _ {A : Type 0} (f : CommandSaid → List (List ℕ)) (gs : List (Group A)) (i : ℕ) (before : List (List ℕ)) where
+  pub group_pushed : (g d : Group A) {after whole : List (List ℕ)} → g ≡ get_or gs i d → i < length gs → before ++ flat_map f (grouped (groups_said (drop i gs))) ≡ whole
+      → after ≡ before ++ flat_map f (map command_said (out-Group A g).commands.items) → after ++ flat_map f (grouped (groups_said (drop (i + 1) gs))) ≡ whole
   group_pushed g d at h so_far e =
-      let own : List (List ℕ) = map f (map command_said (out-Group A g).commands.items) in
-      let rest : List (List ℕ) = map f (grouped (groups_said (drop (i + 1) gs))) in
+      let own : List (List ℕ) = flat_map f (map command_said (out-Group A g).commands.items) in
+      let rest : List (List ℕ) = flat_map f (grouped (groups_said (drop (i + 1) gs))) in
       ap (λ ts. ts ++ rest) e ∙ append_assoc before own rest
-      ∙ ap (λ ts. before ++ ts) (sym (map-append f (map command_said (out-Group A g).commands.items) (grouped (groups_said (drop (i + 1) gs)))))
-      ∙ ap (λ ms. before ++ map f ms) (sym (grouped_more g (drop (i + 1) gs)))
-      ∙ ap (λ x. before ++ map f (grouped (groups_said (x ∷ drop (i + 1) gs)))) at
-      ∙ ap (λ hs. before ++ map f (grouped (groups_said hs))) (sym (drop_more gs i d h))
+      ∙ ap (λ ts. before ++ ts) (sym (flat_map-append f (map command_said (out-Group A g).commands.items) (grouped (groups_said (drop (i + 1) gs)))))
+      ∙ ap (λ ms. before ++ flat_map f ms) (sym (grouped_more g (drop (i + 1) gs)))
+      ∙ ap (λ x. before ++ flat_map f (grouped (groups_said (x ∷ drop (i + 1) gs)))) at
+      ∙ ap (λ hs. before ++ flat_map f (grouped (groups_said hs))) (sym (drop_more gs i d h))
       ∙ so_far
 
-  pub groups_pushed : {whole : List (List ℕ)} → length gs ≤ i → before ++ map f (grouped (groups_said (drop i gs))) ≡ whole → before ≡ whole
-  groups_pushed h so_far = sym (append-nil before) ∙ ap (λ hs. before ++ map f (grouped (groups_said hs))) (sym (drop_all i gs h)) ∙ so_far
+  pub groups_pushed : {whole : List (List ℕ)} → length gs ≤ i → before ++ flat_map f (grouped (groups_said (drop i gs))) ≡ whole → before ≡ whole
+  groups_pushed h so_far = sym (append-nil before) ∙ ap (λ hs. before ++ flat_map f (grouped (groups_said hs))) (sym (drop_all i gs h)) ∙ so_far
 
 -- ---- all of a level
 
@@ -87,14 +88,14 @@ commands_view : {A : Type 0} (l : Level A) → commands_on (level_said l) ≡ gr
 commands_view {A} l = ap commands_on (open-Level l) ∙ ap (λ ms. grouped (groups_said (out-Level A l).groups.items) ++ ms) (listed_all (map command_said (out-Level A l).commands.items))
 
 pub neighbours_whole : {A : Type 0} (s : SubjectSaid) (l : Level A) (gs : List (Group A)) (ms : List (Command A)) (n0 n1 n2 n3 : List (List ℕ)) → s.level ≡ level_said l → gs ≡ (out-Level A l).groups.items → ms ≡ (out-Level A l).commands.items
-    → n0 ≡ [] → n1 ≡ n0 ++ name_above s.path → n2 ≡ n1 ++ map (name_below s.path) (grouped (groups_said gs)) → n3 ≡ n2 ++ map (name_below s.path) (map command_said ms) → n3 ≡ neighbours s
+    → n0 ≡ [] → n1 ≡ n0 ++ name_above s.path → n2 ≡ n1 ++ flat_map (names_below s.path) (grouped (groups_said gs)) → n3 ≡ n2 ++ flat_map (names_below s.path) (map command_said ms) → n3 ≡ neighbours s
 neighbours_whole {A} s l gs ms n0 n1 n2 n3 el eg em e0 e1 e2 e3 =
-    let f = name_below s.path in
+    let f = names_below s.path in
     let own = grouped (groups_said (out-Level A l).groups.items) in
     let others = map command_said (out-Level A l).commands.items in
-    e3 ∙ ap (λ ns. ns ++ map f (map command_said ms)) (e2 ∙ ap (λ ns. ns ++ map f (grouped (groups_said gs))) (e1 ∙ ap (λ ns. ns ++ name_above s.path) e0))
-    ∙ ap (λ xs. (name_above s.path ++ map f (grouped (groups_said xs))) ++ map f (map command_said ms)) eg
-    ∙ ap (λ xs. (name_above s.path ++ map f own) ++ map f (map command_said xs)) em
-    ∙ append_assoc (name_above s.path) (map f own) (map f others)
-    ∙ ap (λ ns. name_above s.path ++ ns) (sym (map-append f own others))
-    ∙ ap (λ xs. name_above s.path ++ map f xs) (sym (ap commands_on el ∙ commands_view l))
+    e3 ∙ ap (λ ns. ns ++ flat_map f (map command_said ms)) (e2 ∙ ap (λ ns. ns ++ flat_map f (grouped (groups_said gs))) (e1 ∙ ap (λ ns. ns ++ name_above s.path) e0))
+    ∙ ap (λ xs. (name_above s.path ++ flat_map f (grouped (groups_said xs))) ++ flat_map f (map command_said ms)) eg
+    ∙ ap (λ xs. (name_above s.path ++ flat_map f own) ++ flat_map f (map command_said xs)) em
+    ∙ append_assoc (name_above s.path) (flat_map f own) (flat_map f others)
+    ∙ ap (λ ns. name_above s.path ++ ns) (sym (flat_map-append f own others))
+    ∙ ap (λ xs. name_above s.path ++ flat_map f xs) (sym (ap commands_on el ∙ commands_view l))

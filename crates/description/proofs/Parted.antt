@@ -1,15 +1,15 @@
 -- The paragraphs of a text, one after another.
-use Rattle.std.proofs.Common.{◌≡◌, ℕ, suc, zero, ◌+◌, ◌<◌, ◌≤◌, ◌==◌, Bool, true, false, cond, List, [], ◌∷◌, ◌++◌, length, drop, take, refl, sym, ap, ◌∙◌, subst, inl, inr, arith, Option, Some, None, MatchOption, find, count_by, nat_lt, ◌&&◌, Bor, true≢false}
+use Rattle.std.proofs.Common.{◌≡◌, ℕ, suc, zero, ◌+◌, ◌-◌, ◌<◌, ◌≤◌, ◌==◌, Bool, true, false, cond, List, [], ◌∷◌, ◌++◌, length, drop, take, refl, sym, ap, ◌∙◌, subst, inl, inr, arith, Option, Some, None, MatchOption, find, count_by, nat_lt, ◌&&◌, Bor, true≢false}
 use Rattle.std.proofs.lemmas.Bool.Decides.{eqb_tells}
 use Rattle.std.proofs.lemmas.Bool.{lt-ltb}
-use Rattle.std.proofs.lemmas.List.{drop_all}
+use Rattle.std.proofs.lemmas.List.{drop_all, length-drop, length-take-le}
 use Rattle.std.proofs.lemmas.List.Sums.{sum_by-cons}
 use Rattle.std.specs.List.{onto_first}
 use Rattle.std.specs.Str.Iter.{split_has_more, split_pattern, split_steps, split_text}
 use Rattle.std.specs.Str.Pattern.{FindsText, IsSplitAtFirstMatch, LacksTextAt}
 use Rattle.std.specs.declared.str.Split.{Split}
 use Rattle.description.specs.Described.Texts.{has_ink}
-use Rattle.description.specs.Paragraphs.{goes_on, is_newline, paragraphs}
+use Rattle.description.specs.Paragraphs.{behind_lead, front, goes_on, is_newline, lead, paragraphs}
 
 abbrev between : List ℕ
 between = 10 ∷ 10 ∷ []
@@ -42,6 +42,19 @@ first_there zero s rest h e = ap paragraphs e
 first_there (suc a) [] rest h e = absurd (no_bytes rest (suc a) e)
 first_there (suc a) (b ∷ []) rest h e = absurd (no_bytes rest a e)
 first_there (suc a) (b ∷ c ∷ cs) rest h e = stays b c cs (h 0 (omega arith)) ∙ ap (onto_first b) (first_there a (c ∷ cs) rest (λ i below. h (suc i) (omega arith)) e)
+
+-- ---- the first paragraph
+
+pub no_break : (s : List ℕ) → FindsText between s None → (lead s ≡ s) × (behind_lead s ≡ [])
+no_break s f =
+    let alone = ap front (none_there s f) in
+    (alone, ap (λ t. drop (length t) s) alone ∙ drop_all (length s) s (omega arith))
+
+pub at_break : (s : List ℕ) (i j : ℕ) → FindsText between s (Some (i, j)) → (lead s ≡ take i s) × (behind_lead s ≡ drop i s)
+at_break s i j f =
+    let left : length s - i ≡ length (10 ∷ 10 ∷ drop j s) = sym (length-drop i s) ∙ ap length f.1.split in
+    let first = ap front (first_there i s (drop j s) f.0 f.1.split) in
+    (first, ap (λ t. drop (length t) s) first ∙ ap (λ n. drop n s) (length-take-le i s (omega (arith, left))))
 
 -- ---- the paragraphs that are left
 

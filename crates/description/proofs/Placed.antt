@@ -1,14 +1,16 @@
 -- No named item of a description stands after a positional one: the check of the tree passes.
 use Rattle.std.proofs.Common.{◌≡◌, ℕ, Bool, true, false, List, [], ◌∷◌, ◌++◌, map, refl, ap, ◌∙◌, Option, Some, None}
-use Rattle.std.specs.Prelude.{◌||◌}
+use Rattle.std.specs.Prelude.{◌&&◌, ◌||◌}
 use Rattle.bpaf_doc.specs.Buffer.Parts.{Part}
-use Rattle.bpaf_meta.specs.Content.{Name, Tree, or_of, item, positional}
+use Rattle.bpaf_meta.specs.Content as content
+use Rattle.bpaf_meta.specs.Content.{Name, Tree, or_of, item, positional, Head}
 use Rattle.bpaf_meta.specs.View.{trees_in}
 use Rattle.bpaf_meta.specs.Meta.Misplaced.{IsWellPlaced}
 use Rattle.bpaf_meta.specs.Meta.Steps.Walk.{Check, fine, wrong, then_check, walked, walked_parts, walked_branches}
 use Rattle.bpaf_meta.proofs.lemmas.Misplaced.Lines.{well_placed}
-use Rattle.description_parts.specs.Content.{OptSaid, ChoiceSaid, PositionalSaid, LevelSaid, level, GroupsSaid, no_groups, groups, GroupSaid, group, CommandsSaid, no_commands, commands, CommandSaid, command}
-use Rattle.description.specs.Trees.{document_said, named_leaf, option_item, wrapped, option_tree, choice_tree, behind_dashes, positional_tree, titled, once_in_usage, one_of_commands, holds_command, hold_commands, named_group, named_groups, level_tree, placed_groups, placed_group, command_items, command_item}
+use Rattle.description_parts.specs.Content.{OptSaid, ChoiceSaid, PositionalSaid, LevelSaid, level, GroupsSaid, no_groups, groups, GroupSaid, group, CommandsSaid, no_commands, commands, CommandNames, CommandSaid, command}
+use Rattle.description.specs.Notes.{command_notes, value_notes}
+use Rattle.description.specs.Trees.{named_leaf, help_said, option_item, wrapped, unless_hidden, option_tree, alternative_tree, choice_tree, behind_dashes, positional_tree, titled, once_in_usage, one_of_commands, show_command, holds_command, hold_commands, named_group, named_groups, level_head, level_tree, placed_groups, placed_group, command_items, command_item}
 use Rattle.description.proofs.Each.{Each, each_append, each_map}
 
 -- ---- trees of named items
@@ -29,17 +31,24 @@ leaf_named None name env help = refl
 leaf_named (Some value) name env help = refl
 
 item_named : (o : OptSaid) → IsNamed (option_item o)
-item_named o = leaf_named o.value o.name o.env (document_said o.help)
+item_named o = leaf_named o.value o.name o.env (help_said o.help (value_notes o.default o.values))
+
+hidden_named : (hidden : Bool) (t : Tree) → IsNamed t → IsNamed (unless_hidden hidden t)
+hidden_named true t h = refl
+hidden_named false t h = h
 
 option_named : (o : OptSaid) → IsNamed (option_tree o)
-option_named o = wrapped_walked o.required o.repeated (option_item o) false ∙ item_named o
+option_named o = hidden_named o.hidden (wrapped o.required o.repeated (option_item o)) (wrapped_walked o.required o.repeated (option_item o) false ∙ item_named o)
 
-branches_named : (os : List OptSaid) → walked_branches (trees_in (map option_item os)) false false ≡ fine false
+alternative_named : (o : OptSaid) → IsNamed (alternative_tree o)
+alternative_named o = hidden_named o.hidden (option_item o) (item_named o)
+
+branches_named : (os : List OptSaid) → walked_branches (trees_in (map alternative_tree os)) false false ≡ fine false
 branches_named [] = refl
-branches_named (o ∷ os) = ap (λ c. then_check c (λ b. walked_branches (trees_in (map option_item os)) false (false || b))) (item_named o) ∙ branches_named os
+branches_named (o ∷ os) = ap (λ c. then_check c (λ b. walked_branches (trees_in (map alternative_tree os)) false (false || b))) (alternative_named o) ∙ branches_named os
 
 choice_named : (c : ChoiceSaid) → IsNamed (choice_tree c)
-choice_named c = wrapped_walked c.required false (or_of (trees_in (map option_item c.options))) false ∙ branches_named c.options
+choice_named c = wrapped_walked c.required false (or_of (trees_in (map alternative_tree c.options))) false ∙ branches_named c.options
 
 parts_named : (ts : List Tree) → Each IsNamed ts → walked_parts (trees_in ts) false ≡ fine false
 parts_named [] h = refl
@@ -73,8 +82,16 @@ value_placed : (value : List ℕ) (help : Option (List Part)) → IsPlaced (item
 value_placed value help true = (true, refl)
 value_placed value help false = (true, refl)
 
+hidden_placed : (hidden : Bool) (t : Tree) → IsPlaced t → IsPlaced (unless_hidden hidden t)
+hidden_placed true t h a = (a, refl)
+hidden_placed false t h a = h a
+
 positional_placed : (p : PositionalSaid) → IsPlaced (positional_tree p)
-positional_placed p = dashes_placed p.strict (wrapped p.required p.repeated (item (positional p.value (document_said p.help)))) (wrapped_placed p.required p.repeated (item (positional p.value (document_said p.help))) (value_placed p.value (document_said p.help)))
+positional_placed p =
+    let help : Option (List Part) = help_said p.help (value_notes p.default p.values) in
+    let value : Tree = item (positional p.value help) in
+    let whole : Tree = wrapped p.required p.repeated value in
+    hidden_placed p.hidden (behind_dashes p.strict whole) (dashes_placed p.strict whole (wrapped_placed p.required p.repeated value (value_placed p.value help)))
 
 parts_placed : (ts : List Tree) → Each IsPlaced ts → (a : Bool) → (b : Bool) × (walked_parts (trees_in ts) a ≡ fine b)
 parts_placed [] h a = (a, refl)
@@ -127,6 +144,10 @@ passes_then ts us h k =
 abbrev passes_level : Tree → Type 0
 passes_level t = (b : Bool) × (walked t false ≡ fine b)
 
+item_placed : (names : CommandNames) (h : Option (List Part)) (t : Tree) (i : Head) → passes_level t → IsPlaced (item (content.command names.name names.initial h t i))
+item_placed names h t i own true = (true, ap (λ c. then_check c (λ b. fine true)) own.1)
+item_placed names h t i own false = (true, ap (λ c. then_check c (λ b. fine true)) own.1)
+
 mutual
   level_passes : (help : Tree) (l : LevelSaid) → passes_level (level_tree help l)
   level_passes help (level t r os cs gs ps ms) =
@@ -136,7 +157,7 @@ mutual
       let named_pass : Passes named = (false, parts_named named (each_append IsNamed (map option_tree os ++ map choice_tree cs) (named_groups gs) (each_append IsNamed (map option_tree os) (map choice_tree cs) options choices) (groups_named gs))) in
       let in_groups : Passes (named ++ placed_groups help false r gs) = passes_then named (placed_groups help false r gs) named_pass (groups_placed help false r gs) in
       let with_values : Passes (named ++ placed_groups help false r gs ++ map positional_tree ps) = passes_then (named ++ placed_groups help false r gs) (map positional_tree ps) in_groups (each_map IsPlaced positional_tree positional_placed ps) in
-      passes_then (named ++ placed_groups help false r gs ++ map positional_tree ps) (one_of_commands (hold_commands gs) r (command_items help ms)) with_values (one_of_placed (hold_commands gs) r (command_items help ms) (commands_placed help ms))
+      passes_then (named ++ placed_groups help false r gs ++ map positional_tree ps) (one_of_commands (hold_commands gs && show_command ms) r (command_items help ms)) with_values (one_of_placed (hold_commands gs && show_command ms) r (command_items help ms) (commands_placed help ms))
 
   groups_placed : (help : Tree) (shown r : Bool) (gs : GroupsSaid) → Each IsPlaced (placed_groups help shown r gs)
   groups_placed help shown r no_groups = tt
@@ -144,16 +165,18 @@ mutual
 
   group_placed : (help : Tree) (shown r : Bool) (g : GroupSaid) → Each IsPlaced (placed_group help shown r g)
   group_placed help shown r (group title os cs ps ms) =
-      let commands_there = one_of_commands shown r (command_items help ms) in
-      titled_placed title (map positional_tree ps ++ commands_there) (each_append IsPlaced (map positional_tree ps) commands_there (each_map IsPlaced positional_tree positional_placed ps) (one_of_placed shown r (command_items help ms) (commands_placed help ms)))
+      let further = shown && show_command ms in
+      let commands_there = one_of_commands further r (command_items help ms) in
+      titled_placed title (map positional_tree ps ++ commands_there) (each_append IsPlaced (map positional_tree ps) commands_there (each_map IsPlaced positional_tree positional_placed ps) (one_of_placed further r (command_items help ms) (commands_placed help ms)))
 
   commands_placed : (help : Tree) (ms : CommandsSaid) → Each IsPlaced (command_items help ms)
   commands_placed help no_commands = tt
   commands_placed help (commands m ms) = (command_placed help m, commands_placed help ms)
 
   command_placed : (help : Tree) (m : CommandSaid) → IsPlaced (command_item help m)
-  command_placed help (command name initial h l) true = let own = level_passes help l in (true, ap (λ c. then_check c (λ b. fine true)) own.1)
-  command_placed help (command name initial h l) false = let own = level_passes help l in (true, ap (λ c. then_check c (λ b. fine true)) own.1)
+  command_placed help (command names h l) =
+      let text : Option (List Part) = help_said h (command_notes names.aliases) in
+      hidden_placed names.hidden (item (content.command names.name names.initial text (level_tree help l) (level_head help l))) (item_placed names text (level_tree help l) (level_head help l) (level_passes help l))
 
 pub level_well_placed : (help : Tree) (l : LevelSaid) → IsWellPlaced (level_tree help l)
 level_well_placed help l = let whole = level_passes help l in well_placed (level_tree help l) whole.0 whole.1

@@ -8,16 +8,17 @@ use Rattle.toml.specs.Data.{Data, string, integer, float, boolean, datetime, arr
 use Rattle.toml_datetime.specs.declared.datetime.Date.{Date}
 use Rattle.toml_datetime.specs.declared.datetime.Time.{Time}
 use Rattle.toml_datetime.specs.declared.datetime.Offset.{Offset}
-use Rattle.description_parts.specs.Content.{OptSaid, ChoiceSaid, PositionalSaid, TextsSaid, LevelSaid, GroupsSaid, GroupSaid, CommandsSaid, CommandSaid}
+use Rattle.description_parts.specs.Content.{OptSaid, ChoiceSaid, PositionalSaid, TopicSaid, TextsSaid, LevelSaid, GroupsSaid, GroupSaid, CommandsSaid, CommandSaid}
 use Rattle.description.specs.Content.{DescriptionSaid, TitleWords}
-use Rattle.description.specs.Described.{alternative_from, alternative_keys, as_command, as_commands, as_group, as_groups, choice_from, choice_keys, command_head, command_keys, command_of, CommandHead, commands_at, described, description_head, description_keys, description_of, DescriptionHead, each_command, each_group, group_head, group_keys, group_of, GroupHead, groups_at, has_members, level_of, lists_from, name_from, option_from, option_keys, option_name, option_of, Outline, outline_from, positional_from, positional_keys, positional_of, section_from, texts_from, title_words}
+use Rattle.description.specs.Described.{alternative_keys, as_command, as_commands, as_group, as_groups, choice_from, choice_keys, command_head, command_keys, command_of, CommandHead, commands_at, described, description_head, description_keys, description_of, DescriptionHead, each_command, each_group, group_head, group_keys, group_of, GroupHead, groups_at, has_members, level_of, lists_from, name_from, option_from, option_keys, option_name, option_of, Outline, outline_from, positional_from, positional_keys, positional_of, section_from, texts_from, title_words, topic_from, topic_keys, help_option_keys, if_beside, is_beside, option_texts, option_value, positional_texts, required_beside, ValueSaid}
 use Rattle.description.specs.Described.Taken.{has_distinct_names}
-use Rattle.description.specs.Described.Texts.{as_command_name, as_heading, as_long, as_name, as_program_name, as_text, as_title, as_value, is_command_name, is_heading, is_long, is_name, is_program_name, is_section, is_short, is_text, is_title, is_value}
-use Rattle.description.specs.Described.Values.{as_date, as_section, as_short, day_text, digit_text, each_table, flag_at, if_short, is_empty, only_character, optional_at, required_at, tables_at}
-use Rattle.description.specs.Plain.{characters_of, choice_characters, command_characters, commands_characters, description_characters, group_characters, groups_characters, initial_characters, level_characters, name_characters, option_characters, positional_characters, texts_characters, TextsArePlain}
-use Rattle.description.proofs.Characters.{command_plain, day_plain, digit_plain, heading_plain, long_plain, name_plain, Plain, plain_append, plain_cons, plain_each, PlainCharacter, PlainText, program_plain, section_plain, short_plain, title_plain, value_plain}
+use Rattle.description.specs.Described.Texts.{as_body, as_command_name, as_heading, as_long, as_name, as_program_name, as_text, as_title, as_value, is_body, is_command_name, is_heading, is_long, is_name, is_program_name, is_section, is_short, is_text, is_title, is_value, if_passes, is_line}
+use Rattle.description.specs.Described.Values.{as_date, as_section, as_short, day_text, digit_text, each_table, flag_at, if_short, is_empty, only_character, optional_at, required_at, tables_at, as_default, as_texts, as_values, default_text, words_at}
+use Rattle.description.specs.Plain.{characters_of, choice_characters, command_characters, commands_characters, description_characters, group_characters, groups_characters, initial_characters, level_characters, name_characters, option_characters, positional_characters, texts_characters, topic_characters, TextsArePlain}
+use Rattle.description.proofs.Characters.{body_plain, command_plain, day_plain, digit_plain, heading_plain, long_plain, name_plain, Plain, plain_append, plain_cons, plain_each, PlainCharacter, PlainText, program_plain, section_plain, short_plain, title_plain, value_plain, line_plain}
+use Rattle.description.specs.Notes.{listed_texts}
 use Rattle.description.proofs.Each.{Each}
-use Rattle.description.proofs.Gives.{given, Gives, gives_each, gives_if, gives_map, gives_optional, gives_passing, gives_required, gives_text, gives_then, gives_unless, gives_whatever, gives_with_only, Whatever}
+use Rattle.description.proofs.Gives.{given, Gives, gives_each, gives_if, gives_map, gives_optional, gives_passing, gives_required, gives_text, gives_then, gives_unless, gives_whatever, gives_with_only, gives_words, Whatever}
 
 -- ---- texts and names at a key
 
@@ -78,7 +79,7 @@ date_in (boolean b) = tt
 date_in (array ds) = tt
 date_in (table ms) = tt
 
--- ---- options, choices and positional values
+-- ---- options, choices, positional values and topics
 
 abbrev PlainName : Name → Type 0
 PlainName n = Plain (name_characters n)
@@ -103,29 +104,59 @@ name_there ms =
     gives_then (Gives PlainCharacter) PlainName (optional_at as_short (codes "short") ms) (λ s. option_and_then (name_from s) (optional_at as_long (codes "long") ms)) (short_there (codes "short") ms)
     (λ s h. gives_then PlainOption PlainName (optional_at as_long (codes "long") ms) (name_from s) (gives_optional PlainText as_long (gives_text PlainText is_long long_plain) (codes "long") ms) (λ l k. either_plain s l h k))
 
-opt_plain : (o : OptSaid) → PlainName o.name → PlainOption o.value → PlainOption o.help → PlainOption o.env → PlainOpt o
-opt_plain o n v h e =
-    plain_append (name_characters o.name) (characters_of o.value ++ (characters_of o.help ++ characters_of o.env)) n
-    (plain_append (characters_of o.value) (characters_of o.help ++ characters_of o.env) (there o.value v)
-    (plain_append (characters_of o.help) (characters_of o.env) (there o.help h) (there o.env e)))
+pub record PlainValue (v : ValueSaid) : Type 0 where
+  pub value : PlainOption v.value
+  pub default : PlainOption v.default
+  pub values : PlainOption v.values
 
-option_there : (ms : Members) → Gives PlainOpt (option_of ms)
+default_there : (ms : Members) → Gives PlainOption (optional_at as_default (codes "default") ms)
+default_there = gives_optional PlainText as_default (λ d. gives_then Whatever PlainText (default_text d) (if_passes is_line) (gives_whatever (default_text d)) (λ text u. gives_passing PlainText is_line line_plain text)) (codes "default")
+
+values_there : (ms : Members) → Gives PlainOption (optional_at as_values (codes "values") ms)
+values_there = gives_optional PlainText as_values (λ d. gives_then Whatever PlainText (as_texts as_value d) _ (gives_whatever (as_texts as_value d)) (λ values u. gives_passing PlainText is_value value_plain (listed_texts values))) (codes "values")
+
+beside_there : (value o : Option (List ℕ)) → PlainOption o → Gives PlainOption (if_beside value o)
+beside_there value o h = gives_if PlainOption (is_beside value o) (Some o) h
+
+option_value_there : (ms : Members) → Gives PlainValue (option_value ms)
+unfolding option_value
+option_value_there ms =
+    gives_then PlainOption PlainValue (optional_at as_value (codes "value") ms) _ (value_there (codes "value") ms) (λ value v.
+    gives_then PlainOption PlainValue (option_and_then (if_beside value) (optional_at as_default (codes "default") ms)) _
+    (gives_then PlainOption PlainOption (optional_at as_default (codes "default") ms) (if_beside value) (default_there ms) (beside_there value)) (λ default d.
+    gives_then PlainOption PlainValue (option_and_then (if_beside value) (optional_at as_values (codes "values") ms)) _
+    (gives_then PlainOption PlainOption (optional_at as_values (codes "values") ms) (if_beside value) (values_there ms) (beside_there value)) (λ values w.
+    record { value = v; default = d; values = w })))
+
+texts_of_value : (default values help : Option (List ℕ)) → PlainOption default → PlainOption values → PlainOption help → Plain (characters_of default ++ (characters_of values ++ characters_of help))
+texts_of_value default values help d w h =
+    plain_append (characters_of default) (characters_of values ++ characters_of help) (there default d) (plain_append (characters_of values) (characters_of help) (there values w) (there help h))
+
+opt_plain : (o : OptSaid) → PlainName o.name → PlainOption o.value → PlainOption o.default → PlainOption o.values → PlainOption o.help → PlainOption o.env → PlainOpt o
+opt_plain o n v d w h e =
+    let help_last = plain_append (characters_of o.help) (characters_of o.env) (there o.help h) (there o.env e) in
+    let values_last = plain_append (characters_of o.values) (characters_of o.help ++ characters_of o.env) (there o.values w) help_last in
+    let default_last = plain_append (characters_of o.default) (characters_of o.values ++ (characters_of o.help ++ characters_of o.env)) (there o.default d) values_last in
+    plain_append (name_characters o.name) (characters_of o.value ++ (characters_of o.default ++ (characters_of o.values ++ (characters_of o.help ++ characters_of o.env)))) n
+    (plain_append (characters_of o.value) (characters_of o.default ++ (characters_of o.values ++ (characters_of o.help ++ characters_of o.env))) (there o.value v) default_last)
+
+flag_there : (default : Bool) (key : List ℕ) (ms : Members) → Gives Whatever (flag_at default key ms)
+flag_there default key ms = gives_whatever (flag_at default key ms)
+
+option_there : (ms : Members) → Gives PlainOpt (option_texts ms)
 option_there ms =
     gives_then PlainName PlainOpt (option_name ms) _ (name_there ms) (λ name n.
-    gives_then PlainOption PlainOpt (optional_at as_value (codes "value") ms) _ (value_there (codes "value") ms) (λ value v.
+    gives_then PlainValue PlainOpt (option_value ms) _ (option_value_there ms) (λ v p.
     gives_then PlainOption PlainOpt (optional_at as_text (codes "help") ms) _ (text_there (codes "help") ms) (λ help h.
+    gives_then Whatever PlainOpt (flag_at false (codes "hidden") ms) _ (flag_there false (codes "hidden") ms) (λ hidden u.
     gives_then PlainOption PlainOpt (optional_at as_name (codes "env") ms) _ (gives_optional PlainText as_name (gives_text PlainText is_name name_plain) (codes "env") ms) (λ env e.
-    opt_plain (record { name = name; value = value; help = help; env = env; required = false; repeated = false }) n v h e))))
+    opt_plain (record { name = name; value = v.value; default = v.default; values = v.values; help = help; env = env; required = false; repeated = false; hidden = hidden }) n p.value p.default p.values h e)))))
 
-alternative_plain : (ms : Members) → Gives PlainOpt (alternative_from ms)
-unfolding alternative_from
-alternative_plain = gives_with_only PlainOpt alternative_keys option_of option_there
-
-option_plain : (ms : Members) → Gives PlainOpt (option_from ms)
+option_plain : (keys : List (List ℕ)) (ms : Members) → Gives PlainOpt (option_from keys ms)
 unfolding option_from
-option_plain = gives_with_only PlainOpt option_keys _ (λ ms.
-    gives_then PlainOpt PlainOpt (option_of ms) _ (option_there ms) (λ option o.
-    gives_then Whatever PlainOpt (flag_at false (codes "required") ms) _ (gives_whatever (flag_at false (codes "required") ms)) (λ required u.
+option_plain keys = gives_with_only PlainOpt keys _ (λ ms.
+    gives_then PlainOpt PlainOpt (option_texts ms) _ (option_there ms) (λ option o.
+    gives_then Whatever PlainOpt (required_beside option.default false ms) _ (gives_whatever (required_beside option.default false ms)) (λ required u.
     gives_then Whatever PlainOpt (flag_at false (codes "repeated") ms) _ (gives_whatever (flag_at false (codes "repeated") ms)) (λ repeated w. o))))
 
 choice_plain : (ms : Members) → Gives PlainChoice (choice_from ms)
@@ -134,28 +165,49 @@ choice_plain = gives_with_only PlainChoice choice_keys _ (λ ms.
     gives_then Whatever PlainChoice (tables_at (codes "option") ms) _ (gives_whatever (tables_at (codes "option") ms)) (λ os u.
     gives_unless PlainChoice (is_empty os) _
     (gives_then Whatever PlainChoice (flag_at false (codes "required") ms) _ (gives_whatever (flag_at false (codes "required") ms)) (λ required w.
-    gives_map (Each PlainOpt) PlainChoice (each_table alternative_from os) _ (gives_each PlainOpt alternative_from alternative_plain os) (λ xs h. plain_each option_characters xs h)))))
+    gives_map (Each PlainOpt) PlainChoice (each_table (option_from alternative_keys) os) _ (gives_each PlainOpt (option_from alternative_keys) (option_plain alternative_keys) os) (λ xs h. plain_each option_characters xs h)))))
+
+positional_there : (ms : Members) → Gives PlainPositional (positional_texts ms)
+positional_there ms =
+    gives_then PlainText PlainPositional (required_at as_value (codes "value") ms) _ (gives_required PlainText as_value (gives_text PlainText is_value value_plain) (codes "value") ms) (λ value v.
+    gives_then PlainOption PlainPositional (optional_at as_default (codes "default") ms) _ (default_there ms) (λ default d.
+    gives_then PlainOption PlainPositional (optional_at as_values (codes "values") ms) _ (values_there ms) (λ values w.
+    gives_then PlainOption PlainPositional (optional_at as_text (codes "help") ms) _ (text_there (codes "help") ms) (λ help h.
+    gives_then Whatever PlainPositional (flag_at false (codes "hidden") ms) _ (flag_there false (codes "hidden") ms) (λ hidden u.
+    plain_append (chars value) (characters_of default ++ (characters_of values ++ characters_of help)) v (texts_of_value default values help d w h))))))
 
 positional_plain : (ms : Members) → Gives PlainPositional (positional_from ms)
 unfolding positional_from
 positional_plain = gives_with_only PlainPositional positional_keys positional_of (λ ms.
-    gives_then PlainText PlainPositional (required_at as_value (codes "value") ms) _ (gives_required PlainText as_value (gives_text PlainText is_value value_plain) (codes "value") ms) (λ value v.
-    gives_then PlainOption PlainPositional (optional_at as_text (codes "help") ms) _ (text_there (codes "help") ms) (λ help h.
-    gives_then Whatever PlainPositional (flag_at true (codes "required") ms) _ (gives_whatever (flag_at true (codes "required") ms)) (λ required a.
-    gives_then Whatever PlainPositional (flag_at false (codes "repeated") ms) _ (gives_whatever (flag_at false (codes "repeated") ms)) (λ repeated b.
-    gives_then Whatever PlainPositional (flag_at false (codes "strict") ms) _ (gives_whatever (flag_at false (codes "strict") ms)) (λ strict c.
-    plain_append (chars value) (characters_of help) v (there help h)))))))
+    gives_then PlainPositional PlainPositional (positional_texts ms) _ (positional_there ms) (λ positional p.
+    gives_then Whatever PlainPositional (required_beside positional.default true ms) _ (gives_whatever (required_beside positional.default true ms)) (λ required a.
+    gives_then Whatever PlainPositional (flag_at false (codes "repeated") ms) _ (flag_there false (codes "repeated") ms) (λ repeated b.
+    gives_then Whatever PlainPositional (flag_at false (codes "strict") ms) _ (flag_there false (codes "strict") ms) (λ strict c. p)))))
+
+abbrev PlainTopic : TopicSaid → Type 0
+PlainTopic t = Plain (topic_characters t)
+
+topic_plain : (ms : Members) → Gives PlainTopic (topic_from ms)
+unfolding topic_from
+topic_plain = gives_with_only PlainTopic topic_keys _ (λ ms.
+    gives_then PlainText PlainTopic (required_at as_heading (codes "title") ms) _ (gives_required PlainText as_heading (gives_text PlainText is_heading heading_plain) (codes "title") ms) (λ title t.
+    gives_then PlainText PlainTopic (required_at as_body (codes "text") ms) _ (gives_required PlainText as_body (gives_text PlainText is_body body_plain) (codes "text") ms) (λ text b.
+    plain_append (chars title) (chars text) t b)))
 
 -- ---- what a group and a level say of themselves
 
-abbrev PlainTexts : TextsSaid → Type 0
-PlainTexts t = Plain (texts_characters t)
+pub record PlainTexts (t : TextsSaid) : Type 0 where
+  pub about : PlainOption t.about
+  pub header : PlainOption t.header
+  pub footer : PlainOption t.footer
+  pub usage : PlainOption t.usage
 
-texts_plain : (t : TextsSaid) → PlainOption t.about → PlainOption t.header → PlainOption t.footer → PlainOption t.usage → PlainTexts t
-texts_plain t a h f u =
-    plain_append (characters_of t.about) (characters_of t.header ++ (characters_of t.footer ++ characters_of t.usage)) (there t.about a)
-    (plain_append (characters_of t.header) (characters_of t.footer ++ characters_of t.usage) (there t.header h)
-    (plain_append (characters_of t.footer) (characters_of t.usage) (there t.footer f) (there t.usage u)))
+texts_plain : (t : TextsSaid) (ts : List TopicSaid) → PlainTexts t → Each PlainTopic ts → Plain (texts_characters (record t { topics = ts }))
+texts_plain t ts h each =
+    plain_append (characters_of t.about) (characters_of t.header ++ (characters_of t.footer ++ (characters_of t.usage ++ flat_map topic_characters ts))) (there t.about h.about)
+    (plain_append (characters_of t.header) (characters_of t.footer ++ (characters_of t.usage ++ flat_map topic_characters ts)) (there t.header h.header)
+    (plain_append (characters_of t.footer) (characters_of t.usage ++ flat_map topic_characters ts) (there t.footer h.footer)
+    (plain_append (characters_of t.usage) (flat_map topic_characters ts) (there t.usage h.usage) (plain_each topic_characters ts each))))
 
 texts_there : (ms : Members) → Gives PlainTexts (texts_from ms)
 unfolding texts_from
@@ -164,7 +216,7 @@ texts_there ms =
     gives_then PlainOption PlainTexts (optional_at as_text (codes "header") ms) _ (text_there (codes "header") ms) (λ header h.
     gives_then PlainOption PlainTexts (optional_at as_text (codes "footer") ms) _ (text_there (codes "footer") ms) (λ footer f.
     gives_then PlainOption PlainTexts (optional_at as_text (codes "usage") ms) _ (text_there (codes "usage") ms) (λ usage u.
-    texts_plain (record { about = about; header = header; footer = footer; usage = usage }) a h f u))))
+    record { about = a; header = h; footer = f; usage = u }))))
 
 abbrev PlainOutline : Outline → Type 0
 PlainOutline o = PlainTexts o.texts
@@ -188,8 +240,9 @@ group_head_there = gives_with_only PlainGroupHead group_keys _ (λ ms.
     gives_if PlainGroupHead (has_members lists) _ t)))
 
 pub record PlainCommandHead (c : CommandHead) : Type 0 where
-  pub name : PlainText c.name
-  pub initial : Gives PlainCharacter c.initial
+  pub name : PlainText c.names.name
+  pub initial : Gives PlainCharacter c.names.initial
+  pub aliases : Each PlainText c.names.aliases
   pub help : PlainOption c.help
   pub outline : PlainOutline c.outline
 
@@ -199,8 +252,10 @@ command_head_there = gives_with_only PlainCommandHead command_keys _ (λ ms.
     gives_then PlainText PlainCommandHead (required_at as_command_name (codes "name") ms) _ (gives_required PlainText as_command_name (gives_text PlainText is_command_name command_plain) (codes "name") ms) (λ name n.
     gives_then (Gives PlainCharacter) PlainCommandHead (optional_at as_short (codes "short") ms) _ (short_there (codes "short") ms) (λ initial i.
     gives_then PlainOption PlainCommandHead (optional_at as_text (codes "help") ms) _ (text_there (codes "help") ms) (λ help h.
+    gives_then Whatever PlainCommandHead (flag_at false (codes "hidden") ms) _ (flag_there false (codes "hidden") ms) (λ hidden u.
+    gives_then (Each PlainText) PlainCommandHead (words_at as_command_name (codes "aliases") ms) _ (gives_words PlainText as_command_name (gives_text PlainText is_command_name command_plain) (codes "aliases") ms) (λ aliases a.
     gives_then PlainOutline PlainCommandHead (outline_from ms) _ (outline_there ms) (λ outline o.
-    record { name = n; initial = i; help = h; outline = o })))))
+    record { name = n; initial = i; aliases = a; help = h; outline = o })))))))
 
 -- ---- groups, levels and commands
 
@@ -231,7 +286,7 @@ five_plain a os cs b ps ms ha ho hc hb hp hm =
 group_there : (inner : Option CommandsSaid) (g : GroupHead) → Gives PlainCommands inner → PlainGroupHead g → Gives PlainGroup (group_of inner g)
 unfolding group_of
 group_there inner g i t =
-    gives_then (Each PlainOpt) PlainGroup (each_table option_from g.lists.options) _ (gives_each PlainOpt option_from option_plain g.lists.options) (λ os o.
+    gives_then (Each PlainOpt) PlainGroup (each_table (option_from option_keys) g.lists.options) _ (gives_each PlainOpt (option_from option_keys) (option_plain option_keys) g.lists.options) (λ os o.
     gives_then (Each PlainChoice) PlainGroup (each_table choice_from g.lists.choices) _ (gives_each PlainChoice choice_from choice_plain g.lists.choices) (λ cs c.
     gives_then (Each PlainPositional) PlainGroup (each_table positional_from g.lists.positionals) _ (gives_each PlainPositional positional_from positional_plain g.lists.positionals) (λ ps p.
     gives_map PlainCommands PlainGroup inner _ i (λ ms m. five_plain (chars g.title) os cs [] ps ms t o c refl p m))))
@@ -239,11 +294,13 @@ group_there inner g i t =
 level_there : (inner_groups : Option GroupsSaid) (inner_commands : Option CommandsSaid) (o : Outline) → Gives PlainGroups inner_groups → Gives PlainCommands inner_commands → PlainOutline o → Gives PlainLevel (level_of inner_groups inner_commands o)
 unfolding level_of
 level_there inner_groups inner_commands o ig ic t =
-    gives_then (Each PlainOpt) PlainLevel (each_table option_from o.lists.options) _ (gives_each PlainOpt option_from option_plain o.lists.options) (λ os ho.
+    gives_then (Each PlainOpt) PlainLevel (each_table (option_from option_keys) o.lists.options) _ (gives_each PlainOpt (option_from option_keys) (option_plain option_keys) o.lists.options) (λ os ho.
     gives_then (Each PlainChoice) PlainLevel (each_table choice_from o.lists.choices) _ (gives_each PlainChoice choice_from choice_plain o.lists.choices) (λ cs hc.
     gives_then PlainGroups PlainLevel inner_groups _ ig (λ gs hg.
     gives_then (Each PlainPositional) PlainLevel (each_table positional_from o.lists.positionals) _ (gives_each PlainPositional positional_from positional_plain o.lists.positionals) (λ ps hp.
-    gives_map PlainCommands PlainLevel inner_commands _ ic (λ ms hm. five_plain (texts_characters o.texts) os cs (groups_characters gs) ps ms t ho hc hg hp hm)))))
+    gives_then PlainCommands PlainLevel inner_commands _ ic (λ ms hm.
+    gives_map (Each PlainTopic) PlainLevel (each_table topic_from o.lists.topics) _ (gives_each PlainTopic topic_from topic_plain o.lists.topics) (λ ts ht.
+    five_plain (texts_characters (record o.texts { topics = ts })) os cs (groups_characters gs) ps ms (texts_plain o.texts ts t ht) ho hc hg hp hm))))))
 
 initial_plain : (i : Option ℕ) → Gives PlainCharacter i → Plain (initial_characters i)
 initial_plain None h = refl
@@ -252,9 +309,10 @@ initial_plain (Some c) h = plain_cons c [] h refl
 command_there : (inner_groups : Option GroupsSaid) (inner_commands : Option CommandsSaid) (c : CommandHead) → Gives PlainGroups inner_groups → Gives PlainCommands inner_commands → PlainCommandHead c → Gives PlainCommand (command_of inner_groups inner_commands c)
 command_there inner_groups inner_commands c ig ic h =
     gives_map PlainLevel PlainCommand (level_of inner_groups inner_commands c.outline) _ (level_there inner_groups inner_commands c.outline ig ic h.outline) (λ l p.
-    plain_append (chars c.name) (initial_characters c.initial ++ (characters_of c.help ++ level_characters l)) h.name
-    (plain_append (initial_characters c.initial) (characters_of c.help ++ level_characters l) (initial_plain c.initial h.initial)
-    (plain_append (characters_of c.help) (level_characters l) (there c.help h.help) p)))
+    let texts = plain_append (characters_of c.help) (level_characters l) (there c.help h.help) p in
+    let others = plain_append (flat_map chars c.names.aliases) (characters_of c.help ++ level_characters l) (plain_each chars c.names.aliases h.aliases) texts in
+    plain_append (chars c.names.name) (initial_characters c.names.initial ++ (flat_map chars c.names.aliases ++ (characters_of c.help ++ level_characters l))) h.name
+    (plain_append (initial_characters c.names.initial) (flat_map chars c.names.aliases ++ (characters_of c.help ++ level_characters l)) (initial_plain c.names.initial h.initial) others))
 
 by_order : {X : Type 0} (P : X → Type 0) (o : Ordering) (here rest : Option X) → Gives P here → Gives P rest → Gives P (match_ordering o rest here rest)
 by_order P Less here rest h r = r
@@ -373,7 +431,7 @@ described_plain : (ms : Members) → Gives PlainDescription (described ms)
 unfolding described
 described_plain ms =
     gives_then PlainHead PlainDescription (description_head ms) _ (head_there ms) (λ h p.
-    gives_then (Each PlainOpt) PlainDescription (each_table option_from h.help_options) _ (gives_each PlainOpt option_from option_plain h.help_options) (λ helps o.
+    gives_then (Each PlainOpt) PlainDescription (each_table (option_from help_option_keys) h.help_options) _ (gives_each PlainOpt (option_from help_option_keys) (option_plain help_option_keys) h.help_options) (λ helps o.
     gives_map PlainLevel PlainDescription (level_of (groups_at (codes "group") ms) (commands_at (codes "command") ms) h.outline) (description_of h helps)
     (level_there (groups_at (codes "group") ms) (commands_at (codes "command") ms) h.outline (groups_at_plain (codes "group") ms) (commands_at_plain (codes "command") ms) p.outline) (λ l q. whole h helps l p o q)))
 

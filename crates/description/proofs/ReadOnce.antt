@@ -1,6 +1,6 @@
 -- The title line and the headings of a description that a TOML text gives hold no backslash and no double quote, reader by reader.
-use Rattle.std.proofs.Common.{◌≡◌, ℕ, ◌+◌, Ordering, Less, Equal, Greater, nat_cmp, List, [], ◌∷◌, ◌++◌, map, Bool, true, false, Option, Some, None, refl, ◌∙◌, arith, codes, ℤ, pos, negsuc}
-use Rattle.std.specs.Prelude.{◌&&◌, chars, if◌then◌else◌, nat_lt, unwrap_or}
+use Rattle.std.proofs.Common.{◌≡◌, ℕ, ◌+◌, Ordering, Less, Equal, Greater, nat_cmp, List, [], ◌∷◌, ◌++◌, map, Bool, true, false, Option, Some, None, refl, ◌∙◌, arith, codes, ℤ, pos, negsuc, flat_map}
+use Rattle.std.specs.Prelude.{◌&&◌, chars, flat_map, if◌then◌else◌, nat_lt, unwrap_or}
 use Rattle.std.specs.Char.{is_ascii_alphanumeric}
 use Rattle.std.specs.Cmp.Lexicographic.{slice_cmp}
 use Rattle.std.specs.List.{list_all}
@@ -15,14 +15,15 @@ use Rattle.toml_datetime.specs.Text.{date_text}
 use Rattle.toml_datetime.specs.declared.datetime.Date.{Date}
 use Rattle.toml_datetime.specs.declared.datetime.Time.{Time}
 use Rattle.toml_datetime.specs.declared.datetime.Offset.{Offset}
-use Rattle.description_parts.specs.Content.{OptSaid, LevelSaid, GroupsSaid, GroupSaid, CommandsSaid, CommandSaid}
+use Rattle.description_parts.specs.Content.{OptSaid, TopicSaid, LevelSaid, GroupsSaid, GroupSaid, CommandsSaid, CommandSaid}
 use Rattle.description.specs.Content.{TitleWords}
-use Rattle.description.specs.Described.{as_command, as_commands, as_group, as_groups, choice_from, command_head, command_keys, command_of, CommandHead, commands_at, described, description_head, description_keys, description_of, DescriptionHead, each_command, each_group, group_head, group_keys, group_of, GroupHead, groups_at, has_members, level_of, lists_from, option_from, Outline, outline_from, positional_from, section_from, title_words}
-use Rattle.description.specs.Described.Texts.{as_command_name, as_heading, as_program_name, as_text, as_title, begins, begins_a_section, has_ink, is_command_name, is_heading, is_line_character, is_long, is_name, is_program_name, is_read_once, is_section, is_title}
-use Rattle.description.specs.Described.Values.{as_date, as_section, as_short, day_text, digit_text, each_table, optional_at, required_at, tables_at}
+use Rattle.description.specs.Described.{as_command, as_commands, as_group, as_groups, choice_from, command_head, command_keys, command_of, CommandHead, commands_at, described, description_head, description_keys, description_of, DescriptionHead, each_command, each_group, group_head, group_keys, group_of, GroupHead, groups_at, has_members, level_of, lists_from, option_from, Outline, outline_from, positional_from, section_from, title_words, topic_from, topic_keys, help_option_keys, option_keys}
+use Rattle.description.specs.Described.Texts.{as_body, as_command_name, as_heading, as_program_name, as_text, as_title, begins, begins_a_section, has_ink, is_command_name, is_heading, is_line_character, is_long, is_name, is_program_name, is_read_once, is_section, is_title}
+use Rattle.description.specs.Described.Values.{as_date, as_section, as_short, day_text, digit_text, each_table, optional_at, required_at, tables_at, flag_at, words_at}
 use Rattle.description.specs.ReadOnce.{command_headings, commands_headings, group_headings, groups_headings, is_word_read_once, IsReadOnce, level_headings, TitlesAreReadOnce}
 use Rattle.description.proofs.Characters.{date_bytes, Dates, digit_bytes, is_date_byte, weaker}
-use Rattle.description.proofs.Gives.{given, Gives, gives_if, gives_map, gives_optional, gives_passing, gives_required, gives_text, gives_then, gives_whatever, gives_with_only, Whatever}
+use Rattle.description.proofs.Each.{Each}
+use Rattle.description.proofs.Gives.{given, Gives, gives_each, gives_if, gives_map, gives_optional, gives_passing, gives_required, gives_text, gives_then, gives_whatever, gives_with_only, Whatever, gives_words}
 
 -- ---- texts
 
@@ -96,7 +97,20 @@ date_in (table ms) = tt
 title_there : (key : List ℕ) (ms : Members) → Gives OnceOption (optional_at as_title key ms)
 title_there = gives_optional Once as_title (gives_text Once is_title title_once)
 
--- ---- groups and commands
+-- ---- topics, groups and commands
+
+abbrev OnceTopic : TopicSaid → Type 0
+OnceTopic t = Once t.title
+
+topic_there : (ms : Members) → Gives OnceTopic (topic_from ms)
+unfolding topic_from
+topic_there = gives_with_only OnceTopic topic_keys _ (λ ms.
+    gives_then Once OnceTopic (required_at as_heading (codes "title") ms) _ (gives_required Once as_heading (gives_text Once is_heading heading_once) (codes "title") ms) (λ title t.
+    gives_then Whatever OnceTopic (required_at as_body (codes "text") ms) _ (gives_whatever (required_at as_body (codes "text") ms)) (λ text u. t)))
+
+each_once : (ts : List TopicSaid) → Each OnceTopic ts → Once (flat_map (λ topic. topic.title) ts)
+each_once [] h = refl
+each_once (t ∷ ts) h = once_append t.title (flat_map (λ topic. topic.title) ts) h.0 (each_once ts h.1)
 
 abbrev OnceGroups : GroupsSaid → Type 0
 OnceGroups gs = Once (groups_headings gs)
@@ -117,7 +131,11 @@ abbrev OnceGroupHead : GroupHead → Type 0
 OnceGroupHead g = Once g.title
 
 abbrev OnceCommandHead : CommandHead → Type 0
-OnceCommandHead c = Once c.name
+OnceCommandHead c = Once c.names.name × Each Once c.names.aliases
+
+once_each : (texts : List (List ℕ)) → Each Once texts → Once (flat_map (λ text. text) texts)
+once_each [] h = refl
+once_each (text ∷ texts) h = once_append text (flat_map (λ t. t) texts) h.0 (once_each texts h.1)
 
 group_head_there : (ms : Members) → Gives OnceGroupHead (group_head ms)
 unfolding group_head
@@ -132,12 +150,14 @@ command_head_there = gives_with_only OnceCommandHead command_keys _ (λ ms.
     gives_then Once OnceCommandHead (required_at as_command_name (codes "name") ms) _ (gives_required Once as_command_name (gives_text Once is_command_name command_once) (codes "name") ms) (λ name n.
     gives_then Whatever OnceCommandHead (optional_at as_short (codes "short") ms) _ (gives_whatever (optional_at as_short (codes "short") ms)) (λ initial u.
     gives_then Whatever OnceCommandHead (optional_at as_text (codes "help") ms) _ (gives_whatever (optional_at as_text (codes "help") ms)) (λ help v.
-    gives_then Whatever OnceCommandHead (outline_from ms) _ (gives_whatever (outline_from ms)) (λ outline w. n)))))
+    gives_then Whatever OnceCommandHead (flag_at false (codes "hidden") ms) _ (gives_whatever (flag_at false (codes "hidden") ms)) (λ hidden x.
+    gives_then (Each Once) OnceCommandHead (words_at as_command_name (codes "aliases") ms) _ (gives_words Once as_command_name (gives_text Once is_command_name command_once) (codes "aliases") ms) (λ aliases a.
+    gives_then Whatever OnceCommandHead (outline_from ms) _ (gives_whatever (outline_from ms)) (λ outline w. (n, a))))))))
 
 group_there : (inner : Option CommandsSaid) (g : GroupHead) → Gives OnceCommands inner → OnceGroupHead g → Gives OnceGroup (group_of inner g)
 unfolding group_of
 group_there inner g i t =
-    gives_then Whatever OnceGroup (each_table option_from g.lists.options) _ (gives_whatever (each_table option_from g.lists.options)) (λ os u.
+    gives_then Whatever OnceGroup (each_table (option_from option_keys) g.lists.options) _ (gives_whatever (each_table (option_from option_keys) g.lists.options)) (λ os u.
     gives_then Whatever OnceGroup (each_table choice_from g.lists.choices) _ (gives_whatever (each_table choice_from g.lists.choices)) (λ cs v.
     gives_then Whatever OnceGroup (each_table positional_from g.lists.positionals) _ (gives_whatever (each_table positional_from g.lists.positionals)) (λ ps w.
     gives_map OnceCommands OnceGroup inner _ i (λ ms m. once_append g.title (commands_headings ms) t m))))
@@ -145,15 +165,18 @@ group_there inner g i t =
 level_there : (inner_groups : Option GroupsSaid) (inner_commands : Option CommandsSaid) (o : Outline) → Gives OnceGroups inner_groups → Gives OnceCommands inner_commands → Gives OnceLevel (level_of inner_groups inner_commands o)
 unfolding level_of
 level_there inner_groups inner_commands o ig ic =
-    gives_then Whatever OnceLevel (each_table option_from o.lists.options) _ (gives_whatever (each_table option_from o.lists.options)) (λ os u.
+    gives_then Whatever OnceLevel (each_table (option_from option_keys) o.lists.options) _ (gives_whatever (each_table (option_from option_keys) o.lists.options)) (λ os u.
     gives_then Whatever OnceLevel (each_table choice_from o.lists.choices) _ (gives_whatever (each_table choice_from o.lists.choices)) (λ cs v.
     gives_then OnceGroups OnceLevel inner_groups _ ig (λ gs hg.
     gives_then Whatever OnceLevel (each_table positional_from o.lists.positionals) _ (gives_whatever (each_table positional_from o.lists.positionals)) (λ ps w.
-    gives_map OnceCommands OnceLevel inner_commands _ ic (λ ms hm. once_append (groups_headings gs) (commands_headings ms) hg hm)))))
+    gives_then OnceCommands OnceLevel inner_commands _ ic (λ ms hm.
+    gives_map (Each OnceTopic) OnceLevel (each_table topic_from o.lists.topics) _ (gives_each OnceTopic topic_from topic_there o.lists.topics) (λ ts ht.
+    once_append (flat_map (λ topic. topic.title) ts) (groups_headings gs ++ commands_headings ms) (each_once ts ht) (once_append (groups_headings gs) (commands_headings ms) hg hm)))))))
 
 command_there : (inner_groups : Option GroupsSaid) (inner_commands : Option CommandsSaid) (c : CommandHead) → Gives OnceGroups inner_groups → Gives OnceCommands inner_commands → OnceCommandHead c → Gives OnceCommand (command_of inner_groups inner_commands c)
 command_there inner_groups inner_commands c ig ic h =
-    gives_map OnceLevel OnceCommand (level_of inner_groups inner_commands c.outline) _ (level_there inner_groups inner_commands c.outline ig ic) (λ l p. once_append c.name (level_headings l) h p)
+    gives_map OnceLevel OnceCommand (level_of inner_groups inner_commands c.outline) _ (level_there inner_groups inner_commands c.outline ig ic) (λ l p.
+    once_append c.names.name (flat_map (λ name. name) c.names.aliases ++ level_headings l) h.0 (once_append (flat_map (λ name. name) c.names.aliases) (level_headings l) (once_each c.names.aliases h.1) p))
 
 by_order : {X : Type 0} (P : X → Type 0) (o : Ordering) (here rest : Option X) → Gives P here → Gives P rest → Gives P (match_ordering o rest here rest)
 by_order P Less here rest h r = r
@@ -295,7 +318,7 @@ described_once : (ms : Members) → Gives IsReadOnce (described ms)
 unfolding described
 described_once ms =
     gives_then OnceHead IsReadOnce (description_head ms) _ (head_there ms) (λ h p.
-    gives_then Whatever IsReadOnce (each_table option_from h.help_options) _ (gives_whatever (each_table option_from h.help_options)) (λ helps u.
+    gives_then Whatever IsReadOnce (each_table (option_from help_option_keys) h.help_options) _ (gives_whatever (each_table (option_from help_option_keys) h.help_options)) (λ helps u.
     gives_map OnceLevel IsReadOnce (level_of (groups_at (codes "group") ms) (commands_at (codes "command") ms) h.outline) (description_of h helps)
     (level_there (groups_at (codes "group") ms) (commands_at (codes "command") ms) h.outline (groups_at_once (codes "group") ms) (commands_at_once (codes "command") ms)) (λ l q. whole h helps l p q)))
 

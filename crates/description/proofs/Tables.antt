@@ -1,50 +1,50 @@
--- Tables that are read one after another.
+-- Items that are read one after another.
 use Rattle.std.proofs.Common.{◌≡◌, ℕ, ◌+◌, ◌<◌, ◌≤◌, List, [], ◌∷◌, ◌++◌, length, drop, get_or, map, Option, Some, None, option_map, refl, sym, ap, ◌∙◌, append_assoc, append-nil}
 use Rattle.std.proofs.lemmas.List.{drop_all, map-append}
 use Rattle.std.specs.Prelude.{option_and_then}
 use Rattle.toml.proofs.Views.{items_view-drop}
-use Rattle.toml.specs.Data.{Members, as_table}
+use Rattle.toml.specs.Data.{Data}
 use Rattle.toml.specs.View.{items_view, view}
 use Rattle.toml.specs.declared.value.Value.{Value}
 use Rattle.description_parts.specs.Content.{CommandSaid, CommandsSaid, no_commands, commands, GroupSaid, GroupsSaid, no_groups, groups}
 use Rattle.description.specs.Described.{as_command, as_group, each_command, each_group}
-use Rattle.description.specs.Described.Values.{each_table}
+use Rattle.description.specs.Described.Values.{each_item}
 use Rattle.description_parts.specs.View.{commands_in, groups_in}
 
--- after the first tables, which gave xs
-abbrev pub ReadSoFar : {X : Type 0} → (Members → Option X) → List Value → List X → ℕ → Type 0
-ReadSoFar read vs xs i = each_table read (items_view vs) ≡ option_map (λ rest. xs ++ rest) (each_table read (items_view (drop i vs)))
+-- after the first items, which gave xs
+abbrev pub ReadSoFar : {X : Type 0} → (Data → Option X) → List Value → List X → ℕ → Type 0
+ReadSoFar read vs xs i = each_item read (items_view vs) ≡ option_map (λ rest. xs ++ rest) (each_item read (items_view (drop i vs)))
 
-module _ {X : Type 0} (read : Members → Option X) where
+module _ {X : Type 0} (read : Data → Option X) where
   next_item : (vs : List Value) (xs : List X) (i : ℕ) (d : Value) → i < length vs → ReadSoFar read vs xs i
-      → each_table read (items_view vs) ≡ option_map (λ rest. xs ++ rest) (option_and_then (λ x. option_map (λ ys. x ∷ ys) (each_table read (items_view (drop (i + 1) vs)))) (option_and_then read (as_table (view (get_or vs i d)))))
-  next_item vs xs i d h s = s ∙ ap (λ ds. option_map (λ rest. xs ++ rest) (each_table read ds)) (items_view-drop vs i d h)
+      → each_item read (items_view vs) ≡ option_map (λ rest. xs ++ rest) (option_and_then (λ x. option_map (λ ys. x ∷ ys) (each_item read (items_view (drop (i + 1) vs)))) (read (view (get_or vs i d))))
+  next_item vs xs i d h s = s ∙ ap (λ ds. option_map (λ rest. xs ++ rest) (each_item read ds)) (items_view-drop vs i d h)
 
   one_more : (xs : List X) (x : X) (o : Option (List X)) → option_map (λ rest. xs ++ rest) (option_map (λ ys. x ∷ ys) o) ≡ option_map (λ rest. (xs ++ x ∷ []) ++ rest) o
   one_more xs x None = refl
   one_more xs x (Some ys) = ap Some (sym (append_assoc xs (x ∷ []) ys))
 
-  pub table_read : (vs : List Value) (xs ys : List X) (x : X) (i : ℕ) (d : Value) → i < length vs → ReadSoFar read vs xs i → option_and_then read (as_table (view (get_or vs i d))) ≡ Some x → ys ≡ xs ++ x ∷ []
+  pub table_read : (vs : List Value) (xs ys : List X) (x : X) (i : ℕ) (d : Value) → i < length vs → ReadSoFar read vs xs i → read (view (get_or vs i d)) ≡ Some x → ys ≡ xs ++ x ∷ []
       → ReadSoFar read vs ys (i + 1)
   table_read vs xs ys x i d h s e g =
-      next_item vs xs i d h s ∙ rw e (one_more xs x (each_table read (items_view (drop (i + 1) vs))))
-      ∙ ap (λ zs. option_map (λ rest. zs ++ rest) (each_table read (items_view (drop (i + 1) vs)))) (sym g)
+      next_item vs xs i d h s ∙ rw e (one_more xs x (each_item read (items_view (drop (i + 1) vs))))
+      ∙ ap (λ zs. option_map (λ rest. zs ++ rest) (each_item read (items_view (drop (i + 1) vs)))) (sym g)
 
-  pub table_faulty : (vs : List Value) (xs : List X) (i : ℕ) (d : Value) → i < length vs → ReadSoFar read vs xs i → option_and_then read (as_table (view (get_or vs i d))) ≡ None → each_table read (items_view vs) ≡ None
+  pub table_faulty : (vs : List Value) (xs : List X) (i : ℕ) (d : Value) → i < length vs → ReadSoFar read vs xs i → read (view (get_or vs i d)) ≡ None → each_item read (items_view vs) ≡ None
   table_faulty vs xs i d h s e = next_item vs xs i d h s ∙ rw e refl
 
--- ---- a loop over tables that pushes what each gives
+-- ---- a loop over items that pushes what each gives
 
-module _ {T X : Type 0} (read : Members → Option X) (said : T → X) (vs : List Value) (ts : List T) (i : ℕ) where
-  pub item_read : (t : T) {us : List T} {d : Value} → i < length vs → d ≡ get_or vs i d → ReadSoFar read vs (map said ts) i → option_and_then read (as_table (view d)) ≡ Some (said t) → us ≡ ts ++ t ∷ [] → ReadSoFar read vs (map said us) (i + 1)
+module _ {T X : Type 0} (read : Data → Option X) (said : T → X) (vs : List Value) (ts : List T) (i : ℕ) where
+  pub item_read : (t : T) {us : List T} {d : Value} → i < length vs → d ≡ get_or vs i d → ReadSoFar read vs (map said ts) i → read (view d) ≡ Some (said t) → us ≡ ts ++ t ∷ [] → ReadSoFar read vs (map said us) (i + 1)
   item_read t {us} {d} h at s e g =
-      table_read read vs (map said ts) (map said us) (said t) i d h s (ap (λ v. option_and_then read (as_table (view v))) (sym at) ∙ e) (ap (map said) g ∙ map-append said ts (t ∷ []))
+      table_read read vs (map said ts) (map said us) (said t) i d h s (ap (λ v. read (view v)) (sym at) ∙ e) (ap (map said) g ∙ map-append said ts (t ∷ []))
 
-  pub item_faulty : {d : Value} → i < length vs → d ≡ get_or vs i d → ReadSoFar read vs (map said ts) i → option_and_then read (as_table (view d)) ≡ None → each_table read (items_view vs) ≡ None
-  item_faulty {d} h at s e = table_faulty read vs (map said ts) i d h s (ap (λ v. option_and_then read (as_table (view v))) (sym at) ∙ e)
+  pub item_faulty : {d : Value} → i < length vs → d ≡ get_or vs i d → ReadSoFar read vs (map said ts) i → read (view d) ≡ None → each_item read (items_view vs) ≡ None
+  item_faulty {d} h at s e = table_faulty read vs (map said ts) i d h s (ap (λ v. read (view v)) (sym at) ∙ e)
 
-  pub items_read : length vs ≤ i → ReadSoFar read vs (map said ts) i → each_table read (items_view vs) ≡ Some (map said ts)
-  items_read h s = s ∙ ap (λ us. option_map (λ rest. map said ts ++ rest) (each_table read (items_view us))) (drop_all i vs h) ∙ ap Some (append-nil (map said ts))
+  pub items_read : length vs ≤ i → ReadSoFar read vs (map said ts) i → each_item read (items_view vs) ≡ Some (map said ts)
+  items_read h s = s ∙ ap (λ us. option_map (λ rest. map said ts ++ rest) (each_item read (items_view us))) (drop_all i vs h) ∙ ap Some (append-nil (map said ts))
 
 -- ---- commands and groups
 

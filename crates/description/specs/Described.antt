@@ -10,34 +10,41 @@ use Rattle.std.specs.Cmp.Lexicographic.{slice_cmp}
 use Rattle.bpaf_meta.specs.Content.{Name, short, long, both}
 use Rattle.toml.specs.Data.{Data, array, table, Items, no_items, item, Members, no_members, member, get_member}
 use Rattle.description.specs.Content.{DescriptionSaid, TitleWords}
-use Rattle.description_parts.specs.Content.{OptSaid, ChoiceSaid, PositionalSaid, TextsSaid, LevelSaid, level, GroupsSaid, no_groups, groups, GroupSaid, group, CommandsSaid, no_commands, commands, CommandSaid, command}
-use Rattle.description.specs.Described.Texts.{as_command_name, as_heading, as_long, as_name, as_program_name, as_text, as_title, as_value}
-use Rattle.description.specs.Described.Values.{has_only, flag_at, optional_at, required_at, tables_at, is_empty, each_table, as_short, as_section, as_date}
+use Rattle.description_parts.specs.Content.{OptSaid, ChoiceSaid, PositionalSaid, TopicSaid, TextsSaid, LevelSaid, level, GroupsSaid, no_groups, groups, GroupSaid, group, CommandsSaid, no_commands, commands, CommandSaid, command, CommandNames}
+use Rattle.description.specs.Described.Texts.{as_body, as_command_name, as_heading, as_long, as_name, as_program_name, as_text, as_title, as_value}
+use Rattle.description.specs.Described.Values.{has_only, flag_at, optional_at, required_at, tables_at, is_empty, each_table, as_short, as_section, as_date, words_at, as_default, as_values}
 use Rattle.description.specs.Described.Taken.{has_distinct_names}
 
 -- ---- keys
 
 -- of an option of a choice, which is neither required nor repeated
 abbrev pub alternative_keys : List (List ℕ)
-alternative_keys = codes "short" ∷ codes "long" ∷ codes "value" ∷ codes "help" ∷ codes "env" ∷ []
+alternative_keys = codes "short" ∷ codes "long" ∷ codes "value" ∷ codes "default" ∷ codes "values" ∷ codes "help" ∷ codes "hidden" ∷ codes "env" ∷ []
 
 abbrev pub option_keys : List (List ℕ)
-option_keys = codes "short" ∷ codes "long" ∷ codes "value" ∷ codes "help" ∷ codes "env" ∷ codes "required" ∷ codes "repeated" ∷ []
+option_keys = codes "short" ∷ codes "long" ∷ codes "value" ∷ codes "default" ∷ codes "values" ∷ codes "help" ∷ codes "hidden" ∷ codes "env" ∷ codes "required" ∷ codes "repeated" ∷ []
+
+-- of an option that asks for help, which pages show
+abbrev pub help_option_keys : List (List ℕ)
+help_option_keys = codes "short" ∷ codes "long" ∷ codes "value" ∷ codes "default" ∷ codes "values" ∷ codes "help" ∷ codes "env" ∷ codes "required" ∷ codes "repeated" ∷ []
 
 abbrev pub choice_keys : List (List ℕ)
 choice_keys = codes "option" ∷ codes "required" ∷ []
 
 abbrev pub positional_keys : List (List ℕ)
-positional_keys = codes "value" ∷ codes "help" ∷ codes "required" ∷ codes "repeated" ∷ codes "strict" ∷ []
+positional_keys = codes "value" ∷ codes "default" ∷ codes "values" ∷ codes "help" ∷ codes "hidden" ∷ codes "required" ∷ codes "repeated" ∷ codes "strict" ∷ []
 
 abbrev pub group_keys : List (List ℕ)
 group_keys = codes "title" ∷ codes "option" ∷ codes "choice" ∷ codes "positional" ∷ codes "command" ∷ []
 
 abbrev pub level_keys : List (List ℕ)
-level_keys = codes "about" ∷ codes "header" ∷ codes "footer" ∷ codes "usage" ∷ codes "command_required" ∷ codes "option" ∷ codes "choice" ∷ codes "group" ∷ codes "positional" ∷ codes "command" ∷ []
+level_keys = codes "about" ∷ codes "header" ∷ codes "footer" ∷ codes "usage" ∷ codes "command_required" ∷ codes "option" ∷ codes "choice" ∷ codes "group" ∷ codes "positional" ∷ codes "command" ∷ codes "topic" ∷ []
+
+abbrev pub topic_keys : List (List ℕ)
+topic_keys = codes "title" ∷ codes "text" ∷ []
 
 abbrev pub command_keys : List (List ℕ)
-command_keys = codes "name" ∷ codes "short" ∷ codes "help" ∷ level_keys
+command_keys = codes "name" ∷ codes "short" ∷ codes "help" ∷ codes "hidden" ∷ codes "aliases" ∷ level_keys
 
 abbrev pub description_keys : List (List ℕ)
 description_keys = codes "name" ∷ codes "section" ∷ codes "date" ∷ codes "vendor" ∷ codes "title" ∷ codes "help_option" ∷ level_keys
@@ -46,7 +53,7 @@ description_keys = codes "name" ∷ codes "section" ∷ codes "date" ∷ codes "
 abbrev pub with_only : {X : Type 0} → (keys : List (List ℕ)) → (Members → Option X) → Members → Option X
 with_only keys read ms = if has_only keys ms then read ms else None
 
--- ---- options, choices and positional values
+-- ---- options, choices, positional values and topics
 
 abbrev pub name_from : Option ℕ → Option (List ℕ) → Option Name
 name_from None None = None
@@ -62,47 +69,81 @@ o >>= f = option_and_then f o
 abbrev pub option_name : Members → Option Name
 option_name ms = optional_at as_short (codes "short") ms >>= (λ s. optional_at as_long (codes "long") ms >>= name_from s)
 
--- an option that is neither required nor repeated
+-- the word for the value of an option, what holds where it is not given, and what it may be
+pub record ValueSaid : Type 0 where
+  pub value : Option (List ℕ)
+  pub default : Option (List ℕ)
+  pub values : Option (List ℕ)
+
+-- what is said of a value stands beside one
+abbrev pub is_beside : (value said : Option (List ℕ)) → Bool
+is_beside None (Some text) = false
+is_beside value said = true
+
+abbrev pub if_beside : (value said : Option (List ℕ)) → Option (Option (List ℕ))
+if_beside value said = if is_beside value said then Some said else None
+
+unfoldable pub option_value : Members → Option ValueSaid
+option_value ms =
+    optional_at as_value (codes "value") ms >>= (λ value. optional_at as_default (codes "default") ms >>= if_beside value >>= (λ default. optional_at as_values (codes "values") ms >>= if_beside value >>= (λ values.
+    Some (record { value = value; default = default; values = values }))))
+
+-- what an option is called and says
+abbrev pub option_texts : Members → Option OptSaid
+option_texts ms =
+    option_name ms >>= (λ name. option_value ms >>= (λ v. optional_at as_text (codes "help") ms >>= (λ help. flag_at false (codes "hidden") ms >>= (λ hidden. optional_at as_name (codes "env") ms >>= (λ env.
+    Some (record { name = name; value = v.value; default = v.default; values = v.values; help = help; env = env; required = false; repeated = false; hidden = hidden }))))))
+
+-- what has a default may be left out
+abbrev pub required_beside : (default : Option (List ℕ)) → (left_out : Bool) → Members → Option Bool
+required_beside None left_out ms = flag_at left_out (codes "required") ms
+required_beside (Some text) left_out ms = flag_at false (codes "required") ms >>= (λ required. if required then None else Some false)
+
 abbrev pub option_of : Members → Option OptSaid
-option_of ms =
-    option_name ms >>= (λ name. optional_at as_value (codes "value") ms >>= (λ value. optional_at as_text (codes "help") ms >>= (λ help. optional_at as_name (codes "env") ms >>= (λ env.
-    Some (record { name = name; value = value; help = help; env = env; required = false; repeated = false })))))
+option_of ms = option_texts ms >>= (λ option. required_beside option.default false ms >>= (λ required. flag_at false (codes "repeated") ms >>= (λ repeated.
+    Some (record option { required = required; repeated = repeated }))))
 
-unfoldable pub alternative_from : Members → Option OptSaid
-alternative_from = with_only alternative_keys option_of
-
-unfoldable pub option_from : Members → Option OptSaid
-option_from = with_only option_keys (λ ms. option_of ms >>= (λ option. flag_at false (codes "required") ms >>= (λ required. flag_at false (codes "repeated") ms >>= (λ repeated.
-    Some (record option { required = required; repeated = repeated })))))
+-- an option of a kind of table that has these keys: of another key holds what holds where nothing is said
+unfoldable pub option_from : (keys : List (List ℕ)) → Members → Option OptSaid
+option_from keys = with_only keys option_of
 
 -- a choice has an option
 unfoldable pub choice_from : Members → Option ChoiceSaid
 choice_from = with_only choice_keys (λ ms. tables_at (codes "option") ms >>= (λ os. if is_empty os then None else
-    flag_at false (codes "required") ms >>= (λ required. option_map (λ alternatives. record { options = alternatives; required = required }) (each_table alternative_from os))))
+    flag_at false (codes "required") ms >>= (λ required. option_map (λ alternatives. record { options = alternatives; required = required }) (each_table (option_from alternative_keys) os))))
+
+-- what a positional value is called and says
+abbrev pub positional_texts : Members → Option PositionalSaid
+positional_texts ms =
+    required_at as_value (codes "value") ms >>= (λ value. optional_at as_default (codes "default") ms >>= (λ default. optional_at as_values (codes "values") ms >>= (λ values. optional_at as_text (codes "help") ms >>= (λ help. flag_at false (codes "hidden") ms >>= (λ hidden.
+    Some (record { value = value; default = default; values = values; help = help; required = true; repeated = false; strict = false; hidden = hidden }))))))
 
 abbrev pub positional_of : Members → Option PositionalSaid
-positional_of ms =
-    required_at as_value (codes "value") ms >>= (λ value. optional_at as_text (codes "help") ms >>= (λ help.
-    flag_at true (codes "required") ms >>= (λ required. flag_at false (codes "repeated") ms >>= (λ repeated. flag_at false (codes "strict") ms >>= (λ strict.
-    Some (record { value = value; help = help; required = required; repeated = repeated; strict = strict }))))))
+positional_of ms = positional_texts ms >>= (λ positional. required_beside positional.default true ms >>= (λ required. flag_at false (codes "repeated") ms >>= (λ repeated. flag_at false (codes "strict") ms >>= (λ strict.
+    Some (record positional { required = required; repeated = repeated; strict = strict })))))
 
 unfoldable pub positional_from : Members → Option PositionalSaid
 positional_from = with_only positional_keys positional_of
 
+unfoldable pub topic_from : Members → Option TopicSaid
+topic_from = with_only topic_keys (λ ms. required_at as_heading (codes "title") ms >>= (λ title. required_at as_body (codes "text") ms >>= (λ text.
+    Some (record { title = title; text = text }))))
+
 -- ---- groups, levels and commands, whose inner groups and commands were read already
 
--- the arrays of a group or a level; a group has no groups
+-- the arrays of a group or a level; a group has no groups and no topics
 pub record Lists : Type 0 where
   pub options : Items
   pub choices : Items
   pub groups : Items
   pub positionals : Items
   pub commands : Items
+  pub topics : Items
 
 unfoldable pub lists_from : Members → Option Lists
 lists_from ms =
-    tables_at (codes "option") ms >>= (λ os. tables_at (codes "choice") ms >>= (λ cs. tables_at (codes "group") ms >>= (λ gs. tables_at (codes "positional") ms >>= (λ ps. tables_at (codes "command") ms >>= (λ ns.
-    Some (record { options = os; choices = cs; groups = gs; positionals = ps; commands = ns }))))))
+    tables_at (codes "option") ms >>= (λ os. tables_at (codes "choice") ms >>= (λ cs. tables_at (codes "group") ms >>= (λ gs. tables_at (codes "positional") ms >>= (λ ps. tables_at (codes "command") ms >>= (λ ns. tables_at (codes "topic") ms >>= (λ ts.
+    Some (record { options = os; choices = cs; groups = gs; positionals = ps; commands = ns; topics = ts })))))))
 
 -- a group has a member
 abbrev pub has_members : Lists → Bool
@@ -119,12 +160,13 @@ group_head = with_only group_keys (λ ms. required_at as_heading (codes "title")
 
 unfoldable pub group_of : Option CommandsSaid → GroupHead → Option GroupSaid
 group_of inner g =
-    each_table option_from g.lists.options >>= (λ os. each_table choice_from g.lists.choices >>= (λ cs. each_table positional_from g.lists.positionals >>= (λ ps.
+    each_table (option_from option_keys) g.lists.options >>= (λ os. each_table choice_from g.lists.choices >>= (λ cs. each_table positional_from g.lists.positionals >>= (λ ps.
     option_map (group g.title os cs ps) inner)))
 
+-- the texts of a level but its topics
 unfoldable pub texts_from : Members → Option TextsSaid
 texts_from ms = optional_at as_text (codes "about") ms >>= (λ about. optional_at as_text (codes "header") ms >>= (λ header. optional_at as_text (codes "footer") ms >>= (λ footer. optional_at as_text (codes "usage") ms >>= (λ usage.
-    Some (record { about = about; header = header; footer = footer; usage = usage })))))
+    Some (record { about = about; header = header; footer = footer; usage = usage; topics = [] })))))
 
 -- what a level says of itself: its own texts and its arrays, where no name is taken
 pub record Outline : Type 0 where
@@ -139,23 +181,22 @@ outline_from ms =
 
 unfoldable pub level_of : Option GroupsSaid → Option CommandsSaid → Outline → Option LevelSaid
 level_of inner_groups inner_commands o =
-    each_table option_from o.lists.options >>= (λ os. each_table choice_from o.lists.choices >>= (λ cs. inner_groups >>= (λ gs. each_table positional_from o.lists.positionals >>= (λ ps.
-    option_map (level o.texts o.command_required os cs gs ps) inner_commands))))
+    each_table (option_from option_keys) o.lists.options >>= (λ os. each_table choice_from o.lists.choices >>= (λ cs. inner_groups >>= (λ gs. each_table positional_from o.lists.positionals >>= (λ ps.
+    inner_commands >>= (λ ns. option_map (λ ts. level (record o.texts { topics = ts }) o.command_required os cs gs ps ns) (each_table topic_from o.lists.topics))))))
 
 -- what a command says of itself
 pub record CommandHead : Type 0 where
-  pub name : List ℕ
-  pub initial : Option ℕ
+  pub names : CommandNames
   pub help : Option (List ℕ)
   pub outline : Outline
 
 unfoldable pub command_head : Members → Option CommandHead
 command_head = with_only command_keys (λ ms.
-    required_at as_command_name (codes "name") ms >>= (λ name. optional_at as_short (codes "short") ms >>= (λ initial. optional_at as_text (codes "help") ms >>= (λ help.
-    outline_from ms >>= (λ outline. Some (record { name = name; initial = initial; help = help; outline = outline }))))))
+    required_at as_command_name (codes "name") ms >>= (λ name. optional_at as_short (codes "short") ms >>= (λ initial. optional_at as_text (codes "help") ms >>= (λ help. flag_at false (codes "hidden") ms >>= (λ hidden. words_at as_command_name (codes "aliases") ms >>= (λ aliases.
+    outline_from ms >>= (λ outline. Some (record { names = record { name = name; initial = initial; aliases = aliases; hidden = hidden }; help = help; outline = outline }))))))))
 
 abbrev pub command_of : Option GroupsSaid → Option CommandsSaid → CommandHead → Option CommandSaid
-command_of inner_groups inner_commands c = option_map (command c.name c.initial c.help) (level_of inner_groups inner_commands c.outline)
+command_of inner_groups inner_commands c = option_map (command c.names c.help) (level_of inner_groups inner_commands c.outline)
 
 -- ---- the groups and the commands at a key, by the data inside
 
@@ -221,5 +262,5 @@ abbrev pub description_of : DescriptionHead → List OptSaid → LevelSaid → D
 description_of d helps l = record { name = d.name; section = d.words.section; date = d.words.date; vendor = d.words.vendor; title = d.words.title; help_options = helps; level = l }
 
 unfoldable pub described : Members → Option DescriptionSaid
-described ms = description_head ms >>= (λ head. each_table option_from head.help_options >>= (λ helps.
+described ms = description_head ms >>= (λ head. each_table (option_from help_option_keys) head.help_options >>= (λ helps.
     option_map (description_of head helps) (level_of (groups_at (codes "group") ms) (commands_at (codes "command") ms) head.outline)))

@@ -1,10 +1,14 @@
 pub mod Content
 pub mod Subjects
 pub mod View
+pub mod Texts
+pub mod Topics
 pub mod Trees
 pub mod Pages
 pub mod Paragraphs
+pub mod Notes
 pub mod Manuals
+pub mod All
 pub mod Described
 pub mod Plain
 pub mod ReadOnce

@@ -1,6 +1,6 @@
 -- The manual page of a level: of the application, or of a command of it, without a chapter of the commands below.
 pub mod Steps
-use Rattle.std.specs.Prelude.{codes, ◌≡◌, ℕ, ◌-◌, nat_lt, List, [], ◌∷◌, ◌++◌, length, map, take, drop, Bool, true, false, if◌then◌else◌, Option, Some, None, option_and_then, bytes_eq}
+use Rattle.std.specs.Prelude.{codes, ◌≡◌, ℕ, ◌-◌, nat_lt, List, [], ◌∷◌, ◌++◌, flat_map, length, take, drop, Bool, true, false, if◌then◌else◌, Option, Some, None, option_and_then, bytes_eq}
 use Rattle.std.specs.List.{join_by, join_with_byte}
 use Rattle.std.specs.Option.{option_or}
 use Rattle.bpaf_doc.specs.declared.buffer.Block.TheVariants as block
@@ -18,7 +18,9 @@ use Rattle.description_parts.specs.Content.{TextsSaid, LevelSaid, level, Command
 use Rattle.description.specs.Paragraphs.{goes_on, summary_of}
 use Rattle.description.specs.Pages.{subject_tree}
 use Rattle.description.specs.Subjects.{SubjectSaid, commands_on}
-use Rattle.description.specs.Trees.{document_said, options_tree, text_document}
+use Rattle.description.specs.Texts.{plain_document, text_document}
+use Rattle.description.specs.Topics.{topic_writes}
+use Rattle.description.specs.Trees.{document_said, options_tree}
 
 -- the path joined by `-`
 abbrev pub page_name : List (List ℕ) → List ℕ
@@ -46,7 +48,7 @@ without_lead text = if bytes_eq (take (length usage_lead) text) usage_lead then 
 -- the usage line, or the text that stands for it
 abbrev pub usage_part : (path : List (List ℕ)) → Tree → (usage : Option (List ℕ)) → List Write
 usage_part path t None = path_writes path ++ usage_writes true t
-usage_part path t (Some text) = doc_writes (text_document (without_lead text))
+usage_part path t (Some text) = doc_writes (plain_document (without_lead text))
 
 abbrev pub synopsis_writes : (path : List (List ℕ)) → Tree → (usage : Option (List ℕ)) → List Write
 synopsis_writes path t usage = heading (codes "SYNOPSIS") ++ usage_part path t usage
@@ -62,13 +64,13 @@ description_writes (Some text) = if goes_on text then heading (codes "DESCRIPTIO
 abbrev pub name_above : (path : List (List ℕ)) → List (List ℕ)
 name_above path = if nat_lt 1 (length path) then page_name (take (length path - 1) path) ∷ [] else []
 
--- of a command of the level
-abbrev pub name_below : (path : List (List ℕ)) → CommandSaid → List ℕ
-name_below path (command name initial h l) = page_name (path ++ name ∷ [])
+-- of a command of the level, unless it is hidden
+abbrev pub names_below : (path : List (List ℕ)) → CommandSaid → List (List ℕ)
+names_below path (command names h l) = if names.hidden then [] else page_name (path ++ names.name ∷ []) ∷ []
 
 -- of the page directly above, and of those directly below in the order of the commands
 abbrev pub neighbours : SubjectSaid → List (List ℕ)
-neighbours s = name_above s.path ++ map (name_below s.path) (commands_on s.level)
+neighbours s = name_above s.path ++ flat_map (names_below s.path) (commands_on s.level)
 
 abbrev pub reference : (section name : List ℕ) → List Write
 reference section name = literal name ∷ plain (codes "(") ∷ plain section ∷ plain (codes ")") ∷ []
@@ -87,6 +89,7 @@ subject_manual_writes s =
     ++ description_writes texts.about
     ++ doc_within block.Block (document_said texts.header)
     ++ groups_writes false no_texts (item_list (subject_tree s) ++ item_list (options_tree s.help_options))
+    ++ flat_map (topic_writes true) texts.topics
     ++ doc_within block.Block (document_said texts.footer)
     ++ see_also_writes s.words.section (neighbours s)
 

@@ -12,6 +12,17 @@ paragraphs [] = [] ∷ []
 paragraphs (b ∷ []) = (b ∷ []) ∷ []
 paragraphs (b ∷ c ∷ bs) = if is_newline b && is_newline c then [] ∷ paragraphs bs else onto_first b (paragraphs (c ∷ bs))
 
+-- what stands before the first two newlines, and what stands from there on
+abbrev pub front : List (List ℕ) → List ℕ
+front [] = []
+front (paragraph ∷ others) = paragraph
+
+abbrev pub lead : List ℕ → List ℕ
+lead text = front (paragraphs text)
+
+abbrev pub behind_lead : List ℕ → List ℕ
+behind_lead text = drop (length (lead text)) text
+
 -- a blank or a newline
 abbrev pub is_margin : ℕ → Bool
 is_margin b = b == 32 || is_newline b

@@ -3,7 +3,7 @@ use Rattle.std.specs.Prelude.{◌≡◌, chars, ℕ, List, [], ◌∷◌, ◌++�
 use Rattle.std.specs.List.{list_all}
 use Rattle.bpaf_meta.specs.Content.{Name, short, long, both}
 use Rattle.toml.specs.Data.{Members}
-use Rattle.description_parts.specs.Content.{OptSaid, ChoiceSaid, PositionalSaid, TextsSaid, LevelSaid, level, GroupsSaid, no_groups, groups, GroupSaid, group, CommandsSaid, no_commands, commands, CommandSaid, command}
+use Rattle.description_parts.specs.Content.{OptSaid, ChoiceSaid, PositionalSaid, TopicSaid, TextsSaid, LevelSaid, level, GroupsSaid, no_groups, groups, GroupSaid, group, CommandsSaid, no_commands, commands, CommandSaid, command}
 use Rattle.description.specs.Content.{DescriptionSaid}
 use Rattle.description.specs.Described.{described}
 use Rattle.description.specs.Described.Texts.{is_text_character}
@@ -24,16 +24,19 @@ name_characters (long text) = chars text
 name_characters (both c text) = c ∷ chars text
 
 abbrev pub option_characters : OptSaid → List ℕ
-option_characters o = name_characters o.name ++ (characters_of o.value ++ (characters_of o.help ++ characters_of o.env))
+option_characters o = name_characters o.name ++ (characters_of o.value ++ (characters_of o.default ++ (characters_of o.values ++ (characters_of o.help ++ characters_of o.env))))
 
 abbrev pub choice_characters : ChoiceSaid → List ℕ
 choice_characters c = flat_map option_characters c.options
 
 abbrev pub positional_characters : PositionalSaid → List ℕ
-positional_characters p = chars p.value ++ characters_of p.help
+positional_characters p = chars p.value ++ (characters_of p.default ++ (characters_of p.values ++ characters_of p.help))
+
+abbrev pub topic_characters : TopicSaid → List ℕ
+topic_characters t = chars t.title ++ chars t.text
 
 abbrev pub texts_characters : TextsSaid → List ℕ
-texts_characters t = characters_of t.about ++ (characters_of t.header ++ (characters_of t.footer ++ characters_of t.usage))
+texts_characters t = characters_of t.about ++ (characters_of t.header ++ (characters_of t.footer ++ (characters_of t.usage ++ flat_map topic_characters t.topics)))
 
 -- ---- levels
 
@@ -53,7 +56,7 @@ abbrev mutual
   commands_characters (commands m ms) = command_characters m ++ commands_characters ms
 
   pub command_characters : CommandSaid → List ℕ
-  command_characters (command name initial help l) = chars name ++ (initial_characters initial ++ (characters_of help ++ level_characters l))
+  command_characters (command names help l) = chars names.name ++ (initial_characters names.initial ++ (flat_map chars names.aliases ++ (characters_of help ++ level_characters l)))
 
 -- ---- the whole
 

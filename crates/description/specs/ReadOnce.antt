@@ -1,5 +1,5 @@
 -- What a macro of roff may read a second time: it is the same then. Such macros read the title line of a manual page, and its headings.
-use Rattle.std.specs.Prelude.{◌≡◌, bytes_eq, codes, ℕ, List, [], ◌++◌, map, Bool, true, ◌||◌, Some}
+use Rattle.std.specs.Prelude.{◌≡◌, bytes_eq, codes, ℕ, List, [], ◌++◌, flat_map, map, Bool, true, ◌||◌, Some}
 use Rattle.std.specs.List.{list_all}
 use Rattle.bpaf_doc.specs.Manpage.Events.{word_of}
 use Rattle.bpaf_doc.specs.Manpage.Page.{title_arguments}
@@ -19,11 +19,11 @@ is_word_read_once word = bytes_eq word (codes "\"\"") || list_all is_read_once w
 abbrev pub title_line : DescriptionSaid → List (List ℕ)
 title_line d = map word_of (title_arguments d.name d.section d.date d.vendor d.title)
 
--- ---- what headings are made of: the titles of groups, and the names of commands
+-- ---- what headings are made of: the titles of groups and topics, and the names of commands, with their other names
 
 abbrev mutual
   pub level_headings : LevelSaid → List ℕ
-  level_headings (level t r os cs gs ps ms) = groups_headings gs ++ commands_headings ms
+  level_headings (level t r os cs gs ps ms) = flat_map (λ topic. topic.title) t.topics ++ (groups_headings gs ++ commands_headings ms)
 
   pub groups_headings : GroupsSaid → List ℕ
   groups_headings no_groups = []
@@ -37,7 +37,7 @@ abbrev mutual
   commands_headings (commands m ms) = command_headings m ++ commands_headings ms
 
   pub command_headings : CommandSaid → List ℕ
-  command_headings (command name initial help l) = name ++ level_headings l
+  command_headings (command names help l) = names.name ++ (flat_map (λ name. name) names.aliases ++ level_headings l)
 
 -- ---- law
 
@@ -45,7 +45,7 @@ abbrev mutual
 pub record IsReadOnce (d : DescriptionSaid) : Type 0 where
   -- no argument of the title line holds a backslash, and none a double quote but two quotes alone
   pub title_line : list_all is_word_read_once (title_line d) ≡ true
-  -- no title of a group and no name of a command holds one
+  -- no title of a group or of a topic and no name of a command holds one
   pub headings : list_all is_read_once (level_headings d.level) ≡ true
 
 abbrev pub TitlesAreReadOnce : Type 0

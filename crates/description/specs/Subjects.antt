@@ -34,9 +34,9 @@ grouped (groups (group title os cs ps ms) gs) = listed ms ++ grouped gs
 abbrev pub commands_on : LevelSaid → List CommandSaid
 commands_on (level t r os cs gs ps ms) = grouped gs ++ listed ms
 
--- the name of a command, and its short name as a text
+-- the name of a command, its short name as a text, and its other names
 abbrev pub names_of : CommandSaid → List (List ℕ)
-names_of (command name initial h l) = name ∷ option_to_list (option_map encode_utf8 initial)
+names_of (command names h l) = names.name ∷ option_to_list (option_map encode_utf8 names.initial) ++ names.aliases
 
 abbrev pub is_named : (word : List ℕ) → CommandSaid → Bool
 is_named word m = list_any (bytes_eq word) (names_of m)
@@ -48,14 +48,14 @@ command_named word l = find (is_named word) (commands_on l)
 -- ---- where words lead
 
 abbrev pub level_in : CommandSaid → LevelSaid
-level_in (command name initial h l) = l
+level_in (command names h l) = l
 
 abbrev pub help_in : CommandSaid → Option (List ℕ)
-help_in (command name initial h l) = h
+help_in (command names h l) = h
 
 -- a command of the subject
 abbrev pub below : SubjectSaid → CommandSaid → SubjectSaid
-below s (command name initial h l) = record { path = s.path ++ name ∷ []; words = s.words; help = h; help_options = s.help_options; level = l }
+below s (command names h l) = record { path = s.path ++ names.name ∷ []; words = s.words; help = h; help_options = s.help_options; level = l }
 
 -- down from command to command; nowhere, where a word names none
 abbrev pub led_to : (words : List (List ℕ)) → SubjectSaid → Option SubjectSaid

@@ -1,23 +1,29 @@
 -- The tree and the info of a description.
-use Rattle.std.specs.Prelude.{ℕ, Bool, true, false, ◌||◌, List, [], ◌∷◌, ◌++◌, map, Option, Some, None, option_to_list}
+use Rattle.std.specs.Prelude.{ℕ, Bool, true, false, not, ◌&&◌, ◌||◌, List, [], ◌∷◌, ◌++◌, map, Option, Some, None, option_to_list, unwrap_or}
 use Rattle.std.specs.Option.{option_map}
-use Rattle.bpaf_doc.specs.declared.buffer.Style.TheVariants as style
-use Rattle.bpaf_doc.specs.Buffer.Parts.{Part, Text}
+use Rattle.bpaf_doc.specs.Buffer.Parts.{Part}
+use Rattle.bpaf_doc.specs.Buffer.Writes.{document_of}
 use Rattle.bpaf_meta.specs.Content as content
-use Rattle.bpaf_meta.specs.Content.{Name, Tree, and_of, or_of, optional, required, item, many, subsection, custom_usage, strict, Leaf, positional, flag, argument, Head, head}
+use Rattle.bpaf_meta.specs.Content.{Name, Tree, and_of, or_of, optional, required, item, many, subsection, custom_usage, skip, strict, Leaf, positional, flag, argument, Head, head}
 use Rattle.bpaf_meta.specs.Names.{short_name}
 use Rattle.bpaf_meta.specs.View.{trees_in}
+use Rattle.bpaf_help.specs.Chapters.{spaced}
 use Rattle.description.specs.Content.{DescriptionSaid}
+use Rattle.description.specs.Texts.{plain_document, text_document}
+use Rattle.description.specs.Topics.{topics_footer}
+use Rattle.description.specs.Notes.{command_notes, noted_writes, value_notes}
+use Rattle.description.specs.Paragraphs.{without_back}
 use Rattle.description_parts.specs.Content.{OptSaid, ChoiceSaid, PositionalSaid, TextsSaid, LevelSaid, level, GroupsSaid, no_groups, groups, GroupSaid, group, CommandsSaid, no_commands, commands, CommandSaid, command}
 
 -- ---- single items
 
--- a text is a document of that one text
-abbrev pub text_document : List ℕ → List Part
-text_document text = Text text style.Text ∷ []
-
 abbrev pub document_said : Option (List ℕ) → Option (List Part)
 document_said = option_map text_document
+
+-- the help of an item, with notes behind its first paragraph; blanks and newlines at its end are left out then
+abbrev pub help_said : (help : Option (List ℕ)) → (notes : List (List ℕ)) → Option (List Part)
+help_said help [] = document_said help
+help_said help (note ∷ notes) = Some (document_of (noted_writes (without_back (unwrap_or help [])) (spaced (note ∷ notes))))
 
 -- an option with a value is an argument, one without is a flag; its short names are the one that it has
 abbrev pub named_leaf : (value : Option (List ℕ)) → Name → (env : Option (List ℕ)) → (help : Option (List Part)) → Leaf
@@ -25,7 +31,7 @@ named_leaf None name env help = flag name (option_to_list (short_name name)) env
 named_leaf (Some value) name env help = argument name (option_to_list (short_name name)) value env help
 
 abbrev pub option_item : OptSaid → Tree
-option_item o = item (named_leaf o.value o.name o.env (document_said o.help))
+option_item o = item (named_leaf o.value o.name o.env (help_said o.help (value_notes o.default o.values)))
 
 -- what has to be given or not, once or many times
 abbrev pub wrapped : (required repeated : Bool) → Tree → Tree
@@ -34,19 +40,28 @@ wrapped false false t = optional t
 wrapped true true t = many (required t)
 wrapped false true t = many (optional t)
 
-abbrev pub option_tree : OptSaid → Tree
-option_tree o = wrapped o.required o.repeated (option_item o)
+-- what is hidden leaves nothing in its place
+abbrev pub unless_hidden : (hidden : Bool) → Tree → Tree
+unless_hidden true t = skip
+unless_hidden false t = t
 
--- one of the options; they are not wrapped
+abbrev pub option_tree : OptSaid → Tree
+option_tree o = unless_hidden o.hidden (wrapped o.required o.repeated (option_item o))
+
+-- an option of a choice, which is not wrapped
+abbrev pub alternative_tree : OptSaid → Tree
+alternative_tree o = unless_hidden o.hidden (option_item o)
+
+-- one of the options
 abbrev pub choice_tree : ChoiceSaid → Tree
-choice_tree c = wrapped c.required false (or_of (trees_in (map option_item c.options)))
+choice_tree c = wrapped c.required false (or_of (trees_in (map alternative_tree c.options)))
 
 abbrev pub behind_dashes : Bool → Tree → Tree
 behind_dashes true t = strict t
 behind_dashes false t = t
 
 abbrev pub positional_tree : PositionalSaid → Tree
-positional_tree p = behind_dashes p.strict (wrapped p.required p.repeated (item (positional p.value (document_said p.help))))
+positional_tree p = unless_hidden p.hidden (behind_dashes p.strict (wrapped p.required p.repeated (item (positional p.value (help_said p.help (value_notes p.default p.values))))))
 
 -- ---- groups and levels
 
@@ -59,9 +74,9 @@ options_tree os = all_of (map option_tree os)
 -- some parts under a title; nothing where there are none
 abbrev pub titled : (title : List ℕ) → List Tree → List Tree
 titled title [] = []
-titled title (t ∷ ts) = subsection (all_of (t ∷ ts)) (text_document title) ∷ []
+titled title (t ∷ ts) = subsection (all_of (t ∷ ts)) (plain_document title) ∷ []
 
--- the usage line of a level shows a place for a command once: the groups may hold commands, and the level itself
+-- the usage line of a level shows a place for a command once, where the first stands that is not hidden: in a group, or on the level itself
 abbrev pub once_in_usage : (shown : Bool) → Tree → Tree
 once_in_usage true t = custom_usage t []
 once_in_usage false t = t
@@ -71,9 +86,16 @@ abbrev pub one_of_commands : (shown required : Bool) → List Tree → List Tree
 one_of_commands shown r [] = []
 one_of_commands shown r (t ∷ ts) = once_in_usage shown (wrapped r false (or_of (trees_in (t ∷ ts)))) ∷ []
 
+abbrev pub is_shown : CommandSaid → Bool
+is_shown (command names h l) = not names.hidden
+
+-- a command that is not hidden is among them
+abbrev pub show_command : CommandsSaid → Bool
+show_command no_commands = false
+show_command (commands m ms) = is_shown m || show_command ms
+
 abbrev pub holds_command : GroupSaid → Bool
-holds_command (group title os cs ps no_commands) = false
-holds_command (group title os cs ps (commands m ms)) = true
+holds_command (group title os cs ps ms) = show_command ms
 
 abbrev pub hold_commands : GroupsSaid → Bool
 hold_commands no_groups = false
@@ -87,9 +109,9 @@ abbrev pub named_groups : GroupsSaid → List Tree
 named_groups no_groups = []
 named_groups (groups g gs) = named_group g ++ named_groups gs
 
--- the texts of a level, and the tree of the options that ask for help
+-- the texts of a level, of which that of its usage line stands as it is, and the tree of the options that ask for help
 abbrev pub texts_head : TextsSaid → (help : Tree) → Head
-texts_head t help = head (document_said t.about) (document_said t.header) (document_said t.footer) (document_said t.usage) help
+texts_head t help = head (document_said t.about) (document_said t.header) (topics_footer t.topics t.footer) (option_map plain_document t.usage) help
 
 abbrev pub level_head : (help : Tree) → LevelSaid → Head
 level_head help (level t r os cs gs ps ms) = texts_head t help
@@ -98,22 +120,22 @@ abbrev mutual
   -- the parts of a level, in the order of their kinds: what is named stands before what is taken by its place, so a group with both
   -- stands in two places
   pub level_tree : (help : Tree) → LevelSaid → Tree
-  level_tree help (level t r os cs gs ps ms) = all_of (map option_tree os ++ map choice_tree cs ++ named_groups gs ++ placed_groups help false r gs ++ map positional_tree ps ++ one_of_commands (hold_commands gs) r (command_items help ms))
+  level_tree help (level t r os cs gs ps ms) = all_of (map option_tree os ++ map choice_tree cs ++ named_groups gs ++ placed_groups help false r gs ++ map positional_tree ps ++ one_of_commands (hold_commands gs && show_command ms) r (command_items help ms))
 
-  -- what each group has of positional values and commands; `shown` says whether a group before holds a command
+  -- what each group has of positional values and commands; `shown` says whether a group before holds a command that is not hidden
   pub placed_groups : (help : Tree) → (shown command_required : Bool) → GroupsSaid → List Tree
   placed_groups help shown r no_groups = []
   placed_groups help shown r (groups g gs) = placed_group help shown r g ++ placed_groups help (shown || holds_command g) r gs
 
   pub placed_group : (help : Tree) → (shown command_required : Bool) → GroupSaid → List Tree
-  placed_group help shown r (group title os cs ps ms) = titled title (map positional_tree ps ++ one_of_commands shown r (command_items help ms))
+  placed_group help shown r (group title os cs ps ms) = titled title (map positional_tree ps ++ one_of_commands (shown && show_command ms) r (command_items help ms))
 
   pub command_items : (help : Tree) → CommandsSaid → List Tree
   command_items help no_commands = []
   command_items help (commands m ms) = command_item help m ∷ command_items help ms
 
   pub command_item : (help : Tree) → CommandSaid → Tree
-  command_item help (command name initial h l) = item (content.command name initial (document_said h) (level_tree help l) (level_head help l))
+  command_item help (command names h l) = unless_hidden names.hidden (item (content.command names.name names.initial (help_said h (command_notes names.aliases)) (level_tree help l) (level_head help l)))
 
 -- ---- the whole
 

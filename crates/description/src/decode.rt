@@ -16,6 +16,7 @@ mod levels;
 mod options;
 mod taken;
 mod texts;
+mod topics;
 mod values;
 
 use crate::descriptions::Description;
@@ -24,14 +25,14 @@ pub use faults::DescriptionError;
 use faults::{Fault, Way};
 use lasting_names::Names;
 use levels::{Outline, level_of, outline_from};
-use options::options_in;
+use options::help_options_in;
 use std::alloc::{AllocError, Allocator};
 use texts::{Kind, checked};
 use toml::value::{Date, Datetime};
 use toml::{Table, Value};
 use values::{check_keys, required_word_at, section_at, tables_at, text_at, value_at};
 
-const DESCRIPTION_KEYS: [&str; 16] = [
+const DESCRIPTION_KEYS: [&str; 17] = [
     "name",
     "section",
     "date",
@@ -48,6 +49,7 @@ const DESCRIPTION_KEYS: [&str; 16] = [
     "group",
     "positional",
     "command",
+    "topic",
 ];
 
 impl<'a, A: Allocator + Copy> Description<'a, A> {
@@ -85,7 +87,7 @@ fn description_of<'a, A: Allocator + Copy>(
     ensures { Reads (described (table_view table.now)) (λ d. description_said d) result }
 {
     let head = description_head(way.alloc(), names, table)?;
-    let help_options = options_in(way, "help_option", names, head.help_options)?;
+    let help_options = help_options_in(way, names, head.help_options)?;
     let level = level_of(way, names, head.outline)?;
     Ok(Description {
         name: head.name,

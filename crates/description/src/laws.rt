@@ -1,5 +1,6 @@
 //! Laws of the definitions that the contracts cite: nothing to call, but statements that the check proves.
 
+ghost use Rattle.description.specs.All.{EachCommandIsThere};
 ghost use Rattle.description.specs.Manuals.{SubjectManualsAreWellNested};
 ghost use Rattle.description.specs.Pages.{ChaptersAreWellPlaced, PagesAreWellNested, SubjectsAreWellNested};
 ghost use Rattle.description.specs.Plain.{TextsArePlain};
@@ -28,9 +29,15 @@ pub fn texts_are_plain()
     ensures { TextsArePlain }
 {}
 
-/// Of a description that a TOML text gives, no argument of the title line of the manual page, no title of a group and
-/// no name of a command holds a backslash or a double quote, but the argument of two quotes. So a macro of roff that
-/// reads its arguments a second time reads the same words.
+/// Of a description that a TOML text gives, no argument of the title line of the manual page, no title of a group or of
+/// a topic and no name of a command holds a backslash or a double quote, but the argument of two quotes. So a macro of
+/// roff that reads its arguments a second time reads the same words.
 pub fn titles_are_read_once()
     ensures { TitlesAreReadOnce }
+{}
+
+/// Of a description there is a manual page of the application, and where there is one of a level, there is one of each
+/// command on it too.
+pub fn each_command_is_there()
+    ensures { EachCommandIsThere }
 {}

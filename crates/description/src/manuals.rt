@@ -4,25 +4,27 @@ ghost use Rattle.bpaf_doc.specs.Buffer.Writes.{doc_writes, with_writes};
 ghost use Rattle.bpaf_doc.specs.Manpage.Page.{title_arguments, title_page};
 ghost use Rattle.bpaf_items.specs.Listing.ItemList.{item_list};
 ghost use Rattle.bpaf_items.specs.Page.EnvTexts.{no_texts};
-ghost use Rattle.bpaf_items.specs.Page.HelpPage.{doc_within, groups_writes};
+ghost use Rattle.bpaf_items.specs.Page.HelpPage.{groups_writes};
 ghost use Rattle.bpaf_help.specs.Chapters.{manual_name};
 ghost use Rattle.bpaf_help.specs.View.{section_name};
 ghost use Rattle.bpaf_meta.specs.View.{text_of, tree_of};
-ghost use Rattle.description.specs.Manuals.{IsSubjectManual, description_writes, heading, page_name, reference};
+ghost use Rattle.description.specs.Manuals.{IsSubjectManual, description_writes, page_name, reference};
 ghost use Rattle.description.specs.Manuals.{see_also_writes, subject_manual, subject_manual_text, summary, title_words};
 ghost use Rattle.description.specs.Manuals.{synopsis_writes, usage_part, without_lead};
 ghost use Rattle.description.specs.Manuals.Steps.{front_writes, list_writes};
 ghost use Rattle.description.specs.Pages.{subject_tree};
 ghost use Rattle.description.specs.Paragraphs.{summary_of};
-ghost use Rattle.description.specs.Trees.{document_said, options_tree, text_document};
+ghost use Rattle.description.specs.Texts.{plain_document};
+ghost use Rattle.description.specs.Trees.{document_said, options_tree};
 ghost use Rattle.description.specs.View.{subject_said};
 ghost use Rattle.description_parts.specs.View.{opt_said};
 
+use crate::footers::{put_document, put_heading, put_topics, put_within};
 use crate::neighbours::page_name;
 use crate::paragraphs::{goes_on, summary_of};
 use crate::subjects::Subject;
 use crate::trees::{level_tree, options_tree};
-use bpaf_doc::buffer::{Block, Doc, Token};
+use bpaf_doc::buffer::Doc;
 use bpaf_doc::laws::titled_page;
 use bpaf_help::meta::Meta;
 use bpaf_help::meta_help::{EnvTexts, HelpItems, write_help_item_groups};
@@ -100,7 +102,7 @@ impl<A: Allocator, B: Allocator + Copy> Subject<'_, '_, A, B> {
         }
     }
 
-    // The header, the lists and the footer.
+    // The header, the lists, the topics and the footer.
     fn put_lists(&self, document: &mut Doc<B>, tree: &Meta<B>) -> Result<(), AllocError>
         requires { tree_of tree.now ≡ subject_tree (subject_said self.now) }
         ensures { OnOk result (document.new ≡ with_writes document.old (list_writes (subject_said self.now))) }
@@ -108,6 +110,7 @@ impl<A: Allocator, B: Allocator + Copy> Subject<'_, '_, A, B> {
         let alloc = self.allocator();
         put_within(alloc, document, self.level.header)?;
         put_list(alloc, document, tree, self.help_options)?;
+        put_topics(alloc, document, true, &self.level.topics)?;
         put_within(alloc, document, self.level.footer)
     }
 }
@@ -165,7 +168,7 @@ fn put_name<B: Allocator + Copy>(
     put_heading(document, "NAME")?;
     document.text(&name)?;
     document.text(" - ")?;
-    put_text(alloc, document, summary)
+    put_document(alloc, document, summary)
 }
 
 fn put_synopsis<B: Allocator + Copy>(
@@ -194,7 +197,7 @@ fn put_usage<B: Allocator + Copy>(
         (usage_part (map string_bytes path.now) (tree_of tree.now) (text_of usage.entry))) }
 {
     match usage {
-        Some(text) => put_text(alloc, document, without_lead(text)),
+        Some(text) => put_plain(alloc, document, without_lead(text)),
         None => {
             document.write_path(path)?;
             write_meta(document, tree, true)
@@ -223,7 +226,7 @@ fn put_description<B: Allocator + Copy>(
         return Ok(());
     }
     put_heading(document, "DESCRIPTION")?;
-    put_text(alloc, document, text)
+    put_document(alloc, document, text)
 }
 
 // The items of the tree, and the options that ask for help, under their groups and headings.
@@ -303,37 +306,12 @@ fn put_reference<B: Allocator + Copy>(
     document.text(")")
 }
 
-fn put_heading<B: Allocator>(document: &mut Doc<B>, title: &str) -> Result<(), AllocError>
-    ensures { OnOk result (document.new ≡ with_writes document.old (heading title.now)) }
-{
-    document.token(Token::BlockStart(Block::Header))?;
-    document.text(title)?;
-    document.token(Token::BlockEnd(Block::Header))
-}
-
-// A text in a block of its own, if there is one.
-fn put_within<B: Allocator + Copy>(
-    alloc: B,
-    document: &mut Doc<B>,
-    text: Option<&str>,
-) -> Result<(), AllocError>
-    ensures { OnOk result (document.new ≡ with_writes document.old
-        (doc_within Block.Block (document_said (text_of text.entry)))) }
-{
-    let Some(text) = text else {
-        return Ok(());
-    };
-    document.token(Token::BlockStart(Block::Block))?;
-    put_text(alloc, document, text)?;
-    document.token(Token::BlockEnd(Block::Block))
-}
-
-fn put_text<B: Allocator + Copy>(
+fn put_plain<B: Allocator + Copy>(
     alloc: B,
     document: &mut Doc<B>,
     text: &str,
 ) -> Result<(), AllocError>
-    ensures { OnOk result (document.new ≡ with_writes document.old (doc_writes (text_document text.now))) }
+    ensures { OnOk result (document.new ≡ with_writes document.old (doc_writes (plain_document text.now))) }
 {
     let part = Doc::from_text(alloc, text)?;
     document.doc(&part)

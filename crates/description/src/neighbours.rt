@@ -1,6 +1,6 @@
 //! The names of manual pages of levels, and which stand directly above and below one.
-ghost use Rattle.std.specs.Prelude.{◌≡◌, ◌++◌, ◌∷◌, [], IfOk, OnOk, map, string_bytes};
-ghost use Rattle.description.specs.Manuals.{name_above, name_below, neighbours, page_name};
+ghost use Rattle.std.specs.Prelude.{◌≡◌, ◌++◌, ◌∷◌, [], IfOk, OnOk, flat_map, map, string_bytes};
+ghost use Rattle.description.specs.Manuals.{name_above, names_below, neighbours, page_name};
 ghost use Rattle.description.specs.Subjects.{grouped};
 ghost use Rattle.description.specs.View.{subject_said};
 ghost use Rattle.description_parts.specs.View.{command_said, groups_said};
@@ -52,7 +52,7 @@ fn put_grouped<A: Allocator, B: Allocator + Copy>(
     groups: &[Group<'_, A>],
 ) -> Result<(), AllocError>
     ensures { OnOk result (map string_bytes names.new.items ≡ map string_bytes names.old.items
-        ++ map (name_below (map string_bytes path.now)) (grouped (groups_said groups.now))) }
+        ++ flat_map (names_below (map string_bytes path.now)) (grouped (groups_said groups.now))) }
 {
     for group in groups {
         put_below(alloc, names, path, &group.commands)?;
@@ -67,7 +67,7 @@ fn put_below<A: Allocator, B: Allocator + Copy>(
     commands: &[Command<'_, A>],
 ) -> Result<(), AllocError>
     ensures { OnOk result (map string_bytes names.new.items ≡ map string_bytes names.old.items
-        ++ map (name_below (map string_bytes path.now)) (map command_said commands.now)) }
+        ++ flat_map (names_below (map string_bytes path.now)) (map command_said commands.now)) }
 {
     for command in commands {
         put_command(alloc, names, path, command)?;
@@ -75,6 +75,7 @@ fn put_below<A: Allocator, B: Allocator + Copy>(
     Ok(())
 }
 
+// The name of the page of a command, unless it is hidden.
 fn put_command<A: Allocator, B: Allocator + Copy>(
     alloc: B,
     names: &mut Vec<String<B>, B>,
@@ -82,8 +83,11 @@ fn put_command<A: Allocator, B: Allocator + Copy>(
     command: &Command<'_, A>,
 ) -> Result<(), AllocError>
     ensures { OnOk result (map string_bytes names.new.items ≡ map string_bytes names.old.items
-        ++ name_below (map string_bytes path.now) (command_said command.now) ∷ []) }
+        ++ names_below (map string_bytes path.now) (command_said command.now)) }
 {
+    if command.hidden {
+        return Ok(());
+    }
     names.push(name_below(alloc, path, command.name)?)?;
     Ok(())
 }

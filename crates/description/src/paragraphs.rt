@@ -3,7 +3,8 @@ ghost use Rattle.std.specs.Prelude.{◌≡◌};
 ghost use Rattle.std.specs.Char.{is_not_whitespace};
 ghost use Rattle.bpaf_meta.specs.View.{text_of};
 ghost use Rattle.description.specs.Described.Texts.{has_ink};
-ghost use Rattle.description.specs.Paragraphs.{goes_on, summary_of, without_back, without_front, without_margins};
+ghost use Rattle.description.specs.Paragraphs.{behind_lead, goes_on, lead, summary_of, without_back, without_front};
+ghost use Rattle.description.specs.Paragraphs.{without_margins};
 
 // What stands between two paragraphs.
 const BETWEEN: &str = "\n\n";
@@ -39,6 +40,17 @@ pub fn goes_on(text: &str) -> bool
     false
 }
 
+/// What stands before the first two newlines, and what stands from there on.
+pub fn split_lead(text: &str) -> (&str, &str)
+    ensures lead { result.0.now ≡ lead text.now }
+    ensures rest { result.1.now ≡ behind_lead text.now }
+{
+    match text.find(BETWEEN) {
+        None => (text, ""),
+        Some(at) => text.split_at(at),
+    }
+}
+
 /// Whether a character of the text is no white space.
 pub fn has_ink(text: &str) -> bool
     ensures { result ≡ has_ink text.now }
@@ -64,7 +76,8 @@ fn without_front(text: &str) -> &str
     text.trim_start_matches(MARGIN)
 }
 
-fn without_back(text: &str) -> &str
+/// The text without the blanks and newlines at its end.
+pub fn without_back(text: &str) -> &str
     ensures { result.now ≡ without_back text.now }
 {
     text.trim_end_matches(MARGIN)

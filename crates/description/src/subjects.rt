@@ -1,6 +1,7 @@
 //! What a page shows: the application that a description describes, or a command of it.
-ghost use Rattle.std.specs.Prelude.{◌≡◌, ◌++◌, ◌∷◌, [], None, Some, IfOk, OnErr, OnOk, MatchBool, map, string_bytes};
-ghost use Rattle.std.specs.List.{find};
+ghost use Rattle.std.specs.Prelude.{◌≡◌, ◌++◌, ◌∷◌, [], None, Some, IfOk, OnErr, OnOk, MatchBool, bytes_eq, map};
+ghost use Rattle.std.specs.Prelude.{string_bytes};
+ghost use Rattle.std.specs.List.{find, list_any};
 ghost use Rattle.std.specs.Option.{option_map};
 ghost use Rattle.bpaf_meta.specs.View.{text_of};
 ghost use Rattle.description.specs.Subjects.{application, below, command_named, grouped, help_in, is_named};
@@ -66,8 +67,8 @@ impl<'d, 'a, A: Allocator, B: Allocator + Copy> Subject<'d, 'a, A, B> {
         *self.path.allocator()
     }
 
-    /// Goes on to a command of what is shown: the first one that `word` is the name or the short name of, where
-    /// those of groups come before the others. False where there is none. Then, and after `AllocError`, nothing
+    /// Goes on to a command of what is shown: the first one that `word` is the name, the short name or another name
+    /// of, where those of groups come before the others. False where there is none. Then, and after `AllocError`, nothing
     /// has changed.
     #[tactic(auto, using(crate::proofs::Named::entered))]
     pub fn enter(&mut self, word: &str) -> Result<bool, AllocError>
@@ -87,6 +88,26 @@ impl<'d, 'a, A: Allocator, B: Allocator + Copy> Subject<'d, 'a, A, B> {
         self.help = help_of(command);
         self.level = level_of(command);
         Ok(true)
+    }
+
+    /// A command of what is shown.
+    #[tactic(auto, using(crate::proofs::ManualFiles::copied, crate::proofs::Named::entered))]
+    pub(crate) fn below(
+        &self,
+        command: &'d Command<'a, A>,
+    ) -> Result<Subject<'d, 'a, A, B>, AllocError>
+        ensures { IfOk result (λ subject.
+            subject_said subject ≡ below (subject_said self.now) (command_said command.now)) }
+    {
+        let mut path = self.path.clone()?;
+        put_name(&mut path, self.allocator(), command.name)?;
+        Ok(Subject {
+            path,
+            title: self.title,
+            help: help_of(command),
+            help_options: self.help_options,
+            level: level_of(command),
+        })
     }
 }
 
@@ -168,7 +189,20 @@ fn has_name<A: Allocator>(command: &Command<'_, A>, word: &str) -> bool
         return true;
     }
     match command.short {
-        None => false,
-        Some(short) => *word == *short.encode_utf8(&mut [0; 4]),
+        None => is_among(&command.aliases, word),
+        Some(short) => {
+            *word == *short.encode_utf8(&mut [0; 4]) || is_among(&command.aliases, word)
+        }
     }
+}
+
+fn is_among(names: &[&'static str], word: &str) -> bool
+    ensures { result ≡ list_any (bytes_eq word.now) (map (λ name. name.now) names.now) }
+{
+    for name in names {
+        if *word == **name {
+            return true;
+        }
+    }
+    false
 }

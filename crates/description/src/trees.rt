@@ -1,18 +1,28 @@
 //! The tree and the texts of a description.
-ghost use Rattle.std.specs.Prelude.{◌≡◌, ◌++◌, ◌∷◌, [], IfOk, OnOk, false, map, option_to_list};
+ghost use Rattle.std.specs.Prelude.{◌≡◌, ◌++◌, ◌∷◌, [], IfOk, OnOk, false, map, option_map, option_to_list, ◌&&◌, Some};
+ghost use Rattle.std.specs.Prelude.{string_bytes, unwrap_or};
+ghost use Rattle.bpaf_doc.specs.Buffer.Writes.{document_of, with_writes};
 ghost use Rattle.bpaf_meta.specs.Content.{many as many_of, optional as optional_of, required as required_of};
 ghost use Rattle.bpaf_meta.specs.Content.{strict as strict_of, or_of, subsection as subsection_of};
 ghost use Rattle.bpaf_meta.specs.Names.{short_name};
 ghost use Rattle.bpaf_meta.specs.View.{head_of, name_of, text_of, tree_of, trees_in};
+ghost use Rattle.description.specs.Texts.{plain_document};
+ghost use Rattle.description.specs.Topics.{topics_footer};
 ghost use Rattle.description.specs.Trees.{all_of, behind_dashes, choice_tree, command_item, command_items};
 ghost use Rattle.description.specs.Trees.{document_said, hold_commands, holds_command, level_head, level_tree};
+ghost use Rattle.description.specs.Trees.{alternative_tree, help_said, is_shown};
+ghost use Rattle.description.specs.Notes.{command_notes, noted_writes, rest_writes, value_notes};
+ghost use Rattle.description.specs.Paragraphs.{without_back};
 ghost use Rattle.description.specs.Trees.{named_group, named_groups, once_in_usage, one_of_commands};
-ghost use Rattle.description.specs.Trees.{option_item, option_tree, options_tree};
-ghost use Rattle.description.specs.Trees.{placed_group, placed_groups, positional_tree, text_document, titled};
+ghost use Rattle.description.specs.Trees.{option_item, option_tree, options_tree, placed_group, placed_groups};
+ghost use Rattle.description.specs.Trees.{positional_tree, titled, show_command};
 ghost use Rattle.description.specs.Trees.{wrapped};
 ghost use Rattle.description_parts.specs.View.{choice_said, command_said, commands_said, group_said};
-ghost use Rattle.description_parts.specs.View.{groups_said, level_said, opt_said, positional_said};
+ghost use Rattle.description_parts.specs.View.{groups_said, level_said, opt_said, positional_said, topic_said};
 
+use crate::footers::topics_document;
+use crate::paragraphs::{split_lead, without_back};
+use crate::texts::{has_literals, put_text, text_document};
 use bpaf_doc::buffer::Doc;
 use bpaf_help::item::{Item, ShortLong};
 use bpaf_help::meta::Meta;
@@ -20,6 +30,7 @@ use bpaf_help::meta_help::{Info, Metavar};
 use description_parts::levels::{Command, Group, Level};
 use description_parts::options::{Choice, Opt};
 use description_parts::positionals::Positional;
+use description_parts::topics::Topic;
 use std::alloc::{AllocError, Allocator};
 
 // Each `put` appends to `parts`; after `AllocError` some may stand there.
@@ -29,7 +40,101 @@ fn document<B: Allocator + Copy>(alloc: B, text: Option<&str>) -> Result<Option<
 {
     match text {
         None => Ok(None),
+        Some(text) => Ok(Some(text_document(alloc, text)?)),
+    }
+}
+
+// The document of a text that stands as it is.
+fn plain_document<B: Allocator + Copy>(
+    alloc: B,
+    text: Option<&str>,
+) -> Result<Option<Doc<B>>, AllocError>
+    ensures { IfOk result (λ d. d ≡ option_map plain_document (text_of text.entry)) }
+{
+    match text {
+        None => Ok(None),
         Some(text) => Ok(Some(Doc::from_text(alloc, text)?)),
+    }
+}
+
+// A help with what holds where a value is not given, and what it may be.
+fn value_help<B: Allocator + Copy>(
+    alloc: B,
+    help: Option<&str>,
+    default: Option<&str>,
+    values: Option<&str>,
+) -> Result<Option<Doc<B>>, AllocError>
+    ensures { IfOk result (λ d. d
+        ≡ help_said (text_of help.entry) (value_notes (text_of default.entry) (text_of values.entry))) }
+{
+    match (default, values) {
+        (None, None) => document(alloc, help),
+        (Some(default), None) => noted(alloc, help, format!(in alloc; "[default: {default}]")?),
+        (None, Some(values)) => {
+            noted(
+                alloc,
+                help,
+                format!(in alloc; "[possible values: {values}]")?,
+            )
+        }
+        (Some(default), Some(values)) => noted(
+            alloc,
+            help,
+            format!(in alloc; "[default: {default}] [possible values: {values}]")?,
+        ),
+    }
+}
+
+// A help with the other names of a command.
+fn command_help<B: Allocator + Copy>(
+    alloc: B,
+    help: Option<&str>,
+    aliases: &[&'static str],
+) -> Result<Option<Doc<B>>, AllocError>
+    ensures { IfOk result (λ d. d
+        ≡ help_said (text_of help.entry) (command_notes (map (λ name. name.now) aliases.now))) }
+{
+    if aliases.is_empty() {
+        return document(alloc, help);
+    }
+    let names = aliases.join(alloc, ", ")?;
+    noted(alloc, help, format!(in alloc; "[aliases: {names}]")?)
+}
+
+fn noted<B: Allocator + Copy>(
+    alloc: B,
+    help: Option<&str>,
+    notes: String<B>,
+) -> Result<Option<Doc<B>>, AllocError>
+    ensures { IfOk result (λ d. d ≡ Some (document_of
+        (noted_writes (without_back (unwrap_or (text_of help.entry) [])) (string_bytes notes)))) }
+{
+    let mut document = Doc::new(alloc);
+    put_noted(&mut document, without_back(help.unwrap_or("")), &notes)?;
+    Ok(Some(document))
+}
+
+// Puts notes behind the first paragraph of a help.
+fn put_noted<B: Allocator>(document: &mut Doc<B>, help: &str, notes: &str) -> Result<(), AllocError>
+    ensures { OnOk result (document.new ≡ with_writes document.old (noted_writes help.now notes.now)) }
+{
+    if help.is_empty() {
+        return document.text(notes);
+    }
+    let (lead, rest) = split_lead(help);
+    put_text(document, has_literals(help), lead)?;
+    document.text("\n ")?;
+    document.text(notes)?;
+    put_rest(document, help, rest)
+}
+
+fn put_rest<B: Allocator>(document: &mut Doc<B>, help: &str, rest: &str) -> Result<(), AllocError>
+    ensures { OnOk result (document.new ≡ with_writes document.old (rest_writes help.now rest.now)) }
+{
+    if rest.is_empty() {
+        Ok(())
+    } else {
+        put_text(document, has_literals(help), rest)
     }
 }
 
@@ -108,7 +213,7 @@ fn option_item<B: Allocator + Copy>(alloc: B, option: &Opt<'_>) -> Result<Meta<B
     ensures { IfOk result (λ m. tree_of m ≡ option_item (opt_said option.now)) }
 {
     let shorts = shorts(alloc, option.name)?;
-    let help = document(alloc, option.help)?;
+    let help = value_help(alloc, option.help, option.default, option.values)?;
     let item = match option.value {
         None => Item::Flag {
             name: option.name,
@@ -130,6 +235,9 @@ fn option_item<B: Allocator + Copy>(alloc: B, option: &Opt<'_>) -> Result<Meta<B
 fn option_tree<B: Allocator + Copy>(alloc: B, option: &Opt<'_>) -> Result<Meta<B>, AllocError>
     ensures { IfOk result (λ m. tree_of m ≡ option_tree (opt_said option.now)) }
 {
+    if option.hidden {
+        return Ok(Meta::Skip);
+    }
     let item = option_item(alloc, option)?;
     wrapped(alloc, option.required, option.repeated, item)
 }
@@ -148,17 +256,30 @@ fn put_options<B: Allocator + Copy>(
     Ok(())
 }
 
-// The options of a choice, which are not wrapped.
+// An option of a choice, which is not wrapped.
+fn alternative_tree<B: Allocator + Copy>(
+    alloc: B,
+    alternative: &Opt<'_>,
+) -> Result<Meta<B>, AllocError>
+    ensures { IfOk result (λ m. tree_of m ≡ alternative_tree (opt_said alternative.now)) }
+{
+    if alternative.hidden {
+        Ok(Meta::Skip)
+    } else {
+        option_item(alloc, alternative)
+    }
+}
+
 fn put_alternatives<B: Allocator + Copy>(
     alloc: B,
     parts: &mut Vec<Meta<B>, B>,
     options: &[Opt<'_>],
 ) -> Result<(), AllocError>
     ensures { OnOk result (map tree_of parts.new.items ≡ map tree_of parts.old.items
-        ++ map option_item (map opt_said options.now)) }
+        ++ map alternative_tree (map opt_said options.now)) }
 {
     for option in options {
-        put(parts, option_item(alloc, option)?)?;
+        put(parts, alternative_tree(alloc, option)?)?;
     }
     Ok(())
 }
@@ -194,7 +315,15 @@ fn positional_tree<B: Allocator + Copy>(
 ) -> Result<Meta<B>, AllocError>
     ensures { IfOk result (λ m. tree_of m ≡ positional_tree (positional_said positional.now)) }
 {
-    let help = document(alloc, positional.help)?;
+    if positional.hidden {
+        return Ok(Meta::Skip);
+    }
+    let help = value_help(
+        alloc,
+        positional.help,
+        positional.default,
+        positional.values,
+    )?;
     let item = Item::Positional {
         metavar: Metavar(positional.value),
         help,
@@ -240,10 +369,17 @@ fn under_title<B: Allocator + Copy>(
     members: Vec<Meta<B>, B>,
 ) -> Result<Meta<B>, AllocError>
     ensures { IfOk result (λ m. tree_of m
-        ≡ subsection_of (all_of (map tree_of members.items)) (text_document title.now)) }
+        ≡ subsection_of (all_of (map tree_of members.items)) (plain_document title.now)) }
 {
     let title = Box::new(alloc, Doc::from_text(alloc, title)?)?;
     Ok(Meta::Subsection(Box::new(alloc, Meta::And(members))?, title))
+}
+
+// Whether a place for these commands stands behind one that a usage line shows.
+fn is_further<A: Allocator>(is_shown: bool, commands: &[Command<'_, A>]) -> bool
+    ensures { result ≡ (is_shown && show_command (commands_said commands.now)) }
+{
+    is_shown && show_command(commands)
 }
 
 // A place for a command, which a usage line does not show where it has shown one.
@@ -280,11 +416,29 @@ fn put_one_of<B: Allocator + Copy>(
     put(parts, once_in_usage(alloc, is_shown, place)?)
 }
 
-#[tactic(auto, using(crate::proofs::Views::group_holds))]
+#[tactic(auto, using(crate::proofs::Views::command_shown))]
+fn is_shown<A: Allocator>(command: &Command<'_, A>) -> bool
+    ensures { result ≡ is_shown (command_said command.now) }
+{
+    !command.hidden
+}
+
+fn show_command<A: Allocator>(commands: &[Command<'_, A>]) -> bool
+    ensures { result ≡ show_command (commands_said commands.now) }
+{
+    for command in commands {
+        if is_shown(command) {
+            return true;
+        }
+    }
+    false
+}
+
+#[tactic(auto, using(crate::proofs::Views::group_shows))]
 fn holds_command<A: Allocator>(group: &Group<'_, A>) -> bool
     ensures { result ≡ holds_command (group_said group.now) }
 {
-    !group.commands.is_empty()
+    show_command(&group.commands)
 }
 
 fn hold_commands<A: Allocator>(groups: &[Group<'_, A>]) -> bool
@@ -339,6 +493,21 @@ pub(crate) fn options_tree<B: Allocator + Copy>(
     Ok(Meta::And(parts))
 }
 
+// The footer of a level, with its topics.
+fn footer<B: Allocator + Copy>(
+    alloc: B,
+    topics: &[Topic<'_>],
+    footer: Option<&str>,
+) -> Result<Option<Doc<B>>, AllocError>
+    ensures { IfOk result (λ d. d ≡ topics_footer (map topic_said topics.now) (text_of footer.entry)) }
+{
+    if topics.is_empty() {
+        document(alloc, footer)
+    } else {
+        Ok(Some(topics_document(alloc, topics, footer)?))
+    }
+}
+
 /// The texts of a level, with the options that ask for help.
 pub(crate) fn level_info<A: Allocator, B: Allocator + Copy>(
     alloc: B,
@@ -351,8 +520,8 @@ pub(crate) fn level_info<A: Allocator, B: Allocator + Copy>(
     Ok(Info {
         descr: document(alloc, level.about)?,
         header: document(alloc, level.header)?,
-        footer: document(alloc, level.footer)?,
-        usage: document(alloc, level.usage)?,
+        footer: footer(alloc, &level.topics, level.footer)?,
+        usage: plain_document(alloc, level.usage)?,
         help: options_tree(alloc, help_options)?,
     })
 }
@@ -448,12 +617,18 @@ fn put_commands<A: Allocator, B: Allocator + Copy>(
     help_options: &[Opt<'_>],
 ) -> Result<(), AllocError>
     ensures { OnOk result (map tree_of parts.new.items ≡ map tree_of parts.old.items
-        ++ one_of_commands is_shown is_required
+        ++ one_of_commands (is_shown && show_command (commands_said commands.now.items)) is_required
         (command_items (options_tree (map opt_said help_options.now)) (commands_said commands.now.items))) }
 {
     let mut items = Vec::new(alloc);
     put_command_items(alloc, &mut items, commands, help_options)?;
-    put_one_of(alloc, parts, is_shown, is_required, items)
+    put_one_of(
+        alloc,
+        parts,
+        is_further(is_shown, commands),
+        is_required,
+        items,
+    )
 }
 
 #[cycle(trees)]
@@ -481,12 +656,15 @@ fn command_item<A: Allocator, B: Allocator + Copy>(
     ensures { IfOk result (λ m. tree_of m
         ≡ command_item (options_tree (map opt_said help_options.now)) (command_said command.now)) }
 {
+    if command.hidden {
+        return Ok(Meta::Skip);
+    }
     let meta = Box::new(alloc, level_tree(alloc, &command.level, help_options)?)?;
     let info = Box::new(alloc, level_info(alloc, &command.level, help_options)?)?;
     let item = Item::Command {
         name: command.name,
         short: command.short,
-        help: document(alloc, command.help)?,
+        help: command_help(alloc, command.help, &command.aliases)?,
         meta,
         info,
     };

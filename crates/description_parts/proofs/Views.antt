@@ -3,20 +3,20 @@ use Rattle.std.proofs.Common.{◌≡◌, List, [], ◌∷◌, ◌++◌, map, ref
 use Rattle.std.proofs.lemmas.List.{map-append}
 use Rattle.bpaf_meta.specs.View.{text_of}
 use Rattle.description_parts.specs.Content.{LevelSaid, level, GroupsSaid, groups, GroupSaid, group, CommandsSaid, commands, CommandSaid, command}
-use Rattle.description_parts.specs.View.{opt_said, choice_said, positional_said, level_said, group_said, command_said, groups_in, commands_in, groups_said, commands_said}
+use Rattle.description_parts.specs.View.{opt_said, choice_said, positional_said, topic_said, level_said, group_said, command_said, groups_in, commands_in, groups_said, commands_said}
 use Rattle.description_parts.specs.Calls.{groups_then, commands_then, with_group, with_command, group_with_command}
 use Rattle.description_parts.specs.declared.levels.Level.{Level, Level-F, out-Level, roll-Level, the_lemmas}
 use Rattle.description_parts.specs.declared.levels.Group.{Group, Group-F, out-Group, roll-Group}
 use Rattle.description_parts.specs.declared.levels.Command.{Command, Command-F, out-Command, roll-Command}
 
 abbrev pub level_layer : {A : Type 0} → Level-F A (Command A) (Group A) (Level A) → LevelSaid
-level_layer l = level (record { about = text_of l.about; header = text_of l.header; footer = text_of l.footer; usage = text_of l.usage }) l.command_required (map opt_said l.options.items) (map choice_said l.choices.items) (groups_said l.groups.items) (map positional_said l.positionals.items) (commands_said l.commands.items)
+level_layer l = level (record { about = text_of l.about; header = text_of l.header; footer = text_of l.footer; usage = text_of l.usage; topics = map topic_said l.topics.items }) l.command_required (map opt_said l.options.items) (map choice_said l.choices.items) (groups_said l.groups.items) (map positional_said l.positionals.items) (commands_said l.commands.items)
 
 abbrev pub group_layer : {A : Type 0} → Group-F A (Command A) (Group A) (Level A) → GroupSaid
 group_layer g = group g.title.now (map opt_said g.options.items) (map choice_said g.choices.items) (map positional_said g.positionals.items) (commands_said g.commands.items)
 
 abbrev pub command_layer : {A : Type 0} → Command-F A (Command A) (Group A) (Level A) → CommandSaid
-command_layer c = command c.name.now c.short (text_of c.help) (level_said c.level)
+command_layer c = command (record { name = c.name.now; initial = c.short; aliases = map (λ name. name.now) c.aliases.items; hidden = c.hidden }) (text_of c.help) (level_said c.level)
 
 pub open-Level : {A : Type 0} (l : Level A) → level_said l ≡ level_layer (out-Level A l)
 open-Level l = search (rules, the_lemmas)

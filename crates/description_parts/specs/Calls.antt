@@ -1,11 +1,11 @@
 -- What the calls on the parts of a description leave.
 use Rattle.std.specs.Prelude.{ℕ, List, [], ◌∷◌, ◌++◌, true, false, Some, None}
 use Rattle.bpaf_meta.specs.Content.{Name}
-use Rattle.description_parts.specs.Content.{OptSaid, ChoiceSaid, PositionalSaid, LevelSaid, level, GroupsSaid, no_groups, groups, GroupSaid, group, CommandsSaid, no_commands, commands, CommandSaid, command}
+use Rattle.description_parts.specs.Content.{OptSaid, ChoiceSaid, PositionalSaid, TopicSaid, LevelSaid, level, GroupsSaid, no_groups, groups, GroupSaid, group, CommandsSaid, no_commands, commands, CommandSaid, command}
 
 -- a flag of which nothing but the name is said
 abbrev pub plain_option : Name → OptSaid
-plain_option name = record { name = name; value = None; help = None; env = None; required = false; repeated = false }
+plain_option name = record { name = name; value = None; default = None; values = None; help = None; env = None; required = false; repeated = false; hidden = false }
 
 -- behind the groups of a level
 abbrev pub groups_then : GroupsSaid → GroupSaid → GroupsSaid
@@ -17,7 +17,7 @@ commands_then no_commands d = commands d no_commands
 commands_then (commands c cs) d = commands c (commands_then cs d)
 
 abbrev pub empty_level : LevelSaid
-empty_level = level (record { about = None; header = None; footer = None; usage = None }) true [] [] no_groups [] no_commands
+empty_level = level (record { about = None; header = None; footer = None; usage = None; topics = [] }) true [] [] no_groups [] no_commands
 
 abbrev pub with_about : LevelSaid → List ℕ → LevelSaid
 with_about (level t r os cs gs ps ms) text = level (record t { about = Some text }) r os cs gs ps ms
@@ -49,6 +49,9 @@ with_positional (level t r os cs gs ps ms) p = level t r os cs gs (ps ++ p ∷ [
 abbrev pub with_command : LevelSaid → CommandSaid → LevelSaid
 with_command (level t r os cs gs ps ms) m = level t r os cs gs ps (commands_then ms m)
 
+abbrev pub with_topic : LevelSaid → TopicSaid → LevelSaid
+with_topic (level t r os cs gs ps ms) topic = level (record t { topics = t.topics ++ topic ∷ [] }) r os cs gs ps ms
+
 abbrev pub empty_group : (title : List ℕ) → GroupSaid
 empty_group title = group title [] [] [] no_commands
 
@@ -64,8 +67,19 @@ group_with_positional (group t os cs ps ms) p = group t os cs (ps ++ p ∷ []) m
 abbrev pub group_with_command : GroupSaid → CommandSaid → GroupSaid
 group_with_command (group t os cs ps ms) m = group t os cs ps (commands_then ms m)
 
+-- a command of which nothing but the name and the level is said
+abbrev pub plain_command : (name : List ℕ) → LevelSaid → CommandSaid
+plain_command name l = command (record { name = name; initial = None; aliases = []; hidden = false }) None l
+
 abbrev pub with_initial : CommandSaid → ℕ → CommandSaid
-with_initial (command name initial help l) c = command name (Some c) help l
+with_initial (command names help l) c = command (record names { initial = Some c }) help l
 
 abbrev pub with_command_help : CommandSaid → List ℕ → CommandSaid
-with_command_help (command name initial help l) text = command name initial (Some text) l
+with_command_help (command names help l) text = command names (Some text) l
+
+-- another name, behind those that it has
+abbrev pub with_alias : CommandSaid → List ℕ → CommandSaid
+with_alias (command names help l) name = command (record names { aliases = names.aliases ++ name ∷ [] }) help l
+
+abbrev pub hidden_command : CommandSaid → CommandSaid
+hidden_command (command names help l) = command (record names { hidden = true }) help l

@@ -6,10 +6,13 @@ use Rattle.bpaf_meta.specs.Content.{Name}
 pub record OptSaid : Type 0 where
   pub name : Name
   pub value : Option (List ℕ)
+  pub default : Option (List ℕ)
+  pub values : Option (List ℕ)
   pub help : Option (List ℕ)
   pub env : Option (List ℕ)
   pub required : Bool
   pub repeated : Bool
+  pub hidden : Bool
 
 -- the content of a `Choice`
 pub record ChoiceSaid : Type 0 where
@@ -19,10 +22,18 @@ pub record ChoiceSaid : Type 0 where
 -- the content of a `Positional`
 pub record PositionalSaid : Type 0 where
   pub value : List ℕ
+  pub default : Option (List ℕ)
+  pub values : Option (List ℕ)
   pub help : Option (List ℕ)
   pub required : Bool
   pub repeated : Bool
   pub strict : Bool
+  pub hidden : Bool
+
+-- the content of a `Topic`
+pub record TopicSaid : Type 0 where
+  pub title : List ℕ
+  pub text : List ℕ
 
 -- the texts of a level
 pub record TextsSaid : Type 0 where
@@ -30,6 +41,14 @@ pub record TextsSaid : Type 0 where
   pub header : Option (List ℕ)
   pub footer : Option (List ℕ)
   pub usage : Option (List ℕ)
+  pub topics : List TopicSaid
+
+-- what a command is called, and whether no page shows it
+pub record CommandNames : Type 0 where
+  pub name : List ℕ
+  pub initial : Option ℕ
+  pub aliases : List (List ℕ)
+  pub hidden : Bool
 
 mutual
   -- the content of a `Level`
@@ -52,4 +71,4 @@ mutual
 
   -- the content of a `Command`
   pub data CommandSaid : Type 0 where
-    command : (name : List ℕ) → (initial : Option ℕ) → (help : Option (List ℕ)) → LevelSaid → CommandSaid
+    command : CommandNames → (help : Option (List ℕ)) → LevelSaid → CommandSaid

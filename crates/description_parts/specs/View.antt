@@ -1,22 +1,26 @@
 -- What the parts of a description say.
 use Rattle.std.specs.Prelude.{List, [], ◌∷◌, map}
 use Rattle.bpaf_meta.specs.View.{name_of, text_of}
-use Rattle.description_parts.specs.Content.{OptSaid, ChoiceSaid, PositionalSaid, LevelSaid, level, GroupsSaid, no_groups, groups, GroupSaid, group, CommandsSaid, no_commands, commands, CommandSaid, command}
+use Rattle.description_parts.specs.Content.{OptSaid, ChoiceSaid, PositionalSaid, TopicSaid, LevelSaid, level, GroupsSaid, no_groups, groups, GroupSaid, group, CommandsSaid, no_commands, commands, CommandSaid, command}
 use Rattle.description_parts.specs.declared.options.Opt.{Opt}
 use Rattle.description_parts.specs.declared.options.Choice.{Choice}
 use Rattle.description_parts.specs.declared.positionals.Positional.{Positional}
+use Rattle.description_parts.specs.declared.topics.Topic.{Topic}
 use Rattle.description_parts.specs.declared.levels.Level.{Level, Level-F, fold-Level}
 use Rattle.description_parts.specs.declared.levels.Group.{Group, Group-F, fold-Group}
 use Rattle.description_parts.specs.declared.levels.Command.{Command, Command-F, fold-Command}
 
 abbrev pub opt_said : Opt → OptSaid
-opt_said o = record { name = name_of o.name; value = text_of o.value; help = text_of o.help; env = text_of o.env; required = o.required; repeated = o.repeated }
+opt_said o = record { name = name_of o.name; value = text_of o.value; default = text_of o.default; values = text_of o.values; help = text_of o.help; env = text_of o.env; required = o.required; repeated = o.repeated; hidden = o.hidden }
 
 abbrev pub choice_said : {A : Type 0} → Choice A → ChoiceSaid
 choice_said c = record { options = map opt_said c.options.items; required = c.required }
 
 abbrev pub positional_said : Positional → PositionalSaid
-positional_said p = record { value = p.value.now; help = text_of p.help; required = p.required; repeated = p.repeated; strict = p.strict }
+positional_said p = record { value = p.value.now; default = text_of p.default; values = text_of p.values; help = text_of p.help; required = p.required; repeated = p.repeated; strict = p.strict; hidden = p.hidden }
+
+abbrev pub topic_said : Topic → TopicSaid
+topic_said t = record { title = t.title.now; text = t.text.now }
 
 abbrev pub groups_in : List GroupSaid → GroupsSaid
 groups_in [] = no_groups
@@ -28,13 +32,13 @@ commands_in (c ∷ cs) = commands c (commands_in cs)
 
 -- one level, with what is inside already seen
 abbrev pub level_step : {A : Type 0} → Level-F A CommandSaid GroupSaid LevelSaid → LevelSaid
-level_step l = level (record { about = text_of l.about; header = text_of l.header; footer = text_of l.footer; usage = text_of l.usage }) l.command_required (map opt_said l.options.items) (map choice_said l.choices.items) (groups_in l.groups.items) (map positional_said l.positionals.items) (commands_in l.commands.items)
+level_step l = level (record { about = text_of l.about; header = text_of l.header; footer = text_of l.footer; usage = text_of l.usage; topics = map topic_said l.topics.items }) l.command_required (map opt_said l.options.items) (map choice_said l.choices.items) (groups_in l.groups.items) (map positional_said l.positionals.items) (commands_in l.commands.items)
 
 abbrev pub group_step : {A : Type 0} → Group-F A CommandSaid GroupSaid LevelSaid → GroupSaid
 group_step g = group g.title.now (map opt_said g.options.items) (map choice_said g.choices.items) (map positional_said g.positionals.items) (commands_in g.commands.items)
 
 abbrev pub command_step : {A : Type 0} → Command-F A CommandSaid GroupSaid LevelSaid → CommandSaid
-command_step c = command c.name.now c.short (text_of c.help) c.level
+command_step c = command (record { name = c.name.now; initial = c.short; aliases = map (λ name. name.now) c.aliases.items; hidden = c.hidden }) (text_of c.help) c.level
 
 abbrev pub level_said : {A : Type 0} → Level A → LevelSaid
 level_said {A} = fold-Level A CommandSaid GroupSaid LevelSaid command_step group_step level_step

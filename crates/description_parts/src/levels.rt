@@ -1,16 +1,19 @@
 //! Levels of a command line: the top, and each command. What stands on one, and groups of it.
 ghost use Rattle.std.specs.Prelude.{◌≡◌, Some, None, true, false, OnErr, OnOk};
-ghost use Rattle.description_parts.specs.Content.{command as command_of};
-ghost use Rattle.description_parts.specs.Calls.{empty_group, empty_level, group_with_choice};
+ghost use Rattle.description_parts.specs.Calls.{empty_group, empty_level, group_with_choice, hidden_command};
+ghost use Rattle.description_parts.specs.Calls.{plain_command};
 ghost use Rattle.description_parts.specs.Calls.{group_with_command, group_with_option, group_with_positional};
-ghost use Rattle.description_parts.specs.Calls.{with_about, with_choice, with_command, with_commands_optional};
+ghost use Rattle.description_parts.specs.Calls.{with_about, with_alias, with_choice, with_command};
+ghost use Rattle.description_parts.specs.Calls.{with_commands_optional};
 ghost use Rattle.description_parts.specs.Calls.{with_footer, with_group, with_header, with_initial};
-ghost use Rattle.description_parts.specs.Calls.{with_command_help, with_option, with_positional, with_usage};
+ghost use Rattle.description_parts.specs.Calls.{with_command_help, with_option, with_positional, with_topic};
+ghost use Rattle.description_parts.specs.Calls.{with_usage};
 ghost use Rattle.description_parts.specs.View.{choice_said, command_said, group_said, level_said, opt_said};
-ghost use Rattle.description_parts.specs.View.{positional_said};
+ghost use Rattle.description_parts.specs.View.{positional_said, topic_said};
 
 use crate::options::{Choice, Opt};
 use crate::positionals::Positional;
+use crate::topics::Topic;
 use std::alloc::{AllocError, Allocator, Global};
 
 /// The top of a command line, or a command: its texts, and what can be given there.
@@ -33,6 +36,8 @@ pub struct Level<'a, A: Allocator = Global> {
     pub groups: Vec<Group<'a, A>, A>,
     pub positionals: Vec<Positional<'a>, A>,
     pub commands: Vec<Command<'a, A>, A>,
+    /// Parts of the page of their own, behind the lists and above the footer.
+    pub topics: Vec<Topic<'a>, A>,
 }
 
 /// What stands under a title of its own.
@@ -54,7 +59,11 @@ pub struct Group<'a, A: Allocator = Global> {
 pub struct Command<'a, A: Allocator = Global> {
     pub name: &'static str,
     pub short: Option<char>,
+    /// Other names of it, which lead to it as its own does.
+    pub aliases: Vec<&'static str, A>,
     pub help: Option<&'a str>,
+    /// Whether no page shows it. What follows it on a command line is shown where it is asked for by its name.
+    pub hidden: bool,
     pub level: Level<'a, A>,
 }
 
@@ -74,6 +83,7 @@ impl<'a, A: Allocator + Copy> Level<'a, A> {
             groups: Vec::new(alloc),
             positionals: Vec::new(alloc),
             commands: Vec::new(alloc),
+            topics: Vec::new(alloc),
         }
     }
 }
@@ -171,6 +181,16 @@ impl<'a, A: Allocator> Level<'a, A> {
         self.commands.push(command)?;
         Ok(())
     }
+
+    /// Puts a topic last among those of the level. After `AllocError` the level is as it was, and what was given
+    /// is dropped.
+    pub fn topic(&mut self, topic: Topic<'a>) -> Result<(), AllocError>
+        ensures ok { OnOk result (level_said self.new ≡ with_topic (level_said self.old) (topic_said topic.entry)) }
+        ensures err { OnErr result (level_said self.new ≡ level_said self.old) }
+    {
+        self.topics.push(topic)?;
+        Ok(())
+    }
 }
 
 impl<'a, A: Allocator + Copy> Group<'a, A> {
@@ -234,19 +254,24 @@ impl<'a, A: Allocator> Group<'a, A> {
     }
 }
 
-impl<'a, A: Allocator> Command<'a, A> {
+impl<'a, A: Allocator + Copy> Command<'a, A> {
     /// A command with what can be given behind it.
     pub fn new(name: &'static str, level: Level<'a, A>) -> Command<'a, A>
-        ensures { command_said result ≡ command_of name.now None None (level_said level.entry) }
+        ensures { command_said result ≡ plain_command name.now (level_said level.entry) }
     {
+        let alloc = *level.options.allocator();
         Command {
             name,
             short: None,
+            aliases: Vec::new(alloc),
             help: None,
+            hidden: false,
             level,
         }
     }
+}
 
+impl<'a, A: Allocator> Command<'a, A> {
     /// The command with a short name.
     pub fn short(mut self, short: char) -> Command<'a, A>
         ensures { command_said result ≡ with_initial (command_said self.entry) short }
@@ -260,6 +285,23 @@ impl<'a, A: Allocator> Command<'a, A> {
         ensures { command_said result ≡ with_command_help (command_said self.entry) help.now }
     {
         self.help = Some(help);
+        self
+    }
+
+    /// Puts another name last among those of the command. After `AllocError` the command is as it was.
+    pub fn alias(&mut self, name: &'static str) -> Result<(), AllocError>
+        ensures ok { OnOk result (command_said self.new ≡ with_alias (command_said self.old) name.now) }
+        ensures err { OnErr result (command_said self.new ≡ command_said self.old) }
+    {
+        self.aliases.push(name)?;
+        Ok(())
+    }
+
+    /// The command as one that no page of its level shows.
+    pub fn hidden(mut self) -> Command<'a, A>
+        ensures { command_said result ≡ hidden_command (command_said self.entry) }
+    {
+        self.hidden = true;
         self
     }
 }

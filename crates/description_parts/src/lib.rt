@@ -4,7 +4,9 @@
 pub mod levels;
 pub mod options;
 pub mod positionals;
+pub mod topics;
 
 pub use levels::{Command, Group, Level};
 pub use options::{Choice, Opt};
 pub use positionals::Positional;
+pub use topics::Topic;

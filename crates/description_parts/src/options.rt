@@ -14,11 +14,17 @@ pub struct Opt<'a> {
     pub name: ShortLong,
     /// What the value is called, as `FILE`.
     pub value: Option<&'static str>,
+    /// What holds where it is not given.
+    pub default: Option<&'a str>,
+    /// The values that it may have, as the help shows them: `never, auto, always`.
+    pub values: Option<&'a str>,
     pub help: Option<&'a str>,
     /// The environment variable that stands for the option.
     pub env: Option<&'static str>,
     pub required: bool,
     pub repeated: bool,
+    /// Whether no page shows it.
+    pub hidden: bool,
 }
 
 impl<'a> Opt<'a> {
@@ -47,19 +53,25 @@ impl<'a> Opt<'a> {
         ensures { result ≡ record {
           name = name;
           value = None;
+          default = None;
+          values = None;
           help = None;
           env = None;
           required = false;
           repeated = false;
+          hidden = false;
         } }
     {
         Opt {
             name,
             value: None,
+            default: None,
+            values: None,
             help: None,
             env: None,
             required: false,
             repeated: false,
+            hidden: false,
         }
     }
 
@@ -68,6 +80,23 @@ impl<'a> Opt<'a> {
         ensures { opt_said result ≡ record (opt_said self.entry) { value = Some value.now } }
     {
         self.value = Some(value);
+        self
+    }
+
+    /// The option with what holds where it is not given, and as one that may be left out.
+    pub fn default(mut self, default: &'a str) -> Opt<'a>
+        ensures { opt_said result ≡ record (opt_said self.entry) { default = Some default.now; required = false } }
+    {
+        self.default = Some(default);
+        self.required = false;
+        self
+    }
+
+    /// The option with the values that it may have, as the help shows them: `never, auto, always`.
+    pub fn values(mut self, values: &'a str) -> Opt<'a>
+        ensures { opt_said result ≡ record (opt_said self.entry) { values = Some values.now } }
+    {
+        self.values = Some(values);
         self
     }
 
@@ -100,6 +129,14 @@ impl<'a> Opt<'a> {
         ensures { opt_said result ≡ record (opt_said self.entry) { repeated = true } }
     {
         self.repeated = true;
+        self
+    }
+
+    /// The option as one that no page shows.
+    pub fn hidden(mut self) -> Opt<'a>
+        ensures { opt_said result ≡ record (opt_said self.entry) { hidden = true } }
+    {
+        self.hidden = true;
         self
     }
 }

@@ -8,25 +8,60 @@ ghost use Rattle.description_parts.specs.View.{positional_said};
 pub struct Positional<'a> {
     /// What the value is called, as `FILE`.
     pub value: &'static str,
+    /// What holds where it is not given.
+    pub default: Option<&'a str>,
+    /// The values that it may have, as the help shows them: `never, auto, always`.
+    pub values: Option<&'a str>,
     pub help: Option<&'a str>,
     pub required: bool,
     pub repeated: bool,
     pub strict: bool,
+    /// Whether no page shows it.
+    pub hidden: bool,
 }
 
 impl<'a> Positional<'a> {
     /// A value that has to be given, once.
     pub fn new(value: &'static str) -> Positional<'a>
         ensures { positional_said result
-            ≡ record { value = value.now; help = None; required = true; repeated = false; strict = false } }
+            ≡ record {
+              value = value.now;
+              default = None;
+              values = None;
+              help = None;
+              required = true;
+              repeated = false;
+              strict = false;
+              hidden = false;
+            } }
     {
         Positional {
             value,
+            default: None,
+            values: None,
             help: None,
             required: true,
             repeated: false,
             strict: false,
+            hidden: false,
         }
+    }
+
+    /// The value with what holds where it is not given, and as one that may be left out.
+    pub fn default(mut self, default: &'a str) -> Positional<'a>
+        ensures { positional_said result
+            ≡ record (positional_said self.entry) { default = Some default.now; required = false } }
+    {
+        self.default = Some(default);
+        self.optional()
+    }
+
+    /// The value with the values that it may have, as the help shows them: `never, auto, always`.
+    pub fn values(mut self, values: &'a str) -> Positional<'a>
+        ensures { positional_said result ≡ record (positional_said self.entry) { values = Some values.now } }
+    {
+        self.values = Some(values);
+        self
     }
 
     /// The value with a help text.
@@ -58,6 +93,14 @@ impl<'a> Positional<'a> {
         ensures { positional_said result ≡ record (positional_said self.entry) { strict = true } }
     {
         self.strict = true;
+        self
+    }
+
+    /// The value as one that no page shows.
+    pub fn hidden(mut self) -> Positional<'a>
+        ensures { positional_said result ≡ record (positional_said self.entry) { hidden = true } }
+    {
+        self.hidden = true;
         self
     }
 }

@@ -226,6 +226,68 @@ const SECTIONS: &[(&str, &str)] = &[
     ),
 ];
 
+const TOPICS: &[(&str, &str)] = &[
+    ("name = 'a'\n[[topic]]\ntitle = 'T'\ntext = 't'\n", "a"),
+    (
+        "name = 'a'\n[[topic]]\ntext = 't'\n",
+        "topic 1: title is missing",
+    ),
+    (
+        "name = 'a'\n[[topic]]\ntitle = 'T'\ntext = 't'\n[[topic]]\ntitle = 'T'\n",
+        "topic 2: text is missing",
+    ),
+    (
+        "name = 'a'\n[[topic]]\ntitle = \" \\u00a0\"\ntext = 't'\n",
+        "topic 1: title is blank",
+    ),
+    (
+        "name = 'a'\n[[topic]]\ntitle = \"T\\n\"\ntext = 't'\n",
+        "topic 1: title holds a control character",
+    ),
+    (
+        "name = 'a'\n[[topic]]\ntitle = 'a\\b'\ntext = 't'\n",
+        "topic 1: title holds a backslash",
+    ),
+    (
+        "name = 'a'\n[[topic]]\ntitle = '\"'\ntext = 't'\n",
+        "topic 1: title holds a double quote",
+    ),
+    (
+        "name = 'a'\n[[topic]]\ntitle = 'T'\ntext = ''\n",
+        "topic 1: text is empty",
+    ),
+    (
+        "name = 'a'\n[[topic]]\ntitle = 'T'\ntext = \"\\u001b\"\n",
+        "topic 1: text holds a control character",
+    ),
+    (
+        "name = 'a'\n[[topic]]\ntitle = 'T'\ntext = \"\\n\\t\"\n",
+        "a",
+    ),
+    (
+        "name = 'a'\n[[topic]]\ntitel = 'T'\ntext = 't'\n",
+        "topic 1: no key titel is known here; is it title?",
+    ),
+    (
+        "name = 'a'\ntopic = 1\n",
+        "description: topic is no array of tables",
+    ),
+    // Topics are told behind all else of their level.
+    (
+        "name = 'a'\n[[topic]]\ntitle = 'T'\n[[command]]\nname = 'b'\n[[command.topic]]\ntitle = ''\n",
+        "command 1, topic 1: title is blank",
+    ),
+    (
+        "name = 'a'\n[[topic]]\ntitle = 'T'\n[[option]]\nshort = 'b'\n[[option]]\nshort = 'b'\n",
+        "description: -b is taken",
+    ),
+    // A group has none.
+    (
+        "name = 'a'\n[[group]]\ntitle = 'G'\n[[group.topic]]\ntitle = 'T'\ntext = 't'\n",
+        "group 1: no key topic is known here",
+    ),
+];
+
 const NAMES: &[(&str, &str)] = &[
     ("name = ''", "description: name is empty"),
     ("name = 'a b'", "description: name holds a blank"),
@@ -369,6 +431,27 @@ const TAKEN: &[(&str, &str)] = &[
         "name = 'a'\n[[command]]\nname = 'r'\n[[command.command]]\nname = 'b'\n[[command.command]]\nname = 'c'\nshort = 'b'\n",
         "command 1: command b is taken",
     ),
+    (
+        "name = 'a'\n[[command]]\nname = 'b'\naliases = ['c']\n[[command]]\nname = 'c'\n",
+        "description: command c is taken",
+    ),
+    (
+        "name = 'a'\n[[command]]\nname = 'b'\nshort = 'c'\n[[command]]\nname = 'd'\naliases = ['e', 'c']\n",
+        "description: command c is taken",
+    ),
+    (
+        "name = 'a'\n[[command]]\nname = 'b'\naliases = ['c']\n[[group]]\ntitle = 'G'\n[[group.command]]\nname = 'd'\naliases = ['c']\n",
+        "description: command c is taken",
+    ),
+    // Also where one of the two is hidden.
+    (
+        "name = 'a'\n[[command]]\nname = 'b'\nhidden = true\n[[command]]\nname = 'b'\n",
+        "description: command b is taken",
+    ),
+    (
+        "name = 'a'\n[[option]]\nshort = 'b'\n[[choice]]\n[[choice.option]]\nshort = 'b'\nhidden = true\n",
+        "description: -b is taken",
+    ),
     // Its own name it may be, and a word of another level.
     (
         "name = 'a'\n[[command]]\nname = 'b'\nshort = 'b'\n",
@@ -407,6 +490,14 @@ const KEYS: &[(&str, &str)] = &[
         "choice 1, option 1: no key required is known here",
     ),
     (
+        "[[option]]\nshort = 'b'\nhidden = 1",
+        "option 1: hidden is no flag",
+    ),
+    (
+        "[[help_option]]\nshort = 'b'\nhidden = true",
+        "help_option 1: no key hidden is known here",
+    ),
+    (
         "[[command]]\nsort = 'a'",
         "command 1: no key sort is known here; is it short?",
     ),
@@ -422,11 +513,145 @@ const KEYS: &[(&str, &str)] = &[
         "help_options = 1",
         "description: no key help_options is known here; is it help_option?",
     ),
+    (
+        "[[option]]\ndefualt = 1",
+        "option 1: no key defualt is known here; is it default?",
+    ),
     ("x = 1", "description: no key x is known here"),
     ("'' = 1", "description: no key  is known here"),
     (
         "aaaaaaaaaaaaaaaaaaaaaaaaaaaaaaaaa = 1",
         "description: no key aaaaaaaaaaaaaaaaaaaaaaaaaaaaaaaaa is known here",
+    ),
+];
+
+// Keys that say something of values, and other names of commands.
+const SAID: &[(&str, &str)] = &[
+    (
+        "[[option]]\nlong = 'b'\nvalue = 'V'\ndefault = 'x'",
+        "a [--b=V]",
+    ),
+    (
+        "[[option]]\nlong = 'b'\nvalue = 'V'\ndefault = 12",
+        "a [--b=V]",
+    ),
+    (
+        "[[option]]\nlong = 'b'\ndefault = 'x'",
+        "option 1: default stands beside no value",
+    ),
+    (
+        "[[option]]\nlong = 'b'\nvalues = ['x']",
+        "option 1: values stands beside no value",
+    ),
+    (
+        "[[option]]\nlong = 'b'\nvalues = []\ndefault = 'x'",
+        "option 1: default stands beside no value",
+    ),
+    (
+        "[[choice]]\n[[choice.option]]\nlong = 'b'\ndefault = 'x'",
+        "choice 1, option 1: default stands beside no value",
+    ),
+    (
+        "[[help_option]]\nlong = 'b'\nvalues = ['x']",
+        "help_option 1: values stands beside no value",
+    ),
+    (
+        "[[option]]\nlong = 'b'\nvalue = 'V'\ndefault = 'x'\nrequired = true",
+        "option 1: required is true beside a default",
+    ),
+    (
+        "[[option]]\nlong = 'b'\nvalue = 'V'\ndefault = 'x'\nrequired = false\nrepeated = true",
+        "a [--b=V]...",
+    ),
+    (
+        "[[option]]\nlong = 'b'\nvalue = 'V'\ndefault = 'x'\nrequired = 1",
+        "option 1: required is no flag",
+    ),
+    ("[[positional]]\nvalue = 'V'\ndefault = 'x'", "a [V]"),
+    (
+        "[[positional]]\nvalue = 'V'\ndefault = 'x'\nrequired = false",
+        "a [V]",
+    ),
+    (
+        "[[positional]]\nvalue = 'V'\ndefault = 'x'\nrequired = true",
+        "positional 1: required is true beside a default",
+    ),
+    ("[[positional]]\nvalue = 'V'\nvalues = ['x']", "a V"),
+    (
+        "[[option]]\nlong = 'b'\nvalue = 'V'\ndefault = 1.0",
+        "option 1: default is no text and no whole number",
+    ),
+    (
+        "[[option]]\nlong = 'b'\nvalue = 'V'\ndefault = \"a\\tb\"",
+        "option 1: default holds a control character",
+    ),
+    (
+        "[[option]]\nlong = 'b'\nvalue = 'V'\ndefault = \"\\ufffe\"",
+        "option 1: default holds a noncharacter",
+    ),
+    (
+        "[[option]]\nlong = 'b'\nvalue = 'V'\ndefault = ''",
+        "a [--b=V]",
+    ),
+    (
+        "[[option]]\nlong = 'b'\nvalue = 'V'\nvalues = []",
+        "option 1: values is empty",
+    ),
+    (
+        "[[option]]\nlong = 'b'\nvalue = 'V'\nvalues = ['x', '']",
+        "option 1: values holds an empty text",
+    ),
+    (
+        "[[option]]\nlong = 'b'\nvalue = 'V'\nvalues = ['x', 1]",
+        "option 1: values is no array of texts",
+    ),
+    (
+        "[[option]]\nlong = 'b'\nvalue = 'V'\nvalues = 'x'",
+        "option 1: values is no array of texts",
+    ),
+    (
+        "[[positional]]\nvalue = 'V'\nvalues = [\"a\\nb\"]",
+        "positional 1: values holds a control character",
+    ),
+    (
+        "[[command]]\nname = 'b'\naliases = []",
+        "command 1: aliases is empty",
+    ),
+    (
+        "[[command]]\nname = 'b'\naliases = 'c'",
+        "command 1: aliases is no array of texts",
+    ),
+    (
+        "[[command]]\nname = 'b'\naliases = ['c', 1]",
+        "command 1: aliases is no array of texts",
+    ),
+    (
+        "[[command]]\nname = 'b'\naliases = ['c', '']",
+        "command 1: aliases holds an empty text",
+    ),
+    (
+        "[[command]]\nname = 'b'\naliases = ['c d']",
+        "command 1: aliases holds a blank",
+    ),
+    (
+        "[[command]]\nname = 'b'\naliases = ['c=']",
+        "command 1: aliases holds =",
+    ),
+    (
+        "[[command]]\nname = 'b'\naliases = ['-c']",
+        "command 1: aliases begins with -",
+    ),
+    (
+        "[[command]]\nname = 'b'\naliases = ['c\\']",
+        "command 1: aliases holds a backslash",
+    ),
+    (
+        "[[command]]\nname = 'b'\naliases = ['c\"']",
+        "command 1: aliases holds a double quote",
+    ),
+    (
+        "[[command]]\nname = 'b'\naliases = ['c', 'c', 'b']",
+        "a COMMAND ...",
     ),
 ];
 
@@ -465,6 +690,11 @@ fn words_stand_on_one_line(rt: HostRuntime) {
 }
 
 #[test]
+fn topics_say_what_they_lack(rt: HostRuntime) {
+    check(&rt, rt.alloc(), "", TOPICS);
+}
+
+#[test]
 fn sections_of_the_manual(rt: HostRuntime) {
     check(&rt, rt.alloc(), "name = 'a'\n", SECTIONS);
 }
@@ -482,4 +712,9 @@ fn words_of_commands_are_taken_once(rt: HostRuntime) {
 #[test]
 fn keys_that_are_near_are_named(rt: HostRuntime) {
     check(&rt, rt.alloc(), "name = 'a'\n", KEYS);
+}
+
+#[test]
+fn what_is_said_stands_where_it_may(rt: HostRuntime) {
+    check(&rt, rt.alloc(), "name = 'a'\n", SAID);
 }

@@ -6,7 +6,11 @@
 #![tactic(auto)]
 
 #[cfg(test)]
+mod all;
+#[cfg(test)]
 mod faults;
+#[cfg(test)]
+mod keys;
 #[cfg(test)]
 mod manuals;
 #[cfg(test)]
@@ -21,3 +25,5 @@ mod rows;
 mod samples;
 #[cfg(test)]
 mod subjects;
+#[cfg(test)]
+mod texts;

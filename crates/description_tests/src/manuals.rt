@@ -1,15 +1,17 @@
 //! Manual pages of levels, and each growth of one refused in turn.
 use bpaf_help::pages::Section;
-use description::{Command, Description, Group, Level, Opt, Positional};
+use description::{Command, Description, Group, Level, Opt, Positional, Topic};
 use linked_list_allocator::LocalHeap;
 use std::alloc::{AllocError, Allocator, Global};
 
 // More than a summary, behind a paragraph without ink, and a text in place of the usage line.
-fn add(alloc: Global) -> Level<'static> {
-    Level::new(alloc)
+fn add(alloc: Global) -> Result<Level<'static>, AllocError> {
+    let mut add: Level<'static> = Level::new(alloc)
         .about("\t\n\n  Adds a place. \n\nIt stays.")
         .usage("Usage: app remote add NAME | -l")
-        .footer("Below")
+        .footer("Below");
+    add.topic(Topic::new("Files", "See `places`."))?;
+    Ok(add)
 }
 
 // A level of which only the one above says something.
@@ -17,7 +19,7 @@ fn remote(alloc: Global) -> Result<Level<'static>, AllocError> {
     let mut remote: Level<'static> = Level::new(alloc).about(" \n ").header("Above");
     let option: Opt<'static> = Opt::flag('v', "verbose").help("Talk more");
     remote.option(option)?;
-    let inner: Command<'static> = Command::new("add", add(alloc));
+    let inner: Command<'static> = Command::new("add", add(alloc)?);
     remote.command(inner)?;
     let bare: Level<'static> = Level::new(alloc);
     let inner: Command<'static> = Command::new("drop", bare).short('d');
@@ -65,7 +67,7 @@ const ROWS: &[(&[&str], &str)] = &[
     ),
     (
         &["remote", "add"],
-        ".TH app-remote-add 8 2026 - \"\"\n.SH NAME\n\\fRapp\\-remote\\-add \\- \\fP\\fRAdds a place.\\fP\n.SH SYNOPSIS\n\\fRapp remote add NAME | \\-l\\fP\n.SH DESCRIPTION\n\\fR\t\n\n  Adds a place. \n\nIt stays.\\fP\n.PP\n.SS AVAILABLE\\ OPTIONS:\n.TP\n\\fB\\-h\\fP\n\\fRHelp\\fP\n.PP\n.PP\n\\fRBelow\\fP\n.SH SEE\\ ALSO\n\\fBapp\\-remote\\fP\\fR(8)\\fP",
+        ".TH app-remote-add 8 2026 - \"\"\n.SH NAME\n\\fRapp\\-remote\\-add \\- \\fP\\fRAdds a place.\\fP\n.SH SYNOPSIS\n\\fRapp remote add NAME | \\-l\\fP\n.SH DESCRIPTION\n\\fR\t\n\n  Adds a place. \n\nIt stays.\\fP\n.PP\n.SS AVAILABLE\\ OPTIONS:\n.TP\n\\fB\\-h\\fP\n\\fRHelp\\fP\n.PP\n.SH FILES\n.PP\n\\fRSee \\fP\\fBplaces\\fP\\fR.\\fP\n.PP\n\\fRBelow\\fP\n.SH SEE\\ ALSO\n\\fBapp\\-remote\\fP\\fR(8)\\fP",
     ),
     (
         &["remote", "d"],

@@ -11,8 +11,8 @@ use toml::Table;
 const ROWS: &[(&str, &str)] = &[
     // A description with a table of each kind.
     (
-        "name = 'app'\ndate = 2026-11-23\n[[help_option]]\nshort = 'h'\n[[option]]\nlong = 'output'\nvalue = 'FILE'\nenv = 'OUT'\n[[choice]]\n[[choice.option]]\nshort = 'a'\n[[choice.option]]\nshort = 'b'\n[[group]]\ntitle = 'More'\n[[group.option]]\nshort = 'm'\nrepeated = true\n[[positional]]\nvalue = 'INPUT'\n[[command]]\nname = 'run'\n[[command.option]]\nshort = 'n'\n",
-        "app [--output=FILE] [-a | -b] [-m]... INPUT COMMAND ...\n",
+        "name = 'app'\ndate = 2026-11-23\n[[help_option]]\nshort = 'h'\n[[option]]\nlong = 'output'\nvalue = 'FILE'\nenv = 'OUT'\n[[choice]]\n[[choice.option]]\nshort = 'a'\n[[choice.option]]\nshort = 'b'\n[[group]]\ntitle = 'More'\n[[group.option]]\nshort = 'm'\nvalue = 'M'\nvalues = ['a', 'b']\nrepeated = true\n[[positional]]\nvalue = 'INPUT'\ndefault = 7\n[[command]]\nname = 'run'\naliases = ['go']\n[[command.option]]\nshort = 'n'\n[[command.topic]]\ntitle = 'Files'\ntext = 'None'\n",
+        "app [--output=FILE] [-a | -b] [-m=M]... [INPUT] COMMAND ...\n",
     ),
     // No description.
     (

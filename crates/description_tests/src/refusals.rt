@@ -2,7 +2,7 @@
 //! until the call succeeds. Each refusal leaves what was lent as it was, and the answer at the end is that of
 //! ample memory.
 use crate::samples::with_help;
-use description::{Choice, Command, Description, Group, Level, Opt, Positional};
+use description::{Choice, Command, Description, Group, Level, Opt, Positional, Topic};
 use linked_list_allocator::LocalHeap;
 use std::alloc::{AllocError, Allocator, Global};
 use std::process::Abort;
@@ -128,6 +128,7 @@ enum Part {
     Group,
     Positional,
     Command,
+    Topic,
 }
 
 const PARTS: &[Part] = &[
@@ -136,6 +137,7 @@ const PARTS: &[Part] = &[
     Part::Group,
     Part::Positional,
     Part::Command,
+    Part::Topic,
 ];
 
 fn put<'a>(
@@ -149,6 +151,7 @@ fn put<'a>(
         Part::Group => level.group(Group::new(heap, "T")),
         Part::Positional => level.positional(Positional::new("P")),
         Part::Command => level.command(Command::new("x", Level::new(heap))),
+        Part::Topic => level.topic(Topic::new("T", "t")),
     }
 }
 
@@ -160,7 +163,7 @@ fn put_in_group<'a>(
     match part {
         Part::Option => group.option(Opt::short('a')),
         Part::Choice => group.choice(Choice::new(heap)),
-        Part::Group | Part::Positional => group.positional(Positional::new("P")),
+        Part::Group | Part::Positional | Part::Topic => group.positional(Positional::new("P")),
         Part::Command => group.command(Command::new("x", Level::new(heap))),
     }
 }
@@ -260,9 +263,20 @@ fn is_asked(heap: &LocalHeap) -> Option<bool> {
     (count == usize::from(is_put)).then_some(is_put)
 }
 
+// The same of the other names of a command.
+fn is_named(heap: &LocalHeap) -> Option<bool> {
+    let mut command = Command::new("x", Level::new(heap));
+    let is_put = command.alias("y").is_ok();
+    let count = command.aliases.len();
+    drop(command);
+    (count == usize::from(is_put)).then_some(is_put)
+}
+
 fn are_put(rt: &impl Abort, out: Global, budget: usize, want: bool) -> bool {
     let heap = LocalHeap::new(out, budget).expect(rt, "a heap");
-    let are_put = is_chosen(&heap) == Some(want) && is_asked(&heap) == Some(want);
+    let are_put = is_chosen(&heap) == Some(want)
+        && is_asked(&heap) == Some(want)
+        && is_named(&heap) == Some(want);
     drop(heap);
     are_put
 }

@@ -1,5 +1,5 @@
 //! Descriptions to be tested.
-use description::{Choice, Command, Description, Group, Level, Opt, Positional};
+use description::{Choice, Command, Description, Group, Level, Opt, Positional, Topic};
 use std::alloc::Global;
 use std::process::Abort;
 
@@ -107,11 +107,16 @@ pub fn sample(rt: &impl Abort, out: Global) -> Description<'static> {
     Description::new(out, "app", level)
 }
 
-/// An application with one command, with options that ask for help.
+/// An application with one command and a topic, an option that takes a value, and one that asks for help.
 pub fn with_help(rt: &impl Abort, out: Global) -> Description<'static> {
     let mut level = Level::new(out);
-    let command = Command::new("run", Level::new(out));
+    let topic = Topic::new("Files", "It reads `none`");
+    level.topic(topic).expect(rt, "a topic");
+    let mut command = Command::new("run", Level::new(out));
+    command.alias("go").expect(rt, "another name");
     level.command(command).expect(rt, "a command");
+    let option = Opt::long("to").value("X").default("a").values("a, b");
+    level.option(option).expect(rt, "an option");
     let mut app = Description::new(out, "app", level);
     let option = Opt::flag('h', "help").help("Print this help");
     app.help_option(option).expect(rt, "an option");

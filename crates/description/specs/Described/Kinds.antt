@@ -3,13 +3,15 @@ use Rattle.std.specs.Prelude.{ℕ, List, Bool, true, not, ◌&&◌, Option}
 use Rattle.std.specs.Char.{is_ascii_alphanumeric}
 use Rattle.std.specs.List.{list_all}
 use Rattle.toml.specs.Data.{Data}
-use Rattle.description.specs.Described.Texts.{as_text_of, begins, begins_a_section, has_ink, is_command_name, is_dash, is_empty_text, is_heading, is_line_character, is_long, is_name, is_name_character, is_program_name, is_read_once, is_section, is_text, is_text_character, is_title, is_value}
+use Rattle.description.specs.Described.Texts.{as_text_of, begins, begins_a_section, has_ink, is_body, is_command_name, is_dash, is_empty_text, is_heading, is_line_character, is_long, is_name, is_name_character, is_program_name, is_read_once, is_section, is_text, is_text_character, is_title, is_value, is_line}
 use Rattle.description.specs.declared.decode.texts.Kind.{Kind}
 use Rattle.description.specs.declared.decode.texts.Kind.TheVariants as kind
 
 -- what a text of the kind is
 abbrev pub is_of : Kind → List ℕ → Bool
 is_of kind.Text text = is_text text
+is_of kind.Body text = is_body text
+is_of kind.Line text = is_line text
 is_of kind.Value text = is_value text
 is_of kind.Title text = is_title text
 is_of kind.Heading text = is_heading text
@@ -22,6 +24,8 @@ is_of kind.Command text = is_command_name text
 -- which characters it has
 abbrev pub allows : Kind → ℕ → Bool
 allows kind.Text c = is_text_character c
+allows kind.Body c = is_text_character c
+allows kind.Line c = is_line_character c
 allows kind.Value c = is_line_character c
 allows kind.Title c = is_line_character c
 allows kind.Heading c = is_line_character c
@@ -34,9 +38,11 @@ allows kind.Command c = is_name_character c
 -- what else it has
 abbrev pub has_form : Kind → List ℕ → Bool
 has_form kind.Text text = true
+has_form kind.Line text = true
 has_form kind.Title text = list_all is_read_once text
 has_form kind.Heading text = list_all is_read_once text && has_ink text
 has_form kind.Section text = list_all is_ascii_alphanumeric text && begins begins_a_section text
+has_form kind.Body text = not (is_empty_text text)
 has_form kind.Value text = not (is_empty_text text)
 has_form kind.Name text = not (is_empty_text text)
 has_form kind.Program text = not (is_empty_text text) && list_all is_read_once text

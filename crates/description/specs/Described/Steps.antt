@@ -1,5 +1,5 @@
 -- What the lists that the decoder goes over say.
-use Rattle.std.specs.Prelude.{ℕ, List, map, String}
+use Rattle.std.specs.Prelude.{ℕ, [], List, map, String}
 use Rattle.std.specs.Borrow.{Bor}
 use Rattle.std.specs.BTreeMap.{BTreeMap}
 use Rattle.std.specs.declared.alloc.Global.{Global}
@@ -10,7 +10,8 @@ use Rattle.toml.specs.declared.value.Value.{Value}
 use Rattle.bpaf_meta.specs.View.{text_of}
 use Rattle.description_parts.specs.Content.{TextsSaid}
 use Rattle.description.specs.Content.{TitleWords}
-use Rattle.description.specs.Described.{CommandHead, DescriptionHead, GroupHead, Lists, Outline}
+use Rattle.description.specs.Described.{CommandHead, DescriptionHead, GroupHead, Lists, Outline, ValueSaid}
+use Rattle.description.specs.declared.decode.options.ValueTexts.{ValueTexts}
 use Rattle.description.specs.declared.decode.levels.Texts.{Texts}
 use Rattle.description.specs.declared.decode.levels.Lists.{Lists as Code}
 use Rattle.description.specs.declared.decode.levels.Outline.{Outline as Seen}
@@ -28,10 +29,10 @@ words_of = map (λ text. text.now)
 
 -- what the code has seen of a level
 abbrev pub texts_seen : Texts → TextsSaid
-texts_seen t = record { about = text_of t.about; header = text_of t.header; footer = text_of t.footer; usage = text_of t.usage }
+texts_seen t = record { about = text_of t.about; header = text_of t.header; footer = text_of t.footer; usage = text_of t.usage; topics = [] }
 
 abbrev pub lists_seen : Code → Lists
-lists_seen l = record { options = items_view l.options.now; choices = items_view l.choices.now; groups = items_view l.groups.now; positionals = items_view l.positionals.now; commands = items_view l.commands.now }
+lists_seen l = record { options = items_view l.options.now; choices = items_view l.choices.now; groups = items_view l.groups.now; positionals = items_view l.positionals.now; commands = items_view l.commands.now; topics = items_view l.topics.now }
 
 abbrev pub outline_seen : Seen → Outline
 outline_seen o = record { texts = texts_seen o.texts; command_required = o.command_required; lists = lists_seen o.lists }
@@ -39,8 +40,11 @@ outline_seen o = record { texts = texts_seen o.texts; command_required = o.comma
 abbrev pub group_head_seen : SeenGroup → GroupHead
 group_head_seen g = record { title = g.title.now; lists = lists_seen g.lists }
 
-abbrev pub command_head_seen : SeenCommand → CommandHead
-command_head_seen c = record { name = c.name.now; initial = c.short; help = text_of c.help; outline = outline_seen c.outline }
+abbrev pub value_texts_seen : ValueTexts → ValueSaid
+value_texts_seen t = record { value = text_of t.value; default = text_of t.default; values = text_of t.values }
+
+abbrev pub command_head_seen : {A : Type 0} → SeenCommand A → CommandHead
+command_head_seen c = record { names = record { name = c.name.now; initial = c.short; aliases = words_of c.aliases.items; hidden = c.hidden }; help = text_of c.help; outline = outline_seen c.outline }
 
 abbrev pub words_seen : SeenWords → TitleWords
 words_seen w = record { section = section_name w.section; date = text_of w.date; vendor = text_of w.vendor; title = text_of w.title }

@@ -1,5 +1,5 @@
 -- Names that stand twice on a level. The options of its choices and groups count as its own, and so do the commands of its groups.
-use Rattle.std.specs.Prelude.{codes, ℕ, List, [], ◌∷◌, ◌++◌, flat_map, Bool, true, not, ◌&&◌, if◌then◌else◌, Option, Some, None, option_and_then, option_to_list, bytes_eq}
+use Rattle.std.specs.Prelude.{codes, ℕ, List, [], ◌∷◌, ◌++◌, flat_map, filter, Bool, true, not, ◌&&◌, Option, Some, None, option_and_then, option_to_list, bytes_eq}
 use Rattle.std.specs.List.{list_any}
 use Rattle.toml.specs.Data.{Data, array, Items, no_items, item, Members, get_member, as_str, as_table}
 
@@ -32,13 +32,26 @@ text_under key ms = option_and_then as_str (get_member key ms)
 abbrev pub texts_at : (key : List ℕ) → List Members → List (List ℕ)
 texts_at key = flat_map (λ ms. option_to_list (text_under key ms))
 
--- the words for a command: its name, and its short name where that is another word
-abbrev pub other_word : (name initial : Option (List ℕ)) → Option (List ℕ)
-other_word (Some name) (Some initial) = if bytes_eq name initial then None else Some initial
-other_word name initial = initial
+-- the texts of the array at a key
+abbrev pub texts_in : Items → List (List ℕ)
+texts_in no_items = []
+texts_in (item d ds) = option_to_list (as_str d) ++ texts_in ds
 
+abbrev pub texts_of : Option Data → List (List ℕ)
+texts_of (Some (array ds)) = texts_in ds
+texts_of _ = []
+
+abbrev pub texts_under : (key : List ℕ) → Members → List (List ℕ)
+texts_under key ms = texts_of (get_member key ms)
+
+-- each of the texts once, where it stands first
+abbrev pub distinct : List (List ℕ) → List (List ℕ)
+distinct [] = []
+distinct (text ∷ texts) = text ∷ filter (λ other. not (bytes_eq text other)) (distinct texts)
+
+-- the words for a command: its name, its short name and its other names
 abbrev pub command_words : Members → List (List ℕ)
-command_words ms = option_to_list (text_under (codes "name") ms) ++ option_to_list (other_word (text_under (codes "name") ms) (text_under (codes "short") ms))
+command_words ms = distinct (option_to_list (text_under (codes "name") ms) ++ option_to_list (text_under (codes "short") ms) ++ texts_under (codes "aliases") ms)
 
 -- no text stands twice
 abbrev pub are_distinct : List (List ℕ) → Bool

@@ -57,6 +57,14 @@ begins_a_section b = is_ascii_digit b || (b == 110 || b == 108)
 abbrev pub is_text : List ℕ → Bool
 is_text text = list_all is_text_character (chars text)
 
+-- the text of a topic
+abbrev pub is_body : List ℕ → Bool
+is_body text = is_text text && not (is_empty_text text)
+
+-- a text on one line, which may be empty
+abbrev pub is_line : List ℕ → Bool
+is_line text = list_all is_line_character (chars text)
+
 -- the word for a value
 abbrev pub is_value : List ℕ → Bool
 is_value text = list_all is_line_character (chars text) && not (is_empty_text text)
@@ -65,7 +73,7 @@ is_value text = list_all is_line_character (chars text) && not (is_empty_text te
 abbrev pub is_title : List ℕ → Bool
 is_title text = list_all is_line_character (chars text) && list_all is_read_once text
 
--- the title of a group
+-- the title of a group or of a topic
 abbrev pub is_heading : List ℕ → Bool
 is_heading text = is_title text && has_ink text
 
@@ -98,6 +106,9 @@ as_text_of test d = option_and_then (if_passes test) (as_str d)
 
 abbrev pub as_text : Data → Option (List ℕ)
 as_text = as_text_of is_text
+
+abbrev pub as_body : Data → Option (List ℕ)
+as_body = as_text_of is_body
 
 abbrev pub as_value : Data → Option (List ℕ)
 as_value = as_text_of is_value

@@ -1,5 +1,6 @@
 -- What stands at a key of a table: a flag, a character, a section, a date, or tables. Each answer is `None` where the value is of another kind.
 use Rattle.std.specs.Prelude.{chars, ℕ, ◌+◌, nat_lt, ℤ, pos, negsuc, List, [], ◌∷◌, Bool, true, false, ◌&&◌, if◌then◌else◌, Option, Some, None, is_some, option_map, option_and_then, bytes_eq}
+use Rattle.std.specs.Fmt.{signed_decimal}
 use Rattle.std.specs.List.{list_any}
 use Rattle.toml_datetime.specs.declared.datetime.Datetime.{Datetime}
 use Rattle.toml_datetime.specs.declared.datetime.Date.{Date}
@@ -7,7 +8,17 @@ use Rattle.toml_datetime.specs.declared.datetime.Offset.{Offset}
 use Rattle.toml_datetime.specs.declared.datetime.Time.{Time}
 use Rattle.toml_datetime.specs.Text.{date_text}
 use Rattle.toml.specs.Data.{Data, string, integer, datetime, Items, no_items, item, Members, no_members, member, get_member, as_array, as_bool, as_str, as_table}
-use Rattle.description.specs.Described.Texts.{if_passes, is_section, is_short, is_title}
+use Rattle.description.specs.Notes.{listed_texts}
+use Rattle.description.specs.Described.Texts.{as_value, if_passes, is_line, is_section, is_short, is_title, is_value}
+
+-- what holds where a value is not given: a text on one line, or a whole number in decimal
+abbrev pub default_text : Data → Option (List ℕ)
+default_text (string text) = Some text
+default_text (integer z) = Some (signed_decimal z)
+default_text _ = None
+
+abbrev pub as_default : Data → Option (List ℕ)
+as_default d = option_and_then (if_passes is_line) (default_text d)
 
 -- each key of the table is one of these
 abbrev pub has_only : (keys : List (List ℕ)) → Members → Bool
@@ -81,7 +92,26 @@ abbrev pub is_empty : Items → Bool
 is_empty no_items = true
 is_empty (item d ds) = false
 
--- the tables, each read in order
+-- the items, each read in order
+abbrev pub each_item : {X : Type 0} → (Data → Option X) → Items → Option (List X)
+each_item read no_items = Some []
+each_item read (item d ds) = option_and_then (λ x. option_map (λ xs. x ∷ xs) (each_item read ds)) (read d)
+
+-- tables, each read in order
+abbrev pub in_table : {X : Type 0} → (Members → Option X) → Data → Option X
+in_table read d = option_and_then read (as_table d)
+
 abbrev pub each_table : {X : Type 0} → (Members → Option X) → Items → Option (List X)
-each_table read no_items = Some []
-each_table read (item d ds) = option_and_then (λ x. option_map (λ xs. x ∷ xs) (each_table read ds)) (option_and_then read (as_table d))
+each_table read = each_item (in_table read)
+
+-- an array of at least one text, each read in order
+abbrev pub as_texts : (Data → Option (List ℕ)) → Data → Option (List (List ℕ))
+as_texts read d = option_and_then (λ ds. if is_empty ds then None else each_item read ds) (as_array d)
+
+-- no text where the array is left out
+abbrev pub words_at : (Data → Option (List ℕ)) → (key : List ℕ) → Members → Option (List (List ℕ))
+words_at read = at_key (Some []) (as_texts read)
+
+-- the values that there may be, as one text on one line
+abbrev pub as_values : Data → Option (List ℕ)
+as_values d = option_and_then (λ values. if_passes is_value (listed_texts values)) (as_texts as_value d)

@@ -1,5 +1,5 @@
 -- What the steps of the code leave.
-use Rattle.std.specs.Prelude.{List, ◌++◌, false}
+use Rattle.std.specs.Prelude.{List, ◌++◌, flat_map, false, true}
 use Rattle.bpaf_doc.specs.declared.buffer.Block.TheVariants as block
 use Rattle.bpaf_doc.specs.Buffer.Writes.{Write}
 use Rattle.bpaf_items.specs.Listing.ItemList.{item_list}
@@ -9,13 +9,15 @@ use Rattle.bpaf_help.specs.Chapters.{manual_name}
 use Rattle.description.specs.Manuals.{description_writes, page_name, summary, synopsis_writes, texts_in}
 use Rattle.description.specs.Pages.{subject_tree}
 use Rattle.description.specs.Subjects.{SubjectSaid}
+use Rattle.description.specs.Topics.{topic_writes}
 use Rattle.description.specs.Trees.{document_said, options_tree}
 
--- the header, the lists and the footer
+-- the header, the lists, the topics and the footer
 abbrev pub list_writes : SubjectSaid → List Write
 list_writes s =
     doc_within block.Block (document_said (texts_in s.level).header)
     ++ groups_writes false no_texts (item_list (subject_tree s) ++ item_list (options_tree s.help_options))
+    ++ flat_map (topic_writes true) (texts_in s.level).topics
     ++ doc_within block.Block (document_said (texts_in s.level).footer)
 
 -- what stands above the header

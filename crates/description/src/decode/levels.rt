@@ -14,9 +14,10 @@ use super::faults::{Fault, Way};
 use super::options::{choices_in, options_in, positionals_in};
 use super::taken::check_names;
 use super::texts::Kind;
+use super::topics::topics_in;
 use super::values::{
     check_keys, flag_at, is_empty, push, required_text_at, required_word_at, short_at, table_of,
-    tables_at, text_at,
+    tables_at, text_at, words_at,
 };
 use description_parts::levels::{Command, Group, Level};
 use lasting_names::Names;
@@ -25,10 +26,12 @@ use toml::{Table, Value};
 
 const GROUP_KEYS: [&str; 5] = ["title", "option", "choice", "positional", "command"];
 
-const COMMAND_KEYS: [&str; 13] = [
+const COMMAND_KEYS: [&str; 16] = [
     "name",
     "short",
     "help",
+    "hidden",
+    "aliases",
     "about",
     "header",
     "footer",
@@ -39,9 +42,10 @@ const COMMAND_KEYS: [&str; 13] = [
     "group",
     "positional",
     "command",
+    "topic",
 ];
 
-/// The texts of a level.
+/// The texts of a level but its topics.
 #[derive(Clone, Copy)]
 pub struct Texts<'a> {
     about: Option<&'a str>,
@@ -58,6 +62,7 @@ pub struct Lists<'a> {
     groups: &'a [Value],
     positionals: &'a [Value],
     commands: &'a [Value],
+    topics: &'a [Value],
 }
 
 /// What a level says of itself, with the tables in it still to be read.
@@ -76,11 +81,13 @@ pub struct GroupHead<'a> {
 }
 
 /// What a command says of itself.
-#[derive(Clone, Copy)]
-pub struct CommandHead<'a> {
+#[derive(Drop)]
+pub struct CommandHead<'a, A: Allocator> {
     name: &'static str,
     short: Option<char>,
     help: Option<&'a str>,
+    hidden: bool,
+    aliases: Vec<&'static str, A>,
     outline: Outline<'a>,
 }
 
@@ -111,6 +118,7 @@ fn lists_from<'a>(table: &'a Table) -> Result<Lists<'a>, Fault<'a>>
         groups: tables_at(table, "group")?,
         positionals: tables_at(table, "positional")?,
         commands: tables_at(table, "command")?,
+        topics: tables_at(table, "topic")?,
     })
 }
 
@@ -164,11 +172,12 @@ pub fn level_of<'a, A: Allocator + Copy>(
         command_required,
         lists,
     } = outline;
-    let options = options_in(way, "option", names, lists.options)?;
+    let options = options_in(way, names, lists.options)?;
     let choices = choices_in(way, names, lists.choices)?;
     let groups = groups_in(way, names, lists.groups)?;
     let positionals = positionals_in(way, names, lists.positionals)?;
     let commands = commands_in(way, names, lists.commands)?;
+    let topics = topics_in(way, lists.topics)?;
     Ok(Level {
         about: texts.about,
         header: texts.header,
@@ -180,6 +189,7 @@ pub fn level_of<'a, A: Allocator + Copy>(
         groups,
         positionals,
         commands,
+        topics,
     })
 }
 
@@ -188,7 +198,7 @@ fn command_head<'a, A: Allocator + Copy>(
     alloc: A,
     names: &mut Names,
     table: &'a Table,
-) -> Result<CommandHead<'a>, Fault<'a>>
+) -> Result<CommandHead<'a, A>, Fault<'a>>
     ensures head { Reads (command_head (table_view table.now)) (λ head. command_head_seen head) result }
     ensures groups { IfOk result (λ head. groups_at (codes "group") (table_view table.now)
         ≡ each_group ((command_head_seen head).outline.lists).groups) }
@@ -202,6 +212,8 @@ fn command_head<'a, A: Allocator + Copy>(
         name: required_word_at(names, table, "name", Kind::Command)?,
         short: short_at(table, "short")?,
         help: text_at(table, "help", Kind::Text)?,
+        hidden: flag_at(table, "hidden", false)?,
+        aliases: words_at(alloc, names, table, "aliases", Kind::Command)?,
         outline: outline_from(alloc, table)?,
     })
 }
@@ -215,12 +227,22 @@ fn command_from<'a, A: Allocator + Copy>(
     ensures { Reads (as_command (view item.now)) (λ c. command_said c) result }
 {
     let table = table_of(item)?;
-    let head = command_head(way.alloc(), names, table)?;
+    let CommandHead {
+        name,
+        short,
+        help,
+        hidden,
+        aliases,
+        outline,
+    } = command_head(way.alloc(), names, table)?;
+    let level = level_of(way, names, outline)?;
     Ok(Command {
-        name: head.name,
-        short: head.short,
-        help: head.help,
-        level: level_of(way, names, head.outline)?,
+        name,
+        short,
+        aliases,
+        help,
+        hidden,
+        level,
     })
 }
 
@@ -274,7 +296,7 @@ fn group_from<'a, A: Allocator + Copy>(
     let GroupHead { title, lists } = group_head(table)?;
     Ok(Group {
         title,
-        options: options_in(way, "option", names, lists.options)?,
+        options: options_in(way, names, lists.options)?,
         choices: choices_in(way, names, lists.choices)?,
         positionals: positionals_in(way, names, lists.positionals)?,
         commands: commands_in(way, names, lists.commands)?,

@@ -1,11 +1,12 @@
 //! Names that stand twice on a level.
 ghost use Rattle.std.specs.Prelude.{◌≡◌, ◌++◌, codes, IfOk, OnOk, flat_map, is_none, option_to_list, true, false};
-ghost use Rattle.toml.specs.Data.{as_table};
+ghost use Rattle.toml.specs.Data.{as_str, as_table};
 ghost use Rattle.toml.specs.View.{items_view, table_view, view};
 ghost use Rattle.bpaf_meta.specs.View.{text_of};
-ghost use Rattle.description.specs.Described.Taken.{are_distinct, command_words, has_distinct_names};
-ghost use Rattle.description.specs.Described.Taken.{level_commands, level_options, other_word, own_options};
-ghost use Rattle.description.specs.Described.Taken.{tables_in, tables_under, text_under, texts_at};
+ghost use Rattle.description.specs.Described.Taken.{are_distinct, command_words, distinct, has_distinct_names};
+ghost use Rattle.description.specs.Described.Taken.{level_commands, level_options, own_options};
+ghost use Rattle.description.specs.Described.Taken.{tables_in, tables_under, text_under, texts_at, texts_in};
+ghost use Rattle.description.specs.Described.Taken.{texts_under};
 ghost use Rattle.description.specs.Described.Steps.{views_of, words_of};
 ghost use Rattle.description.specs.Faults.{Sees};
 
@@ -15,8 +16,8 @@ use std::alloc::{AllocError, Allocator};
 use std::collections::HashSet;
 use toml::{Table, Value};
 
-/// Refuses a level on which two options share a short or a long name, or two commands a name or a
-/// short name. It looks at the names alone, since what stands inside the tables is read later.
+/// Refuses a level on which two options share a short or a long name, or two commands a name, a short
+/// name or another one. It looks at the names alone, since what stands inside the tables is read later.
 pub fn check_names<'a, A: Allocator + Copy>(alloc: A, table: &'a Table) -> Result<(), Fault<'a>>
     ensures { Sees (has_distinct_names (table_view table.now)) result }
 {
@@ -27,14 +28,14 @@ pub fn check_names<'a, A: Allocator + Copy>(alloc: A, table: &'a Table) -> Resul
     check_commands(alloc, table)
 }
 
-// The short name of a command may be its own name, but no word of another command.
+// A word of a command may be another word of its own, but none of another command.
 fn check_commands<'a, A: Allocator + Copy>(alloc: A, table: &'a Table) -> Result<(), Fault<'a>>
     ensures { Sees (are_distinct (flat_map command_words (level_commands (table_view table.now)))) result }
 {
     let mut commands = Vec::new(alloc);
     put_level_commands(&mut commands, table, alloc)?;
     let mut words = Vec::new(alloc);
-    put_command_words(&mut words, &commands)?;
+    put_command_words(&mut words, &commands, alloc)?;
     check_distinct(alloc, &words, "command ")
 }
 
@@ -100,38 +101,85 @@ fn put_texts<'a, A: Allocator>(
     Ok(())
 }
 
-fn put_command_words<'a, A: Allocator>(
+fn put_command_words<'a, A: Allocator + Copy>(
     words: &mut Vec<&'a str, A>,
     commands: &[&'a Table],
+    alloc: A,
 ) -> Result<(), AllocError>
     ensures { OnOk result (words_of words.new.items ≡ words_of words.old.items
         ++ flat_map command_words (views_of commands.now)) }
 {
     for command in commands {
-        put_words_of(words, *command)?;
+        put_words_of(words, *command, alloc)?;
     }
     Ok(())
 }
 
-fn put_words_of<'a, A: Allocator>(
+fn put_words_of<'a, A: Allocator + Copy>(
     words: &mut Vec<&'a str, A>,
     command: &'a Table,
+    alloc: A,
 ) -> Result<(), AllocError>
     ensures { OnOk result (words_of words.new.items ≡ words_of words.old.items
         ++ command_words (table_view command.now)) }
 {
-    let name = text_under(command, "name");
-    put_text(words, name)?;
-    put_text(words, other_word(name, text_under(command, "short")))
+    let mut own = Vec::new(alloc);
+    put_text(&mut own, text_under(command, "name"))?;
+    put_text(&mut own, text_under(command, "short"))?;
+    put_texts_under(&mut own, command, "aliases")?;
+    put_distinct(words, &own, alloc)
 }
 
-// The short name, where it is another word than the name.
-fn other_word<'a>(name: Option<&str>, short: Option<&'a str>) -> Option<&'a str>
-    ensures { text_of result ≡ other_word (text_of name.entry) (text_of short.entry) }
+// Puts each of the texts once.
+fn put_distinct<'a, A: Allocator + Copy>(
+    words: &mut Vec<&'a str, A>,
+    texts: &[&'a str],
+    alloc: A,
+) -> Result<(), AllocError>
+    ensures { OnOk result (words_of words.new.items ≡ words_of words.old.items ++ distinct (words_of texts.now)) }
 {
-    match (name, short) {
-        (Some(name), Some(short)) => { if name == short { None } else { Some(short) } }
-        (_, short) => short,
+    let mut seen = HashSet::new(alloc);
+    for text in texts {
+        if seen.insert(*text)? {
+            words.push(*text)?;
+        }
+    }
+    Ok(())
+}
+
+fn put_texts_under<'a, A: Allocator>(
+    texts: &mut Vec<&'a str, A>,
+    table: &'a Table,
+    key: &str,
+) -> Result<(), AllocError>
+    ensures { OnOk result (words_of texts.new.items ≡ words_of texts.old.items
+        ++ texts_under key.now (table_view table.now)) }
+{
+    match value_at(table, key) {
+        Some(Value::Array(items)) => put_texts_in(texts, items),
+        _ => Ok(()),
+    }
+}
+
+fn put_texts_in<'a, A: Allocator>(
+    texts: &mut Vec<&'a str, A>,
+    items: &'a [Value],
+) -> Result<(), AllocError>
+    ensures { OnOk result (words_of texts.new.items ≡ words_of texts.old.items
+        ++ texts_in (items_view items.now)) }
+{
+    for item in items {
+        put_text(texts, text_in(item))?;
+    }
+    Ok(())
+}
+
+fn text_in(item: &Value) -> Option<&str>
+    ensures { text_of result ≡ as_str (view item.now) }
+{
+    match item {
+        Value::String(text) => Some(text.as_str()),
+        _ => None,
     }
 }
 

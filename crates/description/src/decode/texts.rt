@@ -16,11 +16,15 @@ use crate::paragraphs::has_ink;
 pub enum Kind {
     /// Lines.
     Text,
+    /// Lines, of which there is something.
+    Body,
+    /// One line, which may be empty.
+    Line,
     /// The word for a value.
     Value,
     /// A word of the title line of a manual page.
     Title,
-    /// The title of a group.
+    /// The title of a group or of a topic.
     Heading,
     /// A section of the manual.
     Section,
@@ -189,8 +193,8 @@ impl Kind {
         ensures { is_none result ≡ allows self character }
     {
         match self {
-            Kind::Text => refused_in_a_text(character),
-            Kind::Value | Kind::Title | Kind::Heading | Kind::Section => {
+            Kind::Text | Kind::Body => refused_in_a_text(character),
+            Kind::Line | Kind::Value | Kind::Title | Kind::Heading | Kind::Section => {
                 refused_on_a_line(character)
             }
             Kind::Name | Kind::Long | Kind::Program | Kind::Command => {
@@ -203,11 +207,11 @@ impl Kind {
         ensures { is_none result ≡ has_form self text.now }
     {
         match self {
-            Kind::Text => None,
+            Kind::Text | Kind::Line => None,
             Kind::Title => refused_by_roff(text.as_bytes()),
             Kind::Heading => first_of(refused_by_roff(text.as_bytes()), refused_without_ink(text)),
             Kind::Section => refused_as_section(text),
-            Kind::Value | Kind::Name => refused_if_empty(text),
+            Kind::Body | Kind::Value | Kind::Name => refused_if_empty(text),
             Kind::Program => first_of(refused_if_empty(text), refused_by_roff(text.as_bytes())),
             Kind::Long => refused_with_a_dash(text),
             Kind::Command => first_of(refused_with_a_dash(text), refused_by_roff(text.as_bytes())),
@@ -244,5 +248,22 @@ pub fn checked<'a>(text: &'a str, key: &'static str, kind: Kind) -> Result<&'a s
     match kind.refuses_text(text) {
         None => Ok(text),
         Some(after) => Err(Fault::at(key, after)),
+    }
+}
+
+/// A text that stands in the array at a key, if it is of this kind.
+pub fn checked_in<'a>(text: &'a str, key: &'static str, kind: Kind) -> Result<&'a str, Fault<'a>>
+    ensures { Reads (if_passes (is_of kind) text.now) (λ text. text.now) result }
+{
+    match kind.refuses_text(text) {
+        None => Ok(text),
+        Some(after) => Err(Fault::at(
+            key,
+            if text.is_empty() {
+                " holds an empty text"
+            } else {
+                after
+            },
+        )),
     }
 }

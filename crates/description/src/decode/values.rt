@@ -1,18 +1,22 @@
 //! What stands at a key of a table.
-ghost use Rattle.std.specs.Prelude.{◌≡◌, option_and_then, option_map, chars, bytes_eq, OnOk, [], ◌∷◌, ◌++◌};
+ghost use Rattle.std.specs.Prelude.{◌≡◌, codes, IfOk, option_and_then, option_map, chars, bytes_eq, OnOk, [], ◌∷◌};
+ghost use Rattle.std.specs.Prelude.{◌++◌};
+ghost use Rattle.std.specs.Fmt.{signed_decimal};
 ghost use Rattle.std.specs.List.{list_any};
 ghost use Rattle.bpaf_meta.specs.View.{text_of};
 ghost use Rattle.toml.specs.Data.{as_table, get_member};
 ghost use Rattle.toml.specs.View.{items_view, table_view, view};
 ghost use Rattle.description.specs.Described.Kinds.{as_kind};
-ghost use Rattle.description.specs.Described.Values.{are_tables, is_empty, as_section, as_short, digit_text};
+ghost use Rattle.description.specs.Described.Values.{are_tables, as_default, as_section, as_short, as_texts};
+ghost use Rattle.description.specs.Described.Values.{as_values, digit_text};
+ghost use Rattle.description.specs.Described.Values.{each_item, is_empty, words_at};
 ghost use Rattle.description.specs.Described.Values.{flag_at, has_only};
 ghost use Rattle.description.specs.Described.Values.{if_short, optional_at, required_at, only_character, tables_at};
 ghost use Rattle.description.specs.Described.Steps.{words_of};
 ghost use Rattle.description.specs.Faults.{Reads, Sees};
 
 use super::faults::Fault;
-use super::texts::{Kind, checked, refused_as_short};
+use super::texts::{Kind, checked, checked_in, refused_as_short};
 use lasting_names::Names;
 use std::alloc::{AllocError, Allocator};
 use toml::{Table, Value};
@@ -121,6 +125,127 @@ pub fn required_word_at<'a>(
         Some(word) => Ok(word),
         None => Err(Fault::at(key, " is missing")),
     }
+}
+
+/// The texts of a kind in the array at a key, at least one, as ones that last. None where the array is left out.
+pub fn words_at<'a, A: Allocator + Copy>(
+    alloc: A,
+    names: &mut Names,
+    table: &'a Table,
+    key: &'static str,
+    kind: Kind,
+) -> Result<Vec<&'static str, A>, Fault<'a>>
+    ensures { Reads (words_at (as_kind kind) key.now (table_view table.now)) (λ words. words_of words.items) result }
+{
+    match value_at(table, key) {
+        None => Ok(Vec::new(alloc)),
+        Some(value) => words_of_value(alloc, names, value, key, kind),
+    }
+}
+
+fn words_of_value<'a, A: Allocator + Copy>(
+    alloc: A,
+    names: &mut Names,
+    value: &'a Value,
+    key: &'static str,
+    kind: Kind,
+) -> Result<Vec<&'static str, A>, Fault<'a>>
+    ensures { Reads (as_texts (as_kind kind) (view value.now)) (λ words. words_of words.items) result }
+{
+    let Value::Array(items) = value else {
+        return Err(Fault::at(key, " is no array of texts"));
+    };
+    if is_empty(items) {
+        return Err(Fault::at(key, " is empty"));
+    }
+    words_in(alloc, names, items, key, kind)
+}
+
+fn words_in<'a, A: Allocator + Copy>(
+    alloc: A,
+    names: &mut Names,
+    items: &'a [Value],
+    key: &'static str,
+    kind: Kind,
+) -> Result<Vec<&'static str, A>, Fault<'a>>
+    ensures { Reads (each_item (as_kind kind) (items_view items.now)) (λ words. words_of words.items) result }
+{
+    let mut words = Vec::new(alloc);
+    for item in items {
+        push(&mut words, word_in(names, item, key, kind)?)?;
+    }
+    Ok(words)
+}
+
+fn word_in<'a>(
+    names: &mut Names,
+    item: &'a Value,
+    key: &'static str,
+    kind: Kind,
+) -> Result<&'static str, Fault<'a>>
+    ensures { Reads (as_kind kind (view item.now)) (λ word. word.now) result }
+{
+    match item {
+        Value::String(text) => Ok(names.get(checked_in(text.as_str(), key, kind)?)?),
+        _ => Err(Fault::at(key, " is no array of texts")),
+    }
+}
+
+/// What holds where a value is not given, at the key `default`, as a text or as a whole number. The text of a number
+/// lasts.
+pub fn default_at<'a, A: Allocator + Copy>(
+    alloc: A,
+    names: &mut Names,
+    table: &'a Table,
+) -> Result<Option<&'a str>, Fault<'a>>
+    ensures { Reads (optional_at as_default (codes "default") (table_view table.now)) (λ text. text_of text) result }
+{
+    match value_at(table, "default") {
+        None => Ok(None),
+        Some(Value::String(text)) => Ok(Some(checked(text.as_str(), "default", Kind::Line)?)),
+        Some(Value::Integer(number)) => {
+            let text = number_text(alloc, names, *number)?;
+            Ok(Some(checked(text, "default", Kind::Line)?))
+        }
+        Some(_) => Err(Fault::at("default", " is no text and no whole number")),
+    }
+}
+
+fn number_text<A: Allocator>(
+    alloc: A,
+    names: &mut Names,
+    number: i64,
+) -> Result<&'static str, AllocError>
+    ensures { IfOk result (λ text. text.now ≡ signed_decimal number) }
+{
+    let text = format!(in alloc; "{number}")?;
+    names.get(&text)
+}
+
+/// The values that there may be, at the key `values`, as one text that lasts.
+pub fn values_at<'a, A: Allocator + Copy>(
+    alloc: A,
+    names: &mut Names,
+    table: &'a Table,
+) -> Result<Option<&'static str>, Fault<'a>>
+    ensures { Reads (optional_at as_values (codes "values") (table_view table.now)) (λ text. text_of text) result }
+{
+    match value_at(table, "values") {
+        None => Ok(None),
+        Some(value) => Ok(Some(values_in(alloc, names, value)?)),
+    }
+}
+
+fn values_in<'a, A: Allocator + Copy>(
+    alloc: A,
+    names: &mut Names,
+    value: &'a Value,
+) -> Result<&'static str, Fault<'a>>
+    ensures { Reads (as_values (view value.now)) (λ text. text.now) result }
+{
+    let words = words_of_value(alloc, names, value, "values", Kind::Value)?;
+    let listed = words.join(alloc, ", ")?;
+    checked(names.get(&listed)?, "values", Kind::Value)
 }
 
 /// The flag at a key.

@@ -32,9 +32,14 @@ unfolding level_of
 level_of-returns-in_err-commands g t c = passed_on _ _ c.from_residual-in_err-commands.result c.in_err-commands.field-0.0 c.from_residual-in_err-commands.ensures.1
     (λ n. rw (c.in_ok-options.ensures, c.in_ok-choices.ensures, c.in_ok-groups.ensures, c.in_ok-positionals.ensures, c.in_err-commands.ensures n) refl)
 
+pub level_of-returns-in_err-topics : goal.level_of-returns-in_err-topics
+unfolding level_of
+level_of-returns-in_err-topics g t c = passed_on _ _ c.from_residual-in_err-topics.result c.in_err-topics.field-0.0 c.from_residual-in_err-topics.ensures.1
+    (λ n. rw (c.in_ok-options.ensures, c.in_ok-choices.ensures, c.in_ok-groups.ensures, c.in_ok-positionals.ensures, c.in_ok-commands.ensures, c.in_err-topics.ensures n) refl)
+
 pub level_of-returns : goal.level_of-returns
 unfolding level_of
-level_of-returns g t c = rw (c.in_ok-options.ensures, c.in_ok-choices.ensures, c.in_ok-groups.ensures, c.in_ok-positionals.ensures, c.in_ok-commands.ensures) (ap Some (sym (made-Level _)))
+level_of-returns g t c = rw (c.in_ok-options.ensures, c.in_ok-choices.ensures, c.in_ok-groups.ensures, c.in_ok-positionals.ensures, c.in_ok-commands.ensures, c.in_ok-topics.ensures) (ap Some (sym (made-Level _)))
 
 pub level_of-groups_in-requires : goal.level_of-groups_in-requires
 level_of-groups_in-requires g t c κs within = (omega (arith, c.decreases), search rules)
@@ -45,7 +50,7 @@ level_of-commands_in-requires g t c κs within = (omega (arith, c.decreases), se
 pub command_from-level_of-requires : goal.command_from-level_of-requires
 command_from-level_of-requires g t c κs within =
     let deeper = table_depth (view c.args.item.now) (table_view c.in_ok-table.table.now) c.in_ok-table.ensures in
-    (omega (arith, c.decreases, c.in_ok-head.ensures.depth, deeper), search rules)
+    (omega (arith, c.decreases, c.in_ok-name.ensures.depth, deeper), search rules)
 
 pub group_from-commands_in-requires : goal.group_from-commands_in-requires
 group_from-commands_in-requires g t c κs within =
@@ -99,21 +104,21 @@ groups_in-returns g t c = groups_read c.args.items.now (map group_said c.loop-it
 pub command_from-returns-in_err-table : goal.command_from-returns-in_err-table
 command_from-returns-in_err-table g t c = passed_on _ _ c.from_residual.result c.in_err-table.field-0.0 c.from_residual.ensures.1 (λ n. no_command (view c.args.item.now) (c.in_err-table.ensures n))
 
-pub command_from-returns-in_err-head : goal.command_from-returns-in_err-head
-command_from-returns-in_err-head g t c =
+pub command_from-returns-in_err-name : goal.command_from-returns-in_err-name
+command_from-returns-in_err-name g t c =
     let same = is_table (view c.args.item.now) (table_view c.in_ok-table.table.now) c.in_ok-table.ensures in
-    passed_on _ _ c.from_residual-in_err-head.result c.in_err-head.field-0.0 c.from_residual-in_err-head.ensures.1 (λ n. ap as_command same ∙ rw (c.in_err-head.ensures.head n) refl)
+    passed_on _ _ c.from_residual-in_err-name.result c.in_err-name.field-0.0 c.from_residual-in_err-name.ensures.1 (λ n. ap as_command same ∙ rw (c.in_err-name.ensures.head n) refl)
 
-pub command_from-returns-in_err-level_of : goal.command_from-returns-in_err-level_of
-command_from-returns-in_err-level_of g t c =
+pub command_from-returns-in_err-level : goal.command_from-returns-in_err-level
+command_from-returns-in_err-level g t c =
     let same = is_table (view c.args.item.now) (table_view c.in_ok-table.table.now) c.in_ok-table.ensures in
-    passed_on _ _ c.from_residual-in_err-level_of.result c.in_err-level_of.field-0.0 c.from_residual-in_err-level_of.ensures.1
-    (λ n. ap as_command same ∙ rw (c.in_ok-head.ensures.head, c.in_ok-head.ensures.groups, c.in_ok-head.ensures.commands, c.in_err-level_of.ensures n) refl)
+    passed_on _ _ c.from_residual-in_err-level.result c.in_err-level.field-0.0 c.from_residual-in_err-level.ensures.1
+    (λ n. ap as_command same ∙ rw (c.in_ok-name.ensures.head, c.in_ok-name.ensures.groups, c.in_ok-name.ensures.commands, c.in_err-level.ensures n) refl)
 
 pub command_from-returns : goal.command_from-returns
 command_from-returns g t c =
     let same = is_table (view c.args.item.now) (table_view c.in_ok-table.table.now) c.in_ok-table.ensures in
-    ap as_command same ∙ rw (c.in_ok-head.ensures.head, c.in_ok-head.ensures.groups, c.in_ok-head.ensures.commands, c.in_ok-level_of.ensures) (ap Some (sym (made-Command _)))
+    ap as_command same ∙ rw (c.in_ok-name.ensures.head, c.in_ok-name.ensures.groups, c.in_ok-name.ensures.commands, c.in_ok-level.ensures) (ap Some (sym (made-Command _)))
 
 pub group_from-returns-in_err-table : goal.group_from-returns-in_err-table
 group_from-returns-in_err-table g t c = passed_on _ _ c.from_residual.result c.in_err-table.field-0.0 c.from_residual.ensures.1 (λ n. no_group (view c.args.item.now) (c.in_err-table.ensures n))
