@@ -14,8 +14,8 @@ PAGE = TOP / "docs" / "lists" / "REFUSALS.md"
 NO_LIBRARIES = re.compile(r"\w+_tests|rows|callers")
 # These take their memory of `Global`, in which a test can make nothing fail.
 OF_GLOBAL = {"lasting_names"}
-# Errors that are no allocation failure: `from_names` of two empty lists, a misplaced item, and what a stream answers.
-OTHER_ERRORS = {"NoName", "&Item", "io::Error"}
+# Errors that are no allocation failure: `from_names` of two empty lists, a misplaced item, a name that no file may have, and what a stream answers.
+OTHER_ERRORS = {"NoName", "&Item", "NameFault", "io::Error"}
 CALL = re.compile(r"(?m)^( *)pub fn (\w+)(?:<[^{}]*?>)?\(([^{}]*?)\)\s*->\s*(.*?)(?=\n\s*(?:where|requires|ensures|\{)|\s*\{)", re.S)
 ROW = re.compile(r"(?m)^\| `([\w:]+)` \| `(\w+)::((?:\w+::)*)(\w+)`")
 

@@ -1,5 +1,5 @@
 -- What words choose, by what they give.
-use Rattle.std.proofs.Common.{◌≡◌, ◌≢◌, ◌⊎◌, ℕ, List, [], ◌∷◌, ◌++◌, Option, Some, None, false, length, get_or, ◌+◌, ◌≤◌, ◌<◌, arith, refl, sym, ap, ◌∙◌, inl, inr, Result, Ok, Err, IfErr}
+use Rattle.std.proofs.Common.{◌≡◌, ◌≢◌, ◌⊎◌, ℕ, List, [], ◌∷◌, ◌++◌, Option, Some, None, false, length, get_or, ◌+◌, ◌≤◌, ◌<◌, arith, refl, sym, ap, ◌∙◌, subst, inl, inr, Result, Ok, Err, IfErr}
 use Rattle.std.specs.Prelude.{codes, option_to_list, ◌||◌, bytes_eq}
 use Rattle.std.proofs.lemmas.Bool.{false≢true}
 use Rattle.std.proofs.lemmas.List.{length-append, length-map}
@@ -7,7 +7,7 @@ use Rattle.std.specs.Borrow.{Bor}
 use Rattle.clidoc_engine.specs.Chosen.{words_said}
 use Rattle.clidoc_engine.specs.declared.reading.WordFault.{WordFault}
 use Rattle.clidoc_engine.specs.Reading.{IsRefused}
-use Rattle.clidoc_engine.specs.Words.{Given, given_in, Names, PageSaid, ChoiceSaid, Chooses, page, check, help, version, is_one_of}
+use Rattle.clidoc_engine.specs.Words.{Given, HasNoValues, given_in, Names, PageSaid, ChoiceSaid, Chooses, page, check, all, help, version, is_one_of}
 
 abbrev given_or : Given → Option Given → Given
 given_or g None = g
@@ -29,6 +29,15 @@ no_names words g h e none word file n =
 pub no_check : (words : List (List ℕ)) (g : Given) → given_in words ≡ Some g → NamesNothing g → (file : Option (List ℕ)) → ¬ Chooses words (check file)
 no_check words g e none file h = no_names words g h.0 e none (codes "check") file h.1
 
+pub no_all : (words : List (List ℕ)) (g : Given) → given_in words ≡ Some g → NamesNothing g → (folder : List ℕ) (file : Option (List ℕ)) → ¬ Chooses words (all folder file)
+no_all words g e none folder file h = no_names words g h.0 e none (codes "all") file h.1
+
+-- where other values stand there than one folder
+pub no_folder : (words : List (List ℕ)) (g : Given) → given_in words ≡ Some g → ((folder : List ℕ) → ¬ (HasNoValues g × (g.folders ≡ folder ∷ []))) → (folder : List ℕ) (file : Option (List ℕ)) → ¬ Chooses words (all folder file)
+no_folder words g e none folder file h =
+    let same : g ≡ h.0 = ap (given_or g) (sym e ∙ h.1.given) in
+    none folder (subst HasNoValues (sym same) h.2, ap (λ x. x.folders) same ∙ h.3)
+
 pub no_page : (words : List (List ℕ)) (g : Given) → given_in words ≡ Some g → NamesNothing g → (p : PageSaid) (file : Option (List ℕ)) → ¬ Chooses words (page p file)
 no_page words g e none p file h = no_names words g h.1 e none h.0 file h.2
 
@@ -37,20 +46,25 @@ pub always : {T : Type 0} (r : Result T WordFault) (P : WordFault → Type 0) �
 always (Ok t) P h = tt
 always (Err f) P h = h f
 
-nothing : (words : List (List ℕ)) → ((file : Option (List ℕ)) → ¬ Chooses words (check file)) → ((p : PageSaid) (file : Option (List ℕ)) → ¬ Chooses words (page p file)) → ¬ Chooses words help → ¬ Chooses words version → (choice : ChoiceSaid) → ¬ Chooses words choice
-nothing words c p h v (page q file) = p q file
-nothing words c p h v (check file) = c file
-nothing words c p h v help = h
-nothing words c p h v version = v
+nothing : (words : List (List ℕ)) → ((file : Option (List ℕ)) → ¬ Chooses words (check file)) → ((folder : List ℕ) (file : Option (List ℕ)) → ¬ Chooses words (all folder file)) → ((p : PageSaid) (file : Option (List ℕ)) → ¬ Chooses words (page p file)) → ¬ Chooses words help → ¬ Chooses words version → (choice : ChoiceSaid) → ¬ Chooses words choice
+nothing words c a p h v (page q file) = p q file
+nothing words c a p h v (check file) = c file
+nothing words c a p h v (all folder file) = a folder file
+nothing words c a p h v help = h
+nothing words c a p h v version = v
 
--- where the words choose no page and no check, and do not ask for the program itself, they choose nothing
+-- where the words choose no page and no check, and do not ask for all or for the program itself, they choose nothing
 pub no_choice : {T : Type 0} (words : List (List ℕ)) (r : Result T WordFault) → IfErr r (λ fault. IsRefused fault ⊎ ((file : Option (List ℕ)) → ¬ Chooses words (check file)))
+    → IfErr r (λ fault. IsRefused fault ⊎ ((folder : List ℕ) (file : Option (List ℕ)) → ¬ Chooses words (all folder file)))
     → IfErr r (λ fault. IsRefused fault ⊎ ((p : PageSaid) (file : Option (List ℕ)) → ¬ Chooses words (page p file))) → is_one_of words (codes "--help") (codes "-h") ≡ false → is_one_of words (codes "--version") (codes "-V") ≡ false
     → IfErr r (λ fault. IsRefused fault ⊎ ((choice : ChoiceSaid) → ¬ Chooses words choice))
-no_choice words (Ok t) c p h v = tt
-no_choice words (Err f) c p h v = elim c [
+no_choice words (Ok t) c a p h v = tt
+no_choice words (Err f) c a p h v = elim c [
   | inl refused ↦ inl refused
-  | inr c' ↦ elim p [ inl refused ↦ inl refused | inr p' ↦ inr (nothing words c' p' (λ e. false≢true (sym h ∙ e)) (λ e. false≢true (sym v ∙ e))) ]
+  | inr c' ↦ elim a [
+    | inl refused ↦ inl refused
+    | inr a' ↦ elim p [ inl refused ↦ inl refused | inr p' ↦ inr (nothing words c' a' p' (λ e. false≢true (sym h ∙ e)) (λ e. false≢true (sym v ∙ e))) ]
+  ]
 ]
 
 pub one_word : (words : List (Bor (List ℕ))) (d : Bor (List ℕ)) (long short : List ℕ) → 1 ≤ length words → length words < 2 → is_one_of (words_said words) long short ≡ (bytes_eq (get_or words 0 d).now long || bytes_eq (get_or words 0 d).now short)

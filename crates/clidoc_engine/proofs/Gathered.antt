@@ -36,10 +36,11 @@ before_nothing (Some g) = refl
 
 pub together_nothing : (g : Given) → together g (only_files []) ≡ g
 together_nothing g =
-    ap (λ ws. record { plain = ws; commands = g.commands ++ []; widths = g.widths ++ []; files = g.files ++ [] }) (append-nil g.plain)
-    ∙ ap (λ ws. record { plain = g.plain; commands = ws; widths = g.widths ++ []; files = g.files ++ [] }) (append-nil g.commands)
-    ∙ ap (λ ws. record { plain = g.plain; commands = g.commands; widths = ws; files = g.files ++ [] }) (append-nil g.widths)
-    ∙ ap (λ ws. record { plain = g.plain; commands = g.commands; widths = g.widths; files = ws }) (append-nil g.files)
+    ap (λ ws. record { plain = ws; commands = g.commands ++ []; widths = g.widths ++ []; folders = g.folders ++ []; files = g.files ++ [] }) (append-nil g.plain)
+    ∙ ap (λ ws. record { plain = g.plain; commands = ws; widths = g.widths ++ []; folders = g.folders ++ []; files = g.files ++ [] }) (append-nil g.commands)
+    ∙ ap (λ ws. record { plain = g.plain; commands = g.commands; widths = ws; folders = g.folders ++ []; files = g.files ++ [] }) (append-nil g.widths)
+    ∙ ap (λ ws. record { plain = g.plain; commands = g.commands; widths = g.widths; folders = ws; files = g.files ++ [] }) (append-nil g.folders)
+    ∙ ap (λ ws. record { plain = g.plain; commands = g.commands; widths = g.widths; folders = g.folders; files = ws }) (append-nil g.files)
 
 pub next_word : (words : List (Bor (List ℕ))) (i : ℕ) (d : Bor (List ℕ)) → i < length words → words_said (drop i words) ≡ (get_or words i d).now ∷ words_said (drop (i + 1) words)
 next_word words i d h = ap words_said (drop_more words i d h)

@@ -4,3 +4,5 @@ mod Gathered
 mod Choosing
 mod Led
 mod Returns
+mod FileNames
+mod AllFiles

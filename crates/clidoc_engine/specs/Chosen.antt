@@ -7,7 +7,7 @@ use Rattle.clidoc_engine.specs.declared.words.Page.{Page}
 use Rattle.clidoc_engine.specs.declared.words.Page.TheVariants as of_page
 use Rattle.clidoc_engine.specs.declared.words.Choice.{Choice}
 use Rattle.clidoc_engine.specs.declared.words.Choice.TheVariants as of_choice
-use Rattle.clidoc_engine.specs.Words.{PageSaid, console, html, markdown, man, ChoiceSaid, page, check, help, version}
+use Rattle.clidoc_engine.specs.Words.{PageSaid, console, html, markdown, man, ChoiceSaid, page, check, all, help, version}
 
 abbrev pub words_said : List (Bor (List ℕ)) → List (List ℕ)
 words_said = map (λ word. word.now)
@@ -24,6 +24,7 @@ page_said (of_page.Man commands) = man (words_said commands.items)
 abbrev pub choice_said : {A : Type 0} → Choice A → ChoiceSaid
 choice_said (of_choice.Page p file) = page (page_said p) (text_of file)
 choice_said (of_choice.Check file) = check (text_of file)
+choice_said (of_choice.All folder file) = all folder.now (text_of file)
 choice_said of_choice.Help = help
 choice_said of_choice.Version = version
 

@@ -8,3 +8,4 @@ pub mod Words
 pub mod Chosen
 pub mod Reading
 pub mod Newlines
+pub mod Files

@@ -4,14 +4,14 @@ use Rattle.clidoc_engine.specs.declared.reading.Given as of_given
 use Rattle.clidoc_engine.specs.declared.reading.Kind as of_kind
 use Rattle.clidoc_engine.specs.declared.reading.Kind.TheVariants as kinds
 use Rattle.clidoc_engine.specs.declared.reading.WordFault.{WordFault}
-use Rattle.clidoc_engine.specs.declared.reading.WordFault.TheVariants.{NoForm, NoSuchForm, NoSuchOption, NoValue, NoColumns, TwoWidths, TooMany, NotWith, NotAlone, Refused}
+use Rattle.clidoc_engine.specs.declared.reading.WordFault.TheVariants.{NoForm, NoSuchForm, NoSuchOption, NoValue, NoColumns, NoFolder, Twice, TooMany, NotWith, NotAlone, Refused}
 use Rattle.clidoc_engine.specs.Chosen.{words_said}
 use Rattle.clidoc_engine.specs.declared.reading.Next.{Next}
 use Rattle.clidoc_engine.specs.declared.reading.Next.TheVariants.{Any, Value, File}
 use Rattle.clidoc_engine.specs.Words.{Given, Kind, dashes, plain, apart, joined, unknown, given_in, only_files, valued_in}
 
 abbrev pub given_of : {A : Type 0} → of_given.Given A → Given
-given_of g = record { plain = words_said g.plain.items; commands = words_said g.commands.items; widths = words_said g.widths.items; files = words_said g.files.items }
+given_of g = record { plain = words_said g.plain.items; commands = words_said g.commands.items; widths = words_said g.widths.items; folders = words_said g.folders.items; files = words_said g.files.items }
 
 abbrev pub kind_said : of_kind.Kind → Kind
 kind_said kinds.Dashes = dashes
@@ -28,14 +28,15 @@ IsRefused (NoSuchForm word) = ⊥
 IsRefused (NoSuchOption word) = ⊥
 IsRefused (NoValue word) = ⊥
 IsRefused (NoColumns word) = ⊥
-IsRefused TwoWidths = ⊥
+IsRefused NoFolder = ⊥
+IsRefused (Twice option) = ⊥
 IsRefused (TooMany word) = ⊥
 IsRefused (NotWith option word) = ⊥
 IsRefused (NotAlone word) = ⊥
 
 -- what some words give, and then what others do
 abbrev pub together : Given → Given → Given
-together g h = record { plain = g.plain ++ h.plain; commands = g.commands ++ h.commands; widths = g.widths ++ h.widths; files = g.files ++ h.files }
+together g h = record { plain = g.plain ++ h.plain; commands = g.commands ++ h.commands; widths = g.widths ++ h.widths; folders = g.folders ++ h.folders; files = g.files ++ h.files }
 
 abbrev pub before : Given → Option Given → Option Given
 before g = option_map (together g)

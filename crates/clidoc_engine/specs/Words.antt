@@ -4,7 +4,7 @@ use Rattle.std.specs.Str.Parse.{IsNumeral, digits_value}
 use Rattle.clidoc_engine.specs.declared.words.ConsoleForm.{ConsoleForm}
 use Rattle.clidoc_engine.specs.declared.words.ConsoleForm.TheVariants.{Usage, Full, Brief}
 use Rattle.clidoc_engine.specs.declared.reading.Valued.{Valued}
-use Rattle.clidoc_engine.specs.declared.reading.Valued.TheVariants.{Command, Width}
+use Rattle.clidoc_engine.specs.declared.reading.Valued.TheVariants.{Command, Width, Into}
 
 -- ---- what is chosen
 
@@ -19,6 +19,7 @@ pub data PageSaid : Type 0 where
 pub data ChoiceSaid : Type 0 where
   page : PageSaid → (file : Option (List ℕ)) → ChoiceSaid
   check : (file : Option (List ℕ)) → ChoiceSaid
+  all : (folder : List ℕ) → (file : Option (List ℕ)) → ChoiceSaid
   help : ChoiceSaid
   version : ChoiceSaid
 
@@ -29,10 +30,11 @@ pub record Given : Type 0 where
   pub plain : List (List ℕ)
   pub commands : List (List ℕ)
   pub widths : List (List ℕ)
+  pub folders : List (List ℕ)
   pub files : List (List ℕ)
 
 abbrev pub only_files : List (List ℕ) → Given
-only_files words = record { plain = []; commands = []; widths = []; files = words }
+only_files words = record { plain = []; commands = []; widths = []; folders = []; files = words }
 
 abbrev pub with_plain : List ℕ → Given → Given
 with_plain word g = record g { plain = word ∷ g.plain }
@@ -40,10 +42,12 @@ with_plain word g = record g { plain = word ∷ g.plain }
 abbrev pub with_value : Valued → List ℕ → Given → Given
 with_value Command value g = record g { commands = value ∷ g.commands }
 with_value Width value g = record g { widths = value ∷ g.widths }
+with_value Into value g = record g { folders = value ∷ g.folders }
 
 abbrev pub option_word : Valued → List ℕ
 option_word Command = codes "--command"
 option_word Width = codes "--width"
+option_word Into = codes "--into"
 
 pub data Kind : Type 0 where
   dashes : Kind
@@ -58,10 +62,11 @@ behind [] word = Some word
 behind (c ∷ cs) [] = None
 behind (c ∷ cs) (d ∷ ds) = if c == d then behind cs ds else None
 
-abbrev pub joined_kind : (command width : Option (List ℕ)) → Kind
-joined_kind (Some value) w = joined Command value
-joined_kind None (Some value) = joined Width value
-joined_kind None None = unknown
+abbrev pub joined_kind : (command width folder : Option (List ℕ)) → Kind
+joined_kind (Some value) w f = joined Command value
+joined_kind None (Some value) f = joined Width value
+joined_kind None None (Some value) = joined Into value
+joined_kind None None None = unknown
 
 -- a word that begins with `-` is `--`, or `-` alone, or an option, with its value behind `=` or as the next word, whatever that is; any other
 -- such word is unknown
@@ -70,8 +75,9 @@ kind_of word =
     if bytes_eq word (codes "--") then dashes else
     if bytes_eq word (option_word Command) then apart Command else
     if bytes_eq word (option_word Width) then apart Width else
+    if bytes_eq word (option_word Into) then apart Into else
     if bytes_eq word (codes "-") || not (slice_index word 0 == 45) then plain else
-    joined_kind (behind (codes "--command=") word) (behind (codes "--width=") word)
+    joined_kind (behind (codes "--command=") word) (behind (codes "--width=") word) (behind (codes "--into=") word)
 
 -- what a word gives: alone, before what the others give, or with the next one
 abbrev pub given_by : Kind → (word : List ℕ) → (words : List (List ℕ)) → (others : Option Given) → (with_next : Valued → Option Given) → Option Given
@@ -112,6 +118,7 @@ IsWidth [] n = n ≡ 100
 IsWidth (text ∷ []) n = IsColumns text n
 IsWidth (text ∷ other ∷ texts) n = ⊥
 
+-- neither a command nor a width
 abbrev pub HasNoValues : Given → Type 0
 HasNoValues g = (g.commands ≡ []) × (g.widths ≡ [])
 
@@ -134,7 +141,8 @@ is_one_of (word ∷ []) long short = bytes_eq word long || bytes_eq word short
 is_one_of words long short = false
 
 abbrev pub Chooses : (words : List (List ℕ)) → ChoiceSaid → Type 0
-Chooses words (page p file) = (word : List ℕ) × (g : Given) × Names words word file g × NamesPage word g p
-Chooses words (check file) = (g : Given) × Names words (codes "check") file g × HasNoValues g
+Chooses words (page p file) = (word : List ℕ) × (g : Given) × Names words word file g × NamesPage word g p × (g.folders ≡ [])
+Chooses words (check file) = (g : Given) × Names words (codes "check") file g × HasNoValues g × (g.folders ≡ [])
+Chooses words (all folder file) = (g : Given) × Names words (codes "all") file g × HasNoValues g × (g.folders ≡ folder ∷ [])
 Chooses words help = is_one_of words (codes "--help") (codes "-h") ≡ true
 Chooses words version = is_one_of words (codes "--version") (codes "-V") ≡ true

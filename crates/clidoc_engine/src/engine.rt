@@ -172,7 +172,7 @@ pub(crate) fn page_of<A: Allocator + Copy, B: Allocator>(
 }
 
 // The data of the text, in which lines may end with a carriage return too.
-fn table_of(global: Global, text: &str) -> Result<Table, Fault>
+pub(crate) fn table_of(global: Global, text: &str) -> Result<Table, Fault>
     ensures ok { IfOk result (λ table. parse_document (without_returns text.now) ≡ Some (table_view table)) }
     ensures fault { IfErr result (IsSyntaxFault (without_returns text.now)) }
 {

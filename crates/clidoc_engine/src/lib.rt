@@ -1,9 +1,11 @@
 //! What the program `clidoc` does: the words that choose a page, and the making of the page of a description in
-//! TOML, over any reader and any writer.
+//! TOML, or of all its pages, over any reader and any writer.
 #![tactic(auto)]
 
+pub mod all;
 pub mod engine;
 pub mod faults;
+pub mod files;
 mod newlines;
 mod own;
 pub mod places;

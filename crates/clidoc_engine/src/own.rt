@@ -52,10 +52,18 @@ Break lines at so many columns, and not at 100.
 
 It goes with usage, full and brief."""
 
+[[option]]
+long = "into"
+value = "FOLDER"
+help = """
+Write all pages into this folder, which has to be there.
+
+It goes with all."""
+
 [[positional]]
 value = "FORM"
 help = """
-The form of the page: usage, full, brief, html, markdown, man or check
+The form of the page: usage, full, brief, html, markdown, man, check or all
 
     usage     the usage line
     full      the help page
@@ -63,7 +71,8 @@ The form of the page: usage, full, brief, html, markdown, man or check
     html      the help pages of all commands, in HTML
     markdown  the same, in markdown
     man       the manual page of all, or of what --command shows
-    check     nothing: only whether FILE is a description"""
+    check     nothing: only whether FILE is a description
+    all       the manual page of each level, and the markdown, as files of --into"""
 
 [[positional]]
 value = "FILE"

@@ -1,13 +1,16 @@
 //! A whole run of the program, over any runtime.
 
+use crate::all::make_files;
 use crate::engine::{check_description, page_of, run_description};
 use crate::faults::Fault;
+use crate::files::check_names;
 use crate::own::{DESCRIPTION, VERSION};
 use crate::reading::WordFault;
 use crate::words::{Choice, Console, ConsoleForm, Page, choose};
 use crate::wrong::line_of;
 use bpaf_doc::console::MAX_WIDTH;
 use description::words::Shown;
+use folder::{check_folder, write_files};
 use std::alloc::{AllocError, Global};
 use std::io::Read;
 use std::process::ExitCode;
@@ -18,14 +21,25 @@ use watched::Watched;
 pub use watched::program::WRONG_WORDS;
 use watched::program::{expecting, status_of, with_words};
 
+mod folder;
+
 /// Why a run fails.
 #[derive(Debug, Drop, Error)]
-enum Failure {
+pub(crate) enum Failure {
     #[error("{0}")]
     Fault(Fault),
     /// The file cannot be opened.
     #[error("clidoc: can't open {}", Shown(.0.as_str()))]
     NoFile(String),
+    /// The folder is not there.
+    #[error("clidoc: no folder {}", Shown(.0.as_str()))]
+    NoFolder(String),
+    /// Pages have no names under which they can be written: the line that says so.
+    #[error("{0}")]
+    BadName(String),
+    /// The file cannot be written.
+    #[error("clidoc: can't write {}", Shown(.0.as_str()))]
+    NotWritten(String),
 }
 
 impl From<Fault> for Failure {
@@ -111,6 +125,14 @@ where
         }
         Choice::Check(None | Some("-")) => check(rt, global, rt.reader()),
         Choice::Check(Some(file)) => check(rt, global, opened(rt, global, *file)?),
+        Choice::All {
+            folder,
+            file: None | Some("-"),
+        } => write_all(rt, global, *folder, rt.reader()),
+        Choice::All {
+            folder,
+            file: Some(file),
+        } => write_all(rt, global, *folder, opened(rt, global, *file)?),
         Choice::Help => {
             let page = own_page(global, ConsoleForm::Full);
             let written = write_page(rt, global, &page, DESCRIPTION.as_bytes());
@@ -149,6 +171,27 @@ where
 {
     let mut reader = Watched::new(input);
     check_description(rt.alloc(), global, &mut reader)?;
+    Ok(())
+}
+
+// Writes all pages into the folder, once all of them are made, and says how many they are.
+fn write_all<R: Alloc + Files + Eprint, S: Read + Drop>(
+    rt: &R,
+    global: Global,
+    folder: &str,
+    input: S,
+) -> Result<(), Failure>
+where
+    R::A: Copy,
+{
+    check_folder(rt, global, folder)?;
+    let mut reader = Watched::new(input);
+    let files = make_files(rt.alloc(), global, &mut reader)?;
+    if let Err(fault) = check_names(&files) {
+        return Err(Failure::BadName(format!(in global; "{fault}")?));
+    }
+    write_files(rt, global, folder, &files)?;
+    let _ = eprintln!(rt; "clidoc: {} files written", files.len());
     Ok(())
 }
 

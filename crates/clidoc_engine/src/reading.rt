@@ -15,6 +15,8 @@ pub enum Valued {
     Command,
     /// `--width`
     Width,
+    /// `--into`
+    Into,
 }
 
 /// Why words choose nothing.
@@ -30,8 +32,10 @@ pub enum WordFault<'w> {
     NoValue(Valued),
     /// This is no number of columns.
     NoColumns(&'w str),
-    /// There are two widths.
-    TwoWidths,
+    /// There is no folder to write all pages into.
+    NoFolder,
+    /// This option is given more than once.
+    Twice(Valued),
     /// This stands behind the name of the file.
     TooMany(&'w str),
     /// This option is none of the form that the word names.
@@ -56,6 +60,7 @@ pub(crate) struct Given<'w, A: Allocator> {
     pub plain: Vec<&'w str, A>,
     pub commands: Vec<&'w str, A>,
     pub widths: Vec<&'w str, A>,
+    pub folders: Vec<&'w str, A>,
     pub files: Vec<&'w str, A>,
 }
 
@@ -96,6 +101,7 @@ pub(crate) fn given_in<'w, A: Allocator + Copy>(
         plain: Vec::new(alloc),
         commands: Vec::new(alloc),
         widths: Vec::new(alloc),
+        folders: Vec::new(alloc),
         files: Vec::new(alloc),
     };
     let mut next = Next::Any;
@@ -169,6 +175,7 @@ fn put_value<'w, A: Allocator>(
     match option {
         Valued::Command => put(&mut given.commands, value),
         Valued::Width => put(&mut given.widths, value),
+        Valued::Into => put(&mut given.folders, value),
     }
 }
 
@@ -186,6 +193,7 @@ fn kind_of(word: &str) -> Kind<'_>
         "--" => Kind::Dashes,
         "--command" => Kind::Apart(Valued::Command),
         "--width" => Kind::Apart(Valued::Width),
+        "--into" => Kind::Apart(Valued::Into),
         "-" => Kind::Plain,
         _ => other_kind(word),
     }
@@ -196,16 +204,22 @@ fn other_kind(word: &str) -> Kind<'_>
     requires dashes { word.now ≢ codes "--" }
     requires command { word.now ≢ codes "--command" }
     requires width { word.now ≢ codes "--width" }
+    requires folder { word.now ≢ codes "--into" }
     requires dash { word.now ≢ codes "-" }
     ensures { kind_said result ≡ kind_of word.now }
 {
     if word.as_bytes().first() != Some(&b'-') {
         return Kind::Plain;
     }
-    match (behind(word, "--command="), behind(word, "--width=")) {
-        (Some(value), _) => Kind::Joined(Valued::Command, value),
-        (None, Some(value)) => Kind::Joined(Valued::Width, value),
-        (None, None) => Kind::Unknown,
+    match (
+        behind(word, "--command="),
+        behind(word, "--width="),
+        behind(word, "--into="),
+    ) {
+        (Some(value), _, _) => Kind::Joined(Valued::Command, value),
+        (None, Some(value), _) => Kind::Joined(Valued::Width, value),
+        (None, None, Some(value)) => Kind::Joined(Valued::Into, value),
+        (None, None, None) => Kind::Unknown,
     }
 }
 

@@ -5,7 +5,7 @@ ghost use Rattle.bpaf_meta.specs.View.{text_of};
 ghost use Rattle.clidoc_engine.specs.Chosen.{choice_said, page_said, words_said};
 ghost use Rattle.clidoc_engine.specs.Reading.{IsRefused, given_of};
 ghost use Rattle.clidoc_engine.specs.Words.{ChoiceSaid, Chooses, HasNoValues, IsColumns, IsWidth, NamesPage};
-ghost use Rattle.clidoc_engine.specs.Words.{PageSaid, check, form_word, is_one_of, man, page};
+ghost use Rattle.clidoc_engine.specs.Words.{PageSaid, all, check, form_word, is_one_of, man, page};
 
 use crate::reading::{Given, Valued, WordFault, given_in};
 use bpaf_doc::console::MAX_WIDTH;
@@ -51,6 +51,11 @@ pub enum Choice<'w, A: Allocator> {
     Page(Page<'w, A>, Option<&'w str>),
     /// Judges whether there is a description in a file, or on standard input.
     Check(Option<&'w str>),
+    /// Writes all pages of the description in a file, or on standard input, into a folder.
+    All {
+        folder: &'w str,
+        file: Option<&'w str>,
+    },
     /// Writes its own help page.
     Help,
     /// Writes its name and its version.
@@ -87,7 +92,7 @@ fn is_one_of(words: &[&str], long: &str, short: &str) -> bool
     }
 }
 
-// What words choose that stand for a page, or for the judging of a description.
+// What words choose that stand for pages, or for the judging of a description.
 fn with_input<'w, A: Allocator + Copy>(
     alloc: A,
     words: &[&'w str],
@@ -95,18 +100,22 @@ fn with_input<'w, A: Allocator + Copy>(
     ensures ok { IfOk result (λ choice. Chooses (words_said words.now) (choice_said choice)) }
     ensures no_check { IfErr result (λ fault. IsRefused fault ⊎ ((file : _)
         → ¬ Chooses (words_said words.now) (check file))) }
+    ensures no_all { IfErr result (λ fault. IsRefused fault ⊎ ((folder file : _)
+        → ¬ Chooses (words_said words.now) (all folder file))) }
     ensures no_page { IfErr result (λ fault. IsRefused fault ⊎ ((p file : _)
         → ¬ Chooses (words_said words.now) (page p file))) }
 {
     let given = given_in(alloc, words)?;
     let (word, file) = names(&given.plain, &given.files)?;
     if word == "check" {
-        let checked = check_no_values(&given, word);
-        drop(given);
-        checked?;
+        alone(word, given)?;
         return Ok(Choice::Check(file));
     }
-    Ok(Choice::Page(page_named(word, given)?, file))
+    if word == "all" {
+        let folder = folder_alone(word, given)?;
+        return Ok(Choice::All { folder, file });
+    }
+    Ok(Choice::Page(page_alone(word, given)?, file))
 }
 
 // The first of the plain words, and the file, if there is one: the second of them or one behind `--`.
@@ -131,7 +140,68 @@ fn names<'w>(
     }
 }
 
-// The page that the word names with the values of options.
+// Refuses values of options.
+fn alone<'w, A: Allocator>(word: &'w str, given: Given<'w, A>) -> Result<(), WordFault<'w>>
+    ensures ok { IfOk result (λ _. HasNoValues (given_of given.entry) × ((given_of given.entry).folders ≡ [])) }
+    ensures err { IfErr result (λ _. ¬ (HasNoValues (given_of given.entry) × ((given_of given.entry).folders ≡ []))) }
+{
+    let values = check_no_values(&given, word);
+    let folders = check_no_folder(&given, word);
+    drop(given);
+    values?;
+    folders
+}
+
+// The one folder. Other values are refused.
+fn folder_alone<'w, A: Allocator>(
+    word: &'w str,
+    given: Given<'w, A>,
+) -> Result<&'w str, WordFault<'w>>
+    ensures no_values { IfOk result (λ _. HasNoValues (given_of given.entry)) }
+    ensures folder { IfOk result (λ folder. (given_of given.entry).folders ≡ folder.now ∷ []) }
+    ensures err { IfErr result (λ _. (folder : _)
+        → ¬ (HasNoValues (given_of given.entry) × ((given_of given.entry).folders ≡ folder ∷ []))) }
+{
+    let values = check_no_values(&given, word);
+    let folder = one_folder(&given.folders);
+    drop(given);
+    values?;
+    folder
+}
+
+fn one_folder<'w>(folders: &[&'w str]) -> Result<&'w str, WordFault<'w>>
+    ensures ok { IfOk result (λ folder. words_said folders.now ≡ folder.now ∷ []) }
+    ensures err { IfErr result (λ _. (folder : _) → words_said folders.now ≢ folder ∷ []) }
+{
+    match folders {
+        [] => Err(WordFault::NoFolder),
+        [folder] => Ok(*folder),
+        _ => Err(WordFault::Twice(Valued::Into)),
+    }
+}
+
+// The page that the word names with the values of options. A folder is refused.
+fn page_alone<'w, A: Allocator>(
+    word: &'w str,
+    given: Given<'w, A>,
+) -> Result<Page<'w, A>, WordFault<'w>>
+    ensures ok { IfOk result (λ page. NamesPage word.now (given_of given.entry) (page_said page)
+        × ((given_of given.entry).folders ≡ [])) }
+    ensures err { IfErr result (λ _. (p : PageSaid)
+        → ¬ (NamesPage word.now (given_of given.entry) p × ((given_of given.entry).folders ≡ []))) }
+{
+    let folders = check_no_folder(&given, word);
+    let page = page_named(word, given)?;
+    match folders {
+        Ok(()) => Ok(page),
+        Err(fault) => {
+            drop(page);
+            Err(fault)
+        }
+    }
+}
+
+// The page that the word names with the values of options but the folder.
 fn page_named<'w, A: Allocator>(
     word: &'w str,
     given: Given<'w, A>,
@@ -215,7 +285,7 @@ fn width_of<'w>(texts: &[&'w str]) -> Result<usize, WordFault<'w>>
     match texts {
         [] => Ok(MAX_WIDTH),
         [text] => columns(text),
-        _ => Err(WordFault::TwoWidths),
+        _ => Err(WordFault::Twice(Valued::Width)),
     }
 }
 
@@ -248,4 +318,21 @@ fn check_no_values<'w, A: Allocator>(
         return Ok(());
     };
     Err(WordFault::NotWith { option, word })
+}
+
+// Refuses a folder, where the word takes none.
+fn check_no_folder<'w, A: Allocator>(
+    given: &Given<'w, A>,
+    word: &'w str,
+) -> Result<(), WordFault<'w>>
+    ensures ok { IfOk result (λ _. (given_of given.now).folders ≡ []) }
+    ensures err { IfErr result (λ _. (given_of given.now).folders ≢ []) }
+{
+    if given.folders.is_empty() {
+        return Ok(());
+    }
+    Err(WordFault::NotWith {
+        option: Valued::Into,
+        word,
+    })
 }

@@ -5,9 +5,11 @@ use description::words::{Shown, nearest};
 use std::alloc::{AllocError, Global};
 use std::fmt::Write;
 
-const FORMS: [&str; 7] = ["usage", "full", "brief", "html", "markdown", "man", "check"];
+const FORMS: [&str; 8] = [
+    "usage", "full", "brief", "html", "markdown", "man", "check", "all",
+];
 
-const OPTIONS: [&str; 4] = ["--command", "--width", "--help", "--version"];
+const OPTIONS: [&str; 5] = ["--command", "--width", "--into", "--help", "--version"];
 
 /// The line for standard error. For a word that is unknown it names the one that is near, or else those that there
 /// are.
@@ -19,7 +21,8 @@ pub fn line_of(global: Global, fault: &WordFault<'_>) -> Result<String, AllocErr
         WordFault::NoSuchOption(word) => put(&mut line, "no option ", word)?,
         WordFault::NoValue(option) => put(&mut line, "no value behind ", word_of(*option))?,
         WordFault::NoColumns(word) => put(&mut line, "no number of columns: ", word)?,
-        WordFault::TwoWidths => put(&mut line, "--width stands twice", "")?,
+        WordFault::NoFolder => put(&mut line, "all goes with --into FOLDER", "")?,
+        WordFault::Twice(option) => put(&mut line, word_of(*option), " stands twice")?,
         WordFault::NotAlone(word) => put(&mut line, "other words stand beside ", word)?,
         WordFault::TooMany(word) => put(&mut line, "one word too many: ", word)?,
         WordFault::NotWith { option, word } => {
@@ -36,6 +39,7 @@ fn word_of(option: Valued) -> &'static str {
     match option {
         Valued::Command => "--command",
         Valued::Width => "--width",
+        Valued::Into => "--into",
     }
 }
 

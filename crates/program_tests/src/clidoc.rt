@@ -2,6 +2,7 @@
 
 pub mod ends;
 mod faults;
+mod folders;
 mod long_pages;
 pub mod pages;
 mod programs;

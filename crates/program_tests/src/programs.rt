@@ -14,8 +14,8 @@ pub enum Program {
     Clidoc,
 }
 
-// The status of a run on so much memory. What clidoc keeps in its own is not of it.
-fn status_of(program: Program, heap: &LocalHeap, global: Global, desk: &Desk<'_>) -> ExitCode {
+/// The status of a run on so much memory. What clidoc keeps in its own is not of it.
+pub fn status_of(program: Program, heap: &LocalHeap, global: Global, desk: &Desk<'_>) -> ExitCode {
     match program {
         Program::Helpdoc => helpdoc_engine::program::run(&(desk, heap)),
         Program::Clidoc => clidoc_engine::program::run(&(desk, heap), global),
@@ -31,11 +31,15 @@ pub fn ends_with(
     status: u8,
     count: usize,
 ) -> bool {
+    answers(program, global, desk, status) && desk.has_printed(count, status > 0)
+}
+
+/// Whether a run on ample memory answers this status.
+pub fn answers(program: Program, global: Global, desk: &Desk<'_>, status: u8) -> bool {
     let Ok(heap) = LocalHeap::new(global, AMPLE) else {
         return false;
     };
-    let is_wanted = status_of(program, &heap, global, desk) == ExitCode::from(status);
-    is_wanted && desk.has_printed(count, status > 0)
+    status_of(program, &heap, global, desk) == ExitCode::from(status)
 }
 
 // Whether a growth is refused on so much memory, and this said, or the page written. None where neither is so.

@@ -6,10 +6,10 @@ use crate::stand_ins::runs::Ends;
 use crate::stand_ins::scripts::Script;
 use std::alloc::Global;
 
-const USAGE: &str = "clidoc [--command=NAME]... [--width=COLUMNS] FORM [FILE]\n";
+const USAGE: &str = "clidoc [--command=NAME]... [--width=COLUMNS] [--into=FOLDER] FORM [FILE]\n";
 
 const NO_FORM: &str =
-    "clidoc: no form; forms are usage, full, brief, html, markdown, man and check\n";
+    "clidoc: no form; forms are usage, full, brief, html, markdown, man, check and all\n";
 
 const NOT_UTF8: &str = "clidoc: input is not UTF-8\n";
 
@@ -48,16 +48,16 @@ const WRONG: &[(&[&str], &str)] = &[
     (&["clidoc", "--", "full"], NO_FORM),
     (
         &["clidoc", ""],
-        "clidoc: no form ; forms are usage, full, brief, html, markdown, man and check\n",
+        "clidoc: no form ; forms are usage, full, brief, html, markdown, man, check and all\n",
     ),
     (
         &["clidoc", "\u{1b}[2J"],
-        "clidoc: no form \"\\u{1b}[2J\"; forms are usage, full, brief, html, markdown, man and check\n",
+        "clidoc: no form \"\\u{1b}[2J\"; forms are usage, full, brief, html, markdown, man, check and all\n",
     ),
     (&["clidoc", "Full"], "clidoc: no form Full; is it full?\n"),
     (
         &["clidoc", "xml"],
-        "clidoc: no form xml; forms are usage, full, brief, html, markdown, man and check\n",
+        "clidoc: no form xml; forms are usage, full, brief, html, markdown, man, check and all\n",
     ),
     (
         &["clidoc", "full", "a", "b"],
@@ -73,7 +73,7 @@ const WRONG: &[(&[&str], &str)] = &[
     ),
     (
         &["clidoc", "full", "-x"],
-        "clidoc: no option -x; options are --command, --width, --help and --version\n",
+        "clidoc: no option -x; options are --command, --width, --into, --help and --version\n",
     ),
     (
         &["clidoc", "full", "--width", "0"],
@@ -106,6 +106,23 @@ const WRONG: &[(&[&str], &str)] = &[
     (
         &["clidoc", "full", "--help"],
         "clidoc: other words stand beside --help\n",
+    ),
+    (&["clidoc", "all"], "clidoc: all goes with --into FOLDER\n"),
+    (
+        &["clidoc", "--into=a", "all", "--into", "b"],
+        "clidoc: --into stands twice\n",
+    ),
+    (
+        &["clidoc", "all", "--into=a", "--width=3"],
+        "clidoc: --width is no option of all\n",
+    ),
+    (
+        &["clidoc", "check", "--into=a"],
+        "clidoc: --into is no option of check\n",
+    ),
+    (
+        &["clidoc", "--into=a", "full"],
+        "clidoc: --into is no option of full\n",
     ),
 ];
 

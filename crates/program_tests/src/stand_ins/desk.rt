@@ -1,8 +1,9 @@
 //! A runtime for tests: known words and a known input, ends that answer by a script, and what should be printed.
 
 ghost use Rattle.std.specs.Io.{WritesAtMost};
-ghost use Rattle.std.specs.Prelude.{◌≡◌, ◌+◌, IfOk, IsErr, string_len};
+ghost use Rattle.std.specs.Prelude.{◌≡◌, ◌+◌, IfOk, string_len};
 
+use crate::stand_ins::folder::{Folder, FolderFile, unsupported};
 use crate::stand_ins::lines::Line;
 use crate::stand_ins::runs::Ends;
 use crate::stand_ins::scripts::{ScriptedReader, ScriptedWriter};
@@ -27,6 +28,7 @@ pub struct Desk<'a> {
     input: ScriptedReader<'a>,
     output: Cell<ScriptedWriter<'a>>,
     said: Cell<Line<'a>>,
+    folder: Option<&'a Folder>,
 }
 
 impl<'a> Desk<'a> {
@@ -40,7 +42,14 @@ impl<'a> Desk<'a> {
             input: ends.reader(),
             output: Cell::new(ends.writer()),
             said: Cell::new(Line::new(line)),
+            folder: None,
         }
+    }
+
+    /// The same, with a folder.
+    pub fn with_folder(mut self, folder: &'a Folder) -> Desk<'a> {
+        self.folder = Some(folder);
+        self
     }
 
     /// The same, but no word is a text, so the words cannot be read.
@@ -61,12 +70,6 @@ impl<'a> Desk<'a> {
                 said.is_untouched()
             }
     }
-}
-
-fn unsupported<T>() -> io::Result<T>
-    ensures { IsErr result }
-{
-    Err(io::Error::from(io::ErrorKind::Unsupported))
 }
 
 impl Env for Desk<'_> {
@@ -113,22 +116,28 @@ impl<'a> Input for Desk<'a> {
     }
 }
 
-// There are no files.
-impl Files for Desk<'_> {
-    type File = File;
+// There are no files but those that are created in the folder.
+impl<'a> Files for Desk<'a> {
+    type File = FolderFile<'a>;
 
     type Dir = File;
 
-    fn open_file(&self, _how: &OpenOptions, _path: &str) -> io::Result<File> {
-        unsupported()
+    fn open_file(&self, how: &OpenOptions, path: &str) -> io::Result<FolderFile<'a>> {
+        let Some(folder) = self.folder else {
+            return unsupported();
+        };
+        FolderFile::create(folder, how, path)
     }
 
     fn open_dir(&self, _path: &str) -> io::Result<File> {
         unsupported()
     }
 
-    fn metadata(&self, _path: &str) -> io::Result<Metadata> {
-        unsupported()
+    fn metadata(&self, path: &str) -> io::Result<Metadata> {
+        match self.folder {
+            Some(folder) => folder.metadata(path),
+            None => unsupported(),
+        }
     }
 
     fn symlink_metadata(&self, _path: &str) -> io::Result<Metadata> {
@@ -139,12 +148,18 @@ impl Files for Desk<'_> {
         unsupported()
     }
 
-    fn rename(&self, _from: &str, _to: &str) -> io::Result<()> {
-        unsupported()
+    fn rename(&self, from: &str, to: &str) -> io::Result<()> {
+        match self.folder {
+            Some(folder) => folder.rename(from, to),
+            None => unsupported(),
+        }
     }
 
-    fn remove_file(&self, _path: &str) -> io::Result<()> {
-        unsupported()
+    fn remove_file(&self, path: &str) -> io::Result<()> {
+        match self.folder {
+            Some(folder) => folder.remove_file(path),
+            None => unsupported(),
+        }
     }
 
     fn create_dir(&self, _path: &str) -> io::Result<()> {

@@ -1,8 +1,8 @@
 use Rattle.std.proofs.Common.{◌⊎◌, ◌++◌, List, ℕ, Option, sym, ap, ◌∙◌, inr}
 use Rattle.clidoc_engine.specs.Chosen.{words_said}
 use Rattle.clidoc_engine.specs.Reading.{IsRefused, given_of}
-use Rattle.clidoc_engine.specs.Words.{Chooses, PageSaid, check, page}
-use Rattle.clidoc_engine.proofs.Choosing.{always, no_check, no_page}
+use Rattle.clidoc_engine.specs.Words.{Chooses, PageSaid, all, check, page}
+use Rattle.clidoc_engine.proofs.Choosing.{always, no_all, no_check, no_folder, no_page}
 use Rattle.clidoc_engine.proofs.words.with_input.Goals as goal
 
 pub returns-in_err-word-clause-no_check : goal.returns-in_err-word-clause-no_check
@@ -10,6 +10,14 @@ returns-in_err-word-clause-no_check g c =
     let words = words_said c.args.words.now in
     always c.from_residual-in_err-word.result (λ fault. IsRefused fault ⊎ ((file : Option (List ℕ)) → ¬ Chooses words (check file)))
     (λ fault. inr (no_check words (given_of c.in_ok-given.given) c.in_ok-given.ensures.ok
+    (λ some word file e. c.in_err-word.ensures.err (λ none. some (sym (ap words_said c.deref.ensures.value) ∙ none)) word file
+    (ap (λ ws. words_said ws ++ words_said c.deref-2.result.now) c.deref.ensures.value ∙ ap (λ ws. words_said c.in_ok-given.given.plain.items ++ words_said ws) c.deref-2.ensures.value ∙ e))))
+
+pub returns-in_err-word-clause-no_all : goal.returns-in_err-word-clause-no_all
+returns-in_err-word-clause-no_all g c =
+    let words = words_said c.args.words.now in
+    always c.from_residual-in_err-word.result (λ fault. IsRefused fault ⊎ ((folder : List ℕ) (file : Option (List ℕ)) → ¬ Chooses words (all folder file)))
+    (λ fault. inr (no_all words (given_of c.in_ok-given.given) c.in_ok-given.ensures.ok
     (λ some word file e. c.in_err-word.ensures.err (λ none. some (sym (ap words_said c.deref.ensures.value) ∙ none)) word file
     (ap (λ ws. words_said ws ++ words_said c.deref-2.result.now) c.deref.ensures.value ∙ ap (λ ws. words_said c.in_ok-given.given.plain.items ++ words_said ws) c.deref-2.ensures.value ∙ e))))
 
@@ -21,6 +29,12 @@ returns-in_err-word-clause-no_page g c =
     (λ some word file e. c.in_err-word.ensures.err (λ none. some (sym (ap words_said c.deref.ensures.value) ∙ none)) word file
     (ap (λ ws. words_said ws ++ words_said c.deref-2.result.now) c.deref.ensures.value ∙ ap (λ ws. words_said c.in_ok-given.given.plain.items ++ words_said ws) c.deref-2.ensures.value ∙ e))))
 
+pub returns-in_err-folder-clause-no_all : goal.returns-in_err-folder-clause-no_all
+returns-in_err-folder-clause-no_all g c =
+    let words = words_said c.args.words.now in
+    always c.from_residual-in_err-folder.result (λ fault. IsRefused fault ⊎ ((folder : List ℕ) (file : Option (List ℕ)) → ¬ Chooses words (all folder file)))
+    (λ fault. inr (no_folder words (given_of c.in_ok-given.given) c.in_ok-given.ensures.ok c.in_err-folder.ensures.err))
+
 pub returns-clause-ok : goal.returns-clause-ok
 returns-clause-ok g c = (
   c.in_ok-word.word.now,
@@ -30,5 +44,6 @@ returns-clause-ok g c = (
     plain = sym (ap (λ ws. words_said ws ++ words_said c.deref-2.result.now) c.deref.ensures.value ∙ ap (λ ws. words_said c.in_ok-given.given.plain.items ++ words_said ws) c.deref-2.ensures.value) ∙ c.in_ok-word.ensures.ok;
     first = λ none. c.in_ok-word.ensures.first (ap words_said c.deref.ensures.value ∙ none);
   },
-  c.in_ok-page_named.ensures.ok,
+  c.in_ok-page_alone.ensures.ok.0,
+  c.in_ok-page_alone.ensures.ok.1,
 )

@@ -1,0 +1,20 @@
+-- The files of a description, put together.
+use Rattle.std.proofs.Common.{◌≡◌, true, List, [], ◌∷◌, ◌++◌, map, ap, subst, ◌∙◌, string_bytes}
+use Rattle.std.specs.List.{AllZip}
+use Rattle.bpaf_doc.specs.Markdown.Page.{IsMarkdownOf}
+use Rattle.description.proofs.ManualFiles.{file_put}
+use Rattle.description.specs.All.{FileSaid, IsManualFile, all_from, manual_files}
+use Rattle.description.specs.Content.{DescriptionSaid}
+use Rattle.description.specs.Pages.{collected_document}
+use Rattle.description.specs.Subjects.{application}
+use Rattle.description.specs.View.{file_said}
+use Rattle.description.specs.declared.all.PageFile.{PageFile}
+use Rattle.clidoc_engine.specs.Files.{AreFiles, markdown_file}
+
+pub files_whole : {B : Type 0} (d : DescriptionSaid) (manuals files : List (PageFile B)) (markdown : PageFile B) → AllZip IsManualFile (all_from (application d)) (map file_said manuals) → map file_said manuals ≡ manual_files d
+    → files ≡ manuals ++ markdown ∷ [] → file_said markdown ≡ markdown_file d → IsMarkdownOf (collected_document d) true (string_bytes markdown.page) → AreFiles d (map file_said files)
+files_whole d manuals files markdown read exact put same laws = record {
+  exact = file_put file_said manuals files markdown (markdown_file d) put same ∙ ap (λ fs. fs ++ markdown_file d ∷ []) exact;
+  manuals = subst (AllZip IsManualFile (all_from (application d))) exact read;
+  markdown = subst (λ (file : FileSaid). IsMarkdownOf (collected_document d) true file.page) same laws;
+}
