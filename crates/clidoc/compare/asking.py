@@ -2,6 +2,8 @@
 import re
 import unicodedata
 
+import texts
+
 # What `White_Space` of Unicode has beside the control characters.
 BLANKS = set("\u0020\u0085\u00a0\u1680\u2028\u2029\u202f\u205f\u3000") | {chr(code) for code in range(0x2000, 0x200b)}
 PLAIN = {"\\": "\\\\", " ": "\\s", "\n": "\\n", "\t": "\\t", "\r": "\\r"}
@@ -16,8 +18,32 @@ def maybe(text):
     return "-" if text is None else word(text)
 
 
-def document(text):
+def plain(text):
+    """The document of a text that stands as it is."""
     return "-" if text is None else f"[ T{word(text)} ]"
+
+
+def styled(parts):
+    return "-" if parts is None else "[ " + " ".join(style + word(text) for style, text in parts) + " ]"
+
+
+def document(text):
+    return styled(None if text is None else texts.parts(text))
+
+
+def help_of(table):
+    """The help of an item, with what is said of it in square brackets."""
+    said = [("default", "default", str), ("possible values", "values", ", ".join), ("aliases", "aliases", ", ".join)]
+    return styled(texts.noted(table.get("help"), [f"[{words}: {shown(table[key])}]" for words, key, shown in said if key in table]))
+
+
+def footer(table):
+    """The footer of a level, with its topics."""
+    text, topics = document(table.get("footer")), table.get("topic", [])
+    if not topics:
+        return text
+    parts = [f"<B <2 E{word(topic['title'])} >2 >B <B doc {document(topic['text'])} >B" for topic in topics]
+    return f"[ {' '.join(parts + ([] if text == '-' else [f'<B doc {text} >B']))} ]"
 
 
 def seq(kind, trees):
@@ -30,6 +56,10 @@ def wrapped(required, repeated, tree):
     return tree if required else f"opt {tree}"
 
 
+def unless_hidden(table, tree):
+    return "skip" if table.get("hidden", False) else tree
+
+
 def name(option):
     short, long = option.get("short"), option.get("long")
     if short is None:
@@ -39,41 +69,47 @@ def name(option):
 
 def item(option):
     shorts = word(option.get("short", ""))
-    rest = f"{maybe(option.get('env'))} {document(option.get('help'))}"
+    rest = f"{maybe(option.get('env'))} {help_of(option)}"
     if "value" in option:
         return f"arg {name(option)} {shorts} {word(option['value'])} {rest}"
     return f"flag {name(option)} {shorts} {rest}"
 
 
 def option_trees(options):
-    return [wrapped(option.get("required", False), option.get("repeated", False), item(option)) for option in options]
+    return [unless_hidden(option, wrapped(option.get("required", False), option.get("repeated", False), item(option))) for option in options]
 
 
 def choice_trees(choices):
-    return [wrapped(choice.get("required", False), False, seq("or", [item(option) for option in choice["option"]])) for choice in choices]
+    return [wrapped(choice.get("required", False), False, seq("or", [unless_hidden(option, item(option)) for option in choice["option"]])) for choice in choices]
 
 
 def positional_trees(positionals):
     trees = []
     for positional in positionals:
-        tree = f"pos {word(positional['value'])} {document(positional.get('help'))}"
-        tree = wrapped(positional.get("required", True), positional.get("repeated", False), tree)
-        trees.append(f"strict {tree}" if positional.get("strict", False) else tree)
+        tree = f"pos {word(positional['value'])} {help_of(positional)}"
+        tree = wrapped(positional.get("required", "default" not in positional), positional.get("repeated", False), tree)
+        trees.append(unless_hidden(positional, f"strict {tree}" if positional.get("strict", False) else tree))
     return trees
+
+
+def command_tree(command, help_tree):
+    tree = f"cmd {word(command['name'])} {maybe(command.get('short'))} {help_of(command)} {level(command, help_tree)} {info(command, help_tree)}"
+    return unless_hidden(command, tree)
+
+
+def shows_command(table):
+    return any(not command.get("hidden", False) for command in table.get("command", []))
 
 
 def command_trees(commands, shown, required, help_tree):
     """The place of some commands. A usage line shows one of a level."""
-    items = [
-        f"cmd {word(command['name'])} {maybe(command.get('short'))} {document(command.get('help'))} {level(command, help_tree)} {info(command, help_tree)}"
-        for command in commands
-    ]
+    items = [command_tree(command, help_tree) for command in commands]
     place = wrapped(required, False, seq("or", items))
     return [f"cu [ ] {place}" if shown else place] if items else []
 
 
 def titled(title, members):
-    return [f"sub {document(title)} {seq('and', members)}"] if members else []
+    return [f"sub {plain(title)} {seq('and', members)}"] if members else []
 
 
 def named(table):
@@ -81,7 +117,7 @@ def named(table):
 
 
 def placed(table, shown, required, help_tree):
-    return positional_trees(table.get("positional", [])) + command_trees(table.get("command", []), shown, required, help_tree)
+    return positional_trees(table.get("positional", [])) + command_trees(table.get("command", []), shown and shows_command(table), required, help_tree)
 
 
 def level(table, help_tree):
@@ -91,30 +127,30 @@ def level(table, help_tree):
     for group in groups:
         parts += titled(group["title"], named(group))
     for index, group in enumerate(groups):
-        shown = any(before.get("command") for before in groups[:index])
+        shown = any(shows_command(before) for before in groups[:index])
         parts += titled(group["title"], placed(group, shown, required, help_tree))
-    shown = any(group.get("command") for group in groups)
+    shown = any(shows_command(group) for group in groups)
     return seq("and", parts + placed(table, shown, required, help_tree))
 
 
 def info(table, help_tree):
-    texts = " ".join(document(table.get(key)) for key in ["about", "header", "footer", "usage"])
-    return f"info {texts} {help_tree}"
+    documents = [document(table.get("about")), document(table.get("header")), footer(table), plain(table.get("usage"))]
+    return f"info {' '.join(documents)} {help_tree}"
 
 
 def requests(table):
     """For each form the request whose answer is its page."""
     help_tree = seq("and", option_trees(table.get("help_option", [])))
-    tree, texts, app = level(table, help_tree), info(table, help_tree), word(table["name"])
+    tree, said, app = level(table, help_tree), info(table, help_tree), word(table["name"])
     date = table.get("date")
     title = [maybe(None if date is None else getattr(date, "text", date)), maybe(table.get("vendor")), maybe(table.get("title"))]
     return {
         "usage": f"console full 100 [ <o path ( {app} ) meta 1 {tree} >o ]",
-        "full": f"help full 100 ( {app} ) 0 ( ) {texts} {tree} {help_tree}",
-        "brief": f"help brief 100 ( {app} ) 0 ( ) {texts} {tree} {help_tree}",
-        "html": f"apphtml {app} {texts} {tree}",
-        "markdown": f"appmarkdown {app} {texts} {tree}",
-        "man": f"appman {app} {word(str(table.get('section', '1')))} {' '.join(title)} {texts} {tree}",
+        "full": f"help full 100 ( {app} ) 0 ( ) {said} {tree} {help_tree}",
+        "brief": f"help brief 100 ( {app} ) 0 ( ) {said} {tree} {help_tree}",
+        "html": f"apphtml {app} {said} {tree}",
+        "markdown": f"appmarkdown {app} {said} {tree}",
+        "man": f"appman {app} {word(str(table.get('section', '1')))} {' '.join(title)} {said} {tree}",
     }
 
 

@@ -3,7 +3,7 @@ import unicodedata
 
 WORDS = [
     "word", "Prints things", "-v", "--verbose", "FILE", "a<b", "<tag>", "&amp;", "&", "'q'", "“quoted”", "don't", ".dot", "..",
-    "\\", "\\-", "a\\b", "`", "``", "[x]", "]", "*", "_", "#", "# h", ">", "-", "--", "|", "é", "ßtraße", "日本", "日本語", "한국",
+    "\\", "\\-", "a\\b", "`", "`", "``", "`-v`", "[x]", "]", "*", "_", "#", "# h", ">", "-", "--", "|", "é", "ßtraße", "日本", "日本語", "한국",
     "ｆｕｌｌ", "カタ", "😀", "👩‍👩‍👧", "❤️", "☺️ok", "İ", "ǆ", "a\u0301", "\u200b", "\u202e", "\u00a0", "\u2003", "\u3000", "\ufdf0", "\ufffd",
     "\t", "\"", "\"\"\"", "'''", "long-long-word-of-some-length", "a" * 40, "x", "", "name", "=", "$HOME", "{}", "%s",
 ]
@@ -29,9 +29,12 @@ class Describer:
             pieces += [self.random.choice(WORDS), self.random.choice(JOINTS)]
         return "".join(pieces if self.some(0.3) else pieces[:-1])
 
+    def line(self):
+        return self.text().replace("\n", " ").replace("\t", " ")
+
     def word(self):
         """A text on one line with something in it."""
-        return self.text().replace("\n", " ").replace("\t", " ") or "x"
+        return self.line() or "x"
 
     def title(self):
         """A text that a macro of roff may read twice."""
@@ -63,7 +66,12 @@ class Describer:
     def short(self):
         return self.random.choice(LETTERS.replace("-", ""))
 
-    def option(self, shorts, longs, wraps=True):
+    def value(self, table):
+        """What is said of the value of a table."""
+        self.maybe(table, "default", lambda: self.random.choice([self.line(), self.line(), 0, -7, 10 ** 18]), 0.3)
+        self.maybe(table, "values", lambda: [self.word() for _ in range(self.random.randint(1, 3))], 0.3)
+
+    def option(self, shorts, longs, wraps=True, hides=True):
         table = {}
         which = self.random.choice(["short", "long", "both"])
         if which != "long":
@@ -73,8 +81,12 @@ class Describer:
         self.maybe(table, "value", lambda: self.random.choice(["FILE", "N", "a b", "日本", self.word()]))
         self.maybe(table, "help", self.text, 0.7)
         self.maybe(table, "env", self.name, 0.3)
+        if "value" in table:
+            self.value(table)
+        if hides:
+            self.maybe(table, "hidden", self.flag, 0.2)
         if wraps:
-            self.maybe(table, "required", self.flag, 0.4)
+            self.maybe(table, "required", lambda: "default" not in table and self.flag(), 0.4)
             self.maybe(table, "repeated", self.flag, 0.4)
         return table
 
@@ -86,9 +98,15 @@ class Describer:
     def positional(self):
         table = {"value": self.random.choice(["FILE", "INPUT", "a b", self.word()])}
         self.maybe(table, "help", self.text, 0.7)
-        for key in ["required", "repeated", "strict"]:
+        self.value(table)
+        self.maybe(table, "hidden", self.flag, 0.2)
+        self.maybe(table, "required", lambda: "default" not in table and self.flag(), 0.4)
+        for key in ["repeated", "strict"]:
             self.maybe(table, key, self.flag, 0.4)
         return table
+
+    def topic(self):
+        return {"title": (self.title() + "x").strip() or "x", "text": self.text() or "x"}
 
     def lists(self, table, depth, names, kinds):
         """Puts options, choices, positional values and commands into a table, of a level or of a group of it."""
@@ -122,13 +140,22 @@ class Describer:
         self.lists(table, depth, names, ["option", "choice", "positional", "command"])
         if self.some(0.4):
             table["group"] = [self.group(depth, names) for _ in range(self.random.randint(1, 2))]
+        if self.some(0.3):
+            table["topic"] = [self.topic() for _ in range(self.random.randint(1, 2))]
         return table
 
     def command(self, depth, names):
         table = {"name": self.fresh(names, self.command_name)}
         self.maybe(table, "short", lambda: self.fresh(names, self.short), 0.3)
         self.maybe(table, "help", self.text, 0.7)
+        self.maybe(table, "hidden", self.flag, 0.2)
+        self.maybe(table, "aliases", lambda: self.aliases(table, names), 0.3)
         return self.level(table, depth)
+
+    def aliases(self, table, names):
+        """Other names, of which one may be the name itself."""
+        others = [self.fresh(names, self.command_name) for _ in range(self.random.randint(1, 3))]
+        return others + ([table["name"]] if self.some(0.1) else [])
 
     def description(self):
         table = {"name": self.random.choice(["app", "git-log", "-" + self.command_name(), self.command_name()])}
@@ -139,7 +166,7 @@ class Describer:
         self.level(table, 0)
         if self.some(0.5):
             names = (set(), set())
-            table["help_option"] = [self.option(*names) for _ in range(self.random.randint(1, 2))]
+            table["help_option"] = [self.option(*names, hides=False) for _ in range(self.random.randint(1, 2))]
         return self.shuffled(table)
 
     def shuffled(self, data):

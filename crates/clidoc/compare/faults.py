@@ -8,20 +8,22 @@ TEXTS = {
     "positional": ["value", "help"],
     "group": ["title"],
     "choice": [],
+    "topic": ["title", "text"],
 }
-NEEDED = {"description": "name", "command": "name", "positional": "value", "group": "title"}
+NEEDED = {"description": "name", "command": "name", "positional": "value", "group": "title", "topic": "title"}
 WORDS = {"option": ["value"], "positional": ["value"]}
-TITLES = {"description": ["date", "vendor", "title"], "group": ["title"]}
+TITLES = {"description": ["date", "vendor", "title"], "group": ["title"], "topic": ["title"]}
 NAMES = {"description": ["name"], "command": ["name"], "option": ["long", "env"]}
 FLAGS = {
     "description": ["command_required"],
-    "command": ["command_required"],
-    "option": ["required", "repeated"],
-    "positional": ["required", "repeated", "strict"],
+    "command": ["hidden", "command_required"],
+    "option": ["hidden", "required", "repeated"],
+    "positional": ["hidden", "required", "repeated", "strict"],
     "choice": ["required"],
     "group": [],
+    "topic": [],
 }
-LISTS = ["help_option", "option", "choice", "group", "positional", "command"]
+LISTS = ["help_option", "option", "choice", "group", "positional", "command", "topic"]
 
 
 def tables(table, kind="description", way=(), alternative=False):
@@ -32,7 +34,7 @@ def tables(table, kind="description", way=(), alternative=False):
             yield from tables(inner, "option" if key == "help_option" else key, way + (f"{key} {number}",), kind == "choice")
 
 
-def faults(table, kind, alternative):
+def faults(table, kind, way, alternative):
     """Each way to plant a fault in a table, and what is said of it."""
     keys = list(table)
     yield {"lnog": "x"}, [], "no key lnog is known here" + ("; is it long?" if kind == "option" else "")
@@ -44,13 +46,44 @@ def faults(table, kind, alternative):
         yield {}, [NEEDED[kind]], f"{NEEDED[kind]} is missing"
     for key in TEXTS[kind]:
         yield {key: 1}, [], f"{key} is no text"
-    for key in [] if alternative else FLAGS[kind]:
+    asks_for_help = bool(way) and way[-1].startswith("help_option")
+    for key in [] if alternative or asks_for_help else FLAGS[kind]:
         yield {key: "x"}, [], f"{key} is no flag"
+    if asks_for_help:
+        yield {"hidden": True}, [], "no key hidden is known here"
+    if kind in ["option", "positional"]:
+        yield from values(table, kind, alternative)
+    if kind == "command":
+        yield from arrays("aliases")
+        for name, why in WHY.items():
+            yield {"aliases": ["x" * 40, name]}, [], f"aliases {why if name else 'holds an empty text'}"
     yield from characters(kind)
     yield from names(kind)
     if kind == "description":
         for section in ["", "m", "N", "1 ", "1é", "-1", 10, -1, True]:
             yield {"section": section}, [], said_of_a_section(section)
+
+
+def values(table, kind, alternative):
+    """Faults in what is said of values."""
+    if kind == "option":
+        for key, said in [("default", "x"), ("values", ["x"])]:
+            yield {key: said}, ["value", "default", "values"], f"{key} stands beside no value"
+        if "value" not in table:
+            return
+    if not alternative:
+        yield {"default": "x", "required": True}, [], "required is true beside a default"
+    for text, said in [("a\nb", "holds a control character"), ("a\ufffeb", "holds a noncharacter"), (True, "is no text and no whole number"), (1.5, "is no text and no whole number")]:
+        yield {"default": text}, [], f"default {said}"
+    yield from arrays("values")
+    yield {"values": ["x", ""]}, [], "values holds an empty text"
+    yield {"values": ["x", "a\tb"]}, [], "values holds a control character"
+
+
+def arrays(key):
+    yield {key: []}, [], f"{key} is empty"
+    for data in ["x", ["x" * 40, 1]]:
+        yield {key: data}, [], f"{key} is no array of texts"
 
 
 def characters(kind):
@@ -65,8 +98,10 @@ def characters(kind):
     for key in TITLES.get(kind, []):
         yield {key: "a\\b"}, [], f"{key} holds a backslash"
         yield {key: "a\"b"}, [], f"{key} holds a double quote"
-    if kind == "group":
+    if kind in ["group", "topic"]:
         yield {"title": " \u3000"}, [], "title is blank"
+    if kind == "topic":
+        yield {"text": ""}, [], "text is empty"
 
 
 WHY = {"": "is empty", "a b": "holds a blank", "a\n": "holds a blank", "a\u0007": "holds a control character", "a=": "holds =", "a\ufdd0": "holds a noncharacter"}
@@ -103,13 +138,13 @@ def planted(table, random):
     random.shuffle(places)
     seen = set()
     for index, (_, kind, way, alternative) in enumerate(places):
-        for new, lost, said in faults(places[index][0], kind, alternative):
+        for new, lost, said in faults(places[index][0], kind, way, alternative):
             if (kind, alternative, said) in seen:
                 continue
             seen.add((kind, alternative, said))
             other = copy.deepcopy(table)
             found = next(inner for inner, _, path, _ in tables(other) if path == way)
-            found.update(new)
             for key in lost:
                 found.pop(key, None)
+            found.update(new)
             yield other, f"{', '.join(way) or 'description'}: {said}"

@@ -28,6 +28,7 @@ import unicodedata
 sys.dont_write_bytecode = True
 
 import hostile_texts
+import texts as styled
 
 try:
     import pyte
@@ -39,8 +40,13 @@ CLIDOC = pathlib.Path(os.environ.get("CLIDOC") or pathlib.Path(__file__).resolve
 SECRETS = ["leaked-by-a-file", "leaked-by-the-environment", "leaked\n"]
 KEYS = [
     "name", "section", "date", "vendor", "title", "about", "header", "footer", "usage", "option.long", "option.value", "option.help", "option.env", "help_option.help", "choice.value", "choice.help",
-    "group.title", "group.help", "positional.value", "positional.help", "command.name", "command.help", "command.about", "command.footer",
+    "option.default", "option.values", "group.title", "group.help", "positional.value", "positional.default", "positional.help", "topic.title", "topic.text",
+    "command.name", "command.aliases", "command.help", "command.about", "command.footer",
 ]
+# By the short name of the command no text stands in the words.
+FORMS = ["usage", "full", "brief", "html", "man", "man --command=C", "full --command=C"]
+# Those whose texts have literals.
+LITERALS = {"about", "header", "footer", "help", "text"}
 HARMLESS = """
 name = {name}
 section = {section}
@@ -54,6 +60,8 @@ footer = {footer}
 [[option]]
 long = {option.long}
 value = {option.value}
+default = {option.default}
+values = [{option.values}]
 help = {option.help}
 env = {option.env}
 [[choice]]
@@ -68,9 +76,15 @@ short = "g"
 help = {group.help}
 [[positional]]
 value = {positional.value}
+default = {positional.default}
 help = {positional.help}
+[[topic]]
+title = {topic.title}
+text = {topic.text}
 [[command]]
 name = {command.name}
+short = "C"
+aliases = [{command.aliases}]
 help = {command.help}
 about = {command.about}
 footer = {command.footer}
@@ -91,6 +105,11 @@ def description(key, text):
     texts[key] = text
     told = re.sub(r"\{([\w.]+)\}", lambda m: usage(texts) if m[1] == "usage" else quoted(texts[m[1]]), HARMLESS)
     return told.encode()
+
+
+def visible(key, text):
+    """What a page shows of the text at the key: no backquotes that stand around a literal."""
+    return "".join(piece for _, piece in styled.parts(text)) if key.split(".")[-1] in LITERALS else text
 
 
 def usage(texts):
@@ -197,8 +216,9 @@ def pages(key, text, folder):
     """What is wrong with the pages of a description, each with its form."""
     if any(unicodedata.category(c) == "Cc" and c not in "\t\n" for c in text):
         yield "check", "a control character passes"
-    for form in ["usage", "full", "brief", "html", "man"]:
-        status, page, told = run([CLIDOC, form], description(key, text))
+    shown = visible(key, text)
+    for form in FORMS:
+        status, page, told = run([CLIDOC, *form.split()], description(key, text))
         page = page.decode()
         if status or told:
             yield form, f"status {status}, {told!r}"
@@ -206,10 +226,10 @@ def pages(key, text, folder):
             other = run([CLIDOC, form], description(key, tame(text)))[1].decode()
             if elements(page) != elements(other):
                 yield form, "a text makes an element"
-        elif form == "man":
-            yield from ((form, fault) for fault in on_manual(page, text, folder))
+        elif form.startswith("man"):
+            yield from ((form, fault) for fault in on_manual(page, shown, folder))
         else:
-            yield from ((form, fault) for fault in on_console(page, text))
+            yield from ((form, fault) for fault in on_console(page, shown))
 
 
 def main():
@@ -230,7 +250,7 @@ def main():
         for form, fault in faults:
             wrong += 1
             print(f"{key} {text!r}: {form}: {fault}")
-    print(f"{len(texts)} texts at {len(KEYS)} keys: {refused} refused, {5 * (len(cases) - refused)} pages read, {wrong} faults")
+    print(f"{len(texts)} texts at {len(KEYS)} keys: {refused} refused, {len(FORMS) * (len(cases) - refused)} pages read, {wrong} faults")
     sys.exit(1 if wrong else 0)
 
 
