@@ -68,8 +68,8 @@ impl<'d, 'a, A: Allocator, B: Allocator + Copy> Subject<'d, 'a, A, B> {
     }
 
     /// Goes on to a command of what is shown: the first one that `word` is the name, the short name or another name
-    /// of, where those of groups come before the others. False where there is none. Then, and after `AllocError`, nothing
-    /// has changed.
+    /// of, where those of groups come before the others. False where there is none. Then, and after `AllocError`,
+    /// nothing has changed.
     #[tactic(auto, using(crate::proofs::Named::entered))]
     pub fn enter(&mut self, word: &str) -> Result<bool, AllocError>
         ensures entered { IfOk result (λ is_there. MatchBool is_there
