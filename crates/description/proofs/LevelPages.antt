@@ -1,13 +1,10 @@
 -- The manual page of a level, part by part.
-use Rattle.std.proofs.Common.{◌≡◌, ℕ, ◌+◌, ◌≤◌, Bool, true, false, if◌then◌else◌, List, [], ◌∷◌, ◌++◌, length, drop, take, map, flat_map, codes, refl, sym, ap, ◌∙◌, subst, arith, append_assoc, Option, Some, None, option_and_then, Result, Ok, Err, OnOk, bytes_eq, MatchOption, MatchBool, take_all}
+use Rattle.std.proofs.Common.{◌≡◌, ℕ, ◌≤◌, Bool, true, false, if◌then◌else◌, List, [], ◌∷◌, ◌++◌, length, drop, take, map, flat_map, codes, refl, sym, ap, ◌∙◌, append_assoc, Option, Some, None, option_and_then, Result, Ok, Err, OnOk, bytes_eq, MatchOption, take_all}
 use Rattle.std.specs.Borrow.{Bor}
-use Rattle.std.specs.List.{join_by}
 use Rattle.std.specs.Option.{option_or, unwrap_or}
 use Rattle.std.specs.Str.Pattern.{FindsTextPrefix, StripsPrefix}
 use Rattle.std.proofs.lemmas.List.{take-append-drop}
-use Rattle.std.proofs.lemmas.List.Prefix.{front_rest}
 use Rattle.std.proofs.lemmas.Slice.Eq.{bytes_eq-Decides}
-use Rattle.std.proofs.Math.Seq.{take-append_seam}
 use Rattle.bpaf_doc.specs.declared.buffer.Block.TheVariants as block
 use Rattle.bpaf_doc.specs.Buffer.Parts.{Part}
 use Rattle.bpaf_doc.specs.Buffer.Writes.{Write, document_of, plain, with_writes}
@@ -24,13 +21,14 @@ use Rattle.description_parts.specs.declared.levels.Level.{Level, Level-F, out-Le
 use Rattle.description_parts.specs.declared.levels.Group.{Group}
 use Rattle.description_parts.specs.declared.levels.Command.{Command}
 use Rattle.description_parts.proofs.Views.{open-Level}
-use Rattle.description.specs.Manuals.{description_writes, heading, neighbours, page_name, reference, see_also_writes, subject_manual, summary, synopsis_writes, texts_in, usage_lead, without_lead}
+use Rattle.description.specs.Manuals.{description_writes, heading, neighbours, page_name, reference, see_also_writes, subject_manual, summary, synopsis_writes}
 use Rattle.description.specs.Manuals.Steps.{front_writes, list_writes}
 use Rattle.description.specs.Pages.{subject_tree}
 use Rattle.description.specs.Paragraphs.{summary_of}
 use Rattle.description.specs.Subjects.{SubjectSaid}
 use Rattle.description.specs.Topics.{topic_writes}
 use Rattle.description.specs.Trees.{document_said, options_tree}
+use Rattle.description.specs.UsageLines.{texts_in, usage_lead, without_lead}
 
 -- ---- the texts of a level
 

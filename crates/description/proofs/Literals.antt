@@ -1,7 +1,7 @@
 -- The pieces of a line, and the lines of a text.
-use Rattle.std.proofs.Common.{◌≡◌, ℕ, suc, zero, ◌+◌, ◌-◌, ◌<◌, ◌≤◌, ◌==◌, Bool, true, false, cond, ◌&&◌, ◌||◌, List, [], ◌∷◌, ◌++◌, length, drop, take, get_or, refl, sym, ap, ◌∙◌, inl, inr, append-nil, arith, Bor, Some, None, OnOk, Result, Ok, Err}
+use Rattle.std.proofs.Common.{◌≡◌, ℕ, suc, ◌+◌, ◌-◌, ◌<◌, ◌≤◌, ◌==◌, Bool, true, false, cond, ◌&&◌, ◌||◌, List, [], ◌∷◌, ◌++◌, length, drop, take, get_or, refl, sym, ap, ◌∙◌, inl, inr, append-nil, arith, Bor, Some, None, OnOk, Result, Ok, Err}
 use Rattle.std.specs.Prelude.{not}
-use Rattle.std.specs.List.{after_first, list_any, onto_first, position_or_len, slice_split}
+use Rattle.std.specs.List.{after_first, list_any, onto_first, slice_split}
 use Rattle.std.proofs.lemmas.Bool.{false≢true}
 use Rattle.std.proofs.lemmas.Bool.Decides.{eqb_tells}
 use Rattle.std.proofs.lemmas.List.{drop_all, drop_more, length-append, length-drop, take-append-drop, take_all, take_more}
@@ -26,15 +26,15 @@ chosen false b (p ∷ ps) = (b ∷ p, ps, refl)
 -- ---- the single backquotes of a line
 
 -- some bytes before those of the first part
-abbrev onto_front : List ℕ → List (List ℕ) → List (List ℕ)
+abbrev pub onto_front : List ℕ → List (List ℕ) → List (List ℕ)
 onto_front [] ps = ps
 onto_front (b ∷ bs) ps = onto_first b (onto_front bs ps)
 
-onto_push : (xs : List ℕ) (b : ℕ) (ps : List (List ℕ)) → onto_front (xs ++ b ∷ []) ps ≡ onto_front xs (onto_first b ps)
+pub onto_push : (xs : List ℕ) (b : ℕ) (ps : List (List ℕ)) → onto_front (xs ++ b ∷ []) ps ≡ onto_front xs (onto_first b ps)
 onto_push [] b ps = refl
 onto_push (x ∷ xs) b ps = ap (onto_first x) (onto_push xs b ps)
 
-onto_new : (xs : List ℕ) (ps : List (List ℕ)) → onto_front xs ([] ∷ ps) ≡ xs ∷ ps
+pub onto_new : (xs : List ℕ) (ps : List (List ℕ)) → onto_front xs ([] ∷ ps) ≡ xs ∷ ps
 onto_new [] ps = refl
 onto_new (x ∷ xs) ps = ap (onto_first x) (onto_new xs ps)
 

@@ -19,10 +19,10 @@ use Rattle.bpaf_help.specs.Chapters.{AreWellPlaced, Chapter, IsFirstMisplacedOf,
 use Rattle.bpaf_help.specs.PageAnswers as pages
 use Rattle.bpaf_help.specs.PageAnswers.{AreErrorOf}
 use Rattle.bpaf_help.proofs.Steps.{help_page_alone, view_info}
-use Rattle.description.specs.Content.{DescriptionSaid}
+use Rattle.description.specs.Content.{DescriptionSaid, SharedSaid}
 use Rattle.description_parts.specs.Content.{LevelSaid, level}
 use Rattle.description.specs.Subjects.{SubjectSaid}
-use Rattle.description.specs.Trees.{description_head, description_tree, level_head, options_tree}
+use Rattle.description.specs.Trees.{description_head, description_tree, level_head, on_help_pages, options_tree}
 use Rattle.description.specs.Pages.{collected_document, description_chapters, subject_head, subject_help, subject_tree}
 
 -- what holds of a content holds of the answer with that content
@@ -60,14 +60,14 @@ html_whole d t i text et ei nested h =
     let same : pages.collected_document d.name t i ≡ collected_document d = ap (λ x. pages.collected_document d.name x i) et ∙ ap (pages.collected_document d.name (description_tree d)) ei in
     subst (λ x. IsHtmlPageOf x true false text) same (h (subst IsWellNested (sym same) nested))
 
-head_help : (help : Tree) (l : LevelSaid) → page.help_tree (level_head help l) ≡ help
-head_help help (level t r os cs gs ps ms) = refl
+head_help : (shared : SharedSaid) (l : LevelSaid) → page.help_tree (level_head shared l) ≡ options_tree shared.help_options
+head_help shared (level t r os cs gs ps ms) = refl
 
 pub help_whole : {A : Type 0} (s : SubjectSaid) (t : Tree) (i : Info A) (names : List (List ℕ)) (texts : Texts) (document : List Part) → t ≡ subject_tree s → head_of i ≡ subject_head s → names ≡ s.path
     → document ≡ document_of (page.help_page_writes names (head_of i) t (tree_of i.help) false texts) → document ≡ subject_help s
 help_whole s t i names texts document et ei en e =
     let help = options_tree s.help_options in
-    let own : tree_of i.help ≡ help = sym (ap page.help_tree (view_info i)) ∙ ap page.help_tree ei ∙ head_help help s.level in
+    let own : tree_of i.help ≡ help = sym (ap page.help_tree (view_info i)) ∙ ap page.help_tree ei ∙ head_help (on_help_pages s.help_options) s.level in
     e ∙ ap document_of (help_page_alone texts no_texts names (head_of i) t (tree_of i.help))
     ∙ ap (λ ns. document_of (page.help_page_writes ns (head_of i) t (tree_of i.help) false no_texts)) en
     ∙ ap (λ x. document_of (page.help_page_writes s.path (head_of i) x (tree_of i.help) false no_texts)) et

@@ -1,21 +1,19 @@
 -- The documents of the manual pages of levels are well nested.
-use Rattle.std.proofs.Common.{ℕ, Bool, true, false, if◌then◌else◌, List, [], ◌∷◌, ◌++◌, flat_map, codes, Option, Some, None}
+use Rattle.std.proofs.Common.{ℕ, Bool, true, false, if◌then◌else◌, List, [], ◌∷◌, flat_map, codes, Option, Some, None}
 use Rattle.bpaf_doc.specs.declared.buffer.Style.TheVariants as style
 use Rattle.bpaf_doc.specs.declared.buffer.Block.TheVariants as block
 use Rattle.bpaf_doc.specs.Buffer.Writes.{Write, plain}
-use Rattle.bpaf_meta.specs.Content.{Tree}
-use Rattle.bpaf_meta.specs.Usage.Nested.{HasNestedDocs}
 use Rattle.bpaf_items.specs.Page.EnvTexts.{no_texts}
-use Rattle.bpaf_items.proofs.Page.NestedPages.{Keeps, nothing_keeps, text_then, both_keep, doc_keeps, path_keeps, inside_keeps, written_keeps, usage_keeps, docs_nested, two_keep, within_keeps}
+use Rattle.bpaf_items.proofs.Page.NestedPages.{Keeps, nothing_keeps, text_then, both_keep, doc_keeps, inside_keeps, written_keeps, docs_nested, two_keep, within_keeps}
 use Rattle.bpaf_help.specs.Chapters.{manual_name}
-use Rattle.description.specs.Manuals.{SubjectManualsAreWellNested, description_writes, heading, neighbours, page_name, reference, see_also_writes, summary, synopsis_writes, texts_in, usage_part, without_lead}
+use Rattle.description.specs.Manuals.{SubjectManualsAreWellNested, description_writes, heading, neighbours, page_name, reference, see_also_writes, summary}
 use Rattle.description.specs.Paragraphs.{goes_on}
 use Rattle.description.specs.Pages.{subject_tree}
-use Rattle.description.specs.Subjects.{SubjectSaid}
-use Rattle.description.specs.Texts.{plain_document, text_document}
+use Rattle.description.specs.Texts.{text_document}
 use Rattle.description.specs.Trees.{document_said, options_tree}
-use Rattle.description.proofs.Nested.{level_sound, options_nested}
-use Rattle.description.proofs.NestedTexts.{plain_nested, said_nested, text_nested, topics_keep}
+use Rattle.description.specs.UsageLines.{texts_in}
+use Rattle.description.proofs.Nested.{options_nested, usage_keeps_it, level_nested}
+use Rattle.description.proofs.NestedTexts.{said_nested, text_nested, topics_keep}
 
 heading_keeps : (title : List ℕ) → Keeps (heading title)
 heading_keeps title = inside_keeps block.Header (text_then title style.Text nothing_keeps)
@@ -23,10 +21,6 @@ heading_keeps title = inside_keeps block.Header (text_then title style.Text noth
 name_keeps : (name : List ℕ) (summary : Option (List ℕ)) → Keeps (manual_name name (document_said summary))
 name_keeps name None = nothing_keeps
 name_keeps name (Some words) = both_keep (heading_keeps (codes "NAME")) (text_then name style.Text (text_then (codes " - ") style.Text (doc_keeps (text_document words) (text_nested words))))
-
-usage_keeps_it : (path : List (List ℕ)) (t : Tree) → HasNestedDocs t → (usage : Option (List ℕ)) → Keeps (usage_part path t usage)
-usage_keeps_it path t h None = both_keep (path_keeps path) (usage_keeps t h)
-usage_keeps_it path t h (Some words) = doc_keeps (plain_document (without_lead words)) (plain_nested (without_lead words))
 
 if_keeps : (b : Bool) {ws : List Write} → Keeps ws → Keeps (if b then ws else [])
 if_keeps true f = f
@@ -52,7 +46,7 @@ subject_manuals_are_well_nested s =
     let t = subject_tree s in
     let help = options_tree s.help_options in
     let nested = options_nested s.help_options in
-    let whole = (level_sound help nested s.level).0 in
+    let whole = level_nested s.help_options s.level in
     let texts = texts_in s.level in
     written_keeps
     (both_keep (both_keep (both_keep (both_keep (both_keep (both_keep (both_keep

@@ -1,19 +1,19 @@
 -- The names of the pages of levels.
-use Rattle.std.proofs.Common.{◌≡◌, ℕ, suc, ◌+◌, ◌-◌, ◌<◌, ◌≤◌, ◌==◌, Bool, true, false, if◌then◌else◌, List, [], ◌∷◌, ◌++◌, length, drop, take, get_or, map, flat_map, codes, encode_utf8, refl, sym, ap, ◌∙◌, arith, append_assoc, append-nil, nat_lt, true≢false}
+use Rattle.std.proofs.Common.{◌≡◌, ℕ, ◌+◌, ◌-◌, ◌<◌, ◌≤◌, ◌==◌, false, if◌then◌else◌, List, [], ◌∷◌, ◌++◌, length, drop, take, get_or, map, flat_map, encode_utf8, refl, sym, ap, ◌∙◌, arith, append_assoc, append-nil, true≢false}
 use Rattle.std.proofs.lemmas.Bool.{lt-ltb, le-ltb}
 use Rattle.std.proofs.lemmas.Grind.{flat_map-append}
 use Rattle.std.proofs.lemmas.List.{drop_all, drop_more, length-map, map-append, take-map}
 use Rattle.std.proofs.lemmas.Str.{encode_ascii}
-use Rattle.std.specs.List.{join_by, join_with_byte}
+use Rattle.std.specs.List.{join_by}
 use Rattle.bpaf_help.proofs.Steps.{joined_writes}
 use Rattle.description_parts.specs.Content.{CommandSaid}
-use Rattle.description_parts.specs.View.{command_said, commands_in, groups_said, level_said}
+use Rattle.description_parts.specs.View.{command_said, groups_said, level_said}
 use Rattle.description_parts.specs.declared.levels.Level.{Level, out-Level}
 use Rattle.description_parts.specs.declared.levels.Group.{Group, out-Group}
-use Rattle.description_parts.specs.declared.levels.Command.{Command, out-Command}
+use Rattle.description_parts.specs.declared.levels.Command.{Command}
 use Rattle.description_parts.proofs.Views.{open-Level}
 use Rattle.description.specs.Manuals.{name_above, names_below, neighbours, page_name}
-use Rattle.description.specs.Subjects.{SubjectSaid, commands_on, grouped, listed}
+use Rattle.description.specs.Subjects.{SubjectSaid, commands_on, grouped}
 use Rattle.description.proofs.Named.{grouped_more, listed_all}
 
 -- names with a text of one byte between them

@@ -1,12 +1,12 @@
 -- The paragraphs of a text, one after another.
-use Rattle.std.proofs.Common.{◌≡◌, ℕ, suc, zero, ◌+◌, ◌-◌, ◌<◌, ◌≤◌, ◌==◌, Bool, true, false, cond, List, [], ◌∷◌, ◌++◌, length, drop, take, refl, sym, ap, ◌∙◌, subst, inl, inr, arith, Option, Some, None, MatchOption, find, count_by, nat_lt, ◌&&◌, Bor, true≢false}
+use Rattle.std.proofs.Common.{◌≡◌, ℕ, suc, zero, ◌+◌, ◌-◌, ◌<◌, ◌≤◌, Bool, true, false, cond, List, [], ◌∷◌, length, drop, take, refl, sym, ap, ◌∙◌, subst, inl, inr, arith, Option, Some, None, MatchOption, find, count_by, ◌&&◌, Bor, true≢false}
 use Rattle.std.proofs.lemmas.Bool.Decides.{eqb_tells}
 use Rattle.std.proofs.lemmas.Bool.{lt-ltb}
 use Rattle.std.proofs.lemmas.List.{drop_all, length-drop, length-take-le}
 use Rattle.std.proofs.lemmas.List.Sums.{sum_by-cons}
 use Rattle.std.specs.List.{onto_first}
 use Rattle.std.specs.Str.Iter.{split_has_more, split_pattern, split_steps, split_text}
-use Rattle.std.specs.Str.Pattern.{FindsText, IsSplitAtFirstMatch, LacksTextAt}
+use Rattle.std.specs.Str.Pattern.{FindsText, LacksTextAt}
 use Rattle.std.specs.declared.str.Split.{Split}
 use Rattle.description.specs.Described.Texts.{has_ink}
 use Rattle.description.specs.Paragraphs.{behind_lead, front, goes_on, is_newline, lead, paragraphs}

@@ -8,9 +8,10 @@ use Rattle.bpaf_meta.specs.View.{trees_in}
 use Rattle.bpaf_meta.specs.Meta.Misplaced.{IsWellPlaced}
 use Rattle.bpaf_meta.specs.Meta.Steps.Walk.{Check, fine, wrong, then_check, walked, walked_parts, walked_branches}
 use Rattle.bpaf_meta.proofs.lemmas.Misplaced.Lines.{well_placed}
-use Rattle.description_parts.specs.Content.{OptSaid, ChoiceSaid, PositionalSaid, LevelSaid, level, GroupsSaid, no_groups, groups, GroupSaid, group, CommandsSaid, no_commands, commands, CommandNames, CommandSaid, command}
+use Rattle.description_parts.specs.Content.{SpellingSaid, named, syntax, OptSaid, ChoiceSaid, PositionalSaid, LevelSaid, level, GroupsSaid, no_groups, groups, GroupSaid, group, CommandsSaid, no_commands, commands, CommandNames, CommandSaid, command}
+use Rattle.description.specs.Content.{SharedSaid}
 use Rattle.description.specs.Notes.{command_notes, value_notes}
-use Rattle.description.specs.Trees.{named_leaf, help_said, option_item, wrapped, unless_hidden, option_tree, alternative_tree, choice_tree, behind_dashes, positional_tree, titled, once_in_usage, one_of_commands, show_command, holds_command, hold_commands, named_group, named_groups, level_head, level_tree, placed_groups, placed_group, command_items, command_item}
+use Rattle.description.specs.Trees.{named_leaf, help_said, spelled_item, option_item, wrapped, unless_hidden, option_tree, alternative_tree, choice_tree, behind_dashes, positional_tree, titled, once_in_usage, one_of_commands, show_command, holds_command, hold_commands, named_group, named_groups, level_head, level_tree, placed_groups, placed_group, command_items, command_item}
 use Rattle.description.proofs.Each.{Each, each_append, each_map}
 
 -- ---- trees of named items
@@ -30,18 +31,24 @@ leaf_named : (value : Option (List ℕ)) (name : Name) (env : Option (List ℕ))
 leaf_named None name env help = refl
 leaf_named (Some value) name env help = refl
 
-item_named : (o : OptSaid) → IsNamed (option_item o)
-item_named o = leaf_named o.value o.name o.env (help_said o.help (value_notes o.default o.values))
+spelled_named : (bracketed : Bool) (s : SpellingSaid) (o : OptSaid) → IsNamed (spelled_item bracketed s o)
+spelled_named bracketed (named name) o = leaf_named o.value name o.env (help_said o.help (value_notes o.default o.values None))
+spelled_named bracketed (syntax text) o = refl
+
+item_named : (bracketed : Bool) (o : OptSaid) → IsNamed (option_item bracketed o)
+item_named bracketed o = spelled_named bracketed o.spelling o
 
 hidden_named : (hidden : Bool) (t : Tree) → IsNamed t → IsNamed (unless_hidden hidden t)
 hidden_named true t h = refl
 hidden_named false t h = h
 
 option_named : (o : OptSaid) → IsNamed (option_tree o)
-option_named o = hidden_named o.hidden (wrapped o.required o.repeated (option_item o)) (wrapped_walked o.required o.repeated (option_item o) false ∙ item_named o)
+option_named o =
+    let t : Tree = option_item (o.required || o.repeated) o in
+    hidden_named o.hidden (wrapped o.required o.repeated t) (wrapped_walked o.required o.repeated t false ∙ item_named (o.required || o.repeated) o)
 
 alternative_named : (o : OptSaid) → IsNamed (alternative_tree o)
-alternative_named o = hidden_named o.hidden (option_item o) (item_named o)
+alternative_named o = hidden_named o.hidden (option_item false o) (item_named false o)
 
 branches_named : (os : List OptSaid) → walked_branches (trees_in (map alternative_tree os)) false false ≡ fine false
 branches_named [] = refl
@@ -88,7 +95,7 @@ hidden_placed false t h a = h a
 
 positional_placed : (p : PositionalSaid) → IsPlaced (positional_tree p)
 positional_placed p =
-    let help : Option (List Part) = help_said p.help (value_notes p.default p.values) in
+    let help : Option (List Part) = help_said p.help (value_notes p.default p.values None) in
     let value : Tree = item (positional p.value help) in
     let whole : Tree = wrapped p.required p.repeated value in
     hidden_placed p.hidden (behind_dashes p.strict whole) (dashes_placed p.strict whole (wrapped_placed p.required p.repeated value (value_placed p.value help)))
@@ -149,34 +156,34 @@ item_placed names h t i own true = (true, ap (λ c. then_check c (λ b. fine tru
 item_placed names h t i own false = (true, ap (λ c. then_check c (λ b. fine true)) own.1)
 
 mutual
-  level_passes : (help : Tree) (l : LevelSaid) → passes_level (level_tree help l)
-  level_passes help (level t r os cs gs ps ms) =
+  level_passes : (shared : SharedSaid) (l : LevelSaid) → passes_level (level_tree shared l)
+  level_passes shared (level t r os cs gs ps ms) =
       let options = each_map IsNamed option_tree option_named os in
       let choices = each_map IsNamed choice_tree choice_named cs in
       let named = map option_tree os ++ map choice_tree cs ++ named_groups gs in
       let named_pass : Passes named = (false, parts_named named (each_append IsNamed (map option_tree os ++ map choice_tree cs) (named_groups gs) (each_append IsNamed (map option_tree os) (map choice_tree cs) options choices) (groups_named gs))) in
-      let in_groups : Passes (named ++ placed_groups help false r gs) = passes_then named (placed_groups help false r gs) named_pass (groups_placed help false r gs) in
-      let with_values : Passes (named ++ placed_groups help false r gs ++ map positional_tree ps) = passes_then (named ++ placed_groups help false r gs) (map positional_tree ps) in_groups (each_map IsPlaced positional_tree positional_placed ps) in
-      passes_then (named ++ placed_groups help false r gs ++ map positional_tree ps) (one_of_commands (hold_commands gs && show_command ms) r (command_items help ms)) with_values (one_of_placed (hold_commands gs && show_command ms) r (command_items help ms) (commands_placed help ms))
+      let in_groups : Passes (named ++ placed_groups shared false r gs) = passes_then named (placed_groups shared false r gs) named_pass (groups_placed shared false r gs) in
+      let with_values : Passes (named ++ placed_groups shared false r gs ++ map positional_tree ps) = passes_then (named ++ placed_groups shared false r gs) (map positional_tree ps) in_groups (each_map IsPlaced positional_tree positional_placed ps) in
+      passes_then (named ++ placed_groups shared false r gs ++ map positional_tree ps) (one_of_commands (hold_commands gs && show_command ms) r (command_items shared ms)) with_values (one_of_placed (hold_commands gs && show_command ms) r (command_items shared ms) (commands_placed shared ms))
 
-  groups_placed : (help : Tree) (shown r : Bool) (gs : GroupsSaid) → Each IsPlaced (placed_groups help shown r gs)
-  groups_placed help shown r no_groups = tt
-  groups_placed help shown r (groups g gs) = each_append IsPlaced (placed_group help shown r g) (placed_groups help (shown || holds_command g) r gs) (group_placed help shown r g) (groups_placed help (shown || holds_command g) r gs)
+  groups_placed : (shared : SharedSaid) (shown r : Bool) (gs : GroupsSaid) → Each IsPlaced (placed_groups shared shown r gs)
+  groups_placed shared shown r no_groups = tt
+  groups_placed shared shown r (groups g gs) = each_append IsPlaced (placed_group shared shown r g) (placed_groups shared (shown || holds_command g) r gs) (group_placed shared shown r g) (groups_placed shared (shown || holds_command g) r gs)
 
-  group_placed : (help : Tree) (shown r : Bool) (g : GroupSaid) → Each IsPlaced (placed_group help shown r g)
-  group_placed help shown r (group title os cs ps ms) =
+  group_placed : (shared : SharedSaid) (shown r : Bool) (g : GroupSaid) → Each IsPlaced (placed_group shared shown r g)
+  group_placed shared shown r (group title os cs ps ms) =
       let further = shown && show_command ms in
-      let commands_there = one_of_commands further r (command_items help ms) in
-      titled_placed title (map positional_tree ps ++ commands_there) (each_append IsPlaced (map positional_tree ps) commands_there (each_map IsPlaced positional_tree positional_placed ps) (one_of_placed further r (command_items help ms) (commands_placed help ms)))
+      let commands_there = one_of_commands further r (command_items shared ms) in
+      titled_placed title (map positional_tree ps ++ commands_there) (each_append IsPlaced (map positional_tree ps) commands_there (each_map IsPlaced positional_tree positional_placed ps) (one_of_placed further r (command_items shared ms) (commands_placed shared ms)))
 
-  commands_placed : (help : Tree) (ms : CommandsSaid) → Each IsPlaced (command_items help ms)
-  commands_placed help no_commands = tt
-  commands_placed help (commands m ms) = (command_placed help m, commands_placed help ms)
+  commands_placed : (shared : SharedSaid) (ms : CommandsSaid) → Each IsPlaced (command_items shared ms)
+  commands_placed shared no_commands = tt
+  commands_placed shared (commands m ms) = (command_placed shared m, commands_placed shared ms)
 
-  command_placed : (help : Tree) (m : CommandSaid) → IsPlaced (command_item help m)
-  command_placed help (command names h l) =
+  command_placed : (shared : SharedSaid) (m : CommandSaid) → IsPlaced (command_item shared m)
+  command_placed shared (command names h l) =
       let text : Option (List Part) = help_said h (command_notes names.aliases) in
-      hidden_placed names.hidden (item (content.command names.name names.initial text (level_tree help l) (level_head help l))) (item_placed names text (level_tree help l) (level_head help l) (level_passes help l))
+      hidden_placed names.hidden (item (content.command names.name names.initial text (level_tree shared l) (level_head shared l))) (item_placed names text (level_tree shared l) (level_head shared l) (level_passes shared l))
 
-pub level_well_placed : (help : Tree) (l : LevelSaid) → IsWellPlaced (level_tree help l)
-level_well_placed help l = let whole = level_passes help l in well_placed (level_tree help l) whole.0 whole.1
+pub level_well_placed : (shared : SharedSaid) (l : LevelSaid) → IsWellPlaced (level_tree shared l)
+level_well_placed shared l = let whole = level_passes shared l in well_placed (level_tree shared l) whole.0 whole.1

@@ -8,15 +8,16 @@ use Rattle.toml.specs.Data.{Data, string, integer, float, boolean, datetime, arr
 use Rattle.toml_datetime.specs.declared.datetime.Date.{Date}
 use Rattle.toml_datetime.specs.declared.datetime.Time.{Time}
 use Rattle.toml_datetime.specs.declared.datetime.Offset.{Offset}
-use Rattle.description_parts.specs.Content.{OptSaid, ChoiceSaid, PositionalSaid, TopicSaid, TextsSaid, LevelSaid, GroupsSaid, GroupSaid, CommandsSaid, CommandSaid}
+use Rattle.description_parts.specs.Content.{SpellingSaid, named, OptSaid, ChoiceSaid, PositionalSaid, TopicSaid, TextsSaid, LevelSaid, GroupsSaid, GroupSaid, CommandsSaid, CommandSaid}
 use Rattle.description.specs.Content.{DescriptionSaid, TitleWords}
-use Rattle.description.specs.Described.{alternative_keys, as_command, as_commands, as_group, as_groups, choice_from, choice_keys, command_head, command_keys, command_of, CommandHead, commands_at, described, description_head, description_keys, description_of, DescriptionHead, each_command, each_group, group_head, group_keys, group_of, GroupHead, groups_at, has_members, level_of, lists_from, name_from, option_from, option_keys, option_name, option_of, Outline, outline_from, positional_from, positional_keys, positional_of, section_from, texts_from, title_words, topic_from, topic_keys, help_option_keys, if_beside, is_beside, option_texts, option_value, positional_texts, required_beside, ValueSaid}
+use Rattle.description.specs.Described.{alternative_keys, as_command, as_commands, as_group, as_groups, choice_from, choice_keys, command_head, command_keys, command_of, CommandHead, commands_at, described, description_head, description_keys, description_of, DescriptionHead, each_command, each_group, group_head, group_keys, group_of, GroupHead, groups_at, has_members, level_of, lists_from, name_from, option_from, option_keys, option_spelling, Outline, outline_from, positional_from, positional_keys, positional_of, section_from, texts_from, title_words, topic_from, topic_keys, help_option_keys, is_flag, is_syntax, spelling_from, unless_there, option_texts, option_value, positional_texts, required_beside, ValueSaid}
 use Rattle.description.specs.Described.Taken.{has_distinct_names}
 use Rattle.description.specs.Described.Texts.{as_body, as_command_name, as_heading, as_long, as_name, as_program_name, as_text, as_title, as_value, is_body, is_command_name, is_heading, is_long, is_name, is_program_name, is_section, is_short, is_text, is_title, is_value, if_passes, is_line}
-use Rattle.description.specs.Described.Values.{as_date, as_section, as_short, day_text, digit_text, each_table, flag_at, if_short, is_empty, only_character, optional_at, required_at, tables_at, as_default, as_texts, as_values, default_text, words_at}
-use Rattle.description.specs.Plain.{characters_of, choice_characters, command_characters, commands_characters, description_characters, group_characters, groups_characters, initial_characters, level_characters, name_characters, option_characters, positional_characters, texts_characters, topic_characters, TextsArePlain}
+use Rattle.description.specs.Described.Values.{as_date, as_section, as_short, day_text, digit_text, each_table, flag_at, if_short, is_empty, only_character, optional_at, required_at, tables_at, as_default, as_syntax, as_texts, as_values, default_text, words_at}
+use Rattle.description.specs.Plain.{characters_of, choice_characters, command_characters, commands_characters, description_characters, group_characters, groups_characters, initial_characters, level_characters, name_characters, option_characters, spelling_characters, positional_characters, texts_characters, topic_characters, TextsArePlain}
 use Rattle.description.proofs.Characters.{body_plain, command_plain, day_plain, digit_plain, heading_plain, long_plain, name_plain, Plain, plain_append, plain_cons, plain_each, PlainCharacter, PlainText, program_plain, section_plain, short_plain, title_plain, value_plain, line_plain}
 use Rattle.description.specs.Notes.{listed_texts}
+use Rattle.description.specs.Syntax.{is_well_formed}
 use Rattle.description.proofs.Each.{Each}
 use Rattle.description.proofs.Gives.{given, Gives, gives_each, gives_if, gives_map, gives_optional, gives_passing, gives_required, gives_text, gives_then, gives_unless, gives_whatever, gives_with_only, gives_words, Whatever}
 
@@ -99,10 +100,26 @@ either_plain (Some c) None h k = plain_cons c [] h refl
 either_plain None (Some text) h k = k
 either_plain (Some c) (Some text) h k = plain_cons c (chars text) h k
 
-name_there : (ms : Members) → Gives PlainName (option_name ms)
-name_there ms =
-    gives_then (Gives PlainCharacter) PlainName (optional_at as_short (codes "short") ms) (λ s. option_and_then (name_from s) (optional_at as_long (codes "long") ms)) (short_there (codes "short") ms)
-    (λ s h. gives_then PlainOption PlainName (optional_at as_long (codes "long") ms) (name_from s) (gives_optional PlainText as_long (gives_text PlainText is_long long_plain) (codes "long") ms) (λ l k. either_plain s l h k))
+abbrev PlainSpelling : SpellingSaid → Type 0
+PlainSpelling s = Plain (spelling_characters s)
+
+spelled_plain : (s : Option ℕ) (l x : Option (List ℕ)) → Gives PlainCharacter s → PlainOption l → PlainOption x → Gives PlainSpelling (spelling_from s l x)
+spelled_plain s l None h k p = gives_map PlainName PlainSpelling (name_from s l) named (either_plain s l h k) (λ n q. q)
+spelled_plain None None (Some text) h k p = p
+spelled_plain None (Some l) (Some text) h k p = tt
+spelled_plain (Some c) l (Some text) h k p = tt
+
+long_there : (ms : Members) → Gives PlainOption (optional_at as_long (codes "long") ms)
+long_there = gives_optional PlainText as_long (gives_text PlainText is_long long_plain) (codes "long")
+
+syntax_there : (ms : Members) → Gives PlainOption (optional_at as_syntax (codes "syntax") ms)
+syntax_there = gives_optional PlainText as_syntax (λ d. gives_then PlainText PlainText (as_value d) (if_passes is_well_formed) (gives_text PlainText is_value value_plain d) (λ text h. gives_if PlainText (is_well_formed text) (Some text) h)) (codes "syntax")
+
+spelling_there : (ms : Members) → Gives PlainSpelling (option_spelling ms)
+spelling_there ms =
+    gives_then (Gives PlainCharacter) PlainSpelling (optional_at as_short (codes "short") ms) _ (short_there (codes "short") ms) (λ s h.
+    gives_then PlainOption PlainSpelling (optional_at as_long (codes "long") ms) _ (long_there ms) (λ l k.
+    gives_then PlainOption PlainSpelling (optional_at as_syntax (codes "syntax") ms) (spelling_from s l) (syntax_there ms) (λ x p. spelled_plain s l x h k p)))
 
 pub record PlainValue (v : ValueSaid) : Type 0 where
   pub value : PlainOption v.value
@@ -115,29 +132,33 @@ default_there = gives_optional PlainText as_default (λ d. gives_then Whatever P
 values_there : (ms : Members) → Gives PlainOption (optional_at as_values (codes "values") ms)
 values_there = gives_optional PlainText as_values (λ d. gives_then Whatever PlainText (as_texts as_value d) _ (gives_whatever (as_texts as_value d)) (λ values u. gives_passing PlainText is_value value_plain (listed_texts values))) (codes "values")
 
-beside_there : (value o : Option (List ℕ)) → PlainOption o → Gives PlainOption (if_beside value o)
-beside_there value o h = gives_if PlainOption (is_beside value o) (Some o) h
+alone_there : (other : Bool) (o : Option (List ℕ)) → PlainOption o → Gives PlainOption (unless_there other o)
+alone_there true None h = h
+alone_there true (Some text) h = tt
+alone_there false None h = h
+alone_there false (Some text) h = h
 
-option_value_there : (ms : Members) → Gives PlainValue (option_value ms)
+option_value_there : (is_syntax : Bool) (ms : Members) → Gives PlainValue (option_value is_syntax ms)
 unfolding option_value
-option_value_there ms =
-    gives_then PlainOption PlainValue (optional_at as_value (codes "value") ms) _ (value_there (codes "value") ms) (λ value v.
-    gives_then PlainOption PlainValue (option_and_then (if_beside value) (optional_at as_default (codes "default") ms)) _
-    (gives_then PlainOption PlainOption (optional_at as_default (codes "default") ms) (if_beside value) (default_there ms) (beside_there value)) (λ default d.
-    gives_then PlainOption PlainValue (option_and_then (if_beside value) (optional_at as_values (codes "values") ms)) _
-    (gives_then PlainOption PlainOption (optional_at as_values (codes "values") ms) (if_beside value) (values_there ms) (beside_there value)) (λ values w.
+option_value_there is_syntax ms =
+    gives_then PlainOption PlainValue (option_and_then (unless_there is_syntax) (optional_at as_value (codes "value") ms)) _
+    (gives_then PlainOption PlainOption (optional_at as_value (codes "value") ms) (unless_there is_syntax) (value_there (codes "value") ms) (alone_there is_syntax)) (λ value v.
+    gives_then PlainOption PlainValue (option_and_then (unless_there (is_flag is_syntax value)) (optional_at as_default (codes "default") ms)) _
+    (gives_then PlainOption PlainOption (optional_at as_default (codes "default") ms) (unless_there (is_flag is_syntax value)) (default_there ms) (alone_there (is_flag is_syntax value))) (λ default d.
+    gives_then PlainOption PlainValue (option_and_then (unless_there (is_flag is_syntax value)) (optional_at as_values (codes "values") ms)) _
+    (gives_then PlainOption PlainOption (optional_at as_values (codes "values") ms) (unless_there (is_flag is_syntax value)) (values_there ms) (alone_there (is_flag is_syntax value))) (λ values w.
     record { value = v; default = d; values = w })))
 
 texts_of_value : (default values help : Option (List ℕ)) → PlainOption default → PlainOption values → PlainOption help → Plain (characters_of default ++ (characters_of values ++ characters_of help))
 texts_of_value default values help d w h =
     plain_append (characters_of default) (characters_of values ++ characters_of help) (there default d) (plain_append (characters_of values) (characters_of help) (there values w) (there help h))
 
-opt_plain : (o : OptSaid) → PlainName o.name → PlainOption o.value → PlainOption o.default → PlainOption o.values → PlainOption o.help → PlainOption o.env → PlainOpt o
+opt_plain : (o : OptSaid) → PlainSpelling o.spelling → PlainOption o.value → PlainOption o.default → PlainOption o.values → PlainOption o.help → PlainOption o.env → PlainOpt o
 opt_plain o n v d w h e =
     let help_last = plain_append (characters_of o.help) (characters_of o.env) (there o.help h) (there o.env e) in
     let values_last = plain_append (characters_of o.values) (characters_of o.help ++ characters_of o.env) (there o.values w) help_last in
     let default_last = plain_append (characters_of o.default) (characters_of o.values ++ (characters_of o.help ++ characters_of o.env)) (there o.default d) values_last in
-    plain_append (name_characters o.name) (characters_of o.value ++ (characters_of o.default ++ (characters_of o.values ++ (characters_of o.help ++ characters_of o.env)))) n
+    plain_append (spelling_characters o.spelling) (characters_of o.value ++ (characters_of o.default ++ (characters_of o.values ++ (characters_of o.help ++ characters_of o.env)))) n
     (plain_append (characters_of o.value) (characters_of o.default ++ (characters_of o.values ++ (characters_of o.help ++ characters_of o.env))) (there o.value v) default_last)
 
 flag_there : (default : Bool) (key : List ℕ) (ms : Members) → Gives Whatever (flag_at default key ms)
@@ -145,12 +166,12 @@ flag_there default key ms = gives_whatever (flag_at default key ms)
 
 option_there : (ms : Members) → Gives PlainOpt (option_texts ms)
 option_there ms =
-    gives_then PlainName PlainOpt (option_name ms) _ (name_there ms) (λ name n.
-    gives_then PlainValue PlainOpt (option_value ms) _ (option_value_there ms) (λ v p.
+    gives_then PlainSpelling PlainOpt (option_spelling ms) _ (spelling_there ms) (λ spelling n.
+    gives_then PlainValue PlainOpt (option_value (is_syntax spelling) ms) _ (option_value_there (is_syntax spelling) ms) (λ v p.
     gives_then PlainOption PlainOpt (optional_at as_text (codes "help") ms) _ (text_there (codes "help") ms) (λ help h.
     gives_then Whatever PlainOpt (flag_at false (codes "hidden") ms) _ (flag_there false (codes "hidden") ms) (λ hidden u.
     gives_then PlainOption PlainOpt (optional_at as_name (codes "env") ms) _ (gives_optional PlainText as_name (gives_text PlainText is_name name_plain) (codes "env") ms) (λ env e.
-    opt_plain (record { name = name; value = v.value; default = v.default; values = v.values; help = help; env = env; required = false; repeated = false; hidden = hidden }) n p.value p.default p.values h e)))))
+    opt_plain (record { spelling = spelling; value = v.value; default = v.default; values = v.values; help = help; env = env; required = false; repeated = false; hidden = hidden }) n p.value p.default p.values h e)))))
 
 option_plain : (keys : List (List ℕ)) (ms : Members) → Gives PlainOpt (option_from keys ms)
 unfolding option_from

@@ -1,5 +1,5 @@
 -- The title line and the headings of a description that a TOML text gives hold no backslash and no double quote, reader by reader.
-use Rattle.std.proofs.Common.{◌≡◌, ℕ, ◌+◌, Ordering, Less, Equal, Greater, nat_cmp, List, [], ◌∷◌, ◌++◌, map, Bool, true, false, Option, Some, None, refl, ◌∙◌, arith, codes, ℤ, pos, negsuc, flat_map}
+use Rattle.std.proofs.Common.{◌≡◌, ℕ, ◌+◌, Ordering, Less, Equal, Greater, nat_cmp, List, [], ◌∷◌, ◌++◌, map, Bool, true, false, Option, Some, None, refl, sym, ◌∙◌, arith, codes, ℤ, pos, negsuc, flat_map}
 use Rattle.std.specs.Prelude.{◌&&◌, chars, flat_map, if◌then◌else◌, nat_lt, unwrap_or}
 use Rattle.std.specs.Char.{is_ascii_alphanumeric}
 use Rattle.std.specs.Cmp.Lexicographic.{slice_cmp}
@@ -10,31 +10,43 @@ use Rattle.std.proofs.lemmas.Bool.Decides.{nat_tests}
 use Rattle.std.proofs.lemmas.List.Folds.{list_all-append}
 use Rattle.bpaf_roff.specs.Escaping.{newline_as_blank}
 use Rattle.bpaf_doc.specs.Manpage.Events.{word_of}
+use Rattle.bpaf_doc.specs.Manpage.Page.{title_arguments}
 use Rattle.toml.specs.Data.{Data, string, integer, float, boolean, datetime, array, table, Items, no_items, item, Members, no_members, member}
 use Rattle.toml_datetime.specs.Text.{date_text}
 use Rattle.toml_datetime.specs.declared.datetime.Date.{Date}
 use Rattle.toml_datetime.specs.declared.datetime.Time.{Time}
 use Rattle.toml_datetime.specs.declared.datetime.Offset.{Offset}
 use Rattle.description_parts.specs.Content.{OptSaid, TopicSaid, LevelSaid, GroupsSaid, GroupSaid, CommandsSaid, CommandSaid}
-use Rattle.description.specs.Content.{TitleWords}
+use Rattle.description.specs.Content.{DescriptionSaid, TitleWords}
 use Rattle.description.specs.Described.{as_command, as_commands, as_group, as_groups, choice_from, command_head, command_keys, command_of, CommandHead, commands_at, described, description_head, description_keys, description_of, DescriptionHead, each_command, each_group, group_head, group_keys, group_of, GroupHead, groups_at, has_members, level_of, lists_from, option_from, Outline, outline_from, positional_from, section_from, title_words, topic_from, topic_keys, help_option_keys, option_keys}
 use Rattle.description.specs.Described.Texts.{as_body, as_command_name, as_heading, as_program_name, as_text, as_title, begins, begins_a_section, has_ink, is_command_name, is_heading, is_line_character, is_long, is_name, is_program_name, is_read_once, is_section, is_title}
 use Rattle.description.specs.Described.Values.{as_date, as_section, as_short, day_text, digit_text, each_table, optional_at, required_at, tables_at, flag_at, words_at}
-use Rattle.description.specs.ReadOnce.{command_headings, commands_headings, group_headings, groups_headings, is_word_read_once, IsReadOnce, level_headings, TitlesAreReadOnce}
+use Rattle.description.specs.ReadOnce.{command_headings, commands_headings, group_headings, groups_headings, is_word_read_once, level_headings}
+use Rattle.description.specs.Subjects.{title_words_of}
 use Rattle.description.proofs.Characters.{date_bytes, Dates, digit_bytes, is_date_byte, weaker}
 use Rattle.description.proofs.Each.{Each}
-use Rattle.description.proofs.Gives.{given, Gives, gives_each, gives_if, gives_map, gives_optional, gives_passing, gives_required, gives_text, gives_then, gives_whatever, gives_with_only, Whatever, gives_words}
+use Rattle.description.proofs.Gives.{Gives, gives_each, gives_if, gives_map, gives_optional, gives_passing, gives_required, gives_text, gives_then, gives_whatever, gives_with_only, Whatever, gives_words}
 
 -- ---- texts
 
-abbrev Once : List ℕ → Type 0
+abbrev pub Once : List ℕ → Type 0
 Once bs = list_all is_read_once bs ≡ true
 
-abbrev OnceOption : Option (List ℕ) → Type 0
+abbrev pub OnceOption : Option (List ℕ) → Type 0
 OnceOption = Gives Once
 
-once_append : (xs ys : List ℕ) → Once xs → Once ys → Once (xs ++ ys)
+pub once_append : (xs ys : List ℕ) → Once xs → Once ys → Once (xs ++ ys)
 once_append xs ys h k = list_all-append is_read_once xs ys ∙ and_from (list_all is_read_once xs) (list_all is_read_once ys) h k
+
+-- what holds one is read once as well
+pub once_parts : (xs ys : List ℕ) → Once (xs ++ ys) → Once xs × Once ys
+once_parts xs ys h = and_parts (list_all is_read_once xs) (list_all is_read_once ys) (sym (list_all-append is_read_once xs ys) ∙ h)
+
+pub once_map : (f : ℕ → ℕ) → ((b : ℕ) → is_read_once b ≡ true → is_read_once (f b) ≡ true) → (bs : List ℕ) → Once bs → Once (map f bs)
+once_map f k [] h = refl
+once_map f k (b ∷ bs) h =
+    let both = and_parts (is_read_once b) (list_all is_read_once bs) h in
+    and_from (is_read_once (f b)) (list_all is_read_once (map f bs)) (k b both.0) (once_map f k bs both.1)
 
 title_once : (text : List ℕ) → is_title text ≡ true → Once text
 title_once text h = let both = and_parts (list_all is_line_character (chars text)) (list_all is_read_once text) h in both.1
@@ -99,7 +111,7 @@ title_there = gives_optional Once as_title (gives_text Once is_title title_once)
 
 -- ---- topics, groups and commands
 
-abbrev OnceTopic : TopicSaid → Type 0
+abbrev pub OnceTopic : TopicSaid → Type 0
 OnceTopic t = Once t.title
 
 topic_there : (ms : Members) → Gives OnceTopic (topic_from ms)
@@ -121,7 +133,7 @@ OnceGroup g = Once (group_headings g)
 abbrev OnceCommands : CommandsSaid → Type 0
 OnceCommands ms = Once (commands_headings ms)
 
-abbrev OnceCommand : CommandSaid → Type 0
+abbrev pub OnceCommand : CommandSaid → Type 0
 OnceCommand m = Once (command_headings m)
 
 abbrev OnceLevel : LevelSaid → Type 0
@@ -282,15 +294,9 @@ head_there = gives_with_only OnceHead description_keys _ (λ ms.
 blanked : (b : ℕ) → is_read_once b ≡ true → is_read_once (newline_as_blank b) ≡ true
 blanked b h = grind (arith, nat_tests)
 
-all_blanked : (bs : List ℕ) → Once bs → Once (map newline_as_blank bs)
-all_blanked [] h = refl
-all_blanked (b ∷ bs) h =
-    let both = and_parts (is_read_once b) (list_all is_read_once bs) h in
-    and_from (is_read_once (newline_as_blank b)) (list_all is_read_once (map newline_as_blank bs)) (blanked b both.0) (all_blanked bs both.1)
-
-word_once : (bs : List ℕ) → Once bs → is_word_read_once (word_of bs) ≡ true
+pub word_once : (bs : List ℕ) → Once bs → is_word_read_once (word_of bs) ≡ true
 word_once [] h = refl
-word_once (b ∷ bs) h = or_right _ (list_all is_read_once (map newline_as_blank (b ∷ bs))) (all_blanked (b ∷ bs) h)
+word_once (b ∷ bs) h = or_right _ (list_all is_read_once (map newline_as_blank (b ∷ bs))) (once_map newline_as_blank blanked (b ∷ bs) h)
 
 dash_or : (o : Option (List ℕ)) → OnceOption o → Once (unwrap_or o (codes "-"))
 dash_or None h = refl
@@ -303,24 +309,33 @@ nothing_or (Some text) h = h
 then_word : (bs : List ℕ) (words : List (List ℕ)) → Once bs → list_all is_word_read_once (map word_of words) ≡ true → list_all is_word_read_once (map word_of (bs ∷ words)) ≡ true
 then_word bs words h k = and_from (is_word_read_once (word_of bs)) (list_all is_word_read_once (map word_of words)) (word_once bs h) k
 
-whole : (h : DescriptionHead) (helps : List OptSaid) (l : LevelSaid) → OnceHead h → OnceLevel l → IsReadOnce (description_of h helps l)
+-- the words of a title line
+pub line_once : (name : List ℕ) (w : TitleWords) → Once name → OnceWords w → list_all is_word_read_once (map word_of (title_arguments name w.section w.date w.vendor w.title)) ≡ true
+line_once name w n p =
+    let last = then_word (unwrap_or w.title []) [] (nothing_or w.title p.title) refl in
+    let sold = then_word (unwrap_or w.vendor (codes "-")) (unwrap_or w.title [] ∷ []) (dash_or w.vendor p.vendor) last in
+    let dated = then_word (unwrap_or w.date (codes "-")) (unwrap_or w.vendor (codes "-") ∷ unwrap_or w.title [] ∷ []) (dash_or w.date p.date) sold in
+    let placed = then_word w.section (unwrap_or w.date (codes "-") ∷ unwrap_or w.vendor (codes "-") ∷ unwrap_or w.title [] ∷ []) p.section dated in
+    then_word name (w.section ∷ unwrap_or w.date (codes "-") ∷ unwrap_or w.vendor (codes "-") ∷ unwrap_or w.title [] ∷ []) n placed
+
+-- ---- the whole
+
+pub record OnceSaid (d : DescriptionSaid) : Type 0 where
+  pub name : Once d.name
+  pub words : OnceWords (title_words_of d)
+  pub level : Once (level_headings d.level)
+
+whole : (h : DescriptionHead) (helps : List OptSaid) (l : LevelSaid) → OnceHead h → OnceLevel l → OnceSaid (description_of h helps l)
 whole h helps l p q = record {
-  title_line =
-      let last = then_word (unwrap_or h.words.title []) [] (nothing_or h.words.title p.words.title) refl in
-      let sold = then_word (unwrap_or h.words.vendor (codes "-")) (unwrap_or h.words.title [] ∷ []) (dash_or h.words.vendor p.words.vendor) last in
-      let dated = then_word (unwrap_or h.words.date (codes "-")) (unwrap_or h.words.vendor (codes "-") ∷ unwrap_or h.words.title [] ∷ []) (dash_or h.words.date p.words.date) sold in
-      let placed = then_word h.words.section (unwrap_or h.words.date (codes "-") ∷ unwrap_or h.words.vendor (codes "-") ∷ unwrap_or h.words.title [] ∷ []) p.words.section dated in
-      then_word h.name (h.words.section ∷ unwrap_or h.words.date (codes "-") ∷ unwrap_or h.words.vendor (codes "-") ∷ unwrap_or h.words.title [] ∷ []) p.name placed;
-  headings = q;
+  name = p.name;
+  words = record { section = p.words.section; date = p.words.date; vendor = p.words.vendor; title = p.words.title };
+  level = q;
 }
 
-described_once : (ms : Members) → Gives IsReadOnce (described ms)
+pub described_once : (ms : Members) → Gives OnceSaid (described ms)
 unfolding described
 described_once ms =
-    gives_then OnceHead IsReadOnce (description_head ms) _ (head_there ms) (λ h p.
-    gives_then Whatever IsReadOnce (each_table (option_from help_option_keys) h.help_options) _ (gives_whatever (each_table (option_from help_option_keys) h.help_options)) (λ helps u.
-    gives_map OnceLevel IsReadOnce (level_of (groups_at (codes "group") ms) (commands_at (codes "command") ms) h.outline) (description_of h helps)
+    gives_then OnceHead OnceSaid (description_head ms) _ (head_there ms) (λ h p.
+    gives_then Whatever OnceSaid (each_table (option_from help_option_keys) h.help_options) _ (gives_whatever (each_table (option_from help_option_keys) h.help_options)) (λ helps u.
+    gives_map OnceLevel OnceSaid (level_of (groups_at (codes "group") ms) (commands_at (codes "command") ms) h.outline) (description_of h helps)
     (level_there (groups_at (codes "group") ms) (commands_at (codes "command") ms) h.outline (groups_at_once (codes "group") ms) (commands_at_once (codes "command") ms)) (λ l q. whole h helps l p q)))
-
-pub titles_are_read_once : TitlesAreReadOnce
-titles_are_read_once ms d e = given IsReadOnce (described ms) d (described_once ms) e

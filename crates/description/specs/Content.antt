@@ -1,5 +1,5 @@
 -- What a description says, with no memory in it: names and texts are bytes.
-use Rattle.std.specs.Prelude.{ℕ, List, Option}
+use Rattle.std.specs.Prelude.{ℕ, List, Bool, Option}
 use Rattle.description_parts.specs.Content.{OptSaid, LevelSaid}
 
 -- the content of a `Description`
@@ -18,3 +18,8 @@ pub record TitleWords : Type 0 where
   pub date : Option (List ℕ)
   pub vendor : Option (List ℕ)
   pub title : Option (List ℕ)
+
+-- the content of a `Shared`: the options that ask for help, and whether titles of topics are headers
+pub record SharedSaid : Type 0 where
+  pub help_options : List OptSaid
+  pub headers : Bool

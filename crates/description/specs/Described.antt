@@ -4,29 +4,29 @@ pub mod Values
 pub mod Taken
 pub mod Kinds
 pub mod Steps
-use Rattle.std.specs.Prelude.{codes, ℕ, List, [], ◌∷◌, ◌++◌, Bool, true, false, not, ◌&&◌, if◌then◌else◌, Option, Some, None, option_map, option_and_then}
+use Rattle.std.specs.Prelude.{codes, ℕ, List, [], ◌∷◌, ◌++◌, Bool, true, false, not, ◌&&◌, ◌||◌, if◌then◌else◌, Option, Some, None, is_some, option_map, option_and_then}
 use Rattle.std.specs.Ordering.{nat_cmp, match_ordering}
 use Rattle.std.specs.Cmp.Lexicographic.{slice_cmp}
 use Rattle.bpaf_meta.specs.Content.{Name, short, long, both}
 use Rattle.toml.specs.Data.{Data, array, table, Items, no_items, item, Members, no_members, member, get_member}
 use Rattle.description.specs.Content.{DescriptionSaid, TitleWords}
-use Rattle.description_parts.specs.Content.{OptSaid, ChoiceSaid, PositionalSaid, TopicSaid, TextsSaid, LevelSaid, level, GroupsSaid, no_groups, groups, GroupSaid, group, CommandsSaid, no_commands, commands, CommandSaid, command, CommandNames}
+use Rattle.description_parts.specs.Content.{SpellingSaid, named, syntax, OptSaid, ChoiceSaid, PositionalSaid, TopicSaid, TextsSaid, LevelSaid, level, GroupsSaid, no_groups, groups, GroupSaid, group, CommandsSaid, no_commands, commands, CommandSaid, command, CommandNames}
 use Rattle.description.specs.Described.Texts.{as_body, as_command_name, as_heading, as_long, as_name, as_program_name, as_text, as_title, as_value}
-use Rattle.description.specs.Described.Values.{has_only, flag_at, optional_at, required_at, tables_at, is_empty, each_table, as_short, as_section, as_date, words_at, as_default, as_values}
+use Rattle.description.specs.Described.Values.{has_only, flag_at, optional_at, required_at, tables_at, is_empty, each_table, as_short, as_section, as_date, words_at, as_default, as_syntax, as_values}
 use Rattle.description.specs.Described.Taken.{has_distinct_names}
 
 -- ---- keys
 
 -- of an option of a choice, which is neither required nor repeated
 abbrev pub alternative_keys : List (List ℕ)
-alternative_keys = codes "short" ∷ codes "long" ∷ codes "value" ∷ codes "default" ∷ codes "values" ∷ codes "help" ∷ codes "hidden" ∷ codes "env" ∷ []
+alternative_keys = codes "short" ∷ codes "long" ∷ codes "syntax" ∷ codes "value" ∷ codes "default" ∷ codes "values" ∷ codes "help" ∷ codes "hidden" ∷ codes "env" ∷ []
 
 abbrev pub option_keys : List (List ℕ)
-option_keys = codes "short" ∷ codes "long" ∷ codes "value" ∷ codes "default" ∷ codes "values" ∷ codes "help" ∷ codes "hidden" ∷ codes "env" ∷ codes "required" ∷ codes "repeated" ∷ []
+option_keys = codes "short" ∷ codes "long" ∷ codes "syntax" ∷ codes "value" ∷ codes "default" ∷ codes "values" ∷ codes "help" ∷ codes "hidden" ∷ codes "env" ∷ codes "required" ∷ codes "repeated" ∷ []
 
 -- of an option that asks for help, which pages show
 abbrev pub help_option_keys : List (List ℕ)
-help_option_keys = codes "short" ∷ codes "long" ∷ codes "value" ∷ codes "default" ∷ codes "values" ∷ codes "help" ∷ codes "env" ∷ codes "required" ∷ codes "repeated" ∷ []
+help_option_keys = codes "short" ∷ codes "long" ∷ codes "syntax" ∷ codes "value" ∷ codes "default" ∷ codes "values" ∷ codes "help" ∷ codes "env" ∷ codes "required" ∷ codes "repeated" ∷ []
 
 abbrev pub choice_keys : List (List ℕ)
 choice_keys = codes "option" ∷ codes "required" ∷ []
@@ -65,9 +65,20 @@ infixl 10 ◌>>=◌
 abbrev pub ◌>>=◌ : {A B : Type 0} → Option A → (A → Option B) → Option B
 o >>= f = option_and_then f o
 
--- the short and the long name, of which one at least stands there
-abbrev pub option_name : Members → Option Name
-option_name ms = optional_at as_short (codes "short") ms >>= (λ s. optional_at as_long (codes "long") ms >>= name_from s)
+-- a syntax stands beside no name
+abbrev pub spelling_from : Option ℕ → Option (List ℕ) → Option (List ℕ) → Option SpellingSaid
+spelling_from s l None = option_map named (name_from s l)
+spelling_from None None (Some text) = Some (syntax text)
+spelling_from None (Some l) (Some text) = None
+spelling_from (Some c) l (Some text) = None
+
+-- the short name, the long one or both, or else a syntax
+abbrev pub option_spelling : Members → Option SpellingSaid
+option_spelling ms = optional_at as_short (codes "short") ms >>= (λ s. optional_at as_long (codes "long") ms >>= (λ l. optional_at as_syntax (codes "syntax") ms >>= spelling_from s l))
+
+abbrev pub is_syntax : SpellingSaid → Bool
+is_syntax (named name) = false
+is_syntax (syntax text) = true
 
 -- the word for the value of an option, what holds where it is not given, and what it may be
 pub record ValueSaid : Type 0 where
@@ -75,24 +86,26 @@ pub record ValueSaid : Type 0 where
   pub default : Option (List ℕ)
   pub values : Option (List ℕ)
 
--- what is said of a value stands beside one
-abbrev pub is_beside : (value said : Option (List ℕ)) → Bool
-is_beside None (Some text) = false
-is_beside value said = true
+-- a text where there is none of another kind
+abbrev pub unless_there : (other : Bool) → Option (List ℕ) → Option (Option (List ℕ))
+unless_there true (Some text) = None
+unless_there other text = Some text
 
-abbrev pub if_beside : (value said : Option (List ℕ)) → Option (Option (List ℕ))
-if_beside value said = if is_beside value said then Some said else None
+-- neither a syntax nor a word for a value
+abbrev pub is_flag : (is_syntax : Bool) → (value : Option (List ℕ)) → Bool
+is_flag is_syntax value = not (is_syntax || is_some value)
 
-unfoldable pub option_value : Members → Option ValueSaid
-option_value ms =
-    optional_at as_value (codes "value") ms >>= (λ value. optional_at as_default (codes "default") ms >>= if_beside value >>= (λ default. optional_at as_values (codes "values") ms >>= if_beside value >>= (λ values.
+-- a word for a value stands beside no syntax, and nothing is said of the value of a flag
+unfoldable pub option_value : (is_syntax : Bool) → Members → Option ValueSaid
+option_value is_syntax ms =
+    optional_at as_value (codes "value") ms >>= unless_there is_syntax >>= (λ value. optional_at as_default (codes "default") ms >>= unless_there (is_flag is_syntax value) >>= (λ default. optional_at as_values (codes "values") ms >>= unless_there (is_flag is_syntax value) >>= (λ values.
     Some (record { value = value; default = default; values = values }))))
 
 -- what an option is called and says
 abbrev pub option_texts : Members → Option OptSaid
 option_texts ms =
-    option_name ms >>= (λ name. option_value ms >>= (λ v. optional_at as_text (codes "help") ms >>= (λ help. flag_at false (codes "hidden") ms >>= (λ hidden. optional_at as_name (codes "env") ms >>= (λ env.
-    Some (record { name = name; value = v.value; default = v.default; values = v.values; help = help; env = env; required = false; repeated = false; hidden = hidden }))))))
+    option_spelling ms >>= (λ spelling. option_value (is_syntax spelling) ms >>= (λ v. optional_at as_text (codes "help") ms >>= (λ help. flag_at false (codes "hidden") ms >>= (λ hidden. optional_at as_name (codes "env") ms >>= (λ env.
+    Some (record { spelling = spelling; value = v.value; default = v.default; values = v.values; help = help; env = env; required = false; repeated = false; hidden = hidden }))))))
 
 -- what has a default may be left out
 abbrev pub required_beside : (default : Option (List ℕ)) → (left_out : Bool) → Members → Option Bool

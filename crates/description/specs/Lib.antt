@@ -2,8 +2,11 @@ pub mod Content
 pub mod Subjects
 pub mod View
 pub mod Texts
+pub mod Chunks
 pub mod Topics
+pub mod Syntax
 pub mod Trees
+pub mod UsageLines
 pub mod Pages
 pub mod Paragraphs
 pub mod Notes
@@ -13,3 +16,4 @@ pub mod Described
 pub mod Plain
 pub mod ReadOnce
 pub mod Faults
+pub mod WebPages

@@ -1,26 +1,26 @@
 -- The manual page of a level: of the application, or of a command of it, without a chapter of the commands below.
 pub mod Steps
-use Rattle.std.specs.Prelude.{codes, ◌≡◌, ℕ, ◌-◌, nat_lt, List, [], ◌∷◌, ◌++◌, flat_map, length, take, drop, Bool, true, false, if◌then◌else◌, Option, Some, None, option_and_then, bytes_eq}
+use Rattle.std.specs.Prelude.{codes, ℕ, ◌-◌, nat_lt, List, [], ◌∷◌, ◌++◌, flat_map, length, take, Bool, true, false, if◌then◌else◌, Option, Some, None, option_and_then}
 use Rattle.std.specs.List.{join_by, join_with_byte}
 use Rattle.std.specs.Option.{option_or}
 use Rattle.bpaf_doc.specs.declared.buffer.Block.TheVariants as block
 use Rattle.bpaf_doc.specs.Buffer.Parts.{Part, IsWellNested}
-use Rattle.bpaf_doc.specs.Buffer.Writes.{Write, doc_writes, document_of, inside, literal, path_writes, plain}
+use Rattle.bpaf_doc.specs.Buffer.Writes.{Write, doc_writes, document_of, inside, literal, plain}
 use Rattle.bpaf_doc.specs.Manpage.Exact.{roff_page}
 use Rattle.bpaf_doc.specs.Manpage.Page.{IsManualPageOf, title_arguments, title_event, title_page}
 use Rattle.bpaf_meta.specs.Content.{Tree}
-use Rattle.bpaf_meta.specs.Usage.Writes.{usage_writes}
 use Rattle.bpaf_items.specs.Listing.ItemList.{item_list}
 use Rattle.bpaf_items.specs.Page.EnvTexts.{no_texts}
 use Rattle.bpaf_items.specs.Page.HelpPage.{doc_within, groups_writes}
 use Rattle.bpaf_help.specs.Chapters.{manual_name}
-use Rattle.description_parts.specs.Content.{TextsSaid, LevelSaid, level, CommandSaid, command}
+use Rattle.description_parts.specs.Content.{TextsSaid, CommandSaid, command}
 use Rattle.description.specs.Paragraphs.{goes_on, summary_of}
 use Rattle.description.specs.Pages.{subject_tree}
 use Rattle.description.specs.Subjects.{SubjectSaid, commands_on}
-use Rattle.description.specs.Texts.{plain_document, text_document}
+use Rattle.description.specs.Texts.{text_document}
 use Rattle.description.specs.Topics.{topic_writes}
 use Rattle.description.specs.Trees.{document_said, options_tree}
+use Rattle.description.specs.UsageLines.{texts_in, usage_part}
 
 -- the path joined by `-`
 abbrev pub page_name : List (List ℕ) → List ℕ
@@ -29,26 +29,11 @@ page_name = join_with_byte 45
 abbrev pub heading : List ℕ → List Write
 heading title = inside block.Header (plain title ∷ [])
 
-abbrev pub texts_in : LevelSaid → TextsSaid
-texts_in (level t r os cs gs ps ms) = t
-
 -- ---- the parts of the page
 
 -- what it is about: the first paragraph with ink of the level's `about`, or else of the command's help
 abbrev pub summary : SubjectSaid → Option (List ℕ)
 summary s = option_or (option_and_then summary_of (texts_in s.level).about) (option_and_then summary_of s.help)
-
--- a text without a leading `Usage: `
-abbrev pub usage_lead : List ℕ
-usage_lead = codes "Usage: "
-
-abbrev pub without_lead : List ℕ → List ℕ
-without_lead text = if bytes_eq (take (length usage_lead) text) usage_lead then drop (length usage_lead) text else text
-
--- the usage line, or the text that stands for it
-abbrev pub usage_part : (path : List (List ℕ)) → Tree → (usage : Option (List ℕ)) → List Write
-usage_part path t None = path_writes path ++ usage_writes true t
-usage_part path t (Some text) = doc_writes (plain_document (without_lead text))
 
 abbrev pub synopsis_writes : (path : List (List ℕ)) → Tree → (usage : Option (List ℕ)) → List Write
 synopsis_writes path t usage = heading (codes "SYNOPSIS") ++ usage_part path t usage

@@ -1,4 +1,5 @@
 -- Notes: what is said of an item in square brackets, behind the first paragraph of its help.
+pub mod Steps
 use Rattle.std.specs.Prelude.{codes, ℕ, List, [], ◌∷◌, ◌++◌, Option, option_map, option_to_list}
 use Rattle.std.specs.List.{join_by}
 use Rattle.bpaf_doc.specs.Buffer.Writes.{Write, plain}
@@ -12,9 +13,13 @@ listed_texts = join_by (λ text. text) (codes ", ")
 abbrev pub note : (words text : List ℕ) → List ℕ
 note words text = codes "[" ++ words ++ codes ": " ++ text ++ codes "]"
 
--- of what takes a value: what holds where it is not given, and what it may be
-abbrev pub value_notes : (default values : Option (List ℕ)) → List (List ℕ)
-value_notes default values = option_to_list (option_map (note (codes "default")) default) ++ option_to_list (option_map (note (codes "possible values")) values)
+-- a note with these words, of a text that there may be
+abbrev pub note_of : (words : List ℕ) → Option (List ℕ) → List (List ℕ)
+note_of words text = option_to_list (option_map (note words) text)
+
+-- of what takes a value: what holds where it is not given, what it may be, and an environment variable that stands for it
+abbrev pub value_notes : (default values env : Option (List ℕ)) → List (List ℕ)
+value_notes default values env = note_of (codes "default") default ++ (note_of (codes "possible values") values ++ note_of (codes "env") env)
 
 -- of a command: its other names
 abbrev pub command_notes : (aliases : List (List ℕ)) → List (List ℕ)

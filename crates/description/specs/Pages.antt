@@ -2,29 +2,29 @@
 use Rattle.std.specs.Prelude.{◌≡◌, ℕ, true, false, List, [], ◌∷◌, ◌++◌}
 use Rattle.bpaf_doc.specs.declared.buffer.Block.TheVariants as block
 use Rattle.bpaf_doc.specs.Buffer.Parts.{Part, IsWellNested}
-use Rattle.bpaf_doc.specs.Buffer.Writes.{inside, path_writes, document_of}
+use Rattle.bpaf_doc.specs.Buffer.Writes.{inside, document_of}
 use Rattle.bpaf_doc.specs.Console.Layout.{IsLayout}
 use Rattle.bpaf_meta.specs.Content.{Tree, Head}
-use Rattle.bpaf_meta.specs.Usage.Writes.{usage_writes}
 use Rattle.bpaf_items.specs.Page.EnvTexts.{no_texts}
 use Rattle.bpaf_items.specs.Page.HelpPage.{help_page_writes}
 use Rattle.bpaf_help.specs.Chapters.{AreWellPlaced, Chapter, chapters_of}
 use Rattle.bpaf_help.specs.PageAnswers as pages
 use Rattle.description.specs.Content.{DescriptionSaid}
 use Rattle.description.specs.Subjects.{SubjectSaid, application}
-use Rattle.description.specs.Trees.{description_tree, description_head, level_head, level_tree, options_tree}
+use Rattle.description.specs.Trees.{description_tree, description_head, level_head, level_tree, options_tree, manual_head, manual_tree, on_help_pages}
+use Rattle.description.specs.UsageLines.{texts_in, usage_part}
 
 -- ---- of the application, or of a command
 
 abbrev pub subject_tree : SubjectSaid → Tree
-subject_tree s = level_tree (options_tree s.help_options) s.level
+subject_tree s = level_tree (on_help_pages s.help_options) s.level
 
 abbrev pub subject_head : SubjectSaid → Head
-subject_head s = level_head (options_tree s.help_options) s.level
+subject_head s = level_head (on_help_pages s.help_options) s.level
 
--- the usage line: the path and the usage of the tree, in Mono marks
+-- the usage line, in Mono marks: the path and the usage of the tree, or the text that stands for it
 abbrev pub subject_usage : SubjectSaid → List Part
-subject_usage s = document_of (inside block.Mono (path_writes s.path ++ usage_writes true (subject_tree s)))
+subject_usage s = document_of (inside block.Mono (usage_part s.path (subject_tree s) (texts_in s.level).usage))
 
 -- its text: the line as a full page of some columns, and a newline
 abbrev pub IsUsageOf : SubjectSaid → (width : ℕ) → List ℕ → Type 0
@@ -51,15 +51,15 @@ abbrev pub collected_document : DescriptionSaid → List Part
 collected_document d = pages.collected_document d.name (description_tree d) (description_head d)
 
 abbrev pub manual_document : DescriptionSaid → List Part
-manual_document d = pages.manual_document d.name (description_tree d) (description_head d)
+manual_document d = pages.manual_document d.name (manual_tree d) (manual_head d)
 
 -- the manual page: a reader of roff reads the title and the document
 abbrev pub IsDescriptionManual : DescriptionSaid → List ℕ → Type 0
-IsDescriptionManual d text = pages.IsManualOf d.name d.section d.date d.vendor d.title (description_tree d) (description_head d) text
+IsDescriptionManual d text = pages.IsManualOf d.name d.section d.date d.vendor d.title (manual_tree d) (manual_head d) text
 
 -- its bytes
 abbrev pub manual_text : DescriptionSaid → List ℕ
-manual_text d = pages.manual_text d.name d.section d.date d.vendor d.title (description_tree d) (description_head d)
+manual_text d = pages.manual_text d.name d.section d.date d.vendor d.title (manual_tree d) (manual_head d)
 
 -- ---- laws
 

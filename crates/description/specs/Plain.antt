@@ -3,7 +3,7 @@ use Rattle.std.specs.Prelude.{◌≡◌, chars, ℕ, List, [], ◌∷◌, ◌++�
 use Rattle.std.specs.List.{list_all}
 use Rattle.bpaf_meta.specs.Content.{Name, short, long, both}
 use Rattle.toml.specs.Data.{Members}
-use Rattle.description_parts.specs.Content.{OptSaid, ChoiceSaid, PositionalSaid, TopicSaid, TextsSaid, LevelSaid, level, GroupsSaid, no_groups, groups, GroupSaid, group, CommandsSaid, no_commands, commands, CommandSaid, command}
+use Rattle.description_parts.specs.Content.{SpellingSaid, named, syntax, OptSaid, ChoiceSaid, PositionalSaid, TopicSaid, TextsSaid, LevelSaid, level, GroupsSaid, no_groups, groups, GroupSaid, group, CommandsSaid, no_commands, commands, CommandSaid, command}
 use Rattle.description.specs.Content.{DescriptionSaid}
 use Rattle.description.specs.Described.{described}
 use Rattle.description.specs.Described.Texts.{is_text_character}
@@ -23,8 +23,12 @@ name_characters (short c) = c ∷ []
 name_characters (long text) = chars text
 name_characters (both c text) = c ∷ chars text
 
+abbrev pub spelling_characters : SpellingSaid → List ℕ
+spelling_characters (named name) = name_characters name
+spelling_characters (syntax text) = chars text
+
 abbrev pub option_characters : OptSaid → List ℕ
-option_characters o = name_characters o.name ++ (characters_of o.value ++ (characters_of o.default ++ (characters_of o.values ++ (characters_of o.help ++ characters_of o.env))))
+option_characters o = spelling_characters o.spelling ++ (characters_of o.value ++ (characters_of o.default ++ (characters_of o.values ++ (characters_of o.help ++ characters_of o.env))))
 
 abbrev pub choice_characters : ChoiceSaid → List ℕ
 choice_characters c = flat_map option_characters c.options

@@ -4,16 +4,17 @@ use Rattle.std.specs.Option.{option_map}
 use Rattle.bpaf_doc.specs.Buffer.Parts.{Part}
 use Rattle.bpaf_doc.specs.Buffer.Writes.{document_of}
 use Rattle.bpaf_meta.specs.Content as content
-use Rattle.bpaf_meta.specs.Content.{Name, Tree, and_of, or_of, optional, required, item, many, subsection, custom_usage, skip, strict, Leaf, positional, flag, argument, Head, head}
+use Rattle.bpaf_meta.specs.Content.{Name, Tree, and_of, or_of, optional, required, item, many, subsection, custom_usage, skip, strict, Leaf, any, positional, flag, argument, Head, head}
 use Rattle.bpaf_meta.specs.Names.{short_name}
 use Rattle.bpaf_meta.specs.View.{trees_in}
 use Rattle.bpaf_help.specs.Chapters.{spaced}
-use Rattle.description.specs.Content.{DescriptionSaid}
+use Rattle.description.specs.Content.{DescriptionSaid, SharedSaid}
 use Rattle.description.specs.Texts.{plain_document, text_document}
 use Rattle.description.specs.Topics.{topics_footer}
 use Rattle.description.specs.Notes.{command_notes, noted_writes, value_notes}
 use Rattle.description.specs.Paragraphs.{without_back}
-use Rattle.description_parts.specs.Content.{OptSaid, ChoiceSaid, PositionalSaid, TextsSaid, LevelSaid, level, GroupsSaid, no_groups, groups, GroupSaid, group, CommandsSaid, no_commands, commands, CommandSaid, command}
+use Rattle.description.specs.Syntax.{syntax_document, usage_document}
+use Rattle.description_parts.specs.Content.{SpellingSaid, named, syntax, OptSaid, ChoiceSaid, PositionalSaid, TextsSaid, LevelSaid, level, GroupsSaid, no_groups, groups, GroupSaid, group, CommandsSaid, no_commands, commands, CommandSaid, command}
 
 -- ---- single items
 
@@ -30,8 +31,20 @@ abbrev pub named_leaf : (value : Option (List ℕ)) → Name → (env : Option (
 named_leaf None name env help = flag name (option_to_list (short_name name)) env help
 named_leaf (Some value) name env help = argument name (option_to_list (short_name name)) value env help
 
-abbrev pub option_item : OptSaid → Tree
-option_item o = item (named_leaf o.value o.name o.env (help_said o.help (value_notes o.default o.values)))
+abbrev pub named_item : Name → OptSaid → Tree
+named_item name o = item (named_leaf o.value name o.env (help_said o.help (value_notes o.default o.values None)))
+
+-- beside a syntax the environment variable is a note, and a value counts for nothing
+abbrev pub any_item : (text : List ℕ) → OptSaid → Tree
+any_item text o = item (any (syntax_document text) true (help_said o.help (value_notes o.default o.values o.env)))
+
+-- an option that is written by its names, or by a syntax, of which a usage line shows one piece
+abbrev pub spelled_item : (bracketed : Bool) → SpellingSaid → OptSaid → Tree
+spelled_item bracketed (named name) o = named_item name o
+spelled_item bracketed (syntax text) o = custom_usage (any_item text o) (usage_document bracketed text)
+
+abbrev pub option_item : (bracketed : Bool) → OptSaid → Tree
+option_item bracketed o = spelled_item bracketed o.spelling o
 
 -- what has to be given or not, once or many times
 abbrev pub wrapped : (required repeated : Bool) → Tree → Tree
@@ -46,11 +59,11 @@ unless_hidden true t = skip
 unless_hidden false t = t
 
 abbrev pub option_tree : OptSaid → Tree
-option_tree o = unless_hidden o.hidden (wrapped o.required o.repeated (option_item o))
+option_tree o = unless_hidden o.hidden (wrapped o.required o.repeated (option_item (o.required || o.repeated) o))
 
--- an option of a choice, which is not wrapped
+-- an option of a choice, which is not wrapped: whether it is required or repeated counts for nothing
 abbrev pub alternative_tree : OptSaid → Tree
-alternative_tree o = unless_hidden o.hidden (option_item o)
+alternative_tree o = unless_hidden o.hidden (option_item false o)
 
 -- one of the options
 abbrev pub choice_tree : ChoiceSaid → Tree
@@ -61,7 +74,7 @@ behind_dashes true t = strict t
 behind_dashes false t = t
 
 abbrev pub positional_tree : PositionalSaid → Tree
-positional_tree p = unless_hidden p.hidden (behind_dashes p.strict (wrapped p.required p.repeated (item (positional p.value (help_said p.help (value_notes p.default p.values))))))
+positional_tree p = unless_hidden p.hidden (behind_dashes p.strict (wrapped p.required p.repeated (item (positional p.value (help_said p.help (value_notes p.default p.values None))))))
 
 -- ---- groups and levels
 
@@ -109,42 +122,52 @@ abbrev pub named_groups : GroupsSaid → List Tree
 named_groups no_groups = []
 named_groups (groups g gs) = named_group g ++ named_groups gs
 
--- the texts of a level, of which that of its usage line stands as it is, and the tree of the options that ask for help
-abbrev pub texts_head : TextsSaid → (help : Tree) → Head
-texts_head t help = head (document_said t.about) (document_said t.header) (topics_footer t.topics t.footer) (option_map plain_document t.usage) help
+-- what all levels have in common: on help pages titles of topics are headings as those of lists, on a manual page they are headers
+abbrev pub on_help_pages : (help_options : List OptSaid) → SharedSaid
+on_help_pages os = record { help_options = os; headers = false }
 
-abbrev pub level_head : (help : Tree) → LevelSaid → Head
-level_head help (level t r os cs gs ps ms) = texts_head t help
+abbrev pub on_manual_page : (help_options : List OptSaid) → SharedSaid
+on_manual_page os = record { help_options = os; headers = true }
+
+-- the texts of a level, of which that of its usage line stands as it is, and the tree of the options that ask for help
+abbrev pub texts_head : TextsSaid → SharedSaid → Head
+texts_head t shared = head (document_said t.about) (document_said t.header) (topics_footer shared.headers t.topics t.footer) (option_map plain_document t.usage) (options_tree shared.help_options)
+
+abbrev pub level_head : SharedSaid → LevelSaid → Head
+level_head shared (level t r os cs gs ps ms) = texts_head t shared
 
 abbrev mutual
   -- the parts of a level, in the order of their kinds: what is named stands before what is taken by its place, so a group with both
   -- stands in two places
-  pub level_tree : (help : Tree) → LevelSaid → Tree
-  level_tree help (level t r os cs gs ps ms) = all_of (map option_tree os ++ map choice_tree cs ++ named_groups gs ++ placed_groups help false r gs ++ map positional_tree ps ++ one_of_commands (hold_commands gs && show_command ms) r (command_items help ms))
+  pub level_tree : SharedSaid → LevelSaid → Tree
+  level_tree shared (level t r os cs gs ps ms) = all_of (map option_tree os ++ map choice_tree cs ++ named_groups gs ++ placed_groups shared false r gs ++ map positional_tree ps ++ one_of_commands (hold_commands gs && show_command ms) r (command_items shared ms))
 
   -- what each group has of positional values and commands; `shown` says whether a group before holds a command that is not hidden
-  pub placed_groups : (help : Tree) → (shown command_required : Bool) → GroupsSaid → List Tree
-  placed_groups help shown r no_groups = []
-  placed_groups help shown r (groups g gs) = placed_group help shown r g ++ placed_groups help (shown || holds_command g) r gs
+  pub placed_groups : SharedSaid → (shown command_required : Bool) → GroupsSaid → List Tree
+  placed_groups shared shown r no_groups = []
+  placed_groups shared shown r (groups g gs) = placed_group shared shown r g ++ placed_groups shared (shown || holds_command g) r gs
 
-  pub placed_group : (help : Tree) → (shown command_required : Bool) → GroupSaid → List Tree
-  placed_group help shown r (group title os cs ps ms) = titled title (map positional_tree ps ++ one_of_commands (shown && show_command ms) r (command_items help ms))
+  pub placed_group : SharedSaid → (shown command_required : Bool) → GroupSaid → List Tree
+  placed_group shared shown r (group title os cs ps ms) = titled title (map positional_tree ps ++ one_of_commands (shown && show_command ms) r (command_items shared ms))
 
-  pub command_items : (help : Tree) → CommandsSaid → List Tree
-  command_items help no_commands = []
-  command_items help (commands m ms) = command_item help m ∷ command_items help ms
+  pub command_items : SharedSaid → CommandsSaid → List Tree
+  command_items shared no_commands = []
+  command_items shared (commands m ms) = command_item shared m ∷ command_items shared ms
 
-  pub command_item : (help : Tree) → CommandSaid → Tree
-  command_item help (command names h l) = unless_hidden names.hidden (item (content.command names.name names.initial (help_said h (command_notes names.aliases)) (level_tree help l) (level_head help l)))
+  pub command_item : SharedSaid → CommandSaid → Tree
+  command_item shared (command names h l) = unless_hidden names.hidden (item (content.command names.name names.initial (help_said h (command_notes names.aliases)) (level_tree shared l) (level_head shared l)))
 
 -- ---- the whole
 
--- the tree of the options that ask for help
-abbrev pub help_tree : DescriptionSaid → Tree
-help_tree d = options_tree d.help_options
-
 abbrev pub description_tree : DescriptionSaid → Tree
-description_tree d = level_tree (help_tree d) d.level
+description_tree d = level_tree (on_help_pages d.help_options) d.level
 
 abbrev pub description_head : DescriptionSaid → Head
-description_head d = level_head (help_tree d) d.level
+description_head d = level_head (on_help_pages d.help_options) d.level
+
+-- those of the manual page of all
+abbrev pub manual_tree : DescriptionSaid → Tree
+manual_tree d = level_tree (on_manual_page d.help_options) d.level
+
+abbrev pub manual_head : DescriptionSaid → Head
+manual_head d = level_head (on_manual_page d.help_options) d.level

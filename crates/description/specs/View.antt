@@ -4,11 +4,12 @@ use Rattle.bpaf_help.specs.View.{section_name}
 use Rattle.bpaf_meta.specs.View.{text_of}
 use Rattle.bpaf_help.specs.declared.pages.manual.ManualTitle.{ManualTitle}
 use Rattle.description.specs.All.{FileSaid}
-use Rattle.description.specs.Content.{DescriptionSaid, TitleWords}
+use Rattle.description.specs.Content.{DescriptionSaid, SharedSaid, TitleWords}
 use Rattle.description.specs.Subjects.{SubjectSaid}
 use Rattle.description.specs.declared.all.PageFile.{PageFile}
 use Rattle.description.specs.declared.descriptions.Description.{Description}
 use Rattle.description.specs.declared.subjects.Subject.{Subject}
+use Rattle.description.specs.declared.trees.Shared.{Shared}
 use Rattle.description_parts.specs.View.{level_said, opt_said}
 
 abbrev pub description_said : {A : Type 0} → Description A → DescriptionSaid
@@ -22,3 +23,6 @@ subject_said s = record { path = map string_bytes s.path.items; words = words_of
 
 abbrev pub file_said : {B : Type 0} → PageFile B → FileSaid
 file_said file = record { name = string_bytes file.name; page = string_bytes file.page }
+
+abbrev pub shared_said : Shared → SharedSaid
+shared_said s = record { help_options = map opt_said s.help_options.now; headers = s.headers }

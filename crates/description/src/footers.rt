@@ -1,14 +1,15 @@
 //! The texts that stand in blocks of their own: topics, headers and footers.
-ghost use Rattle.std.specs.Prelude.{◌≡◌, ◌++◌, ◌∷◌, [], IfOk, OnOk, false, flat_map, map};
+ghost use Rattle.std.specs.Prelude.{◌≡◌, ◌++◌, ◌∷◌, [], IfOk, OnOk, flat_map, map};
 ghost use Rattle.std.specs.Option.{option_map};
 ghost use Rattle.bpaf_doc.specs.Buffer.Writes.{doc_writes, document_of, emphasis, inside, with_writes};
 ghost use Rattle.bpaf_items.specs.Page.HelpPage.{doc_within};
 ghost use Rattle.bpaf_meta.specs.View.{text_of};
 ghost use Rattle.description.specs.Manuals.{heading};
 ghost use Rattle.description.specs.Texts.{text_document};
-ghost use Rattle.description.specs.Topics.{topic_title, topic_writes};
+ghost use Rattle.description.specs.Topics.{topic_document, topic_title, topic_writes};
 ghost use Rattle.description_parts.specs.View.{topic_said};
 
+use crate::chunks::topic_document;
 use crate::texts::text_document;
 use bpaf_doc::buffer::{Block, Doc, Token};
 use description_parts::topics::Topic;
@@ -17,14 +18,15 @@ use std::alloc::{AllocError, Allocator};
 /// The document of topics, and of the text that stands behind them.
 pub fn topics_document<B: Allocator + Copy>(
     alloc: B,
+    is_header: bool,
     topics: &[Topic<'_>],
     footer: Option<&str>,
 ) -> Result<Doc<B>, AllocError>
-    ensures { IfOk result (λ document. document ≡ document_of (flat_map (topic_writes false)
+    ensures { IfOk result (λ document. document ≡ document_of (flat_map (topic_writes is_header)
         (map topic_said topics.now) ++ doc_within Block.Block (option_map text_document (text_of footer.entry)))) }
 {
     let mut document = Doc::new(alloc);
-    put_topics(alloc, &mut document, false, topics)?;
+    put_topics(alloc, &mut document, is_header, topics)?;
     put_within(alloc, &mut document, footer)?;
     Ok(document)
 }
@@ -53,8 +55,18 @@ fn put_topic<B: Allocator + Copy>(
 ) -> Result<(), AllocError>
     ensures { OnOk result (document.new ≡ with_writes document.old (topic_writes is_header (topic_said topic.now))) }
 {
+    let text = topic_document(alloc, topic.text)?;
     put_title(document, is_header, topic.title)?;
-    put_within(alloc, document, Some(topic.text))
+    put_block(document, &text)
+}
+
+// Writes a document in a block of its own.
+fn put_block<B: Allocator>(document: &mut Doc<B>, part: &Doc<B>) -> Result<(), AllocError>
+    ensures { OnOk result (document.new ≡ with_writes document.old (inside Block.Block (doc_writes part.now))) }
+{
+    document.token(Token::BlockStart(Block::Block))?;
+    document.doc(part)?;
+    document.token(Token::BlockEnd(Block::Block))
 }
 
 fn put_title<B: Allocator>(
@@ -104,9 +116,8 @@ pub fn put_within<B: Allocator + Copy>(
     let Some(text) = text else {
         return Ok(());
     };
-    document.token(Token::BlockStart(Block::Block))?;
-    put_document(alloc, document, text)?;
-    document.token(Token::BlockEnd(Block::Block))
+    let part = text_document(alloc, text)?;
+    put_block(document, &part)
 }
 
 /// Writes the document of a text.

@@ -29,9 +29,10 @@ pub fn texts_are_plain()
     ensures { TextsArePlain }
 {}
 
-/// Of a description that a TOML text gives, no argument of the title line of the manual page, no title of a group or of
-/// a topic and no name of a command holds a backslash or a double quote, but the argument of two quotes. So a macro of
-/// roff that reads its arguments a second time reads the same words.
+/// Of a description that a TOML text gives, no title of a group or of a topic and no name of a command holds a
+/// backslash or a double quote. And of all that a reader of roff reads behind the preamble of its manual page, or of
+/// the manual page of a level to which words lead, no argument of a control holds one, but the argument of two quotes.
+/// So a macro that reads its arguments a second time reads the same words.
 pub fn titles_are_read_once()
     ensures { TitlesAreReadOnce }
 {}

@@ -2,17 +2,21 @@
 #![tactic(auto)]
 
 pub mod all;
+mod chunks;
 pub mod decode;
 pub mod descriptions;
 mod footers;
 pub mod laws;
 mod manuals;
 mod neighbours;
+mod page;
 mod pages;
 mod paragraphs;
 pub mod subjects;
+mod syntax;
 mod texts;
 mod trees;
+mod usage_lines;
 pub mod words;
 
 pub use all::PageFile;
@@ -20,7 +24,9 @@ pub use bpaf_help::item::ShortLong;
 pub use bpaf_help::pages::Section;
 pub use decode::DescriptionError;
 pub use description_parts::{
-    Choice, Command, Group, Level, Opt, Positional, Topic, levels, options, positionals, topics,
+    Choice, Command, Group, Level, Opt, Positional, Spelling, Topic, levels, options, positionals,
+    topics,
 };
 pub use descriptions::Description;
 pub use subjects::Subject;
+pub use web_page::PageError;

@@ -10,11 +10,10 @@ ghost use Rattle.bpaf_help.specs.View.{section_name};
 ghost use Rattle.bpaf_meta.specs.View.{text_of, tree_of};
 ghost use Rattle.description.specs.Manuals.{IsSubjectManual, description_writes, page_name, reference};
 ghost use Rattle.description.specs.Manuals.{see_also_writes, subject_manual, subject_manual_text, summary, title_words};
-ghost use Rattle.description.specs.Manuals.{synopsis_writes, usage_part, without_lead};
+ghost use Rattle.description.specs.Manuals.{synopsis_writes};
 ghost use Rattle.description.specs.Manuals.Steps.{front_writes, list_writes};
 ghost use Rattle.description.specs.Pages.{subject_tree};
 ghost use Rattle.description.specs.Paragraphs.{summary_of};
-ghost use Rattle.description.specs.Texts.{plain_document};
 ghost use Rattle.description.specs.Trees.{document_said, options_tree};
 ghost use Rattle.description.specs.View.{subject_said};
 ghost use Rattle.description_parts.specs.View.{opt_said};
@@ -23,13 +22,13 @@ use crate::footers::{put_document, put_heading, put_topics, put_within};
 use crate::neighbours::page_name;
 use crate::paragraphs::{goes_on, summary_of};
 use crate::subjects::Subject;
-use crate::trees::{level_tree, options_tree};
+use crate::trees::{Shared, level_tree, options_tree};
+use crate::usage_lines::put_usage;
 use bpaf_doc::buffer::Doc;
 use bpaf_doc::laws::titled_page;
 use bpaf_help::meta::Meta;
 use bpaf_help::meta_help::{EnvTexts, HelpItems, write_help_item_groups};
 use bpaf_help::pages::{ManualTitle, Section};
-use bpaf_help::usage::write_meta;
 use bpaf_roff::roff::Roff;
 use description_parts::options::Opt;
 use std::alloc::{AllocError, Allocator};
@@ -63,7 +62,8 @@ impl<A: Allocator, B: Allocator + Copy> Subject<'_, '_, A, B> {
     fn manual(&self) -> Result<Doc<B>, AllocError>
         ensures { IfOk result (λ document. document ≡ subject_manual (subject_said self.now)) }
     {
-        let tree = level_tree(self.allocator(), self.level, self.help_options)?;
+        let shared = Shared::on_help_pages(self.help_options);
+        let tree = level_tree(self.allocator(), self.level, shared)?;
         let document = self.manual_of(&tree);
         drop(tree);
         document
@@ -185,32 +185,6 @@ fn put_synopsis<B: Allocator + Copy>(
     put_usage(alloc, document, path, tree, usage)
 }
 
-// The usage line, or the text that stands for it.
-fn put_usage<B: Allocator + Copy>(
-    alloc: B,
-    document: &mut Doc<B>,
-    path: &[String<B>],
-    tree: &Meta<B>,
-    usage: Option<&str>,
-) -> Result<(), AllocError>
-    ensures { OnOk result (document.new ≡ with_writes document.old
-        (usage_part (map string_bytes path.now) (tree_of tree.now) (text_of usage.entry))) }
-{
-    match usage {
-        Some(text) => put_plain(alloc, document, without_lead(text)),
-        None => {
-            document.write_path(path)?;
-            write_meta(document, tree, true)
-        }
-    }
-}
-
-fn without_lead(text: &str) -> &str
-    ensures { result.now ≡ without_lead text.now }
-{
-    text.strip_prefix("Usage: ").unwrap_or(text)
-}
-
 // The whole of `about`, where it says more than the summary.
 fn put_description<B: Allocator + Copy>(
     alloc: B,
@@ -304,15 +278,4 @@ fn put_reference<B: Allocator + Copy>(
     document.text("(")?;
     document.text(section)?;
     document.text(")")
-}
-
-fn put_plain<B: Allocator + Copy>(
-    alloc: B,
-    document: &mut Doc<B>,
-    text: &str,
-) -> Result<(), AllocError>
-    ensures { OnOk result (document.new ≡ with_writes document.old (doc_writes (plain_document text.now))) }
-{
-    let part = Doc::from_text(alloc, text)?;
-    document.doc(&part)
 }

@@ -2,9 +2,9 @@
 //!
 //! What a page is made of is let go by a call of `drop`: the prover takes it as one step, and the end of a block as one
 //! for each part of the value and each of its variants.
-ghost use Rattle.std.specs.Prelude.{◌≡◌, ◌++◌, ◌∷◌, [], true, false, IfOk, OnOk, map, string_bytes};
+ghost use Rattle.std.specs.Prelude.{◌≡◌, ◌++◌, ◌∷◌, [], true, false, IfOk, map, string_bytes};
 ghost use Rattle.bpaf_doc.specs.declared.buffer.Block.TheVariants as block;
-ghost use Rattle.bpaf_doc.specs.Buffer.Writes.{document_of, inside, path_writes, with_writes};
+ghost use Rattle.bpaf_doc.specs.Buffer.Writes.{document_of, inside};
 ghost use Rattle.bpaf_doc.specs.Console.Exact.{console_page};
 ghost use Rattle.bpaf_doc.specs.Console.Layout.{IsLayout};
 ghost use Rattle.bpaf_doc.specs.Html.Exact.{html_page};
@@ -12,24 +12,24 @@ ghost use Rattle.bpaf_doc.specs.Html.Page.{IsHtmlPageOf};
 ghost use Rattle.bpaf_doc.specs.Markdown.Exact.{markdown_page};
 ghost use Rattle.bpaf_doc.specs.Markdown.Page.{IsMarkdownOf};
 ghost use Rattle.bpaf_meta.specs.Meta.Misplaced.{IsWellPlaced};
-ghost use Rattle.bpaf_meta.specs.Usage.Writes.{usage_writes};
-ghost use Rattle.bpaf_meta.specs.View.{head_of, tree_of};
+ghost use Rattle.bpaf_meta.specs.View.{head_of, text_of, tree_of};
 ghost use Rattle.description.specs.Pages.{IsDescriptionManual, IsUsageLineOf, IsUsageOf, collected_document};
 ghost use Rattle.description.specs.Pages.{help_document, manual_text, usage_document};
 ghost use Rattle.description.specs.Pages.{subject_head, subject_help, subject_tree, subject_usage};
-ghost use Rattle.description.specs.Trees.{description_head, description_tree};
+ghost use Rattle.description.specs.Trees.{description_head, description_tree, manual_head, manual_tree};
+ghost use Rattle.description.specs.UsageLines.{usage_part};
 ghost use Rattle.description.specs.View.{description_said, subject_said};
 
 use crate::descriptions::Description;
 use crate::laws::{chapters_are_placed, pages_are_nested};
 use crate::subjects::Subject;
-use crate::trees::{level_info, level_tree};
+use crate::trees::{Shared, level_info, level_tree};
+use crate::usage_lines::put_usage;
 use bpaf_doc::buffer::{Block, Doc, Token};
 use bpaf_doc::console::MAX_WIDTH;
 use bpaf_help::meta::Meta;
 use bpaf_help::meta_help::{EnvTexts, HelpError, Info, render_help};
 use bpaf_help::pages::{render_html, render_manpage, render_markdown};
-use bpaf_help::usage::write_meta;
 use std::alloc::{AllocError, Allocator};
 
 // What a page is made of.
@@ -45,17 +45,20 @@ impl<A: Allocator> Description<'_, A> {
         ensures tree { IfOk result (λ m. tree_of m ≡ description_tree (description_said self.now)) }
         ensures placed { IfOk result (λ m. IsWellPlaced (tree_of m)) }
     {
-        level_tree(alloc, &self.level, &self.help_options)
+        let shared = Shared::on_help_pages(&self.help_options);
+        level_tree(alloc, &self.level, shared)
     }
 
     /// The texts of the command line, with the tree of the options that ask for help.
     pub fn info<B: Allocator + Copy>(&self, alloc: B) -> Result<Info<B>, AllocError>
         ensures { IfOk result (λ i. head_of i ≡ description_head (description_said self.now)) }
     {
-        level_info(alloc, &self.level, &self.help_options)
+        let shared = Shared::on_help_pages(&self.help_options);
+        level_info(alloc, &self.level, shared)
     }
 
-    /// The usage line, in full and at 100 columns, and a newline.
+    /// The usage line, in full and at 100 columns, and a newline; or the level's text `usage`, without a leading
+    /// `Usage: `, in its place.
     pub fn usage<B: Allocator + Copy>(&self, alloc: B) -> Result<String<B>, AllocError>
         ensures laid_out { IfOk result (λ text. IsUsageLineOf (description_said self.now) (string_bytes text)) }
         ensures exact { IfOk result (λ text. string_bytes text
@@ -162,12 +165,28 @@ impl<A: Allocator> Description<'_, A> {
         }
     }
 
+    // Those of the manual page.
+    fn manual_parts<B: Allocator + Copy>(&self, alloc: B) -> Result<Parts<B>, AllocError>
+        ensures tree { IfOk result (λ parts. tree_of parts.tree ≡ manual_tree (description_said self.now)) }
+        ensures info { IfOk result (λ parts. head_of parts.info ≡ manual_head (description_said self.now)) }
+    {
+        let shared = Shared::on_manual_page(&self.help_options);
+        let tree = level_tree(alloc, &self.level, shared)?;
+        match level_info(alloc, &self.level, shared) {
+            Ok(info) => Ok(Parts { tree, info }),
+            Err(refused) => {
+                drop(tree);
+                Err(refused)
+            }
+        }
+    }
+
     /// The manual page of the command line and of all its commands.
     pub fn manpage<B: Allocator + Copy>(&self, alloc: B) -> Result<String<B>, AllocError>
         ensures read { IfOk result (λ text. IsDescriptionManual (description_said self.now) (string_bytes text)) }
         ensures exact { IfOk result (λ text. string_bytes text ≡ manual_text (description_said self.now)) }
     {
-        let parts = self.parts(alloc)?;
+        let parts = self.manual_parts(alloc)?;
         let page = render_manpage(
             alloc,
             self.name,
@@ -184,7 +203,8 @@ impl<A: Allocator> Description<'_, A> {
 }
 
 impl<A: Allocator, B: Allocator + Copy> Subject<'_, '_, A, B> {
-    /// The usage line, in full and at `width` columns, and a newline.
+    /// The usage line, in full and at `width` columns, and a newline; or the level's text `usage`, without a leading
+    /// `Usage: `, in its place.
     pub fn usage(&self, width: usize) -> Result<String<B>, AllocError>
         ensures laid_out { IfOk result (λ text. IsUsageOf (subject_said self.now) width (string_bytes text)) }
         ensures exact { IfOk result (λ text. string_bytes text
@@ -201,8 +221,9 @@ impl<A: Allocator, B: Allocator + Copy> Subject<'_, '_, A, B> {
     fn usage_document(&self) -> Result<Doc<B>, AllocError>
         ensures { IfOk result (λ document. document ≡ subject_usage (subject_said self.now)) }
     {
-        let tree = level_tree(self.allocator(), self.level, self.help_options)?;
-        let document = usage_of(self.allocator(), &self.path, &tree);
+        let shared = Shared::on_help_pages(self.help_options);
+        let tree = level_tree(self.allocator(), self.level, shared)?;
+        let document = usage_of(self.allocator(), &self.path, &tree, self.level.usage);
         drop(tree);
         document
     }
@@ -235,8 +256,9 @@ impl<A: Allocator, B: Allocator + Copy> Subject<'_, '_, A, B> {
         ensures info { IfOk result (λ parts. head_of parts.info ≡ subject_head (subject_said self.now)) }
         ensures placed { IfOk result (λ parts. IsWellPlaced (tree_of parts.tree)) }
     {
-        let tree = level_tree(self.allocator(), self.level, self.help_options)?;
-        match level_info(self.allocator(), self.level, self.help_options) {
+        let shared = Shared::on_help_pages(self.help_options);
+        let tree = level_tree(self.allocator(), self.level, shared)?;
+        match level_info(self.allocator(), self.level, shared) {
             Ok(info) => Ok(Parts { tree, info }),
             Err(refused) => {
                 drop(tree);
@@ -271,30 +293,19 @@ impl<A: Allocator, B: Allocator + Copy> Subject<'_, '_, A, B> {
     }
 }
 
-// The usage line of a tree, behind a path.
+// The usage line of a tree, behind a path, or the text that stands for it.
 fn usage_of<B: Allocator + Copy>(
     alloc: B,
     path: &[String<B>],
     tree: &Meta<B>,
+    text: Option<&str>,
 ) -> Result<Doc<B>, AllocError>
     ensures { IfOk result (λ document. document ≡ document_of (inside block.Mono
-        (path_writes (map string_bytes path.now) ++ usage_writes true (tree_of tree.now)))) }
+        (usage_part (map string_bytes path.now) (tree_of tree.now) (text_of text.entry)))) }
 {
     let mut document = Doc::new(alloc);
-    put_usage(&mut document, path, tree)?;
-    Ok(document)
-}
-
-fn put_usage<B: Allocator + Copy>(
-    document: &mut Doc<B>,
-    path: &[String<B>],
-    tree: &Meta<B>,
-) -> Result<(), AllocError>
-    ensures { OnOk result (document.new ≡ with_writes document.old (inside block.Mono
-        (path_writes (map string_bytes path.now) ++ usage_writes true (tree_of tree.now)))) }
-{
     document.token(Token::BlockStart(Block::Mono))?;
-    document.write_path(path)?;
-    write_meta(document, tree, true)?;
-    document.token(Token::BlockEnd(Block::Mono))
+    put_usage(alloc, &mut document, path, tree, text)?;
+    document.token(Token::BlockEnd(Block::Mono))?;
+    Ok(document)
 }

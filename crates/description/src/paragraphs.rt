@@ -64,7 +64,8 @@ fn is_ink(character: char) -> bool
     !character.is_whitespace()
 }
 
-fn without_margins(text: &str) -> &str
+/// The text without the blanks and newlines at its ends.
+pub fn without_margins(text: &str) -> &str
     ensures { result.now ≡ without_margins text.now }
 {
     without_back(without_front(text))

@@ -12,8 +12,8 @@ use std::alloc::{AllocError, Allocator};
 
 const BACKQUOTE: u8 = b'`';
 
-// What a line of code begins with.
-const BLANKS: &str = "    ";
+/// What a line of code begins with.
+pub const BLANKS: &str = "    ";
 
 // What a line begins with that opens or closes a block of code.
 const FENCE: &str = "```";
@@ -44,7 +44,8 @@ pub fn has_literals(text: &str) -> bool
     !is_fence(rest)
 }
 
-fn is_fence(line: &str) -> bool
+/// Whether a line opens or closes a block of code.
+pub fn is_fence(line: &str) -> bool
     ensures { result ≡ is_fence line.now }
 {
     line.starts_with(FENCE)
@@ -77,7 +78,8 @@ fn put_lines<B: Allocator>(document: &mut Doc<B>, text: &str) -> Result<(), Allo
     put_line(document, rest)
 }
 
-fn put_line<B: Allocator>(document: &mut Doc<B>, line: &str) -> Result<(), AllocError>
+/// Writes a line, in which pairs of backquotes count, unless it begins with four blanks.
+pub fn put_line<B: Allocator>(document: &mut Doc<B>, line: &str) -> Result<(), AllocError>
     ensures { OnOk result (document.new ≡ with_writes document.old (line_writes line.now)) }
 {
     if is_code(line) {
@@ -115,8 +117,8 @@ fn put_plain<B: Allocator>(document: &mut Doc<B>, text: &str) -> Result<(), Allo
     }
 }
 
-// What stands before, in and behind the first pair of single backquotes.
-fn first_pair(text: &str) -> Option<(&str, &str, &str)>
+/// What stands before, in and behind the first pair of single backquotes.
+pub fn first_pair(text: &str) -> Option<(&str, &str, &str)>
     ensures pieces { MatchOption result (pieces (parted text.now) ≡ plain_piece text.now)
         (λ p. pieces (parted text.now) ≡ plain_piece p.0.now ++ literal p.1.now ∷ pieces (parted p.2.now)) }
     ensures shorter { IfSome result (λ p. length p.2.now < length text.now) }

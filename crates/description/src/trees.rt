@@ -14,24 +14,59 @@ ghost use Rattle.description.specs.Trees.{alternative_tree, help_said, is_shown}
 ghost use Rattle.description.specs.Notes.{command_notes, noted_writes, rest_writes, value_notes};
 ghost use Rattle.description.specs.Paragraphs.{without_back};
 ghost use Rattle.description.specs.Trees.{named_group, named_groups, once_in_usage, one_of_commands};
-ghost use Rattle.description.specs.Trees.{option_item, option_tree, options_tree, placed_group, placed_groups};
-ghost use Rattle.description.specs.Trees.{positional_tree, titled, show_command};
-ghost use Rattle.description.specs.Trees.{wrapped};
+ghost use Rattle.description.specs.Trees.{any_item, named_item, option_item, option_tree, options_tree, placed_group};
+ghost use Rattle.description.specs.Trees.{placed_groups, positional_tree, titled, show_command, spelled_item, wrapped};
+ghost use Rattle.description.specs.Trees.{on_help_pages, on_manual_page};
+ghost use Rattle.description.specs.Notes.Steps.{gap_behind, with_note};
+ghost use Rattle.description_parts.specs.Content.{syntax};
+ghost use Rattle.description.specs.View.{shared_said};
 ghost use Rattle.description_parts.specs.View.{choice_said, command_said, commands_said, group_said};
 ghost use Rattle.description_parts.specs.View.{groups_said, level_said, opt_said, positional_said, topic_said};
 
 use crate::footers::topics_document;
 use crate::paragraphs::{split_lead, without_back};
+use crate::syntax::{syntax_document, usage_document};
 use crate::texts::{has_literals, put_text, text_document};
 use bpaf_doc::buffer::Doc;
 use bpaf_help::item::{Item, ShortLong};
 use bpaf_help::meta::Meta;
 use bpaf_help::meta_help::{Info, Metavar};
 use description_parts::levels::{Command, Group, Level};
-use description_parts::options::{Choice, Opt};
+use description_parts::options::{Choice, Opt, Spelling};
 use description_parts::positionals::Positional;
 use description_parts::topics::Topic;
 use std::alloc::{AllocError, Allocator};
+
+/// What the trees and the texts of all levels have in common.
+#[derive(Clone, Copy)]
+pub(crate) struct Shared<'o, 'a> {
+    // The options that ask for help.
+    help_options: &'o [Opt<'a>],
+    // Whether titles of topics are headers.
+    headers: bool,
+}
+
+impl<'o, 'a> Shared<'o, 'a> {
+    /// On help pages titles of topics are headings as those of lists.
+    pub(crate) fn on_help_pages(help_options: &'o [Opt<'a>]) -> Shared<'o, 'a>
+        ensures { shared_said result ≡ on_help_pages (map opt_said help_options.now) }
+    {
+        Shared {
+            help_options,
+            headers: false,
+        }
+    }
+
+    /// On a manual page they are headers.
+    pub(crate) fn on_manual_page(help_options: &'o [Opt<'a>]) -> Shared<'o, 'a>
+        ensures { shared_said result ≡ on_manual_page (map opt_said help_options.now) }
+    {
+        Shared {
+            help_options,
+            headers: true,
+        }
+    }
+}
 
 // Each `put` appends to `parts`; after `AllocError` some may stand there.
 
@@ -57,31 +92,56 @@ fn plain_document<B: Allocator + Copy>(
     }
 }
 
-// A help with what holds where a value is not given, and what it may be.
+// A help with what holds where a value is not given, what it may be, and the environment variable that stands for it.
 fn value_help<B: Allocator + Copy>(
     alloc: B,
     help: Option<&str>,
     default: Option<&str>,
     values: Option<&str>,
+    env: Option<&str>,
 ) -> Result<Option<Doc<B>>, AllocError>
-    ensures { IfOk result (λ d. d
-        ≡ help_said (text_of help.entry) (value_notes (text_of default.entry) (text_of values.entry))) }
+    ensures { IfOk result (λ d. d ≡ help_said (text_of help.entry)
+        (value_notes (text_of default.entry) (text_of values.entry) (text_of env.entry))) }
 {
-    match (default, values) {
-        (None, None) => document(alloc, help),
-        (Some(default), None) => noted(alloc, help, format!(in alloc; "[default: {default}]")?),
-        (None, Some(values)) => {
-            noted(
-                alloc,
-                help,
-                format!(in alloc; "[possible values: {values}]")?,
-            )
-        }
-        (Some(default), Some(values)) => noted(
-            alloc,
-            help,
-            format!(in alloc; "[default: {default}] [possible values: {values}]")?,
-        ),
+    let mut notes = String::new(alloc);
+    put_note(&mut notes, "default", default)?;
+    put_note(&mut notes, "possible values", values)?;
+    put_note(&mut notes, "env", env)?;
+    if notes.is_empty() {
+        document(alloc, help)
+    } else {
+        noted(alloc, help, notes)
+    }
+}
+
+// Puts a note behind others, if there is a text for it.
+fn put_note<B: Allocator>(
+    notes: &mut String<B>,
+    words: &str,
+    text: Option<&str>,
+) -> Result<(), AllocError>
+    ensures { OnOk result (string_bytes notes.new
+        ≡ with_note (string_bytes notes.old) words.now (text_of text.entry)) }
+{
+    let Some(text) = text else {
+        return Ok(());
+    };
+    put_gap(notes)?;
+    notes.push_str("[")?;
+    notes.push_str(words)?;
+    notes.push_str(": ")?;
+    notes.push_str(text)?;
+    notes.push_str("]")
+}
+
+// Puts a blank behind notes, if there are any.
+fn put_gap<B: Allocator>(notes: &mut String<B>) -> Result<(), AllocError>
+    ensures { OnOk result (string_bytes notes.new ≡ string_bytes notes.old ++ gap_behind (string_bytes notes.old)) }
+{
+    if notes.is_empty() {
+        Ok(())
+    } else {
+        notes.push_str(" ")
     }
 }
 
@@ -209,20 +269,72 @@ fn put<B: Allocator>(parts: &mut Vec<Meta<B>, B>, tree: Meta<B>) -> Result<(), A
     Ok(())
 }
 
-fn option_item<B: Allocator + Copy>(alloc: B, option: &Opt<'_>) -> Result<Meta<B>, AllocError>
-    ensures { IfOk result (λ m. tree_of m ≡ option_item (opt_said option.now)) }
+// An option, of which a piece with a bar stands in round brackets in a usage line if `is_bracketed` is set.
+fn option_item<B: Allocator + Copy>(
+    alloc: B,
+    option: &Opt<'_>,
+    is_bracketed: bool,
+) -> Result<Meta<B>, AllocError>
+    ensures { IfOk result (λ m. tree_of m ≡ option_item is_bracketed (opt_said option.now)) }
 {
-    let shorts = shorts(alloc, option.name)?;
-    let help = value_help(alloc, option.help, option.default, option.values)?;
+    match option.spelling {
+        Spelling::Names(name) => named_item(alloc, name, option),
+        Spelling::Syntax(text) => syntax_item(alloc, text, option, is_bracketed),
+    }
+}
+
+fn syntax_item<B: Allocator + Copy>(
+    alloc: B,
+    text: &str,
+    option: &Opt<'_>,
+    is_bracketed: bool,
+) -> Result<Meta<B>, AllocError>
+    ensures { IfOk result (λ m. tree_of m ≡ spelled_item is_bracketed (syntax text.now) (opt_said option.now)) }
+{
+    let item = Box::new(alloc, any_item(alloc, text, option)?)?;
+    let usage = Box::new(alloc, usage_document(alloc, text, is_bracketed)?)?;
+    Ok(Meta::CustomUsage(item, usage))
+}
+
+fn any_item<B: Allocator + Copy>(
+    alloc: B,
+    text: &str,
+    option: &Opt<'_>,
+) -> Result<Meta<B>, AllocError>
+    ensures { IfOk result (λ m. tree_of m ≡ any_item text.now (opt_said option.now)) }
+{
+    let item = Item::Any {
+        metavar: syntax_document(alloc, text)?,
+        anywhere: true,
+        help: value_help(
+            alloc,
+            option.help,
+            option.default,
+            option.values,
+            option.env,
+        )?,
+    };
+    Meta::from_item(alloc, item)
+}
+
+fn named_item<B: Allocator + Copy>(
+    alloc: B,
+    name: ShortLong,
+    option: &Opt<'_>,
+) -> Result<Meta<B>, AllocError>
+    ensures { IfOk result (λ m. tree_of m ≡ named_item (name_of name) (opt_said option.now)) }
+{
+    let shorts = shorts(alloc, name)?;
+    let help = value_help(alloc, option.help, option.default, option.values, None)?;
     let item = match option.value {
         None => Item::Flag {
-            name: option.name,
+            name,
             shorts,
             env: option.env,
             help,
         },
         Some(value) => Item::Argument {
-            name: option.name,
+            name,
             shorts,
             metavar: Metavar(value),
             env: option.env,
@@ -238,7 +350,7 @@ fn option_tree<B: Allocator + Copy>(alloc: B, option: &Opt<'_>) -> Result<Meta<B
     if option.hidden {
         return Ok(Meta::Skip);
     }
-    let item = option_item(alloc, option)?;
+    let item = option_item(alloc, option, option.required || option.repeated)?;
     wrapped(alloc, option.required, option.repeated, item)
 }
 
@@ -266,7 +378,7 @@ fn alternative_tree<B: Allocator + Copy>(
     if alternative.hidden {
         Ok(Meta::Skip)
     } else {
-        option_item(alloc, alternative)
+        option_item(alloc, alternative, false)
     }
 }
 
@@ -323,6 +435,7 @@ fn positional_tree<B: Allocator + Copy>(
         positional.help,
         positional.default,
         positional.values,
+        None,
     )?;
     let item = Item::Positional {
         metavar: Metavar(positional.value),
@@ -423,7 +536,8 @@ fn is_shown<A: Allocator>(command: &Command<'_, A>) -> bool
     !command.hidden
 }
 
-fn show_command<A: Allocator>(commands: &[Command<'_, A>]) -> bool
+/// Whether a command that is not hidden is among them.
+pub(crate) fn show_command<A: Allocator>(commands: &[Command<'_, A>]) -> bool
     ensures { result ≡ show_command (commands_said commands.now) }
 {
     for command in commands {
@@ -441,7 +555,8 @@ fn holds_command<A: Allocator>(group: &Group<'_, A>) -> bool
     show_command(&group.commands)
 }
 
-fn hold_commands<A: Allocator>(groups: &[Group<'_, A>]) -> bool
+/// Whether one is in a group.
+pub(crate) fn hold_commands<A: Allocator>(groups: &[Group<'_, A>]) -> bool
     ensures { result ≡ hold_commands (groups_said groups.now) }
 {
     for group in groups {
@@ -496,15 +611,16 @@ pub(crate) fn options_tree<B: Allocator + Copy>(
 // The footer of a level, with its topics.
 fn footer<B: Allocator + Copy>(
     alloc: B,
+    headers: bool,
     topics: &[Topic<'_>],
     footer: Option<&str>,
 ) -> Result<Option<Doc<B>>, AllocError>
-    ensures { IfOk result (λ d. d ≡ topics_footer (map topic_said topics.now) (text_of footer.entry)) }
+    ensures { IfOk result (λ d. d ≡ topics_footer headers (map topic_said topics.now) (text_of footer.entry)) }
 {
     if topics.is_empty() {
         document(alloc, footer)
     } else {
-        Ok(Some(topics_document(alloc, topics, footer)?))
+        Ok(Some(topics_document(alloc, headers, topics, footer)?))
     }
 }
 
@@ -512,17 +628,17 @@ fn footer<B: Allocator + Copy>(
 pub(crate) fn level_info<A: Allocator, B: Allocator + Copy>(
     alloc: B,
     level: &Level<'_, A>,
-    help_options: &[Opt<'_>],
+    shared: Shared<'_, '_>,
 ) -> Result<Info<B>, AllocError>
     ensures { IfOk result (λ i. head_of i
-        ≡ level_head (options_tree (map opt_said help_options.now)) (level_said level.now)) }
+        ≡ level_head (shared_said shared.entry) (level_said level.now)) }
 {
     Ok(Info {
         descr: document(alloc, level.about)?,
         header: document(alloc, level.header)?,
-        footer: footer(alloc, &level.topics, level.footer)?,
+        footer: footer(alloc, shared.headers, &level.topics, level.footer)?,
         usage: plain_document(alloc, level.usage)?,
-        help: options_tree(alloc, help_options)?,
+        help: options_tree(alloc, shared.help_options)?,
     })
 }
 
@@ -531,10 +647,10 @@ pub(crate) fn level_info<A: Allocator, B: Allocator + Copy>(
 pub(crate) fn level_tree<A: Allocator, B: Allocator + Copy>(
     alloc: B,
     level: &Level<'_, A>,
-    help_options: &[Opt<'_>],
+    shared: Shared<'_, '_>,
 ) -> Result<Meta<B>, AllocError>
     ensures { IfOk result (λ m. tree_of m
-        ≡ level_tree (options_tree (map opt_said help_options.now)) (level_said level.now)) }
+        ≡ level_tree (shared_said shared.entry) (level_said level.now)) }
 {
     let mut parts = Vec::new(alloc);
     put_options(alloc, &mut parts, &level.options)?;
@@ -545,7 +661,7 @@ pub(crate) fn level_tree<A: Allocator, B: Allocator + Copy>(
         &mut parts,
         &level.groups,
         level.command_required,
-        help_options,
+        shared,
     )?;
     put_positionals(alloc, &mut parts, &level.positionals)?;
     put_commands(
@@ -554,7 +670,7 @@ pub(crate) fn level_tree<A: Allocator, B: Allocator + Copy>(
         &level.commands,
         hold_commands(&level.groups),
         level.command_required,
-        help_options,
+        shared,
     )?;
     Ok(Meta::And(parts))
 }
@@ -565,15 +681,15 @@ fn put_placed_groups<A: Allocator, B: Allocator + Copy>(
     parts: &mut Vec<Meta<B>, B>,
     groups: &Vec<Group<'_, A>, A>,
     is_required: bool,
-    help_options: &[Opt<'_>],
+    shared: Shared<'_, '_>,
 ) -> Result<(), AllocError>
     ensures { OnOk result (map tree_of parts.new.items ≡ map tree_of parts.old.items
-        ++ placed_groups (options_tree (map opt_said help_options.now)) false is_required
+        ++ placed_groups (shared_said shared.entry) false is_required
         (groups_said groups.now.items)) }
 {
     let mut shown = false;
     for group in groups {
-        put_placed_group(alloc, parts, group, shown, is_required, help_options)?;
+        put_placed_group(alloc, parts, group, shown, is_required, shared)?;
         shown = shown || holds_command(group);
     }
     Ok(())
@@ -587,10 +703,10 @@ fn put_placed_group<A: Allocator, B: Allocator + Copy>(
     group: &Group<'_, A>,
     is_shown: bool,
     is_required: bool,
-    help_options: &[Opt<'_>],
+    shared: Shared<'_, '_>,
 ) -> Result<(), AllocError>
     ensures { OnOk result (map tree_of parts.new.items ≡ map tree_of parts.old.items
-        ++ placed_group (options_tree (map opt_said help_options.now)) is_shown is_required
+        ++ placed_group (shared_said shared.entry) is_shown is_required
         (group_said group.now)) }
 {
     let mut members = Vec::new(alloc);
@@ -601,7 +717,7 @@ fn put_placed_group<A: Allocator, B: Allocator + Copy>(
         &group.commands,
         is_shown,
         is_required,
-        help_options,
+        shared,
     )?;
     put_titled(alloc, parts, group.title, members)
 }
@@ -614,14 +730,14 @@ fn put_commands<A: Allocator, B: Allocator + Copy>(
     commands: &Vec<Command<'_, A>, A>,
     is_shown: bool,
     is_required: bool,
-    help_options: &[Opt<'_>],
+    shared: Shared<'_, '_>,
 ) -> Result<(), AllocError>
     ensures { OnOk result (map tree_of parts.new.items ≡ map tree_of parts.old.items
         ++ one_of_commands (is_shown && show_command (commands_said commands.now.items)) is_required
-        (command_items (options_tree (map opt_said help_options.now)) (commands_said commands.now.items))) }
+        (command_items (shared_said shared.entry) (commands_said commands.now.items))) }
 {
     let mut items = Vec::new(alloc);
-    put_command_items(alloc, &mut items, commands, help_options)?;
+    put_command_items(alloc, &mut items, commands, shared)?;
     put_one_of(
         alloc,
         parts,
@@ -636,13 +752,13 @@ fn put_command_items<A: Allocator, B: Allocator + Copy>(
     alloc: B,
     items: &mut Vec<Meta<B>, B>,
     commands: &Vec<Command<'_, A>, A>,
-    help_options: &[Opt<'_>],
+    shared: Shared<'_, '_>,
 ) -> Result<(), AllocError>
     ensures { OnOk result (map tree_of items.new.items ≡ map tree_of items.old.items
-        ++ command_items (options_tree (map opt_said help_options.now)) (commands_said commands.now.items)) }
+        ++ command_items (shared_said shared.entry) (commands_said commands.now.items)) }
 {
     for command in commands {
-        put(items, command_item(alloc, command, help_options)?)?;
+        put(items, command_item(alloc, command, shared)?)?;
     }
     Ok(())
 }
@@ -651,16 +767,16 @@ fn put_command_items<A: Allocator, B: Allocator + Copy>(
 fn command_item<A: Allocator, B: Allocator + Copy>(
     alloc: B,
     command: &Command<'_, A>,
-    help_options: &[Opt<'_>],
+    shared: Shared<'_, '_>,
 ) -> Result<Meta<B>, AllocError>
     ensures { IfOk result (λ m. tree_of m
-        ≡ command_item (options_tree (map opt_said help_options.now)) (command_said command.now)) }
+        ≡ command_item (shared_said shared.entry) (command_said command.now)) }
 {
     if command.hidden {
         return Ok(Meta::Skip);
     }
-    let meta = Box::new(alloc, level_tree(alloc, &command.level, help_options)?)?;
-    let info = Box::new(alloc, level_info(alloc, &command.level, help_options)?)?;
+    let meta = Box::new(alloc, level_tree(alloc, &command.level, shared)?)?;
+    let info = Box::new(alloc, level_info(alloc, &command.level, shared)?)?;
     let item = Item::Command {
         name: command.name,
         short: command.short,

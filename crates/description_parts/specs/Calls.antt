@@ -1,11 +1,18 @@
 -- What the calls on the parts of a description leave.
 use Rattle.std.specs.Prelude.{ℕ, List, [], ◌∷◌, ◌++◌, true, false, Some, None}
 use Rattle.bpaf_meta.specs.Content.{Name}
-use Rattle.description_parts.specs.Content.{OptSaid, ChoiceSaid, PositionalSaid, TopicSaid, LevelSaid, level, GroupsSaid, no_groups, groups, GroupSaid, group, CommandsSaid, no_commands, commands, CommandSaid, command}
+use Rattle.description_parts.specs.Content.{SpellingSaid, named, syntax, OptSaid, ChoiceSaid, PositionalSaid, TopicSaid, LevelSaid, level, GroupsSaid, no_groups, groups, GroupSaid, group, CommandsSaid, no_commands, commands, CommandSaid, command}
+
+-- an option of which nothing is said but how it is written
+abbrev pub spelled_option : SpellingSaid → OptSaid
+spelled_option spelling = record { spelling = spelling; value = None; default = None; values = None; help = None; env = None; required = false; repeated = false; hidden = false }
 
 -- a flag of which nothing but the name is said
 abbrev pub plain_option : Name → OptSaid
-plain_option name = record { name = name; value = None; default = None; values = None; help = None; env = None; required = false; repeated = false; hidden = false }
+plain_option name = spelled_option (named name)
+
+abbrev pub syntax_option : (text : List ℕ) → OptSaid
+syntax_option text = spelled_option (syntax text)
 
 -- behind the groups of a level
 abbrev pub groups_then : GroupsSaid → GroupSaid → GroupsSaid

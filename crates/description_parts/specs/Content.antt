@@ -2,9 +2,14 @@
 use Rattle.std.specs.Prelude.{ℕ, List, Bool, Option}
 use Rattle.bpaf_meta.specs.Content.{Name}
 
+-- the content of a `Spelling`
+pub data SpellingSaid : Type 0 where
+  named : Name → SpellingSaid
+  syntax : List ℕ → SpellingSaid
+
 -- the content of an `Opt`
 pub record OptSaid : Type 0 where
-  pub name : Name
+  pub spelling : SpellingSaid
   pub value : Option (List ℕ)
   pub default : Option (List ℕ)
   pub values : Option (List ℕ)

@@ -1,8 +1,10 @@
 -- What the parts of a description say.
 use Rattle.std.specs.Prelude.{List, [], ◌∷◌, map}
 use Rattle.bpaf_meta.specs.View.{name_of, text_of}
-use Rattle.description_parts.specs.Content.{OptSaid, ChoiceSaid, PositionalSaid, TopicSaid, LevelSaid, level, GroupsSaid, no_groups, groups, GroupSaid, group, CommandsSaid, no_commands, commands, CommandSaid, command}
+use Rattle.description_parts.specs.Content.{SpellingSaid, named, syntax, OptSaid, ChoiceSaid, PositionalSaid, TopicSaid, LevelSaid, level, GroupsSaid, no_groups, groups, GroupSaid, group, CommandsSaid, no_commands, commands, CommandSaid, command}
 use Rattle.description_parts.specs.declared.options.Opt.{Opt}
+use Rattle.description_parts.specs.declared.options.Spelling.{Spelling}
+use Rattle.description_parts.specs.declared.options.Spelling.TheVariants.{Names, Syntax}
 use Rattle.description_parts.specs.declared.options.Choice.{Choice}
 use Rattle.description_parts.specs.declared.positionals.Positional.{Positional}
 use Rattle.description_parts.specs.declared.topics.Topic.{Topic}
@@ -10,8 +12,12 @@ use Rattle.description_parts.specs.declared.levels.Level.{Level, Level-F, fold-L
 use Rattle.description_parts.specs.declared.levels.Group.{Group, Group-F, fold-Group}
 use Rattle.description_parts.specs.declared.levels.Command.{Command, Command-F, fold-Command}
 
+abbrev pub spelling_said : Spelling → SpellingSaid
+spelling_said (Names name) = named (name_of name)
+spelling_said (Syntax text) = syntax text.now
+
 abbrev pub opt_said : Opt → OptSaid
-opt_said o = record { name = name_of o.name; value = text_of o.value; default = text_of o.default; values = text_of o.values; help = text_of o.help; env = text_of o.env; required = o.required; repeated = o.repeated; hidden = o.hidden }
+opt_said o = record { spelling = spelling_said o.spelling; value = text_of o.value; default = text_of o.default; values = text_of o.values; help = text_of o.help; env = text_of o.env; required = o.required; repeated = o.repeated; hidden = o.hidden }
 
 abbrev pub choice_said : {A : Type 0} → Choice A → ChoiceSaid
 choice_said c = record { options = map opt_said c.options.items; required = c.required }

@@ -7,6 +7,6 @@ pub mod positionals;
 pub mod topics;
 
 pub use levels::{Command, Group, Level};
-pub use options::{Choice, Opt};
+pub use options::{Choice, Opt, Spelling};
 pub use positionals::Positional;
 pub use topics::Topic;

@@ -1,25 +1,37 @@
 //! Options, and choices among options.
 ghost use Rattle.std.specs.Prelude.{◌≡◌, ◌++◌, ◌∷◌, [], Some, None, true, false, OnErr, OnOk};
 ghost use Rattle.bpaf_meta.specs.Content.{both, long as long_of, short as short_of};
-ghost use Rattle.description_parts.specs.Calls.{plain_option};
-ghost use Rattle.description_parts.specs.View.{choice_said, opt_said};
+ghost use Rattle.bpaf_meta.specs.View.{name_of};
+ghost use Rattle.description_parts.specs.Calls.{plain_option, spelled_option, syntax_option};
+ghost use Rattle.description_parts.specs.View.{choice_said, opt_said, spelling_said};
 
 use bpaf_meta::item::ShortLong;
 use std::alloc::{AllocError, Allocator, Global};
+
+/// How an option is written.
+#[derive(Clone, Copy, Debug)]
+pub enum Spelling<'a> {
+    /// A short name, a long one or both, and the word for the value of the option behind them, if it has one.
+    Names(ShortLong),
+    /// All of it as one text: `--color[=WHEN]`, `-n, --line, --number`, `--[no-]edit`, `if=FILE`. A usage line shows
+    /// the first of the pieces between commas that is more than a name, or the first of all. Any text gives a
+    /// document: nothing of it is checked.
+    Syntax(&'a str),
+}
 
 /// An option: a flag, or with a value an argument. It may be left out unless it is `required`, and be given many
 /// times if it is `repeated`.
 #[derive(Clone, Copy, Debug)]
 pub struct Opt<'a> {
-    pub name: ShortLong,
-    /// What the value is called, as `FILE`.
+    pub spelling: Spelling<'a>,
+    /// What the value is called, as `FILE`. Beside a syntax, which says it itself, it counts for nothing.
     pub value: Option<&'static str>,
     /// What holds where it is not given.
     pub default: Option<&'a str>,
     /// The values that it may have, as the help shows them: `never, auto, always`.
     pub values: Option<&'a str>,
     pub help: Option<&'a str>,
-    /// The environment variable that stands for the option.
+    /// The environment variable that stands for the option. Beside a syntax it is a note in the help.
     pub env: Option<&'static str>,
     pub required: bool,
     pub repeated: bool,
@@ -49,21 +61,24 @@ impl<'a> Opt<'a> {
         Opt::named(ShortLong::Long(long))
     }
 
+    /// An option that is written as this text says: `--color[=WHEN]`.
+    pub fn syntax(text: &'a str) -> Opt<'a>
+        ensures { opt_said result ≡ syntax_option text.now }
+    {
+        Opt::spelled(Spelling::Syntax(text))
+    }
+
     fn named(name: ShortLong) -> Opt<'a>
-        ensures { result ≡ record {
-          name = name;
-          value = None;
-          default = None;
-          values = None;
-          help = None;
-          env = None;
-          required = false;
-          repeated = false;
-          hidden = false;
-        } }
+        ensures { opt_said result ≡ plain_option (name_of name) }
+    {
+        Opt::spelled(Spelling::Names(name))
+    }
+
+    fn spelled(spelling: Spelling<'a>) -> Opt<'a>
+        ensures { opt_said result ≡ spelled_option (spelling_said spelling.entry) }
     {
         Opt {
-            name,
+            spelling,
             value: None,
             default: None,
             values: None,
@@ -75,7 +90,7 @@ impl<'a> Opt<'a> {
         }
     }
 
-    /// The option with a value, which makes an argument of it.
+    /// The option with a value, which makes an argument of it. Beside a syntax the value counts for nothing.
     pub fn value(mut self, value: &'static str) -> Opt<'a>
         ensures { opt_said result ≡ record (opt_said self.entry) { value = Some value.now } }
     {
@@ -108,7 +123,7 @@ impl<'a> Opt<'a> {
         self
     }
 
-    /// The option with an environment variable.
+    /// The option with an environment variable, which is a note in the help beside a syntax.
     pub fn env(mut self, env: &'static str) -> Opt<'a>
         ensures { opt_said result ≡ record (opt_said self.entry) { env = Some env.now } }
     {

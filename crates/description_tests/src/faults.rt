@@ -491,7 +491,7 @@ const KEYS: &[(&str, &str)] = &[
     ),
     (
         "[[option]]\nshort = 'b'\nhidden = 1",
-        "option 1: hidden is no flag",
+        "option 1: hidden is neither true nor false",
     ),
     (
         "[[help_option]]\nshort = 'b'\nhidden = true",
@@ -537,23 +537,23 @@ const SAID: &[(&str, &str)] = &[
     ),
     (
         "[[option]]\nlong = 'b'\ndefault = 'x'",
-        "option 1: default stands beside no value",
+        "option 1: default stands beside no value and no syntax",
     ),
     (
         "[[option]]\nlong = 'b'\nvalues = ['x']",
-        "option 1: values stands beside no value",
+        "option 1: values stands beside no value and no syntax",
     ),
     (
         "[[option]]\nlong = 'b'\nvalues = []\ndefault = 'x'",
-        "option 1: default stands beside no value",
+        "option 1: default stands beside no value and no syntax",
     ),
     (
         "[[choice]]\n[[choice.option]]\nlong = 'b'\ndefault = 'x'",
-        "choice 1, option 1: default stands beside no value",
+        "choice 1, option 1: default stands beside no value and no syntax",
     ),
     (
         "[[help_option]]\nlong = 'b'\nvalues = ['x']",
-        "help_option 1: values stands beside no value",
+        "help_option 1: values stands beside no value and no syntax",
     ),
     (
         "[[option]]\nlong = 'b'\nvalue = 'V'\ndefault = 'x'\nrequired = true",
@@ -565,7 +565,7 @@ const SAID: &[(&str, &str)] = &[
     ),
     (
         "[[option]]\nlong = 'b'\nvalue = 'V'\ndefault = 'x'\nrequired = 1",
-        "option 1: required is no flag",
+        "option 1: required is neither true nor false",
     ),
     ("[[positional]]\nvalue = 'V'\ndefault = 'x'", "a [V]"),
     (
@@ -673,7 +673,8 @@ fn says_behind(rt: &impl Abort, out: Global, head: &str, text: &str, want: &str)
     is_that
 }
 
-fn check(rt: &impl Abort, out: Global, head: &str, rows: &[(&str, &str)]) {
+/// Sees that each text behind the head has the usage line or the fault of its row.
+pub fn check(rt: &impl Abort, out: Global, head: &str, rows: &[(&str, &str)]) {
     for &(text, want) in rows {
         assert!(rt; says_behind(rt, out, head, text, want), "{text}");
     }

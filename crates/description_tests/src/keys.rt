@@ -5,8 +5,9 @@ use lasting_names::Names;
 use std::alloc::{AllocError, Global};
 use std::process::Abort;
 
+/// A page of a level.
 #[derive(Clone, Copy, Debug)]
-enum Form {
+pub enum Form {
     Usage,
     Full,
     Brief,
@@ -14,7 +15,7 @@ enum Form {
 }
 
 /// A text, the words that lead to a level of what it describes, and a page of that.
-type Row = (&'static str, &'static [&'static str], Form, &'static str);
+pub type Row = (&'static str, &'static [&'static str], Form, &'static str);
 
 // Something hidden of each kind, beside something that is not.
 const HIDDEN: &str =
@@ -134,7 +135,8 @@ fn shows(rt: &impl Abort, out: Global, &(text, words, form, want): &Row) -> bool
     is_that
 }
 
-fn check(rt: &impl Abort, out: Global, rows: &[Row]) {
+/// Sees that each page is what its row says.
+pub fn check(rt: &impl Abort, out: Global, rows: &[Row]) {
     for row in rows {
         assert!(rt; shows(rt, out, row), "{:?} {}", row.1, row.3);
     }

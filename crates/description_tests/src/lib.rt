@@ -26,4 +26,10 @@ mod samples;
 #[cfg(test)]
 mod subjects;
 #[cfg(test)]
+mod syntaxes;
+#[cfg(test)]
 mod texts;
+#[cfg(test)]
+mod topics;
+#[cfg(test)]
+mod web_pages;

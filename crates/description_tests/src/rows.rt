@@ -49,6 +49,19 @@ fn options(rt: HostRuntime) {
     assert!(rt; option_is(&rt, rt.alloc(), Opt::flag('v', "verbose"), "app [-v]\n"));
 }
 
+#[test]
+fn options_of_any_syntax(rt: HostRuntime) {
+    let option = Opt::syntax("--color[=WHEN]");
+    assert!(rt; option_is(&rt, rt.alloc(), option, "app [--color[=WHEN]]\n"));
+    // A value counts for nothing beside a syntax.
+    let option = Opt::syntax("-a").value("V").required();
+    assert!(rt; option_is(&rt, rt.alloc(), option, "app -a\n"));
+    // What no TOML text may say.
+    assert!(rt; option_is(&rt, rt.alloc(), Opt::syntax("-a, x]"), "app [x]]\n"));
+    assert!(rt; option_is(&rt, rt.alloc(), Opt::syntax(")-a, x"), "app [)-a, x]\n"));
+    assert!(rt; option_is(&rt, rt.alloc(), Opt::syntax(""), "app \n"));
+}
+
 fn value_is(rt: &impl Abort, out: Global, value: Positional<'static>, want: &str) -> bool {
     usage_is(rt, out, with_positional(rt, out, value), want)
 }

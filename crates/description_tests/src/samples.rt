@@ -107,15 +107,18 @@ pub fn sample(rt: &impl Abort, out: Global) -> Description<'static> {
     Description::new(out, "app", level)
 }
 
-/// An application with one command and a topic, an option that takes a value, and one that asks for help.
+/// An application with one command and a topic, an option that takes a value, one that is written by a syntax, and one
+/// that asks for help.
 pub fn with_help(rt: &impl Abort, out: Global) -> Description<'static> {
     let mut level = Level::new(out);
-    let topic = Topic::new("Files", "It reads `none`");
+    let topic = Topic::new("Files", "It reads `none`\n\nSo:\n    $ app\n\nlasts");
     level.topic(topic).expect(rt, "a topic");
     let mut command = Command::new("run", Level::new(out));
     command.alias("go").expect(rt, "another name");
     level.command(command).expect(rt, "a command");
     let option = Opt::long("to").value("X").default("a").values("a, b");
+    level.option(option).expect(rt, "an option");
+    let option = Opt::syntax("--[no-]edit=HOW | -e").repeated().env("EDIT");
     level.option(option).expect(rt, "an option");
     let mut app = Description::new(out, "app", level);
     let option = Opt::flag('h', "help").help("Print this help");

@@ -16,9 +16,11 @@ fn remote(rt: &impl Abort, out: Global) -> Command<'static> {
     Command::new("remote", remote).short('r')
 }
 
-// A group in which another `add` stands.
+// A group in which another `add` stands, with a text in place of its usage line.
 fn files(rt: &impl Abort, out: Global) -> Group<'static> {
-    let add = Level::new(out).about("Adds a file");
+    let add = Level::new(out)
+        .about("Adds a file")
+        .usage("Usage: app add FILE\n app add -n FILE");
     let mut files = Group::new(out, "Files");
     files
         .command(Command::new("add", add))
@@ -52,8 +54,8 @@ const ROWS: &[Row] = &[
     (
         &["add"],
         100,
-        "app add \n",
-        "Adds a file\n\nUsage: app add \n\nAvailable options:\n    -h, --help  Print this page\n",
+        "app add FILE\napp add -n FILE\n",
+        "Adds a file\n\nUsage: app add FILE\napp add -n FILE\n\nAvailable options:\n    -h, --help  Print this page\n",
     ),
     (
         &[],

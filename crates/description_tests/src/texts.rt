@@ -95,9 +95,10 @@ const PAGES: &[(Page, &str)] = &[
         Page::Brief,
         "Usage: app -v\n\nAvailable options:\n    -v  Talk more\n\nExamples\n\nPrint one:\n\nExit status\n\n0 if all is well\n\nBelow\n",
     ),
+    // On a manual page their titles are headers.
     (
         Page::Manual,
-        ".ie \\n(.g .ds Aq \\(aq\n.el .ds Aq '\n.TH app 1 - - \"\"\n.SH SYNOPSIS\n\\fBapp\\fP\\fR \\fP\\fB\\-v\\fP\n.PP\n.SS AVAILABLE\\ OPTIONS:\n.TP\n\\fB\\-v\\fP\n\\fRTalk \\fP\\fBmore\\fP\n.PP\n.PP\n.PP\n.SS EXAMPLES\n.PP\n\\fRPrint \\fP\\fBone\\fP\\fR:\n\n\\fP\\fBapp \\-v\\fP\\fR does\\fP\n.PP\n.SS EXIT\\ STATUS\n.PP\n\\fR0 if all is well\\fP\n.PP\n\\fRBelow\\fP",
+        ".ie \\n(.g .ds Aq \\(aq\n.el .ds Aq '\n.TH app 1 - - \"\"\n.SH SYNOPSIS\n\\fBapp\\fP\\fR \\fP\\fB\\-v\\fP\n.PP\n.SS AVAILABLE\\ OPTIONS:\n.TP\n\\fB\\-v\\fP\n\\fRTalk \\fP\\fBmore\\fP\n.PP\n.PP\n.SH EXAMPLES\n.PP\n\\fRPrint \\fP\\fBone\\fP\\fR:\n\n\\fP\\fBapp \\-v\\fP\\fR does\\fP\n.SH EXIT\\ STATUS\n.PP\n\\fR0 if all is well\\fP\n.PP\n\\fRBelow\\fP",
     ),
 ];
 

@@ -1,3 +1,4 @@
 mod Doc
 mod Trees
 mod Help
+mod Syntax

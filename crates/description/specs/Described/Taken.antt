@@ -1,7 +1,8 @@
 -- Names that stand twice on a level. The options of its choices and groups count as its own, and so do the commands of its groups.
-use Rattle.std.specs.Prelude.{codes, ℕ, List, [], ◌∷◌, ◌++◌, flat_map, filter, Bool, true, not, ◌&&◌, Option, Some, None, option_and_then, option_to_list, bytes_eq}
-use Rattle.std.specs.List.{list_any}
+use Rattle.std.specs.Prelude.{codes, ℕ, List, [], ◌∷◌, ◌++◌, ◌==◌, drop, length, flat_map, filter, Bool, true, false, not, ◌&&◌, Option, Some, option_and_then, option_to_list, bytes_eq, if◌then◌else◌}
+use Rattle.std.specs.List.{list_any, starts_with}
 use Rattle.toml.specs.Data.{Data, array, Items, no_items, item, Members, get_member, as_str, as_table}
+use Rattle.description.specs.Syntax.{syntax_names}
 
 -- the tables of an array, and those of the array at a key
 abbrev pub tables_in : Items → List Members
@@ -25,12 +26,9 @@ level_options ms = own_options ms ++ flat_map own_options (tables_under (codes "
 abbrev pub level_commands : Members → List Members
 level_commands ms = tables_under (codes "command") ms ++ flat_map (tables_under (codes "command")) (tables_under (codes "group") ms)
 
--- the text at a key, and those of each table
+-- the text at a key
 abbrev pub text_under : (key : List ℕ) → Members → Option (List ℕ)
 text_under key ms = option_and_then as_str (get_member key ms)
-
-abbrev pub texts_at : (key : List ℕ) → List Members → List (List ℕ)
-texts_at key = flat_map (λ ms. option_to_list (text_under key ms))
 
 -- the texts of the array at a key
 abbrev pub texts_in : Items → List (List ℕ)
@@ -58,7 +56,22 @@ abbrev pub are_distinct : List (List ℕ) → Bool
 are_distinct [] = true
 are_distinct (text ∷ texts) = not (list_any (bytes_eq text) texts) && are_distinct texts
 
--- no two options of a level share a short or a long name, and no two commands a word
+-- a name without its dashes, if it begins with two of them, or if it begins with one alone
+abbrev pub behind_dashes : (dashes name : List ℕ) → List (List ℕ)
+behind_dashes dashes name = if starts_with ◌==◌ name dashes then drop (length dashes) name ∷ [] else []
+
+abbrev pub without_dashes : (two : Bool) → (name : List ℕ) → List (List ℕ)
+without_dashes true name = behind_dashes (codes "--") name
+without_dashes false name = if starts_with ◌==◌ name (codes "--") then [] else behind_dashes (codes "-") name
+
+-- the names of an option that have so many dashes, without these: its short name or its long one, and those of its syntax, where one may stand twice
+abbrev pub own_names : (two : Bool) → Members → List (List ℕ)
+own_names two ms = option_to_list (text_under (if two then codes "long" else codes "short") ms) ++ flat_map (λ text. flat_map (without_dashes two) (syntax_names text)) (option_to_list (text_under (codes "syntax") ms))
+
+abbrev pub option_names : (two : Bool) → Members → List (List ℕ)
+option_names two ms = distinct (own_names two ms)
+
+-- no two options of a level share a name, and no two commands a word
 abbrev pub has_distinct_names : Members → Bool
-has_distinct_names ms = are_distinct (texts_at (codes "short") (level_options ms))
-    && (are_distinct (texts_at (codes "long") (level_options ms)) && are_distinct (flat_map command_words (level_commands ms)))
+has_distinct_names ms = are_distinct (flat_map (option_names false) (level_options ms))
+    && (are_distinct (flat_map (option_names true) (level_options ms)) && are_distinct (flat_map command_words (level_commands ms)))

@@ -9,6 +9,7 @@ use Rattle.toml_datetime.specs.declared.datetime.Time.{Time}
 use Rattle.toml_datetime.specs.Text.{date_text}
 use Rattle.toml.specs.Data.{Data, string, integer, datetime, Items, no_items, item, Members, no_members, member, get_member, as_array, as_bool, as_str, as_table}
 use Rattle.description.specs.Notes.{listed_texts}
+use Rattle.description.specs.Syntax.{is_well_formed}
 use Rattle.description.specs.Described.Texts.{as_value, if_passes, is_line, is_section, is_short, is_title, is_value}
 
 -- what holds where a value is not given: a text on one line, or a whole number in decimal
@@ -19,6 +20,10 @@ default_text _ = None
 
 abbrev pub as_default : Data → Option (List ℕ)
 as_default d = option_and_then (if_passes is_line) (default_text d)
+
+-- how an option is written
+abbrev pub as_syntax : Data → Option (List ℕ)
+as_syntax d = option_and_then (if_passes is_well_formed) (as_value d)
 
 -- each key of the table is one of these
 abbrev pub has_only : (keys : List (List ℕ)) → Members → Bool

@@ -6,11 +6,12 @@ use Rattle.bpaf_items.specs.Listing.ItemList.{item_list}
 use Rattle.bpaf_items.specs.Page.EnvTexts.{no_texts}
 use Rattle.bpaf_items.specs.Page.HelpPage.{doc_within, groups_writes}
 use Rattle.bpaf_help.specs.Chapters.{manual_name}
-use Rattle.description.specs.Manuals.{description_writes, page_name, summary, synopsis_writes, texts_in}
+use Rattle.description.specs.Manuals.{description_writes, page_name, summary, synopsis_writes}
 use Rattle.description.specs.Pages.{subject_tree}
 use Rattle.description.specs.Subjects.{SubjectSaid}
 use Rattle.description.specs.Topics.{topic_writes}
 use Rattle.description.specs.Trees.{document_said, options_tree}
+use Rattle.description.specs.UsageLines.{texts_in}
 
 -- the header, the lists, the topics and the footer
 abbrev pub list_writes : SubjectSaid → List Write

@@ -1,40 +1,42 @@
 //! Options, choices and positional values, each from its table.
-ghost use Rattle.std.specs.Prelude.{◌≡◌, map, option_and_then, option_map};
-ghost use Rattle.bpaf_meta.specs.View.{name_of, text_of};
+ghost use Rattle.std.specs.Prelude.{◌≡◌, map, option_and_then};
+ghost use Rattle.bpaf_meta.specs.View.{text_of};
 ghost use Rattle.toml.specs.Data.{as_table};
 ghost use Rattle.toml.specs.View.{items_view, table_view, view};
-ghost use Rattle.description.specs.Described.{choice_from, help_option_keys, name_from, option_from, option_keys};
-ghost use Rattle.description.specs.Described.{if_beside, option_name, option_of, option_texts, option_value};
+ghost use Rattle.description.specs.Described.{choice_from, help_option_keys, option_from, option_keys};
+ghost use Rattle.description.specs.Described.{is_flag, is_syntax, option_of, option_spelling, option_texts};
+ghost use Rattle.description.specs.Described.{option_value, spelling_from, unless_there};
 ghost use Rattle.description.specs.Described.{positional_from};
 ghost use Rattle.description.specs.Described.{positional_of, positional_texts, required_beside};
 ghost use Rattle.description.specs.Described.Steps.{value_texts_seen, words_of};
 ghost use Rattle.description.specs.Described.Values.{each_table};
 ghost use Rattle.description.specs.Faults.{Reads};
-ghost use Rattle.description_parts.specs.View.{choice_said, opt_said, positional_said};
+ghost use Rattle.description_parts.specs.View.{choice_said, opt_said, positional_said, spelling_said};
 
 use super::faults::{Fault, Way};
 use super::texts::Kind;
 use super::values::{
-    check_keys, default_at, flag_at, is_empty, push, required_word_at, short_at, table_of,
-    tables_at, text_at, values_at, word_at,
+    check_keys, default_at, flag_at, is_empty, push, required_word_at, short_at, syntax_at,
+    table_of, tables_at, text_at, values_at, word_at,
 };
 use bpaf_help::item::ShortLong;
-use description_parts::options::{Choice, Opt};
+use description_parts::options::{Choice, Opt, Spelling};
 use description_parts::positionals::Positional;
 use lasting_names::Names;
 use std::alloc::Allocator;
 use toml::{Table, Value};
 
-const ALTERNATIVE_KEYS: [&str; 8] = [
-    "short", "long", "value", "default", "values", "help", "hidden", "env",
+const ALTERNATIVE_KEYS: [&str; 9] = [
+    "short", "long", "syntax", "value", "default", "values", "help", "hidden", "env",
 ];
 
-const OPTION_KEYS: [&str; 10] = [
-    "short", "long", "value", "default", "values", "help", "hidden", "env", "required", "repeated",
+const OPTION_KEYS: [&str; 11] = [
+    "short", "long", "syntax", "value", "default", "values", "help", "hidden", "env", "required",
+    "repeated",
 ];
 
-const HELP_OPTION_KEYS: [&str; 9] = [
-    "short", "long", "value", "default", "values", "help", "env", "required", "repeated",
+const HELP_OPTION_KEYS: [&str; 10] = [
+    "short", "long", "syntax", "value", "default", "values", "help", "env", "required", "repeated",
 ];
 
 const CHOICE_KEYS: [&str; 2] = ["option", "required"];
@@ -43,26 +45,44 @@ const POSITIONAL_KEYS: [&str; 8] = [
     "value", "default", "values", "help", "hidden", "required", "repeated", "strict",
 ];
 
-fn option_name<'a>(names: &mut Names, table: &'a Table) -> Result<ShortLong, Fault<'a>>
-    ensures { Reads (option_name (table_view table.now)) (λ name. name_of name) result }
+fn option_spelling<'a, A: Allocator + Copy>(
+    alloc: A,
+    names: &mut Names,
+    table: &'a Table,
+) -> Result<Spelling<'a>, Fault<'a>>
+    ensures { Reads (option_spelling (table_view table.now)) (λ spelling. spelling_said spelling) result }
 {
     let short = short_at(table, "short")?;
     let long = word_at(names, table, "long", Kind::Long)?;
-    match either_name(short, long) {
-        Some(name) => Ok(name),
-        None => Err(Fault::at("short or long", " is missing")),
+    let syntax = syntax_at(alloc, table)?;
+    spelling_from(short, long, syntax)
+}
+
+fn spelling_from<'a>(
+    short: Option<char>,
+    long: Option<&'static str>,
+    syntax: Option<&'a str>,
+) -> Result<Spelling<'a>, Fault<'a>>
+    ensures { Reads (spelling_from short (text_of long.entry) (text_of syntax.entry))
+        (λ spelling. spelling_said spelling) result }
+{
+    match (short, long, syntax) {
+        (None, None, None) => Err(Fault::at("short, long or syntax", " is missing")),
+        (Some(short), None, None) => Ok(Spelling::Names(ShortLong::Short(short))),
+        (None, Some(long), None) => Ok(Spelling::Names(ShortLong::Long(long))),
+        (Some(short), Some(long), None) => Ok(Spelling::Names(ShortLong::Both(short, long))),
+        (None, None, Some(text)) => Ok(Spelling::Syntax(text)),
+        (None, Some(_), Some(_)) => Err(Fault::at("syntax", " stands beside long")),
+        (Some(_), _, Some(_)) => Err(Fault::at("syntax", " stands beside short")),
     }
 }
 
-// The name of these, if there is one.
-fn either_name(short: Option<char>, long: Option<&'static str>) -> Option<ShortLong>
-    ensures { option_map (λ name. name_of name) result ≡ name_from short (text_of long.entry) }
+fn is_syntax(spelling: Spelling<'_>) -> bool
+    ensures { result ≡ is_syntax (spelling_said spelling.entry) }
 {
-    match (short, long) {
-        (Some(short), Some(long)) => Some(ShortLong::Both(short, long)),
-        (Some(short), None) => Some(ShortLong::Short(short)),
-        (None, Some(long)) => Some(ShortLong::Long(long)),
-        (None, None) => None,
+    match spelling {
+        Spelling::Names(_) => false,
+        Spelling::Syntax(_) => true,
     }
 }
 
@@ -79,12 +99,17 @@ fn option_value<'a, A: Allocator + Copy>(
     alloc: A,
     names: &mut Names,
     table: &'a Table,
+    is_syntax: bool,
 ) -> Result<ValueTexts<'a>, Fault<'a>>
-    ensures { Reads (option_value (table_view table.now)) (λ texts. value_texts_seen texts) result }
+    ensures { Reads (option_value is_syntax (table_view table.now)) (λ texts. value_texts_seen texts) result }
 {
     let value = word_at(names, table, "value", Kind::Value)?;
-    let default = beside(value, default_at(alloc, names, table)?, "default")?;
-    let values = beside(value, values_at(alloc, names, table)?, "values")?;
+    let value = unless_there(is_syntax, value, "syntax", " stands beside value")?;
+    let is_flag = is_flag(is_syntax, value);
+    let default = default_at(alloc, names, table)?;
+    let default = unless_there(is_flag, default, "default", BESIDE_NONE)?;
+    let values = values_at(alloc, names, table)?;
+    let values = unless_there(is_flag, values, "values", BESIDE_NONE)?;
     Ok(ValueTexts {
         value,
         default,
@@ -92,18 +117,28 @@ fn option_value<'a, A: Allocator + Copy>(
     })
 }
 
-// What is said of a value at a key, if there is a value.
-fn beside<'a>(
-    value: Option<&str>,
-    said: Option<&'a str>,
-    key: &'static str,
-) -> Result<Option<&'a str>, Fault<'a>>
-    ensures { Reads (if_beside (text_of value.entry) (text_of said.entry)) (λ text. text_of text) result }
+// What is wrong with what is said of the value of a flag.
+const BESIDE_NONE: &str = " stands beside no value and no syntax";
+
+fn is_flag(is_syntax: bool, value: Option<&str>) -> bool
+    ensures { result ≡ is_flag is_syntax (text_of value.entry) }
 {
-    if value.is_none() && said.is_some() {
-        Err(Fault::at(key, " stands beside no value"))
+    !(is_syntax || value.is_some())
+}
+
+// A text, which is refused where something else is there.
+fn unless_there<'t, 'a>(
+    is_other_there: bool,
+    text: Option<&'t str>,
+    key: &'static str,
+    after: &'static str,
+) -> Result<Option<&'t str>, Fault<'a>>
+    ensures { Reads (unless_there is_other_there (text_of text.entry)) (λ text. text_of text) result }
+{
+    if is_other_there && text.is_some() {
+        Err(Fault::at(key, after))
     } else {
-        Ok(said)
+        Ok(text)
     }
 }
 
@@ -115,17 +150,17 @@ fn option_texts<'a, A: Allocator + Copy>(
 ) -> Result<Opt<'a>, Fault<'a>>
     ensures { Reads (option_texts (table_view table.now)) (λ option. opt_said option) result }
 {
-    let name = option_name(names, table)?;
+    let spelling = option_spelling(alloc, names, table)?;
     let ValueTexts {
         value,
         default,
         values,
-    } = option_value(alloc, names, table)?;
+    } = option_value(alloc, names, table, is_syntax(spelling))?;
     let help = text_at(table, "help", Kind::Text)?;
     let hidden = flag_at(table, "hidden", false)?;
     let env = word_at(names, table, "env", Kind::Name)?;
     Ok(Opt {
-        name,
+        spelling,
         value,
         default,
         values,

@@ -5,26 +5,28 @@ ghost use Rattle.toml.specs.View.{items_view, table_view, view};
 ghost use Rattle.bpaf_meta.specs.View.{text_of};
 ghost use Rattle.description.specs.Described.Taken.{are_distinct, command_words, distinct, has_distinct_names};
 ghost use Rattle.description.specs.Described.Taken.{level_commands, level_options, own_options};
-ghost use Rattle.description.specs.Described.Taken.{tables_in, tables_under, text_under, texts_at, texts_in};
-ghost use Rattle.description.specs.Described.Taken.{texts_under};
+ghost use Rattle.description.specs.Described.Taken.{option_names, tables_in, tables_under, text_under, texts_in};
+ghost use Rattle.description.specs.Described.Taken.{texts_under, without_dashes};
+ghost use Rattle.description.specs.Syntax.{syntax_names};
 ghost use Rattle.description.specs.Described.Steps.{views_of, words_of};
 ghost use Rattle.description.specs.Faults.{Sees};
 
 use super::faults::Fault;
 use super::values::value_at;
+use crate::syntax::put_names;
 use std::alloc::{AllocError, Allocator};
 use std::collections::HashSet;
 use toml::{Table, Value};
 
-/// Refuses a level on which two options share a short or a long name, or two commands a name, a short
+/// Refuses a level on which two options share a name, which may stand in a syntax, or two commands a name, a short
 /// name or another one. It looks at the names alone, since what stands inside the tables is read later.
 pub fn check_names<'a, A: Allocator + Copy>(alloc: A, table: &'a Table) -> Result<(), Fault<'a>>
     ensures { Sees (has_distinct_names (table_view table.now)) result }
 {
     let mut options = Vec::new(alloc);
     put_level_options(&mut options, table, alloc)?;
-    check_options(alloc, &options, "short", "-")?;
-    check_options(alloc, &options, "long", "--")?;
+    check_options(alloc, &options, false)?;
+    check_options(alloc, &options, true)?;
     check_commands(alloc, table)
 }
 
@@ -39,17 +41,17 @@ fn check_commands<'a, A: Allocator + Copy>(alloc: A, table: &'a Table) -> Result
     check_distinct(alloc, &words, "command ")
 }
 
+// Of the names of options those that begin with two dashes, or those that begin with one.
 fn check_options<'a, A: Allocator + Copy>(
     alloc: A,
     options: &[&'a Table],
-    key: &str,
-    prefix: &'static str,
+    are_two: bool,
 ) -> Result<(), Fault<'a>>
-    ensures { Sees (are_distinct (texts_at key.now (views_of options.now))) result }
+    ensures { Sees (are_distinct (flat_map (option_names are_two) (views_of options.now))) result }
 {
-    let mut texts = Vec::new(alloc);
-    put_texts(&mut texts, options, key)?;
-    check_distinct(alloc, &texts, prefix)
+    let mut names = Vec::new(alloc);
+    put_option_names(&mut names, options, are_two, alloc)?;
+    check_distinct(alloc, &names, if are_two { "--" } else { "-" })
 }
 
 fn check_distinct<'a, A: Allocator + Copy>(
@@ -87,18 +89,52 @@ fn first_repeated<'a, A: Allocator + Copy>(
 
 // Each `put` appends; after `AllocError` some may stand there.
 
-fn put_texts<'a, A: Allocator>(
-    texts: &mut Vec<&'a str, A>,
-    tables: &[&'a Table],
-    key: &str,
+fn put_option_names<'a, A: Allocator + Copy>(
+    names: &mut Vec<&'a str, A>,
+    options: &[&'a Table],
+    are_two: bool,
+    alloc: A,
 ) -> Result<(), AllocError>
-    ensures { OnOk result (words_of texts.new.items ≡ words_of texts.old.items
-        ++ texts_at key.now (views_of tables.now)) }
+    ensures { OnOk result (words_of names.new.items ≡ words_of names.old.items
+        ++ flat_map (option_names are_two) (views_of options.now)) }
 {
-    for table in tables {
-        put_text(texts, text_under(*table, key))?;
+    for option in options {
+        put_names_of(names, *option, are_two, alloc)?;
     }
     Ok(())
+}
+
+fn put_names_of<'a, A: Allocator + Copy>(
+    names: &mut Vec<&'a str, A>,
+    option: &'a Table,
+    are_two: bool,
+    alloc: A,
+) -> Result<(), AllocError>
+    ensures { OnOk result (words_of names.new.items ≡ words_of names.old.items
+        ++ option_names are_two (table_view option.now)) }
+{
+    let mut own = Vec::new(alloc);
+    put_text(
+        &mut own,
+        text_under(option, if are_two { "long" } else { "short" }),
+    )?;
+    put_syntax_names(&mut own, text_under(option, "syntax"), are_two)?;
+    put_distinct(names, &own, alloc)
+}
+
+fn put_syntax_names<'a, A: Allocator>(
+    names: &mut Vec<&'a str, A>,
+    syntax: Option<&'a str>,
+    are_two: bool,
+) -> Result<(), AllocError>
+    ensures { OnOk result (words_of names.new.items ≡ words_of names.old.items
+        ++ flat_map (λ text. flat_map (without_dashes are_two) (syntax_names text))
+        (option_to_list (text_of syntax.entry))) }
+{
+    match syntax {
+        None => Ok(()),
+        Some(text) => put_names(names, text, are_two),
+    }
 }
 
 fn put_command_words<'a, A: Allocator + Copy>(

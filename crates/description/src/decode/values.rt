@@ -8,15 +8,18 @@ ghost use Rattle.toml.specs.Data.{as_table, get_member};
 ghost use Rattle.toml.specs.View.{items_view, table_view, view};
 ghost use Rattle.description.specs.Described.Kinds.{as_kind};
 ghost use Rattle.description.specs.Described.Values.{are_tables, as_default, as_section, as_short, as_texts};
-ghost use Rattle.description.specs.Described.Values.{as_values, digit_text};
+ghost use Rattle.description.specs.Described.Texts.{if_passes, is_value};
+ghost use Rattle.description.specs.Described.Values.{as_syntax, as_values, digit_text};
 ghost use Rattle.description.specs.Described.Values.{each_item, is_empty, words_at};
 ghost use Rattle.description.specs.Described.Values.{flag_at, has_only};
 ghost use Rattle.description.specs.Described.Values.{if_short, optional_at, required_at, only_character, tables_at};
 ghost use Rattle.description.specs.Described.Steps.{words_of};
+ghost use Rattle.description.specs.Syntax.{is_well_formed};
 ghost use Rattle.description.specs.Faults.{Reads, Sees};
 
 use super::faults::Fault;
 use super::texts::{Kind, checked, checked_in, refused_as_short};
+use crate::syntax::{are_paired, are_pieces_full};
 use lasting_names::Names;
 use std::alloc::{AllocError, Allocator};
 use toml::{Table, Value};
@@ -248,6 +251,37 @@ fn values_in<'a, A: Allocator + Copy>(
     checked(names.get(&listed)?, "values", Kind::Value)
 }
 
+/// How an option is written, at the key `syntax`.
+pub fn syntax_at<'a, A: Allocator>(alloc: A, table: &'a Table) -> Result<Option<&'a str>, Fault<'a>>
+    ensures { Reads (optional_at as_syntax (codes "syntax") (table_view table.now)) (λ text. text_of text) result }
+{
+    match value_at(table, "syntax") {
+        None => Ok(None),
+        Some(Value::String(text)) => Ok(Some(syntax_in(alloc, text.as_str())?)),
+        Some(_) => Err(Fault::at("syntax", " is no text")),
+    }
+}
+
+fn syntax_in<'a, A: Allocator>(alloc: A, text: &'a str) -> Result<&'a str, Fault<'a>>
+    ensures { Reads (option_and_then (if_passes is_well_formed) (if_passes is_value text.now)) (λ text. text.now)
+        result }
+{
+    let text = checked(text, "syntax", Kind::Value)?;
+    well_formed(alloc, text)
+}
+
+fn well_formed<'a, A: Allocator>(alloc: A, text: &'a str) -> Result<&'a str, Fault<'a>>
+    ensures { Reads (if_passes is_well_formed text.now) (λ text. text.now) result }
+{
+    if !are_paired(alloc, text)? {
+        return Err(Fault::at("syntax", " holds a bracket that is in no pair"));
+    }
+    if !are_pieces_full(text) {
+        return Err(Fault::at("syntax", " holds an empty piece"));
+    }
+    Ok(text)
+}
+
 /// The flag at a key.
 pub fn flag_at<'a>(table: &'a Table, key: &'static str, default: bool) -> Result<bool, Fault<'a>>
     ensures { Reads (flag_at default key.now (table_view table.now)) (λ flag. flag) result }
@@ -255,7 +289,7 @@ pub fn flag_at<'a>(table: &'a Table, key: &'static str, default: bool) -> Result
     match value_at(table, key) {
         None => Ok(default),
         Some(Value::Boolean(flag)) => Ok(*flag),
-        Some(_) => Err(Fault::at(key, " is no flag")),
+        Some(_) => Err(Fault::at(key, " is neither true nor false")),
     }
 }
 

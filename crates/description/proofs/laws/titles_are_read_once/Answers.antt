@@ -1,4 +1,4 @@
-use Rattle.description.proofs.ReadOnce.{titles_are_read_once}
+use Rattle.description.proofs.PagesReadOnce.{titles_are_read_once}
 use Rattle.description.proofs.laws.titles_are_read_once.Goals as goal
 
 pub returns : goal.returns

@@ -1,4 +1,4 @@
-use Rattle.std.proofs.Common.{[], ap, map, refl, string_bytes}
+use Rattle.std.proofs.Common.{ap, map, refl, string_bytes}
 use Rattle.description.specs.View.{subject_said}
 use Rattle.description.proofs.PageNames.{neighbours_whole}
 use Rattle.description.proofs.subjects.Subject.neighbours.Goals as goal

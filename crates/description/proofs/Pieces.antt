@@ -1,0 +1,131 @@
+-- The pieces of a syntax, one after another.
+use Rattle.std.proofs.Common.{◌≡◌, ℕ, suc, ◌+◌, ◌<◌, ◌≤◌, ◌==◌, Bool, true, false, ◌&&◌, ◌||◌, List, [], ◌∷◌, ◌++◌, map, length, drop, take, get_or, refl, sym, ap, ◌∙◌, append_assoc, append-nil, add-zero, arith, inl, inr, true≢false, Option, Some, None, nat_lt, MatchOption, is_some}
+use Rattle.std.specs.List.{count_by, slice_index}
+use Rattle.std.proofs.lemmas.Bool.Decides.{eqb_tells, nat_tests}
+use Rattle.std.proofs.lemmas.Bool.{false≢true}
+use Rattle.std.proofs.lemmas.List.{drop_all, drop_more, take_all, take_more}
+use Rattle.std.proofs.lemmas.List.Sums.{count_by_more_no, count_by_more_yes}
+use Rattle.std.specs.Int.{from_bool}
+use Rattle.description.specs.Paragraphs.{without_margins}
+use Rattle.description.specs.Syntax.{has_bar, is_bracket, is_closing, is_opening, is_outside, onto_parts, parts, parts_behind, pieces}
+use Rattle.description.proofs.Literals.{HasFirst, onto_front, onto_new, onto_push}
+use Rattle.description.proofs.Stretches.{count_more}
+
+-- ---- behind a place outside brackets it counts for nothing what stands before
+
+same_sums : (k a b : ℕ) → (k + a == k + b) ≡ (a == b)
+same_sums k a b = elim (eqb_tells a b) [
+  | inl p ↦ elim (eqb_tells (k + a) (k + b)) [ inl q ↦ q.0 ∙ sym p.0 | inr q ↦ absurd (q.1 (ap (λ x. k + x) p.1)) ]
+  | inr p ↦ elim (eqb_tells (k + a) (k + b)) [ inl q ↦ absurd (p.1 (omega (arith, q.1))) | inr q ↦ q.0 ∙ sym p.0 ]
+]
+
+pub are_same : (a b : ℕ) → (a == b) ≡ true → a ≡ b
+are_same a b h = elim (eqb_tells a b) [ inl p ↦ p.1 | inr p ↦ absurd (false≢true (sym p.0 ∙ h)) ]
+
+outside_behind : (xs ys : List ℕ) → is_outside xs ≡ true → is_outside (xs ++ ys) ≡ is_outside ys
+outside_behind xs ys h =
+    ap (λ n. n == count_by is_closing (xs ++ ys)) (count_more is_opening xs ys) ∙ ap (λ n. count_by is_opening xs + count_by is_opening ys == n) (count_more is_closing xs ys)
+    ∙ ap (λ n. count_by is_opening xs + count_by is_opening ys == n + count_by is_closing ys) (sym (are_same (count_by is_opening xs) (count_by is_closing xs) h))
+    ∙ same_sums (count_by is_opening xs) (count_by is_opening ys) (count_by is_closing ys)
+
+parts_alike : (mark : ℕ) (xs ys bs : List ℕ) → is_outside xs ≡ true → parts_behind mark (xs ++ ys) bs ≡ parts_behind mark ys bs
+parts_alike mark xs ys [] h = refl
+parts_alike mark xs ys (b ∷ bs) h =
+    ap (λ t. onto_parts (b == mark && t) b (parts_behind mark ((xs ++ ys) ++ b ∷ []) bs)) (outside_behind xs ys h)
+    ∙ ap (λ zs. onto_parts (b == mark && is_outside ys) b (parts_behind mark zs bs)) (append_assoc xs ys (b ∷ []))
+    ∙ ap (onto_parts (b == mark && is_outside ys) b) (parts_alike mark xs (ys ++ b ∷ []) bs h)
+
+parts_fresh : (mark : ℕ) (xs bs : List ℕ) → is_outside xs ≡ true → parts_behind mark xs bs ≡ parts mark bs
+parts_fresh mark xs bs h = sym (ap (λ zs. parts_behind mark zs bs) (append-nil xs)) ∙ parts_alike mark xs [] bs h
+
+either_false : (a b : Bool) → (a || b) ≡ false → (a ≡ false) × (b ≡ false)
+either_false true b h = absurd (true≢false h)
+either_false false b h = (refl, h)
+
+none_counted : (p : ℕ → Bool) (b : ℕ) → p b ≡ false → count_by p (b ∷ []) ≡ 0
+none_counted p b h = count_by_more_no p (b ∷ []) 0 0 (omega arith) h
+
+-- a byte that is no bracket leaves a place outside brackets
+outside_still : (xs : List ℕ) (b : ℕ) → is_bracket b ≡ false → is_outside xs ≡ true → is_outside (xs ++ b ∷ []) ≡ true
+outside_still xs b n h =
+    let both = either_false (is_opening b) (is_closing b) n in
+    outside_behind xs (b ∷ []) h ∙ ap (λ n. n == count_by is_closing (b ∷ [])) (none_counted is_opening b both.0) ∙ ap (λ n. 0 == n) (none_counted is_closing b both.1)
+
+-- ---- the first place where a byte stands outside brackets
+
+-- what was passed, and what is left
+abbrev pub CutSoFar : (mark : ℕ) → List ℕ → ℕ → Type 0
+CutSoFar mark bs i = onto_front (take i bs) (parts_behind mark (take i bs) (drop i bs)) ≡ parts mark bs
+
+pub none_passed : (mark : ℕ) (bs : List ℕ) → CutSoFar mark bs 0
+none_passed mark bs = refl
+
+module _ (mark : ℕ) (bs : List ℕ) (i b : ℕ) (within : i < length bs) (at : b ≡ get_or bs i 0) (so_far : CutSoFar mark bs i) where
+  next : drop i bs ≡ b ∷ drop (i + 1) bs
+  next = drop_more bs i 0 within ∙ ap (λ x. x ∷ drop (i + 1) bs) (sym at)
+
+  taken : take (i + 1) bs ≡ take i bs ++ b ∷ []
+  taken = take_more bs i 0 within ∙ ap (λ x. take i bs ++ x ∷ []) (sym at)
+
+  here : onto_front (take i bs) (onto_parts (b == mark && is_outside (take i bs)) b (parts_behind mark (take i bs ++ b ∷ []) (drop (i + 1) bs))) ≡ parts mark bs
+  here = sym (ap (λ us. onto_front (take i bs) (parts_behind mark (take i bs) us)) next) ∙ so_far
+
+  pub cut_here : is_bracket mark ≡ false → (b == mark) ≡ true → is_outside (take i bs) ≡ true → parts mark bs ≡ take i bs ∷ parts mark (drop (i + 1) bs)
+  cut_here n e h =
+      let is_mark : b ≡ mark = are_same b mark e in
+      sym here ∙ ap (λ t. onto_front (take i bs) (onto_parts (t && is_outside (take i bs)) b (parts_behind mark (take i bs ++ b ∷ []) (drop (i + 1) bs)))) e
+      ∙ ap (λ t. onto_front (take i bs) (onto_parts t b (parts_behind mark (take i bs ++ b ∷ []) (drop (i + 1) bs)))) h
+      ∙ onto_new (take i bs) (parts_behind mark (take i bs ++ b ∷ []) (drop (i + 1) bs))
+      ∙ ap (λ ps. take i bs ∷ ps) (parts_fresh mark (take i bs ++ b ∷ []) (drop (i + 1) bs) (outside_still (take i bs) b (ap is_bracket is_mark ∙ n) h))
+
+  pub cut_later : (b == mark && is_outside (take i bs)) ≡ false → CutSoFar mark bs (i + 1)
+  cut_later h =
+      ap (λ us. onto_front us (parts_behind mark us (drop (i + 1) bs))) taken
+      ∙ onto_push (take i bs) b (parts_behind mark (take i bs ++ b ∷ []) (drop (i + 1) bs))
+      ∙ sym (ap (λ t. onto_front (take i bs) (onto_parts t b (parts_behind mark (take i bs ++ b ∷ []) (drop (i + 1) bs)))) h) ∙ here
+
+pub never_cut : (mark : ℕ) (bs : List ℕ) (i : ℕ) → length bs ≤ i → CutSoFar mark bs i → parts mark bs ≡ bs ∷ []
+never_cut mark bs i h s =
+    sym s ∙ ap (λ us. onto_front (take i bs) (parts_behind mark (take i bs) us)) (drop_all i bs h) ∙ onto_new (take i bs) [] ∙ ap (λ us. us ∷ []) (take_all i bs h)
+
+-- ---- pieces
+
+pub piece_first : (text piece behind : List ℕ) → parts 44 text ≡ piece ∷ parts 44 behind → pieces text ≡ without_margins piece ∷ pieces behind
+piece_first text piece behind e = ap (map without_margins) e
+
+pub piece_alone : (text : List ℕ) → parts 44 text ≡ text ∷ [] → pieces text ≡ without_margins text ∷ []
+piece_alone text e = ap (map without_margins) e
+
+more_than_one : (n : ℕ) → nat_lt 1 (suc (suc n)) ≡ true
+more_than_one n = grind (arith, nat_tests)
+
+parts_some : (mark : ℕ) (xs bs : List ℕ) → HasFirst (parts_behind mark xs bs)
+parts_some mark xs [] = ([], [], refl)
+parts_some mark xs (b ∷ bs) = by (b == mark && is_outside xs) (parts_behind mark (xs ++ b ∷ []) bs) where
+  by : (t : Bool) (ps : List (List ℕ)) → HasFirst (onto_parts t b ps)
+  by true ps = ([], ps, refl)
+  by false [] = (b ∷ [], [], refl)
+  by false (p ∷ ps) = (b ∷ p, ps, refl)
+
+pub bar_there : (piece lead behind : List ℕ) → parts 124 piece ≡ lead ∷ parts 124 behind → has_bar piece ≡ true
+bar_there piece lead behind e =
+    let some = parts_some 124 [] behind in ap (λ ps. nat_lt 1 (length ps)) (e ∙ ap (λ ps. lead ∷ ps) some.2) ∙ more_than_one (length some.1)
+
+pub no_bar : (piece : List ℕ) → parts 124 piece ≡ piece ∷ [] → has_bar piece ≡ false
+no_bar piece e = ap (λ ps. nat_lt 1 (length ps)) e
+
+-- ---- brackets, counted
+
+pub count_step : (p : ℕ → Bool) (bs : List ℕ) (i b : ℕ) → i < length bs → b ≡ get_or bs i 0 → count_by p (take (i + 1) bs) ≡ count_by p (take i bs) + from_bool (p b)
+count_step p bs i b h at = by (p b) refl where
+  by : (t : Bool) → p b ≡ t → count_by p (take (i + 1) bs) ≡ count_by p (take i bs) + from_bool t
+  by true e = count_by_more_yes p bs i 0 h (ap p (sym at) ∙ e)
+  by false e = count_by_more_no p bs i 0 h (ap p (sym at) ∙ e) ∙ sym (add-zero (count_by p (take i bs)))
+
+-- what a test of the counts says of a place
+pub where_outside : (bs : List ℕ) (i : ℕ) (is_mark : Bool) (opened closed : ℕ) (r t : Bool) → opened ≡ count_by is_opening (take i bs) → closed ≡ count_by is_closing (take i bs) → r ≡ (is_mark && opened == closed) → r ≡ t → (is_mark && is_outside (take i bs)) ≡ t
+where_outside bs i is_mark opened closed r t o c e h = sym (ap (λ n. is_mark && n == closed) o ∙ ap (λ n. is_mark && count_by is_opening (take i bs) == n) c) ∙ sym e ∙ h
+
+pub bar_is : (r : Option ℕ) (piece bytes : List ℕ) → bytes ≡ piece → MatchOption r (parts 124 bytes ≡ bytes ∷ []) (λ at. (at < length bytes) × (slice_index bytes at ≡ 124) × (parts 124 bytes ≡ take at bytes ∷ parts 124 (drop (at + 1) bytes))) → is_some r ≡ has_bar piece
+bar_is None piece bytes e h = sym (ap has_bar (sym e) ∙ no_bar bytes h)
+bar_is (Some at) piece bytes e h = sym (ap has_bar (sym e) ∙ bar_there bytes (take at bytes) (drop (at + 1) bytes) h.2)

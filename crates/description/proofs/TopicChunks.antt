@@ -1,0 +1,326 @@
+-- What the lines of a topic's text write one after another is what its chunks write.
+use Rattle.std.proofs.Common.{◌≡◌, ℕ, zero, suc, ◌-◌, Bool, true, false, not, cond, List, [], ◌∷◌, ◌++◌, map, flat_map, reverse, refl, sym, ap, ◌∙◌, append-nil, append_assoc, arith}
+use Rattle.std.specs.Bool.{⊤}
+use Rattle.std.specs.List.{onto_first, slice_split}
+use Rattle.std.proofs.lemmas.List.{reverse-append, reverse-reverse}
+use Rattle.bpaf_doc.specs.Buffer.Writes.{Write, plain}
+use Rattle.description.specs.declared.chunks.Last.TheVariants as last
+use Rattle.description.specs.Chunks.{Line, ordinary, code, counted, outside, fenced, by_turns, lines_of, Cut, rest, before, onto, cut, begins_empty, ends_empty, without_first, without_last, behind_code, Chunk, ordinary_lines, code_lines, any_left, from_code, chunks_behind, chunks_of, chunks}
+use Rattle.description.specs.Texts.{is_fence, line_writes, lines, lines_writes}
+use Rattle.description.specs.Topics.{between, chunks_writes, code_piece, further_writes, line_break}
+use Rattle.description.specs.Topics.Steps.{at_end, gap_behind, is_gap, lines_from, marked_in, newlines, own_line, passed}
+
+-- ---- fences
+
+-- lines outside of a fence and in one, by turns, from one of the two on
+abbrev turns : Bool → List (List (List ℕ)) → List Line
+turns f [] = []
+turns f (part ∷ parts) = map (λ line. marked_in f (counted line)) part ++ turns (not f) parts
+
+by_turns_is : (parts : List (List (List ℕ))) → by_turns parts ≡ turns false parts
+by_turns_is [] = refl
+by_turns_is (front ∷ []) = sym (append-nil (map outside front))
+by_turns_is (front ∷ inner ∷ more) = append_assoc (map outside front) (map fenced inner) (by_turns more) ∙ ap (λ ls. map outside front ++ (map fenced inner ++ ls)) (by_turns_is more)
+
+onto_turns : (f : Bool) (line : List ℕ) (parts : List (List (List ℕ))) → turns f (onto_first line parts) ≡ marked_in f (counted line) ∷ turns f parts
+onto_turns f line [] = refl
+onto_turns f line (part ∷ parts) = refl
+
+split_is : (f : Bool) (ls : List (List ℕ)) → turns f (slice_split is_fence ls) ≡ lines_from f ls
+split_is f [] = refl
+split_is f (line ∷ ls) = by (is_fence line) (split_is (not f) ls) (split_is f ls) where
+  by : (t : Bool) → turns (not f) (slice_split is_fence ls) ≡ lines_from (not f) ls → turns f (slice_split is_fence ls) ≡ lines_from f ls
+      → turns f (cond t ([] ∷ slice_split is_fence ls) (onto_first line (slice_split is_fence ls))) ≡ cond t (lines_from (not f) ls) (marked_in f (counted line) ∷ lines_from f ls)
+  by true h k = h
+  by false h k = onto_turns f line (slice_split is_fence ls) ∙ ap (λ ms. marked_in f (counted line) ∷ ms) k
+
+lines_same : (text : List ℕ) → lines_from false (lines text) ≡ lines_of text
+lines_same text = sym (by_turns_is (slice_split is_fence (lines text)) ∙ split_is false (lines text))
+
+-- ---- empty lines
+
+abbrev empties : ℕ → List (List ℕ)
+empties zero = []
+empties (suc n) = [] ∷ empties n
+
+one_more : (n : ℕ) (ls : List (List ℕ)) → empties n ++ [] ∷ ls ≡ [] ∷ (empties n ++ ls)
+one_more zero ls = refl
+one_more (suc n) ls = ap (λ ms. [] ∷ ms) (one_more n ls)
+
+reversed_empties : (n : ℕ) → reverse (empties n) ≡ empties n
+reversed_empties zero = refl
+reversed_empties (suc n) = reverse-append ([] ∷ []) (empties n) ∙ ap (λ ls. ls ++ [] ∷ []) (reversed_empties n) ∙ one_more n [] ∙ ap (λ ls. [] ∷ ls) (append-nil (empties n))
+
+none_first : (n : ℕ) → without_first (empties n) ≡ []
+none_first zero = refl
+none_first (suc n) = none_first n
+
+none_last : (n : ℕ) → without_last (empties n) ≡ []
+none_last n = ap (λ ls. reverse (without_first ls)) (reversed_empties n) ∙ ap reverse (none_first n)
+
+none_behind : (n : ℕ) → behind_code (empties n) ≡ []
+none_behind zero = refl
+none_behind (suc n) = none_first n
+
+empties_begin : (n : ℕ) → begins_empty (empties n) ≡ is_gap (suc n)
+empties_begin zero = refl
+empties_begin (suc n) = refl
+
+empties_end : (n : ℕ) → ends_empty (empties n) ≡ is_gap (suc n)
+empties_end n = ap begins_empty (reversed_empties n) ∙ empties_begin n
+
+-- ---- empty lines, and one that is not
+
+first_stays : (ls ms : List (List ℕ)) (b : ℕ) (bs : List ℕ) → without_first (ls ++ (b ∷ bs) ∷ ms) ≡ without_first ls ++ (b ∷ bs) ∷ ms
+first_stays [] ms b bs = refl
+first_stays ([] ∷ ls) ms b bs = first_stays ls ms b bs
+first_stays ((c ∷ cs) ∷ ls) ms b bs = refl
+
+begin_stays : (ls ms : List (List ℕ)) (b : ℕ) (bs : List ℕ) → begins_empty (ls ++ (b ∷ bs) ∷ ms) ≡ begins_empty ls
+begin_stays [] ms b bs = refl
+begin_stays ([] ∷ ls) ms b bs = refl
+begin_stays ((c ∷ cs) ∷ ls) ms b bs = refl
+
+turned : (ls ms : List (List ℕ)) (line : List ℕ) → reverse (ls ++ line ∷ ms) ≡ reverse ms ++ line ∷ reverse ls
+turned ls ms line =
+    reverse-append ls (line ∷ ms) ∙ ap (λ xs. xs ++ reverse ls) (reverse-append (line ∷ []) ms) ∙ append_assoc (reverse ms) (line ∷ []) (reverse ls)
+
+last_stays : (ls ms : List (List ℕ)) (b : ℕ) (bs : List ℕ) → without_last (ls ++ (b ∷ bs) ∷ ms) ≡ ls ++ (b ∷ bs) ∷ without_last ms
+last_stays ls ms b bs =
+    ap (λ xs. reverse (without_first xs)) (turned ls ms (b ∷ bs)) ∙ ap reverse (first_stays (reverse ms) (reverse ls) b bs) ∙ turned (without_first (reverse ms)) (reverse ls) (b ∷ bs)
+    ∙ ap (λ xs. xs ++ (b ∷ bs) ∷ without_last ms) (reverse-reverse ls)
+
+end_stays : (ls ms : List (List ℕ)) (b : ℕ) (bs : List ℕ) → ends_empty (ls ++ (b ∷ bs) ∷ ms) ≡ ends_empty ms
+end_stays ls ms b bs = ap begins_empty (turned ls ms (b ∷ bs)) ∙ begin_stays (reverse ms) (reverse ls) b bs
+
+empties_then : (n : ℕ) (b : ℕ) (bs : List ℕ) (ls : List (List ℕ)) → without_first (empties n ++ (b ∷ bs) ∷ ls) ≡ (b ∷ bs) ∷ ls
+empties_then zero b bs ls = refl
+empties_then (suc n) b bs ls = empties_then n b bs ls
+
+own_behind : (n : ℕ) (b : ℕ) (bs : List ℕ) (ls : List (List ℕ)) → behind_code (empties n ++ (b ∷ bs) ∷ ls) ≡ own_line last.Code (suc n) (b ∷ bs) ∷ ls
+own_behind zero b bs ls = refl
+own_behind (suc n) b bs ls = empties_then n b bs ls
+
+gap_before : (n : ℕ) (b : ℕ) (bs : List ℕ) (ls : List (List ℕ)) → begins_empty (empties n ++ (b ∷ bs) ∷ ls) ≡ is_gap (suc n)
+gap_before zero b bs ls = refl
+gap_before (suc n) b bs ls = refl
+
+-- ---- what ordinary lines write
+
+-- those that are not the first
+abbrev others : List (List ℕ) → List Write
+others = flat_map (λ line. (plain (10 ∷ []) ∷ []) ++ line_writes line)
+
+empties_write : (n : ℕ) → others (empties n) ≡ newlines n
+empties_write zero = refl
+empties_write (suc n) = ap (λ ws. plain (10 ∷ []) ∷ ws) (empties_write n)
+
+others_write : (n : ℕ) (line : List ℕ) (ls : List (List ℕ)) → others (empties n ++ line ∷ ls) ≡ newlines (suc n) ++ line_writes line ++ others ls
+others_write zero line ls = refl
+others_write (suc n) line ls = ap (λ ws. plain (10 ∷ []) ∷ ws) (others_write n line ls)
+
+lines_write : (n : ℕ) (line : List ℕ) (ls : List (List ℕ)) → lines_writes (empties n ++ line ∷ ls) ≡ newlines n ++ line_writes line ++ others ls
+lines_write zero line ls = refl
+lines_write (suc n) line ls = others_write n line ls
+
+less : (n : ℕ) → newlines (suc n - 1) ≡ newlines n
+less n = let e : suc n - 1 ≡ n = omega arith in ap newlines e
+
+end_writes : (n : ℕ) → lines_writes (empties n) ≡ newlines (n - 1)
+end_writes zero = refl
+end_writes (suc n) = empties_write n ∙ sym (less n)
+
+-- ---- what chunks write
+
+abbrev tail_writes : List Chunk → List Write
+tail_writes = flat_map further_writes
+
+any_writes : (gap : Bool) (ls : List (List ℕ)) → chunks_writes (any_left gap ls) ≡ lines_writes ls
+any_writes gap [] = refl
+any_writes gap (line ∷ ls) = append-nil (lines_writes (line ∷ ls))
+
+-- no code without a line is first
+abbrev HasLines : List Chunk → Type 0
+HasLines [] = ⊤
+HasLines (ordinary_lines gap ls ∷ cs) = ⊤
+HasLines (code_lines gap [] ∷ cs) = ⊥
+HasLines (code_lines gap (line ∷ ls) ∷ cs) = ⊤
+
+from_has : (gap : Bool) (line : List ℕ) (cs : List Chunk) → HasLines (from_code gap line cs)
+from_has gap line [] = tt
+from_has gap line (ordinary_lines g ls ∷ cs) = tt
+from_has gap line (code_lines true ls ∷ cs) = tt
+from_has gap line (code_lines false ls ∷ cs) = tt
+
+any_has : (gap : Bool) (ls : List (List ℕ)) (cs : List Chunk) → HasLines cs → HasLines (any_left gap ls ++ cs)
+any_has gap [] cs h = h
+any_has gap (line ∷ ls) cs h = tt
+
+alone_has : (gap : Bool) (ls : List (List ℕ)) → HasLines (any_left gap ls)
+alone_has gap [] = tt
+alone_has gap (line ∷ ls) = tt
+
+behind_has : (c : Cut) → HasLines (chunks_behind c)
+behind_has (rest ls) = alone_has (begins_empty ls) (behind_code ls)
+behind_has (before ls line more) = any_has (begins_empty ls) (behind_code (without_last ls)) (from_code (ends_empty ls) line (chunks_behind more)) (from_has (ends_empty ls) line (chunks_behind more))
+
+-- code lines that are not the first of a chunk
+abbrev more_code : List (List ℕ) → List Write
+more_code = flat_map (λ line. (line_break ∷ []) ++ code_piece line)
+
+from_first : (gap : Bool) (line : List ℕ) (cs : List Chunk) → HasLines cs → chunks_writes (from_code gap line cs) ≡ code_piece line ++ tail_writes cs
+from_first gap line [] h = append-nil (code_piece line ++ [])
+from_first gap line (ordinary_lines g ls ∷ cs) h = ap (λ ws. ws ++ tail_writes (ordinary_lines g ls ∷ cs)) (append-nil (code_piece line))
+from_first gap line (code_lines true ls ∷ cs) h = ap (λ ws. ws ++ tail_writes (code_lines true ls ∷ cs)) (append-nil (code_piece line))
+from_first gap line (code_lines false [] ∷ cs) h = absurd h
+from_first gap line (code_lines false (next ∷ ls) ∷ cs) h = append_assoc (code_piece line) (line_break ∷ (code_piece next ++ more_code ls)) (tail_writes cs)
+
+from_further : (gap : Bool) (line : List ℕ) (cs : List Chunk) → tail_writes (from_code gap line cs) ≡ between gap ∷ chunks_writes (from_code gap line cs)
+from_further gap line [] = refl
+from_further gap line (ordinary_lines g ls ∷ cs) = refl
+from_further gap line (code_lines true ls ∷ cs) = refl
+from_further gap line (code_lines false ls ∷ cs) = refl
+
+from_tail : (gap : Bool) (line : List ℕ) (cs : List Chunk) → HasLines cs → tail_writes (from_code gap line cs) ≡ between gap ∷ (code_piece line ++ tail_writes cs)
+from_tail gap line cs h = from_further gap line cs ∙ ap (λ ws. between gap ∷ ws) (from_first gap line cs h)
+
+-- ---- empty lines before what is cut
+
+abbrev behind_empties : ℕ → Cut → Cut
+behind_empties n (rest ls) = rest (empties n ++ ls)
+behind_empties n (before ls line more) = before (empties n ++ ls) line more
+
+none_there : (c : Cut) → behind_empties 0 c ≡ c
+none_there (rest ls) = refl
+none_there (before ls line more) = refl
+
+one_there : (n : ℕ) (c : Cut) → behind_empties n (onto [] c) ≡ behind_empties (suc n) c
+one_there n (rest ls) = ap rest (one_more n ls)
+one_there n (before ls line more) = ap (λ ms. before ms line more) (one_more n ls)
+
+-- what is written behind an ordinary line
+abbrev after_ordinary : Cut → List Write
+after_ordinary (rest ls) = others ls
+after_ordinary (before ls line more) = others (without_last ls) ++ tail_writes (from_code (ends_empty ls) line (chunks_behind more))
+
+-- from the start, behind an ordinary line, and behind code
+abbrev at_start : ℕ → Cut → List Write
+at_start n c = chunks_writes (chunks_of (behind_empties n c))
+
+abbrev in_ordinary : ℕ → Cut → List Write
+in_ordinary n c = after_ordinary (behind_empties n c)
+
+abbrev in_code : ℕ → Cut → List Write
+in_code n c = tail_writes (chunks_behind (behind_empties n c))
+
+-- ---- the end
+
+module _ (n : ℕ) where
+  start_ends : at_end last.Nothing n ≡ at_start n (rest [])
+  start_ends = sym (ap (λ ls. chunks_writes (any_left false ls)) (append-nil (empties n)) ∙ any_writes false (empties n) ∙ end_writes n)
+
+  ordinary_ends : at_end last.Ordinary (suc n) ≡ in_ordinary n (rest [])
+  ordinary_ends = less n ∙ sym (ap others (append-nil (empties n)) ∙ empties_write n)
+
+  code_ends : at_end last.Code (suc n) ≡ in_code n (rest [])
+  code_ends = sym (ap (λ ls. tail_writes (any_left (begins_empty ls) (behind_code ls))) (append-nil (empties n)) ∙ ap (λ ls. tail_writes (any_left (begins_empty (empties n)) ls)) (none_behind n))
+
+-- ---- a code line
+
+module _ (n : ℕ) (line : List ℕ) (c : Cut) where
+  abbrev then_code : List Chunk
+  then_code = from_code (ends_empty (empties n)) line (chunks_behind c)
+
+  ends : tail_writes then_code ≡ gap_behind (suc n) ∷ (code_piece line ++ tail_writes (chunks_behind c))
+  ends = from_tail (ends_empty (empties n)) line (chunks_behind c) (behind_has c) ∙ ap (λ g. between g ∷ (code_piece line ++ tail_writes (chunks_behind c))) (empties_end n)
+
+  start_code : at_start n (before [] line c) ≡ code_piece line ++ tail_writes (chunks_behind c)
+  start_code =
+      ap (λ ls. chunks_writes (any_left false (without_last ls) ++ from_code (ends_empty ls) line (chunks_behind c))) (append-nil (empties n)) ∙ ap (λ ls. chunks_writes (any_left false ls ++ then_code)) (none_last n)
+      ∙ from_first (ends_empty (empties n)) line (chunks_behind c) (behind_has c)
+
+  ordinary_code : in_ordinary n (before [] line c) ≡ gap_behind (suc n) ∷ (code_piece line ++ tail_writes (chunks_behind c))
+  ordinary_code =
+      ap (λ ls. others (without_last ls) ++ tail_writes (from_code (ends_empty ls) line (chunks_behind c))) (append-nil (empties n)) ∙ ap (λ ls. others ls ++ tail_writes then_code) (none_last n) ∙ ends
+
+  code_code : in_code n (before [] line c) ≡ gap_behind (suc n) ∷ (code_piece line ++ tail_writes (chunks_behind c))
+  code_code =
+      ap (λ ls. tail_writes (any_left (begins_empty ls) (behind_code (without_last ls)) ++ from_code (ends_empty ls) line (chunks_behind c))) (append-nil (empties n))
+      ∙ ap (λ ls. tail_writes (any_left (begins_empty (empties n)) (behind_code ls) ++ then_code)) (none_last n) ∙ ends
+
+-- ---- an ordinary line
+
+-- ordinary lines behind others, and chunks behind them
+any_first : (n : ℕ) (line : List ℕ) (ls : List (List ℕ)) (cs : List Chunk) → chunks_writes (any_left false (empties n ++ line ∷ ls) ++ cs) ≡ lines_writes (empties n ++ line ∷ ls) ++ tail_writes cs
+any_first zero line ls cs = refl
+any_first (suc n) line ls cs = refl
+
+module _ (n : ℕ) (b : ℕ) (bs : List ℕ) where
+  abbrev own : List ℕ
+  own = own_line last.Code (suc n) (b ∷ bs)
+
+  start_ordinary : (c : Cut) → at_start n (onto (b ∷ bs) c) ≡ newlines n ++ line_writes (b ∷ bs) ++ after_ordinary c
+  start_ordinary (rest ls) = any_writes false (empties n ++ (b ∷ bs) ∷ ls) ∙ lines_write n (b ∷ bs) ls
+  start_ordinary (before ls line more) =
+      ap (λ g. chunks_writes (any_left false (without_last (empties n ++ (b ∷ bs) ∷ ls)) ++ from_code g line (chunks_behind more))) (end_stays (empties n) ls b bs)
+      ∙ ap (λ xs. chunks_writes (any_left false xs ++ from_code (ends_empty ls) line (chunks_behind more))) (last_stays (empties n) ls b bs)
+      ∙ any_first n (b ∷ bs) (without_last ls) (from_code (ends_empty ls) line (chunks_behind more))
+      ∙ ap (λ ws. ws ++ tail_writes (from_code (ends_empty ls) line (chunks_behind more))) (lines_write n (b ∷ bs) (without_last ls))
+      ∙ append_assoc (newlines n ++ line_writes (b ∷ bs)) (others (without_last ls)) (tail_writes (from_code (ends_empty ls) line (chunks_behind more)))
+
+  ordinary_ordinary : (c : Cut) → in_ordinary n (onto (b ∷ bs) c) ≡ newlines (suc n) ++ line_writes (b ∷ bs) ++ after_ordinary c
+  ordinary_ordinary (rest ls) = others_write n (b ∷ bs) ls
+  ordinary_ordinary (before ls line more) =
+      ap (λ g. others (without_last (empties n ++ (b ∷ bs) ∷ ls)) ++ tail_writes (from_code g line (chunks_behind more))) (end_stays (empties n) ls b bs)
+      ∙ ap (λ xs. others xs ++ tail_writes (from_code (ends_empty ls) line (chunks_behind more))) (last_stays (empties n) ls b bs)
+      ∙ ap (λ ws. ws ++ tail_writes (from_code (ends_empty ls) line (chunks_behind more))) (others_write n (b ∷ bs) (without_last ls))
+      ∙ append_assoc (newlines (suc n) ++ line_writes (b ∷ bs)) (others (without_last ls)) (tail_writes (from_code (ends_empty ls) line (chunks_behind more)))
+
+  code_ordinary : (c : Cut) → in_code n (onto (b ∷ bs) c) ≡ gap_behind (suc n) ∷ (line_writes own ++ after_ordinary c)
+  code_ordinary (rest ls) =
+      ap (λ xs. tail_writes (any_left (begins_empty (empties n ++ (b ∷ bs) ∷ ls)) xs)) (own_behind n b bs ls)
+      ∙ ap (λ g. tail_writes (any_left g (own ∷ ls))) (gap_before n b bs ls)
+      ∙ append-nil (gap_behind (suc n) ∷ (line_writes own ++ others ls))
+  code_ordinary (before ls line more) =
+      ap (λ g. tail_writes (any_left g (behind_code (without_last (empties n ++ (b ∷ bs) ∷ ls))) ++ from_code (ends_empty (empties n ++ (b ∷ bs) ∷ ls)) line (chunks_behind more))) (gap_before n b bs ls)
+      ∙ ap (λ g. tail_writes (any_left (is_gap (suc n)) (behind_code (without_last (empties n ++ (b ∷ bs) ∷ ls))) ++ from_code g line (chunks_behind more))) (end_stays (empties n) ls b bs)
+      ∙ ap (λ xs. tail_writes (any_left (is_gap (suc n)) (behind_code xs) ++ from_code (ends_empty ls) line (chunks_behind more))) (last_stays (empties n) ls b bs)
+      ∙ ap (λ xs. tail_writes (any_left (is_gap (suc n)) xs ++ from_code (ends_empty ls) line (chunks_behind more))) (own_behind n b bs (without_last ls))
+      ∙ ap (λ ws. gap_behind (suc n) ∷ ws) (append_assoc (line_writes own) (others (without_last ls)) (tail_writes (from_code (ends_empty ls) line (chunks_behind more))))
+
+-- ---- all lines
+
+pub record Agrees (ls : List Line) (n : ℕ) : Type 0 where
+  pub from_start : passed last.Nothing n ls ≡ at_start n (cut ls)
+  pub of_ordinary : passed last.Ordinary (suc n) ls ≡ in_ordinary n (cut ls)
+  pub of_code : passed last.Code (suc n) ls ≡ in_code n (cut ls)
+
+agree : (ls : List Line) (n : ℕ) → Agrees ls n
+agree [] n = record { from_start = start_ends n; of_ordinary = ordinary_ends n; of_code = code_ends n }
+agree (code line ∷ ls) n =
+    let more = (agree ls 0).of_code ∙ ap (λ c. tail_writes (chunks_behind c)) (none_there (cut ls)) in
+    record {
+      from_start = ap (λ ws. code_piece line ++ ws) more ∙ sym (start_code n line (cut ls));
+      of_ordinary = ap (λ ws. gap_behind (suc n) ∷ (code_piece line ++ ws)) more ∙ sym (ordinary_code n line (cut ls));
+      of_code = ap (λ ws. gap_behind (suc n) ∷ (code_piece line ++ ws)) more ∙ sym (code_code n line (cut ls));
+    }
+agree (ordinary [] ∷ ls) n =
+    let more = agree ls (suc n) in
+    let same = sym (one_there n (cut ls)) in
+    record {
+      from_start = more.from_start ∙ ap (λ c. chunks_writes (chunks_of c)) same;
+      of_ordinary = more.of_ordinary ∙ ap after_ordinary same;
+      of_code = more.of_code ∙ ap (λ c. tail_writes (chunks_behind c)) same;
+    }
+agree (ordinary (b ∷ bs) ∷ ls) n =
+    let more = (agree ls 0).of_ordinary ∙ ap after_ordinary (none_there (cut ls)) in
+    let own = own_line last.Code (suc n) (b ∷ bs) in
+    record {
+      from_start = ap (λ ws. newlines n ++ line_writes (b ∷ bs) ++ ws) more ∙ sym (start_ordinary n b bs (cut ls));
+      of_ordinary = ap (λ ws. newlines (suc n) ++ line_writes (b ∷ bs) ++ ws) more ∙ sym (ordinary_ordinary n b bs (cut ls));
+      of_code = ap (λ ws. gap_behind (suc n) ∷ (line_writes own ++ ws)) more ∙ sym (code_ordinary n b bs (cut ls));
+    }
+
+pub all_passed : (text : List ℕ) → passed last.Nothing 0 (lines_from false (lines text)) ≡ chunks_writes (chunks text)
+all_passed text =
+    ap (passed last.Nothing 0) (lines_same text) ∙ (agree (lines_of text) 0).from_start ∙ ap (λ c. chunks_writes (chunks_of c)) (none_there (cut (lines_of text)))

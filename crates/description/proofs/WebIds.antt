@@ -1,0 +1,30 @@
+-- The ids of sections and entries.
+use Rattle.std.proofs.Common.{◌≡◌, ℕ, ◌<◌, List, [], ◌∷◌, ◌++◌, flat_map, length, map, refl, sym, ap, ◌∙◌, append_assoc, append-nil, arith}
+use Rattle.description.specs.WebPages.Ids.{id_text, section_id}
+
+-- names that are not the first, each behind a colon
+abbrev pub names_behind : {X : Type 0} → (X → List ℕ) → List X → List ℕ
+names_behind bytes = flat_map (λ name. 58 ∷ id_text (bytes name))
+
+behind_same : {X : Type 0} (bytes : X → List ℕ) (xs : List X) → flat_map (λ name. 58 ∷ id_text name) (map bytes xs) ≡ names_behind bytes xs
+behind_same bytes [] = refl
+behind_same bytes (x ∷ xs) = ap (λ bs. 58 ∷ id_text (bytes x) ++ bs) (behind_same bytes xs)
+
+pub path_whole : {X : Type 0} (bytes : X → List ℕ) (all : List X) (first : X) (others : List X) (begun text old : List ℕ) → all ≡ first ∷ others → begun ≡ old ++ id_text (bytes first)
+    → text ≡ begun ++ names_behind bytes others → text ≡ old ++ section_id (map bytes all)
+path_whole bytes all first others begun text old is b e =
+    e ∙ ap (λ bs. bs ++ names_behind bytes others) b ∙ append_assoc old (id_text (bytes first)) (names_behind bytes others)
+    ∙ ap (λ bs. old ++ (id_text (bytes first) ++ bs)) (sym (behind_same bytes others)) ∙ sym (ap (λ xs. old ++ section_id (map bytes xs)) is)
+
+-- a command below
+below_more : (path : List (List ℕ)) (name : List ℕ) → flat_map (λ n. 58 ∷ id_text n) (path ++ name ∷ []) ≡ flat_map (λ n. 58 ∷ id_text n) path ++ 58 ∷ id_text name
+below_more [] name = append-nil (58 ∷ id_text name)
+below_more (p ∷ ps) name = ap (λ bs. 58 ∷ id_text p ++ bs) (below_more ps name) ∙ sym (append_assoc (58 ∷ id_text p) (flat_map (λ n. 58 ∷ id_text n) ps) (58 ∷ id_text name))
+
+pub below_some : (path : List (List ℕ)) (name : List ℕ) → 0 < length path → section_id path ++ 58 ∷ id_text name ≡ section_id (path ++ name ∷ [])
+below_some [] name h = absurd (omega arith)
+below_some (p ∷ ps) name h = append_assoc (id_text p) (flat_map (λ n. 58 ∷ id_text n) ps) (58 ∷ id_text name) ∙ ap (λ bs. id_text p ++ bs) (sym (below_more ps name))
+
+pub below_none : (path : List (List ℕ)) (name : List ℕ) → length path ≡ 0 → section_id path ++ id_text name ≡ section_id (path ++ name ∷ [])
+below_none [] name h = sym (append-nil (id_text name))
+below_none (p ∷ ps) name h = absurd (omega arith)
