@@ -1,13 +1,15 @@
 -- Names of files, one after another.
-use Rattle.std.proofs.Common.{◌≡◌, ℕ, ◌+◌, ◌<◌, ◌≤◌, ◌↔◌, Bool, true, false, not, ◌&&◌, ◌||◌, List, [], ◌∷◌, length, drop, get_or, map, refl, sym, ap, ◌∙◌, string_bytes}
+use Rattle.std.proofs.Common.{◌≡◌, ℕ, ◌+◌, ◌<◌, ◌≤◌, ◌↔◌, Bool, true, false, cond, not, String, arith, ◌&&◌, ◌||◌, List, [], ◌∷◌, length, drop, get_or, map, refl, sym, ap, ◌∙◌, string_bytes}
 use Rattle.std.specs.Prelude.{IsTrue, bytes_eq}
 use Rattle.std.specs.List.{list_any}
+use Rattle.std.specs.Cmp.Lexicographic.{on_texts_equal}
 use Rattle.std.proofs.lemmas.Bool.{false≢true}
 use Rattle.std.proofs.lemmas.List.{drop_all, drop_more}
 use Rattle.std.proofs.lemmas.Slice.Eq.{bytes_eq-Decides}
 use Rattle.description.specs.View.{file_said}
 use Rattle.description.specs.declared.all.PageFile.{PageFile}
-use Rattle.clidoc_engine.specs.Files.{are_alike, are_file_names, is_file_name, names_of}
+use Rattle.std.specs.Char.{to_ascii_lowercase}
+use Rattle.clidoc_engine.specs.Files.{are_alike, are_file_names, is_file_name, is_first_name, names_of}
 
 -- a test that holds exactly where two texts are the same
 pub tells_same : (b : Bool) (x y : List ℕ) → (IsTrue b ↔ (x ≡ y)) → b ≡ bytes_eq x y
@@ -17,42 +19,73 @@ tells_same false x y h = by (bytes_eq x y) refl where
   by false e = refl
   by true e = absurd (false≢true (h.1 ((bytes_eq-Decides x y).0 e)))
 
-passes : (a b c : Bool) → a ≡ true → b ≡ false → (a && not b && c) ≡ c
-passes true false c e f = refl
-passes false b c e f = absurd (false≢true e)
-passes true true c e f = absurd (false≢true (sym f))
+holds : (a b : Bool) → false ≡ not (a && b) → (a && b) ≡ true
+holds true true h = refl
+holds false b h = absurd (false≢true h)
+holds true false h = absurd (false≢true h)
 
-first_fails : (a b c : Bool) → a ≡ false → (a && not b && c) ≡ false
-first_fails false b c e = refl
-first_fails true b c e = absurd (false≢true (sym e))
-
-second_fails : (a b c : Bool) → b ≡ true → (a && not b && c) ≡ false
-second_fails false b c e = refl
-second_fails true true c e = refl
-second_fails true false c e = absurd (false≢true e)
+fails : (a b : Bool) → true ≡ not (a && b) → (a && b) ≡ false
+fails true true h = absurd (false≢true (sym h))
+fails false b h = refl
+fails true false h = refl
 
 -- the names of files from one on
-abbrev names_from : {A : Type 0} → List (PageFile A) → ℕ → List (List ℕ)
+abbrev pub names_from : {A : Type 0} → List (PageFile A) → ℕ → List (List ℕ)
 names_from fs i = names_of (map file_said (drop i fs))
+
+-- ---- names in small letters
+
+abbrev pub small : List ℕ → List ℕ
+small = map to_ascii_lowercase
+
+pub alike_small : (name : List ℕ) (names : List (List ℕ)) → list_any (are_alike name) names ≡ list_any (bytes_eq (small name)) (map small names)
+alike_small name [] = refl
+alike_small name (other ∷ names) = ap (λ b. are_alike name other || b) (alike_small name names)
+
+pub no_other_left : {A : Type 0} (fs : List (PageFile A)) (i : ℕ) (name : List ℕ) → length fs ≤ i → list_any (are_alike name) (names_from fs i) ≡ false
+no_other_left fs i name h = ap (λ gs. list_any (are_alike name) (names_of (map file_said gs))) (drop_all i fs h)
+
+-- those of the names from one on
+abbrev pub Held : {A S : Type 0} → List (String S) → List (PageFile A) → ℕ → Type 0
+Held {A} {S} keys fs i = (q : String S) → list_any (λ k. bytes_eq (string_bytes q) (string_bytes k)) keys ≡ list_any (bytes_eq (string_bytes q)) (map small (names_from fs i))
+
+texts_equal : (s t : List ℕ) → bytes_eq s t ≡ bytes_eq t s
+texts_equal s t = (on_texts_equal (λ (x : List ℕ). x)).symm s t
+
+either : (b c : Bool) → cond b true c ≡ (b || c)
+either true c = refl
+either false c = refl
 
 module _ {A : Type 0} (fs : List (PageFile A)) (i : ℕ) (f d : PageFile A) (at : f ≡ get_or fs i d) (h : i < length fs) where
   more : names_from fs i ≡ string_bytes f.name ∷ names_from fs (i + 1)
   more = ap (λ gs. names_of (map file_said gs)) (drop_more fs i d h) ∙ ap (λ g. string_bytes g.name ∷ names_from fs (i + 1)) (sym at)
 
-  pub name_passes : is_file_name (string_bytes f.name) ≡ true → list_any (are_alike (string_bytes f.name)) (names_from fs (i + 1)) ≡ false → are_file_names (names_from fs (i + 1)) ≡ are_file_names (names_from fs i)
-  name_passes good apart =
-      let name : List ℕ = string_bytes f.name in
-      sym (ap are_file_names more ∙ passes (is_file_name name) (list_any (are_alike name) (names_from fs (i + 1))) (are_file_names (names_from fs (i + 1))) good apart)
+  -- it is the first that is refused, or another one is
+  module _ (alone : Bool) (is : alone ≡ not (list_any (are_alike (string_bytes f.name)) (names_from fs (i + 1)))) where
+    whole : is_first_name (string_bytes f.name ∷ names_from fs (i + 1)) ≡ (is_file_name (string_bytes f.name) && alone)
+    whole = ap (λ b. is_file_name (string_bytes f.name) && b) (sym is)
 
-  pub name_fails : is_file_name (string_bytes f.name) ≡ false → are_file_names (names_from fs i) ≡ false
-  name_fails bad =
-      let name : List ℕ = string_bytes f.name in
-      ap are_file_names more ∙ first_fails (is_file_name name) (list_any (are_alike name) (names_from fs (i + 1))) (are_file_names (names_from fs (i + 1))) bad
+    pub refused_here : true ≡ not (is_file_name (string_bytes f.name) && alone) → is_first_name (names_from fs i) ≡ are_file_names (names_from fs i)
+    refused_here h =
+        let bad = whole ∙ fails (is_file_name (string_bytes f.name)) alone h in
+        ap is_first_name more ∙ bad ∙ sym (ap are_file_names more ∙ ap (λ b. b && are_file_names (names_from fs (i + 1))) bad)
 
-  pub name_stands_twice : list_any (are_alike (string_bytes f.name)) (names_from fs (i + 1)) ≡ true → are_file_names (names_from fs i) ≡ false
-  name_stands_twice alike =
-      let name : List ℕ = string_bytes f.name in
-      ap are_file_names more ∙ second_fails (is_file_name name) (list_any (are_alike name) (names_from fs (i + 1))) (are_file_names (names_from fs (i + 1))) alike
+    pub passed_here : (first : ℕ) → false ≡ not (is_file_name (string_bytes f.name) && alone) → is_first_name (names_from fs first) ≡ are_file_names (names_from fs (i + 1)) → is_first_name (names_from fs first) ≡ are_file_names (names_from fs i)
+    passed_here first h judged = judged ∙ sym (ap are_file_names more ∙ ap (λ b. b && are_file_names (names_from fs (i + 1))) (whole ∙ holds (is_file_name (string_bytes f.name)) alone h))
+
+  -- it is among those that are known
+  module _ {S : Type 0} (keys new : List (String S)) (key : String S) (same : string_bytes key ≡ small (string_bytes f.name)) (held : Held keys fs (i + 1)) where
+    pub alone_is : (alone : Bool) → alone ≡ not (list_any (λ k. bytes_eq (string_bytes key) (string_bytes k)) keys) → alone ≡ not (list_any (are_alike (string_bytes f.name)) (names_from fs (i + 1)))
+    alone_is alone e =
+        e ∙ ap not (held key ∙ ap (λ x. list_any (bytes_eq x) (map small (names_from fs (i + 1)))) same ∙ sym (alike_small (string_bytes f.name) (names_from fs (i + 1))))
+
+    pub held_more : ((q : String S) → list_any (λ k. bytes_eq (string_bytes q) (string_bytes k)) new ≡ cond (bytes_eq (string_bytes key) (string_bytes q)) true (list_any (λ k. bytes_eq (string_bytes q) (string_bytes k)) keys)) → Held new fs i
+    held_more u q =
+        u q ∙ ap (λ x. cond (bytes_eq x (string_bytes q)) true (list_any (λ k. bytes_eq (string_bytes q) (string_bytes k)) keys)) same
+        ∙ either (bytes_eq (small (string_bytes f.name)) (string_bytes q)) (list_any (λ k. bytes_eq (string_bytes q) (string_bytes k)) keys)
+        ∙ ap (λ b. b || list_any (λ k. bytes_eq (string_bytes q) (string_bytes k)) keys) (texts_equal (small (string_bytes f.name)) (string_bytes q))
+        ∙ ap (λ b. bytes_eq (string_bytes q) (small (string_bytes f.name)) || b) (held q)
+        ∙ sym (ap (λ ns. list_any (bytes_eq (string_bytes q)) (map small ns)) more)
 
   -- the same of the files that one is compared with
   pub other_differs : (name : List ℕ) → are_alike name (string_bytes f.name) ≡ false → list_any (are_alike name) (names_from fs (i + 1)) ≡ list_any (are_alike name) (names_from fs i)
@@ -61,8 +94,7 @@ module _ {A : Type 0} (fs : List (PageFile A)) (i : ℕ) (f d : PageFile A) (at 
   pub other_is_alike : (name : List ℕ) → are_alike name (string_bytes f.name) ≡ true → list_any (are_alike name) (names_from fs i) ≡ true
   other_is_alike name alike = ap (list_any (are_alike name)) more ∙ ap (λ b. b || list_any (are_alike name) (names_from fs (i + 1))) alike
 
-pub no_name_left : {A : Type 0} (fs : List (PageFile A)) (i : ℕ) → length fs ≤ i → are_file_names (names_from fs i) ≡ true
-no_name_left fs i h = ap (λ gs. are_file_names (names_of (map file_said gs))) (drop_all i fs h)
-
-pub no_other_left : {A : Type 0} (fs : List (PageFile A)) (i : ℕ) (name : List ℕ) → length fs ≤ i → list_any (are_alike name) (names_from fs i) ≡ false
-no_other_left fs i name h = ap (λ gs. list_any (are_alike name) (names_of (map file_said gs))) (drop_all i fs h)
+pub none_first : {A : Type 0} (fs : List (PageFile A)) → is_first_name (names_from fs (length fs)) ≡ are_file_names (names_from fs (length fs))
+none_first fs =
+    let none = drop_all (length fs) fs (omega arith) in
+    ap (λ gs. is_first_name (names_of (map file_said gs))) none ∙ sym (ap (λ gs. are_file_names (names_of (map file_said gs))) none)

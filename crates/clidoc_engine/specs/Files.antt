@@ -1,5 +1,5 @@
 -- The files of all pages of a description.
-use Rattle.std.specs.Prelude.{codes, ◌≡◌, ℕ, ◌==◌, ◌&&◌, ◌||◌, nat_le, List, [], ◌∷◌, ◌++◌, length, map, Bool, true, not, bytes_eq, slice_index}
+use Rattle.std.specs.Prelude.{codes, ◌≡◌, ℕ, ◌==◌, ◌&&◌, nat_le, List, [], ◌∷◌, ◌++◌, length, map, Bool, true, not, bytes_eq, slice_index}
 use Rattle.std.specs.Char.{to_ascii_lowercase}
 use Rattle.std.specs.List.{AllZip, list_any}
 use Rattle.bpaf_doc.specs.Markdown.Exact.{markdown_page}
@@ -49,6 +49,11 @@ are_alike name other = bytes_eq (map to_ascii_lowercase name) (map to_ascii_lowe
 abbrev pub are_file_names : List (List ℕ) → Bool
 are_file_names [] = true
 are_file_names (name ∷ names) = is_file_name name && not (list_any (are_alike name) names) && are_file_names names
+
+-- the first is one that a file may have, and none behind it is like it
+abbrev pub is_first_name : List (List ℕ) → Bool
+is_first_name [] = true
+is_first_name (name ∷ names) = is_file_name name && not (list_any (are_alike name) names)
 
 abbrev pub names_of : List FileSaid → List (List ℕ)
 names_of = map (λ file. file.name)

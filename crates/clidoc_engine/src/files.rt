@@ -1,13 +1,14 @@
 //! Which names files of pages may have.
 
-ghost use Rattle.std.specs.Prelude.{◌≡◌, is_ok, map, not};
+ghost use Rattle.std.specs.Prelude.{◌≡◌, ◌≤◌, ◌&&◌, IfOk, drop, is_ok, length, map, not};
 ghost use Rattle.std.specs.List.{list_any};
-ghost use Rattle.clidoc_engine.specs.Files.{are_alike, are_file_names, is_file_name, names_of};
+ghost use Rattle.clidoc_engine.specs.Files.{are_alike, are_file_names, is_file_name, is_first_name, names_of};
 ghost use Rattle.description.specs.View.{file_said};
 
 use description::PageFile;
 use description::words::Shown;
-use std::alloc::Allocator;
+use std::alloc::{AllocError, Allocator};
+use std::collections::HashSet;
 use thiserror::Error;
 
 /// How many bytes a name has at most. On the way there it has a dot before it and `.new` behind it, too.
@@ -29,15 +30,56 @@ pub enum NameFault<'f> {
 }
 
 /// Refuses a name that no file may have, and two that some folders take for one. The first that is refused is told.
-#[tactic(auto, using(crate::proofs::FileNames::name_passes, crate::proofs::FileNames::name_fails, crate::proofs::FileNames::name_stands_twice, crate::proofs::FileNames::no_name_left))]
-pub fn check_names<A: Allocator>(files: &[PageFile<A>]) -> Result<(), NameFault<'_>>
-    ensures { is_ok result ≡ are_file_names (names_of (map file_said files.now)) }
+/// `AllocError` where an allocation failed.
+pub fn check_names<'f, A: Allocator, B: Allocator + Copy>(
+    alloc: B,
+    files: &'f [PageFile<A>],
+) -> Result<Result<(), NameFault<'f>>, AllocError>
+    ensures { IfOk result (λ judged. is_ok judged ≡ are_file_names (names_of (map file_said files.now))) }
 {
-    for (index, file) in files.iter().enumerate() {
-        check_name(&file.name)?;
-        check_others(&file.name, &files[index + 1..])?;
+    let first = first_refused(alloc, files)?;
+    Ok(check_first(&files[first..]))
+}
+
+// Where the first file stands whose name is refused: at the end, where there is none. It goes from the last name to the
+// first, so that it knows those behind each.
+fn first_refused<A: Allocator, B: Allocator + Copy>(
+    alloc: B,
+    files: &[PageFile<A>],
+) -> Result<usize, AllocError>
+    ensures within { IfOk result (λ first. first ≤ length files.now) }
+    ensures judged { IfOk result (λ first. is_first_name (names_of (map file_said (drop first files.now)))
+        ≡ are_file_names (names_of (map file_said files.now))) }
+{
+    let mut behind = HashSet::new(alloc);
+    let mut first = files.len();
+    let mut index = files.len();
+    while index > 0 {
+        index -= 1;
+        let name = files[index].name.as_str();
+        let is_alone = behind.insert(name.to_ascii_lowercase(alloc)?)?;
+        if is_refused(name, is_alone) {
+            first = index;
+        }
     }
-    Ok(())
+    Ok(first)
+}
+
+fn is_refused(name: &str, is_alone: bool) -> bool
+    ensures { result ≡ not (is_file_name name.now && is_alone) }
+{
+    !(check_name(name).is_ok() && is_alone)
+}
+
+// Refuses the name of the first file: one that no file may have, or that one behind it has too.
+fn check_first<A: Allocator>(files: &[PageFile<A>]) -> Result<(), NameFault<'_>>
+    ensures { is_ok result ≡ is_first_name (names_of (map file_said files.now)) }
+{
+    let Some((file, others)) = files.split_first() else {
+        return Ok(());
+    };
+    check_name(&file.name)?;
+    check_others(&file.name, others)
 }
 
 fn check_name(name: &str) -> Result<(), NameFault<'_>>

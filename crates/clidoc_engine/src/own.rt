@@ -39,7 +39,7 @@ help = "Print the version"
 long = "command"
 value = "NAME"
 help = """
-Show this command, by its name or its short name.
+Show this command, by any of its names.
 
 It is given once for each level down, with usage, full, brief and man."""
 repeated = true

@@ -187,7 +187,7 @@ where
     check_folder(rt, global, folder)?;
     let mut reader = Watched::new(input);
     let files = make_files(rt.alloc(), global, &mut reader)?;
-    if let Err(fault) = check_names(&files) {
+    if let Err(fault) = check_names(global, &files)? {
         return Err(Failure::BadName(format!(in global; "{fault}")?));
     }
     write_files(rt, global, folder, &files)?;

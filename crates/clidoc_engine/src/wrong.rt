@@ -59,11 +59,19 @@ fn put_known(line: &mut String, global: Global, fault: &WordFault<'_>) -> Result
             Some(form) => put_question(line, form),
             None => put_all(line, "; forms are ", &FORMS),
         },
-        WordFault::NoSuchOption(word) => match nearest(global, word, &OPTIONS)? {
+        WordFault::NoSuchOption(word) => match nearest(global, before_value(word), &OPTIONS)? {
             Some(option) => put_question(line, option),
             None => put_all(line, "; options are ", &OPTIONS),
         },
         _ => Ok(()),
+    }
+}
+
+// An option without the value behind its `=`.
+fn before_value(word: &str) -> &str {
+    match word.split_once('=') {
+        Some((option, _)) => option,
+        None => word,
     }
 }
 

@@ -250,6 +250,15 @@ const NAMES: &[(&[&str], &str)] = &[
         &["b.1", "a-B.1", "c.1", "A-b.1"],
         "clidoc: file names a-B.1 and A-b.1 differ in case alone",
     ),
+    // The first that is refused is told, with the first behind it that is like it.
+    (
+        &["a.1", "b/c.1", "B.1", "A.1", "a.1"],
+        "clidoc: file names a.1 and A.1 differ in case alone",
+    ),
+    (
+        &["b/c.1", "a.1", "a.1"],
+        "clidoc: file name b/c.1 holds a slash",
+    ),
 ];
 
 fn files_named(alloc: Global, names: &[&str]) -> Result<Vec<PageFile>, AllocError> {
@@ -263,9 +272,36 @@ fn files_named(alloc: Global, names: &[&str]) -> Result<Vec<PageFile>, AllocErro
     Ok(files)
 }
 
+// Whether three names pass on so much memory. None where a growth is refused.
+fn pass_on(files: &[PageFile], global: Global, budget: usize) -> Option<bool> {
+    let Ok(heap) = LocalHeap::new(global, budget) else {
+        return Some(false);
+    };
+    match check_names(&heap, files) {
+        Ok(judged) => Some(judged.is_ok()),
+        Err(AllocError) => None,
+    }
+}
+
+// Whether some budget is refused, and the names pass with the first that is not.
+fn pass_when_ample(global: Global) -> Result<bool, AllocError> {
+    let files = files_named(global, &["a.1", "a-b.1", "a.md"])?;
+    for budget in 0..4096usize {
+        if let Some(is_passed) = pass_on(&files, global, budget * 16) {
+            return Ok(is_passed && budget > 0);
+        }
+    }
+    Ok(false)
+}
+
+#[test]
+fn a_refused_growth_judges_no_names(rt: HostRuntime) {
+    assert!(rt; pass_when_ample(rt.alloc()) == Ok(true));
+}
+
 fn is_said(alloc: Global, names: &[&str], line: &str) -> Result<bool, AllocError> {
     let files = files_named(alloc, names)?;
-    let is_said = match check_names(&files) {
+    let is_said = match check_names(alloc, &files)? {
         Ok(()) => line.is_empty(),
         Err(fault) => says(&fault, line),
     };

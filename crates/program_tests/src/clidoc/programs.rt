@@ -72,6 +72,10 @@ const WRONG: &[(&[&str], &str)] = &[
         "clidoc: no option --wdth; is it --width?\n",
     ),
     (
+        &["clidoc", "full", "--widht=80"],
+        "clidoc: no option --widht=80; is it --width?\n",
+    ),
+    (
         &["clidoc", "full", "-x"],
         "clidoc: no option -x; options are --command, --width, --into, --help and --version\n",
     ),
