@@ -2,6 +2,7 @@
 import re
 import unicodedata
 
+import syntaxes
 import texts
 
 # What `White_Space` of Unicode has beside the control characters.
@@ -33,17 +34,23 @@ def document(text):
 
 def help_of(table):
     """The help of an item, with what is said of it in square brackets."""
-    said = [("default", "default", str), ("possible values", "values", ", ".join), ("aliases", "aliases", ", ".join)]
+    said = [("default", "default", str), ("possible values", "values", ", ".join), ("env", "env" if "syntax" in table else "", str), ("aliases", "aliases", ", ".join)]
     return styled(texts.noted(table.get("help"), [f"[{words}: {shown(table[key])}]" for words, key, shown in said if key in table]))
 
 
-def footer(table):
+def topic(table, has_header):
+    title = word(table["title"])
+    return f"{f'<H T{title} >H' if has_header else f'<B <2 E{title} >2 >B'} <B doc {styled(texts.topic_parts(table['text']))} >B"
+
+
+def within(text):
+    return [] if text == "-" else [f"<B doc {text} >B"]
+
+
+def footer(table, has_headers):
     """The footer of a level, with its topics."""
     text, topics = document(table.get("footer")), table.get("topic", [])
-    if not topics:
-        return text
-    parts = [f"<B <2 E{word(topic['title'])} >2 >B <B doc {document(topic['text'])} >B" for topic in topics]
-    return f"[ {' '.join(parts + ([] if text == '-' else [f'<B doc {text} >B']))} ]"
+    return f"[ {' '.join([topic(each, has_headers) for each in topics] + within(text))} ]" if topics else text
 
 
 def seq(kind, trees):
@@ -67,7 +74,10 @@ def name(option):
     return "s" + word(short) if long is None else "b" + word(short + long)
 
 
-def item(option):
+def item(option, has_brackets=False):
+    if "syntax" in option:
+        shown, whole = syntaxes.usage(option["syntax"], has_brackets), syntaxes.document(option["syntax"])
+        return f"cu {styled(texts.joined(shown))} any {styled(texts.joined(whole))} 1 {help_of(option)}"
     shorts = word(option.get("short", ""))
     rest = f"{maybe(option.get('env'))} {help_of(option)}"
     if "value" in option:
@@ -76,7 +86,11 @@ def item(option):
 
 
 def option_trees(options):
-    return [unless_hidden(option, wrapped(option.get("required", False), option.get("repeated", False), item(option))) for option in options]
+    trees = []
+    for option in options:
+        required, repeated = option.get("required", False), option.get("repeated", False)
+        trees.append(unless_hidden(option, wrapped(required, repeated, item(option, required or repeated))))
+    return trees
 
 
 def choice_trees(choices):
@@ -92,8 +106,8 @@ def positional_trees(positionals):
     return trees
 
 
-def command_tree(command, help_tree):
-    tree = f"cmd {word(command['name'])} {maybe(command.get('short'))} {help_of(command)} {level(command, help_tree)} {info(command, help_tree)}"
+def command_tree(command, shared):
+    tree = f"cmd {word(command['name'])} {maybe(command.get('short'))} {help_of(command)} {level(command, shared)} {info(command, shared)}"
     return unless_hidden(command, tree)
 
 
@@ -101,9 +115,9 @@ def shows_command(table):
     return any(not command.get("hidden", False) for command in table.get("command", []))
 
 
-def command_trees(commands, shown, required, help_tree):
+def command_trees(commands, shown, required, shared):
     """The place of some commands. A usage line shows one of a level."""
-    items = [command_tree(command, help_tree) for command in commands]
+    items = [command_tree(command, shared) for command in commands]
     place = wrapped(required, False, seq("or", items))
     return [f"cu [ ] {place}" if shown else place] if items else []
 
@@ -116,11 +130,11 @@ def named(table):
     return option_trees(table.get("option", [])) + choice_trees(table.get("choice", []))
 
 
-def placed(table, shown, required, help_tree):
-    return positional_trees(table.get("positional", [])) + command_trees(table.get("command", []), shown and shows_command(table), required, help_tree)
+def placed(table, shown, required, shared):
+    return positional_trees(table.get("positional", [])) + command_trees(table.get("command", []), shown and shows_command(table), required, shared)
 
 
-def level(table, help_tree):
+def level(table, shared):
     groups = table.get("group", [])
     required = table.get("command_required", True)
     parts = named(table)
@@ -128,29 +142,38 @@ def level(table, help_tree):
         parts += titled(group["title"], named(group))
     for index, group in enumerate(groups):
         shown = any(shows_command(before) for before in groups[:index])
-        parts += titled(group["title"], placed(group, shown, required, help_tree))
+        parts += titled(group["title"], placed(group, shown, required, shared))
     shown = any(shows_command(group) for group in groups)
-    return seq("and", parts + placed(table, shown, required, help_tree))
+    return seq("and", parts + placed(table, shown, required, shared))
 
 
-def info(table, help_tree):
-    documents = [document(table.get("about")), document(table.get("header")), footer(table), plain(table.get("usage"))]
+def info(table, shared):
+    help_tree, has_headers = shared
+    documents = [document(table.get("about")), document(table.get("header")), footer(table, has_headers), plain(table.get("usage"))]
     return f"info {' '.join(documents)} {help_tree}"
 
 
-def requests(table):
-    """For each form the request whose answer is its page."""
-    help_tree = seq("and", option_trees(table.get("help_option", [])))
-    tree, said, app = level(table, help_tree), info(table, help_tree), word(table["name"])
+def asks_for_help(table):
+    return seq("and", option_trees(table.get("help_option", [])))
+
+
+def title_words(table):
+    """The section, and the words of a title line behind it, of which any but the section may be missing."""
     date = table.get("date")
-    title = [maybe(None if date is None else getattr(date, "text", date)), maybe(table.get("vendor")), maybe(table.get("title"))]
+    return str(table.get("section", "1")), [None if date is None else getattr(date, "text", date), table.get("vendor"), table.get("title")]
+
+
+def requests(table):
+    """For each form that shows all levels the request whose answer is its page."""
+    help_tree = asks_for_help(table)
+    shared, on_manual, app = (help_tree, False), (help_tree, True), word(table["name"])
+    tree, said = level(table, shared), info(table, shared)
+    section, title = title_words(table)
+    manual = f"{' '.join(map(maybe, title))} {info(table, on_manual)} {level(table, on_manual)}"
     return {
-        "usage": f"console full 100 [ <o path ( {app} ) meta 1 {tree} >o ]",
-        "full": f"help full 100 ( {app} ) 0 ( ) {said} {tree} {help_tree}",
-        "brief": f"help brief 100 ( {app} ) 0 ( ) {said} {tree} {help_tree}",
         "html": f"apphtml {app} {said} {tree}",
         "markdown": f"appmarkdown {app} {said} {tree}",
-        "man": f"appman {app} {word(str(table.get('section', '1')))} {' '.join(title)} {said} {tree}",
+        "man": f"appman {app} {word(section)} {manual}",
     }
 
 

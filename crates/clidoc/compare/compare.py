@@ -3,12 +3,13 @@
 
     compare/compare.py [COUNT [SEED]]
 
-Makes COUNT descriptions (100) from SEED (1), writes each as TOML, and runs the built program, `out/clidoc`, on it in its six forms. The
-tree of each description is made here once more, by the rules in docs/description.md, and its pages are asked of the built `replay`, of
-which docs/replay.md tells. Then the program is run on the same
+Makes COUNT descriptions (100) from SEED (1), writes each as TOML, and runs the built program, `out/clidoc`, on it: in the forms that show all levels,
+and in those that show one for a level by turns, under words that lead there and at a width. The tree of each description is made here once more, by the rules in
+docs/description.md, and its pages are asked of the built `replay`, of which docs/replay.md tells. Then the program is run on the same
 descriptions with one fault each, and the line that it prints is compared (`faults.py`).
 Prints how many pages and lines agree and how many differ, and the first that differs. Ends with status 1 where any differs.
 """
+import concurrent.futures
 import pathlib
 import random
 import subprocess
@@ -20,6 +21,7 @@ sys.dont_write_bytecode = True
 import asking
 import describing
 import faults
+import levels
 
 CLIDOC = pathlib.Path(__file__).resolve().parent.parent / "out" / "clidoc"
 REPLAY = CLIDOC.parent.parent.parent / "replay" / "out" / "replay"
@@ -36,8 +38,8 @@ def described(count, seed):
         yield table, text
 
 
-def run(form, given):
-    done = subprocess.run([CLIDOC, form], input=given, capture_output=True, check=False)
+def run(words, given):
+    done = subprocess.run([CLIDOC, *words], input=given, capture_output=True, check=False)
     return done.returncode, done.stdout, done.stderr
 
 
@@ -45,18 +47,26 @@ def answers(requests):
     """The answer that `replay` gives to each request."""
     done = subprocess.run([REPLAY], input="\n".join(requests).encode(), stdout=subprocess.PIPE, check=True)
     lines = done.stdout.decode().split("\n")
-    return [line[2:].partition(" ")[2] for line in lines if line.startswith("= ")]
-
-
-def pages(cases):
-    """What was given, the form, what came out and what should."""
-    asked = [(text, form, request) for table, text in cases for form, request in asking.requests(table).items()]
-    wanted = answers([request for _, _, request in asked])
-    if len(wanted) != len(asked):
+    found = [line[2:].partition(" ")[2] for line in lines if line.startswith("= ")]
+    if len(found) != len(requests):
         sys.exit("some requests have not one answer")
-    for (text, form, _), answer in zip(asked, wanted):
-        given = text.encode()
-        yield given, form, run(form, given), (0, asking.page(form, answer).encode(), b"")
+    return found
+
+
+def pages(cases, seed):
+    """What is given, the words, and what should come out."""
+    chances = random.Random(seed)
+    shown = [levels.Level(table, chances) for table, _ in cases]
+    lists = answers([level.lists_request() for level in shown])
+    asked = []
+    for (table, text), level, listed in zip(cases, shown, lists):
+        way = [f"--command={word}" for word in level.words]
+        asked += [(text, form, [form], request) for form, request in asking.requests(table).items()]
+        asked += [(text, form, [form, *way, f"--width={level.width}"], request) for form, request in level.console_requests().items()]
+        # Without a word `man` has all levels on one page.
+        asked += [(text, "man", ["man", *way], level.manual_request(listed))] if way else []
+    for (text, form, words, _), answer in zip(asked, answers([request for *_, request in asked])):
+        yield text.encode(), words, (0, asking.page(form, answer).encode(), b"")
 
 
 def lines(cases, seed):
@@ -68,19 +78,20 @@ def lines(cases, seed):
             given = describing.Writer(chances).document(other).encode()
             form = asking.FORMS[number % len(asking.FORMS)]
             number += 1
-            yield given, form, run(form, given), (1, b"", f"clidoc: {said}\n".encode())
+            yield given, [form], (1, b"", f"clidoc: {said}\n".encode())
 
 
 def compared(what, rows):
     agreed, different = 0, []
-    for given, form, came, wanted in rows:
-        if came == wanted:
-            agreed += 1
-        else:
-            different.append((given, form, came, wanted))
+    with concurrent.futures.ThreadPoolExecutor() as pool:
+        for given, words, wanted, came in pool.map(lambda row: (*row, run(row[1], row[0])), rows):
+            if came == wanted:
+                agreed += 1
+            else:
+                different.append((given, words, came, wanted))
     print(f"{what}: {agreed} agree, {len(different)} differ")
-    for given, form, came, wanted in different[:1]:
-        print(f"\nclidoc {form}, of\n{given.decode(errors='replace')}")
+    for given, words, came, wanted in different[:1]:
+        print(f"\nclidoc {' '.join(words)}, of\n{given.decode(errors='replace')}")
         print(f"program: {came}\nwanted:  {wanted}")
     return not different
 
@@ -88,7 +99,7 @@ def compared(what, rows):
 def main():
     count, seed = (list(map(int, sys.argv[1:])) + [100, 1][len(sys.argv) - 1:])[:2]
     cases = list(described(count, seed))
-    same = compared("pages", pages(cases))
+    same = compared("pages", pages(cases, seed))
     sys.exit(0 if compared("lines", lines(cases, seed)) and same else 1)
 
 

@@ -1,6 +1,8 @@
 """Random descriptions, as the data of a TOML text, and a TOML text of such data."""
 import unicodedata
 
+import syntaxes
+
 WORDS = [
     "word", "Prints things", "-v", "--verbose", "FILE", "a<b", "<tag>", "&amp;", "&", "'q'", "“quoted”", "don't", ".dot", "..",
     "\\", "\\-", "a\\b", "`", "`", "``", "`-v`", "[x]", "]", "*", "_", "#", "# h", ">", "-", "--", "|", "é", "ßtraße", "日本", "日本語", "한국",
@@ -11,6 +13,9 @@ JOINTS = [" ", " ", " ", " ", "", "  ", "\n", "\n ", "\n\n", "\n\n\n", "\n    ",
 LETTERS = "abcdefghijklmnopqrstuvwxyzABCXYZ0123456789-_.'\"\\<>&*`[]/:@éß日한ｆ😀❤\u0301\u200b#$%+~|"
 SECTIONS = ["1", "2", "3", "4", "5", "6", "7", "8", "9", "0", "1p", "3posix2X", "n", "lx", 0, 1, 7, 9]
 TWICE = "\\\""
+# What a syntax is made of.
+PIECES = ["-", "--", "-x", "--word", "--[no-]", "FILE", "WHEN", "file", "N", "a_B", "...", "é", "日", " ", " ", ",", ", ", "=", "|", "[", "(", "<", "{", "[=", "0", "\\", "\"", "`", ".", "'"]
+CLOSING = {"[": "]", "(": ")", "<": ">", "{": "}"}
 KEY_LETTERS = set("abcdefghijklmnopqrstuvwxyzABCDEFGHIJKLMNOPQRSTUVWXYZ0123456789-_")
 
 
@@ -71,17 +76,48 @@ class Describer:
         self.maybe(table, "default", lambda: self.random.choice([self.line(), self.line(), 0, -7, 10 ** 18]), 0.3)
         self.maybe(table, "values", lambda: [self.word() for _ in range(self.random.randint(1, 3))], 0.3)
 
-    def option(self, shorts, longs, wraps=True, hides=True):
-        table = {}
-        which = self.random.choice(["short", "long", "both"])
+    def syntax(self):
+        """How an option is written: as people write it, or of pieces at random with their brackets closed."""
+        long, other, short = self.name().strip("-") or "x", self.name().strip("-") or "y", self.short()
+        plain = [
+            f"--{long}[=WHEN]", f"-{short} FILE", f"-{short}, --{long}, --{other}", f"--[no-]{long}", "if=FILE", f"-{short}|--{long}", f"-{short}, --{long}=FILE",
+            f"-{short} N | --{long}", f"--{long} <NAME>...", f"-{short}[N], --[no-]{long}", f"{{-{short}|--{long}}} FILE", f"+{short}", f"-{short},--{long} KEY=VALUE",
+        ]
+        if self.some(0.6):
+            return self.random.choice(plain)
+        written, closing = "", []
+        for _ in range(self.random.choice([1, 2, 3, 5, 8, 13])):
+            piece = closing.pop() if closing and self.some(0.3) else self.random.choice(PIECES)
+            closing += [CLOSING[c] for c in piece if c in CLOSING] if piece != "--[no-]" else []
+            written += piece
+        return written + "".join(reversed(closing))
+
+    def fresh_syntax(self, taken):
+        """One that is a syntax, and whose names are not taken."""
+        while True:
+            syntax = self.syntax()
+            if syntaxes.is_syntax(syntax) and not taken & set(syntaxes.names(syntax)):
+                taken |= set(syntaxes.names(syntax))
+                return syntax
+
+    def names(self, table, taken):
+        """How an option is called: by a short and a long name, or as its syntax has it."""
+        which = self.random.choice(["short", "long", "both", "syntax"])
+        if which == "syntax":
+            table["syntax"] = self.fresh_syntax(taken)
+            return
         if which != "long":
-            table["short"] = self.fresh(shorts, self.short)
+            table["short"] = self.fresh(taken, lambda: "-" + self.short())[1:]
         if which != "short":
-            table["long"] = self.fresh(longs, self.long)
+            table["long"] = self.fresh(taken, lambda: "--" + self.long())[2:]
         self.maybe(table, "value", lambda: self.random.choice(["FILE", "N", "a b", "日本", self.word()]))
+
+    def option(self, taken, wraps=True, hides=True):
+        table = {}
+        self.names(table, taken)
         self.maybe(table, "help", self.text, 0.7)
         self.maybe(table, "env", self.name, 0.3)
-        if "value" in table:
+        if "value" in table or "syntax" in table:
             self.value(table)
         if hides:
             self.maybe(table, "hidden", self.flag, 0.2)
@@ -90,8 +126,8 @@ class Describer:
             self.maybe(table, "repeated", self.flag, 0.4)
         return table
 
-    def choice(self, shorts, longs):
-        table = {"option": [self.option(shorts, longs, False) for _ in range(self.random.randint(1, 3))]}
+    def choice(self, taken):
+        table = {"option": [self.option(taken, False) for _ in range(self.random.randint(1, 3))]}
         self.maybe(table, "required", self.flag)
         return table
 
@@ -106,14 +142,21 @@ class Describer:
         return table
 
     def topic(self):
-        return {"title": (self.title() + "x").strip() or "x", "text": self.text() or "x"}
+        return {"title": (self.title() + "x").strip() or "x", "text": self.body() or "x"}
+
+    def body(self):
+        """The text of a topic, often with lines of code."""
+        if self.some(0.4):
+            return self.text()
+        lines = ["", "", " ", "     ", "```", "```", "```sh", "    $ app -v", "    a `b` c", "     x", "Say `app`:", "and more", "  then", "`", "   ```", self.line(), "    " + self.line()]
+        return "\n".join(self.random.choice(lines) for _ in range(self.random.choice([1, 2, 3, 5, 8, 13])))
 
     def lists(self, table, depth, names, kinds):
         """Puts options, choices, positional values and commands into a table, of a level or of a group of it."""
-        shorts, longs, commands = names
+        taken, commands = names
         make = {
-            "option": lambda: self.option(shorts, longs),
-            "choice": lambda: self.choice(shorts, longs),
+            "option": lambda: self.option(taken),
+            "choice": lambda: self.choice(taken),
             "positional": self.positional,
             "command": lambda: self.command(depth + 1, commands),
         }
@@ -136,7 +179,7 @@ class Describer:
             self.maybe(table, key, self.text, 0.4)
         self.maybe(table, "usage", self.text, 0.1)
         self.maybe(table, "command_required", self.flag, 0.4)
-        names = (set(), set(), set())
+        names = (set(), set())
         self.lists(table, depth, names, ["option", "choice", "positional", "command"])
         if self.some(0.4):
             table["group"] = [self.group(depth, names) for _ in range(self.random.randint(1, 2))]
@@ -165,8 +208,8 @@ class Describer:
         self.maybe(table, "title", self.title, 0.3)
         self.level(table, 0)
         if self.some(0.5):
-            names = (set(), set())
-            table["help_option"] = [self.option(*names, hides=False) for _ in range(self.random.randint(1, 2))]
+            taken = set()
+            table["help_option"] = [self.option(taken, hides=False) for _ in range(self.random.randint(1, 2))]
         return self.shuffled(table)
 
     def shuffled(self, data):

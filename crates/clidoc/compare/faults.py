@@ -48,11 +48,13 @@ def faults(table, kind, way, alternative):
         yield {key: 1}, [], f"{key} is no text"
     asks_for_help = bool(way) and way[-1].startswith("help_option")
     for key in [] if alternative or asks_for_help else FLAGS[kind]:
-        yield {key: "x"}, [], f"{key} is no flag"
+        yield {key: "x"}, [], f"{key} is neither true nor false"
     if asks_for_help:
         yield {"hidden": True}, [], "no key hidden is known here"
     if kind in ["option", "positional"]:
         yield from values(table, kind, alternative)
+    if kind == "option":
+        yield from syntaxes(table)
     if kind == "command":
         yield from arrays("aliases")
         for name, why in WHY.items():
@@ -68,8 +70,9 @@ def values(table, kind, alternative):
     """Faults in what is said of values."""
     if kind == "option":
         for key, said in [("default", "x"), ("values", ["x"])]:
-            yield {key: said}, ["value", "default", "values"], f"{key} stands beside no value"
-        if "value" not in table:
+            if "syntax" not in table:
+                yield {key: said}, ["value", "default", "values"], f"{key} stands beside no value and no syntax"
+        if not {"value", "syntax"} & set(table):
             return
     if not alternative:
         yield {"default": "x", "required": True}, [], "required is true beside a default"
@@ -78,6 +81,18 @@ def values(table, kind, alternative):
     yield from arrays("values")
     yield {"values": ["x", ""]}, [], "values holds an empty text"
     yield {"values": ["x", "a\tb"]}, [], "values holds a control character"
+
+
+def syntaxes(table):
+    """Faults in how an option is written, by a name that no other one has."""
+    own = ["short", "long", "value", "syntax"]
+    for text, said in [("", "is empty"), ("-☃,", "holds an empty piece"), ("-☃[", "holds a bracket that is in no pair"), ("-☃ [X}", "holds a bracket that is in no pair"), ("-☃\tX", "holds a control character")]:
+        yield {"syntax": text}, own, f"syntax {said}"
+    for key, text in [("short", "Q"), ("long", "q" * 40)]:
+        yield {"syntax": "-☃ X", key: text}, own, f"syntax stands beside {key}"
+    yield {"syntax": "-☃ X", "value": "X"}, own, "syntax stands beside value"
+    yield {"syntax": 1}, own, "syntax is no text"
+    yield {}, own + ["default", "values"], "short, long or syntax is missing"
 
 
 def arrays(key):

@@ -1,4 +1,5 @@
-"""The styled parts of texts: what stands between backquotes, and the notes behind a help."""
+"""The styled parts of texts: what stands between backquotes, lines of code in topics, and the notes behind a help."""
+import itertools
 import re
 
 # A backquote that stands beside no other one.
@@ -52,3 +53,58 @@ def noted(text, notes):
         return [("T", " ".join(notes))]
     styled = (lambda part: [("T", part)]) if has_fence(text) else (lambda part: lines_parts(part.split("\n")))
     return joined(styled(first) + [("T", "\n " + " ".join(notes))] + styled(between + rest))
+
+
+def kinds(text):
+    """The lines of a topic but those of fences, each with whether it is code."""
+    is_fenced, found = False, []
+    for line in text.split("\n"):
+        has_ink = bool(line.strip(" "))
+        if line.startswith("```"):
+            is_fenced = not is_fenced
+        elif is_fenced:
+            found.append((True, line if has_ink else ""))
+        elif has_ink and line.startswith("    "):
+            found.append((True, line[4:]))
+        else:
+            found.append((False, line if has_ink else ""))
+    return found
+
+
+def stretches(text):
+    """Lines of one kind that follow one another: whether they are code, and the lines."""
+    return [(is_code, [line for _, line in lines]) for is_code, lines in itertools.groupby(kinds(text), key=lambda each: each[0])]
+
+
+def empty_lines(lines):
+    """How many empty lines these begin with."""
+    return len(list(itertools.takewhile(lambda line: not line, lines)))
+
+
+def chunks(text):
+    """Stretches without empty lines beside code, each with whether it is code, whether an empty line was left out before it, and its lines."""
+    whole, found, left_out = stretches(text), [], False
+    for place, (is_code, lines) in enumerate(whole):
+        front = empty_lines(lines) if not is_code and place > 0 else 0
+        kept = lines[front:]
+        back = empty_lines(reversed(kept)) if not is_code and place + 1 < len(whole) else 0
+        kept = kept[:len(kept) - back]
+        if kept:
+            if not is_code and place > 0 and not front:
+                kept[0] = kept[0].lstrip(" ")
+            found.append((is_code, bool(found) and (left_out or front > 0), kept))
+        left_out = back > 0 or front > 0 and not kept
+    return found
+
+
+def topic_parts(text):
+    """The text of a topic: a part for each line of code, and the others with their literals."""
+    parts = []
+    for number, (is_code, left_out, lines) in enumerate(chunks(text)):
+        if number:
+            parts.append(("T", "\n\n" if left_out else "\n "))
+        for place, line in enumerate(lines):
+            if place:
+                parts.append(("T", "\n " if is_code else "\n"))
+            parts += [("L", line)] if is_code else line_parts(line)
+    return joined(parts)
