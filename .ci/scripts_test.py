@@ -222,7 +222,7 @@ class Install(OverStandIn):
     def test_installs_once(self):
         status, told, _ = self.install()
         self.assertEqual(status, 0)
-        self.assertRegex(told, r"0:00 2 of \d+ crates proved; at bpaf_doc, lasting_names\n")
+        self.assertRegex(told, r"0:00 2 of \d+ crates proved; at web_page, bpaf_doc, lasting_names\n")
         held = self.held()
         self.assertEqual(sorted(held), ["bin/clidoc", "share/man/man1/clidoc.1"])
         self.assertEqual(held["share/man/man1/clidoc.1"][0], "page man\n")
