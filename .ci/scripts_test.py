@@ -263,6 +263,13 @@ if sys.argv[1] == "must-fail":
         print(f"rt: must-fail one/{edit.name}: {told.get(re.search('new: (.*)', edit.read_text())[1], 'refused')}")
     sys.exit()
 bodies = re.findall(r"fn (\w+)\(\) \{\n    (\w+)", pathlib.Path("src/lib.rt").read_text())
+asked = [it.removeprefix("--only=") for it in sys.argv if it.startswith("--only=")]
+if asked:
+    with pathlib.Path(__file__).with_name("asked").open("a") as told:
+        print(*asked, file=told)
+    bodies = [it for it in bodies if it[0] in asked]
+    if "d" in asked:
+        sys.exit(2)
 if "stray" in dict(bodies).values():
     sys.exit("src/lib.rt:1:1: error[unknown-name]: stray")
 for name, body in bodies:
@@ -315,6 +322,17 @@ class Mutants(InFolder):
         status, told = self.told()
         self.assertEqual((status, told[-1]), (0, "5 refused, 0 let through"))
         self.assertEqual(told[:3], ["one/of_a: refused", "one/of_b: refused", "one/of_d: refused"])
+
+    def test_checks_over_a_run_what_was_changed_alone(self):
+        self.write("bin/rtlib.py", "class Crate:\n    def __init__(self, *_):\n        pass\n\n    def stamp(self):\n        return 'same'\n")
+        self.write("run/crates/low/out/rlib/low.rlib/format", "")
+        for name, new in zip("abc", ["wrong", "same", "wrong"]):
+            self.mutant(f"of_{name}", f"{name}_body", new)
+        status, told = self.told("--over", self.folder / "run")
+        self.assertEqual((status, told[-1]), (1, "2 refused, 1 let through"))
+        self.assertEqual((self.folder / "bin" / "asked").read_text(), "a b c\nb\n")
+        self.mutant("of_d", "d_body", "wrong")
+        self.assertEqual(self.told("--over", self.folder / "run")[1][-1], "3 refused, 1 let through")
 
     def test_lets_through_what_is_proved_or_does_not_compile(self):
         for name, new in zip("abcd", ["same", "stray", "wrong", "wrong"]):
