@@ -1,6 +1,6 @@
 -- The characters of each kind of text are those of a text of lines.
 use Rattle.std.proofs.Common.{◌≡◌, ◌==◌, ℕ, zero, suc, ◌+◌, ◌<◌, ◌≤◌, ◌/◌, ◌%◌, List, [], ◌∷◌, ◌++◌, Bool, true, false, refl, ap, ◌∙◌, arith, chars}
-use Rattle.std.specs.Prelude.{◌&&◌, ◌||◌, not, nat_lt, if◌then◌else◌, flat_map}
+use Rattle.std.specs.Prelude.{codes, ◌&&◌, ◌||◌, not, nat_lt, if◌then◌else◌, flat_map}
 use Rattle.std.specs.Char.{is_ascii_alphanumeric, is_whitespace}
 use Rattle.std.specs.Int.{is_in_range}
 use Rattle.std.specs.List.{list_all}
@@ -12,7 +12,8 @@ use Rattle.std.proofs.lemmas.List.Folds.{list_all-append}
 use Rattle.std.proofs.lemmas.Str.{chars-IsAscii}
 use Rattle.toml_datetime.specs.Text.{two_wide, date_text}
 use Rattle.toml_datetime.specs.declared.datetime.Date.{Date}
-use Rattle.description.specs.Described.Texts.{has_ink, begins, begins_a_section, is_body, is_dash, is_empty_text, is_text, is_value, is_title, is_heading, is_section, is_name, is_long, is_program_name, is_command_name, is_line_character, is_name_character, is_read_once, is_short, is_text_character, is_line}
+use Rattle.description.specs.Described.Texts.{has_ink, begins, begins_a_section, is_body, is_dash, is_empty_text, is_text, is_value, is_title, is_heading, is_section, is_name, is_long, is_program_name, is_command_name, is_line_character, is_name_character, is_read_once, is_short, is_text_character, is_line, is_language_tag}
+use Rattle.web_page.specs.Models.{is_language}
 use Rattle.description.proofs.Each.{Each}
 
 -- each of the characters may stand in a text
@@ -72,6 +73,17 @@ pub section_plain : (text : List ℕ) → is_section text ≡ true → PlainText
 section_plain text h =
     let both = and_parts (list_all is_line_character (chars text)) (list_all is_ascii_alphanumeric text && begins begins_a_section text) h in
     weaker is_line_character is_text_character line (chars text) both.0
+
+pub language_plain : (text : List ℕ) → is_language_tag text ≡ true → PlainText text
+language_plain text h = let both = and_parts (list_all is_line_character (chars text)) (is_language text) h in weaker is_line_character is_text_character line (chars text) both.0
+
+english : IsAscii (codes "en")
+english zero = omega arith
+english (suc zero) = omega arith
+english (suc (suc i)) = omega arith
+
+pub english_plain : PlainText (codes "en")
+english_plain = ap (list_all is_text_character) (chars-IsAscii (codes "en") english)
 
 pub name_plain : (text : List ℕ) → is_name text ≡ true → PlainText text
 name_plain text h = let both = and_parts (list_all is_name_character (chars text)) (not (is_empty_text text)) h in weaker is_name_character is_text_character name (chars text) both.0

@@ -39,5 +39,14 @@ pub mod Folded
 pub mod WebEvents
 pub mod WebIds
 pub mod WebTexts
+pub mod WebEntries
 pub mod WebLists
 pub mod WebSections
+pub mod Among
+pub mod Apart
+pub mod WebTree
+pub mod WebParts
+pub mod WebTargets
+pub mod WebIdForms
+pub mod WebOwnIds
+pub mod CommandNames

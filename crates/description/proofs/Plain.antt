@@ -10,12 +10,12 @@ use Rattle.toml_datetime.specs.declared.datetime.Time.{Time}
 use Rattle.toml_datetime.specs.declared.datetime.Offset.{Offset}
 use Rattle.description_parts.specs.Content.{SpellingSaid, named, OptSaid, ChoiceSaid, PositionalSaid, TopicSaid, TextsSaid, LevelSaid, GroupsSaid, GroupSaid, CommandsSaid, CommandSaid}
 use Rattle.description.specs.Content.{DescriptionSaid, TitleWords}
-use Rattle.description.specs.Described.{alternative_keys, as_command, as_commands, as_group, as_groups, choice_from, choice_keys, command_head, command_keys, command_of, CommandHead, commands_at, described, description_head, description_keys, description_of, DescriptionHead, each_command, each_group, group_head, group_keys, group_of, GroupHead, groups_at, has_members, level_of, lists_from, name_from, option_from, option_keys, option_spelling, Outline, outline_from, positional_from, positional_keys, positional_of, section_from, texts_from, title_words, topic_from, topic_keys, help_option_keys, is_flag, is_syntax, spelling_from, unless_there, option_texts, option_value, positional_texts, required_beside, ValueSaid}
+use Rattle.description.specs.Described.{alternative_keys, as_command, as_commands, as_group, as_groups, choice_from, choice_keys, command_head, command_keys, command_of, CommandHead, commands_at, described, description_head, description_keys, description_of, DescriptionHead, each_command, each_group, group_head, group_keys, group_of, GroupHead, groups_at, has_members, level_of, lists_from, name_from, option_from, option_keys, option_spelling, Outline, outline_from, positional_from, positional_keys, positional_of, section_from, texts_from, title_words, topic_from, topic_keys, help_option_keys, is_flag, is_syntax, spelling_from, unless_there, option_texts, option_value, positional_texts, required_beside, ValueSaid, language_from}
 use Rattle.description.specs.Described.Taken.{has_distinct_names}
-use Rattle.description.specs.Described.Texts.{as_body, as_command_name, as_heading, as_long, as_name, as_program_name, as_text, as_title, as_value, is_body, is_command_name, is_heading, is_long, is_name, is_program_name, is_section, is_short, is_text, is_title, is_value, if_passes, is_line}
+use Rattle.description.specs.Described.Texts.{as_body, as_command_name, as_heading, as_long, as_name, as_program_name, as_text, as_title, as_value, is_body, is_command_name, is_heading, is_long, is_name, is_program_name, is_section, is_short, is_text, is_title, is_value, if_passes, is_line, as_language, is_language_tag}
 use Rattle.description.specs.Described.Values.{as_date, as_section, as_short, day_text, digit_text, each_table, flag_at, if_short, is_empty, only_character, optional_at, required_at, tables_at, as_default, as_syntax, as_texts, as_values, default_text, words_at}
 use Rattle.description.specs.Plain.{characters_of, choice_characters, command_characters, commands_characters, description_characters, group_characters, groups_characters, initial_characters, level_characters, name_characters, option_characters, spelling_characters, positional_characters, texts_characters, topic_characters, TextsArePlain}
-use Rattle.description.proofs.Characters.{body_plain, command_plain, day_plain, digit_plain, heading_plain, long_plain, name_plain, Plain, plain_append, plain_cons, plain_each, PlainCharacter, PlainText, program_plain, section_plain, short_plain, title_plain, value_plain, line_plain}
+use Rattle.description.proofs.Characters.{body_plain, command_plain, day_plain, digit_plain, english_plain, heading_plain, language_plain, long_plain, name_plain, Plain, plain_append, plain_cons, plain_each, PlainCharacter, PlainText, program_plain, section_plain, short_plain, title_plain, value_plain, line_plain}
 use Rattle.description.specs.Notes.{listed_texts}
 use Rattle.description.specs.Syntax.{is_well_formed}
 use Rattle.description.proofs.Each.{Each}
@@ -413,6 +413,10 @@ section_named : (o : Option (List ℕ)) → PlainOption o → PlainText (section
 section_named None h = digit_plain 1 refl
 section_named (Some text) h = h
 
+language_named : (o : Option (List ℕ)) → PlainOption o → PlainText (language_from o)
+language_named None h = english_plain
+language_named (Some text) h = h
+
 words_there : (ms : Members) → Gives PlainWords (title_words ms)
 unfolding title_words
 words_there ms =
@@ -425,6 +429,7 @@ words_there ms =
 pub record PlainHead (h : DescriptionHead) : Type 0 where
   pub name : PlainText h.name
   pub words : PlainWords h.words
+  pub language : PlainText h.language
   pub outline : PlainOutline h.outline
 
 head_there : (ms : Members) → Gives PlainHead (description_head ms)
@@ -432,9 +437,10 @@ unfolding description_head
 head_there = gives_with_only PlainHead description_keys _ (λ ms.
     gives_then PlainText PlainHead (required_at as_program_name (codes "name") ms) _ (gives_required PlainText as_program_name (gives_text PlainText is_program_name program_plain) (codes "name") ms) (λ name n.
     gives_then PlainWords PlainHead (title_words ms) _ (words_there ms) (λ words w.
+    gives_then PlainOption PlainHead (optional_at as_language (codes "language") ms) _ (gives_optional PlainText as_language (gives_text PlainText is_language_tag language_plain) (codes "language") ms) (λ language g.
     gives_then Whatever PlainHead (tables_at (codes "help_option") ms) _ (gives_whatever (tables_at (codes "help_option") ms)) (λ helps u.
     gives_then PlainOutline PlainHead (outline_from ms) _ (outline_there ms) (λ outline o.
-    record { name = n; words = w; outline = o })))))
+    record { name = n; words = w; language = language_named language g; outline = o }))))))
 
 abbrev PlainDescription : DescriptionSaid → Type 0
 PlainDescription d = Plain (description_characters d)
@@ -442,11 +448,12 @@ PlainDescription d = Plain (description_characters d)
 whole : (h : DescriptionHead) (helps : List OptSaid) (l : LevelSaid) → PlainHead h → Each PlainOpt helps → PlainLevel l → PlainDescription (description_of h helps l)
 whole h helps l p o q =
     let level_last = plain_append (flat_map option_characters helps) (level_characters l) (plain_each option_characters helps o) q in
-    let titled = plain_append (characters_of h.words.title) (flat_map option_characters helps ++ level_characters l) (there h.words.title p.words.title) level_last in
-    let sold = plain_append (characters_of h.words.vendor) (characters_of h.words.title ++ (flat_map option_characters helps ++ level_characters l)) (there h.words.vendor p.words.vendor) titled in
-    let dated = plain_append (characters_of h.words.date) (characters_of h.words.vendor ++ (characters_of h.words.title ++ (flat_map option_characters helps ++ level_characters l))) (there h.words.date p.words.date) sold in
-    let placed = plain_append (chars h.words.section) (characters_of h.words.date ++ (characters_of h.words.vendor ++ (characters_of h.words.title ++ (flat_map option_characters helps ++ level_characters l)))) p.words.section dated in
-    plain_append (chars h.name) (chars h.words.section ++ (characters_of h.words.date ++ (characters_of h.words.vendor ++ (characters_of h.words.title ++ (flat_map option_characters helps ++ level_characters l))))) p.name placed
+    let spoken = plain_append (chars h.language) (flat_map option_characters helps ++ level_characters l) p.language level_last in
+    let titled = plain_append (characters_of h.words.title) (chars h.language ++ (flat_map option_characters helps ++ level_characters l)) (there h.words.title p.words.title) spoken in
+    let sold = plain_append (characters_of h.words.vendor) (characters_of h.words.title ++ (chars h.language ++ (flat_map option_characters helps ++ level_characters l))) (there h.words.vendor p.words.vendor) titled in
+    let dated = plain_append (characters_of h.words.date) (characters_of h.words.vendor ++ (characters_of h.words.title ++ (chars h.language ++ (flat_map option_characters helps ++ level_characters l)))) (there h.words.date p.words.date) sold in
+    let placed = plain_append (chars h.words.section) (characters_of h.words.date ++ (characters_of h.words.vendor ++ (characters_of h.words.title ++ (chars h.language ++ (flat_map option_characters helps ++ level_characters l))))) p.words.section dated in
+    plain_append (chars h.name) (chars h.words.section ++ (characters_of h.words.date ++ (characters_of h.words.vendor ++ (characters_of h.words.title ++ (chars h.language ++ (flat_map option_characters helps ++ level_characters l)))))) p.name placed
 
 described_plain : (ms : Members) → Gives PlainDescription (described ms)
 unfolding described

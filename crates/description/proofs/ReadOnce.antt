@@ -19,7 +19,7 @@ use Rattle.toml_datetime.specs.declared.datetime.Offset.{Offset}
 use Rattle.description_parts.specs.Content.{OptSaid, TopicSaid, LevelSaid, GroupsSaid, GroupSaid, CommandsSaid, CommandSaid}
 use Rattle.description.specs.Content.{DescriptionSaid, TitleWords}
 use Rattle.description.specs.Described.{as_command, as_commands, as_group, as_groups, choice_from, command_head, command_keys, command_of, CommandHead, commands_at, described, description_head, description_keys, description_of, DescriptionHead, each_command, each_group, group_head, group_keys, group_of, GroupHead, groups_at, has_members, level_of, lists_from, option_from, Outline, outline_from, positional_from, section_from, title_words, topic_from, topic_keys, help_option_keys, option_keys}
-use Rattle.description.specs.Described.Texts.{as_body, as_command_name, as_heading, as_program_name, as_text, as_title, begins, begins_a_section, has_ink, is_command_name, is_heading, is_line_character, is_long, is_name, is_program_name, is_read_once, is_section, is_title}
+use Rattle.description.specs.Described.Texts.{as_body, as_command_name, as_heading, as_program_name, as_text, as_title, begins, begins_a_section, has_ink, is_command_name, is_heading, is_line_character, is_long, is_name, is_program_name, is_read_once, is_section, is_title, as_language}
 use Rattle.description.specs.Described.Values.{as_date, as_section, as_short, day_text, digit_text, each_table, optional_at, required_at, tables_at, flag_at, words_at}
 use Rattle.description.specs.ReadOnce.{command_headings, commands_headings, group_headings, groups_headings, is_word_read_once, level_headings}
 use Rattle.description.specs.Subjects.{title_words_of}
@@ -286,9 +286,10 @@ unfolding description_head
 head_there = gives_with_only OnceHead description_keys _ (λ ms.
     gives_then Once OnceHead (required_at as_program_name (codes "name") ms) _ (gives_required Once as_program_name (gives_text Once is_program_name program_once) (codes "name") ms) (λ name n.
     gives_then OnceWords OnceHead (title_words ms) _ (words_there ms) (λ words w.
+    gives_then Whatever OnceHead (optional_at as_language (codes "language") ms) _ (gives_whatever (optional_at as_language (codes "language") ms)) (λ language g.
     gives_then Whatever OnceHead (tables_at (codes "help_option") ms) _ (gives_whatever (tables_at (codes "help_option") ms)) (λ helps u.
     gives_then Whatever OnceHead (outline_from ms) _ (gives_whatever (outline_from ms)) (λ outline o.
-    record { name = n; words = w })))))
+    record { name = n; words = w }))))))
 
 -- a newline that becomes a blank changes nothing of it
 blanked : (b : ℕ) → is_read_once b ≡ true → is_read_once (newline_as_blank b) ≡ true

@@ -12,7 +12,7 @@ use Rattle.description.specs.Chunks.{Line, code, ordinary, by_turns, fenced, lin
 use Rattle.description.specs.Texts.{four_blanks, is_fence, lines}
 use Rattle.description.specs.WebPages.Events.{Event, with_event, with_events}
 use Rattle.description.specs.WebPages.Steps.{lines_from, place_of, rest_events}
-use Rattle.description.specs.WebPages.Texts.{prose, closing, line_behind, line_events, lines_behind, prose_line, run_of, shown_line, shows_ink, text_events}
+use Rattle.description.specs.WebPages.Texts.{prose, closing, line_behind, lines_behind, prose_line, run_of, shown_line, shows_ink, text_events}
 use Rattle.description.specs.declared.page.texts.Place.{Place}
 use Rattle.description.specs.declared.page.texts.Run.{Run}
 use Rattle.description.specs.declared.page.texts.Run.TheVariants as run
@@ -97,13 +97,13 @@ outside_some line x h = ap code h.2 ∙ sym (ap marked h.1.1)
 pub outside_none : (line : List ℕ) → FindsTextPrefix four_blanks line None → ordinary line ≡ marked line
 outside_none line h = ap (λ b. if b then code (drop 4 line) else ordinary line) (starts_text false four_blanks line h)
 
-pub prose_some : (line x : List ℕ) → StripsPrefix (FindsTextPrefix (codes " ")) line x → prose_line line ≡ prose true (line_events x)
-prose_some line x h = ap prose_line h.1.1 ∙ ap (λ y. prose true (line_events y)) (sym h.2)
+pub prose_some : (line x : List ℕ) → StripsPrefix (FindsTextPrefix (codes " ")) line x → prose_line line ≡ prose true x
+prose_some line x h = ap prose_line h.1.1 ∙ ap (prose true) (sym h.2)
 
-pub prose_none : (line : List ℕ) → shows_ink line ≡ true → FindsTextPrefix (codes " ") line None → prose_line line ≡ prose false (line_events line)
+pub prose_none : (line : List ℕ) → shows_ink line ≡ true → FindsTextPrefix (codes " ") line None → prose_line line ≡ prose false line
 prose_none [] ink h = absurd (false≢true ink)
 prose_none (b ∷ bs) ink h =
     elim (eqb_tells b 32) [
       | inl p ↦ absurd (h bs (ap (λ x. x ∷ bs) p.1))
-      | inr p ↦ ap (λ t. if t then prose true (line_events bs) else prose false (line_events (b ∷ bs))) p.0
+      | inr p ↦ ap (λ t. if t then prose true bs else prose false (b ∷ bs)) p.0
     ]

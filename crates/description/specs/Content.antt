@@ -9,6 +9,7 @@ pub record DescriptionSaid : Type 0 where
   pub date : Option (List ℕ)
   pub vendor : Option (List ℕ)
   pub title : Option (List ℕ)
+  pub language : List ℕ
   pub help_options : List OptSaid
   pub level : LevelSaid
 

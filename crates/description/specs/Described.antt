@@ -11,7 +11,7 @@ use Rattle.bpaf_meta.specs.Content.{Name, short, long, both}
 use Rattle.toml.specs.Data.{Data, array, table, Items, no_items, item, Members, no_members, member, get_member}
 use Rattle.description.specs.Content.{DescriptionSaid, TitleWords}
 use Rattle.description_parts.specs.Content.{SpellingSaid, named, syntax, OptSaid, ChoiceSaid, PositionalSaid, TopicSaid, TextsSaid, LevelSaid, level, GroupsSaid, no_groups, groups, GroupSaid, group, CommandsSaid, no_commands, commands, CommandSaid, command, CommandNames}
-use Rattle.description.specs.Described.Texts.{as_body, as_command_name, as_heading, as_long, as_name, as_program_name, as_text, as_title, as_value}
+use Rattle.description.specs.Described.Texts.{as_body, as_command_name, as_heading, as_language, as_long, as_name, as_program_name, as_text, as_title, as_value}
 use Rattle.description.specs.Described.Values.{has_only, flag_at, optional_at, required_at, tables_at, is_empty, each_table, as_short, as_section, as_date, words_at, as_default, as_syntax, as_values}
 use Rattle.description.specs.Described.Taken.{has_distinct_names}
 
@@ -47,7 +47,7 @@ abbrev pub command_keys : List (List ℕ)
 command_keys = codes "name" ∷ codes "short" ∷ codes "help" ∷ codes "hidden" ∷ codes "aliases" ∷ level_keys
 
 abbrev pub description_keys : List (List ℕ)
-description_keys = codes "name" ∷ codes "section" ∷ codes "date" ∷ codes "vendor" ∷ codes "title" ∷ codes "help_option" ∷ level_keys
+description_keys = codes "name" ∷ codes "section" ∷ codes "date" ∷ codes "vendor" ∷ codes "title" ∷ codes "language" ∷ codes "help_option" ∷ level_keys
 
 -- a table with these keys alone, read
 abbrev pub with_only : {X : Type 0} → (keys : List (List ℕ)) → (Members → Option X) → Members → Option X
@@ -253,6 +253,11 @@ abbrev pub section_from : Option (List ℕ) → List ℕ
 section_from None = codes "1"
 section_from (Some text) = text
 
+-- the language is English where none is named
+abbrev pub language_from : Option (List ℕ) → List ℕ
+language_from None = codes "en"
+language_from (Some text) = text
+
 -- the words of the title line
 unfoldable pub title_words : Members → Option TitleWords
 title_words ms =
@@ -263,16 +268,17 @@ title_words ms =
 pub record DescriptionHead : Type 0 where
   pub name : List ℕ
   pub words : TitleWords
+  pub language : List ℕ
   pub help_options : Items
   pub outline : Outline
 
 unfoldable pub description_head : Members → Option DescriptionHead
 description_head = with_only description_keys (λ ms.
-    required_at as_program_name (codes "name") ms >>= (λ name. title_words ms >>= (λ words. tables_at (codes "help_option") ms >>= (λ helps. outline_from ms >>= (λ outline.
-    Some (record { name = name; words = words; help_options = helps; outline = outline }))))))
+    required_at as_program_name (codes "name") ms >>= (λ name. title_words ms >>= (λ words. optional_at as_language (codes "language") ms >>= (λ language. tables_at (codes "help_option") ms >>= (λ helps. outline_from ms >>= (λ outline.
+    Some (record { name = name; words = words; language = language_from language; help_options = helps; outline = outline })))))))
 
 abbrev pub description_of : DescriptionHead → List OptSaid → LevelSaid → DescriptionSaid
-description_of d helps l = record { name = d.name; section = d.words.section; date = d.words.date; vendor = d.words.vendor; title = d.words.title; help_options = helps; level = l }
+description_of d helps l = record { name = d.name; section = d.words.section; date = d.words.date; vendor = d.words.vendor; title = d.words.title; language = d.language; help_options = helps; level = l }
 
 unfoldable pub described : Members → Option DescriptionSaid
 described ms = description_head ms >>= (λ head. each_table (option_from help_option_keys) head.help_options >>= (λ helps.

@@ -102,6 +102,10 @@ syntax_writes text = writes_behind [] (stretches is_separator text)
 abbrev pub indent_writes : List ℕ → List Write
 indent_writes text = if starts_with ◌==◌ text (codes "--") then literal (codes "    ") ∷ [] else []
 
+-- the document of a syntax by itself, and as a list of options shows it
+abbrev pub bare_syntax : List ℕ → List Part
+bare_syntax text = document_of (syntax_writes text)
+
 abbrev pub syntax_document : List ℕ → List Part
 syntax_document text = document_of (indent_writes text ++ syntax_writes text)
 

@@ -13,7 +13,7 @@ use Rattle.description.specs.declared.trees.Shared.{Shared}
 use Rattle.description_parts.specs.View.{level_said, opt_said}
 
 abbrev pub description_said : {A : Type 0} → Description A → DescriptionSaid
-description_said d = record { name = d.name.now; section = section_name d.section; date = text_of d.date; vendor = text_of d.vendor; title = text_of d.title; help_options = map opt_said d.help_options.items; level = level_said d.level }
+description_said d = record { name = d.name.now; section = section_name d.section; date = text_of d.date; vendor = text_of d.vendor; title = text_of d.title; language = d.language.now; help_options = map opt_said d.help_options.items; level = level_said d.level }
 
 abbrev pub words_of : ManualTitle → TitleWords
 words_of t = record { section = section_name t.section; date = text_of t.date; vendor = text_of t.vendor; title = text_of t.title }

@@ -8,6 +8,7 @@ pub mod Sections
 pub mod Style
 pub mod Steps
 pub mod View
+pub mod Laws
 use Rattle.std.specs.Prelude.{ℕ, List, [], ◌∷◌, ◌++◌, flat_map, if◌then◌else◌, true}
 use Rattle.web_page.specs.Tree.{Nodes}
 use Rattle.web_page.specs.Models.{ReadsAs}
@@ -40,9 +41,9 @@ abbrev pub page_events : DescriptionSaid → List Event
 page_events d = header_events d ++ nav_of (d.name ∷ []) d.name d.level ++ main_of (application d)
 
 -- the tree of the page
-abbrev pub page_tree : (language : List ℕ) → DescriptionSaid → Nodes
-page_tree language d = whole_page (with_events (new_page language d.name style_sheet) (page_events d))
+abbrev pub page_tree : DescriptionSaid → Nodes
+page_tree d = whole_page (with_events (new_page d.language d.name style_sheet) (page_events d))
 
 -- a text that a reader of HTML reads, whole, as that tree
-abbrev pub IsWebPageOf : (language : List ℕ) → DescriptionSaid → List ℕ → Type 0
-IsWebPageOf language d text = ReadsAs text (page_tree language d)
+abbrev pub IsWebPageOf : DescriptionSaid → List ℕ → Type 0
+IsWebPageOf d text = ReadsAs text (page_tree d)

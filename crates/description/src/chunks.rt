@@ -142,7 +142,7 @@ fn counted(line: &str) -> &str
     }
 }
 
-fn without_blanks(line: &str) -> &str
+pub fn without_blanks(line: &str) -> &str
     ensures { result.now ≡ without_blanks line.now }
 {
     let mut rest = line;

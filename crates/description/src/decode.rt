@@ -5,7 +5,7 @@ ghost use Rattle.bpaf_meta.specs.View.{text_of};
 ghost use Rattle.toml.specs.View.{table_view};
 ghost use Rattle.toml_datetime.specs.Text.{date_text};
 ghost use Rattle.description.specs.Described.{commands_at, described, description_head, each_command};
-ghost use Rattle.description.specs.Described.{each_group, groups_at, section_from, title_words};
+ghost use Rattle.description.specs.Described.{each_group, groups_at, language_from, section_from, title_words};
 ghost use Rattle.description.specs.Described.Steps.{description_head_seen, words_seen};
 ghost use Rattle.description.specs.Described.Values.{as_date, optional_at, text_of_date};
 ghost use Rattle.description.specs.Faults.{IsMemory, Reads};
@@ -32,12 +32,13 @@ use toml::value::{Date, Datetime};
 use toml::{Table, Value};
 use values::{check_keys, required_word_at, section_at, tables_at, text_at, value_at};
 
-const DESCRIPTION_KEYS: [&str; 17] = [
+const DESCRIPTION_KEYS: [&str; 18] = [
     "name",
     "section",
     "date",
     "vendor",
     "title",
+    "language",
     "help_option",
     "about",
     "header",
@@ -95,6 +96,7 @@ fn description_of<'a, A: Allocator + Copy>(
         date: head.words.date,
         vendor: head.words.vendor,
         title: head.words.title,
+        language: head.language,
         help_options,
         level,
     })
@@ -114,6 +116,7 @@ struct TitleWords<'a> {
 struct DescriptionHead<'a> {
     name: &'static str,
     words: TitleWords<'a>,
+    language: &'a str,
     help_options: &'a [Value],
     outline: Outline<'a>,
 }
@@ -154,6 +157,7 @@ fn description_head<'a, A: Allocator + Copy>(
     Ok(DescriptionHead {
         name: required_word_at(names, table, "name", Kind::Program)?,
         words: title_words(alloc, names, table)?,
+        language: language_of(text_at(table, "language", Kind::Language)?),
         help_options: tables_at(table, "help_option")?,
         outline: outline_from(alloc, table)?,
     })
@@ -166,6 +170,16 @@ fn section_of(name: Option<&str>) -> Section<'_>
     match name {
         None => Section::General,
         Some(name) => Section::Custom(name),
+    }
+}
+
+// English where none is named.
+fn language_of(tag: Option<&str>) -> &str
+    ensures { result.now ≡ language_from (text_of tag.entry) }
+{
+    match tag {
+        None => "en",
+        Some(tag) => tag,
     }
 }
 

@@ -9,8 +9,8 @@ use description_parts::levels::Level;
 use description_parts::options::Opt;
 use std::alloc::{AllocError, Allocator, Global};
 
-/// A command line: its name, the words of the title line of its manual page, the options that ask for help, and
-/// its top level.
+/// A command line: its name, the words of the title line of its manual page, the language of its texts, the options
+/// that ask for help, and its top level.
 #[derive(Drop)]
 #[derive_where(Debug)]
 pub struct Description<'a, A: Allocator = Global> {
@@ -19,14 +19,16 @@ pub struct Description<'a, A: Allocator = Global> {
     pub date: Option<&'a str>,
     pub vendor: Option<&'a str>,
     pub title: Option<&'a str>,
+    /// The tag of the language of the texts, as `en` or `pt-BR`.
+    pub language: &'a str,
     /// The options that ask for help, here and at each command.
     pub help_options: Vec<Opt<'a>, A>,
     pub level: Level<'a, A>,
 }
 
 impl<'a, A: Allocator> Description<'a, A> {
-    /// A command line of this name, in the general section of the manual, without other words for its title line
-    /// and without options that ask for help.
+    /// A command line of this name in English, in the general section of the manual, without other words for its
+    /// title line and without options that ask for help.
     pub fn new(alloc: A, name: &'static str, level: Level<'a, A>) -> Description<'a, A>
         ensures { description_said result
             ≡ record {
@@ -35,6 +37,7 @@ impl<'a, A: Allocator> Description<'a, A> {
               date = None;
               vendor = None;
               title = None;
+              language = codes "en";
               help_options = [];
               level = level_said level.entry;
             } }
@@ -45,6 +48,7 @@ impl<'a, A: Allocator> Description<'a, A> {
             date: None,
             vendor: None,
             title: None,
+            language: "en",
             help_options: Vec::new(alloc),
             level,
         }
@@ -80,6 +84,15 @@ impl<'a, A: Allocator> Description<'a, A> {
         ensures { description_said result ≡ record (description_said self.entry) { title = Some title.now } }
     {
         self.title = Some(title);
+        self
+    }
+
+    /// The command line with texts in another language, of this tag: ASCII letters, digits and `-`. A complete HTML
+    /// page says it.
+    pub fn language(mut self, language: &'a str) -> Description<'a, A>
+        ensures { description_said result ≡ record (description_said self.entry) { language = language.now } }
+    {
+        self.language = language;
         self
     }
 

@@ -5,6 +5,7 @@ ghost use Rattle.description.specs.Manuals.{SubjectManualsAreWellNested};
 ghost use Rattle.description.specs.Pages.{ChaptersAreWellPlaced, PagesAreWellNested, SubjectsAreWellNested};
 ghost use Rattle.description.specs.Plain.{TextsArePlain};
 ghost use Rattle.description.specs.ReadOnce.{TitlesAreReadOnce};
+ghost use Rattle.description.specs.WebPages.Laws.{IdsAreDistinct, LinksHaveTargets};
 
 /// No named item of a description, or of a command of it, stands after a positional one. So each has a help page.
 pub fn chapters_are_placed()
@@ -41,4 +42,15 @@ pub fn titles_are_read_once()
 /// command on it too.
 pub fn each_command_is_there()
     ensures { EachCommandIsThere }
+{}
+
+/// Each link on the HTML page of a description leads to the id of an element of that page.
+pub fn links_have_targets()
+    ensures { LinksHaveTargets }
+{}
+
+/// No two elements of the HTML page of a description that a TOML text gives have one id, where there are fewer than
+/// 2^64 of them.
+pub fn ids_are_distinct()
+    ensures { IdsAreDistinct }
 {}

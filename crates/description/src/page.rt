@@ -13,34 +13,32 @@ use crate::subjects::Subject;
 use std::alloc::Allocator;
 use web_page::{Element, Level, Page, PageError};
 
+mod before;
 mod documents;
 mod elements;
 mod entries;
 mod ids;
 mod links;
+mod listed;
 mod lists;
 mod sections;
 mod terms;
 mod texts;
+mod words;
 
 const STYLE: &str =
-    "body{font:1rem/1.5 sans-serif;max-width:50rem;margin:0 auto;padding:1rem;color:#1b1b1b;background:#fff;overflow-wrap:anywhere}a{color:#0645ad}pre{white-space:pre-wrap;padding:.5rem;background:#f2f2f2}dt{margin-top:.5rem}dd{margin-left:2rem}@media(prefers-color-scheme:dark){body{color:#e6e6e6;background:#161616}a{color:#8ab4f8}pre{background:#262626}}@media print{body{max-width:none;color:#000;background:#fff}a{color:#000}nav{display:none}pre{background:none}}";
+    "body{font:1rem/1.5 sans-serif;max-width:50rem;margin:0 auto;padding:1rem;color:#1b1b1b;background:#fff;overflow-wrap:anywhere}a{color:#0645ad}pre{white-space:pre-wrap;padding:.5rem;background:#f2f2f2}dt{margin-top:.5rem}dt a{text-decoration:none}dt a:hover{text-decoration:underline}dd{margin-left:2rem}dd p{margin:.25rem 0}@media(prefers-color-scheme:dark){body{color:#e6e6e6;background:#161616}a{color:#8ab4f8}pre{background:#262626}}@media print{body{max-width:none;color:#000;background:#fff}a{color:#000}nav{display:none}pre{background:none}}";
 
 impl<A: Allocator> Description<'_, A> {
-    /// The complete HTML page of the command line and of all its commands that are not hidden, in this language. A
-    /// reader of HTML reads it, whole, as the tree that the rules give.
+    /// The complete HTML page of the command line and of all its commands that are not hidden. A reader of HTML reads
+    /// it, whole, as the tree that the rules give (`docs/description.md`).
     ///
-    /// `Refused` comes where an allocation failed, and the other errors where a name or a text of the description may
-    /// not stand in a page, as a control character.
-    pub fn page<B: Allocator + Copy>(
-        &self,
-        alloc: B,
-        language: &str,
-    ) -> Result<String<B>, PageError>
-        ensures read { IfOk result (λ text.
-            IsWebPageOf language.now (description_said self.now) (string_bytes text)) }
+    /// `Refused` comes where an allocation failed, and the other errors where the language, a name or a text may not
+    /// stand in a page, as a control character. No test found one of those for a description in TOML.
+    pub fn page<B: Allocator + Copy>(&self, alloc: B) -> Result<String<B>, PageError>
+        ensures read { IfOk result (λ text. IsWebPageOf (description_said self.now) (string_bytes text)) }
     {
-        let mut page = Page::new(alloc, language, self.name, STYLE)?;
+        let mut page = Page::new(alloc, self.language, self.name, STYLE)?;
         self.put_page(alloc, &mut page)?;
         page.finish()
     }

@@ -11,7 +11,7 @@ ghost use Rattle.description.specs.Described.Steps.{words_of};
 ghost use Rattle.description.specs.Described.Taken.{without_dashes};
 ghost use Rattle.description.specs.Described.Texts.{begins, is_empty_text};
 ghost use Rattle.description.specs.Paragraphs.{front};
-ghost use Rattle.description.specs.Syntax.{are_paired, closes, has_bar, has_form_of_name, has_letter, in_brackets};
+ghost use Rattle.description.specs.Syntax.{bare_syntax, are_paired, closes, has_bar, has_form_of_name, has_letter, in_brackets};
 ghost use Rattle.description.specs.Syntax.{indent_writes, is_bracket, is_closing, is_lead, is_metavar, is_name};
 ghost use Rattle.description.specs.Syntax.{is_negated, is_one_name, is_opening, is_place, is_same, is_separator};
 ghost use Rattle.description.specs.Syntax.{is_word_byte, parts, pieces, stretch_names, stretch_writes, stretches};
@@ -171,7 +171,16 @@ fn is_negated(before: &[u8], run: &[u8]) -> bool
 
 // ---- the document
 
-/// The document of a syntax, as a list of options shows it.
+/// The document of a syntax by itself.
+pub fn bare_syntax<B: Allocator + Copy>(alloc: B, text: &str) -> Result<Doc<B>, AllocError>
+    ensures { IfOk result (λ document. document ≡ bare_syntax text.now) }
+{
+    let mut document = Doc::new(alloc);
+    put_syntax(&mut document, text)?;
+    Ok(document)
+}
+
+/// The same, as a list of options shows it.
 pub fn syntax_document<B: Allocator + Copy>(alloc: B, text: &str) -> Result<Doc<B>, AllocError>
     ensures { IfOk result (λ document. document ≡ syntax_document text.now) }
 {

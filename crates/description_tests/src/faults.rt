@@ -170,6 +170,35 @@ const LINES: &[(&str, &str)] = &[
         "group 1: title is no text",
     ),
     ("name = 'a'\ndate = 2026-11-26\n", "a"),
+    ("name = 'a'\nlanguage = 'pt-BR'\n", "a"),
+    (
+        "name = 'a'\nlanguage = ''\n",
+        "description: language is no tag of a language",
+    ),
+    (
+        "name = 'a'\nlanguage = 'e n'\n",
+        "description: language is no tag of a language",
+    ),
+    (
+        "name = 'a'\nlanguage = \"\\u00e9\"\n",
+        "description: language is no tag of a language",
+    ),
+    (
+        "name = 'a'\nlanguage = \"e\\nn\"\n",
+        "description: language holds a control character",
+    ),
+    (
+        "name = 'a'\nlanguage = 1\n",
+        "description: language is no text",
+    ),
+    (
+        "name = 'a'\ntitle = 1\nlanguage = 1\nabout = 1\n",
+        "description: title is no text",
+    ),
+    (
+        "name = 'a'\nlanguage = 1\nabout = 1\n",
+        "description: language is no text",
+    ),
 ];
 
 const SECTIONS: &[(&str, &str)] = &[

@@ -32,7 +32,7 @@ fn put_options(top: &mut Level<'static>) -> Result<(), AllocError> {
 
 fn put_others(alloc: Global, top: &mut Level<'static>) -> Result<(), AllocError> {
     top.group(net(alloc)?)?;
-    let place: Positional<'static> = Positional::new("PLACE")
+    let place: Positional<'static> = Positional::new("the place")
         .help("Where.\n To.\n\n    code\n\n    more")
         .optional();
     top.positional(place)?;
@@ -59,7 +59,7 @@ const FRONT: &str =
 
 /// What stands behind the style sheet.
 const BODY: &str =
-    "<header><h1>app</h1><p>Does <code>x</code>.\nBoth &amp; all.</p><p><code>$ app &lt;in&gt;</code></p></header><nav><ul><li><a href=\"#app\">app</a><ul><li><a href=\"#app:add\">add</a></li></ul></li></ul></nav><main><section id=\"app\"><h2>app</h2><pre>\n<code><strong>app</strong> [<strong>-v</strong>] [<strong>-o</strong>=<var>&lt;file name&gt;</var>] [<strong>--proxy</strong>=<var>URL</var>] [<var>PLACE</var>] <var>COMMAND ...</var></code></pre><h3>Net</h3><dl><dt id=\"app::proxy\"><a href=\"#app::proxy\"><code>--proxy</code>=<var>URL</var></a></dt><dd></dd></dl><h3>Available positional items</h3><dl><dt id=\"app::PLACE\"><a href=\"#app::PLACE\"><var>PLACE</var></a></dt><dd><p>Where.<br>To.</p><pre>\n<code>code</code></pre><pre>\n<code>more</code></pre></dd></dl><h3>Available options</h3><dl><dt id=\"app::verbose\"><a href=\"#app::verbose\"><code>-v</code>, <code>--verbose</code></a></dt><dd><p>Say more</p></dd><dt id=\"app::o\"><a href=\"#app::o\"><code>-o</code>=<var>&lt;file name&gt;</var></a></dt><dd><p>Uses environment variable <code>OUT</code></p><p>[default: out]</p></dd><dt id=\"app::help\"><a href=\"#app::help\"><code>-h</code>, <code>--help</code></a></dt><dd><p>Help</p></dd><dt id=\"app::verbose::2\"><a href=\"#app::verbose::2\"><code>-v</code>, <code>--verbose</code></a></dt><dd><p>Other</p></dd></dl><h3>Available commands</h3><dl><dt><a href=\"#app:add\"><code>add</code>, <code>a</code></a></dt><dd><p>Adds one</p><p>[aliases: plus]</p></dd></dl><h3>Files</h3><pre>\n<code>a &lt;b&gt;\n\nc</code></pre><p>End <code>x</code>.</p><p>Bye</p></section><section id=\"app:add\"><h2>app add</h2><p>Adds.</p><pre>\n<code><strong>app</strong> <strong>add</strong> </code></pre><h3>Available options</h3><dl><dt id=\"app:add::help\"><a href=\"#app:add::help\"><code>-h</code>, <code>--help</code></a></dt><dd><p>Help</p></dd><dt id=\"app:add::verbose\"><a href=\"#app:add::verbose\"><code>-v</code>, <code>--verbose</code></a></dt><dd><p>Other</p></dd></dl></section></main></body></html>";
+    "<header><h1>app</h1><p>Does <code>x</code>.\nBoth &amp; all.</p><p><code>$ app &lt;in&gt;</code></p></header><nav><ul><li><a href=\"#app\">app</a><ul><li><a href=\"#app:add\">add</a></li></ul></li></ul></nav><main><section id=\"app\"><h2>app</h2><pre>\n<code><strong>app</strong> [<strong>-v</strong>] [<strong>-o</strong>=<var>&lt;file name&gt;</var>] [<strong>--proxy</strong>=<var>URL</var>] [<var>&lt;the place&gt;</var>] <var>COMMAND ...</var></code></pre><h3>Net</h3><dl><dt id=\"app::proxy\"><a href=\"#app::proxy\"><code>--proxy</code>=<var>URL</var></a></dt><dd></dd></dl><h3>Available positional items</h3><dl><dt id=\"app::.3cthe.20place.3e\"><a href=\"#app::.3cthe.20place.3e\"><var>&lt;the place&gt;</var></a></dt><dd><p>Where.<br>To.</p><pre>\n<code>code</code></pre><pre>\n<code>more</code></pre></dd></dl><h3>Available options</h3><dl><dt id=\"app::verbose\"><a href=\"#app::verbose\"><code>-v</code>, <code>--verbose</code></a></dt><dd><p>Say more</p></dd><dt id=\"app::o\"><a href=\"#app::o\"><code>-o</code>=<var>&lt;file name&gt;</var></a></dt><dd><p>Uses environment variable <code>OUT</code></p><p>[default: out]</p></dd><dt id=\"app::help\"><a href=\"#app::help\"><code>-h</code>, <code>--help</code></a></dt><dd><p>Help</p></dd><dt id=\"app::verbose::2\"><a href=\"#app::verbose::2\"><code>-v</code>, <code>--verbose</code></a></dt><dd><p>Other</p></dd></dl><h3>Available commands</h3><dl><dt><a href=\"#app:add\"><code>add</code>, <code>a</code></a></dt><dd><p>Adds one</p><p>[aliases: plus]</p></dd></dl><h3>Files</h3><pre>\n<code>a &lt;b&gt;\n\nc</code></pre><p>End <code>x</code>.</p><p>Bye</p></section><section id=\"app:add\"><h2>app add</h2><p>Adds.</p><pre>\n<code><strong>app</strong> <strong>add</strong> </code></pre><h3>Available options</h3><dl><dt id=\"app:add::help\"><a href=\"#app:add::help\"><code>-h</code>, <code>--help</code></a></dt><dd><p>Help</p></dd><dt id=\"app:add::verbose\"><a href=\"#app:add::verbose\"><code>-v</code>, <code>--verbose</code></a></dt><dd><p>Other</p></dd></dl></section></main></body></html>";
 
 // Whether this is the page, whatever its style sheet.
 fn is_page(text: &str) -> bool {
@@ -74,7 +74,7 @@ fn is_page(text: &str) -> bool {
 
 fn is_made(alloc: Global) -> Result<bool, PageError> {
     let app = app(alloc)?;
-    Ok(is_page(&app.page(alloc, "en")?))
+    Ok(is_page(&app.page(alloc)?))
 }
 
 #[test]
@@ -87,7 +87,7 @@ fn made_on(alloc: Global, app: &Description<'_>, budget: usize) -> Option<bool> 
     let Ok(heap) = LocalHeap::new(alloc, budget) else {
         return Some(false);
     };
-    match app.page(&heap, "en") {
+    match app.page(&heap) {
         Ok(text) => Some(is_page(&text)),
         Err(PageError::Refused(_)) => None,
         Err(_) => Some(false),
@@ -125,6 +125,7 @@ const TEXTS: &[(&str, &str)] = &[
         "<p>a</p><pre>\n<code>b\n  c</code></pre><p>d</p>",
     ),
     ("    \n    b", "<pre>\n<code>b</code></pre>"),
+    ("    b\n  c\n d", "<pre>\n<code>b</code></pre><p>c<br>d</p>"),
     ("```\n`a`\n\n", "<pre>\n<code>`a`\n\n</code></pre>"),
     ("```\na\n```\n```\nb\n```", "<pre>\n<code>a\nb</code></pre>"),
     ("```x\n```", ""),
@@ -135,7 +136,7 @@ fn page_with(alloc: Global, help: &'static str) -> Result<String, PageError> {
     let option: Opt<'static> = Opt::short('o').help(help);
     top.option(option)?;
     let app: Description<'static> = Description::new(alloc, "app", top);
-    app.page(alloc, "en")
+    app.page(alloc)
 }
 
 fn is_shown(alloc: Global, help: &'static str, shown: &str) -> Result<bool, PageError> {
@@ -156,6 +157,61 @@ fn texts_of_the_page(rt: HostRuntime) {
     }
 }
 
+/// A text `about`, and what stands of it in the header, which holds paragraphs alone.
+const ABOUTS: &[(&str, &str)] = &[
+    ("a\nb", "<p>a\nb</p>"),
+    (
+        "a\n    b <c>\nd\n\n```\ne\n\nf\n```",
+        "<p>a<br><code>b &lt;c&gt;</code><br>d</p><p><code>e</code></p><p><code>f</code></p>",
+    ),
+    ("    a\n    b", "<p><code>a</code><br><code>b</code></p>"),
+];
+
+fn is_about(alloc: Global, about: &str, shown: &str) -> Result<bool, PageError> {
+    let top: Level<'_> = Level::new(alloc).about(about);
+    let app: Description<'_> = Description::new(alloc, "app", top);
+    let page = app.page(alloc)?;
+    let Some((_, rest)) = page.split_once("<h1>app</h1>") else {
+        return Ok(false);
+    };
+    match rest.split_once("</header>") {
+        None => Ok(false),
+        Some((content, _)) => Ok(content == shown),
+    }
+}
+
+#[test]
+fn code_in_the_header_has_lines_of_its_own(rt: HostRuntime) {
+    for &(about, shown) in ABOUTS {
+        assert!(rt; is_about(rt.alloc(), about, shown) == Ok(true), "{about:?}");
+    }
+}
+
+/// The syntax of an option, and its term.
+const SYNTAXES: &[(&str, &str)] = &[
+    ("--color[=WHEN]", "<code>--color</code>[=<var>WHEN</var>]"),
+    ("--[no-]edit", "--[no-]<code>edit</code>"),
+    ("-o FILE", "<code>-o</code> <var>FILE</var>"),
+];
+
+fn is_term(alloc: Global, syntax: &'static str, term: &str) -> Result<bool, PageError> {
+    let mut top: Level<'static> = Level::new(alloc);
+    top.option(Opt::syntax(syntax))?;
+    let app: Description<'static> = Description::new(alloc, "app", top);
+    let page = app.page(alloc)?;
+    let Some((before, _)) = page.split_once("</a></dt>") else {
+        return Ok(false);
+    };
+    Ok(before.ends_with(term))
+}
+
+#[test]
+fn terms_of_syntaxes(rt: HostRuntime) {
+    for &(syntax, term) in SYNTAXES {
+        assert!(rt; is_term(rt.alloc(), syntax, term) == Ok(true), "{syntax}");
+    }
+}
+
 fn is_refused(alloc: Global) -> bool {
     match page_with(alloc, "a\u{1b}") {
         Err(PageError::Character) => true,
@@ -166,4 +222,19 @@ fn is_refused(alloc: Global) -> bool {
 #[test]
 fn a_control_character_is_refused(rt: HostRuntime) {
     assert!(rt; is_refused(rt.alloc()));
+}
+
+// Whether a page in the language of this tag says so.
+fn is_in(alloc: Global, tag: &'static str, front: &str) -> Result<bool, PageError> {
+    let top: Level<'static> = Level::new(alloc);
+    let app: Description<'static> = Description::new(alloc, "app", top).language(tag);
+    Ok(app.page(alloc)?.starts_with(front))
+}
+
+#[test]
+fn the_page_has_its_language(rt: HostRuntime) {
+    let front = "<!DOCTYPE html><html lang=\"pt-BR\"><head>";
+    assert!(rt; is_in(rt.alloc(), "pt-BR", front) == Ok(true));
+    assert!(rt; is_in(rt.alloc(), "", "") == Err(PageError::Language));
+    assert!(rt; is_in(rt.alloc(), "e n", "") == Err(PageError::Language));
 }

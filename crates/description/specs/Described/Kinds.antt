@@ -3,7 +3,8 @@ use Rattle.std.specs.Prelude.{ℕ, List, Bool, true, not, ◌&&◌, Option}
 use Rattle.std.specs.Char.{is_ascii_alphanumeric}
 use Rattle.std.specs.List.{list_all}
 use Rattle.toml.specs.Data.{Data}
-use Rattle.description.specs.Described.Texts.{as_text_of, begins, begins_a_section, has_ink, is_body, is_command_name, is_dash, is_empty_text, is_heading, is_line_character, is_long, is_name, is_name_character, is_program_name, is_read_once, is_section, is_text, is_text_character, is_title, is_value, is_line}
+use Rattle.web_page.specs.Models.{is_language}
+use Rattle.description.specs.Described.Texts.{as_text_of, begins, begins_a_section, has_ink, is_body, is_command_name, is_dash, is_empty_text, is_heading, is_language_tag, is_line_character, is_long, is_name, is_name_character, is_program_name, is_read_once, is_section, is_text, is_text_character, is_title, is_value, is_line}
 use Rattle.description.specs.declared.decode.texts.Kind.{Kind}
 use Rattle.description.specs.declared.decode.texts.Kind.TheVariants as kind
 
@@ -16,6 +17,7 @@ is_of kind.Value text = is_value text
 is_of kind.Title text = is_title text
 is_of kind.Heading text = is_heading text
 is_of kind.Section text = is_section text
+is_of kind.Language text = is_language_tag text
 is_of kind.Name text = is_name text
 is_of kind.Long text = is_long text
 is_of kind.Program text = is_program_name text
@@ -30,6 +32,7 @@ allows kind.Value c = is_line_character c
 allows kind.Title c = is_line_character c
 allows kind.Heading c = is_line_character c
 allows kind.Section c = is_line_character c
+allows kind.Language c = is_line_character c
 allows kind.Name c = is_name_character c
 allows kind.Long c = is_name_character c
 allows kind.Program c = is_name_character c
@@ -42,6 +45,7 @@ has_form kind.Line text = true
 has_form kind.Title text = list_all is_read_once text
 has_form kind.Heading text = list_all is_read_once text && has_ink text
 has_form kind.Section text = list_all is_ascii_alphanumeric text && begins begins_a_section text
+has_form kind.Language text = is_language text
 has_form kind.Body text = not (is_empty_text text)
 has_form kind.Value text = not (is_empty_text text)
 has_form kind.Name text = not (is_empty_text text)

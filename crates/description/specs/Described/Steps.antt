@@ -50,7 +50,7 @@ abbrev pub words_seen : SeenWords → TitleWords
 words_seen w = record { section = section_name w.section; date = text_of w.date; vendor = text_of w.vendor; title = text_of w.title }
 
 abbrev pub description_head_seen : SeenDescription → DescriptionHead
-description_head_seen d = record { name = d.name.now; words = words_seen d.words; help_options = items_view d.help_options.now; outline = outline_seen d.outline }
+description_head_seen d = record { name = d.name.now; words = words_seen d.words; language = d.language.now; help_options = items_view d.help_options.now; outline = outline_seen d.outline }
 
 -- how deep the groups and the commands in the arrays of a level lie
 abbrev pub lists_depth : Lists → ℕ

@@ -4,6 +4,7 @@ use Rattle.std.specs.Char.{is_ascii_alphanumeric, is_ascii_digit, is_control, is
 use Rattle.std.specs.Int.{is_in_range}
 use Rattle.std.specs.List.{list_all, list_any}
 use Rattle.toml.specs.Data.{Data, as_str}
+use Rattle.web_page.specs.Models.{is_language}
 
 -- ---- characters
 
@@ -81,6 +82,10 @@ is_heading text = is_title text && has_ink text
 abbrev pub is_section : List ℕ → Bool
 is_section text = list_all is_line_character (chars text) && (list_all is_ascii_alphanumeric text && begins begins_a_section text)
 
+-- the tag of a language
+abbrev pub is_language_tag : List ℕ → Bool
+is_language_tag text = list_all is_line_character (chars text) && is_language text
+
 -- the name of an environment variable
 abbrev pub is_name : List ℕ → Bool
 is_name text = list_all is_name_character (chars text) && not (is_empty_text text)
@@ -118,6 +123,9 @@ as_title = as_text_of is_title
 
 abbrev pub as_heading : Data → Option (List ℕ)
 as_heading = as_text_of is_heading
+
+abbrev pub as_language : Data → Option (List ℕ)
+as_language = as_text_of is_language_tag
 
 abbrev pub as_name : Data → Option (List ℕ)
 as_name = as_text_of is_name

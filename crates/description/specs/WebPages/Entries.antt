@@ -8,7 +8,7 @@ use Rattle.bpaf_meta.specs.Usage.Writes.{is_bare_character}
 use Rattle.web_page.specs.declared.elements.Element.TheVariants.{Code, Dd, Dt, P, Var}
 use Rattle.description_parts.specs.Content.{SpellingSaid, named, syntax, OptSaid, PositionalSaid, CommandSaid, command}
 use Rattle.description.specs.Notes.{listed_texts}
-use Rattle.description.specs.Syntax.{syntax_document}
+use Rattle.description.specs.Syntax.{bare_syntax}
 use Rattle.description.specs.WebPages.Events.{Event, document_events, words, end, start_with_id, link_start, inside, link, text_in}
 use Rattle.description.specs.WebPages.Ids.{entry_id, numbered, section_id}
 use Rattle.description.specs.WebPages.Texts.{given_text}
@@ -71,6 +71,9 @@ is_bare value = list_all is_bare_character (chars value)
 abbrev pub value_events : List ℕ → List Event
 value_events value = if is_bare value then text_in Var value else inside Var (words (codes "<") ∷ words value ∷ words (codes ">") ∷ [])
 
+abbrev pub shown_value : List ℕ → List ℕ
+shown_value value = if is_bare value then value else codes "<" ++ (value ++ codes ">")
+
 abbrev pub given_value : Option (List ℕ) → List Event
 given_value None = []
 given_value (Some value) = words (codes "=") ∷ value_events value
@@ -81,7 +84,7 @@ initial_events (Some c) = words (codes ", ") ∷ text_in Code (encode_utf8 c)
 
 -- ---- terms
 
--- what its id is made of: the long name of an option, or else the short one, or its syntax; or the word for a value
+-- what its id is made of: the long name of an option, or else the short one, or its syntax; or the word for a value as it is shown
 abbrev pub name_word : Name → List ℕ
 name_word (short c) = encode_utf8 c
 name_word (long name) = name
@@ -94,12 +97,12 @@ option_word (syntax text) = text
 -- its names, with the word for its value; or its syntax
 abbrev pub spelling_events : SpellingSaid → (value : Option (List ℕ)) → List Event
 spelling_events (named name) value = name_events name ++ given_value value
-spelling_events (syntax text) value = document_events Code (syntax_document text)
+spelling_events (syntax text) value = document_events Code (bare_syntax text)
 
 -- whether an entry has an id of this word; commands have none
 abbrev pub has_word : List ℕ → EntrySaid → Bool
 has_word word (an_option o) = bytes_eq word (option_word o.spelling)
-has_word word (a_value v) = bytes_eq word v.value
+has_word word (a_value v) = bytes_eq word (shown_value v.value)
 has_word word (a_command m) = false
 
 -- behind the other entries of the section
@@ -118,7 +121,7 @@ term_with_id id content = term_starts id ++ content ++ term_ends
 
 abbrev pub term_events : (path : List (List ℕ)) → (before : List EntrySaid) → EntrySaid → List Event
 term_events path before (an_option o) = term_with_id (id_behind path before (option_word o.spelling)) (spelling_events o.spelling o.value)
-term_events path before (a_value v) = term_with_id (id_behind path before v.value) (value_events v.value)
+term_events path before (a_value v) = term_with_id (id_behind path before (shown_value v.value)) (value_events v.value)
 -- a command is a link to its section
 term_events path before (a_command (command names h l)) = inside Dt (link (section_id (path ++ names.name ∷ [])) (text_in Code names.name ++ initial_events names.initial))
 

@@ -9,7 +9,7 @@ use Rattle.web_page.specs.Models.{is_ink}
 use Rattle.web_page.specs.declared.elements.Element.TheVariants.{Code, P, Pre}
 use Rattle.web_page.specs.declared.elements.Tag.TheVariants.{Of}
 use Rattle.description.specs.Chunks as chunks
-use Rattle.description.specs.Chunks.{Line, lines_of}
+use Rattle.description.specs.Chunks.{Line, lines_of, without_blanks}
 use Rattle.description.specs.Texts.{parted, pieces}
 use Rattle.description.specs.WebPages.Events.{Event, start, words, line_break, end, text_in}
 use Rattle.description.specs.declared.page.texts.Run.{Run}
@@ -40,41 +40,46 @@ shows_ink line = list_any piece_has_ink (pieces (parted line))
 
 -- ---- lines as a page shows them
 
--- nothing; a line of a paragraph, and whether it begins a new line there; or a line of code
+-- nothing; a line of a paragraph, and whether it begins a new line there; a line of code that stands in a paragraph, on a line of its own; or a line of code
 pub data Shown : Type 0 where
   gap : Shown
-  prose : (breaks : Bool) → List Event → Shown
+  prose : (breaks : Bool) → List ℕ → Shown
+  literal_line : List ℕ → Shown
   code_line : List ℕ → Shown
 
 -- a blank at the start of a line begins a new line, and is left out
 abbrev pub prose_line : List ℕ → Shown
 prose_line [] = gap
-prose_line (b ∷ bs) = if b == 32 then prose true (line_events bs) else prose false (line_events (b ∷ bs))
+prose_line (b ∷ bs) = if b == 32 then prose true bs else prose false (b ∷ bs)
 
 -- a header holds no code lines: such a line is a line of a paragraph there
 abbrev pub shown_line : (in_header : Bool) → Line → Shown
 shown_line in_header (chunks.ordinary line) = if shows_ink line then prose_line line else gap
 shown_line false (chunks.code line) = code_line line
-shown_line true (chunks.code line) = if list_any is_ink line then prose true (text_in Code line) else gap
+shown_line true (chunks.code line) = if list_any is_ink line then literal_line line else gap
 
 -- ---- a text
 
 -- what a line is a part of
 abbrev pub run_of : Shown → Run
 run_of gap = run.Nothing
-run_of (prose breaks events) = run.Paragraph
+run_of (prose breaks line) = run.Paragraph
+run_of (literal_line line) = run.Literal
 run_of (code_line line) = run.Code
 
 -- the end of a paragraph, or of lines of code
 abbrev pub closing : Run → List Event
 closing run.Nothing = []
 closing run.Paragraph = end ∷ []
+closing run.Literal = end ∷ []
 closing run.Code = end ∷ end ∷ []
 
--- what stands before a line of a paragraph, and before one of code: lines of one kind that follow one another are one paragraph, or one block of code
+-- what stands before a line of a paragraph, and before one of code: lines of one kind that follow one another are one paragraph, or one block of code, and a line of code in a paragraph
+-- is followed by a new line
 abbrev pub paragraph_seam : Run → (breaks : Bool) → List Event
 paragraph_seam run.Paragraph true = line_break ∷ []
 paragraph_seam run.Paragraph false = words (10 ∷ []) ∷ []
+paragraph_seam run.Literal breaks = line_break ∷ []
 paragraph_seam run.Nothing breaks = start (Of P) [] ∷ []
 paragraph_seam run.Code breaks = end ∷ end ∷ start (Of P) [] ∷ []
 
@@ -82,10 +87,19 @@ abbrev pub code_seam : Run → List Event
 code_seam run.Code = words (10 ∷ []) ∷ []
 code_seam run.Nothing = start (Of Pre) [] ∷ start (Of Code) [] ∷ []
 code_seam run.Paragraph = end ∷ start (Of Pre) [] ∷ start (Of Code) [] ∷ []
+code_seam run.Literal = end ∷ start (Of Pre) [] ∷ start (Of Code) [] ∷ []
+
+-- a line loses the blanks at its front behind a block of code
+abbrev pub line_after : Run → List ℕ → List ℕ
+line_after run.Code line = without_blanks line
+line_after run.Nothing line = line
+line_after run.Paragraph line = line
+line_after run.Literal line = line
 
 abbrev pub line_behind : Run → Shown → List Event
 line_behind before gap = closing before
-line_behind before (prose breaks events) = paragraph_seam before breaks ++ events
+line_behind before (prose breaks line) = paragraph_seam before breaks ++ line_events (line_after before line)
+line_behind before (literal_line line) = paragraph_seam before true ++ text_in Code line
 line_behind before (code_line line) = code_seam before ++ words line ∷ []
 
 abbrev pub lines_behind : Run → List Shown → List Event

@@ -7,6 +7,7 @@ ghost use Rattle.description.specs.Described.Texts.{begins, begins_a_section, ha
 ghost use Rattle.description.specs.Described.Texts.{is_empty_text, is_line_character, is_name_character};
 ghost use Rattle.description.specs.Described.Texts.{is_noncharacter, is_read_once, is_short, is_text_character};
 ghost use Rattle.description.specs.Faults.{Reads};
+ghost use Rattle.web_page.specs.Models.{is_language, is_language_byte};
 
 use super::faults::Fault;
 use crate::paragraphs::has_ink;
@@ -28,6 +29,8 @@ pub enum Kind {
     Heading,
     /// A section of the manual.
     Section,
+    /// The tag of a language.
+    Language,
     /// The name of an environment variable.
     Name,
     /// The long name of an option.
@@ -164,6 +167,28 @@ fn refused_as_section(text: &str) -> Refusal
     }
 }
 
+fn is_language_byte(byte: u8) -> bool
+    ensures { result ≡ is_language_byte byte }
+{
+    matches!(byte, b'a'..=b'z' | b'A'..=b'Z' | b'0'..=b'9' | b'-')
+}
+
+fn are_language_bytes(text: &str) -> bool
+    ensures { result ≡ list_all is_language_byte text.now }
+{
+    text.as_bytes().iter().all(|byte| is_language_byte(*byte))
+}
+
+fn refused_as_language(text: &str) -> Refusal
+    ensures { is_none result ≡ is_language text.now }
+{
+    if !text.is_empty() && are_language_bytes(text) {
+        None
+    } else {
+        Some(" is no tag of a language")
+    }
+}
+
 // A macro of roff reads its arguments twice: a backslash would begin an escape there, and a quote end the argument.
 fn refused_by_roff(bytes: &[u8]) -> Refusal
     ensures { is_none result ≡ list_all is_read_once bytes.now }
@@ -194,9 +219,12 @@ impl Kind {
     {
         match self {
             Kind::Text | Kind::Body => refused_in_a_text(character),
-            Kind::Line | Kind::Value | Kind::Title | Kind::Heading | Kind::Section => {
-                refused_on_a_line(character)
-            }
+            Kind::Line
+            | Kind::Value
+            | Kind::Title
+            | Kind::Heading
+            | Kind::Section
+            | Kind::Language => refused_on_a_line(character),
             Kind::Name | Kind::Long | Kind::Program | Kind::Command => {
                 refused_in_a_name(character)
             }
@@ -211,6 +239,7 @@ impl Kind {
             Kind::Title => refused_by_roff(text.as_bytes()),
             Kind::Heading => first_of(refused_by_roff(text.as_bytes()), refused_without_ink(text)),
             Kind::Section => refused_as_section(text),
+            Kind::Language => refused_as_language(text),
             Kind::Body | Kind::Value | Kind::Name => refused_if_empty(text),
             Kind::Program => first_of(refused_if_empty(text), refused_by_roff(text.as_bytes())),
             Kind::Long => refused_with_a_dash(text),

@@ -1,18 +1,13 @@
 //! The entries of a list: options, values that are taken by their place, and commands, each once.
-ghost use Rattle.std.specs.Prelude.{◌≡◌, OnOk, bytes_eq, fold, is_none, map};
-ghost use Rattle.std.specs.List.{list_any};
-ghost use Rattle.std.specs.Option.{option_eq};
-ghost use Rattle.bpaf_items.specs.Listing.Keys.{same_name};
-ghost use Rattle.bpaf_meta.specs.View.{name_of, text_of};
-ghost use Rattle.description.specs.WebPages.Entries.{a_value, an_option, by_names, by_syntax, same_entry};
-ghost use Rattle.description.specs.WebPages.Entries.{same_spelling, with_entry};
+ghost use Rattle.std.specs.Prelude.{◌≡◌, ◌++◌, ◌∷◌, [], OnOk, is_none, map};
+ghost use Rattle.bpaf_meta.specs.View.{text_of};
+ghost use Rattle.description.specs.WebPages.Entries.{by_names, by_syntax};
 ghost use Rattle.description.specs.WebPages.Lists.{choice_entries, command_entries, command_entry, option_entries};
 ghost use Rattle.description.specs.WebPages.Lists.{option_entry, says_nothing, value_entries, value_entry};
 ghost use Rattle.description.specs.WebPages.View.{entry_said};
 ghost use Rattle.description_parts.specs.View.{choice_said, command_said, commands_said, opt_said, positional_said};
 ghost use Rattle.description_parts.specs.View.{spelling_said};
 
-use bpaf_help::item::ShortLong;
 use description_parts::levels::Command;
 use description_parts::options::{Choice, Opt, Spelling};
 use description_parts::positionals::Positional;
@@ -26,7 +21,7 @@ pub enum Entry<'d, 'a, A: Allocator> {
     Command(&'d Command<'a, A>),
 }
 
-// Each `put` appends entries, unless the same is there; after `AllocError` some may stand there.
+// Each `put` appends entries; after `AllocError` some may stand there.
 
 /// Puts options that are not hidden.
 pub fn put_options<'d, 'a, A: Allocator, B: Allocator>(
@@ -34,7 +29,7 @@ pub fn put_options<'d, 'a, A: Allocator, B: Allocator>(
     options: &'d [Opt<'a>],
 ) -> Result<(), AllocError>
     ensures { OnOk result (map entry_said list.new.items
-        ≡ fold with_entry (map entry_said list.old.items) (option_entries (map opt_said options.now))) }
+        ≡ map entry_said list.old.items ++ option_entries (map opt_said options.now)) }
 {
     for option in options {
         put_option(list, option)?;
@@ -47,7 +42,7 @@ fn put_option<'d, 'a, A: Allocator, B: Allocator>(
     option: &'d Opt<'a>,
 ) -> Result<(), AllocError>
     ensures { OnOk result (map entry_said list.new.items
-        ≡ fold with_entry (map entry_said list.old.items) (option_entry (opt_said option.now))) }
+        ≡ map entry_said list.old.items ++ option_entry (opt_said option.now)) }
 {
     if option.hidden {
         Ok(())
@@ -62,7 +57,7 @@ pub fn put_choices<'d, 'a, A: Allocator, B: Allocator>(
     choices: &'d [Choice<'a, A>],
 ) -> Result<(), AllocError>
     ensures { OnOk result (map entry_said list.new.items
-        ≡ fold with_entry (map entry_said list.old.items) (choice_entries (map choice_said choices.now))) }
+        ≡ map entry_said list.old.items ++ choice_entries (map choice_said choices.now)) }
 {
     for choice in choices {
         put_options(list, &choice.options)?;
@@ -76,7 +71,7 @@ pub fn put_values<'d, 'a, A: Allocator, B: Allocator>(
     values: &'d [Positional<'a>],
 ) -> Result<(), AllocError>
     ensures { OnOk result (map entry_said list.new.items
-        ≡ fold with_entry (map entry_said list.old.items) (value_entries (map positional_said values.now))) }
+        ≡ map entry_said list.old.items ++ value_entries (map positional_said values.now)) }
 {
     for value in values {
         put_value(list, value)?;
@@ -89,7 +84,7 @@ fn put_value<'d, 'a, A: Allocator, B: Allocator>(
     value: &'d Positional<'a>,
 ) -> Result<(), AllocError>
     ensures { OnOk result (map entry_said list.new.items
-        ≡ fold with_entry (map entry_said list.old.items) (value_entry (positional_said value.now))) }
+        ≡ map entry_said list.old.items ++ value_entry (positional_said value.now)) }
 {
     if value.hidden || says_nothing(value) {
         Ok(())
@@ -120,7 +115,7 @@ pub fn put_commands<'d, 'a, A: Allocator, B: Allocator>(
     commands: &'d [Command<'a, A>],
 ) -> Result<(), AllocError>
     ensures { OnOk result (map entry_said list.new.items
-        ≡ fold with_entry (map entry_said list.old.items) (command_entries (commands_said commands.now))) }
+        ≡ map entry_said list.old.items ++ command_entries (commands_said commands.now)) }
 {
     for command in commands {
         put_command(list, command)?;
@@ -134,7 +129,7 @@ fn put_command<'d, 'a, A: Allocator, B: Allocator>(
     command: &'d Command<'a, A>,
 ) -> Result<(), AllocError>
     ensures { OnOk result (map entry_said list.new.items
-        ≡ fold with_entry (map entry_said list.old.items) (command_entry (command_said command.now))) }
+        ≡ map entry_said list.old.items ++ command_entry (command_said command.now)) }
 {
     if command.hidden {
         Ok(())
@@ -148,71 +143,10 @@ fn put<'d, 'a, A: Allocator, B: Allocator>(
     entry: Entry<'d, 'a, A>,
 ) -> Result<(), AllocError>
     ensures { OnOk result (map entry_said list.new.items
-        ≡ with_entry (map entry_said list.old.items) (entry_said entry.entry)) }
+        ≡ map entry_said list.old.items ++ entry_said entry.entry ∷ []) }
 {
-    if has_same(list.as_slice(), entry) {
-        return Ok(());
-    }
     list.push(entry)?;
     Ok(())
-}
-
-fn has_same<A: Allocator>(entries: &[Entry<'_, '_, A>], entry: Entry<'_, '_, A>) -> bool
-    ensures { result ≡ list_any (same_entry (entry_said entry.entry)) (map entry_said entries.now) }
-{
-    for other in entries {
-        if is_same(entry, *other) {
-            return true;
-        }
-    }
-    false
-}
-
-fn is_same<A: Allocator>(left: Entry<'_, '_, A>, right: Entry<'_, '_, A>) -> bool
-    ensures { result ≡ same_entry (entry_said left.entry) (entry_said right.entry) }
-{
-    match left {
-        Entry::Named(option) => is_that_option(option, right),
-        Entry::Value(value) => is_that_value(value, right),
-        Entry::Command(_) => false,
-    }
-}
-
-fn is_that_option<A: Allocator>(option: &Opt<'_>, entry: Entry<'_, '_, A>) -> bool
-    ensures { result ≡ same_entry (an_option (opt_said option.now)) (entry_said entry.entry) }
-{
-    match entry {
-        Entry::Named(other) => is_same_option(option, other),
-        Entry::Value(_) => false,
-        Entry::Command(_) => false,
-    }
-}
-
-fn is_that_value<A: Allocator>(value: &Positional<'_>, entry: Entry<'_, '_, A>) -> bool
-    ensures { result ≡ same_entry (a_value (positional_said value.now)) (entry_said entry.entry) }
-{
-    match entry {
-        Entry::Named(_) => false,
-        Entry::Value(other) => is_same_value(value, other),
-        Entry::Command(_) => false,
-    }
-}
-
-fn is_same_option(left: &Opt<'_>, right: &Opt<'_>) -> bool
-    ensures { result ≡ same_entry (an_option (opt_said left.now)) (an_option (opt_said right.now)) }
-{
-    is_same_spelling(left.spelling, right.spelling)
-        && is_same_text(
-            by_names(left.spelling, left.value),
-            by_names(right.spelling, right.value),
-        )
-        && is_same_text(left.help, right.help)
-        && is_same_text(left.default, right.default)
-        && is_same_text(left.values, right.values)
-        && is_same_text(
-            by_syntax(left.spelling, left.env),
-            by_syntax(right.spelling, right.env),
-        )
 }
 
 /// What counts of an option that is written by its names alone.
@@ -232,42 +166,5 @@ pub fn by_syntax(spelling: Spelling<'_>, text: Option<&'static str>) -> Option<&
     match spelling {
         Spelling::Names(_) => None,
         Spelling::Syntax(_) => text,
-    }
-}
-
-fn is_same_spelling(left: Spelling<'_>, right: Spelling<'_>) -> bool
-    ensures { result ≡ same_spelling (spelling_said left.entry) (spelling_said right.entry) }
-{
-    match (left, right) {
-        (Spelling::Names(left), Spelling::Names(right)) => is_same_name(left, right),
-        (Spelling::Syntax(left), Spelling::Syntax(right)) => *left == *right,
-        (Spelling::Names(_), Spelling::Syntax(_)) => false,
-        (Spelling::Syntax(_), Spelling::Names(_)) => false,
-    }
-}
-
-fn is_same_value(left: &Positional<'_>, right: &Positional<'_>) -> bool
-    ensures { result ≡ same_entry (a_value (positional_said left.now)) (a_value (positional_said right.now)) }
-{
-    *left.value == *right.value
-        && is_same_text(left.help, right.help)
-        && is_same_text(left.default, right.default)
-        && is_same_text(left.values, right.values)
-}
-
-fn is_same_name(left: ShortLong, right: ShortLong) -> bool
-    ensures { result ≡ same_name (name_of left) (name_of right) }
-{
-    left == right
-}
-
-fn is_same_text(left: Option<&str>, right: Option<&str>) -> bool
-    ensures { result ≡ option_eq bytes_eq (text_of left.entry) (text_of right.entry) }
-{
-    match (left, right) {
-        (Some(left), Some(right)) => *left == *right,
-        (Some(_), None) => false,
-        (None, Some(_)) => false,
-        (None, None) => true,
     }
 }

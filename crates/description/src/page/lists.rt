@@ -9,8 +9,10 @@ ghost use Rattle.description.specs.WebPages.View.{entry_said};
 ghost use Rattle.description_parts.specs.View.{choice_said, command_said, commands_said, group_said, groups_said};
 ghost use Rattle.description_parts.specs.View.{level_said, opt_said, positional_said};
 
+use crate::page::before::Before;
 use crate::page::elements::put_text_in;
 use crate::page::entries::{Entry, put_choices, put_commands, put_options, put_values};
+use crate::page::listed::each_once;
 use crate::page::terms::put_entry;
 use description_parts::levels::{Command, Group, Level};
 use description_parts::options::{Choice, Opt};
@@ -29,7 +31,7 @@ pub fn put_lists<'d, 'a, A: Allocator, B: Allocator + Copy>(
     ensures { OnOk result (page.new ≡ with_events page.old (lists_events (map string_bytes path.now) []
         (section_lists (map opt_said help_options.now) (level_said level.now)))) }
 {
-    let mut before: Vec<Entry<'d, 'a, A>, B> = Vec::new(alloc);
+    let mut before: Before<'d, 'a, A, B> = Before::new(alloc);
     put_named_lists(alloc, page, path, &mut before, &level.groups)?;
     put_placed_lists(alloc, page, path, &mut before, &level.groups)?;
     put_own_lists(alloc, page, path, &mut before, level, help_options)
@@ -40,12 +42,12 @@ fn put_own_lists<'d, 'a, A: Allocator, B: Allocator + Copy>(
     alloc: B,
     page: &mut Page<B>,
     path: &[String<B>],
-    before: &mut Vec<Entry<'d, 'a, A>, B>,
+    before: &mut Before<'d, 'a, A, B>,
     level: &'d Level<'a, A>,
     help_options: &'d [Opt<'a>],
 ) -> Result<(), PageError>
     ensures { OnOk result (page.new ≡ with_events page.old (lists_events (map string_bytes path.now)
-        (map entry_said before.old.items) (own_lists (map opt_said help_options.now) (level_said level.now)))) }
+        (map entry_said before.old.entries.items) (own_lists (map opt_said help_options.now) (level_said level.now)))) }
 {
     let values = values_in(alloc, &level.positionals)?;
     put_list(
@@ -67,13 +69,13 @@ fn put_named_lists<'d, 'a, A: Allocator, B: Allocator + Copy>(
     alloc: B,
     page: &mut Page<B>,
     path: &[String<B>],
-    before: &mut Vec<Entry<'d, 'a, A>, B>,
+    before: &mut Before<'d, 'a, A, B>,
     groups: &'d [Group<'a, A>],
 ) -> Result<(), PageError>
     ensures put { OnOk result (page.new ≡ with_events page.old (lists_events (map string_bytes path.now)
-        (map entry_said before.old.items) (group_lists named_list (groups_said groups.now)))) }
-    ensures entries { OnOk result (map entry_said before.new.items
-        ≡ map entry_said before.old.items ++ entries_of (group_lists named_list (groups_said groups.now))) }
+        (map entry_said before.old.entries.items) (group_lists named_list (groups_said groups.now)))) }
+    ensures entries { OnOk result (map entry_said before.new.entries.items
+        ≡ map entry_said before.old.entries.items ++ entries_of (group_lists named_list (groups_said groups.now))) }
 {
     for group in groups {
         put_named_list(alloc, page, path, before, group)?;
@@ -85,13 +87,13 @@ fn put_named_list<'d, 'a, A: Allocator, B: Allocator + Copy>(
     alloc: B,
     page: &mut Page<B>,
     path: &[String<B>],
-    before: &mut Vec<Entry<'d, 'a, A>, B>,
+    before: &mut Before<'d, 'a, A, B>,
     group: &'d Group<'a, A>,
 ) -> Result<(), PageError>
     ensures put { OnOk result (page.new ≡ with_events page.old (lists_events (map string_bytes path.now)
-        (map entry_said before.old.items) (named_list (group_said group.now) ∷ []))) }
-    ensures entries { OnOk result (map entry_said before.new.items
-        ≡ map entry_said before.old.items ++ entries_of (named_list (group_said group.now) ∷ [])) }
+        (map entry_said before.old.entries.items) (named_list (group_said group.now) ∷ []))) }
+    ensures entries { OnOk result (map entry_said before.new.entries.items
+        ≡ map entry_said before.old.entries.items ++ entries_of (named_list (group_said group.now) ∷ [])) }
 {
     let entries = named(alloc, &group.options, &group.choices)?;
     put_list(alloc, page, path, before, group.title, &entries)
@@ -102,13 +104,13 @@ fn put_placed_lists<'d, 'a, A: Allocator, B: Allocator + Copy>(
     alloc: B,
     page: &mut Page<B>,
     path: &[String<B>],
-    before: &mut Vec<Entry<'d, 'a, A>, B>,
+    before: &mut Before<'d, 'a, A, B>,
     groups: &'d [Group<'a, A>],
 ) -> Result<(), PageError>
     ensures put { OnOk result (page.new ≡ with_events page.old (lists_events (map string_bytes path.now)
-        (map entry_said before.old.items) (group_lists placed_list (groups_said groups.now)))) }
-    ensures entries { OnOk result (map entry_said before.new.items
-        ≡ map entry_said before.old.items ++ entries_of (group_lists placed_list (groups_said groups.now))) }
+        (map entry_said before.old.entries.items) (group_lists placed_list (groups_said groups.now)))) }
+    ensures entries { OnOk result (map entry_said before.new.entries.items
+        ≡ map entry_said before.old.entries.items ++ entries_of (group_lists placed_list (groups_said groups.now))) }
 {
     for group in groups {
         put_placed_list(alloc, page, path, before, group)?;
@@ -120,20 +122,20 @@ fn put_placed_list<'d, 'a, A: Allocator, B: Allocator + Copy>(
     alloc: B,
     page: &mut Page<B>,
     path: &[String<B>],
-    before: &mut Vec<Entry<'d, 'a, A>, B>,
+    before: &mut Before<'d, 'a, A, B>,
     group: &'d Group<'a, A>,
 ) -> Result<(), PageError>
     ensures put { OnOk result (page.new ≡ with_events page.old (lists_events (map string_bytes path.now)
-        (map entry_said before.old.items) (placed_list (group_said group.now) ∷ []))) }
-    ensures entries { OnOk result (map entry_said before.new.items
-        ≡ map entry_said before.old.items ++ entries_of (placed_list (group_said group.now) ∷ [])) }
+        (map entry_said before.old.entries.items) (placed_list (group_said group.now) ∷ []))) }
+    ensures entries { OnOk result (map entry_said before.new.entries.items
+        ≡ map entry_said before.old.entries.items ++ entries_of (placed_list (group_said group.now) ∷ [])) }
 {
     let entries = placed(alloc, &group.positionals, &group.commands)?;
     put_list(alloc, page, path, before, group.title, &entries)
 }
 
 // The entries of options and of choices, each once.
-fn named<'d, 'a, A: Allocator, B: Allocator>(
+fn named<'d, 'a, A: Allocator, B: Allocator + Copy>(
     alloc: B,
     options: &'d [Opt<'a>],
     choices: &'d [Choice<'a, A>],
@@ -144,11 +146,11 @@ fn named<'d, 'a, A: Allocator, B: Allocator>(
     let mut entries: Vec<Entry<'d, 'a, A>, B> = Vec::new(alloc);
     put_options(&mut entries, options)?;
     put_choices(&mut entries, choices)?;
-    Ok(entries)
+    each_once(alloc, &entries)
 }
 
 // The same, with further options behind them.
-fn options_in<'d, 'a, A: Allocator, B: Allocator>(
+fn options_in<'d, 'a, A: Allocator, B: Allocator + Copy>(
     alloc: B,
     options: &'d [Opt<'a>],
     choices: &'d [Choice<'a, A>],
@@ -162,11 +164,11 @@ fn options_in<'d, 'a, A: Allocator, B: Allocator>(
     put_options(&mut entries, options)?;
     put_choices(&mut entries, choices)?;
     put_options(&mut entries, others)?;
-    Ok(entries)
+    each_once(alloc, &entries)
 }
 
 // The entries of values and commands, each once.
-fn placed<'d, 'a, A: Allocator, B: Allocator>(
+fn placed<'d, 'a, A: Allocator, B: Allocator + Copy>(
     alloc: B,
     values: &'d [Positional<'a>],
     commands: &'d [Command<'a, A>],
@@ -177,10 +179,10 @@ fn placed<'d, 'a, A: Allocator, B: Allocator>(
     let mut entries: Vec<Entry<'d, 'a, A>, B> = Vec::new(alloc);
     put_values(&mut entries, values)?;
     put_commands(&mut entries, commands)?;
-    Ok(entries)
+    each_once(alloc, &entries)
 }
 
-fn values_in<'d, 'a, A: Allocator, B: Allocator>(
+fn values_in<'d, 'a, A: Allocator, B: Allocator + Copy>(
     alloc: B,
     values: &'d [Positional<'a>],
 ) -> Result<Vec<Entry<'d, 'a, A>, B>, AllocError>
@@ -189,10 +191,10 @@ fn values_in<'d, 'a, A: Allocator, B: Allocator>(
 {
     let mut entries: Vec<Entry<'d, 'a, A>, B> = Vec::new(alloc);
     put_values(&mut entries, values)?;
-    Ok(entries)
+    each_once(alloc, &entries)
 }
 
-fn commands_in<'d, 'a, A: Allocator, B: Allocator>(
+fn commands_in<'d, 'a, A: Allocator, B: Allocator + Copy>(
     alloc: B,
     commands: &'d [Command<'a, A>],
 ) -> Result<Vec<Entry<'d, 'a, A>, B>, AllocError>
@@ -201,7 +203,7 @@ fn commands_in<'d, 'a, A: Allocator, B: Allocator>(
 {
     let mut entries: Vec<Entry<'d, 'a, A>, B> = Vec::new(alloc);
     put_commands(&mut entries, commands)?;
-    Ok(entries)
+    each_once(alloc, &entries)
 }
 
 // Puts entries under a title, unless there are none.
@@ -209,14 +211,14 @@ fn put_list<'d, 'a, A: Allocator, B: Allocator + Copy>(
     alloc: B,
     page: &mut Page<B>,
     path: &[String<B>],
-    before: &mut Vec<Entry<'d, 'a, A>, B>,
+    before: &mut Before<'d, 'a, A, B>,
     title: &str,
     entries: &[Entry<'d, 'a, A>],
 ) -> Result<(), PageError>
     ensures put { OnOk result (page.new ≡ with_events page.old (list_events (map string_bytes path.now)
-        (map entry_said before.old.items) title.now (map entry_said entries.now))) }
-    ensures entries { OnOk result (map entry_said before.new.items
-        ≡ map entry_said before.old.items ++ map entry_said entries.now) }
+        (map entry_said before.old.entries.items) title.now (map entry_said entries.now))) }
+    ensures entries { OnOk result (map entry_said before.new.entries.items
+        ≡ map entry_said before.old.entries.items ++ map entry_said entries.now) }
 {
     if entries.is_empty() {
         return Ok(());
@@ -231,28 +233,17 @@ fn put_entries<'d, 'a, A: Allocator, B: Allocator + Copy>(
     alloc: B,
     page: &mut Page<B>,
     path: &[String<B>],
-    before: &mut Vec<Entry<'d, 'a, A>, B>,
+    before: &mut Before<'d, 'a, A, B>,
     entries: &[Entry<'d, 'a, A>],
 ) -> Result<(), PageError>
     ensures put { OnOk result (page.new ≡ with_events page.old (entries_events (map string_bytes path.now)
-        (map entry_said before.old.items) (map entry_said entries.now))) }
-    ensures entries { OnOk result (map entry_said before.new.items
-        ≡ map entry_said before.old.items ++ map entry_said entries.now) }
+        (map entry_said before.old.entries.items) (map entry_said entries.now))) }
+    ensures entries { OnOk result (map entry_said before.new.entries.items
+        ≡ map entry_said before.old.entries.items ++ map entry_said entries.now) }
 {
     for entry in entries {
-        put_entry(alloc, page, path, before.as_slice(), *entry)?;
-        push(before, *entry)?;
+        put_entry(alloc, page, path, before, *entry)?;
+        before.push(alloc, *entry)?;
     }
-    Ok(())
-}
-
-fn push<'d, 'a, A: Allocator, B: Allocator>(
-    list: &mut Vec<Entry<'d, 'a, A>, B>,
-    entry: Entry<'d, 'a, A>,
-) -> Result<(), AllocError>
-    ensures { OnOk result (map entry_said list.new.items
-        ≡ map entry_said list.old.items ++ entry_said entry.entry ∷ []) }
-{
-    list.push(entry)?;
     Ok(())
 }

@@ -1,31 +1,29 @@
 //! The entries of a list as a page shows them: a term, and what is said of it.
-ghost use Rattle.std.specs.Prelude.{◌≡◌, ◌++◌, ◌∷◌, [], IfOk, OnOk, Some, bytes_eq, chars, count_by, map, string_bytes};
-ghost use Rattle.std.specs.List.{list_all};
-ghost use Rattle.bpaf_meta.specs.Usage.Writes.{is_bare_character};
+ghost use Rattle.std.specs.Prelude.{◌≡◌, ◌++◌, [], OnOk, Some, map, string_bytes};
 ghost use Rattle.bpaf_meta.specs.View.{name_of, text_of};
 ghost use Rattle.description.specs.WebPages.Entries.{a_command, a_value, an_option, entry_events, env_events};
-ghost use Rattle.description.specs.WebPages.Entries.{given_note, given_value, has_word, id_behind, initial_events};
-ghost use Rattle.description.specs.Syntax.{syntax_document};
-ghost use Rattle.description.specs.WebPages.Entries.{is_bare, long_events, name_events, name_word, note_events};
-ghost use Rattle.description.specs.WebPages.Entries.{option_word, spelling_events};
+ghost use Rattle.description.specs.Syntax.{bare_syntax};
+ghost use Rattle.description.specs.WebPages.Entries.{given_note, given_value, id_behind, initial_events};
+ghost use Rattle.description.specs.WebPages.Entries.{long_events, name_events, note_events, spelling_events};
 ghost use Rattle.description.specs.WebPages.Entries.{other_names, said_events, short_events, term_ends, term_events};
 ghost use Rattle.description.specs.WebPages.Entries.{term_starts, value_events, value_notes};
 ghost use Rattle.description.specs.WebPages.Events.{document_events, with_events};
 ghost use Rattle.description.specs.WebPages.View.{entry_said};
-ghost use Rattle.description_parts.specs.View.{command_said, opt_said, positional_said, spelling_said};
+ghost use Rattle.description_parts.specs.View.{command_said, opt_said, positional_said};
 
+use crate::page::before::Before;
 use crate::page::documents::put_document;
 use crate::page::elements::{put_text_in, start_link};
 use crate::page::entries::{Entry, by_names, by_syntax};
 use crate::page::ids::{entry_id, section_id_below};
 use crate::page::texts::put_given;
-use crate::syntax::syntax_document;
+use crate::page::words::{is_bare, option_word, shown_value};
+use crate::syntax::bare_syntax;
 use bpaf_help::item::ShortLong;
 use description_parts::levels::Command;
 use description_parts::options::{Opt, Spelling};
 use description_parts::positionals::Positional;
-use std::alloc::{AllocError, Allocator};
-use unicode::properties::is_uppercase;
+use std::alloc::Allocator;
 use web_page::{Element, Page, PageError};
 
 /// Puts an entry of the section that a path leads to, behind those before it.
@@ -33,11 +31,11 @@ pub fn put_entry<A: Allocator, B: Allocator + Copy>(
     alloc: B,
     page: &mut Page<B>,
     path: &[String<B>],
-    before: &[Entry<'_, '_, A>],
+    before: &Before<'_, '_, A, B>,
     entry: Entry<'_, '_, A>,
 ) -> Result<(), PageError>
     ensures { OnOk result (page.new ≡ with_events page.old
-        (entry_events (map string_bytes path.now) (map entry_said before.now) (entry_said entry.entry))) }
+        (entry_events (map string_bytes path.now) (map entry_said before.now.entries.items) (entry_said entry.entry))) }
 {
     put_term(alloc, page, path, before, entry)?;
     page.start(Element::Dd)?;
@@ -49,11 +47,11 @@ fn put_term<A: Allocator, B: Allocator + Copy>(
     alloc: B,
     page: &mut Page<B>,
     path: &[String<B>],
-    before: &[Entry<'_, '_, A>],
+    before: &Before<'_, '_, A, B>,
     entry: Entry<'_, '_, A>,
 ) -> Result<(), PageError>
     ensures { OnOk result (page.new ≡ with_events page.old
-        (term_events (map string_bytes path.now) (map entry_said before.now) (entry_said entry.entry))) }
+        (term_events (map string_bytes path.now) (map entry_said before.now.entries.items) (entry_said entry.entry))) }
 {
     match entry {
         Entry::Named(option) => put_option_term(alloc, page, path, before, option),
@@ -66,11 +64,11 @@ fn put_option_term<A: Allocator, B: Allocator + Copy>(
     alloc: B,
     page: &mut Page<B>,
     path: &[String<B>],
-    before: &[Entry<'_, '_, A>],
+    before: &Before<'_, '_, A, B>,
     option: &Opt<'_>,
 ) -> Result<(), PageError>
     ensures { OnOk result (page.new ≡ with_events page.old
-        (term_events (map string_bytes path.now) (map entry_said before.now) (an_option (opt_said option.now)))) }
+        (term_events (map string_bytes path.now) (map entry_said before.now.entries.items) (an_option (opt_said option.now)))) }
 {
     let word = option_word(alloc, option.spelling)?;
     start_term(alloc, page, path, before, &word)?;
@@ -111,9 +109,9 @@ fn put_syntax<B: Allocator + Copy>(
     text: &str,
 ) -> Result<(), PageError>
     ensures { OnOk result (page.new ≡ with_events page.old
-        (document_events Element.Code (syntax_document text.now))) }
+        (document_events Element.Code (bare_syntax text.now))) }
 {
-    let document = syntax_document(alloc, text)?;
+    let document = bare_syntax(alloc, text)?;
     let put = put_document(page, Element::Code, &document);
     drop(document);
     put
@@ -123,13 +121,14 @@ fn put_value_term<A: Allocator, B: Allocator + Copy>(
     alloc: B,
     page: &mut Page<B>,
     path: &[String<B>],
-    before: &[Entry<'_, '_, A>],
+    before: &Before<'_, '_, A, B>,
     value: &Positional<'_>,
 ) -> Result<(), PageError>
     ensures { OnOk result (page.new ≡ with_events page.old
-        (term_events (map string_bytes path.now) (map entry_said before.now) (a_value (positional_said value.now)))) }
+        (term_events (map string_bytes path.now) (map entry_said before.now.entries.items) (a_value (positional_said value.now)))) }
 {
-    start_term(alloc, page, path, before, value.value)?;
+    let word = shown_value(alloc, value.value)?;
+    start_term(alloc, page, path, before, &word)?;
     put_value(page, value.value)?;
     end_term(page)
 }
@@ -156,13 +155,13 @@ fn start_term<A: Allocator, B: Allocator + Copy>(
     alloc: B,
     page: &mut Page<B>,
     path: &[String<B>],
-    before: &[Entry<'_, '_, A>],
+    before: &Before<'_, '_, A, B>,
     word: &str,
 ) -> Result<(), PageError>
     ensures { OnOk result (page.new ≡ with_events page.old
-        (term_starts (id_behind (map string_bytes path.now) (map entry_said before.now) word.now))) }
+        (term_starts (id_behind (map string_bytes path.now) (map entry_said before.now.entries.items) word.now))) }
 {
-    let id = entry_id(alloc, path, word, count_word(before, word))?;
+    let id = entry_id(alloc, path, word, before.count(word))?;
     page.start_with_id(Element::Dt, &id)?;
     start_link(alloc, page, &id)
 }
@@ -172,68 +171,6 @@ fn end_term<B: Allocator>(page: &mut Page<B>) -> Result<(), PageError>
 {
     page.end()?;
     page.end()
-}
-
-// How many of the entries have an id of this word.
-fn count_word<A: Allocator>(entries: &[Entry<'_, '_, A>], word: &str) -> usize
-    ensures { result ≡ count_by (has_word word.now) (map entry_said entries.now) }
-{
-    let mut count = 0;
-    for entry in entries {
-        if has_word(word, *entry) {
-            count += 1;
-        }
-    }
-    count
-}
-
-fn has_word<A: Allocator>(word: &str, entry: Entry<'_, '_, A>) -> bool
-    ensures { result ≡ has_word word.now (entry_said entry.entry) }
-{
-    match entry {
-        Entry::Named(option) => is_option_word(word, option.spelling),
-        Entry::Value(value) => *word == *value.value,
-        Entry::Command(_) => false,
-    }
-}
-
-fn is_option_word(word: &str, spelling: Spelling<'_>) -> bool
-    ensures { result ≡ bytes_eq word.now (option_word (spelling_said spelling.entry)) }
-{
-    match spelling {
-        Spelling::Names(name) => is_name_word(word, name),
-        Spelling::Syntax(text) => *word == *text,
-    }
-}
-
-fn is_name_word(word: &str, name: ShortLong) -> bool
-    ensures { result ≡ bytes_eq word.now (name_word (name_of name)) }
-{
-    match name {
-        ShortLong::Short(short) => *word == *short.encode_utf8(&mut [0; 4]),
-        ShortLong::Long(long) => *word == *long,
-        ShortLong::Both(_, long) => *word == *long,
-    }
-}
-
-// What the id of an option is made of: its long name, or else its short one, or its syntax.
-fn option_word<B: Allocator>(alloc: B, spelling: Spelling<'_>) -> Result<String<B>, AllocError>
-    ensures { IfOk result (λ word. string_bytes word ≡ option_word (spelling_said spelling.entry)) }
-{
-    match spelling {
-        Spelling::Names(name) => name_word(alloc, name),
-        Spelling::Syntax(text) => String::from_str(alloc, text),
-    }
-}
-
-fn name_word<B: Allocator>(alloc: B, name: ShortLong) -> Result<String<B>, AllocError>
-    ensures { IfOk result (λ word. string_bytes word ≡ name_word (name_of name)) }
-{
-    match name {
-        ShortLong::Short(short) => String::from_str(alloc, short.encode_utf8(&mut [0; 4])),
-        ShortLong::Long(long) => String::from_str(alloc, long),
-        ShortLong::Both(_, long) => String::from_str(alloc, long),
-    }
 }
 
 fn put_name<B: Allocator>(page: &mut Page<B>, name: ShortLong) -> Result<(), PageError>
@@ -293,18 +230,6 @@ fn put_value<B: Allocator>(page: &mut Page<B>, value: &str) -> Result<(), PageEr
     page.text(value)?;
     page.text(">")?;
     page.end()
-}
-
-fn is_bare(value: &str) -> bool
-    ensures { result ≡ is_bare value.now }
-{
-    value.chars().all(is_bare_character)
-}
-
-fn is_bare_character(character: char) -> bool
-    ensures { result ≡ is_bare_character character }
-{
-    is_uppercase(character) || character.is_ascii_digit() || character == '-' || character == '_'
 }
 
 fn put_initial<B: Allocator>(page: &mut Page<B>, short: Option<char>) -> Result<(), PageError>

@@ -7,10 +7,11 @@ ghost use Rattle.description.specs.Chunks.{code, counted, fenced, is_blank, mark
 ghost use Rattle.description.specs.Texts.{plain_piece};
 ghost use Rattle.description.specs.WebPages.Events.{text_in, with_events};
 ghost use Rattle.description.specs.WebPages.Steps.{line_said, place_of, rest_events};
-ghost use Rattle.description.specs.WebPages.Texts.{closing, code_seam, given_text, line_behind, line_events};
+ghost use Rattle.description.specs.WebPages.Texts.{closing, code_seam, given_text, line_after, line_behind, line_events};
 ghost use Rattle.description.specs.WebPages.Texts.{paragraph_seam, piece_events, prose, prose_line, run_of};
 ghost use Rattle.description.specs.WebPages.Texts.{shown_line, shows_ink, text_events};
 
+use crate::chunks::without_blanks;
 use crate::page::elements::put_text_in;
 use crate::texts::{first_pair, is_fence};
 use std::alloc::Allocator;
@@ -19,11 +20,12 @@ use web_page::{Element, Page, PageError};
 // What a line begins with that is code.
 const BLANKS: &str = "    ";
 
-// What was put last: nothing that is open, a line of a paragraph, or a line of code.
+// What was put last: nothing that is open, a line of a paragraph, a line of code in a paragraph, or a line of code.
 #[derive(Clone, Copy)]
 enum Run {
     Nothing,
     Paragraph,
+    Literal,
     Code,
 }
 
@@ -186,12 +188,23 @@ fn put_prose<B: Allocator>(
     line: &str,
 ) -> Result<Run, PageError>
     ensures put { OnOk result (page.new
-        ≡ with_events page.old (line_behind before (prose breaks (line_events line.now)))) }
+        ≡ with_events page.old (line_behind before (prose breaks line.now))) }
     ensures run { IfOk result (λ run. run ≡ Run.Paragraph) }
 {
     begin_prose(page, before, breaks)?;
-    put_pieces(page, line)?;
+    put_pieces(page, line_after(before, line))?;
     Ok(Run::Paragraph)
+}
+
+fn line_after(before: Run, line: &str) -> &str
+    ensures { result.now ≡ line_after before line.now }
+{
+    match before {
+        Run::Code => without_blanks(line),
+        Run::Nothing => line,
+        Run::Paragraph => line,
+        Run::Literal => line,
+    }
 }
 
 fn put_code<B: Allocator>(
@@ -227,7 +240,7 @@ fn put_code_in_header<B: Allocator>(
     }
     begin_prose(page, before, true)?;
     put_text_in(page, Element::Code, line)?;
-    Ok(Run::Paragraph)
+    Ok(Run::Literal)
 }
 
 // What stands before a line of a paragraph.
@@ -237,6 +250,7 @@ fn begin_prose<B: Allocator>(page: &mut Page<B>, before: Run, breaks: bool) -> R
     match before {
         Run::Nothing => page.start(Element::P),
         Run::Paragraph => put_seam(page, breaks),
+        Run::Literal => page.line_break(),
         Run::Code => {
             page.end()?;
             page.end()?;
@@ -261,7 +275,7 @@ fn begin_code<B: Allocator>(page: &mut Page<B>, before: Run) -> Result<(), PageE
 {
     match before {
         Run::Nothing => start_code(page),
-        Run::Paragraph => {
+        Run::Paragraph | Run::Literal => {
             page.end()?;
             start_code(page)
         }
@@ -281,7 +295,7 @@ fn close<B: Allocator>(page: &mut Page<B>, run: Run) -> Result<(), PageError>
 {
     match run {
         Run::Nothing => Ok(()),
-        Run::Paragraph => page.end(),
+        Run::Paragraph | Run::Literal => page.end(),
         Run::Code => {
             page.end()?;
             page.end()

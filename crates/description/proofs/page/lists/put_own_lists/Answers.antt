@@ -9,7 +9,7 @@ pub returns : goal.returns
 returns g c =
     on_ok_weaker c.put_list-3.result
     (own_put c.args.level.now (map opt_said c.args.help_options.now) (map string_bytes c.args.path.now) c.args.page.now c.put_list.new.page c.put_list-2.new.page c.put_list-3.new.page
-    (map entry_said c.args.before.now.items) (map entry_said c.put_list.new.before.items) (map entry_said c.put_list-2.new.before.items)
+    (map entry_said c.args.before.now.entries.items) (map entry_said c.put_list.new.before.entries.items) (map entry_said c.put_list-2.new.before.entries.items)
     (map entry_said c.deref-2.result.now) (map entry_said c.deref-5.result.now) (map entry_said c.deref-7.result.now)
     c.deref.result.now c.deref-3.result.now c.deref-4.result.now c.deref-6.result.now c.deref.ensures.value c.deref-3.ensures.value c.deref-4.ensures.value c.deref-6.ensures.value
     (ap (map entry_said) c.deref-2.ensures.value ∙ c.in_ok-values.ensures) (ap (map entry_said) c.deref-5.ensures.value ∙ c.in_ok-options.ensures) (ap (map entry_said) c.deref-7.ensures.value ∙ c.in_ok-commands.ensures)

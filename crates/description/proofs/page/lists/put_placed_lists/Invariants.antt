@@ -8,9 +8,9 @@ use Rattle.description.proofs.page.lists.put_placed_lists.Given as goal
 abbrev pub invariant-loop-group : goal.invariant-loop-group
 invariant-loop-group g l = record {
   written :
-      with_events l.page (lists_events (map string_bytes l.path) (map entry_said l.before.items) (group_lists placed_list (groups_said (drop l.group-index l.groups))))
-      ≡ with_events l.fn.page (lists_events (map string_bytes l.path) (map entry_said l.fn.before.items) (group_lists placed_list (groups_said l.groups)));
+      with_events l.page (lists_events (map string_bytes l.path) (map entry_said l.before.entries.items) (group_lists placed_list (groups_said (drop l.group-index l.groups))))
+      ≡ with_events l.fn.page (lists_events (map string_bytes l.path) (map entry_said l.fn.before.entries.items) (group_lists placed_list (groups_said l.groups)));
   entries :
-      map entry_said l.before.items ++ entries_of (group_lists placed_list (groups_said (drop l.group-index l.groups)))
-      ≡ map entry_said l.fn.before.items ++ entries_of (group_lists placed_list (groups_said l.groups));
+      map entry_said l.before.entries.items ++ entries_of (group_lists placed_list (groups_said (drop l.group-index l.groups)))
+      ≡ map entry_said l.fn.before.entries.items ++ entries_of (group_lists placed_list (groups_said l.groups));
 }
