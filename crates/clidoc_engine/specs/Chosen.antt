@@ -7,7 +7,7 @@ use Rattle.clidoc_engine.specs.declared.words.Page.{Page}
 use Rattle.clidoc_engine.specs.declared.words.Page.TheVariants as of_page
 use Rattle.clidoc_engine.specs.declared.words.Choice.{Choice}
 use Rattle.clidoc_engine.specs.declared.words.Choice.TheVariants as of_choice
-use Rattle.clidoc_engine.specs.Words.{PageSaid, console, html, markdown, man, ChoiceSaid, page, check, all, help, version}
+use Rattle.clidoc_engine.specs.Words.{PageSaid, console, html, web, markdown, man, ChoiceSaid, page, check, all, help, version}
 
 abbrev pub words_said : List (Bor (List ℕ)) → List (List ℕ)
 words_said = map (λ word. word.now)
@@ -18,6 +18,7 @@ console_said c = console c.form (words_said c.commands.items) c.width
 abbrev pub page_said : {A : Type 0} → Page A → PageSaid
 page_said (of_page.Console c) = console_said c
 page_said of_page.Html = html
+page_said of_page.Web = web
 page_said of_page.Markdown = markdown
 page_said (of_page.Man commands) = man (words_said commands.items)
 
@@ -32,5 +33,6 @@ choice_said of_choice.Version = version
 abbrev pub commands_of : PageSaid → List (List ℕ)
 commands_of (console form commands width) = commands
 commands_of html = []
+commands_of web = []
 commands_of markdown = []
 commands_of (man commands) = commands

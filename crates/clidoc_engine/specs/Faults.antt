@@ -6,9 +6,11 @@ use Rattle.watched.specs.declared.ReadError.{ReadError}
 use Rattle.watched.specs.declared.ReadError.TheVariants as reading
 use Rattle.description.specs.declared.decode.faults.DescriptionError.{DescriptionError}
 use Rattle.description.specs.declared.decode.faults.DescriptionError.TheVariants as describing
+use Rattle.web_page.specs.declared.errors.PageError.{PageError}
+use Rattle.web_page.specs.declared.errors.PageError.TheVariants as making
 use Rattle.clidoc_engine.specs.declared.places.Place.{Place}
 use Rattle.clidoc_engine.specs.declared.faults.Fault.{Fault}
-use Rattle.clidoc_engine.specs.declared.faults.Fault.TheVariants.{NotUtf8, NotToml, NotDescription, NoCommand, Read, Write, Memory}
+use Rattle.clidoc_engine.specs.declared.faults.Fault.TheVariants.{NotUtf8, NotToml, NotDescription, NoCommand, NoPage, Read, Write, Memory}
 
 abbrev pub fault_of_read : ReadError → Fault
 fault_of_read (reading.Failed error) = Read
@@ -19,12 +21,23 @@ abbrev pub fault_of_description : DescriptionError Global → Fault
 fault_of_description (describing.Memory error) = Memory
 fault_of_description (describing.Content text) = NotDescription text
 
+abbrev pub fault_of_page : PageError → Fault
+fault_of_page (making.Refused error) = Memory
+fault_of_page making.Language = NoPage making.Language
+fault_of_page making.Title = NoPage making.Title
+fault_of_page making.Style = NoPage making.Style
+fault_of_page making.Character = NoPage making.Character
+fault_of_page making.Id = NoPage making.Id
+fault_of_page making.Misplaced = NoPage making.Misplaced
+fault_of_page making.NoInk = NoPage making.NoInk
+
 -- where a fault says that the text is no TOML, this holds of the place and of the error that it tells
 abbrev pub IfNotToml : Fault → (Place → Error → Type 0) → Type 0
 IfNotToml (NotToml place error) P = P place error
 IfNotToml NotUtf8 P = ⊤
 IfNotToml (NotDescription text) P = ⊤
 IfNotToml (NoCommand name path) P = ⊤
+IfNotToml (NoPage error) P = ⊤
 IfNotToml Read P = ⊤
 IfNotToml Write P = ⊤
 IfNotToml Memory P = ⊤
@@ -35,6 +48,7 @@ IfNotDescription (NotDescription text) P = P
 IfNotDescription NotUtf8 P = ⊤
 IfNotDescription (NotToml place error) P = ⊤
 IfNotDescription (NoCommand name path) P = ⊤
+IfNotDescription (NoPage error) P = ⊤
 IfNotDescription Read P = ⊤
 IfNotDescription Write P = ⊤
 IfNotDescription Memory P = ⊤
@@ -43,8 +57,20 @@ IfNotDescription Memory P = ⊤
 abbrev pub IfNoCommand : Fault → Type 0 → Type 0
 IfNoCommand (NoCommand name path) P = P
 IfNoCommand (NotDescription text) P = ⊤
+IfNoCommand (NoPage error) P = ⊤
 IfNoCommand NotUtf8 P = ⊤
 IfNoCommand (NotToml place error) P = ⊤
 IfNoCommand Read P = ⊤
 IfNoCommand Write P = ⊤
 IfNoCommand Memory P = ⊤
+
+-- where a fault says that the complete HTML page cannot be made, this holds
+abbrev pub IfNoPage : Fault → Type 0 → Type 0
+IfNoPage (NoPage error) P = P
+IfNoPage (NoCommand name path) P = ⊤
+IfNoPage (NotDescription text) P = ⊤
+IfNoPage NotUtf8 P = ⊤
+IfNoPage (NotToml place error) P = ⊤
+IfNoPage Read P = ⊤
+IfNoPage Write P = ⊤
+IfNoPage Memory P = ⊤

@@ -8,22 +8,26 @@ use Rattle.description.specs.All.{FileSaid, IsManualFile, all_from, manual_files
 use Rattle.description.specs.Content.{DescriptionSaid}
 use Rattle.description.specs.Pages.{collected_document}
 use Rattle.description.specs.Subjects.{application}
+use Rattle.description.specs.WebPages.{IsWebPageOf}
 use Rattle.clidoc_engine.specs.Inputs.{Describes}
 
 -- ---- which there are
+
+-- the complete HTML page of all: a text that a reader of HTML reads as its tree
+pub record IsWebFile (d : DescriptionSaid) (file : FileSaid) : Type 0 where
+  pub name : file.name ≡ d.name ++ codes ".html"
+  pub read : IsWebPageOf d file.page
 
 -- the markdown of all
 abbrev pub markdown_file : DescriptionSaid → FileSaid
 markdown_file d = record { name = d.name ++ codes ".md"; page = markdown_page true (collected_document d) }
 
--- the manual page of each level, and then that
-abbrev pub files_of : DescriptionSaid → List FileSaid
-files_of d = manual_files d ++ markdown_file d ∷ []
-
--- these files, and what their renderers promise
+-- the manual page of each level, and then these two; and what their renderers promise
 pub record AreFiles (d : DescriptionSaid) (files : List FileSaid) : Type 0 where
-  pub exact : files ≡ files_of d
+  pub web : FileSaid
+  pub exact : files ≡ manual_files d ++ web ∷ markdown_file d ∷ []
   pub manuals : AllZip IsManualFile (all_from (application d)) (manual_files d)
+  pub page : IsWebFile d web
   pub markdown : IsMarkdownOf (collected_document d) true (markdown_file d).page
 
 -- the text gives a description, whose files these are

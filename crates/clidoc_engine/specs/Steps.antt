@@ -1,10 +1,12 @@
 -- What the engine's private functions leave.
 use Rattle.std.specs.Prelude.{◌≡◌, ℕ, List, None, ⊤}
 use Rattle.clidoc_engine.specs.declared.faults.Fault.{Fault}
-use Rattle.clidoc_engine.specs.declared.faults.Fault.TheVariants.{NotUtf8, NotToml, NotDescription, NoCommand, Read, Write, Memory}
+use Rattle.clidoc_engine.specs.declared.faults.Fault.TheVariants.{NotUtf8, NotToml, NotDescription, NoCommand, NoPage, Read, Write, Memory}
 use Rattle.description.specs.Content.{DescriptionSaid}
 use Rattle.description.specs.Subjects.{application, led_to}
+use Rattle.clidoc_engine.specs.Chosen.{commands_of}
 use Rattle.clidoc_engine.specs.Inputs.{IsNoTomlText}
+use Rattle.clidoc_engine.specs.Words.{PageSaid, web}
 
 -- the fault says that the text is no TOML, and where; or that an allocation failed
 abbrev pub IsSyntaxFault : (text : List ℕ) → Fault → Type 0
@@ -13,6 +15,7 @@ IsSyntaxFault text Memory = ⊤
 IsSyntaxFault text NotUtf8 = ⊥
 IsSyntaxFault text (NotDescription reason) = ⊥
 IsSyntaxFault text (NoCommand name path) = ⊥
+IsSyntaxFault text (NoPage error) = ⊥
 IsSyntaxFault text Read = ⊥
 IsSyntaxFault text Write = ⊥
 
@@ -21,6 +24,7 @@ abbrev pub IsOfContent : Fault → Type 0
 IsOfContent (NotToml place error) = ⊤
 IsOfContent (NotDescription text) = ⊤
 IsOfContent (NoCommand name path) = ⊤
+IsOfContent (NoPage error) = ⊤
 IsOfContent Memory = ⊤
 IsOfContent NotUtf8 = ⊥
 IsOfContent Read = ⊥
@@ -33,8 +37,20 @@ IsLost commands d Memory = ⊤
 IsLost commands d NotUtf8 = ⊥
 IsLost commands d (NotToml place error) = ⊥
 IsLost commands d (NotDescription reason) = ⊥
+IsLost commands d (NoPage error) = ⊥
 IsLost commands d Read = ⊥
 IsLost commands d Write = ⊥
+
+-- the fault says that the commands of the page lead nowhere, or that it is the complete HTML page, which cannot be made; or that an allocation failed
+abbrev pub IsUnmade : PageSaid → DescriptionSaid → Fault → Type 0
+IsUnmade p d (NoCommand name path) = led_to (commands_of p) (application d) ≡ None
+IsUnmade p d (NoPage error) = p ≡ web
+IsUnmade p d Memory = ⊤
+IsUnmade p d NotUtf8 = ⊥
+IsUnmade p d (NotToml place error) = ⊥
+IsUnmade p d (NotDescription reason) = ⊥
+IsUnmade p d Read = ⊥
+IsUnmade p d Write = ⊥
 
 abbrev pub IsNoCommand : Fault → Type 0
 IsNoCommand (NoCommand name path) = ⊤
@@ -42,6 +58,7 @@ IsNoCommand Memory = ⊥
 IsNoCommand NotUtf8 = ⊥
 IsNoCommand (NotToml place error) = ⊥
 IsNoCommand (NotDescription reason) = ⊥
+IsNoCommand (NoPage error) = ⊥
 IsNoCommand Read = ⊥
 IsNoCommand Write = ⊥
 
@@ -53,6 +70,7 @@ IsOfReading (NotToml place error) = ⊤
 IsOfReading (NotDescription reason) = ⊤
 IsOfReading Memory = ⊤
 IsOfReading (NoCommand name path) = ⊥
+IsOfReading (NoPage error) = ⊥
 IsOfReading Write = ⊥
 
 -- the same, and not of the reader
@@ -62,5 +80,39 @@ IsOfText (NotDescription reason) = ⊤
 IsOfText Memory = ⊤
 IsOfText NotUtf8 = ⊥
 IsOfText (NoCommand name path) = ⊥
+IsOfText (NoPage error) = ⊥
 IsOfText Read = ⊥
 IsOfText Write = ⊥
+
+-- the fault is one of making all files: one of reading a description, or the complete HTML page cannot be made
+abbrev pub IsOfFiles : Fault → Type 0
+IsOfFiles Read = ⊤
+IsOfFiles NotUtf8 = ⊤
+IsOfFiles (NotToml place error) = ⊤
+IsOfFiles (NotDescription reason) = ⊤
+IsOfFiles (NoPage error) = ⊤
+IsOfFiles Memory = ⊤
+IsOfFiles (NoCommand name path) = ⊥
+IsOfFiles Write = ⊥
+
+-- the same, and not of the reader
+abbrev pub IsOfFilesText : Fault → Type 0
+IsOfFilesText (NotToml place error) = ⊤
+IsOfFilesText (NotDescription reason) = ⊤
+IsOfFilesText (NoPage error) = ⊤
+IsOfFilesText Memory = ⊤
+IsOfFilesText NotUtf8 = ⊥
+IsOfFilesText (NoCommand name path) = ⊥
+IsOfFilesText Read = ⊥
+IsOfFilesText Write = ⊥
+
+-- the same, and not of the text
+abbrev pub IsOfPages : Fault → Type 0
+IsOfPages (NoPage error) = ⊤
+IsOfPages Memory = ⊤
+IsOfPages NotUtf8 = ⊥
+IsOfPages (NotToml place error) = ⊥
+IsOfPages (NotDescription reason) = ⊥
+IsOfPages (NoCommand name path) = ⊥
+IsOfPages Read = ⊥
+IsOfPages Write = ⊥

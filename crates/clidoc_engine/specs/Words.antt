@@ -8,11 +8,12 @@ use Rattle.clidoc_engine.specs.declared.reading.Valued.TheVariants.{Command, Wid
 
 -- ---- what is chosen
 
--- a page: on the console, of what some words lead to, and of a width; or one page of all; or the manual page of what some words lead to, and of all where
+-- a page: on the console, of what some words lead to, and of a width; or one page of all, which in HTML is for other pages to hold, or complete; or the manual page of what some words lead to, and of all where
 -- there are none
 pub data PageSaid : Type 0 where
   console : ConsoleForm → (commands : List (List ℕ)) → (width : ℕ) → PageSaid
   html : PageSaid
+  web : PageSaid
   markdown : PageSaid
   man : (commands : List (List ℕ)) → PageSaid
 
@@ -126,6 +127,7 @@ HasNoValues g = (g.commands ≡ []) × (g.widths ≡ [])
 abbrev pub NamesPage : (word : List ℕ) → Given → PageSaid → Type 0
 NamesPage word g (console form commands width) = (word ≡ form_word form) × (commands ≡ g.commands) × IsWidth g.widths width
 NamesPage word g html = (word ≡ codes "html") × HasNoValues g
+NamesPage word g web = (word ≡ codes "page") × HasNoValues g
 NamesPage word g markdown = (word ≡ codes "markdown") × HasNoValues g
 NamesPage word g (man commands) = (word ≡ codes "man") × (commands ≡ g.commands) × (g.widths ≡ [])
 

@@ -7,9 +7,9 @@ ghost use Rattle.bpaf_doc.specs.Markdown.Page.{IsMarkdownOf};
 ghost use Rattle.description.specs.Pages.{collected_document};
 ghost use Rattle.description.specs.View.{description_said, file_said};
 ghost use Rattle.clidoc_engine.specs.Faults.{IfNotDescription, IfNotToml};
-ghost use Rattle.clidoc_engine.specs.Files.{AreFiles, HasFiles, markdown_file};
+ghost use Rattle.clidoc_engine.specs.Files.{AreFiles, HasFiles, IsWebFile, markdown_file};
 ghost use Rattle.clidoc_engine.specs.Inputs.{IsNoDescription, IsNoToml};
-ghost use Rattle.clidoc_engine.specs.Steps.{IsOfReading, IsOfText};
+ghost use Rattle.clidoc_engine.specs.Steps.{IsOfFiles, IsOfFilesText, IsOfPages};
 
 use crate::engine::table_of;
 use crate::faults::Fault;
@@ -19,8 +19,8 @@ use std::alloc::{AllocError, Allocator, Global};
 use watched::{Source, Watched};
 
 /// Reads all that the reader has left, as a description in TOML, and makes all pages of it: the manual page of each
-/// level, and the markdown of all. Its faults are those of `run_description` that come of reading, and they come where
-/// those do.
+/// level, the complete HTML page and the markdown of all. Its faults are those of `run_description` that come of
+/// reading, and they come where those do, and `NoPage`, where a name or a text cannot stand in the HTML page.
 pub fn make_files<A: Allocator + Copy, R: Source>(
     alloc: A,
     global: Global,
@@ -30,7 +30,7 @@ pub fn make_files<A: Allocator + Copy, R: Source>(
 
     // Over all streams.
     ensures read { IsErrOf result Fault.Read ↔ IsMarked reader.new }
-    ensures fault { IfErr result IsOfReading }
+    ensures fault { IfErr result IsOfFiles }
     ensures given { IfOk result (λ files. GivesText R.reads reader.old.end reader.new.end (λ input.
         HasFiles input (map file_said files.items))) }
     ensures read_failed { IsErrOf result Fault.Read →
@@ -65,7 +65,7 @@ fn files_in<A: Allocator + Copy>(
     text: &str,
 ) -> Result<Vec<PageFile<A>, A>, Fault>
     ensures ok { IfOk result (λ files. HasFiles text.now (map file_said files.items)) }
-    ensures fault { IfErr result IsOfText }
+    ensures fault { IfErr result IsOfFilesText }
     ensures not_toml { IfErr result (λ fault. IfNotToml fault (IsNoToml text.now)) }
     ensures not_description { IfErr result (λ fault.
         IfNotDescription fault (IsNoDescription text.now)) }
@@ -75,19 +75,47 @@ fn files_in<A: Allocator + Copy>(
     let description = Description::from_table(global, &mut names, &table)?;
     let files = files_of(alloc, &description);
     drop(description);
-    Ok(files?)
+    files
 }
 
 fn files_of<A: Allocator + Copy>(
     alloc: A,
     description: &Description<'_>,
+) -> Result<Vec<PageFile<A>, A>, Fault>
+    ensures ok { IfOk result (λ files. AreFiles (description_said description.now) (map file_said files.items)) }
+    ensures fault { IfErr result IsOfPages }
+{
+    let web = web_file(alloc, description)?;
+    Ok(files_with(alloc, description, web)?)
+}
+
+// All files, of which this is the complete HTML page.
+fn files_with<A: Allocator + Copy>(
+    alloc: A,
+    description: &Description<'_>,
+    web: PageFile<A>,
 ) -> Result<Vec<PageFile<A>, A>, AllocError>
+    requires { IsWebFile (description_said description.now) (file_said web) }
     ensures { IfOk result (λ files. AreFiles (description_said description.now) (map file_said files.items)) }
 {
     let markdown = markdown_file(alloc, description)?;
     let mut files = description.manpages(alloc)?;
+    files.push(web)?;
     files.push(markdown)?;
     Ok(files)
+}
+
+fn web_file<A: Allocator + Copy>(
+    alloc: A,
+    description: &Description<'_>,
+) -> Result<PageFile<A>, Fault>
+    ensures ok { IfOk result (λ file. IsWebFile (description_said description.now) (file_said file)) }
+    ensures fault { IfErr result IsOfPages }
+{
+    let page = description.page(alloc)?;
+    let mut name = String::from_str(alloc, description.name)?;
+    name.push_str(".html")?;
+    Ok(PageFile { name, page })
 }
 
 fn markdown_file<A: Allocator + Copy>(

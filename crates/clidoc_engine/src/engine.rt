@@ -8,14 +8,14 @@ ghost use Rattle.watched.specs.Calls.{GivesNoText, GivesText, Moves, ReadFails, 
 ghost use Rattle.watched.specs.Watched.{IsMarked, IsUnmarked, ReadsText, ReadsNoText};
 ghost use Rattle.description.specs.View.{description_said, subject_said};
 ghost use Rattle.description.specs.Subjects.{application, led_to};
-ghost use Rattle.clidoc_engine.specs.Chosen.{commands_of, console_said, page_said, words_said};
-ghost use Rattle.clidoc_engine.specs.Faults.{IfNoCommand, IfNotDescription, IfNotToml};
+ghost use Rattle.clidoc_engine.specs.Chosen.{console_said, page_said, words_said};
+ghost use Rattle.clidoc_engine.specs.Faults.{IfNoCommand, IfNoPage, IfNotDescription, IfNotToml};
 ghost use Rattle.clidoc_engine.specs.Newlines.{without_returns};
 ghost use Rattle.clidoc_engine.specs.Inputs.{IsDescribed, IsNoDescription, IsNoToml};
 ghost use Rattle.clidoc_engine.specs.Rendering.{IsConsoleRendering, IsPage, console_bytes};
 ghost use Rattle.clidoc_engine.specs.Runs.{HasNoCommand, HasPage, MakesPage, WritesBeginning, WritesPage};
-ghost use Rattle.clidoc_engine.specs.Words.{man};
-ghost use Rattle.clidoc_engine.specs.Steps.{IsLost, IsNoCommand, IsOfContent, IsOfReading, IsOfText, IsSyntaxFault};
+ghost use Rattle.clidoc_engine.specs.Words.{man, web};
+ghost use Rattle.clidoc_engine.specs.Steps.{IsLost, IsNoCommand, IsOfContent, IsOfReading, IsOfText, IsSyntaxFault, IsUnmade};
 
 use crate::faults::Fault;
 use crate::newlines::without_returns;
@@ -36,7 +36,8 @@ use watched::{Sink, Source, Watched};
 /// `Read` comes exactly where the reader's mark is then set, since its last read failed, `Write` exactly
 /// where the writer's is, since its last write failed or took none, and the faults of the input only where
 /// all was read: `NotUtf8` where it is no text, `NotToml` where it is no TOML, `NotDescription` where its data is
-/// no description, and `NoCommand` where the commands of the page lead nowhere. `Memory` comes only where an
+/// no description, and `NoCommand` where the commands of the page lead nowhere. `NoPage` comes only of the complete
+/// HTML page, where a name or a text cannot stand in it. `Memory` comes only where an
 /// allocation failed, which no clause can say.
 pub fn run_description<A: Allocator + Copy, B: Allocator, R: Source, W: Sink>(
     alloc: A,
@@ -72,6 +73,7 @@ pub fn run_description<A: Allocator + Copy, B: Allocator, R: Source, W: Sink>(
         GivesText R.reads reader.old.end reader.new.end IsNoDescription)) }
     ensures no_command { IfErr result (λ fault. IfNoCommand fault (
         GivesText R.reads reader.old.end reader.new.end (HasNoCommand (page_said page.now)))) }
+    ensures no_page { IfErr result (λ fault. IfNoPage fault (page_said page.now ≡ web)) }
 
     // Over streams that tell their bytes: which are read and written.
     ensures ok { OnOk result (
@@ -162,6 +164,7 @@ pub(crate) fn page_of<A: Allocator + Copy, B: Allocator>(
         IfNotDescription fault (IsNoDescription text.now)) }
     ensures no_command { IfErr result (λ fault.
         IfNoCommand fault (HasNoCommand (page_said page.now) text.now)) }
+    ensures no_page { IfErr result (λ fault. IfNoPage fault (page_said page.now ≡ web)) }
 {
     let table = table_of(global, text)?;
     let mut names = Names::new(global);
@@ -206,6 +209,7 @@ fn syntax_fault(text: &str, error: toml::de::Error) -> Fault
 }
 
 // A page of the description.
+#[tactic(auto, using(crate::proofs::Led::unmade, crate::proofs::Led::web_unmade))]
 fn rendered<A: Allocator + Copy, B: Allocator>(
     alloc: A,
     global: Global,
@@ -214,11 +218,12 @@ fn rendered<A: Allocator + Copy, B: Allocator>(
 ) -> Result<String<A>, Fault>
     ensures page { IfOk result (λ made.
         IsPage (page_said page.now) (description_said description.now) (string_bytes made)) }
-    ensures lost { IfErr result (IsLost (commands_of (page_said page.now)) (description_said description.now)) }
+    ensures unmade { IfErr result (IsUnmade (page_said page.now) (description_said description.now)) }
 {
     match page {
         Page::Console(console) => on_console(alloc, global, console, description),
         Page::Html => Ok(description.html(alloc)?),
+        Page::Web => Ok(description.page(alloc)?),
         Page::Markdown => Ok(description.markdown(alloc)?),
         Page::Man(commands) => manual(alloc, global, commands, description),
     }

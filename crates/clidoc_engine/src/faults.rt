@@ -4,8 +4,8 @@ ghost use Rattle.std.specs.Prelude.{◌≡◌};
 ghost use Rattle.clidoc_engine.specs.declared.faults.Fault.TheVariants.{Memory};
 
 use crate::places::Place;
-use description::DescriptionError;
 use description::words::Shown;
+use description::{DescriptionError, PageError};
 use std::alloc::AllocError;
 use thiserror::Error;
 use watched::ReadError;
@@ -32,6 +32,9 @@ pub enum Fault {
         name: String,
         path: String,
     },
+    /// A name or a text of the description cannot stand in the complete HTML page: why. No test found one.
+    #[error("clidoc: no page: {0}")]
+    NoPage(PageError),
     /// A read failed.
     #[error("clidoc: read failed")]
     Read,
@@ -74,6 +77,25 @@ impl From<DescriptionError> for Fault {
         match error {
             DescriptionError::Memory(_) => Fault::Memory,
             DescriptionError::Content(text) => Fault::NotDescription(text),
+        }
+    }
+}
+
+impl From<PageError> for Fault {
+    ghost use Rattle.clidoc_engine.specs.Faults.{fault_of_page};
+
+    ghost from_gives = { λ error fault. fault ≡ fault_of_page error };
+
+    fn from(error: PageError) -> Fault {
+        match error {
+            PageError::Refused(_) => Fault::Memory,
+            PageError::Language => Fault::NoPage(PageError::Language),
+            PageError::Title => Fault::NoPage(PageError::Title),
+            PageError::Style => Fault::NoPage(PageError::Style),
+            PageError::Character => Fault::NoPage(PageError::Character),
+            PageError::Id => Fault::NoPage(PageError::Id),
+            PageError::Misplaced => Fault::NoPage(PageError::Misplaced),
+            PageError::NoInk => Fault::NoPage(PageError::NoInk),
         }
     }
 }

@@ -63,16 +63,17 @@ It goes with all."""
 [[positional]]
 value = "FORM"
 help = """
-The form of the page: usage, full, brief, html, markdown, man, check or all
+The form of the page: usage, full, brief, html, page, markdown, man, check or all
 
     usage     the usage line
     full      the help page
     brief     the help page, first paragraphs alone
-    html      the help pages of all commands, in HTML
-    markdown  the same, in markdown
+    html      the help pages of all commands, in HTML, for other pages to hold
+    page      one complete HTML page, with all commands
+    markdown  the help pages of all commands, in markdown
     man       the manual page of all, or of what --command shows
     check     nothing: only whether FILE is a description
-    all       the manual page of each level, and the markdown, as files of --into"""
+    all       a manual page a level, page and markdown, as files of --into"""
 
 [[positional]]
 value = "FILE"

@@ -38,6 +38,8 @@ pub enum Page<'w, A: Allocator> {
     Console(Console<'w, A>),
     /// All help pages as HTML, in full and without a style sheet.
     Html,
+    /// The complete HTML page of all.
+    Web,
     /// All help pages as markdown, in full.
     Markdown,
     /// The manual page: of all, or, where there are commands, of the level that they lead to.
@@ -214,6 +216,7 @@ fn page_named<'w, A: Allocator>(
         "full" => on_console(ConsoleForm::Full, given),
         "brief" => on_console(ConsoleForm::Brief, given),
         "html" => without_values(Page::Html, given, word),
+        "page" => without_values(Page::Web, given, word),
         "markdown" => without_values(Page::Markdown, given, word),
         "man" => manual(given, word),
         _ => {

@@ -5,8 +5,8 @@ use description::words::{Shown, nearest};
 use std::alloc::{AllocError, Global};
 use std::fmt::Write;
 
-const FORMS: [&str; 8] = [
-    "usage", "full", "brief", "html", "markdown", "man", "check", "all",
+const FORMS: [&str; 9] = [
+    "usage", "full", "brief", "html", "page", "markdown", "man", "check", "all",
 ];
 
 const OPTIONS: [&str; 5] = ["--command", "--width", "--into", "--help", "--version"];

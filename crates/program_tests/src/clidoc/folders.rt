@@ -27,6 +27,16 @@ const RENAME_MANUAL: Call<'static> = Call::Rename("out/.a.1.new", "out/a.1");
 
 const REMOVE_MANUAL: Call<'static> = Call::Remove("out/.a.1.new");
 
+const CREATE_WEB: Call<'static> = Call::Create("out/.a.html.new");
+
+const WRITE_WEB: Call<'static> = Call::Write(
+    b"<!DOCTYPE html><html lang=\"en\"><head><meta charset=\"utf-8\"><meta name=\"viewport\" content=\"width=device-width\"><title>a</title><style>body{font:1rem/1.5 sans-serif;max-width:50rem;margin:0 auto;padding:1rem;color:#1b1b1b;background:#fff;overflow-wrap:anywhere}a{color:#0645ad}pre{white-space:pre-wrap;padding:.5rem;background:#f2f2f2}dt{margin-top:.5rem}dt a{text-decoration:none}dt a:hover{text-decoration:underline}dd{margin-left:2rem}dd p{margin:.25rem 0}@media(prefers-color-scheme:dark){body{color:#e6e6e6;background:#161616}a{color:#8ab4f8}pre{background:#262626}}@media print{body{max-width:none;color:#000;background:#fff}a{color:#000}nav{display:none}pre{background:none}}</style></head><body><header><h1>a</h1></header><main><section id=\"a\"><h2>a</h2><pre>\n<code><strong>a</strong> </code></pre></section></main></body></html>",
+);
+
+const RENAME_WEB: Call<'static> = Call::Rename("out/.a.html.new", "out/a.html");
+
+const REMOVE_WEB: Call<'static> = Call::Remove("out/.a.html.new");
+
 const CREATE_MARKDOWN: Call<'static> = Call::Create("out/.a.md.new");
 
 const WRITE_MARKDOWN: Call<'static> = Call::Write(b"# a\n\n**Usage**: **`a`** \n");
@@ -39,12 +49,17 @@ const WRITTEN: &[Call<'static>] = &[
     CREATE_MANUAL,
     WRITE_MANUAL,
     RENAME_MANUAL,
+    CREATE_WEB,
+    WRITE_WEB,
+    RENAME_WEB,
     CREATE_MARKDOWN,
     WRITE_MARKDOWN,
     RENAME_MARKDOWN,
 ];
 
 const NO_MANUAL: &str = "clidoc: can't write out/a.1\n";
+
+const NO_WEB: &str = "clidoc: can't write out/a.html\n";
 
 const NO_MARKDOWN: &str = "clidoc: can't write out/a.md\n";
 
@@ -58,7 +73,7 @@ type Row = (
 );
 
 const ROWS: &[Row] = &[
-    (INPUT, WRITTEN, None, 0, "clidoc: 2 files written\n"),
+    (INPUT, WRITTEN, None, 0, "clidoc: 3 files written\n"),
     (
         INPUT,
         &[CREATE_MANUAL, REMOVE_MANUAL],
@@ -86,10 +101,40 @@ const ROWS: &[Row] = &[
             CREATE_MANUAL,
             WRITE_MANUAL,
             RENAME_MANUAL,
+            CREATE_WEB,
+            REMOVE_WEB,
+        ],
+        Some(3),
+        1,
+        NO_WEB,
+    ),
+    (
+        INPUT,
+        &[
+            CREATE_MANUAL,
+            WRITE_MANUAL,
+            RENAME_MANUAL,
+            CREATE_WEB,
+            WRITE_WEB,
+            REMOVE_WEB,
+        ],
+        Some(4),
+        1,
+        NO_WEB,
+    ),
+    (
+        INPUT,
+        &[
+            CREATE_MANUAL,
+            WRITE_MANUAL,
+            RENAME_MANUAL,
+            CREATE_WEB,
+            WRITE_WEB,
+            RENAME_WEB,
             CREATE_MARKDOWN,
             REMOVE_MARKDOWN,
         ],
-        Some(3),
+        Some(6),
         1,
         NO_MARKDOWN,
     ),
@@ -99,11 +144,14 @@ const ROWS: &[Row] = &[
             CREATE_MANUAL,
             WRITE_MANUAL,
             RENAME_MANUAL,
+            CREATE_WEB,
+            WRITE_WEB,
+            RENAME_WEB,
             CREATE_MARKDOWN,
             WRITE_MARKDOWN,
             REMOVE_MARKDOWN,
         ],
-        Some(4),
+        Some(7),
         1,
         NO_MARKDOWN,
     ),
@@ -113,12 +161,15 @@ const ROWS: &[Row] = &[
             CREATE_MANUAL,
             WRITE_MANUAL,
             RENAME_MANUAL,
+            CREATE_WEB,
+            WRITE_WEB,
+            RENAME_WEB,
             CREATE_MARKDOWN,
             WRITE_MARKDOWN,
             RENAME_MARKDOWN,
             REMOVE_MARKDOWN,
         ],
-        Some(5),
+        Some(8),
         1,
         NO_MARKDOWN,
     ),
@@ -221,7 +272,7 @@ fn count_on(global: Global, budget: usize) -> Option<usize> {
 #[test]
 fn a_refused_growth_makes_no_files(rt: HostRuntime) {
     assert!(rt; count_on(rt.alloc(), 16).is_none());
-    assert!(rt; count_on(rt.alloc(), AMPLE) == Some(2));
+    assert!(rt; count_on(rt.alloc(), AMPLE) == Some(3));
 }
 
 // Names of files, and the line that refuses them, if they are refused.

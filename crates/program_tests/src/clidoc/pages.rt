@@ -29,6 +29,7 @@ pub enum Form {
     Full,
     Brief,
     Html,
+    Web,
     Markdown,
     Man,
 }
@@ -40,6 +41,7 @@ pub fn page_of(global: Global, form: Form) -> Page<'static, Global> {
         Form::Full => ConsoleForm::Full,
         Form::Brief => ConsoleForm::Brief,
         Form::Html => return Page::Html,
+        Form::Web => return Page::Web,
         Form::Markdown => return Page::Markdown,
         Form::Man => return Page::Man(Vec::new(global)),
     };
@@ -59,6 +61,11 @@ pub const PAGES: &[(Form, &str, &[u8])] = &[
         Form::Html,
         "html",
         b"# app<br>\n<p>Prints things</p><p><b>Usage</b>: <tt><b>app</b></tt> <tt><b>-v</b></tt></p><p><div>\n<b>Available options:</b></div><dl><dt><tt><b>-v</b></tt>, <tt><b>--verbose</b></tt></dt>\n<dd>Talk more</dd>\n</dl>\n</p>",
+    ),
+    (
+        Form::Web,
+        "page",
+        b"<!DOCTYPE html><html lang=\"en\"><head><meta charset=\"utf-8\"><meta name=\"viewport\" content=\"width=device-width\"><title>app</title><style>body{font:1rem/1.5 sans-serif;max-width:50rem;margin:0 auto;padding:1rem;color:#1b1b1b;background:#fff;overflow-wrap:anywhere}a{color:#0645ad}pre{white-space:pre-wrap;padding:.5rem;background:#f2f2f2}dt{margin-top:.5rem}dt a{text-decoration:none}dt a:hover{text-decoration:underline}dd{margin-left:2rem}dd p{margin:.25rem 0}@media(prefers-color-scheme:dark){body{color:#e6e6e6;background:#161616}a{color:#8ab4f8}pre{background:#262626}}@media print{body{max-width:none;color:#000;background:#fff}a{color:#000}nav{display:none}pre{background:none}}</style></head><body><header><h1>app</h1><p>Prints things</p></header><main><section id=\"app\"><h2>app</h2><pre>\n<code><strong>app</strong> <strong>-v</strong></code></pre><h3>Available options</h3><dl><dt id=\"app::verbose\"><a href=\"#app::verbose\"><code>-v</code>, <code>--verbose</code></a></dt><dd><p>Talk more</p></dd></dl></section></main></body></html>",
     ),
     (
         Form::Markdown,

@@ -9,7 +9,7 @@ use std::alloc::Global;
 const USAGE: &str = "clidoc [--command=NAME]... [--width=COLUMNS] [--into=FOLDER] FORM [FILE]\n";
 
 const NO_FORM: &str =
-    "clidoc: no form; forms are usage, full, brief, html, markdown, man, check and all\n";
+    "clidoc: no form; forms are usage, full, brief, html, page, markdown, man, check and all\n";
 
 const NOT_UTF8: &str = "clidoc: input is not UTF-8\n";
 
@@ -48,16 +48,16 @@ const WRONG: &[(&[&str], &str)] = &[
     (&["clidoc", "--", "full"], NO_FORM),
     (
         &["clidoc", ""],
-        "clidoc: no form ; forms are usage, full, brief, html, markdown, man, check and all\n",
+        "clidoc: no form ; forms are usage, full, brief, html, page, markdown, man, check and all\n",
     ),
     (
         &["clidoc", "\u{1b}[2J"],
-        "clidoc: no form \"\\u{1b}[2J\"; forms are usage, full, brief, html, markdown, man, check and all\n",
+        "clidoc: no form \"\\u{1b}[2J\"; forms are usage, full, brief, html, page, markdown, man, check and all\n",
     ),
     (&["clidoc", "Full"], "clidoc: no form Full; is it full?\n"),
     (
         &["clidoc", "xml"],
-        "clidoc: no form xml; forms are usage, full, brief, html, markdown, man, check and all\n",
+        "clidoc: no form xml; forms are usage, full, brief, html, page, markdown, man, check and all\n",
     ),
     (
         &["clidoc", "full", "a", "b"],
