@@ -263,6 +263,9 @@ if sys.argv[1] == "must-fail":
         print(f"rt: must-fail one/{edit.name}: {told.get(re.search('new: (.*)', edit.read_text())[1], 'refused')}")
     sys.exit()
 bodies = re.findall(r"fn (\w+)\(\) \{\n    (\w+)", pathlib.Path("src/lib.rt").read_text())
+with pathlib.Path(__file__).with_name("seen").open("w") as told:
+    for file in [*sorted(pathlib.Path("src").rglob("*.rt")), *sorted(pathlib.Path("proofs").rglob("*.antt"))]:
+        print(file, file.read_text(), sep="\n", file=told)
 asked = [it.removeprefix("--only=") for it in sys.argv if it.startswith("--only=")]
 if asked:
     with pathlib.Path(__file__).with_name("asked").open("a") as told:
@@ -322,6 +325,24 @@ class Mutants(InFolder):
         status, told = self.told()
         self.assertEqual((status, told[-1]), (0, "5 refused, 0 let through"))
         self.assertEqual(told[:3], ["one/of_a: refused", "one/of_b: refused", "one/of_d: refused"])
+
+    def test_leaves_out_the_bodies_of_others(self):
+        called = "fn loose() {\n    called\n}\n\n#[cycle(round)]\nfn round() {\n    called\n}\n\npub struct Held;\n"
+        self.write("crates/one/src/low.rt", f"{called}\nimpl Held {{\n    const fn kept() {{\n        called\n    }}\n}}\n")
+        self.write("crates/one/src/up.rt", "impl Held {\n    fn far(\n        &self,\n    )\n        ensures {}\n    {\n        called\n    }\n}\n")
+        self.write("crates/one/src/of.rt", "impl Eq for Held {\n    fn eq() {\n        called\n    }\n}\n\ntrait Of {\n    fn of();\n}\n\nfn law()\n    ensures {}\n{}\n")
+        for path in ("a", "low/loose", "low/+round"):
+            self.write(f"crates/one/proofs/{path}/Answers.antt", "held\n")
+        self.mutant("of_a", "a_body", "wrong")
+        self.assertEqual(self.told()[1][-1], "1 refused, 0 let through")
+        seen = (self.folder / "bin" / "seen").read_text().replace("        unreachable!()", "        UNREACHABLE").split("proofs/", 1)
+        for text in ("    wrong\n", "const fn kept() {\n        called", "fn eq() {\n        called", "fn of();", "{}\n{}\n", "    {\n        UNREACHABLE\n    }"):
+            self.assertIn(text, seen[0])
+        self.assertEqual((seen[0].count("    unreachable!()"), seen[0].count("cycle")), (5, 0))
+        proofs = [line for line in ("proofs/" + seen[1]).splitlines() if line.startswith("proofs/") or line in ("held", "far_spec = ?")]
+        holes = [f"proofs/{name}/Proof.antt" for name in ("b", "c", "d", "low/Held/far", "low/loose", "low/round")]
+        self.assertEqual(proofs, ["proofs/a/Answers.antt", "held", *holes[:4], "far_spec = ?", *holes[4:]])
+        self.assertIn("use Rattle.one.proofs.low.Held.far.Statement.{statement}\n\npub far_spec : {M : Type 1} → statement M\n", seen[1])
 
     def test_checks_over_a_run_what_was_changed_alone(self):
         self.write("bin/rtlib.py", "class Crate:\n    def __init__(self, *_):\n        pass\n\n    def stamp(self):\n        return 'same'\n")
