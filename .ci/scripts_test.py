@@ -202,15 +202,14 @@ class Install(OverStandIn):
         super().setUp()
         self.ours, self.prefix = self.folder / "ours", self.folder / "prefix"
         copy_to(self.ours, [path.name for path in (TOP / "crates").iterdir() if (path / "src").exists()])
-        for name in ("install", "HANDLES"):
-            shutil.copy(TOP / name, self.ours / name)
+        shutil.copy(TOP / "install", self.ours)
         shutil.copytree(TOP / "examples", self.ours / "examples")
         self.gives("page")
 
     def gives(self, page):
         """Lets the stand-in make a program that writes this page."""
-        program = f"printf '#!/bin/sh\\necho {page} $1\\n' > crates/clidoc/out/clidoc; chmod +x crates/clidoc/out/clidoc"
-        self.stand_in("rt", f"echo 'rt: watched proved'; echo 'rt: bpaf_roff is kept: by an earlier run'; mkdir crates/clidoc/out; {program}")
+        program = f"mkdir -p out; printf '#!/bin/sh\\necho {page} $1\\n' > out/clidoc; chmod +x out/clidoc"
+        self.stand_in("rt", f'basename "$PWD" >> ../proved; case "$1 $4 $5" in "run -- --version") {program};; esac')
 
     def install(self):
         return self.call(self.ours / "install", self.prefix)
@@ -222,7 +221,11 @@ class Install(OverStandIn):
     def test_installs_once(self):
         status, told, _ = self.install()
         self.assertEqual(status, 0)
-        self.assertRegex(told, r"0:00 2 of \d+ crates proved; at web_page, bpaf_doc, lasting_names\n")
+        proved = (self.ours / "crates" / "proved").read_text().split()
+        for below, above in (("bpaf_roff", "bpaf_doc"), ("web_page", "description"), ("watched", "clidoc_engine"), ("clidoc_engine", "clidoc")):
+            self.assertLess(proved.index(below), proved.index(above))
+        self.assertNotIn("replay", proved)
+        self.assertIn(f"0:00 at {proved[1]}, 2 of {len(proved)} crates\n", told)
         held = self.held()
         self.assertEqual(sorted(held), ["bin/clidoc", "share/man/man1/clidoc.1"])
         self.assertEqual(held["share/man/man1/clidoc.1"][0], "page man\n")
@@ -248,10 +251,10 @@ class Install(OverStandIn):
         self.assertIn("cannot be written", self.refused())
 
     def test_leaves_nothing_of_what_is_not_proved(self):
-        self.stand_in("rt", "echo 'rt: watched NOT PROVED'; exit 1")
+        self.stand_in("rt", "echo 'fn of::it: not proved'; exit 1")
         status, _, why = self.install()
         self.assertEqual((status, self.held()), (1, {}))
-        self.assertIn("rt: watched NOT PROVED\ninstall: the program is not proved", why)
+        self.assertRegex(why, r"^fn of::it: not proved\ninstall: \w+ is not proved, so nothing was installed\n$")
 
 
 # It stands for `rt`. Of a body `wrong` a goal is open, of `unsaid` no report tells, `same` is proved, and `stray` does not compile.
