@@ -15,14 +15,6 @@ pub mod Distinct
 pub mod Named
 pub mod Refused
 pub mod Gives
-pub mod Characters
-pub mod Plain
-pub mod ReadOnce
-pub mod Captured
-pub mod ClearUsage
-pub mod ClearPages
-pub mod ClearTrees
-pub mod PagesReadOnce
 pub mod Parted
 pub mod Literals
 pub mod Notes
@@ -31,7 +23,6 @@ pub mod Pieces
 pub mod Margins
 pub mod PageNames
 pub mod LevelPages
-pub mod NestedLevels
 pub mod ManualFiles
 pub mod TopicLines
 pub mod TopicChunks

@@ -13,7 +13,6 @@ pub mod Notes
 pub mod Manuals
 pub mod All
 pub mod Described
-pub mod Plain
 pub mod ReadOnce
 pub mod Faults
 pub mod WebPages

@@ -1,10 +1,8 @@
-//! Laws of the definitions that the contracts cite: nothing to call, but statements that the check proves.
+//! Laws of the definitions that the contracts cite: nothing to call, but statements that the check proves. Those of the
+//! texts of a description stand in the crate `description_laws`.
 
 ghost use Rattle.description.specs.All.{EachCommandIsThere};
-ghost use Rattle.description.specs.Manuals.{SubjectManualsAreWellNested};
-ghost use Rattle.description.specs.Pages.{ChaptersAreWellPlaced, PagesAreWellNested, SubjectsAreWellNested};
-ghost use Rattle.description.specs.Plain.{TextsArePlain};
-ghost use Rattle.description.specs.ReadOnce.{TitlesAreReadOnce};
+ghost use Rattle.description.specs.Pages.{ChaptersAreWellPlaced, PagesAreWellNested};
 ghost use Rattle.description.specs.WebPages.Laws.{IdsAreDistinct, LinksHaveTargets};
 
 /// No named item of a description, or of a command of it, stands after a positional one. So each has a help page.
@@ -15,27 +13,6 @@ pub fn chapters_are_placed()
 /// The documents of all pages of a description are well nested.
 pub fn pages_are_nested()
     ensures { PagesAreWellNested }
-{}
-
-/// The documents of a usage line, of a help page and of a manual page are well nested, for the application and for each
-/// command.
-pub fn subjects_are_nested()
-    ensures console { SubjectsAreWellNested }
-    ensures manual { SubjectManualsAreWellNested }
-{}
-
-/// No text and no name of a description that a TOML text gives holds a control character but newline and tab, nor a
-/// noncharacter of Unicode.
-pub fn texts_are_plain()
-    ensures { TextsArePlain }
-{}
-
-/// Of a description that a TOML text gives, no title of a group or of a topic and no name of a command holds a
-/// backslash or a double quote. And of all that a reader of roff reads behind the preamble of its manual page, or of
-/// the manual page of a level to which words lead, no argument of a control holds one, but the argument of two quotes.
-/// So a macro that reads its arguments a second time reads the same words.
-pub fn titles_are_read_once()
-    ensures { TitlesAreReadOnce }
 {}
 
 /// Of a description there is a manual page of the application, and where there is one of a level, there is one of each

@@ -13,13 +13,13 @@ use Rattle.description.specs.ReadOnce.{commands_headings, groups_headings, level
 use Rattle.description.specs.Texts.{plain_document, text_document}
 use Rattle.description.specs.Topics.{topic_document, topic_title, topic_writes, topics_footer}
 use Rattle.description.specs.Trees.{document_said, level_head, options_tree}
-use Rattle.description.proofs.Captured.{Clear, IsClear, both_clear, doc_clear, inside_clear, nothing_captured, nothing_clear, section_clear, text_captured, texts_clear, there_clear, written_clear}
-use Rattle.description.proofs.ClearPages.{HasClearHead, IsClearChapter, within_clear}
-use Rattle.description.proofs.ClearUsage.{HasClearTexts, IsClearTitle}
+use Rattle.description_laws.proofs.Captured.{Clear, IsClear, both_clear, doc_clear, inside_clear, nothing_captured, nothing_clear, section_clear, text_captured, texts_clear, there_clear, written_clear}
+use Rattle.description_laws.proofs.ClearPages.{HasClearHead, IsClearChapter, within_clear}
+use Rattle.description_laws.proofs.ClearUsage.{HasClearTexts, IsClearTitle}
 use Rattle.description.proofs.Gives.{Gives}
 use Rattle.description.proofs.SaidTrees.{Kept}
 use Rattle.description.proofs.TextDocuments.{said_holds, text_holds, topic_holds}
-use Rattle.description.proofs.ReadOnce.{Once, OnceTopic, once_parts}
+use Rattle.description_laws.proofs.ReadOnce.{Once, OnceTopic, once_parts}
 
 -- ---- texts
 

@@ -23,7 +23,7 @@ use Rattle.description.specs.Described.Texts.{as_body, as_command_name, as_headi
 use Rattle.description.specs.Described.Values.{as_date, as_section, as_short, day_text, digit_text, each_table, optional_at, required_at, tables_at, flag_at, words_at}
 use Rattle.description.specs.ReadOnce.{command_headings, commands_headings, group_headings, groups_headings, is_word_read_once, level_headings}
 use Rattle.description.specs.Subjects.{title_words_of}
-use Rattle.description.proofs.Characters.{date_bytes, Dates, digit_bytes, is_date_byte, weaker}
+use Rattle.description_laws.proofs.Characters.{date_bytes, Dates, digit_bytes, is_date_byte, weaker}
 use Rattle.description.proofs.Each.{Each}
 use Rattle.description.proofs.Gives.{Gives, gives_each, gives_if, gives_map, gives_optional, gives_passing, gives_required, gives_text, gives_then, gives_whatever, gives_with_only, Whatever, gives_words}
 

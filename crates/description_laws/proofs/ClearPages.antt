@@ -15,11 +15,11 @@ use Rattle.bpaf_items.specs.Page.EnvTexts.{no_texts}
 use Rattle.bpaf_items.specs.Page.EntryWrites.{command_writes, entry_writes, env_writes, flag_env_text, argument_env_text, help_writes, listed_writes, names_writes, term}
 use Rattle.bpaf_items.specs.Page.HelpPage.{doc_within, groups_writes, heading_writes, list_writes}
 use Rattle.bpaf_help.specs.Chapters.{Chapter, chapters_of, if_many, manual_chapter, manual_name, manual_writes, synopsis_line}
-use Rattle.description.proofs.Captured.{Clear, IsClear, both_clear, doc_clear, each_clear, inside_clear, nothing_captured, nothing_clear, path_captured, path_clear, section_clear, text_captured, text_then}
-use Rattle.description.proofs.ClearUsage.{EachHasClearTexts, HasClearText, HasClearTexts, IsClearTitle, metavar_clear, usage_clear}
+use Rattle.description_laws.proofs.Captured.{Clear, IsClear, both_clear, doc_clear, each_clear, inside_clear, nothing_captured, nothing_clear, path_captured, path_clear, section_clear, text_captured, text_then}
+use Rattle.description_laws.proofs.ClearUsage.{EachHasClearTexts, HasClearText, HasClearTexts, IsClearTitle, metavar_clear, usage_clear}
 use Rattle.description.proofs.Each.{Each, each_append}
 use Rattle.description.proofs.Gives.{Gives}
-use Rattle.description.proofs.ReadOnce.{Once}
+use Rattle.description_laws.proofs.ReadOnce.{Once}
 
 -- ---- the entries of a tree
 

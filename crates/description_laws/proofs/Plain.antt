@@ -14,8 +14,8 @@ use Rattle.description.specs.Described.{alternative_keys, as_command, as_command
 use Rattle.description.specs.Described.Taken.{has_distinct_names}
 use Rattle.description.specs.Described.Texts.{as_body, as_command_name, as_heading, as_long, as_name, as_program_name, as_text, as_title, as_value, is_body, is_command_name, is_heading, is_long, is_name, is_program_name, is_section, is_short, is_text, is_title, is_value, if_passes, is_line, as_language, is_language_tag}
 use Rattle.description.specs.Described.Values.{as_date, as_section, as_short, day_text, digit_text, each_table, flag_at, if_short, is_empty, only_character, optional_at, required_at, tables_at, as_default, as_syntax, as_texts, as_values, default_text, words_at}
-use Rattle.description.specs.Plain.{characters_of, choice_characters, command_characters, commands_characters, description_characters, group_characters, groups_characters, initial_characters, level_characters, name_characters, option_characters, spelling_characters, positional_characters, texts_characters, topic_characters, TextsArePlain}
-use Rattle.description.proofs.Characters.{body_plain, command_plain, day_plain, digit_plain, english_plain, heading_plain, language_plain, long_plain, name_plain, Plain, plain_append, plain_cons, plain_each, PlainCharacter, PlainText, program_plain, section_plain, short_plain, title_plain, value_plain, line_plain}
+use Rattle.description_laws.specs.Plain.{characters_of, choice_characters, command_characters, commands_characters, description_characters, group_characters, groups_characters, initial_characters, level_characters, name_characters, option_characters, spelling_characters, positional_characters, texts_characters, topic_characters, TextsArePlain}
+use Rattle.description_laws.proofs.Characters.{body_plain, command_plain, day_plain, digit_plain, english_plain, heading_plain, language_plain, long_plain, name_plain, Plain, plain_append, plain_cons, plain_each, PlainCharacter, PlainText, program_plain, section_plain, short_plain, title_plain, value_plain, line_plain}
 use Rattle.description.specs.Notes.{listed_texts}
 use Rattle.description.specs.Syntax.{is_well_formed}
 use Rattle.description.proofs.Each.{Each}

@@ -9,7 +9,7 @@ use Rattle.bpaf_doc.specs.Buffer.Writes.{Write, em_doc_writes, inside, metavar, 
 use Rattle.bpaf_meta.specs.Content.{Name, short, long, both, Tree, and_of, or_of, optional, required, adjacent, item, many, subsection, suffix, skip, custom_usage, strict, Trees, no_trees, tree, Leaf, any, positional, command, flag, argument}
 use Rattle.bpaf_meta.specs.Meta.Normal.{State, pull, push, shown_trees, and_form, or_form, is_command_tree, without_commands, with_first_command, optional_many_form, optional_form, required_form, many_form, custom_usage_form, item_form, guarded, state_after, state_out, normal_form, and_parts, or_parts, outer_form, strict_if_push, normalized}
 use Rattle.bpaf_meta.specs.Usage.Writes.{is_bare_character, item_writes, metavar_writes, name_writes, part_writes, separated, tree_writes, usage_writes}
-use Rattle.description.proofs.Captured.{Clear, IsClear, both_clear, doc_clear, inside_clear, nothing_clear, text_then}
+use Rattle.description_laws.proofs.Captured.{Clear, IsClear, both_clear, doc_clear, inside_clear, nothing_clear, text_then}
 use Rattle.description.proofs.Each.{Each}
 use Rattle.description.proofs.SaidTrees.{EachHolds, Holds, HoldsLeaf}
 

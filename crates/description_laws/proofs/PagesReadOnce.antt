@@ -20,14 +20,14 @@ use Rattle.description.specs.Subjects.{SubjectSaid, application, below, command_
 use Rattle.description.specs.Texts.{plain_document, text_document}
 use Rattle.description.specs.Trees.{document_said, manual_head, manual_tree, on_help_pages, on_manual_page, options_tree}
 use Rattle.description.specs.UsageLines.{texts_in, usage_part, without_lead}
-use Rattle.description.proofs.Captured.{Clear, both_clear, doc_clear, nothing_captured, nothing_clear, page_once, path_clear, section_clear, text_captured, written_clear}
-use Rattle.description.proofs.ClearPages.{IsClearChapter, lists_clear, manual_clear, name_clear, within_clear}
-use Rattle.description.proofs.ClearTrees.{said_clear, text_clear, topics_clear, trees_clear}
-use Rattle.description.proofs.ClearUsage.{HasClearTexts, usage_clear}
+use Rattle.description_laws.proofs.Captured.{Clear, both_clear, doc_clear, nothing_captured, nothing_clear, page_once, path_clear, section_clear, text_captured, written_clear}
+use Rattle.description_laws.proofs.ClearPages.{IsClearChapter, lists_clear, manual_clear, name_clear, within_clear}
+use Rattle.description_laws.proofs.ClearTrees.{said_clear, text_clear, topics_clear, trees_clear}
+use Rattle.description_laws.proofs.ClearUsage.{HasClearTexts, usage_clear}
 use Rattle.description.proofs.Each.{Each, each_append}
 use Rattle.description.proofs.Gives.{Gives, given, gives_then}
 use Rattle.description.proofs.SaidTrees.{chapters_hold, level_sound, options_hold}
-use Rattle.description.proofs.ReadOnce.{Once, OnceCommand, OnceSaid, OnceWords, described_once, line_once, once_append, once_parts}
+use Rattle.description_laws.proofs.ReadOnce.{Once, OnceCommand, OnceSaid, OnceWords, described_once, line_once, once_append, once_parts}
 
 -- ---- where words lead
 

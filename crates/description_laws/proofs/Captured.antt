@@ -24,7 +24,7 @@ use Rattle.description.specs.ReadOnce.{has_words_read_once, is_word_read_once}
 use Rattle.description.proofs.Each.{Each}
 use Rattle.description.proofs.Gives.{Gives}
 use Rattle.description.proofs.TextDocuments.{HoldsTexts, IsText, of_texts}
-use Rattle.description.proofs.ReadOnce.{Once, once_append, once_map, word_once}
+use Rattle.description_laws.proofs.ReadOnce.{Once, once_append, once_map, word_once}
 
 -- ---- what a part changes
 

@@ -1,0 +1,9 @@
+pub mod Characters
+pub mod Plain
+pub mod ReadOnce
+pub mod Captured
+pub mod ClearUsage
+pub mod ClearPages
+pub mod ClearTrees
+pub mod PagesReadOnce
+pub mod NestedLevels

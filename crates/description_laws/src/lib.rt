@@ -1,0 +1,29 @@
+//! Laws of the texts of a description, and of its manual pages: nothing to call, but statements that the check proves. No
+//! page rests on them, so they stand above `description`, and who makes pages need not have them proved.
+#![tactic(auto)]
+
+ghost use Rattle.description.specs.Manuals.{SubjectManualsAreWellNested};
+ghost use Rattle.description.specs.Pages.{SubjectsAreWellNested};
+ghost use Rattle.description.specs.ReadOnce.{TitlesAreReadOnce};
+ghost use Rattle.description_laws.specs.Plain.{TextsArePlain};
+
+/// The documents of a usage line, of a help page and of a manual page are well nested, for the application and for each
+/// command.
+pub fn subjects_are_nested()
+    ensures console { SubjectsAreWellNested }
+    ensures manual { SubjectManualsAreWellNested }
+{}
+
+/// No text and no name of a description that a TOML text gives holds a control character but newline and tab, nor a
+/// noncharacter of Unicode.
+pub fn texts_are_plain()
+    ensures { TextsArePlain }
+{}
+
+/// Of a description that a TOML text gives, no title of a group or of a topic and no name of a command holds a
+/// backslash or a double quote. And of all that a reader of roff reads behind the preamble of its manual page, or of
+/// the manual page of a level to which words lead, no argument of a control holds one, but the argument of two quotes.
+/// So a macro that reads its arguments a second time reads the same words.
+pub fn titles_are_read_once()
+    ensures { TitlesAreReadOnce }
+{}
