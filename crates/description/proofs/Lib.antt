@@ -41,3 +41,5 @@ pub mod WebTargets
 pub mod WebIdForms
 pub mod WebOwnIds
 pub mod CommandNames
+pub mod UsageTrees
+pub mod UsageLevels

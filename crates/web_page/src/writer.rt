@@ -11,6 +11,7 @@ ghost use Rattle.web_page.specs.Models.{is_language, is_language_byte};
 ghost use Rattle.web_page.specs.Calls.{FailsOnlyBy, are_written, attribute, child_fault, end_fault, finish_fault};
 ghost use Rattle.web_page.specs.Calls.{has_end_sign, id_fault, is_link, is_written, link_fault, new_page, page_fault};
 ghost use Rattle.web_page.specs.Calls.{text_fault, whole_page, with_end, with_text};
+ghost use Rattle.web_page.specs.Steps.Bytes.{is_written_byte};
 ghost use Rattle.web_page.specs.Steps.Open.{attributes_of, behind_child, behind_text, checked, ends, inked, may_give};
 ghost use Rattle.web_page.specs.Steps.Open.{opened};
 
@@ -81,9 +82,27 @@ fn is_written(character: char) -> bool
     !is_noncharacter && (code == 9 || code == 10 || !is_control)
 }
 
+// A byte that is such a character alone.
+fn is_written_byte(byte: u8) -> bool
+    ensures { result ≡ is_written_byte byte }
+{
+    matches!(byte, b'\t' | b'\n' | b' '..=b'~')
+}
+
+fn are_written_bytes(text: &str) -> bool
+    ensures { result ≡ list_all is_written_byte text.now }
+{
+    text.as_bytes().iter().all(|byte| is_written_byte(*byte))
+}
+
+// Most texts have such bytes alone, and then no character is put together.
+#[tactic(auto, using(crate::proofs::Texts::written_bytes))]
 fn are_written(text: &str) -> bool
     ensures { result ≡ are_written text.now }
 {
+    if are_written_bytes(text) {
+        return true;
+    }
     text.chars().all(|character| is_written(character))
 }
 
@@ -355,6 +374,23 @@ impl<A: Allocator> Page<A> {
             return Err(PageError::Character);
         }
         self.start_tag(Tag::A, Key::Target, target)
+    }
+
+    /// Starts a link to the element of this id on the page: its target is `#` and the id.
+    ///
+    /// `Character` comes where the id has a character that no reader gives back, and else the errors of `start`, as of
+    /// `start_link`. After an error the page is as before.
+    #[tactic(auto, using(crate::proofs::Texts::written_behind_hash))]
+    pub fn start_link_to_id(&mut self, id: &str) -> Result<(), PageError>
+        ensures ok { OnOk result (self.new
+            ≡ with_start self.old Tag.A (attribute (codes "href") (codes "#" ++ id.now))) }
+        ensures err { OnErr result (self.new ≡ self.old) }
+        ensures fails { FailsOnlyBy (link_fault self.old (codes "#" ++ id.now)) result }
+    {
+        if !are_written(id) {
+            return Err(PageError::Character);
+        }
+        self.start_tag(Tag::A, Key::Place, id)
     }
 
     /// Adds a text to the innermost open element. It joins a text before it. An empty one adds nothing, and may stand
