@@ -12,6 +12,7 @@ use Rattle.std.proofs.lemmas.Str.{IsUtf8-append, IsUtf8-encode, IsUtf8-nil, IsUt
 use Rattle.web_page.specs.Reader.{is_kept, is_permitted}
 use Rattle.web_page.specs.Calls.{are_written, is_written}
 use Rattle.web_page.specs.Exact.{escaped, escaped_byte}
+use Rattle.web_page.specs.Steps.Bytes.{is_written_byte}
 use Rattle.web_page.proofs.Escapes.{other_byte, plain_character, signed_character}
 
 -- a text that may stand in a page
@@ -119,6 +120,28 @@ clean_characters v (c ∷ cs) s w =
 
 written_characters : (bytes : List ℕ) (u : IsUtf8 bytes) → are_written bytes ≡ true → list_all is_written u.0 ≡ true
 written_characters bytes u w = ap (list_all is_written) (sym (ap chars (sym u.1.1) ∙ chars-encodes u.0 u.1.0)) ∙ w
+
+-- a text of characters of one byte each
+ascii_of : (bytes : List ℕ) → list_all is_written_byte bytes ≡ true → list_all is_ascii_byte bytes ≡ true
+ascii_of [] h = refl
+ascii_of (b ∷ bytes) h =
+    let p = and_parts (is_written_byte b) (list_all is_written_byte bytes) h in
+    and_from (is_ascii_byte b) (list_all is_ascii_byte bytes) (ascii_one b p.0) (ascii_of bytes p.1)
+  where
+    ascii_one : (b : ℕ) → is_written_byte b ≡ true → is_ascii_byte b ≡ true
+    ascii_one b h = grind (arith, nat_tests)
+
+characters_of : (bytes : List ℕ) → list_all is_written_byte bytes ≡ true → list_all is_written bytes ≡ true
+characters_of [] h = refl
+characters_of (b ∷ bytes) h =
+    let p = and_parts (is_written_byte b) (list_all is_written_byte bytes) h in
+    and_from (is_written b) (list_all is_written bytes) (written_one b p.0) (characters_of bytes p.1)
+  where
+    written_one : (b : ℕ) → is_written_byte b ≡ true → is_written b ≡ true
+    written_one b h = grind (arith, nat_tests)
+
+pub written_bytes : (bytes : List ℕ) → list_all is_written_byte bytes ≡ true → are_written bytes ≡ true
+written_bytes bytes h = ap (list_all is_written) (chars-IsAscii bytes (ascii bytes (ascii_of bytes h))) ∙ characters_of bytes h
 
 pub clean-escaped : (v : Bool) (bytes : List ℕ) → IsUtf8 bytes → are_written bytes ≡ true → IsClean (escaped v bytes)
 clean-escaped v bytes u w = subst (λ x. IsClean (escaped v x)) u.1.1 (clean_characters v u.0 u.1.0 (written_characters bytes u w))

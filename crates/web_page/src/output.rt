@@ -1,6 +1,6 @@
 //! Pieces of HTML text, written all or not at all.
 
-ghost use Rattle.std.specs.Prelude.{◌≡◌, ◌++◌, MatchOption, OnErr, OnOk, encode_utf8, string_bytes};
+ghost use Rattle.std.specs.Prelude.{◌≡◌, ◌<◌, ◌++◌, [], ◌∷◌, MatchOption, OnErr, OnOk, string_bytes};
 ghost use Rattle.web_page.specs.Exact.{end_text, escaped, escaped_byte, start_text, tag_end};
 ghost use Rattle.web_page.specs.Steps.Open.{attributes_of};
 ghost use Rattle.web_page.specs.Steps.Pieces.{Extends, piece_text, pieces_text};
@@ -16,24 +16,21 @@ pub enum Piece<'a> {
     Value(&'a str),
 }
 
-// What stands for a character that may not stand for itself.
-fn reference(character: char, in_value: bool) -> Option<&'static str>
-    ensures { MatchOption result (escaped in_value (encode_utf8 character) ≡ encode_utf8 character)
-        (λ text. escaped in_value (encode_utf8 character) ≡ text.now) }
+// What stands for a byte that may not stand for itself. Such a byte is a character.
+fn reference(byte: u8, in_value: bool) -> Option<&'static str>
+    ensures { MatchOption result (escaped_byte in_value byte ≡ byte ∷ [])
+        (λ text. (byte < 128) × (escaped_byte in_value byte ≡ text.now)) }
 {
-    if character == '&' {
-        Some("&amp;")
-    } else if character == '<' {
-        Some("&lt;")
-    } else if character == '>' {
-        Some("&gt;")
-    } else if in_value && character == '"' {
-        Some("&quot;")
-    } else {
-        None
+    match byte {
+        b'&' => Some("&amp;"),
+        b'<' => Some("&lt;"),
+        b'>' => Some("&gt;"),
+        b'"' if in_value => Some("&quot;"),
+        _ => None,
     }
 }
 
+// What lies between two references goes in at once.
 fn push_escaped<A: Allocator>(
     out: &mut String<A>,
     text: &str,
@@ -42,15 +39,19 @@ fn push_escaped<A: Allocator>(
     ensures ok { OnOk result (string_bytes out.new ≡ string_bytes out.old ++ escaped in_value text.now) }
     ensures kept { Extends (string_bytes out.old) (string_bytes out.new) }
 {
-    for character in text.chars() {
-        match reference(character, in_value) {
-            Some(text) => out.push_str(text)?,
-            None => out.push(character)?,
+    let bytes = text.as_bytes();
+    let mut start = 0;
+    for at in 0..bytes.len() {
+        if let Some(name) = reference(bytes[at], in_value) {
+            out.push_str(&text[start..at])?;
+            out.push_str(name)?;
+            start = at + 1;
         }
     }
-    Ok(())
+    out.push_str(&text[start..])
 }
 
+#[inline(always)]
 fn push_piece<A: Allocator>(out: &mut String<A>, piece: Piece<'_>) -> Result<(), AllocError>
     ensures ok { OnOk result (string_bytes out.new ≡ string_bytes out.old ++ piece_text piece.entry) }
     ensures kept { Extends (string_bytes out.old) (string_bytes out.new) }
@@ -63,6 +64,7 @@ fn push_piece<A: Allocator>(out: &mut String<A>, piece: Piece<'_>) -> Result<(),
 }
 
 /// Writes pieces behind a text. An error comes where an allocation failed, and then the text is as before.
+#[inline(always)]
 pub fn write<A: Allocator>(out: &mut String<A>, pieces: &[Piece<'_>]) -> Result<(), AllocError>
     ensures ok { OnOk result (string_bytes out.new ≡ string_bytes out.old ++ pieces_text pieces.now) }
     ensures err { OnErr result (string_bytes out.new ≡ string_bytes out.old) }

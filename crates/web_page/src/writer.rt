@@ -11,6 +11,7 @@ ghost use Rattle.web_page.specs.Models.{is_language, is_language_byte};
 ghost use Rattle.web_page.specs.Calls.{FailsOnlyBy, are_written, attribute, child_fault, end_fault, finish_fault};
 ghost use Rattle.web_page.specs.Calls.{has_end_sign, id_fault, is_link, is_written, link_fault, new_page, page_fault};
 ghost use Rattle.web_page.specs.Calls.{text_fault, whole_page, with_end, with_text};
+ghost use Rattle.web_page.specs.Steps.Bytes.{is_written_byte};
 ghost use Rattle.web_page.specs.Steps.Open.{attributes_of, behind_child, behind_text, checked, ends, inked, may_give};
 ghost use Rattle.web_page.specs.Steps.Open.{opened};
 
@@ -81,9 +82,27 @@ fn is_written(character: char) -> bool
     !is_noncharacter && (code == 9 || code == 10 || !is_control)
 }
 
+// A byte that is such a character alone.
+fn is_written_byte(byte: u8) -> bool
+    ensures { result ≡ is_written_byte byte }
+{
+    matches!(byte, b'\t' | b'\n' | b' '..=b'~')
+}
+
+fn are_written_bytes(text: &str) -> bool
+    ensures { result ≡ list_all is_written_byte text.now }
+{
+    text.as_bytes().iter().all(|byte| is_written_byte(*byte))
+}
+
+// Most texts have such bytes alone, and then no character is put together.
+#[tactic(auto, using(crate::proofs::Texts::written_bytes))]
 fn are_written(text: &str) -> bool
     ensures { result ≡ are_written text.now }
 {
+    if are_written_bytes(text) {
+        return true;
+    }
     text.chars().all(|character| is_written(character))
 }
 
