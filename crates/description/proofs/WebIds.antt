@@ -1,6 +1,10 @@
 -- The ids of sections and entries.
-use Rattle.std.proofs.Common.{◌≡◌, ℕ, ◌<◌, List, [], ◌∷◌, ◌++◌, flat_map, length, map, refl, sym, ap, ◌∙◌, append_assoc, append-nil, arith}
-use Rattle.description.specs.WebPages.Ids.{id_text, section_id}
+use Rattle.std.proofs.Common.{◌≡◌, ℕ, ◌<◌, Bool, true, false, List, [], ◌∷◌, ◌++◌, flat_map, length, map, refl, sym, ap, ◌∙◌, append_assoc, append-nil, arith, rules}
+use Rattle.std.specs.Prelude.{◌/◌, ◌%◌, if◌then◌else◌}
+use Rattle.std.specs.Char.{digit_char}
+use Rattle.std.specs.List.{list_all}
+use Rattle.std.proofs.lemmas.Bool.{and_parts}
+use Rattle.description.specs.WebPages.Ids.{id_text, is_id_byte, section_id}
 
 -- names that are not the first, each behind a colon
 abbrev pub names_behind : {X : Type 0} → (X → List ℕ) → List X → List ℕ
@@ -28,3 +32,15 @@ below_some (p ∷ ps) name h = append_assoc (id_text p) (flat_map (λ n. 58 ∷ 
 pub below_none : (path : List (List ℕ)) (name : List ℕ) → length path ≡ 0 → section_id path ++ id_text name ≡ section_id (path ++ name ∷ [])
 below_none [] name h = sym (append-nil (id_text name))
 below_none (p ∷ ps) name h = absurd (omega arith)
+
+-- ---- bytes that stand for themselves
+
+pub plain_id_text : (text : List ℕ) → list_all is_id_byte text ≡ true → id_text text ≡ text
+plain_id_text [] h = refl
+plain_id_text (b ∷ text) h =
+    let p = and_parts (is_id_byte b) (list_all is_id_byte text) h in
+    plain (is_id_byte b) p.0 ∙ ap (λ bs. b ∷ bs) (plain_id_text text p.1)
+  where
+    plain : (t : Bool) → t ≡ true → (if t then b ∷ [] else 46 ∷ digit_char (b / 16) ∷ digit_char (b % 16) ∷ []) ++ id_text text ≡ b ∷ id_text text
+    plain true h = refl
+    plain false h = absurd (search rules)

@@ -1,6 +1,7 @@
 //! The ids of sections and entries.
 ghost use Rattle.std.specs.Prelude.{◌≡◌, ◌++◌, ◌<◌, ◌∷◌, [], IfOk, OnOk, encode_utf8, map, string_bytes};
 ghost use Rattle.std.specs.Char.{digit_char};
+ghost use Rattle.std.specs.List.{list_all};
 ghost use Rattle.description.specs.WebPages.Ids.{entry_id, id_byte, id_text, is_id_byte, numbered, section_id};
 
 use std::alloc::{AllocError, Allocator};
@@ -77,9 +78,14 @@ fn push_path<B: Allocator>(id: &mut String<B>, path: &[String<B>]) -> Result<(),
     Ok(())
 }
 
+#[tactic(auto, using(crate::proofs::WebIds::plain_id_text))]
 fn push_text<B: Allocator>(id: &mut String<B>, text: &str) -> Result<(), AllocError>
     ensures { OnOk result (string_bytes id.new ≡ string_bytes id.old ++ id_text text.now) }
 {
+    // Most names have no other bytes.
+    if are_id_bytes(text) {
+        return id.push_str(text);
+    }
     let bytes = text.as_bytes();
     for byte in bytes {
         push_byte(id, *byte)?;
@@ -107,6 +113,12 @@ fn hex_digit(value: u8) -> char
     } else {
         char::from(b'a' - 10 + value)
     }
+}
+
+fn are_id_bytes(text: &str) -> bool
+    ensures { result ≡ list_all is_id_byte text.now }
+{
+    text.as_bytes().iter().all(|byte| is_id_byte(*byte))
 }
 
 fn is_id_byte(byte: u8) -> bool
