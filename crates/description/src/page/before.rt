@@ -1,5 +1,5 @@
 //! What a section has before an entry.
-ghost use Rattle.std.specs.Prelude.{◌≡◌, ◌+◌, ◌<◌, ◌^◌, ◌++◌, ◌∷◌, [], ℕ, List, OnErr, OnOk, count_by, map, string_bytes};
+ghost use Rattle.std.specs.Prelude.{◌≡◌, ◌+◌, ◌<◌, ◌^◌, ◌++◌, ◌∷◌, [], ℕ, List, IfOk, OnErr, OnOk, count_by, map, string_bytes};
 ghost use Rattle.std.specs.Prelude.{bytes_eq, if◌then◌else◌};
 ghost use Rattle.std.specs.HashMap.{IsUnchanged};
 ghost use Rattle.description.specs.WebPages.Entries.{has_word};
@@ -23,14 +23,14 @@ pub struct Before<'d, 'a, A: Allocator, B: Allocator> {
 }
 
 impl<'d, 'a, A: Allocator, B: Allocator + Copy> Before<'d, 'a, A, B> {
-    /// Nothing is before.
-    pub fn new(alloc: B) -> Before<'d, 'a, A, B>
-        ensures { result.entries.items ≡ [] }
+    /// Nothing is before. There is room for so many entries, and what counts them is not made anew as these come.
+    pub fn with_capacity(alloc: B, capacity: usize) -> Result<Before<'d, 'a, A, B>, AllocError>
+        ensures { IfOk result (λ before. before.entries.items ≡ []) }
     {
-        Before {
-            entries: Vec::new(alloc),
-            counts: HashMap::new(alloc),
-        }
+        Ok(Before {
+            entries: Vec::with_capacity(alloc, capacity)?,
+            counts: HashMap::with_capacity(alloc, capacity)?,
+        })
     }
 
     /// How many of the entries have an id of this word.

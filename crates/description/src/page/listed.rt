@@ -72,8 +72,8 @@ pub fn each_once<'d, 'a, A: Allocator, B: Allocator + Copy>(
 ) -> Result<Vec<Entry<'d, 'a, A>, B>, AllocError>
     ensures { IfOk result (λ once. map entry_said once.items ≡ each_once (map entry_said entries.now)) }
 {
-    let mut seen = HashSet::new(alloc);
-    let mut once = Vec::new(alloc);
+    let mut seen = HashSet::with_capacity(alloc, entries.len())?;
+    let mut once = Vec::with_capacity(alloc, entries.len())?;
     for entry in entries {
         if is_new(&mut seen, *entry)? {
             once.push(*entry)?;

@@ -31,7 +31,9 @@ pub fn put_lists<'d, 'a, A: Allocator, B: Allocator + Copy>(
     ensures { OnOk result (page.new ≡ with_events page.old (lists_events (map string_bytes path.now) []
         (section_lists (map opt_said help_options.now) (level_said level.now)))) }
 {
-    let mut before: Before<'d, 'a, A, B> = Before::new(alloc);
+    let own = level.options.len().saturating_add(level.positionals.len());
+    let capacity = own.saturating_add(help_options.len());
+    let mut before: Before<'d, 'a, A, B> = Before::with_capacity(alloc, capacity)?;
     put_named_lists(alloc, page, path, &mut before, &level.groups)?;
     put_placed_lists(alloc, page, path, &mut before, &level.groups)?;
     put_own_lists(alloc, page, path, &mut before, level, help_options)
