@@ -50,3 +50,5 @@ pub mod WebTargets
 pub mod WebIdForms
 pub mod WebOwnIds
 pub mod CommandNames
+pub mod UsageTrees
+pub mod UsageLevels

@@ -24,6 +24,7 @@ mod lists;
 mod sections;
 mod terms;
 mod texts;
+mod usages;
 mod words;
 
 const STYLE: &str =

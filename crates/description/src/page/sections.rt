@@ -17,6 +17,7 @@ use crate::page::elements::put_text_in;
 use crate::page::ids::section_id;
 use crate::page::lists::put_lists;
 use crate::page::texts::{put_given, put_text};
+use crate::page::usages::usage_level;
 use crate::subjects::Subject;
 use crate::trees::{Shared, level_tree};
 use crate::usage_lines::put_usage as write_usage;
@@ -82,10 +83,12 @@ impl<'d, 'a, A: Allocator, B: Allocator + Copy> Subject<'d, 'a, A, B> {
         ensures { IfOk result (λ document. document ≡ document_of (usage_part (subject_said self.now).path
             (subject_tree (subject_said self.now)) (texts_in (subject_said self.now).level).usage)) }
     {
-        let shared = Shared::on_help_pages(self.help_options);
-        let tree = level_tree(self.allocator(), self.level, shared)?;
-        let document = usage_of(self.allocator(), &self.path, &tree, self.level.usage);
+        let alloc = self.allocator();
+        let read = usage_level(alloc, self.level)?;
+        let tree = level_tree(alloc, &read, Shared::on_help_pages(&[]))?;
+        let document = usage_of(alloc, &self.path, &tree, self.level.usage);
         drop(tree);
+        drop(read);
         document
     }
 }

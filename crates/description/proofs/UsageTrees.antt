@@ -1,0 +1,307 @@
+-- A usage line reads no helps, and nothing that stands behind a command.
+use Rattle.std.proofs.Common.{◌≡◌, Bool, true, false, List, [], ◌∷◌, ◌++◌, refl, sym, ap, ◌∙◌, codes, None}
+use Rattle.std.specs.Prelude.{if◌then◌else◌}
+use Rattle.bpaf_doc.specs.Buffer.Parts.{Part}
+use Rattle.bpaf_doc.specs.Buffer.Writes.{inside, literal, plain}
+use Rattle.bpaf_doc.specs.declared.buffer.Block.TheVariants as block
+use Rattle.bpaf_meta.specs.Content as content
+use Rattle.bpaf_meta.specs.Content.{Name, Head, head, Tree, and_of, or_of, optional, required, adjacent, item, many, subsection, suffix, skip, custom_usage, strict, Trees, no_trees, tree, Leaf, any, positional, flag, argument}
+use Rattle.bpaf_meta.specs.Meta.Normal.{State, pull, push, strip, shown_trees, and_form, or_form, is_command_tree, without_commands, with_first_command, optional_many_form, optional_form, required_form, many_form, custom_usage_form, item_form, strict_state, guarded, state_after, state_out, normal_form, and_parts, or_parts, or_state, outer_form, strict_if_push, normalized}
+use Rattle.bpaf_meta.specs.Usage.Writes.{item_writes, part_writes, separated, tree_writes, usage_writes}
+
+-- ---- a tree without them
+
+abbrev pub bare_leaf : Leaf → Leaf
+bare_leaf (any m a h) = any m a None
+bare_leaf (positional m h) = positional m None
+bare_leaf (content.command n c h t i) = content.command n c None skip (head None None None None skip)
+bare_leaf (flag n s e h) = flag n s None None
+bare_leaf (argument n s m e h) = argument n s m None None
+
+abbrev mutual
+  pub bare : Tree → Tree
+  bare (and_of ts) = and_of (each_bare ts)
+  bare (or_of ts) = or_of (each_bare ts)
+  bare (optional t) = optional (bare t)
+  bare (required t) = required (bare t)
+  bare (adjacent t) = adjacent (bare t)
+  bare (item l) = item (bare_leaf l)
+  bare (many t) = many (bare t)
+  bare (subsection t d) = subsection (bare t) d
+  bare (suffix t d) = suffix (bare t) d
+  bare skip = skip
+  bare (custom_usage t d) = custom_usage (bare t) d
+  bare (strict t) = strict (bare t)
+
+  pub each_bare : Trees → Trees
+  each_bare no_trees = no_trees
+  each_bare (tree t ts) = tree (bare t) (each_bare ts)
+
+-- ---- its normal form
+
+and_bare : (ts : Trees) → and_form (each_bare ts) ≡ bare (and_form ts)
+and_bare no_trees = refl
+and_bare (tree t no_trees) = refl
+and_bare (tree t (tree v ts)) = refl
+
+or_bare : (ts : Trees) → or_form (each_bare ts) ≡ bare (or_form ts)
+or_bare no_trees = refl
+or_bare (tree t no_trees) = refl
+or_bare (tree t (tree v ts)) = refl
+
+shown_bare : (ts : Trees) → shown_trees (each_bare ts) ≡ each_bare (shown_trees ts)
+shown_bare no_trees = refl
+shown_bare (tree (and_of us) ts) = ap (tree (bare (and_of us))) (shown_bare ts)
+shown_bare (tree (or_of us) ts) = ap (tree (bare (or_of us))) (shown_bare ts)
+shown_bare (tree (optional t) ts) = ap (tree (bare (optional t))) (shown_bare ts)
+shown_bare (tree (required t) ts) = ap (tree (bare (required t))) (shown_bare ts)
+shown_bare (tree (adjacent t) ts) = ap (tree (bare (adjacent t))) (shown_bare ts)
+shown_bare (tree (item l) ts) = ap (tree (bare (item l))) (shown_bare ts)
+shown_bare (tree (many t) ts) = ap (tree (bare (many t))) (shown_bare ts)
+shown_bare (tree (subsection t d) ts) = ap (tree (bare (subsection t d))) (shown_bare ts)
+shown_bare (tree (suffix t d) ts) = ap (tree (bare (suffix t d))) (shown_bare ts)
+shown_bare (tree skip ts) = shown_bare ts
+shown_bare (tree (custom_usage t d) ts) = ap (tree (bare (custom_usage t d))) (shown_bare ts)
+shown_bare (tree (strict t) ts) = ap (tree (bare (strict t))) (shown_bare ts)
+
+command_bare : (t : Tree) → is_command_tree (bare t) ≡ is_command_tree t
+command_bare (and_of ts) = refl
+command_bare (or_of ts) = refl
+command_bare (optional t) = refl
+command_bare (required t) = refl
+command_bare (adjacent t) = refl
+command_bare (item (any m a h)) = refl
+command_bare (item (positional m h)) = refl
+command_bare (item (content.command n c h t i)) = refl
+command_bare (item (flag n s e h)) = refl
+command_bare (item (argument n s m e h)) = refl
+command_bare (many t) = refl
+command_bare (subsection t d) = command_bare t
+command_bare (suffix t d) = refl
+command_bare skip = refl
+command_bare (custom_usage t d) = refl
+command_bare (strict t) = refl
+
+choice_bare : (b : Bool) (ts vs : Trees) → (if b then each_bare ts else each_bare vs) ≡ each_bare (if b then ts else vs)
+choice_bare true ts vs = refl
+choice_bare false ts vs = refl
+
+without_bare : (ts : Trees) → without_commands (each_bare ts) ≡ each_bare (without_commands ts)
+without_bare no_trees = refl
+without_bare (tree t ts) =
+    ap (λ b. if b then without_commands (each_bare ts) else tree (bare t) (without_commands (each_bare ts))) (command_bare t)
+    ∙ ap (λ us. if is_command_tree t then us else tree (bare t) us) (without_bare ts)
+    ∙ choice_bare (is_command_tree t) (without_commands ts) (tree t (without_commands ts))
+
+first_bare : (ts : Trees) → with_first_command (each_bare ts) ≡ each_bare (with_first_command ts)
+first_bare no_trees = refl
+first_bare (tree t ts) = ap (tree (bare t))
+    (ap (λ b. if b then without_commands (each_bare ts) else with_first_command (each_bare ts)) (command_bare t)
+    ∙ ap (λ us. if is_command_tree t then us else with_first_command (each_bare ts)) (without_bare ts)
+    ∙ ap (λ us. if is_command_tree t then each_bare (without_commands ts) else us) (first_bare ts)
+    ∙ choice_bare (is_command_tree t) (without_commands ts) (with_first_command ts))
+
+optional_many_bare : (t : Tree) → optional_many_form (bare t) ≡ bare (optional_many_form t)
+optional_many_bare (and_of ts) = refl
+optional_many_bare (or_of ts) = refl
+optional_many_bare (optional t) = refl
+optional_many_bare (required t) = refl
+optional_many_bare (adjacent t) = refl
+optional_many_bare (item l) = refl
+optional_many_bare (many t) = refl
+optional_many_bare (subsection t d) = refl
+optional_many_bare (suffix t d) = refl
+optional_many_bare skip = refl
+optional_many_bare (custom_usage t d) = refl
+optional_many_bare (strict t) = refl
+
+optional_bare : (t : Tree) → optional_form (bare t) ≡ bare (optional_form t)
+optional_bare (and_of ts) = refl
+optional_bare (or_of ts) = refl
+optional_bare (optional t) = refl
+optional_bare (required t) = refl
+optional_bare (adjacent t) = refl
+optional_bare (item l) = refl
+optional_bare (many t) = optional_many_bare t
+optional_bare (subsection t d) = refl
+optional_bare (suffix t d) = refl
+optional_bare skip = refl
+optional_bare (custom_usage t d) = refl
+optional_bare (strict t) = refl
+
+required_bare : (t : Tree) → required_form (bare t) ≡ bare (required_form t)
+required_bare (and_of ts) = refl
+required_bare (or_of ts) = refl
+required_bare (optional t) = refl
+required_bare (required t) = refl
+required_bare (adjacent t) = refl
+required_bare (item l) = refl
+required_bare (many t) = refl
+required_bare (subsection t d) = refl
+required_bare (suffix t d) = refl
+required_bare skip = refl
+required_bare (custom_usage t d) = refl
+required_bare (strict t) = refl
+
+many_bare : (t : Tree) → many_form (bare t) ≡ bare (many_form t)
+many_bare (and_of ts) = refl
+many_bare (or_of ts) = refl
+many_bare (optional t) = refl
+many_bare (required t) = refl
+many_bare (adjacent t) = refl
+many_bare (item l) = refl
+many_bare (many t) = refl
+many_bare (subsection t d) = refl
+many_bare (suffix t d) = refl
+many_bare skip = refl
+many_bare (custom_usage t d) = refl
+many_bare (strict t) = refl
+
+custom_bare : (u : Bool) (t : Tree) (d : List Part) → custom_usage_form u (bare t) d ≡ bare (custom_usage_form u t d)
+custom_bare false t d = refl
+custom_bare true t [] = refl
+custom_bare true t (p ∷ d) = refl
+
+item_bare : (u : Bool) (l : Leaf) → item_form u (bare_leaf l) ≡ bare_leaf (item_form u l)
+item_bare u (any m a h) = refl
+item_bare u (positional m h) = refl
+item_bare u (content.command n c h t i) = refl
+item_bare u (flag n s e h) = refl
+item_bare u (argument n s m e h) = refl
+
+guarded_bare : (r g : State) (t : Tree) → guarded r g (bare t) ≡ bare (guarded r g t)
+guarded_bare pull pull t = refl
+guarded_bare pull push t = refl
+guarded_bare pull strip t = refl
+guarded_bare push g t = refl
+guarded_bare strip g t = refl
+
+mutual
+  state_bare : (s : State) (t : Tree) → state_out s (bare t) ≡ state_out s t
+  state_bare s (and_of ts) = refl
+  state_bare s (or_of ts) = or_state_bare s s ts
+  state_bare s (optional t) = state_bare s t
+  state_bare s (required t) = state_bare s t
+  state_bare s (adjacent t) = state_bare s t
+  state_bare s (item l) = refl
+  state_bare s (many t) = state_bare s t
+  state_bare s (subsection t d) = state_bare s t
+  state_bare s (suffix t d) = state_bare s t
+  state_bare s skip = refl
+  state_bare s (custom_usage t d) = state_bare s t
+  state_bare s (strict t) = ap strict_state (state_bare s t)
+
+  or_state_bare : (s final : State) (ts : Trees) → or_state s final (each_bare ts) ≡ or_state s final ts
+  or_state_bare s final no_trees = refl
+  or_state_bare s final (tree t ts) = ap (λ g. or_state s (state_after final g) (each_bare ts)) (state_bare s t) ∙ or_state_bare s (state_after final (state_out s t)) ts
+
+mutual
+  normal_bare : (u : Bool) (s : State) (t : Tree) → normal_form u s (bare t) ≡ bare (normal_form u s t)
+  normal_bare u s (and_of ts) = ap (λ us. and_form (shown_trees us)) (and_parts_bare u s ts) ∙ ap and_form (shown_bare (and_parts u s ts)) ∙ and_bare (shown_trees (and_parts u s ts))
+  normal_bare u s (or_of ts) =
+      ap (λ us. or_form (with_first_command (shown_trees us))) (or_parts_bare u s s ts)
+      ∙ ap (λ us. or_form (with_first_command us)) (shown_bare (or_parts u s s ts))
+      ∙ ap or_form (first_bare (shown_trees (or_parts u s s ts)))
+      ∙ or_bare (with_first_command (shown_trees (or_parts u s s ts)))
+  normal_bare u s (optional t) = ap optional_form (normal_bare u s t) ∙ optional_bare (normal_form u s t)
+  normal_bare u s (required t) = ap required_form (normal_bare u s t) ∙ required_bare (normal_form u s t)
+  normal_bare u s (adjacent t) = normal_bare u s t
+  normal_bare u s (item l) = ap item (item_bare u l)
+  normal_bare u s (many t) = ap many_form (normal_bare u s t) ∙ many_bare (normal_form u s t)
+  normal_bare u s (subsection t d) = normal_bare u s t
+  normal_bare u s (suffix t d) = normal_bare u s t
+  normal_bare u s skip = refl
+  normal_bare u s (custom_usage t d) = ap (λ v. custom_usage_form u v d) (normal_bare u s t) ∙ custom_bare u (normal_form u s t) d
+  normal_bare u s (strict t) = normal_bare u s t
+
+  and_parts_bare : (u : Bool) (r : State) (ts : Trees) → and_parts u r (each_bare ts) ≡ each_bare (and_parts u r ts)
+  and_parts_bare u r no_trees = refl
+  and_parts_bare u r (tree t ts) =
+      ap (λ g. tree (guarded r g (normal_form u r (bare t))) (and_parts u (state_after r g) (each_bare ts))) (state_bare r t)
+      ∙ ap (λ v. tree (guarded r (state_out r t) v) (and_parts u (state_after r (state_out r t)) (each_bare ts))) (normal_bare u r t)
+      ∙ ap (λ v. tree v (and_parts u (state_after r (state_out r t)) (each_bare ts))) (guarded_bare r (state_out r t) (normal_form u r t))
+      ∙ ap (tree (bare (guarded r (state_out r t) (normal_form u r t)))) (and_parts_bare u (state_after r (state_out r t)) ts)
+
+  or_parts_bare : (u : Bool) (s f : State) (ts : Trees) → or_parts u s f (each_bare ts) ≡ each_bare (or_parts u s f ts)
+  or_parts_bare u s f no_trees = refl
+  or_parts_bare u s f (tree t ts) =
+      ap (λ g. tree (guarded f g (normal_form u s (bare t))) (or_parts u s (state_after f g) (each_bare ts))) (state_bare s t)
+      ∙ ap (λ v. tree (guarded f (state_out s t) v) (or_parts u s (state_after f (state_out s t)) (each_bare ts))) (normal_bare u s t)
+      ∙ ap (λ v. tree v (or_parts u s (state_after f (state_out s t)) (each_bare ts))) (guarded_bare f (state_out s t) (normal_form u s t))
+      ∙ ap (tree (bare (guarded f (state_out s t) (normal_form u s t)))) (or_parts_bare u s (state_after f (state_out s t)) ts)
+
+-- a tree in a required one
+required_outer_bare : (t : Tree) → outer_form (required (bare t)) ≡ bare (outer_form (required t))
+required_outer_bare (and_of ts) = refl
+required_outer_bare (or_of ts) = refl
+required_outer_bare (optional t) = refl
+required_outer_bare (required t) = refl
+required_outer_bare (adjacent t) = refl
+required_outer_bare (item l) = refl
+required_outer_bare (many t) = refl
+required_outer_bare (subsection t d) = refl
+required_outer_bare (suffix t d) = refl
+required_outer_bare skip = refl
+required_outer_bare (custom_usage t d) = refl
+required_outer_bare (strict t) = refl
+
+outer_bare : (t : Tree) → outer_form (bare t) ≡ bare (outer_form t)
+outer_bare (and_of ts) = refl
+outer_bare (or_of ts) = refl
+outer_bare (optional t) = refl
+outer_bare (required t) = required_outer_bare t
+outer_bare (adjacent t) = refl
+outer_bare (item l) = refl
+outer_bare (many t) = refl
+outer_bare (subsection t d) = refl
+outer_bare (suffix t d) = refl
+outer_bare skip = refl
+outer_bare (custom_usage t d) = refl
+outer_bare (strict t) = refl
+
+last_bare : (s : State) (t : Tree) → strict_if_push s (bare t) ≡ bare (strict_if_push s t)
+last_bare pull t = refl
+last_bare push t = refl
+last_bare strip t = refl
+
+normalized_bare : (u : Bool) (t : Tree) → normalized u (bare t) ≡ bare (normalized u t)
+normalized_bare u t =
+    ap (λ s. strict_if_push s (outer_form (normal_form u pull (bare t)))) (state_bare pull t)
+    ∙ ap (λ v. strict_if_push (state_out pull t) (outer_form v)) (normal_bare u pull t)
+    ∙ ap (strict_if_push (state_out pull t)) (outer_bare (normal_form u pull t))
+    ∙ last_bare (state_out pull t) (outer_form (normal_form u pull t))
+
+-- ---- what it writes
+
+leaf_writes_bare : (l : Leaf) → item_writes (bare_leaf l) ≡ item_writes l
+leaf_writes_bare (any m a h) = refl
+leaf_writes_bare (positional m h) = refl
+leaf_writes_bare (content.command n c h t i) = refl
+leaf_writes_bare (flag n s e h) = refl
+leaf_writes_bare (argument n s m e h) = refl
+
+mutual
+  tree_writes_bare : (t : Tree) → tree_writes (bare t) ≡ tree_writes t
+  tree_writes_bare (and_of ts) = ap (separated (codes " ")) (part_writes_bare ts)
+  tree_writes_bare (or_of ts) = ap (separated (codes " | ")) (part_writes_bare ts)
+  tree_writes_bare (optional t) = ap (λ ws. plain (codes "[") ∷ ws ++ plain (codes "]") ∷ []) (tree_writes_bare t)
+  tree_writes_bare (required t) = ap (λ ws. plain (codes "(") ∷ ws ++ plain (codes ")") ∷ []) (tree_writes_bare t)
+  tree_writes_bare (adjacent t) = tree_writes_bare t
+  tree_writes_bare (item l) = leaf_writes_bare l
+  tree_writes_bare (many t) = ap (λ ws. ws ++ plain (codes "...") ∷ []) (tree_writes_bare t)
+  tree_writes_bare (subsection t d) = tree_writes_bare t
+  tree_writes_bare (suffix t d) = tree_writes_bare t
+  tree_writes_bare skip = refl
+  tree_writes_bare (custom_usage t d) = refl
+  tree_writes_bare (strict t) = ap (λ ws. literal (codes "--") ∷ plain (codes " ") ∷ ws) (tree_writes_bare t)
+
+  part_writes_bare : (ts : Trees) → part_writes (each_bare ts) ≡ part_writes ts
+  part_writes_bare no_trees = refl
+  part_writes_bare (tree t ts) = ap (λ ws. ws ∷ part_writes (each_bare ts)) (tree_writes_bare t) ∙ ap (λ wss. tree_writes t ∷ wss) (part_writes_bare ts)
+
+pub usage_bare : (u : Bool) (t : Tree) → usage_writes u (bare t) ≡ usage_writes u t
+usage_bare u t = ap (inside block.Mono) (ap tree_writes (normalized_bare u t) ∙ tree_writes_bare (normalized u t))
+
+-- two trees that are the same without them
+pub usage_same : (u : Bool) (t v : Tree) → bare t ≡ bare v → usage_writes u t ≡ usage_writes u v
+usage_same u t v e = sym (usage_bare u t) ∙ ap (usage_writes u) e ∙ usage_bare u v
