@@ -1,9 +1,10 @@
 -- Start tags with or without an attribute.
-use Rattle.std.proofs.Common.{◌≡◌, ℕ, Bool, true, false, not, ◌&&◌, ◌||◌, List, [], ◌++◌, refl}
+use Rattle.std.proofs.Common.{◌≡◌, ℕ, Bool, true, false, not, ◌&&◌, ◌||◌, List, [], ◌++◌, refl, ◌∙◌}
 use Rattle.std.specs.Prelude.{codes}
 use Rattle.std.specs.List.{list_all}
 use Rattle.std.specs.Str.{IsUtf8}
 use Rattle.std.proofs.lemmas.Bool.{and_parts}
+use Rattle.std.proofs.lemmas.Str.{IsUtf8-append}
 use Rattle.web_page.specs.Tree.{Attribute, is_tag, name_of}
 use Rattle.web_page.specs.Reader.{are_attributes, is_kept, is_void}
 use Rattle.web_page.specs.Models.{fits_attributes}
@@ -12,12 +13,12 @@ use Rattle.web_page.specs.Exact.{attributes_text, escaped, start_text, tag_end}
 use Rattle.web_page.specs.Steps.Open.{attributes_of, is_inner, may_give}
 use Rattle.web_page.proofs.Held.{IsStart}
 use Rattle.web_page.proofs.Readings.{each_tag, id_attribute, no_attributes, target_attribute}
-use Rattle.web_page.proofs.Texts.{IsClean, clean-append, clean-ascii, clean-escaped, clean-nil, is_ascii_byte, kept_text}
+use Rattle.web_page.proofs.Texts.{IsClean, clean-append, clean-ascii, clean-escaped, clean-nil, hash_utf8, is_ascii_byte, kept_text, written_behind_hash}
 use Rattle.web_page.specs.declared.elements.Element.{Element}
 use Rattle.web_page.specs.declared.elements.Tag.{Tag}
 use Rattle.web_page.specs.declared.elements.Tag.TheVariants.{Style, Of}
 use Rattle.web_page.specs.declared.output.Key.{Key}
-use Rattle.web_page.specs.declared.output.Key.TheVariants.{Nothing, Id, Target}
+use Rattle.web_page.specs.declared.output.Key.TheVariants.{Nothing, Id, Target, Place}
 
 or_not : (a b : Bool) → (not a || not b) ≡ true → a ≡ true → b ≡ false
 or_not true true h e = cc
@@ -62,6 +63,13 @@ start_is tag Target value u may =
     let both = and_parts (is_inner tag && fits_attributes tag (attribute (codes "href") value)) (are_written value) may in
     let parts = and_parts (is_inner tag) (fits_attributes tag (attribute (codes "href") value)) both.0 in
     record { fits = parts.1; distinct = lone (codes "href") value u both.1; ends = not_void tag parts.0; not_style = no_style tag parts.0; read = target_attribute value; clean = clean_tag tag (attribute (codes "href") value) (clean_attribute (codes "href") value refl u both.1) }
+start_is tag Place value u may =
+    let target = codes "#" ++ value in
+    let both = and_parts (is_inner tag && fits_attributes tag (attribute (codes "href") target)) (are_written value) may in
+    let parts = and_parts (is_inner tag) (fits_attributes tag (attribute (codes "href") target)) both.0 in
+    let utf8 : IsUtf8 target = IsUtf8-append (codes "#") value hash_utf8 u in
+    let written : are_written target ≡ true = written_behind_hash value ∙ both.1 in
+    record { fits = parts.1; distinct = lone (codes "href") target utf8 written; ends = not_void tag parts.0; not_style = no_style tag parts.0; read = target_attribute target; clean = clean_tag tag (attribute (codes "href") target) (clean_attribute (codes "href") target refl utf8 written) }
 
 -- an element of the body may stand without an attribute
 of_body : Tag → Bool

@@ -143,6 +143,17 @@ characters_of (b ∷ bytes) h =
 pub written_bytes : (bytes : List ℕ) → list_all is_written_byte bytes ≡ true → are_written bytes ≡ true
 written_bytes bytes h = ap (list_all is_written) (chars-IsAscii bytes (ascii bytes (ascii_of bytes h))) ∙ characters_of bytes h
 
+-- a hash before a text
+one_hash : chars (codes "#") ≡ 35 ∷ []
+unfolding chars
+one_hash = refl
+
+pub hash_utf8 : IsUtf8 (codes "#")
+hash_utf8 = (clean-ascii (codes "#") refl).utf8
+
+pub written_behind_hash : (bytes : List ℕ) → are_written (codes "#" ++ bytes) ≡ are_written bytes
+written_behind_hash bytes = ap (list_all is_written) (chars-append (codes "#") bytes hash_utf8 ∙ ap (λ cs. cs ++ chars bytes) one_hash)
+
 pub clean-escaped : (v : Bool) (bytes : List ℕ) → IsUtf8 bytes → are_written bytes ≡ true → IsClean (escaped v bytes)
 clean-escaped v bytes u w = subst (λ x. IsClean (escaped v x)) u.1.1 (clean_characters v u.0 u.1.0 (written_characters bytes u w))
 

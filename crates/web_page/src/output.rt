@@ -85,6 +85,8 @@ pub enum Key {
     Nothing,
     Id,
     Target,
+    /// A target that is the element of an id.
+    Place,
 }
 
 // The end of a start tag. A newline directly behind that of a pre is none of its text, and so one is always there.
@@ -119,6 +121,7 @@ pub fn write_start<A: Allocator>(
         ),
         Key::Id => " id=\"",
         Key::Target => " href=\"",
+        Key::Place => " href=\"#",
     };
     write(
         out,

@@ -376,6 +376,23 @@ impl<A: Allocator> Page<A> {
         self.start_tag(Tag::A, Key::Target, target)
     }
 
+    /// Starts a link to the element of this id on the page: its target is `#` and the id.
+    ///
+    /// `Character` comes where the id has a character that no reader gives back, and else the errors of `start`, as of
+    /// `start_link`. After an error the page is as before.
+    #[tactic(auto, using(crate::proofs::Texts::written_behind_hash))]
+    pub fn start_link_to_id(&mut self, id: &str) -> Result<(), PageError>
+        ensures ok { OnOk result (self.new
+            ≡ with_start self.old Tag.A (attribute (codes "href") (codes "#" ++ id.now))) }
+        ensures err { OnErr result (self.new ≡ self.old) }
+        ensures fails { FailsOnlyBy (link_fault self.old (codes "#" ++ id.now)) result }
+    {
+        if !are_written(id) {
+            return Err(PageError::Character);
+        }
+        self.start_tag(Tag::A, Key::Place, id)
+    }
+
     /// Adds a text to the innermost open element. It joins a text before it. An empty one adds nothing, and may stand
     /// where a text may.
     ///

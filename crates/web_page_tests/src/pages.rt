@@ -1,5 +1,5 @@
 //! Rows: what the body's content is written as, and which fault a call has.
-use crate::steps::Step::{End, LineBreak, Start, StartLink, StartWithId, Text};
+use crate::steps::Step::{End, LineBreak, Start, StartLink, StartLinkToId, StartWithId, Text};
 use crate::steps::{END, FRONT, Step, apply, new};
 use std::alloc::Global;
 use std::process::Abort;
@@ -9,7 +9,7 @@ use web_page::Element::{
 };
 use web_page::{Level, Page, PageError};
 
-const ROWS: [(&[Step], &str); 7] = [
+const ROWS: [(&[Step], &str); 8] = [
     (&[Start(Main), End], "<main></main>"),
     (
         &[
@@ -105,10 +105,22 @@ const ROWS: [(&[Step], &str); 7] = [
         ],
         "<main><p><em>a<br>b</em></p></main>",
     ),
+    (
+        &[
+            Start(Main),
+            Start(P),
+            StartLinkToId("a:b&\"é"),
+            Text("c"),
+            End,
+            End,
+            End,
+        ],
+        "<main><p><a href=\"#a:b&amp;&quot;é\">c</a></p></main>",
+    ),
 ];
 
 // Calls, and one behind them that has the fault.
-const FAULTS: [(&[Step], Step, PageError); 17] = [
+const FAULTS: [(&[Step], Step, PageError); 19] = [
     (&[], Text("a"), PageError::Misplaced),
     (&[Start(Header), End], Start(Header), PageError::Misplaced),
     (&[Start(Main), Start(P)], Start(P), PageError::Misplaced),
@@ -151,6 +163,12 @@ const FAULTS: [(&[Step], Step, PageError); 17] = [
         StartLink("\u{fffe}"),
         PageError::Character,
     ),
+    (
+        &[Start(Main), Start(P)],
+        StartLinkToId("a\u{7f}"),
+        PageError::Character,
+    ),
+    (&[Start(Main)], StartLinkToId("a"), PageError::Misplaced),
     (
         &[Start(Main)],
         StartWithId(Section, "\u{85}"),

@@ -1,7 +1,7 @@
 //! Each growth refused in turn. A page is written in an arena, with a text of some length, and then all that is
 //! left of the arena is taken. Where the next call is refused, it is made again with the arena's room back, and the
 //! page is then that of ample memory: so the refused call had left nothing.
-use crate::steps::Step::{End, LineBreak, Start, StartLink, StartWithId, Text};
+use crate::steps::Step::{End, LineBreak, Start, StartLink, StartLinkToId, StartWithId, Text};
 use crate::steps::{Step, apply, new};
 use bumpalo::Bump;
 use std::alloc::{AllocError, Allocator};
@@ -23,7 +23,7 @@ struct Row {
     behind: &'static [Step],
 }
 
-const ROWS: [Row; 6] = [
+const ROWS: [Row; 7] = [
     Row {
         before: &[],
         call: Text("b & c"),
@@ -42,6 +42,11 @@ const ROWS: [Row; 6] = [
     Row {
         before: &[],
         call: StartLink("#\"b\""),
+        behind: &[End, End, End],
+    },
+    Row {
+        before: &[],
+        call: StartLinkToId("\"b\""),
         behind: &[End, End, End],
     },
     Row {

@@ -19,13 +19,8 @@ pub fn put_text_in<B: Allocator>(
 }
 
 /// Starts a link to the element of an id.
-pub fn start_link<B: Allocator + Copy>(
-    alloc: B,
-    page: &mut Page<B>,
-    id: &str,
-) -> Result<(), PageError>
+pub fn start_link<B: Allocator>(page: &mut Page<B>, id: &str) -> Result<(), PageError>
     ensures { OnOk result (page.new ≡ with_events page.old (link_start id.now ∷ [])) }
 {
-    let target = format!(in alloc; "#{id}")?;
-    page.start_link(&target)
+    page.start_link_to_id(id)
 }

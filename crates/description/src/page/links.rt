@@ -29,7 +29,7 @@ pub fn put_link<B: Allocator + Copy>(
     ensures { OnOk result (page.new ≡ with_events page.old (link_to (map string_bytes path.now) name.now)) }
 {
     let id = section_id(alloc, path)?;
-    start_link(alloc, page, &id)?;
+    start_link(page, &id)?;
     page.text(name)?;
     page.end()
 }

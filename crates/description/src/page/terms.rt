@@ -144,7 +144,7 @@ fn put_command_term<A: Allocator, B: Allocator + Copy>(
 {
     let id = section_id_below(alloc, path, command.name)?;
     page.start(Element::Dt)?;
-    start_link(alloc, page, &id)?;
+    start_link(page, &id)?;
     put_text_in(page, Element::Code, command.name)?;
     put_initial(page, command.short)?;
     end_term(page)
@@ -163,7 +163,7 @@ fn start_term<A: Allocator, B: Allocator + Copy>(
 {
     let id = entry_id(alloc, path, word, before.count(word))?;
     page.start_with_id(Element::Dt, &id)?;
-    start_link(alloc, page, &id)
+    start_link(page, &id)
 }
 
 fn end_term<B: Allocator>(page: &mut Page<B>) -> Result<(), PageError>

@@ -1,6 +1,6 @@
 -- What the code keeps of a page: of each open element its tag, the node that is last in it, whether it has ink, and
 -- whether it is in a link.
-use Rattle.std.specs.Prelude.{◌≡◌, ℕ, Bool, true, false, not, ◌||◌, List, [], ◌∷◌, Option, Some, None, Result, Ok, Err, unwrap_or, ◌&&◌, codes}
+use Rattle.std.specs.Prelude.{◌≡◌, ℕ, Bool, true, false, not, ◌||◌, List, [], ◌∷◌, ◌++◌, Option, Some, None, Result, Ok, Err, unwrap_or, ◌&&◌, codes}
 use Rattle.std.specs.List.{list_any, list_all}
 use Rattle.std.specs.Str.{chars}
 use Rattle.web_page.specs.Tree.{Attribute, Nodes, is_tag}
@@ -12,7 +12,7 @@ use Rattle.web_page.specs.declared.elements.Tag.{Tag}
 use Rattle.web_page.specs.declared.elements.Tag.TheVariants.{A, Of}
 use Rattle.web_page.specs.declared.errors.PageError.{PageError}
 use Rattle.web_page.specs.declared.output.Key.{Key}
-use Rattle.web_page.specs.declared.output.Key.TheVariants.{Nothing, Id, Target}
+use Rattle.web_page.specs.declared.output.Key.TheVariants.{Nothing, Id, Target, Place}
 use Rattle.web_page.specs.declared.writer.Open.{Open}
 
 -- what is kept of the innermost open element, the frames around it, and the nodes so far in it
@@ -80,6 +80,7 @@ abbrev pub attributes_of : Key → List ℕ → List Attribute
 attributes_of Nothing value = []
 attributes_of Id value = attribute (codes "id") value
 attributes_of Target value = attribute (codes "href") value
+attributes_of Place value = attribute (codes "href") (codes "#" ++ value)
 
 -- an element that calls start
 abbrev pub is_inner : Tag → Bool
@@ -92,6 +93,7 @@ abbrev pub may_give : Tag → Key → List ℕ → Bool
 may_give tag Nothing value = is_inner tag && fits_attributes tag []
 may_give tag Id value = is_inner tag && fits_attributes tag (attribute (codes "id") value) && are_written value
 may_give tag Target value = is_inner tag && fits_attributes tag (attribute (codes "href") value) && are_written value
+may_give tag Place value = is_inner tag && fits_attributes tag (attribute (codes "href") (codes "#" ++ value)) && are_written value
 
 -- no fault is Ok
 abbrev pub checked : Option PageError → Result (Unit {0}) PageError
