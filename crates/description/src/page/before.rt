@@ -1,6 +1,6 @@
 //! What a section has before an entry.
-ghost use Rattle.std.specs.Prelude.{◌≡◌, ◌+◌, ◌<◌, ◌^◌, ◌++◌, ◌∷◌, [], ℕ, List, IfOk, OnErr, OnOk, count_by, map, string_bytes};
-ghost use Rattle.std.specs.Prelude.{bytes_eq, if◌then◌else◌};
+ghost use Rattle.std.specs.Prelude.{◌≡◌, ◌+◌, ◌<◌, ◌^◌, ◌++◌, ◌∷◌, [], ℕ, List, IfOk, OnErr, OnOk, count_by, map};
+ghost use Rattle.std.specs.Prelude.{bytes_eq, if◌then◌else◌, string_bytes};
 ghost use Rattle.std.specs.HashMap.{IsUnchanged};
 ghost use Rattle.description.specs.WebPages.Entries.{has_word};
 ghost use Rattle.description.specs.WebPages.Steps.Counts.{Counts, count_of};
