@@ -35,15 +35,11 @@ same_tests false false f g = refl
 
 start_is : (part : Part) → is_section4_start part ≡ true → part ≡ Start blocks.Section4
 start_is (Start blocks.Section4) h = refl
-start_is (Start b) h = absurd cc
-start_is (Text bytes style) h = absurd cc
-start_is (End b) h = absurd cc
+start_is _ h = absurd cc
 
 end_is : (part : Part) → is_section4_end part ≡ true → part ≡ End blocks.Section4
 end_is (End blocks.Section4) h = refl
-end_is (End b) h = absurd cc
-end_is (Text bytes style) h = absurd cc
-end_is (Start b) h = absurd cc
+end_is _ h = absurd cc
 
 -- ---- a part by its place
 
@@ -147,14 +143,7 @@ end_there document i j part e here =
 -- two places are an empty Block
 empty_block-at : (parts : List Part) → has_empty_block parts ≡ true → (slice_get parts 0 ≡ Some (Start blocks.Block)) × (slice_get parts 1 ≡ Some (End blocks.Block))
 empty_block-at (Start blocks.Block ∷ End blocks.Block ∷ rest) h = (refl, refl)
-empty_block-at (Start blocks.Block ∷ End b ∷ rest) h = absurd cc
-empty_block-at (Start blocks.Block ∷ Start b ∷ rest) h = absurd cc
-empty_block-at (Start blocks.Block ∷ Text bytes style ∷ rest) h = absurd cc
-empty_block-at (Start blocks.Block ∷ []) h = absurd cc
-empty_block-at (Start b ∷ rest) h = absurd cc
-empty_block-at (End b ∷ rest) h = absurd cc
-empty_block-at (Text bytes style ∷ rest) h = absurd cc
-empty_block-at [] h = absurd cc
+empty_block-at _ h = absurd cc
 
 empty_block-from : (parts : List Part) → slice_get parts 0 ≡ Some (Start blocks.Block) → slice_get parts 1 ≡ Some (End blocks.Block) → has_empty_block parts ≡ true
 empty_block-from [] h i = absurd cc

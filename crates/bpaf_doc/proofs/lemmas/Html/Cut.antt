@@ -71,21 +71,15 @@ end-spelled p _ = refl
 
 step-spelled : (p : Written) (f : Fragment) → (page_after p f).bytes ≡ p.bytes ++ spelled (snippets_of p f)
 step-spelled p (TextStart styles.Text) = refl
-step-spelled p (TextStart styles.Emphasis) = refl
-step-spelled p (TextStart styles.Literal) = refl
-step-spelled p (TextStart styles.Metavar) = refl
-step-spelled p (TextStart styles.Invalid) = refl
 step-spelled p (Shown style (Raw bytes weight)) = ap (λ x. p.bytes ++ x) (sym (append-nil (fragment_text (Shown style (Raw bytes weight)))))
 step-spelled p (Shown style Paragraph) = refl
 step-spelled p (Shown style LineBreak) = refl
 step-spelled p (TextEnd styles.Text) = refl
-step-spelled p (TextEnd styles.Emphasis) = refl
-step-spelled p (TextEnd styles.Literal) = refl
-step-spelled p (TextEnd styles.Metavar) = refl
-step-spelled p (TextEnd styles.Invalid) = refl
 step-spelled p Hidden = sym (append-nil p.bytes)
 step-spelled p (Start b) = start-spelled p b
 step-spelled p (End b) = end-spelled p b
+step-spelled p (TextStart _) = refl
+step-spelled p (TextEnd _) = refl
 
 pub page-spelled : (p : Written) (fs : List Fragment) → (page_after_all p fs).bytes ≡ p.bytes ++ spelled (cut_from p fs)
 page-spelled p [] = sym (append-nil p.bytes)
@@ -115,18 +109,10 @@ fragments-append (Of f ∷ xs) ys = ap (λ fs. f ∷ fs) (fragments-append xs ys
 
 step-fragments : (p : Written) (f : Fragment) → fragments_in (snippets_of p f) ≡ f ∷ []
 step-fragments p (TextStart styles.Text) = refl
-step-fragments p (TextStart styles.Emphasis) = refl
-step-fragments p (TextStart styles.Literal) = refl
-step-fragments p (TextStart styles.Metavar) = refl
-step-fragments p (TextStart styles.Invalid) = refl
 step-fragments p (Shown style (Raw bytes weight)) = refl
 step-fragments p (Shown style Paragraph) = refl
 step-fragments p (Shown style LineBreak) = refl
 step-fragments p (TextEnd styles.Text) = refl
-step-fragments p (TextEnd styles.Emphasis) = refl
-step-fragments p (TextEnd styles.Literal) = refl
-step-fragments p (TextEnd styles.Metavar) = refl
-step-fragments p (TextEnd styles.Invalid) = refl
 step-fragments p Hidden = refl
 step-fragments p (Start blocks.Header) = elim (p.fresh) as (λ f. fragments_in (start_snippets f p.in_list blocks.Header) ≡ Start blocks.Header ∷ []) [ true ↦ refl | false ↦ refl ]
 step-fragments p (Start blocks.ItemBody) = elim (p.in_list) as (λ l. fragments_in (start_snippets p.fresh l blocks.ItemBody) ≡ Start blocks.ItemBody ∷ []) [ true ↦ refl | false ↦ refl ]
@@ -134,6 +120,8 @@ step-fragments p (Start _) = refl
 step-fragments p (End blocks.Header) = elim (p.fresh) as (λ f. fragments_in (end_snippets f (first_or_false p.outer) blocks.Header) ≡ End blocks.Header ∷ []) [ true ↦ refl | false ↦ refl ]
 step-fragments p (End blocks.ItemBody) = elim (first_or_false p.outer) as (λ l. fragments_in (end_snippets p.fresh l blocks.ItemBody) ≡ End blocks.ItemBody ∷ []) [ true ↦ refl | false ↦ refl ]
 step-fragments p (End _) = refl
+step-fragments p (TextStart _) = refl
+step-fragments p (TextEnd _) = refl
 
 pub cut-fragments : (p : Written) (fs : List Fragment) → fragments_in (cut_from p fs) ≡ fs
 cut-fragments p [] = refl
@@ -144,18 +132,10 @@ cut-fragments p (f ∷ fs) =
 
 step-styles : (p : Written) (f : Fragment) → filter is_style_tag_or_fragment (snippets_of p f) ≡ styled_snippets f
 step-styles p (TextStart styles.Text) = refl
-step-styles p (TextStart styles.Emphasis) = refl
-step-styles p (TextStart styles.Literal) = refl
-step-styles p (TextStart styles.Metavar) = refl
-step-styles p (TextStart styles.Invalid) = refl
 step-styles p (Shown style (Raw bytes weight)) = refl
 step-styles p (Shown style Paragraph) = refl
 step-styles p (Shown style LineBreak) = refl
 step-styles p (TextEnd styles.Text) = refl
-step-styles p (TextEnd styles.Emphasis) = refl
-step-styles p (TextEnd styles.Literal) = refl
-step-styles p (TextEnd styles.Metavar) = refl
-step-styles p (TextEnd styles.Invalid) = refl
 step-styles p Hidden = refl
 step-styles p (Start blocks.Header) = elim (p.fresh) as (λ f. filter is_style_tag_or_fragment (start_snippets f p.in_list blocks.Header) ≡ Of (Start blocks.Header) ∷ []) [ true ↦ refl | false ↦ refl ]
 step-styles p (Start blocks.ItemBody) = elim (p.in_list) as (λ l. filter is_style_tag_or_fragment (start_snippets p.fresh l blocks.ItemBody) ≡ Of (Start blocks.ItemBody) ∷ []) [ true ↦ refl | false ↦ refl ]
@@ -163,6 +143,8 @@ step-styles p (Start _) = refl
 step-styles p (End blocks.Header) = elim (p.fresh) as (λ f. filter is_style_tag_or_fragment (end_snippets f (first_or_false p.outer) blocks.Header) ≡ Of (End blocks.Header) ∷ []) [ true ↦ refl | false ↦ refl ]
 step-styles p (End blocks.ItemBody) = elim (first_or_false p.outer) as (λ l. filter is_style_tag_or_fragment (end_snippets p.fresh l blocks.ItemBody) ≡ Of (End blocks.ItemBody) ∷ []) [ true ↦ refl | false ↦ refl ]
 step-styles p (End _) = refl
+step-styles p (TextStart _) = refl
+step-styles p (TextEnd _) = refl
 
 pub cut-styles : (p : Written) (fs : List Fragment) → filter is_style_tag_or_fragment (cut_from p fs) ≡ flat_map styled_snippets fs
 cut-styles p [] = refl

@@ -84,17 +84,11 @@ end_is_other _ in_list = inl refl
 
 opening_is_other : (style : Style) → IsOther (opening_tags style)
 opening_is_other styles.Text = inl refl
-opening_is_other styles.Emphasis = line_is_other _ refl
-opening_is_other styles.Literal = line_is_other _ refl
-opening_is_other styles.Metavar = line_is_other _ refl
-opening_is_other styles.Invalid = line_is_other _ refl
+opening_is_other _ = line_is_other _ refl
 
 closing_is_other : (style : Style) → IsOther (closing_tags style)
 closing_is_other styles.Text = inl refl
-closing_is_other styles.Emphasis = line_is_other _ refl
-closing_is_other styles.Literal = line_is_other _ refl
-closing_is_other styles.Metavar = line_is_other _ refl
-closing_is_other styles.Invalid = line_is_other _ refl
+closing_is_other _ = line_is_other _ refl
 
 character_line : (b : ℕ) → is_line_byte b ≡ true → list_all is_line_byte (escaped_character b) ≡ true
 character_line b h =

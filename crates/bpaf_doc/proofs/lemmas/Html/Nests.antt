@@ -96,17 +96,11 @@ tags-append xs ys = filter-append is_block_tag_or_fragment xs ys
 
 text_start_tags : (p : Written) (style : Style) → tags_of (snippets_of p (TextStart style)) ≡ Of (TextStart style) ∷ []
 text_start_tags p styles.Text = refl
-text_start_tags p styles.Emphasis = refl
-text_start_tags p styles.Literal = refl
-text_start_tags p styles.Metavar = refl
-text_start_tags p styles.Invalid = refl
+text_start_tags p _ = refl
 
 text_end_tags : (p : Written) (style : Style) → tags_of (snippets_of p (TextEnd style)) ≡ Of (TextEnd style) ∷ []
 text_end_tags p styles.Text = refl
-text_end_tags p styles.Emphasis = refl
-text_end_tags p styles.Literal = refl
-text_end_tags p styles.Metavar = refl
-text_end_tags p styles.Invalid = refl
+text_end_tags p _ = refl
 
 chunk_tags : (p : Written) (style : Style) (chunk : Chunk) → tags_of (snippets_of p (Shown style chunk)) ≡ Of (Shown style chunk) ∷ []
 chunk_tags p style (Raw bytes weight) = refl

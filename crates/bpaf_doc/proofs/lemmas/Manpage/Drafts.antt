@@ -40,10 +40,7 @@ end_same before _ = refl
 
 text_same : (how : Style) (strip : Bool) (bytes : List ℕ) → flat_map pieces_of (control_calls (style_name how) ++ TextCall strip (font_of how) bytes ∷ []) ≡ style_pieces how ++ text_pieces strip ((font_of how, bytes) ∷ [])
 text_same style.Text strip bytes = refl
-text_same style.Emphasis strip bytes = refl
-text_same style.Literal strip bytes = refl
-text_same style.Metavar strip bytes = refl
-text_same style.Invalid strip bytes = refl
+text_same _ strip bytes = refl
 
 -- ---- one part more
 

@@ -211,19 +211,12 @@ all_followed (Put mark ∷ ss) = all_followed ss
 all_followed (Of f ∷ ss) = is_followed f ss && all_followed ss
 
 line_stays : (xs ys : List MarkdownSnippet) → begins_line xs ≡ true → begins_line (xs ++ ys) ≡ true
-line_stays [] ys h = absurd (false≢true h)
 line_stays (Put Newline ∷ xs) ys h = refl
-line_stays (Put _ ∷ xs) ys h = absurd (false≢true h)
-line_stays (Of f ∷ xs) ys h = absurd (false≢true h)
+line_stays _ ys h = absurd (false≢true h)
 
 two_stay : (xs ys : List MarkdownSnippet) → begins_two xs ≡ true → begins_two (xs ++ ys) ≡ true
-two_stay [] ys h = absurd (false≢true h)
-two_stay (Put Newline ∷ []) ys h = absurd (false≢true h)
 two_stay (Put Newline ∷ Put Newline ∷ xs) ys h = refl
-two_stay (Put Newline ∷ Put _ ∷ xs) ys h = absurd (false≢true h)
-two_stay (Put Newline ∷ Of f ∷ xs) ys h = absurd (false≢true h)
-two_stay (Put _ ∷ xs) ys h = absurd (false≢true h)
-two_stay (Of f ∷ xs) ys h = absurd (false≢true h)
+two_stay _ ys h = absurd (false≢true h)
 
 or_stays : (a b c : Bool) → (b ≡ true → c ≡ true) → (a || b) ≡ true → (a || c) ≡ true
 or_stays true b c i h = refl
@@ -310,19 +303,12 @@ cut_followed p (f ∷ fs) =
 
 -- two newlines that follow stand before the next fragment
 two_inside : (between after : List MarkdownSnippet) (b : Fragment) → begins_two (between ++ Of b ∷ after) ≡ true → (back : List MarkdownSnippet) × (between ≡ Put Newline ∷ Put Newline ∷ back)
-two_inside [] after b h = absurd (false≢true h)
-two_inside (Put Newline ∷ []) after b h = absurd (false≢true h)
 two_inside (Put Newline ∷ Put Newline ∷ between) after b h = (between, refl)
-two_inside (Put Newline ∷ Put _ ∷ between) after b h = absurd (false≢true h)
-two_inside (Put Newline ∷ Of f ∷ between) after b h = absurd (false≢true h)
-two_inside (Put _ ∷ between) after b h = absurd (false≢true h)
-two_inside (Of f ∷ between) after b h = absurd (false≢true h)
+two_inside _ after b h = absurd (false≢true h)
 
 line_inside : (between after : List MarkdownSnippet) (b : Fragment) → begins_line (between ++ Of b ∷ after) ≡ true → list_any is_newline between ≡ true
-line_inside [] after b h = absurd (false≢true h)
 line_inside (Put Newline ∷ between) after b h = refl
-line_inside (Put _ ∷ between) after b h = absurd (false≢true h)
-line_inside (Of f ∷ between) after b h = absurd (false≢true h)
+line_inside _ after b h = absurd (false≢true h)
 
 then_true : (a b : Bool) → (not a || b) ≡ true → a ≡ true → b ≡ true
 then_true true b h e = h
@@ -369,10 +355,8 @@ line_breaks_of p fs before between after a b e any =
 
 -- after a whole line comes a newline
 newline_first : (ss : List MarkdownSnippet) → begins_line ss ≡ true → (rest : List MarkdownSnippet) × (ss ≡ Put Newline ∷ rest)
-newline_first [] h = absurd (false≢true h)
 newline_first (Put Newline ∷ ss) h = (ss, refl)
-newline_first (Put _ ∷ ss) h = absurd (false≢true h)
-newline_first (Of f ∷ ss) h = absurd (false≢true h)
+newline_first _ h = absurd (false≢true h)
 
 pub newline_after : (p : Marked) (fs : List Fragment) (before after : List MarkdownSnippet) (a : Fragment) → cut_from p fs ≡ before ++ Of a ∷ after → IsTrue (shows is_whole_line a)
     → (rest : List MarkdownSnippet) × (after ≡ Put Newline ∷ rest)

@@ -439,10 +439,6 @@ text_end-spelled before p style =
 
 own-spelled : (before : List Fragment) (p : Marked) (f : Fragment) → SameMono before p → (own_after p f).bytes ≡ p.bytes ++ spelled before (own_snippets p f)
 own-spelled before p (TextStart styles.Text) mono = refl
-own-spelled before p (TextStart styles.Emphasis) mono = refl
-own-spelled before p (TextStart styles.Literal) mono = refl
-own-spelled before p (TextStart styles.Metavar) mono = refl
-own-spelled before p (TextStart styles.Invalid) mono = refl
 own-spelled before p (Shown style (Raw bytes weight)) mono = raw-spelled before p style bytes weight mono
 own-spelled before p (Shown style Paragraph) mono = elim (p.in_list) as (λ l. p.bytes ++ (if l then codes "\n\n  " else codes "\n\n") ≡ p.bytes ++ spelled before (Of (Shown style Paragraph) ∷ Put Newline ∷ Put Newline ∷ (if l then blanks else []))) [ true ↦ refl | false ↦ refl ]
 own-spelled before p (Shown style LineBreak) mono = refl
@@ -450,6 +446,7 @@ own-spelled before p (TextEnd style) mono = text_end-spelled before p style
 own-spelled before p Hidden mono = sym (append-nil p.bytes)
 own-spelled before p (Start b) mono = start-spelled before p b
 own-spelled before p (End b) mono = end-spelled before p b
+own-spelled before p (TextStart _) mono = refl
 
 pub item-spelled : (before : List Fragment) (p : Marked) (empty : Bool) → (with_item p empty).bytes ≡ p.bytes ++ spelled before (item_snippets p.pending empty)
 item-spelled before p empty = elim (p.pending) as (λ b. (if b then record p { bytes = p.bytes ++ (if empty then codes "  " else codes "- "); pending = false; empty_item = empty } else p).bytes ≡ p.bytes ++ spelled before (item_snippets b empty)) [

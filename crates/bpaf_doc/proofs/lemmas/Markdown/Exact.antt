@@ -45,14 +45,8 @@ raw_decides style bytes weight back = by (weight == code_weight) (weight == fenc
         ∙ sym (ap (λ x. next (begins_with_code_line (filter decides_code back)) (weight == code_weight) x) f ∙ ap (λ x. next (begins_with_code_line (filter decides_code back)) x false) c)
 
 code_decides : (f : Fragment) (back : List Fragment) → begins_with_code_line (filter decides_code (f ∷ back)) ≡ code_next (begins_with_code_line (filter decides_code back)) f
-code_decides (TextStart style) back = refl
 code_decides (Shown style (Raw bytes weight)) back = raw_decides style bytes weight back
-code_decides (Shown style Paragraph) back = refl
-code_decides (Shown style LineBreak) back = refl
-code_decides (TextEnd style) back = refl
-code_decides Hidden back = refl
-code_decides (Start b) back = refl
-code_decides (End b) back = refl
+code_decides _ back = refl
 
 code_push : (before : List Fragment) (f : Fragment) → is_in_code (before ++ f ∷ []) ≡ code_next (is_in_code before) f
 code_push before f = ap (λ fs. begins_with_code_line (filter decides_code fs)) (reverse-append before (f ∷ [])) ∙ code_decides f (reverse before)

@@ -19,10 +19,6 @@ own_heading p f = []
 
 pub own-fragments : (p : Marked) (f : Fragment) → fragments_in (own_snippets p f) ≡ f ∷ []
 own-fragments p (TextStart styles.Text) = refl
-own-fragments p (TextStart styles.Emphasis) = refl
-own-fragments p (TextStart styles.Literal) = refl
-own-fragments p (TextStart styles.Metavar) = refl
-own-fragments p (TextStart styles.Invalid) = refl
 own-fragments p (Shown style (Raw bytes weight)) =
     elim (weight == fence_weight) as (λ t. fragments_in (if t then new_line_snippets p.bytes ++ line_snippets (Shown style (Raw bytes weight)) else (if weight == code_weight then open_snippets p.in_code ++ line_snippets (Shown style (Raw bytes weight)) else (close_snippets p.in_code ++ Of (Shown style (Raw bytes weight)) ∷ []))) ≡ (Shown style (Raw bytes weight)) ∷ []) [
       | true ↦ elim (starts_line p.bytes) as (λ b. fragments_in ((if b then [] else (Put Newline ∷ [])) ++ line_snippets (Shown style (Raw bytes weight))) ≡ (Shown style (Raw bytes weight)) ∷ []) [ true ↦ refl | false ↦ refl ]
@@ -60,13 +56,10 @@ own-fragments p (Start blocks.ItemBody) =
 own-fragments p (Start _) = refl
 own-fragments p (End blocks.ItemBody) = elim (p.in_list) as (λ l. fragments_in (Of (End blocks.ItemBody) ∷ (if l then (Put Newline ∷ []) else [])) ≡ (End blocks.ItemBody) ∷ []) [ true ↦ refl | false ↦ refl ]
 own-fragments p (End _) = refl
+own-fragments p (TextStart _) = refl
 
 own-styles : (p : Marked) (f : Fragment) → filter is_style_mark_or_fragment (own_snippets p f) ≡ styled_snippets f
 own-styles p (TextStart styles.Text) = refl
-own-styles p (TextStart styles.Emphasis) = refl
-own-styles p (TextStart styles.Literal) = refl
-own-styles p (TextStart styles.Metavar) = refl
-own-styles p (TextStart styles.Invalid) = refl
 own-styles p (Shown style (Raw bytes weight)) =
     elim (weight == fence_weight) as (λ t. filter is_style_mark_or_fragment (if t then new_line_snippets p.bytes ++ line_snippets (Shown style (Raw bytes weight)) else (if weight == code_weight then open_snippets p.in_code ++ line_snippets (Shown style (Raw bytes weight)) else (close_snippets p.in_code ++ Of (Shown style (Raw bytes weight)) ∷ []))) ≡ styled_snippets (Shown style (Raw bytes weight))) [
       | true ↦ elim (starts_line p.bytes) as (λ b. filter is_style_mark_or_fragment ((if b then [] else (Put Newline ∷ [])) ++ line_snippets (Shown style (Raw bytes weight))) ≡ styled_snippets (Shown style (Raw bytes weight))) [ true ↦ refl | false ↦ refl ]
@@ -104,13 +97,10 @@ own-styles p (Start blocks.ItemBody) =
 own-styles p (Start _) = refl
 own-styles p (End blocks.ItemBody) = elim (p.in_list) as (λ l. filter is_style_mark_or_fragment (Of (End blocks.ItemBody) ∷ (if l then (Put Newline ∷ []) else [])) ≡ styled_snippets (End blocks.ItemBody)) [ true ↦ refl | false ↦ refl ]
 own-styles p (End _) = refl
+own-styles p (TextStart _) = refl
 
 own-headings : (p : Marked) (f : Fragment) → filter is_heading_or_fragment (own_snippets p f) ≡ Of f ∷ map Put (own_heading p f)
 own-headings p (TextStart styles.Text) = refl
-own-headings p (TextStart styles.Emphasis) = refl
-own-headings p (TextStart styles.Literal) = refl
-own-headings p (TextStart styles.Metavar) = refl
-own-headings p (TextStart styles.Invalid) = refl
 own-headings p (Shown style (Raw bytes weight)) =
     elim (weight == fence_weight) as (λ t. filter is_heading_or_fragment (if t then new_line_snippets p.bytes ++ line_snippets (Shown style (Raw bytes weight)) else (if weight == code_weight then open_snippets p.in_code ++ line_snippets (Shown style (Raw bytes weight)) else (close_snippets p.in_code ++ Of (Shown style (Raw bytes weight)) ∷ []))) ≡ Of (Shown style (Raw bytes weight)) ∷ []) [
       | true ↦ elim (starts_line p.bytes) as (λ b. filter is_heading_or_fragment ((if b then [] else (Put Newline ∷ [])) ++ line_snippets (Shown style (Raw bytes weight))) ≡ Of (Shown style (Raw bytes weight)) ∷ []) [ true ↦ refl | false ↦ refl ]
@@ -148,6 +138,7 @@ own-headings p (Start blocks.ItemBody) =
 own-headings p (Start _) = refl
 own-headings p (End blocks.ItemBody) = elim (p.in_list) as (λ l. filter is_heading_or_fragment (Of (End blocks.ItemBody) ∷ (if l then (Put Newline ∷ []) else [])) ≡ Of (End blocks.ItemBody) ∷ []) [ true ↦ refl | false ↦ refl ]
 own-headings p (End _) = refl
+own-headings p (TextStart _) = refl
 
 item-fragments : (pending empty : Bool) → fragments_in (item_snippets pending empty) ≡ []
 item-fragments true true = refl

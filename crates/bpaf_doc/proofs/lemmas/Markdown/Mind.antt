@@ -49,12 +49,7 @@ pub data Item : List Fragment → Bool → Bool → Type 0 where
 
 pub begins_is : (g : Fragment) (rest : List Fragment) → begins_with_term_end (g ∷ rest) ≡ is_term_end g
 begins_is (End blocks.ItemTerm) rest = refl
-begins_is (End _) rest = refl
-begins_is (TextStart style) rest = refl
-begins_is (Shown style chunk) rest = refl
-begins_is (TextEnd style) rest = refl
-begins_is Hidden rest = refl
-begins_is (Start b) rest = refl
+begins_is _ rest = refl
 
 pub after_empty_is : {before : List Fragment} {pending empty : Bool} → Item before pending empty → is_after_empty_item before ≡ (if pending then false else empty)
 after_empty_is {before} {pending} {empty} (none any p e) =

@@ -23,18 +23,8 @@ single_most : (c : ℕ) → (single false c).0 ≤ 3
 single_most c = grind (arith, nat_tests)
 
 kind_most : (c : ℕ) (k : Kind) → (of_kind false c k).0 ≤ 3
-kind_most c kinds.Zero = omega arith
-kind_most c kinds.Narrow = omega arith
-kind_most c kinds.Wide = omega arith
-kind_most c kinds.Ambiguous = omega arith
-kind_most c kinds.Alef = omega arith
-kind_most c kinds.KhmerLetter = omega arith
-kind_most c kinds.TifinaghConsonant = omega arith
-kind_most c kinds.LisuTone = omega arith
-kind_most c kinds.RegionalIndicator = omega arith
-kind_most c kinds.EmojiModifier = omega arith
-kind_most c kinds.Emoji = omega arith
 kind_most c kinds.Single = single_most c
+kind_most c _ = omega arith
 
 alone_most : (c : ℕ) → (alone false c).0 ≤ 3
 unfolding alone
@@ -42,10 +32,8 @@ alone_most c = kind_most c (kind c)
 
 joined_most : (total : ℕ) (j : Option (Change × After)) (own : ℕ × State) → own.0 ≤ 3 → (joined_or total j own).0 ≤ total + 3
 joined_most total (Some (changes.Less, after)) own h = omega arith
-joined_most total (Some (changes.Same, after)) own h = omega arith
-joined_most total (Some (changes.One, after)) own h = omega arith
-joined_most total (Some (changes.Three, after)) own h = omega arith
 joined_most total None own h = omega (arith, h)
+joined_most total (Some _) own h = omega arith
 
 of_four : (n m : ℕ) (a b d : Bool) (s t u : State) (r : Reading) → m ≤ 3 → r.0 ≤ n + 3 → (pick a (n, s) (pick b (n, t) (pick d (n + m, u) r))).0 ≤ n + 3
 of_four n m true b d s t u r h k = omega arith

@@ -127,20 +127,8 @@ owes_begins f q h (stays t l w) = owes_lines f q h l
 owes_begins f q h (wraps t mid l w b e) = subst (λ (s : State). owes_line s.back ≡ false) (sym e) refl
 
 asks_both : (event : Event) → asks_blank_line event ≡ true → asks_newline event ≡ true
-asks_both (Shows k chunk) h = absurd cc
-asks_both (Opens b) h = absurd cc
 asks_both (Closes blocks.Block) h = refl
-asks_both (Closes blocks.Header) h = absurd cc
-asks_both (Closes blocks.Section2) h = absurd cc
-asks_both (Closes blocks.Section3) h = absurd cc
-asks_both (Closes blocks.Section4) h = absurd cc
-asks_both (Closes blocks.ItemTerm) h = absurd cc
-asks_both (Closes blocks.ItemBody) h = absurd cc
-asks_both (Closes blocks.DefinitionList) h = absurd cc
-asks_both (Closes blocks.InlineBlock) h = absurd cc
-asks_both (Closes blocks.TermRef) h = absurd cc
-asks_both (Closes blocks.Meta) h = absurd cc
-asks_both (Closes blocks.Mono) h = absurd cc
+asks_both _ h = absurd cc
 
 at_least_something : (a : Asked) → is_nothing (at_least_line a) ≡ false
 at_least_something Nothing = refl

@@ -216,13 +216,7 @@ quiet_open blocks.InlineBlock h = record { bytes = refl; asked = λ a. refl; col
 quiet_open blocks.Mono h = record { bytes = refl; asked = λ a. refl; columns_of = refl }
 quiet_open blocks.Meta h = record { bytes = refl; asked = λ a. refl; columns_of = refl }
 quiet_open blocks.DefinitionList h = record { bytes = refl; asked = λ a. refl; columns_of = refl }
-quiet_open blocks.Header h = absurd cc
-quiet_open blocks.Section2 h = absurd cc
-quiet_open blocks.Section3 h = absurd cc
-quiet_open blocks.Section4 h = absurd cc
-quiet_open blocks.ItemTerm h = absurd cc
-quiet_open blocks.Block h = absurd cc
-quiet_open blocks.TermRef h = absurd cc
+quiet_open _ h = absurd cc
 
 quiet_close : (b : Block) → is_light_mark (Closes b) ≡ true → IsQuietMark (Closes b)
 quiet_close blocks.ItemTerm h = record { bytes = refl; asked = λ a. refl; columns_of = refl }
@@ -230,13 +224,7 @@ quiet_close blocks.InlineBlock h = record { bytes = refl; asked = λ a. refl; co
 quiet_close blocks.Mono h = record { bytes = refl; asked = λ a. refl; columns_of = refl }
 quiet_close blocks.Meta h = record { bytes = refl; asked = λ a. refl; columns_of = refl }
 quiet_close blocks.DefinitionList h = record { bytes = refl; asked = λ a. refl; columns_of = refl }
-quiet_close blocks.Header h = absurd cc
-quiet_close blocks.Section2 h = absurd cc
-quiet_close blocks.Section3 h = absurd cc
-quiet_close blocks.Section4 h = absurd cc
-quiet_close blocks.ItemBody h = absurd cc
-quiet_close blocks.Block h = absurd cc
-quiet_close blocks.TermRef h = absurd cc
+quiet_close _ h = absurd cc
 
 -- a light mark is one of these, and changes no pending blanks either
 light_open : (b : Block) → is_inline_block b ≡ true → (is_light_mark (Opens b) ≡ true) × ((p : Bool) → pending_after (Opens b) p ≡ p)
@@ -244,28 +232,14 @@ light_open blocks.InlineBlock h = (refl, λ p. refl)
 light_open blocks.Mono h = (refl, λ p. refl)
 light_open blocks.Meta h = (refl, λ p. refl)
 light_open blocks.DefinitionList h = (refl, λ p. refl)
-light_open blocks.ItemBody h = absurd cc
-light_open blocks.Header h = absurd cc
-light_open blocks.Section2 h = absurd cc
-light_open blocks.Section3 h = absurd cc
-light_open blocks.Section4 h = absurd cc
-light_open blocks.ItemTerm h = absurd cc
-light_open blocks.Block h = absurd cc
-light_open blocks.TermRef h = absurd cc
+light_open _ h = absurd cc
 
 light_close : (b : Block) → is_inline_block b ≡ true → (is_light_mark (Closes b) ≡ true) × ((p : Bool) → pending_after (Closes b) p ≡ p)
 light_close blocks.InlineBlock h = (refl, λ p. refl)
 light_close blocks.Mono h = (refl, λ p. refl)
 light_close blocks.Meta h = (refl, λ p. refl)
 light_close blocks.DefinitionList h = (refl, λ p. refl)
-light_close blocks.ItemBody h = absurd cc
-light_close blocks.Header h = absurd cc
-light_close blocks.Section2 h = absurd cc
-light_close blocks.Section3 h = absurd cc
-light_close blocks.Section4 h = absurd cc
-light_close blocks.ItemTerm h = absurd cc
-light_close blocks.Block h = absurd cc
-light_close blocks.TermRef h = absurd cc
+light_close _ h = absurd cc
 
 module _ (width : ℕ) where
   ordinary_weight : {margin_of : ℕ → ℕ} {st : State} (p : Piece) → Fits margin_of st p → is_ordinary (Raw p.bytes p.weight) ≡ true → p.weight ≡ columns p.bytes

@@ -186,31 +186,17 @@ record IsIdleMark (event : Event) : Type 0 where
 
 idle_open : (b : Block) → asks_newline (Opens b) ≡ false → IsIdleMark (Opens b)
 idle_open blocks.ItemBody h = record { bytes = omega arith; asked = λ a. refl; pending = λ p t. inr (omega arith) }
-idle_open blocks.TermRef h = record { bytes = omega arith; asked = λ a. refl; pending = λ p t. inl t }
-idle_open blocks.InlineBlock h = record { bytes = omega arith; asked = λ a. refl; pending = λ p t. inl t }
-idle_open blocks.Mono h = record { bytes = omega arith; asked = λ a. refl; pending = λ p t. inl t }
-idle_open blocks.Meta h = record { bytes = omega arith; asked = λ a. refl; pending = λ p t. inl t }
-idle_open blocks.DefinitionList h = record { bytes = omega arith; asked = λ a. refl; pending = λ p t. inl t }
-idle_open blocks.Block h = record { bytes = omega arith; asked = λ a. refl; pending = λ p t. inl t }
 idle_open blocks.Header h = absurd cc
 idle_open blocks.Section2 h = absurd cc
 idle_open blocks.Section3 h = absurd cc
 idle_open blocks.Section4 h = absurd cc
 idle_open blocks.ItemTerm h = absurd cc
+idle_open _ h = record { bytes = omega arith; asked = λ a. refl; pending = λ p t. inl t }
 
 idle_close : (b : Block) → asks_newline (Closes b) ≡ false → IsIdleMark (Closes b)
 idle_close blocks.ItemBody h = record { bytes = omega arith; asked = λ a. refl; pending = λ p t. absurd cc }
-idle_close blocks.TermRef h = record { bytes = omega arith; asked = λ a. refl; pending = λ p t. inl t }
-idle_close blocks.InlineBlock h = record { bytes = omega arith; asked = λ a. refl; pending = λ p t. inl t }
-idle_close blocks.Mono h = record { bytes = omega arith; asked = λ a. refl; pending = λ p t. inl t }
-idle_close blocks.Meta h = record { bytes = omega arith; asked = λ a. refl; pending = λ p t. inl t }
-idle_close blocks.DefinitionList h = record { bytes = omega arith; asked = λ a. refl; pending = λ p t. inl t }
-idle_close blocks.Header h = record { bytes = omega arith; asked = λ a. refl; pending = λ p t. inl t }
-idle_close blocks.Section2 h = record { bytes = omega arith; asked = λ a. refl; pending = λ p t. inl t }
-idle_close blocks.Section3 h = record { bytes = omega arith; asked = λ a. refl; pending = λ p t. inl t }
-idle_close blocks.Section4 h = record { bytes = omega arith; asked = λ a. refl; pending = λ p t. inl t }
-idle_close blocks.ItemTerm h = record { bytes = omega arith; asked = λ a. refl; pending = λ p t. inl t }
 idle_close blocks.Block h = absurd cc
+idle_close _ h = record { bytes = omega arith; asked = λ a. refl; pending = λ p t. inl t }
 
 not_true : (t : Bool) → not t ≡ true → t ≡ false
 not_true true h = absurd cc

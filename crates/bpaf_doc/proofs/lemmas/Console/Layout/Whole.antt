@@ -172,10 +172,7 @@ clear_front (x ∷ xs) = if is_written x then true else (not (is_empty_code x) &
 empty_plain : (event : Event) → is_empty_code event ≡ true → is_written event ≡ true → ⊥
 empty_plain (Shows k (Raw bytes weight)) e i =
     let no : (not true && not (is_ordinary (Raw bytes weight))) ≡ true = subst (λ (b : Bool). (not b && not (is_ordinary (Raw bytes weight))) ≡ true) i e in cc
-empty_plain (Shows k Paragraph) e i = cc
-empty_plain (Shows k LineBreak) e i = cc
-empty_plain (Opens b) e i = cc
-empty_plain (Closes b) e i = cc
+empty_plain _ e i = cc
 
 clear_snoc : (xs : List Event) (x : Event) → clear_front (xs ++ x ∷ []) ≡ true → (clear_front xs ≡ true) × (is_empty_code x ≡ true → list_any is_written xs ≡ true)
 clear_snoc [] x h = (refl, λ e. absurd (at e (by_cases (is_written x)))) where

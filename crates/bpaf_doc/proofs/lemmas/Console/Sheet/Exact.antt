@@ -169,41 +169,15 @@ start_request blocks.Section2 a = new_line_is a
 start_request blocks.Section3 a = new_line_is a
 start_request blocks.Section4 a = new_line_is a
 start_request blocks.ItemTerm a = new_line_is a
-start_request blocks.ItemBody a = refl
-start_request blocks.DefinitionList a = refl
-start_request blocks.Block a = refl
-start_request blocks.InlineBlock a = refl
-start_request blocks.TermRef a = refl
-start_request blocks.Meta a = refl
-start_request blocks.Mono a = refl
+start_request _ a = refl
 
 end_request : (b : Block) (a : Asked) → request_of (page.asked_by_end a b) ≡ exact.request_at_end b (request_of a)
 end_request blocks.Header a = refl
-end_request blocks.Section2 a = refl
-end_request blocks.Section3 a = refl
-end_request blocks.Section4 a = refl
-end_request blocks.ItemTerm a = refl
-end_request blocks.ItemBody a = refl
-end_request blocks.DefinitionList a = refl
-end_request blocks.Block a = refl
-end_request blocks.InlineBlock a = refl
-end_request blocks.TermRef a = refl
-end_request blocks.Meta a = refl
-end_request blocks.Mono a = refl
+end_request _ a = refl
 
 body_same : (b : Block) → page.is_body b ≡ exact.is_item_body b
 body_same blocks.ItemBody = refl
-body_same blocks.Header = refl
-body_same blocks.Section2 = refl
-body_same blocks.Section3 = refl
-body_same blocks.Section4 = refl
-body_same blocks.ItemTerm = refl
-body_same blocks.DefinitionList = refl
-body_same blocks.Block = refl
-body_same blocks.InlineBlock = refl
-body_same blocks.TermRef = refl
-body_same blocks.Meta = refl
-body_same blocks.Mono = refl
+body_same _ = refl
 
 abbrev so_far : Sheet → Request → Bool → PageSoFar
 so_far s request pending = record { text = s.out; column = s.column; request = request; is_pending = pending }

@@ -27,27 +27,11 @@ start_asked a blocks.Section2 = same_asked a
 start_asked a blocks.Section3 = same_asked a
 start_asked a blocks.Section4 = same_asked a
 start_asked a blocks.ItemTerm = same_asked a
-start_asked a blocks.ItemBody = refl
-start_asked a blocks.DefinitionList = refl
-start_asked a blocks.Block = refl
-start_asked a blocks.InlineBlock = refl
-start_asked a blocks.TermRef = refl
-start_asked a blocks.Meta = refl
-start_asked a blocks.Mono = refl
+start_asked a _ = refl
 
 end_asked : (a : Asked) (b : Block) → page.asked_by_end a b ≡ asked_after (Closes b) a
 end_asked a blocks.Header = refl
-end_asked a blocks.Section2 = refl
-end_asked a blocks.Section3 = refl
-end_asked a blocks.Section4 = refl
-end_asked a blocks.ItemTerm = refl
-end_asked a blocks.ItemBody = refl
-end_asked a blocks.DefinitionList = refl
-end_asked a blocks.Block = refl
-end_asked a blocks.InlineBlock = refl
-end_asked a blocks.TermRef = refl
-end_asked a blocks.Meta = refl
-end_asked a blocks.Mono = refl
+end_asked a _ = refl
 
 or_true : (p : Bool) → (p || true) ≡ true
 or_true true = refl
@@ -67,31 +51,11 @@ and_same false = refl
 
 start_body : (p : Bool) (b : Block) → (p || page.is_body b) ≡ pending_after (Opens b) p
 start_body p blocks.ItemBody = or_true p
-start_body p blocks.Header = or_same p
-start_body p blocks.Section2 = or_same p
-start_body p blocks.Section3 = or_same p
-start_body p blocks.Section4 = or_same p
-start_body p blocks.ItemTerm = or_same p
-start_body p blocks.DefinitionList = or_same p
-start_body p blocks.Block = or_same p
-start_body p blocks.InlineBlock = or_same p
-start_body p blocks.TermRef = or_same p
-start_body p blocks.Meta = or_same p
-start_body p blocks.Mono = or_same p
+start_body p _ = or_same p
 
 end_body : (p : Bool) (b : Block) → (p && not (page.is_body b)) ≡ pending_after (Closes b) p
 end_body p blocks.ItemBody = and_false p
-end_body p blocks.Header = and_same p
-end_body p blocks.Section2 = and_same p
-end_body p blocks.Section3 = and_same p
-end_body p blocks.Section4 = and_same p
-end_body p blocks.ItemTerm = and_same p
-end_body p blocks.DefinitionList = and_same p
-end_body p blocks.Block = and_same p
-end_body p blocks.InlineBlock = and_same p
-end_body p blocks.TermRef = and_same p
-end_body p blocks.Meta = and_same p
-end_body p blocks.Mono = and_same p
+end_body p _ = and_same p
 
 -- the backquote of a term reference, over a sheet that differs from the page only in what a mark changes
 draws_marked : (event : Event) (b : Block) (s : Sheet) (st : State) → event_bytes event ≡ mark_bytes b → s.out ≡ text_back st.back → s.column ≡ st.column → s.column ≤ 18446744073709551615

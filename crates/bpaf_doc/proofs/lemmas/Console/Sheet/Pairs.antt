@@ -17,19 +17,7 @@ use Rattle.bpaf_doc.proofs.lemmas.Console.Pairs.{KnowsPairs-none, KnowsPairs-mor
 -- the first Section4 end, by the test on parts
 end_test : (part : Part) → whole.is_section4_end (Some part) ≡ margin.is_section4_end part
 end_test (Text bytes style) = refl
-end_test (Start b) = refl
-end_test (End blocks.Section4) = refl
-end_test (End blocks.Header) = refl
-end_test (End blocks.Section2) = refl
-end_test (End blocks.Section3) = refl
-end_test (End blocks.ItemTerm) = refl
-end_test (End blocks.ItemBody) = refl
-end_test (End blocks.DefinitionList) = refl
-end_test (End blocks.Block) = refl
-end_test (End blocks.InlineBlock) = refl
-end_test (End blocks.TermRef) = refl
-end_test (End blocks.Meta) = refl
-end_test (End blocks.Mono) = refl
+end_test _ = refl
 
 same_position : (p q : Part → Bool) → ((x : Part) → p x ≡ q x) → (xs : List Part) → position_or_len p xs ≡ position_or_len q xs
 same_position p q same [] = refl
@@ -41,38 +29,12 @@ section4_end_is document index =
     same_position (λ part. whole.is_section4_end (Some part)) margin.is_section4_end end_test (drop (index + 1) document) in omega arith
 
 block_start : (part : Option Part) → IsTrue (whole.is_block_start part) ↔ (part ≡ Some (Start blocks.Block))
-block_start None = ((λ h. absurd cc), (λ e. absurd cc))
-block_start (Some (Text bytes style)) = ((λ h. absurd cc), (λ e. absurd cc))
-block_start (Some (End b)) = ((λ h. absurd cc), (λ e. absurd cc))
 block_start (Some (Start blocks.Block)) = ((λ h. refl), (λ e. refl))
-block_start (Some (Start blocks.Header)) = ((λ h. absurd cc), (λ e. absurd cc))
-block_start (Some (Start blocks.Section2)) = ((λ h. absurd cc), (λ e. absurd cc))
-block_start (Some (Start blocks.Section3)) = ((λ h. absurd cc), (λ e. absurd cc))
-block_start (Some (Start blocks.Section4)) = ((λ h. absurd cc), (λ e. absurd cc))
-block_start (Some (Start blocks.ItemTerm)) = ((λ h. absurd cc), (λ e. absurd cc))
-block_start (Some (Start blocks.ItemBody)) = ((λ h. absurd cc), (λ e. absurd cc))
-block_start (Some (Start blocks.DefinitionList)) = ((λ h. absurd cc), (λ e. absurd cc))
-block_start (Some (Start blocks.InlineBlock)) = ((λ h. absurd cc), (λ e. absurd cc))
-block_start (Some (Start blocks.TermRef)) = ((λ h. absurd cc), (λ e. absurd cc))
-block_start (Some (Start blocks.Meta)) = ((λ h. absurd cc), (λ e. absurd cc))
-block_start (Some (Start blocks.Mono)) = ((λ h. absurd cc), (λ e. absurd cc))
+block_start _ = ((λ h. absurd cc), (λ e. absurd cc))
 
 block_end : (part : Option Part) → IsTrue (whole.is_block_end part) ↔ (part ≡ Some (End blocks.Block))
-block_end None = ((λ h. absurd cc), (λ e. absurd cc))
-block_end (Some (Text bytes style)) = ((λ h. absurd cc), (λ e. absurd cc))
-block_end (Some (Start b)) = ((λ h. absurd cc), (λ e. absurd cc))
 block_end (Some (End blocks.Block)) = ((λ h. refl), (λ e. refl))
-block_end (Some (End blocks.Header)) = ((λ h. absurd cc), (λ e. absurd cc))
-block_end (Some (End blocks.Section2)) = ((λ h. absurd cc), (λ e. absurd cc))
-block_end (Some (End blocks.Section3)) = ((λ h. absurd cc), (λ e. absurd cc))
-block_end (Some (End blocks.Section4)) = ((λ h. absurd cc), (λ e. absurd cc))
-block_end (Some (End blocks.ItemTerm)) = ((λ h. absurd cc), (λ e. absurd cc))
-block_end (Some (End blocks.ItemBody)) = ((λ h. absurd cc), (λ e. absurd cc))
-block_end (Some (End blocks.DefinitionList)) = ((λ h. absurd cc), (λ e. absurd cc))
-block_end (Some (End blocks.InlineBlock)) = ((λ h. absurd cc), (λ e. absurd cc))
-block_end (Some (End blocks.TermRef)) = ((λ h. absurd cc), (λ e. absurd cc))
-block_end (Some (End blocks.Meta)) = ((λ h. absurd cc), (λ e. absurd cc))
-block_end (Some (End blocks.Mono)) = ((λ h. absurd cc), (λ e. absurd cc))
+block_end _ = ((λ h. absurd cc), (λ e. absurd cc))
 
 empty_block_is : (document : List Part) (index : ℕ) → length document < 2 ^ 64 → whole.has_empty_block document index ≡ has_empty_block (drop (index + 1) document)
 empty_block_is document index small =
@@ -100,17 +62,7 @@ module _ (document : List Part) (small : length document < 2 ^ 64) where
 
     is_section4_block : (b : Block) → whole.is_section4 b ≡ true → b ≡ blocks.Section4
     is_section4_block blocks.Section4 h = refl
-    is_section4_block blocks.Header h = absurd cc
-    is_section4_block blocks.Section2 h = absurd cc
-    is_section4_block blocks.Section3 h = absurd cc
-    is_section4_block blocks.ItemTerm h = absurd cc
-    is_section4_block blocks.ItemBody h = absurd cc
-    is_section4_block blocks.DefinitionList h = absurd cc
-    is_section4_block blocks.Block h = absurd cc
-    is_section4_block blocks.InlineBlock h = absurd cc
-    is_section4_block blocks.TermRef h = absurd cc
-    is_section4_block blocks.Meta h = absurd cc
-    is_section4_block blocks.Mono h = absurd cc
+    is_section4_block _ h = absurd cc
 
     unlike : (b : Block) → whole.is_section4 b ≡ false → b ≡ blocks.Section4 → ⊥
     unlike b h e = let yes : whole.is_section4 b ≡ true = ap whole.is_section4 e in let no : true ≡ false = sym yes ∙ h in cc
