@@ -6,6 +6,8 @@ use Rattle.std.proofs.lemmas.List.{append-nil}
 use Rattle.std.proofs.lemmas.List.Folds.{list_all-map}
 use Rattle.std.proofs.lemmas.List.Sums.{sum_by-cons}
 use Rattle.std.proofs.lemmas.Bool.Decides.{nat_tests}
+use Rattle.std.proofs.lemmas.Bool.{cases_Bool, and_parts}
+use Rattle.std.proofs.Math.Bool.{or-false}
 use Rattle.bpaf_doc.specs.declared.buffer.Block.TheVariants as blocks
 use Rattle.bpaf_doc.specs.declared.buffer.Block.{Block}
 use Rattle.bpaf_doc.specs.Buffer.Parts.{Part, Text, Start, End}
@@ -89,10 +91,6 @@ ended : (hidden : ℕ) (part : Part) (parts : List Part) → is_inline_end part 
 ended zero part parts e s = none_by_end part parts e s
 ended (suc more) part parts e s = step (suc more) more part (λ front. within_end more part front e s) parts
 
-or_false : (a : Bool) → (a || false) ≡ a
-or_false true = refl
-or_false false = refl
-
 or_assoc : (a b c : Bool) → (a || (b || c)) ≡ ((a || b) || c)
 or_assoc true b c = refl
 or_assoc false b c = refl
@@ -106,14 +104,7 @@ absorbed false false c h = refl
 
 list_all-weaker : {A : Type 0} (p q : A → Bool) → ((x : A) → p x ≡ true → q x ≡ true) → (xs : List A) → list_all p xs ≡ true → list_all q xs ≡ true
 list_all-weaker p q weaker [] h = refl
-list_all-weaker p q weaker (x ∷ xs) h = rw (weaker x (left (p x) (list_all p xs) h), list_all-weaker p q weaker xs (right (p x) (list_all p xs) h)) refl where
-  left : (a b : Bool) → (a && b) ≡ true → a ≡ true
-  left true b h = refl
-  left false b h = h
-
-  right : (a b : Bool) → (a && b) ≡ true → b ≡ true
-  right true b h = h
-  right false b h = absurd cc
+list_all-weaker p q weaker (x ∷ xs) h = rw (weaker x ((and_parts (p x) (list_all p xs) h).0), list_all-weaker p q weaker xs ((and_parts (p x) (list_all p xs) h).1)) refl
 
 open_is : (parts : List Part) → stays_open is_inline_start is_inline_end parts ≡ stays_by 0 parts
 open_is parts = list_all-ext (λ front. nat_le (count_by is_inline_end front) (count_by is_inline_start front)) (λ front. is_within 0 front)
@@ -129,7 +120,7 @@ open_stays more parts h = list_all-weaker (λ front. is_within 0 front) (λ fron
 
 -- a part that hides nothing itself
 quiet : (a : Bool) (parts : List Part) → (a || (false && stays_open is_inline_start is_inline_end parts)) ≡ a
-quiet a parts = or_false a
+quiet a parts = or-false a
 
 start_is : (b : Block) → is_inline_start (Start b) ≡ is_inline b
 start_is blocks.InlineBlock = refl
@@ -141,10 +132,6 @@ end_is _ = refl
 
 not_zero : (more : ℕ) → (suc more == 0) ≡ false
 not_zero more = grind (arith, nat_tests)
-
-by_cases : (b : Bool) → (b ≡ true) ⊎ (b ≡ false)
-by_cases true = inl refl
-by_cases false = inr refl
 
 abbrev IsKept : ℕ → Part → List Part → Type 0
 IsKept hidden part parts = (stays_hidden hidden (part ∷ parts) || (breaks_off part && stays_open is_inline_start is_inline_end parts)) ≡ stays_hidden (hidden_after false hidden part) parts
@@ -159,7 +146,7 @@ kept (suc more) (Text bytes style) parts =
     rw (level (suc more) (Text bytes style) parts refl refl)
     (absorbed (stays_by more parts) (breaks_off (Text bytes style)) (stays_open is_inline_start is_inline_end parts) (open_stays more parts)))
 kept zero (Start b) parts = refl
-kept (suc more) (Start b) parts = rw (not_zero more) (quiet (stays_hidden (suc more) (Start b ∷ parts)) parts ∙ at (by_cases (is_inline b))) where
+kept (suc more) (Start b) parts = rw (not_zero more) (quiet (stays_hidden (suc more) (Start b ∷ parts)) parts ∙ at (cases_Bool (is_inline b))) where
   at : (is_inline b ≡ true) ⊎ (is_inline b ≡ false) → stays_hidden (suc more) (Start b ∷ parts) ≡ stays_hidden (if is_inline b then suc more + 1 else suc more) parts
   at (inl e) = rw e (started more (Start b) parts refl (start_is b ∙ e) ∙ ap (λ n. stays_hidden n parts) (next more)) where
     next : (more : ℕ) → suc (suc more) ≡ suc more + 1
@@ -169,7 +156,7 @@ kept zero (End b) parts = at (is_inline b) where
   at : (c : Bool) → false ≡ stays_hidden (if c then 0 else 0) parts
   at true = refl
   at false = refl
-kept (suc more) (End b) parts = quiet (stays_hidden (suc more) (End b ∷ parts)) parts ∙ at (by_cases (is_inline b)) where
+kept (suc more) (End b) parts = quiet (stays_hidden (suc more) (End b ∷ parts)) parts ∙ at (cases_Bool (is_inline b)) where
   at : (is_inline b ≡ true) ⊎ (is_inline b ≡ false) → stays_hidden (suc more) (End b ∷ parts) ≡ stays_hidden (if is_inline b then suc more - 1 else suc more) parts
   at (inl e) = rw e (ended more (End b) parts (end_is b ∙ e) refl ∙ ap (λ n. stays_hidden n parts) (back more)) where
     back : (more : ℕ) → more ≡ suc more - 1

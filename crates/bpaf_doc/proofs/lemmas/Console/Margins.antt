@@ -6,6 +6,7 @@ use Rattle.std.proofs.lemmas.List.Folds.{list_all-map}
 use Rattle.std.proofs.lemmas.List.Sums.{sum_by-cons}
 use Rattle.std.proofs.lemmas.List.{drop_at}
 use Rattle.std.proofs.lemmas.Bool.Decides.{nat_tests}
+use Rattle.std.proofs.Math.Nat.{zero-add, add-zero}
 use Rattle.bpaf_doc.specs.declared.buffer.Block.TheVariants as blocks
 use Rattle.bpaf_doc.specs.declared.buffer.Block.{Block}
 use Rattle.bpaf_doc.specs.declared.buffer.Style.{Style}
@@ -137,9 +138,7 @@ popped_at (m ∷ ms) k = refl
 -- Entry by entry: where shifts take k entries away, the top is the entry below these and the indents in force since.
 top_after : (ss : List Shift) (stack : List ℕ) → top (stack_after ss stack) ≡ get_or stack (taken ss) 0 + indents_in_force ss
 unfolding taken
-top_after [] stack = top_is stack ∙ at (get_or stack 0 0) where
-  at : (n : ℕ) → n ≡ n + 0
-  at n = omega arith
+top_after [] stack = top_is stack ∙ sym (add-zero (get_or stack 0 0))
 top_after (Indent n ∷ ss) stack = top_after ss ((top stack + n) ∷ stack) ∙ at (taken ss) (stays_open is_indent is_outdent ss) (indents_in_force ss) (open_is ss) where
   at : (t : ℕ) (b : Bool) (i : ℕ) → b ≡ nat_le t 0 → get_or ((top stack + n) ∷ stack) t 0 + i ≡ get_or stack (t - 1) 0 + ((if b then n else 0) + i)
   at zero true i e = ap (λ m. m + n + i) (top_is stack) ∙ sums (get_or stack 0 0) i where
@@ -170,9 +169,7 @@ top_after (Level ∷ ss) stack = top_after ss stack ∙ ap (λ m. get_or stack (
 
 -- from an empty stack on it is the sum of the indents in force
 pub top-stack_after : (ss : List Shift) → top (stack_after ss []) ≡ indents_in_force ss
-top-stack_after ss = top_after ss [] ∙ at (indents_in_force ss) where
-  at : (i : ℕ) → 0 + i ≡ i
-  at i = omega arith
+top-stack_after ss = top_after ss [] ∙ zero-add (indents_in_force ss)
 
 -- after the part at place j the top is the margin there
 pub top-margin : (document : List Part) (j : ℕ) → top (stack_at document (j + 1)) ≡ margin document j
@@ -193,9 +190,7 @@ take_next : {A : Type 0} (f : ℕ × Part → A) (j k : ℕ) (parts : List Part)
 take_next f zero k [] part rest e = absurd cc
 take_next f zero k (p ∷ ps) part rest e =
     let same : p ≡ part = cc in
-    ap (λ (q : Part). f (k, q) ∷ []) same ∙ ap (λ n. f (n, part) ∷ []) (at k) where
-      at : (k : ℕ) → k ≡ k + 0
-      at k = omega arith
+    ap (λ (q : Part). f (k, q) ∷ []) same ∙ ap (λ n. f (n, part) ∷ []) (sym (add-zero k))
 take_next f (suc j) k [] part rest e = absurd cc
 take_next f (suc j) k (p ∷ ps) part rest e =
     ap (λ xs. f (k, p) ∷ xs) (take_next f j (k + 1) ps part rest e ∙ ap (λ n. take j (map f (enumerate_from (k + 1) ps)) ++ f (n, part) ∷ []) (at k j)) where
@@ -209,9 +204,7 @@ stack_at-more document j part rest e =
     ap (λ n. stack_after (take n (shifts document)) []) (add-one j)
     ∙ ap (λ ss. stack_after ss []) (take_next (λ (k, p). shift_at document k p) j 0 document part rest e)
     ∙ stack_after-append (take j (shifts document)) (shift_at document (0 + j) part ∷ []) []
-    ∙ ap (λ n. shifted (shift_at document n part) (stack_at document j)) (at j) where
-      at : (j : ℕ) → 0 + j ≡ j
-      at j = omega arith
+    ∙ ap (λ n. shifted (shift_at document n part) (stack_at document j)) (zero-add j)
 
 -- a place by what stands before it
 pub part_there : (document before rest : List Part) (part : Part) (j : ℕ) → document ≡ before ++ part ∷ rest → length before ≡ j → drop j document ≡ part ∷ rest
@@ -353,10 +346,7 @@ greatest_at f j k a [] l = absurd (none l) where
   none l = omega arith
 greatest_at f zero k a (part ∷ parts) l =
     let more : max a (f k) ≤ fold max (max a (f k)) (map (λ (i, part). f i) (enumerate_from (k + 1) parts)) = more_than (map (λ (i, part). f i) (enumerate_from (k + 1) parts)) (max a (f k)) in
-    subst (λ n. f n ≤ fold max (max a (f k)) (map (λ (i, part). f i) (enumerate_from (k + 1) parts))) (at k) (least (f k) a (fold max (max a (f k)) (map (λ (i, part). f i) (enumerate_from (k + 1) parts))) more) where
-      at : (k : ℕ) → k ≡ k + 0
-      at k = omega arith
-
+    subst (λ n. f n ≤ fold max (max a (f k)) (map (λ (i, part). f i) (enumerate_from (k + 1) parts))) (sym (add-zero k)) (least (f k) a (fold max (max a (f k)) (map (λ (i, part). f i) (enumerate_from (k + 1) parts))) more) where
       least : (n a m : ℕ) → max a n ≤ m → n ≤ m
       least n a m l = omega arith
 greatest_at f (suc j) k a (part ∷ parts) l =
@@ -369,6 +359,4 @@ greatest_at f (suc j) k a (part ∷ parts) l =
 
 pub margin-le-greatest : (document : List Part) (j : ℕ) → j < length document → margin document j ≤ greatest_margin document
 margin-le-greatest document j l =
-    subst (λ n. margin document n ≤ greatest_margin document) (at j) (greatest_at (margin document) j 0 0 document l) where
-      at : (j : ℕ) → 0 + j ≡ j
-      at j = omega arith
+    subst (λ n. margin document n ≤ greatest_margin document) (zero-add j) (greatest_at (margin document) j 0 0 document l)

@@ -5,6 +5,8 @@ use Rattle.std.proofs.Common.{sym, ◌∙◌, ap, subst, inl, inr, arith, add-on
 use Rattle.std.proofs.lemmas.List.{drop-drop, drop_all}
 use Rattle.std.proofs.lemmas.Option.{slice_get_past}
 use Rattle.std.proofs.lemmas.Bool.Decides.{nat_tests}
+use Rattle.std.proofs.lemmas.Bool.{both_ways, and_from, cases_Bool, and_parts}
+use Rattle.std.proofs.Math.Nat.{zero-add, add-zero}
 use Rattle.bpaf_doc.specs.declared.buffer.Block.TheVariants as blocks
 use Rattle.bpaf_doc.specs.declared.buffer.Block.{Block}
 use Rattle.bpaf_doc.specs.declared.console.pairs.Pairs.{Pairs}
@@ -13,18 +15,6 @@ use Rattle.bpaf_doc.specs.Console.Margin.{is_section4_start, is_section4_end, ha
 use Rattle.bpaf_doc.specs.Console.Steps.Pairs.{SkipsAt, HasMarkAt, KnowsPairs}
 
 -- ---- tests
-
-and_left : (a b : Bool) → (a && b) ≡ true → a ≡ true
-and_left true b h = refl
-and_left false b h = h
-
-and_right : (a b : Bool) → (a && b) ≡ true → b ≡ true
-and_right true b h = h
-and_right false b h = absurd cc
-
-true_or_false : (b : Bool) → (b ≡ true) ⊎ (b ≡ false)
-true_or_false true = inl refl
-true_or_false false = inr refl
 
 same_tests : (a b : Bool) → (a ≡ true → b ≡ true) → (b ≡ true → a ≡ true) → a ≡ b
 same_tests true b f g = sym (f refl)
@@ -44,9 +34,7 @@ end_is _ h = absurd cc
 -- ---- a part by its place
 
 slice_get-drop : {A : Type 0} (m n : ℕ) (xs : List A) → slice_get (drop m xs) n ≡ slice_get xs (m + n)
-slice_get-drop zero n xs = ap (λ k. slice_get xs k) (at n) where
-  at : (n : ℕ) → n ≡ 0 + n
-  at n = omega arith
+slice_get-drop zero n xs = ap (λ k. slice_get xs k) (sym (zero-add n))
 slice_get-drop (suc m) n [] = refl
 slice_get-drop (suc m) n (x ∷ xs) = slice_get-drop m n xs ∙ ap (λ k. slice_get (x ∷ xs) k) (at m n) where
   at : (m n : ℕ) → suc (m + n) ≡ suc m + n
@@ -60,9 +48,7 @@ slice_get_there document before rest part j e len = ap (λ d. slice_get d j) e �
   at (p ∷ ps) = at ps
 
 pub slice_get_dropped : (document rest : List Part) (part : Part) (j : ℕ) → drop j document ≡ part ∷ rest → slice_get document j ≡ Some part
-slice_get_dropped document rest part j e = ap (λ k. slice_get document k) (at j) ∙ sym (slice_get-drop j 0 document) ∙ ap (λ ps. slice_get ps 0) e where
-  at : (j : ℕ) → j ≡ j + 0
-  at j = omega arith
+slice_get_dropped document rest part j e = ap (λ k. slice_get document k) (sym (add-zero j)) ∙ sym (slice_get-drop j 0 document) ∙ ap (λ ps. slice_get ps 0) e
 
 -- a place behind a usize has no part
 pub slice_get-saturates : (document : List Part) (k : ℕ) → length document < 2 ^ 64 → slice_get document (min k 18446744073709551615) ≡ slice_get document k
@@ -77,9 +63,7 @@ slice_get-saturates document k small = at (cases k) where
 -- ---- the first Section4 end after a place
 
 position-drop : {A : Type 0} (p : A → Bool) (m : ℕ) (xs : List A) → m ≤ position_or_len p xs → m + position_or_len p (drop m xs) ≡ position_or_len p xs
-position-drop p zero xs l = at (position_or_len p xs) where
-  at : (n : ℕ) → 0 + n ≡ n
-  at n = omega arith
+position-drop p zero xs l = zero-add (position_or_len p xs)
 position-drop p (suc m) [] l = absurd (none m l) where
   none : (m : ℕ) → suc m ≤ 0 → ⊥
   none m l = omega arith
@@ -160,9 +144,7 @@ pair_there document i h = at (after_section4 document i) h where
   at : (k : ℕ) → has_empty_block (drop k document) ≡ true → (slice_get document k ≡ Some (Start blocks.Block)) × (slice_get document (k + 1) ≡ Some (End blocks.Block))
   at k h =
       let both : (slice_get (drop k document) 0 ≡ Some (Start blocks.Block)) × (slice_get (drop k document) 1 ≡ Some (End blocks.Block)) = empty_block-at (drop k document) h in
-      (ap (λ n. slice_get document n) (same k) ∙ sym (slice_get-drop k 0 document) ∙ both.0, sym (slice_get-drop k 1 document) ∙ both.1) where
-        same : (k : ℕ) → k ≡ k + 0
-        same k = omega arith
+      (ap (λ n. slice_get document n) (sym (add-zero k)) ∙ sym (slice_get-drop k 0 document) ∙ both.0, sym (slice_get-drop k 1 document) ∙ both.1)
 
 -- the two tests of the code
 pub empty_block-is : (document : List Part) (k : ℕ) (first second : Bool) → (IsTrue first ↔ slice_get document k ≡ Some (Start blocks.Block))
@@ -170,20 +152,13 @@ pub empty_block-is : (document : List Part) (k : ℕ) (first second : Bool) → 
 empty_block-is document k first second f s = same_tests (first && second) (has_empty_block (drop k document)) there back where
   there : (first && second) ≡ true → has_empty_block (drop k document) ≡ true
   there h =
-      empty_block-from (drop k document) (slice_get-drop k 0 document ∙ ap (λ n. slice_get document n) (same k) ∙ f.0 (and_left first second h))
-      (slice_get-drop k 1 document ∙ s.0 (and_right first second h)) where
-        same : (k : ℕ) → k + 0 ≡ k
-        same k = omega arith
-
-  both : (a b : Bool) → a ≡ true → b ≡ true → (a && b) ≡ true
-  both a b e f = rw (e, f) refl
+      empty_block-from (drop k document) (slice_get-drop k 0 document ∙ ap (λ n. slice_get document n) (add-zero k) ∙ f.0 ((and_parts first second h).0))
+      (slice_get-drop k 1 document ∙ s.0 ((and_parts first second h).1))
 
   back : has_empty_block (drop k document) ≡ true → (first && second) ≡ true
   back h =
       let pair : (slice_get (drop k document) 0 ≡ Some (Start blocks.Block)) × (slice_get (drop k document) 1 ≡ Some (End blocks.Block)) = empty_block-at (drop k document) h in
-      both first second (f.1 (ap (λ n. slice_get document n) (same k) ∙ sym (slice_get-drop k 0 document) ∙ pair.0)) (s.1 (sym (slice_get-drop k 1 document) ∙ pair.1)) where
-        same : (k : ℕ) → k ≡ k + 0
-        same k = omega arith
+      and_from first second (f.1 (ap (λ n. slice_get document n) (sym (add-zero k)) ∙ sym (slice_get-drop k 0 document) ∙ pair.0)) (s.1 (sym (slice_get-drop k 1 document) ∙ pair.1))
 
 -- ---- a place that is skipped, by the start that skips it
 
@@ -195,9 +170,7 @@ module _ (f : ℕ → Part → Bool) where
     at : (b : Bool) → f k p ≡ b → (b || list_any (λ (i, part). f i part) (enumerate_from (k + 1) ps)) ≡ true
         → (list_any (λ (i, part). f i part) (enumerate_from (k + 1) ps) ≡ true → (i : ℕ) × (part : Part) × (slice_get ps i ≡ Some part) × (f (k + 1 + i) part ≡ true))
         → (i : ℕ) × (part : Part) × (slice_get (p ∷ ps) i ≡ Some part) × (f (k + i) part ≡ true)
-    at true e h more = (0, p, refl, ap (λ n. f n p) (same k) ∙ e) where
-      same : (k : ℕ) → k + 0 ≡ k
-      same k = omega arith
+    at true e h more = (0, p, refl, ap (λ n. f n p) (add-zero k) ∙ e)
     at false e h more = next (more h) where
       next : ((i : ℕ) × (part : Part) × (slice_get ps i ≡ Some part) × (f (k + 1 + i) part ≡ true)) → (i : ℕ) × (part : Part) × (slice_get (p ∷ ps) i ≡ Some part) × (f (k + i) part ≡ true)
       next (i, part, here, holds) = (suc i, part, here, ap (λ n. f n part) (same k i) ∙ holds) where
@@ -208,10 +181,7 @@ module _ (f : ℕ → Part → Bool) where
   any_from [] k i part here h = absurd cc
   any_from (p ∷ ps) k zero part here h =
       let same : p ≡ part = cc in
-      at (f k p) (ap (λ q. f k q) same ∙ ap (λ n. f n part) (zeroth k) ∙ h) where
-        zeroth : (k : ℕ) → k ≡ k + 0
-        zeroth k = omega arith
-
+      at (f k p) (ap (λ q. f k q) same ∙ ap (λ n. f n part) (sym (add-zero k)) ∙ h) where
         at : (b : Bool) → b ≡ true → (b || list_any (λ (i, part). f i part) (enumerate_from (k + 1) ps)) ≡ true
         at true e = refl
         at false e = absurd cc
@@ -234,23 +204,18 @@ skipped_by document k h = at (any_found (skips document k) document 0 h) where
 
   by : (i : ℕ) (part : Part) → slice_get document i ≡ Some part → skips document k i part ≡ true → (i : ℕ) × SkipsAt document i × ((k ≡ after_section4 document i) ⊎ (k ≡ after_section4 document i + 1))
   by i part here h =
-      let first : (is_section4_start part && skips_pair document i) ≡ true = and_left (is_section4_start part && skips_pair document i) _ h in (
+      let first : (is_section4_start part && skips_pair document i) ≡ true = (and_parts (is_section4_start part && skips_pair document i) _ h).0 in (
         i,
-        (here ∙ ap (λ p. Some p) (start_is part (and_left (is_section4_start part) (skips_pair document i) first)), and_right (is_section4_start part) (skips_pair document i) first),
-        places k (after_section4 document i) (and_right (is_section4_start part && skips_pair document i) _ h),
+        (here ∙ ap (λ p. Some p) (start_is part ((and_parts (is_section4_start part) (skips_pair document i) first).0)), (and_parts (is_section4_start part) (skips_pair document i) first).1),
+        places k (after_section4 document i) ((and_parts (is_section4_start part && skips_pair document i) _ h).1),
       )
 
   at : ((i : ℕ) × (part : Part) × (slice_get document i ≡ Some part) × (skips document k (0 + i) part ≡ true))
       → (i : ℕ) × SkipsAt document i × ((k ≡ after_section4 document i) ⊎ (k ≡ after_section4 document i + 1))
-  at (i, part, here, holds) = by i part here (ap (λ n. skips document k n part) (same i) ∙ holds) where
-    same : (i : ℕ) → i ≡ 0 + i
-    same i = omega arith
+  at (i, part, here, holds) = by i part here (ap (λ n. skips document k n part) (sym (zero-add i)) ∙ holds)
 
 skipped_from : (document : List Part) (k i : ℕ) → SkipsAt document i → (k ≡ after_section4 document i) ⊎ (k ≡ after_section4 document i + 1) → is_skipped document k ≡ true
-skipped_from document k i (here, pair) h = any_from (skips document k) document 0 i (Start blocks.Section4) here (ap (λ n. skips document k n (Start blocks.Section4)) (same i) ∙ holds) where
-  same : (i : ℕ) → 0 + i ≡ i
-  same i = omega arith
-
+skipped_from document k i (here, pair) h = any_from (skips document k) document 0 i (Start blocks.Section4) here (ap (λ n. skips document k n (Start blocks.Section4)) (zero-add i) ∙ holds) where
   places : (k a : ℕ) → (k ≡ a) ⊎ (k ≡ a + 1) → ((k == a) || (k == a + 1)) ≡ true
   places k a h = grind (arith, nat_tests)
 
@@ -267,12 +232,10 @@ after_section4-later document i = at (position_or_len is_section4_end (drop (i +
 module _ (document : List Part) where
   pub KnowsPairs-none : (pairs : Pairs) → pairs.end ≡ 0 → pairs.has_pair ≡ false → KnowsPairs document 0 pairs
   KnowsPairs-none pairs e h = record {
-    found = λ pair. absurd (different pairs.has_pair h pair);
+    found = λ pair. absurd (both_ways pairs.has_pair h pair);
     ahead = λ l. absurd (omega arith);
     earlier = λ i l skips. absurd (omega arith);
-  } where
-    different : (b : Bool) → b ≡ false → b ≡ true → ⊥
-    different b e f = cc
+  }
 
   -- over a part that is no start of Section4
   pub KnowsPairs-more : (index : ℕ) (pairs : Pairs) → (slice_get document index ≡ Some (Start blocks.Section4) → ⊥) → KnowsPairs document index pairs → KnowsPairs document (index + 1) pairs
@@ -424,7 +387,7 @@ stands-more document i k l h other =
       at m n e h = omega arith
 
       no : (part : Part) → slice_get document k ≡ Some part → is_section4_end part ≡ false
-      no part here = cases (true_or_false (is_section4_end part)) where
+      no part here = cases (cases_Bool (is_section4_end part)) where
         cases : (is_section4_end part ≡ true) ⊎ (is_section4_end part ≡ false) → is_section4_end part ≡ false
         cases (inl e) = absurd (other (here ∙ ap (λ p. Some p) (end_is part e)))
         cases (inr e) = e

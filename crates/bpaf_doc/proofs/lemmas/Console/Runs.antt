@@ -6,6 +6,7 @@ use Rattle.std.proofs.Common.{sym, subst, ap, ap₂, arith, ◌∙◌, append_as
 use Rattle.std.proofs.lemmas.List.Elements.{All-head, All-tail}
 use Rattle.std.proofs.lemmas.List.Folds.{list_all-append}
 use Rattle.std.proofs.lemmas.Bool.{le-ltb}
+use Rattle.std.proofs.Math.Bool.{and-false}
 use Rattle.bpaf_doc.specs.declared.console.page.Asked.TheVariants as asked
 use Rattle.bpaf_doc.specs.Buffer.Parts.{ink}
 use Rattle.bpaf_doc.specs.Splitter.Chunks.{Chunk, Raw, IsLine, chunk_ink, chunks_of, columns, is_paragraph}
@@ -33,11 +34,7 @@ module _ (width tab_stop : ℕ) (margins : List ℕ) (small : width ≤ 18446744
   fits out column n h = le-ltb width (saturated (column + n)) (omega (arith, h))
 
   no_break : (out : List ℕ) (column n : ℕ) → column + n ≤ width → wraps n (at out column) ≡ false
-  no_break out column n h = ap (λ b. not (length out == 0) && b) (fits out column n h) ∙ and_false (not (length out == 0))
-    where
-      and_false : (b : Bool) → (b && false) ≡ false
-      and_false true = refl
-      and_false false = refl
+  no_break out column n h = ap (λ b. not (length out == 0) && b) (fits out column n h) ∙ and-false (not (length out == 0))
 
   no_room : (out : List ℕ) (column n : ℕ) → column + n ≤ width → room_made n (at out column) ≡ at out column
   no_room out column n h =

@@ -6,6 +6,8 @@ use Rattle.std.proofs.lemmas.List.{length-append, drop-append-le, drop_all, reve
 use Rattle.std.proofs.lemmas.List.Folds.{list_any-append}
 use Rattle.std.proofs.lemmas.List.Sums.{sum_by-cons, take_while-cons}
 use Rattle.std.proofs.lemmas.Bool.Decides.{nat_tests}
+use Rattle.std.proofs.Math.Bool.{and-false, and-true, or-false}
+use Rattle.std.proofs.Math.Nat.{add-zero, zero-add}
 use Rattle.bpaf_doc.specs.declared.buffer.Block.TheVariants as blocks
 use Rattle.bpaf_doc.specs.Buffer.Parts.{Part, Text, Start, End}
 use Rattle.bpaf_doc.specs.Splitter.Chunks.{columns}
@@ -52,17 +54,13 @@ first_columns-cons part parts = ap (λ ps. sum_by text_columns ps) (take_while-c
   at false = sum_by-cons text_columns part (before_first is_term_end parts)
 
 first_columns-one : (part : Part) → first_columns (part ∷ []) ≡ text_columns part
-first_columns-one (Text bytes style) = at (columns bytes) where
-  at : (n : ℕ) → 0 + n ≡ n
-  at n = omega arith
+first_columns-one (Text bytes style) = zero-add (columns bytes)
 first_columns-one (Start b) = refl
 first_columns-one (End blocks.ItemTerm) = refl
 first_columns-one (End b) = refl
 
 first_columns-push : (parts : List Part) (part : Part) → first_columns (parts ++ part ∷ []) ≡ first_columns parts + (if list_any is_term_end parts then 0 else text_columns part)
-first_columns-push [] part = first_columns-one part ∙ at (text_columns part) where
-  at : (n : ℕ) → n ≡ 0 + n
-  at n = omega arith
+first_columns-push [] part = first_columns-one part ∙ sym (zero-add (text_columns part))
 first_columns-push (p ∷ ps) part =
     first_columns-cons p (ps ++ part ∷ []) ∙ at (is_term_end p) (list_any is_term_end ps) (text_columns p) (text_columns part) (first_columns ps) (first_columns (ps ++ part ∷ [])) (first_columns-push ps part)
     ∙ ap (λ n. n + (if is_term_end p || list_any is_term_end ps then 0 else text_columns part)) (sym (first_columns-cons p ps)) where
@@ -76,10 +74,7 @@ abbrev is_in_term : List Part → Bool
 is_in_term before = list_any is_term_start before && not (list_any is_term_end (after_last is_term_start before))
 
 any_push : (p : Part → Bool) (parts : List Part) (part : Part) → list_any p (parts ++ part ∷ []) ≡ (list_any p parts || p part)
-any_push p parts part = list_any-append p parts (part ∷ []) ∙ ap (λ (b : Bool). list_any p parts || b) (at (p part)) where
-  at : (b : Bool) → (b || false) ≡ b
-  at true = refl
-  at false = refl
+any_push p parts part = list_any-append p parts (part ∷ []) ∙ ap (λ (b : Bool). list_any p parts || b) (or-false (p part))
 
 is_in_term-push : (before : List Part) (part : Part) → is_in_term (before ++ part ∷ []) ≡ (if is_term_start part then true else is_in_term before && not (is_term_end part))
 is_in_term-push before part =
@@ -176,34 +171,24 @@ walk : (document before rest : List Part) (widest : ℕ) → document ≡ before
 walk document before [] widest e = refl
 walk document before (Text bytes style ∷ rest) widest e =
     passed document before rest (Text bytes style) widest (is_in_term before) (if is_in_term before then sat (sat (term_length before) + columns bytes) else sat (term_length before))
-    (sym (is_in_term-push before (Text bytes style) ∙ stays (is_in_term before)))
+    (sym (is_in_term-push before (Text bytes style) ∙ and-true (is_in_term before)))
     (at (is_in_term before) (term_length before) (columns bytes) ∙ ap sat (sym (term_length-push before (Text bytes style))))
     e (λ same. walk document (before ++ Text bytes style ∷ []) rest widest same) where
-      stays : (b : Bool) → (b && true) ≡ b
-      stays true = refl
-      stays false = refl
-
       at : (b : Bool) (l n : ℕ) → (if b then sat (sat l + n) else sat l) ≡ sat (l + (if b then n else 0))
       at true l n = sat_more l n
-      at false l n = ap sat (more l) where
-        more : (l : ℕ) → l ≡ l + 0
-        more l = omega arith
+      at false l n = ap sat (sym (add-zero l))
 walk document before (Start blocks.ItemTerm ∷ rest) widest e =
     passed document before rest (Start blocks.ItemTerm) widest true 0 (sym (is_in_term-push before (Start blocks.ItemTerm))) (ap sat (sym (term_length-push before (Start blocks.ItemTerm))))
     e (λ same. walk document (before ++ Start blocks.ItemTerm ∷ []) rest widest same)
 walk document before (Start b ∷ rest) widest e = quiet document before rest (Start b) widest refl refl refl e (λ same. walk document (before ++ Start b ∷ []) rest widest same)
 walk document before (End blocks.ItemTerm ∷ rest) widest e =
     passed document before rest (End blocks.ItemTerm) (wider widest (sat (term_length before))) false (sat (term_length before))
-    (sym (is_in_term-push before (End blocks.ItemTerm) ∙ ends (is_in_term before)))
+    (sym (is_in_term-push before (End blocks.ItemTerm) ∙ and-false (is_in_term before)))
     (ap sat (sym (term_length-push before (End blocks.ItemTerm) ∙ same_length (is_in_term before) (term_length before))))
     e (λ same. walk document (before ++ End blocks.ItemTerm ∷ []) rest (wider widest (sat (term_length before))) same)
     ∙ ap (λ (m : ℕ). fold max (wider widest (sat m)) (filter (λ n. nat_le n 24) (lengths_from document (length before + 1) rest)))
     (sym (ap term_length (ap (take (length before)) e ∙ take_at before (End blocks.ItemTerm ∷ rest) (length before) refl)))
     ∙ counted widest (term_length (take (length before) document)) (lengths_from document (length before + 1) rest) where
-      ends : (b : Bool) → (b && false) ≡ false
-      ends true = refl
-      ends false = refl
-
       same_length : (b : Bool) (l : ℕ) → l + (if b then 0 else 0) ≡ l
       same_length true l = omega arith
       same_length false l = omega arith

@@ -2,6 +2,7 @@
 use Rattle.std.proofs.Common.{◌≡◌, ℕ, Bool, true, false, cond, List, [], ◌∷◌, ◌++◌, map, refl, sym, ap, ◌∙◌, append_assoc, append-nil}
 use Rattle.std.specs.Prelude.{flat_map, filter, reverse, codes, if◌then◌else◌}
 use Rattle.std.proofs.lemmas.List.Concat.{flat_map-append}
+use Rattle.std.proofs.lemmas.List.Elements.{filter-append}
 use Rattle.bpaf_doc.specs.declared.buffer.Style.TheVariants as styles
 use Rattle.bpaf_doc.specs.declared.buffer.Block.{Block}
 use Rattle.bpaf_doc.specs.declared.buffer.Block.TheVariants as blocks
@@ -90,14 +91,6 @@ page-spelled p (f ∷ fs) =
     ∙ ap (λ x. p.bytes ++ x) (sym (flat_map-append snippet_text (snippets_of p f) (cut_from (page_after p f) fs)))
 
 -- ---- what of them stays under a test
-
-pub filter-append : {X : Type 0} (test : X → Bool) (xs ys : List X) → filter test (xs ++ ys) ≡ filter test xs ++ filter test ys
-filter-append test [] ys = refl
-filter-append test (x ∷ xs) ys =
-    elim (test x) as (λ b. cond b (x ∷ filter test (xs ++ ys)) (filter test (xs ++ ys)) ≡ cond b (x ∷ filter test xs) (filter test xs) ++ filter test ys) [
-      | true ↦ ap (λ zs. x ∷ zs) (filter-append test xs ys)
-      | false ↦ filter-append test xs ys
-    ]
 
 pub fragments-append : (xs ys : List HtmlSnippet) → fragments_in (xs ++ ys) ≡ fragments_in xs ++ fragments_in ys
 fragments-append [] ys = refl

@@ -7,7 +7,7 @@ use Rattle.std.proofs.lemmas.List.Folds.{list_all-append}
 use Rattle.std.proofs.lemmas.Slice.Eq.{ends_is}
 use Rattle.std.proofs.lemmas.Bool.{and_parts, and_from, cases_Bool, eqb-false, false≢true}
 use Rattle.std.proofs.lemmas.Bool.Decides.{Decides-eqb}
-use Rattle.std.proofs.Math.Bool.{or-true}
+use Rattle.std.proofs.Math.Bool.{or-true, and-false, and-true}
 use Rattle.bpaf_doc.specs.declared.buffer.Style.{Style}
 use Rattle.bpaf_doc.specs.declared.buffer.Style.TheVariants as styles
 use Rattle.bpaf_doc.specs.declared.buffer.Block.{Block}
@@ -128,16 +128,8 @@ no_break text t some other = at (cases_Bool (ends_with nat_eq (text ++ t) break_
 -- what the code keeps about breaks, after it wrote something else
 fresh_put : (text t : List ℕ) (fresh : Bool) → fresh ≡ is_at_break text → IsOther t → (fresh && is_empty t) ≡ is_at_break (text ++ t)
 fresh_put text t fresh e (inl none) =
-    ap (λ x. fresh && is_empty x) none ∙ and_true fresh ∙ e ∙ ap is_at_break (sym (append-nil text)) ∙ ap (λ x. is_at_break (text ++ x)) (sym none)
-  where
-    and_true : (b : Bool) → (b && true) ≡ b
-    and_true true = refl
-    and_true false = refl
-fresh_put text t fresh e (inr some) = ap (λ b. fresh && b) some.0 ∙ and_false fresh ∙ sym (no_break text t some.0 some.1)
-  where
-    and_false : (b : Bool) → (b && false) ≡ false
-    and_false true = refl
-    and_false false = refl
+    ap (λ x. fresh && is_empty x) none ∙ and-true fresh ∙ e ∙ ap is_at_break (sym (append-nil text)) ∙ ap (λ x. is_at_break (text ++ x)) (sym none)
+fresh_put text t fresh e (inr some) = ap (λ b. fresh && b) some.0 ∙ and-false fresh ∙ sym (no_break text t some.0 some.1)
 
 -- ---- what the code keeps is what looking back says
 

@@ -4,6 +4,7 @@ use Rattle.std.specs.Prelude.{◌≡◌, ℕ, Bool, true, false, List, [], ◌�
 use Rattle.std.specs.Str.{str_to_ascii_uppercase}
 use Rattle.std.proofs.Common.{ap, ◌∙◌, sym, subst, append_assoc}
 use Rattle.std.proofs.lemmas.List.{append-nil, reverse-append}
+use Rattle.std.proofs.lemmas.List.Concat.{flat_map-append}
 use Rattle.bpaf_roff.specs.Pieces.{Piece}
 use Rattle.bpaf_roff.specs.Roff.{Script, rendering, text_pieces}
 use Rattle.bpaf_roff.specs.declared.escape.Apostrophes.TheVariants.{Handle}
@@ -17,7 +18,7 @@ use Rattle.bpaf_doc.specs.declared.buffer.Style.{Style}
 use Rattle.bpaf_doc.specs.declared.buffer.Style.TheVariants as style
 use Rattle.bpaf_doc.specs.declared.buffer.Block.{Block}
 use Rattle.bpaf_doc.specs.declared.buffer.Block.TheVariants as block
-use Rattle.bpaf_doc.proofs.lemmas.Manpage.LookingBack.{last_is_start-append, captured_texts-append, places-append, flat_map-append}
+use Rattle.bpaf_doc.proofs.lemmas.Manpage.LookingBack.{last_is_start-append, captured_texts-append, places-append}
 use Rattle.bpaf_doc.proofs.lemmas.Manpage.PageRead.{end_calls, place_calls, page_read}
 
 -- ---- the pieces of the calls

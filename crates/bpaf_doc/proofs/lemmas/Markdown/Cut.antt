@@ -1,6 +1,7 @@
 -- The snippets that make up a markdown text, and what it keeps in mind between fragments.
 use Rattle.std.proofs.Common.{◌≡◌, ℕ, Bool, true, false, List, [], ◌∷◌, ◌++◌, map, refl, sym, ap, ◌∙◌, append_assoc, append-nil, nat_lt}
 use Rattle.std.specs.Prelude.{not, ◌&&◌, ◌==◌, flat_map, reverse, codes, if◌then◌else◌}
+use Rattle.std.proofs.Math.Bool.{and-true, and-false}
 use Rattle.bpaf_doc.specs.declared.buffer.Style.{Style}
 use Rattle.bpaf_doc.specs.declared.buffer.Style.TheVariants as styles
 use Rattle.bpaf_doc.specs.declared.buffer.Block.{Block}
@@ -258,14 +259,6 @@ step-code p f = own-code (with_item p (is_term_end f)) f ∙ ap (λ c. code_next
 -- inside Mono, by the fragments before and by what is kept in mind
 abbrev pub SameMono : List Fragment → Marked → Type 0
 SameMono before p = is_in_mono before ≡ nat_lt p.ends p.starts
-
-and-false : (b : Bool) → (b && false) ≡ false
-and-false true = refl
-and-false false = refl
-
-and-true : (b : Bool) → (b && true) ≡ b
-and-true true = refl
-and-true false = refl
 
 whole_text : (before : List Fragment) (style : Style) (bytes : List ℕ) (weight : ℕ) → is_ordinary (Raw bytes weight) ≡ false → fragment_text before (Shown style (Raw bytes weight)) ≡ bytes
 whole_text before style bytes weight e =

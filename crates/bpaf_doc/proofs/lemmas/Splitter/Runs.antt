@@ -3,7 +3,7 @@ use Rattle.std.specs.Prelude.{◌≡◌, ◌≢◌, ℕ, suc, ◌+◌, ◌-◌, 
 use Rattle.std.specs.Int.{is_in_range}
 use Rattle.std.specs.List.{list_all}
 use Rattle.std.proofs.Common.{sym, ◌∙◌, ap, subst, inl, inr, arith, append_assoc, get_or, take-append-drop, take_all, drop-cons, length-take, length-drop}
-use Rattle.std.proofs.lemmas.List.{take-take, drop_all, get_or-take}
+use Rattle.std.proofs.lemmas.List.{take-take, drop_all, get_or-take, take_rest}
 use Rattle.memchr.specs.Find.{Nowhere, NoneBefore, NoneAfter, Passes, IsLastByte, is_byte}
 use Rattle.std.proofs.lemmas.List.Folds.{list_all-append, list_all_more}
 use Rattle.std.proofs.lemmas.Bool.Decides.{nat_tests}
@@ -194,10 +194,6 @@ run_taken text run end is some ends short =
       line = subst (λ t. IsLine t) (sym is) at.line;
       short = omega (arith, len, short);
     }
-
--- the rest of a text as a range of it
-pub rest_is : (text : List ℕ) (k : ℕ) → take (length text - k) (drop k text) ≡ drop k text
-rest_is text k = take_all (length text - k) (drop k text) (omega (arith, length-drop k text))
 
 -- a text that is not empty has some
 pub words_some : {chunks : List Chunk} {text : List ℕ} → AreWords chunks text → text ≢ [] → 0 < length chunks

@@ -2,6 +2,7 @@
 use Rattle.std.specs.Prelude.{◌≡◌, ℕ, zero, suc, Bool, true, false, ◌&&◌, ◌||◌, ◌==◌, List, [], ◌∷◌, refl, if◌then◌else◌, ◌⊎◌}
 use Rattle.std.specs.List.{list_any}
 use Rattle.std.proofs.Common.{sym, subst, inl, inr, ◌∙◌}
+use Rattle.std.proofs.lemmas.Bool.{and_parts}
 use Rattle.bpaf_doc.specs.declared.buffer.Block.TheVariants as blocks
 use Rattle.bpaf_doc.specs.Buffer.Parts.{ink}
 use Rattle.bpaf_doc.specs.Splitter.Chunks.{is_inked, has_some}
@@ -70,12 +71,8 @@ ends_line_owes (Passed event ∷ r) f q h = at (by_cases (has_some (event_bytes 
 pub blank_line_ends : (r : List Stretch) → ends_blank r ≡ true → ends_line r ≡ true
 blank_line_ends [] h = h
 blank_line_ends (x ∷ r) h = at (by_cases (has_some (stretch_bytes x))) (blank_line_ends r) where
-  and_left : (a b : Bool) → (a && b) ≡ true → a ≡ true
-  and_left true b h = refl
-  and_left false b h = absurd cc
-
   at : (has_some (stretch_bytes x) ≡ true) ⊎ (has_some (stretch_bytes x) ≡ false) → (ends_blank r ≡ true → ends_line r ≡ true) → ends_line (x ∷ r) ≡ true
-  at (inl s) ih = let both : (is_newline x && ends_line r) ≡ true = rw s at h in rw s (and_left (is_newline x) (ends_line r) both)
+  at (inl s) ih = let both : (is_newline x && ends_line r) ≡ true = rw s at h in rw s ((and_parts (is_newline x) (ends_line r) both).0)
   at (inr s) ih = let rest : ends_blank r ≡ true = rw s at h in rw s (ih rest)
 
 inked_line_ink : (r : List Stretch) → inked_line r ≡ true → list_any is_inked_stretch r ≡ true

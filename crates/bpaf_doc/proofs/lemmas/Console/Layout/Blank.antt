@@ -5,6 +5,7 @@ use Rattle.std.proofs.Common.{sym, subst, ap, arith, inl, inr, ◌∙◌, append
 use Rattle.std.proofs.lemmas.List.{reverse-append, append-nil}
 use Rattle.std.proofs.lemmas.Grind.{flat_map-append}
 use Rattle.std.proofs.lemmas.Bool.Decides.{nat_tests}
+use Rattle.std.proofs.lemmas.Bool.{and_parts, eqb-true}
 use Rattle.bpaf_doc.specs.Splitter.Chunks.{Chunk, Paragraph, LineBreak, columns, is_inked, has_some}
 use Rattle.bpaf_doc.specs.Console.Layout.{Event, Shows, Stretch, Gap, Placed, Passed, Place, chunk_at, event_bytes, stretch_bytes, is_inked_stretch, asks_newline, asks_blank_line, is_raw_event, text_of, HasBlankLine}
 use Rattle.bpaf_doc.specs.declared.console.page.Asked.{Asked}
@@ -79,10 +80,6 @@ owes_fresh (Passed event ∷ r) f o h = at (by_cases (is_raw_event event)) (by_c
   or_left true b h f = refl
   or_left false b h f = absurd cc
 
-  and_right : (a b : Bool) → (a && b) ≡ true → b ≡ true
-  and_right true b h = h
-  and_right false b h = absurd cc
-
   at : (is_raw_event event ≡ true) ⊎ (is_raw_event event ≡ false) → (has_some (event_bytes event) ≡ true) ⊎ (has_some (event_bytes event) ≡ false)
       → (owes_blank r ≡ true) ⊎ (owes_blank r ≡ false) → (owes_blank r ≡ true → ends_line r ≡ true → is_fresh r ≡ true) → is_fresh (Passed event ∷ r) ≡ true
   at (inl x) s y ih = let no : false ≡ true = rw x at o in absurd cc
@@ -92,7 +89,7 @@ owes_fresh (Passed event ∷ r) f o h = at (by_cases (is_raw_event event)) (by_c
       let both : ((asks_blank_line event && last_raw_inked r) || owes_blank r) ≡ true = rw x at o in
       let last : (asks_blank_line event && last_raw_inked r) ≡ true = or_left (asks_blank_line event && last_raw_inked r) (owes_blank r) both y in
       let rest : ends_line r ≡ true = rw s at h in
-      rw s (last_fresh r f (and_right (asks_blank_line event) (last_raw_inked r) last) rest)
+      rw s (last_fresh r f ((and_parts (asks_blank_line event) (last_raw_inked r) last).1) rest)
 
 -- ---- what is owed is asked for
 
@@ -151,10 +148,8 @@ HasNoRaw m = list_any is_raw_event (events_back m) ≡ false
 line_between : (m : List Stretch) (e : Place) (before : List Stretch) → HasNoRaw m → has_some e.shown ≡ true → ends_line (m ++ Placed e ∷ before) ≡ true → EndsLine m
 line_between [] e before none some h = let no : false ≡ true = rw some at h in absurd cc
 line_between (Gap b ∷ m) e before none some h =
-    let ten : b ≡ 10 = is_ten b h in
-    (text_back m, text_back_cons (Gap b) m ∙ ap (λ c. text_back m ++ c ∷ []) ten) where
-      is_ten : (b : ℕ) → (b == 10) ≡ true → b ≡ 10
-      is_ten b e = grind (arith, nat_tests)
+    let ten : b ≡ 10 = eqb-true b 10 h in
+    (text_back m, text_back_cons (Gap b) m ∙ ap (λ c. text_back m ++ c ∷ []) ten)
 line_between (Placed g ∷ m) e before none some h = absurd cc
 line_between (Passed event ∷ m) e before none some h = at (by_cases (has_some (event_bytes event))) (line_between m e before (or_false_right (is_raw_event event) _ none) some) where
   at : (has_some (event_bytes event) ≡ true) ⊎ (has_some (event_bytes event) ≡ false) → (ends_line (m ++ Placed e ∷ before) ≡ true → EndsLine m) → EndsLine (Passed event ∷ m)
@@ -168,19 +163,9 @@ line_between (Passed event ∷ m) e before none some h = at (by_cases (has_some 
 blank_between : (m : List Stretch) (e : Place) (before : List Stretch) → HasNoRaw m → has_some e.shown ≡ true → ends_blank (m ++ Placed e ∷ before) ≡ true → HasBlankLine (text_back m)
 blank_between [] e before none some h = let no : false ≡ true = rw some at h in absurd cc
 blank_between (Gap b ∷ m) e before none some h =
-    let ten : b ≡ 10 = is_ten b (and_left (b == 10) _ h) in
-    let line : EndsLine m = line_between m e before none some (and_right (b == 10) _ h) in
-    (line.0, [], text_back_cons (Gap b) m ∙ ap (λ t. t ++ b ∷ []) line.1 ∙ ap (λ c. (line.0 ++ codes "\n") ++ c ∷ []) ten ∙ append_assoc line.0 (codes "\n") (codes "\n") ∙ sym (append-nil (line.0 ++ codes "\n\n"))) where
-      is_ten : (b : ℕ) → (b == 10) ≡ true → b ≡ 10
-      is_ten b e = grind (arith, nat_tests)
-
-      and_left : (a b : Bool) → (a && b) ≡ true → a ≡ true
-      and_left true b h = refl
-      and_left false b h = absurd cc
-
-      and_right : (a b : Bool) → (a && b) ≡ true → b ≡ true
-      and_right true b h = h
-      and_right false b h = absurd cc
+    let ten : b ≡ 10 = eqb-true b 10 ((and_parts (b == 10) _ h).0) in
+    let line : EndsLine m = line_between m e before none some ((and_parts (b == 10) _ h).1) in
+    (line.0, [], text_back_cons (Gap b) m ∙ ap (λ t. t ++ b ∷ []) line.1 ∙ ap (λ c. (line.0 ++ codes "\n") ++ c ∷ []) ten ∙ append_assoc line.0 (codes "\n") (codes "\n") ∙ sym (append-nil (line.0 ++ codes "\n\n")))
 blank_between (Placed g ∷ m) e before none some h = absurd cc
 blank_between (Passed event ∷ m) e before none some h = at (by_cases (has_some (event_bytes event))) (blank_between m e before (or_false_right (is_raw_event event) _ none) some) where
   at : (has_some (event_bytes event) ≡ true) ⊎ (has_some (event_bytes event) ≡ false) → (ends_blank (m ++ Placed e ∷ before) ≡ true → HasBlankLine (text_back m)) → HasBlankLine (text_back (Passed event ∷ m))
@@ -287,14 +272,6 @@ module _ (width : ℕ) where
     or_left true b h f = refl
     or_left false b h f = absurd cc
 
-    and_left : (a b : Bool) → (a && b) ≡ true → a ≡ true
-    and_left true b h = refl
-    and_left false b h = absurd cc
-
-    and_right : (a b : Bool) → (a && b) ≡ true → b ≡ true
-    and_right true b h = h
-    and_right false b h = absurd cc
-
     at : (has_some (event_bytes event) ≡ true) ⊎ (has_some (event_bytes event) ≡ false) → (is_raw_event event ≡ true) ⊎ (is_raw_event event ≡ false)
         → (owes_blank (trimmed r) ≡ true) ⊎ (owes_blank (trimmed r) ≡ false) → (owes_blank (trimmed r) ≡ true → owes_blank r ≡ true) → owes_blank (Passed event ∷ r) ≡ true
     at (inl i) x y ih = subst (λ z. owes_blank z ≡ true) (trimmed_bytes event r i) h
@@ -304,8 +281,8 @@ module _ (width : ℕ) where
         let g : owes_blank (Passed event ∷ trimmed r) ≡ true = subst (λ z. owes_blank z ≡ true) (trimmed_bare event r i) h in
         let both : ((asks_blank_line event && last_raw_inked (trimmed r)) || owes_blank (trimmed r)) ≡ true = rw x at g in
         let last : (asks_blank_line event && last_raw_inked (trimmed r)) ≡ true = or_left _ (owes_blank (trimmed r)) both y in
-        let asks : asks_blank_line event ≡ true = and_left (asks_blank_line event) (last_raw_inked (trimmed r)) last in
-        let inked : last_raw_inked r ≡ true = last_trimmed r (and_right (asks_blank_line event) (last_raw_inked (trimmed r)) last) in
+        let asks : asks_blank_line event ≡ true = (and_parts (asks_blank_line event) (last_raw_inked (trimmed r)) last).0 in
+        let inked : last_raw_inked r ≡ true = last_trimmed r ((and_parts (asks_blank_line event) (last_raw_inked (trimmed r)) last).1) in
         rw (x, asks, inked) refl
 
   blank_begins : {st : State} {p : Piece} {base : State} → EachPlace Fills st.back → EachPassed NoInk st.back → IsAskedBlank st → IsFreshAtZero st

@@ -2,6 +2,7 @@
 use Rattle.std.specs.Prelude.{◌≡◌, ℕ, zero, suc, Bool, true, false, ◌||◌, List, [], ◌∷◌, ◌++◌, refl, ◌⊎◌}
 use Rattle.std.specs.List.{list_any}
 use Rattle.std.proofs.Common.{sym, subst, ap, inl, inr, ◌∙◌}
+use Rattle.std.proofs.lemmas.Bool.{or_parts}
 use Rattle.bpaf_doc.specs.Splitter.Chunks.{Raw, is_inked, has_some}
 use Rattle.bpaf_doc.specs.Console.Layout.{Event, Shows, Stretch, Gap, Placed, Passed, Place, chunk_at, event_bytes, is_newline, is_inked_stretch}
 use Rattle.bpaf_doc.proofs.lemmas.Console.Layout.Columns.{any_in_line}
@@ -227,19 +228,9 @@ inked_line_padded (suc n) r = inked_line_padded n r
 pub inked_since : (m : List Stretch) (e : Place) (before : List Stretch) → is_inked (chunk_at e) ≡ true → has_newline m ≡ false → inked_line (m ++ Placed e ∷ before) ≡ true
 inked_since [] e before i n = rw i refl
 inked_since (x ∷ m) e before i n =
-    let first : is_newline x ≡ false = or_left (is_newline x) (has_newline m) n in
-    let ih : inked_line (m ++ Placed e ∷ before) ≡ true = inked_since m e before i (or_right (is_newline x) (has_newline m) n) in
+    let first : is_newline x ≡ false = (or_parts (is_newline x) (has_newline m) n).0 in
+    let ih : inked_line (m ++ Placed e ∷ before) ≡ true = inked_since m e before i ((or_parts (is_newline x) (has_newline m) n).1) in
     rw first (or_true (is_inked_stretch x) ih) where
-      or_left : (a b : Bool) → (a || b) ≡ false → a ≡ false
-      or_left true b h = absurd cc
-      or_left false b h = h0 where
-        h0 : false ≡ false
-        h0 = refl
-
-      or_right : (a b : Bool) → (a || b) ≡ false → b ≡ false
-      or_right true b h = absurd cc
-      or_right false b h = h
-
       or_true : (a : Bool) → inked_line (m ++ Placed e ∷ before) ≡ true → (a || inked_line (m ++ Placed e ∷ before)) ≡ true
       or_true true t = refl
       or_true false t = t

@@ -8,6 +8,7 @@ use Rattle.std.proofs.lemmas.List.{append-nil}
 use Rattle.std.proofs.lemmas.Str.{chars-append, encodes-chars, chars-encodes, scalars-chars, encodes-append, IsUtf8-append, IsUtf8-nil, IsUtf8-from_ascii}
 use Rattle.std.proofs.Math.Utf8.{encodes, scalars, scalar}
 use Rattle.std.proofs.lemmas.Bool.Decides.{nat_tests}
+use Rattle.std.proofs.lemmas.Bool.{or_parts}
 use Rattle.bpaf_doc.specs.Buffer.Parts.{ink}
 use Rattle.bpaf_doc.specs.Splitter.Chunks.{is_inked, has_some, IsLine, is_line_byte}
 use Rattle.bpaf_doc.specs.Shown.{is_term_ref}
@@ -173,15 +174,8 @@ some_none (x ∷ xs) h = absurd cc
 pub no_text : (r : List Stretch) → has_text r ≡ false → text_back r ≡ []
 no_text [] h = refl
 no_text (x ∷ r) h =
-    let none : stretch_bytes x ≡ [] = some_none (stretch_bytes x) (or_left (has_some (stretch_bytes x)) (has_text r) h) in
-    text_back_cons x r ∙ ap (λ t. t ++ stretch_bytes x) (no_text r (or_right (has_some (stretch_bytes x)) (has_text r) h)) ∙ none where
-      or_left : (a b : Bool) → (a || b) ≡ false → a ≡ false
-      or_left true b h = absurd cc
-      or_left false b h = refl
-
-      or_right : (a b : Bool) → (a || b) ≡ false → b ≡ false
-      or_right true b h = absurd cc
-      or_right false b h = h
+    let none : stretch_bytes x ≡ [] = some_none (stretch_bytes x) ((or_parts (has_some (stretch_bytes x)) (has_text r) h).0) in
+    text_back_cons x r ∙ ap (λ t. t ++ stretch_bytes x) (no_text r ((or_parts (has_some (stretch_bytes x)) (has_text r) h).1)) ∙ none
 
 pub some_text : (r : List Stretch) → has_text r ≡ true → text_back r ≢ []
 some_text [] h = λ e. absurd cc

@@ -6,7 +6,7 @@ use Rattle.std.proofs.Common.{sym, subst, ap, arith, inl, inr, ◌∙◌, append
 use Rattle.std.proofs.lemmas.List.{append-nil, nil_from_length}
 use Rattle.std.proofs.lemmas.Grind.{replicate_next}
 use Rattle.std.proofs.lemmas.Slice.Eq.{ends_is, bytes_eq-Decides}
-use Rattle.std.proofs.lemmas.Bool.{cases_lt}
+use Rattle.std.proofs.lemmas.Bool.{cases_lt, eqb-true, and_parts}
 use Rattle.std.proofs.lemmas.Bool.Decides.{nat_tests, Decides-eqb}
 use Rattle.bpaf_doc.specs.declared.console.page.Asked.{Asked}
 use Rattle.bpaf_doc.specs.declared.console.page.Asked.TheVariants.{Nothing, NewLine, BlankLine}
@@ -193,14 +193,6 @@ spaces_put s st d = at (by_cases (s.at_body && nat_le 28 (sat (s.column + (page.
   column : s.column ≡ st.column
   column = d.column
 
-  and_left : (a b : Bool) → (a && b) ≡ true → a ≡ true
-  and_left true b h = refl
-  and_left false b h = absurd cc
-
-  and_right : (a b : Bool) → (a && b) ≡ true → b ≡ true
-  and_right true b h = h
-  and_right false b h = absurd cc
-
   wide : (n : ℕ) → nat_le 28 n ≡ true → 28 ≤ n
   wide n h = grind (arith, nat_tests)
 
@@ -220,8 +212,8 @@ spaces_put s st d = at (by_cases (s.at_body && nat_le 28 (sat (s.column + (page.
   at (inr h) l =
       (page.margin_of s - s.column, to_margin (omega arith), subst (λ (t : Sheet). Draws t (spaced (page.margin_of s - s.column) st)) (sym (plain h)) (draws_spaced (page.margin_of s - s.column) s st d))
   at (inl h) (inl l) =
-      let far : 28 ≤ sat (s.column + (page.margin_of s - s.column)) = wide (sat (s.column + (page.margin_of s - s.column))) (and_right s.at_body _ h) in
-      let pending : st.pending ≡ true = sym d.body ∙ and_left s.at_body _ h in
+      let far : 28 ≤ sat (s.column + (page.margin_of s - s.column)) = wide (sat (s.column + (page.margin_of s - s.column))) ((and_parts s.at_body _ h).1) in
+      let pending : st.pending ≡ true = sym d.body ∙ (and_parts s.at_body _ h).0 in
       let sum : 2 - (page.margin_of s - s.column) + (page.margin_of s - s.column) ≡ 2 = omega arith in (
         2,
         after_term pending (omega arith) (omega arith) refl,
@@ -300,9 +292,6 @@ raw_placed p s st u l weighed d = at (by_cases (length s.out == 0)) where
   full : (n : ℕ) → nat_lt s.width n ≡ true → s.width < n
   full n h = grind (arith, nat_tests)
 
-  zero_length : (n : ℕ) → (n == 0) ≡ true → n ≡ 0
-  zero_length n h = grind (arith, nat_tests)
-
   some_length : (n : ℕ) → (n == 0) ≡ false → n ≡ 0 → ⊥
   some_length n h e = grind (arith, nat_tests)
 
@@ -312,7 +301,7 @@ raw_placed p s st u l weighed d = at (by_cases (length s.out == 0)) where
   empty : (length s.out == 0) ≡ true → has_text st.back ≡ false
   empty h = test (by_cases (has_text st.back)) where
     test : (has_text st.back ≡ true) ⊎ (has_text st.back ≡ false) → has_text st.back ≡ false
-    test (inl t) = absurd (some_text st.back t (sym d.bytes ∙ nil_from_length s.out (zero_length (length s.out) h)))
+    test (inl t) = absurd (some_text st.back t (sym d.bytes ∙ nil_from_length s.out (eqb-true (length s.out) 0 h)))
     test (inr t) = t
 
   some : (length s.out == 0) ≡ false → has_text st.back ≡ true

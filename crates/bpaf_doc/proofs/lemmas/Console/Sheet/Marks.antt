@@ -2,6 +2,7 @@
 use Rattle.std.specs.Prelude.{◌≡◌, ℕ, ◌+◌, ◌-◌, ◌≤◌, Bool, true, false, not, ◌&&◌, ◌||◌, List, [], ◌∷◌, ◌++◌, length, take, reverse, refl, ◌⊎◌, unwrap_or, slice_get, Option, Some, None}
 use Rattle.std.proofs.Common.{sym, subst, ap, arith, inl, inr, ◌∙◌}
 use Rattle.std.proofs.lemmas.List.{append-nil, reverse-append, length-reverse}
+use Rattle.std.proofs.Math.Bool.{and-true, and-false, or-false, or-true}
 use Rattle.bpaf_doc.specs.declared.console.page.Asked.{Asked}
 use Rattle.bpaf_doc.specs.declared.console.page.Asked.TheVariants.{Nothing, NewLine, BlankLine}
 use Rattle.bpaf_doc.specs.declared.buffer.Block.{Block}
@@ -33,29 +34,13 @@ end_asked : (a : Asked) (b : Block) → page.asked_by_end a b ≡ asked_after (C
 end_asked a blocks.Header = refl
 end_asked a _ = refl
 
-or_true : (p : Bool) → (p || true) ≡ true
-or_true true = refl
-or_true false = refl
-
-or_same : (p : Bool) → (p || false) ≡ p
-or_same true = refl
-or_same false = refl
-
-and_false : (p : Bool) → (p && false) ≡ false
-and_false true = refl
-and_false false = refl
-
-and_same : (p : Bool) → (p && true) ≡ p
-and_same true = refl
-and_same false = refl
-
 start_body : (p : Bool) (b : Block) → (p || page.is_body b) ≡ pending_after (Opens b) p
-start_body p blocks.ItemBody = or_true p
-start_body p _ = or_same p
+start_body p blocks.ItemBody = or-true p
+start_body p _ = or-false p
 
 end_body : (p : Bool) (b : Block) → (p && not (page.is_body b)) ≡ pending_after (Closes b) p
-end_body p blocks.ItemBody = and_false p
-end_body p _ = and_same p
+end_body p blocks.ItemBody = and-false p
+end_body p _ = and-true p
 
 -- the backquote of a term reference, over a sheet that differs from the page only in what a mark changes
 draws_marked : (event : Event) (b : Block) (s : Sheet) (st : State) → event_bytes event ≡ mark_bytes b → s.out ≡ text_back st.back → s.column ≡ st.column → s.column ≤ 18446744073709551615
