@@ -104,7 +104,7 @@ absorbed false false c h = refl
 
 list_all-weaker : {A : Type 0} (p q : A → Bool) → ((x : A) → p x ≡ true → q x ≡ true) → (xs : List A) → list_all p xs ≡ true → list_all q xs ≡ true
 list_all-weaker p q weaker [] h = refl
-list_all-weaker p q weaker (x ∷ xs) h = rw (weaker x ((and_parts (p x) (list_all p xs) h).0), list_all-weaker p q weaker xs ((and_parts (p x) (list_all p xs) h).1)) refl
+list_all-weaker p q weaker (x ∷ xs) h = rw (weaker x (and_parts (p x) (list_all p xs) h).0, list_all-weaker p q weaker xs (and_parts (p x) (list_all p xs) h).1) refl
 
 open_is : (parts : List Part) → stays_open is_inline_start is_inline_end parts ≡ stays_by 0 parts
 open_is parts = list_all-ext (λ front. nat_le (count_by is_inline_end front) (count_by is_inline_start front)) (λ front. is_within 0 front)

@@ -206,10 +206,6 @@ stack_at-more document j part rest e =
     ∙ stack_after-append (take j (shifts document)) (shift_at document (0 + j) part ∷ []) []
     ∙ ap (λ n. shifted (shift_at document n part) (stack_at document j)) (zero-add j)
 
--- a place by what stands before it
-pub part_there : (document before rest : List Part) (part : Part) (j : ℕ) → document ≡ before ++ part ∷ rest → length before ≡ j → drop j document ≡ part ∷ rest
-part_there document before rest part j e len = ap (drop j) e ∙ drop_at before (part ∷ rest) j len
-
 -- ---- no entry is above the top
 
 -- each entry is at most the next newer one
@@ -247,20 +243,6 @@ module _ (document : List Part) (j : ℕ) (part : Part) (rest : List Part) (here
   margin-outdent e =
       let same : margin document j ≡ top (popped (stack_at document j)) = margin_here ∙ ap (λ s. top (shifted s (stack_at document j))) e in
       let less : top (popped (stack_at document j)) ≤ top (stack_at document j) = popped_le (stack_at document j) (falls_after (take j (shifts document)) [] tt) in
-      omega arith
-
--- the same of two places in turn
-module _ (document : List Part) (j : ℕ) (part : Part) (rest : List Part) (here : drop (j + 1) document ≡ part ∷ rest) where
-  pub margin_next-level : shift_at document (j + 1) part ≡ Level → margin document (j + 1) ≡ margin document j
-  margin_next-level e = margin-level document (j + 1) part rest here e ∙ top-margin document j
-
-  pub margin_next-indent : (n : ℕ) → shift_at document (j + 1) part ≡ Indent n → margin document (j + 1) ≡ margin document j + n
-  margin_next-indent n e = margin-indent document (j + 1) part rest here n e ∙ ap (λ m. m + n) (top-margin document j)
-
-  pub margin_next-outdent : shift_at document (j + 1) part ≡ Outdent → margin document (j + 1) ≤ margin document j
-  margin_next-outdent e =
-      let less : margin document (j + 1) ≤ top (stack_at document (j + 1)) = margin-outdent document (j + 1) part rest here e in
-      let same : top (stack_at document (j + 1)) ≡ margin document j = top-margin document j in
       omega arith
 
 -- which shift a part has

@@ -10,7 +10,7 @@ use Rattle.std.proofs.Math.Nat.{zero-add, add-zero}
 use Rattle.bpaf_doc.specs.declared.buffer.Block.TheVariants as blocks
 use Rattle.bpaf_doc.specs.declared.buffer.Block.{Block}
 use Rattle.bpaf_doc.specs.declared.console.pairs.Pairs.{Pairs}
-use Rattle.bpaf_doc.specs.Buffer.Parts.{Part, Text, Start, End}
+use Rattle.bpaf_doc.specs.Buffer.Parts.{Part, Start, End}
 use Rattle.bpaf_doc.specs.Console.Margin.{is_section4_start, is_section4_end, has_empty_block, after_section4, skips_pair, is_skipped}
 use Rattle.bpaf_doc.specs.Console.Steps.Pairs.{SkipsAt, HasMarkAt, KnowsPairs}
 
@@ -27,10 +27,6 @@ start_is : (part : Part) → is_section4_start part ≡ true → part ≡ Start 
 start_is (Start blocks.Section4) h = refl
 start_is _ h = absurd cc
 
-end_is : (part : Part) → is_section4_end part ≡ true → part ≡ End blocks.Section4
-end_is (End blocks.Section4) h = refl
-end_is _ h = absurd cc
-
 -- ---- a part by its place
 
 slice_get-drop : {A : Type 0} (m n : ℕ) (xs : List A) → slice_get (drop m xs) n ≡ slice_get xs (m + n)
@@ -39,16 +35,6 @@ slice_get-drop (suc m) n [] = refl
 slice_get-drop (suc m) n (x ∷ xs) = slice_get-drop m n xs ∙ ap (λ k. slice_get (x ∷ xs) k) (at m n) where
   at : (m n : ℕ) → suc (m + n) ≡ suc m + n
   at m n = omega arith
-
--- what stands before a place and at it
-pub slice_get_there : (document before rest : List Part) (part : Part) (j : ℕ) → document ≡ before ++ part ∷ rest → length before ≡ j → slice_get document j ≡ Some part
-slice_get_there document before rest part j e len = ap (λ d. slice_get d j) e ∙ ap (λ k. slice_get (before ++ part ∷ rest) k) (sym len) ∙ at before where
-  at : (before : List Part) → slice_get (before ++ part ∷ rest) (length before) ≡ Some part
-  at [] = refl
-  at (p ∷ ps) = at ps
-
-pub slice_get_dropped : (document rest : List Part) (part : Part) (j : ℕ) → drop j document ≡ part ∷ rest → slice_get document j ≡ Some part
-slice_get_dropped document rest part j e = ap (λ k. slice_get document k) (sym (add-zero j)) ∙ sym (slice_get-drop j 0 document) ∙ ap (λ ps. slice_get ps 0) e
 
 -- a place behind a usize has no part
 pub slice_get-saturates : (document : List Part) (k : ℕ) → length document < 2 ^ 64 → slice_get document (min k 18446744073709551615) ≡ slice_get document k
@@ -82,21 +68,6 @@ position_passes p (y ∷ ys) x e = at (p y) refl e (λ e. position_passes p ys x
   at false h e more = more (ap (λ k. slice_get (y ∷ ys) k) (next (position_or_len p ys)) ∙ e) where
     next : (n : ℕ) → suc n ≡ 1 + n
     next n = omega arith
-
--- a place whose part passes, and one whose part does not
-position-here : {A : Type 0} (p : A → Bool) (xs : List A) (i : ℕ) (x : A) → slice_get xs i ≡ Some x → p x ≡ true → position_or_len p (drop i xs) ≡ 0
-position-here p [] i x e h = absurd cc
-position-here p (y ∷ ys) zero x e h = let same : y ≡ x = cc in rw (same, h) refl
-position-here p (y ∷ ys) (suc i) x e h = position-here p ys i x e h
-
-position-later : {A : Type 0} (p : A → Bool) (xs : List A) (i : ℕ) → i < length xs → ((x : A) → slice_get xs i ≡ Some x → p x ≡ false) → position_or_len p (drop i xs) ≡ 1 + position_or_len p (drop (suc i) xs)
-position-later p [] i l h = absurd (none i l) where
-  none : (i : ℕ) → i < 0 → ⊥
-  none i l = omega arith
-position-later p (y ∷ ys) zero l h = let no : p y ≡ false = h y refl in rw no refl
-position-later p (y ∷ ys) (suc i) l h = position-later p ys i (less i l) h where
-  less : (i : ℕ) → suc i < suc (length ys) → i < length ys
-  less i l = omega arith
 
 -- two places before the same end
 after_section4-shared : (document : List Part) (i j : ℕ) → i ≤ j → j + 1 < after_section4 document i → after_section4 document j ≡ after_section4 document i
@@ -152,8 +123,8 @@ pub empty_block-is : (document : List Part) (k : ℕ) (first second : Bool) → 
 empty_block-is document k first second f s = same_tests (first && second) (has_empty_block (drop k document)) there back where
   there : (first && second) ≡ true → has_empty_block (drop k document) ≡ true
   there h =
-      empty_block-from (drop k document) (slice_get-drop k 0 document ∙ ap (λ n. slice_get document n) (add-zero k) ∙ f.0 ((and_parts first second h).0))
-      (slice_get-drop k 1 document ∙ s.0 ((and_parts first second h).1))
+      empty_block-from (drop k document) (slice_get-drop k 0 document ∙ ap (λ n. slice_get document n) (add-zero k) ∙ f.0 (and_parts first second h).0)
+      (slice_get-drop k 1 document ∙ s.0 (and_parts first second h).1)
 
   back : has_empty_block (drop k document) ≡ true → (first && second) ≡ true
   back h =
@@ -206,8 +177,8 @@ skipped_by document k h = at (any_found (skips document k) document 0 h) where
   by i part here h =
       let first : (is_section4_start part && skips_pair document i) ≡ true = (and_parts (is_section4_start part && skips_pair document i) _ h).0 in (
         i,
-        (here ∙ ap (λ p. Some p) (start_is part ((and_parts (is_section4_start part) (skips_pair document i) first).0)), (and_parts (is_section4_start part) (skips_pair document i) first).1),
-        places k (after_section4 document i) ((and_parts (is_section4_start part && skips_pair document i) _ h).1),
+        (here ∙ ap (λ p. Some p) (start_is part (and_parts (is_section4_start part) (skips_pair document i) first).0), (and_parts (is_section4_start part) (skips_pair document i) first).1),
+        places k (after_section4 document i) (and_parts (is_section4_start part && skips_pair document i) _ h).1,
       )
 
   at : ((i : ℕ) × (part : Part) × (slice_get document i ≡ Some part) × (skips document k (0 + i) part ≡ true))
@@ -366,49 +337,6 @@ module _ (document : List Part) where
 
 -- ---- the code's loop and tests
 
--- from place j on no end stands before k
-abbrev pub StandsFrom : List Part → ℕ → ℕ → Type 0
-StandsFrom document i k = k + position_or_len is_section4_end (drop k document) + 1 ≡ after_section4 document i
-
-pub stands-from_start : (document : List Part) (i : ℕ) → StandsFrom document i (i + 1)
-stands-from_start document i = at (position_or_len is_section4_end (drop (i + 1) document)) where
-  at : (n : ℕ) → i + 1 + n + 1 ≡ i + n + 2
-  at n = omega arith
-
-pub stands-found : (document : List Part) (i k : ℕ) → StandsFrom document i k → slice_get document k ≡ Some (End blocks.Section4) → k + 1 ≡ after_section4 document i
-stands-found document i k h here = let none : position_or_len is_section4_end (drop k document) ≡ 0 = position-here is_section4_end document k (End blocks.Section4) here refl in at (position_or_len is_section4_end (drop k document)) none h where
-  at : (n : ℕ) {a : ℕ} → n ≡ 0 → k + n + 1 ≡ a → k + 1 ≡ a
-  at n e h = omega arith
-
-pub stands-more : (document : List Part) (i k : ℕ) → k < length document → StandsFrom document i k → (slice_get document k ≡ Some (End blocks.Section4) → ⊥) → StandsFrom document i (k + 1)
-stands-more document i k l h other =
-    at (position_or_len is_section4_end (drop k document)) (position_or_len is_section4_end (drop (k + 1) document)) (position-later is_section4_end document k l no ∙ ap (λ n. 1 + position_or_len is_section4_end (drop n document)) (sym (add-one k))) h where
-      at : (m n : ℕ) {a : ℕ} → m ≡ 1 + n → k + m + 1 ≡ a → k + 1 + n + 1 ≡ a
-      at m n e h = omega arith
-
-      no : (part : Part) → slice_get document k ≡ Some part → is_section4_end part ≡ false
-      no part here = cases (cases_Bool (is_section4_end part)) where
-        cases : (is_section4_end part ≡ true) ⊎ (is_section4_end part ≡ false) → is_section4_end part ≡ false
-        cases (inl e) = absurd (other (here ∙ ap (λ p. Some p) (end_is part e)))
-        cases (inr e) = e
-
-pub stands-none : (document : List Part) (i k : ℕ) → length document ≤ k → StandsFrom document i k → k + 1 ≡ after_section4 document i
-stands-none document i k l h = at (position_or_len is_section4_end (drop k document)) (ap (λ ps. position_or_len is_section4_end ps) (drop_all k document l)) h where
-  at : (n : ℕ) {a : ℕ} → n ≡ 0 → k + n + 1 ≡ a → k + 1 ≡ a
-  at n e h = omega arith
-
--- an empty Block directly behind a place, at places that a usize holds
-pub empty_block-behind : (document : List Part) (index next second : ℕ) (a b : Bool) → length document < 2 ^ 64
-    → next ≡ min (index + 1) 18446744073709551615 → second ≡ min (index + 2) 18446744073709551615
-    → (IsTrue a ↔ slice_get document next ≡ Some (Start blocks.Block)) → (IsTrue b ↔ slice_get document second ≡ Some (End blocks.Block))
-    → (a && b) ≡ has_empty_block (drop (index + 1) document)
-empty_block-behind document index next second a b small e f s t =
-    empty_block-is document (index + 1) a b
-    (subst (λ (o : Option Part). IsTrue a ↔ o ≡ Some (Start blocks.Block)) (ap (λ k. slice_get document k) e ∙ slice_get-saturates document (index + 1) small) s)
-    (subst (λ (o : Option Part). IsTrue b ↔ o ≡ Some (End blocks.Block)) (ap (λ k. slice_get document k) f ∙ slice_get-saturates document (index + 2) small ∙ ap (λ k. slice_get document k) (places index)) t) where
-      places : (index : ℕ) → index + 2 ≡ index + 1 + 1
-      places index = omega arith
-
 -- a mark at one of the two places, and a mark of another block
 module _ (document : List Part) (index : ℕ) (pairs : Pairs) (block : Block) (knows : KnowsPairs document (index + 1) pairs) (mark : HasMarkAt document index block) where
   pub skipped-is : (within : Bool) → (IsTrue within ↔ (pairs.has_pair ≡ true) × (pairs.end < index) × (index ≤ pairs.end + 2)) → within ≡ is_skipped document index
@@ -453,34 +381,3 @@ module _ (document : List Part) (index : ℕ) (pairs next : Pairs) (this : Block
         pair ∙ ap (λ b. b && skips_pair document index) (sym (is_section4_start-same this same)),
         KnowsPairs-found document index pairs next section4_here knows l (ap (λ n. n + 1) e ∙ first) pair,
       )
-
--- ---- a loop over the parts
-
--- these parts are left from this place on, and what is known of pairs is known before it
-pub record IsAhead (document : List Part) (index : ℕ) (pairs : Pairs) (parts : List Part) : Type 0 where
-  pub rest : drop index document ≡ parts
-  pub knows : KnowsPairs document index pairs
-
-pub IsAhead-all : (document : List Part) (pairs : Pairs) → KnowsPairs document 0 pairs → IsAhead document 0 pairs document
-IsAhead-all document pairs knows = record { rest = refl; knows = knows }
-
-module _ (document : List Part) (index : ℕ) (pairs : Pairs) (parts rest : List Part) (part : Part) (ahead : IsAhead document index pairs parts) (first : parts ≡ part ∷ rest) where
-  -- the part at this place
-  pub part_ahead : slice_get document index ≡ Some part
-  part_ahead = slice_get_dropped document rest part index (ahead.rest ∙ first)
-
-  -- after it, by what is known then
-  pub IsAhead-next : (next : Pairs) (k : ℕ) → k ≡ index + 1 → KnowsPairs document (index + 1) next → IsAhead document k next rest
-  IsAhead-next next k e knows = subst (λ (n : ℕ). IsAhead document n next rest) (sym e) (record { rest = sym (drop-drop 1 index document) ∙ ap (drop 1) (ahead.rest ∙ first); knows = knows })
-
-  -- and after one that is no start of Section4
-  pub knows_more : is_section4_start part ≡ false → KnowsPairs document (index + 1) pairs
-  knows_more other = KnowsPairs-more document index pairs (λ here. different (same part (sym part_ahead ∙ here) other)) ahead.knows where
-    different : false ≡ true → ⊥
-    different e = cc
-
-    same : (p : Part) → Some p ≡ Some (Start blocks.Section4) → is_section4_start p ≡ false → false ≡ true
-    same p e h = let is : p ≡ Start blocks.Section4 = cc in sym h ∙ ap is_section4_start is
-
-  pub IsAhead-more : (k : ℕ) → k ≡ index + 1 → is_section4_start part ≡ false → IsAhead document k pairs rest
-  IsAhead-more k e other = IsAhead-next pairs k e (knows_more other)

@@ -125,6 +125,3 @@ words_hide (a_word bytes more others ec et w) rest = ap (λ cs. list_any is_para
 
 pub run_hides : (run : List ℕ) (full : Bool) (chunks rest : List Chunk) → chunks ≡ chunks_of run ++ rest → IsLine run → hides full rest ≡ hides full chunks
 run_hides run full chunks rest e line = ap (λ b. not full && b) (sym (words_hide (words_of_line run line) rest)) ∙ ap (hides full) (sym e)
-
-pub run_left : (run : List ℕ) (chunks rest : List Chunk) → chunks ≡ chunks_of run ++ rest → length rest ≤ length chunks
-run_left run chunks rest e = omega (arith, ap length e, length-append (chunks_of run) rest)

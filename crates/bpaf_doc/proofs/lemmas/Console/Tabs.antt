@@ -199,11 +199,3 @@ pub tab_stop-walk : (document : List Part) → widest_from 0 false 0 document + 
 tab_stop-walk document = ap (λ n. n + 4) (walk document [] document 0 refl) ∙ turn (greatest (filter (λ n. nat_le n 24) (term_lengths document))) where
   turn : (n : ℕ) → n + 4 ≡ 4 + n
   turn n = omega arith
-
--- as the loop leaves it, with a sum that does not saturate
-pub tab_stop-found : (document : List Part) (widest : ℕ) (in_term : Bool) (count : ℕ) (rest : List Part) (result : ℕ)
-    → widest_from widest in_term count rest ≡ widest_from 0 false 0 document → rest ≡ [] → widest ≤ 24 → result ≡ min (widest + 4) 18446744073709551615 → result ≡ tab_stop document
-tab_stop-found document widest in_term count rest result same none small found =
-    let all : widest ≡ widest_from 0 false 0 document = sym (ap (λ ps. widest_from widest in_term count ps) none) ∙ same in
-    let sum : result ≡ widest + 4 = omega arith in
-    sum ∙ ap (λ n. n + 4) all ∙ tab_stop-walk document

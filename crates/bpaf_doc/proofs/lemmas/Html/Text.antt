@@ -6,7 +6,7 @@ use Rattle.std.proofs.lemmas.Bool.{and_parts}
 use Rattle.bpaf_doc.specs.declared.buffer.Block.TheVariants as blocks
 use Rattle.bpaf_doc.specs.Splitter.Chunks.{Raw, Paragraph, LineBreak, is_line_byte}
 use Rattle.bpaf_doc.specs.Html.Fragments.{Fragment, Shown, Start}
-use Rattle.bpaf_doc.specs.Html.Page.{erased, erased_from, escaped_character, fragment_text, HtmlSnippet, Open, Close, Break, Newline, Of, Tt, B, I, Div, IndentedDiv, Dt, Dd, Li, Dl, P, fragments_in}
+use Rattle.bpaf_doc.specs.Html.Page.{erased, erased_from, escaped_character, fragment_text, HtmlSnippet, Open, Close, Break, Newline, Of, Tt, fragments_in}
 use Rattle.bpaf_doc.proofs.lemmas.Html.Fragments.Lines.{fragment_is_line}
 use Rattle.bpaf_doc.proofs.lemmas.Html.Cut.{spelled}
 

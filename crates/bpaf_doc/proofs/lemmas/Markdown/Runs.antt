@@ -78,10 +78,6 @@ words_more {chunks} {text} (a_word bytes rest others ec et w) le p style s =
 
 -- ---- words where something may wait
 
--- the dash is written, and the code block closed
-abbrev settled : Marked → Marked
-settled p = close_code (with_item p false) (codes "\n  ```\n")
-
 closed_settled : (p : Marked) → p.pending ≡ false → IsSettled (close_code p (codes "\n  ```\n")) × (nat_lt (close_code p (codes "\n  ```\n")).ends (close_code p (codes "\n  ```\n")).starts ≡ nat_lt p.ends p.starts)
 closed_settled p e = by p.in_code refl where
   by : (b : Bool) → p.in_code ≡ b

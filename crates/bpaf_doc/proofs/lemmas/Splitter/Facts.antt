@@ -29,10 +29,6 @@ ink_of_pieces (piece gap there after rest chunk others ec et g h t l w s) u =
 pub ink_of_chunks : (text : List ℕ) → IsUtf8 text → flat_map chunk_ink (chunks_of text) ≡ ink text
 ink_of_chunks text u = ink_of_pieces (pieces (spells_its_chunks text)) u
 
--- a front of the chunks has a front of the ink, and the others have the rest
-pub ink_of_front : (text : List ℕ) (front back : List Chunk) → IsUtf8 text → chunks_of text ≡ front ++ back → ink text ≡ flat_map chunk_ink front ++ flat_map chunk_ink back
-ink_of_front text front back u e = sym (ink_of_chunks text u) ∙ ap (λ cs. flat_map chunk_ink cs) e ∙ flat_map-append chunk_ink front back
-
 -- ---- each chunk
 
 one_line_of_pieces : {chunks : List Chunk} {text : List ℕ} → Pieces chunks text → All IsOneLine chunks

@@ -30,12 +30,6 @@ starts_front (f ∷ front) (t ∷ text) h =
       equal : (t f : ℕ) → IsTrue (f == t) → t ≡ f
       equal t f e = grind (arith, nat_tests)
 
-starts_true : (front rest : List ℕ) → IsTrue (starts (front ++ rest) front)
-starts_true [] rest = refl
-starts_true (f ∷ front) rest = rw (same f) (starts_true front rest) where
-  same : (f : ℕ) → (f == f) ≡ true
-  same f = grind (arith, nat_tests)
-
 -- the bytes from the front on that pass a test, and the others
 front_split : (test : ℕ → Bool) (bytes : List ℕ) → bytes ≡ take_while test bytes ++ without_front test bytes
 front_split test bytes = sym (take-append-drop (prefix_len test bytes) bytes)

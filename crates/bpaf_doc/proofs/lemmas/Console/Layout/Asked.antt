@@ -6,7 +6,7 @@ use Rattle.std.proofs.lemmas.Bool.{and_parts}
 use Rattle.bpaf_doc.specs.declared.buffer.Block.TheVariants as blocks
 use Rattle.bpaf_doc.specs.Buffer.Parts.{ink}
 use Rattle.bpaf_doc.specs.Splitter.Chunks.{is_inked, has_some}
-use Rattle.bpaf_doc.specs.Console.Layout.{Event, Shows, Opens, Closes, Stretch, Gap, Placed, Passed, Place, chunk_at, event_bytes, stretch_bytes, is_newline, is_inked_stretch, is_inked_event, asks_newline, asks_blank_line}
+use Rattle.bpaf_doc.specs.Console.Layout.{Event, Closes, Stretch, Gap, Placed, Passed, Place, chunk_at, event_bytes, stretch_bytes, is_newline, is_inked_stretch, is_inked_event, asks_newline, asks_blank_line}
 use Rattle.bpaf_doc.specs.declared.console.page.Asked.{Asked}
 use Rattle.bpaf_doc.specs.declared.console.page.Asked.TheVariants.{Nothing, NewLine, BlankLine}
 use Rattle.bpaf_doc.proofs.lemmas.Console.Layout.State.{State, Piece, Lines, none_asked, line_there, line_put, blank_there, second_put, both_put, Begins, first, stays, wraps, places, drops, Next, Grows, placing, breaking, passing, padded, has_text, ends_line, ends_blank, put, passed, at_least_line, is_nothing}
@@ -72,7 +72,7 @@ pub blank_line_ends : (r : List Stretch) → ends_blank r ≡ true → ends_line
 blank_line_ends [] h = h
 blank_line_ends (x ∷ r) h = at (by_cases (has_some (stretch_bytes x))) (blank_line_ends r) where
   at : (has_some (stretch_bytes x) ≡ true) ⊎ (has_some (stretch_bytes x) ≡ false) → (ends_blank r ≡ true → ends_line r ≡ true) → ends_line (x ∷ r) ≡ true
-  at (inl s) ih = let both : (is_newline x && ends_line r) ≡ true = rw s at h in rw s ((and_parts (is_newline x) (ends_line r) both).0)
+  at (inl s) ih = let both : (is_newline x && ends_line r) ≡ true = rw s at h in rw s (and_parts (is_newline x) (ends_line r) both).0
   at (inr s) ih = let rest : ends_blank r ≡ true = rw s at h in rw s (ih rest)
 
 inked_line_ink : (r : List Stretch) → inked_line r ≡ true → list_any is_inked_stretch r ≡ true
@@ -122,10 +122,6 @@ owes_begins {st = st} f q h (first t e) = subst (λ (s : State). owes_line s.bac
   at (inr o) = o
 owes_begins f q h (stays t l w) = owes_lines f q h l
 owes_begins f q h (wraps t mid l w b e) = subst (λ (s : State). owes_line s.back ≡ false) (sym e) refl
-
-asks_both : (event : Event) → asks_blank_line event ≡ true → asks_newline event ≡ true
-asks_both (Closes blocks.Block) h = refl
-asks_both _ h = absurd cc
 
 at_least_something : (a : Asked) → is_nothing (at_least_line a) ≡ false
 at_least_something Nothing = refl

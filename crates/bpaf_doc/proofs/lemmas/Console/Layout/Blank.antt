@@ -4,7 +4,6 @@ use Rattle.std.specs.List.{list_any}
 use Rattle.std.proofs.Common.{sym, subst, ap, arith, inl, inr, ◌∙◌, append_assoc}
 use Rattle.std.proofs.lemmas.List.{reverse-append, append-nil}
 use Rattle.std.proofs.lemmas.Grind.{flat_map-append}
-use Rattle.std.proofs.lemmas.Bool.Decides.{nat_tests}
 use Rattle.std.proofs.lemmas.Bool.{and_parts, eqb-true}
 use Rattle.bpaf_doc.specs.Splitter.Chunks.{Chunk, Paragraph, LineBreak, columns, is_inked, has_some}
 use Rattle.bpaf_doc.specs.Console.Layout.{Event, Shows, Stretch, Gap, Placed, Passed, Place, chunk_at, event_bytes, stretch_bytes, is_inked_stretch, asks_newline, asks_blank_line, is_raw_event, text_of, HasBlankLine}
@@ -89,7 +88,7 @@ owes_fresh (Passed event ∷ r) f o h = at (by_cases (is_raw_event event)) (by_c
       let both : ((asks_blank_line event && last_raw_inked r) || owes_blank r) ≡ true = rw x at o in
       let last : (asks_blank_line event && last_raw_inked r) ≡ true = or_left (asks_blank_line event && last_raw_inked r) (owes_blank r) both y in
       let rest : ends_line r ≡ true = rw s at h in
-      rw s (last_fresh r f ((and_parts (asks_blank_line event) (last_raw_inked r) last).1) rest)
+      rw s (last_fresh r f (and_parts (asks_blank_line event) (last_raw_inked r) last).1 rest)
 
 -- ---- what is owed is asked for
 
@@ -163,8 +162,8 @@ line_between (Passed event ∷ m) e before none some h = at (by_cases (has_some 
 blank_between : (m : List Stretch) (e : Place) (before : List Stretch) → HasNoRaw m → has_some e.shown ≡ true → ends_blank (m ++ Placed e ∷ before) ≡ true → HasBlankLine (text_back m)
 blank_between [] e before none some h = let no : false ≡ true = rw some at h in absurd cc
 blank_between (Gap b ∷ m) e before none some h =
-    let ten : b ≡ 10 = eqb-true b 10 ((and_parts (b == 10) _ h).0) in
-    let line : EndsLine m = line_between m e before none some ((and_parts (b == 10) _ h).1) in
+    let ten : b ≡ 10 = eqb-true b 10 (and_parts (b == 10) _ h).0 in
+    let line : EndsLine m = line_between m e before none some (and_parts (b == 10) _ h).1 in
     (line.0, [], text_back_cons (Gap b) m ∙ ap (λ t. t ++ b ∷ []) line.1 ∙ ap (λ c. (line.0 ++ codes "\n") ++ c ∷ []) ten ∙ append_assoc line.0 (codes "\n") (codes "\n") ∙ sym (append-nil (line.0 ++ codes "\n\n")))
 blank_between (Placed g ∷ m) e before none some h = absurd cc
 blank_between (Passed event ∷ m) e before none some h = at (by_cases (has_some (event_bytes event))) (blank_between m e before (or_false_right (is_raw_event event) _ none) some) where
@@ -184,10 +183,6 @@ blank_padded zero m h = h
 blank_padded (suc n) m h = blank_longer (padded n m) (Gap 32) (blank_padded n m h)
 
 -- ---- the law
-
-owes_padded : (n : ℕ) (r : List Stretch) → owes_blank (padded n r) ≡ owes_blank r
-owes_padded zero r = refl
-owes_padded (suc n) r = owes_padded n r
 
 raw_padded : (n : ℕ) (m : List Stretch) → HasNoRaw (padded n m) → HasNoRaw m
 raw_padded n m h = subst (λ es. list_any is_raw_event es ≡ false) (events_padded n m) h
@@ -282,7 +277,7 @@ module _ (width : ℕ) where
         let both : ((asks_blank_line event && last_raw_inked (trimmed r)) || owes_blank (trimmed r)) ≡ true = rw x at g in
         let last : (asks_blank_line event && last_raw_inked (trimmed r)) ≡ true = or_left _ (owes_blank (trimmed r)) both y in
         let asks : asks_blank_line event ≡ true = (and_parts (asks_blank_line event) (last_raw_inked (trimmed r)) last).0 in
-        let inked : last_raw_inked r ≡ true = last_trimmed r ((and_parts (asks_blank_line event) (last_raw_inked (trimmed r)) last).1) in
+        let inked : last_raw_inked r ≡ true = last_trimmed r (and_parts (asks_blank_line event) (last_raw_inked (trimmed r)) last).1 in
         rw (x, asks, inked) refl
 
   blank_begins : {st : State} {p : Piece} {base : State} → EachPlace Fills st.back → EachPassed NoInk st.back → IsAskedBlank st → IsFreshAtZero st

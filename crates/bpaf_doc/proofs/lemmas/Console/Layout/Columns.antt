@@ -134,9 +134,6 @@ no_text_column (Passed event ∷ r) f h = at (by_cases (has_some (event_bytes ev
 abbrev pub Agrees : State → Type 0
 Agrees st = (st.column ≡ column_back st.back) ⊎ (1_000_000 ≤ st.column)
 
-agrees_zero : (st : State) → st.column ≡ 0 → column_back st.back ≡ 0 → Agrees st
-agrees_zero st a b = inl (a ∙ sym b)
-
 pub agrees_lines : {st mid : State} → EachPlace Fills st.back → Lines st mid → Agrees st → Agrees mid
 agrees_lines f (none_asked a e) h = subst Agrees (sym e) h
 agrees_lines f (line_there a b e) h = subst Agrees (sym e) h

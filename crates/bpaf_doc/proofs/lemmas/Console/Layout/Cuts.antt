@@ -32,10 +32,6 @@ may_end_line (Passed event ∷ r) h = at (by_cases (has_some (event_bytes event)
   at (inl s) ih = let rest : MayEnd false r = rw s at h in rw s rest
   at (inr s) ih = let rest : MayEnd false r = rw s at h in rw s (ih rest)
 
-may_end_any : (line : Bool) (r : List Stretch) → MayEnd false r → MayEnd line r
-may_end_any true r h = may_end_line r h
-may_end_any false r h = h
-
 may_end_padded : (n : ℕ) (r : List Stretch) → MayEnd false r → MayEnd false (padded n r)
 may_end_padded zero r h = h
 may_end_padded (suc n) r h = (inl refl, may_end_padded n r h)

@@ -101,9 +101,6 @@ kept_padded : {A : Type 0} (n : ℕ) (m : List Stretch) → A → AllKept A m �
 kept_padded zero m a h = h
 kept_padded (suc n) m a h = (a, kept_padded n m a h)
 
-abbrev HasInk : List Stretch → Type 0
-HasInk m = list_any is_inked_stretch m ≡ true
-
 -- neighbouring inked chunks of one line: e, then nothing inked and no newline
 abbrev pub IsNeighbour : List Stretch → List Stretch → Place → List Stretch → Type 0
 IsNeighbour r m e before = Cut r m e before × (is_inked (chunk_at e) ≡ true) × (list_any is_inked_stretch m ≡ false) × (has_newline m ≡ false)

@@ -235,9 +235,6 @@ light_close blocks.DefinitionList h = (refl, λ p. refl)
 light_close _ h = absurd cc
 
 module _ (width : ℕ) where
-  ordinary_weight : {margin_of : ℕ → ℕ} {st : State} (p : Piece) → Fits margin_of st p → is_ordinary (Raw p.bytes p.weight) ≡ true → p.weight ≡ columns p.bytes
-  ordinary_weight p fits o = fits.weighed o
-
   reached_put : {margin_of : ℕ → ℕ} {st : State} (p : Piece) (base : State) (n : ℕ) → width < 1_000_000 → EachPlace Fills st.back → EachPassed NoInk st.back → IsStarting st → Agrees st
       → Fits margin_of st p → Begins width st p base → Pads base n → IsReached width st → IsReached width (put n p.part p.bytes p.weight base)
   reached_put {margin_of} {st} p base n small f q start agrees fits b d h = λ m before e there plain light. at m before e plain light (cut_cons (Placed (place_of p)) (padded n base.back) m e before there) where
@@ -269,7 +266,7 @@ module _ (width : ℕ) where
         let own : is_light (Shows p.part (chunk_at (place_of p))) ≡ true = (and_parts (is_light (Shows p.part (chunk_at (place_of p)))) (list_all is_light (events_back rest)) parts).0 in
         let ordinary : is_ordinary (Raw p.bytes p.weight) ≡ true = (and_parts (is_ordinary (Raw p.bytes p.weight)) (not (is_inked (Raw p.bytes p.weight))) own).0 in
         let weight : p.weight ≡ columns p.bytes = fits.weighed ordinary in
-        let r : Placeable width p base n (reach rest e before) (has_newline rest) = light_begins width p base n f q h b d rest before e there plain ((and_parts (is_light (Shows p.part (chunk_at (place_of p)))) (list_all is_light (events_back rest)) parts).1) in
+        let r : Placeable width p base n (reach rest e before) (has_newline rest) = light_begins width p base n f q h b d rest before e there plain (and_parts (is_light (Shows p.part (chunk_at (place_of p)))) (list_all is_light (events_back rest)) parts).1 in
         let total : chunk_columns (events_back m) ≡ columns p.bytes + chunk_columns (events_back rest) = ap (λ x. chunk_columns (events_back x)) is in
         let a : base.column + n ≤ reach rest e before = r.column in
         let c : base.margin ≤ reach rest e before = r.margin in
@@ -289,7 +286,7 @@ module _ (width : ℕ) where
         let gap : AfterGap 10 (trimmed mid.back) found.rest e before = cut_gap 10 (trimmed mid.back) found.rest e before found.there in
         let events : events_back m ≡ Shows p.part (Raw p.bytes p.weight) ∷ events_back gap.rest = ap events_back found.is ∙ ap (λ es. Shows p.part (Raw p.bytes p.weight) ∷ es) (ap events_back gap.is) in
         let parts : (is_light (Shows p.part (Raw p.bytes p.weight)) && list_all is_light (events_back gap.rest)) ≡ true = subst (λ es. list_all is_light es ≡ true) events light in
-        let r : AtWrap width st mid (reach gap.rest e before) = wrap_known width h l gap.rest before e gap.there plain ((and_parts (is_light (Shows p.part (Raw p.bytes p.weight))) (list_all is_light (events_back gap.rest)) parts).1) in
+        let r : AtWrap width st mid (reach gap.rest e before) = wrap_known width h l gap.rest before e gap.there plain (and_parts (is_light (Shows p.part (Raw p.bytes p.weight))) (list_all is_light (events_back gap.rest)) parts).1 in
         let total : chunk_columns (events_back m) ≡ columns p.bytes + chunk_columns (events_back gap.rest) = ap chunk_columns events in
         let a : mid.column ≤ reach gap.rest e before = r.column in
         let c : mid.margin ≤ reach gap.rest e before = r.margin in
@@ -304,7 +301,7 @@ module _ (width : ℕ) where
         let events : events_back m ≡ event ∷ events_back found.rest = ap events_back found.is in
         let parts : (is_light event && list_all is_light (events_back found.rest)) ≡ true = subst (λ es. list_all is_light es ≡ true) events light in
         let own : is_light event ≡ true = (and_parts (is_light event) (list_all is_light (events_back found.rest)) parts).0 in
-        let r : Reached width st (reach found.rest e before) (has_newline found.rest) = h found.rest before e found.there plain ((and_parts (is_light event) (list_all is_light (events_back found.rest)) parts).1) in
+        let r : Reached width st (reach found.rest e before) (has_newline found.rest) = h found.rest before e found.there plain (and_parts (is_light event) (list_all is_light (events_back found.rest)) parts).1 in
         let marks : IsQuietMark event × ((p : Bool) → pending_after event p ≡ p) × (margin ≤ st.margin) = quiet own in
         let bare : length (event_bytes event) ≡ 0 = marks.0.bytes in
         let none : event_columns event ≡ 0 = marks.0.columns_of in
@@ -334,7 +331,7 @@ module _ (width : ℕ) where
       let found : AfterPassed (Shows k chunk) st.back gap.rest g before = cut_passed (Shows k chunk) st.back gap.rest g before gap.there in
       let parts : (is_light (Shows k chunk) && list_all is_light (events_back found.rest)) ≡ true =
       subst (λ es. list_all is_light es ≡ true) (ap events_back gap.is ∙ ap events_back found.is) light in
-      no_break st next k chunk suits e ((and_parts (is_light (Shows k chunk)) (list_all is_light (events_back found.rest)) parts).0)
+      no_break st next k chunk suits e (and_parts (is_light (Shows k chunk)) (list_all is_light (events_back found.rest)) parts).0
 
   suits_light : {margin_of : ℕ → ℕ} (st : State) (next : Next) (event : Event) (margin : ℕ) → Suits margin_of st next → next ≡ mark event margin
       → is_light event ≡ true → IsQuietMark event × ((p : Bool) → pending_after event p ≡ p) × (margin ≤ st.margin)
@@ -383,8 +380,8 @@ module _ (width : ℕ) where
     at m before e plain light found =
         let events : events_back m ≡ event ∷ events_back found.rest = ap events_back found.is in
         let parts : (is_light_mark event && list_all is_light_mark (events_back found.rest)) ≡ true = subst (λ es. list_all is_light_mark es ≡ true) events light in
-        let marks : IsQuietMark event = quiet ((and_parts (is_light_mark event) (list_all is_light_mark (events_back found.rest)) parts).0) in
-        let r : Marked st (reach found.rest e before) (has_newline found.rest) = h found.rest before e found.there plain ((and_parts (is_light_mark event) (list_all is_light_mark (events_back found.rest)) parts).1) in
+        let marks : IsQuietMark event = quiet (and_parts (is_light_mark event) (list_all is_light_mark (events_back found.rest)) parts).0 in
+        let r : Marked st (reach found.rest e before) (has_newline found.rest) = h found.rest before e found.there plain (and_parts (is_light_mark event) (list_all is_light_mark (events_back found.rest)) parts).1 in
         let bare : length (event_bytes event) ≡ 0 = marks.bytes in
         let none : event_columns event ≡ 0 = marks.columns_of in
         let total : chunk_columns (events_back m) ≡ event_columns event + chunk_columns (events_back found.rest) = ap chunk_columns events in

@@ -196,9 +196,9 @@ idle_mark st next event margin (raw_suits q f g) e i = absurd cc
 idle_mark st next event margin (paragraph_suits j f l m) e i = absurd cc
 idle_mark st next event margin (line_break_suits j f l m) e i = absurd cc
 idle_mark st next event margin (open_suits b n f l u) e i =
-    let same : event ≡ Opens b = cc in subst IsIdleMark (sym same) (idle_open b (not-true (asks_newline (Opens b)) ((and_parts true (not (asks_newline (Opens b))) (subst (λ (x : Event). is_idle x ≡ true) same i)).1)))
+    let same : event ≡ Opens b = cc in subst IsIdleMark (sym same) (idle_open b (not-true (asks_newline (Opens b)) (and_parts true (not (asks_newline (Opens b))) (subst (λ (x : Event). is_idle x ≡ true) same i)).1))
 idle_mark st next event margin (close_suits b n f l u) e i =
-    let same : event ≡ Closes b = cc in subst IsIdleMark (sym same) (idle_close b (not-true (asks_newline (Closes b)) ((and_parts true (not (asks_newline (Closes b))) (subst (λ (x : Event). is_idle x ≡ true) same i)).1)))
+    let same : event ≡ Closes b = cc in subst IsIdleMark (sym same) (idle_close b (not-true (asks_newline (Closes b)) (and_parts true (not (asks_newline (Closes b))) (subst (λ (x : Event). is_idle x ≡ true) same i)).1))
 
 -- the two blanks that are pending after a mark stay in reach
 mark_pending : (event : Event) (st : State) (end : ℕ) → InReach end st → length (event_bytes event) ≤ room_of event → (st.pending ≡ true) ⊎ (length (event_bytes event) + 2 ≤ room_of event)
@@ -308,7 +308,7 @@ module _ (width deepest : ℕ) where
     at m before e i idle (later rest is there) =
         let events : events_back m ≡ Shows p.part (Raw p.bytes p.weight) ∷ events_back rest = ap events_back is in
         let both : (is_idle (Shows p.part (Raw p.bytes p.weight)) && list_all is_idle (events_back rest)) ≡ true = subst (λ es. list_all is_idle es ≡ true) events idle in
-        let ready : Ready p base rest e before = ready_padded p base n start h b rest before e there i ((and_parts (is_idle (Shows p.part (Raw p.bytes p.weight))) (list_all is_idle (events_back rest)) both).1) in
+        let ready : Ready p base rest e before = ready_padded p base n start h b rest before e there i (and_parts (is_idle (Shows p.part (Raw p.bytes p.weight))) (list_all is_idle (events_back rest)) both).1 in
         let end : room deepest (events_back m) e before ≡ room deepest (events_back rest) e before + p.weight = ap (λ es. room deepest es e before) events ∙ room_chunk deepest p (events_back rest) e before in
         let a : base.column + n ≤ room deepest (events_back rest) e before = pads_in_reach n base (room deepest (events_back rest) e before) ready.reach d in
         let c : base.margin ≤ room deepest (events_back rest) e before = ready.reach.margin in
@@ -329,7 +329,7 @@ module _ (width deepest : ℕ) where
         let events : events_back m ≡ Shows p.part (Raw p.bytes p.weight) ∷ events_back gap.rest = ap events_back found.is ∙ ap (λ es. Shows p.part (Raw p.bytes p.weight) ∷ es) (ap events_back gap.is) in
         let both : (is_idle (Shows p.part (Raw p.bytes p.weight)) && list_all is_idle (events_back gap.rest)) ≡ true = subst (λ es. list_all is_idle es ≡ true) events idle in
         let reach : InReach (room deepest (events_back gap.rest) e before) mid =
-        known_trimmed h l gap.rest before e gap.there i ((and_parts (is_idle (Shows p.part (Raw p.bytes p.weight))) (list_all is_idle (events_back gap.rest)) both).1) in
+        known_trimmed h l gap.rest before e gap.there i (and_parts (is_idle (Shows p.part (Raw p.bytes p.weight))) (list_all is_idle (events_back gap.rest)) both).1 in
         let end : room deepest (events_back m) e before ≡ room deepest (events_back gap.rest) e before + p.weight = ap (λ es. room deepest es e before) events ∙ room_chunk deepest p (events_back gap.rest) e before in
         let c : mid.column ≤ room deepest (events_back gap.rest) e before = reach.column in
         let g : mid.margin ≤ room deepest (events_back gap.rest) e before = reach.margin in
@@ -349,8 +349,8 @@ module _ (width deepest : ℕ) where
     at m before e i idle found =
         let events : events_back m ≡ event ∷ events_back found.rest = ap events_back found.is in
         let both : (is_idle event && list_all is_idle (events_back found.rest)) ≡ true = subst (λ es. list_all is_idle es ≡ true) events idle in
-        let mark_is : IsIdleMark event = quiet ((and_parts (is_idle event) (list_all is_idle (events_back found.rest)) both).0) in
-        let known : Known st found.rest e before = h found.rest before e found.there i ((and_parts (is_idle event) (list_all is_idle (events_back found.rest)) both).1) in
+        let mark_is : IsIdleMark event = quiet (and_parts (is_idle event) (list_all is_idle (events_back found.rest)) both).0 in
+        let known : Known st found.rest e before = h found.rest before e found.there i (and_parts (is_idle event) (list_all is_idle (events_back found.rest)) both).1 in
         let end : room deepest (events_back m) e before ≡ room deepest (event ∷ events_back found.rest) e before = ap (λ es. room deepest es e before) events in
         let grown : (room deepest (events_back found.rest) e before + room_of event ≤ room deepest (event ∷ events_back found.rest) e before) × (deepest ≤ room deepest (event ∷ events_back found.rest) e before) =
         room_mark deepest event (events_back found.rest) e before no_chunk in
@@ -377,7 +377,7 @@ module _ (width deepest : ℕ) where
       let found : AfterPassed (Shows k chunk) st.back gap.rest g before = cut_passed (Shows k chunk) st.back gap.rest g before gap.there in
       let both : (is_idle (Shows k chunk) && list_all is_idle (events_back found.rest)) ≡ true =
       subst (λ es. list_all is_idle es ≡ true) (ap events_back gap.is ∙ ap events_back found.is) idle in
-      no_break st next k chunk suits e ((and_parts (is_idle (Shows k chunk)) (list_all is_idle (events_back found.rest)) both).0)
+      no_break st next k chunk suits e (and_parts (is_idle (Shows k chunk)) (list_all is_idle (events_back found.rest)) both).0
 
   pub roomy_grows : {margin_of : ℕ → ℕ} {st after : State} {next : Next} → width < 1_000_000 → EachPlace Fills st.back → IsStarting st → Agrees st → Suits margin_of st next → IsShallow deepest next
       → Grows width st next after → IsRoomy st → IsRoomy after

@@ -231,21 +231,11 @@ spaced n st = record st { back = padded n st.back; column = sat (st.column + n) 
 abbrev pub piece : ℕ → List ℕ → ℕ → Piece
 piece k bytes weight = record { part = k; bytes = bytes; weight = weight }
 
--- the page grows by some things in order
-pub data GrowsBy (width : ℕ) (st : State) : List Next → State → Type 0 where
-  stays_as : {nexts : List Next} {after : State} → nexts ≡ [] → after ≡ st → GrowsBy width st nexts after
-  by_one : {nexts : List Next} {after : State} (earlier : List Next) (next : Next) (mid : State) → nexts ≡ earlier ++ next ∷ []
-      → GrowsBy width st earlier mid → Grows width mid next after → GrowsBy width st nexts after
-
 -- a chunk of the text with this number, as what comes next
 abbrev pub chunk_next : ℕ → Chunk → Next
 chunk_next k (Raw bytes weight) = raw (piece k bytes weight)
 chunk_next k Paragraph = break k Paragraph
 chunk_next k LineBreak = break k LineBreak
-
--- the chunks of a text that are written: all, or in brief those up to the first Paragraph
-abbrev pub written_chunks : Bool → List Chunk → List Chunk
-written_chunks full chunks = if full then chunks else through_paragraph chunks
 
 -- the end of the page: what is still asked for is one newline
 pub data Ends (st : State) (final : List Stretch) : Type 0 where

@@ -1,5 +1,5 @@
 -- What the text of a page shows of its stretches, and what it is without its blank end.
-use Rattle.std.specs.Prelude.{◌≡◌, ◌≢◌, ℕ, zero, suc, ◌+◌, ◌<◌, Bool, true, false, ◌&&◌, ◌||◌, ◌==◌, List, [], ◌∷◌, ◌++◌, length, filter, refl, if◌then◌else◌, ◌⊎◌, IsUtf8}
+use Rattle.std.specs.Prelude.{◌≡◌, ◌≢◌, ℕ, zero, suc, ◌+◌, ◌<◌, Bool, true, false, ◌&&◌, ◌==◌, List, [], ◌∷◌, ◌++◌, length, filter, refl, if◌then◌else◌, ◌⊎◌, IsUtf8}
 use Rattle.std.specs.List.{list_all}
 use Rattle.std.specs.Str.{trim_end, drop_trailing_whitespace, chars, encode_utf8_all}
 use Rattle.std.specs.Char.{is_whitespace, is_not_whitespace}
@@ -174,8 +174,8 @@ some_none (x ∷ xs) h = absurd cc
 pub no_text : (r : List Stretch) → has_text r ≡ false → text_back r ≡ []
 no_text [] h = refl
 no_text (x ∷ r) h =
-    let none : stretch_bytes x ≡ [] = some_none (stretch_bytes x) ((or_parts (has_some (stretch_bytes x)) (has_text r) h).0) in
-    text_back_cons x r ∙ ap (λ t. t ++ stretch_bytes x) (no_text r ((or_parts (has_some (stretch_bytes x)) (has_text r) h).1)) ∙ none
+    let none : stretch_bytes x ≡ [] = some_none (stretch_bytes x) (or_parts (has_some (stretch_bytes x)) (has_text r) h).0 in
+    text_back_cons x r ∙ ap (λ t. t ++ stretch_bytes x) (no_text r (or_parts (has_some (stretch_bytes x)) (has_text r) h).1) ∙ none
 
 pub some_text : (r : List Stretch) → has_text r ≡ true → text_back r ≢ []
 some_text [] h = λ e. absurd cc

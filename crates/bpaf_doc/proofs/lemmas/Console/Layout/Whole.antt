@@ -11,7 +11,7 @@ use Rattle.std.proofs.lemmas.Bool.Decides.{nat_tests}
 use Rattle.std.proofs.lemmas.Bool.{not-true, or_parts, not-false, eqb-true}
 use Rattle.bpaf_doc.specs.declared.buffer.Block.{Block}
 use Rattle.bpaf_doc.specs.Buffer.Parts.{Part, ink}
-use Rattle.bpaf_doc.specs.Splitter.Chunks.{Raw, Paragraph, LineBreak, columns, is_inked, is_ordinary, has_some, starts}
+use Rattle.bpaf_doc.specs.Splitter.Chunks.{Raw, columns, is_inked, is_ordinary, has_some, starts}
 use Rattle.bpaf_doc.specs.Shown.{console_ink, is_term_ref}
 use Rattle.bpaf_doc.specs.Console.Margin.{margin, greatest_margin}
 use Rattle.bpaf_doc.specs.Console.Layout.{Event, Shows, Opens, Closes, Stretch, Gap, Placed, Passed, Place, chunk_at, event_bytes, event_columns, stretch_columns, text_of, events_of, shown_events, is_newline, is_placed, holds_line, leads_to_place, is_inked_event, is_inked_stretch, is_empty_code, is_written, is_raw_event, is_ref, asks_newline, asks_blank_line, is_light, is_light_mark, opens_body, column, padding, line_before, stretch_lines, MayStand, BreaksWhereAsked, KeepsBlanks, IsKept, BeginsClear, IsFirstInLine, events_since_ink, is_raw_or_ref, FollowsBlank, KeepsMargin, WrapsOnlyIfNeeded, IsBounded, FitsWidth, PadsToMargin, StandsAlone, room_of, BreaksForRoom, HasBlankLine, widest, IsLayout}
@@ -604,7 +604,7 @@ narrow_each (x ∷ xs) most l = (at x (first_le x xs l), narrow_each xs most (re
 -- no mark is one of a term reference
 bare_each : (nexts : List Next) → list_any is_ref (map next_event nexts) ≡ false → EachNext WritesNone nexts
 bare_each [] h = tt
-bare_each (x ∷ xs) h = (at x ((or_parts (is_ref (next_event x)) _ h).0), bare_each xs ((or_parts (is_ref (next_event x)) _ h).1)) where
+bare_each (x ∷ xs) h = (at x (or_parts (is_ref (next_event x)) _ h).0, bare_each xs (or_parts (is_ref (next_event x)) _ h).1) where
   none : (b : Block) → is_term_ref b ≡ false → has_some (event_bytes (Opens b)) ≡ false
   none b h = rw h refl
 

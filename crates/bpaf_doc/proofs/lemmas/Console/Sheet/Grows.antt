@@ -212,7 +212,7 @@ spaces_put s st d = at (by_cases (s.at_body && nat_le 28 (sat (s.column + (page.
   at (inr h) l =
       (page.margin_of s - s.column, to_margin (omega arith), subst (λ (t : Sheet). Draws t (spaced (page.margin_of s - s.column) st)) (sym (plain h)) (draws_spaced (page.margin_of s - s.column) s st d))
   at (inl h) (inl l) =
-      let far : 28 ≤ sat (s.column + (page.margin_of s - s.column)) = wide (sat (s.column + (page.margin_of s - s.column))) ((and_parts s.at_body _ h).1) in
+      let far : 28 ≤ sat (s.column + (page.margin_of s - s.column)) = wide (sat (s.column + (page.margin_of s - s.column))) (and_parts s.at_body _ h).1 in
       let pending : st.pending ≡ true = sym d.body ∙ (and_parts s.at_body _ h).0 in
       let sum : 2 - (page.margin_of s - s.column) + (page.margin_of s - s.column) ≡ 2 = omega arith in (
         2,

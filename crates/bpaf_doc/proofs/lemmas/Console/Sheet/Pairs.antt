@@ -1,5 +1,5 @@
 -- What the exact page remembers of empty Block pairs.
-use Rattle.std.specs.Prelude.{◌≡◌, ℕ, ◌+◌, ◌-◌, ◌^◌, ◌<◌, ◌≤◌, min, Bool, true, false, ◌&&◌, ◌↔◌, ◌⊎◌, List, [], ◌∷◌, length, drop, refl, IsTrue, slice_get, Option, Some, None, nat_le, nat_lt}
+use Rattle.std.specs.Prelude.{◌≡◌, ℕ, ◌+◌, ◌-◌, ◌^◌, ◌<◌, ◌≤◌, min, Bool, true, false, ◌&&◌, ◌↔◌, ◌⊎◌, List, [], ◌∷◌, length, drop, refl, IsTrue, slice_get, Option, Some, nat_le, nat_lt}
 use Rattle.std.specs.List.{position_or_len}
 use Rattle.std.proofs.Common.{sym, subst, ap, arith, inl, inr, ◌∙◌}
 use Rattle.std.proofs.lemmas.Bool.Decides.{nat_tests}
