@@ -130,7 +130,7 @@ end_is : (b : Block) → is_inline_end (End b) ≡ is_inline b
 end_is blocks.InlineBlock = refl
 end_is _ = refl
 
-not_zero : (more : ℕ) → (suc more == 0) ≡ false
+pub not_zero : (more : ℕ) → (suc more == 0) ≡ false
 not_zero more = grind (arith, nat_tests)
 
 abbrev IsKept : ℕ → Part → List Part → Type 0
