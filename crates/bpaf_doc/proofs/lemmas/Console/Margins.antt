@@ -11,7 +11,8 @@ use Rattle.bpaf_doc.specs.declared.buffer.Block.TheVariants as blocks
 use Rattle.bpaf_doc.specs.declared.buffer.Block.{Block}
 use Rattle.bpaf_doc.specs.declared.buffer.Style.{Style}
 use Rattle.bpaf_doc.specs.Buffer.Parts.{Part, Text, Start, End}
-use Rattle.bpaf_doc.specs.Shown.{fronts, stays_open}
+use Rattle.bpaf_doc.specs.Shown.{stays_open}
+use Rattle.bpaf_doc.proofs.lemmas.Lists.Opening.{closed, stays_open_is}
 use Rattle.bpaf_doc.specs.Console.Margin.{greatest, is_skipped, skips_pair, term_lengths, tab_stop, Shift, Indent, Outdent, Level, part_shift, shifts, is_indent, is_outdent, indent, indents_in_force, margin, greatest_margin}
 
 -- ---- the stack, newest first
@@ -46,84 +47,14 @@ shift_at document j part = if is_skipped document j then Level else part_shift d
 -- ---- what shifts take away of a stack that stands before them
 
 -- how many entries
-taken : List Shift → ℕ
-taken [] = 0
-taken (Indent n ∷ ss) = taken ss - 1
-taken (Outdent ∷ ss) = taken ss + 1
-taken (Level ∷ ss) = taken ss
-
--- no front has more block ends than pushing starts, and this many more
-abbrev is_within : ℕ → List Shift → Bool
-is_within more front = nat_le (count_by is_outdent front) (count_by is_indent front + more)
-
-abbrev stays_by : ℕ → List Shift → Bool
-stays_by more ss = list_all (λ front. is_within more front) (fronts ss)
-
-list_all-ext : {A : Type 0} (p q : A → Bool) → ((x : A) → p x ≡ q x) → (xs : List A) → list_all p xs ≡ list_all q xs
-list_all-ext p q same [] = refl
-list_all-ext p q same (x ∷ xs) = rw (same x, list_all-ext p q same xs) refl
-
-none_within : (more : ℕ) → is_within more [] ≡ true
-none_within more = at more where
-  at : (more : ℕ) → nat_le 0 (0 + more) ≡ true
-  at more = grind (arith, nat_tests)
-
--- what one shift more in front does to the test
-step : (more less : ℕ) (s : Shift) → ((front : List Shift) → is_within more (s ∷ front) ≡ is_within less front) → (ss : List Shift)
-    → stays_by more (s ∷ ss) ≡ stays_by less ss
-step more less s same ss =
-    rw (none_within more) (list_all-map (λ front. is_within more front) (λ front. s ∷ front) (fronts ss)
-    ∙ list_all-ext (λ front. is_within more (s ∷ front)) (λ front. is_within less front) same (fronts ss))
-
-counted : (p : Shift → Bool) (s : Shift) (front : List Shift) → count_by p (s ∷ front) ≡ (if p s then 1 else 0) + count_by p front
-counted p s front = sum_by-cons (λ x. if p x then 1 else 0) s front
-
-within_level : (more : ℕ) (front : List Shift) → is_within more (Level ∷ front) ≡ is_within more front
-within_level more front =
-    at (count_by is_outdent (Level ∷ front)) (count_by is_indent (Level ∷ front)) (count_by is_outdent front) (count_by is_indent front)
-    (counted is_outdent Level front) (counted is_indent Level front) where
-      at : (a b c d : ℕ) → a ≡ 0 + c → b ≡ 0 + d → nat_le a (b + more) ≡ nat_le c (d + more)
-      at a b c d e f = grind (arith, nat_tests)
-
-within_indent : (n more : ℕ) (front : List Shift) → is_within more (Indent n ∷ front) ≡ is_within (suc more) front
-within_indent n more front =
-    at (count_by is_outdent (Indent n ∷ front)) (count_by is_indent (Indent n ∷ front)) (count_by is_outdent front) (count_by is_indent front)
-    (counted is_outdent (Indent n) front) (counted is_indent (Indent n) front) where
-      at : (a b c d : ℕ) → a ≡ 0 + c → b ≡ 1 + d → nat_le a (b + more) ≡ nat_le c (d + (suc more))
-      at a b c d e f = grind (arith, nat_tests)
-
-within_outdent : (more : ℕ) (front : List Shift) → is_within (suc more) (Outdent ∷ front) ≡ is_within more front
-within_outdent more front =
-    at (count_by is_outdent (Outdent ∷ front)) (count_by is_indent (Outdent ∷ front)) (count_by is_outdent front) (count_by is_indent front)
-    (counted is_outdent Outdent front) (counted is_indent Outdent front) where
-      at : (a b c d : ℕ) → a ≡ 1 + c → b ≡ 0 + d → nat_le a (b + (suc more)) ≡ nat_le c (d + more)
-      at a b c d e f = grind (arith, nat_tests)
-
-stays_none : (ss : List Shift) → stays_by 0 (Outdent ∷ ss) ≡ false
-stays_none [] = refl
-stays_none (s ∷ ss) = refl
-
-stays_is : (more : ℕ) (ss : List Shift) → stays_by more ss ≡ nat_le (taken ss) more
-unfolding taken
-stays_is more [] = rw (none_within more) (at more) where
-  at : (more : ℕ) → true ≡ nat_le 0 more
-  at more = grind (arith, nat_tests)
-stays_is more (Indent n ∷ ss) = step more (suc more) (Indent n) (within_indent n more) ss ∙ stays_is (suc more) ss ∙ at (taken ss) more where
-  at : (t more : ℕ) → nat_le t (suc more) ≡ nat_le (t - 1) more
-  at t more = grind (arith, nat_tests)
-stays_is zero (Outdent ∷ ss) = stays_none ss ∙ at (taken ss) where
-  at : (t : ℕ) → false ≡ nat_le (t + 1) 0
-  at t = grind (arith, nat_tests)
-stays_is (suc more) (Outdent ∷ ss) = step (suc more) more Outdent (within_outdent more) ss ∙ stays_is more ss ∙ at (taken ss) more where
-  at : (t more : ℕ) → nat_le t more ≡ nat_le (t + 1) (suc more)
-  at t more = grind (arith, nat_tests)
-stays_is more (Level ∷ ss) = step more more Level (within_level more) ss ∙ stays_is more ss
+abbrev taken : List Shift → ℕ
+taken ss = closed is_indent is_outdent ss
 
 open_is : (ss : List Shift) → stays_open is_indent is_outdent ss ≡ nat_le (taken ss) 0
-open_is ss = list_all-ext (λ front. nat_le (count_by is_outdent front) (count_by is_indent front)) (λ front. is_within 0 front)
-    (λ front. at (count_by is_outdent front) (count_by is_indent front)) (fronts ss) ∙ stays_is 0 ss where
-      at : (a b : ℕ) → nat_le a b ≡ nat_le a (b + 0)
-      at a b = grind (arith, nat_tests)
+open_is ss = stays_open_is is_indent is_outdent apart ss where
+  apart : (s : Shift) → is_outdent s ≡ true → is_indent s ≡ false
+  apart Outdent h = refl
+  apart _ h = absurd cc
 
 -- ---- the top of the stack
 
@@ -137,7 +68,6 @@ popped_at (m ∷ ms) k = refl
 
 -- Entry by entry: where shifts take k entries away, the top is the entry below these and the indents in force since.
 top_after : (ss : List Shift) (stack : List ℕ) → top (stack_after ss stack) ≡ get_or stack (taken ss) 0 + indents_in_force ss
-unfolding taken
 top_after [] stack = top_is stack ∙ sym (add-zero (get_or stack 0 0))
 top_after (Indent n ∷ ss) stack = top_after ss ((top stack + n) ∷ stack) ∙ at (taken ss) (stays_open is_indent is_outdent ss) (indents_in_force ss) (open_is ss) where
   at : (t : ℕ) (b : Bool) (i : ℕ) → b ≡ nat_le t 0 → get_or ((top stack + n) ∷ stack) t 0 + i ≡ get_or stack (t - 1) 0 + ((if b then n else 0) + i)
