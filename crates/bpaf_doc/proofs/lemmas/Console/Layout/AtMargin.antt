@@ -8,11 +8,11 @@ use Rattle.bpaf_doc.specs.Shown.{is_term_ref, mark_bytes}
 use Rattle.bpaf_doc.specs.Console.Layout.{Event, Shows, Opens, Closes, Stretch, Gap, Placed, Passed, Place, chunk_at, event_bytes, is_inked_stretch, is_raw_or_ref}
 use Rattle.bpaf_doc.specs.declared.console.page.Asked.TheVariants.{Nothing, NewLine, BlankLine}
 use Rattle.bpaf_doc.proofs.lemmas.Console.Layout.State.{State, Piece, Lines, none_asked, line_there, line_put, blank_there, second_put, both_put, Pads, to_margin, after_term, Begins, first, stays, wraps, places, drops, Next, raw, mark, Grows, placing, breaking, passing, padded, trimmed, has_text, put, Suits, raw_suits, paragraph_suits, line_break_suits, open_suits, close_suits}
-use Rattle.bpaf_doc.proofs.lemmas.Console.Layout.Back.{by_cases, EachPlace, each_grows, place_of, fits_of}
+use Rattle.bpaf_doc.proofs.lemmas.Console.Layout.Back.{by_cases, EachPlace, each_grows, place_of, fits_of, by_lines, lines_back, begins_back, by_trimmed}
 use Rattle.bpaf_doc.proofs.lemmas.Console.Layout.Columns.{Fills, column_back, column_padded, Agrees}
 use Rattle.bpaf_doc.proofs.lemmas.Console.Layout.Text.{EachPassed, NoInk, ink_text, IsStarting, begins_column, begins_margin, or_false_right}
 use Rattle.bpaf_doc.proofs.lemmas.Console.Layout.Pads.{pads_back, HasNoPads, pads_begins}
-use Rattle.bpaf_doc.proofs.lemmas.Console.Layout.Split.{events_back, events_padded, Cut, FirstOrLater, here, later, cut_cons, AfterGap, cut_gap, AfterPassed, cut_passed, AfterPads, cut_padded, has_newline, newline_padded, inked_line, inked_line_padded, inked_since, ink_at}
+use Rattle.bpaf_doc.proofs.lemmas.Console.Layout.Split.{events_back, events_padded, Cut, FirstOrLater, here, later, cut_cons, AfterGap, cut_gap, AfterPassed, cut_passed, AfterPads, cut_padded, has_newline, newline_padded, inked_line, inked_line_padded, inked_since, ink_at, Earlier, after_lines, lines_same}
 
 -- ---- only marks since the last ink
 
@@ -86,22 +86,10 @@ no_place_first st f q none m before e there i =
 
 -- after what was asked for, directly after an inked chunk, nothing was written
 last_lines : {st mid : State} → IsLast st → Lines st mid → (m before : List Stretch) (e : Place) → Cut mid.back m e before → is_inked (chunk_at e) ≡ true → events_back m ≡ [] → m ≡ []
-last_lines {st} h (none_asked a s) m before e there i none = (h m before e (subst (λ (x : State). Cut x.back m e before) s there) i none).0
-last_lines {st} h (line_there a b s) m before e there i none = (h m before e (subst (λ (x : State). Cut x.back m e before) s there) i none).0
-last_lines {st} h (line_put a s) m before e there i none =
-    let found : AfterGap 10 st.back m e before = cut_gap 10 st.back m e before (subst (λ (x : State). Cut x.back m e before) s there) in
-    let asked : st.asked ≡ Nothing = (h found.rest before e found.there i (sym (ap events_back found.is) ∙ none)).1 in
-    let no : NewLine ≡ Nothing = sym a ∙ asked in absurd cc
-last_lines {st} h (blank_there a b s) m before e there i none = (h m before e (subst (λ (x : State). Cut x.back m e before) s there) i none).0
-last_lines {st} h (second_put a b s) m before e there i none =
-    let found : AfterGap 10 st.back m e before = cut_gap 10 st.back m e before (subst (λ (x : State). Cut x.back m e before) s there) in
-    let asked : st.asked ≡ Nothing = (h found.rest before e found.there i (sym (ap events_back found.is) ∙ none)).1 in
-    let no : BlankLine ≡ Nothing = sym a ∙ asked in absurd cc
-last_lines {st} h (both_put a s) m before e there i none =
-    let found : AfterGap 10 (Gap 10 ∷ st.back) m e before = cut_gap 10 (Gap 10 ∷ st.back) m e before (subst (λ (x : State). Cut x.back m e before) s there) in
-    let next : AfterGap 10 st.back found.rest e before = cut_gap 10 st.back found.rest e before found.there in
-    let asked : st.asked ≡ Nothing = (h next.rest before e next.there i (sym (ap events_back found.is ∙ ap events_back next.is) ∙ none)).1 in
-    let no : BlankLine ≡ Nothing = sym a ∙ asked in absurd cc
+last_lines {st} {mid} h l m before e there i none =
+    let earlier : Earlier st.back m e before = after_lines l m before e there in
+    let same : mid ≡ st = lines_same (h earlier.rest before e earlier.there i (earlier.events ∙ none)).1 l in
+    (h m before e (subst (λ (x : State). Cut x.back m e before) same there) i none).0
 
 start_put : {width : ℕ} {st : State} (p : Piece) (base : State) (n : ℕ) → EachPlace Fills st.back → EachPassed NoInk st.back → IsLast st → Begins width st p base
     → IsAtStart (put n p.part p.bytes p.weight base)
@@ -162,14 +150,8 @@ module _ (margin_of : ℕ → ℕ) where
   exact_pads n base m a c (to_margin e) = omega arith
   exact_pads n base m a c (after_term t wide few e) = absurd (omega arith)
 
-  lines_start : {st mid : State} → IsAtStart st → Lines st mid → (m before : List Stretch) (e : Place) (k : ℕ) → Cut mid.back m e before → is_inked (chunk_at e) ≡ true
-      → events_back m ≡ Shows k (Raw (codes " ") 1) ∷ [] → has_newline m ≡ true → column_back mid.back ≡ 0
-  lines_start h (none_asked a s) m before e k there i blank line = ap (λ (x : State). column_back x.back) s ∙ h m before e k (subst (λ (x : State). Cut x.back m e before) s there) i blank line
-  lines_start h (line_there a b s) m before e k there i blank line = ap (λ (x : State). column_back x.back) s ∙ h m before e k (subst (λ (x : State). Cut x.back m e before) s there) i blank line
-  lines_start h (line_put a s) m before e k there i blank line = ap (λ (x : State). column_back x.back) s
-  lines_start h (blank_there a b s) m before e k there i blank line = ap (λ (x : State). column_back x.back) s ∙ h m before e k (subst (λ (x : State). Cut x.back m e before) s there) i blank line
-  lines_start h (second_put a b s) m before e k there i blank line = ap (λ (x : State). column_back x.back) s
-  lines_start h (both_put a s) m before e k there i blank line = ap (λ (x : State). column_back x.back) s
+  lines_start : {st mid : State} → IsAtStart st → Lines st mid → IsAtStart mid
+  lines_start h l = by_lines IsAtStart l h (λ m before e k there i blank line. refl) (λ m before e k there i blank line. refl) (λ m before e k there i blank line. refl)
 
   pub exact_grows : {width : ℕ} {st after : State} {next : Next} → width < 1_000_000 → EachPlace Fills st.back → EachPassed NoInk st.back → IsStarting st → Agrees st → HasNoPads st → IsAtStart st
       → Suits margin_of st next → Grows width st next after → EachPlace IsExact st.back → EachPlace IsExact after.back

@@ -3,7 +3,7 @@ use Rattle.std.specs.Prelude.{◌≡◌, ℕ, zero, suc, ⊤, Bool, true, false,
 use Rattle.std.proofs.Common.{sym, subst, ◌⊎◌, inl, inr}
 use Rattle.bpaf_doc.specs.Splitter.Chunks.{is_inked, has_some}
 use Rattle.bpaf_doc.specs.Console.Layout.{Event, Shows, Stretch, Gap, Placed, Passed, Place, chunk_at, event_bytes}
-use Rattle.bpaf_doc.proofs.lemmas.Console.Layout.State.{State, Piece, Lines, none_asked, line_there, line_put, blank_there, second_put, both_put, Pads, Begins, first, stays, wraps, places, drops, Next, raw, Grows, placing, breaking, passing, padded, trimmed, cut, Fits, Suits, raw_suits, paragraph_suits, line_break_suits, open_suits, close_suits}
+use Rattle.bpaf_doc.proofs.lemmas.Console.Layout.State.{State, Piece, Lines, none_asked, line_there, line_put, blank_there, second_put, both_put, Pads, Begins, first, stays, wraps, places, drops, Next, raw, Grows, placing, breaking, passing, padded, trimmed, cut, Fits, Suits, raw_suits, paragraph_suits, line_break_suits, open_suits, close_suits, on_new_line}
 
 pub by_cases : (b : Bool) → (b ≡ true) ⊎ (b ≡ false)
 by_cases true = inl refl
@@ -36,30 +36,57 @@ trimmed_bytes event r h = rw h refl
 pub trimmed_bare : (event : Event) (r : List Stretch) → has_some (event_bytes event) ≡ false → trimmed (Passed event ∷ r) ≡ Passed event ∷ trimmed r
 trimmed_bare event r h = rw h refl
 
+-- P of a page with one blank more is P of it with some more
+pub by_padded : (P : List Stretch → Type 0) → ((r : List Stretch) → P r → P (Gap 32 ∷ r)) → (n : ℕ) (r : List Stretch) → P r → P (padded n r)
+by_padded P more zero r h = h
+by_padded P more (suc n) r h = more (padded n r) (by_padded P more n r h)
+
+-- P of the page and of the trimmed page, by the stretch that the page ends in
+pub by_trimmed : (P : List Stretch → List Stretch → Type 0) → P [] [] → ((b : ℕ) (r t : List Stretch) → P r t → P (Gap b ∷ r) t)
+    → ((e : Place) (r : List Stretch) → is_inked (chunk_at e) ≡ true → P (Placed e ∷ r) (Placed (cut e) ∷ r))
+    → ((e : Place) (r t : List Stretch) → is_inked (chunk_at e) ≡ false → P r t → P (Placed e ∷ r) (Passed (Shows e.part (chunk_at e)) ∷ t))
+    → ((event : Event) (r : List Stretch) → has_some (event_bytes event) ≡ true → P (Passed event ∷ r) (Passed event ∷ r))
+    → ((event : Event) (r t : List Stretch) → has_some (event_bytes event) ≡ false → P r t → P (Passed event ∷ r) (Passed event ∷ t))
+    → (r : List Stretch) → P r (trimmed r)
+by_trimmed P none gap inked plain bytes bare [] = none
+by_trimmed P none gap inked plain bytes bare (Gap b ∷ r) = gap b r (trimmed r) (by_trimmed P none gap inked plain bytes bare r)
+by_trimmed P none gap inked plain bytes bare (Placed e ∷ r) = at (by_cases (is_inked (chunk_at e))) (by_trimmed P none gap inked plain bytes bare r) where
+  at : (is_inked (chunk_at e) ≡ true) ⊎ (is_inked (chunk_at e) ≡ false) → P r (trimmed r) → P (Placed e ∷ r) (trimmed (Placed e ∷ r))
+  at (inl i) ih = subst (P (Placed e ∷ r)) (sym (trimmed_inked e r i)) (inked e r i)
+  at (inr i) ih = subst (P (Placed e ∷ r)) (sym (trimmed_plain e r i)) (plain e r (trimmed r) i ih)
+by_trimmed P none gap inked plain bytes bare (Passed event ∷ r) = at (by_cases (has_some (event_bytes event))) (by_trimmed P none gap inked plain bytes bare r) where
+  at : (has_some (event_bytes event) ≡ true) ⊎ (has_some (event_bytes event) ≡ false) → P r (trimmed r) → P (Passed event ∷ r) (trimmed (Passed event ∷ r))
+  at (inl i) ih = subst (P (Passed event ∷ r)) (sym (trimmed_bytes event r i)) (bytes event r i)
+  at (inr i) ih = subst (P (Passed event ∷ r)) (sym (trimmed_bare event r i)) (bare event r (trimmed r) i ih)
+
+-- Q of the page on which all is written that was asked for
+pub by_lines : (Q : State → Type 0) {st mid : State} → Lines st mid → Q st → Q (on_new_line st) → Q (record st { back = Gap 10 ∷ st.back }) → Q (on_new_line (on_new_line st)) → Q mid
+by_lines Q (none_asked a e) same line second both = subst Q (sym e) same
+by_lines Q (line_there a b e) same line second both = subst Q (sym e) same
+by_lines Q (line_put a e) same line second both = subst Q (sym e) line
+by_lines Q (blank_there a b e) same line second both = subst Q (sym e) same
+by_lines Q (second_put a b e) same line second both = subst Q (sym e) second
+by_lines Q (both_put a e) same line second both = subst Q (sym e) both
+
+-- P of its stretches, where one newline more keeps it
+pub lines_back : (P : List Stretch → Type 0) → ((r : List Stretch) → P r → P (Gap 10 ∷ r)) → {st mid : State} → Lines st mid → P st.back → P mid.back
+lines_back P more {st} l h = by_lines (λ s. P s.back) l h (more st.back h) (more st.back h) (more (Gap 10 ∷ st.back) (more st.back h))
+
+-- and P of those before a chunk, where a new line keeps it
+pub begins_back : (P : List Stretch → Type 0) → ((r : List Stretch) → P r → P (Gap 10 ∷ r)) → ((r : List Stretch) → P r → P (Gap 10 ∷ trimmed r))
+    → {width : ℕ} {st : State} {p : Piece} {base : State} → Begins width st p base → P st.back → P base.back
+begins_back P more wrap (first t e) h = subst (λ (s : State). P s.back) (sym e) h
+begins_back P more wrap (stays t l w) h = lines_back P more l h
+begins_back P more wrap (wraps t mid l w b e) h = subst (λ (s : State). P s.back) (sym e) (wrap mid.back (lines_back P more l h))
+
 pub each_trimmed : (P : List Stretch → Place → Type 0) → KeepsCut P → (r : List Stretch) → EachPlace P r → EachPlace P (trimmed r)
-each_trimmed P keeps [] h = h
-each_trimmed P keeps (Gap b ∷ r) h = each_trimmed P keeps r h
-each_trimmed P keeps (Placed e ∷ r) h = at (by_cases (is_inked (chunk_at e))) (each_trimmed P keeps r h.1) where
-  at : (is_inked (chunk_at e) ≡ true) ⊎ (is_inked (chunk_at e) ≡ false) → EachPlace P (trimmed r) → EachPlace P (trimmed (Placed e ∷ r))
-  at (inl i) ih = subst (λ x. EachPlace P x) (sym (trimmed_inked e r i)) (keeps r e i h.0, h.1)
-  at (inr i) ih = subst (λ x. EachPlace P x) (sym (trimmed_plain e r i)) ih
-each_trimmed P keeps (Passed event ∷ r) h = at (by_cases (has_some (event_bytes event))) (each_trimmed P keeps r h) where
-  at : (has_some (event_bytes event) ≡ true) ⊎ (has_some (event_bytes event) ≡ false) → EachPlace P (trimmed r) → EachPlace P (trimmed (Passed event ∷ r))
-  at (inl i) ih = subst (λ x. EachPlace P x) (sym (trimmed_bytes event r i)) h
-  at (inr i) ih = subst (λ x. EachPlace P x) (sym (trimmed_bare event r i)) ih
+each_trimmed P keeps = by_trimmed (λ r t. EachPlace P r → EachPlace P t) (λ h. h) (λ b r t ih h. ih h) (λ e r i h. (keeps r e i h.0, h.1)) (λ e r t i ih h. ih h.1) (λ event r i h. h) (λ event r t i ih h. ih h)
 
 pub each_lines : (P : List Stretch → Place → Type 0) {st mid : State} → Lines st mid → EachPlace P st.back → EachPlace P mid.back
-each_lines P (none_asked a e) h = subst (λ (s : State). EachPlace P s.back) (sym e) h
-each_lines P (line_there a b e) h = subst (λ (s : State). EachPlace P s.back) (sym e) h
-each_lines P (line_put a e) h = subst (λ (s : State). EachPlace P s.back) (sym e) h
-each_lines P (blank_there a b e) h = subst (λ (s : State). EachPlace P s.back) (sym e) h
-each_lines P (second_put a b e) h = subst (λ (s : State). EachPlace P s.back) (sym e) h
-each_lines P (both_put a e) h = subst (λ (s : State). EachPlace P s.back) (sym e) h
+each_lines P l h = lines_back (EachPlace P) (λ r x. x) l h
 
 pub each_begins : (P : List Stretch → Place → Type 0) → KeepsCut P → {width : ℕ} {st : State} {p : Piece} {base : State} → Begins width st p base → EachPlace P st.back → EachPlace P base.back
-each_begins P keeps (first t e) h = subst (λ (s : State). EachPlace P s.back) (sym e) h
-each_begins P keeps (stays t l w) h = each_lines P l h
-each_begins P keeps (wraps t mid l w b e) h = subst (λ (s : State). EachPlace P s.back) (sym e) (each_trimmed P keeps mid.back (each_lines P l h))
+each_begins P keeps b h = begins_back (EachPlace P) (λ r x. x) (each_trimmed P keeps) b h
 
 -- the place that a piece gets
 abbrev pub place_of : Piece → Place

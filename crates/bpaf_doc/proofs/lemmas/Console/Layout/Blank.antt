@@ -10,7 +10,7 @@ use Rattle.bpaf_doc.specs.Console.Layout.{Event, Shows, Stretch, Gap, Placed, Pa
 use Rattle.bpaf_doc.specs.declared.console.page.Asked.{Asked}
 use Rattle.bpaf_doc.specs.declared.console.page.Asked.TheVariants.{Nothing, NewLine, BlankLine}
 use Rattle.bpaf_doc.proofs.lemmas.Console.Layout.State.{State, Piece, Lines, none_asked, line_there, line_put, blank_there, second_put, both_put, Pads, Begins, first, stays, wraps, places, drops, Next, raw, break, Grows, placing, breaking, passing, padded, trimmed, has_text, ends_line, ends_blank, passed, at_least_line, Suits, raw_suits, paragraph_suits, line_break_suits, open_suits, close_suits}
-use Rattle.bpaf_doc.proofs.lemmas.Console.Layout.Back.{by_cases, EachPlace, each_grows, trimmed_inked, trimmed_plain, trimmed_bytes, trimmed_bare, place_of}
+use Rattle.bpaf_doc.proofs.lemmas.Console.Layout.Back.{by_cases, EachPlace, each_grows, trimmed_inked, trimmed_plain, trimmed_bytes, trimmed_bare, place_of, by_lines, lines_back, begins_back, by_trimmed}
 use Rattle.bpaf_doc.proofs.lemmas.Console.Layout.Columns.{Fills, inked_some, fills_begins}
 use Rattle.bpaf_doc.proofs.lemmas.Console.Layout.Text.{EachPassed, NoInk, ink_text, or_true_right, or_false_left, or_false_right}
 use Rattle.bpaf_doc.proofs.lemmas.Console.Layout.Split.{events_back, events_padded, Cut, AfterPads, cut_padded, ink_at}
@@ -225,12 +225,7 @@ module _ (width : ℕ) where
   lines_blank h o (both_put a e) = subst (λ (s : State). ends_blank s.back ≡ true) (sym e) refl
 
   owes_lines : {st mid : State} → Lines st mid → owes_blank mid.back ≡ owes_blank st.back
-  owes_lines (none_asked a e) = ap (λ (s : State). owes_blank s.back) e
-  owes_lines (line_there a b e) = ap (λ (s : State). owes_blank s.back) e
-  owes_lines (line_put a e) = ap (λ (s : State). owes_blank s.back) e
-  owes_lines (blank_there a b e) = ap (λ (s : State). owes_blank s.back) e
-  owes_lines (second_put a b e) = ap (λ (s : State). owes_blank s.back) e
-  owes_lines (both_put a e) = ap (λ (s : State). owes_blank s.back) e
+  owes_lines {st} l = lines_back (λ r. owes_blank r ≡ owes_blank st.back) (λ r x. x) l refl
 
   -- after a blank line was written the column is 0
   lines_zero : {st mid : State} → EachPlace Fills st.back → IsAskedBlank st → IsFreshAtZero st → owes_blank st.back ≡ true → Lines st mid → mid.column ≡ 0

@@ -5,8 +5,8 @@ use Rattle.std.proofs.lemmas.Bool.{cases_lt}
 use Rattle.bpaf_doc.specs.Splitter.Chunks.{columns, is_inked, has_some}
 use Rattle.bpaf_doc.specs.Console.Layout.{Event, Stretch, Gap, Placed, Passed, chunk_at, event_bytes}
 use Rattle.bpaf_doc.proofs.lemmas.Console.Layout.State.{State, Piece, Lines, none_asked, line_there, line_put, blank_there, second_put, both_put, Pads, to_margin, after_term, Begins, first, stays, wraps, places, drops, Next, raw, break, mark, Grows, placing, breaking, passing, padded, trimmed}
-use Rattle.bpaf_doc.proofs.lemmas.Console.Layout.Back.{by_cases, EachPlace, trimmed_inked, trimmed_plain, trimmed_bare}
-use Rattle.bpaf_doc.proofs.lemmas.Console.Layout.Columns.{Fills, column_back, column_padded, no_text_column, Agrees, agrees_lines}
+use Rattle.bpaf_doc.proofs.lemmas.Console.Layout.Back.{by_cases, EachPlace, trimmed_inked, trimmed_plain, trimmed_bare, by_lines, lines_back, begins_back, by_trimmed}
+use Rattle.bpaf_doc.proofs.lemmas.Console.Layout.Columns.{Fills, column_back, column_padded, no_text_column, Agrees, agrees_lines, no_bytes}
 use Rattle.bpaf_doc.proofs.lemmas.Console.Layout.Text.{EachPassed, lines_margin}
 
 -- Q of what stands up to each stretch
@@ -30,56 +30,28 @@ within_padded bound (suc n) r l h =
     (let c : column_back (padded n r) ≡ n + column_back r = column_padded n r in omega arith, within_padded bound n r (omega arith) h)
 
 within_trimmed : (bound : ℕ) (r : List Stretch) → EachPassed IsBare r → EachFront (Within bound) r → EachFront (Within bound) (trimmed r)
-within_trimmed bound [] q h = h
-within_trimmed bound (Gap b ∷ r) q h = within_trimmed bound r q h.1
-within_trimmed bound (Placed e ∷ r) q h = at (by_cases (is_inked (chunk_at e))) (within_trimmed bound r q h.1) where
-  at : (is_inked (chunk_at e) ≡ true) ⊎ (is_inked (chunk_at e) ≡ false) → EachFront (Within bound) (trimmed r) → EachFront (Within bound) (trimmed (Placed e ∷ r))
-  at (inl i) ih = subst (λ x. EachFront (Within bound) x) (sym (trimmed_inked e r i)) (h.0, h.1)
-  at (inr i) ih = subst (λ x. EachFront (Within bound) x) (sym (trimmed_plain e r i)) (let front : column_back (trimmed r) ≤ bound = whole_front (Within bound) (trimmed r) ih in omega arith, ih)
-within_trimmed bound (Passed event ∷ r) q h = at q.0 (within_trimmed bound r q.1 h.1) where
-  no_length : (xs : List ℕ) → has_some xs ≡ false → length xs ≡ 0
-  no_length [] h = refl
-  no_length (x ∷ xs) h = absurd cc
-
-  at : has_some (event_bytes event) ≡ false → EachFront (Within bound) (trimmed r) → EachFront (Within bound) (trimmed (Passed event ∷ r))
-  at i ih = subst (λ x. EachFront (Within bound) x) (sym (trimmed_bare event r i))
-      (let front : column_back (trimmed r) ≤ bound = whole_front (Within bound) (trimmed r) ih in let none : length (event_bytes event) ≡ 0 = no_length (event_bytes event) i in omega arith, ih)
+within_trimmed bound = by_trimmed (λ r t. EachPassed IsBare r → EachFront (Within bound) r → EachFront (Within bound) t) (λ q h. h) (λ b r t ih q h. ih q h.1) (λ e r i q h. h)
+    (λ e r t i ih q h. let front : column_back t ≤ bound = whole_front (Within bound) t (ih q h.1) in (omega arith, ih q h.1))
+    (λ event r i q h. let no : true ≡ false = sym i ∙ q.0 in absurd cc)
+    (λ event r t i ih q h.
+    let front : column_back t ≤ bound = whole_front (Within bound) t (ih q.1 h.1) in
+    let none : length (event_bytes event) ≡ 0 = no_bytes (event_bytes event) i in (omega arith, ih q.1 h.1))
 
 within_lines : (bound : ℕ) {st mid : State} → Lines st mid → EachFront (Within bound) st.back → EachFront (Within bound) mid.back
-within_lines bound (none_asked a e) h = subst (λ (s : State). EachFront (Within bound) s.back) (sym e) h
-within_lines bound (line_there a b e) h = subst (λ (s : State). EachFront (Within bound) s.back) (sym e) h
-within_lines bound (line_put a e) h = subst (λ (s : State). EachFront (Within bound) s.back) (sym e) (omega arith, h)
-within_lines bound (blank_there a b e) h = subst (λ (s : State). EachFront (Within bound) s.back) (sym e) h
-within_lines bound (second_put a b e) h = subst (λ (s : State). EachFront (Within bound) s.back) (sym e) (omega arith, h)
-within_lines bound (both_put a e) h = subst (λ (s : State). EachFront (Within bound) s.back) (sym e) (omega arith, (omega arith, h))
+within_lines bound l h = lines_back (EachFront (Within bound)) (λ r x. (omega arith, x)) l h
 
 bare_lines : {st mid : State} → Lines st mid → EachPassed IsBare st.back → EachPassed IsBare mid.back
-bare_lines (none_asked a e) h = subst (λ (s : State). EachPassed IsBare s.back) (sym e) h
-bare_lines (line_there a b e) h = subst (λ (s : State). EachPassed IsBare s.back) (sym e) h
-bare_lines (line_put a e) h = subst (λ (s : State). EachPassed IsBare s.back) (sym e) h
-bare_lines (blank_there a b e) h = subst (λ (s : State). EachPassed IsBare s.back) (sym e) h
-bare_lines (second_put a b e) h = subst (λ (s : State). EachPassed IsBare s.back) (sym e) h
-bare_lines (both_put a e) h = subst (λ (s : State). EachPassed IsBare s.back) (sym e) h
+bare_lines l h = lines_back (EachPassed IsBare) (λ r x. x) l h
 
 bare_trimmed : (r : List Stretch) → EachPassed IsBare r → EachPassed IsBare (trimmed r)
-bare_trimmed [] h = h
-bare_trimmed (Gap b ∷ r) h = bare_trimmed r h
-bare_trimmed (Placed e ∷ r) h = at (by_cases (is_inked (chunk_at e))) (bare_trimmed r h) where
-  at : (is_inked (chunk_at e) ≡ true) ⊎ (is_inked (chunk_at e) ≡ false) → EachPassed IsBare (trimmed r) → EachPassed IsBare (trimmed (Placed e ∷ r))
-  at (inl i) ih = subst (λ x. EachPassed IsBare x) (sym (trimmed_inked e r i)) h
-  at (inr i) ih = subst (λ x. EachPassed IsBare x) (sym (trimmed_plain e r i)) (refl, ih)
-bare_trimmed (Passed event ∷ r) h = at h.0 (bare_trimmed r h.1) where
-  at : has_some (event_bytes event) ≡ false → EachPassed IsBare (trimmed r) → EachPassed IsBare (trimmed (Passed event ∷ r))
-  at i ih = subst (λ x. EachPassed IsBare x) (sym (trimmed_bare event r i)) (i, ih)
+bare_trimmed = by_trimmed (λ r t. EachPassed IsBare r → EachPassed IsBare t) (λ h. h) (λ b r t ih h. ih h) (λ e r i h. h) (λ e r t i ih h. (refl, ih h)) (λ event r i h. h) (λ event r t i ih h. (h.0, ih h.1))
 
 bare_padded : (n : ℕ) (r : List Stretch) → EachPassed IsBare r → EachPassed IsBare (padded n r)
 bare_padded zero r h = h
 bare_padded (suc n) r h = bare_padded n r h
 
 bare_begins : {width : ℕ} {st : State} {p : Piece} {base : State} → Begins width st p base → EachPassed IsBare st.back → EachPassed IsBare base.back
-bare_begins (first t e) h = subst (λ (s : State). EachPassed IsBare s.back) (sym e) h
-bare_begins (stays t l w) h = bare_lines l h
-bare_begins (wraps t mid l w b e) h = subst (λ (s : State). EachPassed IsBare s.back) (sym e) (bare_trimmed mid.back (bare_lines l h))
+bare_begins b h = begins_back (EachPassed IsBare) (λ r x. x) bare_trimmed b h
 
 -- what comes writes no backquote
 abbrev pub WritesNone : Next → Type 0

@@ -79,7 +79,7 @@ empty_columns : (bytes : List ℕ) → has_some bytes ≡ false → columns byte
 empty_columns [] h = no_columns
 empty_columns (b ∷ bytes) h = absurd cc
 
-no_bytes : (xs : List ℕ) → has_some xs ≡ false → length xs ≡ 0
+pub no_bytes : (xs : List ℕ) → has_some xs ≡ false → length xs ≡ 0
 no_bytes [] h = refl
 no_bytes (x ∷ xs) h = absurd cc
 

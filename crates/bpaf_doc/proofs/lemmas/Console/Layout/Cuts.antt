@@ -5,7 +5,7 @@ use Rattle.std.proofs.Common.{sym, subst, inl, inr, ◌∙◌}
 use Rattle.bpaf_doc.specs.Splitter.Chunks.{is_inked, has_some}
 use Rattle.bpaf_doc.specs.Console.Layout.{Stretch, Gap, Placed, Passed, chunk_at, event_bytes}
 use Rattle.bpaf_doc.proofs.lemmas.Console.Layout.State.{State, Piece, Lines, none_asked, line_there, line_put, blank_there, second_put, both_put, Begins, first, stays, wraps, places, drops, Next, Grows, placing, breaking, passing, padded, trimmed, wrapped}
-use Rattle.bpaf_doc.proofs.lemmas.Console.Layout.Back.{by_cases, EachPlace, trimmed_inked, trimmed_plain, trimmed_bytes, trimmed_bare, each_lines}
+use Rattle.bpaf_doc.proofs.lemmas.Console.Layout.Back.{by_cases, EachPlace, trimmed_inked, trimmed_plain, trimmed_bytes, trimmed_bare, each_lines, by_lines, lines_back, begins_back, by_trimmed}
 use Rattle.bpaf_doc.proofs.lemmas.Console.Layout.Columns.{Fills, inked_trim, inked_some}
 
 -- what may stand where the text after it begins with a newline, or where nothing is known of it
@@ -60,12 +60,7 @@ abbrev pub IsWhole : State → Type 0
 IsWhole st = MayEnd false st.back
 
 whole_lines : {st mid : State} → Lines st mid → IsWhole st → IsWhole mid
-whole_lines (none_asked a e) h = subst IsWhole (sym e) h
-whole_lines (line_there a b e) h = subst IsWhole (sym e) h
-whole_lines {st} (line_put a e) h = subst IsWhole (sym e) (inr refl, may_end_line st.back h)
-whole_lines (blank_there a b e) h = subst IsWhole (sym e) h
-whole_lines {st} (second_put a b e) h = subst IsWhole (sym e) (inr refl, may_end_line st.back h)
-whole_lines {st} (both_put a e) h = subst IsWhole (sym e) (inr refl, (inr refl, may_end_line st.back h))
+whole_lines l h = lines_back (MayEnd false) (λ r x. (inr refl, may_end_line r x)) l h
 
 whole_wrapped : (mid : State) → EachPlace Fills mid.back → IsWhole mid → IsWhole (wrapped mid)
 whole_wrapped mid f h = (inr refl, may_end_trimmed false mid.back f h)

@@ -5,7 +5,7 @@ use Rattle.std.proofs.Common.{sym, subst, ap, arith, inl, inr, ◌∙◌}
 use Rattle.bpaf_doc.specs.Splitter.Chunks.{Chunk, Raw, is_inked}
 use Rattle.bpaf_doc.specs.Console.Layout.{Event, Shows, Opens, Closes, Stretch, Gap, Placed, Passed, Place, chunk_at, is_inked_stretch, is_inked_event, is_raw_event}
 use Rattle.bpaf_doc.proofs.lemmas.Console.Layout.State.{State, Piece, Lines, none_asked, line_there, line_put, blank_there, second_put, both_put, Pads, to_margin, after_term, Begins, first, stays, wraps, places, drops, Next, raw, break, Grows, placing, breaking, passing, padded, trimmed, sat, wrapped, put, passed, dropped, Suits, raw_suits, paragraph_suits, line_break_suits, open_suits, close_suits}
-use Rattle.bpaf_doc.proofs.lemmas.Console.Layout.Back.{by_cases, EachPlace, each_grows, each_begins, each_padded, each_trimmed, each_lines, place_of, fits_of}
+use Rattle.bpaf_doc.proofs.lemmas.Console.Layout.Back.{by_cases, EachPlace, each_grows, each_begins, each_padded, each_trimmed, each_lines, place_of, fits_of, by_lines, lines_back, begins_back, by_trimmed}
 use Rattle.bpaf_doc.proofs.lemmas.Console.Layout.Text.{or_false_right, begins_margin, lines_margin, no_ink_blank}
 use Rattle.bpaf_doc.proofs.lemmas.Console.Layout.Split.{Cut, FirstOrLater, here, later, cut_cons, AfterGap, cut_gap, AfterPassed, cut_passed, AfterPads, cut_padded, has_newline, newline_padded, inked_line, inked_since}
 
@@ -187,15 +187,9 @@ record Ready (st : State) (k : ℕ) : Type 0 where
 
 kept_lines : {st mid : State} (k n : ℕ) → Ready st k → Lines st mid → Pads mid n
     → (m before : List Stretch) (e : Place) → IsNeighbour (padded n mid.back) m e before → (e.shown ≡ e.bytes) × AllKept (e.part < k) m
-kept_lines {st} {mid} k n y (none_asked a s) d m before e there =
-    kept_same st k n y.settled y.unsettled y.order y.since y.later_part y.moved (subst (λ (x : State). Pads x n) s d) m before e (subst (λ (x : State). IsNeighbour (padded n x.back) m e before) s there)
-kept_lines {st} {mid} k n y (line_there a b s) d m before e there =
-    kept_same st k n y.settled y.unsettled y.order y.since y.later_part y.moved (subst (λ (x : State). Pads x n) s d) m before e (subst (λ (x : State). IsNeighbour (padded n x.back) m e before) s there)
-kept_lines {st} {mid} k n y (line_put a s) d m before e there = absurd (no_neighbour_padded n st.back m e before (subst (λ (x : State). IsNeighbour (padded n x.back) m e before) s there))
-kept_lines {st} {mid} k n y (blank_there a b s) d m before e there =
-    kept_same st k n y.settled y.unsettled y.order y.since y.later_part y.moved (subst (λ (x : State). Pads x n) s d) m before e (subst (λ (x : State). IsNeighbour (padded n x.back) m e before) s there)
-kept_lines {st} {mid} k n y (second_put a b s) d m before e there = absurd (no_neighbour_padded n st.back m e before (subst (λ (x : State). IsNeighbour (padded n x.back) m e before) s there))
-kept_lines {st} {mid} k n y (both_put a s) d m before e there = absurd (no_neighbour_padded n (Gap 10 ∷ st.back) m e before (subst (λ (x : State). IsNeighbour (padded n x.back) m e before) s there))
+kept_lines {st} {mid} k n y l = by_lines (λ s. Pads s n → (m before : List Stretch) (e : Place) → IsNeighbour (padded n s.back) m e before → (e.shown ≡ e.bytes) × AllKept (e.part < k) m) l
+    (kept_same st k n y.settled y.unsettled y.order y.since y.later_part y.moved) (λ d m before e there. absurd (no_neighbour_padded n st.back m e before there))
+    (λ d m before e there. absurd (no_neighbour_padded n st.back m e before there)) (λ d m before e there. absurd (no_neighbour_padded n (Gap 10 ∷ st.back) m e before there))
 
 kept_begins : {width : ℕ} {st : State} {p : Piece} {base : State} (n : ℕ) → Ready st p.part → Begins width st p base → Pads base n
     → (m before : List Stretch) (e : Place) → IsNeighbour (padded n base.back) m e before → (e.shown ≡ e.bytes) × AllKept (e.part < p.part) m

@@ -6,7 +6,7 @@ use Rattle.bpaf_doc.specs.Splitter.Chunks.{columns, is_inked, has_some}
 use Rattle.bpaf_doc.specs.Shown.{is_term_ref}
 use Rattle.bpaf_doc.specs.Console.Layout.{Event, Shows, Opens, Closes, Stretch, Gap, Placed, Passed, Place, chunk_at, event_bytes, is_newline, is_placed, is_gap, is_ref, holds_line, leads_to_place, opens_body}
 use Rattle.bpaf_doc.proofs.lemmas.Console.Layout.State.{State, Piece, Lines, none_asked, line_there, line_put, blank_there, second_put, both_put, Pads, to_margin, after_term, Begins, first, stays, wraps, places, drops, Next, raw, Grows, placing, breaking, passing, padded, trimmed, passed, closes_body, has_text, Suits}
-use Rattle.bpaf_doc.proofs.lemmas.Console.Layout.Back.{by_cases, EachPlace, KeepsCut, each_grows, trimmed_inked, trimmed_plain, trimmed_bytes, trimmed_bare, place_of, fits_of}
+use Rattle.bpaf_doc.proofs.lemmas.Console.Layout.Back.{by_cases, EachPlace, KeepsCut, each_grows, trimmed_inked, trimmed_plain, trimmed_bytes, trimmed_bare, place_of, fits_of, by_lines, lines_back, begins_back, by_trimmed}
 use Rattle.bpaf_doc.proofs.lemmas.Console.Layout.Columns.{Fills, column_back, column_padded, Agrees, any_in_line}
 use Rattle.bpaf_doc.proofs.lemmas.Console.Layout.Text.{IsStarting, has_place, begins_column, begins_margin, or_true_right, or_false_left, or_false_right}
 
@@ -32,17 +32,10 @@ pads_padded zero r = omega arith
 pads_padded (suc n) r = let ih : pads_back (padded n r) ≡ n + pads_back r = pads_padded n r in omega arith
 
 pads_lines : {st mid : State} → Lines st mid → HasNoPads st → HasNoPads mid
-pads_lines (none_asked a e) h = subst HasNoPads (sym e) h
-pads_lines (line_there a b e) h = subst HasNoPads (sym e) h
-pads_lines (line_put a e) h = subst HasNoPads (sym e) refl
-pads_lines (blank_there a b e) h = subst HasNoPads (sym e) h
-pads_lines (second_put a b e) h = subst HasNoPads (sym e) refl
-pads_lines (both_put a e) h = subst HasNoPads (sym e) refl
+pads_lines l h = lines_back (λ r. pads_back r ≡ 0) (λ r x. refl) l h
 
 pub pads_begins : {width : ℕ} {st : State} {p : Piece} {base : State} → Begins width st p base → HasNoPads st → HasNoPads base
-pads_begins (first t e) h = subst HasNoPads (sym e) h
-pads_begins (stays t l w) h = pads_lines l h
-pads_begins (wraps t mid l w b e) h = subst HasNoPads (sym e) refl
+pads_begins b h = begins_back (λ r. pads_back r ≡ 0) (λ r x. refl) (λ r x. refl) b h
 
 pub no_pads_grows : {width : ℕ} {st after : State} {next : Next} → Grows width st next after → HasNoPads st → HasNoPads after
 no_pads_grows (placing p e (places base n b d a)) h = subst HasNoPads (sym a) refl
@@ -128,17 +121,9 @@ leads_padded : (n : ℕ) (r : List Stretch) → Leads true r → Leads true (pad
 leads_padded zero r h = h
 leads_padded (suc n) r h = (λ t. refl, leads_padded n r h)
 
-leads_trimmed : (place : Bool) (r : List Stretch) → Leads place r → Leads false (trimmed r)
-leads_trimmed place [] h = h
-leads_trimmed place (Gap b ∷ r) h = leads_trimmed ((b == 32) && place) r h.1
-leads_trimmed place (Placed e ∷ r) h = at (by_cases (is_inked (chunk_at e))) (leads_trimmed true r h) where
-  at : (is_inked (chunk_at e) ≡ true) ⊎ (is_inked (chunk_at e) ≡ false) → Leads false (trimmed r) → Leads false (trimmed (Placed e ∷ r))
-  at (inl i) ih = subst (λ x. Leads false x) (sym (trimmed_inked e r i)) h
-  at (inr i) ih = subst (λ x. Leads false x) (sym (trimmed_plain e r i)) ih
-leads_trimmed place (Passed event ∷ r) h = at (by_cases (has_some (event_bytes event))) (leads_trimmed false r h) where
-  at : (has_some (event_bytes event) ≡ true) ⊎ (has_some (event_bytes event) ≡ false) → Leads false (trimmed r) → Leads false (trimmed (Passed event ∷ r))
-  at (inl i) ih = subst (λ x. Leads false x) (sym (trimmed_bytes event r i)) h
-  at (inr i) ih = subst (λ x. Leads false x) (sym (trimmed_bare event r i)) ih
+leads_trimmed : (r : List Stretch) (place : Bool) → Leads place r → Leads false (trimmed r)
+leads_trimmed = by_trimmed (λ r t. (place : Bool) → Leads place r → Leads false t) (λ place h. h) (λ b r t ih place h. ih ((b == 32) && place) h.1) (λ e r i place h. h)
+    (λ e r t i ih place h. ih true h) (λ event r i place h. h) (λ event r t i ih place h. ih false h)
 
 abbrev pub IsLed : State → Type 0
 IsLed st = Leads false st.back
@@ -147,21 +132,14 @@ leads_newline : (r : List Stretch) → Leads false r → Leads false (Gap 10 ∷
 leads_newline r h = (λ t. absurd cc, h)
 
 led_lines : {st mid : State} → Lines st mid → IsLed st → IsLed mid
-led_lines (none_asked a e) h = subst IsLed (sym e) h
-led_lines (line_there a b e) h = subst IsLed (sym e) h
-led_lines {st} (line_put a e) h = subst IsLed (sym e) (leads_newline st.back h)
-led_lines (blank_there a b e) h = subst IsLed (sym e) h
-led_lines {st} (second_put a b e) h = subst IsLed (sym e) (leads_newline st.back h)
-led_lines {st} (both_put a e) h = subst IsLed (sym e) (leads_newline (Gap 10 ∷ st.back) (leads_newline st.back h))
+led_lines l h = lines_back (Leads false) leads_newline l h
 
 led_begins : {width : ℕ} {st : State} {p : Piece} {base : State} → Begins width st p base → IsLed st → IsLed base
-led_begins (first t e) h = subst IsLed (sym e) h
-led_begins (stays t l w) h = led_lines l h
-led_begins (wraps t mid l w b e) h = subst IsLed (sym e) (leads_newline (trimmed mid.back) (leads_trimmed false mid.back (led_lines l h)))
+led_begins b h = begins_back (Leads false) leads_newline (λ r x. leads_newline (trimmed r) (leads_trimmed r false x)) b h
 
 pub led_grows : {width : ℕ} {st after : State} {next : Next} → Grows width st next after → IsLed st → IsLed after
 led_grows (placing p e (places base n b d a)) h = subst IsLed (sym a) (leads_padded n base.back (leads_more base.back (led_begins b h)))
-led_grows (placing p e (drops t mid l w b a)) h = subst IsLed (sym a) (leads_newline (trimmed mid.back) (leads_trimmed false mid.back (led_lines l h)))
+led_grows (placing p e (drops t mid l w b a)) h = subst IsLed (sym a) (leads_newline (trimmed mid.back) (leads_trimmed mid.back false (led_lines l h)))
 led_grows {st = st} (breaking k chunk e a) h = subst IsLed (sym a) (leads_newline (Passed (Shows k chunk) ∷ st.back) h)
 led_grows (passing event margin e a) h = subst IsLed (sym a) h
 
@@ -184,29 +162,19 @@ abbrev pub IsPending : State → Type 0
 IsPending st = st.pending ≡ true → body_back st.back ≡ true
 
 body_trimmed : (r : List Stretch) → body_back r ≡ true → body_back (trimmed r) ≡ true
-body_trimmed [] h = h
-body_trimmed (Gap b ∷ r) h = body_trimmed r h
-body_trimmed (Placed e ∷ r) h = absurd cc
-body_trimmed (Passed event ∷ r) h = at (by_cases (has_some (event_bytes event))) (by_cases (opens_body event)) (body_trimmed r) where
-  at : (has_some (event_bytes event) ≡ true) ⊎ (has_some (event_bytes event) ≡ false) → (opens_body event ≡ true) ⊎ (opens_body event ≡ false)
-      → (body_back r ≡ true → body_back (trimmed r) ≡ true) → body_back (trimmed (Passed event ∷ r)) ≡ true
-  at (inl i) o ih = subst (λ x. body_back x ≡ true) (sym (trimmed_bytes event r i)) h
-  at (inr i) (inl o) ih = subst (λ x. body_back x ≡ true) (sym (trimmed_bare event r i)) (rw o refl)
-  at (inr i) (inr o) ih =
-      let rest : body_back r ≡ true = rw o at h in
-      subst (λ x. body_back x ≡ true) (sym (trimmed_bare event r i)) (or_true_right (opens_body event) (body_back (trimmed r)) (ih rest))
+body_trimmed = by_trimmed (λ r t. body_back r ≡ true → body_back t ≡ true) (λ h. h) (λ b r t ih h. ih h) (λ e r i h. absurd cc) (λ e r t i ih h. absurd cc) (λ event r i h. h)
+    (λ event r t i ih h. at event r t (by_cases (opens_body event)) h ih) where
+      at : (event : Event) (r t : List Stretch) → (opens_body event ≡ true) ⊎ (opens_body event ≡ false) → body_back (Passed event ∷ r) ≡ true
+          → (body_back r ≡ true → body_back t ≡ true) → body_back (Passed event ∷ t) ≡ true
+      at event r t (inl o) h ih = rw o refl
+      at event r t (inr o) h ih = let rest : body_back r ≡ true = rw o at h in or_true_right (opens_body event) (body_back t) (ih rest)
 
 pub body_padded : (n : ℕ) (r : List Stretch) → body_back r ≡ true → body_back (padded n r) ≡ true
 body_padded zero r h = h
 body_padded (suc n) r h = body_padded n r h
 
 pending_lines : {st mid : State} → Lines st mid → IsPending st → IsPending mid
-pending_lines (none_asked a e) h = subst IsPending (sym e) h
-pending_lines (line_there a b e) h = subst IsPending (sym e) h
-pending_lines (line_put a e) h = subst IsPending (sym e) h
-pending_lines (blank_there a b e) h = subst IsPending (sym e) h
-pending_lines (second_put a b e) h = subst IsPending (sym e) h
-pending_lines (both_put a e) h = subst IsPending (sym e) h
+pending_lines l h = by_lines IsPending l h h h h
 
 pub pending_begins : {width : ℕ} {st : State} {p : Piece} {base : State} → Begins width st p base → IsPending st → IsPending base
 pending_begins (first t e) h = subst IsPending (sym e) h

@@ -9,7 +9,7 @@ use Rattle.bpaf_doc.proofs.lemmas.Console.Layout.Columns.{any_in_line}
 use Rattle.bpaf_doc.proofs.lemmas.Console.Layout.State.{State, Piece, Lines, none_asked, line_there, line_put, blank_there, second_put, both_put, Begins, first, stays, wraps, places, drops, Next, Grows, placing, breaking, passing, padded, trimmed, cut}
 use Rattle.bpaf_doc.proofs.lemmas.Console.Layout.Text.{next_event}
 use Rattle.bpaf_doc.specs.declared.console.page.Asked.TheVariants.{Nothing, NewLine, BlankLine}
-use Rattle.bpaf_doc.proofs.lemmas.Console.Layout.Back.{by_cases, trimmed_inked, trimmed_plain, trimmed_bytes, trimmed_bare}
+use Rattle.bpaf_doc.proofs.lemmas.Console.Layout.Back.{by_cases, trimmed_inked, trimmed_plain, trimmed_bytes, trimmed_bare, by_lines, lines_back, begins_back, by_trimmed}
 
 -- ---- the events, newest first
 
@@ -24,31 +24,16 @@ events_padded zero r = refl
 events_padded (suc n) r = events_padded n r
 
 pub events_trimmed : (r : List Stretch) → events_back (trimmed r) ≡ events_back r
-events_trimmed [] = refl
-events_trimmed (Gap b ∷ r) = events_trimmed r
-events_trimmed (Placed e ∷ r) = at (by_cases (is_inked (chunk_at e))) (events_trimmed r) where
-  at : (is_inked (chunk_at e) ≡ true) ⊎ (is_inked (chunk_at e) ≡ false) → events_back (trimmed r) ≡ events_back r → events_back (trimmed (Placed e ∷ r)) ≡ events_back (Placed e ∷ r)
-  at (inl i) ih = subst (λ x. events_back x ≡ events_back (Placed e ∷ r)) (sym (trimmed_inked e r i)) refl
-  at (inr i) ih = subst (λ x. events_back x ≡ events_back (Placed e ∷ r)) (sym (trimmed_plain e r i)) (ap (λ es. Shows e.part (chunk_at e) ∷ es) ih)
-events_trimmed (Passed event ∷ r) = at (by_cases (has_some (event_bytes event))) (events_trimmed r) where
-  at : (has_some (event_bytes event) ≡ true) ⊎ (has_some (event_bytes event) ≡ false) → events_back (trimmed r) ≡ events_back r → events_back (trimmed (Passed event ∷ r)) ≡ events_back (Passed event ∷ r)
-  at (inl i) ih = subst (λ x. events_back x ≡ events_back (Passed event ∷ r)) (sym (trimmed_bytes event r i)) refl
-  at (inr i) ih = subst (λ x. events_back x ≡ events_back (Passed event ∷ r)) (sym (trimmed_bare event r i)) (ap (λ es. event ∷ es) ih)
+events_trimmed = by_trimmed (λ r t. events_back t ≡ events_back r) refl (λ b r t ih. ih) (λ e r i. refl) (λ e r t i ih. ap (λ es. Shows e.part (chunk_at e) ∷ es) ih)
+    (λ event r i. refl) (λ event r t i ih. ap (λ es. event ∷ es) ih)
 
 -- ---- the events as a page grows
 
 events_lines : {st mid : State} → Lines st mid → events_back mid.back ≡ events_back st.back
-events_lines (none_asked a e) = ap (λ (s : State). events_back s.back) e
-events_lines (line_there a b e) = ap (λ (s : State). events_back s.back) e
-events_lines (line_put a e) = ap (λ (s : State). events_back s.back) e
-events_lines (blank_there a b e) = ap (λ (s : State). events_back s.back) e
-events_lines (second_put a b e) = ap (λ (s : State). events_back s.back) e
-events_lines (both_put a e) = ap (λ (s : State). events_back s.back) e
+events_lines {st} l = lines_back (λ r. events_back r ≡ events_back st.back) (λ r x. x) l refl
 
 pub events_begins : {width : ℕ} {st : State} {p : Piece} {base : State} → Begins width st p base → events_back base.back ≡ events_back st.back
-events_begins (first t e) = ap (λ (s : State). events_back s.back) e
-events_begins (stays t l w) = events_lines l
-events_begins (wraps t mid l w b e) = ap (λ (s : State). events_back s.back) e ∙ events_trimmed mid.back ∙ events_lines l
+events_begins {st = st} b = begins_back (λ r. events_back r ≡ events_back st.back) (λ r x. x) (λ r x. events_trimmed r ∙ x) b refl
 
 pub events_grows : {width : ℕ} {st after : State} {next : Next} → Grows width st next after → events_back after.back ≡ next_event next ∷ events_back st.back
 events_grows {st = st} (placing p e (places base n b d a)) =
@@ -194,19 +179,12 @@ pub record Earlier (r m : List Stretch) (e : Place) (before : List Stretch) : Ty
   pub events : events_back rest ≡ events_back m
 
 pub after_lines : {st mid : State} → Lines st mid → (m before : List Stretch) (e : Place) → Cut mid.back m e before → Earlier st.back m e before
-after_lines (none_asked a s) m before e there = record { rest = m; there = subst (λ (x : State). Cut x.back m e before) s there; events = refl }
-after_lines (line_there a b s) m before e there = record { rest = m; there = subst (λ (x : State). Cut x.back m e before) s there; events = refl }
-after_lines {st} (line_put a s) m before e there =
-    let found : AfterGap 10 st.back m e before = cut_gap 10 st.back m e before (subst (λ (x : State). Cut x.back m e before) s there) in
-    record { rest = found.rest; there = found.there; events = sym (ap events_back found.is) }
-after_lines (blank_there a b s) m before e there = record { rest = m; there = subst (λ (x : State). Cut x.back m e before) s there; events = refl }
-after_lines {st} (second_put a b s) m before e there =
-    let found : AfterGap 10 st.back m e before = cut_gap 10 st.back m e before (subst (λ (x : State). Cut x.back m e before) s there) in
-    record { rest = found.rest; there = found.there; events = sym (ap events_back found.is) }
-after_lines {st} (both_put a s) m before e there =
-    let found : AfterGap 10 (Gap 10 ∷ st.back) m e before = cut_gap 10 (Gap 10 ∷ st.back) m e before (subst (λ (x : State). Cut x.back m e before) s there) in
-    let next : AfterGap 10 st.back found.rest e before = cut_gap 10 st.back found.rest e before found.there in
-    record { rest = next.rest; there = next.there; events = sym (ap events_back found.is ∙ ap events_back next.is) }
+after_lines {st} l = lines_back (λ r. (m before : List Stretch) (e : Place) → Cut r m e before → Earlier st.back m e before)
+    (λ r h m before e there.
+    let found : AfterGap 10 r m e before = cut_gap 10 r m e before there in
+    let earlier : Earlier st.back found.rest e before = h found.rest before e found.there in
+    record { rest = earlier.rest; there = earlier.there; events = earlier.events ∙ sym (ap events_back found.is) })
+    l (λ m before e there. record { rest = m; there = there; events = refl })
 
 -- ---- a newline since a place
 

@@ -8,7 +8,7 @@ use Rattle.bpaf_doc.specs.Shown.{is_term_ref, mark_bytes}
 use Rattle.bpaf_doc.specs.Splitter.Chunks.{Raw, Paragraph, LineBreak, is_inked, is_ordinary, has_some}
 use Rattle.bpaf_doc.specs.Console.Layout.{Event, Shows, Opens, Closes, Stretch, Gap, Placed, Passed, chunk_at, event_bytes, is_inked_event, is_inked_stretch, is_empty_code, is_placed, is_written}
 use Rattle.bpaf_doc.proofs.lemmas.Console.Layout.State.{State, Piece, Lines, none_asked, line_there, line_put, blank_there, second_put, both_put, Begins, first, stays, wraps, places, drops, Next, raw, break, mark, Grows, placing, breaking, passing, padded, trimmed, has_text, put, passed, Fits, Suits, raw_suits, paragraph_suits, line_break_suits, open_suits, close_suits, IsClear}
-use Rattle.bpaf_doc.proofs.lemmas.Console.Layout.Back.{by_cases, EachPlace, trimmed_inked, trimmed_plain, trimmed_bytes, trimmed_bare, fits_of}
+use Rattle.bpaf_doc.proofs.lemmas.Console.Layout.Back.{by_cases, EachPlace, trimmed_inked, trimmed_plain, trimmed_bytes, trimmed_bare, fits_of, by_lines, lines_back, begins_back, by_trimmed}
 use Rattle.bpaf_doc.proofs.lemmas.Console.Layout.Columns.{Fills, inked_some, column_back, no_text_column, Agrees, agrees_lines}
 
 -- ---- what has no place has no ink
@@ -28,29 +28,13 @@ passed_padded Q zero r h = h
 passed_padded Q (suc n) r h = passed_padded Q n r h
 
 pub no_ink_trimmed : (r : List Stretch) → EachPassed NoInk r → EachPassed NoInk (trimmed r)
-no_ink_trimmed [] h = h
-no_ink_trimmed (Gap b ∷ r) h = no_ink_trimmed r h
-no_ink_trimmed (Placed e ∷ r) h = at (by_cases (is_inked (chunk_at e))) (no_ink_trimmed r h) where
-  at : (is_inked (chunk_at e) ≡ true) ⊎ (is_inked (chunk_at e) ≡ false) → EachPassed NoInk (trimmed r) → EachPassed NoInk (trimmed (Placed e ∷ r))
-  at (inl i) ih = subst (λ x. EachPassed NoInk x) (sym (trimmed_inked e r i)) h
-  at (inr i) ih = subst (λ x. EachPassed NoInk x) (sym (trimmed_plain e r i)) (i, ih)
-no_ink_trimmed (Passed event ∷ r) h = at (by_cases (has_some (event_bytes event))) (no_ink_trimmed r h.1) where
-  at : (has_some (event_bytes event) ≡ true) ⊎ (has_some (event_bytes event) ≡ false) → EachPassed NoInk (trimmed r) → EachPassed NoInk (trimmed (Passed event ∷ r))
-  at (inl i) ih = subst (λ x. EachPassed NoInk x) (sym (trimmed_bytes event r i)) h
-  at (inr i) ih = subst (λ x. EachPassed NoInk x) (sym (trimmed_bare event r i)) (h.0, ih)
+no_ink_trimmed = by_trimmed (λ r t. EachPassed NoInk r → EachPassed NoInk t) (λ h. h) (λ b r t ih h. ih h) (λ e r i h. h) (λ e r t i ih h. (i, ih h)) (λ event r i h. h) (λ event r t i ih h. (h.0, ih h.1))
 
 pub no_ink_lines : {st mid : State} → Lines st mid → EachPassed NoInk st.back → EachPassed NoInk mid.back
-no_ink_lines (none_asked a e) h = subst (λ (s : State). EachPassed NoInk s.back) (sym e) h
-no_ink_lines (line_there a b e) h = subst (λ (s : State). EachPassed NoInk s.back) (sym e) h
-no_ink_lines (line_put a e) h = subst (λ (s : State). EachPassed NoInk s.back) (sym e) h
-no_ink_lines (blank_there a b e) h = subst (λ (s : State). EachPassed NoInk s.back) (sym e) h
-no_ink_lines (second_put a b e) h = subst (λ (s : State). EachPassed NoInk s.back) (sym e) h
-no_ink_lines (both_put a e) h = subst (λ (s : State). EachPassed NoInk s.back) (sym e) h
+no_ink_lines l h = lines_back (EachPassed NoInk) (λ r x. x) l h
 
 pub no_ink_begins : {width : ℕ} {st : State} {p : Piece} {base : State} → Begins width st p base → EachPassed NoInk st.back → EachPassed NoInk base.back
-no_ink_begins (first t e) h = subst (λ (s : State). EachPassed NoInk s.back) (sym e) h
-no_ink_begins (stays t l w) h = no_ink_lines l h
-no_ink_begins (wraps t mid l w b e) h = subst (λ (s : State). EachPassed NoInk s.back) (sym e) (no_ink_trimmed mid.back (no_ink_lines l h))
+no_ink_begins b h = begins_back (EachPassed NoInk) (λ r x. x) no_ink_trimmed b h
 
 blank_ink : (k weight : ℕ) → is_inked_event (Shows k (Raw (codes " ") weight)) ≡ false
 unfolding chars
@@ -126,12 +110,7 @@ text_padded (suc n) r h = refl
 
 -- a page that goes on after some text has text
 pub text_lines : {st mid : State} → Lines st mid → has_text st.back ≡ true → has_text mid.back ≡ true
-text_lines (none_asked a e) h = subst (λ (s : State). has_text s.back ≡ true) (sym e) h
-text_lines (line_there a b e) h = subst (λ (s : State). has_text s.back ≡ true) (sym e) h
-text_lines (line_put a e) h = subst (λ (s : State). has_text s.back ≡ true) (sym e) refl
-text_lines (blank_there a b e) h = subst (λ (s : State). has_text s.back ≡ true) (sym e) h
-text_lines (second_put a b e) h = subst (λ (s : State). has_text s.back ≡ true) (sym e) refl
-text_lines (both_put a e) h = subst (λ (s : State). has_text s.back ≡ true) (sym e) refl
+text_lines l h = lines_back (λ r. has_text r ≡ true) (λ r x. refl) l h
 
 -- an empty chunk that is placed first is an empty line of code, which stands after some text
 empty_first : {margin_of : ℕ → ℕ} (st : State) (p : Piece) → Fits margin_of st p → IsClear st (raw p) → has_text st.back ≡ false → has_some p.bytes ≡ true
@@ -227,12 +206,7 @@ begins_column small f start h (wraps t mid l w b e) = subst (λ (s : State). s.c
 
 -- and the margin is still the one in force, and what was asked for after a term still holds
 pub lines_margin : {st mid : State} → Lines st mid → (mid.margin ≡ st.margin) × (mid.pending ≡ st.pending)
-lines_margin (none_asked a e) = (ap (λ (s : State). s.margin) e, ap (λ (s : State). s.pending) e)
-lines_margin (line_there a b e) = (ap (λ (s : State). s.margin) e, ap (λ (s : State). s.pending) e)
-lines_margin (line_put a e) = (ap (λ (s : State). s.margin) e, ap (λ (s : State). s.pending) e)
-lines_margin (blank_there a b e) = (ap (λ (s : State). s.margin) e, ap (λ (s : State). s.pending) e)
-lines_margin (second_put a b e) = (ap (λ (s : State). s.margin) e, ap (λ (s : State). s.pending) e)
-lines_margin (both_put a e) = (ap (λ (s : State). s.margin) e, ap (λ (s : State). s.pending) e)
+lines_margin {st} l = by_lines (λ s. (s.margin ≡ st.margin) × (s.pending ≡ st.pending)) l (refl, refl) (refl, refl) (refl, refl) (refl, refl)
 
 pub begins_margin : {width : ℕ} {st : State} {p : Piece} {base : State} → Begins width st p base → (base.margin ≡ st.margin) × (base.pending ≡ st.pending)
 begins_margin (first t e) = (ap (λ (s : State). s.margin) e, ap (λ (s : State). s.pending) e)
