@@ -5,9 +5,9 @@ use Rattle.std.proofs.lemmas.Bool.Decides.{nat_tests}
 use Rattle.bpaf_doc.specs.Splitter.Chunks.{is_whole_line, code_weight, fence_weight}
 use Rattle.bpaf_doc.specs.Console.Layout.{Shows, Stretch, Gap, Placed, Passed, Place, chunk_at, is_placed}
 use Rattle.bpaf_doc.proofs.lemmas.Console.Layout.State.{State, Piece, Lines, none_asked, line_there, line_put, blank_there, second_put, both_put, Begins, first, stays, wraps, places, drops, Next, Grows, placing, breaking, passing, padded, trimmed, put}
-use Rattle.bpaf_doc.proofs.lemmas.Console.Layout.Back.{by_cases, EachPlace, each_grows, place_of, by_lines, lines_back, begins_back, by_trimmed}
+use Rattle.bpaf_doc.proofs.lemmas.Console.Layout.Back.{by_cases, EachPlace, each_grows, place_of, by_lines, lines_back, begins_back, by_trimmed, same_padded}
 use Rattle.bpaf_doc.proofs.lemmas.Console.Layout.Text.{IsStarting, has_place, or_true_right}
-use Rattle.bpaf_doc.proofs.lemmas.Console.Layout.Split.{Cut, FirstOrLater, here, later, cut_cons, AfterGap, cut_gap, AfterPassed, cut_passed, AfterPads, cut_padded, has_newline, newline_padded}
+use Rattle.bpaf_doc.proofs.lemmas.Console.Layout.Split.{Cut, FirstOrLater, here, later, cut_cons, AfterGap, cut_gap, AfterPassed, cut_passed, AfterPads, cut_padded, has_newline}
 
 -- ---- helpers
 
@@ -58,7 +58,7 @@ alone_begins p base small start h (wraps t mid l w b s) = λ m before e there wh
 alone_padded : (n : ℕ) (r : List Stretch) (f : Place) → AloneBefore r f → AloneBefore (padded n r) f
 alone_padded n r f h = λ m before e there whole.
     let found : AfterPads n r m e before = cut_padded n r m e before there in
-    ap has_newline found.is ∙ newline_padded n found.rest ∙ h found.rest before e found.there whole
+    ap has_newline found.is ∙ same_padded has_newline (λ x. refl) n found.rest ∙ h found.rest before e found.there whole
 
 heavy_put : (p : Piece) (base : State) (n : ℕ) → AloneBefore (padded n base.back) (place_of p) → IsHeavy (put n p.part p.bytes p.weight base)
 heavy_put p base n alone = λ m before e there whole none. at m before e whole none (cut_cons (Placed (place_of p)) (padded n base.back) m e before there) where

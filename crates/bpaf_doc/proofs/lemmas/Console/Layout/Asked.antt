@@ -10,7 +10,7 @@ use Rattle.bpaf_doc.specs.Console.Layout.{Event, Closes, Stretch, Gap, Placed, P
 use Rattle.bpaf_doc.specs.declared.console.page.Asked.{Asked}
 use Rattle.bpaf_doc.specs.declared.console.page.Asked.TheVariants.{Nothing, NewLine, BlankLine}
 use Rattle.bpaf_doc.proofs.lemmas.Console.Layout.State.{State, Piece, Lines, none_asked, line_there, line_put, blank_there, second_put, both_put, Begins, first, stays, wraps, places, drops, Next, Grows, placing, breaking, passing, padded, has_text, ends_line, ends_blank, put, passed, at_least_line, is_nothing}
-use Rattle.bpaf_doc.proofs.lemmas.Console.Layout.Back.{by_cases, EachPlace, each_grows, place_of}
+use Rattle.bpaf_doc.proofs.lemmas.Console.Layout.Back.{by_cases, EachPlace, each_grows, place_of, same_padded}
 use Rattle.bpaf_doc.proofs.lemmas.Console.Layout.Columns.{Fills, inked_some}
 use Rattle.bpaf_doc.proofs.lemmas.Console.Layout.Text.{EachPassed, NoInk, ink_text, or_true_right}
 use Rattle.bpaf_doc.proofs.lemmas.Console.Layout.Split.{inked_line}
@@ -26,10 +26,6 @@ owes_line (Passed event ∷ r) = (asks_newline event && inked_line r) || owes_li
 
 abbrev pub IsAskedLine : State → Type 0
 IsAskedLine st = owes_line st.back ≡ true → is_nothing st.asked ≡ false
-
-owes_padded : (n : ℕ) (r : List Stretch) → owes_line (padded n r) ≡ owes_line r
-owes_padded zero r = refl
-owes_padded (suc n) r = owes_padded n r
 
 -- a page that ends in a newline owes none, and has no ink in its last line
 record NothingOwed (r : List Stretch) : Type 0 where
@@ -139,7 +135,7 @@ pub asked_line_grows : {width : ℕ} {st after : State} {next : Next} → EachPl
     → Grows width st next after → IsAskedLine st → IsAskedLine after
 asked_line_grows f q (placing p e (places base n b d a)) h = subst IsAskedLine (sym a) (at (by_cases (is_inked (chunk_at (place_of p))))) where
   none : owes_line (padded n base.back) ≡ false
-  none = owes_padded n base.back ∙ owes_begins f q h b
+  none = same_padded owes_line (λ x. refl) n base.back ∙ owes_begins f q h b
 
   at : (is_inked (chunk_at (place_of p)) ≡ true) ⊎ (is_inked (chunk_at (place_of p)) ≡ false) → IsAskedLine (put n p.part p.bytes p.weight base)
   at (inl i) = λ o. let no : false ≡ true = rw i at o in absurd cc
@@ -155,4 +151,4 @@ IsFreeOfDebt r f = owes_line r ≡ false
 pub free_of_debt_grows : {width : ℕ} {st after : State} {next : Next} → EachPlace Fills st.back → EachPassed NoInk st.back → IsAskedLine st
     → Grows width st next after → EachPlace IsFreeOfDebt st.back → EachPlace IsFreeOfDebt after.back
 free_of_debt_grows f q h g e =
-    each_grows IsFreeOfDebt (λ r p i x. x) (λ p base n is b d. owes_padded n base.back ∙ owes_begins f q h b) g e
+    each_grows IsFreeOfDebt (λ r p i x. x) (λ p base n is b d. same_padded owes_line (λ x. refl) n base.back ∙ owes_begins f q h b) g e

@@ -8,11 +8,11 @@ use Rattle.bpaf_doc.specs.Shown.{is_term_ref, mark_bytes}
 use Rattle.bpaf_doc.specs.Console.Layout.{Event, Shows, Opens, Closes, Stretch, Gap, Placed, Passed, Place, chunk_at, event_bytes, is_inked_stretch, is_raw_or_ref}
 use Rattle.bpaf_doc.specs.declared.console.page.Asked.TheVariants.{Nothing, NewLine, BlankLine}
 use Rattle.bpaf_doc.proofs.lemmas.Console.Layout.State.{State, Piece, Lines, none_asked, line_there, line_put, blank_there, second_put, both_put, Pads, to_margin, after_term, Begins, first, stays, wraps, places, drops, Next, raw, mark, Grows, placing, breaking, passing, padded, trimmed, has_text, put, Suits, raw_suits, paragraph_suits, line_break_suits, open_suits, close_suits}
-use Rattle.bpaf_doc.proofs.lemmas.Console.Layout.Back.{by_cases, EachPlace, each_grows, place_of, fits_of, by_lines, lines_back, begins_back, by_trimmed}
+use Rattle.bpaf_doc.proofs.lemmas.Console.Layout.Back.{by_cases, EachPlace, each_grows, place_of, fits_of, by_lines, lines_back, begins_back, by_trimmed, same_padded}
 use Rattle.bpaf_doc.proofs.lemmas.Console.Layout.Columns.{Fills, column_back, column_padded, Agrees}
 use Rattle.bpaf_doc.proofs.lemmas.Console.Layout.Text.{EachPassed, NoInk, ink_text, IsStarting, begins_column, begins_margin, or_false_right}
 use Rattle.bpaf_doc.proofs.lemmas.Console.Layout.Pads.{pads_back, HasNoPads, pads_begins}
-use Rattle.bpaf_doc.proofs.lemmas.Console.Layout.Split.{events_back, events_padded, Cut, FirstOrLater, here, later, cut_cons, AfterGap, cut_gap, AfterPassed, cut_passed, AfterPads, cut_padded, has_newline, newline_padded, inked_line, inked_line_padded, inked_since, ink_at, Earlier, after_lines, lines_same}
+use Rattle.bpaf_doc.proofs.lemmas.Console.Layout.Split.{events_back, Cut, FirstOrLater, here, later, cut_cons, AfterGap, cut_gap, AfterPassed, cut_passed, AfterPads, cut_padded, has_newline, inked_line, inked_since, ink_at, Earlier, after_lines, lines_same}
 
 -- ---- only marks since the last ink
 
@@ -22,10 +22,6 @@ is_quiet [] = true
 is_quiet (Gap b ∷ r) = is_quiet r
 is_quiet (Placed e ∷ r) = is_inked (chunk_at e)
 is_quiet (Passed event ∷ r) = not (is_raw_or_ref event) && is_quiet r
-
-quiet_padded : (n : ℕ) (r : List Stretch) → is_quiet (padded n r) ≡ is_quiet r
-quiet_padded zero r = refl
-quiet_padded (suc n) r = quiet_padded n r
 
 no_backquote : (b : Block) → is_term_ref b ≡ false → length (mark_bytes b) ≡ 0
 no_backquote b h = rw h refl
@@ -101,9 +97,9 @@ start_put {width} {st} p base n f q h b = λ m before e k there i blank line. at
       let events : Shows p.part (chunk_at (place_of p)) ∷ events_back rest ≡ Shows k (Raw (codes " ") 1) ∷ [] = sym (ap events_back is) ∙ blank in
       let none : events_back rest ≡ [] = cc in
       let found : AfterPads n base.back rest e before = cut_padded n base.back rest e before there in
-      let none_found : events_back found.rest ≡ [] = sym (ap events_back found.is ∙ events_padded n found.rest) ∙ none in
+      let none_found : events_back found.rest ≡ [] = sym (ap events_back found.is ∙ same_padded events_back (λ x. refl) n found.rest) ∙ none in
       let bytes : p.bytes ≡ codes " " = cc in
-      let same_line : has_newline m ≡ has_newline found.rest = ap has_newline is ∙ ap has_newline found.is ∙ newline_padded n found.rest in
+      let same_line : has_newline m ≡ has_newline found.rest = ap has_newline is ∙ ap has_newline found.is ∙ same_padded has_newline (λ x. refl) n found.rest in
       let some : has_newline found.rest ≡ true = sym same_line ∙ line in
       absurd (begins found.rest some none_found found.there bytes b) where
         begins : (rest : List Stretch) → has_newline rest ≡ true → events_back rest ≡ [] → Cut base.back rest e before → p.bytes ≡ codes " " → Begins width st p base → ⊥
@@ -158,7 +154,7 @@ module _ (margin_of : ℕ → ℕ) where
   exact_grows {width} {st} {after} {next} small f q start agrees none h suits g all = each_grows IsExact (λ r p i x. x) core g all where
     core : (p : Piece) (base : State) (n : ℕ) → next ≡ raw p → Begins width st p base → Pads base n → IsExact (padded n base.back) (place_of p)
     core p base n is b d = λ line kind.
-        let here_line : inked_line base.back ≡ false = sym (inked_line_padded n base.back) ∙ line in
+        let here_line : inked_line base.back ≡ false = sym (same_padded inked_line (λ x. refl) n base.back) ∙ line in
         let back_zero : column_back base.back ≡ 0 = zero_at here_line kind in
         let column : base.column ≡ 0 = begins_column small f start agrees b ∙ back_zero in
         let in_force : base.margin ≡ margin_of p.part = (begins_margin b).0 ∙ (fits_of suits is).margin_is in
@@ -170,7 +166,7 @@ module _ (margin_of : ℕ → ℕ) where
               absurd (no_place_first st f q t cut_there.rest found.before found.place (subst (λ (x : State). Cut x.back cut_there.rest found.place found.before) s cut_there.there) found.inked)
           after_blank clear found cut_there (stays t l w) = at (by_cases (has_newline cut_there.rest)) where
             blank : events_back cut_there.rest ≡ Shows p.part (Raw (codes " ") 1) ∷ []
-            blank = sym (ap events_back cut_there.is ∙ events_padded n cut_there.rest) ∙ found.blank
+            blank = sym (ap events_back cut_there.is ∙ same_padded events_back (λ x. refl) n cut_there.rest) ∙ found.blank
 
             at : (has_newline cut_there.rest ≡ true) ⊎ (has_newline cut_there.rest ≡ false) → column_back base.back ≡ 0
             at (inl y) = lines_start h l cut_there.rest found.before found.place p.part cut_there.there found.inked blank y
@@ -179,5 +175,5 @@ module _ (margin_of : ℕ → ℕ) where
           after_blank clear found cut_there (wraps t mid l w x s) = ap (λ (y : State). column_back y.back) s
 
           zero_at : inked_line base.back ≡ false → (is_quiet (padded n base.back) ≡ true) ⊎ AfterBlank (padded n base.back) p.part → column_back base.back ≡ 0
-          zero_at clear (inl y) = quiet_column base.back (sym (quiet_padded n base.back) ∙ y) clear (pads_begins b none)
+          zero_at clear (inl y) = quiet_column base.back (sym (same_padded is_quiet (λ x. refl) n base.back) ∙ y) clear (pads_begins b none)
           zero_at clear (inr y) = after_blank clear y (cut_padded n base.back y.rest y.place y.before y.there) b

@@ -1,6 +1,6 @@
 -- Facts that hold of each place of a page, and what keeps them.
 use Rattle.std.specs.Prelude.{◌≡◌, ℕ, zero, suc, ⊤, Bool, true, false, List, [], ◌∷◌, refl}
-use Rattle.std.proofs.Common.{sym, subst, ◌⊎◌, inl, inr}
+use Rattle.std.proofs.Common.{sym, subst, ◌∙◌, ◌⊎◌, inl, inr}
 use Rattle.bpaf_doc.specs.Splitter.Chunks.{is_inked, has_some}
 use Rattle.bpaf_doc.specs.Console.Layout.{Event, Shows, Stretch, Gap, Placed, Passed, Place, chunk_at, event_bytes}
 use Rattle.bpaf_doc.proofs.lemmas.Console.Layout.State.{State, Piece, Lines, none_asked, line_there, line_put, blank_there, second_put, both_put, Pads, Begins, first, stays, wraps, places, drops, Next, raw, Grows, placing, breaking, passing, padded, trimmed, cut, Fits, Suits, raw_suits, paragraph_suits, line_break_suits, open_suits, close_suits, on_new_line}
@@ -19,10 +19,6 @@ EachPlace P (Placed f ∷ r) = P r f × EachPlace P r
 abbrev pub KeepsCut : (List Stretch → Place → Type 0) → Type 0
 KeepsCut P = (r : List Stretch) (f : Place) → is_inked (chunk_at f) ≡ true → P r f → P r (cut f)
 
-pub each_padded : (P : List Stretch → Place → Type 0) (n : ℕ) (r : List Stretch) → EachPlace P r → EachPlace P (padded n r)
-each_padded P zero r h = h
-each_padded P (suc n) r h = each_padded P n r h
-
 -- the trimmed page at each form of its last stretch
 pub trimmed_inked : (e : Place) (r : List Stretch) → is_inked (chunk_at e) ≡ true → trimmed (Placed e ∷ r) ≡ Placed (cut e) ∷ r
 trimmed_inked e r h = rw h refl
@@ -40,6 +36,10 @@ trimmed_bare event r h = rw h refl
 pub by_padded : (P : List Stretch → Type 0) → ((r : List Stretch) → P r → P (Gap 32 ∷ r)) → (n : ℕ) (r : List Stretch) → P r → P (padded n r)
 by_padded P more zero r h = h
 by_padded P more (suc n) r h = more (padded n r) (by_padded P more n r h)
+
+-- what a blank leaves as it is, some blanks do
+pub same_padded : {X : Type 0} (f : List Stretch → X) → ((r : List Stretch) → f (Gap 32 ∷ r) ≡ f r) → (n : ℕ) (r : List Stretch) → f (padded n r) ≡ f r
+same_padded f same n r = by_padded (λ t. f t ≡ f r) (λ t e. same t ∙ e) n r refl
 
 -- P of the page and of the trimmed page, by the stretch that the page ends in
 pub by_trimmed : (P : List Stretch → List Stretch → Type 0) → P [] [] → ((b : ℕ) (r t : List Stretch) → P r t → P (Gap b ∷ r) t)
@@ -97,7 +97,7 @@ pub each_grows : (P : List Stretch → Place → Type 0) → KeepsCut P → {wid
     → ((p : Piece) (base : State) (n : ℕ) → next ≡ raw p → Begins width st p base → Pads base n → P (padded n base.back) (place_of p))
     → Grows width st next after → EachPlace P st.back → EachPlace P after.back
 each_grows P keeps core (placing p e (places base n b d a)) h =
-    subst (λ (s : State). EachPlace P s.back) (sym a) (core p base n e b d, each_padded P n base.back (each_begins P keeps b h))
+    subst (λ (s : State). EachPlace P s.back) (sym a) (core p base n e b d, by_padded (EachPlace P) (λ x y. y) n base.back (each_begins P keeps b h))
 each_grows P keeps core (placing p e (drops t mid l w b a)) h =
     subst (λ (s : State). EachPlace P s.back) (sym a) (each_trimmed P keeps mid.back (each_lines P l h))
 each_grows P keeps core (breaking k chunk e a) h = subst (λ (s : State). EachPlace P s.back) (sym a) h

@@ -10,10 +10,10 @@ use Rattle.bpaf_doc.specs.Console.Layout.{Event, Shows, Stretch, Gap, Placed, Pa
 use Rattle.bpaf_doc.specs.declared.console.page.Asked.{Asked}
 use Rattle.bpaf_doc.specs.declared.console.page.Asked.TheVariants.{Nothing, NewLine, BlankLine}
 use Rattle.bpaf_doc.proofs.lemmas.Console.Layout.State.{State, Piece, Lines, none_asked, line_there, line_put, blank_there, second_put, both_put, Pads, Begins, first, stays, wraps, places, drops, Next, raw, break, Grows, placing, breaking, passing, padded, trimmed, has_text, ends_line, ends_blank, passed, at_least_line, Suits, raw_suits, paragraph_suits, line_break_suits, open_suits, close_suits}
-use Rattle.bpaf_doc.proofs.lemmas.Console.Layout.Back.{by_cases, EachPlace, each_grows, trimmed_inked, trimmed_plain, trimmed_bytes, trimmed_bare, place_of, by_lines, lines_back, begins_back, by_trimmed}
+use Rattle.bpaf_doc.proofs.lemmas.Console.Layout.Back.{by_cases, EachPlace, each_grows, trimmed_inked, trimmed_plain, trimmed_bytes, trimmed_bare, place_of, by_lines, lines_back, begins_back, by_trimmed, same_padded}
 use Rattle.bpaf_doc.proofs.lemmas.Console.Layout.Columns.{Fills, inked_some, fills_begins}
 use Rattle.bpaf_doc.proofs.lemmas.Console.Layout.Text.{EachPassed, NoInk, ink_text, or_true_right, or_false_left, or_false_right}
-use Rattle.bpaf_doc.proofs.lemmas.Console.Layout.Split.{events_back, events_padded, Cut, AfterPads, cut_padded, ink_at}
+use Rattle.bpaf_doc.proofs.lemmas.Console.Layout.Split.{events_back, Cut, AfterPads, cut_padded, ink_at}
 use Rattle.bpaf_doc.proofs.lemmas.Console.Layout.Asked.{blank_line_ends}
 
 -- the last Raw chunk is inked
@@ -185,7 +185,7 @@ blank_padded (suc n) m h = blank_longer (padded n m) (Gap 32) (blank_padded n m 
 -- ---- the law
 
 raw_padded : (n : ℕ) (m : List Stretch) → HasNoRaw (padded n m) → HasNoRaw m
-raw_padded n m h = subst (λ es. list_any is_raw_event es ≡ false) (events_padded n m) h
+raw_padded n m h = subst (λ es. list_any is_raw_event es ≡ false) (same_padded events_back (λ x. refl) n m) h
 
 last_between : (m : List Stretch) (e : Place) (before : List Stretch) → HasNoRaw m → is_inked (chunk_at e) ≡ true → last_raw_inked (m ++ Placed e ∷ before) ≡ true
 last_between [] e before none i = i
@@ -296,7 +296,7 @@ module _ (width : ℕ) where
         let cut_there : AfterPads n base.back m e before = cut_padded n base.back m e before there in
         let rest : List Stretch = cut_there.rest in
         let bare : HasNoRaw cut_there.rest = raw_padded n cut_there.rest (subst HasNoRaw cut_there.is none) in
-        let asked : list_any asks_blank_line (events_back cut_there.rest) ≡ true = subst (λ es. list_any asks_blank_line es ≡ true) (ap events_back cut_there.is ∙ events_padded n cut_there.rest) asks in
+        let asked : list_any asks_blank_line (events_back cut_there.rest) ≡ true = subst (λ es. list_any asks_blank_line es ≡ true) (ap events_back cut_there.is ∙ same_padded events_back (λ x. refl) n cut_there.rest) asks in
         let owed : owes_blank base.back ≡ true = subst (λ x. owes_blank x ≡ true) (sym cut_there.there) (owes_between cut_there.rest e before bare i asked) in
         let ends : ends_blank base.back ≡ true = blank_begins f q h z b fits cut_there.rest before e cut_there.there i owed in
         let shown : has_some e.shown ≡ true = inked_shown cut_there.rest e before (subst (λ x. EachPlace Fills x) cut_there.there (fills_begins b f)) i in

@@ -5,7 +5,7 @@ use Rattle.std.proofs.lemmas.Bool.{cases_lt}
 use Rattle.bpaf_doc.specs.Splitter.Chunks.{columns, is_inked, has_some}
 use Rattle.bpaf_doc.specs.Console.Layout.{Event, Stretch, Gap, Placed, Passed, chunk_at, event_bytes}
 use Rattle.bpaf_doc.proofs.lemmas.Console.Layout.State.{State, Piece, Lines, none_asked, line_there, line_put, blank_there, second_put, both_put, Pads, to_margin, after_term, Begins, first, stays, wraps, places, drops, Next, raw, break, mark, Grows, placing, breaking, passing, padded, trimmed}
-use Rattle.bpaf_doc.proofs.lemmas.Console.Layout.Back.{by_cases, EachPlace, trimmed_inked, trimmed_plain, trimmed_bare, by_lines, lines_back, begins_back, by_trimmed}
+use Rattle.bpaf_doc.proofs.lemmas.Console.Layout.Back.{by_cases, EachPlace, trimmed_inked, trimmed_plain, trimmed_bare, by_lines, lines_back, begins_back, by_trimmed, by_padded}
 use Rattle.bpaf_doc.proofs.lemmas.Console.Layout.Columns.{Fills, column_back, column_padded, no_text_column, Agrees, agrees_lines, no_bytes}
 use Rattle.bpaf_doc.proofs.lemmas.Console.Layout.Text.{EachPassed, lines_margin}
 
@@ -46,10 +46,6 @@ bare_lines l h = lines_back (EachPassed IsBare) (λ r x. x) l h
 bare_trimmed : (r : List Stretch) → EachPassed IsBare r → EachPassed IsBare (trimmed r)
 bare_trimmed = by_trimmed (λ r t. EachPassed IsBare r → EachPassed IsBare t) (λ h. h) (λ b r t ih h. ih h) (λ e r i h. h) (λ e r t i ih h. (refl, ih h)) (λ event r i h. h) (λ event r t i ih h. (h.0, ih h.1))
 
-bare_padded : (n : ℕ) (r : List Stretch) → EachPassed IsBare r → EachPassed IsBare (padded n r)
-bare_padded zero r h = h
-bare_padded (suc n) r h = bare_padded n r h
-
 bare_begins : {width : ℕ} {st : State} {p : Piece} {base : State} → Begins width st p base → EachPassed IsBare st.back → EachPassed IsBare base.back
 bare_begins b h = begins_back (EachPassed IsBare) (λ r x. x) bare_trimmed b h
 
@@ -60,7 +56,7 @@ WritesNone (break k chunk) = ⊤
 WritesNone (mark event margin) = IsBare event
 
 pub bare_grows : {width : ℕ} {st after : State} {next : Next} → WritesNone next → Grows width st next after → EachPassed IsBare st.back → EachPassed IsBare after.back
-bare_grows writes (placing p e (places base n b d a)) h = subst (λ (s : State). EachPassed IsBare s.back) (sym a) (bare_padded n base.back (bare_begins b h))
+bare_grows writes (placing p e (places base n b d a)) h = subst (λ (s : State). EachPassed IsBare s.back) (sym a) (by_padded (EachPassed IsBare) (λ x y. y) n base.back (bare_begins b h))
 bare_grows writes (placing p e (drops t mid l w b a)) h = subst (λ (s : State). EachPassed IsBare s.back) (sym a) (refl, bare_trimmed mid.back (bare_lines l h))
 bare_grows writes (breaking k chunk e a) h = subst (λ (s : State). EachPassed IsBare s.back) (sym a) (refl, h)
 bare_grows writes (passing event margin e a) h = subst (λ (s : State). EachPassed IsBare s.back) (sym a) (subst WritesNone e writes, h)

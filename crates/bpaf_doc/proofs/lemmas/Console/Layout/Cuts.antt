@@ -5,7 +5,7 @@ use Rattle.std.proofs.Common.{sym, subst, inl, inr, ◌∙◌}
 use Rattle.bpaf_doc.specs.Splitter.Chunks.{is_inked, has_some}
 use Rattle.bpaf_doc.specs.Console.Layout.{Stretch, Gap, Placed, Passed, chunk_at, event_bytes}
 use Rattle.bpaf_doc.proofs.lemmas.Console.Layout.State.{State, Piece, Lines, none_asked, line_there, line_put, blank_there, second_put, both_put, Begins, first, stays, wraps, places, drops, Next, Grows, placing, breaking, passing, padded, trimmed, wrapped}
-use Rattle.bpaf_doc.proofs.lemmas.Console.Layout.Back.{by_cases, EachPlace, trimmed_inked, trimmed_plain, trimmed_bytes, trimmed_bare, each_lines, by_lines, lines_back, begins_back, by_trimmed}
+use Rattle.bpaf_doc.proofs.lemmas.Console.Layout.Back.{by_cases, EachPlace, trimmed_inked, trimmed_plain, trimmed_bytes, trimmed_bare, each_lines, by_lines, lines_back, begins_back, by_trimmed, by_padded}
 use Rattle.bpaf_doc.proofs.lemmas.Console.Layout.Columns.{Fills, inked_trim, inked_some}
 
 -- what may stand where the text after it begins with a newline, or where nothing is known of it
@@ -31,10 +31,6 @@ may_end_line (Passed event ∷ r) h = at (by_cases (has_some (event_bytes event)
   at : (has_some (event_bytes event) ≡ true) ⊎ (has_some (event_bytes event) ≡ false) → (MayEnd false r → MayEnd true r) → MayEnd (if has_some (event_bytes event) then false else true) r
   at (inl s) ih = let rest : MayEnd false r = rw s at h in rw s rest
   at (inr s) ih = let rest : MayEnd false r = rw s at h in rw s (ih rest)
-
-may_end_padded : (n : ℕ) (r : List Stretch) → MayEnd false r → MayEnd false (padded n r)
-may_end_padded zero r h = h
-may_end_padded (suc n) r h = (inl refl, may_end_padded n r h)
 
 same_false : (b : Bool) → (if b then false else false) ≡ false
 same_false true = refl
@@ -72,7 +68,7 @@ whole_begins f (wraps t mid l w b e) h = subst IsWhole (sym e) (whole_wrapped mi
 
 pub whole_grows : {width : ℕ} {st after : State} {next : Next} → EachPlace Fills st.back → Grows width st next after → IsWhole st → IsWhole after
 whole_grows f (placing p e (places base n b d a)) h =
-    subst IsWhole (sym a) (inl refl, subst (λ (x : Bool). MayEnd x (padded n base.back)) (sym (same_false (has_some p.bytes))) (may_end_padded n base.back (whole_begins f b h)))
+    subst IsWhole (sym a) (inl refl, subst (λ (x : Bool). MayEnd x (padded n base.back)) (sym (same_false (has_some p.bytes))) (by_padded (MayEnd false) (λ x y. (inl refl, y)) n base.back (whole_begins f b h)))
 whole_grows f (placing p e (drops t mid l w b a)) h = subst IsWhole (sym a) (whole_wrapped mid (each_lines Fills l f) (whole_lines l h))
 whole_grows {st = st} f (breaking k chunk e a) h = subst IsWhole (sym a) (inr refl, may_end_line st.back h)
 whole_grows {st = st} f (passing event margin e a) h =

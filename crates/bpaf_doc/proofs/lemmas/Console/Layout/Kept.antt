@@ -5,9 +5,9 @@ use Rattle.std.proofs.Common.{sym, subst, ap, arith, inl, inr, ◌∙◌}
 use Rattle.bpaf_doc.specs.Splitter.Chunks.{Chunk, Raw, is_inked}
 use Rattle.bpaf_doc.specs.Console.Layout.{Event, Shows, Opens, Closes, Stretch, Gap, Placed, Passed, Place, chunk_at, is_inked_stretch, is_inked_event, is_raw_event}
 use Rattle.bpaf_doc.proofs.lemmas.Console.Layout.State.{State, Piece, Lines, none_asked, line_there, line_put, blank_there, second_put, both_put, Pads, to_margin, after_term, Begins, first, stays, wraps, places, drops, Next, raw, break, Grows, placing, breaking, passing, padded, trimmed, sat, wrapped, put, passed, dropped, Suits, raw_suits, paragraph_suits, line_break_suits, open_suits, close_suits}
-use Rattle.bpaf_doc.proofs.lemmas.Console.Layout.Back.{by_cases, EachPlace, each_grows, each_begins, each_padded, each_trimmed, each_lines, place_of, fits_of, by_lines, lines_back, begins_back, by_trimmed}
+use Rattle.bpaf_doc.proofs.lemmas.Console.Layout.Back.{by_cases, EachPlace, each_grows, each_begins, each_trimmed, each_lines, place_of, fits_of, by_lines, lines_back, begins_back, by_trimmed, by_padded, same_padded}
 use Rattle.bpaf_doc.proofs.lemmas.Console.Layout.Text.{or_false_right, begins_margin, lines_margin, no_ink_blank}
-use Rattle.bpaf_doc.proofs.lemmas.Console.Layout.Split.{Cut, FirstOrLater, here, later, cut_cons, AfterGap, cut_gap, AfterPassed, cut_passed, AfterPads, cut_padded, has_newline, newline_padded, inked_line, inked_since}
+use Rattle.bpaf_doc.proofs.lemmas.Console.Layout.Split.{Cut, FirstOrLater, here, later, cut_cons, AfterGap, cut_gap, AfterPassed, cut_passed, AfterPads, cut_padded, has_newline, inked_line, inked_since}
 
 -- ---- parts come in order
 
@@ -32,7 +32,7 @@ broken_order st next k chunk (close_suits b margin f l u) e = absurd cc
 
 pub order_grows : {width : ℕ} {margin_of : ℕ → ℕ} {st after : State} {next : Next} → Suits margin_of st next → Grows width st next after → InOrder st → InOrder after
 order_grows {st = st} suits (placing p e (places base n b d a)) h = subst InOrder (sym a)
-    (omega arith, each_padded (NotAfter p.part) n base.back (each_begins (NotAfter p.part) (λ r f i x. x) b (each_later st.latest p.part (fits_of suits e).order st.back h)))
+    (omega arith, by_padded (EachPlace (NotAfter p.part)) (λ x y. y) n base.back (each_begins (NotAfter p.part) (λ r f i x. x) b (each_later st.latest p.part (fits_of suits e).order st.back h)))
 order_grows {st = st} suits (placing p e (drops t mid l w b a)) h = subst InOrder (sym a)
     (each_trimmed (NotAfter p.part) (λ r f i x. x) mid.back (each_lines (NotAfter p.part) l (each_later st.latest p.part (fits_of suits e).order st.back h)))
 order_grows {st = st} {next = next} suits (breaking k chunk e a) h = subst InOrder (sym a) (each_later st.latest k (broken_order st next k chunk suits e) st.back h)
@@ -108,10 +108,6 @@ IsNeighbour r m e before = Cut r m e before × (is_inked (chunk_at e) ≡ true) 
 abbrev pub IsKeptSince : State → Type 0
 IsKeptSince st = (m before : List Stretch) (e : Place) → IsNeighbour st.back m e before → (e.shown ≡ e.bytes) × AllKept (e.part < st.latest) m
 
-no_ink_padded : (n : ℕ) (m : List Stretch) → list_any is_inked_stretch (padded n m) ≡ list_any is_inked_stretch m
-no_ink_padded zero m = refl
-no_ink_padded (suc n) m = no_ink_padded n m
-
 part_before : (latest : ℕ) (m : List Stretch) (e : Place) (before : List Stretch) → EachPlace (NotAfter latest) (m ++ Placed e ∷ before) → e.part ≤ latest
 part_before latest [] e before h = h.0
 part_before latest (Gap b ∷ m) e before h = part_before latest m e before h
@@ -134,8 +130,8 @@ kept_same st k n settled unsettled order h o moved d m before e there =
       near = (
         found.there,
         there.1,
-        sym (no_ink_padded n found.rest) ∙ subst (λ x. list_any is_inked_stretch x ≡ false) found.is there.2,
-        sym (newline_padded n found.rest) ∙ subst (λ x. has_newline x ≡ false) found.is there.3,
+        sym (same_padded (list_any is_inked_stretch) (λ x. refl) n found.rest) ∙ subst (λ x. list_any is_inked_stretch x ≡ false) found.is there.2,
+        sym (same_padded has_newline (λ x. refl) n found.rest) ∙ subst (λ x. has_newline x ≡ false) found.is there.3,
       )
 
       since : (e.shown ≡ e.bytes) × AllKept (e.part < st.latest) found.rest
@@ -173,8 +169,8 @@ no_neighbour_padded n r m e before there =
     no_neighbour r found.rest e before (
       found.there,
       there.1,
-      sym (no_ink_padded n found.rest) ∙ subst (λ x. list_any is_inked_stretch x ≡ false) found.is there.2,
-      sym (newline_padded n found.rest) ∙ subst (λ x. has_newline x ≡ false) found.is there.3,
+      sym (same_padded (list_any is_inked_stretch) (λ x. refl) n found.rest) ∙ subst (λ x. list_any is_inked_stretch x ≡ false) found.is there.2,
+      sym (same_padded has_newline (λ x. refl) n found.rest) ∙ subst (λ x. has_newline x ≡ false) found.is there.3,
     )
 
 record Ready (st : State) (k : ℕ) : Type 0 where

@@ -10,10 +10,10 @@ use Rattle.bpaf_doc.specs.Console.Layout.{Event, Shows, Opens, Closes, Stretch, 
 use Rattle.bpaf_doc.specs.declared.console.page.Asked.{Asked}
 use Rattle.bpaf_doc.specs.declared.console.page.Asked.TheVariants.{Nothing}
 use Rattle.bpaf_doc.proofs.lemmas.Console.Layout.State.{State, Piece, Lines, Pads, to_margin, after_term, Begins, first, stays, wraps, places, drops, Next, raw, break, mark, Grows, placing, breaking, passing, padded, trimmed, has_text, sat, wrapped, put, passed, dropped, broken, asked_after, pending_after, Fits, Suits, raw_suits, paragraph_suits, line_break_suits, open_suits, close_suits}
-use Rattle.bpaf_doc.proofs.lemmas.Console.Layout.Back.{EachPlace, each_grows, place_of, fits_of}
+use Rattle.bpaf_doc.proofs.lemmas.Console.Layout.Back.{EachPlace, each_grows, place_of, fits_of, same_padded}
 use Rattle.bpaf_doc.proofs.lemmas.Console.Layout.Columns.{Fills, column_back, column_padded, Agrees}
 use Rattle.bpaf_doc.proofs.lemmas.Console.Layout.Text.{EachPassed, NoInk, ink_text, IsStarting, begins_column}
-use Rattle.bpaf_doc.proofs.lemmas.Console.Layout.Split.{events_back, events_padded, lines_same, Earlier, after_lines, Cut, FirstOrLater, here, later, cut_cons, AfterGap, cut_gap, AfterPassed, cut_passed, AfterPads, cut_padded, FromTrimmed, cut_trimmed, has_newline, newline_padded, ink_at}
+use Rattle.bpaf_doc.proofs.lemmas.Console.Layout.Split.{events_back, lines_same, Earlier, after_lines, Cut, FirstOrLater, here, later, cut_cons, AfterGap, cut_gap, AfterPassed, cut_passed, AfterPads, cut_padded, FromTrimmed, cut_trimmed, has_newline, ink_at}
 
 -- the columns of the chunks among some events
 abbrev pub chunk_columns : List Event → ℕ
@@ -106,10 +106,10 @@ module _ (width : ℕ) where
     found = cut_padded n base.back m e before there
 
     same_events : events_back m ≡ events_back found.rest
-    same_events = ap events_back found.is ∙ events_padded n found.rest
+    same_events = ap events_back found.is ∙ same_padded events_back (λ x. refl) n found.rest
 
     same_line : has_newline m ≡ has_newline found.rest
-    same_line = ap has_newline found.is ∙ newline_padded n found.rest
+    same_line = ap has_newline found.is ∙ same_padded has_newline (λ x. refl) n found.rest
 
     light_rest : list_all is_light (events_back found.rest) ≡ true
     light_rest = subst (λ es. list_all is_light es ≡ true) same_events light
@@ -161,10 +161,10 @@ module _ (width : ℕ) where
     found = cut_padded n base.back m e before there
 
     same_events : events_back m ≡ events_back found.rest
-    same_events = ap events_back found.is ∙ events_padded n found.rest
+    same_events = ap events_back found.is ∙ same_padded events_back (λ x. refl) n found.rest
 
     same_line : has_newline m ≡ has_newline found.rest
-    same_line = ap has_newline found.is ∙ newline_padded n found.rest
+    same_line = ap has_newline found.is ∙ same_padded has_newline (λ x. refl) n found.rest
 
     light_rest : list_all is_light_mark (events_back found.rest) ≡ true
     light_rest = subst (λ es. list_all is_light_mark es ≡ true) same_events light

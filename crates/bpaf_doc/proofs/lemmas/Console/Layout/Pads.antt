@@ -6,7 +6,7 @@ use Rattle.bpaf_doc.specs.Splitter.Chunks.{columns, is_inked, has_some}
 use Rattle.bpaf_doc.specs.Shown.{is_term_ref}
 use Rattle.bpaf_doc.specs.Console.Layout.{Event, Shows, Opens, Closes, Stretch, Gap, Placed, Passed, Place, chunk_at, event_bytes, is_newline, is_placed, is_gap, is_ref, holds_line, leads_to_place, opens_body}
 use Rattle.bpaf_doc.proofs.lemmas.Console.Layout.State.{State, Piece, Lines, none_asked, line_there, line_put, blank_there, second_put, both_put, Pads, to_margin, after_term, Begins, first, stays, wraps, places, drops, Next, raw, Grows, placing, breaking, passing, padded, trimmed, passed, closes_body, has_text, Suits}
-use Rattle.bpaf_doc.proofs.lemmas.Console.Layout.Back.{by_cases, EachPlace, KeepsCut, each_grows, trimmed_inked, trimmed_plain, trimmed_bytes, trimmed_bare, place_of, fits_of, by_lines, lines_back, begins_back, by_trimmed}
+use Rattle.bpaf_doc.proofs.lemmas.Console.Layout.Back.{by_cases, EachPlace, KeepsCut, each_grows, trimmed_inked, trimmed_plain, trimmed_bytes, trimmed_bare, place_of, fits_of, by_lines, lines_back, begins_back, by_trimmed, by_padded, same_padded}
 use Rattle.bpaf_doc.proofs.lemmas.Console.Layout.Columns.{Fills, column_back, column_padded, Agrees, any_in_line}
 use Rattle.bpaf_doc.proofs.lemmas.Console.Layout.Text.{IsStarting, has_place, begins_column, begins_margin, or_true_right, or_false_left, or_false_right}
 
@@ -49,10 +49,6 @@ no_pads_grows (passing event margin e a) h = subst HasNoPads (sym a) (omega arit
 abbrev pub holds_back : List Stretch → Bool
 holds_back r = any_in_line holds_line r
 
-holds_padded : (n : ℕ) (r : List Stretch) → holds_back (padded n r) ≡ holds_back r
-holds_padded zero r = refl
-holds_padded (suc n) r = holds_padded n r
-
 no_ref : (event : Event) → has_some (event_bytes event) ≡ false → is_ref event ≡ false
 no_ref (Shows k chunk) h = refl
 no_ref (Opens b) h = at (is_term_ref b) h where
@@ -83,7 +79,7 @@ module _ (width : ℕ) where
       → Begins width st p base → FitsBefore (padded n base.back) (place_of p)
   fits_place {st} p base n small f start h none (first t e) = λ holds.
       let bare : holds_back st.back ≡ false = no_text_holds st.back t (start t).1 in
-      let some : holds_back st.back ≡ true = sym (holds_padded n st.back) ∙ subst (λ (x : State). holds_back (padded n x.back) ≡ true) e holds in absurd cc
+      let some : holds_back st.back ≡ true = sym (same_padded holds_back (λ x. refl) n st.back) ∙ subst (λ (x : State). holds_back (padded n x.back) ≡ true) e holds in absurd cc
   fits_place {st} p base n small f start h none (stays t l w) = λ holds.
       let here : base.column ≡ column_back base.back = begins_column {p = p} small f start h (stays t l w) in
       let bare : pads_back base.back ≡ 0 = pads_lines l none in
@@ -91,7 +87,7 @@ module _ (width : ℕ) where
       let pads : pads_back (padded n base.back) ≡ n + pads_back base.back = pads_padded n base.back in
       omega arith
   fits_place p base n small f start h none (wraps t mid l w b e) = λ holds.
-      let some : holds_back base.back ≡ true = sym (holds_padded n base.back) ∙ holds in
+      let some : holds_back base.back ≡ true = sym (same_padded holds_back (λ x. refl) n base.back) ∙ holds in
       let no : false ≡ true = subst (λ (x : State). holds_back x.back ≡ true) e some in absurd cc
 
   pub fits_width_grows : {st after : State} {next : Next} → width < 1_000_000 → EachPlace Fills st.back → IsStarting st → Agrees st → HasNoPads st
@@ -117,10 +113,6 @@ leads_more (Gap b ∷ r) h = (λ t. refl, at (by_cases (b == 32))) where
 leads_more (Placed e ∷ r) h = h
 leads_more (Passed event ∷ r) h = h
 
-leads_padded : (n : ℕ) (r : List Stretch) → Leads true r → Leads true (padded n r)
-leads_padded zero r h = h
-leads_padded (suc n) r h = (λ t. refl, leads_padded n r h)
-
 leads_trimmed : (r : List Stretch) (place : Bool) → Leads place r → Leads false (trimmed r)
 leads_trimmed = by_trimmed (λ r t. (place : Bool) → Leads place r → Leads false t) (λ place h. h) (λ b r t ih place h. ih ((b == 32) && place) h.1) (λ e r i place h. h)
     (λ e r t i ih place h. ih true h) (λ event r i place h. h) (λ event r t i ih place h. ih false h)
@@ -138,7 +130,7 @@ led_begins : {width : ℕ} {st : State} {p : Piece} {base : State} → Begins wi
 led_begins b h = begins_back (Leads false) leads_newline (λ r x. leads_newline (trimmed r) (leads_trimmed r false x)) b h
 
 pub led_grows : {width : ℕ} {st after : State} {next : Next} → Grows width st next after → IsLed st → IsLed after
-led_grows (placing p e (places base n b d a)) h = subst IsLed (sym a) (leads_padded n base.back (leads_more base.back (led_begins b h)))
+led_grows (placing p e (places base n b d a)) h = subst IsLed (sym a) (by_padded (Leads true) (λ x y. ((λ t. refl), y)) n base.back (leads_more base.back (led_begins b h)))
 led_grows (placing p e (drops t mid l w b a)) h = subst IsLed (sym a) (leads_newline (trimmed mid.back) (leads_trimmed mid.back false (led_lines l h)))
 led_grows {st = st} (breaking k chunk e a) h = subst IsLed (sym a) (leads_newline (Passed (Shows k chunk) ∷ st.back) h)
 led_grows (passing event margin e a) h = subst IsLed (sym a) h
@@ -169,10 +161,6 @@ body_trimmed = by_trimmed (λ r t. body_back r ≡ true → body_back t ≡ true
       at event r t (inl o) h ih = rw o refl
       at event r t (inr o) h ih = let rest : body_back r ≡ true = rw o at h in or_true_right (opens_body event) (body_back t) (ih rest)
 
-pub body_padded : (n : ℕ) (r : List Stretch) → body_back r ≡ true → body_back (padded n r) ≡ true
-body_padded zero r h = h
-body_padded (suc n) r h = body_padded n r h
-
 pending_lines : {st mid : State} → Lines st mid → IsPending st → IsPending mid
 pending_lines l h = by_lines IsPending l h h h h
 
@@ -202,7 +190,7 @@ module _ (margin_of : ℕ → ℕ) where
   pads_only : (n : ℕ) (base : State) (m : ℕ) → base.margin ≡ m → base.column ≡ column_back base.back → HasNoPads base → IsPending base → Pads base n
       → 0 < pads_back (padded n base.back) → (column_back (padded n base.back) ≡ m) ⊎ ((pads_back (padded n base.back) ≡ 2) × (body_back (padded n base.back) ≡ true))
   pads_only n base m a c none pending (to_margin e) some = inl (omega (arith, column_padded n base.back, pads_padded n base.back))
-  pads_only n base m a c none pending (after_term t wide few e) some = inr (omega (arith, pads_padded n base.back), body_padded n base.back (pending t))
+  pads_only n base m a c none pending (after_term t wide few e) some = inr (omega (arith, pads_padded n base.back), by_padded (λ x. body_back x ≡ true) (λ x y. y) n base.back (pending t))
 
   pub pads_only_grows : {width : ℕ} {st after : State} {next : Next} → width < 1_000_000 → EachPlace Fills st.back → IsStarting st → Agrees st → Suits margin_of st next
       → HasNoPads st → IsPending st → Grows width st next after → EachPlace PadsOnly st.back → EachPlace PadsOnly after.back

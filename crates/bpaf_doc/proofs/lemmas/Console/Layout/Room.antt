@@ -10,11 +10,11 @@ use Rattle.bpaf_doc.specs.declared.console.page.Asked.TheVariants.{Nothing}
 use Rattle.bpaf_doc.specs.Splitter.Chunks.{Chunk, Raw, Paragraph, LineBreak, columns, is_inked, is_ordinary}
 use Rattle.bpaf_doc.specs.Console.Layout.{Event, Shows, Opens, Closes, Stretch, Gap, Placed, Passed, Place, chunk_at, event_bytes, is_inked_event, is_inked_stretch, asks_newline, room_of}
 use Rattle.bpaf_doc.proofs.lemmas.Console.Layout.State.{State, Piece, Lines, Pads, to_margin, after_term, Begins, first, stays, wraps, places, drops, Next, raw, break, mark, Grows, placing, breaking, passing, padded, trimmed, sat, wrapped, put, passed, dropped, broken, asked_after, pending_after, Fits, Suits, raw_suits, paragraph_suits, line_break_suits, open_suits, close_suits, IsShallow}
-use Rattle.bpaf_doc.proofs.lemmas.Console.Layout.Back.{by_cases, EachPlace, each_grows, place_of, fits_of}
+use Rattle.bpaf_doc.proofs.lemmas.Console.Layout.Back.{by_cases, EachPlace, each_grows, place_of, fits_of, same_padded}
 use Rattle.bpaf_doc.proofs.lemmas.Console.Layout.Columns.{Fills, column_back, column_padded, Agrees, heavy}
 use Rattle.bpaf_doc.proofs.lemmas.Console.Layout.Text.{IsStarting, has_place, begins_column, next_event, or_false_left, or_false_right}
 use Rattle.bpaf_doc.proofs.lemmas.Console.Layout.Alone.{place_in}
-use Rattle.bpaf_doc.proofs.lemmas.Console.Layout.Split.{events_back, events_padded, events_begins, events_grows, lines_same, Earlier, after_lines, Cut, FirstOrLater, here, later, cut_cons, AfterGap, cut_gap, AfterPassed, cut_passed, AfterPads, cut_padded, FromTrimmed, cut_trimmed, has_newline, newline_padded}
+use Rattle.bpaf_doc.proofs.lemmas.Console.Layout.Split.{events_back, events_begins, events_grows, lines_same, Earlier, after_lines, Cut, FirstOrLater, here, later, cut_cons, AfterGap, cut_gap, AfterPassed, cut_passed, AfterPads, cut_padded, FromTrimmed, cut_trimmed, has_newline}
 
 -- ---- chunks of one text have no mark between them
 
@@ -93,7 +93,7 @@ pub after_all_grows : {width : ℕ} {margin_of : ℕ → ℕ} {st after : State}
     → EachPlace IsAfterAll st.back → EachPlace IsAfterAll after.back
 after_all_grows {st = st} {next = next} suits h g all = each_grows IsAfterAll (λ r f i x. x) core g all where
   core : {width : ℕ} (p : Piece) (base : State) (n : ℕ) → next ≡ raw p → Begins width st p base → Pads base n → IsAfterAll (padded n base.back) (place_of p)
-  core p base n e b d = subst (Since false p.part) (sym (events_padded n base.back ∙ events_begins b)) (h.next p.part (fits_of suits e).order (fits_of suits e).moved)
+  core p base n e b d = subst (Since false p.part) (sym (same_padded events_back (λ x. refl) n base.back ∙ events_begins b)) (h.next p.part (fits_of suits e).order (fits_of suits e).moved)
 
 -- a chunk behind a mark is of a later text
 pub part_later : (strict : Bool) (k : ℕ) (m before : List Stretch) (e : Place) → Since strict k (events_back (m ++ Placed e ∷ before))
@@ -273,8 +273,8 @@ module _ (width deepest : ℕ) where
       → is_inked (chunk_at e) ≡ true → list_all is_idle (events_back m) ≡ true → Ready p base m e before
   ready_padded p base n start h b m before e there i idle =
       let found : AfterPads n base.back m e before = cut_padded n base.back m e before there in
-      let same : events_back found.rest ≡ events_back m = sym (ap events_back found.is ∙ events_padded n found.rest) in
-      let line : has_newline m ≡ has_newline found.rest = ap has_newline found.is ∙ newline_padded n found.rest in
+      let same : events_back found.rest ≡ events_back m = sym (ap events_back found.is ∙ same_padded events_back (λ x. refl) n found.rest) in
+      let line : has_newline m ≡ has_newline found.rest = ap has_newline found.is ∙ same_padded has_newline (λ x. refl) n found.rest in
       let ready : Ready p base found.rest e before = ready_begins p base start h b found.rest before e found.there i (subst (λ es. list_all is_idle es ≡ true) (sym same) idle) in
       record {
         reach = subst (λ es. InReach (room deepest es e before) base) same ready.reach;

@@ -9,7 +9,7 @@ use Rattle.bpaf_doc.proofs.lemmas.Console.Layout.Columns.{any_in_line}
 use Rattle.bpaf_doc.proofs.lemmas.Console.Layout.State.{State, Piece, Lines, none_asked, line_there, line_put, blank_there, second_put, both_put, Begins, first, stays, wraps, places, drops, Next, Grows, placing, breaking, passing, padded, trimmed, cut}
 use Rattle.bpaf_doc.proofs.lemmas.Console.Layout.Text.{next_event}
 use Rattle.bpaf_doc.specs.declared.console.page.Asked.TheVariants.{Nothing, NewLine, BlankLine}
-use Rattle.bpaf_doc.proofs.lemmas.Console.Layout.Back.{by_cases, trimmed_inked, trimmed_plain, trimmed_bytes, trimmed_bare, by_lines, lines_back, begins_back, by_trimmed}
+use Rattle.bpaf_doc.proofs.lemmas.Console.Layout.Back.{by_cases, trimmed_inked, trimmed_plain, trimmed_bytes, trimmed_bare, by_lines, lines_back, begins_back, by_trimmed, same_padded}
 
 -- ---- the events, newest first
 
@@ -18,10 +18,6 @@ events_back [] = []
 events_back (Gap b ∷ r) = events_back r
 events_back (Placed e ∷ r) = Shows e.part (chunk_at e) ∷ events_back r
 events_back (Passed event ∷ r) = event ∷ events_back r
-
-pub events_padded : (n : ℕ) (r : List Stretch) → events_back (padded n r) ≡ events_back r
-events_padded zero r = refl
-events_padded (suc n) r = events_padded n r
 
 pub events_trimmed : (r : List Stretch) → events_back (trimmed r) ≡ events_back r
 events_trimmed = by_trimmed (λ r t. events_back t ≡ events_back r) refl (λ b r t ih. ih) (λ e r i. refl) (λ e r t i ih. ap (λ es. Shows e.part (chunk_at e) ∷ es) ih)
@@ -37,7 +33,7 @@ events_begins {st = st} b = begins_back (λ r. events_back r ≡ events_back st.
 
 pub events_grows : {width : ℕ} {st after : State} {next : Next} → Grows width st next after → events_back after.back ≡ next_event next ∷ events_back st.back
 events_grows {st = st} (placing p e (places base n b d a)) =
-    ap (λ (s : State). events_back s.back) a ∙ ap (λ es. Shows p.part (Raw p.bytes p.weight) ∷ es) (events_padded n base.back ∙ events_begins b) ∙ ap (λ (x : Next). next_event x ∷ events_back st.back) (sym e)
+    ap (λ (s : State). events_back s.back) a ∙ ap (λ es. Shows p.part (Raw p.bytes p.weight) ∷ es) (same_padded events_back (λ x. refl) n base.back ∙ events_begins b) ∙ ap (λ (x : Next). next_event x ∷ events_back st.back) (sym e)
 events_grows {st = st} (placing p e (drops t mid l w b a)) =
     ap (λ (s : State). events_back s.back) a ∙ ap (λ es. Shows p.part (Raw p.bytes p.weight) ∷ es) (events_trimmed mid.back ∙ events_lines l) ∙ ap (λ (x : Next). next_event x ∷ events_back st.back) (sym e)
 events_grows {st = st} (breaking k chunk e a) = ap (λ (s : State). events_back s.back) a ∙ ap (λ (x : Next). next_event x ∷ events_back st.back) (sym e)
@@ -193,14 +189,6 @@ has_newline r = list_any is_newline r
 
 abbrev pub inked_line : List Stretch → Bool
 inked_line r = any_in_line is_inked_stretch r
-
-pub newline_padded : (n : ℕ) (r : List Stretch) → has_newline (padded n r) ≡ has_newline r
-newline_padded zero r = refl
-newline_padded (suc n) r = newline_padded n r
-
-pub inked_line_padded : (n : ℕ) (r : List Stretch) → inked_line (padded n r) ≡ inked_line r
-inked_line_padded zero r = refl
-inked_line_padded (suc n) r = inked_line_padded n r
 
 -- without a newline since an inked place, its line has ink
 pub inked_since : (m : List Stretch) (e : Place) (before : List Stretch) → is_inked (chunk_at e) ≡ true → has_newline m ≡ false → inked_line (m ++ Placed e ∷ before) ≡ true

@@ -14,7 +14,7 @@ use Rattle.bpaf_doc.specs.Splitter.Chunks.{is_inked, has_some, IsLine, is_line_b
 use Rattle.bpaf_doc.specs.Shown.{is_term_ref}
 use Rattle.bpaf_doc.specs.Console.Layout.{Event, Shows, Opens, Closes, Stretch, Gap, Placed, Passed, Place, chunk_at, event_bytes, stretch_bytes}
 use Rattle.bpaf_doc.proofs.lemmas.Console.Layout.State.{has_text, ends_line, ends_blank, padded, trimmed, cut, IsLegible}
-use Rattle.bpaf_doc.proofs.lemmas.Console.Layout.Back.{by_cases, trimmed_inked, trimmed_plain, trimmed_bytes, trimmed_bare}
+use Rattle.bpaf_doc.proofs.lemmas.Console.Layout.Back.{by_cases, trimmed_inked, trimmed_plain, trimmed_bytes, trimmed_bare, by_padded}
 use Rattle.bpaf_doc.proofs.lemmas.Console.Layout.Blank.{text_back, text_back_cons}
 
 -- ---- trimming
@@ -393,7 +393,3 @@ legible_trimmed (Passed event ∷ r) h = at (by_cases (has_some (event_bytes eve
   at : (has_some (event_bytes event) ≡ true) ⊎ (has_some (event_bytes event) ≡ false) → IsLegible (trimmed r) → IsLegible (trimmed (Passed event ∷ r))
   at (inl i) ih = subst IsLegible (sym (trimmed_bytes event r i)) h
   at (inr i) ih = subst IsLegible (sym (trimmed_bare event r i)) ih
-
-pub legible_padded : (n : ℕ) (r : List Stretch) → IsLegible r → IsLegible (padded n r)
-legible_padded zero r h = h
-legible_padded (suc n) r h = (inl refl, legible_padded n r h)

@@ -8,7 +8,7 @@ use Rattle.bpaf_doc.specs.Shown.{is_term_ref, mark_bytes}
 use Rattle.bpaf_doc.specs.Splitter.Chunks.{Raw, Paragraph, LineBreak, is_inked, is_ordinary, has_some}
 use Rattle.bpaf_doc.specs.Console.Layout.{Event, Shows, Opens, Closes, Stretch, Gap, Placed, Passed, chunk_at, event_bytes, is_inked_event, is_inked_stretch, is_empty_code, is_placed, is_written}
 use Rattle.bpaf_doc.proofs.lemmas.Console.Layout.State.{State, Piece, Lines, none_asked, line_there, line_put, blank_there, second_put, both_put, Begins, first, stays, wraps, places, drops, Next, raw, break, mark, Grows, placing, breaking, passing, padded, trimmed, has_text, put, passed, Fits, Suits, raw_suits, paragraph_suits, line_break_suits, open_suits, close_suits, IsClear}
-use Rattle.bpaf_doc.proofs.lemmas.Console.Layout.Back.{by_cases, EachPlace, trimmed_inked, trimmed_plain, trimmed_bytes, trimmed_bare, fits_of, by_lines, lines_back, begins_back, by_trimmed}
+use Rattle.bpaf_doc.proofs.lemmas.Console.Layout.Back.{by_cases, EachPlace, trimmed_inked, trimmed_plain, trimmed_bytes, trimmed_bare, fits_of, by_lines, lines_back, begins_back, by_trimmed, by_padded}
 use Rattle.bpaf_doc.proofs.lemmas.Console.Layout.Columns.{Fills, inked_some, column_back, no_text_column, Agrees, agrees_lines}
 
 -- ---- what has no place has no ink
@@ -22,10 +22,6 @@ EachPassed Q (Passed event ∷ r) = Q event × EachPassed Q r
 
 abbrev pub NoInk : Event → Type 0
 NoInk event = is_inked_event event ≡ false
-
-pub passed_padded : (Q : Event → Type 0) (n : ℕ) (r : List Stretch) → EachPassed Q r → EachPassed Q (padded n r)
-passed_padded Q zero r h = h
-passed_padded Q (suc n) r h = passed_padded Q n r h
 
 pub no_ink_trimmed : (r : List Stretch) → EachPassed NoInk r → EachPassed NoInk (trimmed r)
 no_ink_trimmed = by_trimmed (λ r t. EachPassed NoInk r → EachPassed NoInk t) (λ h. h) (λ b r t ih h. ih h) (λ e r i h. h) (λ e r t i ih h. (i, ih h)) (λ event r i h. h) (λ event r t i ih h. (h.0, ih h.1))
@@ -45,7 +41,7 @@ no_ink_blank k weight bytes e = rw e (blank_ink k weight)
 
 pub no_ink_grows : {width : ℕ} {margin_of : ℕ → ℕ} {st after : State} {next : Next} → Suits margin_of st next
     → Grows width st next after → EachPassed NoInk st.back → EachPassed NoInk after.back
-no_ink_grows suits (placing p e (places base n b d a)) h = subst (λ (s : State). EachPassed NoInk s.back) (sym a) (passed_padded NoInk n base.back (no_ink_begins b h))
+no_ink_grows suits (placing p e (places base n b d a)) h = subst (λ (s : State). EachPassed NoInk s.back) (sym a) (by_padded (EachPassed NoInk) (λ x y. y) n base.back (no_ink_begins b h))
 no_ink_grows suits (placing p e (drops t mid l w b a)) h =
     subst (λ (s : State). EachPassed NoInk s.back) (sym a) (no_ink_blank p.part p.weight p.bytes b, no_ink_trimmed mid.back (no_ink_lines l h))
 no_ink_grows {margin_of = margin_of} {st = st} {next = next} suits (breaking k chunk e a) h = subst (λ (s : State). EachPassed NoInk s.back) (sym a) (at suits, h) where
@@ -104,10 +100,6 @@ pub or_true_right : (a b : Bool) → b ≡ true → (a || b) ≡ true
 or_true_right true b h = refl
 or_true_right false b h = h
 
-pub text_padded : (n : ℕ) (r : List Stretch) → has_text r ≡ true → has_text (padded n r) ≡ true
-text_padded zero r h = h
-text_padded (suc n) r h = refl
-
 -- a page that goes on after some text has text
 pub text_lines : {st mid : State} → Lines st mid → has_text st.back ≡ true → has_text mid.back ≡ true
 text_lines l h = lines_back (λ r. has_text r ≡ true) (λ r x. refl) l h
@@ -127,9 +119,9 @@ starting_put : {width : ℕ} {margin_of : ℕ → ℕ} (st : State) (p : Piece) 
     → Fits margin_of st p → IsClear st (raw p) → Begins width st p base → has_text (put n p.part p.bytes p.weight base).back ≡ true
 starting_put st p base n fits clear (first t e) = let some : has_some p.bytes ≡ true = empty_first st p fits clear t in rw some refl
 starting_put st p base n fits clear (stays t l w) =
-    or_true_right (has_some p.bytes) (has_text (padded n base.back)) (text_padded n base.back (text_lines l t))
+    or_true_right (has_some p.bytes) (has_text (padded n base.back)) (by_padded (λ x. has_text x ≡ true) (λ x y. refl) n base.back (text_lines l t))
 starting_put st p base n fits clear (wraps t mid l w b e) =
-    or_true_right (has_some p.bytes) (has_text (padded n base.back)) (text_padded n base.back (subst (λ (s : State). has_text s.back ≡ true) (sym e) refl))
+    or_true_right (has_some p.bytes) (has_text (padded n base.back)) (by_padded (λ x. has_text x ≡ true) (λ x y. refl) n base.back (subst (λ (s : State). has_text s.back ≡ true) (sym e) refl))
 
 pub starting_grows : {width : ℕ} {margin_of : ℕ → ℕ} {st after : State} {next : Next}
     → Suits margin_of st next → IsClear st next → Grows width st next after → IsStarting st → IsStarting after
@@ -156,7 +148,7 @@ starting_grows {st = st} suits clear (passing event margin e a) h = subst IsStar
 
 pub text_stays : {width : ℕ} {st after : State} {next : Next} → Grows width st next after → has_text st.back ≡ true → has_text after.back ≡ true
 text_stays {width} {st} (placing p e (places base n b d a)) h =
-    subst (λ (s : State). has_text s.back ≡ true) (sym a) (or_true_right (has_some p.bytes) (has_text (padded n base.back)) (text_padded n base.back (begun b))) where
+    subst (λ (s : State). has_text s.back ≡ true) (sym a) (or_true_right (has_some p.bytes) (has_text (padded n base.back)) (by_padded (λ x. has_text x ≡ true) (λ x y. refl) n base.back (begun b))) where
       begun : Begins width st p base → has_text base.back ≡ true
       begun (first t s) = absurd cc
       begun (stays t l w) = text_lines l t

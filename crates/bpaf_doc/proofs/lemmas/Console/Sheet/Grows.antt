@@ -15,9 +15,9 @@ use Rattle.bpaf_doc.specs.Console.Layout.{Shows, Stretch, Gap, Placed, Passed}
 use Rattle.bpaf_doc.specs.Console.Steps.Page as page
 use Rattle.bpaf_doc.specs.Console.Steps.Page.{Sheet}
 use Rattle.bpaf_doc.proofs.lemmas.Console.Layout.State.{State, Piece, Lines, none_asked, line_there, line_put, blank_there, second_put, both_put, first, stays, wraps, Places, places, drops, Pads, to_margin, after_term, IsPut, sat, padded, trimmed, put, wrapped, dropped, spaced, on_new_line, has_text, ends_line, ends_blank, IsLegible}
-use Rattle.bpaf_doc.proofs.lemmas.Console.Layout.Back.{by_cases}
+use Rattle.bpaf_doc.proofs.lemmas.Console.Layout.Back.{by_cases, by_padded}
 use Rattle.bpaf_doc.proofs.lemmas.Console.Layout.Blank.{text_back, text_back_cons}
-use Rattle.bpaf_doc.proofs.lemmas.Console.Layout.Stretches.{no_text, some_text, text_ends_line, text_ends_blank, trim_text, legible_trimmed, legible_padded}
+use Rattle.bpaf_doc.proofs.lemmas.Console.Layout.Stretches.{no_text, some_text, text_ends_line, text_ends_blank, trim_text, legible_trimmed}
 
 -- ---- the exact page looks as it grew by the rules
 
@@ -67,7 +67,7 @@ draws_spaced n s st d = record {
   asked = d.asked;
   body = d.body;
   margin = d.margin;
-  legible = legible_padded n st.back d.legible;
+  legible = by_padded IsLegible (λ x y. (inl refl, y)) n st.back d.legible;
   fits = omega arith;
 }
 
