@@ -237,18 +237,12 @@ module _ (width : ℕ) where
   lines_zero f h z o (both_put a e) = ap (λ (s : State). s.column) e
 
   last_trimmed : (r : List Stretch) → last_raw_inked (trimmed r) ≡ true → last_raw_inked r ≡ true
-  last_trimmed [] h = h
-  last_trimmed (Gap b ∷ r) h = last_trimmed r h
-  last_trimmed (Placed e ∷ r) h = at (by_cases (is_inked (chunk_at e))) where
-    at : (is_inked (chunk_at e) ≡ true) ⊎ (is_inked (chunk_at e) ≡ false) → is_inked (chunk_at e) ≡ true
-    at (inl i) = i
-    at (inr i) = let no : false ≡ true = subst (λ x. last_raw_inked x ≡ true) (trimmed_plain e r i) h in absurd cc
-  last_trimmed (Passed event ∷ r) h = at (by_cases (has_some (event_bytes event))) (by_cases (is_raw_event event)) (last_trimmed r) where
-    at : (has_some (event_bytes event) ≡ true) ⊎ (has_some (event_bytes event) ≡ false) → (is_raw_event event ≡ true) ⊎ (is_raw_event event ≡ false)
-        → (last_raw_inked (trimmed r) ≡ true → last_raw_inked r ≡ true) → last_raw_inked (Passed event ∷ r) ≡ true
-    at (inl i) x ih = subst (λ y. last_raw_inked y ≡ true) (trimmed_bytes event r i) h
-    at (inr i) (inl x) ih = let g : last_raw_inked (Passed event ∷ trimmed r) ≡ true = subst (λ y. last_raw_inked y ≡ true) (trimmed_bare event r i) h in let no : false ≡ true = rw x at g in absurd cc
-    at (inr i) (inr x) ih = let g : last_raw_inked (Passed event ∷ trimmed r) ≡ true = subst (λ y. last_raw_inked y ≡ true) (trimmed_bare event r i) h in let rest : last_raw_inked (trimmed r) ≡ true = rw x at g in rw x (ih rest)
+  last_trimmed = by_trimmed (λ r t. last_raw_inked t ≡ true → last_raw_inked r ≡ true) (λ h. h) (λ b r t ih h. ih h) (λ e r i h. i) (λ e r t i ih h. absurd cc) (λ event r i h. h)
+      (λ event r t i ih h. at event r t (by_cases (is_raw_event event)) h ih) where
+        at : (event : Event) (r t : List Stretch) → (is_raw_event event ≡ true) ⊎ (is_raw_event event ≡ false) → last_raw_inked (Passed event ∷ t) ≡ true
+            → (last_raw_inked t ≡ true → last_raw_inked r ≡ true) → last_raw_inked (Passed event ∷ r) ≡ true
+        at event r t (inl x) h ih = let no : false ≡ true = rw x at h in absurd cc
+        at event r t (inr x) h ih = let rest : last_raw_inked t ≡ true = rw x at h in rw x (ih rest)
 
   owes_trimmed : (r : List Stretch) → owes_blank (trimmed r) ≡ true → owes_blank r ≡ true
   owes_trimmed [] h = h

@@ -36,21 +36,15 @@ same_false : (b : Bool) → (if b then false else false) ≡ false
 same_false true = refl
 same_false false = refl
 
-may_end_trimmed : (line : Bool) (r : List Stretch) → EachPlace Fills r → MayEnd line r → MayEnd true (trimmed r)
-may_end_trimmed line [] f h = h
-may_end_trimmed line (Gap b ∷ r) f h = may_end_trimmed (b == 10) r f h.1
-may_end_trimmed line (Placed e ∷ r) f h = at (by_cases (is_inked (chunk_at e))) (may_end_trimmed (if has_some e.shown then false else line) r f.1 h.1) where
-  at : (is_inked (chunk_at e) ≡ true) ⊎ (is_inked (chunk_at e) ≡ false) → MayEnd true (trimmed r) → MayEnd true (trimmed (Placed e ∷ r))
-  at (inl i) ih =
-      let shown : has_some e.shown ≡ true = f.0 ∙ inked_some e.bytes i in
-      let rest : MayEnd false r = rw shown at h.1 in
-      let trim : has_some (trim_end e.bytes) ≡ true = inked_trim e.bytes i in
-      subst (λ x. MayEnd true x) (sym (trimmed_inked e r i)) (inr (refl, refl), rw trim rest)
-  at (inr i) ih = subst (λ x. MayEnd true x) (sym (trimmed_plain e r i)) ih
-may_end_trimmed line (Passed event ∷ r) f h = at (by_cases (has_some (event_bytes event))) (may_end_trimmed (if has_some (event_bytes event) then false else line) r f h) where
-  at : (has_some (event_bytes event) ≡ true) ⊎ (has_some (event_bytes event) ≡ false) → MayEnd true (trimmed r) → MayEnd true (trimmed (Passed event ∷ r))
-  at (inl i) ih = let rest : MayEnd false r = rw i at h in subst (λ x. MayEnd true x) (sym (trimmed_bytes event r i)) (rw i rest)
-  at (inr i) ih = subst (λ x. MayEnd true x) (sym (trimmed_bare event r i)) (subst (λ (b : Bool). MayEnd (if b then false else true) (trimmed r)) (sym i) ih)
+may_end_trimmed : (r : List Stretch) (line : Bool) → EachPlace Fills r → MayEnd line r → MayEnd true (trimmed r)
+may_end_trimmed = by_trimmed (λ r t. (line : Bool) → EachPlace Fills r → MayEnd line r → MayEnd true t) (λ line f h. h) (λ b r t ih line f h. ih (b == 10) f h.1)
+    (λ e r i line f h.
+    let shown : has_some e.shown ≡ true = f.0 ∙ inked_some e.bytes i in
+    let rest : MayEnd false r = rw shown at h.1 in
+    let trim : has_some (trim_end e.bytes) ≡ true = inked_trim e.bytes i in (inr (refl, refl), rw trim rest))
+    (λ e r t i ih line f h. ih (if has_some e.shown then false else line) f.1 h.1)
+    (λ event r i line f h. let rest : MayEnd false r = rw i at h in rw i rest)
+    (λ event r t i ih line f h. subst (λ (b : Bool). MayEnd (if b then false else true) t) (sym i) (ih (if has_some (event_bytes event) then false else line) f h))
 
 abbrev pub IsWhole : State → Type 0
 IsWhole st = MayEnd false st.back
@@ -59,7 +53,7 @@ whole_lines : {st mid : State} → Lines st mid → IsWhole st → IsWhole mid
 whole_lines l h = lines_back (MayEnd false) (λ r x. (inr refl, may_end_line r x)) l h
 
 whole_wrapped : (mid : State) → EachPlace Fills mid.back → IsWhole mid → IsWhole (wrapped mid)
-whole_wrapped mid f h = (inr refl, may_end_trimmed false mid.back f h)
+whole_wrapped mid f h = (inr refl, may_end_trimmed mid.back false f h)
 
 whole_begins : {width : ℕ} {st : State} {p : Piece} {base : State} → EachPlace Fills st.back → Begins width st p base → IsWhole st → IsWhole base
 whole_begins f (first t e) h = subst IsWhole (sym e) h

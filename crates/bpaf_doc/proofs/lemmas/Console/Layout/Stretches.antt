@@ -14,7 +14,7 @@ use Rattle.bpaf_doc.specs.Splitter.Chunks.{is_inked, has_some, IsLine, is_line_b
 use Rattle.bpaf_doc.specs.Shown.{is_term_ref}
 use Rattle.bpaf_doc.specs.Console.Layout.{Event, Shows, Opens, Closes, Stretch, Gap, Placed, Passed, Place, chunk_at, event_bytes, stretch_bytes}
 use Rattle.bpaf_doc.proofs.lemmas.Console.Layout.State.{has_text, ends_line, ends_blank, padded, trimmed, cut, IsLegible}
-use Rattle.bpaf_doc.proofs.lemmas.Console.Layout.Back.{by_cases, trimmed_inked, trimmed_plain, trimmed_bytes, trimmed_bare, by_padded}
+use Rattle.bpaf_doc.proofs.lemmas.Console.Layout.Back.{by_cases, trimmed_inked, trimmed_plain, trimmed_bytes, trimmed_bare, by_padded, by_trimmed}
 use Rattle.bpaf_doc.proofs.lemmas.Console.Layout.Blank.{text_back, text_back_cons}
 
 -- ---- trimming
@@ -383,13 +383,4 @@ trim_text (Passed event ∷ r) h = at (by_cases (has_some (event_bytes event))) 
 -- ---- what may be read stays so
 
 pub legible_trimmed : (r : List Stretch) → IsLegible r → IsLegible (trimmed r)
-legible_trimmed [] h = h
-legible_trimmed (Gap b ∷ r) h = legible_trimmed r h.1
-legible_trimmed (Placed e ∷ r) h = at (by_cases (is_inked (chunk_at e))) (legible_trimmed r h.1) where
-  at : (is_inked (chunk_at e) ≡ true) ⊎ (is_inked (chunk_at e) ≡ false) → IsLegible (trimmed r) → IsLegible (trimmed (Placed e ∷ r))
-  at (inl i) ih = subst IsLegible (sym (trimmed_inked e r i)) ((h.0.0, h.0.1, inr refl), h.1)
-  at (inr i) ih = subst IsLegible (sym (trimmed_plain e r i)) ih
-legible_trimmed (Passed event ∷ r) h = at (by_cases (has_some (event_bytes event))) (legible_trimmed r h) where
-  at : (has_some (event_bytes event) ≡ true) ⊎ (has_some (event_bytes event) ≡ false) → IsLegible (trimmed r) → IsLegible (trimmed (Passed event ∷ r))
-  at (inl i) ih = subst IsLegible (sym (trimmed_bytes event r i)) h
-  at (inr i) ih = subst IsLegible (sym (trimmed_bare event r i)) ih
+legible_trimmed = by_trimmed (λ r t. IsLegible r → IsLegible t) (λ h. h) (λ b r t ih h. ih h.1) (λ e r i h. ((h.0.0, h.0.1, inr refl), h.1)) (λ e r t i ih h. ih h.1) (λ event r i h. h) (λ event r t i ih h. ih h)
