@@ -4,7 +4,7 @@ use Rattle.std.specs.List.{list_any}
 use Rattle.std.proofs.Common.{sym, subst, ap, arith, inl, inr, ◌∙◌, append_assoc}
 use Rattle.std.proofs.lemmas.List.{reverse-append, append-nil}
 use Rattle.std.proofs.lemmas.Grind.{flat_map-append}
-use Rattle.std.proofs.lemmas.Bool.{and_parts, eqb-true}
+use Rattle.std.proofs.lemmas.Bool.{and_parts, eqb-true, or_cases}
 use Rattle.bpaf_doc.specs.Splitter.Chunks.{Chunk, Paragraph, LineBreak, columns, is_inked, has_some}
 use Rattle.bpaf_doc.specs.Console.Layout.{Event, Shows, Stretch, Gap, Placed, Passed, Place, chunk_at, event_bytes, stretch_bytes, is_inked_stretch, asks_newline, asks_blank_line, is_raw_event, text_of, HasBlankLine}
 use Rattle.bpaf_doc.specs.declared.console.page.Asked.{Asked}
@@ -236,38 +236,22 @@ module _ (width : ℕ) where
   lines_zero {st} f h z o (second_put a b e) = ap (λ (s : State). s.column) e ∙ z (owes_fresh st.back f o b)
   lines_zero f h z o (both_put a e) = ap (λ (s : State). s.column) e
 
-  last_trimmed : (r : List Stretch) → last_raw_inked (trimmed r) ≡ true → last_raw_inked r ≡ true
-  last_trimmed = by_trimmed (λ r t. last_raw_inked t ≡ true → last_raw_inked r ≡ true) (λ h. h) (λ b r t ih h. ih h) (λ e r i h. i) (λ e r t i ih h. absurd cc) (λ event r i h. h)
-      (λ event r t i ih h. at event r t (by_cases (is_raw_event event)) h ih) where
-        at : (event : Event) (r t : List Stretch) → (is_raw_event event ≡ true) ⊎ (is_raw_event event ≡ false) → last_raw_inked (Passed event ∷ t) ≡ true
-            → (last_raw_inked t ≡ true → last_raw_inked r ≡ true) → last_raw_inked (Passed event ∷ r) ≡ true
-        at event r t (inl x) h ih = let no : false ≡ true = rw x at h in absurd cc
-        at event r t (inr x) h ih = let rest : last_raw_inked t ≡ true = rw x at h in rw x (ih rest)
+  abbrev Owes : List Stretch → List Stretch → Type 0
+  Owes r t = (last_raw_inked t ≡ true → last_raw_inked r ≡ true) × (owes_blank t ≡ true → owes_blank r ≡ true)
 
-  owes_trimmed : (r : List Stretch) → owes_blank (trimmed r) ≡ true → owes_blank r ≡ true
-  owes_trimmed [] h = h
-  owes_trimmed (Gap b ∷ r) h = owes_trimmed r h
-  owes_trimmed (Placed e ∷ r) h = at (by_cases (is_inked (chunk_at e))) where
-    at : (is_inked (chunk_at e) ≡ true) ⊎ (is_inked (chunk_at e) ≡ false) → false ≡ true
-    at (inl i) = subst (λ x. owes_blank x ≡ true) (trimmed_inked e r i) h
-    at (inr i) = subst (λ x. owes_blank x ≡ true) (trimmed_plain e r i) h
-  owes_trimmed (Passed event ∷ r) h = at (by_cases (has_some (event_bytes event))) (by_cases (is_raw_event event)) (by_cases (owes_blank (trimmed r))) (owes_trimmed r) where
-    or_left : (a b : Bool) → (a || b) ≡ true → b ≡ false → a ≡ true
-    or_left true b h f = refl
-    or_left false b h f = absurd cc
+  owes_trimmed : (r : List Stretch) → (last_raw_inked (trimmed r) ≡ true → last_raw_inked r ≡ true) × (owes_blank (trimmed r) ≡ true → owes_blank r ≡ true)
+  owes_trimmed = by_trimmed Owes ((λ h. h), (λ h. h)) (λ b r t ih. ih) (λ e r i. ((λ h. i), (λ h. h))) (λ e r t i ih. ((λ h. absurd cc), (λ h. h))) (λ event r i. ((λ h. h), (λ h. h)))
+      (λ event r t i ih. at event r t (by_cases (is_raw_event event)) ih) where
+        owed : (event : Event) (r t : List Stretch) → Owes r t → ((asks_blank_line event && last_raw_inked t) ≡ true) ⊎ (owes_blank t ≡ true)
+            → ((asks_blank_line event && last_raw_inked r) || owes_blank r) ≡ true
+        owed event r t ih (inl last) =
+            let both : (asks_blank_line event ≡ true) × (last_raw_inked t ≡ true) = and_parts (asks_blank_line event) (last_raw_inked t) last in
+            rw (both.0, ih.0 both.1) refl
+        owed event r t ih (inr owes) = or_true_right (asks_blank_line event && last_raw_inked r) (owes_blank r) (ih.1 owes)
 
-    at : (has_some (event_bytes event) ≡ true) ⊎ (has_some (event_bytes event) ≡ false) → (is_raw_event event ≡ true) ⊎ (is_raw_event event ≡ false)
-        → (owes_blank (trimmed r) ≡ true) ⊎ (owes_blank (trimmed r) ≡ false) → (owes_blank (trimmed r) ≡ true → owes_blank r ≡ true) → owes_blank (Passed event ∷ r) ≡ true
-    at (inl i) x y ih = subst (λ z. owes_blank z ≡ true) (trimmed_bytes event r i) h
-    at (inr i) (inl x) y ih = let g : owes_blank (Passed event ∷ trimmed r) ≡ true = subst (λ z. owes_blank z ≡ true) (trimmed_bare event r i) h in let no : false ≡ true = rw x at g in absurd cc
-    at (inr i) (inr x) (inl y) ih = rw x (or_true_right (asks_blank_line event && last_raw_inked r) (owes_blank r) (ih y))
-    at (inr i) (inr x) (inr y) ih =
-        let g : owes_blank (Passed event ∷ trimmed r) ≡ true = subst (λ z. owes_blank z ≡ true) (trimmed_bare event r i) h in
-        let both : ((asks_blank_line event && last_raw_inked (trimmed r)) || owes_blank (trimmed r)) ≡ true = rw x at g in
-        let last : (asks_blank_line event && last_raw_inked (trimmed r)) ≡ true = or_left _ (owes_blank (trimmed r)) both y in
-        let asks : asks_blank_line event ≡ true = (and_parts (asks_blank_line event) (last_raw_inked (trimmed r)) last).0 in
-        let inked : last_raw_inked r ≡ true = last_trimmed r (and_parts (asks_blank_line event) (last_raw_inked (trimmed r)) last).1 in
-        rw (x, asks, inked) refl
+        at : (event : Event) (r t : List Stretch) → (is_raw_event event ≡ true) ⊎ (is_raw_event event ≡ false) → Owes r t → Owes (Passed event ∷ r) (Passed event ∷ t)
+        at event r t (inl x) ih = rw x ((λ h. absurd cc), (λ h. absurd cc))
+        at event r t (inr x) ih = rw x (ih.0, λ h. owed event r t ih (or_cases (asks_blank_line event && last_raw_inked t) (owes_blank t) h))
 
   blank_begins : {st : State} {p : Piece} {base : State} → EachPlace Fills st.back → EachPassed NoInk st.back → IsAskedBlank st → IsFreshAtZero st
       → Begins width st p base → columns p.bytes ≤ width → (m before : List Stretch) (e : Place) → Cut base.back m e before → is_inked (chunk_at e) ≡ true
@@ -278,7 +262,7 @@ module _ (width : ℕ) where
   blank_begins f q h z (stays t l w) c m before e there i o = lines_blank h (sym (owes_lines l) ∙ o) l
   blank_begins {st = st} f q h z (wraps t mid l w b s) c m before e there i o =
       let kept : owes_blank (trimmed mid.back) ≡ true = subst (λ (x : State). owes_blank x.back ≡ true) s o in
-      let owed : owes_blank st.back ≡ true = sym (owes_lines l) ∙ owes_trimmed mid.back kept in
+      let owed : owes_blank st.back ≡ true = sym (owes_lines l) ∙ (owes_trimmed mid.back).1 kept in
       let zero_column : mid.column ≡ 0 = lines_zero f h z owed l in
       absurd (omega arith)
 
