@@ -160,14 +160,8 @@ hidden_after-le full hidden (Text bytes style) = at ((hidden == 0) && hides full
   at : (b : Bool) → (if b then 1 else hidden) ≤ hidden + 1
   at true = omega arith
   at false = omega arith
-hidden_after-le full hidden (Start b) = at (not (hidden == 0) && is_inline b) where
-  at : (c : Bool) → (if c then hidden + 1 else hidden) ≤ hidden + 1
-  at true = omega arith
-  at false = omega arith
-hidden_after-le full hidden (End b) = at (is_inline b) where
-  at : (c : Bool) → (if c then hidden - 1 else hidden) ≤ hidden + 1
-  at true = omega arith
-  at false = omega arith
+hidden_after-le full hidden (Start b) = elim (not (hidden == 0) && is_inline b) as (λ (c : Bool). (if c then hidden + 1 else hidden) ≤ hidden + 1) [ true ↦ omega arith | false ↦ omega arith ]
+hidden_after-le full hidden (End b) = elim (is_inline b) as (λ (c : Bool). (if c then hidden - 1 else hidden) ≤ hidden + 1) [ true ↦ omega arith | false ↦ omega arith ]
 
 -- At this count of hidden blocks, out and the parts that are left have all the ink, and the count stays in range.
 pub record IsLeft (full : Bool) (count hidden : ℕ) (out all : List ℕ) (parts : List Part) : Type 0 where

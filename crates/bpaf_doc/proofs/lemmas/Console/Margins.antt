@@ -183,10 +183,7 @@ pub shift_at-shown : (document : List Part) (j : ℕ) (part : Part) → is_skipp
 shift_at-shown document j part e = rw e refl
 
 pub shift_at-text : (document : List Part) (j : ℕ) (bytes : List ℕ) (style : Style) → shift_at document j (Text bytes style) ≡ Level
-shift_at-text document j bytes style = at (is_skipped document j) where
-  at : (b : Bool) → (if b then Level else Level) ≡ Level
-  at true = refl
-  at false = refl
+shift_at-text document j bytes style = elim (is_skipped document j) as (λ (b : Bool). (if b then Level else Level) ≡ Level) [ true ↦ refl | false ↦ refl ]
 
 -- a block end never raises the margin, skipped or not
 pub margin-end : (document : List Part) (j : ℕ) (b : Block) (rest : List Part) → drop j document ≡ End b ∷ rest → margin document j ≤ top (stack_at document j)
@@ -219,10 +216,7 @@ part_indent-le document j (End b) = omega arith
 part_indent-le document j (Start blocks.Header) = omega arith
 part_indent-le document j (Start blocks.Section2) = omega arith
 part_indent-le document j (Start blocks.Section3) = omega arith
-part_indent-le document j (Start blocks.Section4) = at (skips_pair document j) where
-  at : (b : Bool) → (if b then 4 else 2) ≤ 30
-  at true = omega arith
-  at false = omega arith
+part_indent-le document j (Start blocks.Section4) = elim (skips_pair document j) as (λ (b : Bool). (if b then 4 else 2) ≤ 30) [ true ↦ omega arith | false ↦ omega arith ]
 part_indent-le document j (Start blocks.ItemTerm) = omega arith
 part_indent-le document j (Start blocks.ItemBody) = let l : tab_stop document ≤ 28 = tab_stop-le document in omega arith
 part_indent-le document j (Start blocks.Block) = omega arith

@@ -223,10 +223,7 @@ module _ (document : List Part) where
     cases i l = grind arith
 
     at : (i : ℕ) → i < index + 1 → SkipsAt document i → (i < index) ⊎ (i ≡ index) → ((after_section4 document i ≡ pairs.end + 1) × (pairs.has_pair ≡ true)) ⊎ (after_section4 document i + 2 < index + 1)
-    at i l skips (inl less) = still (knows.earlier i less skips) where
-      still : ((after_section4 document i ≡ pairs.end + 1) × (pairs.has_pair ≡ true)) ⊎ (after_section4 document i + 2 < index) → ((after_section4 document i ≡ pairs.end + 1) × (pairs.has_pair ≡ true)) ⊎ (after_section4 document i + 2 < index + 1)
-      still (inl h) = inl h
-      still (inr h) = inr (omega arith)
+    at i l skips (inl less) = elim (knows.earlier i less skips) [ inl h ↦ inl h | inr h ↦ inr (omega arith) ]
     at i l skips (inr same) = absurd (other (ap (λ k. slice_get document k) (sym same) ∙ skips.0))
 
   -- a start before an end that is known
@@ -254,10 +251,7 @@ module _ (document : List Part) where
       cases i l = grind arith
 
       at : (i : ℕ) → SkipsAt document i → (i < index) ⊎ (i ≡ index) → ((after_section4 document i ≡ pairs.end + 1) × (pairs.has_pair ≡ true)) ⊎ (after_section4 document i + 2 < index + 1)
-      at i skips (inl less) = still (knows.earlier i less skips) where
-        still : ((after_section4 document i ≡ pairs.end + 1) × (pairs.has_pair ≡ true)) ⊎ (after_section4 document i + 2 < index) → ((after_section4 document i ≡ pairs.end + 1) × (pairs.has_pair ≡ true)) ⊎ (after_section4 document i + 2 < index + 1)
-        still (inl h) = inl h
-        still (inr h) = inr (omega arith)
+      at i skips (inl less) = elim (knows.earlier i less skips) [ inl h ↦ inl h | inr h ↦ inr (omega arith) ]
       at i skips (inr same) = inl (ap (after_section4 document) same ∙ same_end, shared_answer ∙ ap (λ k. skips_pair document k) (sym same) ∙ skips.1)
 
   -- a start that looks for its end

@@ -53,10 +53,7 @@ module _ (width tab_stop : ℕ) (margins : List ℕ) (small : width ≤ 18446744
       ∙ ap₂ (λ o n. at (o ++ raw) n) (append-nil out) still
 
   weighs : (raw : List ℕ) (weight : ℕ) → weight ≡ columns raw → columns_of raw weight ≡ weight
-  weighs raw weight e = by (nat_lt weight 1000000) where
-    by : (b : Bool) → (if b then weight else columns raw) ≡ weight
-    by true = refl
-    by false = sym e
+  weighs raw weight e = elim (nat_lt weight 1000000) as (λ (b : Bool). (if b then weight else columns raw) ≡ weight) [ true ↦ refl | false ↦ sym e ]
 
   word_put : (out raw : List ℕ) (column weight : ℕ) → weight ≡ columns raw → margin_of (at out column) ≤ column → column + weight ≤ width
       → raw_put raw weight (at out column) ≡ at (out ++ raw) (column + weight)

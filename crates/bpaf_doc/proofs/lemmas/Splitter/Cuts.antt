@@ -66,10 +66,7 @@ newline_cut bytes end first passes =
 pub word_from_no_cut : (bytes : List ℕ) → NoCharPasses is_cut bytes → IsTrue (list_all is_word_byte bytes)
 word_from_no_cut bytes n = all_at is_word_byte bytes at where
   at : (i : ℕ) → i < length bytes → is_word_byte (get_or bytes i 0) ≡ true
-  at i l = by_size (cases_lt (get_or bytes i 0) 128) where
-    by_size : (get_or bytes i 0 < 128) ⊎ (128 ≤ get_or bytes i 0) → is_word_byte (get_or bytes i 0) ≡ true
-    by_size (inl small) = word_byte (get_or bytes i 0) (NoCharPasses-byte is_cut bytes i n l small)
-    by_size (inr large) = word_byte_above (get_or bytes i 0) large
+  at i l = elim (cases_lt (get_or bytes i 0) 128) [ inl small ↦ word_byte (get_or bytes i 0) (NoCharPasses-byte is_cut bytes i n l small) | inr large ↦ word_byte_above (get_or bytes i 0) large ]
 
 pub word_end_at : (bytes : List ℕ) (i j : ℕ) → HasPassingCharAt is_cut bytes i j → IsWordEnd (drop i bytes)
 word_end_at bytes i j (c, t, h) =

@@ -33,10 +33,7 @@ record NothingOwed (r : List Stretch) : Type 0 where
   line : inked_line r ≡ false
 
 no_ink_of_none : (bytes : List ℕ) → has_some bytes ≡ false → has_some (ink bytes) ≡ false
-no_ink_of_none bytes none = at (by_cases (has_some (ink bytes))) where
-  at : (has_some (ink bytes) ≡ true) ⊎ (has_some (ink bytes) ≡ false) → has_some (ink bytes) ≡ false
-  at (inl i) = let some : has_some bytes ≡ true = inked_some bytes i in absurd cc
-  at (inr i) = i
+no_ink_of_none bytes none = elim (by_cases (has_some (ink bytes))) [ inl i ↦ let some : has_some bytes ≡ true = inked_some bytes i in absurd cc | inr i ↦ i ]
 
 ends_line_owes : (r : List Stretch) → EachPlace Fills r → EachPassed NoInk r → ends_line r ≡ true → NothingOwed r
 ends_line_owes [] f q h = record { owes = refl; line = refl }
@@ -98,10 +95,7 @@ owes_ink (Passed event ∷ r) h = at (by_cases (asks_newline event)) (by_cases (
   at (inr n) i ih = let rest : owes_line r ≡ true = rw n at h in or_true_right (is_inked_stretch (Passed event)) (list_any is_inked_stretch r) (ih rest)
 
 not_owed : (st : State) → IsAskedLine st → st.asked ≡ Nothing → owes_line st.back ≡ false
-not_owed st h a = at (by_cases (owes_line st.back)) where
-  at : (owes_line st.back ≡ true) ⊎ (owes_line st.back ≡ false) → owes_line st.back ≡ false
-  at (inl o) = let some : is_nothing st.asked ≡ false = h o in let none : is_nothing st.asked ≡ true = rw a refl in absurd cc
-  at (inr o) = o
+not_owed st h a = elim (by_cases (owes_line st.back)) [ inl o ↦ let some : is_nothing st.asked ≡ false = h o in let none : is_nothing st.asked ≡ true = rw a refl in absurd cc | inr o ↦ o ]
 
 owes_lines : {st mid : State} → EachPlace Fills st.back → EachPassed NoInk st.back → IsAskedLine st → Lines st mid → owes_line mid.back ≡ false
 owes_lines {st} f q h (none_asked a e) = subst (λ (s : State). owes_line s.back ≡ false) (sym e) (not_owed st h a)

@@ -33,10 +33,7 @@ bare_event (Closes b) h = no_backquote b h
 
 quiet_column : (r : List Stretch) → is_quiet r ≡ true → inked_line r ≡ false → pads_back r ≡ 0 → column_back r ≡ 0
 quiet_column [] q i p = refl
-quiet_column (Gap b ∷ r) q i p = at (by_cases (b == 10)) where
-  at : ((b == 10) ≡ true) ⊎ ((b == 10) ≡ false) → column_back (Gap b ∷ r) ≡ 0
-  at (inl e) = rw e refl
-  at (inr e) = let some : 1 + pads_back r ≡ 0 = rw e at p in absurd (omega arith)
+quiet_column (Gap b ∷ r) q i p = elim (by_cases (b == 10)) [ inl e ↦ rw e refl | inr e ↦ let some : 1 + pads_back r ≡ 0 = rw e at p in absurd (omega arith) ]
 quiet_column (Placed e ∷ r) q i p = let some : true ≡ false = rw q at i in absurd cc
 quiet_column (Passed event ∷ r) q i p = at (by_cases (is_raw_or_ref event)) (quiet_column r) where
   at : (is_raw_or_ref event ≡ true) ⊎ (is_raw_or_ref event ≡ false) → (is_quiet r ≡ true → inked_line r ≡ false → pads_back r ≡ 0 → column_back r ≡ 0) → column_back (Passed event ∷ r) ≡ 0

@@ -79,10 +79,7 @@ module _ (width deepest most : ℕ) where
 
   within_pads : (n : ℕ) (base : State) → base.margin ≤ deepest → base.column ≡ column_back base.back → Pads base n
       → (n + column_back base.back ≤ deepest + 2) ⊎ (n + column_back base.back ≤ 2 + base.column)
-  within_pads n base m c (to_margin e) = at (cases_lt base.column base.margin) where
-    at : (base.column < base.margin) ⊎ (base.margin ≤ base.column) → (n + column_back base.back ≤ deepest + 2) ⊎ (n + column_back base.back ≤ 2 + base.column)
-    at (inl l) = inl (omega arith)
-    at (inr l) = inr (omega arith)
+  within_pads n base m c (to_margin e) = elim (cases_lt base.column base.margin) [ inl l ↦ inl (omega arith) | inr l ↦ inr (omega arith) ]
   within_pads n base m c (after_term t wide few e) = inr (omega arith)
 
   within_first : (n : ℕ) (base : State) → base.margin ≤ deepest → column_back base.back ≡ 0 → Pads base n → n + column_back base.back ≤ deepest + 2

@@ -86,10 +86,7 @@ no_bytes (x ∷ xs) h = absurd cc
 -- a page that ends in a newline is at column 0
 pub ends_line_column : (r : List Stretch) → EachPlace Fills r → ends_line r ≡ true → column_back r ≡ 0
 ends_line_column [] f h = refl
-ends_line_column (Gap b ∷ r) f h = at (by_cases (b == 10)) where
-  at : ((b == 10) ≡ true) ⊎ ((b == 10) ≡ false) → column_back (Gap b ∷ r) ≡ 0
-  at (inl e) = rw e refl
-  at (inr e) = absurd cc
+ends_line_column (Gap b ∷ r) f h = elim (by_cases (b == 10)) [ inl e ↦ rw e refl | inr e ↦ absurd cc ]
 ends_line_column (Placed e ∷ r) f h = at (by_cases (has_some e.shown)) (ends_line_column r f.1) where
   at : (has_some e.shown ≡ true) ⊎ (has_some e.shown ≡ false) → (ends_line r ≡ true → column_back r ≡ 0) → column_back (Placed e ∷ r) ≡ 0
   at (inl s) ih = let no : false ≡ true = rw s at h in absurd cc
@@ -154,10 +151,7 @@ pub heavy : (weight : ℕ) → (not (weight == code_weight) && not (weight == fe
 heavy weight o = grind (arith, nat_tests)
 
 pub sat_agrees : (a b : ℕ) → a ≡ b → (sat a ≡ b) ⊎ (1_000_000 ≤ sat a)
-sat_agrees a b e = at (cases_lt a 18446744073709551616) where
-  at : (a < 18446744073709551616) ⊎ (18446744073709551616 ≤ a) → (sat a ≡ b) ⊎ (1_000_000 ≤ sat a)
-  at (inl l) = inl (omega arith)
-  at (inr l) = inr (omega arith)
+sat_agrees a b e = elim (cases_lt a 18446744073709551616) [ inl l ↦ inl (omega arith) | inr l ↦ inr (omega arith) ]
 
 pub agrees_put : (n : ℕ) (p : Piece) (base : State) → (IsOrdinary (Raw p.bytes p.weight) → p.weight ≡ columns p.bytes) → Agrees base → Agrees (put n p.part p.bytes p.weight base)
 agrees_put n p base weighed h = at (by_cases (is_ordinary (Raw p.bytes p.weight))) h where

@@ -126,10 +126,7 @@ abbrev pub room : ℕ → List Event → Place → List Stretch → ℕ
 room deepest es e before = column_back before + e.weight + taken es + allowance deepest es
 
 allowance_most : (deepest : ℕ) (es : List Event) → allowance deepest es ≤ deepest
-allowance_most deepest es = at (list_all is_chunk es) where
-  at : (t : Bool) → (if t then 0 else deepest) ≤ deepest
-  at true = omega arith
-  at false = omega arith
+allowance_most deepest es = elim (list_all is_chunk es) as (λ (t : Bool). (if t then 0 else deepest) ≤ deepest) [ true ↦ omega arith | false ↦ omega arith ]
 
 -- one chunk more takes its weight
 room_chunk : (deepest : ℕ) (p : Piece) (es : List Event) (e : Place) (before : List Stretch) → room deepest (Shows p.part (Raw p.bytes p.weight) ∷ es) e before ≡ room deepest es e before + p.weight

@@ -137,14 +137,8 @@ utf8_backquote = IsUtf8-from_ascii (96 ∷ []) (search rules)
 
 pub event_utf8 : (event : Event) → IsUtf8 (event_bytes event)
 event_utf8 (Shows k chunk) = IsUtf8-nil
-event_utf8 (Opens b) = at (is_term_ref b) where
-  at : (t : Bool) → IsUtf8 (if t then 96 ∷ [] else [])
-  at true = utf8_backquote
-  at false = IsUtf8-nil
-event_utf8 (Closes b) = at (is_term_ref b) where
-  at : (t : Bool) → IsUtf8 (if t then 96 ∷ [] else [])
-  at true = utf8_backquote
-  at false = IsUtf8-nil
+event_utf8 (Opens b) = elim (is_term_ref b) as (λ (t : Bool). IsUtf8 (if t then 96 ∷ [] else [])) [ true ↦ utf8_backquote | false ↦ IsUtf8-nil ]
+event_utf8 (Closes b) = elim (is_term_ref b) as (λ (t : Bool). IsUtf8 (if t then 96 ∷ [] else [])) [ true ↦ utf8_backquote | false ↦ IsUtf8-nil ]
 
 gap_utf8 : (b : ℕ) → (b ≡ 32) ⊎ (b ≡ 10) → IsUtf8 (b ∷ [])
 gap_utf8 b (inl e) = subst (λ (c : ℕ). IsUtf8 (c ∷ [])) (sym e) utf8_blank
@@ -227,14 +221,8 @@ shown_line e u l (inr s) = subst IsLine (sym s) (trim_line e.bytes u l)
 
 event_line : (event : Event) → IsLine (event_bytes event)
 event_line (Shows k chunk) = refl
-event_line (Opens b) = at (is_term_ref b) where
-  at : (t : Bool) → IsLine (if t then 96 ∷ [] else [])
-  at true = refl
-  at false = refl
-event_line (Closes b) = at (is_term_ref b) where
-  at : (t : Bool) → IsLine (if t then 96 ∷ [] else [])
-  at true = refl
-  at false = refl
+event_line (Opens b) = elim (is_term_ref b) as (λ (t : Bool). IsLine (if t then 96 ∷ [] else [])) [ true ↦ refl | false ↦ refl ]
+event_line (Closes b) = elim (is_term_ref b) as (λ (t : Bool). IsLine (if t then 96 ∷ [] else [])) [ true ↦ refl | false ↦ refl ]
 
 ends_in : (r : List Stretch) (x : Stretch) (front : List ℕ) → has_some (stretch_bytes x) ≡ true → text_back (x ∷ r) ≡ front ++ 10 ∷ [] → (back : List ℕ) × (stretch_bytes x ≡ back ++ 10 ∷ [])
 ends_in r x front s e =

@@ -166,10 +166,7 @@ body_turned r =
 quiet_since : (r : List Stretch) → EachPassed NoInk r → list_any is_raw_or_ref (events_back (since is_inked_stretch r)) ≡ not (is_quiet r)
 quiet_since [] q = refl
 quiet_since (Gap b ∷ r) q = quiet_since r q
-quiet_since (Placed e ∷ r) q = at (by_cases (is_inked (chunk_at e))) where
-  at : (is_inked (chunk_at e) ≡ true) ⊎ (is_inked (chunk_at e) ≡ false) → list_any is_raw_or_ref (events_back (since is_inked_stretch (Placed e ∷ r))) ≡ not (is_quiet (Placed e ∷ r))
-  at (inl i) = rw i refl
-  at (inr i) = rw i refl
+quiet_since (Placed e ∷ r) q = elim (by_cases (is_inked (chunk_at e))) [ inl i ↦ rw i refl | inr i ↦ rw i refl ]
 quiet_since (Passed event ∷ r) q = at q.0 (quiet_since r q.1) where
   at : is_inked_event event ≡ false → list_any is_raw_or_ref (events_back (since is_inked_stretch r)) ≡ not (is_quiet r)
       → list_any is_raw_or_ref (events_back (since is_inked_stretch (Passed event ∷ r))) ≡ not (is_quiet (Passed event ∷ r))

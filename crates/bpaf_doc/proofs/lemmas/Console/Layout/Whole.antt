@@ -357,10 +357,7 @@ may_stand : (m r : List Stretch) (x : Stretch) → MayEnd false (m ++ x ∷ r) �
 may_stand m r x h q = at x (known_end m false x r [] (λ t. absurd cc) h) q where
   at : (x : Stretch) → KnownEnd m x r [] → EachPassed NoInk (m ++ x ∷ r) → MayStand x (reverse m)
   at (Gap b) k q = k.there.0
-  at (Placed e) k q = kind k.there.0 where
-    kind : (e.shown ≡ e.bytes) ⊎ ((e.shown ≡ trim_end e.bytes) × (k.line ≡ true)) → MayStand (Placed e) (reverse m)
-    kind (inl whole) = inl whole
-    kind (inr cut) = inr (cut.0, subst (λ ys. starts ys (codes "\n") ≡ true) (append-nil (text_back m)) (k.after cut.1))
+  at (Placed e) k q = elim k.there.0 [ inl whole ↦ inl whole | inr cut ↦ inr (cut.0, subst (λ ys. starts ys (codes "\n") ≡ true) (append-nil (text_back m)) (k.after cut.1)) ]
   at (Passed event) k q = let none : is_inked_event event ≡ false = passed_at NoInk m r event q in rw none refl
 
 -- ---- the laws

@@ -299,16 +299,10 @@ raw_placed p s st u l weighed d = at (by_cases (length s.out == 0)) where
   move t e r = subst (λ (x : Sheet). RawTo s.width p st x) (sym e) r
 
   empty : (length s.out == 0) ≡ true → has_text st.back ≡ false
-  empty h = test (by_cases (has_text st.back)) where
-    test : (has_text st.back ≡ true) ⊎ (has_text st.back ≡ false) → has_text st.back ≡ false
-    test (inl t) = absurd (some_text st.back t (sym d.bytes ∙ nil_from_length s.out (eqb-true (length s.out) 0 h)))
-    test (inr t) = t
+  empty h = elim (by_cases (has_text st.back)) [ inl t ↦ absurd (some_text st.back t (sym d.bytes ∙ nil_from_length s.out (eqb-true (length s.out) 0 h))) | inr t ↦ t ]
 
   some : (length s.out == 0) ≡ false → has_text st.back ≡ true
-  some h = test (by_cases (has_text st.back)) where
-    test : (has_text st.back ≡ true) ⊎ (has_text st.back ≡ false) → has_text st.back ≡ true
-    test (inl t) = t
-    test (inr t) = absurd (some_length (length s.out) h (ap length (d.bytes ∙ no_text st.back t)))
+  some h = elim (by_cases (has_text st.back)) [ inl t ↦ t | inr t ↦ absurd (some_length (length s.out) h (ap length (d.bytes ∙ no_text st.back t))) ]
 
   lines : LinesTo s st (page.asked_put s)
   lines = lines_put s st d

@@ -47,10 +47,7 @@ no_bytes [] h = refl
 no_bytes (b ∷ bytes) h = absurd cc
 
 mark_ink : (b : Block) → ink (mark_bytes b) ≡ mark_bytes b
-mark_ink b = at (is_term_ref b) where
-  at : (c : Bool) → ink (if c then 96 ∷ [] else []) ≡ (if c then 96 ∷ [] else [])
-  at true = ink-backquote
-  at false = ink-nil
+mark_ink b = elim (is_term_ref b) as (λ (c : Bool). ink (if c then 96 ∷ [] else []) ≡ (if c then 96 ∷ [] else [])) [ true ↦ ink-backquote | false ↦ ink-nil ]
 
 passed_ink : (event : Event) → NoInk event → ink (event_bytes event) ≡ event_ink event
 passed_ink (Shows k chunk) none = ink-nil ∙ sym (no_bytes (chunk_ink chunk) none)

@@ -114,10 +114,7 @@ none_hidden full hidden part h t = ap (λ (b : Bool). hidden_after b hidden part
   at : (part : Part) → hidden_after true 0 part ≡ 0
   at (Text bytes style) = refl
   at (Start b) = refl
-  at (End b) = zero_if (is_inline b) where
-    zero_if : (c : Bool) → (if c then 0 - 1 else 0) ≡ 0
-    zero_if true = refl
-    zero_if false = refl
+  at (End b) = elim (is_inline b) as (λ (c : Bool). (if c then 0 - 1 else 0) ≡ 0) [ true ↦ refl | false ↦ refl ]
 
 -- ---- a stack is low: no entry is above 30 for each entry from it down
 
