@@ -261,8 +261,5 @@ pub IsTextLeft-none : (full hidden : Bool) (out all : List ℕ) (chunks : List C
     → (ink out ≡ all) × (false ≡ hidden)
 IsTextLeft-none full hidden out all chunks left none = (
   sym (append-nil (ink out)) ∙ ap (λ cs. ink out ++ shown_ink full cs) (sym none) ∙ left.same_ink,
-  at full ∙ ap (hides full) (sym none) ∙ left.same_hiding,
-) where
-  at : (b : Bool) → false ≡ hides b []
-  at true = refl
-  at false = refl
+  (elim full as (λ (b : Bool). false ≡ hides b []) [ true ↦ refl | false ↦ refl ]) ∙ ap (hides full) (sym none) ∙ left.same_hiding,
+)

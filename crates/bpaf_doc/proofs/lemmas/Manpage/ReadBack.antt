@@ -71,11 +71,7 @@ plain_text (b ∷ t) before = plain_byte b (kind_of b) before t (plain_text t)
 
 -- a byte whose newline is a blank is written as that blank is, or as it was
 stripped_byte : (b : ℕ) (before : List ℕ) → byte_text Handle before SpecialNoNewline b ≡ byte_text Handle before Special (newline_as_blank b)
-stripped_byte b before = by (eqb_tells b 10)
-  where
-    by : ((b == 10) ≡ true) × (b ≡ 10) ⊎ ((b == 10) ≡ false) × (b ≢ 10) → byte_text Handle before SpecialNoNewline b ≡ byte_text Handle before Special (newline_as_blank b)
-    by (inl e) = rw e.1 refl
-    by (inr e) = rw e.0 refl
+stripped_byte b before = elim (eqb_tells b 10) [ inl e ↦ rw e.1 refl | inr e ↦ rw e.0 refl ]
 
 -- text without its newlines is written as the text with blanks for them
 stripped : (t before : List ℕ) → text_after Handle before (map (Byte SpecialNoNewline) t) ≡ plain before (map newline_as_blank t)

@@ -261,11 +261,7 @@ quiet_followed (Of g ∷ ss) f e h =
 
 -- a line with its newline after it
 line_followed : (style : Style) (bytes : List ℕ) (weight : ℕ) → all_followed (line_snippets (Shown style (Raw bytes weight))) ≡ true
-line_followed style bytes weight = ap (λ b. b && true) (true_after (is_whole_line (Raw bytes weight)))
-  where
-    true_after : (w : Bool) → (not w || true) ≡ true
-    true_after true = refl
-    true_after false = refl
+line_followed style bytes weight = ap (λ b. b && true) (elim (is_whole_line (Raw bytes weight)) as (λ (w : Bool). (not w || true) ≡ true) [ true ↦ refl | false ↦ refl ])
 
 words_quiet : (bytes : List ℕ) (weight : ℕ) → (weight == fence_weight) ≡ false → (weight == code_weight) ≡ false → is_whole_line (Raw bytes weight) ≡ false
 words_quiet bytes weight e h = ap (λ c. c || (weight == fence_weight)) h ∙ e

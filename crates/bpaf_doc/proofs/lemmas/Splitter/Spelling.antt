@@ -54,10 +54,7 @@ length_without test bytes = rw (length-drop (prefix_len test bytes) bytes) (omeg
 
 front_passes : (test : ℕ → Bool) (bytes : List ℕ) → IsTrue (list_all test (take_while test bytes))
 front_passes test [] = refl
-front_passes test (b ∷ bytes) = at (cases_Bool (test b)) (front_passes test bytes) where
-  at : (test b ≡ true) ⊎ (test b ≡ false) → IsTrue (list_all test (take_while test bytes)) → IsTrue (list_all test (take_while test (b ∷ bytes)))
-  at (inl e) ih = rw (take_while_true test b bytes e, e) ih
-  at (inr e) ih = rw (take_while_false test b bytes e) refl
+front_passes test (b ∷ bytes) = elim (cases_Bool (test b)) [ inl e ↦ rw (take_while_true test b bytes e, e) (front_passes test bytes) | inr e ↦ rw (take_while_false test b bytes e) refl ]
 
 is_newline_byte : (b : ℕ) → is_line_byte b ≡ false → b ≡ 10
 is_newline_byte b e = grind (arith, nat_tests)
@@ -165,7 +162,7 @@ is_word_lem b e f = rw (e, f) refl
 
 plain_step : (n : ℕ) (b : ℕ) (rest : List ℕ) → SpelledTo n → length rest ≤ n → Spells Plain (chunks_within (suc n) Plain (b ∷ rest)) (b ∷ rest)
 unfolding chunks_within
-plain_step n b rest ih h = first (cases_Bool (b == 10)) where
+plain_step n b rest ih h = elim (cases_Bool (b == 10)) [ inl e ↦ plain_newline n b rest ih h (eqb-true b 10 e) e | inr e ↦ second e (cases_Bool (b == 32)) ] where
   second : (b == 10) ≡ false → ((b == 32) ≡ true) ⊎ ((b == 32) ≡ false) → Spells Plain (chunks_within (suc n) Plain (b ∷ rest)) (b ∷ rest)
   second e (inl f) = rw (e, chunks_within) rw (f, chunks_within) (blank rest (chunks_within n Plain rest) refl (ap (λ c. c ∷ rest) (is_blank b f)) (ih Plain rest h))
   second e (inr f) =
@@ -178,10 +175,6 @@ plain_step n b rest ih h = first (cases_Bool (b == 10)) where
       (word (take_while is_word_byte (b ∷ rest)) (without_front is_word_byte (b ∷ rest)) (chunks_within n Plain (without_front is_word_byte (b ∷ rest))) refl
       (front_split is_word_byte (b ∷ rest)) ((λ none. let z : b ∷ take_while is_word_byte rest ≡ [] = sym begins ∙ none in cc), front_passes is_word_byte (b ∷ rest))
       (word_end (b ∷ rest)) (ih Plain (without_front is_word_byte (b ∷ rest)) len))
-
-  first : ((b == 10) ≡ true) ⊎ ((b == 10) ≡ false) → Spells Plain (chunks_within (suc n) Plain (b ∷ rest)) (b ∷ rest)
-  first (inl e) = plain_newline n b rest ih h (eqb-true b 10 e) e
-  first (inr e) = second e (cases_Bool (b == 32))
 
 length_next : (n b : ℕ) (rest : List ℕ) → length rest ≤ n → length (drop 1 (without_front is_line_byte (b ∷ rest))) ≤ n
 length_next n b rest h =

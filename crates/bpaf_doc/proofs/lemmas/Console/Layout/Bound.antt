@@ -96,12 +96,8 @@ module _ (width deepest most : ℕ) where
     in_force : base.margin ≤ deepest
     in_force = subst (λ (k : ℕ). k ≤ deepest) (sym (lines_margin l).0) m
 
-    fit : (n + column_back base.back ≤ deepest + 2) ⊎ (n + column_back base.back ≤ 2 + base.column) → columns p.bytes + (n + column_back base.back) ≤ bound
-    fit (inl x) = omega arith
-    fit (inr x) = omega arith
-
     at : Agrees base → columns p.bytes + (n + column_back base.back) ≤ bound
-    at (inl x) = fit (within_pads n base in_force x d)
+    at (inl x) = elim (within_pads n base in_force x d) [ inl x ↦ omega arith | inr x ↦ omega arith ]
     at (inr x) = absurd (omega arith)
   within_put {st} p base n small f h m c (wraps t mid l w b e) d =
       let none : column_back base.back ≡ 0 = subst (λ (s : State). column_back s.back ≡ 0) (sym e) refl in

@@ -136,10 +136,7 @@ agrees_lines f (none_asked a e) h = subst Agrees (sym e) h
 agrees_lines f (line_there a b e) h = subst Agrees (sym e) h
 agrees_lines f (line_put a e) h = subst Agrees (sym e) (inl refl)
 agrees_lines f (blank_there a b e) h = subst Agrees (sym e) h
-agrees_lines {st} f (second_put a b e) h = subst Agrees (sym e) (at h) where
-  at : (st.column ≡ column_back st.back) ⊎ (1_000_000 ≤ st.column) → Agrees (record st { back = Gap 10 ∷ st.back })
-  at (inl c) = inl (c ∙ ends_line_column st.back f b)
-  at (inr c) = inr c
+agrees_lines {st} f (second_put a b e) h = subst Agrees (sym e) (elim h [ inl c ↦ inl (c ∙ ends_line_column st.back f b) | inr c ↦ inr c ])
 agrees_lines f (both_put a e) h = subst Agrees (sym e) (inl refl)
 
 pub agrees_begins : {width : ℕ} {st : State} {p : Piece} {base : State} → EachPlace Fills st.back → Begins width st p base → Agrees st → Agrees base

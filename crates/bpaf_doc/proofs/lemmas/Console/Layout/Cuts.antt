@@ -19,11 +19,7 @@ MayEnd line (Passed event ∷ r) = MayEnd (if has_some (event_bytes event) then 
 pub may_end_line : (r : List Stretch) → MayEnd false r → MayEnd true r
 may_end_line [] h = h
 may_end_line (Gap b ∷ r) h = h
-may_end_line (Placed e ∷ r) h = (whole h.0, at (by_cases (has_some e.shown)) (may_end_line r)) where
-  whole : (e.shown ≡ e.bytes) ⊎ ((e.shown ≡ trim_end e.bytes) × (false ≡ true)) → (e.shown ≡ e.bytes) ⊎ ((e.shown ≡ trim_end e.bytes) × (true ≡ true))
-  whole (inl x) = inl x
-  whole (inr x) = inr (x.0, refl)
-
+may_end_line (Placed e ∷ r) h = ((elim h.0 [ inl x ↦ inl x | inr x ↦ inr (x.0, refl) ]), at (by_cases (has_some e.shown)) (may_end_line r)) where
   at : (has_some e.shown ≡ true) ⊎ (has_some e.shown ≡ false) → (MayEnd false r → MayEnd true r) → MayEnd (if has_some e.shown then false else true) r
   at (inl s) ih = let rest : MayEnd false r = rw s at h.1 in rw s rest
   at (inr s) ih = let rest : MayEnd false r = rw s at h.1 in rw s (ih rest)

@@ -79,11 +79,7 @@ kept_front (c ∷ cs) = at (by_cases (is_whitespace c && (length (drop_trailing_
 
 twice_chars : (cs : List ℕ) → drop_trailing_whitespace (drop_trailing_whitespace cs) ≡ drop_trailing_whitespace cs
 twice_chars [] = refl
-twice_chars (c ∷ cs) = at (by_cases (is_whitespace c && (length (drop_trailing_whitespace cs) == 0))) (twice_chars cs) where
-  at : ((is_whitespace c && (length (drop_trailing_whitespace cs) == 0)) ≡ true) ⊎ ((is_whitespace c && (length (drop_trailing_whitespace cs) == 0)) ≡ false)
-      → drop_trailing_whitespace (drop_trailing_whitespace cs) ≡ drop_trailing_whitespace cs → drop_trailing_whitespace (drop_trailing_whitespace (c ∷ cs)) ≡ drop_trailing_whitespace (c ∷ cs)
-  at (inl t) ih = rw t refl
-  at (inr t) ih = rw t (rw ih (rw t refl))
+twice_chars (c ∷ cs) = elim (by_cases (is_whitespace c && (length (drop_trailing_whitespace cs) == 0))) [ inl t ↦ rw t refl | inr t ↦ rw t (rw (twice_chars cs) (rw t refl)) ]
 
 scalars_front : (cs ds : List ℕ) → scalars (cs ++ ds) ≡ true → scalars cs ≡ true
 scalars_front [] ds h = refl

@@ -266,13 +266,9 @@ abbrev pub IsWeighed : Piece → Type 0
 IsWeighed p = p.weight < 1_000_000 → p.weight ≡ columns p.bytes
 
 pub columns_is : (p : Piece) → IsWeighed p → page.columns_of p.bytes p.weight ≡ columns p.bytes
-columns_is p h = at (by_cases (nat_lt p.weight 1000000)) where
+columns_is p h = elim (by_cases (nat_lt p.weight 1000000)) [ inl t ↦ rw t (h (less p.weight t)) | inr t ↦ rw t refl ] where
   less : (n : ℕ) → nat_lt n 1000000 ≡ true → n < 1_000_000
   less n t = grind (arith, nat_tests)
-
-  at : (nat_lt p.weight 1000000 ≡ true) ⊎ (nat_lt p.weight 1000000 ≡ false) → page.columns_of p.bytes p.weight ≡ columns p.bytes
-  at (inl t) = rw t (h (less p.weight t))
-  at (inr t) = rw t refl
 
 abbrev pub RawTo : ℕ → Piece → State → Sheet → Type 0
 RawTo width p st t = (after : State) × Places width st p after × Draws t after

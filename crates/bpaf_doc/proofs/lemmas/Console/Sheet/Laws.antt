@@ -70,11 +70,8 @@ ink_back (Gap b ∷ r) legible none =
 ink_back (Placed e ∷ r) legible none =
     ap ink (text_back_cons (Placed e) r) ∙ ink-append (text_back r) e.shown (text_utf8 r legible.1)
     ∙ ap (λ front. front ++ ink e.shown) (ink_back r legible.1 none)
-    ∙ ap (λ more. flat_map event_ink (reverse (events_back r)) ++ more) (shown_ink legible.0.2)
-    ∙ sym (inks_cons (Shows e.part (chunk_at e)) (events_back r)) where
-      shown_ink : (e.shown ≡ e.bytes) ⊎ (e.shown ≡ trim_end e.bytes) → ink e.shown ≡ ink e.bytes
-      shown_ink (inl same) = ap ink same
-      shown_ink (inr cut) = ap ink cut ∙ trim_ink e.bytes legible.0.0
+    ∙ ap (λ more. flat_map event_ink (reverse (events_back r)) ++ more) (elim legible.0.2 [ inl same ↦ ap ink same | inr cut ↦ ap ink cut ∙ trim_ink e.bytes legible.0.0 ])
+    ∙ sym (inks_cons (Shows e.part (chunk_at e)) (events_back r))
 ink_back (Passed event ∷ r) legible none =
     ap ink (text_back_cons (Passed event) r) ∙ ink-append (text_back r) (event_bytes event) (text_utf8 r legible)
     ∙ ap (λ front. front ++ ink (event_bytes event)) (ink_back r legible none.1)
