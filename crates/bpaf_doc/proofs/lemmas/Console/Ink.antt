@@ -204,11 +204,9 @@ IsLeft-shown full count hidden out new all bytes style parts rest left first non
 pub IsLeft-hidden : (full : Bool) (count hidden : ℕ) (out all bytes : List ℕ) (style : Style) (parts rest : List Part)
     → IsLeft full count hidden out all parts → parts ≡ Text bytes style ∷ rest → hidden ≢ 0 → IsLeft full count hidden out all rest
 IsLeft-hidden full count hidden out all bytes style parts rest left first some =
-    let e : (hidden == 0) ≡ false = not_none hidden some in
+    let e : (hidden == 0) ≡ false = grind (arith, nat_tests) in
     IsLeft-more full count hidden hidden out out all (Text bytes style) parts rest left first (rw e refl)
-    (rw e (sym (append-nil (ink out)))) where
-      not_none : (hidden : ℕ) → hidden ≢ 0 → (hidden == 0) ≡ false
-      not_none hidden some = grind (arith, nat_tests)
+    (rw e (sym (append-nil (ink out))))
 
 -- an Ok text with this ink has that ink
 pub IfOk-ink : {Z E : Type 0} (r : Result (String Z) E) (this that : List ℕ) → this ≡ that

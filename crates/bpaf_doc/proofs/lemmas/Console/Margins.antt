@@ -123,9 +123,7 @@ take_next f zero k (p ∷ ps) part rest e =
     ap (λ (q : Part). f (k, q) ∷ []) same ∙ ap (λ n. f (n, part) ∷ []) (sym (add-zero k))
 take_next f (suc j) k [] part rest e = absurd cc
 take_next f (suc j) k (p ∷ ps) part rest e =
-    ap (λ xs. f (k, p) ∷ xs) (take_next f j (k + 1) ps part rest e ∙ ap (λ n. take j (map f (enumerate_from (k + 1) ps)) ++ f (n, part) ∷ []) (at k j)) where
-      at : (k j : ℕ) → k + 1 + j ≡ k + suc j
-      at k j = omega arith
+    ap (λ xs. f (k, p) ∷ xs) (take_next f j (k + 1) ps part rest e ∙ ap (λ n. take j (map f (enumerate_from (k + 1) ps)) ++ f (n, part) ∷ []) (omega arith))
 
 -- the part at place j shifts the stack
 pub stack_at-more : (document : List Part) (j : ℕ) (part : Part) (rest : List Part) → drop j document ≡ part ∷ rest
@@ -145,9 +143,7 @@ Falls (m ∷ ms) = (top ms ≤ m) × Falls ms
 
 falls_after : (ss : List Shift) (stack : List ℕ) → Falls stack → Falls (stack_after ss stack)
 falls_after [] stack h = h
-falls_after (Indent n ∷ ss) stack h = falls_after ss ((top stack + n) ∷ stack) (more (top stack) n, h) where
-  more : (m n : ℕ) → m ≤ m + n
-  more m n = omega arith
+falls_after (Indent n ∷ ss) stack h = falls_after ss ((top stack + n) ∷ stack) (omega arith, h)
 falls_after (Outdent ∷ ss) [] h = falls_after ss [] h
 falls_after (Outdent ∷ ss) (m ∷ ms) h = falls_after ss ms h.1
 falls_after (Level ∷ ss) stack h = falls_after ss stack h
@@ -247,21 +243,12 @@ more_than [] a = omega arith
 more_than (n ∷ ns) a = let rest : max a n ≤ fold max (max a n) ns = more_than ns (max a n) in omega arith
 
 greatest_at : (f : ℕ → ℕ) (j k a : ℕ) (parts : List Part) → j < length parts → f (k + j) ≤ fold max a (map (λ (i, part). f i) (enumerate_from k parts))
-greatest_at f j k a [] l = absurd (none l) where
-  none : j < 0 → ⊥
-  none l = omega arith
+greatest_at f j k a [] l = absurd (omega arith)
 greatest_at f zero k a (part ∷ parts) l =
     let more : max a (f k) ≤ fold max (max a (f k)) (map (λ (i, part). f i) (enumerate_from (k + 1) parts)) = more_than (map (λ (i, part). f i) (enumerate_from (k + 1) parts)) (max a (f k)) in
-    subst (λ n. f n ≤ fold max (max a (f k)) (map (λ (i, part). f i) (enumerate_from (k + 1) parts))) (sym (add-zero k)) (least (f k) a (fold max (max a (f k)) (map (λ (i, part). f i) (enumerate_from (k + 1) parts))) more) where
-      least : (n a m : ℕ) → max a n ≤ m → n ≤ m
-      least n a m l = omega arith
+    subst (λ n. f n ≤ fold max (max a (f k)) (map (λ (i, part). f i) (enumerate_from (k + 1) parts))) (sym (add-zero k)) (omega arith)
 greatest_at f (suc j) k a (part ∷ parts) l =
-    subst (λ n. f n ≤ fold max (max a (f k)) (map (λ (i, part). f i) (enumerate_from (k + 1) parts))) (at k j) (greatest_at f j (k + 1) (max a (f k)) parts (less l)) where
-      at : (k j : ℕ) → k + 1 + j ≡ k + suc j
-      at k j = omega arith
-
-      less : suc j < suc (length parts) → j < length parts
-      less l = omega arith
+    subst (λ n. f n ≤ fold max (max a (f k)) (map (λ (i, part). f i) (enumerate_from (k + 1) parts))) (omega arith) (greatest_at f j (k + 1) (max a (f k)) parts (omega arith))
 
 pub margin-le-greatest : (document : List Part) (j : ℕ) → j < length document → margin document j ≤ greatest_margin document
 margin-le-greatest document j l =

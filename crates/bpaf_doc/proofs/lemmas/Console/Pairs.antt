@@ -38,10 +38,7 @@ slice_get-drop (suc m) n (x ∷ xs) = slice_get-drop m n xs ∙ ap (λ k. slice_
 
 -- a place behind a usize has no part
 pub slice_get-saturates : (document : List Part) (k : ℕ) → length document < 2 ^ 64 → slice_get document (min k 18446744073709551615) ≡ slice_get document k
-slice_get-saturates document k small = at (cases k) where
-  cases : (k : ℕ) → (k ≤ 18446744073709551615) ⊎ (18446744073709551615 < k)
-  cases k = grind arith
-
+slice_get-saturates document k small = at (grind arith) where
   at : (k ≤ 18446744073709551615) ⊎ (18446744073709551615 < k) → slice_get document (min k 18446744073709551615) ≡ slice_get document k
   at (inl l) = ap (λ n. slice_get document n) (omega arith)
   at (inr l) = slice_get_past document (min k 18446744073709551615) (omega arith) ∙ sym (slice_get_past document k (omega arith))
@@ -50,9 +47,7 @@ slice_get-saturates document k small = at (cases k) where
 
 position-drop : {A : Type 0} (p : A → Bool) (m : ℕ) (xs : List A) → m ≤ position_or_len p xs → m + position_or_len p (drop m xs) ≡ position_or_len p xs
 position-drop p zero xs l = zero-add (position_or_len p xs)
-position-drop p (suc m) [] l = absurd (none m l) where
-  none : (m : ℕ) → suc m ≤ 0 → ⊥
-  none m l = omega arith
+position-drop p (suc m) [] l = absurd (omega arith)
 position-drop p (suc m) (x ∷ xs) l = at (p x) l (λ l. position-drop p m xs l) where
   at : (b : Bool) → suc m ≤ cond (not b) (1 + position_or_len p xs) 0 → (m ≤ position_or_len p xs → m + position_or_len p (drop m xs) ≡ position_or_len p xs)
       → suc m + position_or_len p (drop m xs) ≡ cond (not b) (1 + position_or_len p xs) 0
@@ -76,10 +71,8 @@ after_section4-shared document i j l m =
       rest : (j - i ≤ position_or_len is_section4_end (drop (i + 1) document))
           → j - i + position_or_len is_section4_end (drop (j + 1) document) ≡ position_or_len is_section4_end (drop (i + 1) document)
       rest few =
-          ap (λ ps. j - i + position_or_len is_section4_end ps) (ap (λ (n : ℕ). drop n document) (place i j l) ∙ sym (drop-drop (j - i) (i + 1) document))
-          ∙ position-drop is_section4_end (j - i) (drop (i + 1) document) few where
-            place : (i j : ℕ) → i ≤ j → j + 1 ≡ i + 1 + (j - i)
-            place i j l = omega arith
+          ap (λ ps. j - i + position_or_len is_section4_end ps) (ap (λ (n : ℕ). drop n document) (omega arith) ∙ sym (drop-drop (j - i) (i + 1) document))
+          ∙ position-drop is_section4_end (j - i) (drop (i + 1) document) few
 
       at : (n k : ℕ) → j + 1 < i + n + 2 → (j - i ≤ n → j - i + k ≡ n) → j + k + 2 ≡ i + n + 2
       at n k m rest = let e : j - i + k ≡ n = rest (omega arith) in omega arith
@@ -89,9 +82,7 @@ end_there : (document : List Part) (i j : ℕ) (part : Part) → j + 1 ≡ after
 end_there document i j part e here =
     position_passes is_section4_end (drop (i + 1) document) part
     (slice_get-drop (i + 1) (position_or_len is_section4_end (drop (i + 1) document)) document
-    ∙ ap (λ k. slice_get document k) (at (position_or_len is_section4_end (drop (i + 1) document)) e) ∙ here) where
-      at : (n : ℕ) → j + 1 ≡ i + n + 2 → i + 1 + n ≡ j
-      at n e = omega arith
+    ∙ ap (λ k. slice_get document k) (omega arith) ∙ here)
 
 -- ---- the pair after it
 
@@ -144,9 +135,7 @@ module _ (f : ℕ → Part → Bool) where
     at true e h more = (0, p, refl, ap (λ n. f n p) (add-zero k) ∙ e)
     at false e h more = next (more h) where
       next : ((i : ℕ) × (part : Part) × (slice_get ps i ≡ Some part) × (f (k + 1 + i) part ≡ true)) → (i : ℕ) × (part : Part) × (slice_get (p ∷ ps) i ≡ Some part) × (f (k + i) part ≡ true)
-      next (i, part, here, holds) = (suc i, part, here, ap (λ n. f n part) (same k i) ∙ holds) where
-        same : (k i : ℕ) → k + suc i ≡ k + 1 + i
-        same k i = omega arith
+      next (i, part, here, holds) = (suc i, part, here, ap (λ n. f n part) (omega arith) ∙ holds)
 
   any_from : (parts : List Part) (k i : ℕ) (part : Part) → slice_get parts i ≡ Some part → f (k + i) part ≡ true → list_any (λ (i, part). f i part) (enumerate_from k parts) ≡ true
   any_from [] k i part here h = absurd cc
@@ -156,10 +145,7 @@ module _ (f : ℕ → Part → Bool) where
         at : (b : Bool) → b ≡ true → (b || list_any (λ (i, part). f i part) (enumerate_from (k + 1) ps)) ≡ true
         at true e = refl
         at false e = absurd cc
-  any_from (p ∷ ps) k (suc i) part here h = at (f k p) (any_from ps (k + 1) i part here (ap (λ n. f n part) (same k i) ∙ h)) where
-    same : (k i : ℕ) → k + 1 + i ≡ k + suc i
-    same k i = omega arith
-
+  any_from (p ∷ ps) k (suc i) part here h = at (f k p) (any_from ps (k + 1) i part here (ap (λ n. f n part) (omega arith) ∙ h)) where
     at : (b : Bool) → list_any (λ (i, part). f i part) (enumerate_from (k + 1) ps) ≡ true → (b || list_any (λ (i, part). f i part) (enumerate_from (k + 1) ps)) ≡ true
     at true e = refl
     at false e = e
@@ -170,15 +156,12 @@ skips document k i part = (is_section4_start part && skips_pair document i) && (
 skipped_by : (document : List Part) (k : ℕ) → is_skipped document k ≡ true
     → (i : ℕ) × SkipsAt document i × ((k ≡ after_section4 document i) ⊎ (k ≡ after_section4 document i + 1))
 skipped_by document k h = at (any_found (skips document k) document 0 h) where
-  places : (k a : ℕ) → ((k == a) || (k == a + 1)) ≡ true → (k ≡ a) ⊎ (k ≡ a + 1)
-  places k a h = grind (arith, nat_tests)
-
   by : (i : ℕ) (part : Part) → slice_get document i ≡ Some part → skips document k i part ≡ true → (i : ℕ) × SkipsAt document i × ((k ≡ after_section4 document i) ⊎ (k ≡ after_section4 document i + 1))
   by i part here h =
       let first : (is_section4_start part && skips_pair document i) ≡ true = (and_parts (is_section4_start part && skips_pair document i) _ h).0 in (
         i,
         (here ∙ ap (λ p. Some p) (start_is part (and_parts (is_section4_start part) (skips_pair document i) first).0), (and_parts (is_section4_start part) (skips_pair document i) first).1),
-        places k (after_section4 document i) (and_parts (is_section4_start part && skips_pair document i) _ h).1,
+        grind (arith, nat_tests),
       )
 
   at : ((i : ℕ) × (part : Part) × (slice_get document i ≡ Some part) × (skips document k (0 + i) part ≡ true))
@@ -187,18 +170,13 @@ skipped_by document k h = at (any_found (skips document k) document 0 h) where
 
 skipped_from : (document : List Part) (k i : ℕ) → SkipsAt document i → (k ≡ after_section4 document i) ⊎ (k ≡ after_section4 document i + 1) → is_skipped document k ≡ true
 skipped_from document k i (here, pair) h = any_from (skips document k) document 0 i (Start blocks.Section4) here (ap (λ n. skips document k n (Start blocks.Section4)) (zero-add i) ∙ holds) where
-  places : (k a : ℕ) → (k ≡ a) ⊎ (k ≡ a + 1) → ((k == a) || (k == a + 1)) ≡ true
-  places k a h = grind (arith, nat_tests)
-
   holds : skips document k i (Start blocks.Section4) ≡ true
-  holds = rw pair (places k (after_section4 document i) h)
+  holds = rw pair (grind (arith, nat_tests))
 
 -- ---- from part to part
 
 after_section4-later : (document : List Part) (i : ℕ) → i + 2 ≤ after_section4 document i
-after_section4-later document i = at (position_or_len is_section4_end (drop (i + 1) document)) where
-  at : (n : ℕ) → i + 2 ≤ i + n + 2
-  at n = omega arith
+after_section4-later document i = omega arith
 
 module _ (document : List Part) where
   pub KnowsPairs-none : (pairs : Pairs) → pairs.end ≡ 0 → pairs.has_pair ≡ false → KnowsPairs document 0 pairs

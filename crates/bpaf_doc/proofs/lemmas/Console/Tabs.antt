@@ -158,10 +158,7 @@ quiet document before rest part widest s e n same more =
 
 -- what a length does to the widest, as it is and with all its columns
 counted : (widest n : ℕ) (ns : List ℕ) → fold max (wider widest (sat n)) (filter (λ n. nat_le n 24) ns) ≡ fold max widest (filter (λ n. nat_le n 24) (n ∷ ns))
-counted widest n ns = ap (λ (m : ℕ). fold max m (filter (λ n. nat_le n 24) ns)) (least widest n) ∙ at (nat_le n 24) where
-  least : (widest n : ℕ) → wider widest (sat n) ≡ wider widest n
-  least widest n = grind (arith, nat_tests)
-
+counted widest n ns = ap (λ (m : ℕ). fold max m (filter (λ n. nat_le n 24) ns)) (grind (arith, nat_tests)) ∙ at (nat_le n 24) where
   at : (b : Bool) → fold max (if b then max widest n else widest) (filter (λ n. nat_le n 24) ns) ≡ fold max widest (if b then n ∷ filter (λ n. nat_le n 24) ns else filter (λ n. nat_le n 24) ns)
   at true = refl
   at false = refl
@@ -196,6 +193,4 @@ walk document before (End b ∷ rest) widest e = quiet document before rest (End
 
 -- from the start on it gives the tab stop
 pub tab_stop-walk : (document : List Part) → widest_from 0 false 0 document + 4 ≡ tab_stop document
-tab_stop-walk document = ap (λ n. n + 4) (walk document [] document 0 refl) ∙ turn (greatest (filter (λ n. nat_le n 24) (term_lengths document))) where
-  turn : (n : ℕ) → n + 4 ≡ 4 + n
-  turn n = omega arith
+tab_stop-walk document = ap (λ n. n + 4) (walk document [] document 0 refl) ∙ omega arith

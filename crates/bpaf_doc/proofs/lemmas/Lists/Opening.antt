@@ -26,9 +26,7 @@ module _ {A : Type 0} (opens closes : A → Bool) (apart : (x : A) → closes x 
   stays_by more xs = list_all (is_within more) (fronts xs)
 
   none_within : (more : ℕ) → is_within more [] ≡ true
-  none_within more = at more where
-    at : (more : ℕ) → nat_le 0 (0 + more) ≡ true
-    at more = grind (arith, nat_tests)
+  none_within more = grind (arith, nat_tests)
 
   one_within : (more less : ℕ) (x : A) (front : List A) → one_if (closes x) + less ≡ one_if (opens x) + more → is_within more (x ∷ front) ≡ is_within less front
   one_within more less x front e =
@@ -53,29 +51,16 @@ module _ {A : Type 0} (opens closes : A → Bool) (apart : (x : A) → closes x 
     at (y ∷ ys) = rw first refl
 
   stays_by_is : (more : ℕ) (xs : List A) → stays_by more xs ≡ nat_le (closed opens closes xs) more
-  stays_by_is more [] = rw (none_within more) (at more) where
-    at : (more : ℕ) → true ≡ nat_le 0 more
-    at more = grind (arith, nat_tests)
+  stays_by_is more [] = rw (none_within more) (grind (arith, nat_tests))
   stays_by_is more (x ∷ xs) = at more (cases_Bool (closes x)) (cases_Bool (opens x)) (λ k. stays_by_is k xs) where
-    less : (t more : ℕ) → nat_le t (1 + more) ≡ nat_le (t - 1) more
-    less t more = grind (arith, nat_tests)
-
-    gone : (t more : ℕ) → nat_le t more ≡ nat_le (t + 1) (suc more)
-    gone t more = grind (arith, nat_tests)
-
-    none : (t : ℕ) → false ≡ nat_le (t + 1) 0
-    none t = grind (arith, nat_tests)
-
     at : (more : ℕ) → (closes x ≡ true) ⊎ (closes x ≡ false) → (opens x ≡ true) ⊎ (opens x ≡ false) → ((k : ℕ) → stays_by k xs ≡ nat_le (closed opens closes xs) k)
         → stays_by more (x ∷ xs) ≡ nat_le (closed opens closes (x ∷ xs)) more
-    at zero (inl c) o ih = none_left x xs c (apart x c) ∙ rw c (none (closed opens closes xs))
-    at (suc more) (inl c) o ih = step (suc more) more x xs (rw (c, apart x c) (omega arith)) ∙ ih more ∙ rw c (gone (closed opens closes xs) more)
-    at more (inr c) (inl o) ih = step more (1 + more) x xs (rw (c, o) (omega arith)) ∙ ih (1 + more) ∙ rw (c, o) (less (closed opens closes xs) more)
+    at zero (inl c) o ih = none_left x xs c (apart x c) ∙ rw c (grind (arith, nat_tests))
+    at (suc more) (inl c) o ih = step (suc more) more x xs (rw (c, apart x c) (omega arith)) ∙ ih more ∙ rw c (grind (arith, nat_tests))
+    at more (inr c) (inl o) ih = step more (1 + more) x xs (rw (c, o) (omega arith)) ∙ ih (1 + more) ∙ rw (c, o) (grind (arith, nat_tests))
     at more (inr c) (inr o) ih = step more more x xs (rw (c, o) refl) ∙ ih more ∙ rw (c, o) refl
 
   pub stays_open_is : (xs : List A) → stays_open opens closes xs ≡ nat_le (closed opens closes xs) 0
   stays_open_is xs =
-      list_all-ext (λ front. nat_le (count_by closes front) (count_by opens front)) (is_within 0) (λ front. at (count_by closes front) (count_by opens front)) (fronts xs)
-      ∙ stays_by_is 0 xs where
-        at : (a b : ℕ) → nat_le a b ≡ nat_le a (b + 0)
-        at a b = grind (arith, nat_tests)
+      list_all-ext (λ front. nat_le (count_by closes front) (count_by opens front)) (is_within 0) (λ front. grind (arith, nat_tests)) (fronts xs)
+      ∙ stays_by_is 0 xs

@@ -32,9 +32,7 @@ word_byte b e = grind (arith, nat_tests)
 
 -- a byte from 128 on is neither a newline nor a blank
 word_byte_above : (b : ℕ) → 128 ≤ b → is_word_byte b ≡ true
-word_byte_above b h = word_byte b (no_cut b h) where
-  no_cut : (b : ℕ) → 128 ≤ b → is_cut b ≡ false
-  no_cut b h = grind (arith, nat_tests)
+word_byte_above b h = word_byte b (grind (arith, nat_tests))
 
 cut_is : (c : ℕ) → is_cut c ≡ true → (c ≡ 10) ⊎ (c ≡ 32)
 cut_is c e = grind (arith, nat_tests)

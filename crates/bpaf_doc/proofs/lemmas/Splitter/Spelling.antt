@@ -63,9 +63,7 @@ is_cut_byte : (b : ℕ) → is_word_byte b ≡ false → (b ≡ 10) ⊎ (b ≡ 3
 is_cut_byte b e = at (cases_Bool (b == 10)) where
   at : ((b == 10) ≡ true) ⊎ ((b == 10) ≡ false) → (b ≡ 10) ⊎ (b ≡ 32)
   at (inl t) = inl (grind (arith, nat_tests))
-  at (inr f) = inr (let g : (not false && not (b == 32)) ≡ false = subst (λ v. (not v && not (b == 32)) ≡ false) f e in blank_is b g) where
-    blank_is : (b : ℕ) → not (b == 32) ≡ false → b ≡ 32
-    blank_is b e = grind (arith, nat_tests)
+  at (inr f) = inr (let g : (not false && not (b == 32)) ≡ false = subst (λ v. (not v && not (b == 32)) ≡ false) f e in grind (arith, nat_tests))
 
 line_end : (bytes : List ℕ) → IsLineEnd (without_front is_line_byte bytes)
 line_end [] = tt

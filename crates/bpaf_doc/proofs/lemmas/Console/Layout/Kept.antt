@@ -138,9 +138,7 @@ kept_same st k n settled unsettled order h o moved d m before e there =
       since = h found.rest before e near
 
       wider : AllKept (e.part < k) found.rest
-      wider = kept_weaker (λ (l : e.part < st.latest). below e.part st.latest k l o) found.rest since.1 where
-        below : (a b c : ℕ) → a < b → b ≤ c → a < c
-        below a b c x y = omega arith
+      wider = kept_weaker (λ (l : e.part < st.latest). omega arith) found.rest since.1
 
       earlier : e.part ≤ st.latest
       earlier = part_before st.latest found.rest e before (subst (λ x. EachPlace (NotAfter st.latest) x) found.there order)

@@ -561,15 +561,12 @@ module _ (width : ℕ) (document : List Part) (st : State) (final : List Stretch
           sum_taken [] = refl
           sum_taken (x ∷ es) = ap (λ (n : ℕ). room_of x + n) (sum_taken es) ∙ sym (sum_by-cons room_of x es)
 
-          not_same : (a b : ℕ) → a < b → (a == b) ≡ false
-          not_same a b l = grind (arith, nat_tests)
-
           allowed : (m before : List Stretch) (e f : Place) → (list_all is_chunk (events_back m) ≡ true) ⊎ (list_all is_chunk (events_back m) ≡ false) → IsAfterAll (m ++ Placed e ∷ before) f
               → allowance (greatest_margin document) (events_back m) ≤ (if e.part == f.part then 0 else greatest_margin document)
           allowed m before e f (inl t) later = rw t (omega arith)
           allowed m before e f (inr t) later =
               let apart : e.part < f.part = part_later false f.part m before e later (inr t) in
-              let differ : (e.part == f.part) ≡ false = not_same e.part f.part apart in
+              let differ : (e.part == f.part) ≡ false = grind (arith, nat_tests) in
               rw (t, differ) (omega arith)
 
 -- ---- the whole

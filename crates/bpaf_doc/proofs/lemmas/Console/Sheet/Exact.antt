@@ -82,9 +82,7 @@ raw_cases false false blank s a w put = refl
 
 is_empty : (text : List ℕ) → (length text == 0) ≡ not (has_some text)
 is_empty [] = refl
-is_empty (b ∷ text) = more (length text) where
-  more : (n : ℕ) → (suc n == 0) ≡ false
-  more n = grind (arith, nat_tests)
+is_empty (b ∷ text) = grind (arith, nat_tests)
 
 raw_is : (width level : ℕ) (bytes : List ℕ) (weight : ℕ) (s : Sheet) → page.columns_of bytes weight ≡ columns bytes → s.width ≡ width → page.margin_of s ≡ level
     → view (page.raw_put bytes weight s) ≡ exact.raw_put width level bytes weight (view s)

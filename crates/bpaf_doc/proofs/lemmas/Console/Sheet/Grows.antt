@@ -193,9 +193,6 @@ spaces_put s st d = at (by_cases (s.at_body && nat_le 28 (sat (s.column + (page.
   column : s.column ≡ st.column
   column = d.column
 
-  wide : (n : ℕ) → nat_le 28 n ≡ true → 28 ≤ n
-  wide n h = grind (arith, nat_tests)
-
   plain : (s.at_body && nat_le 28 (sat (s.column + (page.margin_of s - s.column)))) ≡ false → page.padded s ≡ page.blanks_put (page.margin_of s - s.column) s
   plain h = rw h refl
 
@@ -212,7 +209,7 @@ spaces_put s st d = at (by_cases (s.at_body && nat_le 28 (sat (s.column + (page.
   at (inr h) l =
       (page.margin_of s - s.column, to_margin (omega arith), subst (λ (t : Sheet). Draws t (spaced (page.margin_of s - s.column) st)) (sym (plain h)) (draws_spaced (page.margin_of s - s.column) s st d))
   at (inl h) (inl l) =
-      let far : 28 ≤ sat (s.column + (page.margin_of s - s.column)) = wide (sat (s.column + (page.margin_of s - s.column))) (and_parts s.at_body _ h).1 in
+      let far : 28 ≤ sat (s.column + (page.margin_of s - s.column)) = grind (arith, nat_tests) in
       let pending : st.pending ≡ true = sym d.body ∙ (and_parts s.at_body _ h).0 in
       let sum : 2 - (page.margin_of s - s.column) + (page.margin_of s - s.column) ≡ 2 = omega arith in (
         2,
@@ -266,9 +263,7 @@ abbrev pub IsWeighed : Piece → Type 0
 IsWeighed p = p.weight < 1_000_000 → p.weight ≡ columns p.bytes
 
 pub columns_is : (p : Piece) → IsWeighed p → page.columns_of p.bytes p.weight ≡ columns p.bytes
-columns_is p h = elim (by_cases (nat_lt p.weight 1000000)) [ inl t ↦ rw t (h (less p.weight t)) | inr t ↦ rw t refl ] where
-  less : (n : ℕ) → nat_lt n 1000000 ≡ true → n < 1_000_000
-  less n t = grind (arith, nat_tests)
+columns_is p h = elim (by_cases (nat_lt p.weight 1000000)) [ inl t ↦ rw t (h (grind (arith, nat_tests))) | inr t ↦ rw t refl ]
 
 abbrev pub RawTo : ℕ → Piece → State → Sheet → Type 0
 RawTo width p st t = (after : State) × Places width st p after × Draws t after

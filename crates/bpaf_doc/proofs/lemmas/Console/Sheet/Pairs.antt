@@ -42,9 +42,7 @@ empty_block_is document index small =
     (subst (λ (o : Option Part). IsTrue (whole.is_block_start (slice_get document (min (index + 1) 18446744073709551615))) ↔ o ≡ Some (Start blocks.Block)) (slice_get-saturates document (index + 1) small)
     (block_start (slice_get document (min (index + 1) 18446744073709551615))))
     (subst (λ (o : Option Part). IsTrue (whole.is_block_end (slice_get document (min (index + 2) 18446744073709551615))) ↔ o ≡ Some (End blocks.Block))
-    (slice_get-saturates document (index + 2) small ∙ ap (λ (k : ℕ). slice_get document k) (places index)) (block_end (slice_get document (min (index + 2) 18446744073709551615)))) where
-      places : (index : ℕ) → index + 2 ≡ index + 1 + 1
-      places index = omega arith
+    (slice_get-saturates document (index + 2) small ∙ ap (λ (k : ℕ). slice_get document k) (omega arith)) (block_end (slice_get document (min (index + 2) 18446744073709551615))))
 
 module _ (document : List Part) (small : length document < 2 ^ 64) where
   pub knows_none : KnowsPairs document 0 whole.no_pairs
@@ -54,12 +52,6 @@ module _ (document : List Part) (small : length document < 2 ^ 64) where
   pub knows_start : (index : ℕ) (b : Block) (pairs : Pairs) → slice_get document index ≡ Some (Start b) → KnowsPairs document index pairs
       → KnowsPairs document (index + 1) (whole.pairs_at document index b pairs) × (whole.is_adjacent b (whole.pairs_at document index b pairs) ≡ (is_section4_start (Start b) && skips_pair document index))
   knows_start index b pairs here knows = at b here (by_cases (whole.is_section4 b)) where
-    less : (a c : ℕ) → nat_le a c ≡ true → a ≤ c
-    less a c h = grind (arith, nat_tests)
-
-    more_than : (a c : ℕ) → nat_le a c ≡ false → c < a
-    more_than a c h = grind (arith, nat_tests)
-
     is_section4_block : (b : Block) → whole.is_section4 b ≡ true → b ≡ blocks.Section4
     is_section4_block blocks.Section4 h = refl
     is_section4_block _ h = absurd cc
@@ -73,11 +65,9 @@ module _ (document : List Part) (small : length document < 2 ^ 64) where
         let same : whole.pairs_at document index b pairs ≡ pairs = rw h refl in
         let none : is_section4_start (Start b) ≡ false = is_section4_start-other b (unlike b h) in (
           subst (λ (p : Pairs). KnowsPairs document (index + 1) p) (sym same)
-              (KnowsPairs-more document index pairs (λ e. let start : b ≡ blocks.Section4 = same_block b (sym here ∙ e) in unlike b h start) knows),
+              (KnowsPairs-more document index pairs (λ e. let start : b ≡ blocks.Section4 = cc in unlike b h start) knows),
           rw h refl,
-        ) where
-          same_block : (b : Block) → Some (Start b) ≡ Some (Start blocks.Section4) → b ≡ blocks.Section4
-          same_block b e = cc
+        )
 
     at : (b : Block) → slice_get document index ≡ Some (Start b) → (whole.is_section4 b ≡ true) ⊎ (whole.is_section4 b ≡ false)
         → KnowsPairs document (index + 1) (whole.pairs_at document index b pairs) × (whole.is_adjacent b (whole.pairs_at document index b pairs) ≡ (is_section4_start (Start b) && skips_pair document index))
@@ -97,13 +87,13 @@ module _ (document : List Part) (small : length document < 2 ^ 64) where
       section4 (inl l) =
           let is : whole.pairs_at document index b pairs ≡ record { end = whole.section4_end document index; has_pair = whole.has_empty_block document (whole.section4_end document index) } = rw (h, l) refl in
           let known : IsLookedAt document index pairs (whole.pairs_at document index b pairs) b same here knows =
-          looked-found document index pairs (whole.pairs_at document index b pairs) b same here knows (whole.section4_end document index) (less pairs.end index l) (section4_end_is document index)
+          looked-found document index pairs (whole.pairs_at document index b pairs) b same here knows (whole.section4_end document index) (grind (arith, nat_tests)) (section4_end_is document index)
           (ap (λ (p : Pairs). p.end) is) (ap (λ (p : Pairs). p.has_pair) is ∙ empty_block_is document (whole.section4_end document index) small) in
           (known.1, adjacent (whole.pairs_at document index b pairs) ∙ known.0)
       section4 (inr l) =
           let is : whole.pairs_at document index b pairs ≡ pairs = rw (h, l) refl in
           let known : IsLookedAt document index pairs (whole.pairs_at document index b pairs) b same here knows =
-          looked-shared document index pairs (whole.pairs_at document index b pairs) b same here knows (more_than pairs.end index l) is in
+          looked-shared document index pairs (whole.pairs_at document index b pairs) b same here knows (grind (arith, nat_tests)) is in
           (known.1, adjacent (whole.pairs_at document index b pairs) ∙ known.0)
 
   pub skips_is : (index : ℕ) (b : Block) (pairs : Pairs) → KnowsPairs document (index + 1) pairs → HasMarkAt document index b → whole.skips pairs index b ≡ is_skipped document index
@@ -126,15 +116,7 @@ module _ (document : List Part) (small : length document < 2 ^ 64) where
     unlike h e = let yes : whole.is_block b ≡ true = ap whole.is_block e in let no : true ≡ false = sym yes ∙ h in cc
 
     within : (p : Bool) (a c : ℕ) → IsTrue (p && (nat_lt a c && nat_le (c - a) 2)) ↔ (p ≡ true) × (a < c) × (c ≤ a + 2)
-    within true a c = ((λ h. (refl, first a c h, second a c h)), (λ h. both a c h.1 h.2)) where
-      first : (a c : ℕ) → (nat_lt a c && nat_le (c - a) 2) ≡ true → a < c
-      first a c h = grind (arith, nat_tests)
-
-      second : (a c : ℕ) → (nat_lt a c && nat_le (c - a) 2) ≡ true → c ≤ a + 2
-      second a c h = grind (arith, nat_tests)
-
-      both : (a c : ℕ) → a < c → c ≤ a + 2 → (nat_lt a c && nat_le (c - a) 2) ≡ true
-      both a c l m = grind (arith, nat_tests)
+    within true a c = ((λ h. (refl, grind (arith, nat_tests), grind (arith, nat_tests))), (λ h. grind (arith, nat_tests)))
     within false a c = ((λ h. absurd cc), (λ h. absurd (let no : false ≡ true = h.0 in cc)))
 
     block_is : whole.is_block b ≡ true → whole.skips pairs index b ≡ (pairs.has_pair && (nat_lt pairs.end index && nat_le (index - pairs.end) 2))
