@@ -75,7 +75,7 @@ kept (suc more) (Start b) parts =
         next : suc (suc more) ≡ suc more + 1
         next = omega arith
       at false = refl
-kept zero (End b) parts = elim (is_inline b) as (λ (c : Bool). false ≡ stays_hidden (if c then 0 else 0) parts) [ true ↦ refl | false ↦ refl ]
+kept zero (End b) parts = grind arith
 kept (suc more) (End b) parts = rw (end_is b) (or-false (nat_le (if is_inline b then ended parts + 1 else ended parts) more) ∙ at (is_inline b)) where
   gone : (more : ℕ) → nat_le (ended parts + 1) more ≡ stays_hidden more parts
   gone zero = none (ended parts) where

@@ -179,7 +179,7 @@ pub shift_at-shown : (document : List Part) (j : ℕ) (part : Part) → is_skipp
 shift_at-shown document j part e = rw e refl
 
 pub shift_at-text : (document : List Part) (j : ℕ) (bytes : List ℕ) (style : Style) → shift_at document j (Text bytes style) ≡ Level
-shift_at-text document j bytes style = elim (is_skipped document j) as (λ (b : Bool). (if b then Level else Level) ≡ Level) [ true ↦ refl | false ↦ refl ]
+shift_at-text document j bytes style = grind arith
 
 -- a block end never raises the margin, skipped or not
 pub margin-end : (document : List Part) (j : ℕ) (b : Block) (rest : List Part) → drop j document ≡ End b ∷ rest → margin document j ≤ top (stack_at document j)

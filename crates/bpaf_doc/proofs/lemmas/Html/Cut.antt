@@ -1,5 +1,5 @@
 -- The snippets that make up a page.
-use Rattle.std.proofs.Common.{◌≡◌, ℕ, Bool, true, false, List, [], ◌∷◌, ◌++◌, map, refl, sym, ap, ◌∙◌, append_assoc, append-nil}
+use Rattle.std.proofs.Common.{◌≡◌, ℕ, Bool, true, false, List, [], ◌∷◌, ◌++◌, map, refl, sym, ap, ◌∙◌, append_assoc, append-nil, arith}
 use Rattle.std.specs.Prelude.{flat_map, filter, reverse, codes, if◌then◌else◌}
 use Rattle.std.proofs.lemmas.List.Concat.{flat_map-append}
 use Rattle.std.proofs.lemmas.List.Elements.{filter-append}
@@ -58,7 +58,7 @@ start-spelled p blocks.Header =
       | true ↦ refl
       | false ↦ append_assoc p.bytes (codes "<br>\n") (codes "# ")
     ]
-start-spelled p blocks.ItemBody = elim (p.in_list) as (λ l. (page_after (record p { in_list = l }) (Start blocks.ItemBody)).bytes ≡ p.bytes ++ spelled (start_snippets p.fresh l blocks.ItemBody)) [ true ↦ refl | false ↦ refl ]
+start-spelled p blocks.ItemBody = grind arith
 start-spelled p _ = refl
 
 end-spelled : (p : Written) (b : Block) → (page_after p (End b)).bytes ≡ p.bytes ++ spelled (end_snippets p.fresh (first_or_false p.outer) b)
@@ -67,7 +67,7 @@ end-spelled p blocks.Header =
       | true ↦ refl
       | false ↦ append-nil (p.bytes ++ codes "<br>\n")
     ]
-end-spelled p blocks.ItemBody = elim (first_or_false p.outer) as (λ l. p.bytes ++ end_tag blocks.ItemBody l ≡ p.bytes ++ spelled (end_snippets p.fresh l blocks.ItemBody)) [ true ↦ refl | false ↦ refl ]
+end-spelled p blocks.ItemBody = grind arith
 end-spelled p _ = refl
 
 step-spelled : (p : Written) (f : Fragment) → (page_after p f).bytes ≡ p.bytes ++ spelled (snippets_of p f)
@@ -107,11 +107,11 @@ step-fragments p (Shown style Paragraph) = refl
 step-fragments p (Shown style LineBreak) = refl
 step-fragments p (TextEnd styles.Text) = refl
 step-fragments p Hidden = refl
-step-fragments p (Start blocks.Header) = elim (p.fresh) as (λ f. fragments_in (start_snippets f p.in_list blocks.Header) ≡ Start blocks.Header ∷ []) [ true ↦ refl | false ↦ refl ]
-step-fragments p (Start blocks.ItemBody) = elim (p.in_list) as (λ l. fragments_in (start_snippets p.fresh l blocks.ItemBody) ≡ Start blocks.ItemBody ∷ []) [ true ↦ refl | false ↦ refl ]
+step-fragments p (Start blocks.Header) = grind arith
+step-fragments p (Start blocks.ItemBody) = grind arith
 step-fragments p (Start _) = refl
-step-fragments p (End blocks.Header) = elim (p.fresh) as (λ f. fragments_in (end_snippets f (first_or_false p.outer) blocks.Header) ≡ End blocks.Header ∷ []) [ true ↦ refl | false ↦ refl ]
-step-fragments p (End blocks.ItemBody) = elim (first_or_false p.outer) as (λ l. fragments_in (end_snippets p.fresh l blocks.ItemBody) ≡ End blocks.ItemBody ∷ []) [ true ↦ refl | false ↦ refl ]
+step-fragments p (End blocks.Header) = grind arith
+step-fragments p (End blocks.ItemBody) = grind arith
 step-fragments p (End _) = refl
 step-fragments p (TextStart _) = refl
 step-fragments p (TextEnd _) = refl
@@ -130,11 +130,11 @@ step-styles p (Shown style Paragraph) = refl
 step-styles p (Shown style LineBreak) = refl
 step-styles p (TextEnd styles.Text) = refl
 step-styles p Hidden = refl
-step-styles p (Start blocks.Header) = elim (p.fresh) as (λ f. filter is_style_tag_or_fragment (start_snippets f p.in_list blocks.Header) ≡ Of (Start blocks.Header) ∷ []) [ true ↦ refl | false ↦ refl ]
-step-styles p (Start blocks.ItemBody) = elim (p.in_list) as (λ l. filter is_style_tag_or_fragment (start_snippets p.fresh l blocks.ItemBody) ≡ Of (Start blocks.ItemBody) ∷ []) [ true ↦ refl | false ↦ refl ]
+step-styles p (Start blocks.Header) = grind arith
+step-styles p (Start blocks.ItemBody) = grind arith
 step-styles p (Start _) = refl
-step-styles p (End blocks.Header) = elim (p.fresh) as (λ f. filter is_style_tag_or_fragment (end_snippets f (first_or_false p.outer) blocks.Header) ≡ Of (End blocks.Header) ∷ []) [ true ↦ refl | false ↦ refl ]
-step-styles p (End blocks.ItemBody) = elim (first_or_false p.outer) as (λ l. filter is_style_tag_or_fragment (end_snippets p.fresh l blocks.ItemBody) ≡ Of (End blocks.ItemBody) ∷ []) [ true ↦ refl | false ↦ refl ]
+step-styles p (End blocks.Header) = grind arith
+step-styles p (End blocks.ItemBody) = grind arith
 step-styles p (End _) = refl
 step-styles p (TextStart _) = refl
 step-styles p (TextEnd _) = refl

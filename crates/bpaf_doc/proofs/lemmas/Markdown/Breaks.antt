@@ -1,5 +1,5 @@
 -- Nothing stands between the words of a markdown text, and breaks stand where they were asked for.
-use Rattle.std.proofs.Common.{◌≡◌, ℕ, Bool, true, false, List, [], ◌∷◌, ◌++◌, refl, sym, ap, ◌∙◌, append_assoc}
+use Rattle.std.proofs.Common.{◌≡◌, ℕ, Bool, true, false, List, [], ◌∷◌, ◌++◌, refl, sym, ap, ◌∙◌, append_assoc, arith}
 use Rattle.std.specs.Prelude.{not, ◌&&◌, ◌||◌, ◌==◌, if◌then◌else◌, IsTrue}
 use Rattle.std.specs.List.{list_any}
 use Rattle.std.proofs.lemmas.Bool.{false≢true, and_parts, and_from, not-true, or_right}
@@ -281,7 +281,7 @@ raw_followed p style bytes weight =
 
 own_followed : (p : Marked) (f : Fragment) → all_followed (own_snippets p f) ≡ true
 own_followed p (Shown style (Raw bytes weight)) = raw_followed p style bytes weight
-own_followed p (Shown style Paragraph) = elim (p.in_list) as (λ l. all_followed (Of (Shown style Paragraph) ∷ Put Newline ∷ Put Newline ∷ (if l then blanks else [])) ≡ true) [ true ↦ refl | false ↦ refl ]
+own_followed p (Shown style Paragraph) = grind arith
 own_followed p (Shown style LineBreak) = refl
 own_followed p (TextStart style) = quiet_followed (own_snippets p (TextStart style)) (TextStart style) (own-fragments p (TextStart style)) refl
 own_followed p (TextEnd style) = quiet_followed (own_snippets p (TextEnd style)) (TextEnd style) (own-fragments p (TextEnd style)) refl

@@ -1,5 +1,5 @@
 -- The snippets that make up a markdown text, and what it keeps in mind between fragments.
-use Rattle.std.proofs.Common.{◌≡◌, ℕ, Bool, true, false, List, [], ◌∷◌, ◌++◌, map, refl, sym, ap, ◌∙◌, append_assoc, append-nil, nat_lt}
+use Rattle.std.proofs.Common.{◌≡◌, ℕ, Bool, true, false, List, [], ◌∷◌, ◌++◌, map, refl, sym, ap, ◌∙◌, append_assoc, append-nil, nat_lt, arith}
 use Rattle.std.specs.Prelude.{not, ◌&&◌, ◌==◌, flat_map, reverse, codes, if◌then◌else◌}
 use Rattle.std.proofs.Math.Bool.{and-true, and-false}
 use Rattle.bpaf_doc.specs.declared.buffer.Style.{Style}
@@ -161,16 +161,16 @@ item-flags p empty =
     ]) refl
 
 new_line-flags : (p : Marked) → flags (with_new_line p) ≡ flags p
-new_line-flags p = elim (starts_line p.bytes) as (λ b. flags (if b then p else put p (codes "\n")) ≡ flags p) [ true ↦ refl | false ↦ refl ]
+new_line-flags p = grind arith
 
 blank_line-flags : (p : Marked) → flags (with_blank_line p) ≡ flags p
-blank_line-flags p = elim (starts_paragraph p.bytes) as (λ b. flags (if b then p else put p (codes "\n\n")) ≡ flags p) [ true ↦ refl | false ↦ refl ]
+blank_line-flags p = grind arith
 
 open_code-flags : (p : Marked) → flags (open_code p) ≡ flags p
-open_code-flags p = elim (p.in_code) as (λ b. flags (if b then p else record p { bytes = p.bytes ++ codes "\n\n  ```text\n"; in_code = true }) ≡ flags p) [ true ↦ refl | false ↦ refl ]
+open_code-flags p = grind arith
 
 close_code-flags : (p : Marked) (fence : List ℕ) → flags (close_code p fence) ≡ flags p
-close_code-flags p fence = elim (p.in_code) as (λ b. flags (if b then record p { bytes = p.bytes ++ fence; in_code = false } else p) ≡ flags p) [ true ↦ refl | false ↦ refl ]
+close_code-flags p fence = grind arith
 
 raw-flags : (p : Marked) (bytes : List ℕ) (weight : ℕ) → flags (with_raw p bytes weight) ≡ flags p
 raw-flags p bytes weight =
@@ -214,10 +214,10 @@ code_next in_code (TextEnd style) = false
 code_next in_code f = in_code
 
 pub item-code : (p : Marked) (empty : Bool) → (with_item p empty).in_code ≡ p.in_code
-item-code p empty = elim (p.pending) as (λ b. (if b then record p { bytes = p.bytes ++ (if empty then codes "  " else codes "- "); pending = false; empty_item = empty } else p).in_code ≡ p.in_code) [ true ↦ refl | false ↦ refl ]
+item-code p empty = grind arith
 
 new_line-code : (p : Marked) → (with_new_line p).in_code ≡ p.in_code
-new_line-code p = elim (starts_line p.bytes) as (λ b. (if b then p else put p (codes "\n")).in_code ≡ p.in_code) [ true ↦ refl | false ↦ refl ]
+new_line-code p = grind arith
 
 pub close-code : (p : Marked) (fence : List ℕ) → (close_code p fence).in_code ≡ false
 close-code p fence = (elim (p.in_code) as (λ b. p.in_code ≡ b → (if b then record p { bytes = p.bytes ++ fence; in_code = false } else p).in_code ≡ false) [ true ↦ λ e. refl | false ↦ λ e. e ]) refl
@@ -239,7 +239,7 @@ own-code p (Shown style Paragraph) = refl
 own-code p (Shown style LineBreak) = refl
 own-code p (TextEnd style) = close-code p (codes "  ```\n")
 own-code p Hidden = refl
-own-code p (Start blocks.Header) = elim (starts_paragraph p.bytes) as (λ b. (if b then p else put p (codes "\n\n")).in_code ≡ p.in_code) [ true ↦ refl | false ↦ refl ]
+own-code p (Start blocks.Header) = grind arith
 own-code p (Start blocks.Section4) = new_line-code p
 own-code p (Start blocks.ItemTerm) = new_line-code p
 own-code p (Start blocks.ItemBody) =
@@ -293,7 +293,7 @@ pub marks_then : (before : List Fragment) (marks rest : List MarkdownSnippet) �
 marks_then before marks rest e = spelled-append before marks rest ∙ ap (λ fs. spelled before marks ++ spelled (before ++ fs) rest) e ∙ ap (λ fs. spelled before marks ++ spelled fs rest) (append-nil before)
 
 pub new_line_marks : (bytes : List ℕ) → fragments_in (new_line_snippets bytes) ≡ []
-new_line_marks bytes = elim (starts_line bytes) as (λ b. fragments_in (if b then [] else (Put Newline ∷ [])) ≡ []) [ true ↦ refl | false ↦ refl ]
+new_line_marks bytes = grind arith
 
 pub open_marks : (in_code : Bool) → fragments_in (open_snippets in_code) ≡ []
 open_marks true = refl
@@ -356,7 +356,7 @@ raw-spelled before p style bytes weight mono =
     ]) refl
 
 blank_line_marks : (bytes : List ℕ) → fragments_in (blank_line_snippets bytes) ≡ []
-blank_line_marks bytes = elim (starts_paragraph bytes) as (λ b. fragments_in (if b then [] else (Put Newline ∷ Put Newline ∷ [])) ≡ []) [ true ↦ refl | false ↦ refl ]
+blank_line_marks bytes = grind arith
 
 blank_line-spelled : (before : List Fragment) (p : Marked) → (with_blank_line p).bytes ≡ p.bytes ++ spelled before (blank_line_snippets p.bytes)
 blank_line-spelled before p = elim (starts_paragraph p.bytes) as (λ b. (if b then p else put p (codes "\n\n")).bytes ≡ p.bytes ++ spelled before (if b then [] else (Put Newline ∷ Put Newline ∷ []))) [
@@ -365,10 +365,7 @@ blank_line-spelled before p = elim (starts_paragraph p.bytes) as (λ b. (if b th
 ]
 
 body_dash_marks : (p : Marked) → fragments_in (body_dash p) ≡ []
-body_dash_marks p = elim (p.in_list) as (λ l. fragments_in (if l then (if p.empty_item then (Put Blank ∷ []) else (Put LongDash ∷ [])) else []) ≡ []) [
-  | true ↦ elim (p.empty_item) as (λ t. fragments_in (if t then (Put Blank ∷ []) else (Put LongDash ∷ [])) ≡ []) [ true ↦ refl | false ↦ refl ]
-  | false ↦ refl
-]
+body_dash_marks p = grind arith
 
 body_dash-spelled : (before : List Fragment) (p : Marked) → body_bytes p ≡ p.bytes ++ spelled before (body_dash p)
 body_dash-spelled before p =
@@ -407,7 +404,7 @@ start-spelled before p blocks.Block = refl
 start-spelled before p _ = sym (append-nil p.bytes)
 
 end-spelled : (before : List Fragment) (p : Marked) (b : Block) → (own_after p (End b)).bytes ≡ p.bytes ++ spelled before (end_snippets p b)
-end-spelled before p blocks.ItemBody = elim (p.in_list) as (λ l. p.bytes ++ (if l then codes "\n" else []) ≡ p.bytes ++ spelled before (Of (End blocks.ItemBody) ∷ (if l then (Put Newline ∷ []) else []))) [ true ↦ refl | false ↦ refl ]
+end-spelled before p blocks.ItemBody = grind arith
 end-spelled before p blocks.ItemTerm = sym (append-nil p.bytes)
 end-spelled before p blocks.InlineBlock = sym (append-nil p.bytes)
 end-spelled before p blocks.TermRef = sym (append-nil p.bytes)
@@ -433,7 +430,7 @@ text_end-spelled before p style =
 own-spelled : (before : List Fragment) (p : Marked) (f : Fragment) → SameMono before p → (own_after p f).bytes ≡ p.bytes ++ spelled before (own_snippets p f)
 own-spelled before p (TextStart styles.Text) mono = refl
 own-spelled before p (Shown style (Raw bytes weight)) mono = raw-spelled before p style bytes weight mono
-own-spelled before p (Shown style Paragraph) mono = elim (p.in_list) as (λ l. p.bytes ++ (if l then codes "\n\n  " else codes "\n\n") ≡ p.bytes ++ spelled before (Of (Shown style Paragraph) ∷ Put Newline ∷ Put Newline ∷ (if l then blanks else []))) [ true ↦ refl | false ↦ refl ]
+own-spelled before p (Shown style Paragraph) mono = grind arith
 own-spelled before p (Shown style LineBreak) mono = refl
 own-spelled before p (TextEnd style) mono = text_end-spelled before p style
 own-spelled before p Hidden mono = sym (append-nil p.bytes)

@@ -135,24 +135,10 @@ plain_fences q (Of f ∷ ss) h =
     one_fences q f ss q (plain_stands q f parts.0) (plain_fences q ss parts.1)
 
 start_plain : (p : Marked) (b : Block) → list_all is_plain (start_snippets p b) ≡ true
-start_plain p blocks.Header =
-    elim (starts_paragraph p.bytes) as (λ b. list_all is_plain (Of (Start blocks.Header) ∷ ((if b then [] else (Put Newline ∷ Put Newline ∷ [])) ++ Put (if p.headed then SecondHeading else Heading) ∷ [])) ≡ true) [
-      | true ↦ elim (p.headed) as (λ h. list_all is_plain (Of (Start blocks.Header) ∷ Put (if h then SecondHeading else Heading) ∷ []) ≡ true) [ true ↦ refl | false ↦ refl ]
-      | false ↦ elim (p.headed) as (λ h. list_all is_plain (Of (Start blocks.Header) ∷ Put Newline ∷ Put Newline ∷ Put (if h then SecondHeading else Heading) ∷ []) ≡ true) [ true ↦ refl | false ↦ refl ]
-    ]
-start_plain p blocks.Section4 = elim (starts_line p.bytes) as (λ b. list_all is_plain (Of (Start blocks.Section4) ∷ (if b then [] else (Put Newline ∷ []))) ≡ true) [ true ↦ refl | false ↦ refl ]
-start_plain p blocks.ItemTerm = elim (starts_line p.bytes) as (λ b. list_all is_plain (Of (Start blocks.ItemTerm) ∷ (if b then [] else (Put Newline ∷ []))) ≡ true) [ true ↦ refl | false ↦ refl ]
-start_plain p blocks.ItemBody =
-    elim (starts_line (body_bytes p)) as (λ b. list_all is_plain (Of (Start blocks.ItemBody) ∷ (body_dash p ++ ((if b then [] else (Put Newline ∷ [])) ++ blanks))) ≡ true) [
-      | true ↦ elim (p.in_list) as (λ l. list_all is_plain (Of (Start blocks.ItemBody) ∷ ((if l then (if p.empty_item then (Put Blank ∷ []) else (Put LongDash ∷ [])) else []) ++ ([] ++ blanks))) ≡ true) [
-        | true ↦ elim (p.empty_item) as (λ t. list_all is_plain (Of (Start blocks.ItemBody) ∷ ((if t then (Put Blank ∷ []) else (Put LongDash ∷ [])) ++ ([] ++ blanks))) ≡ true) [ true ↦ refl | false ↦ refl ]
-        | false ↦ refl
-      ]
-      | false ↦ elim (p.in_list) as (λ l. list_all is_plain (Of (Start blocks.ItemBody) ∷ ((if l then (if p.empty_item then (Put Blank ∷ []) else (Put LongDash ∷ [])) else []) ++ ((Put Newline ∷ []) ++ blanks))) ≡ true) [
-        | true ↦ elim (p.empty_item) as (λ t. list_all is_plain (Of (Start blocks.ItemBody) ∷ ((if t then (Put Blank ∷ []) else (Put LongDash ∷ [])) ++ ((Put Newline ∷ []) ++ blanks))) ≡ true) [ true ↦ refl | false ↦ refl ]
-        | false ↦ refl
-      ]
-    ]
+start_plain p blocks.Header = grind arith
+start_plain p blocks.Section4 = grind arith
+start_plain p blocks.ItemTerm = grind arith
+start_plain p blocks.ItemBody = grind arith
 start_plain p _ = refl
 
 own_fences : (p : Marked) (f : Fragment) → Fences p.in_code (own_snippets p f) (code_next p.in_code f)
@@ -178,7 +164,7 @@ own_fences p (End blocks.ItemBody) =
 own_fences p (End b) = plain_fences p.in_code (own_snippets p (End b)) (end_plain b)
   where
     end_plain : (b : Block) → list_all is_plain (own_snippets p (End b)) ≡ true
-    end_plain blocks.ItemBody = elim (p.in_list) as (λ l. list_all is_plain (Of (End blocks.ItemBody) ∷ (if l then (Put Newline ∷ []) else [])) ≡ true) [ true ↦ refl | false ↦ refl ]
+    end_plain blocks.ItemBody = grind arith
     end_plain _ = refl
 
 step_fences : (p : Marked) (f : Fragment) → Fences p.in_code (snippets_of p f) (marked_after p f).in_code

@@ -25,7 +25,7 @@ abbrev spelled : ℕ → ℕ → List ℕ → List ℕ
 spelled ends starts text = if nat_lt ends starts then flat_map escaped_character text else text
 
 spelled_nothing : (ends starts : ℕ) → spelled ends starts [] ≡ []
-spelled_nothing ends starts = elim (nat_lt ends starts) as (λ (b : Bool). (if b then flat_map escaped_character [] else []) ≡ []) [ true ↦ refl | false ↦ refl ]
+spelled_nothing ends starts = grind arith
 
 spelled_on : (ends starts : ℕ) (a b : List ℕ) → spelled ends starts a ++ spelled ends starts b ≡ spelled ends starts (a ++ b)
 spelled_on ends starts a b = by (nat_lt ends starts) where

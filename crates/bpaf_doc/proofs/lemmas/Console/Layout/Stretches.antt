@@ -217,8 +217,8 @@ shown_line e u l (inr s) = subst IsLine (sym s) (trim_line e.bytes u l)
 
 event_line : (event : Event) → IsLine (event_bytes event)
 event_line (Shows k chunk) = refl
-event_line (Opens b) = elim (is_term_ref b) as (λ (t : Bool). IsLine (if t then 96 ∷ [] else [])) [ true ↦ refl | false ↦ refl ]
-event_line (Closes b) = elim (is_term_ref b) as (λ (t : Bool). IsLine (if t then 96 ∷ [] else [])) [ true ↦ refl | false ↦ refl ]
+event_line (Opens b) = grind arith
+event_line (Closes b) = grind arith
 
 ends_in : (r : List Stretch) (x : Stretch) (front : List ℕ) → has_some (stretch_bytes x) ≡ true → text_back (x ∷ r) ≡ front ++ 10 ∷ [] → (back : List ℕ) × (stretch_bytes x ≡ back ++ 10 ∷ [])
 ends_in r x front s e =

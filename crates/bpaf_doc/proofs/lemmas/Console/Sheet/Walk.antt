@@ -114,7 +114,7 @@ none_hidden full hidden part h t = ap (λ (b : Bool). hidden_after b hidden part
   at : (part : Part) → hidden_after true 0 part ≡ 0
   at (Text bytes style) = refl
   at (Start b) = refl
-  at (End b) = elim (is_inline b) as (λ (c : Bool). (if c then 0 - 1 else 0) ≡ 0) [ true ↦ refl | false ↦ refl ]
+  at (End b) = grind arith
 
 -- ---- a stack is low: no entry is above 30 for each entry from it down
 

@@ -58,7 +58,7 @@ same_depth (PartStart b) (suc n) = rw (not_zero n, same_inline b) (at (is_inline
   at : (i : Bool) → (if i then suc n + 1 else suc n) ≡ (if i then suc (suc n) else suc n)
   at true = omega arith
   at false = refl
-same_depth (PartEnd b) zero = elim (hiding.is_inline b) as (λ (i : Bool). (if i then 0 - 1 else 0) ≡ 0) [ true ↦ refl | false ↦ refl ]
+same_depth (PartEnd b) zero = grind arith
 same_depth (PartEnd b) (suc n) = rw (same_inline b) (elim (is_inline b) as (λ (i : Bool). (if i then suc n - 1 else suc n) ≡ (if i then n else suc n)) [ true ↦ omega arith | false ↦ refl ])
 
 depth_counts : (depth : ℕ) (done parts : List Part) → Counts depth done → Counts (depth_after_all false depth parts) (done ++ parts)
