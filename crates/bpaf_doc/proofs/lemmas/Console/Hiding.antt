@@ -39,15 +39,11 @@ stays_hidden zero parts = false
 stays_hidden (suc more) parts = nat_le (ended parts) more
 
 or_assoc : (a b c : Bool) → (a || (b || c)) ≡ ((a || b) || c)
-or_assoc true b c = refl
-or_assoc false b c = refl
+or_assoc a b c = grind arith
 
 -- what holds anyway
 absorbed : (a b c : Bool) → (c ≡ true → a ≡ true) → (a || (b && c)) ≡ a
-absorbed true b c h = refl
-absorbed false true true h = sym (h refl)
-absorbed false true false h = refl
-absorbed false false c h = refl
+absorbed a b c h = grind arith
 
 pub not_zero : (more : ℕ) → (suc more == 0) ≡ false
 not_zero more = grind (arith, nat_tests)

@@ -90,12 +90,10 @@ top_after (Outdent ∷ ss) stack = top_after ss (popped stack) ∙ ap (λ m. m +
   at : (t i : ℕ) → get_or stack (suc t) 0 + i ≡ get_or stack (t + 1) 0 + ((if stays_open is_indent is_outdent ss then 0 else 0) + i)
   at t i = rw (add-one t) (ap (λ m. get_or stack (suc t) 0 + m) (same (stays_open is_indent is_outdent ss) i)) where
     same : (b : Bool) (i : ℕ) → i ≡ (if b then 0 else 0) + i
-    same true i = omega arith
-    same false i = omega arith
+    same b i = grind arith
 top_after (Level ∷ ss) stack = top_after ss stack ∙ ap (λ m. get_or stack (taken ss) 0 + m) (same (stays_open is_indent is_outdent ss) (indents_in_force ss)) where
   same : (b : Bool) (i : ℕ) → i ≡ (if b then 0 else 0) + i
-  same true i = omega arith
-  same false i = omega arith
+  same b i = grind arith
 
 -- from an empty stack on it is the sum of the indents in force
 pub top-stack_after : (ss : List Shift) → top (stack_after ss []) ≡ indents_in_force ss
@@ -200,8 +198,7 @@ greatest_le most (n ∷ ns) a l = at (nat_le n most) refl (λ k m. greatest_le m
 
   at : (b : Bool) → nat_le n most ≡ b → ((k : ℕ) → k ≤ most → fold max k (filter (λ n. nat_le n most) ns) ≤ most)
       → fold max a (if b then n ∷ filter (λ n. nat_le n most) ns else filter (λ n. nat_le n most) ns) ≤ most
-  at true e more = more (max a n) (both a n most l e)
-  at false e more = more a l
+  at b e more = grind arith
 
 pub tab_stop-le : (document : List Part) → tab_stop document ≤ 28
 tab_stop-le document = let l : greatest (filter (λ n. nat_le n 24) (term_lengths document)) ≤ 24 = greatest_le 24 (term_lengths document) 0 (omega arith) in omega arith
@@ -232,8 +229,7 @@ in_force-le document (suc j) k (part ∷ parts) = at (shift_at document k part) 
   others = take j (map (λ (i, part). shift_at document i part) (enumerate_from (k + 1) parts))
 
   at : (s : Shift) → indent s ≤ 30 → (b : Bool) → indents_in_force others ≤ 30 * j → (if b then indent s else 0) + indents_in_force others ≤ 30 * suc j
-  at s l true m = omega arith
-  at s l false m = omega arith
+  at s l b m = grind arith
 
 pub margin-le : (document : List Part) (j : ℕ) → margin document j ≤ 30 * (j + 1)
 margin-le document j = in_force-le document (j + 1) 0 document

@@ -51,8 +51,7 @@ position-drop p (suc m) [] l = absurd (omega arith)
 position-drop p (suc m) (x ∷ xs) l = at (p x) l (λ l. position-drop p m xs l) where
   at : (b : Bool) → suc m ≤ cond (not b) (1 + position_or_len p xs) 0 → (m ≤ position_or_len p xs → m + position_or_len p (drop m xs) ≡ position_or_len p xs)
       → suc m + position_or_len p (drop m xs) ≡ cond (not b) (1 + position_or_len p xs) 0
-  at true l more = absurd (omega arith)
-  at false l more = let e : m + position_or_len p (drop m xs) ≡ position_or_len p xs = more (omega arith) in omega arith
+  at b l more = grind arith
 
 -- what stands at the first place that passes
 position_passes : {A : Type 0} (p : A → Bool) (xs : List A) (x : A) → slice_get xs (position_or_len p xs) ≡ Some x → p x ≡ true
@@ -143,12 +142,10 @@ module _ (f : ℕ → Part → Bool) where
       let same : p ≡ part = cc in
       at (f k p) (ap (λ q. f k q) same ∙ ap (λ n. f n part) (sym (add-zero k)) ∙ h) where
         at : (b : Bool) → b ≡ true → (b || list_any (λ (i, part). f i part) (enumerate_from (k + 1) ps)) ≡ true
-        at true e = refl
-        at false e = absurd cc
+        at b e = grind arith
   any_from (p ∷ ps) k (suc i) part here h = at (f k p) (any_from ps (k + 1) i part here (ap (λ n. f n part) (omega arith) ∙ h)) where
     at : (b : Bool) → list_any (λ (i, part). f i part) (enumerate_from (k + 1) ps) ≡ true → (b || list_any (λ (i, part). f i part) (enumerate_from (k + 1) ps)) ≡ true
-    at true e = refl
-    at false e = e
+    at b e = grind arith
 
 abbrev skips : List Part → ℕ → ℕ → Part → Bool
 skips document k i part = (is_section4_start part && skips_pair document i) && ((k == after_section4 document i) || (k == after_section4 document i + 1))

@@ -41,8 +41,7 @@ module _ (width tab_stop : ℕ) (margins : List ℕ) (small : width ≤ 18446744
       ap (λ b. if length out == 0 then at out column else if b then wrapped (at out column) else at out column) (fits out column n h) ∙ same (length out == 0)
     where
       same : (b : Bool) → (if b then at out column else at out column) ≡ at out column
-      same true = refl
-      same false = refl
+      same b = grind arith
 
   word_placed : (out raw : List ℕ) (column weight : ℕ) → margin_of (at out column) ≤ column → column + weight ≤ width
       → placed raw weight (at out column) ≡ at (out ++ raw) (column + weight)

@@ -65,9 +65,7 @@ first_columns-push (p ∷ ps) part =
     first_columns-cons p (ps ++ part ∷ []) ∙ at (is_term_end p) (list_any is_term_end ps) (text_columns p) (text_columns part) (first_columns ps) (first_columns (ps ++ part ∷ [])) (first_columns-push ps part)
     ∙ ap (λ n. n + (if is_term_end p || list_any is_term_end ps then 0 else text_columns part)) (sym (first_columns-cons p ps)) where
       at : (b c : Bool) (m n s t : ℕ) → t ≡ s + (if c then 0 else n) → (if b then 0 else m + t) ≡ (if b then 0 else m + s) + (if b || c then 0 else n)
-      at true c m n s t e = refl
-      at false true m n s t e = omega arith
-      at false false m n s t e = omega arith
+      at b c m n s t e = grind arith
 
 -- a term has started and not ended
 abbrev is_in_term : List Part → Bool
@@ -89,8 +87,7 @@ is_in_term-push before part =
       at false false e = refl
       at true false e = ap not e ∙ both (list_any is_term_end (after_last is_term_start before)) (is_term_end part) where
         both : (b c : Bool) → not (b || c) ≡ (not b && not c)
-        both true c = refl
-        both false c = refl
+        both b c = grind arith
 
 term_length-push : (before : List Part) (part : Part)
     → term_length (before ++ part ∷ []) ≡ (if is_term_start part then 0 else term_length before + (if is_in_term before then text_columns part else 0))
@@ -106,8 +103,7 @@ term_length-push before part =
       at false false e = refl
       at true false e = e ∙ ap (λ n. first_columns (after_last is_term_start before) + n) (turn (list_any is_term_end (after_last is_term_start before)) (text_columns part)) where
         turn : (b : Bool) (n : ℕ) → (if b then 0 else n) ≡ (if not b then n else 0)
-        turn true n = refl
-        turn false n = refl
+        turn b n = grind arith
 
 -- ---- all parts
 
@@ -146,22 +142,16 @@ quiet document before rest part widest s e n same more =
     (ap sat (sym (term_length-push before part ∙ same_length (is_term_start part) (is_in_term before) (text_columns part) (term_length before) s n)))
     same more where
       same_term : (s e t : Bool) → s ≡ false → e ≡ false → (if s then true else t && not e) ≡ t
-      same_term false false true h i = refl
-      same_term false false false h i = refl
-      same_term false true t h i = absurd cc
-      same_term true e t h i = absurd cc
+      same_term s e t h i = grind arith
 
       same_length : (s t : Bool) (n l : ℕ) → s ≡ false → n ≡ 0 → (if s then 0 else l + (if t then n else 0)) ≡ l
-      same_length true t n l h i = absurd cc
-      same_length false true n l h i = omega arith
-      same_length false false n l h i = omega arith
+      same_length s t n l h i = grind arith
 
 -- what a length does to the widest, as it is and with all its columns
 counted : (widest n : ℕ) (ns : List ℕ) → fold max (wider widest (sat n)) (filter (λ n. nat_le n 24) ns) ≡ fold max widest (filter (λ n. nat_le n 24) (n ∷ ns))
 counted widest n ns = ap (λ (m : ℕ). fold max m (filter (λ n. nat_le n 24) ns)) (grind (arith, nat_tests)) ∙ at (nat_le n 24) where
   at : (b : Bool) → fold max (if b then max widest n else widest) (filter (λ n. nat_le n 24) ns) ≡ fold max widest (if b then n ∷ filter (λ n. nat_le n 24) ns else filter (λ n. nat_le n 24) ns)
-  at true = refl
-  at false = refl
+  at b = grind arith
 
 walk : (document before rest : List Part) (widest : ℕ) → document ≡ before ++ rest
     → widest_from widest (is_in_term before) (sat (term_length before)) rest ≡ widest_of document before rest widest
@@ -172,8 +162,7 @@ walk document before (Text bytes style ∷ rest) widest e =
     (at (is_in_term before) (term_length before) (columns bytes) ∙ ap sat (sym (term_length-push before (Text bytes style))))
     e (λ same. walk document (before ++ Text bytes style ∷ []) rest widest same) where
       at : (b : Bool) (l n : ℕ) → (if b then sat (sat l + n) else sat l) ≡ sat (l + (if b then n else 0))
-      at true l n = sat_more l n
-      at false l n = ap sat (sym (add-zero l))
+      at b l n = grind arith
 walk document before (Start blocks.ItemTerm ∷ rest) widest e =
     passed document before rest (Start blocks.ItemTerm) widest true 0 (sym (is_in_term-push before (Start blocks.ItemTerm))) (ap sat (sym (term_length-push before (Start blocks.ItemTerm))))
     e (λ same. walk document (before ++ Start blocks.ItemTerm ∷ []) rest widest same)
@@ -187,8 +176,7 @@ walk document before (End blocks.ItemTerm ∷ rest) widest e =
     (sym (ap term_length (ap (take (length before)) e ∙ take_at before (End blocks.ItemTerm ∷ rest) (length before) refl)))
     ∙ counted widest (term_length (take (length before) document)) (lengths_from document (length before + 1) rest) where
       same_length : (b : Bool) (l : ℕ) → l + (if b then 0 else 0) ≡ l
-      same_length true l = omega arith
-      same_length false l = omega arith
+      same_length b l = grind arith
 walk document before (End b ∷ rest) widest e = quiet document before rest (End b) widest refl refl refl e (λ same. walk document (before ++ End b ∷ []) rest widest same)
 
 -- from the start on it gives the tab stop

@@ -1,5 +1,5 @@
 -- A break stands where a page has to have one, and nothing stands between words.
-use Rattle.std.proofs.Common.{◌≡◌, ℕ, Bool, true, false, List, [], ◌∷◌, ◌++◌, refl, sym, ap, ◌∙◌}
+use Rattle.std.proofs.Common.{◌≡◌, ℕ, Bool, true, false, List, [], ◌∷◌, ◌++◌, refl, sym, ap, ◌∙◌, arith}
 use Rattle.std.specs.Prelude.{not, ◌&&◌, ◌||◌, if◌then◌else◌, IsTrue}
 use Rattle.std.specs.List.{list_any}
 use Rattle.std.specs.Char.{is_not_whitespace}
@@ -87,8 +87,7 @@ abbrev Rests : Since → Written → Fragment → Type 0
 Rests q p f = (well_broken q (snippets_of p f) ≡ true) × (at_rest (state_after may_come since_next q (snippets_of p f)) (page_after p f).fresh ≡ true)
 
 not_fresh : (x y : Bool) → not x ≡ true → not (x && y) ≡ true
-not_fresh true y h = absurd (false≢true h)
-not_fresh false y h = refl
+not_fresh x y h = grind arith
 
 no_ink_in_nothing : (weight : ℕ) → is_inked (Raw [] weight) ≡ false
 no_ink_in_nothing weight = ap (λ cs. has_some (filter is_not_whitespace cs)) chars-nil

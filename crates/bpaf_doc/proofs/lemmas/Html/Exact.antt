@@ -1,5 +1,5 @@
 -- The page that the code writes, one fragment after another, is the page as a function of the document, and this meets the laws.
-use Rattle.std.proofs.Common.{◌≡◌, ℕ, zero, suc, Bool, true, false, List, [], ◌∷◌, ◌++◌, ◌⊎◌, inl, inr, refl, sym, ap, ◌∙◌, append_assoc, append-nil}
+use Rattle.std.proofs.Common.{◌≡◌, ℕ, zero, suc, Bool, true, false, List, [], ◌∷◌, ◌++◌, ◌⊎◌, inl, inr, refl, sym, ap, ◌∙◌, append_assoc, append-nil, arith}
 use Rattle.std.specs.Prelude.{◌&&◌, ◌||◌, ◌==◌, reverse, flat_map, codes, if◌then◌else◌, nat_eq, length, take, ◌-◌}
 use Rattle.std.specs.List.{list_all, ends_with}
 use Rattle.std.proofs.lemmas.List.{reverse-append}
@@ -174,9 +174,7 @@ next_lists before p (Start b) h (suc n) = kept p.fresh (is_header b) n ∙ h n
   where
     kept : (fresh header : Bool) (n : ℕ)
         → nth n ((if header then (if fresh then p else with_break p) else p).in_list ∷ (if header then (if fresh then p else with_break p) else p).outer) ≡ nth n (p.in_list ∷ p.outer)
-    kept fresh false n = refl
-    kept true true n = refl
-    kept false true n = refl
+    kept fresh header n = grind arith
 next_lists before p (End b) h n = kept p.fresh (is_header b) ∙ outer_is p.outer n ∙ h (suc n)
   where
     kept : (fresh header : Bool)
@@ -230,9 +228,7 @@ step_fresh p (Shown style (Raw bytes weight)) line e = words bytes line
     words (b ∷ bs) line = ap (λ x. p.fresh && x) (sym (some (b == 60) (b == 62))) ∙ fresh_put p.bytes (flat_map escaped_character (b ∷ bs)) p.fresh e (line_is_other (flat_map escaped_character (b ∷ bs)) (words_line (b ∷ bs) line))
       where
         some : (left right : Bool) → is_empty ((if left then codes "&lt;" else (if right then codes "&gt;" else (b ∷ []))) ++ flat_map escaped_character bs) ≡ false
-        some true right = refl
-        some false true = refl
-        some false false = refl
+        some left right = grind arith
 step_fresh p (Shown style Paragraph) line e = sym (break_put p.bytes)
 step_fresh p (Shown style LineBreak) line e = sym (break_put p.bytes)
 step_fresh p (TextEnd style) line e = fresh_put p.bytes (closing_tags style) p.fresh e (closing_is_other style)

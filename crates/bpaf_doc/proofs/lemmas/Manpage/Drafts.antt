@@ -2,7 +2,7 @@
 -- page takes a document, a reader reads the document's events.
 use Rattle.std.specs.Prelude.{◌≡◌, ℕ, Bool, true, false, List, [], ◌∷◌, ◌++◌, ◌||◌, Option, Some, None, reverse, find, flat_map, if◌then◌else◌, refl}
 use Rattle.std.specs.Str.{str_to_ascii_uppercase}
-use Rattle.std.proofs.Common.{ap, ◌∙◌, sym, subst, append_assoc}
+use Rattle.std.proofs.Common.{ap, ◌∙◌, sym, subst, append_assoc, arith}
 use Rattle.std.proofs.lemmas.List.{append-nil, reverse-append}
 use Rattle.std.proofs.lemmas.List.Concat.{flat_map-append}
 use Rattle.bpaf_roff.specs.Pieces.{Piece}
@@ -69,8 +69,7 @@ strips-append : (by_page : Bool) (before : List Part) (part : Part) → strips_n
 strips-append by_page before part = ap (λ parts. start_or by_page (find is_term_mark parts)) (reverse-append before (part ∷ [])) ∙ choice (is_term_mark part) (find is_term_mark (reverse before))
   where
     choice : (x : Bool) (earlier : Option Part) → start_or by_page (if x then Some part else earlier) ≡ (if x then is_start (Some part) else start_or by_page earlier)
-    choice true earlier = refl
-    choice false earlier = refl
+    choice x earlier = grind arith
 
 -- a text, by whether it is captured
 text_by : (captures : Bool) (page : List (Piece Escape)) (by_page : Bool) (done : List Part) (script : Script) (heading text : List ℕ) (how : Style) → Holds page by_page done (record { script = script; heading = heading; captures = captures })
@@ -93,10 +92,7 @@ text_by false page by_page done script heading text how h =
     }
 
 or_choice : (x y : Bool) → (x || y) ≡ (if y then true else x)
-or_choice true true = refl
-or_choice true false = refl
-or_choice false true = refl
-or_choice false false = refl
+or_choice x y = grind arith
 
 strips_at_start : (b : Block) (strips : Bool) → strips_after_start b strips ≡ (if is_term_mark (Start b) then true else strips)
 strips_at_start block.ItemTerm strips = refl

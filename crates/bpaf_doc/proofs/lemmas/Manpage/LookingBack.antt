@@ -8,8 +8,7 @@ use Rattle.bpaf_doc.specs.Buffer.Parts.{Part}
 use Rattle.bpaf_doc.specs.Manpage.Events.{places, is_start, last_is_start, is_section_end, captured_text, captured_texts}
 
 is_start-choice : (x : Bool) (o n : Option Part) → is_start (if x then o else n) ≡ (if x then is_start o else is_start n)
-is_start-choice true o n = refl
-is_start-choice false o n = refl
+is_start-choice x o n = grind arith
 
 -- the last mark, after one more part
 pub last_is_start-append : (marks : Part → Bool) (before : List Part) (part : Part) → last_is_start marks (before ++ part ∷ []) ≡ (if marks part then is_start (Some part) else last_is_start marks before)

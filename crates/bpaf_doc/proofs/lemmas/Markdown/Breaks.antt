@@ -125,10 +125,7 @@ words_are p style bytes weight h =
     ∙ sym (append_assoc (item_snippets p.pending false) (close_snippets p.in_code) (Of f ∷ []))
 
 words_marks : (pending in_code : Bool) → fragments_in (item_snippets pending false ++ close_snippets in_code) ≡ []
-words_marks true true = refl
-words_marks true false = refl
-words_marks false true = refl
-words_marks false false = refl
+words_marks pending in_code = grind arith
 
 settles_words : (q : Beside) (p : Marked) (style : Style) (bytes : List ℕ) (weight : ℕ) → is_ordinary (Raw bytes weight) ≡ true → settled q p.in_code p.pending ≡ true → Settles q p (Shown style (Raw bytes weight))
 settles_words q p style bytes weight o h =
@@ -219,8 +216,7 @@ two_stay (Put Newline ∷ Put Newline ∷ xs) ys h = refl
 two_stay _ ys h = absurd (false≢true h)
 
 or_stays : (a b c : Bool) → (b ≡ true → c ≡ true) → (a || b) ≡ true → (a || c) ≡ true
-or_stays true b c i h = refl
-or_stays false b c i h = i h
+or_stays a b c i h = grind arith
 
 followed_stays : (f : Fragment) (xs ys : List MarkdownSnippet) → is_followed f xs ≡ true → is_followed f (xs ++ ys) ≡ true
 followed_stays f xs ys h =
@@ -307,8 +303,7 @@ line_inside (Put Newline ∷ between) after b h = refl
 line_inside _ after b h = absurd (false≢true h)
 
 then_true : (a b : Bool) → (not a || b) ≡ true → a ≡ true → b ≡ true
-then_true true b h e = h
-then_true false b h e = absurd (false≢true e)
+then_true a b h e = grind arith
 
 paragraph_between : (between after : List MarkdownSnippet) (b : Fragment) → all_followed (between ++ Of b ∷ after) ≡ true → list_any (shows is_paragraph) (fragments_in between) ≡ true
     → (front back : List MarkdownSnippet) × (between ≡ front ++ Put Newline ∷ Put Newline ∷ back)

@@ -296,16 +296,13 @@ pub new_line_marks : (bytes : List ℕ) → fragments_in (new_line_snippets byte
 new_line_marks bytes = grind arith
 
 pub open_marks : (in_code : Bool) → fragments_in (open_snippets in_code) ≡ []
-open_marks true = refl
-open_marks false = refl
+open_marks in_code = grind arith
 
 pub close_marks : (in_code : Bool) → fragments_in (close_snippets in_code) ≡ []
-close_marks true = refl
-close_marks false = refl
+close_marks in_code = grind arith
 
 end_code_marks : (in_code : Bool) → fragments_in (end_code_snippets in_code) ≡ []
-end_code_marks true = refl
-end_code_marks false = refl
+end_code_marks in_code = grind arith
 
 pub open-spelled : (before : List Fragment) (p : Marked) → (open_code p).bytes ≡ p.bytes ++ spelled before (open_snippets p.in_code)
 open-spelled before p = elim (p.in_code) as (λ b. (if b then p else record p { bytes = p.bytes ++ codes "\n\n  ```text\n"; in_code = true }).bytes ≡ p.bytes ++ spelled before (open_snippets b)) [
@@ -385,8 +382,7 @@ start-spelled before p blocks.Header =
     ∙ ap (λ x. p.bytes ++ x) (sym (marks_then next line mark (blank_line_marks p.bytes)))
   where
     heading : (next : List Fragment) (headed : Bool) → (if headed then codes "## " else codes "# ") ≡ spelled next (Put (if headed then SecondHeading else Heading) ∷ [])
-    heading next true = refl
-    heading next false = refl
+    heading next headed = grind arith
 start-spelled before p blocks.Section3 = refl
 start-spelled before p blocks.Section4 = new_line-spelled (before ++ Start blocks.Section4 ∷ []) p
 start-spelled before p blocks.ItemTerm = new_line-spelled (before ++ Start blocks.ItemTerm ∷ []) p
@@ -445,9 +441,7 @@ item-spelled before p empty = elim (p.pending) as (λ b. (if b then record p { b
 ]
 
 pub item_marks : (pending empty : Bool) → fragments_in (item_snippets pending empty) ≡ []
-item_marks true true = refl
-item_marks true false = refl
-item_marks false empty = refl
+item_marks pending empty = grind arith
 
 pub step-spelled : (before : List Fragment) (p : Marked) (f : Fragment) → SameMono before p → (marked_after p f).bytes ≡ p.bytes ++ spelled before (snippets_of p f)
 step-spelled before p f mono =

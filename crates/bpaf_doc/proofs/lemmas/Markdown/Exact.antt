@@ -1,5 +1,5 @@
 -- The text that the code writes, one fragment after another, is the text as a function of the document, and this meets the laws.
-use Rattle.std.proofs.Common.{◌≡◌, ℕ, ◌^◌, ◌<◌, Bool, true, false, cond, List, [], ◌∷◌, ◌++◌, length, refl, sym, ap, ◌∙◌, append_assoc, append-nil, nat_lt}
+use Rattle.std.proofs.Common.{◌≡◌, ℕ, ◌^◌, ◌<◌, Bool, true, false, cond, List, [], ◌∷◌, ◌++◌, length, refl, sym, ap, ◌∙◌, append_assoc, append-nil, nat_lt, arith}
 use Rattle.std.specs.Prelude.{not, ◌&&◌, ◌||◌, ◌==◌, filter, reverse, flat_map, if◌then◌else◌, codes}
 use Rattle.std.specs.List.{list_any}
 use Rattle.std.proofs.lemmas.List.{reverse-append}
@@ -33,16 +33,7 @@ raw_decides style bytes weight back = by (weight == code_weight) (weight == fenc
   where
     by : (code fence : Bool) → (weight == code_weight) ≡ code → (weight == fence_weight) ≡ fence
         → begins_with_code_line (filter decides_code (Shown style (Raw bytes weight) ∷ back)) ≡ code_next (begins_with_code_line (filter decides_code back)) (Shown style (Raw bytes weight))
-    by true true c f = absurd (not_both weight c f)
-    by true false c f =
-        ap (λ x. decided (Shown style (Raw bytes weight)) back x (weight == fence_weight)) c ∙ c
-        ∙ sym (ap (λ x. next (begins_with_code_line (filter decides_code back)) (weight == code_weight) x) f ∙ ap (λ x. next (begins_with_code_line (filter decides_code back)) x false) c)
-    by false true c f =
-        ap (λ x. decided (Shown style (Raw bytes weight)) back x (weight == fence_weight)) c ∙ ap (λ x. decided (Shown style (Raw bytes weight)) back false x) f
-        ∙ sym (ap (λ x. next (begins_with_code_line (filter decides_code back)) (weight == code_weight) x) f)
-    by false false c f =
-        ap (λ x. decided (Shown style (Raw bytes weight)) back x (weight == fence_weight)) c ∙ ap (λ x. decided (Shown style (Raw bytes weight)) back false x) f ∙ c
-        ∙ sym (ap (λ x. next (begins_with_code_line (filter decides_code back)) (weight == code_weight) x) f ∙ ap (λ x. next (begins_with_code_line (filter decides_code back)) x false) c)
+    by code fence c f = grind arith
 
 code_decides : (f : Fragment) (back : List Fragment) → begins_with_code_line (filter decides_code (f ∷ back)) ≡ code_next (begins_with_code_line (filter decides_code back)) f
 code_decides (Shown style (Raw bytes weight)) back = raw_decides style bytes weight back
@@ -125,8 +116,7 @@ body_put before p h empty =
     marks false = sym (append-nil p.bytes)
 
 paragraph_text : (in_list : Bool) → (if in_list then codes "\n\n  " else codes "\n\n") ≡ codes "\n\n" ++ (if in_list then codes "  " else [])
-paragraph_text true = refl
-paragraph_text false = refl
+paragraph_text in_list = grind arith
 
 -- a fragment that begins no item
 own_put : (before : List Fragment) (p : Marked) (f : Fragment) (fs : List Fragment) → Looks before p → is_item_start f ≡ false → (is_term_end f ≡ false → p.empty_item ≡ is_after_empty_item before)

@@ -197,15 +197,10 @@ counted_before p fs before after a none e =
     )
 
 code_open : (code other q : Bool) → code ≡ true → ((not code || q) && (not other || not q)) ≡ true → q ≡ true
-code_open true other true e h = refl
-code_open true other false e h = h
-code_open false other q e h = absurd (false≢true e)
+code_open code other q e h = grind arith
 
 other_closed : (code other q : Bool) → other ≡ true → ((not code || q) && (not other || not q)) ≡ true → q ≡ false
-other_closed code true false e h = refl
-other_closed true true true e h = absurd (false≢true h)
-other_closed false true true e h = absurd (false≢true h)
-other_closed code false q e h = absurd (false≢true e)
+other_closed code other q e h = grind arith
 
 -- at a code line more fences were opened than closed
 pub fenced_of : (p : Marked) (fs : List Fragment) → p.in_code ≡ false → (before after : List MarkdownSnippet) (a : Fragment) → cut_from p fs ≡ before ++ Of a ∷ after → IsTrue (shows is_code_line a) → closed_fences before < opened_fences before

@@ -42,23 +42,17 @@ own-headings p (End blocks.ItemBody) = grind arith
 own-headings p _ = grind arith
 
 item-fragments : (pending empty : Bool) → fragments_in (item_snippets pending empty) ≡ []
-item-fragments true true = refl
-item-fragments true false = refl
-item-fragments false empty = refl
+item-fragments pending empty = grind arith
 
 item-styles : (pending empty : Bool) → filter is_style_mark_or_fragment (item_snippets pending empty) ≡ []
-item-styles true true = refl
-item-styles true false = refl
-item-styles false empty = refl
+item-styles pending empty = grind arith
 
 -- the mark of an item that waited for it
 abbrev pub item_heading : Bool → Bool → List Mark
 item_heading pending empty = if pending then (if empty then [] else (Dash ∷ [])) else []
 
 pub item-headings : (pending empty : Bool) → filter is_heading_or_fragment (item_snippets pending empty) ≡ map Put (item_heading pending empty)
-item-headings true true = refl
-item-headings true false = refl
-item-headings false empty = refl
+item-headings pending empty = grind arith
 
 pub step-fragments : (p : Marked) (f : Fragment) → fragments_in (snippets_of p f) ≡ f ∷ []
 step-fragments p f =

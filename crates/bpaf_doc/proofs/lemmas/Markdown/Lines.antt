@@ -132,8 +132,7 @@ raw_stands before p style bytes weight h =
         (line_stands (before ++ fragments_in marks) (p.bytes ++ spelled before marks) (Shown style (Raw bytes weight)) k)
 
     words_in : (in_code : Bool) → fragments_in (close_snippets in_code ++ Of (Shown style (Raw bytes weight)) ∷ []) ≡ Shown style (Raw bytes weight) ∷ []
-    words_in true = refl
-    words_in false = refl
+    words_in in_code = grind arith
 
 -- ---- texts of a document: where chunks stand between a start and an end
 

@@ -19,10 +19,7 @@ any-push : (p : Fragment → Bool) (fs : List Fragment) (f : Fragment) → list_
 any-push p fs f = list_any-append p fs (f ∷ []) ∙ swapped (list_any p fs) (p f)
   where
     swapped : (a b : Bool) → (a || (b || false)) ≡ (if b then true else a)
-    swapped true true = refl
-    swapped true false = refl
-    swapped false true = refl
-    swapped false false = refl
+    swapped a b = grind arith
 
 suffix-push : (q : Fragment → Bool) (fs : List Fragment) (f : Fragment) → suffix_len q (fs ++ f ∷ []) ≡ cond (q f) (1 + suffix_len q fs) 0
 suffix-push q fs f = ap (λ xs. prefix_len q xs) (reverse-append fs (f ∷ []))
@@ -162,9 +159,7 @@ heading_is before p (Start blocks.ItemBody) fs h =
     ∙ ap (λ b. if (is_in_list before && not b) then (LongDash ∷ []) else []) (sym (after_empty_is h.item))
   where
     both : (l e : Bool) → (if l then (if e then [] else (LongDash ∷ [])) else []) ≡ (if (l && not e) then (LongDash ∷ []) else [])
-    both true true = refl
-    both true false = refl
-    both false e = refl
+    both l e = grind arith
 heading_is before p (Start _) fs h = refl
 heading_is before p (End b) fs h = refl
 heading_is before p (TextStart style) fs h = refl

@@ -86,8 +86,7 @@ closed_settled p e = by p.in_code refl where
 item_settled : (p : Marked) → (with_item p false).pending ≡ false
 item_settled p = by p.pending refl where
   by : (b : Bool) → p.pending ≡ b → (if b then record p { bytes = p.bytes ++ codes "- "; pending = false; empty_item = false } else p).pending ≡ false
-  by true f = refl
-  by false f = f
+  by b f = grind arith
 
 -- the text after the chunks of a run
 pub run_marked : (p : Marked) (style : Style) (run : List ℕ) → IsRun run → marked_after_all p (map (Shown style) (chunks_of run)) ≡ with_words (with_item p false) run

@@ -320,8 +320,7 @@ ticks_some : (text line rest : List ℕ) → text ≡ line ++ rest → IsTrue (s
 ticks_some text line rest e t none = let h : IsTrue (starts [] (codes "```")) = subst (λ xs. IsTrue (starts xs (codes "```"))) none (text_ticks text line rest e t) in cc
 
 false_of : (b : Bool) → ¬ IsTrue b → b ≡ false
-false_of true h = absurd (h refl)
-false_of false h = refl
+false_of b h = grind arith
 
 -- a text that begins with a line and its end
 line_of : (text line rest : List ℕ) → text ≡ line ++ rest → IsLine line → IsLineEnd rest → take_while is_line_byte text ≡ line

@@ -1,7 +1,7 @@
 -- A newline stands where one is asked for, and a blank line too.
 use Rattle.std.specs.Prelude.{◌≡◌, ℕ, zero, suc, Bool, true, false, ◌&&◌, ◌||◌, ◌==◌, List, [], ◌∷◌, refl, if◌then◌else◌, ◌⊎◌}
 use Rattle.std.specs.List.{list_any}
-use Rattle.std.proofs.Common.{sym, subst, inl, inr, ◌∙◌}
+use Rattle.std.proofs.Common.{sym, subst, inl, inr, ◌∙◌, arith}
 use Rattle.std.proofs.lemmas.Bool.{and_parts}
 use Rattle.bpaf_doc.specs.declared.buffer.Block.TheVariants as blocks
 use Rattle.bpaf_doc.specs.Buffer.Parts.{ink}
@@ -57,8 +57,7 @@ ends_line_owes (Passed event ∷ r) f q h = at (by_cases (has_some (event_bytes 
       let b : inked_line r ≡ false = rest.line in
       record { owes = rw (b, a) (and_false (asks_newline event)); line = rw plain b } where
         and_false : (t : Bool) → ((t && false) || false) ≡ false
-        and_false true = refl
-        and_false false = refl
+        and_false t = grind arith
 
 -- what ends in two newlines ends in one
 pub blank_line_ends : (r : List Stretch) → ends_blank r ≡ true → ends_line r ≡ true

@@ -76,8 +76,7 @@ owes_fresh (Gap b ∷ r) f o h = h
 owes_fresh (Placed e ∷ r) f o h = absurd cc
 owes_fresh (Passed event ∷ r) f o h = at (by_cases (is_raw_event event)) (by_cases (has_some (event_bytes event))) (by_cases (owes_blank r)) (owes_fresh r f) where
   or_left : (a b : Bool) → (a || b) ≡ true → b ≡ false → a ≡ true
-  or_left true b h f = refl
-  or_left false b h f = absurd cc
+  or_left a b h f = grind arith
 
   at : (is_raw_event event ≡ true) ⊎ (is_raw_event event ≡ false) → (has_some (event_bytes event) ≡ true) ⊎ (has_some (event_bytes event) ≡ false)
       → (owes_blank r ≡ true) ⊎ (owes_blank r ≡ false) → (owes_blank r ≡ true → ends_line r ≡ true → is_fresh r ≡ true) → is_fresh (Passed event ∷ r) ≡ true

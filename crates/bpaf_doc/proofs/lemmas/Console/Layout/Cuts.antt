@@ -1,7 +1,7 @@
 -- What may stand on a page, and that a chunk loses its blank end only before a newline.
 use Rattle.std.specs.Prelude.{◌≡◌, ℕ, zero, suc, ⊤, Bool, true, false, ◌==◌, List, [], ◌∷◌, refl, if◌then◌else◌, ◌⊎◌}
 use Rattle.std.specs.Str.{trim_end}
-use Rattle.std.proofs.Common.{sym, subst, inl, inr, ◌∙◌}
+use Rattle.std.proofs.Common.{sym, subst, inl, inr, ◌∙◌, arith}
 use Rattle.bpaf_doc.specs.Splitter.Chunks.{is_inked, has_some}
 use Rattle.bpaf_doc.specs.Console.Layout.{Stretch, Gap, Placed, Passed, chunk_at, event_bytes}
 use Rattle.bpaf_doc.proofs.lemmas.Console.Layout.State.{State, Piece, Lines, none_asked, line_there, line_put, blank_there, second_put, both_put, Begins, first, stays, wraps, places, drops, Next, Grows, placing, breaking, passing, padded, trimmed, wrapped}
@@ -29,8 +29,7 @@ may_end_line (Passed event ∷ r) h = at (by_cases (has_some (event_bytes event)
   at (inr s) ih = let rest : MayEnd false r = rw s at h in rw s (ih rest)
 
 same_false : (b : Bool) → (if b then false else false) ≡ false
-same_false true = refl
-same_false false = refl
+same_false b = grind arith
 
 may_end_trimmed : (r : List Stretch) (line : Bool) → EachPlace Fills r → MayEnd line r → MayEnd true (trimmed r)
 may_end_trimmed = by_trimmed (λ r t. (line : Bool) → EachPlace Fills r → MayEnd line r → MayEnd true t) (λ line f h. h) (λ b r t ih line f h. ih (b == 10) f h.1)

@@ -53,12 +53,10 @@ no_ref : (event : Event) → has_some (event_bytes event) ≡ false → is_ref e
 no_ref (Shows k chunk) h = refl
 no_ref (Opens b) h = at (is_term_ref b) h where
   at : (t : Bool) → has_some (if t then 96 ∷ [] else []) ≡ false → t ≡ false
-  at true h = absurd cc
-  at false h = refl
+  at t h = grind arith
 no_ref (Closes b) h = at (is_term_ref b) h where
   at : (t : Bool) → has_some (if t then 96 ∷ [] else []) ≡ false → t ≡ false
-  at true h = absurd cc
-  at false h = refl
+  at t h = grind arith
 
 -- on a page without text and without places stands nothing
 no_text_holds : (r : List Stretch) → has_text r ≡ false → has_place r ≡ false → holds_back r ≡ false
@@ -144,8 +142,7 @@ leads_at place (x ∷ m) r rest h k =
           → leads_to_place (reverse m ++ x ∷ rest) ≡ true
       at (Gap b) h ih = ih ((b == 32) && place) h.1 (both (b == 32) place (leads_to_place rest) k) where
         both : (t place ok : Bool) → (place ≡ true → ok ≡ true) → (t && place) ≡ true → (t && ok) ≡ true
-        both true place ok k h = k h
-        both false place ok k h = h
+        both t place ok k h = grind arith
       at (Placed e) h ih = ih true h (λ t. refl)
       at (Passed event) h ih = ih false h (λ t. absurd cc)
 

@@ -1,7 +1,7 @@
 -- A page cut before one of its places.
 use Rattle.std.specs.Prelude.{◌≡◌, ℕ, zero, suc, Bool, true, false, ◌||◌, List, [], ◌∷◌, ◌++◌, refl, ◌⊎◌}
 use Rattle.std.specs.List.{list_any}
-use Rattle.std.proofs.Common.{sym, subst, ap, inl, inr, ◌∙◌}
+use Rattle.std.proofs.Common.{sym, subst, ap, inl, inr, ◌∙◌, arith}
 use Rattle.std.proofs.lemmas.Bool.{or_parts}
 use Rattle.bpaf_doc.specs.Splitter.Chunks.{Raw, is_inked, has_some}
 use Rattle.bpaf_doc.specs.Console.Layout.{Event, Shows, Stretch, Gap, Placed, Passed, Place, chunk_at, event_bytes, is_newline, is_inked_stretch}
@@ -198,8 +198,7 @@ inked_since (x ∷ m) e before i n =
     let ih : inked_line (m ++ Placed e ∷ before) ≡ true = inked_since m e before i (or_parts (is_newline x) (has_newline m) n).1 in
     rw first (or_true (is_inked_stretch x) ih) where
       or_true : (a : Bool) → inked_line (m ++ Placed e ∷ before) ≡ true → (a || inked_line (m ++ Placed e ∷ before)) ≡ true
-      or_true true t = refl
-      or_true false t = t
+      or_true a t = grind arith
 
 -- ---- the page where a chunk begins
 
@@ -208,5 +207,4 @@ pub ink_at : (m : List Stretch) (e : Place) (before : List Stretch) → is_inked
 ink_at [] e before i = rw i refl
 ink_at (x ∷ m) e before i = or_true (is_inked_stretch x) (ink_at m e before i) where
   or_true : (a : Bool) → list_any is_inked_stretch (m ++ Placed e ∷ before) ≡ true → (a || list_any is_inked_stretch (m ++ Placed e ∷ before)) ≡ true
-  or_true true t = refl
-  or_true false t = t
+  or_true a t = grind arith

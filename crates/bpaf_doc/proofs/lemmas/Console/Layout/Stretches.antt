@@ -54,8 +54,7 @@ dropped_some (c ∷ cs) ds h =
 
       at : (w : Bool) → (length (cs ++ drop_trailing_whitespace ds) == 0) ≡ false
           → (if (w && (length (cs ++ drop_trailing_whitespace ds) == 0)) then [] else (c ∷ (cs ++ drop_trailing_whitespace ds))) ≡ c ∷ (cs ++ drop_trailing_whitespace ds)
-      at true e = rw e refl
-      at false e = refl
+      at w e = grind arith
 
 pub trim_white : (front back : List ℕ) → IsUtf8 front → has_some (ink back) ≡ false → trim_end (front ++ back) ≡ trim_end front
 unfolding trim_end
@@ -85,8 +84,7 @@ scalars_front : (cs ds : List ℕ) → scalars (cs ++ ds) ≡ true → scalars c
 scalars_front [] ds h = refl
 scalars_front (c ∷ cs) ds h = both (scalar c) h (scalars_front cs ds) where
   both : (t : Bool) → (t && scalars (cs ++ ds)) ≡ true → (scalars (cs ++ ds) ≡ true → scalars cs ≡ true) → (t && scalars cs) ≡ true
-  both true h ih = ih h
-  both false h ih = absurd cc
+  both t h ih = grind arith
 
 kept_scalars : (text : List ℕ) → IsUtf8 text → scalars (drop_trailing_whitespace (chars text)) ≡ true
 kept_scalars text u =
@@ -114,8 +112,7 @@ line_front : (front rest : List ℕ) → IsLine (front ++ rest) → IsLine front
 line_front [] rest h = refl
 line_front (b ∷ front) rest h = both (is_line_byte b) h (line_front front rest) where
   both : (t : Bool) → (t && list_all is_line_byte (front ++ rest)) ≡ true → (IsLine (front ++ rest) → IsLine front) → (t && list_all is_line_byte front) ≡ true
-  both true h ih = ih h
-  both false h ih = absurd cc
+  both t h ih = grind arith
 
 pub trim_line : (text : List ℕ) → IsUtf8 text → IsLine text → IsLine (trim_end text)
 trim_line text u l = let front : (rest : List ℕ) × (text ≡ trim_end text ++ rest) = trim_front text u in line_front (trim_end text) front.0 (subst IsLine front.1 l)

@@ -69,15 +69,13 @@ ink_text (Placed e ∷ r) f q h = at (by_cases (is_inked (chunk_at e))) (ink_tex
   at (inl i) ih = let some : has_some e.shown ≡ true = f.0 ∙ inked_some e.bytes i in rw some refl
   at (inr i) ih = let rest : list_any is_inked_stretch r ≡ true = rw i at h in let tail : has_text r ≡ true = ih rest in or_true (has_some e.shown) tail where
     or_true : (b : Bool) → has_text r ≡ true → (b || has_text r) ≡ true
-    or_true true t = refl
-    or_true false t = t
+    or_true b t = grind arith
 ink_text (Passed event ∷ r) f q h = at (by_cases (is_inked_event event)) (ink_text r f q.1) where
   at : (is_inked_event event ≡ true) ⊎ (is_inked_event event ≡ false) → (list_any is_inked_stretch r ≡ true → has_text r ≡ true) → has_text (Passed event ∷ r) ≡ true
   at (inl i) ih = let no : false ≡ true = sym q.0 ∙ i in absurd cc
   at (inr i) ih = let rest : list_any is_inked_stretch r ≡ true = rw i at h in let tail : has_text r ≡ true = ih rest in or_true (has_some (event_bytes event)) tail where
     or_true : (b : Bool) → has_text r ≡ true → (b || has_text r) ≡ true
-    or_true true t = refl
-    or_true false t = t
+    or_true b t = grind arith
 
 -- ---- nothing is written
 
@@ -89,16 +87,13 @@ abbrev pub IsStarting : State → Type 0
 IsStarting st = has_text st.back ≡ false → (st.column ≡ 0) × (has_place st.back ≡ false)
 
 pub or_false_left : (a b : Bool) → (a || b) ≡ false → a ≡ false
-or_false_left true b h = absurd cc
-or_false_left false b h = refl
+or_false_left a b h = grind arith
 
 pub or_false_right : (a b : Bool) → (a || b) ≡ false → b ≡ false
-or_false_right true b h = absurd cc
-or_false_right false b h = h
+or_false_right a b h = grind arith
 
 pub or_true_right : (a b : Bool) → b ≡ true → (a || b) ≡ true
-or_true_right true b h = refl
-or_true_right false b h = h
+or_true_right a b h = grind arith
 
 -- a page that goes on after some text has text
 pub text_lines : {st mid : State} → Lines st mid → has_text st.back ≡ true → has_text mid.back ≡ true

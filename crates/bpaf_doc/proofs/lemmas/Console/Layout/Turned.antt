@@ -24,16 +24,10 @@ reverse_cons x xs = reverse-append (x ∷ []) xs
 -- ---- tests over a turned list
 
 or_comm : (a b : Bool) → (a || (b || false)) ≡ (b || a)
-or_comm true true = refl
-or_comm true false = refl
-or_comm false true = refl
-or_comm false false = refl
+or_comm a b = grind arith
 
 and_comm : (a b : Bool) → (a && (b && true)) ≡ (b && a)
-and_comm true true = refl
-and_comm true false = refl
-and_comm false true = refl
-and_comm false false = refl
+and_comm a b = grind arith
 
 pub any_turned : {A : Type 0} (p : A → Bool) (xs : List A) → list_any p (reverse xs) ≡ list_any p xs
 any_turned p [] = refl
@@ -172,8 +166,7 @@ quiet_since (Passed event ∷ r) q = at q.0 (quiet_since r q.1) where
       → list_any is_raw_or_ref (events_back (since is_inked_stretch (Passed event ∷ r))) ≡ not (is_quiet (Passed event ∷ r))
   at i ih = rw i (ap (λ (b : Bool). is_raw_or_ref event || b) ih ∙ both (is_raw_or_ref event) (is_quiet r)) where
     both : (a b : Bool) → (a || not b) ≡ not (not a && b)
-    both true b = refl
-    both false b = refl
+    both a b = grind arith
 
 pub quiet_turned : (r : List Stretch) → EachPassed NoInk r → list_any is_raw_or_ref (events_since_ink (reverse r)) ≡ not (is_quiet r)
 quiet_turned r q =

@@ -38,8 +38,7 @@ abbrev pub view : Sheet → PageSoFar
 view s = record { text = s.out; column = s.column; request = request_of s.asks; is_pending = s.at_body }
 
 view_if : (b : Bool) (x y : Sheet) → view (if b then x else y) ≡ (if b then view x else view y)
-view_if true x y = refl
-view_if false x y = refl
+view_if b x y = grind arith
 
 -- ---- a Raw chunk
 
@@ -151,8 +150,7 @@ text_is full width level (LineBreak ∷ chunks) s good wide margin = text_is ful
 text_is full width level (Paragraph ∷ chunks) s good wide margin = at full (text_is full width level chunks (page.newline_put s) good.1 wide margin) where
   at : (b : Bool) → view (page.text_put full chunks (page.newline_put s)) ≡ exact.chunks_put width level (written_of full chunks) (view (page.newline_put s))
       → view (if b then page.text_put full chunks (page.newline_put s) else page.newline_put s) ≡ exact.chunks_put width level (Paragraph ∷ (if b then written_of full chunks else [])) (view s)
-  at true rest = rest
-  at false rest = refl
+  at b rest = grind arith
 
 -- ---- the marks
 
@@ -207,14 +205,10 @@ end_is b s =
 -- ---- the parts
 
 put_if : (c d : Bool) → c ≡ d → (x y : Sheet) (p : PageSoFar) → view y ≡ p → view (if c then x else y) ≡ (if d then view x else p)
-put_if true true e x y p same = refl
-put_if false false e x y p same = same
-put_if true false e x y p same = absurd cc
-put_if false true e x y p same = absurd cc
+put_if c d e x y p same = grind arith
 
 keeps_width_if : (c : Bool) (x y : Sheet) (width : ℕ) → x.width ≡ width → y.width ≡ width → (if c then x else y).width ≡ width
-keeps_width_if true x y width a b = a
-keeps_width_if false x y width a b = b
+keeps_width_if c x y width a b = grind arith
 
 module _ (full : Bool) (document : List Part) (width : ℕ) (is_small : length document < 2 ^ 64) where
   text_part : (index : ℕ) (before rest : List Part) (bytes : List ℕ) (style : Style) (pairs : Pairs) (hidden : ℕ) (s : Sheet) → Walk full document index before (Text bytes style ∷ rest) pairs hidden s

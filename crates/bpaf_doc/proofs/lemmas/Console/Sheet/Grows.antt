@@ -301,8 +301,7 @@ raw_placed p s st u l weighed d = at (by_cases (length s.out == 0)) where
   same_width : (page.asked_put s).width ≡ s.width
   same_width = width_if (page.lacks_blank_line (page.asked_newline_put s)) (record (page.asked_newline_put s) { out = (page.asked_newline_put s).out ++ 10 ∷ [] }) (page.asked_newline_put s) s.width after_line after_line where
     width_if : (b : Bool) (x y : Sheet) (w : ℕ) → x.width ≡ w → y.width ≡ w → (if b then x else y).width ≡ w
-    width_if true x y w a b = a
-    width_if false x y w a b = b
+    width_if b x y w a b' = grind arith
 
     after_line : (page.asked_newline_put s).width ≡ s.width
     after_line = width_if (page.lacks_newline s) (page.newline_put s) s s.width refl refl

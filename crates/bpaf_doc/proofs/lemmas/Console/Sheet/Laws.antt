@@ -85,8 +85,7 @@ chunks_ink k [] = refl
 chunks_ink k (chunk ∷ chunks) = ap (λ more. chunk_ink chunk ++ more) (chunks_ink k chunks)
 
 mark_if : (c : Bool) (b : Block) (event : Event) → event_ink event ≡ mark_bytes b → (c ≡ true → mark_bytes b ≡ []) → flat_map event_ink (if c then [] else event ∷ []) ≡ mark_bytes b
-mark_if true b event is none = sym (none refl)
-mark_if false b event is none = append-nil (event_ink event) ∙ is
+mark_if c b event is none = grind arith
 
 -- a stack is no deeper than the marks are many
 depth_after : (j : ℕ) (ss : List Shift) (stack : List ℕ) → length (stack_after (take j ss) stack) ≤ j + length stack

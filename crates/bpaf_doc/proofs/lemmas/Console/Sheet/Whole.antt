@@ -67,9 +67,7 @@ word_line : (bytes : List ℕ) → IsTrue (list_all is_word_byte bytes) → IsLi
 word_line [] h = refl
 word_line (b ∷ bytes) h = both (b == 10) (b == 32) h (word_line bytes) where
   both : (n k : Bool) → ((not n && not k) && list_all is_word_byte bytes) ≡ true → (IsTrue (list_all is_word_byte bytes) → IsLine bytes) → (not n && list_all is_line_byte bytes) ≡ true
-  both true k h ih = absurd cc
-  both false true h ih = absurd cc
-  both false false h ih = ih h
+  both n k h ih = grind arith
 
 some_of : (bytes : List ℕ) → bytes ≢ [] → has_some bytes ≡ true
 some_of [] h = absurd (h refl)
