@@ -112,9 +112,7 @@ brief_from document before (part ∷ parts) hidden same counts =
 full_stays : (part : Part) → hidden_after true 0 part ≡ 0
 full_stays (Text bytes style) = refl
 full_stays (Start b) = refl
-full_stays (End b) = at (is_inline b) 0 where
-  at : (c : Bool) (n : ℕ) → (if c then n else n) ≡ n
-  at c n = grind arith
+full_stays (End b) = grind arith
 
 full_at : (before : List Part) (part : Part) → shown_part_ink true before part ≡ ink_at true 0 part
 full_at before (Text bytes style) = shown_ink-full (chunks_of bytes)
@@ -155,9 +153,7 @@ ink-nil = ap (filter is_not_whitespace) chars-nil
 -- ---- a loop over the parts
 
 hidden_after-le : (full : Bool) (hidden : ℕ) (part : Part) → hidden_after full hidden part ≤ hidden + 1
-hidden_after-le full hidden (Text bytes style) = at ((hidden == 0) && hides full (chunks_of bytes)) where
-  at : (b : Bool) → (if b then 1 else hidden) ≤ hidden + 1
-  at b = grind arith
+hidden_after-le full hidden (Text bytes style) = grind arith
 hidden_after-le full hidden (Start b) = elim (not (hidden == 0) && is_inline b) as (λ (c : Bool). (if c then hidden + 1 else hidden) ≤ hidden + 1) [ true ↦ omega arith | false ↦ omega arith ]
 hidden_after-le full hidden (End b) = elim (is_inline b) as (λ (c : Bool). (if c then hidden - 1 else hidden) ≤ hidden + 1) [ true ↦ omega arith | false ↦ omega arith ]
 

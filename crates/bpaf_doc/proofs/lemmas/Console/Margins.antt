@@ -88,12 +88,8 @@ top_after (Indent n ∷ ss) stack = top_after ss ((top stack + n) ∷ stack) ∙
     sums m i = omega arith
 top_after (Outdent ∷ ss) stack = top_after ss (popped stack) ∙ ap (λ m. m + indents_in_force ss) (popped_at stack (taken ss)) ∙ at (taken ss) (indents_in_force ss) where
   at : (t i : ℕ) → get_or stack (suc t) 0 + i ≡ get_or stack (t + 1) 0 + ((if stays_open is_indent is_outdent ss then 0 else 0) + i)
-  at t i = rw (add-one t) (ap (λ m. get_or stack (suc t) 0 + m) (same (stays_open is_indent is_outdent ss) i)) where
-    same : (b : Bool) (i : ℕ) → i ≡ (if b then 0 else 0) + i
-    same b i = grind arith
-top_after (Level ∷ ss) stack = top_after ss stack ∙ ap (λ m. get_or stack (taken ss) 0 + m) (same (stays_open is_indent is_outdent ss) (indents_in_force ss)) where
-  same : (b : Bool) (i : ℕ) → i ≡ (if b then 0 else 0) + i
-  same b i = grind arith
+  at t i = rw (add-one t) (ap (λ m. get_or stack (suc t) 0 + m) (grind arith))
+top_after (Level ∷ ss) stack = top_after ss stack ∙ ap (λ m. get_or stack (taken ss) 0 + m) (grind arith)
 
 -- from an empty stack on it is the sum of the indents in force
 pub top-stack_after : (ss : List Shift) → top (stack_after ss []) ≡ indents_in_force ss

@@ -38,10 +38,7 @@ module _ (width tab_stop : ℕ) (margins : List ℕ) (small : width ≤ 18446744
 
   no_room : (out : List ℕ) (column n : ℕ) → column + n ≤ width → room_made n (at out column) ≡ at out column
   no_room out column n h =
-      ap (λ b. if length out == 0 then at out column else if b then wrapped (at out column) else at out column) (fits out column n h) ∙ same (length out == 0)
-    where
-      same : (b : Bool) → (if b then at out column else at out column) ≡ at out column
-      same b = grind arith
+      ap (λ b. if length out == 0 then at out column else if b then wrapped (at out column) else at out column) (fits out column n h) ∙ grind arith
 
   word_placed : (out raw : List ℕ) (column weight : ℕ) → margin_of (at out column) ≤ column → column + weight ≤ width
       → placed raw weight (at out column) ≡ at (out ++ raw) (column + weight)

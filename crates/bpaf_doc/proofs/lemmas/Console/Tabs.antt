@@ -85,9 +85,7 @@ is_in_term-push before part =
       at true true e = refl
       at false true e = refl
       at false false e = refl
-      at true false e = ap not e ∙ both (list_any is_term_end (after_last is_term_start before)) (is_term_end part) where
-        both : (b c : Bool) → not (b || c) ≡ (not b && not c)
-        both b c = grind arith
+      at true false e = ap not e ∙ grind arith
 
 term_length-push : (before : List Part) (part : Part)
     → term_length (before ++ part ∷ []) ≡ (if is_term_start part then 0 else term_length before + (if is_in_term before then text_columns part else 0))
@@ -101,9 +99,7 @@ term_length-push before part =
       at true true e = refl
       at false true e = refl
       at false false e = refl
-      at true false e = e ∙ ap (λ n. first_columns (after_last is_term_start before) + n) (turn (list_any is_term_end (after_last is_term_start before)) (text_columns part)) where
-        turn : (b : Bool) (n : ℕ) → (if b then 0 else n) ≡ (if not b then n else 0)
-        turn b n = grind arith
+      at true false e = e ∙ ap (λ n. first_columns (after_last is_term_start before) + n) (grind arith)
 
 -- ---- all parts
 
@@ -138,14 +134,9 @@ quiet : (document before rest : List Part) (part : Part) (widest : ℕ) → is_t
     → widest_from widest (is_in_term before) (sat (term_length before)) rest ≡ fold max widest (filter (λ n. nat_le n 24) (lengths_from document (length before + 1) rest))
 quiet document before rest part widest s e n same more =
     passed document before rest part widest (is_in_term before) (sat (term_length before))
-    (sym (is_in_term-push before part ∙ same_term (is_term_start part) (is_term_end part) (is_in_term before) s e))
-    (ap sat (sym (term_length-push before part ∙ same_length (is_term_start part) (is_in_term before) (text_columns part) (term_length before) s n)))
-    same more where
-      same_term : (s e t : Bool) → s ≡ false → e ≡ false → (if s then true else t && not e) ≡ t
-      same_term s e t h i = grind arith
-
-      same_length : (s t : Bool) (n l : ℕ) → s ≡ false → n ≡ 0 → (if s then 0 else l + (if t then n else 0)) ≡ l
-      same_length s t n l h i = grind arith
+    (sym (is_in_term-push before part ∙ (grind arith)))
+    (ap sat (sym (term_length-push before part ∙ (grind arith))))
+    same more
 
 -- what a length does to the widest, as it is and with all its columns
 counted : (widest n : ℕ) (ns : List ℕ) → fold max (wider widest (sat n)) (filter (λ n. nat_le n 24) ns) ≡ fold max widest (filter (λ n. nat_le n 24) (n ∷ ns))
@@ -159,10 +150,8 @@ walk document before [] widest e = refl
 walk document before (Text bytes style ∷ rest) widest e =
     passed document before rest (Text bytes style) widest (is_in_term before) (if is_in_term before then sat (sat (term_length before) + columns bytes) else sat (term_length before))
     (sym (is_in_term-push before (Text bytes style) ∙ and-true (is_in_term before)))
-    (at (is_in_term before) (term_length before) (columns bytes) ∙ ap sat (sym (term_length-push before (Text bytes style))))
-    e (λ same. walk document (before ++ Text bytes style ∷ []) rest widest same) where
-      at : (b : Bool) (l n : ℕ) → (if b then sat (sat l + n) else sat l) ≡ sat (l + (if b then n else 0))
-      at b l n = grind arith
+    ((grind arith) ∙ ap sat (sym (term_length-push before (Text bytes style))))
+    e (λ same. walk document (before ++ Text bytes style ∷ []) rest widest same)
 walk document before (Start blocks.ItemTerm ∷ rest) widest e =
     passed document before rest (Start blocks.ItemTerm) widest true 0 (sym (is_in_term-push before (Start blocks.ItemTerm))) (ap sat (sym (term_length-push before (Start blocks.ItemTerm))))
     e (λ same. walk document (before ++ Start blocks.ItemTerm ∷ []) rest widest same)
@@ -170,13 +159,11 @@ walk document before (Start b ∷ rest) widest e = quiet document before rest (S
 walk document before (End blocks.ItemTerm ∷ rest) widest e =
     passed document before rest (End blocks.ItemTerm) (wider widest (sat (term_length before))) false (sat (term_length before))
     (sym (is_in_term-push before (End blocks.ItemTerm) ∙ and-false (is_in_term before)))
-    (ap sat (sym (term_length-push before (End blocks.ItemTerm) ∙ same_length (is_in_term before) (term_length before))))
+    (ap sat (sym (term_length-push before (End blocks.ItemTerm) ∙ (grind arith))))
     e (λ same. walk document (before ++ End blocks.ItemTerm ∷ []) rest (wider widest (sat (term_length before))) same)
     ∙ ap (λ (m : ℕ). fold max (wider widest (sat m)) (filter (λ n. nat_le n 24) (lengths_from document (length before + 1) rest)))
     (sym (ap term_length (ap (take (length before)) e ∙ take_at before (End blocks.ItemTerm ∷ rest) (length before) refl)))
-    ∙ counted widest (term_length (take (length before) document)) (lengths_from document (length before + 1) rest) where
-      same_length : (b : Bool) (l : ℕ) → l + (if b then 0 else 0) ≡ l
-      same_length b l = grind arith
+    ∙ counted widest (term_length (take (length before) document)) (lengths_from document (length before + 1) rest)
 walk document before (End b ∷ rest) widest e = quiet document before rest (End b) widest refl refl refl e (λ same. walk document (before ++ End b ∷ []) rest widest same)
 
 -- from the start on it gives the tab stop

@@ -170,11 +170,7 @@ next_lists before p (Shown style LineBreak) h n = h n
 next_lists before p (TextEnd style) h n = h n
 next_lists before p Hidden h n = h n
 next_lists before p (Start b) h zero = refl
-next_lists before p (Start b) h (suc n) = kept p.fresh (is_header b) n ∙ h n
-  where
-    kept : (fresh header : Bool) (n : ℕ)
-        → nth n ((if header then (if fresh then p else with_break p) else p).in_list ∷ (if header then (if fresh then p else with_break p) else p).outer) ≡ nth n (p.in_list ∷ p.outer)
-    kept fresh header n = grind arith
+next_lists before p (Start b) h (suc n) = grind arith ∙ h n
 next_lists before p (End b) h n = kept p.fresh (is_header b) ∙ outer_is p.outer n ∙ h (suc n)
   where
     kept : (fresh header : Bool)
@@ -225,10 +221,7 @@ step_fresh p (Shown style (Raw bytes weight)) line e = words bytes line
   where
     words : (bytes : List ℕ) → list_all is_line_byte bytes ≡ true → (p.fresh && is_empty bytes) ≡ is_at_break (p.bytes ++ flat_map escaped_character bytes)
     words [] line = fresh_put p.bytes [] p.fresh e (inl refl)
-    words (b ∷ bs) line = ap (λ x. p.fresh && x) (sym (some (b == 60) (b == 62))) ∙ fresh_put p.bytes (flat_map escaped_character (b ∷ bs)) p.fresh e (line_is_other (flat_map escaped_character (b ∷ bs)) (words_line (b ∷ bs) line))
-      where
-        some : (left right : Bool) → is_empty ((if left then codes "&lt;" else (if right then codes "&gt;" else (b ∷ []))) ++ flat_map escaped_character bs) ≡ false
-        some left right = grind arith
+    words (b ∷ bs) line = ap (λ x. p.fresh && x) (sym (grind arith)) ∙ fresh_put p.bytes (flat_map escaped_character (b ∷ bs)) p.fresh e (line_is_other (flat_map escaped_character (b ∷ bs)) (words_line (b ∷ bs) line))
 step_fresh p (Shown style Paragraph) line e = sym (break_put p.bytes)
 step_fresh p (Shown style LineBreak) line e = sym (break_put p.bytes)
 step_fresh p (TextEnd style) line e = fresh_put p.bytes (closing_tags style) p.fresh e (closing_is_other style)

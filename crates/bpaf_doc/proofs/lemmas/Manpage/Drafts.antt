@@ -66,10 +66,7 @@ one_more page pieces by_page done part more e same =
 
 -- the last mark of a term, after one more part
 strips-append : (by_page : Bool) (before : List Part) (part : Part) → strips_newlines by_page (before ++ part ∷ []) ≡ (if is_term_mark part then is_start (Some part) else strips_newlines by_page before)
-strips-append by_page before part = ap (λ parts. start_or by_page (find is_term_mark parts)) (reverse-append before (part ∷ [])) ∙ choice (is_term_mark part) (find is_term_mark (reverse before))
-  where
-    choice : (x : Bool) (earlier : Option Part) → start_or by_page (if x then Some part else earlier) ≡ (if x then is_start (Some part) else start_or by_page earlier)
-    choice x earlier = grind arith
+strips-append by_page before part = ap (λ parts. start_or by_page (find is_term_mark parts)) (reverse-append before (part ∷ [])) ∙ grind arith
 
 -- a text, by whether it is captured
 text_by : (captures : Bool) (page : List (Piece Escape)) (by_page : Bool) (done : List Part) (script : Script) (heading text : List ℕ) (how : Style) → Holds page by_page done (record { script = script; heading = heading; captures = captures })

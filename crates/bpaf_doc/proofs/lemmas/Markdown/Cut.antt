@@ -378,11 +378,8 @@ start-spelled before p blocks.Header =
     let mark : List MarkdownSnippet = Put (if p.headed then SecondHeading else Heading) ∷ [] in
     ap (λ x. x ++ (if p.headed then codes "## " else codes "# ")) (blank_line-spelled next p)
     ∙ append_assoc p.bytes (spelled next line) (if p.headed then codes "## " else codes "# ")
-    ∙ ap (λ x. p.bytes ++ (spelled next line ++ x)) (heading next p.headed)
+    ∙ ap (λ x. p.bytes ++ (spelled next line ++ x)) (grind arith)
     ∙ ap (λ x. p.bytes ++ x) (sym (marks_then next line mark (blank_line_marks p.bytes)))
-  where
-    heading : (next : List Fragment) (headed : Bool) → (if headed then codes "## " else codes "# ") ≡ spelled next (Put (if headed then SecondHeading else Heading) ∷ [])
-    heading next headed = grind arith
 start-spelled before p blocks.Section3 = refl
 start-spelled before p blocks.Section4 = new_line-spelled (before ++ Start blocks.Section4 ∷ []) p
 start-spelled before p blocks.ItemTerm = new_line-spelled (before ++ Start blocks.ItemTerm ∷ []) p

@@ -29,11 +29,7 @@ abbrev next : Bool → (code fence : Bool) → Bool
 next in_code code fence = if fence then in_code else (if code then true else false)
 
 raw_decides : (style : Style) (bytes : List ℕ) (weight : ℕ) (back : List Fragment) → begins_with_code_line (filter decides_code (Shown style (Raw bytes weight) ∷ back)) ≡ code_next (begins_with_code_line (filter decides_code back)) (Shown style (Raw bytes weight))
-raw_decides style bytes weight back = by (weight == code_weight) (weight == fence_weight) refl refl
-  where
-    by : (code fence : Bool) → (weight == code_weight) ≡ code → (weight == fence_weight) ≡ fence
-        → begins_with_code_line (filter decides_code (Shown style (Raw bytes weight) ∷ back)) ≡ code_next (begins_with_code_line (filter decides_code back)) (Shown style (Raw bytes weight))
-    by code fence c f = grind arith
+raw_decides style bytes weight back = grind arith
 
 code_decides : (f : Fragment) (back : List Fragment) → begins_with_code_line (filter decides_code (f ∷ back)) ≡ code_next (begins_with_code_line (filter decides_code back)) f
 code_decides (Shown style (Raw bytes weight)) back = raw_decides style bytes weight back

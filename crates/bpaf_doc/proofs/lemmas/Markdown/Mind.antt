@@ -16,10 +16,7 @@ use Rattle.bpaf_doc.proofs.lemmas.Markdown.Kept.{own_heading, item_heading, item
 -- ---- one fragment more before
 
 any-push : (p : Fragment → Bool) (fs : List Fragment) (f : Fragment) → list_any p (fs ++ f ∷ []) ≡ (if p f then true else list_any p fs)
-any-push p fs f = list_any-append p fs (f ∷ []) ∙ swapped (list_any p fs) (p f)
-  where
-    swapped : (a b : Bool) → (a || (b || false)) ≡ (if b then true else a)
-    swapped a b = grind arith
+any-push p fs f = list_any-append p fs (f ∷ []) ∙ grind arith
 
 suffix-push : (q : Fragment → Bool) (fs : List Fragment) (f : Fragment) → suffix_len q (fs ++ f ∷ []) ≡ cond (q f) (1 + suffix_len q fs) 0
 suffix-push q fs f = ap (λ xs. prefix_len q xs) (reverse-append fs (f ∷ []))
@@ -154,12 +151,9 @@ heading_is before p (Start blocks.ItemTerm) fs h = refl
 heading_is before p (Start blocks.ItemBody) fs h =
     append-nil (own_heading (with_item p false) (Start blocks.ItemBody))
     ∙ ap (λ s. if s.in_list then (if s.empty_item then [] else (LongDash ∷ [])) else []) (item-flags p false)
-    ∙ both p.in_list (if p.pending then false else p.empty_item)
+    ∙ grind arith
     ∙ ap (λ b. if (b && not (if p.pending then false else p.empty_item)) then (LongDash ∷ []) else []) (sym h.in_list)
     ∙ ap (λ b. if (is_in_list before && not b) then (LongDash ∷ []) else []) (sym (after_empty_is h.item))
-  where
-    both : (l e : Bool) → (if l then (if e then [] else (LongDash ∷ [])) else []) ≡ (if (l && not e) then (LongDash ∷ []) else [])
-    both l e = grind arith
 heading_is before p (Start _) fs h = refl
 heading_is before p (End b) fs h = refl
 heading_is before p (TextStart style) fs h = refl

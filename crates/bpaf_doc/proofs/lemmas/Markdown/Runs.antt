@@ -84,9 +84,7 @@ closed_settled p e = by p.in_code refl where
   by false f = ((e, f), refl)
 
 item_settled : (p : Marked) → (with_item p false).pending ≡ false
-item_settled p = by p.pending refl where
-  by : (b : Bool) → p.pending ≡ b → (if b then record p { bytes = p.bytes ++ codes "- "; pending = false; empty_item = false } else p).pending ≡ false
-  by b f = grind arith
+item_settled p = grind arith
 
 -- the text after the chunks of a run
 pub run_marked : (p : Marked) (style : Style) (run : List ℕ) → IsRun run → marked_after_all p (map (Shown style) (chunks_of run)) ≡ with_words (with_item p false) run

@@ -39,9 +39,7 @@ cut_is c e = grind (arith, nat_tests)
 
 -- what a search for a newline finds
 no_newline : (b : ℕ) → ¬ is_byte 10 b ≡ true → is_line_byte b ≡ true
-no_newline b f = by_test (is_byte 10 b) f where
-  by_test : (t : Bool) → ¬ t ≡ true → not t ≡ true
-  by_test t f = grind arith
+no_newline b f = grind arith
 
 pub is_newline : (b : ℕ) → is_byte 10 b ≡ true → b ≡ 10
 is_newline b e = grind (arith, nat_tests)

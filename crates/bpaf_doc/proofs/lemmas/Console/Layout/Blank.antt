@@ -75,9 +75,6 @@ owes_fresh [] f o h = h
 owes_fresh (Gap b ∷ r) f o h = h
 owes_fresh (Placed e ∷ r) f o h = absurd cc
 owes_fresh (Passed event ∷ r) f o h = at (by_cases (is_raw_event event)) (by_cases (has_some (event_bytes event))) (by_cases (owes_blank r)) (owes_fresh r f) where
-  or_left : (a b : Bool) → (a || b) ≡ true → b ≡ false → a ≡ true
-  or_left a b h f = grind arith
-
   at : (is_raw_event event ≡ true) ⊎ (is_raw_event event ≡ false) → (has_some (event_bytes event) ≡ true) ⊎ (has_some (event_bytes event) ≡ false)
       → (owes_blank r ≡ true) ⊎ (owes_blank r ≡ false) → (owes_blank r ≡ true → ends_line r ≡ true → is_fresh r ≡ true) → is_fresh (Passed event ∷ r) ≡ true
   at (inl x) s y ih = let no : false ≡ true = rw x at o in absurd cc
@@ -85,7 +82,7 @@ owes_fresh (Passed event ∷ r) f o h = at (by_cases (is_raw_event event)) (by_c
   at (inr x) (inr s) (inl y) ih = let rest : ends_line r ≡ true = rw s at h in rw s (ih y rest)
   at (inr x) (inr s) (inr y) ih =
       let both : ((asks_blank_line event && last_raw_inked r) || owes_blank r) ≡ true = rw x at o in
-      let last : (asks_blank_line event && last_raw_inked r) ≡ true = or_left (asks_blank_line event && last_raw_inked r) (owes_blank r) both y in
+      let last : (asks_blank_line event && last_raw_inked r) ≡ true = grind arith in
       let rest : ends_line r ≡ true = rw s at h in
       rw s (last_fresh r f (and_parts (asks_blank_line event) (last_raw_inked r) last).1 rest)
 

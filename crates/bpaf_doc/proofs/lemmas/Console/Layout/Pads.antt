@@ -51,12 +51,8 @@ holds_back r = any_in_line holds_line r
 
 no_ref : (event : Event) → has_some (event_bytes event) ≡ false → is_ref event ≡ false
 no_ref (Shows k chunk) h = refl
-no_ref (Opens b) h = at (is_term_ref b) h where
-  at : (t : Bool) → has_some (if t then 96 ∷ [] else []) ≡ false → t ≡ false
-  at t h = grind arith
-no_ref (Closes b) h = at (is_term_ref b) h where
-  at : (t : Bool) → has_some (if t then 96 ∷ [] else []) ≡ false → t ≡ false
-  at t h = grind arith
+no_ref (Opens b) h = grind arith
+no_ref (Closes b) h = grind arith
 
 -- on a page without text and without places stands nothing
 no_text_holds : (r : List Stretch) → has_text r ≡ false → has_place r ≡ false → holds_back r ≡ false

@@ -196,9 +196,7 @@ inked_since [] e before i n = rw i refl
 inked_since (x ∷ m) e before i n =
     let first : is_newline x ≡ false = (or_parts (is_newline x) (has_newline m) n).0 in
     let ih : inked_line (m ++ Placed e ∷ before) ≡ true = inked_since m e before i (or_parts (is_newline x) (has_newline m) n).1 in
-    rw first (or_true (is_inked_stretch x) ih) where
-      or_true : (a : Bool) → inked_line (m ++ Placed e ∷ before) ≡ true → (a || inked_line (m ++ Placed e ∷ before)) ≡ true
-      or_true a t = grind arith
+    rw first (grind arith)
 
 -- ---- the page where a chunk begins
 

@@ -67,15 +67,11 @@ ink_text (Gap b ∷ r) f q h = refl
 ink_text (Placed e ∷ r) f q h = at (by_cases (is_inked (chunk_at e))) (ink_text r f.1 q) where
   at : (is_inked (chunk_at e) ≡ true) ⊎ (is_inked (chunk_at e) ≡ false) → (list_any is_inked_stretch r ≡ true → has_text r ≡ true) → has_text (Placed e ∷ r) ≡ true
   at (inl i) ih = let some : has_some e.shown ≡ true = f.0 ∙ inked_some e.bytes i in rw some refl
-  at (inr i) ih = let rest : list_any is_inked_stretch r ≡ true = rw i at h in let tail : has_text r ≡ true = ih rest in or_true (has_some e.shown) tail where
-    or_true : (b : Bool) → has_text r ≡ true → (b || has_text r) ≡ true
-    or_true b t = grind arith
+  at (inr i) ih = let rest : list_any is_inked_stretch r ≡ true = rw i at h in let tail : has_text r ≡ true = ih rest in grind arith
 ink_text (Passed event ∷ r) f q h = at (by_cases (is_inked_event event)) (ink_text r f q.1) where
   at : (is_inked_event event ≡ true) ⊎ (is_inked_event event ≡ false) → (list_any is_inked_stretch r ≡ true → has_text r ≡ true) → has_text (Passed event ∷ r) ≡ true
   at (inl i) ih = let no : false ≡ true = sym q.0 ∙ i in absurd cc
-  at (inr i) ih = let rest : list_any is_inked_stretch r ≡ true = rw i at h in let tail : has_text r ≡ true = ih rest in or_true (has_some (event_bytes event)) tail where
-    or_true : (b : Bool) → has_text r ≡ true → (b || has_text r) ≡ true
-    or_true b t = grind arith
+  at (inr i) ih = let rest : list_any is_inked_stretch r ≡ true = rw i at h in let tail : has_text r ≡ true = ih rest in grind arith
 
 -- ---- nothing is written
 

@@ -120,14 +120,10 @@ module _ (document : List Part) (small : length document < 2 ^ 64) where
     within false a c = ((λ h. absurd cc), (λ h. absurd (let no : false ≡ true = h.0 in cc)))
 
     block_is : whole.is_block b ≡ true → whole.skips pairs index b ≡ (pairs.has_pair && (nat_lt pairs.end index && nat_le (index - pairs.end) 2))
-    block_is h = rw h (drop_true pairs.has_pair (nat_lt pairs.end index && nat_le (index - pairs.end) 2)) where
-      drop_true : (p q : Bool) → ((p && true) && q) ≡ (p && q)
-      drop_true p q = grind arith
+    block_is h = rw h (grind arith)
 
     other_is : whole.is_block b ≡ false → whole.skips pairs index b ≡ false
-    other_is h = rw h (none pairs.has_pair (nat_lt pairs.end index && nat_le (index - pairs.end) 2)) where
-      none : (p q : Bool) → ((p && false) && q) ≡ false
-      none p q = grind arith
+    other_is h = rw h (grind arith)
 
     at : (whole.is_block b ≡ true) ⊎ (whole.is_block b ≡ false) → whole.skips pairs index b ≡ is_skipped document index
     at (inl h) = block_is h ∙ skipped-is document index pairs b knows mark (pairs.has_pair && (nat_lt pairs.end index && nat_le (index - pairs.end) 2)) (within pairs.has_pair pairs.end index)

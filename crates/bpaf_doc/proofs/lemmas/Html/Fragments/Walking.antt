@@ -54,9 +54,7 @@ same_depth : (part : Part) (depth : ℕ) → hiding.hidden_after false depth par
 same_depth (Text bytes style) zero = refl
 same_depth (Text bytes style) (suc n) = rw (not_zero n) refl
 same_depth (PartStart b) zero = refl
-same_depth (PartStart b) (suc n) = rw (not_zero n, same_inline b) (at (is_inline b)) where
-  at : (i : Bool) → (if i then suc n + 1 else suc n) ≡ (if i then suc (suc n) else suc n)
-  at i = grind arith
+same_depth (PartStart b) (suc n) = rw (not_zero n, same_inline b) (grind arith)
 same_depth (PartEnd b) zero = grind arith
 same_depth (PartEnd b) (suc n) = rw (same_inline b) (elim (is_inline b) as (λ (i : Bool). (if i then suc n - 1 else suc n) ≡ (if i then n else suc n)) [ true ↦ omega arith | false ↦ refl ])
 
