@@ -200,16 +200,9 @@ pub tab_stop-le : (document : List Part) → tab_stop document ≤ 28
 tab_stop-le document = let l : greatest (filter (λ n. nat_le n 24) (term_lengths document)) ≤ 24 = greatest_le 24 (term_lengths document) 0 (omega arith) in omega arith
 
 part_indent-le : (document : List Part) (j : ℕ) (part : Part) → indent (part_shift document j part) ≤ 30
-part_indent-le document j (Text bytes style) = omega arith
-part_indent-le document j (End b) = omega arith
-part_indent-le document j (Start blocks.Header) = omega arith
-part_indent-le document j (Start blocks.Section2) = omega arith
-part_indent-le document j (Start blocks.Section3) = omega arith
 part_indent-le document j (Start blocks.Section4) = elim (skips_pair document j) as (λ (b : Bool). (if b then 4 else 2) ≤ 30) [ true ↦ omega arith | false ↦ omega arith ]
-part_indent-le document j (Start blocks.ItemTerm) = omega arith
 part_indent-le document j (Start blocks.ItemBody) = let l : tab_stop document ≤ 28 = tab_stop-le document in omega arith
-part_indent-le document j (Start blocks.Block) = omega arith
-part_indent-le document j (Start _) = omega arith
+part_indent-le document j _ = omega arith
 
 pub indent-le : (document : List Part) (j : ℕ) (part : Part) → indent (shift_at document j part) ≤ 30
 indent-le document j part = at (is_skipped document j) where

@@ -134,8 +134,8 @@ quiet : (document before rest : List Part) (part : Part) (widest : ℕ) → is_t
     → widest_from widest (is_in_term before) (sat (term_length before)) rest ≡ fold max widest (filter (λ n. nat_le n 24) (lengths_from document (length before + 1) rest))
 quiet document before rest part widest s e n same more =
     passed document before rest part widest (is_in_term before) (sat (term_length before))
-    (sym (is_in_term-push before part ∙ (grind arith)))
-    (ap sat (sym (term_length-push before part ∙ (grind arith))))
+    (sym (is_in_term-push before part ∙ grind arith))
+    (ap sat (sym (term_length-push before part ∙ grind arith)))
     same more
 
 -- what a length does to the widest, as it is and with all its columns
@@ -159,7 +159,7 @@ walk document before (Start b ∷ rest) widest e = quiet document before rest (S
 walk document before (End blocks.ItemTerm ∷ rest) widest e =
     passed document before rest (End blocks.ItemTerm) (wider widest (sat (term_length before))) false (sat (term_length before))
     (sym (is_in_term-push before (End blocks.ItemTerm) ∙ and-false (is_in_term before)))
-    (ap sat (sym (term_length-push before (End blocks.ItemTerm) ∙ (grind arith))))
+    (ap sat (sym (term_length-push before (End blocks.ItemTerm) ∙ grind arith)))
     e (λ same. walk document (before ++ End blocks.ItemTerm ∷ []) rest (wider widest (sat (term_length before))) same)
     ∙ ap (λ (m : ℕ). fold max (wider widest (sat m)) (filter (λ n. nat_le n 24) (lengths_from document (length before + 1) rest)))
     (sym (ap term_length (ap (take (length before)) e ∙ take_at before (End blocks.ItemTerm ∷ rest) (length before) refl)))

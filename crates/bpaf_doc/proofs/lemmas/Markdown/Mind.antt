@@ -145,21 +145,13 @@ heading_is : (before : List Fragment) (p : Marked) (f : Fragment) (fs : List Fra
     → own_heading (with_item p (is_term_end f)) f ++ item_heading (flags_next (flags p) f).pending (begins_with_term_end fs) ≡ headings_of before f fs
 heading_is before p (Start blocks.Header) fs h =
     ap (λ s. (if s.headed then SecondHeading else Heading) ∷ []) (item-flags p false) ∙ ap (λ b. (if b then SecondHeading else Heading) ∷ []) (sym h.headed)
-heading_is before p (Start blocks.Section3) fs h = refl
-heading_is before p (Start blocks.Section4) fs h = refl
-heading_is before p (Start blocks.ItemTerm) fs h = refl
 heading_is before p (Start blocks.ItemBody) fs h =
     append-nil (own_heading (with_item p false) (Start blocks.ItemBody))
     ∙ ap (λ s. if s.in_list then (if s.empty_item then [] else (LongDash ∷ [])) else []) (item-flags p false)
     ∙ grind arith
     ∙ ap (λ b. if (b && not (if p.pending then false else p.empty_item)) then (LongDash ∷ []) else []) (sym h.in_list)
     ∙ ap (λ b. if (is_in_list before && not b) then (LongDash ∷ []) else []) (sym (after_empty_is h.item))
-heading_is before p (Start _) fs h = refl
-heading_is before p (End b) fs h = refl
-heading_is before p (TextStart style) fs h = refl
-heading_is before p (Shown style chunk) fs h = refl
-heading_is before p (TextEnd style) fs h = refl
-heading_is before p Hidden fs h = refl
+heading_is before p _ fs h = refl
 
 pub all-headings : (before : List Fragment) (p : Marked) (fs : List Fragment) → Agrees before (flags p) → Room before fs
     → filter is_heading_or_fragment (cut_from p fs) ≡ map Put (item_heading p.pending (begins_with_term_end fs)) ++ flat_map_places_from headed_snippets before fs

@@ -164,7 +164,7 @@ quiet_since (Placed e ∷ r) q = elim (by_cases (is_inked (chunk_at e))) [ inl i
 quiet_since (Passed event ∷ r) q = at q.0 (quiet_since r q.1) where
   at : is_inked_event event ≡ false → list_any is_raw_or_ref (events_back (since is_inked_stretch r)) ≡ not (is_quiet r)
       → list_any is_raw_or_ref (events_back (since is_inked_stretch (Passed event ∷ r))) ≡ not (is_quiet (Passed event ∷ r))
-  at i ih = rw i (ap (λ (b : Bool). is_raw_or_ref event || b) ih ∙ (grind arith))
+  at i ih = rw i (ap (λ (b : Bool). is_raw_or_ref event || b) ih ∙ grind arith)
 
 pub quiet_turned : (r : List Stretch) → EachPassed NoInk r → list_any is_raw_or_ref (events_since_ink (reverse r)) ≡ not (is_quiet r)
 quiet_turned r q =
