@@ -77,7 +77,6 @@ IsWellNested-behind_text (text before kind one) bytes style ps is = let e : Text
 IsWellNested-behind_text (enclosed b inner block nested) bytes style ps is = let e : Start b ∷ (inner ++ End b ∷ []) ≡ Text bytes style ∷ ps = sym block ∙ is in cc
 IsWellNested-behind_text (joined [] back both nested also) bytes style ps is = IsWellNested-behind_text also bytes style ps (sym both ∙ is)
 IsWellNested-behind_text (joined (Text before kind ∷ front) back both nested also) bytes style ps is =
-    let e : Text before kind ∷ (front ++ back) ≡ Text bytes style ∷ ps = sym both ∙ is in
     let f : ps ≡ front ++ back = cc in
     joined front back f (IsWellNested-behind_text nested before kind front refl) also
 IsWellNested-behind_text (joined (Start b ∷ front) back both nested also) bytes style ps is = let e : Start b ∷ (front ++ back) ≡ Text bytes style ∷ ps = sym both ∙ is in cc

@@ -91,7 +91,6 @@ start_put {width} {st} p base n f q h b = λ m before e k there i blank line. at
       → FirstOrLater (Placed (place_of p)) (padded n base.back) m e before → column_back (put n p.part p.bytes p.weight base).back ≡ 0
   at m before e k i blank line (here is x r) = let no : [] ≡ Shows k (Raw (codes " ") 1) ∷ [] = sym (ap events_back is) ∙ blank in absurd cc
   at m before e k i blank line (later rest is there) =
-      let events : Shows p.part (chunk_at (place_of p)) ∷ events_back rest ≡ Shows k (Raw (codes " ") 1) ∷ [] = sym (ap events_back is) ∙ blank in
       let none : events_back rest ≡ [] = cc in
       let found : AfterPads n base.back rest e before = cut_padded n base.back rest e before there in
       let none_found : events_back found.rest ≡ [] = sym (ap events_back found.is ∙ same_padded events_back (λ x. refl) n found.rest) ∙ none in

@@ -81,7 +81,6 @@ owes_fresh (Passed event ∷ r) f o h = at (by_cases (is_raw_event event)) (by_c
   at (inr x) (inl s) y ih = let no : false ≡ true = rw s at h in absurd cc
   at (inr x) (inr s) (inl y) ih = let rest : ends_line r ≡ true = rw s at h in rw s (ih y rest)
   at (inr x) (inr s) (inr y) ih =
-      let both : ((asks_blank_line event && last_raw_inked r) || owes_blank r) ≡ true = rw x at o in
       let last : (asks_blank_line event && last_raw_inked r) ≡ true = grind arith in
       let rest : ends_line r ≡ true = rw s at h in
       rw s (last_fresh r f (and_parts (asks_blank_line event) (last_raw_inked r) last).1 rest)
@@ -268,7 +267,6 @@ module _ (width : ℕ) where
     core : (p : Piece) (base : State) (n : ℕ) → next ≡ raw p → Begins width st p base → Pads base n → HasBlankBefore (padded n base.back) (place_of p)
     core p base n is b d = λ m before e there i none asks fits.
         let cut_there : AfterPads n base.back m e before = cut_padded n base.back m e before there in
-        let rest : List Stretch = cut_there.rest in
         let bare : HasNoRaw cut_there.rest = raw_padded n cut_there.rest (subst HasNoRaw cut_there.is none) in
         let asked : list_any asks_blank_line (events_back cut_there.rest) ≡ true = subst (λ es. list_any asks_blank_line es ≡ true) (ap events_back cut_there.is ∙ same_padded events_back (λ x. refl) n cut_there.rest) asks in
         let owed : owes_blank base.back ≡ true = subst (λ x. owes_blank x ≡ true) (sym cut_there.there) (owes_between cut_there.rest e before bare i asked) in

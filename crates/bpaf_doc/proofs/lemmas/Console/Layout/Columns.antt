@@ -22,7 +22,6 @@ trim_some (c ∷ cs) h = at (by_cases (is_whitespace c)) (trim_some cs) where
       → 0 < length (drop_trailing_whitespace (c ∷ cs))
   at (inl w) ih =
       let tail : has_some (filter is_not_whitespace cs) ≡ true = rw w at h in
-      let some : 0 < length (drop_trailing_whitespace cs) = ih tail in
       let no : (length (drop_trailing_whitespace cs) == 0) ≡ false = grind (arith, nat_tests) in
       rw (w, no) (omega arith)
   at (inr w) ih = rw w (omega arith)
@@ -93,7 +92,6 @@ ends_line_column (Placed e ∷ r) f h = at (by_cases (has_some e.shown)) (ends_l
   at (inr s) ih =
       let rest : ends_line r ≡ true = rw s at h in
       let none : columns e.bytes ≡ 0 = empty_columns e.bytes (sym f.0 ∙ s) in
-      let tail : column_back r ≡ 0 = ih rest in
       omega arith
 ends_line_column (Passed event ∷ r) f h = at (by_cases (has_some (event_bytes event))) (ends_line_column r f) where
   at : (has_some (event_bytes event) ≡ true) ⊎ (has_some (event_bytes event) ≡ false) → (ends_line r ≡ true → column_back r ≡ 0) → column_back (Passed event ∷ r) ≡ 0
@@ -101,7 +99,6 @@ ends_line_column (Passed event ∷ r) f h = at (by_cases (has_some (event_bytes 
   at (inr s) ih =
       let rest : ends_line r ≡ true = rw s at h in
       let none : length (event_bytes event) ≡ 0 = no_bytes (event_bytes event) s in
-      let tail : column_back r ≡ 0 = ih rest in
       omega arith
 
 -- a page without text is at column 0
@@ -114,7 +111,6 @@ no_text_column (Placed e ∷ r) f h = at (by_cases (has_some e.shown)) (no_text_
   at (inr s) ih =
       let rest : has_text r ≡ false = rw s at h in
       let none : columns e.bytes ≡ 0 = empty_columns e.bytes (sym f.0 ∙ s) in
-      let tail : column_back r ≡ 0 = ih rest in
       omega arith
 no_text_column (Passed event ∷ r) f h = at (by_cases (has_some (event_bytes event))) (no_text_column r f) where
   at : (has_some (event_bytes event) ≡ true) ⊎ (has_some (event_bytes event) ≡ false) → (has_text r ≡ false → column_back r ≡ 0) → column_back (Passed event ∷ r) ≡ 0
@@ -122,7 +118,6 @@ no_text_column (Passed event ∷ r) f h = at (by_cases (has_some (event_bytes ev
   at (inr s) ih =
       let rest : has_text r ≡ false = rw s at h in
       let none : length (event_bytes event) ≡ 0 = no_bytes (event_bytes event) s in
-      let tail : column_back r ≡ 0 = ih rest in
       omega arith
 
 -- ---- the column that is kept
@@ -154,7 +149,6 @@ pub agrees_put : (n : ℕ) (p : Piece) (base : State) → (IsOrdinary (Raw p.byt
 agrees_put n p base weighed h = at (by_cases (is_ordinary (Raw p.bytes p.weight))) h where
   at : (is_ordinary (Raw p.bytes p.weight) ≡ true) ⊎ (is_ordinary (Raw p.bytes p.weight) ≡ false) → Agrees base → Agrees (put n p.part p.bytes p.weight base)
   at (inl o) (inl c) =
-      let w : p.weight ≡ columns p.bytes = weighed o in
       sat_agrees (base.column + n + p.weight) (columns p.bytes + column_back (padded n base.back)) (omega (arith, column_padded n base.back))
   at (inl o) (inr c) = inr (omega arith)
   at (inr o) _ = let w : 1_000_000 ≤ p.weight = heavy p.weight o in inr (omega arith)

@@ -135,7 +135,6 @@ module _ (width : ℕ) where
     at_wrap mid l w is gap =
         let same : reach gap.rest e before ≡ reach found.rest e before = ap (λ es. column_back before + columns e.bytes + chunk_columns es) (sym (ap events_back gap.is)) in
         let r : AtWrap st mid (reach gap.rest e before) = wrap_known h l gap.rest before e gap.there plain (subst (λ es. list_all is_light es ≡ true) (ap events_back gap.is) light_rest) in
-        let column_is : mid.column ≤ reach found.rest e before = subst (λ (k : ℕ). mid.column ≤ k) same r.column in
         let margin_is : mid.margin ≤ reach found.rest e before = subst (λ (k : ℕ). mid.margin ≤ k) same r.margin in
         with_pads (wrapped mid) is (omega arith) margin_is r.pending (λ t. omega arith)
 
@@ -192,7 +191,6 @@ module _ (width : ℕ) where
         let is : base ≡ st = lines_same r.asked l in
         let own : Marked st (reach found.rest e before) (has_newline found.rest) =
         h found.rest before e (subst (λ (x : State). Cut x.back found.rest e before) is found.there) plain light_rest in
-        let none : has_newline found.rest ≡ false = own.line in
         let some : has_newline found.rest ≡ true = sym same_line ∙ line in absurd cc
     at (wraps t mid l w x s) = at_wrap mid l w (cut_gap 10 (trimmed mid.back) found.rest e before (subst (λ (y : State). Cut y.back found.rest e before) s found.there))
 
@@ -288,8 +286,6 @@ module _ (width : ℕ) where
         let parts : (is_light (Shows p.part (Raw p.bytes p.weight)) && list_all is_light (events_back gap.rest)) ≡ true = subst (λ es. list_all is_light es ≡ true) events light in
         let r : AtWrap width st mid (reach gap.rest e before) = wrap_known width h l gap.rest before e gap.there plain (and_parts (is_light (Shows p.part (Raw p.bytes p.weight))) (list_all is_light (events_back gap.rest)) parts).1 in
         let total : chunk_columns (events_back m) ≡ columns p.bytes + chunk_columns (events_back gap.rest) = ap chunk_columns events in
-        let a : mid.column ≤ reach gap.rest e before = r.column in
-        let c : mid.margin ≤ reach gap.rest e before = r.margin in
         record { column = omega arith; margin = omega arith; asked = r.asked; pending = r.pending; needed = λ t. omega arith }
 
   reached_passed : (event : Event) (margin : ℕ) (st : State) → (is_light event ≡ true → IsQuietMark event × ((p : Bool) → pending_after event p ≡ p) × (margin ≤ st.margin))
@@ -303,12 +299,7 @@ module _ (width : ℕ) where
         let own : is_light event ≡ true = (and_parts (is_light event) (list_all is_light (events_back found.rest)) parts).0 in
         let r : Reached width st (reach found.rest e before) (has_newline found.rest) = h found.rest before e found.there plain (and_parts (is_light event) (list_all is_light (events_back found.rest)) parts).1 in
         let marks : IsQuietMark event × ((p : Bool) → pending_after event p ≡ p) × (margin ≤ st.margin) = quiet own in
-        let bare : length (event_bytes event) ≡ 0 = marks.0.bytes in
-        let none : event_columns event ≡ 0 = marks.0.columns_of in
         let total : chunk_columns (events_back m) ≡ event_columns event + chunk_columns (events_back found.rest) = ap chunk_columns events in
-        let a : st.column ≤ reach found.rest e before = r.column in
-        let c : st.margin ≤ reach found.rest e before = r.margin in
-        let g : margin ≤ st.margin = marks.2 in
         record {
           column = omega arith;
           margin = omega arith;
@@ -342,7 +333,6 @@ module _ (width : ℕ) where
       let same : Opens b ≡ event = cc in
       let level : n ≡ margin = cc in
       let inline : is_inline_block b ≡ true = subst (λ (x : Event). is_light x ≡ true) (sym same) h in
-      let less : n ≤ st.margin = l inline in
       (subst IsQuietMark same (quiet_open b (light_open b inline).0), subst (λ (x : Event). (p : Bool) → pending_after x p ≡ p) same (light_open b inline).1, omega arith)
   suits_light st next event margin (close_suits b n f l u) e = λ h.
       let same : Closes b ≡ event = cc in
@@ -382,10 +372,7 @@ module _ (width : ℕ) where
         let parts : (is_light_mark event && list_all is_light_mark (events_back found.rest)) ≡ true = subst (λ es. list_all is_light_mark es ≡ true) events light in
         let marks : IsQuietMark event = quiet (and_parts (is_light_mark event) (list_all is_light_mark (events_back found.rest)) parts).0 in
         let r : Marked st (reach found.rest e before) (has_newline found.rest) = h found.rest before e found.there plain (and_parts (is_light_mark event) (list_all is_light_mark (events_back found.rest)) parts).1 in
-        let bare : length (event_bytes event) ≡ 0 = marks.bytes in
-        let none : event_columns event ≡ 0 = marks.columns_of in
         let total : chunk_columns (events_back m) ≡ event_columns event + chunk_columns (events_back found.rest) = ap chunk_columns events in
-        let a : st.column ≤ reach found.rest e before = r.column in
         record { column = omega arith; asked = marks.asked st.asked ∙ r.asked; line = ap has_newline found.is ∙ r.line }
 
   suits_marks : {margin_of : ℕ → ℕ} (st : State) (next : Next) (event : Event) (margin : ℕ) → Suits margin_of st next → next ≡ mark event margin → is_light_mark event ≡ true → IsQuietMark event

@@ -76,7 +76,6 @@ module _ (width : ℕ) where
       let some : holds_back st.back ≡ true = sym (same_padded holds_back (λ x. refl) n st.back) ∙ subst (λ (x : State). holds_back (padded n x.back) ≡ true) e holds in absurd cc
   fits_place {st} p base n small f start h none (stays t l w) = λ holds.
       let here : base.column ≡ column_back base.back = begins_column {p = p} small f start h (stays t l w) in
-      let bare : pads_back base.back ≡ 0 = pads_lines l none in
       let line : column_back (padded n base.back) ≡ n + column_back base.back = column_padded n base.back in
       let pads : pads_back (padded n base.back) ≡ n + pads_back base.back = pads_padded n base.back in
       omega arith

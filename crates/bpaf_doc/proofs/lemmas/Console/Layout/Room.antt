@@ -260,7 +260,6 @@ module _ (width deepest : ℕ) where
       let same : events_back gap.rest ≡ events_back m = sym (ap events_back gap.is) in
       let reach : InReach (room deepest (events_back m) e before) mid =
       subst (λ es. InReach (room deepest es e before) mid) same (known_trimmed h l gap.rest before e gap.there i (subst (λ es. list_all is_idle es ≡ true) (sym same) idle)) in
-      let c : mid.column ≤ room deepest (events_back m) e before = reach.column in
       record {
         reach = subst (InReach (room deepest (events_back m) e before)) (sym s) (wrapped_in_reach mid (room deepest (events_back m) e before) reach);
         needed = λ n. omega arith;
@@ -328,8 +327,6 @@ module _ (width deepest : ℕ) where
         let reach : InReach (room deepest (events_back gap.rest) e before) mid =
         known_trimmed h l gap.rest before e gap.there i (and_parts (is_idle (Shows p.part (Raw p.bytes p.weight))) (list_all is_idle (events_back gap.rest)) both).1 in
         let end : room deepest (events_back m) e before ≡ room deepest (events_back gap.rest) e before + p.weight = ap (λ es. room deepest es e before) events ∙ room_chunk deepest p (events_back gap.rest) e before in
-        let c : mid.column ≤ room deepest (events_back gap.rest) e before = reach.column in
-        let g : mid.margin ≤ room deepest (events_back gap.rest) e before = reach.margin in
         record {
           reach = record {
             column = omega arith;

@@ -37,7 +37,6 @@ some_left (d ∷ ds) h = at (by_cases (is_whitespace d)) (some_left ds) where
   at : (is_whitespace d ≡ true) ⊎ (is_whitespace d ≡ false) → (has_some (filter is_not_whitespace ds) ≡ true → 0 < length (drop_trailing_whitespace ds)) → 0 < length (drop_trailing_whitespace (d ∷ ds))
   at (inl w) ih =
       let rest : has_some (filter is_not_whitespace ds) ≡ true = rw w at h in
-      let some : 0 < length (drop_trailing_whitespace ds) = ih rest in
       let no : (length (drop_trailing_whitespace ds) == 0) ≡ false = grind (arith, nat_tests) in
       rw (w, no) (omega arith)
   at (inr w) ih = rw w (omega arith)

@@ -42,8 +42,6 @@ sum_turned f [] = refl
 sum_turned f (x ∷ xs) =
     let a : sum_by f (reverse (x ∷ xs)) ≡ sum_by f (reverse xs ++ x ∷ []) = ap (λ ys. sum_by f ys) (reverse_cons x xs) in
     let b : sum_by f (reverse xs ++ x ∷ []) ≡ sum_by f (reverse xs) + sum_by f (x ∷ []) = sum_by-append f (reverse xs) (x ∷ []) in
-    let c : sum_by f (x ∷ []) ≡ f x + sum_by f [] = sum_by-cons f x [] in
-    let d : sum_by f [] ≡ 0 = refl in
     let e : sum_by f (x ∷ xs) ≡ f x + sum_by f xs = sum_by-cons f x xs in
     let ih : sum_by f (reverse xs) ≡ sum_by f xs = sum_turned f xs in
     omega arith
@@ -93,7 +91,6 @@ drop_turned k r h =
 
 pub after_last_turned : (p : Stretch → Bool) (r : List Stretch) → after_last p (reverse r) ≡ reverse (since p r)
 after_last_turned p r =
-    let k : ℕ = prefix_len (λ x. not (p x)) r in
     let size : length (reverse r) ≡ length r = length-reverse r in
     let turned : suffix_len (λ x. not (p x)) (reverse r) ≡ prefix_len (λ x. not (p x)) r = ap (λ ys. prefix_len (λ x. not (p x)) ys) (reverse-reverse r) in
     ap (λ (n : ℕ). drop (n - suffix_len (λ x. not (p x)) (reverse r)) (reverse r)) size
@@ -197,7 +194,6 @@ lines_within bound c (x ∷ xs) h =
       at (inl t) zero_ih ih =
           let found : LinesWithin 0 bound (slice_split is_newline xs) = zero_ih (λ a b s. let l : ahead c (x ∷ a) ≤ bound = h (x ∷ a) b (ap (λ ys. x ∷ ys) s) in rw t at l) in
           let start : c ≤ bound = h [] (x ∷ xs) refl in
-          let none : sum_by stretch_columns [] ≡ 0 = refl in
           let first_line : sum_by stretch_columns found.line ≤ bound = let f : 0 + sum_by stretch_columns found.line ≤ bound = found.front in omega arith in
           record {
             line = [];
@@ -209,7 +205,6 @@ lines_within bound c (x ∷ xs) h =
       at (inr t) zero_ih ih =
           let found : LinesWithin (c + stretch_columns x) bound (slice_split is_newline xs) = ih (λ a b s. let l : ahead c (x ∷ a) ≤ bound = h (x ∷ a) b (ap (λ ys. x ∷ ys) s) in rw t at l) in
           let more : sum_by stretch_columns (x ∷ found.line) ≡ stretch_columns x + sum_by stretch_columns found.line = sum_by-cons stretch_columns x found.line in
-          let f : c + stretch_columns x + sum_by stretch_columns found.line ≤ bound = found.front in
           record { line = x ∷ found.line; others = found.others; is = rw (t, found.is) refl; front = omega arith; rest = found.rest }
 
 ahead_snoc : (c : ℕ) (a : List Stretch) (x : Stretch) → ahead c (a ++ x ∷ []) ≡ (if is_newline x then 0 else (ahead c a + stretch_columns x))

@@ -97,7 +97,6 @@ pushed_same (Some n) s = record { out = refl; column = refl; asks = refl; at_bod
 pub draws_opened : (b : Block) (adjacent : Bool) (s : Sheet) (st : State) → Draws s st → Draws (page.opened b adjacent s) (passed (Opens b) (page.margin_of (page.opened b adjacent s)) st)
 unfolding page.opened
 draws_opened b adjacent s st d =
-    let before : Sheet = record s { asks = page.asked_by_start s.asks b; at_body = s.at_body || page.is_body b } in
     let same : SameButMargins (record s { asks = page.asked_by_start s.asks b; at_body = s.at_body || page.is_body b })
     (page.margin_pushed (page.indent_of b s.tab_stop adjacent) (record s { asks = page.asked_by_start s.asks b; at_body = s.at_body || page.is_body b })) =
     pushed_same (page.indent_of b s.tab_stop adjacent) (record s { asks = page.asked_by_start s.asks b; at_body = s.at_body || page.is_body b }) in
