@@ -8,6 +8,7 @@ use Rattle.std.proofs.lemmas.List.Sums.{sum_by-cons, take_while-cons}
 use Rattle.std.proofs.lemmas.Bool.Decides.{nat_tests}
 use Rattle.std.proofs.Math.Bool.{and-false, and-true, or-false}
 use Rattle.std.proofs.Math.Nat.{add-zero, zero-add}
+use Rattle.bpaf_doc.proofs.lemmas.Manpage.LookingBack.{after_last-append}
 use Rattle.bpaf_doc.specs.declared.buffer.Block.TheVariants as blocks
 use Rattle.bpaf_doc.specs.Buffer.Parts.{Part, Text, Start, End}
 use Rattle.bpaf_doc.specs.Splitter.Chunks.{columns}
@@ -32,16 +33,6 @@ widest_from widest in_term count (End blocks.ItemTerm ∷ rest) = widest_from (w
 widest_from widest in_term count (End b ∷ rest) = widest_from widest in_term count rest
 
 -- ---- one part more
-
--- after the last that passes
-after_last-push : {A : Type 0} (p : A → Bool) (xs : List A) (y : A) → after_last p (xs ++ y ∷ []) ≡ (if p y then [] else after_last p xs ++ y ∷ [])
-after_last-push {A = A} p xs y = ap (λ ys. drop (length (xs ++ y ∷ []) - prefix_len (λ x. not (p x)) ys) (xs ++ y ∷ [])) (reverse-append xs (y ∷ [])) ∙ at (p y) (suffix_len (λ x. not (p x)) xs) where
-  less : (s : ℕ) → length (xs ++ y ∷ []) - (1 + s) ≡ length xs - s
-  less s = let len : length (xs ++ y ∷ []) ≡ length xs + 1 = length-append xs (y ∷ []) in omega arith
-
-  at : (b : Bool) (s : ℕ) → drop (length (xs ++ y ∷ []) - cond (not b) (1 + s) 0) (xs ++ y ∷ []) ≡ (if b then [] else drop (length xs - s) xs ++ y ∷ [])
-  at true s = drop_all (length (xs ++ y ∷ []) - 0) (xs ++ y ∷ []) (omega arith)
-  at false s = ap (λ (n : ℕ). drop n (xs ++ y ∷ [])) (less s) ∙ drop-append-le (length xs - s) xs (y ∷ []) (omega arith)
 
 -- the columns of the texts before the first end
 abbrev first_columns : List Part → ℕ
@@ -77,7 +68,7 @@ any_push p parts part = list_any-append p parts (part ∷ []) ∙ ap (λ (b : Bo
 is_in_term-push : (before : List Part) (part : Part) → is_in_term (before ++ part ∷ []) ≡ (if is_term_start part then true else is_in_term before && not (is_term_end part))
 is_in_term-push before part =
     ap (λ (b : Bool). b && not (list_any is_term_end (after_last is_term_start (before ++ part ∷ [])))) (any_push is_term_start before part)
-    ∙ ap (λ ps. (list_any is_term_start before || is_term_start part) && not (list_any is_term_end ps)) (after_last-push is_term_start before part)
+    ∙ ap (λ ps. (list_any is_term_start before || is_term_start part) && not (list_any is_term_end ps)) (after_last-append is_term_start before part)
     ∙ at (list_any is_term_start before) (is_term_start part) (any_push is_term_end (after_last is_term_start before) part) where
       at : (a s : Bool) → list_any is_term_end (after_last is_term_start before ++ part ∷ []) ≡ (list_any is_term_end (after_last is_term_start before) || is_term_end part)
           → ((a || s) && not (list_any is_term_end (if s then [] else after_last is_term_start before ++ part ∷ [])))
@@ -91,7 +82,7 @@ term_length-push : (before : List Part) (part : Part)
     → term_length (before ++ part ∷ []) ≡ (if is_term_start part then 0 else term_length before + (if is_in_term before then text_columns part else 0))
 term_length-push before part =
     ap (λ (b : Bool). if b then first_columns (after_last is_term_start (before ++ part ∷ [])) else 0) (any_push is_term_start before part)
-    ∙ ap (λ ps. if list_any is_term_start before || is_term_start part then first_columns ps else 0) (after_last-push is_term_start before part)
+    ∙ ap (λ ps. if list_any is_term_start before || is_term_start part then first_columns ps else 0) (after_last-append is_term_start before part)
     ∙ at (list_any is_term_start before) (is_term_start part) (first_columns-push (after_last is_term_start before) part) where
       at : (a s : Bool) → first_columns (after_last is_term_start before ++ part ∷ []) ≡ first_columns (after_last is_term_start before) + (if list_any is_term_end (after_last is_term_start before) then 0 else text_columns part)
           → (if a || s then first_columns (if s then [] else after_last is_term_start before ++ part ∷ []) else 0)

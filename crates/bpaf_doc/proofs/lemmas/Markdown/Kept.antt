@@ -8,7 +8,7 @@ use Rattle.bpaf_doc.specs.Splitter.Chunks.{Raw, Paragraph, LineBreak, code_weigh
 use Rattle.bpaf_doc.specs.Html.Fragments.{Fragment, TextStart, Shown, TextEnd, Hidden, Start, End}
 use Rattle.bpaf_doc.specs.Markdown.Page.{Mark, Heading, SecondHeading, ThirdHeading, Dash, LongDash, Blank, Newline, Put, Of, fragments_in, style_marks, styled_snippets, is_style_mark_or_fragment, is_heading_or_fragment}
 use Rattle.bpaf_doc.specs.Markdown.Steps.Page.{Marked, starts_line, starts_paragraph, with_item, is_term_end, marked_after}
-use Rattle.bpaf_doc.proofs.lemmas.Markdown.Cut.{blanks, item_snippets, open_snippets, close_snippets, end_code_snippets, line_snippets, new_line_snippets, body_bytes, body_dash, own_snippets, snippets_of, cut_from, fragments-append}
+use Rattle.bpaf_doc.proofs.lemmas.Markdown.Cut.{blanks, item_snippets, open_snippets, close_snippets, end_code_snippets, line_snippets, new_line_snippets, body_bytes, body_dash, own_snippets, snippets_of, cut_from, fragments-append, item_marks}
 
 -- the heading or list mark that a fragment writes of its own
 abbrev pub own_heading : Marked → Fragment → List Mark
@@ -41,9 +41,6 @@ own-headings p (Start blocks.Header) = grind arith
 own-headings p (End blocks.ItemBody) = grind arith
 own-headings p _ = grind arith
 
-item-fragments : (pending empty : Bool) → fragments_in (item_snippets pending empty) ≡ []
-item-fragments pending empty = grind arith
-
 item-styles : (pending empty : Bool) → filter is_style_mark_or_fragment (item_snippets pending empty) ≡ []
 item-styles pending empty = grind arith
 
@@ -57,11 +54,11 @@ item-headings pending empty = grind arith
 pub step-fragments : (p : Marked) (f : Fragment) → fragments_in (snippets_of p f) ≡ f ∷ []
 step-fragments p f =
     fragments-append (item_snippets p.pending (is_term_end f)) (own_snippets (with_item p (is_term_end f)) f)
-    ∙ ap (λ x. x ++ fragments_in (own_snippets (with_item p (is_term_end f)) f)) (item-fragments p.pending (is_term_end f))
+    ∙ ap (λ x. x ++ fragments_in (own_snippets (with_item p (is_term_end f)) f)) (item_marks p.pending (is_term_end f))
     ∙ own-fragments (with_item p (is_term_end f)) f
 
 pub cut-fragments : (p : Marked) (fs : List Fragment) → fragments_in (cut_from p fs) ≡ fs
-cut-fragments p [] = item-fragments p.pending false
+cut-fragments p [] = item_marks p.pending false
 cut-fragments p (f ∷ fs) =
     fragments-append (snippets_of p f) (cut_from (marked_after p f) fs)
     ∙ ap (λ x. x ++ fragments_in (cut_from (marked_after p f) fs)) (step-fragments p f)

@@ -11,7 +11,7 @@ use Rattle.bpaf_doc.specs.declared.console.page.Asked.{Asked}
 use Rattle.bpaf_doc.specs.declared.console.page.Asked.TheVariants.{Nothing, NewLine, BlankLine}
 use Rattle.bpaf_doc.proofs.lemmas.Console.Layout.State.{State, Piece, Lines, none_asked, line_there, line_put, blank_there, second_put, both_put, Pads, Begins, first, stays, wraps, places, drops, Next, raw, break, Grows, placing, breaking, passing, padded, trimmed, has_text, ends_line, ends_blank, passed, at_least_line, Suits, raw_suits, paragraph_suits, line_break_suits, open_suits, close_suits}
 use Rattle.bpaf_doc.proofs.lemmas.Console.Layout.Back.{by_cases, EachPlace, each_grows, trimmed_inked, trimmed_plain, trimmed_bytes, trimmed_bare, place_of, by_lines, lines_back, begins_back, by_trimmed, same_padded}
-use Rattle.bpaf_doc.proofs.lemmas.Console.Layout.Columns.{Fills, inked_some, fills_begins}
+use Rattle.bpaf_doc.proofs.lemmas.Console.Layout.Columns.{Fills, inked_some, fills_begins, no_bytes}
 use Rattle.bpaf_doc.proofs.lemmas.Console.Layout.Text.{EachPassed, NoInk, ink_text, or_true_right, or_false_left, or_false_right}
 use Rattle.bpaf_doc.proofs.lemmas.Console.Layout.Split.{events_back, Cut, AfterPads, cut_padded, ink_at}
 use Rattle.bpaf_doc.proofs.lemmas.Console.Layout.Asked.{blank_line_ends}
@@ -48,15 +48,11 @@ fresh_grows (placing p e (places base n b d a)) h = subst IsFreshAtZero (sym a) 
 fresh_grows (placing p e (drops t mid l w b a)) h = subst IsFreshAtZero (sym a) (λ o. refl)
 fresh_grows (breaking k chunk e a) h = subst IsFreshAtZero (sym a) (λ o. refl)
 fresh_grows {st = st} (passing event margin e a) h = subst IsFreshAtZero (sym a) (at (by_cases (has_some (event_bytes event)))) where
-  no_length : (xs : List ℕ) → has_some xs ≡ false → length xs ≡ 0
-  no_length [] h = refl
-  no_length (x ∷ xs) h = absurd cc
-
   at : (has_some (event_bytes event) ≡ true) ⊎ (has_some (event_bytes event) ≡ false) → IsFreshAtZero (passed event margin st)
   at (inl s) = λ o. let no : false ≡ true = rw s at o in absurd cc
   at (inr s) = λ o.
       let rest : is_fresh st.back ≡ true = rw s at o in
-      let none : length (event_bytes event) ≡ 0 = no_length (event_bytes event) s in
+      let none : length (event_bytes event) ≡ 0 = no_bytes (event_bytes event) s in
       let here : st.column ≡ 0 = h rest in omega arith
 
 last_fresh : (r : List Stretch) → EachPlace Fills r → last_raw_inked r ≡ true → ends_line r ≡ true → is_fresh r ≡ true
@@ -127,7 +123,7 @@ text_back_cons x m =
     let turned : reverse (x ∷ m) ≡ reverse m ++ x ∷ [] = reverse-append (x ∷ []) m in
     ap text_of turned ∙ flat_map-append stretch_bytes (reverse m) (x ∷ []) ∙ ap (λ t. text_back m ++ t) (append-nil (stretch_bytes x))
 
-some_none : (xs : List ℕ) → has_some xs ≡ false → xs ≡ []
+pub some_none : (xs : List ℕ) → has_some xs ≡ false → xs ≡ []
 some_none [] h = refl
 some_none (x ∷ xs) h = absurd cc
 

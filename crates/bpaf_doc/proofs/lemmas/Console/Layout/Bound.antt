@@ -116,9 +116,6 @@ module _ (width deepest most : ℕ) where
       let front : column_back st.back ≤ bound = whole_front (Within bound) st.back h in
       subst (λ (s : State). EachFront (Within bound) s.back) (sym a) (omega arith, (omega arith, h))
   within_grows {st} small f q agrees m writes narrow (passing event margin e a) h =
-      let none : length (event_bytes event) ≡ 0 = no_length (event_bytes event) (subst WritesNone e writes) in
+      let none : length (event_bytes event) ≡ 0 = no_bytes (event_bytes event) (subst WritesNone e writes) in
       let front : column_back st.back ≤ bound = whole_front (Within bound) st.back h in
-      subst (λ (s : State). EachFront (Within bound) s.back) (sym a) (omega arith, h) where
-        no_length : (xs : List ℕ) → has_some xs ≡ false → length xs ≡ 0
-        no_length [] h = refl
-        no_length (x ∷ xs) h = absurd cc
+      subst (λ (s : State). EachFront (Within bound) s.back) (sym a) (omega arith, h)

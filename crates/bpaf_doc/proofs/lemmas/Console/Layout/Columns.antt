@@ -15,9 +15,9 @@ use Rattle.bpaf_doc.proofs.lemmas.Console.Layout.Back.{by_cases, EachPlace, Keep
 
 -- ---- a chunk with ink keeps some bytes when its blank end is cut
 
-trim_some : (cs : List ℕ) → has_some (filter is_not_whitespace cs) ≡ true → 0 < length (drop_trailing_whitespace cs)
-trim_some [] h = absurd cc
-trim_some (c ∷ cs) h = at (by_cases (is_whitespace c)) (trim_some cs) where
+pub whole_trim : (cs : List ℕ) → has_some (filter is_not_whitespace cs) ≡ true → 0 < length (drop_trailing_whitespace cs)
+whole_trim [] h = absurd cc
+whole_trim (c ∷ cs) h = at (by_cases (is_whitespace c)) (whole_trim cs) where
   at : (is_whitespace c ≡ true) ⊎ (is_whitespace c ≡ false) → (has_some (filter is_not_whitespace cs) ≡ true → 0 < length (drop_trailing_whitespace cs))
       → 0 < length (drop_trailing_whitespace (c ∷ cs))
   at (inl w) ih =
@@ -33,7 +33,7 @@ some_of_length (x ∷ xs) h = refl
 pub inked_trim : (bytes : List ℕ) → has_some (ink bytes) ≡ true → has_some (trim_end bytes) ≡ true
 unfolding trim_end
 inked_trim bytes h =
-    let some : 0 < length (drop_trailing_whitespace (chars bytes)) = trim_some (chars bytes) h in
+    let some : 0 < length (drop_trailing_whitespace (chars bytes)) = whole_trim (chars bytes) h in
     some_of_length (encode_utf8_all (drop_trailing_whitespace (chars bytes))) (omega (arith, length-le-encodes (drop_trailing_whitespace (chars bytes))))
 
 pub inked_some : (bytes : List ℕ) → has_some (ink bytes) ≡ true → has_some bytes ≡ true

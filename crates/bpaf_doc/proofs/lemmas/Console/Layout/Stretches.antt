@@ -9,13 +9,14 @@ use Rattle.std.proofs.lemmas.Str.{chars-append, encodes-chars, chars-encodes, sc
 use Rattle.std.proofs.Math.Utf8.{encodes, scalars, scalar}
 use Rattle.std.proofs.lemmas.Bool.Decides.{nat_tests}
 use Rattle.std.proofs.lemmas.Bool.{or_parts}
+use Rattle.bpaf_doc.proofs.lemmas.Console.Layout.Columns.{whole_trim}
 use Rattle.bpaf_doc.specs.Buffer.Parts.{ink}
 use Rattle.bpaf_doc.specs.Splitter.Chunks.{is_inked, has_some, IsLine, is_line_byte}
 use Rattle.bpaf_doc.specs.Shown.{is_term_ref}
 use Rattle.bpaf_doc.specs.Console.Layout.{Event, Shows, Opens, Closes, Stretch, Gap, Placed, Passed, Place, chunk_at, event_bytes, stretch_bytes}
 use Rattle.bpaf_doc.proofs.lemmas.Console.Layout.State.{has_text, ends_line, ends_blank, padded, trimmed, cut, IsLegible}
 use Rattle.bpaf_doc.proofs.lemmas.Console.Layout.Back.{by_cases, trimmed_inked, trimmed_plain, trimmed_bytes, trimmed_bare, by_padded, by_trimmed}
-use Rattle.bpaf_doc.proofs.lemmas.Console.Layout.Blank.{text_back, text_back_cons}
+use Rattle.bpaf_doc.proofs.lemmas.Console.Layout.Blank.{text_back, text_back_cons, some_none}
 
 -- ---- trimming
 
@@ -31,21 +32,11 @@ dropped_white : (cs ds : List ℕ) → has_some (filter is_not_whitespace ds) �
 dropped_white [] ds h = white ds h
 dropped_white (c ∷ cs) ds h = let ih : drop_trailing_whitespace (cs ++ ds) ≡ drop_trailing_whitespace cs = dropped_white cs ds h in rw ih refl
 
-some_left : (ds : List ℕ) → has_some (filter is_not_whitespace ds) ≡ true → 0 < length (drop_trailing_whitespace ds)
-some_left [] h = absurd cc
-some_left (d ∷ ds) h = at (by_cases (is_whitespace d)) (some_left ds) where
-  at : (is_whitespace d ≡ true) ⊎ (is_whitespace d ≡ false) → (has_some (filter is_not_whitespace ds) ≡ true → 0 < length (drop_trailing_whitespace ds)) → 0 < length (drop_trailing_whitespace (d ∷ ds))
-  at (inl w) ih =
-      let rest : has_some (filter is_not_whitespace ds) ≡ true = rw w at h in
-      let no : (length (drop_trailing_whitespace ds) == 0) ≡ false = grind (arith, nat_tests) in
-      rw (w, no) (omega arith)
-  at (inr w) ih = rw w (omega arith)
-
 dropped_some : (cs ds : List ℕ) → has_some (filter is_not_whitespace ds) ≡ true → drop_trailing_whitespace (cs ++ ds) ≡ cs ++ drop_trailing_whitespace ds
 dropped_some [] ds h = refl
 dropped_some (c ∷ cs) ds h =
     let ih : drop_trailing_whitespace (cs ++ ds) ≡ cs ++ drop_trailing_whitespace ds = dropped_some cs ds h in
-    let some : 0 < length (drop_trailing_whitespace ds) = some_left ds h in
+    let some : 0 < length (drop_trailing_whitespace ds) = whole_trim ds h in
     rw ih (at (is_whitespace c) (no_end cs (drop_trailing_whitespace ds) some)) where
       no_end : (cs es : List ℕ) → 0 < length es → (length (cs ++ es) == 0) ≡ false
       no_end [] es h = grind (arith, nat_tests)
@@ -152,10 +143,6 @@ snoc_some : (xs : List ℕ) (ys : List ℕ) → has_some ys ≡ true → xs ++ y
 snoc_some [] ys h = λ none. let no : false ≡ true = ap has_some (sym none) ∙ h in absurd cc
 snoc_some (x ∷ xs) ys h = λ none. absurd cc
 
-some_none : (xs : List ℕ) → has_some xs ≡ false → xs ≡ []
-some_none [] h = refl
-some_none (x ∷ xs) h = absurd cc
-
 -- a page without bytes has an empty text, and only such a page
 pub no_text : (r : List Stretch) → has_text r ≡ false → text_back r ≡ []
 no_text [] h = refl
@@ -180,7 +167,7 @@ last_same (x ∷ []) [] a b e = absurd cc
 last_same (x ∷ z ∷ xs) [] a b e = absurd cc
 last_same (x ∷ xs) (y ∷ ys) a b e = let rest : xs ++ a ∷ [] ≡ ys ++ b ∷ [] = cc in last_same xs ys a b rest
 
-front_same : (xs ys : List ℕ) (a b : ℕ) → xs ++ a ∷ [] ≡ ys ++ b ∷ [] → xs ≡ ys
+pub front_same : (xs ys : List ℕ) (a b : ℕ) → xs ++ a ∷ [] ≡ ys ++ b ∷ [] → xs ≡ ys
 front_same [] [] a b e = refl
 front_same [] (y ∷ []) a b e = absurd cc
 front_same [] (y ∷ z ∷ ys) a b e = absurd cc

@@ -9,7 +9,7 @@ use Rattle.bpaf_doc.specs.Splitter.Chunks.{Raw, Paragraph, LineBreak, is_inked, 
 use Rattle.bpaf_doc.specs.Console.Layout.{Event, Shows, Opens, Closes, Stretch, Gap, Placed, Passed, chunk_at, event_bytes, is_inked_event, is_inked_stretch, is_empty_code, is_placed, is_written}
 use Rattle.bpaf_doc.proofs.lemmas.Console.Layout.State.{State, Piece, Lines, none_asked, line_there, line_put, blank_there, second_put, both_put, Begins, first, stays, wraps, places, drops, Next, raw, break, mark, Grows, placing, breaking, passing, padded, trimmed, has_text, put, passed, Fits, Suits, raw_suits, paragraph_suits, line_break_suits, open_suits, close_suits, IsClear}
 use Rattle.bpaf_doc.proofs.lemmas.Console.Layout.Back.{by_cases, EachPlace, trimmed_inked, trimmed_plain, trimmed_bytes, trimmed_bare, fits_of, by_lines, lines_back, begins_back, by_trimmed, by_padded}
-use Rattle.bpaf_doc.proofs.lemmas.Console.Layout.Columns.{Fills, inked_some, column_back, no_text_column, Agrees, agrees_lines}
+use Rattle.bpaf_doc.proofs.lemmas.Console.Layout.Columns.{Fills, inked_some, column_back, no_text_column, Agrees, agrees_lines, no_bytes}
 
 -- ---- what has no place has no ink
 
@@ -128,12 +128,9 @@ starting_grows {st = st} suits clear (passing event margin e a) h = subst IsStar
   at : IsStarting (passed event margin st)
   at none =
       let before : (st.column ≡ 0) × (has_place st.back ≡ false) = h (or_false_right (has_some (event_bytes event)) (has_text st.back) none) in
-      let bare : length (event_bytes event) ≡ 0 = no_length (event_bytes event) (or_false_left (has_some (event_bytes event)) (has_text st.back) none) in
+      let bare : length (event_bytes event) ≡ 0 = no_bytes (event_bytes event) (or_false_left (has_some (event_bytes event)) (has_text st.back) none) in
       let zero_column : st.column ≡ 0 = before.0 in
-      (omega arith, before.1) where
-        no_length : (xs : List ℕ) → has_some xs ≡ false → length xs ≡ 0
-        no_length [] h = refl
-        no_length (x ∷ xs) h = absurd cc
+      (omega arith, before.1)
 
 -- ---- what is written stays
 

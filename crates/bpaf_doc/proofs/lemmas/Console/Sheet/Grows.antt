@@ -17,7 +17,7 @@ use Rattle.bpaf_doc.specs.Console.Steps.Page.{Sheet}
 use Rattle.bpaf_doc.proofs.lemmas.Console.Layout.State.{State, Piece, Lines, none_asked, line_there, line_put, blank_there, second_put, both_put, first, stays, wraps, Places, places, drops, Pads, to_margin, after_term, IsPut, sat, padded, trimmed, put, wrapped, dropped, spaced, on_new_line, has_text, ends_line, ends_blank, IsLegible}
 use Rattle.bpaf_doc.proofs.lemmas.Console.Layout.Back.{by_cases, by_padded}
 use Rattle.bpaf_doc.proofs.lemmas.Console.Layout.Blank.{text_back, text_back_cons}
-use Rattle.bpaf_doc.proofs.lemmas.Console.Layout.Stretches.{no_text, some_text, text_ends_line, text_ends_blank, trim_text, legible_trimmed}
+use Rattle.bpaf_doc.proofs.lemmas.Console.Layout.Stretches.{no_text, some_text, text_ends_line, text_ends_blank, trim_text, legible_trimmed, front_same}
 
 -- ---- the exact page looks as it grew by the rules
 
@@ -104,15 +104,7 @@ draws_blank s st d h =
 one_before : (text : List ℕ) → ends_with nat_eq (text ++ 10 ∷ []) (10 ∷ 10 ∷ []) ≡ true → ends_with nat_eq text (10 ∷ []) ≡ true
 one_before text h =
     let found : (front : List ℕ) × (text ++ 10 ∷ [] ≡ front ++ 10 ∷ 10 ∷ []) = ends_front (10 ∷ 10 ∷ []) (text ++ 10 ∷ []) h in
-    ends_when (10 ∷ []) text found.0 (front_same text (found.0 ++ 10 ∷ []) 10 10 (found.1 ∙ sym (append_assoc found.0 (10 ∷ []) (10 ∷ [])))) where
-      front_same : (xs ys : List ℕ) (a b : ℕ) → xs ++ a ∷ [] ≡ ys ++ b ∷ [] → xs ≡ ys
-      front_same [] [] a b e = refl
-      front_same [] (y ∷ []) a b e = absurd cc
-      front_same [] (y ∷ z ∷ ys) a b e = absurd cc
-      front_same (x ∷ []) [] a b e = absurd cc
-      front_same (x ∷ z ∷ xs) [] a b e = absurd cc
-      front_same (x ∷ xs) (y ∷ ys) a b e =
-          let rest : xs ++ a ∷ [] ≡ ys ++ b ∷ [] = cc in let same : x ≡ y = cc in ap (λ (c : ℕ). c ∷ xs) same ∙ ap (λ zs. y ∷ zs) (front_same xs ys a b rest)
+    ends_when (10 ∷ []) text found.0 (front_same text (found.0 ++ 10 ∷ []) 10 10 (found.1 ∙ sym (append_assoc found.0 (10 ∷ []) (10 ∷ []))))
 
 abbrev pub LinesTo : Sheet → State → Sheet → Type 0
 LinesTo s st t = (mid : State) × Lines st mid × Draws t mid

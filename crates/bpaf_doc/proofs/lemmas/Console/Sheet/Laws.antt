@@ -23,7 +23,7 @@ use Rattle.bpaf_doc.specs.Console.Laws.{IsExactPageLayout}
 use Rattle.bpaf_doc.proofs.lemmas.Console.Ink.{ink-backquote}
 use Rattle.bpaf_doc.proofs.lemmas.Console.Pages.{skips-mark_bytes}
 use Rattle.bpaf_doc.proofs.lemmas.Splitter.Ink.{ink-nil, ink-append, ink_before_gap}
-use Rattle.bpaf_doc.proofs.lemmas.Console.Layout.Blank.{text_back, text_back_cons}
+use Rattle.bpaf_doc.proofs.lemmas.Console.Layout.Blank.{text_back, text_back_cons, some_none}
 use Rattle.bpaf_doc.proofs.lemmas.Console.Layout.Split.{events_back}
 use Rattle.bpaf_doc.proofs.lemmas.Console.Layout.State.{IsLegible}
 use Rattle.bpaf_doc.proofs.lemmas.Console.Layout.Text.{EachPassed, NoInk, next_event}
@@ -42,15 +42,11 @@ event_ink (Shows k chunk) = chunk_ink chunk
 event_ink (Opens b) = mark_bytes b
 event_ink (Closes b) = mark_bytes b
 
-no_bytes : (bytes : List ℕ) → has_some bytes ≡ false → bytes ≡ []
-no_bytes [] h = refl
-no_bytes (b ∷ bytes) h = absurd cc
-
 mark_ink : (b : Block) → ink (mark_bytes b) ≡ mark_bytes b
 mark_ink b = elim (is_term_ref b) as (λ (c : Bool). ink (if c then 96 ∷ [] else []) ≡ (if c then 96 ∷ [] else [])) [ true ↦ ink-backquote | false ↦ ink-nil ]
 
 passed_ink : (event : Event) → NoInk event → ink (event_bytes event) ≡ event_ink event
-passed_ink (Shows k chunk) none = ink-nil ∙ sym (no_bytes (chunk_ink chunk) none)
+passed_ink (Shows k chunk) none = ink-nil ∙ sym (some_none (chunk_ink chunk) none)
 passed_ink (Opens b) none = mark_ink b
 passed_ink (Closes b) none = mark_ink b
 

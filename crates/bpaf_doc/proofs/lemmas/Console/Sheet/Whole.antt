@@ -7,6 +7,7 @@ use Rattle.std.proofs.lemmas.List.{append-nil}
 use Rattle.std.proofs.lemmas.List.Elements.{All-get_or}
 use Rattle.std.proofs.lemmas.Option.{get_or_from_slice_get, slice_get_within}
 use Rattle.std.proofs.lemmas.Grind.{flat_map-append}
+use Rattle.bpaf_doc.proofs.lemmas.Splitter.Pieces.{word_line}
 use Rattle.unicode_width.specs.Width.{str_width, step, past_emoji}
 use Rattle.bpaf_doc.specs.declared.console.pairs.Pairs.{Pairs}
 use Rattle.bpaf_doc.specs.declared.buffer.Block.{Block}
@@ -62,12 +63,6 @@ code_good line l = (l, λ small. absurd (omega arith), λ o. absurd (let no : fa
 
 fence_good : (line : List ℕ) → IsLine line → IsGood (Raw line fence_weight)
 fence_good line l = (l, λ small. absurd (omega arith), λ o. absurd (let no : false ≡ true = o in cc), λ o. absurd (let no : false ≡ true = o in cc))
-
-word_line : (bytes : List ℕ) → IsTrue (list_all is_word_byte bytes) → IsLine bytes
-word_line [] h = refl
-word_line (b ∷ bytes) h = both (b == 10) (b == 32) h (word_line bytes) where
-  both : (n k : Bool) → ((not n && not k) && list_all is_word_byte bytes) ≡ true → (IsTrue (list_all is_word_byte bytes) → IsLine bytes) → (not n && list_all is_line_byte bytes) ≡ true
-  both n k h ih = grind arith
 
 some_of : (bytes : List ℕ) → bytes ≢ [] → has_some bytes ≡ true
 some_of [] h = absurd (h refl)
