@@ -8,7 +8,7 @@ use Rattle.bpaf_doc.specs.Shown.{is_term_ref, mark_bytes}
 use Rattle.bpaf_doc.specs.Console.Layout.{Event, Shows, Opens, Closes, Stretch, Gap, Placed, Passed, Place, chunk_at, event_bytes, is_inked_stretch, is_raw_or_ref}
 use Rattle.bpaf_doc.specs.declared.console.page.Asked.TheVariants.{Nothing, NewLine, BlankLine}
 use Rattle.bpaf_doc.proofs.lemmas.Console.Layout.State.{State, Piece, Lines, none_asked, line_there, line_put, blank_there, second_put, both_put, Pads, to_margin, after_term, Begins, first, stays, wraps, places, drops, Next, raw, mark, Grows, placing, breaking, passing, padded, trimmed, has_text, put, Suits, raw_suits, paragraph_suits, line_break_suits, open_suits, close_suits}
-use Rattle.bpaf_doc.proofs.lemmas.Console.Layout.Back.{by_cases, EachPlace, each_grows, place_of, fits_of, by_lines, lines_back, begins_back, by_trimmed, same_padded}
+use Rattle.bpaf_doc.proofs.lemmas.Console.Layout.Back.{by_cases, EachPlace, each_grows, place_of, fits_of, by_lines, lines_back, begins_back, by_trimmed, same_padded, by_mark}
 use Rattle.bpaf_doc.proofs.lemmas.Console.Layout.Columns.{Fills, column_back, column_padded, Agrees}
 use Rattle.bpaf_doc.proofs.lemmas.Console.Layout.Text.{EachPassed, NoInk, ink_text, IsStarting, begins_column, begins_margin, or_false_right}
 use Rattle.bpaf_doc.proofs.lemmas.Console.Layout.Pads.{pads_back, HasNoPads, pads_begins}
@@ -106,11 +106,7 @@ start_put {width} {st} p base n f q h b = λ m before e k there i blank line. at
         begins rest some none there bytes (wraps t mid l w other s) = other bytes
 
 not_shown : {margin_of : ℕ → ℕ} (st : State) (next : Next) (event : Event) (margin k : ℕ) (chunk : Chunk) → Suits margin_of st next → next ≡ mark event margin → event ≡ Shows k chunk → ⊥
-not_shown st next event margin k chunk (raw_suits q f g) e h = cc
-not_shown st next event margin k chunk (paragraph_suits j f l m) e h = cc
-not_shown st next event margin k chunk (line_break_suits j f l m) e h = cc
-not_shown st next event margin k chunk (open_suits b n f l u) e h = let same : event ≡ Opens b = cc in cc
-not_shown st next event margin k chunk (close_suits b n f l u) e h = let same : event ≡ Closes b = cc in cc
+not_shown st next event margin k chunk suits e = by_mark (λ x m. x ≡ Shows k chunk → ⊥) suits e (λ b m l u h. cc) (λ b m l u h. cc)
 
 pub start_grows : {width : ℕ} {margin_of : ℕ → ℕ} {st after : State} {next : Next} → EachPlace Fills st.back → EachPassed NoInk st.back → IsLast st → Suits margin_of st next
     → Grows width st next after → IsAtStart st → IsAtStart after

@@ -1,9 +1,10 @@
 -- Facts that hold of each place of a page, and what keeps them.
-use Rattle.std.specs.Prelude.{◌≡◌, ℕ, zero, suc, ⊤, Bool, true, false, List, [], ◌∷◌, refl}
+use Rattle.std.specs.Prelude.{◌≡◌, ℕ, zero, suc, ◌<◌, ◌≤◌, ⊤, Bool, true, false, List, [], ◌∷◌, refl}
 use Rattle.std.proofs.Common.{sym, subst, ◌∙◌, ◌⊎◌, inl, inr}
-use Rattle.bpaf_doc.specs.Splitter.Chunks.{is_inked, has_some}
-use Rattle.bpaf_doc.specs.Console.Layout.{Event, Shows, Stretch, Gap, Placed, Passed, Place, chunk_at, event_bytes}
-use Rattle.bpaf_doc.proofs.lemmas.Console.Layout.State.{State, Piece, Lines, none_asked, line_there, line_put, blank_there, second_put, both_put, Pads, Begins, first, stays, wraps, places, drops, Next, raw, Grows, placing, breaking, passing, padded, trimmed, cut, Fits, Suits, raw_suits, paragraph_suits, line_break_suits, open_suits, close_suits, on_new_line}
+use Rattle.bpaf_doc.specs.Splitter.Chunks.{Chunk, Paragraph, LineBreak, is_inked, has_some}
+use Rattle.bpaf_doc.specs.declared.buffer.Block.{Block}
+use Rattle.bpaf_doc.specs.Console.Layout.{Event, Shows, Opens, Closes, is_inline_block, Stretch, Gap, Placed, Passed, Place, chunk_at, event_bytes}
+use Rattle.bpaf_doc.proofs.lemmas.Console.Layout.State.{State, Piece, Lines, none_asked, line_there, line_put, blank_there, second_put, both_put, Pads, Begins, first, stays, wraps, places, drops, Next, raw, break, mark, Grows, placing, breaking, passing, padded, trimmed, cut, Fits, Suits, raw_suits, paragraph_suits, line_break_suits, open_suits, close_suits, on_new_line}
 
 pub by_cases : (b : Bool) → (b ≡ true) ⊎ (b ≡ false)
 by_cases true = inl refl
@@ -110,3 +111,26 @@ fits_of (paragraph_suits k e l m) h = absurd cc
 fits_of (line_break_suits k e l m) h = absurd cc
 fits_of (open_suits b margin e l u) h = absurd cc
 fits_of (close_suits b margin e l u) h = absurd cc
+
+-- Q of a mark that comes next, where it opens a block and where it closes one
+pub by_mark : {margin_of : ℕ → ℕ} {st : State} {next : Next} {event : Event} {margin : ℕ} (Q : Event → ℕ → Type 0) → Suits margin_of st next → next ≡ mark event margin
+    → ((b : Block) (m : ℕ) → (is_inline_block b ≡ true → m ≤ st.margin) → m ≤ 18446744073709551615 → Q (Opens b) m)
+    → ((b : Block) (m : ℕ) → m ≤ st.margin → m ≤ 18446744073709551615 → Q (Closes b) m) → Q event margin
+by_mark Q (raw_suits q f g) e opens closes = absurd cc
+by_mark Q (paragraph_suits j f l m) e opens closes = absurd cc
+by_mark Q (line_break_suits j f l m) e opens closes = absurd cc
+by_mark {event = event} {margin = margin} Q (open_suits b n f l u) e opens closes =
+    let same : Opens b ≡ event = cc in let level : n ≡ margin = cc in subst (λ (x : Event). Q x margin) same (subst (Q (Opens b)) level (opens b n l u))
+by_mark {event = event} {margin = margin} Q (close_suits b n f l u) e opens closes =
+    let same : Closes b ≡ event = cc in let level : n ≡ margin = cc in subst (λ (x : Event). Q x margin) same (subst (Q (Closes b)) level (closes b n l u))
+
+-- Q of a break that comes next, at a Paragraph and at a LineBreak
+pub by_break : {margin_of : ℕ → ℕ} {st : State} {next : Next} {k : ℕ} {chunk : Chunk} (Q : Chunk → ℕ → Type 0) → Suits margin_of st next → next ≡ break k chunk
+    → ((j : ℕ) → st.latest ≤ j → (st.marked ≡ true → st.latest < j) → Q Paragraph j) → ((j : ℕ) → st.latest ≤ j → (st.marked ≡ true → st.latest < j) → Q LineBreak j) → Q chunk k
+by_break Q (raw_suits q f g) e paragraph line = absurd cc
+by_break {k = k} {chunk = chunk} Q (paragraph_suits j f l m) e paragraph line =
+    let same : Paragraph ≡ chunk = cc in let part : j ≡ k = cc in subst (λ (c : Chunk). Q c k) same (subst (Q Paragraph) part (paragraph j l m))
+by_break {k = k} {chunk = chunk} Q (line_break_suits j f l m) e paragraph line =
+    let same : LineBreak ≡ chunk = cc in let part : j ≡ k = cc in subst (λ (c : Chunk). Q c k) same (subst (Q LineBreak) part (line j l m))
+by_break Q (open_suits b margin f l u) e paragraph line = absurd cc
+by_break Q (close_suits b margin f l u) e paragraph line = absurd cc

@@ -10,7 +10,7 @@ use Rattle.bpaf_doc.specs.Console.Layout.{Event, Shows, Stretch, Gap, Placed, Pa
 use Rattle.bpaf_doc.specs.declared.console.page.Asked.{Asked}
 use Rattle.bpaf_doc.specs.declared.console.page.Asked.TheVariants.{Nothing, NewLine, BlankLine}
 use Rattle.bpaf_doc.proofs.lemmas.Console.Layout.State.{State, Piece, Lines, none_asked, line_there, line_put, blank_there, second_put, both_put, Pads, Begins, first, stays, wraps, places, drops, Next, raw, break, Grows, placing, breaking, passing, padded, trimmed, has_text, ends_line, ends_blank, passed, at_least_line, Suits, raw_suits, paragraph_suits, line_break_suits, open_suits, close_suits}
-use Rattle.bpaf_doc.proofs.lemmas.Console.Layout.Back.{by_cases, EachPlace, each_grows, trimmed_inked, trimmed_plain, trimmed_bytes, trimmed_bare, place_of, by_lines, lines_back, begins_back, by_trimmed, same_padded}
+use Rattle.bpaf_doc.proofs.lemmas.Console.Layout.Back.{by_cases, EachPlace, each_grows, trimmed_inked, trimmed_plain, trimmed_bytes, trimmed_bare, place_of, by_lines, lines_back, begins_back, by_trimmed, same_padded, by_break}
 use Rattle.bpaf_doc.proofs.lemmas.Console.Layout.Columns.{Fills, inked_some, fills_begins, no_bytes}
 use Rattle.bpaf_doc.proofs.lemmas.Console.Layout.Text.{EachPassed, NoInk, ink_text, or_true_right, or_false_left, or_false_right}
 use Rattle.bpaf_doc.proofs.lemmas.Console.Layout.Split.{events_back, Cut, AfterPads, cut_padded, ink_at}
@@ -97,11 +97,7 @@ asked_blank_passed event margin st h = at (by_cases (is_raw_event event)) (by_ca
 
 asked_blank_broken : {margin_of : ℕ → ℕ} (st : State) (next : Next) (k : ℕ) (chunk : Chunk) → Suits margin_of st next → next ≡ break k chunk
     → (is_raw_event (Shows k chunk) ≡ false) × (asks_blank_line (Shows k chunk) ≡ false)
-asked_blank_broken st next k chunk (raw_suits q f g) e = absurd cc
-asked_blank_broken st next k chunk (paragraph_suits j f l m) e = let same : chunk ≡ Paragraph = cc in (rw same refl, refl)
-asked_blank_broken st next k chunk (line_break_suits j f l m) e = let same : chunk ≡ LineBreak = cc in (rw same refl, refl)
-asked_blank_broken st next k chunk (open_suits b margin f l u) e = absurd cc
-asked_blank_broken st next k chunk (close_suits b margin f l u) e = absurd cc
+asked_blank_broken st next k chunk suits e = by_break (λ c j. (is_raw_event (Shows j c) ≡ false) × (asks_blank_line (Shows j c) ≡ false)) suits e (λ j l m. (refl, refl)) (λ j l m. (refl, refl))
 
 pub asked_blank_grows : {width : ℕ} {margin_of : ℕ → ℕ} {st after : State} {next : Next} → Suits margin_of st next
     → Grows width st next after → IsAskedBlank st → IsAskedBlank after

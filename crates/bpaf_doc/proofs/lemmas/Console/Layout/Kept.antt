@@ -5,7 +5,7 @@ use Rattle.std.proofs.Common.{sym, subst, ap, arith, inl, inr, ◌∙◌}
 use Rattle.bpaf_doc.specs.Splitter.Chunks.{Chunk, Raw, is_inked}
 use Rattle.bpaf_doc.specs.Console.Layout.{Event, Shows, Opens, Closes, Stretch, Gap, Placed, Passed, Place, chunk_at, is_inked_stretch, is_inked_event, is_raw_event}
 use Rattle.bpaf_doc.proofs.lemmas.Console.Layout.State.{State, Piece, Lines, none_asked, line_there, line_put, blank_there, second_put, both_put, Pads, to_margin, after_term, Begins, first, stays, wraps, places, drops, Next, raw, break, Grows, placing, breaking, passing, padded, trimmed, sat, wrapped, put, passed, dropped, Suits, raw_suits, paragraph_suits, line_break_suits, open_suits, close_suits}
-use Rattle.bpaf_doc.proofs.lemmas.Console.Layout.Back.{by_cases, EachPlace, each_grows, each_begins, each_trimmed, each_lines, place_of, fits_of, by_lines, lines_back, begins_back, by_trimmed, by_padded, same_padded}
+use Rattle.bpaf_doc.proofs.lemmas.Console.Layout.Back.{by_cases, EachPlace, each_grows, each_begins, each_trimmed, each_lines, place_of, fits_of, by_lines, lines_back, begins_back, by_trimmed, by_padded, same_padded, by_mark, by_break}
 use Rattle.bpaf_doc.proofs.lemmas.Console.Layout.Text.{or_false_right, begins_margin, lines_margin, no_ink_blank}
 use Rattle.bpaf_doc.proofs.lemmas.Console.Layout.Split.{Cut, FirstOrLater, here, later, cut_cons, AfterGap, cut_gap, AfterPassed, cut_passed, AfterPads, cut_padded, has_newline, inked_line, inked_since}
 
@@ -24,11 +24,7 @@ abbrev pub InOrder : State → Type 0
 InOrder st = EachPlace (NotAfter st.latest) st.back
 
 broken_order : {margin_of : ℕ → ℕ} (st : State) (next : Next) (k : ℕ) (chunk : Chunk) → Suits margin_of st next → next ≡ break k chunk → st.latest ≤ k
-broken_order st next k chunk (raw_suits q f g) e = absurd cc
-broken_order st next k chunk (paragraph_suits j f l m) e = let same : j ≡ k = cc in omega arith
-broken_order st next k chunk (line_break_suits j f l m) e = let same : j ≡ k = cc in omega arith
-broken_order st next k chunk (open_suits b margin f l u) e = absurd cc
-broken_order st next k chunk (close_suits b margin f l u) e = absurd cc
+broken_order st next k chunk suits e = by_break (λ c j. st.latest ≤ j) suits e (λ j l m. l) (λ j l m. l)
 
 pub order_grows : {width : ℕ} {margin_of : ℕ → ℕ} {st after : State} {next : Next} → Suits margin_of st next → Grows width st next after → InOrder st → InOrder after
 order_grows {st = st} suits (placing p e (places base n b d a)) h = subst InOrder (sym a)
@@ -54,13 +50,7 @@ pub small_grows : {width : ℕ} {margin_of : ℕ → ℕ} {st after : State} {ne
 small_grows suits (placing p e (places base n b d a)) h = subst IsSmall (sym a) (subst (λ (m : ℕ). m ≤ 18446744073709551615) (sym (begins_margin b).0) h)
 small_grows suits (placing p e (drops t mid l w b a)) h = subst IsSmall (sym a) (subst (λ (m : ℕ). m ≤ 18446744073709551615) (sym (lines_margin l).0) h)
 small_grows suits (breaking k chunk e a) h = subst IsSmall (sym a) h
-small_grows {margin_of = margin_of} {st = st} {next = next} suits (passing event margin e a) h = subst IsSmall (sym a) (at suits) where
-  at : Suits margin_of st next → margin ≤ 18446744073709551615
-  at (raw_suits q f g) = absurd cc
-  at (paragraph_suits j f l m) = absurd cc
-  at (line_break_suits j f l m) = absurd cc
-  at (open_suits b n f l u) = let same : n ≡ margin = cc in omega arith
-  at (close_suits b n f l u) = let same : n ≡ margin = cc in omega arith
+small_grows suits (passing event margin e a) h = subst IsSmall (sym a) (by_mark (λ x m. m ≤ 18446744073709551615) suits e (λ b m l u. u) (λ b m l u. u))
 
 settled_put : (n : ℕ) (p : Piece) (base : State) → IsSmall base → Pads base n → base.margin ≤ sat (base.column + n + p.weight)
 settled_put n p base small (to_margin e) = omega arith
@@ -231,13 +221,8 @@ kept_since_grows suits s u o (placing p e (drops t mid l w b a)) h = subst IsKep
       (found.there, there.1, or_false_right (is_inked_stretch (Passed (Shows p.part (Raw p.bytes p.weight)))) (list_any is_inked_stretch found.rest) plain, subst (λ x. has_newline x ≡ false) found.is there.3)
 kept_since_grows {st = st} suits s u o (breaking k chunk e a) h =
     subst IsKeptSince (sym a) (λ m before f there. absurd (no_neighbour (Passed (Shows k chunk) ∷ st.back) m f before there))
-kept_since_grows {margin_of = margin_of} {st = st} {next = next} suits s u o (passing event margin e a) h = subst IsKeptSince (sym a) (kept_passed event margin st (at suits) h) where
-  at : Suits margin_of st next → is_raw_event event ≡ false
-  at (raw_suits q f g) = absurd cc
-  at (paragraph_suits j f l m) = absurd cc
-  at (line_break_suits j f l m) = absurd cc
-  at (open_suits b n f l v) = let same : event ≡ Opens b = cc in rw same refl
-  at (close_suits b n f l v) = let same : event ≡ Closes b = cc in rw same refl
+kept_since_grows {st = st} suits s u o (passing event margin e a) h =
+    subst IsKeptSince (sym a) (kept_passed event margin st (by_mark (λ x m. is_raw_event x ≡ false) suits e (λ b m l v. refl) (λ b m l v. refl)) h)
 
 -- ---- the law
 

@@ -10,7 +10,7 @@ use Rattle.bpaf_doc.specs.Console.Layout.{Event, Shows, Opens, Closes, Stretch, 
 use Rattle.bpaf_doc.specs.declared.console.page.Asked.{Asked}
 use Rattle.bpaf_doc.specs.declared.console.page.Asked.TheVariants.{Nothing}
 use Rattle.bpaf_doc.proofs.lemmas.Console.Layout.State.{State, Piece, Lines, Pads, to_margin, after_term, Begins, first, stays, wraps, places, drops, Next, raw, break, mark, Grows, placing, breaking, passing, padded, trimmed, has_text, sat, wrapped, put, passed, dropped, broken, asked_after, pending_after, Fits, Suits, raw_suits, paragraph_suits, line_break_suits, open_suits, close_suits}
-use Rattle.bpaf_doc.proofs.lemmas.Console.Layout.Back.{EachPlace, each_grows, place_of, fits_of, same_padded}
+use Rattle.bpaf_doc.proofs.lemmas.Console.Layout.Back.{EachPlace, each_grows, place_of, fits_of, same_padded, by_mark, by_break}
 use Rattle.bpaf_doc.proofs.lemmas.Console.Layout.Columns.{Fills, column_back, column_padded, Agrees}
 use Rattle.bpaf_doc.proofs.lemmas.Console.Layout.Text.{EachPassed, NoInk, ink_text, IsStarting, begins_column}
 use Rattle.bpaf_doc.proofs.lemmas.Console.Layout.Split.{events_back, lines_same, Earlier, after_lines, Cut, FirstOrLater, here, later, cut_cons, AfterGap, cut_gap, AfterPassed, cut_passed, AfterPads, cut_padded, FromTrimmed, cut_trimmed, has_newline, ink_at}
@@ -310,11 +310,7 @@ module _ (width : ℕ) where
 
   -- a break is no light chunk
   no_break : {A : Type 0} {margin_of : ℕ → ℕ} (st : State) (next : Next) (k : ℕ) (chunk : Chunk) → Suits margin_of st next → next ≡ break k chunk → is_light (Shows k chunk) ≡ true → A
-  no_break st next k chunk (raw_suits q f g) e h = absurd cc
-  no_break st next k chunk (paragraph_suits j f l m) e h = let same : chunk ≡ Paragraph = cc in let no : is_light (Shows k Paragraph) ≡ true = subst (λ (c : Chunk). is_light (Shows k c) ≡ true) same h in absurd cc
-  no_break st next k chunk (line_break_suits j f l m) e h = let same : chunk ≡ LineBreak = cc in let no : is_light (Shows k LineBreak) ≡ true = subst (λ (c : Chunk). is_light (Shows k c) ≡ true) same h in absurd cc
-  no_break st next k chunk (open_suits b margin f l u) e h = absurd cc
-  no_break st next k chunk (close_suits b margin f l u) e h = absurd cc
+  no_break {A} st next k chunk suits e = by_break (λ c j. is_light (Shows j c) ≡ true → A) suits e (λ j l m h. absurd cc) (λ j l m h. absurd cc)
 
   reached_broken : {margin_of : ℕ → ℕ} (st : State) (next : Next) (k : ℕ) (chunk : Chunk) → Suits margin_of st next → next ≡ break k chunk → IsReached width (broken k chunk st)
   reached_broken st next k chunk suits e = λ m before g there plain light.
@@ -326,19 +322,9 @@ module _ (width : ℕ) where
 
   suits_light : {margin_of : ℕ → ℕ} (st : State) (next : Next) (event : Event) (margin : ℕ) → Suits margin_of st next → next ≡ mark event margin
       → is_light event ≡ true → IsQuietMark event × ((p : Bool) → pending_after event p ≡ p) × (margin ≤ st.margin)
-  suits_light st next event margin (raw_suits q f g) e = absurd cc
-  suits_light st next event margin (paragraph_suits j f l m) e = absurd cc
-  suits_light st next event margin (line_break_suits j f l m) e = absurd cc
-  suits_light st next event margin (open_suits b n f l u) e = λ h.
-      let same : Opens b ≡ event = cc in
-      let level : n ≡ margin = cc in
-      let inline : is_inline_block b ≡ true = subst (λ (x : Event). is_light x ≡ true) (sym same) h in
-      (subst IsQuietMark same (quiet_open b (light_open b inline).0), subst (λ (x : Event). (p : Bool) → pending_after x p ≡ p) same (light_open b inline).1, omega arith)
-  suits_light st next event margin (close_suits b n f l u) e = λ h.
-      let same : Closes b ≡ event = cc in
-      let level : n ≡ margin = cc in
-      let inline : is_inline_block b ≡ true = subst (λ (x : Event). is_light x ≡ true) (sym same) h in
-      (subst IsQuietMark same (quiet_close b (light_close b inline).0), subst (λ (x : Event). (p : Bool) → pending_after x p ≡ p) same (light_close b inline).1, omega arith)
+  suits_light st next event margin suits e = by_mark (λ x m. is_light x ≡ true → IsQuietMark x × ((p : Bool) → pending_after x p ≡ p) × (m ≤ st.margin)) suits e
+      (λ b m l u h. (quiet_open b (light_open b h).0, (light_open b h).1, l h))
+      (λ b m l u h. (quiet_close b (light_close b h).0, (light_close b h).1, l))
 
   pub reached_grows : {margin_of : ℕ → ℕ} {st after : State} {next : Next} → width < 1_000_000 → EachPlace Fills st.back → EachPassed NoInk st.back → IsStarting st → Agrees st → Suits margin_of st next
       → Grows width st next after → IsReached width st → IsReached width after
@@ -376,13 +362,7 @@ module _ (width : ℕ) where
         record { column = omega arith; asked = marks.asked st.asked ∙ r.asked; line = ap has_newline found.is ∙ r.line }
 
   suits_marks : {margin_of : ℕ → ℕ} (st : State) (next : Next) (event : Event) (margin : ℕ) → Suits margin_of st next → next ≡ mark event margin → is_light_mark event ≡ true → IsQuietMark event
-  suits_marks st next event margin (raw_suits q f g) e = absurd cc
-  suits_marks st next event margin (paragraph_suits j f l m) e = absurd cc
-  suits_marks st next event margin (line_break_suits j f l m) e = absurd cc
-  suits_marks st next event margin (open_suits b n f l u) e = λ h.
-      let same : Opens b ≡ event = cc in subst IsQuietMark same (quiet_open b (subst (λ (x : Event). is_light_mark x ≡ true) (sym same) h))
-  suits_marks st next event margin (close_suits b n f l u) e = λ h.
-      let same : Closes b ≡ event = cc in subst IsQuietMark same (quiet_close b (subst (λ (x : Event). is_light_mark x ≡ true) (sym same) h))
+  suits_marks st next event margin suits e = by_mark (λ x m. is_light_mark x ≡ true → IsQuietMark x) suits e (λ b m l u. quiet_open b) (λ b m l u. quiet_close b)
 
   pub marked_grows : {margin_of : ℕ → ℕ} {st after : State} {next : Next} → width < 1_000_000 → EachPlace Fills st.back → IsStarting st → Agrees st → Suits margin_of st next
       → Grows width st next after → IsMarked width st → IsMarked width after

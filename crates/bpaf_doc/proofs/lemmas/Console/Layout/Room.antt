@@ -10,7 +10,7 @@ use Rattle.bpaf_doc.specs.declared.console.page.Asked.TheVariants.{Nothing}
 use Rattle.bpaf_doc.specs.Splitter.Chunks.{Chunk, Raw, Paragraph, LineBreak, columns, is_inked, is_ordinary}
 use Rattle.bpaf_doc.specs.Console.Layout.{Event, Shows, Opens, Closes, Stretch, Gap, Placed, Passed, Place, chunk_at, event_bytes, is_inked_event, is_inked_stretch, asks_newline, room_of}
 use Rattle.bpaf_doc.proofs.lemmas.Console.Layout.State.{State, Piece, Lines, Pads, to_margin, after_term, Begins, first, stays, wraps, places, drops, Next, raw, break, mark, Grows, placing, breaking, passing, padded, trimmed, sat, wrapped, put, passed, dropped, broken, asked_after, pending_after, Fits, Suits, raw_suits, paragraph_suits, line_break_suits, open_suits, close_suits, IsShallow}
-use Rattle.bpaf_doc.proofs.lemmas.Console.Layout.Back.{by_cases, EachPlace, each_grows, place_of, fits_of, same_padded}
+use Rattle.bpaf_doc.proofs.lemmas.Console.Layout.Back.{by_cases, EachPlace, each_grows, place_of, fits_of, same_padded, by_mark, by_break}
 use Rattle.bpaf_doc.proofs.lemmas.Console.Layout.Columns.{Fills, column_back, column_padded, Agrees, heavy}
 use Rattle.bpaf_doc.proofs.lemmas.Console.Layout.Text.{IsStarting, has_place, begins_column, next_event, or_false_left, or_false_right}
 use Rattle.bpaf_doc.proofs.lemmas.Console.Layout.Alone.{place_in}
@@ -60,18 +60,10 @@ in_order_mark st after (Opens b) c is marked h = record { after = λ k l. h.afte
 in_order_mark st after (Closes b) c is marked h = record { after = λ k l. h.after k (omega arith); next = λ k l m. let more : after.latest < k = m marked in h.after k (omega arith) }
 
 mark_chunk : {margin_of : ℕ → ℕ} (st : State) (next : Next) (event : Event) (margin : ℕ) → Suits margin_of st next → next ≡ mark event margin → is_chunk event ≡ false
-mark_chunk st next event margin (raw_suits q f g) e = absurd cc
-mark_chunk st next event margin (paragraph_suits j f l m) e = absurd cc
-mark_chunk st next event margin (line_break_suits j f l m) e = absurd cc
-mark_chunk st next event margin (open_suits b n f l u) e = let same : event ≡ Opens b = cc in ap is_chunk same
-mark_chunk st next event margin (close_suits b n f l u) e = let same : event ≡ Closes b = cc in ap is_chunk same
+mark_chunk st next event margin suits e = by_mark (λ x m. is_chunk x ≡ false) suits e (λ b m l u. refl) (λ b m l u. refl)
 
 break_order : {margin_of : ℕ → ℕ} (st : State) (next : Next) (k : ℕ) (chunk : Chunk) → Suits margin_of st next → next ≡ break k chunk → (st.latest ≤ k) × (st.marked ≡ true → st.latest < k)
-break_order st next k chunk (raw_suits q f g) e = absurd cc
-break_order st next k chunk (paragraph_suits j f l m) e = let same : j ≡ k = cc in subst (λ (i : ℕ). (st.latest ≤ i) × (st.marked ≡ true → st.latest < i)) same (l, m)
-break_order st next k chunk (line_break_suits j f l m) e = let same : j ≡ k = cc in subst (λ (i : ℕ). (st.latest ≤ i) × (st.marked ≡ true → st.latest < i)) same (l, m)
-break_order st next k chunk (open_suits b margin f l u) e = absurd cc
-break_order st next k chunk (close_suits b margin f l u) e = absurd cc
+break_order st next k chunk suits e = by_break (λ c j. (st.latest ≤ j) × (st.marked ≡ true → st.latest < j)) suits e (λ j l m. (l, m)) (λ j l m. (l, m))
 
 pub in_order_grows : {width : ℕ} {margin_of : ℕ → ℕ} {st after : State} {next : Next} → Suits margin_of st next → Grows width st next after → ComesInOrder st → ComesInOrder after
 in_order_grows {st = st} {after = after} {next = next} suits g h = subst (IsInOrder after) (sym (events_grows g)) (at g) where
@@ -189,13 +181,9 @@ idle_close blocks.Block h = absurd cc
 idle_close _ h = record { bytes = omega arith; asked = λ a. refl; pending = λ p t. inl t }
 
 idle_mark : {margin_of : ℕ → ℕ} (st : State) (next : Next) (event : Event) (margin : ℕ) → Suits margin_of st next → next ≡ mark event margin → is_idle event ≡ true → IsIdleMark event
-idle_mark st next event margin (raw_suits q f g) e i = absurd cc
-idle_mark st next event margin (paragraph_suits j f l m) e i = absurd cc
-idle_mark st next event margin (line_break_suits j f l m) e i = absurd cc
-idle_mark st next event margin (open_suits b n f l u) e i =
-    let same : event ≡ Opens b = cc in subst IsIdleMark (sym same) (idle_open b (not-true (asks_newline (Opens b)) (and_parts true (not (asks_newline (Opens b))) (subst (λ (x : Event). is_idle x ≡ true) same i)).1))
-idle_mark st next event margin (close_suits b n f l u) e i =
-    let same : event ≡ Closes b = cc in subst IsIdleMark (sym same) (idle_close b (not-true (asks_newline (Closes b)) (and_parts true (not (asks_newline (Closes b))) (subst (λ (x : Event). is_idle x ≡ true) same i)).1))
+idle_mark st next event margin suits e = by_mark (λ x m. is_idle x ≡ true → IsIdleMark x) suits e
+    (λ b m l u i. idle_open b (not-true (asks_newline (Opens b)) (and_parts true (not (asks_newline (Opens b))) i).1))
+    (λ b m l u i. idle_close b (not-true (asks_newline (Closes b)) (and_parts true (not (asks_newline (Closes b))) i).1))
 
 -- the two blanks that are pending after a mark stay in reach
 mark_pending : (event : Event) (st : State) (end : ℕ) → InReach end st → length (event_bytes event) ≤ room_of event → (st.pending ≡ true) ⊎ (length (event_bytes event) + 2 ≤ room_of event)
@@ -205,11 +193,7 @@ mark_pending event st end r bytes (inr t) = let column : st.column ≤ end = r.c
 
 -- a break is no idle chunk
 no_break : {A : Type 0} {margin_of : ℕ → ℕ} (st : State) (next : Next) (k : ℕ) (chunk : Chunk) → Suits margin_of st next → next ≡ break k chunk → is_idle (Shows k chunk) ≡ true → A
-no_break st next k chunk (raw_suits q f g) e h = absurd cc
-no_break st next k chunk (paragraph_suits j f l m) e h = let same : chunk ≡ Paragraph = cc in let no : is_idle (Shows k Paragraph) ≡ true = subst (λ (c : Chunk). is_idle (Shows k c) ≡ true) same h in absurd cc
-no_break st next k chunk (line_break_suits j f l m) e h = let same : chunk ≡ LineBreak = cc in let no : is_idle (Shows k LineBreak) ≡ true = subst (λ (c : Chunk). is_idle (Shows k c) ≡ true) same h in absurd cc
-no_break st next k chunk (open_suits b margin f l u) e h = absurd cc
-no_break st next k chunk (close_suits b margin f l u) e h = absurd cc
+no_break {A} st next k chunk suits e = by_break (λ c j. is_idle (Shows j c) ≡ true → A) suits e (λ j l m h. absurd cc) (λ j l m h. absurd cc)
 
 -- ---- the page as it grows
 

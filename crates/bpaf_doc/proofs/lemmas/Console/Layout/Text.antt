@@ -8,7 +8,7 @@ use Rattle.bpaf_doc.specs.Shown.{is_term_ref, mark_bytes}
 use Rattle.bpaf_doc.specs.Splitter.Chunks.{Raw, Paragraph, LineBreak, is_inked, is_ordinary, has_some}
 use Rattle.bpaf_doc.specs.Console.Layout.{Event, Shows, Opens, Closes, Stretch, Gap, Placed, Passed, chunk_at, event_bytes, is_inked_event, is_inked_stretch, is_empty_code, is_placed, is_written}
 use Rattle.bpaf_doc.proofs.lemmas.Console.Layout.State.{State, Piece, Lines, none_asked, line_there, line_put, blank_there, second_put, both_put, Begins, first, stays, wraps, places, drops, Next, raw, break, mark, Grows, placing, breaking, passing, padded, trimmed, has_text, put, passed, Fits, Suits, raw_suits, paragraph_suits, line_break_suits, open_suits, close_suits, IsClear}
-use Rattle.bpaf_doc.proofs.lemmas.Console.Layout.Back.{by_cases, EachPlace, trimmed_inked, trimmed_plain, trimmed_bytes, trimmed_bare, fits_of, by_lines, lines_back, begins_back, by_trimmed, by_padded}
+use Rattle.bpaf_doc.proofs.lemmas.Console.Layout.Back.{by_cases, EachPlace, trimmed_inked, trimmed_plain, trimmed_bytes, trimmed_bare, fits_of, by_lines, lines_back, begins_back, by_trimmed, by_padded, by_mark, by_break}
 use Rattle.bpaf_doc.proofs.lemmas.Console.Layout.Columns.{Fills, inked_some, column_back, no_text_column, Agrees, agrees_lines, no_bytes}
 
 -- ---- what has no place has no ink
@@ -44,20 +44,10 @@ pub no_ink_grows : {width : ℕ} {margin_of : ℕ → ℕ} {st after : State} {n
 no_ink_grows suits (placing p e (places base n b d a)) h = subst (λ (s : State). EachPassed NoInk s.back) (sym a) (by_padded (EachPassed NoInk) (λ x y. y) n base.back (no_ink_begins b h))
 no_ink_grows suits (placing p e (drops t mid l w b a)) h =
     subst (λ (s : State). EachPassed NoInk s.back) (sym a) (no_ink_blank p.part p.weight p.bytes b, no_ink_trimmed mid.back (no_ink_lines l h))
-no_ink_grows {margin_of = margin_of} {st = st} {next = next} suits (breaking k chunk e a) h = subst (λ (s : State). EachPassed NoInk s.back) (sym a) (at suits, h) where
-  at : Suits margin_of st next → is_inked_event (Shows k chunk) ≡ false
-  at (raw_suits q f g) = absurd cc
-  at (paragraph_suits j f l m) = let same : chunk ≡ Paragraph = cc in rw same refl
-  at (line_break_suits j f l m) = let same : chunk ≡ LineBreak = cc in rw same refl
-  at (open_suits b margin f l u) = absurd cc
-  at (close_suits b margin f l u) = absurd cc
-no_ink_grows {margin_of = margin_of} {st = st} {next = next} suits (passing event margin e a) h = subst (λ (s : State). EachPassed NoInk s.back) (sym a) (at suits, h) where
-  at : Suits margin_of st next → is_inked_event event ≡ false
-  at (raw_suits q f g) = absurd cc
-  at (paragraph_suits j f l m) = absurd cc
-  at (line_break_suits j f l m) = absurd cc
-  at (open_suits b m f l u) = let same : event ≡ Opens b = cc in rw same refl
-  at (close_suits b m f l u) = let same : event ≡ Closes b = cc in rw same refl
+no_ink_grows suits (breaking k chunk e a) h =
+    subst (λ (s : State). EachPassed NoInk s.back) (sym a) (by_break (λ c j. is_inked_event (Shows j c) ≡ false) suits e (λ j l m. refl) (λ j l m. refl), h)
+no_ink_grows suits (passing event margin e a) h =
+    subst (λ (s : State). EachPassed NoInk s.back) (sym a) (by_mark (λ x m. is_inked_event x ≡ false) suits e (λ b m l u. refl) (λ b m l u. refl), h)
 
 -- ---- ink is text
 
@@ -158,17 +148,11 @@ text_written suits (placing p e (places base n b d a)) h =
     subst (λ (s : State). has_text s.back ≡ true) (sym a) (rw some refl)
 text_written suits (placing p e (drops t mid l w b a)) h = subst (λ (s : State). has_text s.back ≡ true) (sym a) refl
 text_written suits (breaking k chunk e a) h = subst (λ (s : State). has_text s.back ≡ true) (sym a) refl
-text_written {margin_of = margin_of} {st = st} {next = next} suits (passing event margin e a) h =
-    subst (λ (s : State). has_text s.back ≡ true) (sym a) (at suits (subst (λ (x : Next). is_written (next_event x) ≡ true) e h)) where
+text_written {st = st} suits (passing event margin e a) h =
+    subst (λ (s : State). has_text s.back ≡ true) (sym a) (by_mark (λ x m. is_written x ≡ true → (has_some (event_bytes x) || has_text st.back) ≡ true) suits e (λ b m l u. ref b) (λ b m l u. ref b)
+    (subst (λ (x : Next). is_written (next_event x) ≡ true) e h)) where
       ref : (b : Block) → is_term_ref b ≡ true → (has_some (mark_bytes b) || has_text st.back) ≡ true
       ref b t = rw t refl
-
-      at : Suits margin_of st next → is_written event ≡ true → (has_some (event_bytes event) || has_text st.back) ≡ true
-      at (raw_suits q f g) t = absurd cc
-      at (paragraph_suits j f l m) t = absurd cc
-      at (line_break_suits j f l m) t = absurd cc
-      at (open_suits b m f l u) t = let same : event ≡ Opens b = cc in subst (λ (x : Event). (has_some (event_bytes x) || has_text st.back) ≡ true) (sym same) (ref b (subst (λ (x : Event). is_written x ≡ true) same t))
-      at (close_suits b m f l u) t = let same : event ≡ Closes b = cc in subst (λ (x : Event). (has_some (event_bytes x) || has_text st.back) ≡ true) (sym same) (ref b (subst (λ (x : Event). is_written x ≡ true) same t))
 
 -- ---- where a chunk begins
 
