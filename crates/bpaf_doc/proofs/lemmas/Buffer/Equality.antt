@@ -25,14 +25,9 @@ same_part_is (Text b s) (Text c r) h =
     let bytes : b ≡ c = pointwise_is nat_eq eqb-true b c t.0 in
     let label : s ≡ r = tag_one style.the_type tt s r (eqb-true _ _ t.1) in
     cc
-same_part_is (Text b s) (Start c) h = cc
-same_part_is (Text b s) (End c) h = cc
-same_part_is (Start b) (Text c r) h = cc
 same_part_is (Start b) (Start c) h = ap Start (tag_one block.the_type tt b c (eqb-true _ _ h))
-same_part_is (Start b) (End c) h = cc
-same_part_is (End b) (Text c r) h = cc
-same_part_is (End b) (Start c) h = cc
 same_part_is (End b) (End c) h = ap End (tag_one block.the_type tt b c (eqb-true _ _ h))
+same_part_is _ _ h = cc
 
 pub equality_of_parts : IsEqualityOfParts
 equality_of_parts ps qs = (λ h. pointwise_is same_part same_part_is ps qs h, λ e. subst (λ rs. same_document ps rs ≡ true) e (documents_equiv.refl ps))

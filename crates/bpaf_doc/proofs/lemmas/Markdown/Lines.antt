@@ -228,9 +228,7 @@ lines_stand false before p (Start b ∷ fs) form keeps agrees room =
 lines_stand false before p (End b ∷ fs) form keeps agrees room =
     go_on false before p (End b) fs (other_step before p (End b) refl) agrees
     (lines_stand false (before ++ End b ∷ []) (marked_after p (End b)) fs form (step-code p (End b) ∙ keeps) (agrees_after before p (End b) fs agrees room) (rooms_next before (End b) fs room))
-lines_stand false before p (Shown style chunk ∷ fs) form keeps agrees room = absurd (false≢true form)
-lines_stand false before p (TextEnd style ∷ fs) form keeps agrees room = absurd (false≢true form)
-lines_stand true before p _ form keeps agrees room = absurd (false≢true form)
+lines_stand _ before p _ form keeps agrees room = absurd (false≢true form)
 
 -- the text before a whole line ends in a line of blanks
 pub blank_before : (p : Marked) (fs : List Fragment) → well_formed false fs ≡ true → p.in_code ≡ false → Agrees [] (flags p) → Room [] fs
