@@ -4,7 +4,7 @@ use Rattle.std.specs.List.{list_all}
 use Rattle.std.specs.Str.{trim_end, drop_trailing_whitespace, chars, encode_utf8_all}
 use Rattle.std.specs.Char.{is_whitespace, is_not_whitespace}
 use Rattle.std.proofs.Common.{rules, sym, subst, ap, arith, inl, inr, ◌∙◌, append_assoc}
-use Rattle.std.proofs.lemmas.List.{append-nil}
+use Rattle.std.proofs.lemmas.List.{append-nil, same_from_push}
 use Rattle.std.proofs.lemmas.Str.{chars-append, encodes-chars, chars-encodes, scalars-chars, encodes-append, IsUtf8-append, IsUtf8-nil, IsUtf8-from_ascii}
 use Rattle.std.proofs.Math.Utf8.{encodes, scalars, scalar}
 use Rattle.std.proofs.lemmas.Bool.Decides.{nat_tests}
@@ -158,24 +158,6 @@ some_text (x ∷ r) h = at (by_cases (has_some (stretch_bytes x))) (some_text r)
   at (inr s) ih = λ e. let rest : has_text r ≡ true = rw s at h in
       ih rest (sym (append-nil (text_back r)) ∙ ap (λ t. text_back r ++ t) (sym (some_none (stretch_bytes x) s)) ∙ sym (text_back_cons x r) ∙ e)
 
--- lists that are equal with one last element each have equal ends
-last_same : (xs ys : List ℕ) (a b : ℕ) → xs ++ a ∷ [] ≡ ys ++ b ∷ [] → a ≡ b
-last_same [] [] a b e = cc
-last_same [] (y ∷ []) a b e = absurd cc
-last_same [] (y ∷ z ∷ ys) a b e = absurd cc
-last_same (x ∷ []) [] a b e = absurd cc
-last_same (x ∷ z ∷ xs) [] a b e = absurd cc
-last_same (x ∷ xs) (y ∷ ys) a b e = let rest : xs ++ a ∷ [] ≡ ys ++ b ∷ [] = cc in last_same xs ys a b rest
-
-pub front_same : (xs ys : List ℕ) (a b : ℕ) → xs ++ a ∷ [] ≡ ys ++ b ∷ [] → xs ≡ ys
-front_same [] [] a b e = refl
-front_same [] (y ∷ []) a b e = absurd cc
-front_same [] (y ∷ z ∷ ys) a b e = absurd cc
-front_same (x ∷ []) [] a b e = absurd cc
-front_same (x ∷ z ∷ xs) [] a b e = absurd cc
-front_same (x ∷ xs) (y ∷ ys) a b e =
-    let rest : xs ++ a ∷ [] ≡ ys ++ b ∷ [] = cc in let first : x ≡ y = cc in ap (λ (c : ℕ). c ∷ xs) first ∙ ap (λ zs. y ∷ zs) (front_same xs ys a b rest)
-
 -- a list of some bytes ends in one of them
 record LastByte (xs : List ℕ) : Type 0 where
   front : List ℕ
@@ -208,7 +190,7 @@ ends_in r x front s e =
     let last : LastByte (stretch_bytes x) = last_byte (stretch_bytes x) s in
     let whole : (text_back r ++ last.front) ++ last.last ∷ [] ≡ front ++ 10 ∷ [] =
     append_assoc (text_back r) last.front (last.last ∷ []) ∙ ap (λ t. text_back r ++ t) (sym last.is) ∙ sym (text_back_cons x r) ∙ e in
-    (last.front, last.is ∙ ap (λ (b : ℕ). last.front ++ b ∷ []) (last_same (text_back r ++ last.front) front last.last 10 whole))
+    (last.front, last.is ∙ ap (λ (b : ℕ). last.front ++ b ∷ []) (same_from_push (text_back r ++ last.front) front last.last 10 whole).1)
 
 bare_text : (r : List Stretch) (x : Stretch) → has_some (stretch_bytes x) ≡ false → text_back (x ∷ r) ≡ text_back r
 bare_text r x s = text_back_cons x r ∙ ap (λ t. text_back r ++ t) (some_none (stretch_bytes x) s) ∙ append-nil (text_back r)
@@ -218,7 +200,7 @@ pub text_ends_line : (r : List Stretch) (front : List ℕ) → IsLegible r → t
 text_ends_line [] front h e = absurd (snoc_some front (10 ∷ []) refl (sym e))
 text_ends_line (Gap b ∷ r) front h e =
     let found : (back : List ℕ) × (b ∷ [] ≡ back ++ 10 ∷ []) = ends_in r (Gap b) front refl e in
-    let ten : b ≡ 10 = last_same [] found.0 b 10 found.1 in rw ten refl
+    let ten : b ≡ 10 = (same_from_push [] found.0 b 10 found.1).1 in rw ten refl
 text_ends_line (Placed p ∷ r) front h e = at (by_cases (has_some p.shown)) (text_ends_line r front h.1) where
   at : (has_some p.shown ≡ true) ⊎ (has_some p.shown ≡ false) → (text_back r ≡ front ++ 10 ∷ [] → ends_line r ≡ true) → ends_line (Placed p ∷ r) ≡ true
   at (inl s) ih =
@@ -236,8 +218,8 @@ pub text_ends_blank : (r : List Stretch) (front : List ℕ) → IsLegible r → 
 text_ends_blank [] front h e = absurd (snoc_some (front ++ 10 ∷ []) (10 ∷ []) refl (sym e))
 text_ends_blank (Gap b ∷ r) front h e =
     let whole : text_back r ++ b ∷ [] ≡ (front ++ 10 ∷ []) ++ 10 ∷ [] = sym (text_back_cons (Gap b) r) ∙ e in
-    let ten : b ≡ 10 = last_same (text_back r) (front ++ 10 ∷ []) b 10 whole in
-    let rest : text_back r ≡ front ++ 10 ∷ [] = front_same (text_back r) (front ++ 10 ∷ []) b 10 whole in
+    let ten : b ≡ 10 = (same_from_push (text_back r) (front ++ 10 ∷ []) b 10 whole).1 in
+    let rest : text_back r ≡ front ++ 10 ∷ [] = (same_from_push (text_back r) (front ++ 10 ∷ []) b 10 whole).0 in
     let line : ends_line r ≡ true = text_ends_line r front h.1 rest in rw (ten, line) refl
 text_ends_blank (Placed p ∷ r) front h e = at (by_cases (has_some p.shown)) (text_ends_blank r front h.1) where
   at : (has_some p.shown ≡ true) ⊎ (has_some p.shown ≡ false) → (text_back r ≡ (front ++ 10 ∷ []) ++ 10 ∷ [] → ends_blank r ≡ true) → ends_blank (Placed p ∷ r) ≡ true

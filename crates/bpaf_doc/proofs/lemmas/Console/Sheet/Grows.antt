@@ -3,7 +3,7 @@ use Rattle.std.specs.Prelude.{◌≡◌, ◌≢◌, ℕ, zero, suc, ◌+◌, ◌
 use Rattle.std.specs.List.{ends_with}
 use Rattle.std.specs.Str.{trim_end, bytes_eq}
 use Rattle.std.proofs.Common.{sym, subst, ap, arith, inl, inr, ◌∙◌, append_assoc}
-use Rattle.std.proofs.lemmas.List.{append-nil, nil_from_length}
+use Rattle.std.proofs.lemmas.List.{append-nil, nil_from_length, same_from_push}
 use Rattle.std.proofs.lemmas.Grind.{replicate_next}
 use Rattle.std.proofs.lemmas.Slice.Eq.{ends_is, bytes_eq-Decides}
 use Rattle.std.proofs.lemmas.Bool.{cases_lt, eqb-true, and_parts}
@@ -17,7 +17,7 @@ use Rattle.bpaf_doc.specs.Console.Steps.Page.{Sheet}
 use Rattle.bpaf_doc.proofs.lemmas.Console.Layout.State.{State, Piece, Lines, none_asked, line_there, line_put, blank_there, second_put, both_put, first, stays, wraps, Places, places, drops, Pads, to_margin, after_term, IsPut, sat, padded, trimmed, put, wrapped, dropped, spaced, on_new_line, has_text, ends_line, ends_blank, IsLegible}
 use Rattle.bpaf_doc.proofs.lemmas.Console.Layout.Back.{by_cases, by_padded}
 use Rattle.bpaf_doc.proofs.lemmas.Console.Layout.Blank.{text_back, text_back_cons}
-use Rattle.bpaf_doc.proofs.lemmas.Console.Layout.Stretches.{no_text, some_text, text_ends_line, text_ends_blank, trim_text, legible_trimmed, front_same}
+use Rattle.bpaf_doc.proofs.lemmas.Console.Layout.Stretches.{no_text, some_text, text_ends_line, text_ends_blank, trim_text, legible_trimmed}
 
 -- ---- the exact page looks as it grew by the rules
 
@@ -104,7 +104,7 @@ draws_blank s st d h =
 one_before : (text : List ℕ) → ends_with nat_eq (text ++ 10 ∷ []) (10 ∷ 10 ∷ []) ≡ true → ends_with nat_eq text (10 ∷ []) ≡ true
 one_before text h =
     let found : (front : List ℕ) × (text ++ 10 ∷ [] ≡ front ++ 10 ∷ 10 ∷ []) = ends_front (10 ∷ 10 ∷ []) (text ++ 10 ∷ []) h in
-    ends_when (10 ∷ []) text found.0 (front_same text (found.0 ++ 10 ∷ []) 10 10 (found.1 ∙ sym (append_assoc found.0 (10 ∷ []) (10 ∷ []))))
+    ends_when (10 ∷ []) text found.0 (same_from_push text (found.0 ++ 10 ∷ []) 10 10 (found.1 ∙ sym (append_assoc found.0 (10 ∷ []) (10 ∷ [])))).0
 
 abbrev pub LinesTo : Sheet → State → Sheet → Type 0
 LinesTo s st t = (mid : State) × Lines st mid × Draws t mid
