@@ -5,7 +5,7 @@ use Rattle.std.proofs.Common.{sym, ◌∙◌, ap, subst, inl, inr, arith, add-on
 use Rattle.std.proofs.lemmas.List.{drop-drop, drop_all}
 use Rattle.std.proofs.lemmas.Option.{slice_get_past}
 use Rattle.std.proofs.lemmas.Bool.Decides.{nat_tests}
-use Rattle.std.proofs.lemmas.Bool.{both_ways, and_from, cases_Bool, and_parts}
+use Rattle.std.proofs.lemmas.Bool.{both_ways, and_from, cases_Bool, and_parts, false≢true}
 use Rattle.std.proofs.Math.Nat.{zero-add, add-zero}
 use Rattle.bpaf_doc.specs.declared.buffer.Block.TheVariants as blocks
 use Rattle.bpaf_doc.specs.declared.buffer.Block.{Block}
@@ -18,9 +18,7 @@ use Rattle.bpaf_doc.specs.Console.Steps.Pairs.{SkipsAt, HasMarkAt, KnowsPairs}
 
 same_tests : (a b : Bool) → (a ≡ true → b ≡ true) → (b ≡ true → a ≡ true) → a ≡ b
 same_tests true b f g = sym (f refl)
-same_tests false true f g = absurd (different (g refl)) where
-  different : false ≡ true → ⊥
-  different e = cc
+same_tests false true f g = absurd (false≢true (g refl))
 same_tests false false f g = refl
 
 start_is : (part : Part) → is_section4_start part ≡ true → part ≡ Start blocks.Section4
@@ -242,9 +240,7 @@ module _ (document : List Part) where
 
     -- a start stands neither at the end of a section nor in a pair
     not_end : (i : ℕ) → index + 1 ≡ after_section4 document i → ⊥
-    not_end i same = different (end_there document i index (Start blocks.Section4) same here) where
-      different : false ≡ true → ⊥
-      different e = cc
+    not_end i same = false≢true (end_there document i index (Start blocks.Section4) same here)
 
     not_first : (i : ℕ) → skips_pair document i ≡ true → index ≡ after_section4 document i → ⊥
     not_first i pair same = different (sym here ∙ ap (λ k. slice_get document k) same ∙ (pair_there document i pair).0) where
@@ -317,9 +313,7 @@ module _ (document : List Part) (index : ℕ) (pairs : Pairs) (block : Block) (k
     back (h, b, l, m) = (h, l, m)
 
   pub skipped-other : (block ≡ blocks.Block → ⊥) → false ≡ is_skipped document index
-  skipped-other other = same_tests false (is_skipped document index) (λ h. absurd (different h)) (λ h. absurd (other (skipped-shown document index pairs block knows mark h).1)) where
-    different : false ≡ true → ⊥
-    different e = cc
+  skipped-other other = same_tests false (is_skipped document index) (λ h. absurd (false≢true h)) (λ h. absurd (other (skipped-shown document index pairs block knows mark h).1))
 
 -- a block that is no Section4
 pub is_section4_start-other : (block : Block) → (block ≡ blocks.Section4 → ⊥) → is_section4_start (Start block) ≡ false
