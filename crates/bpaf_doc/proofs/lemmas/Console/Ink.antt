@@ -8,6 +8,7 @@ use Rattle.std.proofs.lemmas.Str.{chars-append, chars-nil, chars_from_encodes, I
 use Rattle.std.proofs.lemmas.List.{take-append-drop, append-nil, length-append}
 use Rattle.std.proofs.lemmas.List.Elements.{filter-append}
 use Rattle.std.proofs.lemmas.Bool.Decides.{nat_tests}
+use Rattle.bpaf_doc.proofs.lemmas.Splitter.Ink.{ink-append}
 use Rattle.bpaf_doc.specs.declared.buffer.Style.{Style}
 use Rattle.bpaf_doc.specs.Buffer.Parts.{Part, Text, Start, End, ink}
 use Rattle.bpaf_doc.specs.Splitter.Chunks.{Chunk, Raw, Paragraph, LineBreak, chunks_of, chunk_ink, is_paragraph}
@@ -17,9 +18,6 @@ use Rattle.bpaf_doc.specs.Console.Steps.Ink.{shown_ink, ink_at, ink_from}
 use Rattle.bpaf_doc.proofs.lemmas.Console.Hiding.{Counts, Counts-nil, Counts-more, is_hidden-Counts}
 
 -- ---- the ink of what is put after a text
-
-pub ink-append : (front back : List ℕ) → IsUtf8 front → ink (front ++ back) ≡ ink front ++ ink back
-ink-append front back u = ap (filter is_not_whitespace) (chars-append front back u) ∙ filter-append is_not_whitespace (chars front) (chars back)
 
 pub ink-newline : ink (10 ∷ []) ≡ []
 unfolding chars

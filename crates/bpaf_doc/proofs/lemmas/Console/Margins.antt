@@ -223,7 +223,7 @@ in_force-le document (suc j) k (part ∷ parts) = at (shift_at document k part) 
 pub margin-le : (document : List Part) (j : ℕ) → margin document j ≤ 30 * (j + 1)
 margin-le document j = in_force-le document (j + 1) 0 document
 
-more_than : (ns : List ℕ) (a : ℕ) → a ≤ fold max a ns
+pub more_than : (ns : List ℕ) (a : ℕ) → a ≤ fold max a ns
 more_than [] a = omega arith
 more_than (n ∷ ns) a = let rest : max a n ≤ fold max (max a n) ns = more_than ns (max a n) in omega arith
 

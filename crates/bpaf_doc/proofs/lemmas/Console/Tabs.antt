@@ -102,9 +102,6 @@ lengths_from document k parts = map (λ (k, part). term_length (take k document)
 abbrev widest_of : List Part → List Part → List Part → ℕ → ℕ
 widest_of document before rest widest = fold max widest (filter (λ n. nat_le n 24) (lengths_from document (length before) rest))
 
-sat_more : (a n : ℕ) → sat (sat a + n) ≡ sat (a + n)
-sat_more a n = omega arith
-
 passed : (document before rest : List Part) (part : Part) (widest : ℕ) (in_term : Bool) (count : ℕ)
     → in_term ≡ is_in_term (before ++ part ∷ []) → count ≡ sat (term_length (before ++ part ∷ []))
     → document ≡ before ++ part ∷ rest

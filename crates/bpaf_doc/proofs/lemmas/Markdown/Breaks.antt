@@ -3,6 +3,7 @@ use Rattle.std.proofs.Common.{◌≡◌, ℕ, Bool, true, false, List, [], ◌�
 use Rattle.std.specs.Prelude.{not, ◌&&◌, ◌||◌, ◌==◌, if◌then◌else◌, IsTrue}
 use Rattle.std.specs.List.{list_any}
 use Rattle.std.proofs.lemmas.Bool.{false≢true, and_parts, and_from, not-true, or_right}
+use Rattle.bpaf_doc.proofs.lemmas.Lists.Splits.{implies}
 use Rattle.bpaf_doc.specs.declared.buffer.Style.{Style}
 use Rattle.bpaf_doc.specs.Splitter.Chunks.{Raw, Paragraph, LineBreak, code_weight, fence_weight, is_ordinary, is_whole_line, is_paragraph, is_line_break}
 use Rattle.bpaf_doc.specs.Html.Fragments.{Fragment, TextStart, Shown, TextEnd, Hidden, Start, End, shows}
@@ -302,9 +303,6 @@ line_inside : (between after : List MarkdownSnippet) (b : Fragment) → begins_l
 line_inside (Put Newline ∷ between) after b h = refl
 line_inside _ after b h = absurd (false≢true h)
 
-then_true : (a b : Bool) → (not a || b) ≡ true → a ≡ true → b ≡ true
-then_true a b h e = grind arith
-
 paragraph_between : (between after : List MarkdownSnippet) (b : Fragment) → all_followed (between ++ Of b ∷ after) ≡ true → list_any (shows is_paragraph) (fragments_in between) ≡ true
     → (front back : List MarkdownSnippet) × (between ≡ front ++ Put Newline ∷ Put Newline ∷ back)
 paragraph_between [] after b h any = absurd (false≢true any)
@@ -316,7 +314,7 @@ paragraph_between (Of f ∷ between) after b h any =
     (elim (shows is_paragraph f) as (λ t. shows is_paragraph f ≡ t → (t || list_any (shows is_paragraph) (fragments_in between)) ≡ true → (front back : List MarkdownSnippet) × (Of f ∷ between ≡ front ++ Put Newline ∷ Put Newline ∷ back)) [
       | true ↦ λ e _.
           let two : (back : List MarkdownSnippet) × (between ≡ Put Newline ∷ Put Newline ∷ back)
-          = two_inside between after b (then_true (shows is_paragraph f) (begins_two (between ++ Of b ∷ after)) (and_parts _ _ parts.0).0 e) in
+          = two_inside between after b (implies (shows is_paragraph f) (begins_two (between ++ Of b ∷ after)) (and_parts _ _ parts.0).0 e) in
           (Of f ∷ [], two.0, ap (λ x. Of f ∷ x) two.1)
       | false ↦ λ e k.
           let found : (front back : List MarkdownSnippet) × (between ≡ front ++ Put Newline ∷ Put Newline ∷ back) = paragraph_between between after b parts.1 k in
@@ -330,7 +328,7 @@ line_break_between (Of f ∷ between) after b h any =
     let parts : (is_followed f (between ++ Of b ∷ after) ≡ true) × (all_followed (between ++ Of b ∷ after) ≡ true) = and_parts (is_followed f (between ++ Of b ∷ after)) (all_followed (between ++ Of b ∷ after)) h in
     (elim (shows is_line_break f) as (λ t. shows is_line_break f ≡ t → (t || list_any (shows is_line_break) (fragments_in between)) ≡ true → list_any is_newline between ≡ true) [
       | true ↦ λ e _. line_inside between after b
-          (then_true (shows is_line_break f || shows is_whole_line f) (begins_line (between ++ Of b ∷ after)) (and_parts _ _ parts.0).1 (ap (λ t. t || shows is_whole_line f) e))
+          (implies (shows is_line_break f || shows is_whole_line f) (begins_line (between ++ Of b ∷ after)) (and_parts _ _ parts.0).1 (ap (λ t. t || shows is_whole_line f) e))
       | false ↦ λ e k. line_break_between between after b parts.1 k
     ]) refl any
 
@@ -353,4 +351,4 @@ pub newline_after : (p : Marked) (fs : List Fragment) (before after : List Markd
     → (rest : List MarkdownSnippet) × (after ≡ Put Newline ∷ rest)
 newline_after p fs before after a e whole =
     let here : all_followed (Of a ∷ after) ≡ true = followed_back before (Of a ∷ after) (ap all_followed (sym e) ∙ cut_followed p fs) in
-    newline_first after (then_true (shows is_line_break a || shows is_whole_line a) (begins_line after) (and_parts _ _ (and_parts (is_followed a after) (all_followed after) here).0).1 (or_right (shows is_line_break a) (shows is_whole_line a) whole))
+    newline_first after (implies (shows is_line_break a || shows is_whole_line a) (begins_line after) (and_parts _ _ (and_parts (is_followed a after) (all_followed after) here).0).1 (or_right (shows is_line_break a) (shows is_whole_line a) whole))

@@ -18,16 +18,6 @@ use Rattle.bpaf_doc.proofs.lemmas.Markdown.Meets.{room_for, at_start, markdown_m
 
 -- ---- whether a code block is open
 
-not_both : (weight : ℕ) → (weight == code_weight) ≡ true → (weight == fence_weight) ≡ true → ⊥
-not_both weight code fence = eqb-false code_weight fence_weight refl (sym (eqb-true weight code_weight code) ∙ eqb-true weight fence_weight fence)
-
--- what the two weights decide
-abbrev decided : Fragment → List Fragment → (code fence : Bool) → Bool
-decided f back code fence = begins_with_code_line (cond (code || ((not code && not fence) || false)) (f ∷ filter decides_code back) (filter decides_code back))
-
-abbrev next : Bool → (code fence : Bool) → Bool
-next in_code code fence = if fence then in_code else (if code then true else false)
-
 raw_decides : (style : Style) (bytes : List ℕ) (weight : ℕ) (back : List Fragment) → begins_with_code_line (filter decides_code (Shown style (Raw bytes weight) ∷ back)) ≡ code_next (begins_with_code_line (filter decides_code back)) (Shown style (Raw bytes weight))
 raw_decides style bytes weight back = grind arith
 

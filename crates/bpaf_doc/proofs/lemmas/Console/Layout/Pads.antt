@@ -31,9 +31,6 @@ pub pads_padded : (n : ℕ) (r : List Stretch) → pads_back (padded n r) ≡ n 
 pads_padded zero r = omega arith
 pads_padded (suc n) r = let ih : pads_back (padded n r) ≡ n + pads_back r = pads_padded n r in omega arith
 
-pads_lines : {st mid : State} → Lines st mid → HasNoPads st → HasNoPads mid
-pads_lines l h = lines_back (λ r. pads_back r ≡ 0) (λ r x. refl) l h
-
 pub pads_begins : {width : ℕ} {st : State} {p : Piece} {base : State} → Begins width st p base → HasNoPads st → HasNoPads base
 pads_begins b h = begins_back (λ r. pads_back r ≡ 0) (λ r x. refl) (λ r x. refl) b h
 

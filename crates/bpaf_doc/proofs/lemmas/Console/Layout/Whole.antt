@@ -9,6 +9,7 @@ use Rattle.std.proofs.lemmas.List.Sums.{sum_by-cons}
 use Rattle.std.proofs.lemmas.List.Folds.{list_any-append}
 use Rattle.std.proofs.lemmas.Bool.Decides.{nat_tests}
 use Rattle.std.proofs.lemmas.Bool.{not-true, or_parts, not-false, eqb-true}
+use Rattle.bpaf_doc.proofs.lemmas.Console.Margins.{more_than}
 use Rattle.bpaf_doc.specs.declared.buffer.Block.{Block}
 use Rattle.bpaf_doc.specs.Buffer.Parts.{Part, ink}
 use Rattle.bpaf_doc.specs.Splitter.Chunks.{Raw, columns, is_inked, is_ordinary, has_some, starts}
@@ -571,10 +572,6 @@ module _ (width : ℕ) (document : List Part) (st : State) (final : List Stretch
 
 -- ---- the whole
 
-more_than_widest : (xs : List ℕ) (a : ℕ) → a ≤ fold max a xs
-more_than_widest [] a = omega arith
-more_than_widest (x ∷ xs) a = let rest : max a x ≤ fold max (max a x) xs = more_than_widest xs (max a x) in omega arith
-
 fold_more : (xs : List ℕ) (a b : ℕ) → a ≤ b → fold max a xs ≤ fold max b xs
 fold_more [] a b l = l
 fold_more (x ∷ xs) a b l = fold_more xs (max a x) (max b x) (omega arith)
@@ -584,7 +581,7 @@ narrow_each : (nexts : List Next) (most : ℕ) → widest (map next_event nexts)
 narrow_each [] most l = tt
 narrow_each (x ∷ xs) most l = (at x (first_le x xs l), narrow_each xs most (rest_le x xs l)) where
   first_le : (x : Next) (xs : List Next) → widest (map next_event (x ∷ xs)) ≤ most → event_columns (next_event x) ≤ most
-  first_le x xs l = let more : max 0 (event_columns (next_event x)) ≤ fold max (max 0 (event_columns (next_event x))) (map event_columns (map next_event xs)) = more_than_widest (map event_columns (map next_event xs)) (max 0 (event_columns (next_event x))) in omega arith
+  first_le x xs l = let more : max 0 (event_columns (next_event x)) ≤ fold max (max 0 (event_columns (next_event x))) (map event_columns (map next_event xs)) = more_than (map event_columns (map next_event xs)) (max 0 (event_columns (next_event x))) in omega arith
 
   rest_le : (x : Next) (xs : List Next) → widest (map next_event (x ∷ xs)) ≤ most → widest (map next_event xs) ≤ most
   rest_le x xs l = let more : fold max 0 (map event_columns (map next_event xs)) ≤ fold max (max 0 (event_columns (next_event x))) (map event_columns (map next_event xs)) =
