@@ -390,19 +390,15 @@ module _ (full : Bool) (document : List Part) (width : ℕ) (is_small : length d
         → Going (index + 1) (before ++ Start b ∷ []) rest (whole.pairs_at document index b pairs) (hidden_after full hidden (Start b)) (whole.part_put full document index pairs hidden (Start b) s)
     at (inl h) =
         let skipped : is_skipped document index ≡ true = sym skips_here ∙ h in
-        let same : whole.part_put full document index pairs hidden (Start b) s ≡ s = put_if (whole.skips (whole.pairs_at document index b pairs) index b) h s (page.opened b (whole.is_adjacent b (whole.pairs_at document index b pairs)) s) in
+        let same : whole.part_put full document index pairs hidden (Start b) s ≡ s = rw h refl in
         subst (λ (t : Sheet). Going (index + 1) (before ++ Start b ∷ []) rest (whole.pairs_at document index b pairs) (hidden_after full hidden (Start b)) t) (sym same)
-        (quiet_step index before rest (Start b) pairs hidden s g (whole.pairs_at document index b pairs) (walk_start_skipped full document is_small index before rest b pairs hidden s w skipped) (rw skipped refl)) where
-          put_if : (c : Bool) → c ≡ true → (x y : Sheet) → (if c then x else y) ≡ x
-          put_if c e x y = rw e refl
+        (quiet_step index before rest (Start b) pairs hidden s g (whole.pairs_at document index b pairs) (walk_start_skipped full document is_small index before rest b pairs hidden s w skipped) (rw skipped refl))
     at (inr h) =
         let skipped : is_skipped document index ≡ false = sym skips_here ∙ h in
         let same : whole.part_put full document index pairs hidden (Start b) s ≡ page.opened b (whole.is_adjacent b (whole.pairs_at document index b pairs)) s =
-        put_if (whole.skips (whole.pairs_at document index b pairs) index b) h s (page.opened b (whole.is_adjacent b (whole.pairs_at document index b pairs)) s) in
+        rw h refl in
         subst (λ (t : Sheet). Going (index + 1) (before ++ Start b ∷ []) rest (whole.pairs_at document index b pairs) (hidden_after full hidden (Start b)) t) (sym same)
-        (shown skipped (subst (λ (t : Sheet). page.HasFewMargins t) same (few h))) where
-          put_if : (c : Bool) → c ≡ false → (x y : Sheet) → (if c then x else y) ≡ y
-          put_if c e x y = rw e refl
+        (shown skipped (subst (λ (t : Sheet). page.HasFewMargins t) same (few h)))
 
   end_step : (index : ℕ) (before rest : List Part) (b : Block) (pairs : Pairs) (hidden : ℕ) (s : Sheet)
       → whole.LeavesFew pairs index (End b) (whole.part_put full document index pairs hidden (End b) s)
@@ -429,18 +425,14 @@ module _ (full : Bool) (document : List Part) (width : ℕ) (is_small : length d
         → Going (index + 1) (before ++ End b ∷ []) rest pairs (hidden_after full hidden (End b)) (whole.part_put full document index pairs hidden (End b) s)
     at (inl h) =
         let skipped : is_skipped document index ≡ true = sym skips_here ∙ h in
-        let same : whole.part_put full document index pairs hidden (End b) s ≡ s = put_if (whole.skips pairs index b) h s (page.closed b s) in
+        let same : whole.part_put full document index pairs hidden (End b) s ≡ s = rw h refl in
         subst (λ (t : Sheet). Going (index + 1) (before ++ End b ∷ []) rest pairs (hidden_after full hidden (End b)) t) (sym same)
-        (quiet_step index before rest (End b) pairs hidden s g pairs (walk_end_skipped full document is_small index before rest b pairs hidden s w skipped) (rw skipped refl)) where
-          put_if : (c : Bool) → c ≡ true → (x y : Sheet) → (if c then x else y) ≡ x
-          put_if c e x y = rw e refl
+        (quiet_step index before rest (End b) pairs hidden s g pairs (walk_end_skipped full document is_small index before rest b pairs hidden s w skipped) (rw skipped refl))
     at (inr h) =
         let skipped : is_skipped document index ≡ false = sym skips_here ∙ h in
-        let same : whole.part_put full document index pairs hidden (End b) s ≡ page.closed b s = put_if (whole.skips pairs index b) h s (page.closed b s) in
+        let same : whole.part_put full document index pairs hidden (End b) s ≡ page.closed b s = rw h refl in
         subst (λ (t : Sheet). Going (index + 1) (before ++ End b ∷ []) rest pairs (hidden_after full hidden (End b)) t) (sym same)
-        (shown skipped (subst (λ (t : Sheet). page.HasFewMargins t) same (few h))) where
-          put_if : (c : Bool) → c ≡ false → (x y : Sheet) → (if c then x else y) ≡ y
-          put_if c e x y = rw e refl
+        (shown skipped (subst (λ (t : Sheet). page.HasFewMargins t) same (few h)))
 
   -- all is done
   pub record Done (s : Sheet) : Type 0 where
