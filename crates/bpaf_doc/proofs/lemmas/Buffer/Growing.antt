@@ -1,7 +1,6 @@
 -- A document that grows by one write after another.
-use Rattle.std.proofs.Common.{◌≡◌, false, List, [], ◌++◌, sym, refl, ap, subst, ◌∙◌, Result, Ok, Err}
+use Rattle.std.proofs.Common.{◌≡◌, List, ◌++◌, sym, ap, subst, ◌∙◌, Result, Ok, Err}
 use Rattle.std.specs.Prelude.{OnErr, OnOk}
-use Rattle.std.specs.Result.{is_err}
 use Rattle.std.proofs.lemmas.List.Sums.{fold-append}
 use Rattle.bpaf_doc.specs.Buffer.Growth.{Grows, IsCheckpointOf, Reached, RollsBack}
 use Rattle.bpaf_doc.specs.Buffer.Parts.{Part, IsWellNested}

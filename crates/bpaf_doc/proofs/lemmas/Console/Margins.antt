@@ -1,10 +1,7 @@
 -- A stack of margins, walked over the marks of a document, has the margin at each place on top.
-use Rattle.std.specs.Prelude.{◌≡◌, ℕ, zero, suc, ◌+◌, ◌-◌, ◌*◌, ◌<◌, ◌≤◌, max, ⊤, Bool, true, false, List, [], ◌∷◌, ◌++◌, length, refl, map, filter, take, drop, fold, count_by, get_or, nat_le, if◌then◌else◌}
-use Rattle.std.specs.List.{list_all, enumerate_from}
+use Rattle.std.specs.Prelude.{◌≡◌, ℕ, zero, suc, ◌+◌, ◌-◌, ◌*◌, ◌<◌, ◌≤◌, max, ⊤, Bool, true, false, List, [], ◌∷◌, ◌++◌, length, refl, map, filter, take, drop, fold, get_or, nat_le, if◌then◌else◌}
+use Rattle.std.specs.List.{enumerate_from}
 use Rattle.std.proofs.Common.{sym, ◌∙◌, ap, subst, arith, add-one}
-use Rattle.std.proofs.lemmas.List.Folds.{list_all-map}
-use Rattle.std.proofs.lemmas.List.Sums.{sum_by-cons}
-use Rattle.std.proofs.lemmas.List.{drop_at}
 use Rattle.std.proofs.lemmas.Bool.Decides.{nat_tests}
 use Rattle.std.proofs.Math.Nat.{zero-add, add-zero}
 use Rattle.bpaf_doc.specs.declared.buffer.Block.TheVariants as blocks

@@ -1,18 +1,18 @@
 -- One walk over the parts gives the tab stop.
-use Rattle.std.specs.Prelude.{◌≡◌, ℕ, ◌+◌, ◌-◌, ◌≤◌, min, max, Bool, true, false, not, cond, ◌&&◌, ◌||◌, List, [], ◌∷◌, ◌++◌, length, refl, map, filter, take, drop, fold, sum_by, nat_le, if◌then◌else◌}
-use Rattle.std.specs.List.{list_any, before_first, after_last, prefix_len, suffix_len, enumerate_from}
+use Rattle.std.specs.Prelude.{◌≡◌, ℕ, ◌+◌, min, max, Bool, true, false, not, cond, ◌&&◌, ◌||◌, List, [], ◌∷◌, ◌++◌, length, refl, map, filter, take, fold, sum_by, nat_le, if◌then◌else◌}
+use Rattle.std.specs.List.{list_any, before_first, after_last, enumerate_from}
 use Rattle.std.proofs.Common.{sym, ◌∙◌, ap, arith, append_assoc}
-use Rattle.std.proofs.lemmas.List.{length-append, drop-append-le, drop_all, reverse-append, take_at}
+use Rattle.std.proofs.lemmas.List.{length-append, take_at}
 use Rattle.std.proofs.lemmas.List.Folds.{list_any-append}
 use Rattle.std.proofs.lemmas.List.Sums.{sum_by-cons, take_while-cons}
 use Rattle.std.proofs.lemmas.Bool.Decides.{nat_tests}
 use Rattle.std.proofs.Math.Bool.{and-false, and-true, or-false}
-use Rattle.std.proofs.Math.Nat.{add-zero, zero-add}
+use Rattle.std.proofs.Math.Nat.{zero-add}
 use Rattle.bpaf_doc.proofs.lemmas.Manpage.LookingBack.{after_last-append}
 use Rattle.bpaf_doc.specs.declared.buffer.Block.TheVariants as blocks
 use Rattle.bpaf_doc.specs.Buffer.Parts.{Part, Text, Start, End}
 use Rattle.bpaf_doc.specs.Splitter.Chunks.{columns}
-use Rattle.bpaf_doc.specs.Console.Margin.{greatest, is_term_start, is_term_end, text_columns, term_length, term_lengths, tab_stop}
+use Rattle.bpaf_doc.specs.Console.Margin.{is_term_start, is_term_end, text_columns, term_length, tab_stop}
 
 -- ---- the walk
 

@@ -9,11 +9,11 @@ use Rattle.bpaf_doc.specs.declared.buffer.Style.TheVariants as styles
 use Rattle.bpaf_doc.specs.declared.buffer.Block.TheVariants as blocks
 use Rattle.bpaf_doc.specs.Splitter.Chunks.{Raw, Paragraph, LineBreak, code_weight, fence_weight, is_ordinary, is_code_line}
 use Rattle.bpaf_doc.specs.Html.Fragments.{Fragment, TextStart, Shown, TextEnd, Hidden, Start, End, shows}
-use Rattle.bpaf_doc.specs.Markdown.Page.{TextFence, Fence, Blank, Newline, Heading, SecondHeading, LongDash, MarkdownSnippet, Put, Of, style_marks, is_text_fence, is_fence, opened_fences, closed_fences, is_text_end}
-use Rattle.bpaf_doc.specs.Markdown.Steps.Page.{Marked, starts_line, starts_paragraph, with_item, is_term_end, marked_after}
+use Rattle.bpaf_doc.specs.Markdown.Page.{TextFence, Fence, Newline, MarkdownSnippet, Put, Of, style_marks, is_text_fence, is_fence, opened_fences, closed_fences, is_text_end}
+use Rattle.bpaf_doc.specs.Markdown.Steps.Page.{Marked, starts_line, with_item, is_term_end, marked_after}
 use Rattle.bpaf_doc.proofs.lemmas.Lists.Counting.{one_if, count_by-cons}
 use Rattle.bpaf_doc.proofs.lemmas.Lists.Passing.{state_after, passes, passes_back, passes_both, passes_first, passes_rest}
-use Rattle.bpaf_doc.proofs.lemmas.Markdown.Cut.{blanks, body_bytes, body_dash, start_snippets, own_snippets, snippets_of, cut_from, item_snippets, open_snippets, close_snippets, end_code_snippets, line_snippets, new_line_snippets, code_next, step-code, item-code, fence_is_whole, code_is_whole, others_are_ordinary}
+use Rattle.bpaf_doc.proofs.lemmas.Markdown.Cut.{blanks, start_snippets, own_snippets, snippets_of, cut_from, item_snippets, open_snippets, close_snippets, end_code_snippets, line_snippets, new_line_snippets, code_next, step-code, item-code, fence_is_whole, code_is_whole, others_are_ordinary}
 
 -- where a block is open: a fence with `text` opens one, another closes it
 abbrev may_stand : Bool → MarkdownSnippet → Bool

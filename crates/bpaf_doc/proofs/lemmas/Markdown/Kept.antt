@@ -1,14 +1,14 @@
 -- What stays of the snippets under a test.
-use Rattle.std.proofs.Common.{◌≡◌, Bool, true, false, List, [], ◌∷◌, ◌++◌, map, refl, ap, ◌∙◌, arith}
-use Rattle.std.specs.Prelude.{◌==◌, filter, flat_map, reverse, if◌then◌else◌}
+use Rattle.std.proofs.Common.{◌≡◌, Bool, false, List, [], ◌∷◌, ◌++◌, map, refl, ap, ◌∙◌, arith}
+use Rattle.std.specs.Prelude.{filter, flat_map, if◌then◌else◌}
 use Rattle.std.proofs.lemmas.List.Elements.{filter-append}
 use Rattle.bpaf_doc.specs.declared.buffer.Style.TheVariants as styles
 use Rattle.bpaf_doc.specs.declared.buffer.Block.TheVariants as blocks
-use Rattle.bpaf_doc.specs.Splitter.Chunks.{Raw, Paragraph, LineBreak, code_weight, fence_weight}
-use Rattle.bpaf_doc.specs.Html.Fragments.{Fragment, TextStart, Shown, TextEnd, Hidden, Start, End}
-use Rattle.bpaf_doc.specs.Markdown.Page.{Mark, Heading, SecondHeading, ThirdHeading, Dash, LongDash, Blank, Newline, Put, Of, fragments_in, style_marks, styled_snippets, is_style_mark_or_fragment, is_heading_or_fragment}
-use Rattle.bpaf_doc.specs.Markdown.Steps.Page.{Marked, starts_line, starts_paragraph, with_item, is_term_end, marked_after}
-use Rattle.bpaf_doc.proofs.lemmas.Markdown.Cut.{blanks, item_snippets, open_snippets, close_snippets, end_code_snippets, line_snippets, new_line_snippets, body_bytes, body_dash, own_snippets, snippets_of, cut_from, fragments-append, item_marks}
+use Rattle.bpaf_doc.specs.Splitter.Chunks.{Paragraph}
+use Rattle.bpaf_doc.specs.Html.Fragments.{Fragment, TextStart, Shown, TextEnd, Start, End}
+use Rattle.bpaf_doc.specs.Markdown.Page.{Mark, Heading, SecondHeading, ThirdHeading, Dash, LongDash, Put, Of, fragments_in, styled_snippets, is_style_mark_or_fragment, is_heading_or_fragment}
+use Rattle.bpaf_doc.specs.Markdown.Steps.Page.{Marked, with_item, is_term_end, marked_after}
+use Rattle.bpaf_doc.proofs.lemmas.Markdown.Cut.{item_snippets, own_snippets, snippets_of, cut_from, fragments-append, item_marks}
 
 -- the heading or list mark that a fragment writes of its own
 abbrev pub own_heading : Marked → Fragment → List Mark

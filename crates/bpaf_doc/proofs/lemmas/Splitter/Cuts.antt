@@ -1,5 +1,5 @@
 -- Where a line and a word end.
-use Rattle.std.specs.Prelude.{◌≡◌, ◌≢◌, ℕ, suc, ◌<◌, ◌≤◌, Bool, true, false, not, IsTrue, ◌⊎◌, List, [], ◌∷◌, refl, length, take, drop, Option, Some, None, MatchOption, unwrap_or}
+use Rattle.std.specs.Prelude.{◌≡◌, ◌≢◌, ℕ, suc, ◌<◌, ◌≤◌, Bool, true, false, IsTrue, ◌⊎◌, List, [], ◌∷◌, refl, length, take, drop, Option, Some, None, MatchOption, unwrap_or}
 use Rattle.std.specs.Char.{char_set_contains}
 use Rattle.std.specs.Str.{NoCharPasses}
 use Rattle.std.specs.Str.Pattern.{HasPassingCharAt}

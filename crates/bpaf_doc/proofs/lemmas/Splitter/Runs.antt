@@ -1,11 +1,11 @@
 -- The chunks of a run, and of a text that begins with one.
-use Rattle.std.specs.Prelude.{◌≡◌, ◌≢◌, ℕ, suc, ◌+◌, ◌<◌, ◌≤◌, Bool, true, IsTrue, ◌⊎◌, List, [], ◌∷◌, ◌++◌, codes, refl, length, take, drop, Option, Some, None, unwrap_or}
+use Rattle.std.specs.Prelude.{◌≡◌, ◌≢◌, ℕ, suc, ◌<◌, ◌≤◌, Bool, true, IsTrue, ◌⊎◌, List, [], ◌∷◌, ◌++◌, codes, refl, length, take, drop, Option, Some, None, unwrap_or}
 use Rattle.std.specs.Int.{is_in_range}
 use Rattle.std.specs.List.{list_all}
 use Rattle.std.proofs.Common.{sym, ◌∙◌, ap, subst, inl, inr, arith, append_assoc, get_or, take-append-drop, take_all, drop-cons, length-take}
 use Rattle.std.proofs.lemmas.List.{take-take, drop_all, get_or-take}
 use Rattle.memchr.specs.Find.{Nowhere, NoneBefore, NoneAfter, Passes, IsLastByte, is_byte}
-use Rattle.std.proofs.lemmas.List.Folds.{list_all-append, list_all_more}
+use Rattle.std.proofs.lemmas.List.Folds.{list_all-append}
 use Rattle.std.proofs.lemmas.Bool.Decides.{nat_tests}
 use Rattle.bpaf_doc.specs.Splitter.Chunks.{Chunk, Raw, Form, Plain, Spells, nothing, code_line, fence, before_code, paragraph, line_break, newline, blank, word, opening, later, closing, closing_paragraph, chunks_of, columns, is_line_byte, IsLine, IsLineEnd, IsWordEnd}
 use Rattle.bpaf_doc.specs.Splitter.Steps.Runs.{IsRun, IsRunEnd, IsPrintable}

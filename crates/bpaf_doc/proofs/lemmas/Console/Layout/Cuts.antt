@@ -1,11 +1,11 @@
 -- What may stand on a page, and that a chunk loses its blank end only before a newline.
-use Rattle.std.specs.Prelude.{◌≡◌, ℕ, zero, suc, ⊤, Bool, true, false, ◌==◌, List, [], ◌∷◌, refl, if◌then◌else◌, ◌⊎◌}
+use Rattle.std.specs.Prelude.{◌≡◌, ℕ, ⊤, Bool, true, false, ◌==◌, List, [], ◌∷◌, refl, if◌then◌else◌, ◌⊎◌}
 use Rattle.std.specs.Str.{trim_end}
 use Rattle.std.proofs.Common.{sym, subst, inl, inr, ◌∙◌, arith}
-use Rattle.bpaf_doc.specs.Splitter.Chunks.{is_inked, has_some}
-use Rattle.bpaf_doc.specs.Console.Layout.{Stretch, Gap, Placed, Passed, chunk_at, event_bytes}
-use Rattle.bpaf_doc.proofs.lemmas.Console.Layout.State.{State, Piece, Lines, none_asked, line_there, line_put, blank_there, second_put, both_put, Begins, first, stays, wraps, places, drops, Next, Grows, placing, breaking, passing, padded, trimmed, wrapped}
-use Rattle.bpaf_doc.proofs.lemmas.Console.Layout.Back.{by_cases, EachPlace, trimmed_inked, trimmed_plain, trimmed_bytes, trimmed_bare, each_lines, by_lines, lines_back, begins_back, by_trimmed, by_padded}
+use Rattle.bpaf_doc.specs.Splitter.Chunks.{has_some}
+use Rattle.bpaf_doc.specs.Console.Layout.{Stretch, Gap, Placed, Passed, event_bytes}
+use Rattle.bpaf_doc.proofs.lemmas.Console.Layout.State.{State, Piece, Lines, Begins, first, stays, wraps, places, drops, Next, Grows, placing, breaking, passing, padded, trimmed, wrapped}
+use Rattle.bpaf_doc.proofs.lemmas.Console.Layout.Back.{by_cases, EachPlace, each_lines, lines_back, by_trimmed, by_padded}
 use Rattle.bpaf_doc.proofs.lemmas.Console.Layout.Columns.{Fills, inked_trim, inked_some}
 
 -- what may stand where the text after it begins with a newline, or where nothing is known of it

@@ -7,9 +7,9 @@ use Rattle.bpaf_doc.specs.declared.buffer.Block.{Block}
 use Rattle.bpaf_doc.specs.declared.buffer.Block.TheVariants as blocks
 use Rattle.bpaf_doc.specs.declared.console.page.Asked.{Asked}
 use Rattle.bpaf_doc.specs.declared.console.page.Asked.TheVariants.{Nothing}
-use Rattle.bpaf_doc.specs.Splitter.Chunks.{Chunk, Raw, Paragraph, LineBreak, columns, is_inked, is_ordinary}
+use Rattle.bpaf_doc.specs.Splitter.Chunks.{Chunk, Raw, columns, is_inked, is_ordinary}
 use Rattle.bpaf_doc.specs.Console.Layout.{Event, Shows, Opens, Closes, Stretch, Gap, Placed, Passed, Place, chunk_at, event_bytes, is_inked_event, is_inked_stretch, asks_newline, room_of}
-use Rattle.bpaf_doc.proofs.lemmas.Console.Layout.State.{State, Piece, Lines, Pads, to_margin, after_term, Begins, first, stays, wraps, places, drops, Next, raw, break, mark, Grows, placing, breaking, passing, padded, trimmed, sat, wrapped, put, passed, dropped, broken, asked_after, pending_after, Fits, Suits, raw_suits, paragraph_suits, line_break_suits, open_suits, close_suits, IsShallow}
+use Rattle.bpaf_doc.proofs.lemmas.Console.Layout.State.{State, Piece, Lines, Pads, to_margin, after_term, Begins, first, stays, wraps, places, drops, Next, raw, break, mark, Grows, placing, breaking, passing, padded, trimmed, sat, wrapped, put, passed, dropped, broken, asked_after, pending_after, Fits, Suits, IsShallow}
 use Rattle.bpaf_doc.proofs.lemmas.Console.Layout.Back.{by_cases, EachPlace, each_grows, place_of, fits_of, same_padded, by_mark, by_break}
 use Rattle.bpaf_doc.proofs.lemmas.Console.Layout.Columns.{Fills, column_back, column_padded, Agrees, heavy}
 use Rattle.bpaf_doc.proofs.lemmas.Console.Layout.Text.{IsStarting, has_place, begins_column, next_event, or_false_left, or_false_right}

@@ -6,10 +6,10 @@ use Rattle.std.proofs.lemmas.Bool.{or_parts}
 use Rattle.bpaf_doc.specs.Splitter.Chunks.{Raw, is_inked, has_some}
 use Rattle.bpaf_doc.specs.Console.Layout.{Event, Shows, Stretch, Gap, Placed, Passed, Place, chunk_at, event_bytes, is_newline, is_inked_stretch}
 use Rattle.bpaf_doc.proofs.lemmas.Console.Layout.Columns.{any_in_line}
-use Rattle.bpaf_doc.proofs.lemmas.Console.Layout.State.{State, Piece, Lines, none_asked, line_there, line_put, blank_there, second_put, both_put, Begins, first, stays, wraps, places, drops, Next, Grows, placing, breaking, passing, padded, trimmed, cut}
+use Rattle.bpaf_doc.proofs.lemmas.Console.Layout.State.{State, Piece, Lines, none_asked, line_there, line_put, blank_there, second_put, both_put, Begins, places, drops, Next, Grows, placing, breaking, passing, padded, trimmed, cut}
 use Rattle.bpaf_doc.proofs.lemmas.Console.Layout.Text.{next_event}
 use Rattle.bpaf_doc.specs.declared.console.page.Asked.TheVariants.{Nothing, NewLine, BlankLine}
-use Rattle.bpaf_doc.proofs.lemmas.Console.Layout.Back.{by_cases, trimmed_inked, trimmed_plain, trimmed_bytes, trimmed_bare, by_lines, lines_back, begins_back, by_trimmed, same_padded}
+use Rattle.bpaf_doc.proofs.lemmas.Console.Layout.Back.{by_cases, trimmed_inked, trimmed_plain, trimmed_bytes, trimmed_bare, lines_back, begins_back, by_trimmed, same_padded}
 
 -- ---- the events, newest first
 

@@ -2,7 +2,6 @@
 -- Nobody has to believe this: `IsLayout` is what is promised, and it is proved of each page that grows so.
 use Rattle.std.specs.Prelude.{IsUtf8, ◌⊎◌, ◌≡◌, ◌≢◌, ℕ, zero, suc, ◌+◌, ◌-◌, ◌<◌, ◌≤◌, min, ⊤, Bool, true, false, ◌&&◌, ◌||◌, List, [], ◌∷◌, ◌++◌, length, codes, if◌then◌else◌}
 use Rattle.std.specs.Str.{trim_end}
-use Rattle.bpaf_doc.specs.Shown.{through_paragraph}
 use Rattle.bpaf_doc.specs.Splitter.Chunks.{IsLine, Chunk, Raw, Paragraph, LineBreak, columns, is_inked, has_some, IsOrdinary}
 use Rattle.bpaf_doc.specs.Console.Layout.{Event, Shows, Opens, Closes, Stretch, Gap, Placed, Passed, Place, chunk_at, event_bytes, stretch_bytes, is_newline, asks_newline, asks_blank_line, opens_body, is_inline_block, is_empty_code}
 use Rattle.bpaf_doc.specs.declared.console.page.Asked.{Asked}

@@ -1,7 +1,6 @@
 -- A page that grows by the rules is a layout of its document.
 use Rattle.std.specs.Prelude.{◌≡◌, ◌≢◌, ℕ, suc, ◌+◌, ◌<◌, ◌≤◌, max, ⊤, Bool, true, false, not, ◌&&◌, ◌||◌, ◌==◌, List, [], ◌∷◌, ◌++◌, take, reverse, map, fold, sum_by, All, codes, refl, if◌then◌else◌, ◌⊎◌, IsTrue}
 use Rattle.std.specs.List.{list_any, list_all, before_first, after_last, position_or_len}
-use Rattle.std.specs.Str.{trim_end}
 use Rattle.std.proofs.Common.{sym, subst, ap, arith, inl, inr, ◌∙◌, append_assoc}
 use Rattle.std.proofs.lemmas.List.{reverse-append, reverse-reverse, append-nil}
 use Rattle.std.proofs.lemmas.List.Elements.{All-append, All-cons, All-nil}

@@ -1,5 +1,5 @@
 -- The page that the code writes is the page as a function of the document.
-use Rattle.std.specs.Prelude.{◌≡◌, ℕ, suc, ◌+◌, ◌-◌, ◌^◌, ◌<◌, Option, Some, None, Bool, true, false, not, ◌&&◌, ◌||◌, ◌==◌, List, [], ◌∷◌, ◌++◌, length, refl, if◌then◌else◌, ◌⊎◌, nat_lt, nat_le, take, IfOk, Result, Ok, Err, String, string_bytes}
+use Rattle.std.specs.Prelude.{◌≡◌, ℕ, ◌+◌, ◌-◌, ◌^◌, ◌<◌, Option, Some, None, Bool, true, false, not, ◌&&◌, ◌||◌, ◌==◌, List, [], ◌∷◌, ◌++◌, length, refl, if◌then◌else◌, ◌⊎◌, nat_lt, nat_le, take, IfOk, Result, Ok, Err, String, string_bytes}
 use Rattle.std.specs.List.{enumerate_from}
 use Rattle.std.specs.Str.{bytes_eq}
 use Rattle.std.proofs.Common.{sym, ap, arith, inl, inr, ◌∙◌}

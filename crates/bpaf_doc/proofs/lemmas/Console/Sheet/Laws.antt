@@ -1,14 +1,14 @@
 -- The page as a function of the document has the console ink, and is a layout.
 use Rattle.std.specs.Prelude.{◌≡◌, ℕ, zero, suc, ◌+◌, ◌^◌, ◌<◌, ◌≤◌, ◌⊎◌, Bool, true, false, List, [], ◌∷◌, ◌++◌, length, take, reverse, map, flat_map, refl, if◌then◌else◌}
 use Rattle.std.specs.List.{enumerate_from}
-use Rattle.std.specs.Str.{trim_end, IsUtf8}
+use Rattle.std.specs.Str.{IsUtf8}
 use Rattle.std.proofs.Common.{sym, subst, ap, arith, inl, inr, ◌∙◌, length-append}
 use Rattle.std.proofs.lemmas.List.{append-nil, length-reverse, reverse-reverse}
 use Rattle.std.proofs.lemmas.Grind.{flat_map-append}
 use Rattle.bpaf_doc.specs.declared.console.pairs.Pairs.{Pairs}
 use Rattle.bpaf_doc.specs.declared.buffer.Block.{Block}
 use Rattle.bpaf_doc.specs.Buffer.Parts.{Part, Text, Start, End, ink, HasUtf8Texts}
-use Rattle.bpaf_doc.specs.Splitter.Chunks.{Chunk, chunk_ink, has_some}
+use Rattle.bpaf_doc.specs.Splitter.Chunks.{Chunk, chunk_ink}
 use Rattle.bpaf_doc.specs.Splitter.Promises.{IsGap}
 use Rattle.bpaf_doc.specs.Shown.{console_ink, is_term_ref, mark_bytes, shown_chunks, shown_part_ink}
 use Rattle.bpaf_doc.specs.Console.Margin.{Shift, Indent, Outdent, Level, shifts, is_skipped}

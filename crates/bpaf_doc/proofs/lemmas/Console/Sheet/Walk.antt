@@ -13,7 +13,7 @@ use Rattle.bpaf_doc.specs.Buffer.Parts.{Part, Text, Start, End}
 use Rattle.bpaf_doc.specs.Splitter.Chunks.{Chunk, Raw, Paragraph, LineBreak, columns, chunks_of}
 use Rattle.bpaf_doc.specs.Shown.{is_hidden, shown_chunks, through_paragraph}
 use Rattle.bpaf_doc.specs.Console.Margin.{margin, is_skipped, skips_pair, is_section4_start, tab_stop, Shift, Indent, Outdent, Level, part_shift, indent}
-use Rattle.bpaf_doc.specs.Console.Steps.Hiding.{hidden_after, is_inline}
+use Rattle.bpaf_doc.specs.Console.Steps.Hiding.{hidden_after}
 use Rattle.bpaf_doc.specs.Console.Steps.Page as page
 use Rattle.bpaf_doc.specs.Console.Steps.Page.{Sheet, blank_sheet}
 use Rattle.bpaf_doc.specs.Console.Steps.Text as whole

@@ -1,6 +1,6 @@
 -- The exact console text is a layout of its document.
-use Rattle.std.specs.Prelude.{◌≡◌, ◌≢◌, ℕ, suc, ◌+◌, ◌-◌, ◌^◌, ◌<◌, ◌≤◌, ⊤, Bool, true, false, not, ◌&&◌, ◌==◌, List, [], ◌∷◌, ◌++◌, length, take, map, flat_map, All, codes, refl, if◌then◌else◌, ◌⊎◌, IsUtf8, IsTrue, slice_get, IfOk, Result, Ok, Err, String, string_bytes, unwrap_or, Some}
-use Rattle.std.specs.List.{list_all, enumerate_from}
+use Rattle.std.specs.Prelude.{◌≡◌, ◌≢◌, ℕ, suc, ◌+◌, ◌-◌, ◌^◌, ◌<◌, ◌≤◌, ⊤, Bool, true, false, ◌==◌, List, [], ◌∷◌, ◌++◌, length, take, map, flat_map, All, codes, refl, if◌then◌else◌, ◌⊎◌, IsUtf8, slice_get, IfOk, Result, Ok, Err, String, string_bytes, unwrap_or, Some}
+use Rattle.std.specs.List.{enumerate_from}
 use Rattle.std.specs.Str.{chars}
 use Rattle.std.proofs.Common.{sym, subst, ap, arith, inl, inr, ◌∙◌, append_assoc}
 use Rattle.std.proofs.lemmas.List.{append-nil}
@@ -14,7 +14,7 @@ use Rattle.bpaf_doc.specs.declared.buffer.Block.{Block}
 use Rattle.bpaf_doc.specs.declared.buffer.Block.TheVariants as blocks
 use Rattle.bpaf_doc.specs.declared.buffer.Style.{Style}
 use Rattle.bpaf_doc.specs.Buffer.Parts.{Part, Text, Start, End, ink, part_bytes, HasUtf8Texts}
-use Rattle.bpaf_doc.specs.Splitter.Chunks.{Chunk, Raw, Paragraph, LineBreak, IsLine, IsWord, IsOrdinary, has_some, columns, chunks_of, code_weight, fence_weight, is_line_byte, is_word_byte, Spells, Plain, nothing, code_line, fence, before_code, paragraph, line_break, newline, blank, word, opening, later, closing, closing_paragraph, Form}
+use Rattle.bpaf_doc.specs.Splitter.Chunks.{Chunk, Raw, Paragraph, LineBreak, IsLine, IsWord, IsOrdinary, has_some, columns, chunks_of, code_weight, fence_weight, Spells, Plain, nothing, code_line, fence, before_code, paragraph, line_break, newline, blank, word, opening, later, closing, closing_paragraph, Form}
 use Rattle.bpaf_doc.specs.Splitter.Promises.{IsText}
 use Rattle.bpaf_doc.specs.Shown.{console_ink, shown_chunks}
 use Rattle.bpaf_doc.specs.Console.Margin.{margin, greatest_margin, is_skipped, Level, part_shift}

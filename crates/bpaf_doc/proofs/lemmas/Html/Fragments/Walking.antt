@@ -1,20 +1,18 @@
 -- The walk over the parts gives the fragments of the document.
-use Rattle.std.proofs.Common.{◌≡◌, ℕ, zero, suc, ◌+◌, Bool, true, false, cond, leb, List, [], ◌∷◌, ◌++◌, length, take, map, refl, sym, ap, ◌∙◌, arith, append_assoc, append-nil, subst, inl, inr}
-use Rattle.std.specs.Prelude.{◌<◌, ◌-◌, ◌==◌, not, ◌&&◌, ◌||◌, ◌⊎◌, count_by, flat_map, if◌then◌else◌}
+use Rattle.std.proofs.Common.{◌≡◌, ℕ, zero, suc, ◌+◌, Bool, true, false, cond, List, [], ◌∷◌, ◌++◌, length, take, map, refl, sym, ap, ◌∙◌, arith, append_assoc, append-nil, subst, inl, inr}
+use Rattle.std.specs.Prelude.{◌<◌, ◌-◌, ◌==◌, not, ◌||◌, ◌⊎◌, flat_map, if◌then◌else◌}
 use Rattle.bpaf_doc.specs.declared.buffer.Style.{Style}
-use Rattle.std.specs.List.{list_all, enumerate_from, list_any, before_first, position_or_len}
+use Rattle.std.specs.List.{enumerate_from, list_any, before_first, position_or_len}
 use Rattle.std.proofs.lemmas.List.{take_at, length_push, length-append, length-map}
-use Rattle.std.proofs.lemmas.List.Folds.{list_all-map}
-use Rattle.std.proofs.lemmas.Bool.{cases_lt, lt-leb, le-leb, false≢true}
+use Rattle.std.proofs.lemmas.Bool.{false≢true}
 use Rattle.bpaf_doc.specs.declared.buffer.Block.{Block}
 use Rattle.bpaf_doc.specs.declared.buffer.Block.TheVariants as blocks
 use Rattle.bpaf_doc.specs.Buffer.Parts.{Part, Text, Start as PartStart, End as PartEnd}
 use Rattle.bpaf_doc.specs.Splitter.Chunks.{Chunk, Raw, IsLine, chunks_of, columns, is_paragraph}
 use Rattle.bpaf_doc.specs.Splitter.Steps.Runs.{IsRun}
 use Rattle.bpaf_doc.proofs.lemmas.Splitter.Runs.{AreWords, no_words, a_word, words_of_line, words_some}
-use Rattle.bpaf_doc.specs.Shown.{fronts, stays_open, is_inline_start, is_inline_end, is_hidden, through_paragraph}
-use Rattle.bpaf_doc.specs.Html.Fragments.{Fragment, Shown, TextStart, TextEnd, Hidden, part_fragments, shown_fragments}
-use Rattle.bpaf_doc.proofs.lemmas.Lists.Counting.{one_if, count_by-cons}
+use Rattle.bpaf_doc.specs.Shown.{is_hidden, through_paragraph}
+use Rattle.bpaf_doc.specs.Html.Fragments.{Fragment, Shown, TextStart, TextEnd, part_fragments, shown_fragments}
 use Rattle.bpaf_doc.specs.Console.Steps.Hiding as hiding
 use Rattle.bpaf_doc.proofs.lemmas.Console.Hiding.{not_zero, Counts, Counts-nil, Counts-more, is_hidden-Counts}
 use Rattle.bpaf_doc.specs.Html.Steps.Walk.{is_inline, depth_after, depth_after_text, visible, text_rest, part_walk, walk}
