@@ -161,11 +161,7 @@ new_line_is asked.BlankLine = refl
 
 start_request : (b : Block) (a : Asked) → request_of (page.asked_by_start a b) ≡ exact.request_at_start b (request_of a)
 start_request blocks.Header a = new_line_is a
-start_request blocks.Section2 a = new_line_is a
-start_request blocks.Section3 a = new_line_is a
-start_request blocks.Section4 a = new_line_is a
-start_request blocks.ItemTerm a = new_line_is a
-start_request _ a = refl
+start_request _ a = grind (arith, new_line_is a)
 
 end_request : (b : Block) (a : Asked) → request_of (page.asked_by_end a b) ≡ exact.request_at_end b (request_of a)
 end_request blocks.Header a = refl

@@ -24,11 +24,7 @@ same_asked BlankLine = refl
 
 start_asked : (a : Asked) (b : Block) → page.asked_by_start a b ≡ asked_after (Opens b) a
 start_asked a blocks.Header = same_asked a
-start_asked a blocks.Section2 = same_asked a
-start_asked a blocks.Section3 = same_asked a
-start_asked a blocks.Section4 = same_asked a
-start_asked a blocks.ItemTerm = same_asked a
-start_asked a _ = refl
+start_asked a _ = grind (arith, same_asked a)
 
 end_asked : (a : Asked) (b : Block) → page.asked_by_end a b ≡ asked_after (Closes b) a
 end_asked a blocks.Header = refl

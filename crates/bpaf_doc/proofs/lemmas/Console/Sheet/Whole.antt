@@ -350,11 +350,8 @@ module _ (full : Bool) (document : List Part) (width : ℕ) (is_small : length d
         (ap (λ cs. map (λ chunk. Shows index chunk) cs) (hidden_is full document index before rest bytes style pairs hidden s w h)))
 
   inline_level : (index : ℕ) (b : Block) → is_inline_block b ≡ true → part_shift document index (Start b) ≡ Level
-  inline_level index blocks.DefinitionList h = refl
   inline_level index blocks.InlineBlock h = refl
-  inline_level index blocks.Meta h = refl
-  inline_level index blocks.Mono h = refl
-  inline_level index _ h = absurd cc
+  inline_level index _ h = grind arith
 
   start_step : (index : ℕ) (before rest : List Part) (b : Block) (pairs : Pairs) (hidden : ℕ) (s : Sheet)
       → whole.LeavesFew (whole.pairs_at document index b pairs) index (Start b) (whole.part_put full document index pairs hidden (Start b) s)
