@@ -102,19 +102,11 @@ fragments-append (Of f ∷ xs) ys = ap (λ fs. f ∷ fs) (fragments-append xs ys
 
 step-fragments : (p : Written) (f : Fragment) → fragments_in (snippets_of p f) ≡ f ∷ []
 step-fragments p (TextStart styles.Text) = refl
-step-fragments p (Shown style (Raw bytes weight)) = refl
-step-fragments p (Shown style Paragraph) = refl
-step-fragments p (Shown style LineBreak) = refl
 step-fragments p (TextEnd styles.Text) = refl
-step-fragments p Hidden = refl
+step-fragments p (Shown style Paragraph) = refl
 step-fragments p (Start blocks.Header) = grind arith
-step-fragments p (Start blocks.ItemBody) = grind arith
-step-fragments p (Start _) = refl
 step-fragments p (End blocks.Header) = grind arith
-step-fragments p (End blocks.ItemBody) = grind arith
-step-fragments p (End _) = refl
-step-fragments p (TextStart _) = refl
-step-fragments p (TextEnd _) = refl
+step-fragments p _ = grind arith
 
 pub cut-fragments : (p : Written) (fs : List Fragment) → fragments_in (cut_from p fs) ≡ fs
 cut-fragments p [] = refl
@@ -125,19 +117,11 @@ cut-fragments p (f ∷ fs) =
 
 step-styles : (p : Written) (f : Fragment) → filter is_style_tag_or_fragment (snippets_of p f) ≡ styled_snippets f
 step-styles p (TextStart styles.Text) = refl
-step-styles p (Shown style (Raw bytes weight)) = refl
-step-styles p (Shown style Paragraph) = refl
-step-styles p (Shown style LineBreak) = refl
 step-styles p (TextEnd styles.Text) = refl
-step-styles p Hidden = refl
+step-styles p (Shown style Paragraph) = refl
 step-styles p (Start blocks.Header) = grind arith
-step-styles p (Start blocks.ItemBody) = grind arith
-step-styles p (Start _) = refl
 step-styles p (End blocks.Header) = grind arith
-step-styles p (End blocks.ItemBody) = grind arith
-step-styles p (End _) = refl
-step-styles p (TextStart _) = refl
-step-styles p (TextEnd _) = refl
+step-styles p _ = grind arith
 
 pub cut-styles : (p : Written) (fs : List Fragment) → filter is_style_tag_or_fragment (cut_from p fs) ≡ flat_map styled_snippets fs
 cut-styles p [] = refl

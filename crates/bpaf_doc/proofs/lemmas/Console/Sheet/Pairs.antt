@@ -100,17 +100,7 @@ module _ (document : List Part) (small : length document < 2 ^ 64) where
   skips_is index b pairs knows mark = at (by_cases (whole.is_block b)) where
     is_block_block : (b : Block) → whole.is_block b ≡ true → b ≡ blocks.Block
     is_block_block blocks.Block h = refl
-    is_block_block blocks.Header h = absurd cc
-    is_block_block blocks.Section2 h = absurd cc
-    is_block_block blocks.Section3 h = absurd cc
-    is_block_block blocks.Section4 h = absurd cc
-    is_block_block blocks.ItemTerm h = absurd cc
-    is_block_block blocks.ItemBody h = absurd cc
-    is_block_block blocks.DefinitionList h = absurd cc
-    is_block_block blocks.InlineBlock h = absurd cc
-    is_block_block blocks.TermRef h = absurd cc
-    is_block_block blocks.Meta h = absurd cc
-    is_block_block blocks.Mono h = absurd cc
+    is_block_block _ h = absurd cc
 
     unlike : whole.is_block b ≡ false → b ≡ blocks.Block → ⊥
     unlike h e = let yes : whole.is_block b ≡ true = ap whole.is_block e in let no : true ≡ false = sym yes ∙ h in cc
