@@ -143,20 +143,14 @@ start_plain p _ = refl
 
 own_fences : (p : Marked) (f : Fragment) → Fences p.in_code (own_snippets p f) (code_next p.in_code f)
 own_fences p (TextStart styles.Text) = plain_fences p.in_code (own_snippets p (TextStart styles.Text)) refl
-own_fences p (TextStart styles.Emphasis) = plain_fences p.in_code (own_snippets p (TextStart styles.Emphasis)) refl
-own_fences p (TextStart styles.Literal) = plain_fences p.in_code (own_snippets p (TextStart styles.Literal)) refl
-own_fences p (TextStart styles.Metavar) = plain_fences p.in_code (own_snippets p (TextStart styles.Metavar)) refl
-own_fences p (TextStart styles.Invalid) = plain_fences p.in_code (own_snippets p (TextStart styles.Invalid)) refl
+own_fences p (TextStart style) = plain_fences p.in_code (own_snippets p (TextStart style)) refl
 own_fences p (Shown style (Raw bytes weight)) = raw_fences p style bytes weight
 own_fences p (Shown style Paragraph) =
     plain_fences p.in_code (own_snippets p (Shown style Paragraph))
     (elim (p.in_list) as (λ l. list_all is_plain (Of (Shown style Paragraph) ∷ Put Newline ∷ Put Newline ∷ (if l then blanks else [])) ≡ true) [ true ↦ refl | false ↦ refl ])
 own_fences p (Shown style LineBreak) = plain_fences p.in_code (own_snippets p (Shown style LineBreak)) refl
 own_fences p (TextEnd styles.Text) = then_fences p.in_code false false (end_code_snippets p.in_code) (map Put (reverse (style_marks styles.Text)) ++ Of (TextEnd styles.Text) ∷ []) (end_fences p.in_code) (refl, refl)
-own_fences p (TextEnd styles.Emphasis) = then_fences p.in_code false false (end_code_snippets p.in_code) (map Put (reverse (style_marks styles.Emphasis)) ++ Of (TextEnd styles.Emphasis) ∷ []) (end_fences p.in_code) (refl, refl)
-own_fences p (TextEnd styles.Literal) = then_fences p.in_code false false (end_code_snippets p.in_code) (map Put (reverse (style_marks styles.Literal)) ++ Of (TextEnd styles.Literal) ∷ []) (end_fences p.in_code) (refl, refl)
-own_fences p (TextEnd styles.Metavar) = then_fences p.in_code false false (end_code_snippets p.in_code) (map Put (reverse (style_marks styles.Metavar)) ++ Of (TextEnd styles.Metavar) ∷ []) (end_fences p.in_code) (refl, refl)
-own_fences p (TextEnd styles.Invalid) = then_fences p.in_code false false (end_code_snippets p.in_code) (map Put (reverse (style_marks styles.Invalid)) ++ Of (TextEnd styles.Invalid) ∷ []) (end_fences p.in_code) (refl, refl)
+own_fences p (TextEnd style) = then_fences p.in_code false false (end_code_snippets p.in_code) (map Put (reverse (style_marks style)) ++ Of (TextEnd style) ∷ []) (end_fences p.in_code) (refl, refl)
 own_fences p Hidden = plain_fences p.in_code (own_snippets p Hidden) refl
 own_fences p (Start b) = plain_fences p.in_code (start_snippets p b) (start_plain p b)
 own_fences p (End blocks.ItemBody) =

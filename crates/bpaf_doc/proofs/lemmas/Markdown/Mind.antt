@@ -87,13 +87,8 @@ list-push before f = ap (λ xs. begins_with_list_start (filter is_list_mark xs))
   where
     cases : (f : Fragment) → begins_with_list_start (filter is_list_mark (f ∷ reverse before)) ≡ (if is_list_start f then true else (if is_list_end f then false else is_in_list before))
     cases (Start blocks.DefinitionList) = refl
-    cases (Start _) = refl
     cases (End blocks.DefinitionList) = refl
-    cases (End _) = refl
-    cases (TextStart style) = refl
-    cases (Shown style chunk) = refl
-    cases (TextEnd style) = refl
-    cases Hidden = refl
+    cases _ = refl
 
 counted : (p : Fragment → Bool) (before : List Fragment) (f : Fragment) (n : ℕ) → count_by p before ≡ n → count_by p before + one_if (p f) < 2 ^ 64 → count_by p (before ++ f ∷ []) ≡ (if p f then one_more n else n)
 counted p before f n e room =
