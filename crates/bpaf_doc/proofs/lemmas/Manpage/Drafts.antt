@@ -135,14 +135,7 @@ end_holds page by_page done draft block.Header h = section_holds page by_page do
 end_holds page by_page done draft block.Section2 h = section_holds page by_page done draft block.Section2 _ refl refl refl h
 end_holds page by_page done draft block.Section3 h = section_holds page by_page done draft block.Section3 _ refl refl refl h
 end_holds page by_page done draft block.Section4 h = section_holds page by_page done draft block.Section4 _ refl refl refl h
-end_holds page by_page done draft block.ItemTerm h = block_holds page by_page done draft block.ItemTerm refl refl h
-end_holds page by_page done draft block.ItemBody h = block_holds page by_page done draft block.ItemBody refl refl h
-end_holds page by_page done draft block.DefinitionList h = block_holds page by_page done draft block.DefinitionList refl refl h
-end_holds page by_page done draft block.Block h = block_holds page by_page done draft block.Block refl refl h
-end_holds page by_page done draft block.InlineBlock h = block_holds page by_page done draft block.InlineBlock refl refl h
-end_holds page by_page done draft block.TermRef h = block_holds page by_page done draft block.TermRef refl refl h
-end_holds page by_page done draft block.Meta h = block_holds page by_page done draft block.Meta refl refl h
-end_holds page by_page done draft block.Mono h = block_holds page by_page done draft block.Mono refl refl h
+end_holds page by_page done draft b h = block_holds page by_page done draft b refl refl h
 
 part_holds : (page : List (Piece Escape)) (by_page : Bool) (done : List Part) (draft : Draft) (part : Part) → Holds page by_page done draft → Holds page by_page (done ++ part ∷ []) (after_part draft part)
 part_holds page by_page done draft (Text text how) h = text_by draft.captures page by_page done draft.script draft.heading text how h
