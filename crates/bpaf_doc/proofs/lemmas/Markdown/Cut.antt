@@ -226,30 +226,11 @@ open-code : (p : Marked) → (open_code p).in_code ≡ true
 open-code p = (elim (p.in_code) as (λ b. p.in_code ≡ b → (if b then p else record p { bytes = p.bytes ++ codes "\n\n  ```text\n"; in_code = true }).in_code ≡ true) [ true ↦ λ e. e | false ↦ λ e. refl ]) refl
 
 own-code : (p : Marked) (f : Fragment) → (own_after p f).in_code ≡ code_next p.in_code f
-own-code p (TextStart style) = refl
-own-code p (Shown style (Raw bytes weight)) =
-    elim (weight == fence_weight) as (λ t. (if t then with_line (with_new_line p) bytes else (if weight == code_weight then with_line (open_code p) bytes else with_words p bytes)).in_code ≡ (if t then p.in_code else (if weight == code_weight then true else false))) [
-      | true ↦ new_line-code p
-      | false ↦ elim (weight == code_weight) as (λ t. (if t then with_line (open_code p) bytes else with_words p bytes).in_code ≡ (if t then true else false)) [
-        | true ↦ open-code p
-        | false ↦ close-code p (codes "\n  ```\n")
-      ]
-    ]
-own-code p (Shown style Paragraph) = refl
-own-code p (Shown style LineBreak) = refl
-own-code p (TextEnd style) = close-code p (codes "  ```\n")
-own-code p Hidden = refl
-own-code p (Start blocks.Header) = grind arith
-own-code p (Start blocks.Section4) = new_line-code p
-own-code p (Start blocks.ItemTerm) = new_line-code p
-own-code p (Start blocks.ItemBody) =
-    elim (p.in_list) as (λ b. (with_new_line (if b then put p (if p.empty_item then codes " " else codes " &mdash; ") else p)).in_code ≡ p.in_code) [
-      | true ↦ new_line-code (put p (if p.empty_item then codes " " else codes " &mdash; "))
-      | false ↦ new_line-code p
-    ]
-own-code p (Start _) = refl
-own-code p (End blocks.ItemBody) = refl
-own-code p (End _) = refl
+own-code p (Shown style (Raw bytes weight)) = grind arith
+own-code p (TextEnd style) = grind arith
+own-code p (Start blocks.ItemBody) = grind arith
+own-code p (End blocks.ItemBody) = grind arith
+own-code p _ = grind arith
 
 pub step-code : (p : Marked) (f : Fragment) → (marked_after p f).in_code ≡ code_next p.in_code f
 step-code p f = own-code (with_item p (is_term_end f)) f ∙ ap (λ c. code_next c f) (item-code p (is_term_end f))
