@@ -154,11 +154,7 @@ abbrev pub flags_next : Flags → Fragment → Flags
 flags_next s f = own_flags (item_flags s (is_term_end f)) f
 
 pub item-flags : (p : Marked) (empty : Bool) → flags (with_item p empty) ≡ item_flags (flags p) empty
-item-flags p empty =
-    (elim (p.pending) as (λ b. p.pending ≡ b → flags (if b then record p { bytes = p.bytes ++ (if empty then codes "  " else codes "- "); pending = false; empty_item = empty } else p) ≡ record (flags p) { pending = false; empty_item = if b then empty else p.empty_item }) [
-      | true ↦ λ e. refl
-      | false ↦ λ e. ap (λ b. record (flags p) { pending = b }) e
-    ]) refl
+item-flags p empty = grind arith
 
 new_line-flags : (p : Marked) → flags (with_new_line p) ≡ flags p
 new_line-flags p = grind arith
@@ -173,25 +169,11 @@ close_code-flags : (p : Marked) (fence : List ℕ) → flags (close_code p fence
 close_code-flags p fence = grind arith
 
 raw-flags : (p : Marked) (bytes : List ℕ) (weight : ℕ) → flags (with_raw p bytes weight) ≡ flags p
-raw-flags p bytes weight =
-    elim (weight == fence_weight) as (λ t. flags (if t then with_line (with_new_line p) bytes else (if weight == code_weight then with_line (open_code p) bytes else with_words p bytes)) ≡ flags p) [
-      | true ↦ new_line-flags p
-      | false ↦ elim (weight == code_weight) as (λ t. flags (if t then with_line (open_code p) bytes else with_words p bytes) ≡ flags p) [
-        | true ↦ open_code-flags p
-        | false ↦ close_code-flags p (codes "\n  ```\n")
-      ]
-    ]
+raw-flags p bytes weight = grind arith
 
 start-flags : (p : Marked) (b : Block) → flags (own_after p (Start b)) ≡ own_flags (flags p) (Start b)
-start-flags p blocks.Header = ap (λ (s : Flags). record s { headed = true }) (blank_line-flags p)
-start-flags p blocks.Section4 = ap (λ (s : Flags). record s { pending = true; empty_item = false }) (new_line-flags p)
-start-flags p blocks.ItemTerm = ap (λ (s : Flags). record s { pending = true; empty_item = false }) (new_line-flags p)
-start-flags p blocks.ItemBody =
-    elim (p.in_list) as (λ b. flags (with_new_line (if b then put p (if p.empty_item then codes " " else codes " &mdash; ") else p)) ≡ flags p) [
-      | true ↦ new_line-flags (put p (if p.empty_item then codes " " else codes " &mdash; "))
-      | false ↦ new_line-flags p
-    ]
-start-flags p _ = refl
+start-flags p blocks.Header = grind arith
+start-flags p _ = grind arith
 
 own-flags : (p : Marked) (f : Fragment) → flags (own_after p f) ≡ own_flags (flags p) f
 own-flags p (TextStart style) = refl
