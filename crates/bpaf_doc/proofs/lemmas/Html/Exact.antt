@@ -163,12 +163,7 @@ outer_is (b ∷ bs) n = refl
 next_lists : (before : List Fragment) (p : Written) (f : Fragment) → ((n : ℕ) → nth n (p.in_list ∷ p.outer) ≡ in_list_at n (reverse before))
     → (n : ℕ) → nth n ((page_after p f).in_list ∷ (page_after p f).outer) ≡ in_list_at n (f ∷ reverse before)
 unfolding nth
-next_lists before p (TextStart style) h n = h n
-next_lists before p (Shown style (Raw bytes weight)) h n = h n
 next_lists before p (Shown style Paragraph) h n = h n
-next_lists before p (Shown style LineBreak) h n = h n
-next_lists before p (TextEnd style) h n = h n
-next_lists before p Hidden h n = h n
 next_lists before p (Start b) h zero = refl
 next_lists before p (Start b) h (suc n) = grind arith ∙ h n
 next_lists before p (End b) h n = kept p.fresh (is_header b) ∙ outer_is p.outer n ∙ h (suc n)
@@ -179,6 +174,7 @@ next_lists before p (End b) h n = kept p.fresh (is_header b) ∙ outer_is p.oute
     kept fresh false = refl
     kept true true = refl
     kept false true = refl
+next_lists before p _ h n = h n
 
 -- ---- a fragment more
 

@@ -156,15 +156,6 @@ flags_next s f = own_flags (item_flags s (is_term_end f)) f
 pub item-flags : (p : Marked) (empty : Bool) → flags (with_item p empty) ≡ item_flags (flags p) empty
 item-flags p empty = grind arith
 
-new_line-flags : (p : Marked) → flags (with_new_line p) ≡ flags p
-new_line-flags p = grind arith
-
-blank_line-flags : (p : Marked) → flags (with_blank_line p) ≡ flags p
-blank_line-flags p = grind arith
-
-open_code-flags : (p : Marked) → flags (open_code p) ≡ flags p
-open_code-flags p = grind arith
-
 close_code-flags : (p : Marked) (fence : List ℕ) → flags (close_code p fence) ≡ flags p
 close_code-flags p fence = grind arith
 
@@ -198,14 +189,8 @@ code_next in_code f = in_code
 pub item-code : (p : Marked) (empty : Bool) → (with_item p empty).in_code ≡ p.in_code
 item-code p empty = grind arith
 
-new_line-code : (p : Marked) → (with_new_line p).in_code ≡ p.in_code
-new_line-code p = grind arith
-
 pub close-code : (p : Marked) (fence : List ℕ) → (close_code p fence).in_code ≡ false
 close-code p fence = (elim (p.in_code) as (λ b. p.in_code ≡ b → (if b then record p { bytes = p.bytes ++ fence; in_code = false } else p).in_code ≡ false) [ true ↦ λ e. refl | false ↦ λ e. e ]) refl
-
-open-code : (p : Marked) → (open_code p).in_code ≡ true
-open-code p = (elim (p.in_code) as (λ b. p.in_code ≡ b → (if b then p else record p { bytes = p.bytes ++ codes "\n\n  ```text\n"; in_code = true }).in_code ≡ true) [ true ↦ λ e. e | false ↦ λ e. refl ]) refl
 
 own-code : (p : Marked) (f : Fragment) → (own_after p f).in_code ≡ code_next p.in_code f
 own-code p (Shown style (Raw bytes weight)) = grind arith
