@@ -6,7 +6,7 @@ use Rattle.std.proofs.lemmas.List.{reverse-append, drop-append-le, drop_all, map
 use Rattle.std.proofs.lemmas.List.Folds.{list_any-append}
 use Rattle.std.proofs.lemmas.List.Elements.{filter-append}
 use Rattle.bpaf_doc.specs.declared.buffer.Block.TheVariants as blocks
-use Rattle.bpaf_doc.specs.Html.Fragments.{Fragment, TextStart, Shown, TextEnd, Hidden, Start, End}
+use Rattle.bpaf_doc.specs.Html.Fragments.{Fragment, Start, End}
 use Rattle.bpaf_doc.specs.Markdown.Page.{Mark, Heading, SecondHeading, LongDash, MarkdownSnippet, Put, Of, is_mono_start, is_mono_end, is_header_start, is_list_mark, is_item_start, begins_with_list_start, begins_with_term_end, is_in_list, is_after_empty_item, headings_of, headed_snippets, flat_map_places_from, is_heading_or_fragment}
 use Rattle.bpaf_doc.specs.Markdown.Steps.Page.{Marked, with_item, is_term_end, marked_after, marked_after_all, one_more}
 use Rattle.bpaf_doc.proofs.lemmas.Lists.Counting.{one_if, count_by-cons, count_by-push}
