@@ -2,3 +2,4 @@
 pub mod Counting
 pub mod Passing
 pub mod Splits
+pub mod Opening

@@ -3,5 +3,5 @@ pub mod Program
 pub mod OneReading
 mod ReadBack
 pub mod PageRead
-mod LookingBack
+pub mod LookingBack
 pub mod Drafts

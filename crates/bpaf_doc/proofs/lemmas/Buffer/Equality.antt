@@ -1,7 +1,7 @@
 -- Equal documents have the same parts.
-use Rattle.std.proofs.Common.{◌≡◌, ◌==◌, ◌&&◌, Bool, true, false, List, [], ◌∷◌, refl, ap, subst, nat_eq}
+use Rattle.std.proofs.Common.{◌≡◌, ◌==◌, Bool, true, List, [], ◌∷◌, refl, ap, subst, nat_eq}
 use Rattle.std.specs.Cmp.Lexicographic.{pointwise}
-use Rattle.std.proofs.lemmas.Bool.{eqb-true}
+use Rattle.std.proofs.lemmas.Bool.{eqb-true, and_parts}
 use denote.Enum.Bare.{tag_one}
 use denote.Enum.Declared.{tag_of}
 use Rattle.bpaf_doc.specs.contracts.buffer.Style as style
@@ -9,34 +9,25 @@ use Rattle.bpaf_doc.specs.contracts.buffer.Block as block
 use Rattle.bpaf_doc.specs.Buffer.Equality.{IsEqualityOfParts, documents_equiv, same_document, same_part, same_text}
 use Rattle.bpaf_doc.specs.Buffer.Parts.{Part, Text, Start, End}
 
-both : (a b : Bool) → (a && b) ≡ true → (a ≡ true) × (b ≡ true)
-both true b h = (refl, h)
-both false b h = cc
-
 pointwise_is : {X : Type 0} (same : X → X → Bool) → ((x y : X) → same x y ≡ true → x ≡ y) → (xs ys : List X) → pointwise same xs ys ≡ true → xs ≡ ys
 pointwise_is same tells [] [] h = refl
 pointwise_is same tells [] (y ∷ ys) h = cc
 pointwise_is same tells (x ∷ xs) [] h = cc
 pointwise_is same tells (x ∷ xs) (y ∷ ys) h =
-    let t = both (same x y) (pointwise same xs ys) h in
+    let t = and_parts (same x y) (pointwise same xs ys) h in
     let head : x ≡ y = tells x y t.0 in
     let tail : xs ≡ ys = pointwise_is same tells xs ys t.1 in
     cc
 
 same_part_is : (p q : Part) → same_part p q ≡ true → p ≡ q
 same_part_is (Text b s) (Text c r) h =
-    let t = both (same_text b c) (tag_of style.the_type s == tag_of style.the_type r) h in
+    let t = and_parts (same_text b c) (tag_of style.the_type s == tag_of style.the_type r) h in
     let bytes : b ≡ c = pointwise_is nat_eq eqb-true b c t.0 in
     let label : s ≡ r = tag_one style.the_type tt s r (eqb-true _ _ t.1) in
     cc
-same_part_is (Text b s) (Start c) h = cc
-same_part_is (Text b s) (End c) h = cc
-same_part_is (Start b) (Text c r) h = cc
 same_part_is (Start b) (Start c) h = ap Start (tag_one block.the_type tt b c (eqb-true _ _ h))
-same_part_is (Start b) (End c) h = cc
-same_part_is (End b) (Text c r) h = cc
-same_part_is (End b) (Start c) h = cc
 same_part_is (End b) (End c) h = ap End (tag_one block.the_type tt b c (eqb-true _ _ h))
+same_part_is _ _ h = cc
 
 pub equality_of_parts : IsEqualityOfParts
 equality_of_parts ps qs = (λ h. pointwise_is same_part same_part_is ps qs h, λ e. subst (λ rs. same_document ps rs ≡ true) e (documents_equiv.refl ps))

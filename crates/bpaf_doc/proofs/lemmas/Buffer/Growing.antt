@@ -1,7 +1,6 @@
 -- A document that grows by one write after another.
-use Rattle.std.proofs.Common.{◌≡◌, false, List, [], ◌++◌, sym, refl, ap, subst, ◌∙◌, Result, Ok, Err}
+use Rattle.std.proofs.Common.{◌≡◌, List, ◌++◌, sym, ap, subst, ◌∙◌, Result, Ok, Err}
 use Rattle.std.specs.Prelude.{OnErr, OnOk}
-use Rattle.std.specs.Result.{is_err}
 use Rattle.std.proofs.lemmas.List.Sums.{fold-append}
 use Rattle.bpaf_doc.specs.Buffer.Growth.{Grows, IsCheckpointOf, Reached, RollsBack}
 use Rattle.bpaf_doc.specs.Buffer.Parts.{Part, IsWellNested}
@@ -11,14 +10,6 @@ use Rattle.bpaf_doc.specs.Buffer.Writes.{Write, with_write, with_writes}
 pub on_err : {T E P : Type 0} (r : Result T E) → P → OnErr r P
 on_err (Ok x) p = tt
 on_err (Err e) p = p
-
--- what holds of a value, where there is no error
-pub without_err : {T E P : Type 0} (r : Result T E) → is_err r ≡ false → OnOk r P → P
-without_err (Ok x) is p = p
-without_err (Err e) is p = cc
-
-pub Grows-none : (ps : List Part) → Grows ps ps
-Grows-none ps = ([], refl)
 
 pub Grows-more : (ps qs rs : List Part) (ws : List Write) → Grows ps qs → rs ≡ with_writes qs ws → Grows ps rs
 Grows-more ps qs rs ws (vs, is) also = (vs ++ ws, also ∙ ap (λ xs. with_writes xs ws) is ∙ sym (fold-append with_write ps vs ws))

@@ -10,12 +10,10 @@ use Rattle.bpaf_doc.specs.Buffer.Writes.{is_newline}
 -- at a first element: whether it passes, how many fail before one of the others passes, how many others there are, and whether one of
 -- them passes
 none_here : (here : Bool) (failing others : ℕ) (more : Bool) → cond (not here) (1 + failing) 0 ≡ suc others → (failing ≡ others → more ≡ false) → (here || more) ≡ false
-none_here true failing others more is rest = absurd (omega (arith, is))
-none_here false failing others more is rest = rest (omega (arith, is))
+none_here here failing others more is rest = grind arith
 
 some_here : (here : Bool) (failing others : ℕ) (more : Bool) → cond (not here) (1 + failing) 0 < suc others → (failing < others → more ≡ true) → (here || more) ≡ true
-some_here true failing others more is rest = refl
-some_here false failing others more is rest = rest (omega (arith, is))
+some_here here failing others more is rest = grind arith
 
 module _ (p : ℕ → Bool) where
   -- none passes where the search ran to the end

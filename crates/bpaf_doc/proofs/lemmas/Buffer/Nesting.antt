@@ -77,7 +77,6 @@ IsWellNested-behind_text (text before kind one) bytes style ps is = let e : Text
 IsWellNested-behind_text (enclosed b inner block nested) bytes style ps is = let e : Start b ∷ (inner ++ End b ∷ []) ≡ Text bytes style ∷ ps = sym block ∙ is in cc
 IsWellNested-behind_text (joined [] back both nested also) bytes style ps is = IsWellNested-behind_text also bytes style ps (sym both ∙ is)
 IsWellNested-behind_text (joined (Text before kind ∷ front) back both nested also) bytes style ps is =
-    let e : Text before kind ∷ (front ++ back) ≡ Text bytes style ∷ ps = sym both ∙ is in
     let f : ps ≡ front ++ back = cc in
     joined front back f (IsWellNested-behind_text nested before kind front refl) also
 IsWellNested-behind_text (joined (Start b ∷ front) back both nested also) bytes style ps is = let e : Start b ∷ (front ++ back) ≡ Text bytes style ∷ ps = sym both ∙ is in cc
@@ -97,14 +96,8 @@ IsWellNested-title bytes others nested = either (list_any is_newline bytes) wher
   either false = text_and_others bytes style.Emphasis others nested
 
 IsWellNested-titled : (d : List Part) → IsWellNested d → IsWellNested (document_of (titled d))
-IsWellNested-titled [] nested = nested
 IsWellNested-titled (Text bytes style.Text ∷ others) nested = IsWellNested-title bytes others (IsWellNested-behind_text nested bytes style.Text others refl)
-IsWellNested-titled (Text bytes style.Emphasis ∷ others) nested = nested
-IsWellNested-titled (Text bytes style.Literal ∷ others) nested = nested
-IsWellNested-titled (Text bytes style.Metavar ∷ others) nested = nested
-IsWellNested-titled (Text bytes style.Invalid ∷ others) nested = nested
-IsWellNested-titled (Start b ∷ others) nested = nested
-IsWellNested-titled (End b ∷ others) nested = nested
+IsWellNested-titled _ nested = nested
 
 pub IsWellNested-em_doc : (ps d : List Part) → IsWellNested ps → IsWellNested d → IsWellNested (with_writes ps (inside block.InlineBlock (titled d)))
 IsWellNested-em_doc ps d nested also = IsWellNested-inside block.InlineBlock ps (titled d) nested (IsWellNested-titled d also)
@@ -123,7 +116,5 @@ line_and_others true front bytes style others nested = text front style refl
 line_and_others false front bytes style others nested = text_and_others bytes style others nested
 
 pub IsWellNested-leading_texts : (ps : List Part) → IsWellNested (leading_texts ps)
-IsWellNested-leading_texts [] = nothing refl
 IsWellNested-leading_texts (Text bytes style ∷ ps) = line_and_others (list_any is_newline bytes) (before_first is_newline bytes) bytes style (leading_texts ps) (IsWellNested-leading_texts ps)
-IsWellNested-leading_texts (Start b ∷ ps) = nothing refl
-IsWellNested-leading_texts (End b ∷ ps) = nothing refl
+IsWellNested-leading_texts _ = nothing refl

@@ -113,12 +113,9 @@ cut_back k n rest (Text bytes style) (more, is) =
     let t = text_kind k n rest (bytes ++ more) style is in
     let front = front_is n rest bytes more t.1 in
     (front.0, rw (t.0, front.1) refl, front.1, rw t.0 tt)
-cut_back (kind.Text other) n rest (Start b) is = cc
 cut_back (kind.Start c) n rest (Start b) is = (omega arith, is, refl, refl)
-cut_back (kind.End c) n rest (Start b) is = cc
-cut_back (kind.Text other) n rest (End b) is = cc
-cut_back (kind.Start c) n rest (End b) is = cc
 cut_back (kind.End c) n rest (End b) is = (omega arith, is, refl, refl)
+cut_back _ n rest _ is = cc
 
 -- the bytes of a part that is as it was
 same_bytes : (k : Kind) (n : ℕ) (rest : List ℕ) (p : Part) → MayTake k n → n ≤ length rest → part_with k (take n rest) ≡ p → length (part_bytes p) ≡ n

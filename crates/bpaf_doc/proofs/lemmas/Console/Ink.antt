@@ -4,10 +4,10 @@ use Rattle.std.specs.Char.{is_not_whitespace, encode_utf8}
 use Rattle.std.specs.List.{enumerate_from, position_or_len}
 use Rattle.std.specs.Str.{chars, IsUtf8, IsCharBoundary, IsTrimEnd, NonePass}
 use Rattle.std.proofs.Common.{sym, ◌∙◌, ap, subst, arith, append_assoc}
-use Rattle.std.proofs.lemmas.Str.{chars-append, chars-nil, chars_from_encodes, IsCharBoundary-from_take, IsUtf8-drop, encode_ascii, IsUtf8-string_bytes}
+use Rattle.std.proofs.lemmas.Str.{chars-nil, chars_from_encodes, IsCharBoundary-from_take, IsUtf8-drop, encode_ascii, IsUtf8-string_bytes}
 use Rattle.std.proofs.lemmas.List.{take-append-drop, append-nil, length-append}
-use Rattle.std.proofs.lemmas.List.Elements.{filter-append}
 use Rattle.std.proofs.lemmas.Bool.Decides.{nat_tests}
+use Rattle.bpaf_doc.proofs.lemmas.Splitter.Ink.{ink-append}
 use Rattle.bpaf_doc.specs.declared.buffer.Style.{Style}
 use Rattle.bpaf_doc.specs.Buffer.Parts.{Part, Text, Start, End, ink}
 use Rattle.bpaf_doc.specs.Splitter.Chunks.{Chunk, Raw, Paragraph, LineBreak, chunks_of, chunk_ink, is_paragraph}
@@ -17,9 +17,6 @@ use Rattle.bpaf_doc.specs.Console.Steps.Ink.{shown_ink, ink_at, ink_from}
 use Rattle.bpaf_doc.proofs.lemmas.Console.Hiding.{Counts, Counts-nil, Counts-more, is_hidden-Counts}
 
 -- ---- the ink of what is put after a text
-
-pub ink-append : (front back : List ℕ) → IsUtf8 front → ink (front ++ back) ≡ ink front ++ ink back
-ink-append front back u = ap (filter is_not_whitespace) (chars-append front back u) ∙ filter-append is_not_whitespace (chars front) (chars back)
 
 pub ink-newline : ink (10 ∷ []) ≡ []
 unfolding chars
@@ -112,10 +109,7 @@ brief_from document before (part ∷ parts) hidden same counts =
 full_stays : (part : Part) → hidden_after true 0 part ≡ 0
 full_stays (Text bytes style) = refl
 full_stays (Start b) = refl
-full_stays (End b) = at (is_inline b) 0 where
-  at : (c : Bool) (n : ℕ) → (if c then n else n) ≡ n
-  at true n = refl
-  at false n = refl
+full_stays (End b) = grind arith
 
 full_at : (before : List Part) (part : Part) → shown_part_ink true before part ≡ ink_at true 0 part
 full_at before (Text bytes style) = shown_ink-full (chunks_of bytes)
@@ -156,18 +150,9 @@ ink-nil = ap (filter is_not_whitespace) chars-nil
 -- ---- a loop over the parts
 
 hidden_after-le : (full : Bool) (hidden : ℕ) (part : Part) → hidden_after full hidden part ≤ hidden + 1
-hidden_after-le full hidden (Text bytes style) = at ((hidden == 0) && hides full (chunks_of bytes)) where
-  at : (b : Bool) → (if b then 1 else hidden) ≤ hidden + 1
-  at true = omega arith
-  at false = omega arith
-hidden_after-le full hidden (Start b) = at (not (hidden == 0) && is_inline b) where
-  at : (c : Bool) → (if c then hidden + 1 else hidden) ≤ hidden + 1
-  at true = omega arith
-  at false = omega arith
-hidden_after-le full hidden (End b) = at (is_inline b) where
-  at : (c : Bool) → (if c then hidden - 1 else hidden) ≤ hidden + 1
-  at true = omega arith
-  at false = omega arith
+hidden_after-le full hidden (Text bytes style) = grind arith
+hidden_after-le full hidden (Start b) = elim (not (hidden == 0) && is_inline b) as (λ (c : Bool). (if c then hidden + 1 else hidden) ≤ hidden + 1) [ true ↦ omega arith | false ↦ omega arith ]
+hidden_after-le full hidden (End b) = elim (is_inline b) as (λ (c : Bool). (if c then hidden - 1 else hidden) ≤ hidden + 1) [ true ↦ omega arith | false ↦ omega arith ]
 
 -- At this count of hidden blocks, out and the parts that are left have all the ink, and the count stays in range.
 pub record IsLeft (full : Bool) (count hidden : ℕ) (out all : List ℕ) (parts : List Part) : Type 0 where
@@ -210,11 +195,9 @@ IsLeft-shown full count hidden out new all bytes style parts rest left first non
 pub IsLeft-hidden : (full : Bool) (count hidden : ℕ) (out all bytes : List ℕ) (style : Style) (parts rest : List Part)
     → IsLeft full count hidden out all parts → parts ≡ Text bytes style ∷ rest → hidden ≢ 0 → IsLeft full count hidden out all rest
 IsLeft-hidden full count hidden out all bytes style parts rest left first some =
-    let e : (hidden == 0) ≡ false = not_none hidden some in
+    let e : (hidden == 0) ≡ false = grind (arith, nat_tests) in
     IsLeft-more full count hidden hidden out out all (Text bytes style) parts rest left first (rw e refl)
-    (rw e (sym (append-nil (ink out)))) where
-      not_none : (hidden : ℕ) → hidden ≢ 0 → (hidden == 0) ≡ false
-      not_none hidden some = grind (arith, nat_tests)
+    (rw e (sym (append-nil (ink out))))
 
 -- an Ok text with this ink has that ink
 pub IfOk-ink : {Z E : Type 0} (r : Result (String Z) E) (this that : List ℕ) → this ≡ that
@@ -267,8 +250,5 @@ pub IsTextLeft-none : (full hidden : Bool) (out all : List ℕ) (chunks : List C
     → (ink out ≡ all) × (false ≡ hidden)
 IsTextLeft-none full hidden out all chunks left none = (
   sym (append-nil (ink out)) ∙ ap (λ cs. ink out ++ shown_ink full cs) (sym none) ∙ left.same_ink,
-  at full ∙ ap (hides full) (sym none) ∙ left.same_hiding,
-) where
-  at : (b : Bool) → false ≡ hides b []
-  at true = refl
-  at false = refl
+  (elim full as (λ (b : Bool). false ≡ hides b []) [ true ↦ refl | false ↦ refl ]) ∙ ap (hides full) (sym none) ∙ left.same_hiding,
+)

@@ -1,16 +1,15 @@
 -- A stack of margins, walked over the marks of a document, has the margin at each place on top.
-use Rattle.std.specs.Prelude.{◌≡◌, ℕ, zero, suc, ◌+◌, ◌-◌, ◌*◌, ◌<◌, ◌≤◌, max, ⊤, Bool, true, false, List, [], ◌∷◌, ◌++◌, length, refl, map, filter, take, drop, fold, count_by, get_or, nat_le, if◌then◌else◌}
-use Rattle.std.specs.List.{list_all, enumerate_from}
+use Rattle.std.specs.Prelude.{◌≡◌, ℕ, zero, suc, ◌+◌, ◌-◌, ◌*◌, ◌<◌, ◌≤◌, max, ⊤, Bool, true, false, List, [], ◌∷◌, ◌++◌, length, refl, map, filter, take, drop, fold, get_or, nat_le, if◌then◌else◌}
+use Rattle.std.specs.List.{enumerate_from}
 use Rattle.std.proofs.Common.{sym, ◌∙◌, ap, subst, arith, add-one}
-use Rattle.std.proofs.lemmas.List.Folds.{list_all-map}
-use Rattle.std.proofs.lemmas.List.Sums.{sum_by-cons}
-use Rattle.std.proofs.lemmas.List.{drop_at}
 use Rattle.std.proofs.lemmas.Bool.Decides.{nat_tests}
+use Rattle.std.proofs.Math.Nat.{zero-add, add-zero}
 use Rattle.bpaf_doc.specs.declared.buffer.Block.TheVariants as blocks
 use Rattle.bpaf_doc.specs.declared.buffer.Block.{Block}
 use Rattle.bpaf_doc.specs.declared.buffer.Style.{Style}
 use Rattle.bpaf_doc.specs.Buffer.Parts.{Part, Text, Start, End}
-use Rattle.bpaf_doc.specs.Shown.{fronts, stays_open}
+use Rattle.bpaf_doc.specs.Shown.{stays_open}
+use Rattle.bpaf_doc.proofs.lemmas.Lists.Opening.{closed, stays_open_is}
 use Rattle.bpaf_doc.specs.Console.Margin.{greatest, is_skipped, skips_pair, term_lengths, tab_stop, Shift, Indent, Outdent, Level, part_shift, shifts, is_indent, is_outdent, indent, indents_in_force, margin, greatest_margin}
 
 -- ---- the stack, newest first
@@ -45,84 +44,14 @@ shift_at document j part = if is_skipped document j then Level else part_shift d
 -- ---- what shifts take away of a stack that stands before them
 
 -- how many entries
-taken : List Shift → ℕ
-taken [] = 0
-taken (Indent n ∷ ss) = taken ss - 1
-taken (Outdent ∷ ss) = taken ss + 1
-taken (Level ∷ ss) = taken ss
-
--- no front has more block ends than pushing starts, and this many more
-abbrev is_within : ℕ → List Shift → Bool
-is_within more front = nat_le (count_by is_outdent front) (count_by is_indent front + more)
-
-abbrev stays_by : ℕ → List Shift → Bool
-stays_by more ss = list_all (λ front. is_within more front) (fronts ss)
-
-list_all-ext : {A : Type 0} (p q : A → Bool) → ((x : A) → p x ≡ q x) → (xs : List A) → list_all p xs ≡ list_all q xs
-list_all-ext p q same [] = refl
-list_all-ext p q same (x ∷ xs) = rw (same x, list_all-ext p q same xs) refl
-
-none_within : (more : ℕ) → is_within more [] ≡ true
-none_within more = at more where
-  at : (more : ℕ) → nat_le 0 (0 + more) ≡ true
-  at more = grind (arith, nat_tests)
-
--- what one shift more in front does to the test
-step : (more less : ℕ) (s : Shift) → ((front : List Shift) → is_within more (s ∷ front) ≡ is_within less front) → (ss : List Shift)
-    → stays_by more (s ∷ ss) ≡ stays_by less ss
-step more less s same ss =
-    rw (none_within more) (list_all-map (λ front. is_within more front) (λ front. s ∷ front) (fronts ss)
-    ∙ list_all-ext (λ front. is_within more (s ∷ front)) (λ front. is_within less front) same (fronts ss))
-
-counted : (p : Shift → Bool) (s : Shift) (front : List Shift) → count_by p (s ∷ front) ≡ (if p s then 1 else 0) + count_by p front
-counted p s front = sum_by-cons (λ x. if p x then 1 else 0) s front
-
-within_level : (more : ℕ) (front : List Shift) → is_within more (Level ∷ front) ≡ is_within more front
-within_level more front =
-    at (count_by is_outdent (Level ∷ front)) (count_by is_indent (Level ∷ front)) (count_by is_outdent front) (count_by is_indent front)
-    (counted is_outdent Level front) (counted is_indent Level front) where
-      at : (a b c d : ℕ) → a ≡ 0 + c → b ≡ 0 + d → nat_le a (b + more) ≡ nat_le c (d + more)
-      at a b c d e f = grind (arith, nat_tests)
-
-within_indent : (n more : ℕ) (front : List Shift) → is_within more (Indent n ∷ front) ≡ is_within (suc more) front
-within_indent n more front =
-    at (count_by is_outdent (Indent n ∷ front)) (count_by is_indent (Indent n ∷ front)) (count_by is_outdent front) (count_by is_indent front)
-    (counted is_outdent (Indent n) front) (counted is_indent (Indent n) front) where
-      at : (a b c d : ℕ) → a ≡ 0 + c → b ≡ 1 + d → nat_le a (b + more) ≡ nat_le c (d + (suc more))
-      at a b c d e f = grind (arith, nat_tests)
-
-within_outdent : (more : ℕ) (front : List Shift) → is_within (suc more) (Outdent ∷ front) ≡ is_within more front
-within_outdent more front =
-    at (count_by is_outdent (Outdent ∷ front)) (count_by is_indent (Outdent ∷ front)) (count_by is_outdent front) (count_by is_indent front)
-    (counted is_outdent Outdent front) (counted is_indent Outdent front) where
-      at : (a b c d : ℕ) → a ≡ 1 + c → b ≡ 0 + d → nat_le a (b + (suc more)) ≡ nat_le c (d + more)
-      at a b c d e f = grind (arith, nat_tests)
-
-stays_none : (ss : List Shift) → stays_by 0 (Outdent ∷ ss) ≡ false
-stays_none [] = refl
-stays_none (s ∷ ss) = refl
-
-stays_is : (more : ℕ) (ss : List Shift) → stays_by more ss ≡ nat_le (taken ss) more
-unfolding taken
-stays_is more [] = rw (none_within more) (at more) where
-  at : (more : ℕ) → true ≡ nat_le 0 more
-  at more = grind (arith, nat_tests)
-stays_is more (Indent n ∷ ss) = step more (suc more) (Indent n) (within_indent n more) ss ∙ stays_is (suc more) ss ∙ at (taken ss) more where
-  at : (t more : ℕ) → nat_le t (suc more) ≡ nat_le (t - 1) more
-  at t more = grind (arith, nat_tests)
-stays_is zero (Outdent ∷ ss) = stays_none ss ∙ at (taken ss) where
-  at : (t : ℕ) → false ≡ nat_le (t + 1) 0
-  at t = grind (arith, nat_tests)
-stays_is (suc more) (Outdent ∷ ss) = step (suc more) more Outdent (within_outdent more) ss ∙ stays_is more ss ∙ at (taken ss) more where
-  at : (t more : ℕ) → nat_le t more ≡ nat_le (t + 1) (suc more)
-  at t more = grind (arith, nat_tests)
-stays_is more (Level ∷ ss) = step more more Level (within_level more) ss ∙ stays_is more ss
+abbrev taken : List Shift → ℕ
+taken ss = closed is_indent is_outdent ss
 
 open_is : (ss : List Shift) → stays_open is_indent is_outdent ss ≡ nat_le (taken ss) 0
-open_is ss = list_all-ext (λ front. nat_le (count_by is_outdent front) (count_by is_indent front)) (λ front. is_within 0 front)
-    (λ front. at (count_by is_outdent front) (count_by is_indent front)) (fronts ss) ∙ stays_is 0 ss where
-      at : (a b : ℕ) → nat_le a b ≡ nat_le a (b + 0)
-      at a b = grind (arith, nat_tests)
+open_is ss = stays_open_is is_indent is_outdent apart ss where
+  apart : (s : Shift) → is_outdent s ≡ true → is_indent s ≡ false
+  apart Outdent h = refl
+  apart _ h = absurd cc
 
 -- ---- the top of the stack
 
@@ -136,10 +65,7 @@ popped_at (m ∷ ms) k = refl
 
 -- Entry by entry: where shifts take k entries away, the top is the entry below these and the indents in force since.
 top_after : (ss : List Shift) (stack : List ℕ) → top (stack_after ss stack) ≡ get_or stack (taken ss) 0 + indents_in_force ss
-unfolding taken
-top_after [] stack = top_is stack ∙ at (get_or stack 0 0) where
-  at : (n : ℕ) → n ≡ n + 0
-  at n = omega arith
+top_after [] stack = top_is stack ∙ sym (add-zero (get_or stack 0 0))
 top_after (Indent n ∷ ss) stack = top_after ss ((top stack + n) ∷ stack) ∙ at (taken ss) (stays_open is_indent is_outdent ss) (indents_in_force ss) (open_is ss) where
   at : (t : ℕ) (b : Bool) (i : ℕ) → b ≡ nat_le t 0 → get_or ((top stack + n) ∷ stack) t 0 + i ≡ get_or stack (t - 1) 0 + ((if b then n else 0) + i)
   at zero true i e = ap (λ m. m + n + i) (top_is stack) ∙ sums (get_or stack 0 0) i where
@@ -159,20 +85,12 @@ top_after (Indent n ∷ ss) stack = top_after ss ((top stack + n) ∷ stack) ∙
     sums m i = omega arith
 top_after (Outdent ∷ ss) stack = top_after ss (popped stack) ∙ ap (λ m. m + indents_in_force ss) (popped_at stack (taken ss)) ∙ at (taken ss) (indents_in_force ss) where
   at : (t i : ℕ) → get_or stack (suc t) 0 + i ≡ get_or stack (t + 1) 0 + ((if stays_open is_indent is_outdent ss then 0 else 0) + i)
-  at t i = rw (add-one t) (ap (λ m. get_or stack (suc t) 0 + m) (same (stays_open is_indent is_outdent ss) i)) where
-    same : (b : Bool) (i : ℕ) → i ≡ (if b then 0 else 0) + i
-    same true i = omega arith
-    same false i = omega arith
-top_after (Level ∷ ss) stack = top_after ss stack ∙ ap (λ m. get_or stack (taken ss) 0 + m) (same (stays_open is_indent is_outdent ss) (indents_in_force ss)) where
-  same : (b : Bool) (i : ℕ) → i ≡ (if b then 0 else 0) + i
-  same true i = omega arith
-  same false i = omega arith
+  at t i = rw (add-one t) (ap (λ m. get_or stack (suc t) 0 + m) (grind arith))
+top_after (Level ∷ ss) stack = top_after ss stack ∙ ap (λ m. get_or stack (taken ss) 0 + m) (grind arith)
 
 -- from an empty stack on it is the sum of the indents in force
 pub top-stack_after : (ss : List Shift) → top (stack_after ss []) ≡ indents_in_force ss
-top-stack_after ss = top_after ss [] ∙ at (indents_in_force ss) where
-  at : (i : ℕ) → 0 + i ≡ i
-  at i = omega arith
+top-stack_after ss = top_after ss [] ∙ zero-add (indents_in_force ss)
 
 -- after the part at place j the top is the margin there
 pub top-margin : (document : List Part) (j : ℕ) → top (stack_at document (j + 1)) ≡ margin document j
@@ -193,14 +111,10 @@ take_next : {A : Type 0} (f : ℕ × Part → A) (j k : ℕ) (parts : List Part)
 take_next f zero k [] part rest e = absurd cc
 take_next f zero k (p ∷ ps) part rest e =
     let same : p ≡ part = cc in
-    ap (λ (q : Part). f (k, q) ∷ []) same ∙ ap (λ n. f (n, part) ∷ []) (at k) where
-      at : (k : ℕ) → k ≡ k + 0
-      at k = omega arith
+    ap (λ (q : Part). f (k, q) ∷ []) same ∙ ap (λ n. f (n, part) ∷ []) (sym (add-zero k))
 take_next f (suc j) k [] part rest e = absurd cc
 take_next f (suc j) k (p ∷ ps) part rest e =
-    ap (λ xs. f (k, p) ∷ xs) (take_next f j (k + 1) ps part rest e ∙ ap (λ n. take j (map f (enumerate_from (k + 1) ps)) ++ f (n, part) ∷ []) (at k j)) where
-      at : (k j : ℕ) → k + 1 + j ≡ k + suc j
-      at k j = omega arith
+    ap (λ xs. f (k, p) ∷ xs) (take_next f j (k + 1) ps part rest e ∙ ap (λ n. take j (map f (enumerate_from (k + 1) ps)) ++ f (n, part) ∷ []) (omega arith))
 
 -- the part at place j shifts the stack
 pub stack_at-more : (document : List Part) (j : ℕ) (part : Part) (rest : List Part) → drop j document ≡ part ∷ rest
@@ -209,13 +123,7 @@ stack_at-more document j part rest e =
     ap (λ n. stack_after (take n (shifts document)) []) (add-one j)
     ∙ ap (λ ss. stack_after ss []) (take_next (λ (k, p). shift_at document k p) j 0 document part rest e)
     ∙ stack_after-append (take j (shifts document)) (shift_at document (0 + j) part ∷ []) []
-    ∙ ap (λ n. shifted (shift_at document n part) (stack_at document j)) (at j) where
-      at : (j : ℕ) → 0 + j ≡ j
-      at j = omega arith
-
--- a place by what stands before it
-pub part_there : (document before rest : List Part) (part : Part) (j : ℕ) → document ≡ before ++ part ∷ rest → length before ≡ j → drop j document ≡ part ∷ rest
-part_there document before rest part j e len = ap (drop j) e ∙ drop_at before (part ∷ rest) j len
+    ∙ ap (λ n. shifted (shift_at document n part) (stack_at document j)) (zero-add j)
 
 -- ---- no entry is above the top
 
@@ -226,9 +134,7 @@ Falls (m ∷ ms) = (top ms ≤ m) × Falls ms
 
 falls_after : (ss : List Shift) (stack : List ℕ) → Falls stack → Falls (stack_after ss stack)
 falls_after [] stack h = h
-falls_after (Indent n ∷ ss) stack h = falls_after ss ((top stack + n) ∷ stack) (more (top stack) n, h) where
-  more : (m n : ℕ) → m ≤ m + n
-  more m n = omega arith
+falls_after (Indent n ∷ ss) stack h = falls_after ss ((top stack + n) ∷ stack) (omega arith, h)
 falls_after (Outdent ∷ ss) [] h = falls_after ss [] h
 falls_after (Outdent ∷ ss) (m ∷ ms) h = falls_after ss ms h.1
 falls_after (Level ∷ ss) stack h = falls_after ss stack h
@@ -256,20 +162,6 @@ module _ (document : List Part) (j : ℕ) (part : Part) (rest : List Part) (here
       let less : top (popped (stack_at document j)) ≤ top (stack_at document j) = popped_le (stack_at document j) (falls_after (take j (shifts document)) [] tt) in
       omega arith
 
--- the same of two places in turn
-module _ (document : List Part) (j : ℕ) (part : Part) (rest : List Part) (here : drop (j + 1) document ≡ part ∷ rest) where
-  pub margin_next-level : shift_at document (j + 1) part ≡ Level → margin document (j + 1) ≡ margin document j
-  margin_next-level e = margin-level document (j + 1) part rest here e ∙ top-margin document j
-
-  pub margin_next-indent : (n : ℕ) → shift_at document (j + 1) part ≡ Indent n → margin document (j + 1) ≡ margin document j + n
-  margin_next-indent n e = margin-indent document (j + 1) part rest here n e ∙ ap (λ m. m + n) (top-margin document j)
-
-  pub margin_next-outdent : shift_at document (j + 1) part ≡ Outdent → margin document (j + 1) ≤ margin document j
-  margin_next-outdent e =
-      let less : margin document (j + 1) ≤ top (stack_at document (j + 1)) = margin-outdent document (j + 1) part rest here e in
-      let same : top (stack_at document (j + 1)) ≡ margin document j = top-margin document j in
-      omega arith
-
 -- which shift a part has
 pub shift_at-skipped : (document : List Part) (j : ℕ) (part : Part) → is_skipped document j ≡ true → shift_at document j part ≡ Level
 shift_at-skipped document j part e = rw e refl
@@ -278,10 +170,7 @@ pub shift_at-shown : (document : List Part) (j : ℕ) (part : Part) → is_skipp
 shift_at-shown document j part e = rw e refl
 
 pub shift_at-text : (document : List Part) (j : ℕ) (bytes : List ℕ) (style : Style) → shift_at document j (Text bytes style) ≡ Level
-shift_at-text document j bytes style = at (is_skipped document j) where
-  at : (b : Bool) → (if b then Level else Level) ≡ Level
-  at true = refl
-  at false = refl
+shift_at-text document j bytes style = grind arith
 
 -- a block end never raises the margin, skipped or not
 pub margin-end : (document : List Part) (j : ℕ) (b : Block) (rest : List Part) → drop j document ≡ End b ∷ rest → margin document j ≤ top (stack_at document j)
@@ -302,26 +191,15 @@ greatest_le most (n ∷ ns) a l = at (nat_le n most) refl (λ k m. greatest_le m
 
   at : (b : Bool) → nat_le n most ≡ b → ((k : ℕ) → k ≤ most → fold max k (filter (λ n. nat_le n most) ns) ≤ most)
       → fold max a (if b then n ∷ filter (λ n. nat_le n most) ns else filter (λ n. nat_le n most) ns) ≤ most
-  at true e more = more (max a n) (both a n most l e)
-  at false e more = more a l
+  at b e more = grind arith
 
 pub tab_stop-le : (document : List Part) → tab_stop document ≤ 28
 tab_stop-le document = let l : greatest (filter (λ n. nat_le n 24) (term_lengths document)) ≤ 24 = greatest_le 24 (term_lengths document) 0 (omega arith) in omega arith
 
 part_indent-le : (document : List Part) (j : ℕ) (part : Part) → indent (part_shift document j part) ≤ 30
-part_indent-le document j (Text bytes style) = omega arith
-part_indent-le document j (End b) = omega arith
-part_indent-le document j (Start blocks.Header) = omega arith
-part_indent-le document j (Start blocks.Section2) = omega arith
-part_indent-le document j (Start blocks.Section3) = omega arith
-part_indent-le document j (Start blocks.Section4) = at (skips_pair document j) where
-  at : (b : Bool) → (if b then 4 else 2) ≤ 30
-  at true = omega arith
-  at false = omega arith
-part_indent-le document j (Start blocks.ItemTerm) = omega arith
+part_indent-le document j (Start blocks.Section4) = elim (skips_pair document j) as (λ (b : Bool). (if b then 4 else 2) ≤ 30) [ true ↦ omega arith | false ↦ omega arith ]
 part_indent-le document j (Start blocks.ItemBody) = let l : tab_stop document ≤ 28 = tab_stop-le document in omega arith
-part_indent-le document j (Start blocks.Block) = omega arith
-part_indent-le document j (Start _) = omega arith
+part_indent-le document j _ = omega arith
 
 pub indent-le : (document : List Part) (j : ℕ) (part : Part) → indent (shift_at document j part) ≤ 30
 indent-le document j part = at (is_skipped document j) where
@@ -337,38 +215,23 @@ in_force-le document (suc j) k (part ∷ parts) = at (shift_at document k part) 
   others = take j (map (λ (i, part). shift_at document i part) (enumerate_from (k + 1) parts))
 
   at : (s : Shift) → indent s ≤ 30 → (b : Bool) → indents_in_force others ≤ 30 * j → (if b then indent s else 0) + indents_in_force others ≤ 30 * suc j
-  at s l true m = omega arith
-  at s l false m = omega arith
+  at s l b m = grind arith
 
 pub margin-le : (document : List Part) (j : ℕ) → margin document j ≤ 30 * (j + 1)
 margin-le document j = in_force-le document (j + 1) 0 document
 
-more_than : (ns : List ℕ) (a : ℕ) → a ≤ fold max a ns
+pub more_than : (ns : List ℕ) (a : ℕ) → a ≤ fold max a ns
 more_than [] a = omega arith
 more_than (n ∷ ns) a = let rest : max a n ≤ fold max (max a n) ns = more_than ns (max a n) in omega arith
 
 greatest_at : (f : ℕ → ℕ) (j k a : ℕ) (parts : List Part) → j < length parts → f (k + j) ≤ fold max a (map (λ (i, part). f i) (enumerate_from k parts))
-greatest_at f j k a [] l = absurd (none l) where
-  none : j < 0 → ⊥
-  none l = omega arith
+greatest_at f j k a [] l = absurd (omega arith)
 greatest_at f zero k a (part ∷ parts) l =
     let more : max a (f k) ≤ fold max (max a (f k)) (map (λ (i, part). f i) (enumerate_from (k + 1) parts)) = more_than (map (λ (i, part). f i) (enumerate_from (k + 1) parts)) (max a (f k)) in
-    subst (λ n. f n ≤ fold max (max a (f k)) (map (λ (i, part). f i) (enumerate_from (k + 1) parts))) (at k) (least (f k) a (fold max (max a (f k)) (map (λ (i, part). f i) (enumerate_from (k + 1) parts))) more) where
-      at : (k : ℕ) → k ≡ k + 0
-      at k = omega arith
-
-      least : (n a m : ℕ) → max a n ≤ m → n ≤ m
-      least n a m l = omega arith
+    subst (λ n. f n ≤ fold max (max a (f k)) (map (λ (i, part). f i) (enumerate_from (k + 1) parts))) (sym (add-zero k)) (omega arith)
 greatest_at f (suc j) k a (part ∷ parts) l =
-    subst (λ n. f n ≤ fold max (max a (f k)) (map (λ (i, part). f i) (enumerate_from (k + 1) parts))) (at k j) (greatest_at f j (k + 1) (max a (f k)) parts (less l)) where
-      at : (k j : ℕ) → k + 1 + j ≡ k + suc j
-      at k j = omega arith
-
-      less : suc j < suc (length parts) → j < length parts
-      less l = omega arith
+    subst (λ n. f n ≤ fold max (max a (f k)) (map (λ (i, part). f i) (enumerate_from (k + 1) parts))) (omega arith) (greatest_at f j (k + 1) (max a (f k)) parts (omega arith))
 
 pub margin-le-greatest : (document : List Part) (j : ℕ) → j < length document → margin document j ≤ greatest_margin document
 margin-le-greatest document j l =
-    subst (λ n. margin document n ≤ greatest_margin document) (at j) (greatest_at (margin document) j 0 0 document l) where
-      at : (j : ℕ) → 0 + j ≡ j
-      at j = omega arith
+    subst (λ n. margin document n ≤ greatest_margin document) (zero-add j) (greatest_at (margin document) j 0 0 document l)

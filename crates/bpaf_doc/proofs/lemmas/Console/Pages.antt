@@ -101,12 +101,7 @@ end-skipped pairs index b page skipped = ap (λ t. if t then page else closed b 
 
 -- what is passed over has no ink
 pub skips-mark_bytes : (pairs : Pairs) (index : ℕ) (b : Block) → true ≡ skips pairs index b → mark_bytes b ≡ []
-skips-mark_bytes pairs index b skipped = quiet b (middle pairs.has_pair (is_block b) _ (sym skipped)) where
-  middle : (x y z : Bool) → ((x && y) && z) ≡ true → y ≡ true
-  middle true true z h = refl
-  middle true false z h = h
-  middle false y z h = absurd cc
-
+skips-mark_bytes pairs index b skipped = quiet b (grind arith) where
   quiet : (b : Block) → is_block b ≡ true → mark_bytes b ≡ []
   quiet blocks.TermRef e = absurd cc
   quiet _ e = refl

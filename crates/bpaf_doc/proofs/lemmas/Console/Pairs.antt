@@ -1,79 +1,42 @@
 -- What is remembered of empty Block pairs tells of each mark whether it is skipped.
-use Rattle.std.specs.Prelude.{◌≡◌, ℕ, zero, suc, ◌+◌, ◌-◌, ◌^◌, ◌<◌, ◌≤◌, min, Bool, true, false, not, cond, ◌&&◌, ◌||◌, ◌==◌, ◌⊎◌, IsTrue, ◌↔◌, List, [], ◌∷◌, ◌++◌, Option, Some, length, refl, drop, slice_get}
+use Rattle.std.specs.Prelude.{◌≡◌, ℕ, zero, suc, ◌+◌, ◌-◌, ◌^◌, ◌<◌, ◌≤◌, min, Bool, true, false, not, cond, ◌&&◌, ◌||◌, ◌==◌, ◌⊎◌, IsTrue, ◌↔◌, List, [], ◌∷◌, Some, length, refl, drop, slice_get}
 use Rattle.std.specs.List.{list_any, position_or_len, enumerate_from}
-use Rattle.std.proofs.Common.{sym, ◌∙◌, ap, subst, inl, inr, arith, add-one}
-use Rattle.std.proofs.lemmas.List.{drop-drop, drop_all}
+use Rattle.std.proofs.Common.{sym, ◌∙◌, ap, subst, inl, inr, arith}
+use Rattle.std.proofs.lemmas.List.{drop-drop}
 use Rattle.std.proofs.lemmas.Option.{slice_get_past}
 use Rattle.std.proofs.lemmas.Bool.Decides.{nat_tests}
+use Rattle.std.proofs.lemmas.Bool.{both_ways, and_from, and_parts, false≢true}
+use Rattle.std.proofs.Math.Nat.{zero-add, add-zero}
 use Rattle.bpaf_doc.specs.declared.buffer.Block.TheVariants as blocks
 use Rattle.bpaf_doc.specs.declared.buffer.Block.{Block}
 use Rattle.bpaf_doc.specs.declared.console.pairs.Pairs.{Pairs}
-use Rattle.bpaf_doc.specs.Buffer.Parts.{Part, Text, Start, End}
+use Rattle.bpaf_doc.specs.Buffer.Parts.{Part, Start, End}
 use Rattle.bpaf_doc.specs.Console.Margin.{is_section4_start, is_section4_end, has_empty_block, after_section4, skips_pair, is_skipped}
 use Rattle.bpaf_doc.specs.Console.Steps.Pairs.{SkipsAt, HasMarkAt, KnowsPairs}
 
 -- ---- tests
 
-and_left : (a b : Bool) → (a && b) ≡ true → a ≡ true
-and_left true b h = refl
-and_left false b h = h
-
-and_right : (a b : Bool) → (a && b) ≡ true → b ≡ true
-and_right true b h = h
-and_right false b h = absurd cc
-
-true_or_false : (b : Bool) → (b ≡ true) ⊎ (b ≡ false)
-true_or_false true = inl refl
-true_or_false false = inr refl
-
 same_tests : (a b : Bool) → (a ≡ true → b ≡ true) → (b ≡ true → a ≡ true) → a ≡ b
 same_tests true b f g = sym (f refl)
-same_tests false true f g = absurd (different (g refl)) where
-  different : false ≡ true → ⊥
-  different e = cc
+same_tests false true f g = absurd (false≢true (g refl))
 same_tests false false f g = refl
 
 start_is : (part : Part) → is_section4_start part ≡ true → part ≡ Start blocks.Section4
 start_is (Start blocks.Section4) h = refl
-start_is (Start b) h = absurd cc
-start_is (Text bytes style) h = absurd cc
-start_is (End b) h = absurd cc
-
-end_is : (part : Part) → is_section4_end part ≡ true → part ≡ End blocks.Section4
-end_is (End blocks.Section4) h = refl
-end_is (End b) h = absurd cc
-end_is (Text bytes style) h = absurd cc
-end_is (Start b) h = absurd cc
+start_is _ h = absurd cc
 
 -- ---- a part by its place
 
 slice_get-drop : {A : Type 0} (m n : ℕ) (xs : List A) → slice_get (drop m xs) n ≡ slice_get xs (m + n)
-slice_get-drop zero n xs = ap (λ k. slice_get xs k) (at n) where
-  at : (n : ℕ) → n ≡ 0 + n
-  at n = omega arith
+slice_get-drop zero n xs = ap (λ k. slice_get xs k) (sym (zero-add n))
 slice_get-drop (suc m) n [] = refl
 slice_get-drop (suc m) n (x ∷ xs) = slice_get-drop m n xs ∙ ap (λ k. slice_get (x ∷ xs) k) (at m n) where
   at : (m n : ℕ) → suc (m + n) ≡ suc m + n
   at m n = omega arith
 
--- what stands before a place and at it
-pub slice_get_there : (document before rest : List Part) (part : Part) (j : ℕ) → document ≡ before ++ part ∷ rest → length before ≡ j → slice_get document j ≡ Some part
-slice_get_there document before rest part j e len = ap (λ d. slice_get d j) e ∙ ap (λ k. slice_get (before ++ part ∷ rest) k) (sym len) ∙ at before where
-  at : (before : List Part) → slice_get (before ++ part ∷ rest) (length before) ≡ Some part
-  at [] = refl
-  at (p ∷ ps) = at ps
-
-pub slice_get_dropped : (document rest : List Part) (part : Part) (j : ℕ) → drop j document ≡ part ∷ rest → slice_get document j ≡ Some part
-slice_get_dropped document rest part j e = ap (λ k. slice_get document k) (at j) ∙ sym (slice_get-drop j 0 document) ∙ ap (λ ps. slice_get ps 0) e where
-  at : (j : ℕ) → j ≡ j + 0
-  at j = omega arith
-
 -- a place behind a usize has no part
 pub slice_get-saturates : (document : List Part) (k : ℕ) → length document < 2 ^ 64 → slice_get document (min k 18446744073709551615) ≡ slice_get document k
-slice_get-saturates document k small = at (cases k) where
-  cases : (k : ℕ) → (k ≤ 18446744073709551615) ⊎ (18446744073709551615 < k)
-  cases k = grind arith
-
+slice_get-saturates document k small = at (grind arith) where
   at : (k ≤ 18446744073709551615) ⊎ (18446744073709551615 < k) → slice_get document (min k 18446744073709551615) ≡ slice_get document k
   at (inl l) = ap (λ n. slice_get document n) (omega arith)
   at (inr l) = slice_get_past document (min k 18446744073709551615) (omega arith) ∙ sym (slice_get_past document k (omega arith))
@@ -81,17 +44,12 @@ slice_get-saturates document k small = at (cases k) where
 -- ---- the first Section4 end after a place
 
 position-drop : {A : Type 0} (p : A → Bool) (m : ℕ) (xs : List A) → m ≤ position_or_len p xs → m + position_or_len p (drop m xs) ≡ position_or_len p xs
-position-drop p zero xs l = at (position_or_len p xs) where
-  at : (n : ℕ) → 0 + n ≡ n
-  at n = omega arith
-position-drop p (suc m) [] l = absurd (none m l) where
-  none : (m : ℕ) → suc m ≤ 0 → ⊥
-  none m l = omega arith
+position-drop p zero xs l = zero-add (position_or_len p xs)
+position-drop p (suc m) [] l = absurd (omega arith)
 position-drop p (suc m) (x ∷ xs) l = at (p x) l (λ l. position-drop p m xs l) where
   at : (b : Bool) → suc m ≤ cond (not b) (1 + position_or_len p xs) 0 → (m ≤ position_or_len p xs → m + position_or_len p (drop m xs) ≡ position_or_len p xs)
       → suc m + position_or_len p (drop m xs) ≡ cond (not b) (1 + position_or_len p xs) 0
-  at true l more = absurd (omega arith)
-  at false l more = let e : m + position_or_len p (drop m xs) ≡ position_or_len p xs = more (omega arith) in omega arith
+  at b l more = grind arith
 
 -- what stands at the first place that passes
 position_passes : {A : Type 0} (p : A → Bool) (xs : List A) (x : A) → slice_get xs (position_or_len p xs) ≡ Some x → p x ≡ true
@@ -103,21 +61,6 @@ position_passes p (y ∷ ys) x e = at (p y) refl e (λ e. position_passes p ys x
     next : (n : ℕ) → suc n ≡ 1 + n
     next n = omega arith
 
--- a place whose part passes, and one whose part does not
-position-here : {A : Type 0} (p : A → Bool) (xs : List A) (i : ℕ) (x : A) → slice_get xs i ≡ Some x → p x ≡ true → position_or_len p (drop i xs) ≡ 0
-position-here p [] i x e h = absurd cc
-position-here p (y ∷ ys) zero x e h = let same : y ≡ x = cc in rw (same, h) refl
-position-here p (y ∷ ys) (suc i) x e h = position-here p ys i x e h
-
-position-later : {A : Type 0} (p : A → Bool) (xs : List A) (i : ℕ) → i < length xs → ((x : A) → slice_get xs i ≡ Some x → p x ≡ false) → position_or_len p (drop i xs) ≡ 1 + position_or_len p (drop (suc i) xs)
-position-later p [] i l h = absurd (none i l) where
-  none : (i : ℕ) → i < 0 → ⊥
-  none i l = omega arith
-position-later p (y ∷ ys) zero l h = let no : p y ≡ false = h y refl in rw no refl
-position-later p (y ∷ ys) (suc i) l h = position-later p ys i (less i l) h where
-  less : (i : ℕ) → suc i < suc (length ys) → i < length ys
-  less i l = omega arith
-
 -- two places before the same end
 after_section4-shared : (document : List Part) (i j : ℕ) → i ≤ j → j + 1 < after_section4 document i → after_section4 document j ≡ after_section4 document i
 after_section4-shared document i j l m =
@@ -125,10 +68,8 @@ after_section4-shared document i j l m =
       rest : (j - i ≤ position_or_len is_section4_end (drop (i + 1) document))
           → j - i + position_or_len is_section4_end (drop (j + 1) document) ≡ position_or_len is_section4_end (drop (i + 1) document)
       rest few =
-          ap (λ ps. j - i + position_or_len is_section4_end ps) (ap (λ (n : ℕ). drop n document) (place i j l) ∙ sym (drop-drop (j - i) (i + 1) document))
-          ∙ position-drop is_section4_end (j - i) (drop (i + 1) document) few where
-            place : (i j : ℕ) → i ≤ j → j + 1 ≡ i + 1 + (j - i)
-            place i j l = omega arith
+          ap (λ ps. j - i + position_or_len is_section4_end ps) (ap (λ (n : ℕ). drop n document) (omega arith) ∙ sym (drop-drop (j - i) (i + 1) document))
+          ∙ position-drop is_section4_end (j - i) (drop (i + 1) document) few
 
       at : (n k : ℕ) → j + 1 < i + n + 2 → (j - i ≤ n → j - i + k ≡ n) → j + k + 2 ≡ i + n + 2
       at n k m rest = let e : j - i + k ≡ n = rest (omega arith) in omega arith
@@ -138,23 +79,14 @@ end_there : (document : List Part) (i j : ℕ) (part : Part) → j + 1 ≡ after
 end_there document i j part e here =
     position_passes is_section4_end (drop (i + 1) document) part
     (slice_get-drop (i + 1) (position_or_len is_section4_end (drop (i + 1) document)) document
-    ∙ ap (λ k. slice_get document k) (at (position_or_len is_section4_end (drop (i + 1) document)) e) ∙ here) where
-      at : (n : ℕ) → j + 1 ≡ i + n + 2 → i + 1 + n ≡ j
-      at n e = omega arith
+    ∙ ap (λ k. slice_get document k) (omega arith) ∙ here)
 
 -- ---- the pair after it
 
 -- two places are an empty Block
 empty_block-at : (parts : List Part) → has_empty_block parts ≡ true → (slice_get parts 0 ≡ Some (Start blocks.Block)) × (slice_get parts 1 ≡ Some (End blocks.Block))
 empty_block-at (Start blocks.Block ∷ End blocks.Block ∷ rest) h = (refl, refl)
-empty_block-at (Start blocks.Block ∷ End b ∷ rest) h = absurd cc
-empty_block-at (Start blocks.Block ∷ Start b ∷ rest) h = absurd cc
-empty_block-at (Start blocks.Block ∷ Text bytes style ∷ rest) h = absurd cc
-empty_block-at (Start blocks.Block ∷ []) h = absurd cc
-empty_block-at (Start b ∷ rest) h = absurd cc
-empty_block-at (End b ∷ rest) h = absurd cc
-empty_block-at (Text bytes style ∷ rest) h = absurd cc
-empty_block-at [] h = absurd cc
+empty_block-at _ h = absurd cc
 
 empty_block-from : (parts : List Part) → slice_get parts 0 ≡ Some (Start blocks.Block) → slice_get parts 1 ≡ Some (End blocks.Block) → has_empty_block parts ≡ true
 empty_block-from [] h i = absurd cc
@@ -171,9 +103,7 @@ pair_there document i h = at (after_section4 document i) h where
   at : (k : ℕ) → has_empty_block (drop k document) ≡ true → (slice_get document k ≡ Some (Start blocks.Block)) × (slice_get document (k + 1) ≡ Some (End blocks.Block))
   at k h =
       let both : (slice_get (drop k document) 0 ≡ Some (Start blocks.Block)) × (slice_get (drop k document) 1 ≡ Some (End blocks.Block)) = empty_block-at (drop k document) h in
-      (ap (λ n. slice_get document n) (same k) ∙ sym (slice_get-drop k 0 document) ∙ both.0, sym (slice_get-drop k 1 document) ∙ both.1) where
-        same : (k : ℕ) → k ≡ k + 0
-        same k = omega arith
+      (ap (λ n. slice_get document n) (sym (add-zero k)) ∙ sym (slice_get-drop k 0 document) ∙ both.0, sym (slice_get-drop k 1 document) ∙ both.1)
 
 -- the two tests of the code
 pub empty_block-is : (document : List Part) (k : ℕ) (first second : Bool) → (IsTrue first ↔ slice_get document k ≡ Some (Start blocks.Block))
@@ -181,20 +111,13 @@ pub empty_block-is : (document : List Part) (k : ℕ) (first second : Bool) → 
 empty_block-is document k first second f s = same_tests (first && second) (has_empty_block (drop k document)) there back where
   there : (first && second) ≡ true → has_empty_block (drop k document) ≡ true
   there h =
-      empty_block-from (drop k document) (slice_get-drop k 0 document ∙ ap (λ n. slice_get document n) (same k) ∙ f.0 (and_left first second h))
-      (slice_get-drop k 1 document ∙ s.0 (and_right first second h)) where
-        same : (k : ℕ) → k + 0 ≡ k
-        same k = omega arith
-
-  both : (a b : Bool) → a ≡ true → b ≡ true → (a && b) ≡ true
-  both a b e f = rw (e, f) refl
+      empty_block-from (drop k document) (slice_get-drop k 0 document ∙ ap (λ n. slice_get document n) (add-zero k) ∙ f.0 (and_parts first second h).0)
+      (slice_get-drop k 1 document ∙ s.0 (and_parts first second h).1)
 
   back : has_empty_block (drop k document) ≡ true → (first && second) ≡ true
   back h =
       let pair : (slice_get (drop k document) 0 ≡ Some (Start blocks.Block)) × (slice_get (drop k document) 1 ≡ Some (End blocks.Block)) = empty_block-at (drop k document) h in
-      both first second (f.1 (ap (λ n. slice_get document n) (same k) ∙ sym (slice_get-drop k 0 document) ∙ pair.0)) (s.1 (sym (slice_get-drop k 1 document) ∙ pair.1)) where
-        same : (k : ℕ) → k ≡ k + 0
-        same k = omega arith
+      and_from first second (f.1 (ap (λ n. slice_get document n) (sym (add-zero k)) ∙ sym (slice_get-drop k 0 document) ∙ pair.0)) (s.1 (sym (slice_get-drop k 1 document) ∙ pair.1))
 
 -- ---- a place that is skipped, by the start that skips it
 
@@ -206,33 +129,21 @@ module _ (f : ℕ → Part → Bool) where
     at : (b : Bool) → f k p ≡ b → (b || list_any (λ (i, part). f i part) (enumerate_from (k + 1) ps)) ≡ true
         → (list_any (λ (i, part). f i part) (enumerate_from (k + 1) ps) ≡ true → (i : ℕ) × (part : Part) × (slice_get ps i ≡ Some part) × (f (k + 1 + i) part ≡ true))
         → (i : ℕ) × (part : Part) × (slice_get (p ∷ ps) i ≡ Some part) × (f (k + i) part ≡ true)
-    at true e h more = (0, p, refl, ap (λ n. f n p) (same k) ∙ e) where
-      same : (k : ℕ) → k + 0 ≡ k
-      same k = omega arith
+    at true e h more = (0, p, refl, ap (λ n. f n p) (add-zero k) ∙ e)
     at false e h more = next (more h) where
       next : ((i : ℕ) × (part : Part) × (slice_get ps i ≡ Some part) × (f (k + 1 + i) part ≡ true)) → (i : ℕ) × (part : Part) × (slice_get (p ∷ ps) i ≡ Some part) × (f (k + i) part ≡ true)
-      next (i, part, here, holds) = (suc i, part, here, ap (λ n. f n part) (same k i) ∙ holds) where
-        same : (k i : ℕ) → k + suc i ≡ k + 1 + i
-        same k i = omega arith
+      next (i, part, here, holds) = (suc i, part, here, ap (λ n. f n part) (omega arith) ∙ holds)
 
   any_from : (parts : List Part) (k i : ℕ) (part : Part) → slice_get parts i ≡ Some part → f (k + i) part ≡ true → list_any (λ (i, part). f i part) (enumerate_from k parts) ≡ true
   any_from [] k i part here h = absurd cc
   any_from (p ∷ ps) k zero part here h =
       let same : p ≡ part = cc in
-      at (f k p) (ap (λ q. f k q) same ∙ ap (λ n. f n part) (zeroth k) ∙ h) where
-        zeroth : (k : ℕ) → k ≡ k + 0
-        zeroth k = omega arith
-
+      at (f k p) (ap (λ q. f k q) same ∙ ap (λ n. f n part) (sym (add-zero k)) ∙ h) where
         at : (b : Bool) → b ≡ true → (b || list_any (λ (i, part). f i part) (enumerate_from (k + 1) ps)) ≡ true
-        at true e = refl
-        at false e = absurd cc
-  any_from (p ∷ ps) k (suc i) part here h = at (f k p) (any_from ps (k + 1) i part here (ap (λ n. f n part) (same k i) ∙ h)) where
-    same : (k i : ℕ) → k + 1 + i ≡ k + suc i
-    same k i = omega arith
-
+        at b e = grind arith
+  any_from (p ∷ ps) k (suc i) part here h = at (f k p) (any_from ps (k + 1) i part here (ap (λ n. f n part) (omega arith) ∙ h)) where
     at : (b : Bool) → list_any (λ (i, part). f i part) (enumerate_from (k + 1) ps) ≡ true → (b || list_any (λ (i, part). f i part) (enumerate_from (k + 1) ps)) ≡ true
-    at true e = refl
-    at false e = e
+    at b e = grind arith
 
 abbrev skips : List Part → ℕ → ℕ → Part → Bool
 skips document k i part = (is_section4_start part && skips_pair document i) && ((k == after_section4 document i) || (k == after_section4 document i + 1))
@@ -240,50 +151,35 @@ skips document k i part = (is_section4_start part && skips_pair document i) && (
 skipped_by : (document : List Part) (k : ℕ) → is_skipped document k ≡ true
     → (i : ℕ) × SkipsAt document i × ((k ≡ after_section4 document i) ⊎ (k ≡ after_section4 document i + 1))
 skipped_by document k h = at (any_found (skips document k) document 0 h) where
-  places : (k a : ℕ) → ((k == a) || (k == a + 1)) ≡ true → (k ≡ a) ⊎ (k ≡ a + 1)
-  places k a h = grind (arith, nat_tests)
-
   by : (i : ℕ) (part : Part) → slice_get document i ≡ Some part → skips document k i part ≡ true → (i : ℕ) × SkipsAt document i × ((k ≡ after_section4 document i) ⊎ (k ≡ after_section4 document i + 1))
   by i part here h =
-      let first : (is_section4_start part && skips_pair document i) ≡ true = and_left (is_section4_start part && skips_pair document i) _ h in (
+      let first : (is_section4_start part && skips_pair document i) ≡ true = (and_parts (is_section4_start part && skips_pair document i) _ h).0 in (
         i,
-        (here ∙ ap (λ p. Some p) (start_is part (and_left (is_section4_start part) (skips_pair document i) first)), and_right (is_section4_start part) (skips_pair document i) first),
-        places k (after_section4 document i) (and_right (is_section4_start part && skips_pair document i) _ h),
+        (here ∙ ap (λ p. Some p) (start_is part (and_parts (is_section4_start part) (skips_pair document i) first).0), (and_parts (is_section4_start part) (skips_pair document i) first).1),
+        grind (arith, nat_tests),
       )
 
   at : ((i : ℕ) × (part : Part) × (slice_get document i ≡ Some part) × (skips document k (0 + i) part ≡ true))
       → (i : ℕ) × SkipsAt document i × ((k ≡ after_section4 document i) ⊎ (k ≡ after_section4 document i + 1))
-  at (i, part, here, holds) = by i part here (ap (λ n. skips document k n part) (same i) ∙ holds) where
-    same : (i : ℕ) → i ≡ 0 + i
-    same i = omega arith
+  at (i, part, here, holds) = by i part here (ap (λ n. skips document k n part) (sym (zero-add i)) ∙ holds)
 
 skipped_from : (document : List Part) (k i : ℕ) → SkipsAt document i → (k ≡ after_section4 document i) ⊎ (k ≡ after_section4 document i + 1) → is_skipped document k ≡ true
-skipped_from document k i (here, pair) h = any_from (skips document k) document 0 i (Start blocks.Section4) here (ap (λ n. skips document k n (Start blocks.Section4)) (same i) ∙ holds) where
-  same : (i : ℕ) → 0 + i ≡ i
-  same i = omega arith
-
-  places : (k a : ℕ) → (k ≡ a) ⊎ (k ≡ a + 1) → ((k == a) || (k == a + 1)) ≡ true
-  places k a h = grind (arith, nat_tests)
-
+skipped_from document k i (here, pair) h = any_from (skips document k) document 0 i (Start blocks.Section4) here (ap (λ n. skips document k n (Start blocks.Section4)) (zero-add i) ∙ holds) where
   holds : skips document k i (Start blocks.Section4) ≡ true
-  holds = rw pair (places k (after_section4 document i) h)
+  holds = rw pair (grind (arith, nat_tests))
 
 -- ---- from part to part
 
 after_section4-later : (document : List Part) (i : ℕ) → i + 2 ≤ after_section4 document i
-after_section4-later document i = at (position_or_len is_section4_end (drop (i + 1) document)) where
-  at : (n : ℕ) → i + 2 ≤ i + n + 2
-  at n = omega arith
+after_section4-later document i = omega arith
 
 module _ (document : List Part) where
   pub KnowsPairs-none : (pairs : Pairs) → pairs.end ≡ 0 → pairs.has_pair ≡ false → KnowsPairs document 0 pairs
   KnowsPairs-none pairs e h = record {
-    found = λ pair. absurd (different pairs.has_pair h pair);
+    found = λ pair. absurd (both_ways pairs.has_pair h pair);
     ahead = λ l. absurd (omega arith);
     earlier = λ i l skips. absurd (omega arith);
-  } where
-    different : (b : Bool) → b ≡ false → b ≡ true → ⊥
-    different b e f = cc
+  }
 
   -- over a part that is no start of Section4
   pub KnowsPairs-more : (index : ℕ) (pairs : Pairs) → (slice_get document index ≡ Some (Start blocks.Section4) → ⊥) → KnowsPairs document index pairs → KnowsPairs document (index + 1) pairs
@@ -300,10 +196,7 @@ module _ (document : List Part) where
     cases i l = grind arith
 
     at : (i : ℕ) → i < index + 1 → SkipsAt document i → (i < index) ⊎ (i ≡ index) → ((after_section4 document i ≡ pairs.end + 1) × (pairs.has_pair ≡ true)) ⊎ (after_section4 document i + 2 < index + 1)
-    at i l skips (inl less) = still (knows.earlier i less skips) where
-      still : ((after_section4 document i ≡ pairs.end + 1) × (pairs.has_pair ≡ true)) ⊎ (after_section4 document i + 2 < index) → ((after_section4 document i ≡ pairs.end + 1) × (pairs.has_pair ≡ true)) ⊎ (after_section4 document i + 2 < index + 1)
-      still (inl h) = inl h
-      still (inr h) = inr (omega arith)
+    at i l skips (inl less) = elim (knows.earlier i less skips) [ inl h ↦ inl h | inr h ↦ inr (omega arith) ]
     at i l skips (inr same) = absurd (other (ap (λ k. slice_get document k) (sym same) ∙ skips.0))
 
   -- a start before an end that is known
@@ -331,10 +224,7 @@ module _ (document : List Part) where
       cases i l = grind arith
 
       at : (i : ℕ) → SkipsAt document i → (i < index) ⊎ (i ≡ index) → ((after_section4 document i ≡ pairs.end + 1) × (pairs.has_pair ≡ true)) ⊎ (after_section4 document i + 2 < index + 1)
-      at i skips (inl less) = still (knows.earlier i less skips) where
-        still : ((after_section4 document i ≡ pairs.end + 1) × (pairs.has_pair ≡ true)) ⊎ (after_section4 document i + 2 < index) → ((after_section4 document i ≡ pairs.end + 1) × (pairs.has_pair ≡ true)) ⊎ (after_section4 document i + 2 < index + 1)
-        still (inl h) = inl h
-        still (inr h) = inr (omega arith)
+      at i skips (inl less) = elim (knows.earlier i less skips) [ inl h ↦ inl h | inr h ↦ inr (omega arith) ]
       at i skips (inr same) = inl (ap (after_section4 document) same ∙ same_end, shared_answer ∙ ap (λ k. skips_pair document k) (sym same) ∙ skips.1)
 
   -- a start that looks for its end
@@ -350,9 +240,7 @@ module _ (document : List Part) where
 
     -- a start stands neither at the end of a section nor in a pair
     not_end : (i : ℕ) → index + 1 ≡ after_section4 document i → ⊥
-    not_end i same = different (end_there document i index (Start blocks.Section4) same here) where
-      different : false ≡ true → ⊥
-      different e = cc
+    not_end i same = false≢true (end_there document i index (Start blocks.Section4) same here)
 
     not_first : (i : ℕ) → skips_pair document i ≡ true → index ≡ after_section4 document i → ⊥
     not_first i pair same = different (sym here ∙ ap (λ k. slice_get document k) same ∙ (pair_there document i pair).0) where
@@ -414,49 +302,6 @@ module _ (document : List Part) where
 
 -- ---- the code's loop and tests
 
--- from place j on no end stands before k
-abbrev pub StandsFrom : List Part → ℕ → ℕ → Type 0
-StandsFrom document i k = k + position_or_len is_section4_end (drop k document) + 1 ≡ after_section4 document i
-
-pub stands-from_start : (document : List Part) (i : ℕ) → StandsFrom document i (i + 1)
-stands-from_start document i = at (position_or_len is_section4_end (drop (i + 1) document)) where
-  at : (n : ℕ) → i + 1 + n + 1 ≡ i + n + 2
-  at n = omega arith
-
-pub stands-found : (document : List Part) (i k : ℕ) → StandsFrom document i k → slice_get document k ≡ Some (End blocks.Section4) → k + 1 ≡ after_section4 document i
-stands-found document i k h here = let none : position_or_len is_section4_end (drop k document) ≡ 0 = position-here is_section4_end document k (End blocks.Section4) here refl in at (position_or_len is_section4_end (drop k document)) none h where
-  at : (n : ℕ) {a : ℕ} → n ≡ 0 → k + n + 1 ≡ a → k + 1 ≡ a
-  at n e h = omega arith
-
-pub stands-more : (document : List Part) (i k : ℕ) → k < length document → StandsFrom document i k → (slice_get document k ≡ Some (End blocks.Section4) → ⊥) → StandsFrom document i (k + 1)
-stands-more document i k l h other =
-    at (position_or_len is_section4_end (drop k document)) (position_or_len is_section4_end (drop (k + 1) document)) (position-later is_section4_end document k l no ∙ ap (λ n. 1 + position_or_len is_section4_end (drop n document)) (sym (add-one k))) h where
-      at : (m n : ℕ) {a : ℕ} → m ≡ 1 + n → k + m + 1 ≡ a → k + 1 + n + 1 ≡ a
-      at m n e h = omega arith
-
-      no : (part : Part) → slice_get document k ≡ Some part → is_section4_end part ≡ false
-      no part here = cases (true_or_false (is_section4_end part)) where
-        cases : (is_section4_end part ≡ true) ⊎ (is_section4_end part ≡ false) → is_section4_end part ≡ false
-        cases (inl e) = absurd (other (here ∙ ap (λ p. Some p) (end_is part e)))
-        cases (inr e) = e
-
-pub stands-none : (document : List Part) (i k : ℕ) → length document ≤ k → StandsFrom document i k → k + 1 ≡ after_section4 document i
-stands-none document i k l h = at (position_or_len is_section4_end (drop k document)) (ap (λ ps. position_or_len is_section4_end ps) (drop_all k document l)) h where
-  at : (n : ℕ) {a : ℕ} → n ≡ 0 → k + n + 1 ≡ a → k + 1 ≡ a
-  at n e h = omega arith
-
--- an empty Block directly behind a place, at places that a usize holds
-pub empty_block-behind : (document : List Part) (index next second : ℕ) (a b : Bool) → length document < 2 ^ 64
-    → next ≡ min (index + 1) 18446744073709551615 → second ≡ min (index + 2) 18446744073709551615
-    → (IsTrue a ↔ slice_get document next ≡ Some (Start blocks.Block)) → (IsTrue b ↔ slice_get document second ≡ Some (End blocks.Block))
-    → (a && b) ≡ has_empty_block (drop (index + 1) document)
-empty_block-behind document index next second a b small e f s t =
-    empty_block-is document (index + 1) a b
-    (subst (λ (o : Option Part). IsTrue a ↔ o ≡ Some (Start blocks.Block)) (ap (λ k. slice_get document k) e ∙ slice_get-saturates document (index + 1) small) s)
-    (subst (λ (o : Option Part). IsTrue b ↔ o ≡ Some (End blocks.Block)) (ap (λ k. slice_get document k) f ∙ slice_get-saturates document (index + 2) small ∙ ap (λ k. slice_get document k) (places index)) t) where
-      places : (index : ℕ) → index + 2 ≡ index + 1 + 1
-      places index = omega arith
-
 -- a mark at one of the two places, and a mark of another block
 module _ (document : List Part) (index : ℕ) (pairs : Pairs) (block : Block) (knows : KnowsPairs document (index + 1) pairs) (mark : HasMarkAt document index block) where
   pub skipped-is : (within : Bool) → (IsTrue within ↔ (pairs.has_pair ≡ true) × (pairs.end < index) × (index ≤ pairs.end + 2)) → within ≡ is_skipped document index
@@ -468,9 +313,7 @@ module _ (document : List Part) (index : ℕ) (pairs : Pairs) (block : Block) (k
     back (h, b, l, m) = (h, l, m)
 
   pub skipped-other : (block ≡ blocks.Block → ⊥) → false ≡ is_skipped document index
-  skipped-other other = same_tests false (is_skipped document index) (λ h. absurd (different h)) (λ h. absurd (other (skipped-shown document index pairs block knows mark h).1)) where
-    different : false ≡ true → ⊥
-    different e = cc
+  skipped-other other = same_tests false (is_skipped document index) (λ h. absurd (false≢true h)) (λ h. absurd (other (skipped-shown document index pairs block knows mark h).1))
 
 -- a block that is no Section4
 pub is_section4_start-other : (block : Block) → (block ≡ blocks.Section4 → ⊥) → is_section4_start (Start block) ≡ false
@@ -501,34 +344,3 @@ module _ (document : List Part) (index : ℕ) (pairs next : Pairs) (this : Block
         pair ∙ ap (λ b. b && skips_pair document index) (sym (is_section4_start-same this same)),
         KnowsPairs-found document index pairs next section4_here knows l (ap (λ n. n + 1) e ∙ first) pair,
       )
-
--- ---- a loop over the parts
-
--- these parts are left from this place on, and what is known of pairs is known before it
-pub record IsAhead (document : List Part) (index : ℕ) (pairs : Pairs) (parts : List Part) : Type 0 where
-  pub rest : drop index document ≡ parts
-  pub knows : KnowsPairs document index pairs
-
-pub IsAhead-all : (document : List Part) (pairs : Pairs) → KnowsPairs document 0 pairs → IsAhead document 0 pairs document
-IsAhead-all document pairs knows = record { rest = refl; knows = knows }
-
-module _ (document : List Part) (index : ℕ) (pairs : Pairs) (parts rest : List Part) (part : Part) (ahead : IsAhead document index pairs parts) (first : parts ≡ part ∷ rest) where
-  -- the part at this place
-  pub part_ahead : slice_get document index ≡ Some part
-  part_ahead = slice_get_dropped document rest part index (ahead.rest ∙ first)
-
-  -- after it, by what is known then
-  pub IsAhead-next : (next : Pairs) (k : ℕ) → k ≡ index + 1 → KnowsPairs document (index + 1) next → IsAhead document k next rest
-  IsAhead-next next k e knows = subst (λ (n : ℕ). IsAhead document n next rest) (sym e) (record { rest = sym (drop-drop 1 index document) ∙ ap (drop 1) (ahead.rest ∙ first); knows = knows })
-
-  -- and after one that is no start of Section4
-  pub knows_more : is_section4_start part ≡ false → KnowsPairs document (index + 1) pairs
-  knows_more other = KnowsPairs-more document index pairs (λ here. different (same part (sym part_ahead ∙ here) other)) ahead.knows where
-    different : false ≡ true → ⊥
-    different e = cc
-
-    same : (p : Part) → Some p ≡ Some (Start blocks.Section4) → is_section4_start p ≡ false → false ≡ true
-    same p e h = let is : p ≡ Start blocks.Section4 = cc in sym h ∙ ap is_section4_start is
-
-  pub IsAhead-more : (k : ℕ) → k ≡ index + 1 → is_section4_start part ≡ false → IsAhead document k pairs rest
-  IsAhead-more k e other = IsAhead-next pairs k e (knows_more other)

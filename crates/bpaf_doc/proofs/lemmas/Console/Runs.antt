@@ -2,10 +2,11 @@
 use Rattle.std.specs.Prelude.{◌≡◌, ℕ, ◌+◌, ◌-◌, ◌≤◌, ◌==◌, Bool, true, false, not, ◌&&◌, List, [], ◌∷◌, ◌++◌, refl, length, flat_map, nat_lt, if◌then◌else◌}
 use Rattle.std.specs.List.{All, list_all, list_any}
 use Rattle.std.specs.Str.{bytes_eq, IsUtf8}
-use Rattle.std.proofs.Common.{sym, subst, ap, ap₂, arith, ◌∙◌, append_assoc, append-nil, length-append}
+use Rattle.std.proofs.Common.{sym, subst, ap, ap₂, arith, ◌∙◌, append_assoc, append-nil}
 use Rattle.std.proofs.lemmas.List.Elements.{All-head, All-tail}
 use Rattle.std.proofs.lemmas.List.Folds.{list_all-append}
 use Rattle.std.proofs.lemmas.Bool.{le-ltb}
+use Rattle.std.proofs.Math.Bool.{and-false}
 use Rattle.bpaf_doc.specs.declared.console.page.Asked.TheVariants as asked
 use Rattle.bpaf_doc.specs.Buffer.Parts.{ink}
 use Rattle.bpaf_doc.specs.Splitter.Chunks.{Chunk, Raw, IsLine, chunk_ink, chunks_of, columns, is_paragraph}
@@ -33,19 +34,11 @@ module _ (width tab_stop : ℕ) (margins : List ℕ) (small : width ≤ 18446744
   fits out column n h = le-ltb width (saturated (column + n)) (omega (arith, h))
 
   no_break : (out : List ℕ) (column n : ℕ) → column + n ≤ width → wraps n (at out column) ≡ false
-  no_break out column n h = ap (λ b. not (length out == 0) && b) (fits out column n h) ∙ and_false (not (length out == 0))
-    where
-      and_false : (b : Bool) → (b && false) ≡ false
-      and_false true = refl
-      and_false false = refl
+  no_break out column n h = ap (λ b. not (length out == 0) && b) (fits out column n h) ∙ and-false (not (length out == 0))
 
   no_room : (out : List ℕ) (column n : ℕ) → column + n ≤ width → room_made n (at out column) ≡ at out column
   no_room out column n h =
-      ap (λ b. if length out == 0 then at out column else if b then wrapped (at out column) else at out column) (fits out column n h) ∙ same (length out == 0)
-    where
-      same : (b : Bool) → (if b then at out column else at out column) ≡ at out column
-      same true = refl
-      same false = refl
+      ap (λ b. if length out == 0 then at out column else if b then wrapped (at out column) else at out column) (fits out column n h) ∙ grind arith
 
   word_placed : (out raw : List ℕ) (column weight : ℕ) → margin_of (at out column) ≤ column → column + weight ≤ width
       → placed raw weight (at out column) ≡ at (out ++ raw) (column + weight)
@@ -56,10 +49,7 @@ module _ (width tab_stop : ℕ) (margins : List ℕ) (small : width ≤ 18446744
       ∙ ap₂ (λ o n. at (o ++ raw) n) (append-nil out) still
 
   weighs : (raw : List ℕ) (weight : ℕ) → weight ≡ columns raw → columns_of raw weight ≡ weight
-  weighs raw weight e = by (nat_lt weight 1000000) where
-    by : (b : Bool) → (if b then weight else columns raw) ≡ weight
-    by true = refl
-    by false = sym e
+  weighs raw weight e = elim (nat_lt weight 1000000) as (λ (b : Bool). (if b then weight else columns raw) ≡ weight) [ true ↦ refl | false ↦ sym e ]
 
   word_put : (out raw : List ℕ) (column weight : ℕ) → weight ≡ columns raw → margin_of (at out column) ≤ column → column + weight ≤ width
       → raw_put raw weight (at out column) ≡ at (out ++ raw) (column + weight)
@@ -128,6 +118,3 @@ words_hide (a_word bytes more others ec et w) rest = ap (λ cs. list_any is_para
 
 pub run_hides : (run : List ℕ) (full : Bool) (chunks rest : List Chunk) → chunks ≡ chunks_of run ++ rest → IsLine run → hides full rest ≡ hides full chunks
 run_hides run full chunks rest e line = ap (λ b. not full && b) (sym (words_hide (words_of_line run line) rest)) ∙ ap (hides full) (sym e)
-
-pub run_left : (run : List ℕ) (chunks rest : List Chunk) → chunks ≡ chunks_of run ++ rest → length rest ≤ length chunks
-run_left run chunks rest e = omega (arith, ap length e, length-append (chunks_of run) rest)

@@ -1,15 +1,18 @@
 -- One walk over the parts gives the tab stop.
-use Rattle.std.specs.Prelude.{◌≡◌, ℕ, ◌+◌, ◌-◌, ◌≤◌, min, max, Bool, true, false, not, cond, ◌&&◌, ◌||◌, List, [], ◌∷◌, ◌++◌, length, refl, map, filter, take, drop, fold, sum_by, nat_le, if◌then◌else◌}
-use Rattle.std.specs.List.{list_any, before_first, after_last, prefix_len, suffix_len, enumerate_from}
+use Rattle.std.specs.Prelude.{◌≡◌, ℕ, ◌+◌, min, max, Bool, true, false, not, cond, ◌&&◌, ◌||◌, List, [], ◌∷◌, ◌++◌, length, refl, map, filter, take, fold, sum_by, nat_le, if◌then◌else◌}
+use Rattle.std.specs.List.{list_any, before_first, after_last, enumerate_from}
 use Rattle.std.proofs.Common.{sym, ◌∙◌, ap, arith, append_assoc}
-use Rattle.std.proofs.lemmas.List.{length-append, drop-append-le, drop_all, reverse-append, take_at}
+use Rattle.std.proofs.lemmas.List.{length-append, take_at}
 use Rattle.std.proofs.lemmas.List.Folds.{list_any-append}
 use Rattle.std.proofs.lemmas.List.Sums.{sum_by-cons, take_while-cons}
 use Rattle.std.proofs.lemmas.Bool.Decides.{nat_tests}
+use Rattle.std.proofs.Math.Bool.{and-false, and-true, or-false}
+use Rattle.std.proofs.Math.Nat.{zero-add}
+use Rattle.bpaf_doc.proofs.lemmas.Manpage.LookingBack.{after_last-append}
 use Rattle.bpaf_doc.specs.declared.buffer.Block.TheVariants as blocks
 use Rattle.bpaf_doc.specs.Buffer.Parts.{Part, Text, Start, End}
 use Rattle.bpaf_doc.specs.Splitter.Chunks.{columns}
-use Rattle.bpaf_doc.specs.Console.Margin.{greatest, is_term_start, is_term_end, text_columns, term_length, term_lengths, tab_stop}
+use Rattle.bpaf_doc.specs.Console.Margin.{is_term_start, is_term_end, text_columns, term_length, tab_stop}
 
 -- ---- the walk
 
@@ -31,16 +34,6 @@ widest_from widest in_term count (End b ∷ rest) = widest_from widest in_term c
 
 -- ---- one part more
 
--- after the last that passes
-after_last-push : {A : Type 0} (p : A → Bool) (xs : List A) (y : A) → after_last p (xs ++ y ∷ []) ≡ (if p y then [] else after_last p xs ++ y ∷ [])
-after_last-push {A = A} p xs y = ap (λ ys. drop (length (xs ++ y ∷ []) - prefix_len (λ x. not (p x)) ys) (xs ++ y ∷ [])) (reverse-append xs (y ∷ [])) ∙ at (p y) (suffix_len (λ x. not (p x)) xs) where
-  less : (s : ℕ) → length (xs ++ y ∷ []) - (1 + s) ≡ length xs - s
-  less s = let len : length (xs ++ y ∷ []) ≡ length xs + 1 = length-append xs (y ∷ []) in omega arith
-
-  at : (b : Bool) (s : ℕ) → drop (length (xs ++ y ∷ []) - cond (not b) (1 + s) 0) (xs ++ y ∷ []) ≡ (if b then [] else drop (length xs - s) xs ++ y ∷ [])
-  at true s = drop_all (length (xs ++ y ∷ []) - 0) (xs ++ y ∷ []) (omega arith)
-  at false s = ap (λ (n : ℕ). drop n (xs ++ y ∷ [])) (less s) ∙ drop-append-le (length xs - s) xs (y ∷ []) (omega arith)
-
 -- the columns of the texts before the first end
 abbrev first_columns : List Part → ℕ
 first_columns parts = sum_by text_columns (before_first is_term_end parts)
@@ -52,39 +45,30 @@ first_columns-cons part parts = ap (λ ps. sum_by text_columns ps) (take_while-c
   at false = sum_by-cons text_columns part (before_first is_term_end parts)
 
 first_columns-one : (part : Part) → first_columns (part ∷ []) ≡ text_columns part
-first_columns-one (Text bytes style) = at (columns bytes) where
-  at : (n : ℕ) → 0 + n ≡ n
-  at n = omega arith
+first_columns-one (Text bytes style) = zero-add (columns bytes)
 first_columns-one (Start b) = refl
 first_columns-one (End blocks.ItemTerm) = refl
 first_columns-one (End b) = refl
 
 first_columns-push : (parts : List Part) (part : Part) → first_columns (parts ++ part ∷ []) ≡ first_columns parts + (if list_any is_term_end parts then 0 else text_columns part)
-first_columns-push [] part = first_columns-one part ∙ at (text_columns part) where
-  at : (n : ℕ) → n ≡ 0 + n
-  at n = omega arith
+first_columns-push [] part = first_columns-one part ∙ sym (zero-add (text_columns part))
 first_columns-push (p ∷ ps) part =
     first_columns-cons p (ps ++ part ∷ []) ∙ at (is_term_end p) (list_any is_term_end ps) (text_columns p) (text_columns part) (first_columns ps) (first_columns (ps ++ part ∷ [])) (first_columns-push ps part)
     ∙ ap (λ n. n + (if is_term_end p || list_any is_term_end ps then 0 else text_columns part)) (sym (first_columns-cons p ps)) where
       at : (b c : Bool) (m n s t : ℕ) → t ≡ s + (if c then 0 else n) → (if b then 0 else m + t) ≡ (if b then 0 else m + s) + (if b || c then 0 else n)
-      at true c m n s t e = refl
-      at false true m n s t e = omega arith
-      at false false m n s t e = omega arith
+      at b c m n s t e = grind arith
 
 -- a term has started and not ended
 abbrev is_in_term : List Part → Bool
 is_in_term before = list_any is_term_start before && not (list_any is_term_end (after_last is_term_start before))
 
 any_push : (p : Part → Bool) (parts : List Part) (part : Part) → list_any p (parts ++ part ∷ []) ≡ (list_any p parts || p part)
-any_push p parts part = list_any-append p parts (part ∷ []) ∙ ap (λ (b : Bool). list_any p parts || b) (at (p part)) where
-  at : (b : Bool) → (b || false) ≡ b
-  at true = refl
-  at false = refl
+any_push p parts part = list_any-append p parts (part ∷ []) ∙ ap (λ (b : Bool). list_any p parts || b) (or-false (p part))
 
 is_in_term-push : (before : List Part) (part : Part) → is_in_term (before ++ part ∷ []) ≡ (if is_term_start part then true else is_in_term before && not (is_term_end part))
 is_in_term-push before part =
     ap (λ (b : Bool). b && not (list_any is_term_end (after_last is_term_start (before ++ part ∷ [])))) (any_push is_term_start before part)
-    ∙ ap (λ ps. (list_any is_term_start before || is_term_start part) && not (list_any is_term_end ps)) (after_last-push is_term_start before part)
+    ∙ ap (λ ps. (list_any is_term_start before || is_term_start part) && not (list_any is_term_end ps)) (after_last-append is_term_start before part)
     ∙ at (list_any is_term_start before) (is_term_start part) (any_push is_term_end (after_last is_term_start before) part) where
       at : (a s : Bool) → list_any is_term_end (after_last is_term_start before ++ part ∷ []) ≡ (list_any is_term_end (after_last is_term_start before) || is_term_end part)
           → ((a || s) && not (list_any is_term_end (if s then [] else after_last is_term_start before ++ part ∷ [])))
@@ -92,16 +76,13 @@ is_in_term-push before part =
       at true true e = refl
       at false true e = refl
       at false false e = refl
-      at true false e = ap not e ∙ both (list_any is_term_end (after_last is_term_start before)) (is_term_end part) where
-        both : (b c : Bool) → not (b || c) ≡ (not b && not c)
-        both true c = refl
-        both false c = refl
+      at true false e = ap not e ∙ grind arith
 
 term_length-push : (before : List Part) (part : Part)
     → term_length (before ++ part ∷ []) ≡ (if is_term_start part then 0 else term_length before + (if is_in_term before then text_columns part else 0))
 term_length-push before part =
     ap (λ (b : Bool). if b then first_columns (after_last is_term_start (before ++ part ∷ [])) else 0) (any_push is_term_start before part)
-    ∙ ap (λ ps. if list_any is_term_start before || is_term_start part then first_columns ps else 0) (after_last-push is_term_start before part)
+    ∙ ap (λ ps. if list_any is_term_start before || is_term_start part then first_columns ps else 0) (after_last-append is_term_start before part)
     ∙ at (list_any is_term_start before) (is_term_start part) (first_columns-push (after_last is_term_start before) part) where
       at : (a s : Bool) → first_columns (after_last is_term_start before ++ part ∷ []) ≡ first_columns (after_last is_term_start before) + (if list_any is_term_end (after_last is_term_start before) then 0 else text_columns part)
           → (if a || s then first_columns (if s then [] else after_last is_term_start before ++ part ∷ []) else 0)
@@ -109,10 +90,7 @@ term_length-push before part =
       at true true e = refl
       at false true e = refl
       at false false e = refl
-      at true false e = e ∙ ap (λ n. first_columns (after_last is_term_start before) + n) (turn (list_any is_term_end (after_last is_term_start before)) (text_columns part)) where
-        turn : (b : Bool) (n : ℕ) → (if b then 0 else n) ≡ (if not b then n else 0)
-        turn true n = refl
-        turn false n = refl
+      at true false e = e ∙ ap (λ n. first_columns (after_last is_term_start before) + n) (grind arith)
 
 -- ---- all parts
 
@@ -123,9 +101,6 @@ lengths_from document k parts = map (λ (k, part). term_length (take k document)
 -- the widest of these that counts
 abbrev widest_of : List Part → List Part → List Part → ℕ → ℕ
 widest_of document before rest widest = fold max widest (filter (λ n. nat_le n 24) (lengths_from document (length before) rest))
-
-sat_more : (a n : ℕ) → sat (sat a + n) ≡ sat (a + n)
-sat_more a n = omega arith
 
 passed : (document before rest : List Part) (part : Part) (widest : ℕ) (in_term : Bool) (count : ℕ)
     → in_term ≡ is_in_term (before ++ part ∷ []) → count ≡ sat (term_length (before ++ part ∷ []))
@@ -147,78 +122,38 @@ quiet : (document before rest : List Part) (part : Part) (widest : ℕ) → is_t
     → widest_from widest (is_in_term before) (sat (term_length before)) rest ≡ fold max widest (filter (λ n. nat_le n 24) (lengths_from document (length before + 1) rest))
 quiet document before rest part widest s e n same more =
     passed document before rest part widest (is_in_term before) (sat (term_length before))
-    (sym (is_in_term-push before part ∙ same_term (is_term_start part) (is_term_end part) (is_in_term before) s e))
-    (ap sat (sym (term_length-push before part ∙ same_length (is_term_start part) (is_in_term before) (text_columns part) (term_length before) s n)))
-    same more where
-      same_term : (s e t : Bool) → s ≡ false → e ≡ false → (if s then true else t && not e) ≡ t
-      same_term false false true h i = refl
-      same_term false false false h i = refl
-      same_term false true t h i = absurd cc
-      same_term true e t h i = absurd cc
-
-      same_length : (s t : Bool) (n l : ℕ) → s ≡ false → n ≡ 0 → (if s then 0 else l + (if t then n else 0)) ≡ l
-      same_length true t n l h i = absurd cc
-      same_length false true n l h i = omega arith
-      same_length false false n l h i = omega arith
+    (sym (is_in_term-push before part ∙ grind arith))
+    (ap sat (sym (term_length-push before part ∙ grind arith)))
+    same more
 
 -- what a length does to the widest, as it is and with all its columns
 counted : (widest n : ℕ) (ns : List ℕ) → fold max (wider widest (sat n)) (filter (λ n. nat_le n 24) ns) ≡ fold max widest (filter (λ n. nat_le n 24) (n ∷ ns))
-counted widest n ns = ap (λ (m : ℕ). fold max m (filter (λ n. nat_le n 24) ns)) (least widest n) ∙ at (nat_le n 24) where
-  least : (widest n : ℕ) → wider widest (sat n) ≡ wider widest n
-  least widest n = grind (arith, nat_tests)
-
+counted widest n ns = ap (λ (m : ℕ). fold max m (filter (λ n. nat_le n 24) ns)) (grind (arith, nat_tests)) ∙ at (nat_le n 24) where
   at : (b : Bool) → fold max (if b then max widest n else widest) (filter (λ n. nat_le n 24) ns) ≡ fold max widest (if b then n ∷ filter (λ n. nat_le n 24) ns else filter (λ n. nat_le n 24) ns)
-  at true = refl
-  at false = refl
+  at b = grind arith
 
 walk : (document before rest : List Part) (widest : ℕ) → document ≡ before ++ rest
     → widest_from widest (is_in_term before) (sat (term_length before)) rest ≡ widest_of document before rest widest
 walk document before [] widest e = refl
 walk document before (Text bytes style ∷ rest) widest e =
     passed document before rest (Text bytes style) widest (is_in_term before) (if is_in_term before then sat (sat (term_length before) + columns bytes) else sat (term_length before))
-    (sym (is_in_term-push before (Text bytes style) ∙ stays (is_in_term before)))
-    (at (is_in_term before) (term_length before) (columns bytes) ∙ ap sat (sym (term_length-push before (Text bytes style))))
-    e (λ same. walk document (before ++ Text bytes style ∷ []) rest widest same) where
-      stays : (b : Bool) → (b && true) ≡ b
-      stays true = refl
-      stays false = refl
-
-      at : (b : Bool) (l n : ℕ) → (if b then sat (sat l + n) else sat l) ≡ sat (l + (if b then n else 0))
-      at true l n = sat_more l n
-      at false l n = ap sat (more l) where
-        more : (l : ℕ) → l ≡ l + 0
-        more l = omega arith
+    (sym (is_in_term-push before (Text bytes style) ∙ and-true (is_in_term before)))
+    ((grind arith) ∙ ap sat (sym (term_length-push before (Text bytes style))))
+    e (λ same. walk document (before ++ Text bytes style ∷ []) rest widest same)
 walk document before (Start blocks.ItemTerm ∷ rest) widest e =
     passed document before rest (Start blocks.ItemTerm) widest true 0 (sym (is_in_term-push before (Start blocks.ItemTerm))) (ap sat (sym (term_length-push before (Start blocks.ItemTerm))))
     e (λ same. walk document (before ++ Start blocks.ItemTerm ∷ []) rest widest same)
 walk document before (Start b ∷ rest) widest e = quiet document before rest (Start b) widest refl refl refl e (λ same. walk document (before ++ Start b ∷ []) rest widest same)
 walk document before (End blocks.ItemTerm ∷ rest) widest e =
     passed document before rest (End blocks.ItemTerm) (wider widest (sat (term_length before))) false (sat (term_length before))
-    (sym (is_in_term-push before (End blocks.ItemTerm) ∙ ends (is_in_term before)))
-    (ap sat (sym (term_length-push before (End blocks.ItemTerm) ∙ same_length (is_in_term before) (term_length before))))
+    (sym (is_in_term-push before (End blocks.ItemTerm) ∙ and-false (is_in_term before)))
+    (ap sat (sym (term_length-push before (End blocks.ItemTerm) ∙ grind arith)))
     e (λ same. walk document (before ++ End blocks.ItemTerm ∷ []) rest (wider widest (sat (term_length before))) same)
     ∙ ap (λ (m : ℕ). fold max (wider widest (sat m)) (filter (λ n. nat_le n 24) (lengths_from document (length before + 1) rest)))
     (sym (ap term_length (ap (take (length before)) e ∙ take_at before (End blocks.ItemTerm ∷ rest) (length before) refl)))
-    ∙ counted widest (term_length (take (length before) document)) (lengths_from document (length before + 1) rest) where
-      ends : (b : Bool) → (b && false) ≡ false
-      ends true = refl
-      ends false = refl
-
-      same_length : (b : Bool) (l : ℕ) → l + (if b then 0 else 0) ≡ l
-      same_length true l = omega arith
-      same_length false l = omega arith
+    ∙ counted widest (term_length (take (length before) document)) (lengths_from document (length before + 1) rest)
 walk document before (End b ∷ rest) widest e = quiet document before rest (End b) widest refl refl refl e (λ same. walk document (before ++ End b ∷ []) rest widest same)
 
 -- from the start on it gives the tab stop
 pub tab_stop-walk : (document : List Part) → widest_from 0 false 0 document + 4 ≡ tab_stop document
-tab_stop-walk document = ap (λ n. n + 4) (walk document [] document 0 refl) ∙ turn (greatest (filter (λ n. nat_le n 24) (term_lengths document))) where
-  turn : (n : ℕ) → n + 4 ≡ 4 + n
-  turn n = omega arith
-
--- as the loop leaves it, with a sum that does not saturate
-pub tab_stop-found : (document : List Part) (widest : ℕ) (in_term : Bool) (count : ℕ) (rest : List Part) (result : ℕ)
-    → widest_from widest in_term count rest ≡ widest_from 0 false 0 document → rest ≡ [] → widest ≤ 24 → result ≡ min (widest + 4) 18446744073709551615 → result ≡ tab_stop document
-tab_stop-found document widest in_term count rest result same none small found =
-    let all : widest ≡ widest_from 0 false 0 document = sym (ap (λ ps. widest_from widest in_term count ps) none) ∙ same in
-    let sum : result ≡ widest + 4 = omega arith in
-    sum ∙ ap (λ n. n + 4) all ∙ tab_stop-walk document
+tab_stop-walk document = ap (λ n. n + 4) (walk document [] document 0 refl) ∙ omega arith

@@ -1,5 +1,5 @@
 -- A break stands where a page has to have one, and nothing stands between words.
-use Rattle.std.proofs.Common.{◌≡◌, ℕ, Bool, true, false, List, [], ◌∷◌, ◌++◌, refl, sym, ap, ◌∙◌}
+use Rattle.std.proofs.Common.{◌≡◌, ℕ, Bool, true, false, List, [], ◌∷◌, ◌++◌, refl, sym, ap, ◌∙◌, arith}
 use Rattle.std.specs.Prelude.{not, ◌&&◌, ◌||◌, if◌then◌else◌, IsTrue}
 use Rattle.std.specs.List.{list_any}
 use Rattle.std.specs.Char.{is_not_whitespace}
@@ -32,9 +32,7 @@ since_next q Break = Clear
 since_next Clear (Of f) = if shows is_inked f then Inked else Clear
 since_next Inked (Of f) = if asks_break f then Asked else Inked
 since_next Asked (Of f) = Asked
-since_next q (Open e) = q
-since_next q (Close e) = q
-since_next q Newline = q
+since_next q _ = q
 
 abbrev well_broken : Since → List HtmlSnippet → Bool
 well_broken = passes may_come since_next
@@ -42,13 +40,7 @@ well_broken = passes may_come since_next
 -- ink asks for no break
 inked_asks : (f : Fragment) → shows is_inked f ≡ true → asks_break f ≡ false
 inked_asks (Shown style (Raw bytes weight)) h = refl
-inked_asks (Shown style Paragraph) h = absurd (false≢true h)
-inked_asks (Shown style LineBreak) h = absurd (false≢true h)
-inked_asks (TextStart style) h = absurd (false≢true h)
-inked_asks (TextEnd style) h = absurd (false≢true h)
-inked_asks Hidden h = absurd (false≢true h)
-inked_asks (Start b) h = absurd (false≢true h)
-inked_asks (End b) h = absurd (false≢true h)
+inked_asks _ h = absurd (false≢true h)
 
 -- after something that asked, a break comes before ink does
 asked_breaks : (between after : List HtmlSnippet) (b : Fragment) → well_broken Asked (between ++ Of b ∷ after) ≡ true → shows is_inked b ≡ true → list_any is_break between ≡ true
@@ -95,8 +87,7 @@ abbrev Rests : Since → Written → Fragment → Type 0
 Rests q p f = (well_broken q (snippets_of p f) ≡ true) × (at_rest (state_after may_come since_next q (snippets_of p f)) (page_after p f).fresh ≡ true)
 
 not_fresh : (x y : Bool) → not x ≡ true → not (x && y) ≡ true
-not_fresh true y h = absurd (false≢true h)
-not_fresh false y h = refl
+not_fresh x y h = grind arith
 
 no_ink_in_nothing : (weight : ℕ) → is_inked (Raw [] weight) ≡ false
 no_ink_in_nothing weight = ap (λ cs. has_some (filter is_not_whitespace cs)) chars-nil
@@ -122,10 +113,6 @@ rests_clear p (Shown style (Raw bytes weight)) = (
 rests_clear p (Shown style Paragraph) = (refl, refl)
 rests_clear p (Shown style LineBreak) = (refl, refl)
 rests_clear p (TextEnd styles.Text) = (refl, refl)
-rests_clear p (TextEnd styles.Emphasis) = (refl, refl)
-rests_clear p (TextEnd styles.Literal) = (refl, refl)
-rests_clear p (TextEnd styles.Metavar) = (refl, refl)
-rests_clear p (TextEnd styles.Invalid) = (refl, refl)
 rests_clear p Hidden = (refl, refl)
 rests_clear p (Start blocks.Header) =
     elim (p.fresh) as (λ f. (well_broken Clear (start_snippets f p.in_list blocks.Header) ≡ true) × (at_rest (state_after may_come since_next Clear (start_snippets f p.in_list blocks.Header)) (page_after p (Start blocks.Header)).fresh ≡ true)) [ true ↦ (refl, refl) | false ↦ (refl, refl) ]
@@ -137,21 +124,14 @@ rests_clear p (End blocks.Header) =
 rests_clear p (End blocks.ItemBody) =
     elim (first_or_false p.outer) as (λ l. (well_broken Clear (end_snippets p.fresh l blocks.ItemBody) ≡ true) × (at_rest (state_after may_come since_next Clear (end_snippets p.fresh l blocks.ItemBody)) (page_after p (End blocks.ItemBody)).fresh ≡ true)) [ true ↦ (refl, refl) | false ↦ (refl, refl) ]
 rests_clear p (End _) = (refl, refl)
+rests_clear p (TextEnd _) = (refl, refl)
 
 rests_inked : (p : Written) (f : Fragment) → not p.fresh ≡ true → Rests Inked p f
 rests_inked p (TextStart styles.Text) h = (refl, not_fresh p.fresh true h)
-rests_inked p (TextStart styles.Emphasis) h = (refl, not_fresh p.fresh false h)
-rests_inked p (TextStart styles.Literal) h = (refl, not_fresh p.fresh false h)
-rests_inked p (TextStart styles.Metavar) h = (refl, not_fresh p.fresh false h)
-rests_inked p (TextStart styles.Invalid) h = (refl, not_fresh p.fresh false h)
 rests_inked p (Shown style (Raw bytes weight)) h = (refl, not_fresh p.fresh (is_empty bytes) h)
 rests_inked p (Shown style Paragraph) h = (refl, refl)
 rests_inked p (Shown style LineBreak) h = (refl, refl)
 rests_inked p (TextEnd styles.Text) h = (refl, not_fresh p.fresh true h)
-rests_inked p (TextEnd styles.Emphasis) h = (refl, not_fresh p.fresh false h)
-rests_inked p (TextEnd styles.Literal) h = (refl, not_fresh p.fresh false h)
-rests_inked p (TextEnd styles.Metavar) h = (refl, not_fresh p.fresh false h)
-rests_inked p (TextEnd styles.Invalid) h = (refl, not_fresh p.fresh false h)
 rests_inked p Hidden h = (refl, h)
 rests_inked p (Start blocks.Header) h =
     (elim (p.fresh) as (λ f. not f ≡ true → (well_broken Inked (start_snippets f p.in_list blocks.Header) ≡ true) × (at_rest (state_after may_come since_next Inked (start_snippets f p.in_list blocks.Header)) (page_after p (Start blocks.Header)).fresh ≡ true)) [ true ↦ λ n. absurd (false≢true n) | false ↦ λ _. (refl, refl) ]) h
@@ -163,6 +143,7 @@ rests_inked p (End blocks.Header) h =
 rests_inked p (End blocks.ItemBody) h =
     (elim (first_or_false p.outer) as (λ l. (well_broken Inked (end_snippets p.fresh l blocks.ItemBody) ≡ true) × (at_rest (state_after may_come since_next Inked (end_snippets p.fresh l blocks.ItemBody)) (p.fresh && is_empty (end_tag blocks.ItemBody l)) ≡ true)) [ true ↦ (refl, not_fresh p.fresh false h) | false ↦ (refl, not_fresh p.fresh false h) ])
 rests_inked p (End b) h = (refl, not_fresh p.fresh (is_empty (end_tag b (first_or_false p.outer))) h)
+rests_inked p _ h = (refl, not_fresh p.fresh false h)
 
 rests : (q : Since) (p : Written) (f : Fragment) → at_rest q p.fresh ≡ true → Rests q p f
 rests Clear p f h = rests_clear p f
@@ -200,10 +181,7 @@ unjoined Apart = Apart
 
 abbrev beside_next : Beside → HtmlSnippet → Beside
 beside_next q (Of f) = if shows is_raw f then Joined else Loose
-beside_next q (Open e) = unjoined q
-beside_next q (Close e) = unjoined q
-beside_next q Break = unjoined q
-beside_next q Newline = unjoined q
+beside_next q _ = unjoined q
 
 abbrev well_joined : Beside → List HtmlSnippet → Bool
 well_joined = passes may_follow beside_next
@@ -244,18 +222,10 @@ Settles q p f = (well_joined q (snippets_of p f) ≡ true) × (settled (state_af
 settles : (q : Beside) (p : Written) (f : Fragment) → settled q ≡ true → Settles q p f
 settles Apart p f h = absurd (false≢true h)
 settles q p (TextStart styles.Text) h = (refl, refl)
-settles q p (TextStart styles.Emphasis) h = (refl, refl)
-settles q p (TextStart styles.Literal) h = (refl, refl)
-settles q p (TextStart styles.Metavar) h = (refl, refl)
-settles q p (TextStart styles.Invalid) h = (refl, refl)
 settles q p (Shown style (Raw bytes weight)) h = (refl, refl)
 settles q p (Shown style Paragraph) h = (refl, refl)
 settles q p (Shown style LineBreak) h = (refl, refl)
 settles q p (TextEnd styles.Text) h = (refl, refl)
-settles q p (TextEnd styles.Emphasis) h = (refl, refl)
-settles q p (TextEnd styles.Literal) h = (refl, refl)
-settles q p (TextEnd styles.Metavar) h = (refl, refl)
-settles q p (TextEnd styles.Invalid) h = (refl, refl)
 settles q p Hidden h = (refl, refl)
 settles q p (Start blocks.Header) h =
     elim (p.fresh) as (λ f. (well_joined q (start_snippets f p.in_list blocks.Header) ≡ true) × (settled (state_after may_follow beside_next q (start_snippets f p.in_list blocks.Header)) ≡ true)) [ true ↦ (refl, refl) | false ↦ (refl, refl) ]
@@ -267,6 +237,8 @@ settles q p (End blocks.Header) h =
 settles q p (End blocks.ItemBody) h =
     elim ((first_or_false p.outer)) as (λ l. (well_joined q (end_snippets p.fresh l blocks.ItemBody) ≡ true) × (settled (state_after may_follow beside_next q (end_snippets p.fresh l blocks.ItemBody)) ≡ true)) [ true ↦ (refl, refl) | false ↦ (refl, refl) ]
 settles q p (End _) h = (refl, refl)
+settles q p (TextStart _) h = (refl, refl)
+settles q p (TextEnd _) h = (refl, refl)
 
 cut_joined : (q : Beside) (p : Written) (fs : List Fragment) → settled q ≡ true → well_joined q (cut_from p fs) ≡ true
 cut_joined q p [] h = refl

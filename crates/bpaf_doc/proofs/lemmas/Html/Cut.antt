@@ -1,14 +1,15 @@
 -- The snippets that make up a page.
-use Rattle.std.proofs.Common.{◌≡◌, ℕ, Bool, true, false, cond, List, [], ◌∷◌, ◌++◌, map, refl, sym, ap, ◌∙◌, append_assoc, append-nil}
+use Rattle.std.proofs.Common.{◌≡◌, ℕ, Bool, true, false, List, [], ◌∷◌, ◌++◌, map, refl, sym, ap, ◌∙◌, append_assoc, append-nil, arith}
 use Rattle.std.specs.Prelude.{flat_map, filter, reverse, codes, if◌then◌else◌}
 use Rattle.std.proofs.lemmas.List.Concat.{flat_map-append}
+use Rattle.std.proofs.lemmas.List.Elements.{filter-append}
 use Rattle.bpaf_doc.specs.declared.buffer.Style.TheVariants as styles
 use Rattle.bpaf_doc.specs.declared.buffer.Block.{Block}
 use Rattle.bpaf_doc.specs.declared.buffer.Block.TheVariants as blocks
 use Rattle.bpaf_doc.specs.Splitter.Chunks.{Raw, Paragraph, LineBreak}
 use Rattle.bpaf_doc.specs.Html.Fragments.{Fragment, TextStart, Shown, TextEnd, Hidden, Start, End}
 use Rattle.bpaf_doc.specs.Html.Page.{HtmlSnippet, Open, Close, Break, Newline, Of, snippet_text, fragment_text, fragments_in, style_elements, block_elements, is_style_tag_or_fragment, styled_snippets}
-use Rattle.bpaf_doc.specs.Html.Steps.Page.{Written, page_after, page_after_all, first_or_false, closed, with_break, is_header, end_tag}
+use Rattle.bpaf_doc.specs.Html.Steps.Page.{Written, page_after, page_after_all, first_or_false, closed, with_break, is_header}
 
 -- a break before a mark of a header
 abbrev pub heading_snippets : Bool → Block → List HtmlSnippet
@@ -57,7 +58,7 @@ start-spelled p blocks.Header =
       | true ↦ refl
       | false ↦ append_assoc p.bytes (codes "<br>\n") (codes "# ")
     ]
-start-spelled p blocks.ItemBody = elim (p.in_list) as (λ l. (page_after (record p { in_list = l }) (Start blocks.ItemBody)).bytes ≡ p.bytes ++ spelled (start_snippets p.fresh l blocks.ItemBody)) [ true ↦ refl | false ↦ refl ]
+start-spelled p blocks.ItemBody = grind arith
 start-spelled p _ = refl
 
 end-spelled : (p : Written) (b : Block) → (page_after p (End b)).bytes ≡ p.bytes ++ spelled (end_snippets p.fresh (first_or_false p.outer) b)
@@ -66,26 +67,20 @@ end-spelled p blocks.Header =
       | true ↦ refl
       | false ↦ append-nil (p.bytes ++ codes "<br>\n")
     ]
-end-spelled p blocks.ItemBody = elim (first_or_false p.outer) as (λ l. p.bytes ++ end_tag blocks.ItemBody l ≡ p.bytes ++ spelled (end_snippets p.fresh l blocks.ItemBody)) [ true ↦ refl | false ↦ refl ]
+end-spelled p blocks.ItemBody = grind arith
 end-spelled p _ = refl
 
 step-spelled : (p : Written) (f : Fragment) → (page_after p f).bytes ≡ p.bytes ++ spelled (snippets_of p f)
 step-spelled p (TextStart styles.Text) = refl
-step-spelled p (TextStart styles.Emphasis) = refl
-step-spelled p (TextStart styles.Literal) = refl
-step-spelled p (TextStart styles.Metavar) = refl
-step-spelled p (TextStart styles.Invalid) = refl
 step-spelled p (Shown style (Raw bytes weight)) = ap (λ x. p.bytes ++ x) (sym (append-nil (fragment_text (Shown style (Raw bytes weight)))))
 step-spelled p (Shown style Paragraph) = refl
 step-spelled p (Shown style LineBreak) = refl
 step-spelled p (TextEnd styles.Text) = refl
-step-spelled p (TextEnd styles.Emphasis) = refl
-step-spelled p (TextEnd styles.Literal) = refl
-step-spelled p (TextEnd styles.Metavar) = refl
-step-spelled p (TextEnd styles.Invalid) = refl
 step-spelled p Hidden = sym (append-nil p.bytes)
 step-spelled p (Start b) = start-spelled p b
 step-spelled p (End b) = end-spelled p b
+step-spelled p (TextStart _) = refl
+step-spelled p (TextEnd _) = refl
 
 pub page-spelled : (p : Written) (fs : List Fragment) → (page_after_all p fs).bytes ≡ p.bytes ++ spelled (cut_from p fs)
 page-spelled p [] = sym (append-nil p.bytes)
@@ -97,14 +92,6 @@ page-spelled p (f ∷ fs) =
 
 -- ---- what of them stays under a test
 
-pub filter-append : {X : Type 0} (test : X → Bool) (xs ys : List X) → filter test (xs ++ ys) ≡ filter test xs ++ filter test ys
-filter-append test [] ys = refl
-filter-append test (x ∷ xs) ys =
-    elim (test x) as (λ b. cond b (x ∷ filter test (xs ++ ys)) (filter test (xs ++ ys)) ≡ cond b (x ∷ filter test xs) (filter test xs) ++ filter test ys) [
-      | true ↦ ap (λ zs. x ∷ zs) (filter-append test xs ys)
-      | false ↦ filter-append test xs ys
-    ]
-
 pub fragments-append : (xs ys : List HtmlSnippet) → fragments_in (xs ++ ys) ≡ fragments_in xs ++ fragments_in ys
 fragments-append [] ys = refl
 fragments-append (Open e ∷ xs) ys = fragments-append xs ys
@@ -115,25 +102,11 @@ fragments-append (Of f ∷ xs) ys = ap (λ fs. f ∷ fs) (fragments-append xs ys
 
 step-fragments : (p : Written) (f : Fragment) → fragments_in (snippets_of p f) ≡ f ∷ []
 step-fragments p (TextStart styles.Text) = refl
-step-fragments p (TextStart styles.Emphasis) = refl
-step-fragments p (TextStart styles.Literal) = refl
-step-fragments p (TextStart styles.Metavar) = refl
-step-fragments p (TextStart styles.Invalid) = refl
-step-fragments p (Shown style (Raw bytes weight)) = refl
-step-fragments p (Shown style Paragraph) = refl
-step-fragments p (Shown style LineBreak) = refl
 step-fragments p (TextEnd styles.Text) = refl
-step-fragments p (TextEnd styles.Emphasis) = refl
-step-fragments p (TextEnd styles.Literal) = refl
-step-fragments p (TextEnd styles.Metavar) = refl
-step-fragments p (TextEnd styles.Invalid) = refl
-step-fragments p Hidden = refl
-step-fragments p (Start blocks.Header) = elim (p.fresh) as (λ f. fragments_in (start_snippets f p.in_list blocks.Header) ≡ Start blocks.Header ∷ []) [ true ↦ refl | false ↦ refl ]
-step-fragments p (Start blocks.ItemBody) = elim (p.in_list) as (λ l. fragments_in (start_snippets p.fresh l blocks.ItemBody) ≡ Start blocks.ItemBody ∷ []) [ true ↦ refl | false ↦ refl ]
-step-fragments p (Start _) = refl
-step-fragments p (End blocks.Header) = elim (p.fresh) as (λ f. fragments_in (end_snippets f (first_or_false p.outer) blocks.Header) ≡ End blocks.Header ∷ []) [ true ↦ refl | false ↦ refl ]
-step-fragments p (End blocks.ItemBody) = elim (first_or_false p.outer) as (λ l. fragments_in (end_snippets p.fresh l blocks.ItemBody) ≡ End blocks.ItemBody ∷ []) [ true ↦ refl | false ↦ refl ]
-step-fragments p (End _) = refl
+step-fragments p (Shown style Paragraph) = refl
+step-fragments p (Start blocks.Header) = grind arith
+step-fragments p (End blocks.Header) = grind arith
+step-fragments p _ = grind arith
 
 pub cut-fragments : (p : Written) (fs : List Fragment) → fragments_in (cut_from p fs) ≡ fs
 cut-fragments p [] = refl
@@ -144,25 +117,11 @@ cut-fragments p (f ∷ fs) =
 
 step-styles : (p : Written) (f : Fragment) → filter is_style_tag_or_fragment (snippets_of p f) ≡ styled_snippets f
 step-styles p (TextStart styles.Text) = refl
-step-styles p (TextStart styles.Emphasis) = refl
-step-styles p (TextStart styles.Literal) = refl
-step-styles p (TextStart styles.Metavar) = refl
-step-styles p (TextStart styles.Invalid) = refl
-step-styles p (Shown style (Raw bytes weight)) = refl
-step-styles p (Shown style Paragraph) = refl
-step-styles p (Shown style LineBreak) = refl
 step-styles p (TextEnd styles.Text) = refl
-step-styles p (TextEnd styles.Emphasis) = refl
-step-styles p (TextEnd styles.Literal) = refl
-step-styles p (TextEnd styles.Metavar) = refl
-step-styles p (TextEnd styles.Invalid) = refl
-step-styles p Hidden = refl
-step-styles p (Start blocks.Header) = elim (p.fresh) as (λ f. filter is_style_tag_or_fragment (start_snippets f p.in_list blocks.Header) ≡ Of (Start blocks.Header) ∷ []) [ true ↦ refl | false ↦ refl ]
-step-styles p (Start blocks.ItemBody) = elim (p.in_list) as (λ l. filter is_style_tag_or_fragment (start_snippets p.fresh l blocks.ItemBody) ≡ Of (Start blocks.ItemBody) ∷ []) [ true ↦ refl | false ↦ refl ]
-step-styles p (Start _) = refl
-step-styles p (End blocks.Header) = elim (p.fresh) as (λ f. filter is_style_tag_or_fragment (end_snippets f (first_or_false p.outer) blocks.Header) ≡ Of (End blocks.Header) ∷ []) [ true ↦ refl | false ↦ refl ]
-step-styles p (End blocks.ItemBody) = elim (first_or_false p.outer) as (λ l. filter is_style_tag_or_fragment (end_snippets p.fresh l blocks.ItemBody) ≡ Of (End blocks.ItemBody) ∷ []) [ true ↦ refl | false ↦ refl ]
-step-styles p (End _) = refl
+step-styles p (Shown style Paragraph) = refl
+step-styles p (Start blocks.Header) = grind arith
+step-styles p (End blocks.Header) = grind arith
+step-styles p _ = grind arith
 
 pub cut-styles : (p : Written) (fs : List Fragment) → filter is_style_tag_or_fragment (cut_from p fs) ≡ flat_map styled_snippets fs
 cut-styles p [] = refl

@@ -1,5 +1,5 @@
 -- The page that the code writes, one fragment after another, is the page as a function of the document, and this meets the laws.
-use Rattle.std.proofs.Common.{◌≡◌, ℕ, zero, suc, Bool, true, false, List, [], ◌∷◌, ◌++◌, ◌⊎◌, inl, inr, refl, sym, ap, ◌∙◌, append_assoc, append-nil}
+use Rattle.std.proofs.Common.{◌≡◌, ℕ, zero, suc, Bool, true, false, List, [], ◌∷◌, ◌++◌, ◌⊎◌, inl, inr, refl, sym, ap, ◌∙◌, append_assoc, append-nil, arith}
 use Rattle.std.specs.Prelude.{◌&&◌, ◌||◌, ◌==◌, reverse, flat_map, codes, if◌then◌else◌, nat_eq, length, take, ◌-◌}
 use Rattle.std.specs.List.{list_all, ends_with}
 use Rattle.std.proofs.lemmas.List.{reverse-append}
@@ -7,7 +7,7 @@ use Rattle.std.proofs.lemmas.List.Folds.{list_all-append}
 use Rattle.std.proofs.lemmas.Slice.Eq.{ends_is}
 use Rattle.std.proofs.lemmas.Bool.{and_parts, and_from, cases_Bool, eqb-false, false≢true}
 use Rattle.std.proofs.lemmas.Bool.Decides.{Decides-eqb}
-use Rattle.std.proofs.Math.Bool.{or-true}
+use Rattle.std.proofs.Math.Bool.{or-true, and-false, and-true}
 use Rattle.bpaf_doc.specs.declared.buffer.Style.{Style}
 use Rattle.bpaf_doc.specs.declared.buffer.Style.TheVariants as styles
 use Rattle.bpaf_doc.specs.declared.buffer.Block.{Block}
@@ -84,17 +84,11 @@ end_is_other _ in_list = inl refl
 
 opening_is_other : (style : Style) → IsOther (opening_tags style)
 opening_is_other styles.Text = inl refl
-opening_is_other styles.Emphasis = line_is_other _ refl
-opening_is_other styles.Literal = line_is_other _ refl
-opening_is_other styles.Metavar = line_is_other _ refl
-opening_is_other styles.Invalid = line_is_other _ refl
+opening_is_other _ = line_is_other _ refl
 
 closing_is_other : (style : Style) → IsOther (closing_tags style)
 closing_is_other styles.Text = inl refl
-closing_is_other styles.Emphasis = line_is_other _ refl
-closing_is_other styles.Literal = line_is_other _ refl
-closing_is_other styles.Metavar = line_is_other _ refl
-closing_is_other styles.Invalid = line_is_other _ refl
+closing_is_other _ = line_is_other _ refl
 
 character_line : (b : ℕ) → is_line_byte b ≡ true → list_all is_line_byte (escaped_character b) ≡ true
 character_line b h =
@@ -134,16 +128,8 @@ no_break text t some other = at (cases_Bool (ends_with nat_eq (text ++ t) break_
 -- what the code keeps about breaks, after it wrote something else
 fresh_put : (text t : List ℕ) (fresh : Bool) → fresh ≡ is_at_break text → IsOther t → (fresh && is_empty t) ≡ is_at_break (text ++ t)
 fresh_put text t fresh e (inl none) =
-    ap (λ x. fresh && is_empty x) none ∙ and_true fresh ∙ e ∙ ap is_at_break (sym (append-nil text)) ∙ ap (λ x. is_at_break (text ++ x)) (sym none)
-  where
-    and_true : (b : Bool) → (b && true) ≡ b
-    and_true true = refl
-    and_true false = refl
-fresh_put text t fresh e (inr some) = ap (λ b. fresh && b) some.0 ∙ and_false fresh ∙ sym (no_break text t some.0 some.1)
-  where
-    and_false : (b : Bool) → (b && false) ≡ false
-    and_false true = refl
-    and_false false = refl
+    ap (λ x. fresh && is_empty x) none ∙ and-true fresh ∙ e ∙ ap is_at_break (sym (append-nil text)) ∙ ap (λ x. is_at_break (text ++ x)) (sym none)
+fresh_put text t fresh e (inr some) = ap (λ b. fresh && b) some.0 ∙ and-false fresh ∙ sym (no_break text t some.0 some.1)
 
 -- ---- what the code keeps is what looking back says
 
@@ -177,20 +163,9 @@ outer_is (b ∷ bs) n = refl
 next_lists : (before : List Fragment) (p : Written) (f : Fragment) → ((n : ℕ) → nth n (p.in_list ∷ p.outer) ≡ in_list_at n (reverse before))
     → (n : ℕ) → nth n ((page_after p f).in_list ∷ (page_after p f).outer) ≡ in_list_at n (f ∷ reverse before)
 unfolding nth
-next_lists before p (TextStart style) h n = h n
-next_lists before p (Shown style (Raw bytes weight)) h n = h n
 next_lists before p (Shown style Paragraph) h n = h n
-next_lists before p (Shown style LineBreak) h n = h n
-next_lists before p (TextEnd style) h n = h n
-next_lists before p Hidden h n = h n
 next_lists before p (Start b) h zero = refl
-next_lists before p (Start b) h (suc n) = kept p.fresh (is_header b) n ∙ h n
-  where
-    kept : (fresh header : Bool) (n : ℕ)
-        → nth n ((if header then (if fresh then p else with_break p) else p).in_list ∷ (if header then (if fresh then p else with_break p) else p).outer) ≡ nth n (p.in_list ∷ p.outer)
-    kept fresh false n = refl
-    kept true true n = refl
-    kept false true n = refl
+next_lists before p (Start b) h (suc n) = grind arith ∙ h n
 next_lists before p (End b) h n = kept p.fresh (is_header b) ∙ outer_is p.outer n ∙ h (suc n)
   where
     kept : (fresh header : Bool)
@@ -199,6 +174,7 @@ next_lists before p (End b) h n = kept p.fresh (is_header b) ∙ outer_is p.oute
     kept fresh false = refl
     kept true true = refl
     kept false true = refl
+next_lists before p _ h n = h n
 
 -- ---- a fragment more
 
@@ -241,12 +217,7 @@ step_fresh p (Shown style (Raw bytes weight)) line e = words bytes line
   where
     words : (bytes : List ℕ) → list_all is_line_byte bytes ≡ true → (p.fresh && is_empty bytes) ≡ is_at_break (p.bytes ++ flat_map escaped_character bytes)
     words [] line = fresh_put p.bytes [] p.fresh e (inl refl)
-    words (b ∷ bs) line = ap (λ x. p.fresh && x) (sym (some (b == 60) (b == 62))) ∙ fresh_put p.bytes (flat_map escaped_character (b ∷ bs)) p.fresh e (line_is_other (flat_map escaped_character (b ∷ bs)) (words_line (b ∷ bs) line))
-      where
-        some : (left right : Bool) → is_empty ((if left then codes "&lt;" else (if right then codes "&gt;" else (b ∷ []))) ++ flat_map escaped_character bs) ≡ false
-        some true right = refl
-        some false true = refl
-        some false false = refl
+    words (b ∷ bs) line = ap (λ x. p.fresh && x) (sym (grind arith)) ∙ fresh_put p.bytes (flat_map escaped_character (b ∷ bs)) p.fresh e (line_is_other (flat_map escaped_character (b ∷ bs)) (words_line (b ∷ bs) line))
 step_fresh p (Shown style Paragraph) line e = sym (break_put p.bytes)
 step_fresh p (Shown style LineBreak) line e = sym (break_put p.bytes)
 step_fresh p (TextEnd style) line e = fresh_put p.bytes (closing_tags style) p.fresh e (closing_is_other style)

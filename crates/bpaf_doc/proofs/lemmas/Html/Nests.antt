@@ -6,6 +6,7 @@ use Rattle.std.proofs.lemmas.List.Concat.{flat_map-append}
 use Rattle.std.proofs.lemmas.List.Folds.{list_all-append}
 use Rattle.std.proofs.lemmas.List.Sums.{AllPass-from_list_all}
 use Rattle.std.proofs.lemmas.Bool.{and_from}
+use Rattle.std.proofs.lemmas.List.Elements.{filter-append}
 use Rattle.bpaf_doc.specs.declared.buffer.Style.{Style}
 use Rattle.bpaf_doc.specs.declared.buffer.Style.TheVariants as styles
 use Rattle.bpaf_doc.specs.declared.buffer.Block.{Block}
@@ -14,7 +15,7 @@ use Rattle.bpaf_doc.specs.Splitter.Chunks.{Chunk, Raw, Paragraph, LineBreak}
 use Rattle.bpaf_doc.specs.Html.Fragments.{Fragment, TextStart, Shown, TextEnd, Hidden, Start, End}
 use Rattle.bpaf_doc.specs.Html.Page.{HtmlSnippet, Element, Tt, B, I, Div, IndentedDiv, Dt, Dd, Li, Dl, P, Open, Close, Of, snippet_text, escaped_character, is_no_angle, opening_tag, closing_tag, IsWellNestedHtml, nothing as no_html, characters, line_break, enclosed as html_enclosed, joined as html_joined, block_elements, is_block_tag_or_fragment, HasBlockTags, nothing as no_tags, fragment as one_fragment, enclosed as tags_enclosed, joined as tags_joined}
 use Rattle.bpaf_doc.specs.Html.Steps.Page.{Written, page_after, page_after_all, first_or_false, without_first, with_heading, with_break, closed, is_header}
-use Rattle.bpaf_doc.proofs.lemmas.Html.Cut.{spelled, snippets_of, cut_from, start_snippets, end_snippets, filter-append}
+use Rattle.bpaf_doc.proofs.lemmas.Html.Cut.{spelled, snippets_of, cut_from, start_snippets, end_snippets}
 use Rattle.bpaf_doc.proofs.lemmas.Html.Fragments.Nests.{Nests, nothing, text, hidden, enclosed, joined}
 
 -- ---- where a page stands after some fragments
@@ -96,17 +97,11 @@ tags-append xs ys = filter-append is_block_tag_or_fragment xs ys
 
 text_start_tags : (p : Written) (style : Style) → tags_of (snippets_of p (TextStart style)) ≡ Of (TextStart style) ∷ []
 text_start_tags p styles.Text = refl
-text_start_tags p styles.Emphasis = refl
-text_start_tags p styles.Literal = refl
-text_start_tags p styles.Metavar = refl
-text_start_tags p styles.Invalid = refl
+text_start_tags p _ = refl
 
 text_end_tags : (p : Written) (style : Style) → tags_of (snippets_of p (TextEnd style)) ≡ Of (TextEnd style) ∷ []
 text_end_tags p styles.Text = refl
-text_end_tags p styles.Emphasis = refl
-text_end_tags p styles.Literal = refl
-text_end_tags p styles.Metavar = refl
-text_end_tags p styles.Invalid = refl
+text_end_tags p _ = refl
 
 chunk_tags : (p : Written) (style : Style) (chunk : Chunk) → tags_of (snippets_of p (Shown style chunk)) ≡ Of (Shown style chunk) ∷ []
 chunk_tags p style (Raw bytes weight) = refl

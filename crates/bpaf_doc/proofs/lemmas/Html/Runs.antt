@@ -2,6 +2,7 @@
 use Rattle.std.proofs.Common.{◌≡◌, Bool, true, false, List, ℕ, [], ◌∷◌, ◌++◌, map, refl, sym, ap, ap₂, ◌∙◌, append_assoc, append-nil}
 use Rattle.std.specs.Prelude.{◌&&◌, flat_map}
 use Rattle.std.proofs.lemmas.List.Concat.{flat_map-append}
+use Rattle.std.proofs.Math.Bool.{and-true}
 use Rattle.bpaf_doc.specs.declared.buffer.Style.{Style}
 use Rattle.bpaf_doc.specs.Splitter.Chunks.{Chunk, chunks_of, IsLine}
 use Rattle.bpaf_doc.specs.Html.Fragments.{Shown}
@@ -11,11 +12,7 @@ use Rattle.bpaf_doc.specs.Html.Steps.Page.{Written, with_words, page_after_all}
 use Rattle.bpaf_doc.proofs.lemmas.Splitter.Runs.{AreWords, no_words, a_word, words_of_line}
 
 words_nothing : (p : Written) → with_words p [] ≡ p
-words_nothing p = ap₂ (λ x y. record p { bytes = x; fresh = y }) (append-nil p.bytes) (kept p.fresh)
-  where
-    kept : (fresh : Bool) → (fresh && true) ≡ fresh
-    kept true = refl
-    kept false = refl
+words_nothing p = ap₂ (λ x y. record p { bytes = x; fresh = y }) (append-nil p.bytes) (and-true p.fresh)
 
 words_on : (p : Written) (a b : List ℕ) → with_words (with_words p a) b ≡ with_words p (a ++ b)
 words_on p a b =

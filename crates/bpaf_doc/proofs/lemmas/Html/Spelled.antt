@@ -19,8 +19,7 @@ plain_run f test same [] none = refl
 plain_run f test same (b ∷ bytes) none =
     ap₂ (λ x y. x ++ y) (same b (refused (test b) (none 0 (omega arith)))) (plain_run f test same bytes (λ k l. none (suc k) (omega (arith, l)))) where
       refused : (t : Bool) → ¬ t ≡ true → t ≡ false
-      refused true f = absurd (f refl)
-      refused false f = refl
+      refused t f = grind arith
 
 -- a search for the two characters that a language writes in another way
 abbrev AreMarks : Language → ℕ → ℕ → Type 0

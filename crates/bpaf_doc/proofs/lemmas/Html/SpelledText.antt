@@ -29,11 +29,7 @@ low_html b h = by (b == 60) (b == 62)
     by false false = IsAscii-cons b [] h IsAscii-nil
 
 low_markdown : (b : ℕ) → b < 128 → IsAscii (spelling_of language.Markdown b)
-low_markdown b h = by (b == 91 || b == 93)
-  where
-    by : (x : Bool) → IsAscii (if x then 92 ∷ b ∷ [] else b ∷ [])
-    by true = two_ascii 92 b (omega arith) h
-    by false = IsAscii-cons b [] h IsAscii-nil
+low_markdown b h = elim (b == 91 || b == 93) as (λ (x : Bool). IsAscii (if x then 92 ∷ b ∷ [] else b ∷ [])) [ true ↦ two_ascii 92 b (omega arith) h | false ↦ IsAscii-cons b [] h IsAscii-nil ]
 
 low : (l : Language) (b : ℕ) → b < 128 → IsAscii (spelling_of l b)
 low language.Html = low_html

@@ -6,7 +6,7 @@ use Rattle.std.proofs.lemmas.Bool.{and_parts}
 use Rattle.bpaf_doc.specs.declared.buffer.Block.TheVariants as blocks
 use Rattle.bpaf_doc.specs.Splitter.Chunks.{Raw, Paragraph, LineBreak, is_line_byte}
 use Rattle.bpaf_doc.specs.Html.Fragments.{Fragment, Shown, Start}
-use Rattle.bpaf_doc.specs.Html.Page.{erased, erased_from, escaped_character, fragment_text, HtmlSnippet, Open, Close, Break, Newline, Of, Tt, B, I, Div, IndentedDiv, Dt, Dd, Li, Dl, P, fragments_in}
+use Rattle.bpaf_doc.specs.Html.Page.{erased, erased_from, escaped_character, fragment_text, HtmlSnippet, Open, Close, Break, Newline, Of, Tt, fragments_in}
 use Rattle.bpaf_doc.proofs.lemmas.Html.Fragments.Lines.{fragment_is_line}
 use Rattle.bpaf_doc.proofs.lemmas.Html.Cut.{spelled}
 
@@ -49,27 +49,11 @@ plain_fragment _ rest h = refl
 pub plain_spelled : (snippets : List HtmlSnippet) → list_all fragment_is_line (fragments_in snippets) ≡ true → plain (spelled snippets) ≡ flat_map fragment_text (fragments_in snippets)
 plain_spelled [] h = refl
 plain_spelled (Open Tt ∷ snippets) h = plain_spelled snippets h
-plain_spelled (Open B ∷ snippets) h = plain_spelled snippets h
-plain_spelled (Open I ∷ snippets) h = plain_spelled snippets h
-plain_spelled (Open Div ∷ snippets) h = plain_spelled snippets h
-plain_spelled (Open IndentedDiv ∷ snippets) h = plain_spelled snippets h
-plain_spelled (Open Dt ∷ snippets) h = plain_spelled snippets h
-plain_spelled (Open Dd ∷ snippets) h = plain_spelled snippets h
-plain_spelled (Open Li ∷ snippets) h = plain_spelled snippets h
-plain_spelled (Open Dl ∷ snippets) h = plain_spelled snippets h
-plain_spelled (Open P ∷ snippets) h = plain_spelled snippets h
 plain_spelled (Close Tt ∷ snippets) h = plain_spelled snippets h
-plain_spelled (Close B ∷ snippets) h = plain_spelled snippets h
-plain_spelled (Close I ∷ snippets) h = plain_spelled snippets h
-plain_spelled (Close Div ∷ snippets) h = plain_spelled snippets h
-plain_spelled (Close IndentedDiv ∷ snippets) h = plain_spelled snippets h
-plain_spelled (Close Dt ∷ snippets) h = plain_spelled snippets h
-plain_spelled (Close Dd ∷ snippets) h = plain_spelled snippets h
-plain_spelled (Close Li ∷ snippets) h = plain_spelled snippets h
-plain_spelled (Close Dl ∷ snippets) h = plain_spelled snippets h
-plain_spelled (Close P ∷ snippets) h = plain_spelled snippets h
 plain_spelled (Break ∷ snippets) h = plain_spelled snippets h
 plain_spelled (Newline ∷ snippets) h = plain_spelled snippets h
 plain_spelled (Of f ∷ snippets) h =
     let parts : (fragment_is_line f ≡ true) × (list_all fragment_is_line (fragments_in snippets) ≡ true) = and_parts (fragment_is_line f) (list_all fragment_is_line (fragments_in snippets)) h in
     plain_fragment f (spelled snippets) parts.0 ∙ ap (λ x. fragment_text f ++ x) (plain_spelled snippets parts.1)
+plain_spelled (Open _ ∷ snippets) h = plain_spelled snippets h
+plain_spelled (Close _ ∷ snippets) h = plain_spelled snippets h

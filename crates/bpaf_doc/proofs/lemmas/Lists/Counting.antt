@@ -1,14 +1,14 @@
 -- Counts of what passes a test, one element more or less.
-use Rattle.std.proofs.Common.{◌≡◌, ℕ, ◌+◌, ◌≤◌, Bool, true, false, cond, List, [], ◌∷◌, ◌++◌, ap, ◌∙◌, arith}
+use Rattle.std.proofs.Common.{◌≡◌, ℕ, ◌+◌, ◌≤◌, Bool, cond, List, [], ◌∷◌, ◌++◌, ap, ◌∙◌, arith}
 use Rattle.std.specs.Prelude.{count_by}
 use Rattle.std.proofs.lemmas.List.Sums.{sum_by-cons, sum_by-append}
+use Rattle.std.proofs.Math.Nat.{zero-add}
 
 abbrev pub one_if : Bool → ℕ
 one_if b = cond b 1 0
 
 pub one_at_most : (b : Bool) → one_if b ≤ 1
-one_at_most true = omega arith
-one_at_most false = omega arith
+one_at_most b = grind arith
 
 pub count_by-cons : {X : Type 0} (p : X → Bool) (x : X) (xs : List X) → count_by p (x ∷ xs) ≡ one_if (p x) + count_by p xs
 count_by-cons p x xs = sum_by-cons (λ y. cond (p y) 1 0) x xs
@@ -17,7 +17,4 @@ pub count_by-append : {X : Type 0} (p : X → Bool) (xs ys : List X) → count_b
 count_by-append p xs ys = sum_by-append (λ y. cond (p y) 1 0) xs ys
 
 pub count_by-push : {X : Type 0} (p : X → Bool) (xs : List X) (x : X) → count_by p (xs ++ x ∷ []) ≡ count_by p xs + one_if (p x)
-count_by-push p xs x = count_by-append p xs (x ∷ []) ∙ ap (λ n. count_by p xs + n) (nothing_more (one_if (p x)))
-  where
-    nothing_more : (n : ℕ) → 0 + n ≡ n
-    nothing_more n = omega arith
+count_by-push p xs x = count_by-append p xs (x ∷ []) ∙ ap (λ n. count_by p xs + n) (zero-add (one_if (p x)))

@@ -2,8 +2,9 @@
 -- page takes a document, a reader reads the document's events.
 use Rattle.std.specs.Prelude.{◌≡◌, ℕ, Bool, true, false, List, [], ◌∷◌, ◌++◌, ◌||◌, Option, Some, None, reverse, find, flat_map, if◌then◌else◌, refl}
 use Rattle.std.specs.Str.{str_to_ascii_uppercase}
-use Rattle.std.proofs.Common.{ap, ◌∙◌, sym, subst, append_assoc}
+use Rattle.std.proofs.Common.{ap, ◌∙◌, sym, subst, append_assoc, arith}
 use Rattle.std.proofs.lemmas.List.{append-nil, reverse-append}
+use Rattle.std.proofs.lemmas.List.Concat.{flat_map-append}
 use Rattle.bpaf_roff.specs.Pieces.{Piece}
 use Rattle.bpaf_roff.specs.Roff.{Script, rendering, text_pieces}
 use Rattle.bpaf_roff.specs.declared.escape.Apostrophes.TheVariants.{Handle}
@@ -17,7 +18,7 @@ use Rattle.bpaf_doc.specs.declared.buffer.Style.{Style}
 use Rattle.bpaf_doc.specs.declared.buffer.Style.TheVariants as style
 use Rattle.bpaf_doc.specs.declared.buffer.Block.{Block}
 use Rattle.bpaf_doc.specs.declared.buffer.Block.TheVariants as block
-use Rattle.bpaf_doc.proofs.lemmas.Manpage.LookingBack.{last_is_start-append, captured_texts-append, places-append, flat_map-append}
+use Rattle.bpaf_doc.proofs.lemmas.Manpage.LookingBack.{last_is_start-append, captured_texts-append, places-append}
 use Rattle.bpaf_doc.proofs.lemmas.Manpage.PageRead.{end_calls, place_calls, page_read}
 
 -- ---- the pieces of the calls
@@ -40,10 +41,7 @@ end_same before _ = refl
 
 text_same : (how : Style) (strip : Bool) (bytes : List ℕ) → flat_map pieces_of (control_calls (style_name how) ++ TextCall strip (font_of how) bytes ∷ []) ≡ style_pieces how ++ text_pieces strip ((font_of how, bytes) ∷ [])
 text_same style.Text strip bytes = refl
-text_same style.Emphasis strip bytes = refl
-text_same style.Literal strip bytes = refl
-text_same style.Metavar strip bytes = refl
-text_same style.Invalid strip bytes = refl
+text_same _ strip bytes = refl
 
 -- ---- one part more
 
@@ -68,11 +66,7 @@ one_more page pieces by_page done part more e same =
 
 -- the last mark of a term, after one more part
 strips-append : (by_page : Bool) (before : List Part) (part : Part) → strips_newlines by_page (before ++ part ∷ []) ≡ (if is_term_mark part then is_start (Some part) else strips_newlines by_page before)
-strips-append by_page before part = ap (λ parts. start_or by_page (find is_term_mark parts)) (reverse-append before (part ∷ [])) ∙ choice (is_term_mark part) (find is_term_mark (reverse before))
-  where
-    choice : (x : Bool) (earlier : Option Part) → start_or by_page (if x then Some part else earlier) ≡ (if x then is_start (Some part) else start_or by_page earlier)
-    choice true earlier = refl
-    choice false earlier = refl
+strips-append by_page before part = ap (λ parts. start_or by_page (find is_term_mark parts)) (reverse-append before (part ∷ [])) ∙ grind arith
 
 -- a text, by whether it is captured
 text_by : (captures : Bool) (page : List (Piece Escape)) (by_page : Bool) (done : List Part) (script : Script) (heading text : List ℕ) (how : Style) → Holds page by_page done (record { script = script; heading = heading; captures = captures })
@@ -95,10 +89,7 @@ text_by false page by_page done script heading text how h =
     }
 
 or_choice : (x y : Bool) → (x || y) ≡ (if y then true else x)
-or_choice true true = refl
-or_choice true false = refl
-or_choice false true = refl
-or_choice false false = refl
+or_choice x y = grind arith
 
 strips_at_start : (b : Block) (strips : Bool) → strips_after_start b strips ≡ (if is_term_mark (Start b) then true else strips)
 strips_at_start block.ItemTerm strips = refl
@@ -144,14 +135,7 @@ end_holds page by_page done draft block.Header h = section_holds page by_page do
 end_holds page by_page done draft block.Section2 h = section_holds page by_page done draft block.Section2 _ refl refl refl h
 end_holds page by_page done draft block.Section3 h = section_holds page by_page done draft block.Section3 _ refl refl refl h
 end_holds page by_page done draft block.Section4 h = section_holds page by_page done draft block.Section4 _ refl refl refl h
-end_holds page by_page done draft block.ItemTerm h = block_holds page by_page done draft block.ItemTerm refl refl h
-end_holds page by_page done draft block.ItemBody h = block_holds page by_page done draft block.ItemBody refl refl h
-end_holds page by_page done draft block.DefinitionList h = block_holds page by_page done draft block.DefinitionList refl refl h
-end_holds page by_page done draft block.Block h = block_holds page by_page done draft block.Block refl refl h
-end_holds page by_page done draft block.InlineBlock h = block_holds page by_page done draft block.InlineBlock refl refl h
-end_holds page by_page done draft block.TermRef h = block_holds page by_page done draft block.TermRef refl refl h
-end_holds page by_page done draft block.Meta h = block_holds page by_page done draft block.Meta refl refl h
-end_holds page by_page done draft block.Mono h = block_holds page by_page done draft block.Mono refl refl h
+end_holds page by_page done draft b h = block_holds page by_page done draft b refl refl h
 
 part_holds : (page : List (Piece Escape)) (by_page : Bool) (done : List Part) (draft : Draft) (part : Part) → Holds page by_page done draft → Holds page by_page (done ++ part ∷ []) (after_part draft part)
 part_holds page by_page done draft (Text text how) h = text_by draft.captures page by_page done draft.script draft.heading text how h

@@ -1,14 +1,14 @@
 -- What looking back from a place gives after one more part: what a loop over the parts keeps.
 use Rattle.std.specs.Prelude.{◌≡◌, Bool, true, false, not, List, [], ◌∷◌, ◌++◌, ◌+◌, ◌-◌, Option, Some, find, reverse, length, drop, flat_map, if◌then◌else◌, refl}
 use Rattle.std.specs.List.{after_last, prefix_len}
-use Rattle.std.proofs.Common.{ap, ◌∙◌, sym, append_assoc, arith}
+use Rattle.std.proofs.Common.{ap, ◌∙◌, append_assoc, arith}
 use Rattle.std.proofs.lemmas.List.{append-nil, reverse-append, drop-append-le, drop_all, length-append}
+use Rattle.std.proofs.lemmas.List.Concat.{flat_map-append}
 use Rattle.bpaf_doc.specs.Buffer.Parts.{Part}
 use Rattle.bpaf_doc.specs.Manpage.Events.{places, is_start, last_is_start, is_section_end, captured_text, captured_texts}
 
 is_start-choice : (x : Bool) (o n : Option Part) → is_start (if x then o else n) ≡ (if x then is_start o else is_start n)
-is_start-choice true o n = refl
-is_start-choice false o n = refl
+is_start-choice x o n = grind arith
 
 -- the last mark, after one more part
 pub last_is_start-append : (marks : Part → Bool) (before : List Part) (part : Part) → last_is_start marks (before ++ part ∷ []) ≡ (if marks part then is_start (Some part) else last_is_start marks before)
@@ -32,10 +32,6 @@ after_last-append {X = X} p xs x = ap (λ ys. drop (length (xs ++ x ∷ []) - pr
       where
         fewer : length (xs ++ x ∷ []) - (1 + prefix_len fails (reverse xs)) ≡ length xs - prefix_len fails (reverse xs)
         fewer = omega (arith, length-append xs (x ∷ []))
-
-pub flat_map-append : {X A : Type 0} (f : X → List A) (xs ys : List X) → flat_map f (xs ++ ys) ≡ flat_map f xs ++ flat_map f ys
-flat_map-append f [] ys = refl
-flat_map-append f (x ∷ xs) ys = rw (flat_map-append f xs ys) (sym (append_assoc (f x) (flat_map f xs) (flat_map f ys)))
 
 -- the captured texts since the last section end, after one more part
 pub captured_texts-append : (before : List Part) (part : Part) → captured_texts (before ++ part ∷ []) ≡ (if is_section_end part then [] else captured_texts before ++ captured_text (before, part))

@@ -1,5 +1,5 @@
 -- What the calls of a roff write is read as their events.
-use Rattle.std.specs.Prelude.{◌≡◌, ◌≢◌, ℕ, Bool, true, false, List, [], ◌∷◌, ◌++◌, ◌==◌, ◌⊎◌, map, flat_map, codes, if◌then◌else◌, refl}
+use Rattle.std.specs.Prelude.{◌≡◌, ◌≢◌, ℕ, Bool, true, false, List, [], ◌∷◌, ◌++◌, ◌==◌, map, flat_map, codes, if◌then◌else◌, refl}
 use Rattle.std.specs.List.{AllByRecursion}
 use Rattle.std.proofs.Common.{inl, inr, ap, ◌∙◌, sym, subst, append_assoc, arith}
 use Rattle.std.proofs.lemmas.List.{append-nil}
@@ -48,20 +48,20 @@ pub record IsPlain (before t : List ℕ) : Type 0 where
 
 plain_byte : (b : ℕ) → Kind b → (before t : List ℕ) → ((after : List ℕ) → IsPlain after t) → IsPlain before (b ∷ t)
 unfolding plain
-plain_byte b newline_byte before t later = record { reads = IsSpanText.line_break _ t refl refl ((later _).start (is_line_start-last before 10)) (later _).reads; start = λ h. ((omega arith), (omega arith)) }
-plain_byte b blank_byte before t later = record { reads = IsSpanText.plain 32 _ t refl refl (omega arith) (omega arith) (omega arith) (omega arith) (later _).reads; start = λ h. ((omega arith), (omega arith)) }
+plain_byte b newline_byte before t later = record { reads = IsSpanText.line_break _ t refl refl ((later _).start (is_line_start-last before 10)) (later _).reads; start = λ h. (omega arith, omega arith) }
+plain_byte b blank_byte before t later = record { reads = IsSpanText.plain 32 _ t refl refl (omega arith) (omega arith) (omega arith) (omega arith) (later _).reads; start = λ h. (omega arith, omega arith) }
 plain_byte b apostrophe_byte before t later = by (is_line_start before) refl
   where
     by : (x : Bool) → is_line_start before ≡ x → IsPlain before (39 ∷ t)
-    by true e = record { reads = rw e (IsSpanText.empty _ refl (IsSpanText.escaped_apostrophe _ t refl refl (later _).reads)); start = λ h. rw e ((omega arith), (omega arith)) }
-    by false e = record { reads = rw e (IsSpanText.escaped_apostrophe _ t refl refl (later _).reads); start = λ h. rw e ((omega arith), (omega arith)) }
-plain_byte b dash_byte before t later = record { reads = IsSpanText.escaped_dash _ t refl refl (later _).reads; start = λ h. ((omega arith), (omega arith)) }
+    by true e = record { reads = rw e (IsSpanText.empty _ refl (IsSpanText.escaped_apostrophe _ t refl refl (later _).reads)); start = λ h. rw e (omega arith, omega arith) }
+    by false e = record { reads = rw e (IsSpanText.escaped_apostrophe _ t refl refl (later _).reads); start = λ h. rw e (omega arith, omega arith) }
+plain_byte b dash_byte before t later = record { reads = IsSpanText.escaped_dash _ t refl refl (later _).reads; start = λ h. (omega arith, omega arith) }
 plain_byte b dot_byte before t later = by (is_line_start before) refl
   where
     by : (x : Bool) → is_line_start before ≡ x → IsPlain before (46 ∷ t)
-    by true e = record { reads = rw e (IsSpanText.empty _ refl (IsSpanText.plain 46 _ t refl refl (omega arith) (omega arith) (omega arith) (omega arith) (later _).reads)); start = λ h. rw e ((omega arith), (omega arith)) }
+    by true e = record { reads = rw e (IsSpanText.empty _ refl (IsSpanText.plain 46 _ t refl refl (omega arith) (omega arith) (omega arith) (omega arith) (later _).reads)); start = λ h. rw e (omega arith, omega arith) }
     by false e = record { reads = rw e (IsSpanText.plain 46 _ t refl refl (omega arith) (omega arith) (omega arith) (omega arith) (later _).reads); start = λ h. cc }
-plain_byte b backslash_byte before t later = record { reads = IsSpanText.escaped_backslash _ t refl refl (later _).reads; start = λ h. ((omega arith), (omega arith)) }
+plain_byte b backslash_byte before t later = record { reads = IsSpanText.escaped_backslash _ t refl refl (later _).reads; start = λ h. (omega arith, omega arith) }
 plain_byte b (other e10 e32 e39 e45 e46 e92 n10 n32 n39 n45 n46 n92) before t later = record { reads = rw (e46, e39, e92, e45) (IsSpanText.plain b _ t refl refl n92 n45 n39 n10 (later _).reads); start = λ h. rw (e46, e39, e92, e45) (n46, n39) }
 
 pub plain_text : (t before : List ℕ) → IsPlain before t
@@ -71,11 +71,7 @@ plain_text (b ∷ t) before = plain_byte b (kind_of b) before t (plain_text t)
 
 -- a byte whose newline is a blank is written as that blank is, or as it was
 stripped_byte : (b : ℕ) (before : List ℕ) → byte_text Handle before SpecialNoNewline b ≡ byte_text Handle before Special (newline_as_blank b)
-stripped_byte b before = by (eqb_tells b 10)
-  where
-    by : ((b == 10) ≡ true) × (b ≡ 10) ⊎ ((b == 10) ≡ false) × (b ≢ 10) → byte_text Handle before SpecialNoNewline b ≡ byte_text Handle before Special (newline_as_blank b)
-    by (inl e) = rw e.1 refl
-    by (inr e) = rw e.0 refl
+stripped_byte b before = elim (eqb_tells b 10) [ inl e ↦ rw e.1 refl | inr e ↦ rw e.0 refl ]
 
 -- text without its newlines is written as the text with blanks for them
 stripped : (t before : List ℕ) → text_after Handle before (map (Byte SpecialNoNewline) t) ≡ plain before (map newline_as_blank t)

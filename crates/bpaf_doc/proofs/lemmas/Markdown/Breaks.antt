@@ -1,15 +1,16 @@
 -- Nothing stands between the words of a markdown text, and breaks stand where they were asked for.
-use Rattle.std.proofs.Common.{◌≡◌, ℕ, Bool, true, false, List, [], ◌∷◌, ◌++◌, refl, sym, ap, ◌∙◌, append_assoc}
+use Rattle.std.proofs.Common.{◌≡◌, ℕ, Bool, true, false, List, [], ◌∷◌, ◌++◌, refl, sym, ap, ◌∙◌, append_assoc, arith}
 use Rattle.std.specs.Prelude.{not, ◌&&◌, ◌||◌, ◌==◌, if◌then◌else◌, IsTrue}
 use Rattle.std.specs.List.{list_any}
 use Rattle.std.proofs.lemmas.Bool.{false≢true, and_parts, and_from, not-true, or_right}
+use Rattle.bpaf_doc.proofs.lemmas.Lists.Splits.{implies}
 use Rattle.bpaf_doc.specs.declared.buffer.Style.{Style}
 use Rattle.bpaf_doc.specs.Splitter.Chunks.{Raw, Paragraph, LineBreak, code_weight, fence_weight, is_ordinary, is_whole_line, is_paragraph, is_line_break}
 use Rattle.bpaf_doc.specs.Html.Fragments.{Fragment, TextStart, Shown, TextEnd, Hidden, Start, End, shows}
 use Rattle.bpaf_doc.specs.Markdown.Page.{Newline, MarkdownSnippet, Put, Of, fragments_in, is_newline}
 use Rattle.bpaf_doc.specs.Markdown.Steps.Page.{Marked, with_item, is_term_end, marked_after}
 use Rattle.bpaf_doc.proofs.lemmas.Lists.Passing.{state_after, passes, passes_back, passes_both, passes_first, passes_rest}
-use Rattle.bpaf_doc.proofs.lemmas.Markdown.Cut.{blanks, own_snippets, snippets_of, cut_from, item_snippets, open_snippets, close_snippets, line_snippets, new_line_snippets, step-flags, step-code, item-code, item_marks, new_line_marks, open_marks, close_marks}
+use Rattle.bpaf_doc.proofs.lemmas.Markdown.Cut.{own_snippets, snippets_of, cut_from, item_snippets, open_snippets, close_snippets, line_snippets, new_line_snippets, step-flags, step-code, item-code, item_marks, new_line_marks, open_marks, close_marks}
 use Rattle.bpaf_doc.proofs.lemmas.Markdown.Kept.{step-fragments, own-fragments}
 
 -- ---- touching
@@ -125,10 +126,7 @@ words_are p style bytes weight h =
     ∙ sym (append_assoc (item_snippets p.pending false) (close_snippets p.in_code) (Of f ∷ []))
 
 words_marks : (pending in_code : Bool) → fragments_in (item_snippets pending false ++ close_snippets in_code) ≡ []
-words_marks true true = refl
-words_marks true false = refl
-words_marks false true = refl
-words_marks false false = refl
+words_marks pending in_code = grind arith
 
 settles_words : (q : Beside) (p : Marked) (style : Style) (bytes : List ℕ) (weight : ℕ) → is_ordinary (Raw bytes weight) ≡ true → settled q p.in_code p.pending ≡ true → Settles q p (Shown style (Raw bytes weight))
 settles_words q p style bytes weight o h =
@@ -211,23 +209,15 @@ all_followed (Put mark ∷ ss) = all_followed ss
 all_followed (Of f ∷ ss) = is_followed f ss && all_followed ss
 
 line_stays : (xs ys : List MarkdownSnippet) → begins_line xs ≡ true → begins_line (xs ++ ys) ≡ true
-line_stays [] ys h = absurd (false≢true h)
 line_stays (Put Newline ∷ xs) ys h = refl
-line_stays (Put _ ∷ xs) ys h = absurd (false≢true h)
-line_stays (Of f ∷ xs) ys h = absurd (false≢true h)
+line_stays _ ys h = absurd (false≢true h)
 
 two_stay : (xs ys : List MarkdownSnippet) → begins_two xs ≡ true → begins_two (xs ++ ys) ≡ true
-two_stay [] ys h = absurd (false≢true h)
-two_stay (Put Newline ∷ []) ys h = absurd (false≢true h)
 two_stay (Put Newline ∷ Put Newline ∷ xs) ys h = refl
-two_stay (Put Newline ∷ Put _ ∷ xs) ys h = absurd (false≢true h)
-two_stay (Put Newline ∷ Of f ∷ xs) ys h = absurd (false≢true h)
-two_stay (Put _ ∷ xs) ys h = absurd (false≢true h)
-two_stay (Of f ∷ xs) ys h = absurd (false≢true h)
+two_stay _ ys h = absurd (false≢true h)
 
 or_stays : (a b c : Bool) → (b ≡ true → c ≡ true) → (a || b) ≡ true → (a || c) ≡ true
-or_stays true b c i h = refl
-or_stays false b c i h = i h
+or_stays a b c i h = grind arith
 
 followed_stays : (f : Fragment) (xs ys : List MarkdownSnippet) → is_followed f xs ≡ true → is_followed f (xs ++ ys) ≡ true
 followed_stays f xs ys h =
@@ -268,11 +258,7 @@ quiet_followed (Of g ∷ ss) f e h =
 
 -- a line with its newline after it
 line_followed : (style : Style) (bytes : List ℕ) (weight : ℕ) → all_followed (line_snippets (Shown style (Raw bytes weight))) ≡ true
-line_followed style bytes weight = ap (λ b. b && true) (true_after (is_whole_line (Raw bytes weight)))
-  where
-    true_after : (w : Bool) → (not w || true) ≡ true
-    true_after true = refl
-    true_after false = refl
+line_followed style bytes weight = ap (λ b. b && true) (elim (is_whole_line (Raw bytes weight)) as (λ (w : Bool). (not w || true) ≡ true) [ true ↦ refl | false ↦ refl ])
 
 words_quiet : (bytes : List ℕ) (weight : ℕ) → (weight == fence_weight) ≡ false → (weight == code_weight) ≡ false → is_whole_line (Raw bytes weight) ≡ false
 words_quiet bytes weight e h = ap (λ c. c || (weight == fence_weight)) h ∙ e
@@ -292,7 +278,7 @@ raw_followed p style bytes weight =
 
 own_followed : (p : Marked) (f : Fragment) → all_followed (own_snippets p f) ≡ true
 own_followed p (Shown style (Raw bytes weight)) = raw_followed p style bytes weight
-own_followed p (Shown style Paragraph) = elim (p.in_list) as (λ l. all_followed (Of (Shown style Paragraph) ∷ Put Newline ∷ Put Newline ∷ (if l then blanks else [])) ≡ true) [ true ↦ refl | false ↦ refl ]
+own_followed p (Shown style Paragraph) = grind arith
 own_followed p (Shown style LineBreak) = refl
 own_followed p (TextStart style) = quiet_followed (own_snippets p (TextStart style)) (TextStart style) (own-fragments p (TextStart style)) refl
 own_followed p (TextEnd style) = quiet_followed (own_snippets p (TextEnd style)) (TextEnd style) (own-fragments p (TextEnd style)) refl
@@ -310,23 +296,12 @@ cut_followed p (f ∷ fs) =
 
 -- two newlines that follow stand before the next fragment
 two_inside : (between after : List MarkdownSnippet) (b : Fragment) → begins_two (between ++ Of b ∷ after) ≡ true → (back : List MarkdownSnippet) × (between ≡ Put Newline ∷ Put Newline ∷ back)
-two_inside [] after b h = absurd (false≢true h)
-two_inside (Put Newline ∷ []) after b h = absurd (false≢true h)
 two_inside (Put Newline ∷ Put Newline ∷ between) after b h = (between, refl)
-two_inside (Put Newline ∷ Put _ ∷ between) after b h = absurd (false≢true h)
-two_inside (Put Newline ∷ Of f ∷ between) after b h = absurd (false≢true h)
-two_inside (Put _ ∷ between) after b h = absurd (false≢true h)
-two_inside (Of f ∷ between) after b h = absurd (false≢true h)
+two_inside _ after b h = absurd (false≢true h)
 
 line_inside : (between after : List MarkdownSnippet) (b : Fragment) → begins_line (between ++ Of b ∷ after) ≡ true → list_any is_newline between ≡ true
-line_inside [] after b h = absurd (false≢true h)
 line_inside (Put Newline ∷ between) after b h = refl
-line_inside (Put _ ∷ between) after b h = absurd (false≢true h)
-line_inside (Of f ∷ between) after b h = absurd (false≢true h)
-
-then_true : (a b : Bool) → (not a || b) ≡ true → a ≡ true → b ≡ true
-then_true true b h e = h
-then_true false b h e = absurd (false≢true e)
+line_inside _ after b h = absurd (false≢true h)
 
 paragraph_between : (between after : List MarkdownSnippet) (b : Fragment) → all_followed (between ++ Of b ∷ after) ≡ true → list_any (shows is_paragraph) (fragments_in between) ≡ true
     → (front back : List MarkdownSnippet) × (between ≡ front ++ Put Newline ∷ Put Newline ∷ back)
@@ -339,7 +314,7 @@ paragraph_between (Of f ∷ between) after b h any =
     (elim (shows is_paragraph f) as (λ t. shows is_paragraph f ≡ t → (t || list_any (shows is_paragraph) (fragments_in between)) ≡ true → (front back : List MarkdownSnippet) × (Of f ∷ between ≡ front ++ Put Newline ∷ Put Newline ∷ back)) [
       | true ↦ λ e _.
           let two : (back : List MarkdownSnippet) × (between ≡ Put Newline ∷ Put Newline ∷ back)
-          = two_inside between after b (then_true (shows is_paragraph f) (begins_two (between ++ Of b ∷ after)) (and_parts _ _ parts.0).0 e) in
+          = two_inside between after b (implies (shows is_paragraph f) (begins_two (between ++ Of b ∷ after)) (and_parts _ _ parts.0).0 e) in
           (Of f ∷ [], two.0, ap (λ x. Of f ∷ x) two.1)
       | false ↦ λ e k.
           let found : (front back : List MarkdownSnippet) × (between ≡ front ++ Put Newline ∷ Put Newline ∷ back) = paragraph_between between after b parts.1 k in
@@ -353,7 +328,7 @@ line_break_between (Of f ∷ between) after b h any =
     let parts : (is_followed f (between ++ Of b ∷ after) ≡ true) × (all_followed (between ++ Of b ∷ after) ≡ true) = and_parts (is_followed f (between ++ Of b ∷ after)) (all_followed (between ++ Of b ∷ after)) h in
     (elim (shows is_line_break f) as (λ t. shows is_line_break f ≡ t → (t || list_any (shows is_line_break) (fragments_in between)) ≡ true → list_any is_newline between ≡ true) [
       | true ↦ λ e _. line_inside between after b
-          (then_true (shows is_line_break f || shows is_whole_line f) (begins_line (between ++ Of b ∷ after)) (and_parts _ _ parts.0).1 (ap (λ t. t || shows is_whole_line f) e))
+          (implies (shows is_line_break f || shows is_whole_line f) (begins_line (between ++ Of b ∷ after)) (and_parts _ _ parts.0).1 (ap (λ t. t || shows is_whole_line f) e))
       | false ↦ λ e k. line_break_between between after b parts.1 k
     ]) refl any
 
@@ -369,13 +344,11 @@ line_breaks_of p fs before between after a b e any =
 
 -- after a whole line comes a newline
 newline_first : (ss : List MarkdownSnippet) → begins_line ss ≡ true → (rest : List MarkdownSnippet) × (ss ≡ Put Newline ∷ rest)
-newline_first [] h = absurd (false≢true h)
 newline_first (Put Newline ∷ ss) h = (ss, refl)
-newline_first (Put _ ∷ ss) h = absurd (false≢true h)
-newline_first (Of f ∷ ss) h = absurd (false≢true h)
+newline_first _ h = absurd (false≢true h)
 
 pub newline_after : (p : Marked) (fs : List Fragment) (before after : List MarkdownSnippet) (a : Fragment) → cut_from p fs ≡ before ++ Of a ∷ after → IsTrue (shows is_whole_line a)
     → (rest : List MarkdownSnippet) × (after ≡ Put Newline ∷ rest)
 newline_after p fs before after a e whole =
     let here : all_followed (Of a ∷ after) ≡ true = followed_back before (Of a ∷ after) (ap all_followed (sym e) ∙ cut_followed p fs) in
-    newline_first after (then_true (shows is_line_break a || shows is_whole_line a) (begins_line after) (and_parts _ _ (and_parts (is_followed a after) (all_followed after) here).0).1 (or_right (shows is_line_break a) (shows is_whole_line a) whole))
+    newline_first after (implies (shows is_line_break a || shows is_whole_line a) (begins_line after) (and_parts _ _ (and_parts (is_followed a after) (all_followed after) here).0).1 (or_right (shows is_line_break a) (shows is_whole_line a) whole))

@@ -1,6 +1,7 @@
 -- The snippets that make up a markdown text, and what it keeps in mind between fragments.
-use Rattle.std.proofs.Common.{◌≡◌, ℕ, Bool, true, false, List, [], ◌∷◌, ◌++◌, map, refl, sym, ap, ◌∙◌, append_assoc, append-nil, nat_lt}
+use Rattle.std.proofs.Common.{◌≡◌, ℕ, Bool, true, false, List, [], ◌∷◌, ◌++◌, map, refl, sym, ap, ◌∙◌, append_assoc, append-nil, nat_lt, arith}
 use Rattle.std.specs.Prelude.{not, ◌&&◌, ◌==◌, flat_map, reverse, codes, if◌then◌else◌}
+use Rattle.std.proofs.Math.Bool.{and-true, and-false}
 use Rattle.bpaf_doc.specs.declared.buffer.Style.{Style}
 use Rattle.bpaf_doc.specs.declared.buffer.Style.TheVariants as styles
 use Rattle.bpaf_doc.specs.declared.buffer.Block.{Block}
@@ -153,44 +154,17 @@ abbrev pub flags_next : Flags → Fragment → Flags
 flags_next s f = own_flags (item_flags s (is_term_end f)) f
 
 pub item-flags : (p : Marked) (empty : Bool) → flags (with_item p empty) ≡ item_flags (flags p) empty
-item-flags p empty =
-    (elim (p.pending) as (λ b. p.pending ≡ b → flags (if b then record p { bytes = p.bytes ++ (if empty then codes "  " else codes "- "); pending = false; empty_item = empty } else p) ≡ record (flags p) { pending = false; empty_item = if b then empty else p.empty_item }) [
-      | true ↦ λ e. refl
-      | false ↦ λ e. ap (λ b. record (flags p) { pending = b }) e
-    ]) refl
-
-new_line-flags : (p : Marked) → flags (with_new_line p) ≡ flags p
-new_line-flags p = elim (starts_line p.bytes) as (λ b. flags (if b then p else put p (codes "\n")) ≡ flags p) [ true ↦ refl | false ↦ refl ]
-
-blank_line-flags : (p : Marked) → flags (with_blank_line p) ≡ flags p
-blank_line-flags p = elim (starts_paragraph p.bytes) as (λ b. flags (if b then p else put p (codes "\n\n")) ≡ flags p) [ true ↦ refl | false ↦ refl ]
-
-open_code-flags : (p : Marked) → flags (open_code p) ≡ flags p
-open_code-flags p = elim (p.in_code) as (λ b. flags (if b then p else record p { bytes = p.bytes ++ codes "\n\n  ```text\n"; in_code = true }) ≡ flags p) [ true ↦ refl | false ↦ refl ]
+item-flags p empty = grind arith
 
 close_code-flags : (p : Marked) (fence : List ℕ) → flags (close_code p fence) ≡ flags p
-close_code-flags p fence = elim (p.in_code) as (λ b. flags (if b then record p { bytes = p.bytes ++ fence; in_code = false } else p) ≡ flags p) [ true ↦ refl | false ↦ refl ]
+close_code-flags p fence = grind arith
 
 raw-flags : (p : Marked) (bytes : List ℕ) (weight : ℕ) → flags (with_raw p bytes weight) ≡ flags p
-raw-flags p bytes weight =
-    elim (weight == fence_weight) as (λ t. flags (if t then with_line (with_new_line p) bytes else (if weight == code_weight then with_line (open_code p) bytes else with_words p bytes)) ≡ flags p) [
-      | true ↦ new_line-flags p
-      | false ↦ elim (weight == code_weight) as (λ t. flags (if t then with_line (open_code p) bytes else with_words p bytes) ≡ flags p) [
-        | true ↦ open_code-flags p
-        | false ↦ close_code-flags p (codes "\n  ```\n")
-      ]
-    ]
+raw-flags p bytes weight = grind arith
 
 start-flags : (p : Marked) (b : Block) → flags (own_after p (Start b)) ≡ own_flags (flags p) (Start b)
-start-flags p blocks.Header = ap (λ (s : Flags). record s { headed = true }) (blank_line-flags p)
-start-flags p blocks.Section4 = ap (λ (s : Flags). record s { pending = true; empty_item = false }) (new_line-flags p)
-start-flags p blocks.ItemTerm = ap (λ (s : Flags). record s { pending = true; empty_item = false }) (new_line-flags p)
-start-flags p blocks.ItemBody =
-    elim (p.in_list) as (λ b. flags (with_new_line (if b then put p (if p.empty_item then codes " " else codes " &mdash; ") else p)) ≡ flags p) [
-      | true ↦ new_line-flags (put p (if p.empty_item then codes " " else codes " &mdash; "))
-      | false ↦ new_line-flags p
-    ]
-start-flags p _ = refl
+start-flags p blocks.Header = grind arith
+start-flags p _ = grind arith
 
 own-flags : (p : Marked) (f : Fragment) → flags (own_after p f) ≡ own_flags (flags p) f
 own-flags p (TextStart style) = refl
@@ -213,42 +187,17 @@ code_next in_code (TextEnd style) = false
 code_next in_code f = in_code
 
 pub item-code : (p : Marked) (empty : Bool) → (with_item p empty).in_code ≡ p.in_code
-item-code p empty = elim (p.pending) as (λ b. (if b then record p { bytes = p.bytes ++ (if empty then codes "  " else codes "- "); pending = false; empty_item = empty } else p).in_code ≡ p.in_code) [ true ↦ refl | false ↦ refl ]
-
-new_line-code : (p : Marked) → (with_new_line p).in_code ≡ p.in_code
-new_line-code p = elim (starts_line p.bytes) as (λ b. (if b then p else put p (codes "\n")).in_code ≡ p.in_code) [ true ↦ refl | false ↦ refl ]
+item-code p empty = grind arith
 
 pub close-code : (p : Marked) (fence : List ℕ) → (close_code p fence).in_code ≡ false
 close-code p fence = (elim (p.in_code) as (λ b. p.in_code ≡ b → (if b then record p { bytes = p.bytes ++ fence; in_code = false } else p).in_code ≡ false) [ true ↦ λ e. refl | false ↦ λ e. e ]) refl
 
-open-code : (p : Marked) → (open_code p).in_code ≡ true
-open-code p = (elim (p.in_code) as (λ b. p.in_code ≡ b → (if b then p else record p { bytes = p.bytes ++ codes "\n\n  ```text\n"; in_code = true }).in_code ≡ true) [ true ↦ λ e. e | false ↦ λ e. refl ]) refl
-
 own-code : (p : Marked) (f : Fragment) → (own_after p f).in_code ≡ code_next p.in_code f
-own-code p (TextStart style) = refl
-own-code p (Shown style (Raw bytes weight)) =
-    elim (weight == fence_weight) as (λ t. (if t then with_line (with_new_line p) bytes else (if weight == code_weight then with_line (open_code p) bytes else with_words p bytes)).in_code ≡ (if t then p.in_code else (if weight == code_weight then true else false))) [
-      | true ↦ new_line-code p
-      | false ↦ elim (weight == code_weight) as (λ t. (if t then with_line (open_code p) bytes else with_words p bytes).in_code ≡ (if t then true else false)) [
-        | true ↦ open-code p
-        | false ↦ close-code p (codes "\n  ```\n")
-      ]
-    ]
-own-code p (Shown style Paragraph) = refl
-own-code p (Shown style LineBreak) = refl
-own-code p (TextEnd style) = close-code p (codes "  ```\n")
-own-code p Hidden = refl
-own-code p (Start blocks.Header) = elim (starts_paragraph p.bytes) as (λ b. (if b then p else put p (codes "\n\n")).in_code ≡ p.in_code) [ true ↦ refl | false ↦ refl ]
-own-code p (Start blocks.Section4) = new_line-code p
-own-code p (Start blocks.ItemTerm) = new_line-code p
-own-code p (Start blocks.ItemBody) =
-    elim (p.in_list) as (λ b. (with_new_line (if b then put p (if p.empty_item then codes " " else codes " &mdash; ") else p)).in_code ≡ p.in_code) [
-      | true ↦ new_line-code (put p (if p.empty_item then codes " " else codes " &mdash; "))
-      | false ↦ new_line-code p
-    ]
-own-code p (Start _) = refl
-own-code p (End blocks.ItemBody) = refl
-own-code p (End _) = refl
+own-code p (Shown style (Raw bytes weight)) = grind arith
+own-code p (TextEnd style) = grind arith
+own-code p (Start blocks.ItemBody) = grind arith
+own-code p (End blocks.ItemBody) = grind arith
+own-code p _ = grind arith
 
 pub step-code : (p : Marked) (f : Fragment) → (marked_after p f).in_code ≡ code_next p.in_code f
 step-code p f = own-code (with_item p (is_term_end f)) f ∙ ap (λ c. code_next c f) (item-code p (is_term_end f))
@@ -258,14 +207,6 @@ step-code p f = own-code (with_item p (is_term_end f)) f ∙ ap (λ c. code_next
 -- inside Mono, by the fragments before and by what is kept in mind
 abbrev pub SameMono : List Fragment → Marked → Type 0
 SameMono before p = is_in_mono before ≡ nat_lt p.ends p.starts
-
-and-false : (b : Bool) → (b && false) ≡ false
-and-false true = refl
-and-false false = refl
-
-and-true : (b : Bool) → (b && true) ≡ b
-and-true true = refl
-and-true false = refl
 
 whole_text : (before : List Fragment) (style : Style) (bytes : List ℕ) (weight : ℕ) → is_ordinary (Raw bytes weight) ≡ false → fragment_text before (Shown style (Raw bytes weight)) ≡ bytes
 whole_text before style bytes weight e =
@@ -300,19 +241,16 @@ pub marks_then : (before : List Fragment) (marks rest : List MarkdownSnippet) �
 marks_then before marks rest e = spelled-append before marks rest ∙ ap (λ fs. spelled before marks ++ spelled (before ++ fs) rest) e ∙ ap (λ fs. spelled before marks ++ spelled fs rest) (append-nil before)
 
 pub new_line_marks : (bytes : List ℕ) → fragments_in (new_line_snippets bytes) ≡ []
-new_line_marks bytes = elim (starts_line bytes) as (λ b. fragments_in (if b then [] else (Put Newline ∷ [])) ≡ []) [ true ↦ refl | false ↦ refl ]
+new_line_marks bytes = grind arith
 
 pub open_marks : (in_code : Bool) → fragments_in (open_snippets in_code) ≡ []
-open_marks true = refl
-open_marks false = refl
+open_marks in_code = grind arith
 
 pub close_marks : (in_code : Bool) → fragments_in (close_snippets in_code) ≡ []
-close_marks true = refl
-close_marks false = refl
+close_marks in_code = grind arith
 
 end_code_marks : (in_code : Bool) → fragments_in (end_code_snippets in_code) ≡ []
-end_code_marks true = refl
-end_code_marks false = refl
+end_code_marks in_code = grind arith
 
 pub open-spelled : (before : List Fragment) (p : Marked) → (open_code p).bytes ≡ p.bytes ++ spelled before (open_snippets p.in_code)
 open-spelled before p = elim (p.in_code) as (λ b. (if b then p else record p { bytes = p.bytes ++ codes "\n\n  ```text\n"; in_code = true }).bytes ≡ p.bytes ++ spelled before (open_snippets b)) [
@@ -363,7 +301,7 @@ raw-spelled before p style bytes weight mono =
     ]) refl
 
 blank_line_marks : (bytes : List ℕ) → fragments_in (blank_line_snippets bytes) ≡ []
-blank_line_marks bytes = elim (starts_paragraph bytes) as (λ b. fragments_in (if b then [] else (Put Newline ∷ Put Newline ∷ [])) ≡ []) [ true ↦ refl | false ↦ refl ]
+blank_line_marks bytes = grind arith
 
 blank_line-spelled : (before : List Fragment) (p : Marked) → (with_blank_line p).bytes ≡ p.bytes ++ spelled before (blank_line_snippets p.bytes)
 blank_line-spelled before p = elim (starts_paragraph p.bytes) as (λ b. (if b then p else put p (codes "\n\n")).bytes ≡ p.bytes ++ spelled before (if b then [] else (Put Newline ∷ Put Newline ∷ []))) [
@@ -372,10 +310,7 @@ blank_line-spelled before p = elim (starts_paragraph p.bytes) as (λ b. (if b th
 ]
 
 body_dash_marks : (p : Marked) → fragments_in (body_dash p) ≡ []
-body_dash_marks p = elim (p.in_list) as (λ l. fragments_in (if l then (if p.empty_item then (Put Blank ∷ []) else (Put LongDash ∷ [])) else []) ≡ []) [
-  | true ↦ elim (p.empty_item) as (λ t. fragments_in (if t then (Put Blank ∷ []) else (Put LongDash ∷ [])) ≡ []) [ true ↦ refl | false ↦ refl ]
-  | false ↦ refl
-]
+body_dash_marks p = grind arith
 
 body_dash-spelled : (before : List Fragment) (p : Marked) → body_bytes p ≡ p.bytes ++ spelled before (body_dash p)
 body_dash-spelled before p =
@@ -391,12 +326,8 @@ start-spelled before p blocks.Header =
     let mark : List MarkdownSnippet = Put (if p.headed then SecondHeading else Heading) ∷ [] in
     ap (λ x. x ++ (if p.headed then codes "## " else codes "# ")) (blank_line-spelled next p)
     ∙ append_assoc p.bytes (spelled next line) (if p.headed then codes "## " else codes "# ")
-    ∙ ap (λ x. p.bytes ++ (spelled next line ++ x)) (heading next p.headed)
+    ∙ ap (λ x. p.bytes ++ (spelled next line ++ x)) (grind arith)
     ∙ ap (λ x. p.bytes ++ x) (sym (marks_then next line mark (blank_line_marks p.bytes)))
-  where
-    heading : (next : List Fragment) (headed : Bool) → (if headed then codes "## " else codes "# ") ≡ spelled next (Put (if headed then SecondHeading else Heading) ∷ [])
-    heading next true = refl
-    heading next false = refl
 start-spelled before p blocks.Section3 = refl
 start-spelled before p blocks.Section4 = new_line-spelled (before ++ Start blocks.Section4 ∷ []) p
 start-spelled before p blocks.ItemTerm = new_line-spelled (before ++ Start blocks.ItemTerm ∷ []) p
@@ -414,7 +345,7 @@ start-spelled before p blocks.Block = refl
 start-spelled before p _ = sym (append-nil p.bytes)
 
 end-spelled : (before : List Fragment) (p : Marked) (b : Block) → (own_after p (End b)).bytes ≡ p.bytes ++ spelled before (end_snippets p b)
-end-spelled before p blocks.ItemBody = elim (p.in_list) as (λ l. p.bytes ++ (if l then codes "\n" else []) ≡ p.bytes ++ spelled before (Of (End blocks.ItemBody) ∷ (if l then (Put Newline ∷ []) else []))) [ true ↦ refl | false ↦ refl ]
+end-spelled before p blocks.ItemBody = grind arith
 end-spelled before p blocks.ItemTerm = sym (append-nil p.bytes)
 end-spelled before p blocks.InlineBlock = sym (append-nil p.bytes)
 end-spelled before p blocks.TermRef = sym (append-nil p.bytes)
@@ -439,17 +370,14 @@ text_end-spelled before p style =
 
 own-spelled : (before : List Fragment) (p : Marked) (f : Fragment) → SameMono before p → (own_after p f).bytes ≡ p.bytes ++ spelled before (own_snippets p f)
 own-spelled before p (TextStart styles.Text) mono = refl
-own-spelled before p (TextStart styles.Emphasis) mono = refl
-own-spelled before p (TextStart styles.Literal) mono = refl
-own-spelled before p (TextStart styles.Metavar) mono = refl
-own-spelled before p (TextStart styles.Invalid) mono = refl
 own-spelled before p (Shown style (Raw bytes weight)) mono = raw-spelled before p style bytes weight mono
-own-spelled before p (Shown style Paragraph) mono = elim (p.in_list) as (λ l. p.bytes ++ (if l then codes "\n\n  " else codes "\n\n") ≡ p.bytes ++ spelled before (Of (Shown style Paragraph) ∷ Put Newline ∷ Put Newline ∷ (if l then blanks else []))) [ true ↦ refl | false ↦ refl ]
+own-spelled before p (Shown style Paragraph) mono = grind arith
 own-spelled before p (Shown style LineBreak) mono = refl
 own-spelled before p (TextEnd style) mono = text_end-spelled before p style
 own-spelled before p Hidden mono = sym (append-nil p.bytes)
 own-spelled before p (Start b) mono = start-spelled before p b
 own-spelled before p (End b) mono = end-spelled before p b
+own-spelled before p (TextStart _) mono = refl
 
 pub item-spelled : (before : List Fragment) (p : Marked) (empty : Bool) → (with_item p empty).bytes ≡ p.bytes ++ spelled before (item_snippets p.pending empty)
 item-spelled before p empty = elim (p.pending) as (λ b. (if b then record p { bytes = p.bytes ++ (if empty then codes "  " else codes "- "); pending = false; empty_item = empty } else p).bytes ≡ p.bytes ++ spelled before (item_snippets b empty)) [
@@ -458,9 +386,7 @@ item-spelled before p empty = elim (p.pending) as (λ b. (if b then record p { b
 ]
 
 pub item_marks : (pending empty : Bool) → fragments_in (item_snippets pending empty) ≡ []
-item_marks true true = refl
-item_marks true false = refl
-item_marks false empty = refl
+item_marks pending empty = grind arith
 
 pub step-spelled : (before : List Fragment) (p : Marked) (f : Fragment) → SameMono before p → (marked_after p f).bytes ≡ p.bytes ++ spelled before (snippets_of p f)
 step-spelled before p f mono =

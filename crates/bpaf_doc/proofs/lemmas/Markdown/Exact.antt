@@ -1,9 +1,8 @@
 -- The text that the code writes, one fragment after another, is the text as a function of the document, and this meets the laws.
-use Rattle.std.proofs.Common.{◌≡◌, ℕ, ◌^◌, ◌<◌, Bool, true, false, cond, List, [], ◌∷◌, ◌++◌, length, refl, sym, ap, ◌∙◌, append_assoc, append-nil, nat_lt}
-use Rattle.std.specs.Prelude.{not, ◌&&◌, ◌||◌, ◌==◌, filter, reverse, flat_map, if◌then◌else◌, codes}
+use Rattle.std.proofs.Common.{◌≡◌, ℕ, ◌^◌, ◌<◌, Bool, true, false, List, [], ◌∷◌, ◌++◌, length, refl, sym, ap, ◌∙◌, append_assoc, append-nil, nat_lt, arith}
+use Rattle.std.specs.Prelude.{◌==◌, filter, reverse, flat_map, if◌then◌else◌, codes}
 use Rattle.std.specs.List.{list_any}
 use Rattle.std.proofs.lemmas.List.{reverse-append}
-use Rattle.std.proofs.lemmas.Bool.{eqb-true, eqb-false}
 use Rattle.bpaf_doc.specs.declared.buffer.Style.{Style}
 use Rattle.bpaf_doc.specs.declared.buffer.Block.TheVariants as blocks
 use Rattle.bpaf_doc.specs.Buffer.Parts.{Part}
@@ -18,41 +17,12 @@ use Rattle.bpaf_doc.proofs.lemmas.Markdown.Meets.{room_for, at_start, markdown_m
 
 -- ---- whether a code block is open
 
-not_both : (weight : ℕ) → (weight == code_weight) ≡ true → (weight == fence_weight) ≡ true → ⊥
-not_both weight code fence = eqb-false code_weight fence_weight refl (sym (eqb-true weight code_weight code) ∙ eqb-true weight fence_weight fence)
-
--- what the two weights decide
-abbrev decided : Fragment → List Fragment → (code fence : Bool) → Bool
-decided f back code fence = begins_with_code_line (cond (code || ((not code && not fence) || false)) (f ∷ filter decides_code back) (filter decides_code back))
-
-abbrev next : Bool → (code fence : Bool) → Bool
-next in_code code fence = if fence then in_code else (if code then true else false)
-
 raw_decides : (style : Style) (bytes : List ℕ) (weight : ℕ) (back : List Fragment) → begins_with_code_line (filter decides_code (Shown style (Raw bytes weight) ∷ back)) ≡ code_next (begins_with_code_line (filter decides_code back)) (Shown style (Raw bytes weight))
-raw_decides style bytes weight back = by (weight == code_weight) (weight == fence_weight) refl refl
-  where
-    by : (code fence : Bool) → (weight == code_weight) ≡ code → (weight == fence_weight) ≡ fence
-        → begins_with_code_line (filter decides_code (Shown style (Raw bytes weight) ∷ back)) ≡ code_next (begins_with_code_line (filter decides_code back)) (Shown style (Raw bytes weight))
-    by true true c f = absurd (not_both weight c f)
-    by true false c f =
-        ap (λ x. decided (Shown style (Raw bytes weight)) back x (weight == fence_weight)) c ∙ c
-        ∙ sym (ap (λ x. next (begins_with_code_line (filter decides_code back)) (weight == code_weight) x) f ∙ ap (λ x. next (begins_with_code_line (filter decides_code back)) x false) c)
-    by false true c f =
-        ap (λ x. decided (Shown style (Raw bytes weight)) back x (weight == fence_weight)) c ∙ ap (λ x. decided (Shown style (Raw bytes weight)) back false x) f
-        ∙ sym (ap (λ x. next (begins_with_code_line (filter decides_code back)) (weight == code_weight) x) f)
-    by false false c f =
-        ap (λ x. decided (Shown style (Raw bytes weight)) back x (weight == fence_weight)) c ∙ ap (λ x. decided (Shown style (Raw bytes weight)) back false x) f ∙ c
-        ∙ sym (ap (λ x. next (begins_with_code_line (filter decides_code back)) (weight == code_weight) x) f ∙ ap (λ x. next (begins_with_code_line (filter decides_code back)) x false) c)
+raw_decides style bytes weight back = grind arith
 
 code_decides : (f : Fragment) (back : List Fragment) → begins_with_code_line (filter decides_code (f ∷ back)) ≡ code_next (begins_with_code_line (filter decides_code back)) f
-code_decides (TextStart style) back = refl
 code_decides (Shown style (Raw bytes weight)) back = raw_decides style bytes weight back
-code_decides (Shown style Paragraph) back = refl
-code_decides (Shown style LineBreak) back = refl
-code_decides (TextEnd style) back = refl
-code_decides Hidden back = refl
-code_decides (Start b) back = refl
-code_decides (End b) back = refl
+code_decides _ back = refl
 
 code_push : (before : List Fragment) (f : Fragment) → is_in_code (before ++ f ∷ []) ≡ code_next (is_in_code before) f
 code_push before f = ap (λ fs. begins_with_code_line (filter decides_code fs)) (reverse-append before (f ∷ [])) ∙ code_decides f (reverse before)
@@ -131,8 +101,7 @@ body_put before p h empty =
     marks false = sym (append-nil p.bytes)
 
 paragraph_text : (in_list : Bool) → (if in_list then codes "\n\n  " else codes "\n\n") ≡ codes "\n\n" ++ (if in_list then codes "  " else [])
-paragraph_text true = refl
-paragraph_text false = refl
+paragraph_text in_list = grind arith
 
 -- a fragment that begins no item
 own_put : (before : List Fragment) (p : Marked) (f : Fragment) (fs : List Fragment) → Looks before p → is_item_start f ≡ false → (is_term_end f ≡ false → p.empty_item ≡ is_after_empty_item before)

@@ -9,11 +9,11 @@ use Rattle.bpaf_doc.specs.declared.buffer.Style.TheVariants as styles
 use Rattle.bpaf_doc.specs.declared.buffer.Block.TheVariants as blocks
 use Rattle.bpaf_doc.specs.Splitter.Chunks.{Raw, Paragraph, LineBreak, code_weight, fence_weight, is_ordinary, is_code_line}
 use Rattle.bpaf_doc.specs.Html.Fragments.{Fragment, TextStart, Shown, TextEnd, Hidden, Start, End, shows}
-use Rattle.bpaf_doc.specs.Markdown.Page.{TextFence, Fence, Blank, Newline, Heading, SecondHeading, LongDash, MarkdownSnippet, Put, Of, style_marks, is_text_fence, is_fence, opened_fences, closed_fences, is_text_end}
-use Rattle.bpaf_doc.specs.Markdown.Steps.Page.{Marked, starts_line, starts_paragraph, with_item, is_term_end, marked_after}
+use Rattle.bpaf_doc.specs.Markdown.Page.{TextFence, Fence, Newline, MarkdownSnippet, Put, Of, style_marks, is_text_fence, is_fence, opened_fences, closed_fences, is_text_end}
+use Rattle.bpaf_doc.specs.Markdown.Steps.Page.{Marked, starts_line, with_item, is_term_end, marked_after}
 use Rattle.bpaf_doc.proofs.lemmas.Lists.Counting.{one_if, count_by-cons}
 use Rattle.bpaf_doc.proofs.lemmas.Lists.Passing.{state_after, passes, passes_back, passes_both, passes_first, passes_rest}
-use Rattle.bpaf_doc.proofs.lemmas.Markdown.Cut.{blanks, body_bytes, body_dash, start_snippets, own_snippets, snippets_of, cut_from, item_snippets, open_snippets, close_snippets, end_code_snippets, line_snippets, new_line_snippets, code_next, step-code, item-code, fence_is_whole, code_is_whole, others_are_ordinary}
+use Rattle.bpaf_doc.proofs.lemmas.Markdown.Cut.{blanks, start_snippets, own_snippets, snippets_of, cut_from, item_snippets, open_snippets, close_snippets, end_code_snippets, line_snippets, new_line_snippets, code_next, step-code, item-code, fence_is_whole, code_is_whole, others_are_ordinary}
 
 -- where a block is open: a fence with `text` opens one, another closes it
 abbrev may_stand : Bool → MarkdownSnippet → Bool
@@ -135,42 +135,22 @@ plain_fences q (Of f ∷ ss) h =
     one_fences q f ss q (plain_stands q f parts.0) (plain_fences q ss parts.1)
 
 start_plain : (p : Marked) (b : Block) → list_all is_plain (start_snippets p b) ≡ true
-start_plain p blocks.Header =
-    elim (starts_paragraph p.bytes) as (λ b. list_all is_plain (Of (Start blocks.Header) ∷ ((if b then [] else (Put Newline ∷ Put Newline ∷ [])) ++ Put (if p.headed then SecondHeading else Heading) ∷ [])) ≡ true) [
-      | true ↦ elim (p.headed) as (λ h. list_all is_plain (Of (Start blocks.Header) ∷ Put (if h then SecondHeading else Heading) ∷ []) ≡ true) [ true ↦ refl | false ↦ refl ]
-      | false ↦ elim (p.headed) as (λ h. list_all is_plain (Of (Start blocks.Header) ∷ Put Newline ∷ Put Newline ∷ Put (if h then SecondHeading else Heading) ∷ []) ≡ true) [ true ↦ refl | false ↦ refl ]
-    ]
-start_plain p blocks.Section4 = elim (starts_line p.bytes) as (λ b. list_all is_plain (Of (Start blocks.Section4) ∷ (if b then [] else (Put Newline ∷ []))) ≡ true) [ true ↦ refl | false ↦ refl ]
-start_plain p blocks.ItemTerm = elim (starts_line p.bytes) as (λ b. list_all is_plain (Of (Start blocks.ItemTerm) ∷ (if b then [] else (Put Newline ∷ []))) ≡ true) [ true ↦ refl | false ↦ refl ]
-start_plain p blocks.ItemBody =
-    elim (starts_line (body_bytes p)) as (λ b. list_all is_plain (Of (Start blocks.ItemBody) ∷ (body_dash p ++ ((if b then [] else (Put Newline ∷ [])) ++ blanks))) ≡ true) [
-      | true ↦ elim (p.in_list) as (λ l. list_all is_plain (Of (Start blocks.ItemBody) ∷ ((if l then (if p.empty_item then (Put Blank ∷ []) else (Put LongDash ∷ [])) else []) ++ ([] ++ blanks))) ≡ true) [
-        | true ↦ elim (p.empty_item) as (λ t. list_all is_plain (Of (Start blocks.ItemBody) ∷ ((if t then (Put Blank ∷ []) else (Put LongDash ∷ [])) ++ ([] ++ blanks))) ≡ true) [ true ↦ refl | false ↦ refl ]
-        | false ↦ refl
-      ]
-      | false ↦ elim (p.in_list) as (λ l. list_all is_plain (Of (Start blocks.ItemBody) ∷ ((if l then (if p.empty_item then (Put Blank ∷ []) else (Put LongDash ∷ [])) else []) ++ ((Put Newline ∷ []) ++ blanks))) ≡ true) [
-        | true ↦ elim (p.empty_item) as (λ t. list_all is_plain (Of (Start blocks.ItemBody) ∷ ((if t then (Put Blank ∷ []) else (Put LongDash ∷ [])) ++ ((Put Newline ∷ []) ++ blanks))) ≡ true) [ true ↦ refl | false ↦ refl ]
-        | false ↦ refl
-      ]
-    ]
+start_plain p blocks.Header = grind arith
+start_plain p blocks.Section4 = grind arith
+start_plain p blocks.ItemTerm = grind arith
+start_plain p blocks.ItemBody = grind arith
 start_plain p _ = refl
 
 own_fences : (p : Marked) (f : Fragment) → Fences p.in_code (own_snippets p f) (code_next p.in_code f)
 own_fences p (TextStart styles.Text) = plain_fences p.in_code (own_snippets p (TextStart styles.Text)) refl
-own_fences p (TextStart styles.Emphasis) = plain_fences p.in_code (own_snippets p (TextStart styles.Emphasis)) refl
-own_fences p (TextStart styles.Literal) = plain_fences p.in_code (own_snippets p (TextStart styles.Literal)) refl
-own_fences p (TextStart styles.Metavar) = plain_fences p.in_code (own_snippets p (TextStart styles.Metavar)) refl
-own_fences p (TextStart styles.Invalid) = plain_fences p.in_code (own_snippets p (TextStart styles.Invalid)) refl
+own_fences p (TextStart style) = plain_fences p.in_code (own_snippets p (TextStart style)) refl
 own_fences p (Shown style (Raw bytes weight)) = raw_fences p style bytes weight
 own_fences p (Shown style Paragraph) =
     plain_fences p.in_code (own_snippets p (Shown style Paragraph))
     (elim (p.in_list) as (λ l. list_all is_plain (Of (Shown style Paragraph) ∷ Put Newline ∷ Put Newline ∷ (if l then blanks else [])) ≡ true) [ true ↦ refl | false ↦ refl ])
 own_fences p (Shown style LineBreak) = plain_fences p.in_code (own_snippets p (Shown style LineBreak)) refl
 own_fences p (TextEnd styles.Text) = then_fences p.in_code false false (end_code_snippets p.in_code) (map Put (reverse (style_marks styles.Text)) ++ Of (TextEnd styles.Text) ∷ []) (end_fences p.in_code) (refl, refl)
-own_fences p (TextEnd styles.Emphasis) = then_fences p.in_code false false (end_code_snippets p.in_code) (map Put (reverse (style_marks styles.Emphasis)) ++ Of (TextEnd styles.Emphasis) ∷ []) (end_fences p.in_code) (refl, refl)
-own_fences p (TextEnd styles.Literal) = then_fences p.in_code false false (end_code_snippets p.in_code) (map Put (reverse (style_marks styles.Literal)) ++ Of (TextEnd styles.Literal) ∷ []) (end_fences p.in_code) (refl, refl)
-own_fences p (TextEnd styles.Metavar) = then_fences p.in_code false false (end_code_snippets p.in_code) (map Put (reverse (style_marks styles.Metavar)) ++ Of (TextEnd styles.Metavar) ∷ []) (end_fences p.in_code) (refl, refl)
-own_fences p (TextEnd styles.Invalid) = then_fences p.in_code false false (end_code_snippets p.in_code) (map Put (reverse (style_marks styles.Invalid)) ++ Of (TextEnd styles.Invalid) ∷ []) (end_fences p.in_code) (refl, refl)
+own_fences p (TextEnd style) = then_fences p.in_code false false (end_code_snippets p.in_code) (map Put (reverse (style_marks style)) ++ Of (TextEnd style) ∷ []) (end_fences p.in_code) (refl, refl)
 own_fences p Hidden = plain_fences p.in_code (own_snippets p Hidden) refl
 own_fences p (Start b) = plain_fences p.in_code (start_snippets p b) (start_plain p b)
 own_fences p (End blocks.ItemBody) =
@@ -178,7 +158,7 @@ own_fences p (End blocks.ItemBody) =
 own_fences p (End b) = plain_fences p.in_code (own_snippets p (End b)) (end_plain b)
   where
     end_plain : (b : Block) → list_all is_plain (own_snippets p (End b)) ≡ true
-    end_plain blocks.ItemBody = elim (p.in_list) as (λ l. list_all is_plain (Of (End blocks.ItemBody) ∷ (if l then (Put Newline ∷ []) else [])) ≡ true) [ true ↦ refl | false ↦ refl ]
+    end_plain blocks.ItemBody = grind arith
     end_plain _ = refl
 
 step_fences : (p : Marked) (f : Fragment) → Fences p.in_code (snippets_of p f) (marked_after p f).in_code
@@ -211,15 +191,10 @@ counted_before p fs before after a none e =
     )
 
 code_open : (code other q : Bool) → code ≡ true → ((not code || q) && (not other || not q)) ≡ true → q ≡ true
-code_open true other true e h = refl
-code_open true other false e h = h
-code_open false other q e h = absurd (false≢true e)
+code_open code other q e h = grind arith
 
 other_closed : (code other q : Bool) → other ≡ true → ((not code || q) && (not other || not q)) ≡ true → q ≡ false
-other_closed code true false e h = refl
-other_closed true true true e h = absurd (false≢true h)
-other_closed false true true e h = absurd (false≢true h)
-other_closed code false q e h = absurd (false≢true e)
+other_closed code other q e h = grind arith
 
 -- at a code line more fences were opened than closed
 pub fenced_of : (p : Marked) (fs : List Fragment) → p.in_code ≡ false → (before after : List MarkdownSnippet) (a : Fragment) → cut_from p fs ≡ before ++ Of a ∷ after → IsTrue (shows is_code_line a) → closed_fences before < opened_fences before

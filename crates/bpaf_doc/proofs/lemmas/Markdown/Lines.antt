@@ -122,7 +122,7 @@ raw_stands before p style bytes weight h =
       | true ↦ λ e. after_marks (new_line_snippets p.bytes) (new_line_marks p.bytes) (subst EndsInBlankLine (new_line-spelled before p) (new_line_blank p))
       | false ↦ λ e. (elim (weight == code_weight) as (λ t. (weight == code_weight) ≡ t → LinesStand before p.bytes (if t then open_snippets p.in_code ++ line_snippets f else (close_snippets p.in_code ++ Of f ∷ []))) [
         | true ↦ λ k. after_marks (open_snippets p.in_code) (open_marks p.in_code) (subst EndsInBlankLine (open-spelled before p) (open_blank p h))
-        | false ↦ λ k. other_stands before p.bytes (close_snippets p.in_code ++ Of f ∷ []) f (words_in p.in_code) (ap (λ c. c || (weight == fence_weight)) k ∙ e)
+        | false ↦ λ k. other_stands before p.bytes (close_snippets p.in_code ++ Of f ∷ []) f (grind arith) (ap (λ c. c || (weight == fence_weight)) k ∙ e)
       ]) refl
     ]) refl
   where
@@ -130,10 +130,6 @@ raw_stands before p style bytes weight h =
     after_marks marks none k =
         lines_both before p.bytes marks (line_snippets (Shown style (Raw bytes weight))) (marks_stand before p.bytes marks none)
         (line_stands (before ++ fragments_in marks) (p.bytes ++ spelled before marks) (Shown style (Raw bytes weight)) k)
-
-    words_in : (in_code : Bool) → fragments_in (close_snippets in_code ++ Of (Shown style (Raw bytes weight)) ∷ []) ≡ Shown style (Raw bytes weight) ∷ []
-    words_in true = refl
-    words_in false = refl
 
 -- ---- texts of a document: where chunks stand between a start and an end
 
@@ -232,12 +228,7 @@ lines_stand false before p (Start b ∷ fs) form keeps agrees room =
 lines_stand false before p (End b ∷ fs) form keeps agrees room =
     go_on false before p (End b) fs (other_step before p (End b) refl) agrees
     (lines_stand false (before ++ End b ∷ []) (marked_after p (End b)) fs form (step-code p (End b) ∙ keeps) (agrees_after before p (End b) fs agrees room) (rooms_next before (End b) fs room))
-lines_stand false before p (Shown style chunk ∷ fs) form keeps agrees room = absurd (false≢true form)
-lines_stand false before p (TextEnd style ∷ fs) form keeps agrees room = absurd (false≢true form)
-lines_stand true before p (TextStart style ∷ fs) form keeps agrees room = absurd (false≢true form)
-lines_stand true before p (Hidden ∷ fs) form keeps agrees room = absurd (false≢true form)
-lines_stand true before p (Start b ∷ fs) form keeps agrees room = absurd (false≢true form)
-lines_stand true before p (End b ∷ fs) form keeps agrees room = absurd (false≢true form)
+lines_stand _ before p _ form keeps agrees room = absurd (false≢true form)
 
 -- the text before a whole line ends in a line of blanks
 pub blank_before : (p : Marked) (fs : List Fragment) → well_formed false fs ≡ true → p.in_code ≡ false → Agrees [] (flags p) → Room [] fs

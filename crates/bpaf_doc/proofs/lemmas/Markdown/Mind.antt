@@ -1,28 +1,22 @@
 -- What a markdown text keeps in mind is what looking back at the fragments before says.
 use Rattle.std.proofs.Common.{◌≡◌, ℕ, ◌+◌, ◌-◌, ◌^◌, ◌<◌, Bool, true, false, cond, List, [], ◌∷◌, ◌++◌, length, drop, map, refl, sym, ap, ◌∙◌, subst, arith, append_assoc, append-nil, length-append, nat_lt}
-use Rattle.std.specs.Prelude.{not, ◌&&◌, ◌||◌, filter, reverse, count_by, if◌then◌else◌}
+use Rattle.std.specs.Prelude.{not, ◌&&◌, filter, reverse, count_by, if◌then◌else◌}
 use Rattle.std.specs.List.{list_any, after_last, suffix_len, prefix_len}
 use Rattle.std.proofs.lemmas.List.{reverse-append, drop-append-le, drop_all, map-append}
 use Rattle.std.proofs.lemmas.List.Folds.{list_any-append}
+use Rattle.std.proofs.lemmas.List.Elements.{filter-append}
 use Rattle.bpaf_doc.specs.declared.buffer.Block.TheVariants as blocks
-use Rattle.bpaf_doc.specs.Html.Fragments.{Fragment, TextStart, Shown, TextEnd, Hidden, Start, End}
+use Rattle.bpaf_doc.specs.Html.Fragments.{Fragment, Start, End}
 use Rattle.bpaf_doc.specs.Markdown.Page.{Mark, Heading, SecondHeading, LongDash, MarkdownSnippet, Put, Of, is_mono_start, is_mono_end, is_header_start, is_list_mark, is_item_start, begins_with_list_start, begins_with_term_end, is_in_list, is_after_empty_item, headings_of, headed_snippets, flat_map_places_from, is_heading_or_fragment}
 use Rattle.bpaf_doc.specs.Markdown.Steps.Page.{Marked, with_item, is_term_end, marked_after, marked_after_all, one_more}
 use Rattle.bpaf_doc.proofs.lemmas.Lists.Counting.{one_if, count_by-cons, count_by-push}
-use Rattle.bpaf_doc.proofs.lemmas.Html.Cut.{filter-append}
 use Rattle.bpaf_doc.proofs.lemmas.Markdown.Cut.{Flags, flags, flags_next, item-flags, step-flags, is_list_start, is_list_end, SameMono, spelled, spelled-append, step-spelled, cut_from, snippets_of, item-spelled}
 use Rattle.bpaf_doc.proofs.lemmas.Markdown.Kept.{own_heading, item_heading, item-headings, step-headings, step-fragments}
 
 -- ---- one fragment more before
 
 any-push : (p : Fragment → Bool) (fs : List Fragment) (f : Fragment) → list_any p (fs ++ f ∷ []) ≡ (if p f then true else list_any p fs)
-any-push p fs f = list_any-append p fs (f ∷ []) ∙ swapped (list_any p fs) (p f)
-  where
-    swapped : (a b : Bool) → (a || (b || false)) ≡ (if b then true else a)
-    swapped true true = refl
-    swapped true false = refl
-    swapped false true = refl
-    swapped false false = refl
+any-push p fs f = list_any-append p fs (f ∷ []) ∙ grind arith
 
 suffix-push : (q : Fragment → Bool) (fs : List Fragment) (f : Fragment) → suffix_len q (fs ++ f ∷ []) ≡ cond (q f) (1 + suffix_len q fs) 0
 suffix-push q fs f = ap (λ xs. prefix_len q xs) (reverse-append fs (f ∷ []))
@@ -49,12 +43,7 @@ pub data Item : List Fragment → Bool → Bool → Type 0 where
 
 pub begins_is : (g : Fragment) (rest : List Fragment) → begins_with_term_end (g ∷ rest) ≡ is_term_end g
 begins_is (End blocks.ItemTerm) rest = refl
-begins_is (End _) rest = refl
-begins_is (TextStart style) rest = refl
-begins_is (Shown style chunk) rest = refl
-begins_is (TextEnd style) rest = refl
-begins_is Hidden rest = refl
-begins_is (Start b) rest = refl
+begins_is _ rest = refl
 
 pub after_empty_is : {before : List Fragment} {pending empty : Bool} → Item before pending empty → is_after_empty_item before ≡ (if pending then false else empty)
 after_empty_is {before} {pending} {empty} (none any p e) =
@@ -98,13 +87,8 @@ list-push before f = ap (λ xs. begins_with_list_start (filter is_list_mark xs))
   where
     cases : (f : Fragment) → begins_with_list_start (filter is_list_mark (f ∷ reverse before)) ≡ (if is_list_start f then true else (if is_list_end f then false else is_in_list before))
     cases (Start blocks.DefinitionList) = refl
-    cases (Start _) = refl
     cases (End blocks.DefinitionList) = refl
-    cases (End _) = refl
-    cases (TextStart style) = refl
-    cases (Shown style chunk) = refl
-    cases (TextEnd style) = refl
-    cases Hidden = refl
+    cases _ = refl
 
 counted : (p : Fragment → Bool) (before : List Fragment) (f : Fragment) (n : ℕ) → count_by p before ≡ n → count_by p before + one_if (p f) < 2 ^ 64 → count_by p (before ++ f ∷ []) ≡ (if p f then one_more n else n)
 counted p before f n e room =
@@ -156,26 +140,13 @@ heading_is : (before : List Fragment) (p : Marked) (f : Fragment) (fs : List Fra
     → own_heading (with_item p (is_term_end f)) f ++ item_heading (flags_next (flags p) f).pending (begins_with_term_end fs) ≡ headings_of before f fs
 heading_is before p (Start blocks.Header) fs h =
     ap (λ s. (if s.headed then SecondHeading else Heading) ∷ []) (item-flags p false) ∙ ap (λ b. (if b then SecondHeading else Heading) ∷ []) (sym h.headed)
-heading_is before p (Start blocks.Section3) fs h = refl
-heading_is before p (Start blocks.Section4) fs h = refl
-heading_is before p (Start blocks.ItemTerm) fs h = refl
 heading_is before p (Start blocks.ItemBody) fs h =
     append-nil (own_heading (with_item p false) (Start blocks.ItemBody))
     ∙ ap (λ s. if s.in_list then (if s.empty_item then [] else (LongDash ∷ [])) else []) (item-flags p false)
-    ∙ both p.in_list (if p.pending then false else p.empty_item)
+    ∙ grind arith
     ∙ ap (λ b. if (b && not (if p.pending then false else p.empty_item)) then (LongDash ∷ []) else []) (sym h.in_list)
     ∙ ap (λ b. if (is_in_list before && not b) then (LongDash ∷ []) else []) (sym (after_empty_is h.item))
-  where
-    both : (l e : Bool) → (if l then (if e then [] else (LongDash ∷ [])) else []) ≡ (if (l && not e) then (LongDash ∷ []) else [])
-    both true true = refl
-    both true false = refl
-    both false e = refl
-heading_is before p (Start _) fs h = refl
-heading_is before p (End b) fs h = refl
-heading_is before p (TextStart style) fs h = refl
-heading_is before p (Shown style chunk) fs h = refl
-heading_is before p (TextEnd style) fs h = refl
-heading_is before p Hidden fs h = refl
+heading_is before p _ fs h = refl
 
 pub all-headings : (before : List Fragment) (p : Marked) (fs : List Fragment) → Agrees before (flags p) → Room before fs
     → filter is_heading_or_fragment (cut_from p fs) ≡ map Put (item_heading p.pending (begins_with_term_end fs)) ++ flat_map_places_from headed_snippets before fs

@@ -25,10 +25,7 @@ abbrev spelled : ℕ → ℕ → List ℕ → List ℕ
 spelled ends starts text = if nat_lt ends starts then flat_map escaped_character text else text
 
 spelled_nothing : (ends starts : ℕ) → spelled ends starts [] ≡ []
-spelled_nothing ends starts = by (nat_lt ends starts) where
-  by : (b : Bool) → (if b then flat_map escaped_character [] else []) ≡ []
-  by true = refl
-  by false = refl
+spelled_nothing ends starts = grind arith
 
 spelled_on : (ends starts : ℕ) (a b : List ℕ) → spelled ends starts a ++ spelled ends starts b ≡ spelled ends starts (a ++ b)
 spelled_on ends starts a b = by (nat_lt ends starts) where
@@ -78,10 +75,6 @@ words_more {chunks} {text} (a_word bytes rest others ec et w) le p style s =
 
 -- ---- words where something may wait
 
--- the dash is written, and the code block closed
-abbrev settled : Marked → Marked
-settled p = close_code (with_item p false) (codes "\n  ```\n")
-
 closed_settled : (p : Marked) → p.pending ≡ false → IsSettled (close_code p (codes "\n  ```\n")) × (nat_lt (close_code p (codes "\n  ```\n")).ends (close_code p (codes "\n  ```\n")).starts ≡ nat_lt p.ends p.starts)
 closed_settled p e = by p.in_code refl where
   by : (b : Bool) → p.in_code ≡ b
@@ -91,10 +84,7 @@ closed_settled p e = by p.in_code refl where
   by false f = ((e, f), refl)
 
 item_settled : (p : Marked) → (with_item p false).pending ≡ false
-item_settled p = by p.pending refl where
-  by : (b : Bool) → p.pending ≡ b → (if b then record p { bytes = p.bytes ++ codes "- "; pending = false; empty_item = false } else p).pending ≡ false
-  by true f = refl
-  by false f = f
+item_settled p = grind arith
 
 -- the text after the chunks of a run
 pub run_marked : (p : Marked) (style : Style) (run : List ℕ) → IsRun run → marked_after_all p (map (Shown style) (chunks_of run)) ≡ with_words (with_item p false) run

@@ -1,5 +1,5 @@
 -- Where a line and a word end.
-use Rattle.std.specs.Prelude.{◌≡◌, ◌≢◌, ℕ, suc, ◌<◌, ◌≤◌, Bool, true, false, not, IsTrue, ◌⊎◌, List, [], ◌∷◌, refl, length, take, drop, Option, Some, None, MatchOption, unwrap_or}
+use Rattle.std.specs.Prelude.{◌≡◌, ◌≢◌, ℕ, suc, ◌<◌, ◌≤◌, Bool, true, false, IsTrue, ◌⊎◌, List, [], ◌∷◌, refl, length, take, drop, Option, Some, None, MatchOption, unwrap_or}
 use Rattle.std.specs.Char.{char_set_contains}
 use Rattle.std.specs.Str.{NoCharPasses}
 use Rattle.std.specs.Str.Pattern.{HasPassingCharAt}
@@ -32,19 +32,14 @@ word_byte b e = grind (arith, nat_tests)
 
 -- a byte from 128 on is neither a newline nor a blank
 word_byte_above : (b : ℕ) → 128 ≤ b → is_word_byte b ≡ true
-word_byte_above b h = word_byte b (no_cut b h) where
-  no_cut : (b : ℕ) → 128 ≤ b → is_cut b ≡ false
-  no_cut b h = grind (arith, nat_tests)
+word_byte_above b h = word_byte b (grind (arith, nat_tests))
 
 cut_is : (c : ℕ) → is_cut c ≡ true → (c ≡ 10) ⊎ (c ≡ 32)
 cut_is c e = grind (arith, nat_tests)
 
 -- what a search for a newline finds
 no_newline : (b : ℕ) → ¬ is_byte 10 b ≡ true → is_line_byte b ≡ true
-no_newline b f = by_test (is_byte 10 b) f where
-  by_test : (t : Bool) → ¬ t ≡ true → not t ≡ true
-  by_test true f = absurd (f refl)
-  by_test false f = refl
+no_newline b f = grind arith
 
 pub is_newline : (b : ℕ) → is_byte 10 b ≡ true → b ≡ 10
 is_newline b e = grind (arith, nat_tests)
@@ -66,10 +61,7 @@ newline_cut bytes end first passes =
 pub word_from_no_cut : (bytes : List ℕ) → NoCharPasses is_cut bytes → IsTrue (list_all is_word_byte bytes)
 word_from_no_cut bytes n = all_at is_word_byte bytes at where
   at : (i : ℕ) → i < length bytes → is_word_byte (get_or bytes i 0) ≡ true
-  at i l = by_size (cases_lt (get_or bytes i 0) 128) where
-    by_size : (get_or bytes i 0 < 128) ⊎ (128 ≤ get_or bytes i 0) → is_word_byte (get_or bytes i 0) ≡ true
-    by_size (inl small) = word_byte (get_or bytes i 0) (NoCharPasses-byte is_cut bytes i n l small)
-    by_size (inr large) = word_byte_above (get_or bytes i 0) large
+  at i l = elim (cases_lt (get_or bytes i 0) 128) [ inl small ↦ word_byte (get_or bytes i 0) (NoCharPasses-byte is_cut bytes i n l small) | inr large ↦ word_byte_above (get_or bytes i 0) large ]
 
 pub word_end_at : (bytes : List ℕ) (i j : ℕ) → HasPassingCharAt is_cut bytes i j → IsWordEnd (drop i bytes)
 word_end_at bytes i j (c, t, h) =

@@ -4,7 +4,6 @@ use Rattle.std.specs.List.{All, flat_map}
 use Rattle.std.specs.Str.{IsUtf8}
 use Rattle.std.proofs.Common.{sym, ◌∙◌, ap, subst, inl, inr, arith, append_assoc}
 use Rattle.std.proofs.lemmas.List.{append-nil, take_at, drop_at, length-append}
-use Rattle.std.proofs.lemmas.List.Concat.{flat_map-append}
 use Rattle.std.proofs.lemmas.List.Elements.{All-nil, All-cons, All-same}
 use Rattle.std.proofs.lemmas.List.Folds.{list_all-append}
 use Rattle.bpaf_doc.specs.Buffer.Parts.{ink}
@@ -28,10 +27,6 @@ ink_of_pieces (piece gap there after rest chunk others ec et g h t l w s) u =
 -- the chunks of a UTF-8 text have together its ink
 pub ink_of_chunks : (text : List ℕ) → IsUtf8 text → flat_map chunk_ink (chunks_of text) ≡ ink text
 ink_of_chunks text u = ink_of_pieces (pieces (spells_its_chunks text)) u
-
--- a front of the chunks has a front of the ink, and the others have the rest
-pub ink_of_front : (text : List ℕ) (front back : List Chunk) → IsUtf8 text → chunks_of text ≡ front ++ back → ink text ≡ flat_map chunk_ink front ++ flat_map chunk_ink back
-ink_of_front text front back u e = sym (ink_of_chunks text u) ∙ ap (λ cs. flat_map chunk_ink cs) e ∙ flat_map-append chunk_ink front back
 
 -- ---- each chunk
 

@@ -34,9 +34,7 @@ chunks_in-nil form = refl
 -- an empty text has no chunk left
 pub nothing_left : (form : Form) (text : List ℕ) (left : List Chunk) → chunks_in form text ≡ left → IsTrue (length text == 0) → left ≡ []
 nothing_left form [] left e h = sym e ∙ chunks_in-nil form
-nothing_left form (b ∷ text) left e h = let none : length (b ∷ text) ≡ 0 = is_zero (length (b ∷ text)) h in absurd (omega arith) where
-  is_zero : (n : ℕ) → IsTrue (n == 0) → n ≡ 0
-  is_zero n h = grind (arith, nat_tests)
+nothing_left form (b ∷ text) left e h = let none : length (b ∷ text) ≡ 0 = grind (arith, nat_tests) in absurd (omega arith)
 
 pub chunks_of-plain : (text : List ℕ) → chunks_in Plain text ≡ chunks_of text
 unfolding chunks_of

@@ -74,21 +74,13 @@ letter_narrow c low high = c3 (cases_lt c 0x100) where
   c7 (inl l) from = narrow_in 0x1C0 c narrow-c7 from (omega (arith, l))
   c7 (inr m) from = narrow_in 0x200 c narrow-c8 m (omega (arith, high))
 
-  c6 : (c < 0x1C0) ⊎ (0x1C0 ≤ c) → 0x180 ≤ c → is_narrow c ≡ true
-  c6 (inl l) from = narrow_in 0x180 c narrow-c6 from (omega (arith, l))
-  c6 (inr m) from = c7 (cases_lt c 0x200) m
-
   c5 : (c < 0x180) ⊎ (0x180 ≤ c) → 0x140 ≤ c → is_narrow c ≡ true
   c5 (inl l) from = narrow_in 0x140 c narrow-c5 from (omega (arith, l))
-  c5 (inr m) from = c6 (cases_lt c 0x1C0) m
-
-  c4 : (c < 0x140) ⊎ (0x140 ≤ c) → 0x100 ≤ c → is_narrow c ≡ true
-  c4 (inl l) from = narrow_in 0x100 c narrow-c4 from (omega (arith, l))
-  c4 (inr m) from = c5 (cases_lt c 0x180) m
+  c5 (inr m) from = elim (cases_lt c 0x1C0) [ inl l ↦ narrow_in 0x180 c narrow-c6 m (omega (arith, l)) | inr m ↦ c7 (cases_lt c 0x200) m ]
 
   c3 : (c < 0x100) ⊎ (0x100 ≤ c) → is_narrow c ≡ true
   c3 (inl l) = narrow_in 0x0C0 c narrow-c3 low (omega (arith, l))
-  c3 (inr m) = c4 (cases_lt c 0x140) m
+  c3 (inr m) = elim (cases_lt c 0x140) [ inl l ↦ narrow_in 0x100 c narrow-c4 m (omega (arith, l)) | inr m ↦ c5 (cases_lt c 0x180) m ]
 
 ascii_narrow : (c : ℕ) → is_in_range 0x20 0x7E c ≡ true → is_narrow c ≡ true
 unfolding char_width

@@ -84,7 +84,7 @@ pub data Pieces : List Chunk → List ℕ → Type 0 where
       → (IsUtf8 text → IsUtf8 there × IsUtf8 rest) → Pieces others rest → Pieces chunks text
 
 -- a word is in one line
-word_line : (bytes : List ℕ) → IsTrue (list_all is_word_byte bytes) → IsLine bytes
+pub word_line : (bytes : List ℕ) → IsTrue (list_all is_word_byte bytes) → IsLine bytes
 word_line [] w = refl
 word_line (b ∷ bytes) w =
     let here : IsTrue (is_line_byte b) = and_left (is_line_byte b) (not (b == 32)) (and_left (is_word_byte b) (list_all is_word_byte bytes) w) in

@@ -1,11 +1,11 @@
 -- The chunks of a run, and of a text that begins with one.
-use Rattle.std.specs.Prelude.{◌≡◌, ◌≢◌, ℕ, suc, ◌+◌, ◌-◌, ◌<◌, ◌≤◌, Bool, true, IsTrue, ◌⊎◌, List, [], ◌∷◌, ◌++◌, codes, refl, length, take, drop, Option, Some, None, unwrap_or}
+use Rattle.std.specs.Prelude.{◌≡◌, ◌≢◌, ℕ, suc, ◌<◌, ◌≤◌, Bool, true, IsTrue, ◌⊎◌, List, [], ◌∷◌, ◌++◌, codes, refl, length, take, drop, Option, Some, None, unwrap_or}
 use Rattle.std.specs.Int.{is_in_range}
 use Rattle.std.specs.List.{list_all}
-use Rattle.std.proofs.Common.{sym, ◌∙◌, ap, subst, inl, inr, arith, append_assoc, get_or, take-append-drop, take_all, drop-cons, length-take, length-drop}
+use Rattle.std.proofs.Common.{sym, ◌∙◌, ap, subst, inl, inr, arith, append_assoc, get_or, take-append-drop, take_all, drop-cons, length-take}
 use Rattle.std.proofs.lemmas.List.{take-take, drop_all, get_or-take}
 use Rattle.memchr.specs.Find.{Nowhere, NoneBefore, NoneAfter, Passes, IsLastByte, is_byte}
-use Rattle.std.proofs.lemmas.List.Folds.{list_all-append, list_all_more}
+use Rattle.std.proofs.lemmas.List.Folds.{list_all-append}
 use Rattle.std.proofs.lemmas.Bool.Decides.{nat_tests}
 use Rattle.bpaf_doc.specs.Splitter.Chunks.{Chunk, Raw, Form, Plain, Spells, nothing, code_line, fence, before_code, paragraph, line_break, newline, blank, word, opening, later, closing, closing_paragraph, chunks_of, columns, is_line_byte, IsLine, IsLineEnd, IsWordEnd}
 use Rattle.bpaf_doc.specs.Splitter.Steps.Runs.{IsRun, IsRunEnd, IsPrintable}
@@ -96,10 +96,6 @@ tested_front test text i j le h =
 pub printable_front : (text : List ℕ) (i j : ℕ) → i ≤ j → IsPrintable (take j text) → IsPrintable (take i text)
 printable_front text i j le h = tested_front (is_in_range 0x20 0x7E) text i j le h
 
--- one byte more
-pub printable_more : (text : List ℕ) (i : ℕ) → i < length text → IsPrintable (take i text) → is_in_range 0x20 0x7E (get_or text i 0) ≡ true → IsPrintable (take (i + 1) text)
-printable_more text i lt h one = list_all_more (is_in_range 0x20 0x7E) text i 0 lt ∙ rw (h, one) refl
-
 line_byte : (b : ℕ) → is_in_range 0x20 0x7E b ≡ true → is_line_byte b ≡ true
 line_byte b h = grind (arith, nat_tests)
 
@@ -179,11 +175,6 @@ pub last_blank_run : (text window : List ℕ) (n : ℕ) (r : Option ℕ) → n �
 last_blank_run text window n None le is none last some = absurd (omega (arith, some))
 last_blank_run text window n (Some k) le is none last some = blank_run text window n le is k none last.0 last.1
 
--- and it is no longer than the window
-pub last_blank_short : (window : List ℕ) (m : ℕ) (r : Option ℕ) → length window ≤ m → IsLastByte (is_byte 32) window r → unwrap_or r 0 ≤ m
-last_blank_short window m None le last = omega arith
-last_blank_short window m (Some k) le last = omega (arith, last.0.high, le)
-
 -- a run that was cut off
 pub run_taken : (text run : List ℕ) (end : ℕ) → run ≡ take end text → ¬ (end ≡ 0) → (0 < end → IsRunEnd text end) → end ≤ 300_000 → IsRun run
 run_taken text run end is some ends short =
@@ -194,10 +185,6 @@ run_taken text run end is some ends short =
       line = subst (λ t. IsLine t) (sym is) at.line;
       short = omega (arith, len, short);
     }
-
--- the rest of a text as a range of it
-pub rest_is : (text : List ℕ) (k : ℕ) → take (length text - k) (drop k text) ≡ drop k text
-rest_is text k = take_all (length text - k) (drop k text) (omega (arith, length-drop k text))
 
 -- a text that is not empty has some
 pub words_some : {chunks : List Chunk} {text : List ℕ} → AreWords chunks text → text ≢ [] → 0 < length chunks

@@ -5,11 +5,8 @@ use Rattle.std.proofs.Common.{sym, ◌∙◌, ap, subst, inl, inr, arith}
 use Rattle.std.proofs.lemmas.List.{take-append-drop, length-drop, length-append}
 use Rattle.std.proofs.lemmas.List.Sums.{take_while-cons}
 use Rattle.std.proofs.lemmas.Bool.Decides.{nat_tests}
+use Rattle.std.proofs.lemmas.Bool.{eqb-true, cases_Bool}
 use Rattle.bpaf_doc.specs.Splitter.Chunks.{Chunk, Raw, Paragraph, LineBreak, Form, Plain, Opening, Later, Spells, nothing, code_line, fence, before_code, paragraph, line_break, newline, blank, word, opening, later, closing, closing_paragraph, chunks_of, chunks_within, columns, code_weight, fence_weight, is_line_byte, is_word_byte, without_front, starts, IsLine, IsWord, IsLineEnd, IsWordEnd, IsPastNewline, chunks_in}
-
-by_cases : (b : Bool) → (b ≡ true) ⊎ (b ≡ false)
-by_cases true = inl refl
-by_cases false = inr refl
 
 pub and_left : (a b : Bool) → IsTrue (a && b) → IsTrue a
 and_left true b h = refl
@@ -32,12 +29,6 @@ starts_front (f ∷ front) (t ∷ text) h =
     rw (same, sym (starts_front front text (and_right (f == t) (starts text front) h))) refl where
       equal : (t f : ℕ) → IsTrue (f == t) → t ≡ f
       equal t f e = grind (arith, nat_tests)
-
-starts_true : (front rest : List ℕ) → IsTrue (starts (front ++ rest) front)
-starts_true [] rest = refl
-starts_true (f ∷ front) rest = rw (same f) (starts_true front rest) where
-  same : (f : ℕ) → (f == f) ≡ true
-  same f = grind (arith, nat_tests)
 
 -- the bytes from the front on that pass a test, and the others
 front_split : (test : ℕ → Bool) (bytes : List ℕ) → bytes ≡ take_while test bytes ++ without_front test bytes
@@ -63,32 +54,27 @@ length_without test bytes = rw (length-drop (prefix_len test bytes) bytes) (omeg
 
 front_passes : (test : ℕ → Bool) (bytes : List ℕ) → IsTrue (list_all test (take_while test bytes))
 front_passes test [] = refl
-front_passes test (b ∷ bytes) = at (by_cases (test b)) (front_passes test bytes) where
-  at : (test b ≡ true) ⊎ (test b ≡ false) → IsTrue (list_all test (take_while test bytes)) → IsTrue (list_all test (take_while test (b ∷ bytes)))
-  at (inl e) ih = rw (take_while_true test b bytes e, e) ih
-  at (inr e) ih = rw (take_while_false test b bytes e) refl
+front_passes test (b ∷ bytes) = elim (cases_Bool (test b)) [ inl e ↦ rw (take_while_true test b bytes e, e) (front_passes test bytes) | inr e ↦ rw (take_while_false test b bytes e) refl ]
 
 is_newline_byte : (b : ℕ) → is_line_byte b ≡ false → b ≡ 10
 is_newline_byte b e = grind (arith, nat_tests)
 
 is_cut_byte : (b : ℕ) → is_word_byte b ≡ false → (b ≡ 10) ⊎ (b ≡ 32)
-is_cut_byte b e = at (by_cases (b == 10)) where
+is_cut_byte b e = at (cases_Bool (b == 10)) where
   at : ((b == 10) ≡ true) ⊎ ((b == 10) ≡ false) → (b ≡ 10) ⊎ (b ≡ 32)
   at (inl t) = inl (grind (arith, nat_tests))
-  at (inr f) = inr (let g : (not false && not (b == 32)) ≡ false = subst (λ v. (not v && not (b == 32)) ≡ false) f e in blank_is b g) where
-    blank_is : (b : ℕ) → not (b == 32) ≡ false → b ≡ 32
-    blank_is b e = grind (arith, nat_tests)
+  at (inr f) = inr (let g : (not false && not (b == 32)) ≡ false = subst (λ v. (not v && not (b == 32)) ≡ false) f e in grind (arith, nat_tests))
 
 line_end : (bytes : List ℕ) → IsLineEnd (without_front is_line_byte bytes)
 line_end [] = tt
-line_end (b ∷ bytes) = at (by_cases (is_line_byte b)) (line_end bytes) where
+line_end (b ∷ bytes) = at (cases_Bool (is_line_byte b)) (line_end bytes) where
   at : (is_line_byte b ≡ true) ⊎ (is_line_byte b ≡ false) → IsLineEnd (without_front is_line_byte bytes) → IsLineEnd (without_front is_line_byte (b ∷ bytes))
   at (inl e) ih = subst (λ xs. IsLineEnd xs) (sym (without_true is_line_byte b bytes e)) ih
   at (inr e) ih = subst (λ xs. IsLineEnd xs) (sym (without_false is_line_byte b bytes e)) (is_newline_byte b e)
 
 word_end : (bytes : List ℕ) → IsWordEnd (without_front is_word_byte bytes)
 word_end [] = tt
-word_end (b ∷ bytes) = at (by_cases (is_word_byte b)) (word_end bytes) where
+word_end (b ∷ bytes) = at (cases_Bool (is_word_byte b)) (word_end bytes) where
   at : (is_word_byte b ≡ true) ⊎ (is_word_byte b ≡ false) → IsWordEnd (without_front is_word_byte bytes) → IsWordEnd (without_front is_word_byte (b ∷ bytes))
   at (inl e) ih = subst (λ xs. IsWordEnd xs) (sym (without_true is_word_byte b bytes e)) ih
   at (inr e) ih = subst (λ xs. IsWordEnd xs) (sym (without_false is_word_byte b bytes e)) (is_cut_byte b e)
@@ -107,7 +93,7 @@ length_dropped k n rest h = rw (length-drop k rest) (omega arith)
 
 plain_newline : (n : ℕ) (b : ℕ) (rest : List ℕ) → SpelledTo n → length rest ≤ n → b ≡ 10 → (b == 10) ≡ true → Spells Plain (chunks_within (suc n) Plain (b ∷ rest)) (b ∷ rest)
 unfolding chunks_within
-plain_newline n b rest ih h ten e = code (by_cases (starts rest (codes "    "))) where
+plain_newline n b rest ih h ten e = code (cases_Bool (starts rest (codes "    "))) where
   Goal : Type 0
   Goal = Spells Plain (chunks_within (suc n) Plain (b ∷ rest)) (b ∷ rest)
 
@@ -134,13 +120,13 @@ plain_newline n b rest ih h ten e = code (by_cases (starts rest (codes "    ")))
       (paragraph (drop 1 rest) (chunks_within n Plain (drop 1 rest)) refl (ap (λ c. c ∷ rest) ten ∙ ap (λ xs. 10 ∷ xs) front)
       (not_true (starts (drop 1 rest) (codes "```")) ticks) (not_true (starts (drop 1 rest) (codes "    ")) four)
       (ih Plain (drop 1 rest) (length_dropped 1 n rest h)))
-  newlines f g p (inr q) = blanks f g p q (by_cases (starts rest (codes " ")))
+  newlines f g p (inr q) = blanks f g p q (cases_Bool (starts rest (codes " ")))
 
   codes_next : starts rest (codes "    ") ≡ false → starts rest (codes "\n```") ≡ false → (starts rest (codes "\n    ") ≡ true) ⊎ (starts rest (codes "\n    ") ≡ false) → Goal
   codes_next f g (inl p) =
       rw (e, chunks_within) rw (f, chunks_within) rw (g, chunks_within) rw (p, chunks_within)
       (before_code rest (chunks_within n Plain rest) refl (ap (λ c. c ∷ rest) ten) p (ih Plain rest h))
-  codes_next f g (inr p) = newlines f g p (by_cases (starts rest (codes "\n")))
+  codes_next f g (inr p) = newlines f g p (cases_Bool (starts rest (codes "\n")))
 
   fences : starts rest (codes "    ") ≡ false → (starts rest (codes "\n```") ≡ true) ⊎ (starts rest (codes "\n```") ≡ false) → Goal
   fences f (inl g) =
@@ -150,7 +136,7 @@ plain_newline n b rest ih h ten e = code (by_cases (starts rest (codes "    ")))
       rw (e, chunks_within) rw (f, chunks_within) rw (g, chunks_within)
       (fence (drop 1 rest) (chunks_within n Opening (drop 1 rest)) refl (ap (λ c. c ∷ rest) ten ∙ ap (λ xs. 10 ∷ xs) one) ticks
       (ih Opening (drop 1 rest) (length_dropped 1 n rest h)))
-  fences f (inr g) = codes_next f g (by_cases (starts rest (codes "\n    ")))
+  fences f (inr g) = codes_next f g (cases_Bool (starts rest (codes "\n    ")))
 
   code : (starts rest (codes "    ") ≡ true) ⊎ (starts rest (codes "    ") ≡ false) → Goal
   code (inl f) =
@@ -164,10 +150,7 @@ plain_newline n b rest ih h ten e = code (by_cases (starts rest (codes "    ")))
       (code_line (take_while is_line_byte (drop 4 rest)) (without_front is_line_byte (drop 4 rest)) (chunks_within n Plain (without_front is_line_byte (drop 4 rest))) refl
       (ap (λ c. c ∷ rest) ten ∙ ap (λ xs. 10 ∷ xs) (front ∙ ap (λ xs. codes "    " ++ xs) split))
       (front_passes is_line_byte (drop 4 rest)) (line_end (drop 4 rest)) (ih Plain (without_front is_line_byte (drop 4 rest)) len))
-  code (inr f) = fences f (by_cases (starts rest (codes "\n```")))
-
-is_ten : (b : ℕ) → (b == 10) ≡ true → b ≡ 10
-is_ten b e = grind (arith, nat_tests)
+  code (inr f) = fences f (cases_Bool (starts rest (codes "\n```")))
 
 is_blank : (b : ℕ) → (b == 32) ≡ true → b ≡ 32
 is_blank b e = grind (arith, nat_tests)
@@ -177,7 +160,7 @@ is_word_lem b e f = rw (e, f) refl
 
 plain_step : (n : ℕ) (b : ℕ) (rest : List ℕ) → SpelledTo n → length rest ≤ n → Spells Plain (chunks_within (suc n) Plain (b ∷ rest)) (b ∷ rest)
 unfolding chunks_within
-plain_step n b rest ih h = first (by_cases (b == 10)) where
+plain_step n b rest ih h = elim (cases_Bool (b == 10)) [ inl e ↦ plain_newline n b rest ih h (eqb-true b 10 e) e | inr e ↦ second e (cases_Bool (b == 32)) ] where
   second : (b == 10) ≡ false → ((b == 32) ≡ true) ⊎ ((b == 32) ≡ false) → Spells Plain (chunks_within (suc n) Plain (b ∷ rest)) (b ∷ rest)
   second e (inl f) = rw (e, chunks_within) rw (f, chunks_within) (blank rest (chunks_within n Plain rest) refl (ap (λ c. c ∷ rest) (is_blank b f)) (ih Plain rest h))
   second e (inr f) =
@@ -190,10 +173,6 @@ plain_step n b rest ih h = first (by_cases (b == 10)) where
       (word (take_while is_word_byte (b ∷ rest)) (without_front is_word_byte (b ∷ rest)) (chunks_within n Plain (without_front is_word_byte (b ∷ rest))) refl
       (front_split is_word_byte (b ∷ rest)) ((λ none. let z : b ∷ take_while is_word_byte rest ≡ [] = sym begins ∙ none in cc), front_passes is_word_byte (b ∷ rest))
       (word_end (b ∷ rest)) (ih Plain (without_front is_word_byte (b ∷ rest)) len))
-
-  first : ((b == 10) ≡ true) ⊎ ((b == 10) ≡ false) → Spells Plain (chunks_within (suc n) Plain (b ∷ rest)) (b ∷ rest)
-  first (inl e) = plain_newline n b rest ih h (is_ten b e) e
-  first (inr e) = second e (by_cases (b == 32))
 
 length_next : (n b : ℕ) (rest : List ℕ) → length rest ≤ n → length (drop 1 (without_front is_line_byte (b ∷ rest))) ≤ n
 length_next n b rest h =
@@ -227,7 +206,7 @@ text_ticks text line rest e t =
 
 later_step : (n : ℕ) (b : ℕ) (rest : List ℕ) → SpelledTo n → length rest ≤ n → Spells Later (chunks_within (suc n) Later (b ∷ rest)) (b ∷ rest)
 unfolding chunks_within
-later_step n b rest ih h = at (by_cases (starts (b ∷ rest) (codes "```"))) where
+later_step n b rest ih h = at (cases_Bool (starts (b ∷ rest) (codes "```"))) where
   Goal : Type 0
   Goal = Spells Later (chunks_within (suc n) Later (b ∷ rest)) (b ∷ rest)
 
@@ -253,7 +232,7 @@ later_step n b rest ih h = at (by_cases (starts (b ∷ rest) (codes "```"))) whe
       (ih Plain (drop 1 (without_front is_line_byte (b ∷ rest))) (length_next n b rest h)))
 
   at : (starts (b ∷ rest) (codes "```") ≡ true) ⊎ (starts (b ∷ rest) (codes "```") ≡ false) → Goal
-  at (inl e) = ends e (by_cases (starts (without_front is_line_byte (b ∷ rest)) (codes "\n\n")))
+  at (inl e) = ends e (cases_Bool (starts (without_front is_line_byte (b ∷ rest)) (codes "\n\n")))
   at (inr e) =
       rw (e, chunks_within)
       (later (take_while is_line_byte (b ∷ rest)) (without_front is_line_byte (b ∷ rest)) (drop 1 (without_front is_line_byte (b ∷ rest)))
@@ -341,8 +320,7 @@ ticks_some : (text line rest : List ℕ) → text ≡ line ++ rest → IsTrue (s
 ticks_some text line rest e t none = let h : IsTrue (starts [] (codes "```")) = subst (λ xs. IsTrue (starts xs (codes "```"))) none (text_ticks text line rest e t) in cc
 
 false_of : (b : Bool) → ¬ IsTrue b → b ≡ false
-false_of true h = absurd (h refl)
-false_of false h = refl
+false_of b h = grind arith
 
 -- a text that begins with a line and its end
 line_of : (text line rest : List ℕ) → text ≡ line ++ rest → IsLine line → IsLineEnd rest → take_while is_line_byte text ≡ line

@@ -23,18 +23,8 @@ single_most : (c : ℕ) → (single false c).0 ≤ 3
 single_most c = grind (arith, nat_tests)
 
 kind_most : (c : ℕ) (k : Kind) → (of_kind false c k).0 ≤ 3
-kind_most c kinds.Zero = omega arith
-kind_most c kinds.Narrow = omega arith
-kind_most c kinds.Wide = omega arith
-kind_most c kinds.Ambiguous = omega arith
-kind_most c kinds.Alef = omega arith
-kind_most c kinds.KhmerLetter = omega arith
-kind_most c kinds.TifinaghConsonant = omega arith
-kind_most c kinds.LisuTone = omega arith
-kind_most c kinds.RegionalIndicator = omega arith
-kind_most c kinds.EmojiModifier = omega arith
-kind_most c kinds.Emoji = omega arith
 kind_most c kinds.Single = single_most c
+kind_most c _ = omega arith
 
 alone_most : (c : ℕ) → (alone false c).0 ≤ 3
 unfolding alone
@@ -42,16 +32,11 @@ alone_most c = kind_most c (kind c)
 
 joined_most : (total : ℕ) (j : Option (Change × After)) (own : ℕ × State) → own.0 ≤ 3 → (joined_or total j own).0 ≤ total + 3
 joined_most total (Some (changes.Less, after)) own h = omega arith
-joined_most total (Some (changes.Same, after)) own h = omega arith
-joined_most total (Some (changes.One, after)) own h = omega arith
-joined_most total (Some (changes.Three, after)) own h = omega arith
 joined_most total None own h = omega (arith, h)
+joined_most total (Some _) own h = omega arith
 
 of_four : (n m : ℕ) (a b d : Bool) (s t u : State) (r : Reading) → m ≤ 3 → r.0 ≤ n + 3 → (pick a (n, s) (pick b (n, t) (pick d (n + m, u) r))).0 ≤ n + 3
-of_four n m true b d s t u r h k = omega arith
-of_four n m false true d s t u r h k = omega arith
-of_four n m false false true s t u r h k = omega (arith, h)
-of_four n m false false false s t u r h k = k
+of_four n m a b d s t u r h k = grind arith
 
 selectors_most : (c total : ℕ) (after : After) → (past_selectors false c total after).0 ≤ total + 3
 unfolding past_selectors
@@ -61,12 +46,7 @@ selectors_most c total after =
 
 of_six : (n : ℕ) (a b d e f : Bool) (s t u v w : State) (r : Reading) → r.0 ≤ n + 3
     → (pick a (n, s) (pick b (n, t) (pick d (n, u) (pick e (n + 1, v) (pick f (n + 2, w) r))))).0 ≤ n + 3
-of_six n true b d e f s t u v w r h = omega arith
-of_six n false true d e f s t u v w r h = omega arith
-of_six n false false true e f s t u v w r h = omega arith
-of_six n false false false true f s t u v w r h = omega arith
-of_six n false false false false true s t u v w r h = omega arith
-of_six n false false false false false s t u v w r h = h
+of_six n a b d e f s t u v w r h = grind arith
 
 context_most : (c total : ℕ) (s : State) → (in_context false c total s).0 ≤ total + 3
 unfolding in_context
@@ -77,12 +57,7 @@ context_most c total s =
 
 of_all : (n m : ℕ) (a b d e f : Bool) (s t u v w : State) (r : Reading) → m ≤ 3 → r.0 ≤ n + 3
     → (pick a (n + 2, s) (pick b (n + 1, t) (pick d (n, u) (pick e (n + 1, v) (pick f (n + m, w) r))))).0 ≤ n + 3
-of_all n m true b d e f s t u v w r g h = omega arith
-of_all n m false true d e f s t u v w r g h = omega arith
-of_all n m false false true e f s t u v w r g h = omega arith
-of_all n m false false false true f s t u v w r g h = omega arith
-of_all n m false false false false true s t u v w r g h = omega (arith, g)
-of_all n m false false false false false s t u v w r g h = h
+of_all n m a b d e f s t u v w r g h = grind arith
 
 emoji_most : (c total : ℕ) (s : State) → (past_emoji false c total s).0 ≤ total + 3
 unfolding past_emoji
@@ -91,13 +66,10 @@ emoji_most c total s =
     plain (before afters.LineFeed) plain plain (alone false c).1 (in_context false c total s) (alone_most c) (context_most c total s)
 
 two_or_none : (b : Bool) → (if b then 0 else 2) ≤ 3
-two_or_none true = omega arith
-two_or_none false = omega arith
+two_or_none b = grind arith
 
 of_three : (n m : ℕ) (a b : Bool) (s : State) (r q : Reading) → m ≤ 3 → r.0 ≤ n + 3 → q.0 ≤ n + 3 → (pick a r (pick b (n + m, s) q)).0 ≤ n + 3
-of_three n m true b s r q h k l = k
-of_three n m false true s r q h k l = omega (arith, h)
-of_three n m false false s r q h k l = l
+of_three n m a b s r q h k l = grind arith
 
 step_most : (c : ℕ) (r : Reading) → (step false c r).0 ≤ r.0 + 3
 unfolding step

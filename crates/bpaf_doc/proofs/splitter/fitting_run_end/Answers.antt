@@ -1,8 +1,9 @@
 use Rattle.std.proofs.Common.{take, drop, subst, ap, ◌∙◌, arith}
+use Rattle.std.proofs.lemmas.List.{take_rest}
 use Rattle.bpaf_doc.specs.Splitter.Chunks.{IsLineEnd}
 use Rattle.bpaf_doc.specs.Splitter.Steps.Runs.{IsRunEnd, IsLettered, letters}
 use Rattle.bpaf_doc.proofs.lemmas.Splitter.Letters.{printable_front_lettered, printable_front_letters}
-use Rattle.bpaf_doc.proofs.lemmas.Splitter.Runs.{printable_run, line_ends, rest_is}
+use Rattle.bpaf_doc.proofs.lemmas.Splitter.Runs.{printable_run, line_ends}
 use Rattle.bpaf_doc.proofs.splitter.fitting_run_end.Goals as goal
 
 pub returns-then-columns-at-clause-lettered : goal.returns-then-columns-at-clause-lettered
@@ -21,7 +22,7 @@ pub returns-then-is_line_end-clause-run : goal.returns-then-is_line_end-clause-r
 returns-then-is_line_end-clause-run c = λ _.
     let bytes = c.as_bytes-bytes.result.now in
     let found = c.printable_end-last in
-    let ends = line_ends (drop found.result.1 bytes) (subst (λ t. IsLineEnd t) (rest_is bytes found.result.1) (c.is_line_end.ensures c.if-is_line_end.true)) in
+    let ends = line_ends (drop found.result.1 bytes) (subst (λ t. IsLineEnd t) (take_rest bytes found.result.1) (c.is_line_end.ensures c.if-is_line_end.true)) in
     subst (λ t. IsRunEnd t found.result.1) c.as_bytes-bytes.ensures.value (printable_run bytes found.result.1 found.ensures.within found.ensures.printable ends)
 
 pub returns-then-is_line_end-clause-lettered : goal.returns-then-is_line_end-clause-lettered

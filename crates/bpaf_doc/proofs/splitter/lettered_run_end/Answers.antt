@@ -1,9 +1,10 @@
 use Rattle.std.proofs.Common.{◌≡◌, ℕ, ◌<◌, ◌≤◌, ◌+◌, true, List, [], ◌∷◌, length, take, drop, get_or, sym, subst, ◌∙◌, ap₂, arith}
 use Rattle.std.proofs.lemmas.List.Sums.{count_by-le-length}
+use Rattle.std.proofs.lemmas.List.{take_rest}
 use Rattle.bpaf_doc.specs.Splitter.Chunks.{IsLineEnd}
 use Rattle.bpaf_doc.specs.Splitter.Steps.Runs.{IsRunEnd, begins, is_lettered, letters}
 use Rattle.bpaf_doc.proofs.lemmas.Splitter.Letters.{printable_front_lettered, printable_front_letters, lettered_front, lettered_more, letters_more, lettered_run}
-use Rattle.bpaf_doc.proofs.lemmas.Splitter.Runs.{line_ends, rest_is, blank_ends}
+use Rattle.bpaf_doc.proofs.lemmas.Splitter.Runs.{line_ends, blank_ends}
 use Rattle.bpaf_doc.proofs.splitter.lettered_run_end.Goals as goal
 use Rattle.bpaf_doc.proofs.splitter.lettered_run_end.Goals.{then-bytes-at-eq32, else-bytes-at-eq32}
 
@@ -63,7 +64,7 @@ lettered-preserved c =
 pub returns-then-is_line_end-clause-run : goal.returns-then-is_line_end-clause-run
 returns-then-is_line_end-clause-run c = λ _.
     let bytes = c.args.bytes.now in
-    lettered_run bytes c.lettered.at c.lettered.invariant.within c.lettered.invariant.lettered (line_ends (drop c.lettered.at bytes) (subst (λ t. IsLineEnd t) (rest_is bytes c.lettered.at) (c.is_line_end.ensures c.if-is_line_end.true)))
+    lettered_run bytes c.lettered.at c.lettered.invariant.within c.lettered.invariant.lettered (line_ends (drop c.lettered.at bytes) (subst (λ t. IsLineEnd t) (take_rest bytes c.lettered.at) (c.is_line_end.ensures c.if-is_line_end.true)))
 
 pub returns-else-taken-columns-2-clause-lettered : goal.returns-else-taken-columns-2-clause-lettered
 returns-else-taken-columns-2-clause-lettered c =

@@ -4,10 +4,10 @@ use Rattle.std.proofs.Common.{sym, subst, ap, arith, inl, inr, ◌∙◌}
 use Rattle.std.proofs.lemmas.Bool.Decides.{nat_tests}
 use Rattle.bpaf_doc.specs.Splitter.Chunks.{is_whole_line, code_weight, fence_weight}
 use Rattle.bpaf_doc.specs.Console.Layout.{Shows, Stretch, Gap, Placed, Passed, Place, chunk_at, is_placed}
-use Rattle.bpaf_doc.proofs.lemmas.Console.Layout.State.{State, Piece, Lines, none_asked, line_there, line_put, blank_there, second_put, both_put, Begins, first, stays, wraps, places, drops, Next, Grows, placing, breaking, passing, padded, trimmed, put}
-use Rattle.bpaf_doc.proofs.lemmas.Console.Layout.Back.{by_cases, EachPlace, each_grows, place_of}
+use Rattle.bpaf_doc.proofs.lemmas.Console.Layout.State.{State, Piece, Lines, Begins, first, stays, wraps, places, drops, Next, Grows, placing, breaking, passing, padded, trimmed, put}
+use Rattle.bpaf_doc.proofs.lemmas.Console.Layout.Back.{by_cases, EachPlace, each_grows, place_of, by_lines, same_padded}
 use Rattle.bpaf_doc.proofs.lemmas.Console.Layout.Text.{IsStarting, has_place, or_true_right}
-use Rattle.bpaf_doc.proofs.lemmas.Console.Layout.Split.{Cut, FirstOrLater, here, later, cut_cons, AfterGap, cut_gap, AfterPassed, cut_passed, AfterPads, cut_padded, has_newline, newline_padded}
+use Rattle.bpaf_doc.proofs.lemmas.Console.Layout.Split.{Cut, FirstOrLater, here, later, cut_cons, AfterGap, cut_gap, AfterPassed, cut_passed, AfterPads, cut_padded, has_newline}
 
 -- ---- helpers
 
@@ -25,12 +25,7 @@ pub data SameOrLine (st mid : State) : Type 0 where
   new_line : (rest : List Stretch) → mid.back ≡ Gap 10 ∷ rest → SameOrLine st mid
 
 pub lines_same_or_line : {st mid : State} → Lines st mid → SameOrLine st mid
-lines_same_or_line (none_asked a e) = same_page e
-lines_same_or_line (line_there a b e) = same_page e
-lines_same_or_line {st} (line_put a e) = new_line st.back (ap (λ (s : State). s.back) e)
-lines_same_or_line (blank_there a b e) = same_page e
-lines_same_or_line {st} (second_put a b e) = new_line st.back (ap (λ (s : State). s.back) e)
-lines_same_or_line {st} (both_put a e) = new_line (Gap 10 ∷ st.back) (ap (λ (s : State). s.back) e)
+lines_same_or_line {st} l = by_lines (SameOrLine st) l (same_page refl) (new_line st.back refl) (new_line st.back refl) (new_line (Gap 10 ∷ st.back) refl)
 
 -- a newline at the end stands after each place
 pub line_since : (r rest m before : List Stretch) (e : Place) → r ≡ Gap 10 ∷ rest → Cut r m e before → has_newline m ≡ true
@@ -63,7 +58,7 @@ alone_begins p base small start h (wraps t mid l w b s) = λ m before e there wh
 alone_padded : (n : ℕ) (r : List Stretch) (f : Place) → AloneBefore r f → AloneBefore (padded n r) f
 alone_padded n r f h = λ m before e there whole.
     let found : AfterPads n r m e before = cut_padded n r m e before there in
-    ap has_newline found.is ∙ newline_padded n found.rest ∙ h found.rest before e found.there whole
+    ap has_newline found.is ∙ same_padded has_newline (λ x. refl) n found.rest ∙ h found.rest before e found.there whole
 
 heavy_put : (p : Piece) (base : State) (n : ℕ) → AloneBefore (padded n base.back) (place_of p) → IsHeavy (put n p.part p.bytes p.weight base)
 heavy_put p base n alone = λ m before e there whole none. at m before e whole none (cut_cons (Placed (place_of p)) (padded n base.back) m e before there) where

@@ -1,15 +1,15 @@
 -- A newline stands where one is asked for, and a blank line too.
-use Rattle.std.specs.Prelude.{◌≡◌, ℕ, zero, suc, Bool, true, false, ◌&&◌, ◌||◌, ◌==◌, List, [], ◌∷◌, refl, if◌then◌else◌, ◌⊎◌}
+use Rattle.std.specs.Prelude.{◌≡◌, ℕ, Bool, true, false, ◌&&◌, ◌||◌, ◌==◌, List, [], ◌∷◌, refl, if◌then◌else◌, ◌⊎◌}
 use Rattle.std.specs.List.{list_any}
-use Rattle.std.proofs.Common.{sym, subst, inl, inr, ◌∙◌}
-use Rattle.bpaf_doc.specs.declared.buffer.Block.TheVariants as blocks
+use Rattle.std.proofs.Common.{sym, subst, inl, inr, ◌∙◌, arith}
+use Rattle.std.proofs.lemmas.Bool.{and_parts}
 use Rattle.bpaf_doc.specs.Buffer.Parts.{ink}
 use Rattle.bpaf_doc.specs.Splitter.Chunks.{is_inked, has_some}
-use Rattle.bpaf_doc.specs.Console.Layout.{Event, Shows, Opens, Closes, Stretch, Gap, Placed, Passed, Place, chunk_at, event_bytes, stretch_bytes, is_newline, is_inked_stretch, is_inked_event, asks_newline, asks_blank_line}
+use Rattle.bpaf_doc.specs.Console.Layout.{Event, Stretch, Gap, Placed, Passed, Place, chunk_at, event_bytes, stretch_bytes, is_newline, is_inked_stretch, is_inked_event, asks_newline, asks_blank_line}
 use Rattle.bpaf_doc.specs.declared.console.page.Asked.{Asked}
 use Rattle.bpaf_doc.specs.declared.console.page.Asked.TheVariants.{Nothing, NewLine, BlankLine}
 use Rattle.bpaf_doc.proofs.lemmas.Console.Layout.State.{State, Piece, Lines, none_asked, line_there, line_put, blank_there, second_put, both_put, Begins, first, stays, wraps, places, drops, Next, Grows, placing, breaking, passing, padded, has_text, ends_line, ends_blank, put, passed, at_least_line, is_nothing}
-use Rattle.bpaf_doc.proofs.lemmas.Console.Layout.Back.{by_cases, EachPlace, each_grows, place_of}
+use Rattle.bpaf_doc.proofs.lemmas.Console.Layout.Back.{by_cases, EachPlace, each_grows, place_of, same_padded}
 use Rattle.bpaf_doc.proofs.lemmas.Console.Layout.Columns.{Fills, inked_some}
 use Rattle.bpaf_doc.proofs.lemmas.Console.Layout.Text.{EachPassed, NoInk, ink_text, or_true_right}
 use Rattle.bpaf_doc.proofs.lemmas.Console.Layout.Split.{inked_line}
@@ -26,20 +26,13 @@ owes_line (Passed event ∷ r) = (asks_newline event && inked_line r) || owes_li
 abbrev pub IsAskedLine : State → Type 0
 IsAskedLine st = owes_line st.back ≡ true → is_nothing st.asked ≡ false
 
-owes_padded : (n : ℕ) (r : List Stretch) → owes_line (padded n r) ≡ owes_line r
-owes_padded zero r = refl
-owes_padded (suc n) r = owes_padded n r
-
 -- a page that ends in a newline owes none, and has no ink in its last line
 record NothingOwed (r : List Stretch) : Type 0 where
   owes : owes_line r ≡ false
   line : inked_line r ≡ false
 
 no_ink_of_none : (bytes : List ℕ) → has_some bytes ≡ false → has_some (ink bytes) ≡ false
-no_ink_of_none bytes none = at (by_cases (has_some (ink bytes))) where
-  at : (has_some (ink bytes) ≡ true) ⊎ (has_some (ink bytes) ≡ false) → has_some (ink bytes) ≡ false
-  at (inl i) = let some : has_some bytes ≡ true = inked_some bytes i in absurd cc
-  at (inr i) = i
+no_ink_of_none bytes none = elim (by_cases (has_some (ink bytes))) [ inl i ↦ let some : has_some bytes ≡ true = inked_some bytes i in absurd cc | inr i ↦ i ]
 
 ends_line_owes : (r : List Stretch) → EachPlace Fills r → EachPassed NoInk r → ends_line r ≡ true → NothingOwed r
 ends_line_owes [] f q h = record { owes = refl; line = refl }
@@ -63,19 +56,14 @@ ends_line_owes (Passed event ∷ r) f q h = at (by_cases (has_some (event_bytes 
       let b : inked_line r ≡ false = rest.line in
       record { owes = rw (b, a) (and_false (asks_newline event)); line = rw plain b } where
         and_false : (t : Bool) → ((t && false) || false) ≡ false
-        and_false true = refl
-        and_false false = refl
+        and_false t = grind arith
 
 -- what ends in two newlines ends in one
 pub blank_line_ends : (r : List Stretch) → ends_blank r ≡ true → ends_line r ≡ true
 blank_line_ends [] h = h
 blank_line_ends (x ∷ r) h = at (by_cases (has_some (stretch_bytes x))) (blank_line_ends r) where
-  and_left : (a b : Bool) → (a && b) ≡ true → a ≡ true
-  and_left true b h = refl
-  and_left false b h = absurd cc
-
   at : (has_some (stretch_bytes x) ≡ true) ⊎ (has_some (stretch_bytes x) ≡ false) → (ends_blank r ≡ true → ends_line r ≡ true) → ends_line (x ∷ r) ≡ true
-  at (inl s) ih = let both : (is_newline x && ends_line r) ≡ true = rw s at h in rw s (and_left (is_newline x) (ends_line r) both)
+  at (inl s) ih = let both : (is_newline x && ends_line r) ≡ true = rw s at h in rw s (and_parts (is_newline x) (ends_line r) both).0
   at (inr s) ih = let rest : ends_blank r ≡ true = rw s at h in rw s (ih rest)
 
 inked_line_ink : (r : List Stretch) → inked_line r ≡ true → list_any is_inked_stretch r ≡ true
@@ -105,10 +93,7 @@ owes_ink (Passed event ∷ r) h = at (by_cases (asks_newline event)) (by_cases (
   at (inr n) i ih = let rest : owes_line r ≡ true = rw n at h in or_true_right (is_inked_stretch (Passed event)) (list_any is_inked_stretch r) (ih rest)
 
 not_owed : (st : State) → IsAskedLine st → st.asked ≡ Nothing → owes_line st.back ≡ false
-not_owed st h a = at (by_cases (owes_line st.back)) where
-  at : (owes_line st.back ≡ true) ⊎ (owes_line st.back ≡ false) → owes_line st.back ≡ false
-  at (inl o) = let some : is_nothing st.asked ≡ false = h o in let none : is_nothing st.asked ≡ true = rw a refl in absurd cc
-  at (inr o) = o
+not_owed st h a = elim (by_cases (owes_line st.back)) [ inl o ↦ let some : is_nothing st.asked ≡ false = h o in let none : is_nothing st.asked ≡ true = rw a refl in absurd cc | inr o ↦ o ]
 
 owes_lines : {st mid : State} → EachPlace Fills st.back → EachPassed NoInk st.back → IsAskedLine st → Lines st mid → owes_line mid.back ≡ false
 owes_lines {st} f q h (none_asked a e) = subst (λ (s : State). owes_line s.back ≡ false) (sym e) (not_owed st h a)
@@ -126,22 +111,6 @@ owes_begins {st = st} f q h (first t e) = subst (λ (s : State). owes_line s.bac
 owes_begins f q h (stays t l w) = owes_lines f q h l
 owes_begins f q h (wraps t mid l w b e) = subst (λ (s : State). owes_line s.back ≡ false) (sym e) refl
 
-asks_both : (event : Event) → asks_blank_line event ≡ true → asks_newline event ≡ true
-asks_both (Shows k chunk) h = absurd cc
-asks_both (Opens b) h = absurd cc
-asks_both (Closes blocks.Block) h = refl
-asks_both (Closes blocks.Header) h = absurd cc
-asks_both (Closes blocks.Section2) h = absurd cc
-asks_both (Closes blocks.Section3) h = absurd cc
-asks_both (Closes blocks.Section4) h = absurd cc
-asks_both (Closes blocks.ItemTerm) h = absurd cc
-asks_both (Closes blocks.ItemBody) h = absurd cc
-asks_both (Closes blocks.DefinitionList) h = absurd cc
-asks_both (Closes blocks.InlineBlock) h = absurd cc
-asks_both (Closes blocks.TermRef) h = absurd cc
-asks_both (Closes blocks.Meta) h = absurd cc
-asks_both (Closes blocks.Mono) h = absurd cc
-
 at_least_something : (a : Asked) → is_nothing (at_least_line a) ≡ false
 at_least_something Nothing = refl
 at_least_something NewLine = refl
@@ -158,7 +127,7 @@ pub asked_line_grows : {width : ℕ} {st after : State} {next : Next} → EachPl
     → Grows width st next after → IsAskedLine st → IsAskedLine after
 asked_line_grows f q (placing p e (places base n b d a)) h = subst IsAskedLine (sym a) (at (by_cases (is_inked (chunk_at (place_of p))))) where
   none : owes_line (padded n base.back) ≡ false
-  none = owes_padded n base.back ∙ owes_begins f q h b
+  none = same_padded owes_line (λ x. refl) n base.back ∙ owes_begins f q h b
 
   at : (is_inked (chunk_at (place_of p)) ≡ true) ⊎ (is_inked (chunk_at (place_of p)) ≡ false) → IsAskedLine (put n p.part p.bytes p.weight base)
   at (inl i) = λ o. let no : false ≡ true = rw i at o in absurd cc
@@ -174,4 +143,4 @@ IsFreeOfDebt r f = owes_line r ≡ false
 pub free_of_debt_grows : {width : ℕ} {st after : State} {next : Next} → EachPlace Fills st.back → EachPassed NoInk st.back → IsAskedLine st
     → Grows width st next after → EachPlace IsFreeOfDebt st.back → EachPlace IsFreeOfDebt after.back
 free_of_debt_grows f q h g e =
-    each_grows IsFreeOfDebt (λ r p i x. x) (λ p base n is b d. owes_padded n base.back ∙ owes_begins f q h b) g e
+    each_grows IsFreeOfDebt (λ r p i x. x) (λ p base n is b d. same_padded owes_line (λ x. refl) n base.back ∙ owes_begins f q h b) g e

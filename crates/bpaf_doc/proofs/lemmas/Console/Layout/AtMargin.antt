@@ -1,18 +1,18 @@
 -- The first inked chunk of a line stands at its margin, where only marks or one blank stand before it.
-use Rattle.std.specs.Prelude.{◌≡◌, ℕ, zero, suc, ◌+◌, ◌<◌, Bool, true, false, not, ◌&&◌, ◌==◌, List, [], ◌∷◌, length, codes, refl, ◌⊎◌}
+use Rattle.std.specs.Prelude.{◌≡◌, ℕ, ◌+◌, ◌<◌, Bool, true, false, not, ◌&&◌, ◌==◌, List, [], ◌∷◌, length, codes, refl, ◌⊎◌}
 use Rattle.std.specs.List.{list_any}
 use Rattle.std.proofs.Common.{sym, subst, ap, arith, inl, inr, ◌∙◌}
 use Rattle.bpaf_doc.specs.declared.buffer.Block.{Block}
 use Rattle.bpaf_doc.specs.Splitter.Chunks.{Chunk, Raw, is_inked}
 use Rattle.bpaf_doc.specs.Shown.{is_term_ref, mark_bytes}
 use Rattle.bpaf_doc.specs.Console.Layout.{Event, Shows, Opens, Closes, Stretch, Gap, Placed, Passed, Place, chunk_at, event_bytes, is_inked_stretch, is_raw_or_ref}
-use Rattle.bpaf_doc.specs.declared.console.page.Asked.TheVariants.{Nothing, NewLine, BlankLine}
-use Rattle.bpaf_doc.proofs.lemmas.Console.Layout.State.{State, Piece, Lines, none_asked, line_there, line_put, blank_there, second_put, both_put, Pads, to_margin, after_term, Begins, first, stays, wraps, places, drops, Next, raw, mark, Grows, placing, breaking, passing, padded, trimmed, has_text, put, Suits, raw_suits, paragraph_suits, line_break_suits, open_suits, close_suits}
-use Rattle.bpaf_doc.proofs.lemmas.Console.Layout.Back.{by_cases, EachPlace, each_grows, place_of, fits_of}
+use Rattle.bpaf_doc.specs.declared.console.page.Asked.TheVariants.{Nothing}
+use Rattle.bpaf_doc.proofs.lemmas.Console.Layout.State.{State, Piece, Lines, Pads, to_margin, after_term, Begins, first, stays, wraps, places, drops, Next, raw, mark, Grows, placing, breaking, passing, padded, trimmed, has_text, put, Suits}
+use Rattle.bpaf_doc.proofs.lemmas.Console.Layout.Back.{by_cases, EachPlace, each_grows, place_of, fits_of, by_lines, same_padded, by_mark}
 use Rattle.bpaf_doc.proofs.lemmas.Console.Layout.Columns.{Fills, column_back, column_padded, Agrees}
 use Rattle.bpaf_doc.proofs.lemmas.Console.Layout.Text.{EachPassed, NoInk, ink_text, IsStarting, begins_column, begins_margin, or_false_right}
 use Rattle.bpaf_doc.proofs.lemmas.Console.Layout.Pads.{pads_back, HasNoPads, pads_begins}
-use Rattle.bpaf_doc.proofs.lemmas.Console.Layout.Split.{events_back, events_padded, Cut, FirstOrLater, here, later, cut_cons, AfterGap, cut_gap, AfterPassed, cut_passed, AfterPads, cut_padded, has_newline, newline_padded, inked_line, inked_line_padded, inked_since, ink_at}
+use Rattle.bpaf_doc.proofs.lemmas.Console.Layout.Split.{events_back, Cut, FirstOrLater, here, later, cut_cons, AfterGap, cut_gap, AfterPassed, cut_passed, AfterPads, cut_padded, has_newline, inked_line, inked_since, ink_at, Earlier, after_lines, lines_same}
 
 -- ---- only marks since the last ink
 
@@ -22,10 +22,6 @@ is_quiet [] = true
 is_quiet (Gap b ∷ r) = is_quiet r
 is_quiet (Placed e ∷ r) = is_inked (chunk_at e)
 is_quiet (Passed event ∷ r) = not (is_raw_or_ref event) && is_quiet r
-
-quiet_padded : (n : ℕ) (r : List Stretch) → is_quiet (padded n r) ≡ is_quiet r
-quiet_padded zero r = refl
-quiet_padded (suc n) r = quiet_padded n r
 
 no_backquote : (b : Block) → is_term_ref b ≡ false → length (mark_bytes b) ≡ 0
 no_backquote b h = rw h refl
@@ -37,10 +33,7 @@ bare_event (Closes b) h = no_backquote b h
 
 quiet_column : (r : List Stretch) → is_quiet r ≡ true → inked_line r ≡ false → pads_back r ≡ 0 → column_back r ≡ 0
 quiet_column [] q i p = refl
-quiet_column (Gap b ∷ r) q i p = at (by_cases (b == 10)) where
-  at : ((b == 10) ≡ true) ⊎ ((b == 10) ≡ false) → column_back (Gap b ∷ r) ≡ 0
-  at (inl e) = rw e refl
-  at (inr e) = let some : 1 + pads_back r ≡ 0 = rw e at p in absurd (omega arith)
+quiet_column (Gap b ∷ r) q i p = elim (by_cases (b == 10)) [ inl e ↦ rw e refl | inr e ↦ let some : 1 + pads_back r ≡ 0 = rw e at p in absurd (omega arith) ]
 quiet_column (Placed e ∷ r) q i p = let some : true ≡ false = rw q at i in absurd cc
 quiet_column (Passed event ∷ r) q i p = at (by_cases (is_raw_or_ref event)) (quiet_column r) where
   at : (is_raw_or_ref event ≡ true) ⊎ (is_raw_or_ref event ≡ false) → (is_quiet r ≡ true → inked_line r ≡ false → pads_back r ≡ 0 → column_back r ≡ 0) → column_back (Passed event ∷ r) ≡ 0
@@ -86,22 +79,10 @@ no_place_first st f q none m before e there i =
 
 -- after what was asked for, directly after an inked chunk, nothing was written
 last_lines : {st mid : State} → IsLast st → Lines st mid → (m before : List Stretch) (e : Place) → Cut mid.back m e before → is_inked (chunk_at e) ≡ true → events_back m ≡ [] → m ≡ []
-last_lines {st} h (none_asked a s) m before e there i none = (h m before e (subst (λ (x : State). Cut x.back m e before) s there) i none).0
-last_lines {st} h (line_there a b s) m before e there i none = (h m before e (subst (λ (x : State). Cut x.back m e before) s there) i none).0
-last_lines {st} h (line_put a s) m before e there i none =
-    let found : AfterGap 10 st.back m e before = cut_gap 10 st.back m e before (subst (λ (x : State). Cut x.back m e before) s there) in
-    let asked : st.asked ≡ Nothing = (h found.rest before e found.there i (sym (ap events_back found.is) ∙ none)).1 in
-    let no : NewLine ≡ Nothing = sym a ∙ asked in absurd cc
-last_lines {st} h (blank_there a b s) m before e there i none = (h m before e (subst (λ (x : State). Cut x.back m e before) s there) i none).0
-last_lines {st} h (second_put a b s) m before e there i none =
-    let found : AfterGap 10 st.back m e before = cut_gap 10 st.back m e before (subst (λ (x : State). Cut x.back m e before) s there) in
-    let asked : st.asked ≡ Nothing = (h found.rest before e found.there i (sym (ap events_back found.is) ∙ none)).1 in
-    let no : BlankLine ≡ Nothing = sym a ∙ asked in absurd cc
-last_lines {st} h (both_put a s) m before e there i none =
-    let found : AfterGap 10 (Gap 10 ∷ st.back) m e before = cut_gap 10 (Gap 10 ∷ st.back) m e before (subst (λ (x : State). Cut x.back m e before) s there) in
-    let next : AfterGap 10 st.back found.rest e before = cut_gap 10 st.back found.rest e before found.there in
-    let asked : st.asked ≡ Nothing = (h next.rest before e next.there i (sym (ap events_back found.is ∙ ap events_back next.is) ∙ none)).1 in
-    let no : BlankLine ≡ Nothing = sym a ∙ asked in absurd cc
+last_lines {st} {mid} h l m before e there i none =
+    let earlier : Earlier st.back m e before = after_lines l m before e there in
+    let same : mid ≡ st = lines_same (h earlier.rest before e earlier.there i (earlier.events ∙ none)).1 l in
+    (h m before e (subst (λ (x : State). Cut x.back m e before) same there) i none).0
 
 start_put : {width : ℕ} {st : State} (p : Piece) (base : State) (n : ℕ) → EachPlace Fills st.back → EachPassed NoInk st.back → IsLast st → Begins width st p base
     → IsAtStart (put n p.part p.bytes p.weight base)
@@ -110,12 +91,11 @@ start_put {width} {st} p base n f q h b = λ m before e k there i blank line. at
       → FirstOrLater (Placed (place_of p)) (padded n base.back) m e before → column_back (put n p.part p.bytes p.weight base).back ≡ 0
   at m before e k i blank line (here is x r) = let no : [] ≡ Shows k (Raw (codes " ") 1) ∷ [] = sym (ap events_back is) ∙ blank in absurd cc
   at m before e k i blank line (later rest is there) =
-      let events : Shows p.part (chunk_at (place_of p)) ∷ events_back rest ≡ Shows k (Raw (codes " ") 1) ∷ [] = sym (ap events_back is) ∙ blank in
       let none : events_back rest ≡ [] = cc in
       let found : AfterPads n base.back rest e before = cut_padded n base.back rest e before there in
-      let none_found : events_back found.rest ≡ [] = sym (ap events_back found.is ∙ events_padded n found.rest) ∙ none in
+      let none_found : events_back found.rest ≡ [] = sym (ap events_back found.is ∙ same_padded events_back (λ x. refl) n found.rest) ∙ none in
       let bytes : p.bytes ≡ codes " " = cc in
-      let same_line : has_newline m ≡ has_newline found.rest = ap has_newline is ∙ ap has_newline found.is ∙ newline_padded n found.rest in
+      let same_line : has_newline m ≡ has_newline found.rest = ap has_newline is ∙ ap has_newline found.is ∙ same_padded has_newline (λ x. refl) n found.rest in
       let some : has_newline found.rest ≡ true = sym same_line ∙ line in
       absurd (begins found.rest some none_found found.there bytes b) where
         begins : (rest : List Stretch) → has_newline rest ≡ true → events_back rest ≡ [] → Cut base.back rest e before → p.bytes ≡ codes " " → Begins width st p base → ⊥
@@ -126,11 +106,7 @@ start_put {width} {st} p base n f q h b = λ m before e k there i blank line. at
         begins rest some none there bytes (wraps t mid l w other s) = other bytes
 
 not_shown : {margin_of : ℕ → ℕ} (st : State) (next : Next) (event : Event) (margin k : ℕ) (chunk : Chunk) → Suits margin_of st next → next ≡ mark event margin → event ≡ Shows k chunk → ⊥
-not_shown st next event margin k chunk (raw_suits q f g) e h = cc
-not_shown st next event margin k chunk (paragraph_suits j f l m) e h = cc
-not_shown st next event margin k chunk (line_break_suits j f l m) e h = cc
-not_shown st next event margin k chunk (open_suits b n f l u) e h = let same : event ≡ Opens b = cc in cc
-not_shown st next event margin k chunk (close_suits b n f l u) e h = let same : event ≡ Closes b = cc in cc
+not_shown st next event margin k chunk suits e = by_mark (λ x m. x ≡ Shows k chunk → ⊥) suits e (λ b m l u h. cc) (λ b m l u h. cc)
 
 pub start_grows : {width : ℕ} {margin_of : ℕ → ℕ} {st after : State} {next : Next} → EachPlace Fills st.back → EachPassed NoInk st.back → IsLast st → Suits margin_of st next
     → Grows width st next after → IsAtStart st → IsAtStart after
@@ -162,21 +138,15 @@ module _ (margin_of : ℕ → ℕ) where
   exact_pads n base m a c (to_margin e) = omega arith
   exact_pads n base m a c (after_term t wide few e) = absurd (omega arith)
 
-  lines_start : {st mid : State} → IsAtStart st → Lines st mid → (m before : List Stretch) (e : Place) (k : ℕ) → Cut mid.back m e before → is_inked (chunk_at e) ≡ true
-      → events_back m ≡ Shows k (Raw (codes " ") 1) ∷ [] → has_newline m ≡ true → column_back mid.back ≡ 0
-  lines_start h (none_asked a s) m before e k there i blank line = ap (λ (x : State). column_back x.back) s ∙ h m before e k (subst (λ (x : State). Cut x.back m e before) s there) i blank line
-  lines_start h (line_there a b s) m before e k there i blank line = ap (λ (x : State). column_back x.back) s ∙ h m before e k (subst (λ (x : State). Cut x.back m e before) s there) i blank line
-  lines_start h (line_put a s) m before e k there i blank line = ap (λ (x : State). column_back x.back) s
-  lines_start h (blank_there a b s) m before e k there i blank line = ap (λ (x : State). column_back x.back) s ∙ h m before e k (subst (λ (x : State). Cut x.back m e before) s there) i blank line
-  lines_start h (second_put a b s) m before e k there i blank line = ap (λ (x : State). column_back x.back) s
-  lines_start h (both_put a s) m before e k there i blank line = ap (λ (x : State). column_back x.back) s
+  lines_start : {st mid : State} → IsAtStart st → Lines st mid → IsAtStart mid
+  lines_start h l = by_lines IsAtStart l h (λ m before e k there i blank line. refl) (λ m before e k there i blank line. refl) (λ m before e k there i blank line. refl)
 
   pub exact_grows : {width : ℕ} {st after : State} {next : Next} → width < 1_000_000 → EachPlace Fills st.back → EachPassed NoInk st.back → IsStarting st → Agrees st → HasNoPads st → IsAtStart st
       → Suits margin_of st next → Grows width st next after → EachPlace IsExact st.back → EachPlace IsExact after.back
   exact_grows {width} {st} {after} {next} small f q start agrees none h suits g all = each_grows IsExact (λ r p i x. x) core g all where
     core : (p : Piece) (base : State) (n : ℕ) → next ≡ raw p → Begins width st p base → Pads base n → IsExact (padded n base.back) (place_of p)
     core p base n is b d = λ line kind.
-        let here_line : inked_line base.back ≡ false = sym (inked_line_padded n base.back) ∙ line in
+        let here_line : inked_line base.back ≡ false = sym (same_padded inked_line (λ x. refl) n base.back) ∙ line in
         let back_zero : column_back base.back ≡ 0 = zero_at here_line kind in
         let column : base.column ≡ 0 = begins_column small f start agrees b ∙ back_zero in
         let in_force : base.margin ≡ margin_of p.part = (begins_margin b).0 ∙ (fits_of suits is).margin_is in
@@ -188,7 +158,7 @@ module _ (margin_of : ℕ → ℕ) where
               absurd (no_place_first st f q t cut_there.rest found.before found.place (subst (λ (x : State). Cut x.back cut_there.rest found.place found.before) s cut_there.there) found.inked)
           after_blank clear found cut_there (stays t l w) = at (by_cases (has_newline cut_there.rest)) where
             blank : events_back cut_there.rest ≡ Shows p.part (Raw (codes " ") 1) ∷ []
-            blank = sym (ap events_back cut_there.is ∙ events_padded n cut_there.rest) ∙ found.blank
+            blank = sym (ap events_back cut_there.is ∙ same_padded events_back (λ x. refl) n cut_there.rest) ∙ found.blank
 
             at : (has_newline cut_there.rest ≡ true) ⊎ (has_newline cut_there.rest ≡ false) → column_back base.back ≡ 0
             at (inl y) = lines_start h l cut_there.rest found.before found.place p.part cut_there.there found.inked blank y
@@ -197,5 +167,5 @@ module _ (margin_of : ℕ → ℕ) where
           after_blank clear found cut_there (wraps t mid l w x s) = ap (λ (y : State). column_back y.back) s
 
           zero_at : inked_line base.back ≡ false → (is_quiet (padded n base.back) ≡ true) ⊎ AfterBlank (padded n base.back) p.part → column_back base.back ≡ 0
-          zero_at clear (inl y) = quiet_column base.back (sym (quiet_padded n base.back) ∙ y) clear (pads_begins b none)
+          zero_at clear (inl y) = quiet_column base.back (sym (same_padded is_quiet (λ x. refl) n base.back) ∙ y) clear (pads_begins b none)
           zero_at clear (inr y) = after_blank clear y (cut_padded n base.back y.rest y.place y.before y.there) b

@@ -1,9 +1,10 @@
 -- Facts that hold of each place of a page, and what keeps them.
-use Rattle.std.specs.Prelude.{◌≡◌, ℕ, zero, suc, ⊤, Bool, true, false, List, [], ◌∷◌, refl}
-use Rattle.std.proofs.Common.{sym, subst, ◌⊎◌, inl, inr}
-use Rattle.bpaf_doc.specs.Splitter.Chunks.{is_inked, has_some}
-use Rattle.bpaf_doc.specs.Console.Layout.{Event, Shows, Stretch, Gap, Placed, Passed, Place, chunk_at, event_bytes}
-use Rattle.bpaf_doc.proofs.lemmas.Console.Layout.State.{State, Piece, Lines, none_asked, line_there, line_put, blank_there, second_put, both_put, Pads, Begins, first, stays, wraps, places, drops, Next, raw, Grows, placing, breaking, passing, padded, trimmed, cut, Fits, Suits, raw_suits, paragraph_suits, line_break_suits, open_suits, close_suits}
+use Rattle.std.specs.Prelude.{◌≡◌, ℕ, zero, suc, ◌<◌, ◌≤◌, ⊤, Bool, true, false, List, [], ◌∷◌, refl}
+use Rattle.std.proofs.Common.{sym, subst, ◌∙◌, ◌⊎◌, inl, inr}
+use Rattle.bpaf_doc.specs.Splitter.Chunks.{Chunk, Paragraph, LineBreak, is_inked, has_some}
+use Rattle.bpaf_doc.specs.declared.buffer.Block.{Block}
+use Rattle.bpaf_doc.specs.Console.Layout.{Event, Shows, Opens, Closes, is_inline_block, Stretch, Gap, Placed, Passed, Place, chunk_at, event_bytes}
+use Rattle.bpaf_doc.proofs.lemmas.Console.Layout.State.{State, Piece, Lines, none_asked, line_there, line_put, blank_there, second_put, both_put, Pads, Begins, first, stays, wraps, places, drops, Next, raw, break, mark, Grows, placing, breaking, passing, padded, trimmed, cut, Fits, Suits, raw_suits, paragraph_suits, line_break_suits, open_suits, close_suits, on_new_line}
 
 pub by_cases : (b : Bool) → (b ≡ true) ⊎ (b ≡ false)
 by_cases true = inl refl
@@ -19,10 +20,6 @@ EachPlace P (Placed f ∷ r) = P r f × EachPlace P r
 abbrev pub KeepsCut : (List Stretch → Place → Type 0) → Type 0
 KeepsCut P = (r : List Stretch) (f : Place) → is_inked (chunk_at f) ≡ true → P r f → P r (cut f)
 
-pub each_padded : (P : List Stretch → Place → Type 0) (n : ℕ) (r : List Stretch) → EachPlace P r → EachPlace P (padded n r)
-each_padded P zero r h = h
-each_padded P (suc n) r h = each_padded P n r h
-
 -- the trimmed page at each form of its last stretch
 pub trimmed_inked : (e : Place) (r : List Stretch) → is_inked (chunk_at e) ≡ true → trimmed (Placed e ∷ r) ≡ Placed (cut e) ∷ r
 trimmed_inked e r h = rw h refl
@@ -36,30 +33,61 @@ trimmed_bytes event r h = rw h refl
 pub trimmed_bare : (event : Event) (r : List Stretch) → has_some (event_bytes event) ≡ false → trimmed (Passed event ∷ r) ≡ Passed event ∷ trimmed r
 trimmed_bare event r h = rw h refl
 
+-- P of a page with one blank more is P of it with some more
+pub by_padded : (P : List Stretch → Type 0) → ((r : List Stretch) → P r → P (Gap 32 ∷ r)) → (n : ℕ) (r : List Stretch) → P r → P (padded n r)
+by_padded P more zero r h = h
+by_padded P more (suc n) r h = more (padded n r) (by_padded P more n r h)
+
+-- what a blank leaves as it is, some blanks do
+pub same_padded : {X : Type 0} (f : List Stretch → X) → ((r : List Stretch) → f (Gap 32 ∷ r) ≡ f r) → (n : ℕ) (r : List Stretch) → f (padded n r) ≡ f r
+same_padded f same n r = by_padded (λ t. f t ≡ f r) (λ t e. same t ∙ e) n r refl
+
+-- P of the page and of the trimmed page, by the stretch that the page ends in
+pub by_trimmed : (P : List Stretch → List Stretch → Type 0) → P [] [] → ((b : ℕ) (r t : List Stretch) → P r t → P (Gap b ∷ r) t)
+    → ((e : Place) (r : List Stretch) → is_inked (chunk_at e) ≡ true → P (Placed e ∷ r) (Placed (cut e) ∷ r))
+    → ((e : Place) (r t : List Stretch) → is_inked (chunk_at e) ≡ false → P r t → P (Placed e ∷ r) (Passed (Shows e.part (chunk_at e)) ∷ t))
+    → ((event : Event) (r : List Stretch) → has_some (event_bytes event) ≡ true → P (Passed event ∷ r) (Passed event ∷ r))
+    → ((event : Event) (r t : List Stretch) → has_some (event_bytes event) ≡ false → P r t → P (Passed event ∷ r) (Passed event ∷ t))
+    → (r : List Stretch) → P r (trimmed r)
+by_trimmed P none gap inked plain bytes bare [] = none
+by_trimmed P none gap inked plain bytes bare (Gap b ∷ r) = gap b r (trimmed r) (by_trimmed P none gap inked plain bytes bare r)
+by_trimmed P none gap inked plain bytes bare (Placed e ∷ r) = at (by_cases (is_inked (chunk_at e))) (by_trimmed P none gap inked plain bytes bare r) where
+  at : (is_inked (chunk_at e) ≡ true) ⊎ (is_inked (chunk_at e) ≡ false) → P r (trimmed r) → P (Placed e ∷ r) (trimmed (Placed e ∷ r))
+  at (inl i) ih = subst (P (Placed e ∷ r)) (sym (trimmed_inked e r i)) (inked e r i)
+  at (inr i) ih = subst (P (Placed e ∷ r)) (sym (trimmed_plain e r i)) (plain e r (trimmed r) i ih)
+by_trimmed P none gap inked plain bytes bare (Passed event ∷ r) = at (by_cases (has_some (event_bytes event))) (by_trimmed P none gap inked plain bytes bare r) where
+  at : (has_some (event_bytes event) ≡ true) ⊎ (has_some (event_bytes event) ≡ false) → P r (trimmed r) → P (Passed event ∷ r) (trimmed (Passed event ∷ r))
+  at (inl i) ih = subst (P (Passed event ∷ r)) (sym (trimmed_bytes event r i)) (bytes event r i)
+  at (inr i) ih = subst (P (Passed event ∷ r)) (sym (trimmed_bare event r i)) (bare event r (trimmed r) i ih)
+
+-- Q of the page on which all is written that was asked for
+pub by_lines : (Q : State → Type 0) {st mid : State} → Lines st mid → Q st → Q (on_new_line st) → Q (record st { back = Gap 10 ∷ st.back }) → Q (on_new_line (on_new_line st)) → Q mid
+by_lines Q (none_asked a e) same line second both = subst Q (sym e) same
+by_lines Q (line_there a b e) same line second both = subst Q (sym e) same
+by_lines Q (line_put a e) same line second both = subst Q (sym e) line
+by_lines Q (blank_there a b e) same line second both = subst Q (sym e) same
+by_lines Q (second_put a b e) same line second both = subst Q (sym e) second
+by_lines Q (both_put a e) same line second both = subst Q (sym e) both
+
+-- P of its stretches, where one newline more keeps it
+pub lines_back : (P : List Stretch → Type 0) → ((r : List Stretch) → P r → P (Gap 10 ∷ r)) → {st mid : State} → Lines st mid → P st.back → P mid.back
+lines_back P more {st} l h = by_lines (λ s. P s.back) l h (more st.back h) (more st.back h) (more (Gap 10 ∷ st.back) (more st.back h))
+
+-- and P of those before a chunk, where a new line keeps it
+pub begins_back : (P : List Stretch → Type 0) → ((r : List Stretch) → P r → P (Gap 10 ∷ r)) → ((r : List Stretch) → P r → P (Gap 10 ∷ trimmed r))
+    → {width : ℕ} {st : State} {p : Piece} {base : State} → Begins width st p base → P st.back → P base.back
+begins_back P more wrap (first t e) h = subst (λ (s : State). P s.back) (sym e) h
+begins_back P more wrap (stays t l w) h = lines_back P more l h
+begins_back P more wrap (wraps t mid l w b e) h = subst (λ (s : State). P s.back) (sym e) (wrap mid.back (lines_back P more l h))
+
 pub each_trimmed : (P : List Stretch → Place → Type 0) → KeepsCut P → (r : List Stretch) → EachPlace P r → EachPlace P (trimmed r)
-each_trimmed P keeps [] h = h
-each_trimmed P keeps (Gap b ∷ r) h = each_trimmed P keeps r h
-each_trimmed P keeps (Placed e ∷ r) h = at (by_cases (is_inked (chunk_at e))) (each_trimmed P keeps r h.1) where
-  at : (is_inked (chunk_at e) ≡ true) ⊎ (is_inked (chunk_at e) ≡ false) → EachPlace P (trimmed r) → EachPlace P (trimmed (Placed e ∷ r))
-  at (inl i) ih = subst (λ x. EachPlace P x) (sym (trimmed_inked e r i)) (keeps r e i h.0, h.1)
-  at (inr i) ih = subst (λ x. EachPlace P x) (sym (trimmed_plain e r i)) ih
-each_trimmed P keeps (Passed event ∷ r) h = at (by_cases (has_some (event_bytes event))) (each_trimmed P keeps r h) where
-  at : (has_some (event_bytes event) ≡ true) ⊎ (has_some (event_bytes event) ≡ false) → EachPlace P (trimmed r) → EachPlace P (trimmed (Passed event ∷ r))
-  at (inl i) ih = subst (λ x. EachPlace P x) (sym (trimmed_bytes event r i)) h
-  at (inr i) ih = subst (λ x. EachPlace P x) (sym (trimmed_bare event r i)) ih
+each_trimmed P keeps = by_trimmed (λ r t. EachPlace P r → EachPlace P t) (λ h. h) (λ b r t ih h. ih h) (λ e r i h. (keeps r e i h.0, h.1)) (λ e r t i ih h. ih h.1) (λ event r i h. h) (λ event r t i ih h. ih h)
 
 pub each_lines : (P : List Stretch → Place → Type 0) {st mid : State} → Lines st mid → EachPlace P st.back → EachPlace P mid.back
-each_lines P (none_asked a e) h = subst (λ (s : State). EachPlace P s.back) (sym e) h
-each_lines P (line_there a b e) h = subst (λ (s : State). EachPlace P s.back) (sym e) h
-each_lines P (line_put a e) h = subst (λ (s : State). EachPlace P s.back) (sym e) h
-each_lines P (blank_there a b e) h = subst (λ (s : State). EachPlace P s.back) (sym e) h
-each_lines P (second_put a b e) h = subst (λ (s : State). EachPlace P s.back) (sym e) h
-each_lines P (both_put a e) h = subst (λ (s : State). EachPlace P s.back) (sym e) h
+each_lines P l h = lines_back (EachPlace P) (λ r x. x) l h
 
 pub each_begins : (P : List Stretch → Place → Type 0) → KeepsCut P → {width : ℕ} {st : State} {p : Piece} {base : State} → Begins width st p base → EachPlace P st.back → EachPlace P base.back
-each_begins P keeps (first t e) h = subst (λ (s : State). EachPlace P s.back) (sym e) h
-each_begins P keeps (stays t l w) h = each_lines P l h
-each_begins P keeps (wraps t mid l w b e) h = subst (λ (s : State). EachPlace P s.back) (sym e) (each_trimmed P keeps mid.back (each_lines P l h))
+each_begins P keeps b h = begins_back (EachPlace P) (λ r x. x) (each_trimmed P keeps) b h
 
 -- the place that a piece gets
 abbrev pub place_of : Piece → Place
@@ -70,7 +98,7 @@ pub each_grows : (P : List Stretch → Place → Type 0) → KeepsCut P → {wid
     → ((p : Piece) (base : State) (n : ℕ) → next ≡ raw p → Begins width st p base → Pads base n → P (padded n base.back) (place_of p))
     → Grows width st next after → EachPlace P st.back → EachPlace P after.back
 each_grows P keeps core (placing p e (places base n b d a)) h =
-    subst (λ (s : State). EachPlace P s.back) (sym a) (core p base n e b d, each_padded P n base.back (each_begins P keeps b h))
+    subst (λ (s : State). EachPlace P s.back) (sym a) (core p base n e b d, by_padded (EachPlace P) (λ x y. y) n base.back (each_begins P keeps b h))
 each_grows P keeps core (placing p e (drops t mid l w b a)) h =
     subst (λ (s : State). EachPlace P s.back) (sym a) (each_trimmed P keeps mid.back (each_lines P l h))
 each_grows P keeps core (breaking k chunk e a) h = subst (λ (s : State). EachPlace P s.back) (sym a) h
@@ -83,3 +111,26 @@ fits_of (paragraph_suits k e l m) h = absurd cc
 fits_of (line_break_suits k e l m) h = absurd cc
 fits_of (open_suits b margin e l u) h = absurd cc
 fits_of (close_suits b margin e l u) h = absurd cc
+
+-- Q of a mark that comes next, where it opens a block and where it closes one
+pub by_mark : {margin_of : ℕ → ℕ} {st : State} {next : Next} {event : Event} {margin : ℕ} (Q : Event → ℕ → Type 0) → Suits margin_of st next → next ≡ mark event margin
+    → ((b : Block) (m : ℕ) → (is_inline_block b ≡ true → m ≤ st.margin) → m ≤ 18446744073709551615 → Q (Opens b) m)
+    → ((b : Block) (m : ℕ) → m ≤ st.margin → m ≤ 18446744073709551615 → Q (Closes b) m) → Q event margin
+by_mark Q (raw_suits q f g) e opens closes = absurd cc
+by_mark Q (paragraph_suits j f l m) e opens closes = absurd cc
+by_mark Q (line_break_suits j f l m) e opens closes = absurd cc
+by_mark {event = event} {margin = margin} Q (open_suits b n f l u) e opens closes =
+    let same : Opens b ≡ event = cc in let level : n ≡ margin = cc in subst (λ (x : Event). Q x margin) same (subst (Q (Opens b)) level (opens b n l u))
+by_mark {event = event} {margin = margin} Q (close_suits b n f l u) e opens closes =
+    let same : Closes b ≡ event = cc in let level : n ≡ margin = cc in subst (λ (x : Event). Q x margin) same (subst (Q (Closes b)) level (closes b n l u))
+
+-- Q of a break that comes next, at a Paragraph and at a LineBreak
+pub by_break : {margin_of : ℕ → ℕ} {st : State} {next : Next} {k : ℕ} {chunk : Chunk} (Q : Chunk → ℕ → Type 0) → Suits margin_of st next → next ≡ break k chunk
+    → ((j : ℕ) → st.latest ≤ j → (st.marked ≡ true → st.latest < j) → Q Paragraph j) → ((j : ℕ) → st.latest ≤ j → (st.marked ≡ true → st.latest < j) → Q LineBreak j) → Q chunk k
+by_break Q (raw_suits q f g) e paragraph line = absurd cc
+by_break {k = k} {chunk = chunk} Q (paragraph_suits j f l m) e paragraph line =
+    let same : Paragraph ≡ chunk = cc in let part : j ≡ k = cc in subst (λ (c : Chunk). Q c k) same (subst (Q Paragraph) part (paragraph j l m))
+by_break {k = k} {chunk = chunk} Q (line_break_suits j f l m) e paragraph line =
+    let same : LineBreak ≡ chunk = cc in let part : j ≡ k = cc in subst (λ (c : Chunk). Q c k) same (subst (Q LineBreak) part (line j l m))
+by_break Q (open_suits b margin f l u) e paragraph line = absurd cc
+by_break Q (close_suits b margin f l u) e paragraph line = absurd cc

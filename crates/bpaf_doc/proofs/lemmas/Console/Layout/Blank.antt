@@ -4,16 +4,16 @@ use Rattle.std.specs.List.{list_any}
 use Rattle.std.proofs.Common.{sym, subst, ap, arith, inl, inr, ◌∙◌, append_assoc}
 use Rattle.std.proofs.lemmas.List.{reverse-append, append-nil}
 use Rattle.std.proofs.lemmas.Grind.{flat_map-append}
-use Rattle.std.proofs.lemmas.Bool.Decides.{nat_tests}
-use Rattle.bpaf_doc.specs.Splitter.Chunks.{Chunk, Paragraph, LineBreak, columns, is_inked, has_some}
+use Rattle.std.proofs.lemmas.Bool.{and_parts, eqb-true, or_cases}
+use Rattle.bpaf_doc.specs.Splitter.Chunks.{Chunk, columns, is_inked, has_some}
 use Rattle.bpaf_doc.specs.Console.Layout.{Event, Shows, Stretch, Gap, Placed, Passed, Place, chunk_at, event_bytes, stretch_bytes, is_inked_stretch, asks_newline, asks_blank_line, is_raw_event, text_of, HasBlankLine}
 use Rattle.bpaf_doc.specs.declared.console.page.Asked.{Asked}
 use Rattle.bpaf_doc.specs.declared.console.page.Asked.TheVariants.{Nothing, NewLine, BlankLine}
-use Rattle.bpaf_doc.proofs.lemmas.Console.Layout.State.{State, Piece, Lines, none_asked, line_there, line_put, blank_there, second_put, both_put, Pads, Begins, first, stays, wraps, places, drops, Next, raw, break, Grows, placing, breaking, passing, padded, trimmed, has_text, ends_line, ends_blank, passed, at_least_line, Suits, raw_suits, paragraph_suits, line_break_suits, open_suits, close_suits}
-use Rattle.bpaf_doc.proofs.lemmas.Console.Layout.Back.{by_cases, EachPlace, each_grows, trimmed_inked, trimmed_plain, trimmed_bytes, trimmed_bare, place_of}
-use Rattle.bpaf_doc.proofs.lemmas.Console.Layout.Columns.{Fills, inked_some, fills_begins}
+use Rattle.bpaf_doc.proofs.lemmas.Console.Layout.State.{State, Piece, Lines, none_asked, line_there, line_put, blank_there, second_put, both_put, Pads, Begins, first, stays, wraps, places, drops, Next, raw, break, Grows, placing, breaking, passing, padded, trimmed, has_text, ends_line, ends_blank, passed, at_least_line, Suits}
+use Rattle.bpaf_doc.proofs.lemmas.Console.Layout.Back.{by_cases, EachPlace, each_grows, place_of, lines_back, by_trimmed, same_padded, by_break}
+use Rattle.bpaf_doc.proofs.lemmas.Console.Layout.Columns.{Fills, inked_some, fills_begins, no_bytes}
 use Rattle.bpaf_doc.proofs.lemmas.Console.Layout.Text.{EachPassed, NoInk, ink_text, or_true_right, or_false_left, or_false_right}
-use Rattle.bpaf_doc.proofs.lemmas.Console.Layout.Split.{events_back, events_padded, Cut, AfterPads, cut_padded, ink_at}
+use Rattle.bpaf_doc.proofs.lemmas.Console.Layout.Split.{events_back, Cut, AfterPads, cut_padded, ink_at}
 use Rattle.bpaf_doc.proofs.lemmas.Console.Layout.Asked.{blank_line_ends}
 
 -- the last Raw chunk is inked
@@ -48,15 +48,11 @@ fresh_grows (placing p e (places base n b d a)) h = subst IsFreshAtZero (sym a) 
 fresh_grows (placing p e (drops t mid l w b a)) h = subst IsFreshAtZero (sym a) (λ o. refl)
 fresh_grows (breaking k chunk e a) h = subst IsFreshAtZero (sym a) (λ o. refl)
 fresh_grows {st = st} (passing event margin e a) h = subst IsFreshAtZero (sym a) (at (by_cases (has_some (event_bytes event)))) where
-  no_length : (xs : List ℕ) → has_some xs ≡ false → length xs ≡ 0
-  no_length [] h = refl
-  no_length (x ∷ xs) h = absurd cc
-
   at : (has_some (event_bytes event) ≡ true) ⊎ (has_some (event_bytes event) ≡ false) → IsFreshAtZero (passed event margin st)
   at (inl s) = λ o. let no : false ≡ true = rw s at o in absurd cc
   at (inr s) = λ o.
       let rest : is_fresh st.back ≡ true = rw s at o in
-      let none : length (event_bytes event) ≡ 0 = no_length (event_bytes event) s in
+      let none : length (event_bytes event) ≡ 0 = no_bytes (event_bytes event) s in
       let here : st.column ≡ 0 = h rest in omega arith
 
 last_fresh : (r : List Stretch) → EachPlace Fills r → last_raw_inked r ≡ true → ends_line r ≡ true → is_fresh r ≡ true
@@ -75,24 +71,15 @@ owes_fresh [] f o h = h
 owes_fresh (Gap b ∷ r) f o h = h
 owes_fresh (Placed e ∷ r) f o h = absurd cc
 owes_fresh (Passed event ∷ r) f o h = at (by_cases (is_raw_event event)) (by_cases (has_some (event_bytes event))) (by_cases (owes_blank r)) (owes_fresh r f) where
-  or_left : (a b : Bool) → (a || b) ≡ true → b ≡ false → a ≡ true
-  or_left true b h f = refl
-  or_left false b h f = absurd cc
-
-  and_right : (a b : Bool) → (a && b) ≡ true → b ≡ true
-  and_right true b h = h
-  and_right false b h = absurd cc
-
   at : (is_raw_event event ≡ true) ⊎ (is_raw_event event ≡ false) → (has_some (event_bytes event) ≡ true) ⊎ (has_some (event_bytes event) ≡ false)
       → (owes_blank r ≡ true) ⊎ (owes_blank r ≡ false) → (owes_blank r ≡ true → ends_line r ≡ true → is_fresh r ≡ true) → is_fresh (Passed event ∷ r) ≡ true
   at (inl x) s y ih = let no : false ≡ true = rw x at o in absurd cc
   at (inr x) (inl s) y ih = let no : false ≡ true = rw s at h in absurd cc
   at (inr x) (inr s) (inl y) ih = let rest : ends_line r ≡ true = rw s at h in rw s (ih y rest)
   at (inr x) (inr s) (inr y) ih =
-      let both : ((asks_blank_line event && last_raw_inked r) || owes_blank r) ≡ true = rw x at o in
-      let last : (asks_blank_line event && last_raw_inked r) ≡ true = or_left (asks_blank_line event && last_raw_inked r) (owes_blank r) both y in
+      let last : (asks_blank_line event && last_raw_inked r) ≡ true = grind arith in
       let rest : ends_line r ≡ true = rw s at h in
-      rw s (last_fresh r f (and_right (asks_blank_line event) (last_raw_inked r) last) rest)
+      rw s (last_fresh r f (and_parts (asks_blank_line event) (last_raw_inked r) last).1 rest)
 
 -- ---- what is owed is asked for
 
@@ -110,11 +97,7 @@ asked_blank_passed event margin st h = at (by_cases (is_raw_event event)) (by_ca
 
 asked_blank_broken : {margin_of : ℕ → ℕ} (st : State) (next : Next) (k : ℕ) (chunk : Chunk) → Suits margin_of st next → next ≡ break k chunk
     → (is_raw_event (Shows k chunk) ≡ false) × (asks_blank_line (Shows k chunk) ≡ false)
-asked_blank_broken st next k chunk (raw_suits q f g) e = absurd cc
-asked_blank_broken st next k chunk (paragraph_suits j f l m) e = let same : chunk ≡ Paragraph = cc in (rw same refl, refl)
-asked_blank_broken st next k chunk (line_break_suits j f l m) e = let same : chunk ≡ LineBreak = cc in (rw same refl, refl)
-asked_blank_broken st next k chunk (open_suits b margin f l u) e = absurd cc
-asked_blank_broken st next k chunk (close_suits b margin f l u) e = absurd cc
+asked_blank_broken st next k chunk suits e = by_break (λ c j. (is_raw_event (Shows j c) ≡ false) × (asks_blank_line (Shows j c) ≡ false)) suits e (λ j l m. (refl, refl)) (λ j l m. (refl, refl))
 
 pub asked_blank_grows : {width : ℕ} {margin_of : ℕ → ℕ} {st after : State} {next : Next} → Suits margin_of st next
     → Grows width st next after → IsAskedBlank st → IsAskedBlank after
@@ -136,7 +119,7 @@ text_back_cons x m =
     let turned : reverse (x ∷ m) ≡ reverse m ++ x ∷ [] = reverse-append (x ∷ []) m in
     ap text_of turned ∙ flat_map-append stretch_bytes (reverse m) (x ∷ []) ∙ ap (λ t. text_back m ++ t) (append-nil (stretch_bytes x))
 
-some_none : (xs : List ℕ) → has_some xs ≡ false → xs ≡ []
+pub some_none : (xs : List ℕ) → has_some xs ≡ false → xs ≡ []
 some_none [] h = refl
 some_none (x ∷ xs) h = absurd cc
 
@@ -151,10 +134,8 @@ HasNoRaw m = list_any is_raw_event (events_back m) ≡ false
 line_between : (m : List Stretch) (e : Place) (before : List Stretch) → HasNoRaw m → has_some e.shown ≡ true → ends_line (m ++ Placed e ∷ before) ≡ true → EndsLine m
 line_between [] e before none some h = let no : false ≡ true = rw some at h in absurd cc
 line_between (Gap b ∷ m) e before none some h =
-    let ten : b ≡ 10 = is_ten b h in
-    (text_back m, text_back_cons (Gap b) m ∙ ap (λ c. text_back m ++ c ∷ []) ten) where
-      is_ten : (b : ℕ) → (b == 10) ≡ true → b ≡ 10
-      is_ten b e = grind (arith, nat_tests)
+    let ten : b ≡ 10 = eqb-true b 10 h in
+    (text_back m, text_back_cons (Gap b) m ∙ ap (λ c. text_back m ++ c ∷ []) ten)
 line_between (Placed g ∷ m) e before none some h = absurd cc
 line_between (Passed event ∷ m) e before none some h = at (by_cases (has_some (event_bytes event))) (line_between m e before (or_false_right (is_raw_event event) _ none) some) where
   at : (has_some (event_bytes event) ≡ true) ⊎ (has_some (event_bytes event) ≡ false) → (ends_line (m ++ Placed e ∷ before) ≡ true → EndsLine m) → EndsLine (Passed event ∷ m)
@@ -168,19 +149,9 @@ line_between (Passed event ∷ m) e before none some h = at (by_cases (has_some 
 blank_between : (m : List Stretch) (e : Place) (before : List Stretch) → HasNoRaw m → has_some e.shown ≡ true → ends_blank (m ++ Placed e ∷ before) ≡ true → HasBlankLine (text_back m)
 blank_between [] e before none some h = let no : false ≡ true = rw some at h in absurd cc
 blank_between (Gap b ∷ m) e before none some h =
-    let ten : b ≡ 10 = is_ten b (and_left (b == 10) _ h) in
-    let line : EndsLine m = line_between m e before none some (and_right (b == 10) _ h) in
-    (line.0, [], text_back_cons (Gap b) m ∙ ap (λ t. t ++ b ∷ []) line.1 ∙ ap (λ c. (line.0 ++ codes "\n") ++ c ∷ []) ten ∙ append_assoc line.0 (codes "\n") (codes "\n") ∙ sym (append-nil (line.0 ++ codes "\n\n"))) where
-      is_ten : (b : ℕ) → (b == 10) ≡ true → b ≡ 10
-      is_ten b e = grind (arith, nat_tests)
-
-      and_left : (a b : Bool) → (a && b) ≡ true → a ≡ true
-      and_left true b h = refl
-      and_left false b h = absurd cc
-
-      and_right : (a b : Bool) → (a && b) ≡ true → b ≡ true
-      and_right true b h = h
-      and_right false b h = absurd cc
+    let ten : b ≡ 10 = eqb-true b 10 (and_parts (b == 10) _ h).0 in
+    let line : EndsLine m = line_between m e before none some (and_parts (b == 10) _ h).1 in
+    (line.0, [], text_back_cons (Gap b) m ∙ ap (λ t. t ++ b ∷ []) line.1 ∙ ap (λ c. (line.0 ++ codes "\n") ++ c ∷ []) ten ∙ append_assoc line.0 (codes "\n") (codes "\n") ∙ sym (append-nil (line.0 ++ codes "\n\n")))
 blank_between (Placed g ∷ m) e before none some h = absurd cc
 blank_between (Passed event ∷ m) e before none some h = at (by_cases (has_some (event_bytes event))) (blank_between m e before (or_false_right (is_raw_event event) _ none) some) where
   at : (has_some (event_bytes event) ≡ true) ⊎ (has_some (event_bytes event) ≡ false) → (ends_blank (m ++ Placed e ∷ before) ≡ true → HasBlankLine (text_back m)) → HasBlankLine (text_back (Passed event ∷ m))
@@ -200,12 +171,8 @@ blank_padded (suc n) m h = blank_longer (padded n m) (Gap 32) (blank_padded n m 
 
 -- ---- the law
 
-owes_padded : (n : ℕ) (r : List Stretch) → owes_blank (padded n r) ≡ owes_blank r
-owes_padded zero r = refl
-owes_padded (suc n) r = owes_padded n r
-
 raw_padded : (n : ℕ) (m : List Stretch) → HasNoRaw (padded n m) → HasNoRaw m
-raw_padded n m h = subst (λ es. list_any is_raw_event es ≡ false) (events_padded n m) h
+raw_padded n m h = subst (λ es. list_any is_raw_event es ≡ false) (same_padded events_back (λ x. refl) n m) h
 
 last_between : (m : List Stretch) (e : Place) (before : List Stretch) → HasNoRaw m → is_inked (chunk_at e) ≡ true → last_raw_inked (m ++ Placed e ∷ before) ≡ true
 last_between [] e before none i = i
@@ -245,12 +212,7 @@ module _ (width : ℕ) where
   lines_blank h o (both_put a e) = subst (λ (s : State). ends_blank s.back ≡ true) (sym e) refl
 
   owes_lines : {st mid : State} → Lines st mid → owes_blank mid.back ≡ owes_blank st.back
-  owes_lines (none_asked a e) = ap (λ (s : State). owes_blank s.back) e
-  owes_lines (line_there a b e) = ap (λ (s : State). owes_blank s.back) e
-  owes_lines (line_put a e) = ap (λ (s : State). owes_blank s.back) e
-  owes_lines (blank_there a b e) = ap (λ (s : State). owes_blank s.back) e
-  owes_lines (second_put a b e) = ap (λ (s : State). owes_blank s.back) e
-  owes_lines (both_put a e) = ap (λ (s : State). owes_blank s.back) e
+  owes_lines {st} l = lines_back (λ r. owes_blank r ≡ owes_blank st.back) (λ r x. x) l refl
 
   -- after a blank line was written the column is 0
   lines_zero : {st mid : State} → EachPlace Fills st.back → IsAskedBlank st → IsFreshAtZero st → owes_blank st.back ≡ true → Lines st mid → mid.column ≡ 0
@@ -261,52 +223,22 @@ module _ (width : ℕ) where
   lines_zero {st} f h z o (second_put a b e) = ap (λ (s : State). s.column) e ∙ z (owes_fresh st.back f o b)
   lines_zero f h z o (both_put a e) = ap (λ (s : State). s.column) e
 
-  last_trimmed : (r : List Stretch) → last_raw_inked (trimmed r) ≡ true → last_raw_inked r ≡ true
-  last_trimmed [] h = h
-  last_trimmed (Gap b ∷ r) h = last_trimmed r h
-  last_trimmed (Placed e ∷ r) h = at (by_cases (is_inked (chunk_at e))) where
-    at : (is_inked (chunk_at e) ≡ true) ⊎ (is_inked (chunk_at e) ≡ false) → is_inked (chunk_at e) ≡ true
-    at (inl i) = i
-    at (inr i) = let no : false ≡ true = subst (λ x. last_raw_inked x ≡ true) (trimmed_plain e r i) h in absurd cc
-  last_trimmed (Passed event ∷ r) h = at (by_cases (has_some (event_bytes event))) (by_cases (is_raw_event event)) (last_trimmed r) where
-    at : (has_some (event_bytes event) ≡ true) ⊎ (has_some (event_bytes event) ≡ false) → (is_raw_event event ≡ true) ⊎ (is_raw_event event ≡ false)
-        → (last_raw_inked (trimmed r) ≡ true → last_raw_inked r ≡ true) → last_raw_inked (Passed event ∷ r) ≡ true
-    at (inl i) x ih = subst (λ y. last_raw_inked y ≡ true) (trimmed_bytes event r i) h
-    at (inr i) (inl x) ih = let g : last_raw_inked (Passed event ∷ trimmed r) ≡ true = subst (λ y. last_raw_inked y ≡ true) (trimmed_bare event r i) h in let no : false ≡ true = rw x at g in absurd cc
-    at (inr i) (inr x) ih = let g : last_raw_inked (Passed event ∷ trimmed r) ≡ true = subst (λ y. last_raw_inked y ≡ true) (trimmed_bare event r i) h in let rest : last_raw_inked (trimmed r) ≡ true = rw x at g in rw x (ih rest)
+  abbrev Owes : List Stretch → List Stretch → Type 0
+  Owes r t = (last_raw_inked t ≡ true → last_raw_inked r ≡ true) × (owes_blank t ≡ true → owes_blank r ≡ true)
 
-  owes_trimmed : (r : List Stretch) → owes_blank (trimmed r) ≡ true → owes_blank r ≡ true
-  owes_trimmed [] h = h
-  owes_trimmed (Gap b ∷ r) h = owes_trimmed r h
-  owes_trimmed (Placed e ∷ r) h = at (by_cases (is_inked (chunk_at e))) where
-    at : (is_inked (chunk_at e) ≡ true) ⊎ (is_inked (chunk_at e) ≡ false) → false ≡ true
-    at (inl i) = subst (λ x. owes_blank x ≡ true) (trimmed_inked e r i) h
-    at (inr i) = subst (λ x. owes_blank x ≡ true) (trimmed_plain e r i) h
-  owes_trimmed (Passed event ∷ r) h = at (by_cases (has_some (event_bytes event))) (by_cases (is_raw_event event)) (by_cases (owes_blank (trimmed r))) (owes_trimmed r) where
-    or_left : (a b : Bool) → (a || b) ≡ true → b ≡ false → a ≡ true
-    or_left true b h f = refl
-    or_left false b h f = absurd cc
+  owes_trimmed : (r : List Stretch) → (last_raw_inked (trimmed r) ≡ true → last_raw_inked r ≡ true) × (owes_blank (trimmed r) ≡ true → owes_blank r ≡ true)
+  owes_trimmed = by_trimmed Owes ((λ h. h), (λ h. h)) (λ b r t ih. ih) (λ e r i. ((λ h. i), (λ h. h))) (λ e r t i ih. ((λ h. absurd cc), (λ h. h))) (λ event r i. ((λ h. h), (λ h. h)))
+      (λ event r t i ih. at event r t (by_cases (is_raw_event event)) ih) where
+        owed : (event : Event) (r t : List Stretch) → Owes r t → ((asks_blank_line event && last_raw_inked t) ≡ true) ⊎ (owes_blank t ≡ true)
+            → ((asks_blank_line event && last_raw_inked r) || owes_blank r) ≡ true
+        owed event r t ih (inl last) =
+            let both : (asks_blank_line event ≡ true) × (last_raw_inked t ≡ true) = and_parts (asks_blank_line event) (last_raw_inked t) last in
+            rw (both.0, ih.0 both.1) refl
+        owed event r t ih (inr owes) = or_true_right (asks_blank_line event && last_raw_inked r) (owes_blank r) (ih.1 owes)
 
-    and_left : (a b : Bool) → (a && b) ≡ true → a ≡ true
-    and_left true b h = refl
-    and_left false b h = absurd cc
-
-    and_right : (a b : Bool) → (a && b) ≡ true → b ≡ true
-    and_right true b h = h
-    and_right false b h = absurd cc
-
-    at : (has_some (event_bytes event) ≡ true) ⊎ (has_some (event_bytes event) ≡ false) → (is_raw_event event ≡ true) ⊎ (is_raw_event event ≡ false)
-        → (owes_blank (trimmed r) ≡ true) ⊎ (owes_blank (trimmed r) ≡ false) → (owes_blank (trimmed r) ≡ true → owes_blank r ≡ true) → owes_blank (Passed event ∷ r) ≡ true
-    at (inl i) x y ih = subst (λ z. owes_blank z ≡ true) (trimmed_bytes event r i) h
-    at (inr i) (inl x) y ih = let g : owes_blank (Passed event ∷ trimmed r) ≡ true = subst (λ z. owes_blank z ≡ true) (trimmed_bare event r i) h in let no : false ≡ true = rw x at g in absurd cc
-    at (inr i) (inr x) (inl y) ih = rw x (or_true_right (asks_blank_line event && last_raw_inked r) (owes_blank r) (ih y))
-    at (inr i) (inr x) (inr y) ih =
-        let g : owes_blank (Passed event ∷ trimmed r) ≡ true = subst (λ z. owes_blank z ≡ true) (trimmed_bare event r i) h in
-        let both : ((asks_blank_line event && last_raw_inked (trimmed r)) || owes_blank (trimmed r)) ≡ true = rw x at g in
-        let last : (asks_blank_line event && last_raw_inked (trimmed r)) ≡ true = or_left _ (owes_blank (trimmed r)) both y in
-        let asks : asks_blank_line event ≡ true = and_left (asks_blank_line event) (last_raw_inked (trimmed r)) last in
-        let inked : last_raw_inked r ≡ true = last_trimmed r (and_right (asks_blank_line event) (last_raw_inked (trimmed r)) last) in
-        rw (x, asks, inked) refl
+        at : (event : Event) (r t : List Stretch) → (is_raw_event event ≡ true) ⊎ (is_raw_event event ≡ false) → Owes r t → Owes (Passed event ∷ r) (Passed event ∷ t)
+        at event r t (inl x) ih = rw x ((λ h. absurd cc), (λ h. absurd cc))
+        at event r t (inr x) ih = rw x (ih.0, λ h. owed event r t ih (or_cases (asks_blank_line event && last_raw_inked t) (owes_blank t) h))
 
   blank_begins : {st : State} {p : Piece} {base : State} → EachPlace Fills st.back → EachPassed NoInk st.back → IsAskedBlank st → IsFreshAtZero st
       → Begins width st p base → columns p.bytes ≤ width → (m before : List Stretch) (e : Place) → Cut base.back m e before → is_inked (chunk_at e) ≡ true
@@ -317,7 +249,7 @@ module _ (width : ℕ) where
   blank_begins f q h z (stays t l w) c m before e there i o = lines_blank h (sym (owes_lines l) ∙ o) l
   blank_begins {st = st} f q h z (wraps t mid l w b s) c m before e there i o =
       let kept : owes_blank (trimmed mid.back) ≡ true = subst (λ (x : State). owes_blank x.back ≡ true) s o in
-      let owed : owes_blank st.back ≡ true = sym (owes_lines l) ∙ owes_trimmed mid.back kept in
+      let owed : owes_blank st.back ≡ true = sym (owes_lines l) ∙ (owes_trimmed mid.back).1 kept in
       let zero_column : mid.column ≡ 0 = lines_zero f h z owed l in
       absurd (omega arith)
 
@@ -327,9 +259,8 @@ module _ (width : ℕ) where
     core : (p : Piece) (base : State) (n : ℕ) → next ≡ raw p → Begins width st p base → Pads base n → HasBlankBefore (padded n base.back) (place_of p)
     core p base n is b d = λ m before e there i none asks fits.
         let cut_there : AfterPads n base.back m e before = cut_padded n base.back m e before there in
-        let rest : List Stretch = cut_there.rest in
         let bare : HasNoRaw cut_there.rest = raw_padded n cut_there.rest (subst HasNoRaw cut_there.is none) in
-        let asked : list_any asks_blank_line (events_back cut_there.rest) ≡ true = subst (λ es. list_any asks_blank_line es ≡ true) (ap events_back cut_there.is ∙ events_padded n cut_there.rest) asks in
+        let asked : list_any asks_blank_line (events_back cut_there.rest) ≡ true = subst (λ es. list_any asks_blank_line es ≡ true) (ap events_back cut_there.is ∙ same_padded events_back (λ x. refl) n cut_there.rest) asks in
         let owed : owes_blank base.back ≡ true = subst (λ x. owes_blank x ≡ true) (sym cut_there.there) (owes_between cut_there.rest e before bare i asked) in
         let ends : ends_blank base.back ≡ true = blank_begins f q h z b fits cut_there.rest before e cut_there.there i owed in
         let shown : has_some e.shown ≡ true = inked_shown cut_there.rest e before (subst (λ x. EachPlace Fills x) cut_there.there (fills_begins b f)) i in

@@ -2,11 +2,11 @@
 use Rattle.std.specs.Prelude.{◌≡◌, ℕ, zero, suc, ◌+◌, ◌<◌, ◌≤◌, max, ⊤, true, false, List, [], ◌∷◌, length, refl, ◌⊎◌}
 use Rattle.std.proofs.Common.{sym, subst, ap, arith, inl, inr, ◌∙◌}
 use Rattle.std.proofs.lemmas.Bool.{cases_lt}
-use Rattle.bpaf_doc.specs.Splitter.Chunks.{columns, is_inked, has_some}
-use Rattle.bpaf_doc.specs.Console.Layout.{Event, Stretch, Gap, Placed, Passed, chunk_at, event_bytes}
-use Rattle.bpaf_doc.proofs.lemmas.Console.Layout.State.{State, Piece, Lines, none_asked, line_there, line_put, blank_there, second_put, both_put, Pads, to_margin, after_term, Begins, first, stays, wraps, places, drops, Next, raw, break, mark, Grows, placing, breaking, passing, padded, trimmed}
-use Rattle.bpaf_doc.proofs.lemmas.Console.Layout.Back.{by_cases, EachPlace, trimmed_inked, trimmed_plain, trimmed_bare}
-use Rattle.bpaf_doc.proofs.lemmas.Console.Layout.Columns.{Fills, column_back, column_padded, no_text_column, Agrees, agrees_lines}
+use Rattle.bpaf_doc.specs.Splitter.Chunks.{columns, has_some}
+use Rattle.bpaf_doc.specs.Console.Layout.{Event, Stretch, event_bytes}
+use Rattle.bpaf_doc.proofs.lemmas.Console.Layout.State.{State, Piece, Lines, Pads, to_margin, after_term, Begins, first, stays, wraps, places, drops, Next, raw, break, mark, Grows, placing, breaking, passing, padded, trimmed}
+use Rattle.bpaf_doc.proofs.lemmas.Console.Layout.Back.{EachPlace, lines_back, begins_back, by_trimmed, by_padded}
+use Rattle.bpaf_doc.proofs.lemmas.Console.Layout.Columns.{Fills, column_back, column_padded, no_text_column, Agrees, agrees_lines, no_bytes}
 use Rattle.bpaf_doc.proofs.lemmas.Console.Layout.Text.{EachPassed, lines_margin}
 
 -- Q of what stands up to each stretch
@@ -30,56 +30,24 @@ within_padded bound (suc n) r l h =
     (let c : column_back (padded n r) ≡ n + column_back r = column_padded n r in omega arith, within_padded bound n r (omega arith) h)
 
 within_trimmed : (bound : ℕ) (r : List Stretch) → EachPassed IsBare r → EachFront (Within bound) r → EachFront (Within bound) (trimmed r)
-within_trimmed bound [] q h = h
-within_trimmed bound (Gap b ∷ r) q h = within_trimmed bound r q h.1
-within_trimmed bound (Placed e ∷ r) q h = at (by_cases (is_inked (chunk_at e))) (within_trimmed bound r q h.1) where
-  at : (is_inked (chunk_at e) ≡ true) ⊎ (is_inked (chunk_at e) ≡ false) → EachFront (Within bound) (trimmed r) → EachFront (Within bound) (trimmed (Placed e ∷ r))
-  at (inl i) ih = subst (λ x. EachFront (Within bound) x) (sym (trimmed_inked e r i)) (h.0, h.1)
-  at (inr i) ih = subst (λ x. EachFront (Within bound) x) (sym (trimmed_plain e r i)) (let front : column_back (trimmed r) ≤ bound = whole_front (Within bound) (trimmed r) ih in omega arith, ih)
-within_trimmed bound (Passed event ∷ r) q h = at q.0 (within_trimmed bound r q.1 h.1) where
-  no_length : (xs : List ℕ) → has_some xs ≡ false → length xs ≡ 0
-  no_length [] h = refl
-  no_length (x ∷ xs) h = absurd cc
-
-  at : has_some (event_bytes event) ≡ false → EachFront (Within bound) (trimmed r) → EachFront (Within bound) (trimmed (Passed event ∷ r))
-  at i ih = subst (λ x. EachFront (Within bound) x) (sym (trimmed_bare event r i))
-      (let front : column_back (trimmed r) ≤ bound = whole_front (Within bound) (trimmed r) ih in let none : length (event_bytes event) ≡ 0 = no_length (event_bytes event) i in omega arith, ih)
+within_trimmed bound = by_trimmed (λ r t. EachPassed IsBare r → EachFront (Within bound) r → EachFront (Within bound) t) (λ q h. h) (λ b r t ih q h. ih q h.1) (λ e r i q h. h)
+    (λ e r t i ih q h. let front : column_back t ≤ bound = whole_front (Within bound) t (ih q h.1) in (omega arith, ih q h.1))
+    (λ event r i q h. let no : true ≡ false = sym i ∙ q.0 in absurd cc)
+    (λ event r t i ih q h.
+    let front : column_back t ≤ bound = whole_front (Within bound) t (ih q.1 h.1) in
+    let none : length (event_bytes event) ≡ 0 = no_bytes (event_bytes event) i in (omega arith, ih q.1 h.1))
 
 within_lines : (bound : ℕ) {st mid : State} → Lines st mid → EachFront (Within bound) st.back → EachFront (Within bound) mid.back
-within_lines bound (none_asked a e) h = subst (λ (s : State). EachFront (Within bound) s.back) (sym e) h
-within_lines bound (line_there a b e) h = subst (λ (s : State). EachFront (Within bound) s.back) (sym e) h
-within_lines bound (line_put a e) h = subst (λ (s : State). EachFront (Within bound) s.back) (sym e) (omega arith, h)
-within_lines bound (blank_there a b e) h = subst (λ (s : State). EachFront (Within bound) s.back) (sym e) h
-within_lines bound (second_put a b e) h = subst (λ (s : State). EachFront (Within bound) s.back) (sym e) (omega arith, h)
-within_lines bound (both_put a e) h = subst (λ (s : State). EachFront (Within bound) s.back) (sym e) (omega arith, (omega arith, h))
+within_lines bound l h = lines_back (EachFront (Within bound)) (λ r x. (omega arith, x)) l h
 
 bare_lines : {st mid : State} → Lines st mid → EachPassed IsBare st.back → EachPassed IsBare mid.back
-bare_lines (none_asked a e) h = subst (λ (s : State). EachPassed IsBare s.back) (sym e) h
-bare_lines (line_there a b e) h = subst (λ (s : State). EachPassed IsBare s.back) (sym e) h
-bare_lines (line_put a e) h = subst (λ (s : State). EachPassed IsBare s.back) (sym e) h
-bare_lines (blank_there a b e) h = subst (λ (s : State). EachPassed IsBare s.back) (sym e) h
-bare_lines (second_put a b e) h = subst (λ (s : State). EachPassed IsBare s.back) (sym e) h
-bare_lines (both_put a e) h = subst (λ (s : State). EachPassed IsBare s.back) (sym e) h
+bare_lines l h = lines_back (EachPassed IsBare) (λ r x. x) l h
 
 bare_trimmed : (r : List Stretch) → EachPassed IsBare r → EachPassed IsBare (trimmed r)
-bare_trimmed [] h = h
-bare_trimmed (Gap b ∷ r) h = bare_trimmed r h
-bare_trimmed (Placed e ∷ r) h = at (by_cases (is_inked (chunk_at e))) (bare_trimmed r h) where
-  at : (is_inked (chunk_at e) ≡ true) ⊎ (is_inked (chunk_at e) ≡ false) → EachPassed IsBare (trimmed r) → EachPassed IsBare (trimmed (Placed e ∷ r))
-  at (inl i) ih = subst (λ x. EachPassed IsBare x) (sym (trimmed_inked e r i)) h
-  at (inr i) ih = subst (λ x. EachPassed IsBare x) (sym (trimmed_plain e r i)) (refl, ih)
-bare_trimmed (Passed event ∷ r) h = at h.0 (bare_trimmed r h.1) where
-  at : has_some (event_bytes event) ≡ false → EachPassed IsBare (trimmed r) → EachPassed IsBare (trimmed (Passed event ∷ r))
-  at i ih = subst (λ x. EachPassed IsBare x) (sym (trimmed_bare event r i)) (i, ih)
-
-bare_padded : (n : ℕ) (r : List Stretch) → EachPassed IsBare r → EachPassed IsBare (padded n r)
-bare_padded zero r h = h
-bare_padded (suc n) r h = bare_padded n r h
+bare_trimmed = by_trimmed (λ r t. EachPassed IsBare r → EachPassed IsBare t) (λ h. h) (λ b r t ih h. ih h) (λ e r i h. h) (λ e r t i ih h. (refl, ih h)) (λ event r i h. h) (λ event r t i ih h. (h.0, ih h.1))
 
 bare_begins : {width : ℕ} {st : State} {p : Piece} {base : State} → Begins width st p base → EachPassed IsBare st.back → EachPassed IsBare base.back
-bare_begins (first t e) h = subst (λ (s : State). EachPassed IsBare s.back) (sym e) h
-bare_begins (stays t l w) h = bare_lines l h
-bare_begins (wraps t mid l w b e) h = subst (λ (s : State). EachPassed IsBare s.back) (sym e) (bare_trimmed mid.back (bare_lines l h))
+bare_begins b h = begins_back (EachPassed IsBare) (λ r x. x) bare_trimmed b h
 
 -- what comes writes no backquote
 abbrev pub WritesNone : Next → Type 0
@@ -88,7 +56,7 @@ WritesNone (break k chunk) = ⊤
 WritesNone (mark event margin) = IsBare event
 
 pub bare_grows : {width : ℕ} {st after : State} {next : Next} → WritesNone next → Grows width st next after → EachPassed IsBare st.back → EachPassed IsBare after.back
-bare_grows writes (placing p e (places base n b d a)) h = subst (λ (s : State). EachPassed IsBare s.back) (sym a) (bare_padded n base.back (bare_begins b h))
+bare_grows writes (placing p e (places base n b d a)) h = subst (λ (s : State). EachPassed IsBare s.back) (sym a) (by_padded (EachPassed IsBare) (λ x y. y) n base.back (bare_begins b h))
 bare_grows writes (placing p e (drops t mid l w b a)) h = subst (λ (s : State). EachPassed IsBare s.back) (sym a) (refl, bare_trimmed mid.back (bare_lines l h))
 bare_grows writes (breaking k chunk e a) h = subst (λ (s : State). EachPassed IsBare s.back) (sym a) (refl, h)
 bare_grows writes (passing event margin e a) h = subst (λ (s : State). EachPassed IsBare s.back) (sym a) (subst WritesNone e writes, h)
@@ -111,10 +79,7 @@ module _ (width deepest most : ℕ) where
 
   within_pads : (n : ℕ) (base : State) → base.margin ≤ deepest → base.column ≡ column_back base.back → Pads base n
       → (n + column_back base.back ≤ deepest + 2) ⊎ (n + column_back base.back ≤ 2 + base.column)
-  within_pads n base m c (to_margin e) = at (cases_lt base.column base.margin) where
-    at : (base.column < base.margin) ⊎ (base.margin ≤ base.column) → (n + column_back base.back ≤ deepest + 2) ⊎ (n + column_back base.back ≤ 2 + base.column)
-    at (inl l) = inl (omega arith)
-    at (inr l) = inr (omega arith)
+  within_pads n base m c (to_margin e) = elim (cases_lt base.column base.margin) [ inl l ↦ inl (omega arith) | inr l ↦ inr (omega arith) ]
   within_pads n base m c (after_term t wide few e) = inr (omega arith)
 
   within_first : (n : ℕ) (base : State) → base.margin ≤ deepest → column_back base.back ≡ 0 → Pads base n → n + column_back base.back ≤ deepest + 2
@@ -131,12 +96,8 @@ module _ (width deepest most : ℕ) where
     in_force : base.margin ≤ deepest
     in_force = subst (λ (k : ℕ). k ≤ deepest) (sym (lines_margin l).0) m
 
-    fit : (n + column_back base.back ≤ deepest + 2) ⊎ (n + column_back base.back ≤ 2 + base.column) → columns p.bytes + (n + column_back base.back) ≤ bound
-    fit (inl x) = omega arith
-    fit (inr x) = omega arith
-
     at : Agrees base → columns p.bytes + (n + column_back base.back) ≤ bound
-    at (inl x) = fit (within_pads n base in_force x d)
+    at (inl x) = elim (within_pads n base in_force x d) [ inl x ↦ omega arith | inr x ↦ omega arith ]
     at (inr x) = absurd (omega arith)
   within_put {st} p base n small f h m c (wraps t mid l w b e) d =
       let none : column_back base.back ≡ 0 = subst (λ (s : State). column_back s.back ≡ 0) (sym e) refl in
@@ -155,9 +116,6 @@ module _ (width deepest most : ℕ) where
       let front : column_back st.back ≤ bound = whole_front (Within bound) st.back h in
       subst (λ (s : State). EachFront (Within bound) s.back) (sym a) (omega arith, (omega arith, h))
   within_grows {st} small f q agrees m writes narrow (passing event margin e a) h =
-      let none : length (event_bytes event) ≡ 0 = no_length (event_bytes event) (subst WritesNone e writes) in
+      let none : length (event_bytes event) ≡ 0 = no_bytes (event_bytes event) (subst WritesNone e writes) in
       let front : column_back st.back ≤ bound = whole_front (Within bound) st.back h in
-      subst (λ (s : State). EachFront (Within bound) s.back) (sym a) (omega arith, h) where
-        no_length : (xs : List ℕ) → has_some xs ≡ false → length xs ≡ 0
-        no_length [] h = refl
-        no_length (x ∷ xs) h = absurd cc
+      subst (λ (s : State). EachFront (Within bound) s.back) (sym a) (omega arith, h)

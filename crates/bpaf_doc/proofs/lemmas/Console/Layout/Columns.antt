@@ -15,14 +15,13 @@ use Rattle.bpaf_doc.proofs.lemmas.Console.Layout.Back.{by_cases, EachPlace, Keep
 
 -- ---- a chunk with ink keeps some bytes when its blank end is cut
 
-trim_some : (cs : List ℕ) → has_some (filter is_not_whitespace cs) ≡ true → 0 < length (drop_trailing_whitespace cs)
-trim_some [] h = absurd cc
-trim_some (c ∷ cs) h = at (by_cases (is_whitespace c)) (trim_some cs) where
+pub whole_trim : (cs : List ℕ) → has_some (filter is_not_whitespace cs) ≡ true → 0 < length (drop_trailing_whitespace cs)
+whole_trim [] h = absurd cc
+whole_trim (c ∷ cs) h = at (by_cases (is_whitespace c)) (whole_trim cs) where
   at : (is_whitespace c ≡ true) ⊎ (is_whitespace c ≡ false) → (has_some (filter is_not_whitespace cs) ≡ true → 0 < length (drop_trailing_whitespace cs))
       → 0 < length (drop_trailing_whitespace (c ∷ cs))
   at (inl w) ih =
       let tail : has_some (filter is_not_whitespace cs) ≡ true = rw w at h in
-      let some : 0 < length (drop_trailing_whitespace cs) = ih tail in
       let no : (length (drop_trailing_whitespace cs) == 0) ≡ false = grind (arith, nat_tests) in
       rw (w, no) (omega arith)
   at (inr w) ih = rw w (omega arith)
@@ -34,7 +33,7 @@ some_of_length (x ∷ xs) h = refl
 pub inked_trim : (bytes : List ℕ) → has_some (ink bytes) ≡ true → has_some (trim_end bytes) ≡ true
 unfolding trim_end
 inked_trim bytes h =
-    let some : 0 < length (drop_trailing_whitespace (chars bytes)) = trim_some (chars bytes) h in
+    let some : 0 < length (drop_trailing_whitespace (chars bytes)) = whole_trim (chars bytes) h in
     some_of_length (encode_utf8_all (drop_trailing_whitespace (chars bytes))) (omega (arith, length-le-encodes (drop_trailing_whitespace (chars bytes))))
 
 pub inked_some : (bytes : List ℕ) → has_some (ink bytes) ≡ true → has_some bytes ≡ true
@@ -79,24 +78,20 @@ empty_columns : (bytes : List ℕ) → has_some bytes ≡ false → columns byte
 empty_columns [] h = no_columns
 empty_columns (b ∷ bytes) h = absurd cc
 
-no_bytes : (xs : List ℕ) → has_some xs ≡ false → length xs ≡ 0
+pub no_bytes : (xs : List ℕ) → has_some xs ≡ false → length xs ≡ 0
 no_bytes [] h = refl
 no_bytes (x ∷ xs) h = absurd cc
 
 -- a page that ends in a newline is at column 0
 pub ends_line_column : (r : List Stretch) → EachPlace Fills r → ends_line r ≡ true → column_back r ≡ 0
 ends_line_column [] f h = refl
-ends_line_column (Gap b ∷ r) f h = at (by_cases (b == 10)) where
-  at : ((b == 10) ≡ true) ⊎ ((b == 10) ≡ false) → column_back (Gap b ∷ r) ≡ 0
-  at (inl e) = rw e refl
-  at (inr e) = absurd cc
+ends_line_column (Gap b ∷ r) f h = elim (by_cases (b == 10)) [ inl e ↦ rw e refl | inr e ↦ absurd cc ]
 ends_line_column (Placed e ∷ r) f h = at (by_cases (has_some e.shown)) (ends_line_column r f.1) where
   at : (has_some e.shown ≡ true) ⊎ (has_some e.shown ≡ false) → (ends_line r ≡ true → column_back r ≡ 0) → column_back (Placed e ∷ r) ≡ 0
   at (inl s) ih = let no : false ≡ true = rw s at h in absurd cc
   at (inr s) ih =
       let rest : ends_line r ≡ true = rw s at h in
       let none : columns e.bytes ≡ 0 = empty_columns e.bytes (sym f.0 ∙ s) in
-      let tail : column_back r ≡ 0 = ih rest in
       omega arith
 ends_line_column (Passed event ∷ r) f h = at (by_cases (has_some (event_bytes event))) (ends_line_column r f) where
   at : (has_some (event_bytes event) ≡ true) ⊎ (has_some (event_bytes event) ≡ false) → (ends_line r ≡ true → column_back r ≡ 0) → column_back (Passed event ∷ r) ≡ 0
@@ -104,7 +99,6 @@ ends_line_column (Passed event ∷ r) f h = at (by_cases (has_some (event_bytes 
   at (inr s) ih =
       let rest : ends_line r ≡ true = rw s at h in
       let none : length (event_bytes event) ≡ 0 = no_bytes (event_bytes event) s in
-      let tail : column_back r ≡ 0 = ih rest in
       omega arith
 
 -- a page without text is at column 0
@@ -117,7 +111,6 @@ no_text_column (Placed e ∷ r) f h = at (by_cases (has_some e.shown)) (no_text_
   at (inr s) ih =
       let rest : has_text r ≡ false = rw s at h in
       let none : columns e.bytes ≡ 0 = empty_columns e.bytes (sym f.0 ∙ s) in
-      let tail : column_back r ≡ 0 = ih rest in
       omega arith
 no_text_column (Passed event ∷ r) f h = at (by_cases (has_some (event_bytes event))) (no_text_column r f) where
   at : (has_some (event_bytes event) ≡ true) ⊎ (has_some (event_bytes event) ≡ false) → (has_text r ≡ false → column_back r ≡ 0) → column_back (Passed event ∷ r) ≡ 0
@@ -125,7 +118,6 @@ no_text_column (Passed event ∷ r) f h = at (by_cases (has_some (event_bytes ev
   at (inr s) ih =
       let rest : has_text r ≡ false = rw s at h in
       let none : length (event_bytes event) ≡ 0 = no_bytes (event_bytes event) s in
-      let tail : column_back r ≡ 0 = ih rest in
       omega arith
 
 -- ---- the column that is kept
@@ -134,18 +126,12 @@ no_text_column (Passed event ∷ r) f h = at (by_cases (has_some (event_bytes ev
 abbrev pub Agrees : State → Type 0
 Agrees st = (st.column ≡ column_back st.back) ⊎ (1_000_000 ≤ st.column)
 
-agrees_zero : (st : State) → st.column ≡ 0 → column_back st.back ≡ 0 → Agrees st
-agrees_zero st a b = inl (a ∙ sym b)
-
 pub agrees_lines : {st mid : State} → EachPlace Fills st.back → Lines st mid → Agrees st → Agrees mid
 agrees_lines f (none_asked a e) h = subst Agrees (sym e) h
 agrees_lines f (line_there a b e) h = subst Agrees (sym e) h
 agrees_lines f (line_put a e) h = subst Agrees (sym e) (inl refl)
 agrees_lines f (blank_there a b e) h = subst Agrees (sym e) h
-agrees_lines {st} f (second_put a b e) h = subst Agrees (sym e) (at h) where
-  at : (st.column ≡ column_back st.back) ⊎ (1_000_000 ≤ st.column) → Agrees (record st { back = Gap 10 ∷ st.back })
-  at (inl c) = inl (c ∙ ends_line_column st.back f b)
-  at (inr c) = inr c
+agrees_lines {st} f (second_put a b e) h = subst Agrees (sym e) (elim h [ inl c ↦ inl (c ∙ ends_line_column st.back f b) | inr c ↦ inr c ])
 agrees_lines f (both_put a e) h = subst Agrees (sym e) (inl refl)
 
 pub agrees_begins : {width : ℕ} {st : State} {p : Piece} {base : State} → EachPlace Fills st.back → Begins width st p base → Agrees st → Agrees base
@@ -157,16 +143,12 @@ pub heavy : (weight : ℕ) → (not (weight == code_weight) && not (weight == fe
 heavy weight o = grind (arith, nat_tests)
 
 pub sat_agrees : (a b : ℕ) → a ≡ b → (sat a ≡ b) ⊎ (1_000_000 ≤ sat a)
-sat_agrees a b e = at (cases_lt a 18446744073709551616) where
-  at : (a < 18446744073709551616) ⊎ (18446744073709551616 ≤ a) → (sat a ≡ b) ⊎ (1_000_000 ≤ sat a)
-  at (inl l) = inl (omega arith)
-  at (inr l) = inr (omega arith)
+sat_agrees a b e = elim (cases_lt a 18446744073709551616) [ inl l ↦ inl (omega arith) | inr l ↦ inr (omega arith) ]
 
 pub agrees_put : (n : ℕ) (p : Piece) (base : State) → (IsOrdinary (Raw p.bytes p.weight) → p.weight ≡ columns p.bytes) → Agrees base → Agrees (put n p.part p.bytes p.weight base)
 agrees_put n p base weighed h = at (by_cases (is_ordinary (Raw p.bytes p.weight))) h where
   at : (is_ordinary (Raw p.bytes p.weight) ≡ true) ⊎ (is_ordinary (Raw p.bytes p.weight) ≡ false) → Agrees base → Agrees (put n p.part p.bytes p.weight base)
   at (inl o) (inl c) =
-      let w : p.weight ≡ columns p.bytes = weighed o in
       sat_agrees (base.column + n + p.weight) (columns p.bytes + column_back (padded n base.back)) (omega (arith, column_padded n base.back))
   at (inl o) (inr c) = inr (omega arith)
   at (inr o) _ = let w : 1_000_000 ≤ p.weight = heavy p.weight o in inr (omega arith)

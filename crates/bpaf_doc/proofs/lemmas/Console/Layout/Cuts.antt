@@ -1,11 +1,11 @@
 -- What may stand on a page, and that a chunk loses its blank end only before a newline.
-use Rattle.std.specs.Prelude.{◌≡◌, ℕ, zero, suc, ⊤, Bool, true, false, ◌==◌, List, [], ◌∷◌, refl, if◌then◌else◌, ◌⊎◌}
+use Rattle.std.specs.Prelude.{◌≡◌, ℕ, ⊤, Bool, true, false, ◌==◌, List, [], ◌∷◌, refl, if◌then◌else◌, ◌⊎◌}
 use Rattle.std.specs.Str.{trim_end}
-use Rattle.std.proofs.Common.{sym, subst, inl, inr, ◌∙◌}
-use Rattle.bpaf_doc.specs.Splitter.Chunks.{is_inked, has_some}
-use Rattle.bpaf_doc.specs.Console.Layout.{Stretch, Gap, Placed, Passed, chunk_at, event_bytes}
-use Rattle.bpaf_doc.proofs.lemmas.Console.Layout.State.{State, Piece, Lines, none_asked, line_there, line_put, blank_there, second_put, both_put, Begins, first, stays, wraps, places, drops, Next, Grows, placing, breaking, passing, padded, trimmed, wrapped}
-use Rattle.bpaf_doc.proofs.lemmas.Console.Layout.Back.{by_cases, EachPlace, trimmed_inked, trimmed_plain, trimmed_bytes, trimmed_bare, each_lines}
+use Rattle.std.proofs.Common.{sym, subst, inl, inr, ◌∙◌, arith}
+use Rattle.bpaf_doc.specs.Splitter.Chunks.{has_some}
+use Rattle.bpaf_doc.specs.Console.Layout.{Stretch, Gap, Placed, Passed, event_bytes}
+use Rattle.bpaf_doc.proofs.lemmas.Console.Layout.State.{State, Piece, Lines, Begins, first, stays, wraps, places, drops, Next, Grows, placing, breaking, passing, padded, trimmed, wrapped}
+use Rattle.bpaf_doc.proofs.lemmas.Console.Layout.Back.{by_cases, EachPlace, each_lines, lines_back, by_trimmed, by_padded}
 use Rattle.bpaf_doc.proofs.lemmas.Console.Layout.Columns.{Fills, inked_trim, inked_some}
 
 -- what may stand where the text after it begins with a newline, or where nothing is known of it
@@ -19,11 +19,7 @@ MayEnd line (Passed event ∷ r) = MayEnd (if has_some (event_bytes event) then 
 pub may_end_line : (r : List Stretch) → MayEnd false r → MayEnd true r
 may_end_line [] h = h
 may_end_line (Gap b ∷ r) h = h
-may_end_line (Placed e ∷ r) h = (whole h.0, at (by_cases (has_some e.shown)) (may_end_line r)) where
-  whole : (e.shown ≡ e.bytes) ⊎ ((e.shown ≡ trim_end e.bytes) × (false ≡ true)) → (e.shown ≡ e.bytes) ⊎ ((e.shown ≡ trim_end e.bytes) × (true ≡ true))
-  whole (inl x) = inl x
-  whole (inr x) = inr (x.0, refl)
-
+may_end_line (Placed e ∷ r) h = ((elim h.0 [ inl x ↦ inl x | inr x ↦ inr (x.0, refl) ]), at (by_cases (has_some e.shown)) (may_end_line r)) where
   at : (has_some e.shown ≡ true) ⊎ (has_some e.shown ≡ false) → (MayEnd false r → MayEnd true r) → MayEnd (if has_some e.shown then false else true) r
   at (inl s) ih = let rest : MayEnd false r = rw s at h.1 in rw s rest
   at (inr s) ih = let rest : MayEnd false r = rw s at h.1 in rw s (ih rest)
@@ -32,47 +28,27 @@ may_end_line (Passed event ∷ r) h = at (by_cases (has_some (event_bytes event)
   at (inl s) ih = let rest : MayEnd false r = rw s at h in rw s rest
   at (inr s) ih = let rest : MayEnd false r = rw s at h in rw s (ih rest)
 
-may_end_any : (line : Bool) (r : List Stretch) → MayEnd false r → MayEnd line r
-may_end_any true r h = may_end_line r h
-may_end_any false r h = h
-
-may_end_padded : (n : ℕ) (r : List Stretch) → MayEnd false r → MayEnd false (padded n r)
-may_end_padded zero r h = h
-may_end_padded (suc n) r h = (inl refl, may_end_padded n r h)
-
 same_false : (b : Bool) → (if b then false else false) ≡ false
-same_false true = refl
-same_false false = refl
+same_false b = grind arith
 
-may_end_trimmed : (line : Bool) (r : List Stretch) → EachPlace Fills r → MayEnd line r → MayEnd true (trimmed r)
-may_end_trimmed line [] f h = h
-may_end_trimmed line (Gap b ∷ r) f h = may_end_trimmed (b == 10) r f h.1
-may_end_trimmed line (Placed e ∷ r) f h = at (by_cases (is_inked (chunk_at e))) (may_end_trimmed (if has_some e.shown then false else line) r f.1 h.1) where
-  at : (is_inked (chunk_at e) ≡ true) ⊎ (is_inked (chunk_at e) ≡ false) → MayEnd true (trimmed r) → MayEnd true (trimmed (Placed e ∷ r))
-  at (inl i) ih =
-      let shown : has_some e.shown ≡ true = f.0 ∙ inked_some e.bytes i in
-      let rest : MayEnd false r = rw shown at h.1 in
-      let trim : has_some (trim_end e.bytes) ≡ true = inked_trim e.bytes i in
-      subst (λ x. MayEnd true x) (sym (trimmed_inked e r i)) (inr (refl, refl), rw trim rest)
-  at (inr i) ih = subst (λ x. MayEnd true x) (sym (trimmed_plain e r i)) ih
-may_end_trimmed line (Passed event ∷ r) f h = at (by_cases (has_some (event_bytes event))) (may_end_trimmed (if has_some (event_bytes event) then false else line) r f h) where
-  at : (has_some (event_bytes event) ≡ true) ⊎ (has_some (event_bytes event) ≡ false) → MayEnd true (trimmed r) → MayEnd true (trimmed (Passed event ∷ r))
-  at (inl i) ih = let rest : MayEnd false r = rw i at h in subst (λ x. MayEnd true x) (sym (trimmed_bytes event r i)) (rw i rest)
-  at (inr i) ih = subst (λ x. MayEnd true x) (sym (trimmed_bare event r i)) (subst (λ (b : Bool). MayEnd (if b then false else true) (trimmed r)) (sym i) ih)
+may_end_trimmed : (r : List Stretch) (line : Bool) → EachPlace Fills r → MayEnd line r → MayEnd true (trimmed r)
+may_end_trimmed = by_trimmed (λ r t. (line : Bool) → EachPlace Fills r → MayEnd line r → MayEnd true t) (λ line f h. h) (λ b r t ih line f h. ih (b == 10) f h.1)
+    (λ e r i line f h.
+    let shown : has_some e.shown ≡ true = f.0 ∙ inked_some e.bytes i in
+    let rest : MayEnd false r = rw shown at h.1 in
+    let trim : has_some (trim_end e.bytes) ≡ true = inked_trim e.bytes i in (inr (refl, refl), rw trim rest))
+    (λ e r t i ih line f h. ih (if has_some e.shown then false else line) f.1 h.1)
+    (λ event r i line f h. let rest : MayEnd false r = rw i at h in rw i rest)
+    (λ event r t i ih line f h. subst (λ (b : Bool). MayEnd (if b then false else true) t) (sym i) (ih (if has_some (event_bytes event) then false else line) f h))
 
 abbrev pub IsWhole : State → Type 0
 IsWhole st = MayEnd false st.back
 
 whole_lines : {st mid : State} → Lines st mid → IsWhole st → IsWhole mid
-whole_lines (none_asked a e) h = subst IsWhole (sym e) h
-whole_lines (line_there a b e) h = subst IsWhole (sym e) h
-whole_lines {st} (line_put a e) h = subst IsWhole (sym e) (inr refl, may_end_line st.back h)
-whole_lines (blank_there a b e) h = subst IsWhole (sym e) h
-whole_lines {st} (second_put a b e) h = subst IsWhole (sym e) (inr refl, may_end_line st.back h)
-whole_lines {st} (both_put a e) h = subst IsWhole (sym e) (inr refl, (inr refl, may_end_line st.back h))
+whole_lines l h = lines_back (MayEnd false) (λ r x. (inr refl, may_end_line r x)) l h
 
 whole_wrapped : (mid : State) → EachPlace Fills mid.back → IsWhole mid → IsWhole (wrapped mid)
-whole_wrapped mid f h = (inr refl, may_end_trimmed false mid.back f h)
+whole_wrapped mid f h = (inr refl, may_end_trimmed mid.back false f h)
 
 whole_begins : {width : ℕ} {st : State} {p : Piece} {base : State} → EachPlace Fills st.back → Begins width st p base → IsWhole st → IsWhole base
 whole_begins f (first t e) h = subst IsWhole (sym e) h
@@ -81,7 +57,7 @@ whole_begins f (wraps t mid l w b e) h = subst IsWhole (sym e) (whole_wrapped mi
 
 pub whole_grows : {width : ℕ} {st after : State} {next : Next} → EachPlace Fills st.back → Grows width st next after → IsWhole st → IsWhole after
 whole_grows f (placing p e (places base n b d a)) h =
-    subst IsWhole (sym a) (inl refl, subst (λ (x : Bool). MayEnd x (padded n base.back)) (sym (same_false (has_some p.bytes))) (may_end_padded n base.back (whole_begins f b h)))
+    subst IsWhole (sym a) (inl refl, subst (λ (x : Bool). MayEnd x (padded n base.back)) (sym (same_false (has_some p.bytes))) (by_padded (MayEnd false) (λ x y. (inl refl, y)) n base.back (whole_begins f b h)))
 whole_grows f (placing p e (drops t mid l w b a)) h = subst IsWhole (sym a) (whole_wrapped mid (each_lines Fills l f) (whole_lines l h))
 whole_grows {st = st} f (breaking k chunk e a) h = subst IsWhole (sym a) (inr refl, may_end_line st.back h)
 whole_grows {st = st} f (passing event margin e a) h =

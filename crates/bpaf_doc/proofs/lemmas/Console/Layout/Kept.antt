@@ -3,11 +3,11 @@ use Rattle.std.specs.Prelude.{◌≡◌, ◌≢◌, ℕ, zero, suc, ◌+◌, ◌
 use Rattle.std.specs.List.{list_any}
 use Rattle.std.proofs.Common.{sym, subst, ap, arith, inl, inr, ◌∙◌}
 use Rattle.bpaf_doc.specs.Splitter.Chunks.{Chunk, Raw, is_inked}
-use Rattle.bpaf_doc.specs.Console.Layout.{Event, Shows, Opens, Closes, Stretch, Gap, Placed, Passed, Place, chunk_at, is_inked_stretch, is_inked_event, is_raw_event}
-use Rattle.bpaf_doc.proofs.lemmas.Console.Layout.State.{State, Piece, Lines, none_asked, line_there, line_put, blank_there, second_put, both_put, Pads, to_margin, after_term, Begins, first, stays, wraps, places, drops, Next, raw, break, Grows, placing, breaking, passing, padded, trimmed, sat, wrapped, put, passed, dropped, Suits, raw_suits, paragraph_suits, line_break_suits, open_suits, close_suits}
-use Rattle.bpaf_doc.proofs.lemmas.Console.Layout.Back.{by_cases, EachPlace, each_grows, each_begins, each_padded, each_trimmed, each_lines, place_of, fits_of}
+use Rattle.bpaf_doc.specs.Console.Layout.{Event, Shows, Stretch, Gap, Placed, Passed, Place, chunk_at, is_inked_stretch, is_inked_event, is_raw_event}
+use Rattle.bpaf_doc.proofs.lemmas.Console.Layout.State.{State, Piece, Lines, Pads, to_margin, after_term, Begins, first, stays, wraps, places, drops, Next, raw, break, Grows, placing, breaking, passing, padded, trimmed, sat, wrapped, put, passed, dropped, Suits}
+use Rattle.bpaf_doc.proofs.lemmas.Console.Layout.Back.{by_cases, EachPlace, each_grows, each_begins, each_trimmed, each_lines, place_of, fits_of, by_lines, by_padded, same_padded, by_mark, by_break}
 use Rattle.bpaf_doc.proofs.lemmas.Console.Layout.Text.{or_false_right, begins_margin, lines_margin, no_ink_blank}
-use Rattle.bpaf_doc.proofs.lemmas.Console.Layout.Split.{Cut, FirstOrLater, here, later, cut_cons, AfterGap, cut_gap, AfterPassed, cut_passed, AfterPads, cut_padded, has_newline, newline_padded, inked_line, inked_since}
+use Rattle.bpaf_doc.proofs.lemmas.Console.Layout.Split.{Cut, FirstOrLater, here, later, cut_cons, AfterGap, cut_gap, AfterPassed, cut_passed, AfterPads, cut_padded, has_newline, inked_line, inked_since}
 
 -- ---- parts come in order
 
@@ -24,15 +24,11 @@ abbrev pub InOrder : State → Type 0
 InOrder st = EachPlace (NotAfter st.latest) st.back
 
 broken_order : {margin_of : ℕ → ℕ} (st : State) (next : Next) (k : ℕ) (chunk : Chunk) → Suits margin_of st next → next ≡ break k chunk → st.latest ≤ k
-broken_order st next k chunk (raw_suits q f g) e = absurd cc
-broken_order st next k chunk (paragraph_suits j f l m) e = let same : j ≡ k = cc in omega arith
-broken_order st next k chunk (line_break_suits j f l m) e = let same : j ≡ k = cc in omega arith
-broken_order st next k chunk (open_suits b margin f l u) e = absurd cc
-broken_order st next k chunk (close_suits b margin f l u) e = absurd cc
+broken_order st next k chunk suits e = by_break (λ c j. st.latest ≤ j) suits e (λ j l m. l) (λ j l m. l)
 
 pub order_grows : {width : ℕ} {margin_of : ℕ → ℕ} {st after : State} {next : Next} → Suits margin_of st next → Grows width st next after → InOrder st → InOrder after
 order_grows {st = st} suits (placing p e (places base n b d a)) h = subst InOrder (sym a)
-    (omega arith, each_padded (NotAfter p.part) n base.back (each_begins (NotAfter p.part) (λ r f i x. x) b (each_later st.latest p.part (fits_of suits e).order st.back h)))
+    (omega arith, by_padded (EachPlace (NotAfter p.part)) (λ x y. y) n base.back (each_begins (NotAfter p.part) (λ r f i x. x) b (each_later st.latest p.part (fits_of suits e).order st.back h)))
 order_grows {st = st} suits (placing p e (drops t mid l w b a)) h = subst InOrder (sym a)
     (each_trimmed (NotAfter p.part) (λ r f i x. x) mid.back (each_lines (NotAfter p.part) l (each_later st.latest p.part (fits_of suits e).order st.back h)))
 order_grows {st = st} {next = next} suits (breaking k chunk e a) h = subst InOrder (sym a) (each_later st.latest k (broken_order st next k chunk suits e) st.back h)
@@ -54,13 +50,7 @@ pub small_grows : {width : ℕ} {margin_of : ℕ → ℕ} {st after : State} {ne
 small_grows suits (placing p e (places base n b d a)) h = subst IsSmall (sym a) (subst (λ (m : ℕ). m ≤ 18446744073709551615) (sym (begins_margin b).0) h)
 small_grows suits (placing p e (drops t mid l w b a)) h = subst IsSmall (sym a) (subst (λ (m : ℕ). m ≤ 18446744073709551615) (sym (lines_margin l).0) h)
 small_grows suits (breaking k chunk e a) h = subst IsSmall (sym a) h
-small_grows {margin_of = margin_of} {st = st} {next = next} suits (passing event margin e a) h = subst IsSmall (sym a) (at suits) where
-  at : Suits margin_of st next → margin ≤ 18446744073709551615
-  at (raw_suits q f g) = absurd cc
-  at (paragraph_suits j f l m) = absurd cc
-  at (line_break_suits j f l m) = absurd cc
-  at (open_suits b n f l u) = let same : n ≡ margin = cc in omega arith
-  at (close_suits b n f l u) = let same : n ≡ margin = cc in omega arith
+small_grows suits (passing event margin e a) h = subst IsSmall (sym a) (by_mark (λ x m. m ≤ 18446744073709551615) suits e (λ b m l u. u) (λ b m l u. u))
 
 settled_put : (n : ℕ) (p : Piece) (base : State) → IsSmall base → Pads base n → base.margin ≤ sat (base.column + n + p.weight)
 settled_put n p base small (to_margin e) = omega arith
@@ -101,19 +91,12 @@ kept_padded : {A : Type 0} (n : ℕ) (m : List Stretch) → A → AllKept A m �
 kept_padded zero m a h = h
 kept_padded (suc n) m a h = (a, kept_padded n m a h)
 
-abbrev HasInk : List Stretch → Type 0
-HasInk m = list_any is_inked_stretch m ≡ true
-
 -- neighbouring inked chunks of one line: e, then nothing inked and no newline
 abbrev pub IsNeighbour : List Stretch → List Stretch → Place → List Stretch → Type 0
 IsNeighbour r m e before = Cut r m e before × (is_inked (chunk_at e) ≡ true) × (list_any is_inked_stretch m ≡ false) × (has_newline m ≡ false)
 
 abbrev pub IsKeptSince : State → Type 0
 IsKeptSince st = (m before : List Stretch) (e : Place) → IsNeighbour st.back m e before → (e.shown ≡ e.bytes) × AllKept (e.part < st.latest) m
-
-no_ink_padded : (n : ℕ) (m : List Stretch) → list_any is_inked_stretch (padded n m) ≡ list_any is_inked_stretch m
-no_ink_padded zero m = refl
-no_ink_padded (suc n) m = no_ink_padded n m
 
 part_before : (latest : ℕ) (m : List Stretch) (e : Place) (before : List Stretch) → EachPlace (NotAfter latest) (m ++ Placed e ∷ before) → e.part ≤ latest
 part_before latest [] e before h = h.0
@@ -137,17 +120,15 @@ kept_same st k n settled unsettled order h o moved d m before e there =
       near = (
         found.there,
         there.1,
-        sym (no_ink_padded n found.rest) ∙ subst (λ x. list_any is_inked_stretch x ≡ false) found.is there.2,
-        sym (newline_padded n found.rest) ∙ subst (λ x. has_newline x ≡ false) found.is there.3,
+        sym (same_padded (list_any is_inked_stretch) (λ x. refl) n found.rest) ∙ subst (λ x. list_any is_inked_stretch x ≡ false) found.is there.2,
+        sym (same_padded has_newline (λ x. refl) n found.rest) ∙ subst (λ x. has_newline x ≡ false) found.is there.3,
       )
 
       since : (e.shown ≡ e.bytes) × AllKept (e.part < st.latest) found.rest
       since = h found.rest before e near
 
       wider : AllKept (e.part < k) found.rest
-      wider = kept_weaker (λ (l : e.part < st.latest). below e.part st.latest k l o) found.rest since.1 where
-        below : (a b c : ℕ) → a < b → b ≤ c → a < c
-        below a b c x y = omega arith
+      wider = kept_weaker (λ (l : e.part < st.latest). omega arith) found.rest since.1
 
       earlier : e.part ≤ st.latest
       earlier = part_before st.latest found.rest e before (subst (λ x. EachPlace (NotAfter st.latest) x) found.there order)
@@ -176,8 +157,8 @@ no_neighbour_padded n r m e before there =
     no_neighbour r found.rest e before (
       found.there,
       there.1,
-      sym (no_ink_padded n found.rest) ∙ subst (λ x. list_any is_inked_stretch x ≡ false) found.is there.2,
-      sym (newline_padded n found.rest) ∙ subst (λ x. has_newline x ≡ false) found.is there.3,
+      sym (same_padded (list_any is_inked_stretch) (λ x. refl) n found.rest) ∙ subst (λ x. list_any is_inked_stretch x ≡ false) found.is there.2,
+      sym (same_padded has_newline (λ x. refl) n found.rest) ∙ subst (λ x. has_newline x ≡ false) found.is there.3,
     )
 
 record Ready (st : State) (k : ℕ) : Type 0 where
@@ -190,15 +171,9 @@ record Ready (st : State) (k : ℕ) : Type 0 where
 
 kept_lines : {st mid : State} (k n : ℕ) → Ready st k → Lines st mid → Pads mid n
     → (m before : List Stretch) (e : Place) → IsNeighbour (padded n mid.back) m e before → (e.shown ≡ e.bytes) × AllKept (e.part < k) m
-kept_lines {st} {mid} k n y (none_asked a s) d m before e there =
-    kept_same st k n y.settled y.unsettled y.order y.since y.later_part y.moved (subst (λ (x : State). Pads x n) s d) m before e (subst (λ (x : State). IsNeighbour (padded n x.back) m e before) s there)
-kept_lines {st} {mid} k n y (line_there a b s) d m before e there =
-    kept_same st k n y.settled y.unsettled y.order y.since y.later_part y.moved (subst (λ (x : State). Pads x n) s d) m before e (subst (λ (x : State). IsNeighbour (padded n x.back) m e before) s there)
-kept_lines {st} {mid} k n y (line_put a s) d m before e there = absurd (no_neighbour_padded n st.back m e before (subst (λ (x : State). IsNeighbour (padded n x.back) m e before) s there))
-kept_lines {st} {mid} k n y (blank_there a b s) d m before e there =
-    kept_same st k n y.settled y.unsettled y.order y.since y.later_part y.moved (subst (λ (x : State). Pads x n) s d) m before e (subst (λ (x : State). IsNeighbour (padded n x.back) m e before) s there)
-kept_lines {st} {mid} k n y (second_put a b s) d m before e there = absurd (no_neighbour_padded n st.back m e before (subst (λ (x : State). IsNeighbour (padded n x.back) m e before) s there))
-kept_lines {st} {mid} k n y (both_put a s) d m before e there = absurd (no_neighbour_padded n (Gap 10 ∷ st.back) m e before (subst (λ (x : State). IsNeighbour (padded n x.back) m e before) s there))
+kept_lines {st} {mid} k n y l = by_lines (λ s. Pads s n → (m before : List Stretch) (e : Place) → IsNeighbour (padded n s.back) m e before → (e.shown ≡ e.bytes) × AllKept (e.part < k) m) l
+    (kept_same st k n y.settled y.unsettled y.order y.since y.later_part y.moved) (λ d m before e there. absurd (no_neighbour_padded n st.back m e before there))
+    (λ d m before e there. absurd (no_neighbour_padded n st.back m e before there)) (λ d m before e there. absurd (no_neighbour_padded n (Gap 10 ∷ st.back) m e before there))
 
 kept_begins : {width : ℕ} {st : State} {p : Piece} {base : State} (n : ℕ) → Ready st p.part → Begins width st p base → Pads base n
     → (m before : List Stretch) (e : Place) → IsNeighbour (padded n base.back) m e before → (e.shown ≡ e.bytes) × AllKept (e.part < p.part) m
@@ -246,13 +221,8 @@ kept_since_grows suits s u o (placing p e (drops t mid l w b a)) h = subst IsKep
       (found.there, there.1, or_false_right (is_inked_stretch (Passed (Shows p.part (Raw p.bytes p.weight)))) (list_any is_inked_stretch found.rest) plain, subst (λ x. has_newline x ≡ false) found.is there.3)
 kept_since_grows {st = st} suits s u o (breaking k chunk e a) h =
     subst IsKeptSince (sym a) (λ m before f there. absurd (no_neighbour (Passed (Shows k chunk) ∷ st.back) m f before there))
-kept_since_grows {margin_of = margin_of} {st = st} {next = next} suits s u o (passing event margin e a) h = subst IsKeptSince (sym a) (kept_passed event margin st (at suits) h) where
-  at : Suits margin_of st next → is_raw_event event ≡ false
-  at (raw_suits q f g) = absurd cc
-  at (paragraph_suits j f l m) = absurd cc
-  at (line_break_suits j f l m) = absurd cc
-  at (open_suits b n f l v) = let same : event ≡ Opens b = cc in rw same refl
-  at (close_suits b n f l v) = let same : event ≡ Closes b = cc in rw same refl
+kept_since_grows {st = st} suits s u o (passing event margin e a) h =
+    subst IsKeptSince (sym a) (kept_passed event margin st (by_mark (λ x m. is_raw_event x ≡ false) suits e (λ b m l v. refl) (λ b m l v. refl)) h)
 
 -- ---- the law
 

@@ -2,17 +2,18 @@
 use Rattle.std.specs.Prelude.{◌≡◌, ℕ, ◌+◌, ◌<◌, ◌≤◌, Bool, true, false, not, ◌&&◌, List, [], ◌∷◌, length, refl, ◌⊎◌}
 use Rattle.std.specs.List.{list_any, list_all}
 use Rattle.std.proofs.Common.{sym, subst, ap, arith, inl, inr, ◌∙◌}
+use Rattle.std.proofs.lemmas.Bool.{and_parts}
 use Rattle.bpaf_doc.specs.declared.buffer.Block.{Block}
 use Rattle.bpaf_doc.specs.declared.buffer.Block.TheVariants as blocks
-use Rattle.bpaf_doc.specs.Splitter.Chunks.{Chunk, Raw, Paragraph, LineBreak, columns, is_inked, is_ordinary}
+use Rattle.bpaf_doc.specs.Splitter.Chunks.{Chunk, Raw, columns, is_inked, is_ordinary}
 use Rattle.bpaf_doc.specs.Console.Layout.{Event, Shows, Opens, Closes, Stretch, Gap, Placed, Passed, Place, chunk_at, event_bytes, event_columns, is_inked_stretch, is_light, is_light_mark, is_inline_block}
 use Rattle.bpaf_doc.specs.declared.console.page.Asked.{Asked}
 use Rattle.bpaf_doc.specs.declared.console.page.Asked.TheVariants.{Nothing}
-use Rattle.bpaf_doc.proofs.lemmas.Console.Layout.State.{State, Piece, Lines, Pads, to_margin, after_term, Begins, first, stays, wraps, places, drops, Next, raw, break, mark, Grows, placing, breaking, passing, padded, trimmed, has_text, sat, wrapped, put, passed, dropped, broken, asked_after, pending_after, Fits, Suits, raw_suits, paragraph_suits, line_break_suits, open_suits, close_suits}
-use Rattle.bpaf_doc.proofs.lemmas.Console.Layout.Back.{EachPlace, each_grows, place_of, fits_of}
+use Rattle.bpaf_doc.proofs.lemmas.Console.Layout.State.{State, Piece, Lines, Pads, to_margin, after_term, Begins, first, stays, wraps, places, drops, Next, raw, break, mark, Grows, placing, breaking, passing, padded, trimmed, has_text, sat, wrapped, put, passed, dropped, broken, asked_after, pending_after, Fits, Suits}
+use Rattle.bpaf_doc.proofs.lemmas.Console.Layout.Back.{EachPlace, each_grows, place_of, fits_of, same_padded, by_mark, by_break}
 use Rattle.bpaf_doc.proofs.lemmas.Console.Layout.Columns.{Fills, column_back, column_padded, Agrees}
 use Rattle.bpaf_doc.proofs.lemmas.Console.Layout.Text.{EachPassed, NoInk, ink_text, IsStarting, begins_column}
-use Rattle.bpaf_doc.proofs.lemmas.Console.Layout.Split.{events_back, events_padded, lines_same, Earlier, after_lines, Cut, FirstOrLater, here, later, cut_cons, AfterGap, cut_gap, AfterPassed, cut_passed, AfterPads, cut_padded, FromTrimmed, cut_trimmed, has_newline, newline_padded, ink_at}
+use Rattle.bpaf_doc.proofs.lemmas.Console.Layout.Split.{events_back, lines_same, Earlier, after_lines, Cut, FirstOrLater, here, later, cut_cons, AfterGap, cut_gap, AfterPassed, cut_passed, AfterPads, cut_padded, FromTrimmed, cut_trimmed, has_newline, ink_at}
 
 -- the columns of the chunks among some events
 abbrev pub chunk_columns : List Event → ℕ
@@ -26,14 +27,6 @@ IsPlain e = (is_ordinary (chunk_at e) ≡ true) × (is_inked (chunk_at e) ≡ tr
 -- where the chunks since e would end if all stood in its line
 abbrev pub reach : List Stretch → Place → List Stretch → ℕ
 reach m e before = column_back before + columns e.bytes + chunk_columns (events_back m)
-
-and_left : (a b : Bool) → (a && b) ≡ true → a ≡ true
-and_left true b h = refl
-and_left false b h = absurd cc
-
-and_right : (a b : Bool) → (a && b) ≡ true → b ≡ true
-and_right true b h = h
-and_right false b h = absurd cc
 
 -- what is known after light chunks and marks
 pub record Reached (width : ℕ) (st : State) (end : ℕ) (broken_line : Bool) : Type 0 where
@@ -113,10 +106,10 @@ module _ (width : ℕ) where
     found = cut_padded n base.back m e before there
 
     same_events : events_back m ≡ events_back found.rest
-    same_events = ap events_back found.is ∙ events_padded n found.rest
+    same_events = ap events_back found.is ∙ same_padded events_back (λ x. refl) n found.rest
 
     same_line : has_newline m ≡ has_newline found.rest
-    same_line = ap has_newline found.is ∙ newline_padded n found.rest
+    same_line = ap has_newline found.is ∙ same_padded has_newline (λ x. refl) n found.rest
 
     light_rest : list_all is_light (events_back found.rest) ≡ true
     light_rest = subst (λ es. list_all is_light es ≡ true) same_events light
@@ -142,7 +135,6 @@ module _ (width : ℕ) where
     at_wrap mid l w is gap =
         let same : reach gap.rest e before ≡ reach found.rest e before = ap (λ es. column_back before + columns e.bytes + chunk_columns es) (sym (ap events_back gap.is)) in
         let r : AtWrap st mid (reach gap.rest e before) = wrap_known h l gap.rest before e gap.there plain (subst (λ es. list_all is_light es ≡ true) (ap events_back gap.is) light_rest) in
-        let column_is : mid.column ≤ reach found.rest e before = subst (λ (k : ℕ). mid.column ≤ k) same r.column in
         let margin_is : mid.margin ≤ reach found.rest e before = subst (λ (k : ℕ). mid.margin ≤ k) same r.margin in
         with_pads (wrapped mid) is (omega arith) margin_is r.pending (λ t. omega arith)
 
@@ -168,10 +160,10 @@ module _ (width : ℕ) where
     found = cut_padded n base.back m e before there
 
     same_events : events_back m ≡ events_back found.rest
-    same_events = ap events_back found.is ∙ events_padded n found.rest
+    same_events = ap events_back found.is ∙ same_padded events_back (λ x. refl) n found.rest
 
     same_line : has_newline m ≡ has_newline found.rest
-    same_line = ap has_newline found.is ∙ newline_padded n found.rest
+    same_line = ap has_newline found.is ∙ same_padded has_newline (λ x. refl) n found.rest
 
     light_rest : list_all is_light_mark (events_back found.rest) ≡ true
     light_rest = subst (λ es. list_all is_light_mark es ≡ true) same_events light
@@ -199,7 +191,6 @@ module _ (width : ℕ) where
         let is : base ≡ st = lines_same r.asked l in
         let own : Marked st (reach found.rest e before) (has_newline found.rest) =
         h found.rest before e (subst (λ (x : State). Cut x.back found.rest e before) is found.there) plain light_rest in
-        let none : has_newline found.rest ≡ false = own.line in
         let some : has_newline found.rest ≡ true = sym same_line ∙ line in absurd cc
     at (wraps t mid l w x s) = at_wrap mid l w (cut_gap 10 (trimmed mid.back) found.rest e before (subst (λ (y : State). Cut y.back found.rest e before) s found.there))
 
@@ -216,13 +207,7 @@ quiet_open blocks.InlineBlock h = record { bytes = refl; asked = λ a. refl; col
 quiet_open blocks.Mono h = record { bytes = refl; asked = λ a. refl; columns_of = refl }
 quiet_open blocks.Meta h = record { bytes = refl; asked = λ a. refl; columns_of = refl }
 quiet_open blocks.DefinitionList h = record { bytes = refl; asked = λ a. refl; columns_of = refl }
-quiet_open blocks.Header h = absurd cc
-quiet_open blocks.Section2 h = absurd cc
-quiet_open blocks.Section3 h = absurd cc
-quiet_open blocks.Section4 h = absurd cc
-quiet_open blocks.ItemTerm h = absurd cc
-quiet_open blocks.Block h = absurd cc
-quiet_open blocks.TermRef h = absurd cc
+quiet_open _ h = absurd cc
 
 quiet_close : (b : Block) → is_light_mark (Closes b) ≡ true → IsQuietMark (Closes b)
 quiet_close blocks.ItemTerm h = record { bytes = refl; asked = λ a. refl; columns_of = refl }
@@ -230,13 +215,7 @@ quiet_close blocks.InlineBlock h = record { bytes = refl; asked = λ a. refl; co
 quiet_close blocks.Mono h = record { bytes = refl; asked = λ a. refl; columns_of = refl }
 quiet_close blocks.Meta h = record { bytes = refl; asked = λ a. refl; columns_of = refl }
 quiet_close blocks.DefinitionList h = record { bytes = refl; asked = λ a. refl; columns_of = refl }
-quiet_close blocks.Header h = absurd cc
-quiet_close blocks.Section2 h = absurd cc
-quiet_close blocks.Section3 h = absurd cc
-quiet_close blocks.Section4 h = absurd cc
-quiet_close blocks.ItemBody h = absurd cc
-quiet_close blocks.Block h = absurd cc
-quiet_close blocks.TermRef h = absurd cc
+quiet_close _ h = absurd cc
 
 -- a light mark is one of these, and changes no pending blanks either
 light_open : (b : Block) → is_inline_block b ≡ true → (is_light_mark (Opens b) ≡ true) × ((p : Bool) → pending_after (Opens b) p ≡ p)
@@ -244,33 +223,16 @@ light_open blocks.InlineBlock h = (refl, λ p. refl)
 light_open blocks.Mono h = (refl, λ p. refl)
 light_open blocks.Meta h = (refl, λ p. refl)
 light_open blocks.DefinitionList h = (refl, λ p. refl)
-light_open blocks.ItemBody h = absurd cc
-light_open blocks.Header h = absurd cc
-light_open blocks.Section2 h = absurd cc
-light_open blocks.Section3 h = absurd cc
-light_open blocks.Section4 h = absurd cc
-light_open blocks.ItemTerm h = absurd cc
-light_open blocks.Block h = absurd cc
-light_open blocks.TermRef h = absurd cc
+light_open _ h = absurd cc
 
 light_close : (b : Block) → is_inline_block b ≡ true → (is_light_mark (Closes b) ≡ true) × ((p : Bool) → pending_after (Closes b) p ≡ p)
 light_close blocks.InlineBlock h = (refl, λ p. refl)
 light_close blocks.Mono h = (refl, λ p. refl)
 light_close blocks.Meta h = (refl, λ p. refl)
 light_close blocks.DefinitionList h = (refl, λ p. refl)
-light_close blocks.ItemBody h = absurd cc
-light_close blocks.Header h = absurd cc
-light_close blocks.Section2 h = absurd cc
-light_close blocks.Section3 h = absurd cc
-light_close blocks.Section4 h = absurd cc
-light_close blocks.ItemTerm h = absurd cc
-light_close blocks.Block h = absurd cc
-light_close blocks.TermRef h = absurd cc
+light_close _ h = absurd cc
 
 module _ (width : ℕ) where
-  ordinary_weight : {margin_of : ℕ → ℕ} {st : State} (p : Piece) → Fits margin_of st p → is_ordinary (Raw p.bytes p.weight) ≡ true → p.weight ≡ columns p.bytes
-  ordinary_weight p fits o = fits.weighed o
-
   reached_put : {margin_of : ℕ → ℕ} {st : State} (p : Piece) (base : State) (n : ℕ) → width < 1_000_000 → EachPlace Fills st.back → EachPassed NoInk st.back → IsStarting st → Agrees st
       → Fits margin_of st p → Begins width st p base → Pads base n → IsReached width st → IsReached width (put n p.part p.bytes p.weight base)
   reached_put {margin_of} {st} p base n small f q start agrees fits b d h = λ m before e there plain light. at m before e plain light (cut_cons (Placed (place_of p)) (padded n base.back) m e before there) where
@@ -299,10 +261,10 @@ module _ (width : ℕ) where
         }
     at m before e plain light (later rest is there) =
         let parts : (is_light (Shows p.part (chunk_at (place_of p))) && list_all is_light (events_back rest)) ≡ true = subst (λ x. list_all is_light (events_back x) ≡ true) is light in
-        let own : is_light (Shows p.part (chunk_at (place_of p))) ≡ true = and_left (is_light (Shows p.part (chunk_at (place_of p)))) (list_all is_light (events_back rest)) parts in
-        let ordinary : is_ordinary (Raw p.bytes p.weight) ≡ true = and_left (is_ordinary (Raw p.bytes p.weight)) (not (is_inked (Raw p.bytes p.weight))) own in
+        let own : is_light (Shows p.part (chunk_at (place_of p))) ≡ true = (and_parts (is_light (Shows p.part (chunk_at (place_of p)))) (list_all is_light (events_back rest)) parts).0 in
+        let ordinary : is_ordinary (Raw p.bytes p.weight) ≡ true = (and_parts (is_ordinary (Raw p.bytes p.weight)) (not (is_inked (Raw p.bytes p.weight))) own).0 in
         let weight : p.weight ≡ columns p.bytes = fits.weighed ordinary in
-        let r : Placeable width p base n (reach rest e before) (has_newline rest) = light_begins width p base n f q h b d rest before e there plain (and_right (is_light (Shows p.part (chunk_at (place_of p)))) (list_all is_light (events_back rest)) parts) in
+        let r : Placeable width p base n (reach rest e before) (has_newline rest) = light_begins width p base n f q h b d rest before e there plain (and_parts (is_light (Shows p.part (chunk_at (place_of p)))) (list_all is_light (events_back rest)) parts).1 in
         let total : chunk_columns (events_back m) ≡ columns p.bytes + chunk_columns (events_back rest) = ap (λ x. chunk_columns (events_back x)) is in
         let a : base.column + n ≤ reach rest e before = r.column in
         let c : base.margin ≤ reach rest e before = r.margin in
@@ -322,10 +284,8 @@ module _ (width : ℕ) where
         let gap : AfterGap 10 (trimmed mid.back) found.rest e before = cut_gap 10 (trimmed mid.back) found.rest e before found.there in
         let events : events_back m ≡ Shows p.part (Raw p.bytes p.weight) ∷ events_back gap.rest = ap events_back found.is ∙ ap (λ es. Shows p.part (Raw p.bytes p.weight) ∷ es) (ap events_back gap.is) in
         let parts : (is_light (Shows p.part (Raw p.bytes p.weight)) && list_all is_light (events_back gap.rest)) ≡ true = subst (λ es. list_all is_light es ≡ true) events light in
-        let r : AtWrap width st mid (reach gap.rest e before) = wrap_known width h l gap.rest before e gap.there plain (and_right (is_light (Shows p.part (Raw p.bytes p.weight))) (list_all is_light (events_back gap.rest)) parts) in
+        let r : AtWrap width st mid (reach gap.rest e before) = wrap_known width h l gap.rest before e gap.there plain (and_parts (is_light (Shows p.part (Raw p.bytes p.weight))) (list_all is_light (events_back gap.rest)) parts).1 in
         let total : chunk_columns (events_back m) ≡ columns p.bytes + chunk_columns (events_back gap.rest) = ap chunk_columns events in
-        let a : mid.column ≤ reach gap.rest e before = r.column in
-        let c : mid.margin ≤ reach gap.rest e before = r.margin in
         record { column = omega arith; margin = omega arith; asked = r.asked; pending = r.pending; needed = λ t. omega arith }
 
   reached_passed : (event : Event) (margin : ℕ) (st : State) → (is_light event ≡ true → IsQuietMark event × ((p : Bool) → pending_after event p ≡ p) × (margin ≤ st.margin))
@@ -336,15 +296,10 @@ module _ (width : ℕ) where
     at m before e plain light found =
         let events : events_back m ≡ event ∷ events_back found.rest = ap events_back found.is in
         let parts : (is_light event && list_all is_light (events_back found.rest)) ≡ true = subst (λ es. list_all is_light es ≡ true) events light in
-        let own : is_light event ≡ true = and_left (is_light event) (list_all is_light (events_back found.rest)) parts in
-        let r : Reached width st (reach found.rest e before) (has_newline found.rest) = h found.rest before e found.there plain (and_right (is_light event) (list_all is_light (events_back found.rest)) parts) in
+        let own : is_light event ≡ true = (and_parts (is_light event) (list_all is_light (events_back found.rest)) parts).0 in
+        let r : Reached width st (reach found.rest e before) (has_newline found.rest) = h found.rest before e found.there plain (and_parts (is_light event) (list_all is_light (events_back found.rest)) parts).1 in
         let marks : IsQuietMark event × ((p : Bool) → pending_after event p ≡ p) × (margin ≤ st.margin) = quiet own in
-        let bare : length (event_bytes event) ≡ 0 = marks.0.bytes in
-        let none : event_columns event ≡ 0 = marks.0.columns_of in
         let total : chunk_columns (events_back m) ≡ event_columns event + chunk_columns (events_back found.rest) = ap chunk_columns events in
-        let a : st.column ≤ reach found.rest e before = r.column in
-        let c : st.margin ≤ reach found.rest e before = r.margin in
-        let g : margin ≤ st.margin = marks.2 in
         record {
           column = omega arith;
           margin = omega arith;
@@ -355,11 +310,7 @@ module _ (width : ℕ) where
 
   -- a break is no light chunk
   no_break : {A : Type 0} {margin_of : ℕ → ℕ} (st : State) (next : Next) (k : ℕ) (chunk : Chunk) → Suits margin_of st next → next ≡ break k chunk → is_light (Shows k chunk) ≡ true → A
-  no_break st next k chunk (raw_suits q f g) e h = absurd cc
-  no_break st next k chunk (paragraph_suits j f l m) e h = let same : chunk ≡ Paragraph = cc in let no : is_light (Shows k Paragraph) ≡ true = subst (λ (c : Chunk). is_light (Shows k c) ≡ true) same h in absurd cc
-  no_break st next k chunk (line_break_suits j f l m) e h = let same : chunk ≡ LineBreak = cc in let no : is_light (Shows k LineBreak) ≡ true = subst (λ (c : Chunk). is_light (Shows k c) ≡ true) same h in absurd cc
-  no_break st next k chunk (open_suits b margin f l u) e h = absurd cc
-  no_break st next k chunk (close_suits b margin f l u) e h = absurd cc
+  no_break {A} st next k chunk suits e = by_break (λ c j. is_light (Shows j c) ≡ true → A) suits e (λ j l m h. absurd cc) (λ j l m h. absurd cc)
 
   reached_broken : {margin_of : ℕ → ℕ} (st : State) (next : Next) (k : ℕ) (chunk : Chunk) → Suits margin_of st next → next ≡ break k chunk → IsReached width (broken k chunk st)
   reached_broken st next k chunk suits e = λ m before g there plain light.
@@ -367,24 +318,13 @@ module _ (width : ℕ) where
       let found : AfterPassed (Shows k chunk) st.back gap.rest g before = cut_passed (Shows k chunk) st.back gap.rest g before gap.there in
       let parts : (is_light (Shows k chunk) && list_all is_light (events_back found.rest)) ≡ true =
       subst (λ es. list_all is_light es ≡ true) (ap events_back gap.is ∙ ap events_back found.is) light in
-      no_break st next k chunk suits e (and_left (is_light (Shows k chunk)) (list_all is_light (events_back found.rest)) parts)
+      no_break st next k chunk suits e (and_parts (is_light (Shows k chunk)) (list_all is_light (events_back found.rest)) parts).0
 
   suits_light : {margin_of : ℕ → ℕ} (st : State) (next : Next) (event : Event) (margin : ℕ) → Suits margin_of st next → next ≡ mark event margin
       → is_light event ≡ true → IsQuietMark event × ((p : Bool) → pending_after event p ≡ p) × (margin ≤ st.margin)
-  suits_light st next event margin (raw_suits q f g) e = absurd cc
-  suits_light st next event margin (paragraph_suits j f l m) e = absurd cc
-  suits_light st next event margin (line_break_suits j f l m) e = absurd cc
-  suits_light st next event margin (open_suits b n f l u) e = λ h.
-      let same : Opens b ≡ event = cc in
-      let level : n ≡ margin = cc in
-      let inline : is_inline_block b ≡ true = subst (λ (x : Event). is_light x ≡ true) (sym same) h in
-      let less : n ≤ st.margin = l inline in
-      (subst IsQuietMark same (quiet_open b (light_open b inline).0), subst (λ (x : Event). (p : Bool) → pending_after x p ≡ p) same (light_open b inline).1, omega arith)
-  suits_light st next event margin (close_suits b n f l u) e = λ h.
-      let same : Closes b ≡ event = cc in
-      let level : n ≡ margin = cc in
-      let inline : is_inline_block b ≡ true = subst (λ (x : Event). is_light x ≡ true) (sym same) h in
-      (subst IsQuietMark same (quiet_close b (light_close b inline).0), subst (λ (x : Event). (p : Bool) → pending_after x p ≡ p) same (light_close b inline).1, omega arith)
+  suits_light st next event margin suits e = by_mark (λ x m. is_light x ≡ true → IsQuietMark x × ((p : Bool) → pending_after x p ≡ p) × (m ≤ st.margin)) suits e
+      (λ b m l u h. (quiet_open b (light_open b h).0, (light_open b h).1, l h))
+      (λ b m l u h. (quiet_close b (light_close b h).0, (light_close b h).1, l))
 
   pub reached_grows : {margin_of : ℕ → ℕ} {st after : State} {next : Next} → width < 1_000_000 → EachPlace Fills st.back → EachPassed NoInk st.back → IsStarting st → Agrees st → Suits margin_of st next
       → Grows width st next after → IsReached width st → IsReached width after
@@ -416,22 +356,13 @@ module _ (width : ℕ) where
     at m before e plain light found =
         let events : events_back m ≡ event ∷ events_back found.rest = ap events_back found.is in
         let parts : (is_light_mark event && list_all is_light_mark (events_back found.rest)) ≡ true = subst (λ es. list_all is_light_mark es ≡ true) events light in
-        let marks : IsQuietMark event = quiet (and_left (is_light_mark event) (list_all is_light_mark (events_back found.rest)) parts) in
-        let r : Marked st (reach found.rest e before) (has_newline found.rest) = h found.rest before e found.there plain (and_right (is_light_mark event) (list_all is_light_mark (events_back found.rest)) parts) in
-        let bare : length (event_bytes event) ≡ 0 = marks.bytes in
-        let none : event_columns event ≡ 0 = marks.columns_of in
+        let marks : IsQuietMark event = quiet (and_parts (is_light_mark event) (list_all is_light_mark (events_back found.rest)) parts).0 in
+        let r : Marked st (reach found.rest e before) (has_newline found.rest) = h found.rest before e found.there plain (and_parts (is_light_mark event) (list_all is_light_mark (events_back found.rest)) parts).1 in
         let total : chunk_columns (events_back m) ≡ event_columns event + chunk_columns (events_back found.rest) = ap chunk_columns events in
-        let a : st.column ≤ reach found.rest e before = r.column in
         record { column = omega arith; asked = marks.asked st.asked ∙ r.asked; line = ap has_newline found.is ∙ r.line }
 
   suits_marks : {margin_of : ℕ → ℕ} (st : State) (next : Next) (event : Event) (margin : ℕ) → Suits margin_of st next → next ≡ mark event margin → is_light_mark event ≡ true → IsQuietMark event
-  suits_marks st next event margin (raw_suits q f g) e = absurd cc
-  suits_marks st next event margin (paragraph_suits j f l m) e = absurd cc
-  suits_marks st next event margin (line_break_suits j f l m) e = absurd cc
-  suits_marks st next event margin (open_suits b n f l u) e = λ h.
-      let same : Opens b ≡ event = cc in subst IsQuietMark same (quiet_open b (subst (λ (x : Event). is_light_mark x ≡ true) (sym same) h))
-  suits_marks st next event margin (close_suits b n f l u) e = λ h.
-      let same : Closes b ≡ event = cc in subst IsQuietMark same (quiet_close b (subst (λ (x : Event). is_light_mark x ≡ true) (sym same) h))
+  suits_marks st next event margin suits e = by_mark (λ x m. is_light_mark x ≡ true → IsQuietMark x) suits e (λ b m l u. quiet_open b) (λ b m l u. quiet_close b)
 
   pub marked_grows : {margin_of : ℕ → ℕ} {st after : State} {next : Next} → width < 1_000_000 → EachPlace Fills st.back → IsStarting st → Agrees st → Suits margin_of st next
       → Grows width st next after → IsMarked width st → IsMarked width after

@@ -2,11 +2,10 @@
 use Rattle.std.specs.Prelude.{◌≡◌, ℕ, zero, suc, ◌+◌, ◌<◌, ◌≤◌, ⊤, Bool, true, false, ◌&&◌, ◌||◌, ◌==◌, List, [], ◌∷◌, ◌++◌, reverse, refl, if◌then◌else◌, ◌⊎◌}
 use Rattle.std.proofs.Common.{sym, subst, ap, arith, inl, inr, ◌∙◌, append_assoc}
 use Rattle.std.proofs.lemmas.List.{reverse-append}
-use Rattle.bpaf_doc.specs.Splitter.Chunks.{columns, is_inked, has_some}
-use Rattle.bpaf_doc.specs.Shown.{is_term_ref}
-use Rattle.bpaf_doc.specs.Console.Layout.{Event, Shows, Opens, Closes, Stretch, Gap, Placed, Passed, Place, chunk_at, event_bytes, is_newline, is_placed, is_gap, is_ref, holds_line, leads_to_place, opens_body}
-use Rattle.bpaf_doc.proofs.lemmas.Console.Layout.State.{State, Piece, Lines, none_asked, line_there, line_put, blank_there, second_put, both_put, Pads, to_margin, after_term, Begins, first, stays, wraps, places, drops, Next, raw, Grows, placing, breaking, passing, padded, trimmed, passed, closes_body, has_text, Suits}
-use Rattle.bpaf_doc.proofs.lemmas.Console.Layout.Back.{by_cases, EachPlace, KeepsCut, each_grows, trimmed_inked, trimmed_plain, trimmed_bytes, trimmed_bare, place_of, fits_of}
+use Rattle.bpaf_doc.specs.Splitter.Chunks.{columns, has_some}
+use Rattle.bpaf_doc.specs.Console.Layout.{Event, Shows, Opens, Closes, Stretch, Gap, Placed, Passed, Place, event_bytes, is_newline, is_placed, is_gap, is_ref, holds_line, leads_to_place, opens_body}
+use Rattle.bpaf_doc.proofs.lemmas.Console.Layout.State.{State, Piece, Lines, Pads, to_margin, after_term, Begins, first, stays, wraps, places, drops, Next, raw, Grows, placing, breaking, passing, padded, trimmed, passed, closes_body, has_text, Suits}
+use Rattle.bpaf_doc.proofs.lemmas.Console.Layout.Back.{by_cases, EachPlace, KeepsCut, each_grows, place_of, fits_of, by_lines, lines_back, begins_back, by_trimmed, by_padded, same_padded}
 use Rattle.bpaf_doc.proofs.lemmas.Console.Layout.Columns.{Fills, column_back, column_padded, Agrees, any_in_line}
 use Rattle.bpaf_doc.proofs.lemmas.Console.Layout.Text.{IsStarting, has_place, begins_column, begins_margin, or_true_right, or_false_left, or_false_right}
 
@@ -31,18 +30,8 @@ pub pads_padded : (n : ℕ) (r : List Stretch) → pads_back (padded n r) ≡ n 
 pads_padded zero r = omega arith
 pads_padded (suc n) r = let ih : pads_back (padded n r) ≡ n + pads_back r = pads_padded n r in omega arith
 
-pads_lines : {st mid : State} → Lines st mid → HasNoPads st → HasNoPads mid
-pads_lines (none_asked a e) h = subst HasNoPads (sym e) h
-pads_lines (line_there a b e) h = subst HasNoPads (sym e) h
-pads_lines (line_put a e) h = subst HasNoPads (sym e) refl
-pads_lines (blank_there a b e) h = subst HasNoPads (sym e) h
-pads_lines (second_put a b e) h = subst HasNoPads (sym e) refl
-pads_lines (both_put a e) h = subst HasNoPads (sym e) refl
-
 pub pads_begins : {width : ℕ} {st : State} {p : Piece} {base : State} → Begins width st p base → HasNoPads st → HasNoPads base
-pads_begins (first t e) h = subst HasNoPads (sym e) h
-pads_begins (stays t l w) h = pads_lines l h
-pads_begins (wraps t mid l w b e) h = subst HasNoPads (sym e) refl
+pads_begins b h = begins_back (λ r. pads_back r ≡ 0) (λ r x. refl) (λ r x. refl) b h
 
 pub no_pads_grows : {width : ℕ} {st after : State} {next : Next} → Grows width st next after → HasNoPads st → HasNoPads after
 no_pads_grows (placing p e (places base n b d a)) h = subst HasNoPads (sym a) refl
@@ -56,20 +45,10 @@ no_pads_grows (passing event margin e a) h = subst HasNoPads (sym a) (omega arit
 abbrev pub holds_back : List Stretch → Bool
 holds_back r = any_in_line holds_line r
 
-holds_padded : (n : ℕ) (r : List Stretch) → holds_back (padded n r) ≡ holds_back r
-holds_padded zero r = refl
-holds_padded (suc n) r = holds_padded n r
-
 no_ref : (event : Event) → has_some (event_bytes event) ≡ false → is_ref event ≡ false
 no_ref (Shows k chunk) h = refl
-no_ref (Opens b) h = at (is_term_ref b) h where
-  at : (t : Bool) → has_some (if t then 96 ∷ [] else []) ≡ false → t ≡ false
-  at true h = absurd cc
-  at false h = refl
-no_ref (Closes b) h = at (is_term_ref b) h where
-  at : (t : Bool) → has_some (if t then 96 ∷ [] else []) ≡ false → t ≡ false
-  at true h = absurd cc
-  at false h = refl
+no_ref (Opens b) h = grind arith
+no_ref (Closes b) h = grind arith
 
 -- on a page without text and without places stands nothing
 no_text_holds : (r : List Stretch) → has_text r ≡ false → has_place r ≡ false → holds_back r ≡ false
@@ -90,15 +69,14 @@ module _ (width : ℕ) where
       → Begins width st p base → FitsBefore (padded n base.back) (place_of p)
   fits_place {st} p base n small f start h none (first t e) = λ holds.
       let bare : holds_back st.back ≡ false = no_text_holds st.back t (start t).1 in
-      let some : holds_back st.back ≡ true = sym (holds_padded n st.back) ∙ subst (λ (x : State). holds_back (padded n x.back) ≡ true) e holds in absurd cc
+      let some : holds_back st.back ≡ true = sym (same_padded holds_back (λ x. refl) n st.back) ∙ subst (λ (x : State). holds_back (padded n x.back) ≡ true) e holds in absurd cc
   fits_place {st} p base n small f start h none (stays t l w) = λ holds.
       let here : base.column ≡ column_back base.back = begins_column {p = p} small f start h (stays t l w) in
-      let bare : pads_back base.back ≡ 0 = pads_lines l none in
       let line : column_back (padded n base.back) ≡ n + column_back base.back = column_padded n base.back in
       let pads : pads_back (padded n base.back) ≡ n + pads_back base.back = pads_padded n base.back in
       omega arith
   fits_place p base n small f start h none (wraps t mid l w b e) = λ holds.
-      let some : holds_back base.back ≡ true = sym (holds_padded n base.back) ∙ holds in
+      let some : holds_back base.back ≡ true = sym (same_padded holds_back (λ x. refl) n base.back) ∙ holds in
       let no : false ≡ true = subst (λ (x : State). holds_back x.back ≡ true) e some in absurd cc
 
   pub fits_width_grows : {st after : State} {next : Next} → width < 1_000_000 → EachPlace Fills st.back → IsStarting st → Agrees st → HasNoPads st
@@ -124,21 +102,9 @@ leads_more (Gap b ∷ r) h = (λ t. refl, at (by_cases (b == 32))) where
 leads_more (Placed e ∷ r) h = h
 leads_more (Passed event ∷ r) h = h
 
-leads_padded : (n : ℕ) (r : List Stretch) → Leads true r → Leads true (padded n r)
-leads_padded zero r h = h
-leads_padded (suc n) r h = (λ t. refl, leads_padded n r h)
-
-leads_trimmed : (place : Bool) (r : List Stretch) → Leads place r → Leads false (trimmed r)
-leads_trimmed place [] h = h
-leads_trimmed place (Gap b ∷ r) h = leads_trimmed ((b == 32) && place) r h.1
-leads_trimmed place (Placed e ∷ r) h = at (by_cases (is_inked (chunk_at e))) (leads_trimmed true r h) where
-  at : (is_inked (chunk_at e) ≡ true) ⊎ (is_inked (chunk_at e) ≡ false) → Leads false (trimmed r) → Leads false (trimmed (Placed e ∷ r))
-  at (inl i) ih = subst (λ x. Leads false x) (sym (trimmed_inked e r i)) h
-  at (inr i) ih = subst (λ x. Leads false x) (sym (trimmed_plain e r i)) ih
-leads_trimmed place (Passed event ∷ r) h = at (by_cases (has_some (event_bytes event))) (leads_trimmed false r h) where
-  at : (has_some (event_bytes event) ≡ true) ⊎ (has_some (event_bytes event) ≡ false) → Leads false (trimmed r) → Leads false (trimmed (Passed event ∷ r))
-  at (inl i) ih = subst (λ x. Leads false x) (sym (trimmed_bytes event r i)) h
-  at (inr i) ih = subst (λ x. Leads false x) (sym (trimmed_bare event r i)) ih
+leads_trimmed : (r : List Stretch) (place : Bool) → Leads place r → Leads false (trimmed r)
+leads_trimmed = by_trimmed (λ r t. (place : Bool) → Leads place r → Leads false t) (λ place h. h) (λ b r t ih place h. ih ((b == 32) && place) h.1) (λ e r i place h. h)
+    (λ e r t i ih place h. ih true h) (λ event r i place h. h) (λ event r t i ih place h. ih false h)
 
 abbrev pub IsLed : State → Type 0
 IsLed st = Leads false st.back
@@ -147,21 +113,14 @@ leads_newline : (r : List Stretch) → Leads false r → Leads false (Gap 10 ∷
 leads_newline r h = (λ t. absurd cc, h)
 
 led_lines : {st mid : State} → Lines st mid → IsLed st → IsLed mid
-led_lines (none_asked a e) h = subst IsLed (sym e) h
-led_lines (line_there a b e) h = subst IsLed (sym e) h
-led_lines {st} (line_put a e) h = subst IsLed (sym e) (leads_newline st.back h)
-led_lines (blank_there a b e) h = subst IsLed (sym e) h
-led_lines {st} (second_put a b e) h = subst IsLed (sym e) (leads_newline st.back h)
-led_lines {st} (both_put a e) h = subst IsLed (sym e) (leads_newline (Gap 10 ∷ st.back) (leads_newline st.back h))
+led_lines l h = lines_back (Leads false) leads_newline l h
 
 led_begins : {width : ℕ} {st : State} {p : Piece} {base : State} → Begins width st p base → IsLed st → IsLed base
-led_begins (first t e) h = subst IsLed (sym e) h
-led_begins (stays t l w) h = led_lines l h
-led_begins (wraps t mid l w b e) h = subst IsLed (sym e) (leads_newline (trimmed mid.back) (leads_trimmed false mid.back (led_lines l h)))
+led_begins b h = begins_back (Leads false) leads_newline (λ r x. leads_newline (trimmed r) (leads_trimmed r false x)) b h
 
 pub led_grows : {width : ℕ} {st after : State} {next : Next} → Grows width st next after → IsLed st → IsLed after
-led_grows (placing p e (places base n b d a)) h = subst IsLed (sym a) (leads_padded n base.back (leads_more base.back (led_begins b h)))
-led_grows (placing p e (drops t mid l w b a)) h = subst IsLed (sym a) (leads_newline (trimmed mid.back) (leads_trimmed false mid.back (led_lines l h)))
+led_grows (placing p e (places base n b d a)) h = subst IsLed (sym a) (by_padded (Leads true) (λ x y. ((λ t. refl), y)) n base.back (leads_more base.back (led_begins b h)))
+led_grows (placing p e (drops t mid l w b a)) h = subst IsLed (sym a) (leads_newline (trimmed mid.back) (leads_trimmed mid.back false (led_lines l h)))
 led_grows {st = st} (breaking k chunk e a) h = subst IsLed (sym a) (leads_newline (Passed (Shows k chunk) ∷ st.back) h)
 led_grows (passing event margin e a) h = subst IsLed (sym a) h
 
@@ -174,8 +133,7 @@ leads_at place (x ∷ m) r rest h k =
           → leads_to_place (reverse m ++ x ∷ rest) ≡ true
       at (Gap b) h ih = ih ((b == 32) && place) h.1 (both (b == 32) place (leads_to_place rest) k) where
         both : (t place ok : Bool) → (place ≡ true → ok ≡ true) → (t && place) ≡ true → (t && ok) ≡ true
-        both true place ok k h = k h
-        both false place ok k h = h
+        both t place ok k h = grind arith
       at (Placed e) h ih = ih true h (λ t. refl)
       at (Passed event) h ih = ih false h (λ t. absurd cc)
 
@@ -184,29 +142,15 @@ abbrev pub IsPending : State → Type 0
 IsPending st = st.pending ≡ true → body_back st.back ≡ true
 
 body_trimmed : (r : List Stretch) → body_back r ≡ true → body_back (trimmed r) ≡ true
-body_trimmed [] h = h
-body_trimmed (Gap b ∷ r) h = body_trimmed r h
-body_trimmed (Placed e ∷ r) h = absurd cc
-body_trimmed (Passed event ∷ r) h = at (by_cases (has_some (event_bytes event))) (by_cases (opens_body event)) (body_trimmed r) where
-  at : (has_some (event_bytes event) ≡ true) ⊎ (has_some (event_bytes event) ≡ false) → (opens_body event ≡ true) ⊎ (opens_body event ≡ false)
-      → (body_back r ≡ true → body_back (trimmed r) ≡ true) → body_back (trimmed (Passed event ∷ r)) ≡ true
-  at (inl i) o ih = subst (λ x. body_back x ≡ true) (sym (trimmed_bytes event r i)) h
-  at (inr i) (inl o) ih = subst (λ x. body_back x ≡ true) (sym (trimmed_bare event r i)) (rw o refl)
-  at (inr i) (inr o) ih =
-      let rest : body_back r ≡ true = rw o at h in
-      subst (λ x. body_back x ≡ true) (sym (trimmed_bare event r i)) (or_true_right (opens_body event) (body_back (trimmed r)) (ih rest))
-
-pub body_padded : (n : ℕ) (r : List Stretch) → body_back r ≡ true → body_back (padded n r) ≡ true
-body_padded zero r h = h
-body_padded (suc n) r h = body_padded n r h
+body_trimmed = by_trimmed (λ r t. body_back r ≡ true → body_back t ≡ true) (λ h. h) (λ b r t ih h. ih h) (λ e r i h. absurd cc) (λ e r t i ih h. absurd cc) (λ event r i h. h)
+    (λ event r t i ih h. at event r t (by_cases (opens_body event)) h ih) where
+      at : (event : Event) (r t : List Stretch) → (opens_body event ≡ true) ⊎ (opens_body event ≡ false) → body_back (Passed event ∷ r) ≡ true
+          → (body_back r ≡ true → body_back t ≡ true) → body_back (Passed event ∷ t) ≡ true
+      at event r t (inl o) h ih = rw o refl
+      at event r t (inr o) h ih = let rest : body_back r ≡ true = rw o at h in or_true_right (opens_body event) (body_back t) (ih rest)
 
 pending_lines : {st mid : State} → Lines st mid → IsPending st → IsPending mid
-pending_lines (none_asked a e) h = subst IsPending (sym e) h
-pending_lines (line_there a b e) h = subst IsPending (sym e) h
-pending_lines (line_put a e) h = subst IsPending (sym e) h
-pending_lines (blank_there a b e) h = subst IsPending (sym e) h
-pending_lines (second_put a b e) h = subst IsPending (sym e) h
-pending_lines (both_put a e) h = subst IsPending (sym e) h
+pending_lines l h = by_lines IsPending l h h h h
 
 pub pending_begins : {width : ℕ} {st : State} {p : Piece} {base : State} → Begins width st p base → IsPending st → IsPending base
 pending_begins (first t e) h = subst IsPending (sym e) h
@@ -234,7 +178,7 @@ module _ (margin_of : ℕ → ℕ) where
   pads_only : (n : ℕ) (base : State) (m : ℕ) → base.margin ≡ m → base.column ≡ column_back base.back → HasNoPads base → IsPending base → Pads base n
       → 0 < pads_back (padded n base.back) → (column_back (padded n base.back) ≡ m) ⊎ ((pads_back (padded n base.back) ≡ 2) × (body_back (padded n base.back) ≡ true))
   pads_only n base m a c none pending (to_margin e) some = inl (omega (arith, column_padded n base.back, pads_padded n base.back))
-  pads_only n base m a c none pending (after_term t wide few e) some = inr (omega (arith, pads_padded n base.back), body_padded n base.back (pending t))
+  pads_only n base m a c none pending (after_term t wide few e) some = inr (omega (arith, pads_padded n base.back), by_padded (λ x. body_back x ≡ true) (λ x y. y) n base.back (pending t))
 
   pub pads_only_grows : {width : ℕ} {st after : State} {next : Next} → width < 1_000_000 → EachPlace Fills st.back → IsStarting st → Agrees st → Suits margin_of st next
       → HasNoPads st → IsPending st → Grows width st next after → EachPlace PadsOnly st.back → EachPlace PadsOnly after.back

@@ -2,18 +2,19 @@
 use Rattle.std.specs.Prelude.{◌≡◌, ℕ, ◌+◌, ◌<◌, ◌≤◌, ⊤, Bool, true, false, not, ◌&&◌, List, [], ◌∷◌, ◌++◌, length, refl, if◌then◌else◌, ◌⊎◌}
 use Rattle.std.specs.List.{list_any, list_all}
 use Rattle.std.proofs.Common.{sym, subst, ap, arith, inl, inr, ◌∙◌}
+use Rattle.std.proofs.lemmas.Bool.{not-true, and_parts}
 use Rattle.bpaf_doc.specs.declared.buffer.Block.{Block}
 use Rattle.bpaf_doc.specs.declared.buffer.Block.TheVariants as blocks
 use Rattle.bpaf_doc.specs.declared.console.page.Asked.{Asked}
 use Rattle.bpaf_doc.specs.declared.console.page.Asked.TheVariants.{Nothing}
-use Rattle.bpaf_doc.specs.Splitter.Chunks.{Chunk, Raw, Paragraph, LineBreak, columns, is_inked, is_ordinary}
+use Rattle.bpaf_doc.specs.Splitter.Chunks.{Chunk, Raw, columns, is_inked, is_ordinary}
 use Rattle.bpaf_doc.specs.Console.Layout.{Event, Shows, Opens, Closes, Stretch, Gap, Placed, Passed, Place, chunk_at, event_bytes, is_inked_event, is_inked_stretch, asks_newline, room_of}
-use Rattle.bpaf_doc.proofs.lemmas.Console.Layout.State.{State, Piece, Lines, Pads, to_margin, after_term, Begins, first, stays, wraps, places, drops, Next, raw, break, mark, Grows, placing, breaking, passing, padded, trimmed, sat, wrapped, put, passed, dropped, broken, asked_after, pending_after, Fits, Suits, raw_suits, paragraph_suits, line_break_suits, open_suits, close_suits, IsShallow}
-use Rattle.bpaf_doc.proofs.lemmas.Console.Layout.Back.{by_cases, EachPlace, each_grows, place_of, fits_of}
+use Rattle.bpaf_doc.proofs.lemmas.Console.Layout.State.{State, Piece, Lines, Pads, to_margin, after_term, Begins, first, stays, wraps, places, drops, Next, raw, break, mark, Grows, placing, breaking, passing, padded, trimmed, sat, wrapped, put, passed, dropped, broken, asked_after, pending_after, Fits, Suits, IsShallow}
+use Rattle.bpaf_doc.proofs.lemmas.Console.Layout.Back.{by_cases, EachPlace, each_grows, place_of, fits_of, same_padded, by_mark, by_break}
 use Rattle.bpaf_doc.proofs.lemmas.Console.Layout.Columns.{Fills, column_back, column_padded, Agrees, heavy}
 use Rattle.bpaf_doc.proofs.lemmas.Console.Layout.Text.{IsStarting, has_place, begins_column, next_event, or_false_left, or_false_right}
 use Rattle.bpaf_doc.proofs.lemmas.Console.Layout.Alone.{place_in}
-use Rattle.bpaf_doc.proofs.lemmas.Console.Layout.Split.{events_back, events_padded, events_begins, events_grows, lines_same, Earlier, after_lines, Cut, FirstOrLater, here, later, cut_cons, AfterGap, cut_gap, AfterPassed, cut_passed, AfterPads, cut_padded, FromTrimmed, cut_trimmed, has_newline, newline_padded}
+use Rattle.bpaf_doc.proofs.lemmas.Console.Layout.Split.{events_back, events_begins, events_grows, lines_same, Earlier, after_lines, Cut, FirstOrLater, here, later, cut_cons, AfterGap, cut_gap, AfterPassed, cut_passed, AfterPads, cut_padded, FromTrimmed, cut_trimmed, has_newline}
 
 -- ---- chunks of one text have no mark between them
 
@@ -59,18 +60,10 @@ in_order_mark st after (Opens b) c is marked h = record { after = λ k l. h.afte
 in_order_mark st after (Closes b) c is marked h = record { after = λ k l. h.after k (omega arith); next = λ k l m. let more : after.latest < k = m marked in h.after k (omega arith) }
 
 mark_chunk : {margin_of : ℕ → ℕ} (st : State) (next : Next) (event : Event) (margin : ℕ) → Suits margin_of st next → next ≡ mark event margin → is_chunk event ≡ false
-mark_chunk st next event margin (raw_suits q f g) e = absurd cc
-mark_chunk st next event margin (paragraph_suits j f l m) e = absurd cc
-mark_chunk st next event margin (line_break_suits j f l m) e = absurd cc
-mark_chunk st next event margin (open_suits b n f l u) e = let same : event ≡ Opens b = cc in ap is_chunk same
-mark_chunk st next event margin (close_suits b n f l u) e = let same : event ≡ Closes b = cc in ap is_chunk same
+mark_chunk st next event margin suits e = by_mark (λ x m. is_chunk x ≡ false) suits e (λ b m l u. refl) (λ b m l u. refl)
 
 break_order : {margin_of : ℕ → ℕ} (st : State) (next : Next) (k : ℕ) (chunk : Chunk) → Suits margin_of st next → next ≡ break k chunk → (st.latest ≤ k) × (st.marked ≡ true → st.latest < k)
-break_order st next k chunk (raw_suits q f g) e = absurd cc
-break_order st next k chunk (paragraph_suits j f l m) e = let same : j ≡ k = cc in subst (λ (i : ℕ). (st.latest ≤ i) × (st.marked ≡ true → st.latest < i)) same (l, m)
-break_order st next k chunk (line_break_suits j f l m) e = let same : j ≡ k = cc in subst (λ (i : ℕ). (st.latest ≤ i) × (st.marked ≡ true → st.latest < i)) same (l, m)
-break_order st next k chunk (open_suits b margin f l u) e = absurd cc
-break_order st next k chunk (close_suits b margin f l u) e = absurd cc
+break_order st next k chunk suits e = by_break (λ c j. (st.latest ≤ j) × (st.marked ≡ true → st.latest < j)) suits e (λ j l m. (l, m)) (λ j l m. (l, m))
 
 pub in_order_grows : {width : ℕ} {margin_of : ℕ → ℕ} {st after : State} {next : Next} → Suits margin_of st next → Grows width st next after → ComesInOrder st → ComesInOrder after
 in_order_grows {st = st} {after = after} {next = next} suits g h = subst (IsInOrder after) (sym (events_grows g)) (at g) where
@@ -92,7 +85,7 @@ pub after_all_grows : {width : ℕ} {margin_of : ℕ → ℕ} {st after : State}
     → EachPlace IsAfterAll st.back → EachPlace IsAfterAll after.back
 after_all_grows {st = st} {next = next} suits h g all = each_grows IsAfterAll (λ r f i x. x) core g all where
   core : {width : ℕ} (p : Piece) (base : State) (n : ℕ) → next ≡ raw p → Begins width st p base → Pads base n → IsAfterAll (padded n base.back) (place_of p)
-  core p base n e b d = subst (Since false p.part) (sym (events_padded n base.back ∙ events_begins b)) (h.next p.part (fits_of suits e).order (fits_of suits e).moved)
+  core p base n e b d = subst (Since false p.part) (sym (same_padded events_back (λ x. refl) n base.back ∙ events_begins b)) (h.next p.part (fits_of suits e).order (fits_of suits e).moved)
 
 -- a chunk behind a mark is of a later text
 pub part_later : (strict : Bool) (k : ℕ) (m before : List Stretch) (e : Place) → Since strict k (events_back (m ++ Placed e ∷ before))
@@ -125,10 +118,7 @@ abbrev pub room : ℕ → List Event → Place → List Stretch → ℕ
 room deepest es e before = column_back before + e.weight + taken es + allowance deepest es
 
 allowance_most : (deepest : ℕ) (es : List Event) → allowance deepest es ≤ deepest
-allowance_most deepest es = at (list_all is_chunk es) where
-  at : (t : Bool) → (if t then 0 else deepest) ≤ deepest
-  at true = omega arith
-  at false = omega arith
+allowance_most deepest es = elim (list_all is_chunk es) as (λ (t : Bool). (if t then 0 else deepest) ≤ deepest) [ true ↦ omega arith | false ↦ omega arith ]
 
 -- one chunk more takes its weight
 room_chunk : (deepest : ℕ) (p : Piece) (es : List Event) (e : Place) (before : List Stretch) → room deepest (Shows p.part (Raw p.bytes p.weight) ∷ es) e before ≡ room deepest es e before + p.weight
@@ -149,14 +139,6 @@ pub record InReach (end : ℕ) (st : State) : Type 0 where
   pub margin : st.margin ≤ end
   pub asked : st.asked ≡ Nothing
   pub pending : st.pending ≡ true → st.column + 2 ≤ end
-
-idle_first : (a b : Bool) → (a && b) ≡ true → a ≡ true
-idle_first true b h = refl
-idle_first false b h = absurd cc
-
-idle_rest : (a b : Bool) → (a && b) ≡ true → b ≡ true
-idle_rest true b h = h
-idle_rest false b h = absurd cc
 
 -- the blanks before a chunk stay in reach
 pads_in_reach : (n : ℕ) (base : State) (end : ℕ) → InReach end base → Pads base n → base.column + n ≤ end
@@ -186,44 +168,22 @@ record IsIdleMark (event : Event) : Type 0 where
 
 idle_open : (b : Block) → asks_newline (Opens b) ≡ false → IsIdleMark (Opens b)
 idle_open blocks.ItemBody h = record { bytes = omega arith; asked = λ a. refl; pending = λ p t. inr (omega arith) }
-idle_open blocks.TermRef h = record { bytes = omega arith; asked = λ a. refl; pending = λ p t. inl t }
-idle_open blocks.InlineBlock h = record { bytes = omega arith; asked = λ a. refl; pending = λ p t. inl t }
-idle_open blocks.Mono h = record { bytes = omega arith; asked = λ a. refl; pending = λ p t. inl t }
-idle_open blocks.Meta h = record { bytes = omega arith; asked = λ a. refl; pending = λ p t. inl t }
-idle_open blocks.DefinitionList h = record { bytes = omega arith; asked = λ a. refl; pending = λ p t. inl t }
-idle_open blocks.Block h = record { bytes = omega arith; asked = λ a. refl; pending = λ p t. inl t }
 idle_open blocks.Header h = absurd cc
 idle_open blocks.Section2 h = absurd cc
 idle_open blocks.Section3 h = absurd cc
 idle_open blocks.Section4 h = absurd cc
 idle_open blocks.ItemTerm h = absurd cc
+idle_open _ h = record { bytes = omega arith; asked = λ a. refl; pending = λ p t. inl t }
 
 idle_close : (b : Block) → asks_newline (Closes b) ≡ false → IsIdleMark (Closes b)
 idle_close blocks.ItemBody h = record { bytes = omega arith; asked = λ a. refl; pending = λ p t. absurd cc }
-idle_close blocks.TermRef h = record { bytes = omega arith; asked = λ a. refl; pending = λ p t. inl t }
-idle_close blocks.InlineBlock h = record { bytes = omega arith; asked = λ a. refl; pending = λ p t. inl t }
-idle_close blocks.Mono h = record { bytes = omega arith; asked = λ a. refl; pending = λ p t. inl t }
-idle_close blocks.Meta h = record { bytes = omega arith; asked = λ a. refl; pending = λ p t. inl t }
-idle_close blocks.DefinitionList h = record { bytes = omega arith; asked = λ a. refl; pending = λ p t. inl t }
-idle_close blocks.Header h = record { bytes = omega arith; asked = λ a. refl; pending = λ p t. inl t }
-idle_close blocks.Section2 h = record { bytes = omega arith; asked = λ a. refl; pending = λ p t. inl t }
-idle_close blocks.Section3 h = record { bytes = omega arith; asked = λ a. refl; pending = λ p t. inl t }
-idle_close blocks.Section4 h = record { bytes = omega arith; asked = λ a. refl; pending = λ p t. inl t }
-idle_close blocks.ItemTerm h = record { bytes = omega arith; asked = λ a. refl; pending = λ p t. inl t }
 idle_close blocks.Block h = absurd cc
-
-not_true : (t : Bool) → not t ≡ true → t ≡ false
-not_true true h = absurd cc
-not_true false h = refl
+idle_close _ h = record { bytes = omega arith; asked = λ a. refl; pending = λ p t. inl t }
 
 idle_mark : {margin_of : ℕ → ℕ} (st : State) (next : Next) (event : Event) (margin : ℕ) → Suits margin_of st next → next ≡ mark event margin → is_idle event ≡ true → IsIdleMark event
-idle_mark st next event margin (raw_suits q f g) e i = absurd cc
-idle_mark st next event margin (paragraph_suits j f l m) e i = absurd cc
-idle_mark st next event margin (line_break_suits j f l m) e i = absurd cc
-idle_mark st next event margin (open_suits b n f l u) e i =
-    let same : event ≡ Opens b = cc in subst IsIdleMark (sym same) (idle_open b (not_true (asks_newline (Opens b)) (idle_rest true (not (asks_newline (Opens b))) (subst (λ (x : Event). is_idle x ≡ true) same i))))
-idle_mark st next event margin (close_suits b n f l u) e i =
-    let same : event ≡ Closes b = cc in subst IsIdleMark (sym same) (idle_close b (not_true (asks_newline (Closes b)) (idle_rest true (not (asks_newline (Closes b))) (subst (λ (x : Event). is_idle x ≡ true) same i))))
+idle_mark st next event margin suits e = by_mark (λ x m. is_idle x ≡ true → IsIdleMark x) suits e
+    (λ b m l u i. idle_open b (not-true (asks_newline (Opens b)) (and_parts true (not (asks_newline (Opens b))) i).1))
+    (λ b m l u i. idle_close b (not-true (asks_newline (Closes b)) (and_parts true (not (asks_newline (Closes b))) i).1))
 
 -- the two blanks that are pending after a mark stay in reach
 mark_pending : (event : Event) (st : State) (end : ℕ) → InReach end st → length (event_bytes event) ≤ room_of event → (st.pending ≡ true) ⊎ (length (event_bytes event) + 2 ≤ room_of event)
@@ -233,11 +193,7 @@ mark_pending event st end r bytes (inr t) = let column : st.column ≤ end = r.c
 
 -- a break is no idle chunk
 no_break : {A : Type 0} {margin_of : ℕ → ℕ} (st : State) (next : Next) (k : ℕ) (chunk : Chunk) → Suits margin_of st next → next ≡ break k chunk → is_idle (Shows k chunk) ≡ true → A
-no_break st next k chunk (raw_suits q f g) e h = absurd cc
-no_break st next k chunk (paragraph_suits j f l m) e h = let same : chunk ≡ Paragraph = cc in let no : is_idle (Shows k Paragraph) ≡ true = subst (λ (c : Chunk). is_idle (Shows k c) ≡ true) same h in absurd cc
-no_break st next k chunk (line_break_suits j f l m) e h = let same : chunk ≡ LineBreak = cc in let no : is_idle (Shows k LineBreak) ≡ true = subst (λ (c : Chunk). is_idle (Shows k c) ≡ true) same h in absurd cc
-no_break st next k chunk (open_suits b margin f l u) e h = absurd cc
-no_break st next k chunk (close_suits b margin f l u) e h = absurd cc
+no_break {A} st next k chunk suits e = by_break (λ c j. is_idle (Shows j c) ≡ true → A) suits e (λ j l m h. absurd cc) (λ j l m h. absurd cc)
 
 -- ---- the page as it grows
 
@@ -288,7 +244,6 @@ module _ (width deepest : ℕ) where
       let same : events_back gap.rest ≡ events_back m = sym (ap events_back gap.is) in
       let reach : InReach (room deepest (events_back m) e before) mid =
       subst (λ es. InReach (room deepest es e before) mid) same (known_trimmed h l gap.rest before e gap.there i (subst (λ es. list_all is_idle es ≡ true) (sym same) idle)) in
-      let c : mid.column ≤ room deepest (events_back m) e before = reach.column in
       record {
         reach = subst (InReach (room deepest (events_back m) e before)) (sym s) (wrapped_in_reach mid (room deepest (events_back m) e before) reach);
         needed = λ n. omega arith;
@@ -298,8 +253,8 @@ module _ (width deepest : ℕ) where
       → is_inked (chunk_at e) ≡ true → list_all is_idle (events_back m) ≡ true → Ready p base m e before
   ready_padded p base n start h b m before e there i idle =
       let found : AfterPads n base.back m e before = cut_padded n base.back m e before there in
-      let same : events_back found.rest ≡ events_back m = sym (ap events_back found.is ∙ events_padded n found.rest) in
-      let line : has_newline m ≡ has_newline found.rest = ap has_newline found.is ∙ newline_padded n found.rest in
+      let same : events_back found.rest ≡ events_back m = sym (ap events_back found.is ∙ same_padded events_back (λ x. refl) n found.rest) in
+      let line : has_newline m ≡ has_newline found.rest = ap has_newline found.is ∙ same_padded has_newline (λ x. refl) n found.rest in
       let ready : Ready p base found.rest e before = ready_begins p base start h b found.rest before e found.there i (subst (λ es. list_all is_idle es ≡ true) (sym same) idle) in
       record {
         reach = subst (λ es. InReach (room deepest es e before) base) same ready.reach;
@@ -333,7 +288,7 @@ module _ (width deepest : ℕ) where
     at m before e i idle (later rest is there) =
         let events : events_back m ≡ Shows p.part (Raw p.bytes p.weight) ∷ events_back rest = ap events_back is in
         let both : (is_idle (Shows p.part (Raw p.bytes p.weight)) && list_all is_idle (events_back rest)) ≡ true = subst (λ es. list_all is_idle es ≡ true) events idle in
-        let ready : Ready p base rest e before = ready_padded p base n start h b rest before e there i (idle_rest (is_idle (Shows p.part (Raw p.bytes p.weight))) (list_all is_idle (events_back rest)) both) in
+        let ready : Ready p base rest e before = ready_padded p base n start h b rest before e there i (and_parts (is_idle (Shows p.part (Raw p.bytes p.weight))) (list_all is_idle (events_back rest)) both).1 in
         let end : room deepest (events_back m) e before ≡ room deepest (events_back rest) e before + p.weight = ap (λ es. room deepest es e before) events ∙ room_chunk deepest p (events_back rest) e before in
         let a : base.column + n ≤ room deepest (events_back rest) e before = pads_in_reach n base (room deepest (events_back rest) e before) ready.reach d in
         let c : base.margin ≤ room deepest (events_back rest) e before = ready.reach.margin in
@@ -354,10 +309,8 @@ module _ (width deepest : ℕ) where
         let events : events_back m ≡ Shows p.part (Raw p.bytes p.weight) ∷ events_back gap.rest = ap events_back found.is ∙ ap (λ es. Shows p.part (Raw p.bytes p.weight) ∷ es) (ap events_back gap.is) in
         let both : (is_idle (Shows p.part (Raw p.bytes p.weight)) && list_all is_idle (events_back gap.rest)) ≡ true = subst (λ es. list_all is_idle es ≡ true) events idle in
         let reach : InReach (room deepest (events_back gap.rest) e before) mid =
-        known_trimmed h l gap.rest before e gap.there i (idle_rest (is_idle (Shows p.part (Raw p.bytes p.weight))) (list_all is_idle (events_back gap.rest)) both) in
+        known_trimmed h l gap.rest before e gap.there i (and_parts (is_idle (Shows p.part (Raw p.bytes p.weight))) (list_all is_idle (events_back gap.rest)) both).1 in
         let end : room deepest (events_back m) e before ≡ room deepest (events_back gap.rest) e before + p.weight = ap (λ es. room deepest es e before) events ∙ room_chunk deepest p (events_back gap.rest) e before in
-        let c : mid.column ≤ room deepest (events_back gap.rest) e before = reach.column in
-        let g : mid.margin ≤ room deepest (events_back gap.rest) e before = reach.margin in
         record {
           reach = record {
             column = omega arith;
@@ -374,8 +327,8 @@ module _ (width deepest : ℕ) where
     at m before e i idle found =
         let events : events_back m ≡ event ∷ events_back found.rest = ap events_back found.is in
         let both : (is_idle event && list_all is_idle (events_back found.rest)) ≡ true = subst (λ es. list_all is_idle es ≡ true) events idle in
-        let mark_is : IsIdleMark event = quiet (idle_first (is_idle event) (list_all is_idle (events_back found.rest)) both) in
-        let known : Known st found.rest e before = h found.rest before e found.there i (idle_rest (is_idle event) (list_all is_idle (events_back found.rest)) both) in
+        let mark_is : IsIdleMark event = quiet (and_parts (is_idle event) (list_all is_idle (events_back found.rest)) both).0 in
+        let known : Known st found.rest e before = h found.rest before e found.there i (and_parts (is_idle event) (list_all is_idle (events_back found.rest)) both).1 in
         let end : room deepest (events_back m) e before ≡ room deepest (event ∷ events_back found.rest) e before = ap (λ es. room deepest es e before) events in
         let grown : (room deepest (events_back found.rest) e before + room_of event ≤ room deepest (event ∷ events_back found.rest) e before) × (deepest ≤ room deepest (event ∷ events_back found.rest) e before) =
         room_mark deepest event (events_back found.rest) e before no_chunk in
@@ -402,7 +355,7 @@ module _ (width deepest : ℕ) where
       let found : AfterPassed (Shows k chunk) st.back gap.rest g before = cut_passed (Shows k chunk) st.back gap.rest g before gap.there in
       let both : (is_idle (Shows k chunk) && list_all is_idle (events_back found.rest)) ≡ true =
       subst (λ es. list_all is_idle es ≡ true) (ap events_back gap.is ∙ ap events_back found.is) idle in
-      no_break st next k chunk suits e (idle_first (is_idle (Shows k chunk)) (list_all is_idle (events_back found.rest)) both)
+      no_break st next k chunk suits e (and_parts (is_idle (Shows k chunk)) (list_all is_idle (events_back found.rest)) both).0
 
   pub roomy_grows : {margin_of : ℕ → ℕ} {st after : State} {next : Next} → width < 1_000_000 → EachPlace Fills st.back → IsStarting st → Agrees st → Suits margin_of st next → IsShallow deepest next
       → Grows width st next after → IsRoomy st → IsRoomy after

@@ -1,14 +1,15 @@
 -- A page cut before one of its places.
 use Rattle.std.specs.Prelude.{◌≡◌, ℕ, zero, suc, Bool, true, false, ◌||◌, List, [], ◌∷◌, ◌++◌, refl, ◌⊎◌}
 use Rattle.std.specs.List.{list_any}
-use Rattle.std.proofs.Common.{sym, subst, ap, inl, inr, ◌∙◌}
+use Rattle.std.proofs.Common.{sym, subst, ap, inl, inr, ◌∙◌, arith}
+use Rattle.std.proofs.lemmas.Bool.{or_parts}
 use Rattle.bpaf_doc.specs.Splitter.Chunks.{Raw, is_inked, has_some}
 use Rattle.bpaf_doc.specs.Console.Layout.{Event, Shows, Stretch, Gap, Placed, Passed, Place, chunk_at, event_bytes, is_newline, is_inked_stretch}
 use Rattle.bpaf_doc.proofs.lemmas.Console.Layout.Columns.{any_in_line}
-use Rattle.bpaf_doc.proofs.lemmas.Console.Layout.State.{State, Piece, Lines, none_asked, line_there, line_put, blank_there, second_put, both_put, Begins, first, stays, wraps, places, drops, Next, Grows, placing, breaking, passing, padded, trimmed, cut}
+use Rattle.bpaf_doc.proofs.lemmas.Console.Layout.State.{State, Piece, Lines, none_asked, line_there, line_put, blank_there, second_put, both_put, Begins, places, drops, Next, Grows, placing, breaking, passing, padded, trimmed, cut}
 use Rattle.bpaf_doc.proofs.lemmas.Console.Layout.Text.{next_event}
 use Rattle.bpaf_doc.specs.declared.console.page.Asked.TheVariants.{Nothing, NewLine, BlankLine}
-use Rattle.bpaf_doc.proofs.lemmas.Console.Layout.Back.{by_cases, trimmed_inked, trimmed_plain, trimmed_bytes, trimmed_bare}
+use Rattle.bpaf_doc.proofs.lemmas.Console.Layout.Back.{by_cases, trimmed_inked, trimmed_plain, trimmed_bytes, trimmed_bare, lines_back, begins_back, by_trimmed, same_padded}
 
 -- ---- the events, newest first
 
@@ -18,40 +19,21 @@ events_back (Gap b ∷ r) = events_back r
 events_back (Placed e ∷ r) = Shows e.part (chunk_at e) ∷ events_back r
 events_back (Passed event ∷ r) = event ∷ events_back r
 
-pub events_padded : (n : ℕ) (r : List Stretch) → events_back (padded n r) ≡ events_back r
-events_padded zero r = refl
-events_padded (suc n) r = events_padded n r
-
 pub events_trimmed : (r : List Stretch) → events_back (trimmed r) ≡ events_back r
-events_trimmed [] = refl
-events_trimmed (Gap b ∷ r) = events_trimmed r
-events_trimmed (Placed e ∷ r) = at (by_cases (is_inked (chunk_at e))) (events_trimmed r) where
-  at : (is_inked (chunk_at e) ≡ true) ⊎ (is_inked (chunk_at e) ≡ false) → events_back (trimmed r) ≡ events_back r → events_back (trimmed (Placed e ∷ r)) ≡ events_back (Placed e ∷ r)
-  at (inl i) ih = subst (λ x. events_back x ≡ events_back (Placed e ∷ r)) (sym (trimmed_inked e r i)) refl
-  at (inr i) ih = subst (λ x. events_back x ≡ events_back (Placed e ∷ r)) (sym (trimmed_plain e r i)) (ap (λ es. Shows e.part (chunk_at e) ∷ es) ih)
-events_trimmed (Passed event ∷ r) = at (by_cases (has_some (event_bytes event))) (events_trimmed r) where
-  at : (has_some (event_bytes event) ≡ true) ⊎ (has_some (event_bytes event) ≡ false) → events_back (trimmed r) ≡ events_back r → events_back (trimmed (Passed event ∷ r)) ≡ events_back (Passed event ∷ r)
-  at (inl i) ih = subst (λ x. events_back x ≡ events_back (Passed event ∷ r)) (sym (trimmed_bytes event r i)) refl
-  at (inr i) ih = subst (λ x. events_back x ≡ events_back (Passed event ∷ r)) (sym (trimmed_bare event r i)) (ap (λ es. event ∷ es) ih)
+events_trimmed = by_trimmed (λ r t. events_back t ≡ events_back r) refl (λ b r t ih. ih) (λ e r i. refl) (λ e r t i ih. ap (λ es. Shows e.part (chunk_at e) ∷ es) ih)
+    (λ event r i. refl) (λ event r t i ih. ap (λ es. event ∷ es) ih)
 
 -- ---- the events as a page grows
 
 events_lines : {st mid : State} → Lines st mid → events_back mid.back ≡ events_back st.back
-events_lines (none_asked a e) = ap (λ (s : State). events_back s.back) e
-events_lines (line_there a b e) = ap (λ (s : State). events_back s.back) e
-events_lines (line_put a e) = ap (λ (s : State). events_back s.back) e
-events_lines (blank_there a b e) = ap (λ (s : State). events_back s.back) e
-events_lines (second_put a b e) = ap (λ (s : State). events_back s.back) e
-events_lines (both_put a e) = ap (λ (s : State). events_back s.back) e
+events_lines {st} l = lines_back (λ r. events_back r ≡ events_back st.back) (λ r x. x) l refl
 
 pub events_begins : {width : ℕ} {st : State} {p : Piece} {base : State} → Begins width st p base → events_back base.back ≡ events_back st.back
-events_begins (first t e) = ap (λ (s : State). events_back s.back) e
-events_begins (stays t l w) = events_lines l
-events_begins (wraps t mid l w b e) = ap (λ (s : State). events_back s.back) e ∙ events_trimmed mid.back ∙ events_lines l
+events_begins {st = st} b = begins_back (λ r. events_back r ≡ events_back st.back) (λ r x. x) (λ r x. events_trimmed r ∙ x) b refl
 
 pub events_grows : {width : ℕ} {st after : State} {next : Next} → Grows width st next after → events_back after.back ≡ next_event next ∷ events_back st.back
 events_grows {st = st} (placing p e (places base n b d a)) =
-    ap (λ (s : State). events_back s.back) a ∙ ap (λ es. Shows p.part (Raw p.bytes p.weight) ∷ es) (events_padded n base.back ∙ events_begins b) ∙ ap (λ (x : Next). next_event x ∷ events_back st.back) (sym e)
+    ap (λ (s : State). events_back s.back) a ∙ ap (λ es. Shows p.part (Raw p.bytes p.weight) ∷ es) (same_padded events_back (λ x. refl) n base.back ∙ events_begins b) ∙ ap (λ (x : Next). next_event x ∷ events_back st.back) (sym e)
 events_grows {st = st} (placing p e (drops t mid l w b a)) =
     ap (λ (s : State). events_back s.back) a ∙ ap (λ es. Shows p.part (Raw p.bytes p.weight) ∷ es) (events_trimmed mid.back ∙ events_lines l) ∙ ap (λ (x : Next). next_event x ∷ events_back st.back) (sym e)
 events_grows {st = st} (breaking k chunk e a) = ap (λ (s : State). events_back s.back) a ∙ ap (λ (x : Next). next_event x ∷ events_back st.back) (sym e)
@@ -193,19 +175,12 @@ pub record Earlier (r m : List Stretch) (e : Place) (before : List Stretch) : Ty
   pub events : events_back rest ≡ events_back m
 
 pub after_lines : {st mid : State} → Lines st mid → (m before : List Stretch) (e : Place) → Cut mid.back m e before → Earlier st.back m e before
-after_lines (none_asked a s) m before e there = record { rest = m; there = subst (λ (x : State). Cut x.back m e before) s there; events = refl }
-after_lines (line_there a b s) m before e there = record { rest = m; there = subst (λ (x : State). Cut x.back m e before) s there; events = refl }
-after_lines {st} (line_put a s) m before e there =
-    let found : AfterGap 10 st.back m e before = cut_gap 10 st.back m e before (subst (λ (x : State). Cut x.back m e before) s there) in
-    record { rest = found.rest; there = found.there; events = sym (ap events_back found.is) }
-after_lines (blank_there a b s) m before e there = record { rest = m; there = subst (λ (x : State). Cut x.back m e before) s there; events = refl }
-after_lines {st} (second_put a b s) m before e there =
-    let found : AfterGap 10 st.back m e before = cut_gap 10 st.back m e before (subst (λ (x : State). Cut x.back m e before) s there) in
-    record { rest = found.rest; there = found.there; events = sym (ap events_back found.is) }
-after_lines {st} (both_put a s) m before e there =
-    let found : AfterGap 10 (Gap 10 ∷ st.back) m e before = cut_gap 10 (Gap 10 ∷ st.back) m e before (subst (λ (x : State). Cut x.back m e before) s there) in
-    let next : AfterGap 10 st.back found.rest e before = cut_gap 10 st.back found.rest e before found.there in
-    record { rest = next.rest; there = next.there; events = sym (ap events_back found.is ∙ ap events_back next.is) }
+after_lines {st} l = lines_back (λ r. (m before : List Stretch) (e : Place) → Cut r m e before → Earlier st.back m e before)
+    (λ r h m before e there.
+    let found : AfterGap 10 r m e before = cut_gap 10 r m e before there in
+    let earlier : Earlier st.back found.rest e before = h found.rest before e found.there in
+    record { rest = earlier.rest; there = earlier.there; events = earlier.events ∙ sym (ap events_back found.is) })
+    l (λ m before e there. record { rest = m; there = there; events = refl })
 
 -- ---- a newline since a place
 
@@ -215,34 +190,13 @@ has_newline r = list_any is_newline r
 abbrev pub inked_line : List Stretch → Bool
 inked_line r = any_in_line is_inked_stretch r
 
-pub newline_padded : (n : ℕ) (r : List Stretch) → has_newline (padded n r) ≡ has_newline r
-newline_padded zero r = refl
-newline_padded (suc n) r = newline_padded n r
-
-pub inked_line_padded : (n : ℕ) (r : List Stretch) → inked_line (padded n r) ≡ inked_line r
-inked_line_padded zero r = refl
-inked_line_padded (suc n) r = inked_line_padded n r
-
 -- without a newline since an inked place, its line has ink
 pub inked_since : (m : List Stretch) (e : Place) (before : List Stretch) → is_inked (chunk_at e) ≡ true → has_newline m ≡ false → inked_line (m ++ Placed e ∷ before) ≡ true
 inked_since [] e before i n = rw i refl
 inked_since (x ∷ m) e before i n =
-    let first : is_newline x ≡ false = or_left (is_newline x) (has_newline m) n in
-    let ih : inked_line (m ++ Placed e ∷ before) ≡ true = inked_since m e before i (or_right (is_newline x) (has_newline m) n) in
-    rw first (or_true (is_inked_stretch x) ih) where
-      or_left : (a b : Bool) → (a || b) ≡ false → a ≡ false
-      or_left true b h = absurd cc
-      or_left false b h = h0 where
-        h0 : false ≡ false
-        h0 = refl
-
-      or_right : (a b : Bool) → (a || b) ≡ false → b ≡ false
-      or_right true b h = absurd cc
-      or_right false b h = h
-
-      or_true : (a : Bool) → inked_line (m ++ Placed e ∷ before) ≡ true → (a || inked_line (m ++ Placed e ∷ before)) ≡ true
-      or_true true t = refl
-      or_true false t = t
+    let first : is_newline x ≡ false = (or_parts (is_newline x) (has_newline m) n).0 in
+    let ih : inked_line (m ++ Placed e ∷ before) ≡ true = inked_since m e before i (or_parts (is_newline x) (has_newline m) n).1 in
+    rw first (grind arith)
 
 -- ---- the page where a chunk begins
 
@@ -251,5 +205,4 @@ pub ink_at : (m : List Stretch) (e : Place) (before : List Stretch) → is_inked
 ink_at [] e before i = rw i refl
 ink_at (x ∷ m) e before i = or_true (is_inked_stretch x) (ink_at m e before i) where
   or_true : (a : Bool) → list_any is_inked_stretch (m ++ Placed e ∷ before) ≡ true → (a || list_any is_inked_stretch (m ++ Placed e ∷ before)) ≡ true
-  or_true true t = refl
-  or_true false t = t
+  or_true a t = grind arith

@@ -2,7 +2,6 @@
 -- Nobody has to believe this: `IsLayout` is what is promised, and it is proved of each page that grows so.
 use Rattle.std.specs.Prelude.{IsUtf8, ◌⊎◌, ◌≡◌, ◌≢◌, ℕ, zero, suc, ◌+◌, ◌-◌, ◌<◌, ◌≤◌, min, ⊤, Bool, true, false, ◌&&◌, ◌||◌, List, [], ◌∷◌, ◌++◌, length, codes, if◌then◌else◌}
 use Rattle.std.specs.Str.{trim_end}
-use Rattle.bpaf_doc.specs.Shown.{through_paragraph}
 use Rattle.bpaf_doc.specs.Splitter.Chunks.{IsLine, Chunk, Raw, Paragraph, LineBreak, columns, is_inked, has_some, IsOrdinary}
 use Rattle.bpaf_doc.specs.Console.Layout.{Event, Shows, Opens, Closes, Stretch, Gap, Placed, Passed, Place, chunk_at, event_bytes, stretch_bytes, is_newline, asks_newline, asks_blank_line, opens_body, is_inline_block, is_empty_code}
 use Rattle.bpaf_doc.specs.declared.console.page.Asked.{Asked}
@@ -231,21 +230,11 @@ spaced n st = record st { back = padded n st.back; column = sat (st.column + n) 
 abbrev pub piece : ℕ → List ℕ → ℕ → Piece
 piece k bytes weight = record { part = k; bytes = bytes; weight = weight }
 
--- the page grows by some things in order
-pub data GrowsBy (width : ℕ) (st : State) : List Next → State → Type 0 where
-  stays_as : {nexts : List Next} {after : State} → nexts ≡ [] → after ≡ st → GrowsBy width st nexts after
-  by_one : {nexts : List Next} {after : State} (earlier : List Next) (next : Next) (mid : State) → nexts ≡ earlier ++ next ∷ []
-      → GrowsBy width st earlier mid → Grows width mid next after → GrowsBy width st nexts after
-
 -- a chunk of the text with this number, as what comes next
 abbrev pub chunk_next : ℕ → Chunk → Next
 chunk_next k (Raw bytes weight) = raw (piece k bytes weight)
 chunk_next k Paragraph = break k Paragraph
 chunk_next k LineBreak = break k LineBreak
-
--- the chunks of a text that are written: all, or in brief those up to the first Paragraph
-abbrev pub written_chunks : Bool → List Chunk → List Chunk
-written_chunks full chunks = if full then chunks else through_paragraph chunks
 
 -- the end of the page: what is still asked for is one newline
 pub data Ends (st : State) (final : List Stretch) : Type 0 where

@@ -1,20 +1,22 @@
 -- What the text of a page shows of its stretches, and what it is without its blank end.
-use Rattle.std.specs.Prelude.{◌≡◌, ◌≢◌, ℕ, zero, suc, ◌+◌, ◌<◌, Bool, true, false, ◌&&◌, ◌||◌, ◌==◌, List, [], ◌∷◌, ◌++◌, length, filter, refl, if◌then◌else◌, ◌⊎◌, IsUtf8}
+use Rattle.std.specs.Prelude.{◌≡◌, ◌≢◌, ℕ, ◌+◌, ◌<◌, Bool, true, false, ◌&&◌, ◌==◌, List, [], ◌∷◌, ◌++◌, length, filter, refl, if◌then◌else◌, ◌⊎◌, IsUtf8}
 use Rattle.std.specs.List.{list_all}
 use Rattle.std.specs.Str.{trim_end, drop_trailing_whitespace, chars, encode_utf8_all}
 use Rattle.std.specs.Char.{is_whitespace, is_not_whitespace}
 use Rattle.std.proofs.Common.{rules, sym, subst, ap, arith, inl, inr, ◌∙◌, append_assoc}
-use Rattle.std.proofs.lemmas.List.{append-nil}
+use Rattle.std.proofs.lemmas.List.{append-nil, same_from_push}
 use Rattle.std.proofs.lemmas.Str.{chars-append, encodes-chars, chars-encodes, scalars-chars, encodes-append, IsUtf8-append, IsUtf8-nil, IsUtf8-from_ascii}
 use Rattle.std.proofs.Math.Utf8.{encodes, scalars, scalar}
 use Rattle.std.proofs.lemmas.Bool.Decides.{nat_tests}
+use Rattle.std.proofs.lemmas.Bool.{or_parts}
+use Rattle.bpaf_doc.proofs.lemmas.Console.Layout.Columns.{whole_trim}
 use Rattle.bpaf_doc.specs.Buffer.Parts.{ink}
 use Rattle.bpaf_doc.specs.Splitter.Chunks.{is_inked, has_some, IsLine, is_line_byte}
 use Rattle.bpaf_doc.specs.Shown.{is_term_ref}
 use Rattle.bpaf_doc.specs.Console.Layout.{Event, Shows, Opens, Closes, Stretch, Gap, Placed, Passed, Place, chunk_at, event_bytes, stretch_bytes}
-use Rattle.bpaf_doc.proofs.lemmas.Console.Layout.State.{has_text, ends_line, ends_blank, padded, trimmed, cut, IsLegible}
-use Rattle.bpaf_doc.proofs.lemmas.Console.Layout.Back.{by_cases, trimmed_inked, trimmed_plain, trimmed_bytes, trimmed_bare}
-use Rattle.bpaf_doc.proofs.lemmas.Console.Layout.Blank.{text_back, text_back_cons}
+use Rattle.bpaf_doc.proofs.lemmas.Console.Layout.State.{has_text, ends_line, ends_blank, trimmed, cut, IsLegible}
+use Rattle.bpaf_doc.proofs.lemmas.Console.Layout.Back.{by_cases, trimmed_inked, trimmed_plain, trimmed_bytes, trimmed_bare, by_trimmed}
+use Rattle.bpaf_doc.proofs.lemmas.Console.Layout.Blank.{text_back, text_back_cons, some_none}
 
 -- ---- trimming
 
@@ -30,22 +32,11 @@ dropped_white : (cs ds : List ℕ) → has_some (filter is_not_whitespace ds) �
 dropped_white [] ds h = white ds h
 dropped_white (c ∷ cs) ds h = let ih : drop_trailing_whitespace (cs ++ ds) ≡ drop_trailing_whitespace cs = dropped_white cs ds h in rw ih refl
 
-some_left : (ds : List ℕ) → has_some (filter is_not_whitespace ds) ≡ true → 0 < length (drop_trailing_whitespace ds)
-some_left [] h = absurd cc
-some_left (d ∷ ds) h = at (by_cases (is_whitespace d)) (some_left ds) where
-  at : (is_whitespace d ≡ true) ⊎ (is_whitespace d ≡ false) → (has_some (filter is_not_whitespace ds) ≡ true → 0 < length (drop_trailing_whitespace ds)) → 0 < length (drop_trailing_whitespace (d ∷ ds))
-  at (inl w) ih =
-      let rest : has_some (filter is_not_whitespace ds) ≡ true = rw w at h in
-      let some : 0 < length (drop_trailing_whitespace ds) = ih rest in
-      let no : (length (drop_trailing_whitespace ds) == 0) ≡ false = grind (arith, nat_tests) in
-      rw (w, no) (omega arith)
-  at (inr w) ih = rw w (omega arith)
-
 dropped_some : (cs ds : List ℕ) → has_some (filter is_not_whitespace ds) ≡ true → drop_trailing_whitespace (cs ++ ds) ≡ cs ++ drop_trailing_whitespace ds
 dropped_some [] ds h = refl
 dropped_some (c ∷ cs) ds h =
     let ih : drop_trailing_whitespace (cs ++ ds) ≡ cs ++ drop_trailing_whitespace ds = dropped_some cs ds h in
-    let some : 0 < length (drop_trailing_whitespace ds) = some_left ds h in
+    let some : 0 < length (drop_trailing_whitespace ds) = whole_trim ds h in
     rw ih (at (is_whitespace c) (no_end cs (drop_trailing_whitespace ds) some)) where
       no_end : (cs es : List ℕ) → 0 < length es → (length (cs ++ es) == 0) ≡ false
       no_end [] es h = grind (arith, nat_tests)
@@ -53,8 +44,7 @@ dropped_some (c ∷ cs) ds h =
 
       at : (w : Bool) → (length (cs ++ drop_trailing_whitespace ds) == 0) ≡ false
           → (if (w && (length (cs ++ drop_trailing_whitespace ds) == 0)) then [] else (c ∷ (cs ++ drop_trailing_whitespace ds))) ≡ c ∷ (cs ++ drop_trailing_whitespace ds)
-      at true e = rw e refl
-      at false e = refl
+      at w e = grind arith
 
 pub trim_white : (front back : List ℕ) → IsUtf8 front → has_some (ink back) ≡ false → trim_end (front ++ back) ≡ trim_end front
 unfolding trim_end
@@ -78,18 +68,13 @@ kept_front (c ∷ cs) = at (by_cases (is_whitespace c && (length (drop_trailing_
 
 twice_chars : (cs : List ℕ) → drop_trailing_whitespace (drop_trailing_whitespace cs) ≡ drop_trailing_whitespace cs
 twice_chars [] = refl
-twice_chars (c ∷ cs) = at (by_cases (is_whitespace c && (length (drop_trailing_whitespace cs) == 0))) (twice_chars cs) where
-  at : ((is_whitespace c && (length (drop_trailing_whitespace cs) == 0)) ≡ true) ⊎ ((is_whitespace c && (length (drop_trailing_whitespace cs) == 0)) ≡ false)
-      → drop_trailing_whitespace (drop_trailing_whitespace cs) ≡ drop_trailing_whitespace cs → drop_trailing_whitespace (drop_trailing_whitespace (c ∷ cs)) ≡ drop_trailing_whitespace (c ∷ cs)
-  at (inl t) ih = rw t refl
-  at (inr t) ih = rw t (rw ih (rw t refl))
+twice_chars (c ∷ cs) = elim (by_cases (is_whitespace c && (length (drop_trailing_whitespace cs) == 0))) [ inl t ↦ rw t refl | inr t ↦ rw t (rw (twice_chars cs) (rw t refl)) ]
 
 scalars_front : (cs ds : List ℕ) → scalars (cs ++ ds) ≡ true → scalars cs ≡ true
 scalars_front [] ds h = refl
 scalars_front (c ∷ cs) ds h = both (scalar c) h (scalars_front cs ds) where
   both : (t : Bool) → (t && scalars (cs ++ ds)) ≡ true → (scalars (cs ++ ds) ≡ true → scalars cs ≡ true) → (t && scalars cs) ≡ true
-  both true h ih = ih h
-  both false h ih = absurd cc
+  both t h ih = grind arith
 
 kept_scalars : (text : List ℕ) → IsUtf8 text → scalars (drop_trailing_whitespace (chars text)) ≡ true
 kept_scalars text u =
@@ -117,8 +102,7 @@ line_front : (front rest : List ℕ) → IsLine (front ++ rest) → IsLine front
 line_front [] rest h = refl
 line_front (b ∷ front) rest h = both (is_line_byte b) h (line_front front rest) where
   both : (t : Bool) → (t && list_all is_line_byte (front ++ rest)) ≡ true → (IsLine (front ++ rest) → IsLine front) → (t && list_all is_line_byte front) ≡ true
-  both true h ih = ih h
-  both false h ih = absurd cc
+  both t h ih = grind arith
 
 pub trim_line : (text : List ℕ) → IsUtf8 text → IsLine text → IsLine (trim_end text)
 trim_line text u l = let front : (rest : List ℕ) × (text ≡ trim_end text ++ rest) = trim_front text u in line_front (trim_end text) front.0 (subst IsLine front.1 l)
@@ -136,14 +120,8 @@ utf8_backquote = IsUtf8-from_ascii (96 ∷ []) (search rules)
 
 pub event_utf8 : (event : Event) → IsUtf8 (event_bytes event)
 event_utf8 (Shows k chunk) = IsUtf8-nil
-event_utf8 (Opens b) = at (is_term_ref b) where
-  at : (t : Bool) → IsUtf8 (if t then 96 ∷ [] else [])
-  at true = utf8_backquote
-  at false = IsUtf8-nil
-event_utf8 (Closes b) = at (is_term_ref b) where
-  at : (t : Bool) → IsUtf8 (if t then 96 ∷ [] else [])
-  at true = utf8_backquote
-  at false = IsUtf8-nil
+event_utf8 (Opens b) = elim (is_term_ref b) as (λ (t : Bool). IsUtf8 (if t then 96 ∷ [] else [])) [ true ↦ utf8_backquote | false ↦ IsUtf8-nil ]
+event_utf8 (Closes b) = elim (is_term_ref b) as (λ (t : Bool). IsUtf8 (if t then 96 ∷ [] else [])) [ true ↦ utf8_backquote | false ↦ IsUtf8-nil ]
 
 gap_utf8 : (b : ℕ) → (b ≡ 32) ⊎ (b ≡ 10) → IsUtf8 (b ∷ [])
 gap_utf8 b (inl e) = subst (λ (c : ℕ). IsUtf8 (c ∷ [])) (sym e) utf8_blank
@@ -165,23 +143,12 @@ snoc_some : (xs : List ℕ) (ys : List ℕ) → has_some ys ≡ true → xs ++ y
 snoc_some [] ys h = λ none. let no : false ≡ true = ap has_some (sym none) ∙ h in absurd cc
 snoc_some (x ∷ xs) ys h = λ none. absurd cc
 
-some_none : (xs : List ℕ) → has_some xs ≡ false → xs ≡ []
-some_none [] h = refl
-some_none (x ∷ xs) h = absurd cc
-
 -- a page without bytes has an empty text, and only such a page
 pub no_text : (r : List Stretch) → has_text r ≡ false → text_back r ≡ []
 no_text [] h = refl
 no_text (x ∷ r) h =
-    let none : stretch_bytes x ≡ [] = some_none (stretch_bytes x) (or_left (has_some (stretch_bytes x)) (has_text r) h) in
-    text_back_cons x r ∙ ap (λ t. t ++ stretch_bytes x) (no_text r (or_right (has_some (stretch_bytes x)) (has_text r) h)) ∙ none where
-      or_left : (a b : Bool) → (a || b) ≡ false → a ≡ false
-      or_left true b h = absurd cc
-      or_left false b h = refl
-
-      or_right : (a b : Bool) → (a || b) ≡ false → b ≡ false
-      or_right true b h = absurd cc
-      or_right false b h = h
+    let none : stretch_bytes x ≡ [] = some_none (stretch_bytes x) (or_parts (has_some (stretch_bytes x)) (has_text r) h).0 in
+    text_back_cons x r ∙ ap (λ t. t ++ stretch_bytes x) (no_text r (or_parts (has_some (stretch_bytes x)) (has_text r) h).1) ∙ none
 
 pub some_text : (r : List Stretch) → has_text r ≡ true → text_back r ≢ []
 some_text [] h = λ e. absurd cc
@@ -190,24 +157,6 @@ some_text (x ∷ r) h = at (by_cases (has_some (stretch_bytes x))) (some_text r)
   at (inl s) ih = λ e. snoc_some (text_back r) (stretch_bytes x) s (sym (text_back_cons x r) ∙ e)
   at (inr s) ih = λ e. let rest : has_text r ≡ true = rw s at h in
       ih rest (sym (append-nil (text_back r)) ∙ ap (λ t. text_back r ++ t) (sym (some_none (stretch_bytes x) s)) ∙ sym (text_back_cons x r) ∙ e)
-
--- lists that are equal with one last element each have equal ends
-last_same : (xs ys : List ℕ) (a b : ℕ) → xs ++ a ∷ [] ≡ ys ++ b ∷ [] → a ≡ b
-last_same [] [] a b e = cc
-last_same [] (y ∷ []) a b e = absurd cc
-last_same [] (y ∷ z ∷ ys) a b e = absurd cc
-last_same (x ∷ []) [] a b e = absurd cc
-last_same (x ∷ z ∷ xs) [] a b e = absurd cc
-last_same (x ∷ xs) (y ∷ ys) a b e = let rest : xs ++ a ∷ [] ≡ ys ++ b ∷ [] = cc in last_same xs ys a b rest
-
-front_same : (xs ys : List ℕ) (a b : ℕ) → xs ++ a ∷ [] ≡ ys ++ b ∷ [] → xs ≡ ys
-front_same [] [] a b e = refl
-front_same [] (y ∷ []) a b e = absurd cc
-front_same [] (y ∷ z ∷ ys) a b e = absurd cc
-front_same (x ∷ []) [] a b e = absurd cc
-front_same (x ∷ z ∷ xs) [] a b e = absurd cc
-front_same (x ∷ xs) (y ∷ ys) a b e =
-    let rest : xs ++ a ∷ [] ≡ ys ++ b ∷ [] = cc in let first : x ≡ y = cc in ap (λ (c : ℕ). c ∷ xs) first ∙ ap (λ zs. y ∷ zs) (front_same xs ys a b rest)
 
 -- a list of some bytes ends in one of them
 record LastByte (xs : List ℕ) : Type 0 where
@@ -233,21 +182,15 @@ shown_line e u l (inr s) = subst IsLine (sym s) (trim_line e.bytes u l)
 
 event_line : (event : Event) → IsLine (event_bytes event)
 event_line (Shows k chunk) = refl
-event_line (Opens b) = at (is_term_ref b) where
-  at : (t : Bool) → IsLine (if t then 96 ∷ [] else [])
-  at true = refl
-  at false = refl
-event_line (Closes b) = at (is_term_ref b) where
-  at : (t : Bool) → IsLine (if t then 96 ∷ [] else [])
-  at true = refl
-  at false = refl
+event_line (Opens b) = grind arith
+event_line (Closes b) = grind arith
 
 ends_in : (r : List Stretch) (x : Stretch) (front : List ℕ) → has_some (stretch_bytes x) ≡ true → text_back (x ∷ r) ≡ front ++ 10 ∷ [] → (back : List ℕ) × (stretch_bytes x ≡ back ++ 10 ∷ [])
 ends_in r x front s e =
     let last : LastByte (stretch_bytes x) = last_byte (stretch_bytes x) s in
     let whole : (text_back r ++ last.front) ++ last.last ∷ [] ≡ front ++ 10 ∷ [] =
     append_assoc (text_back r) last.front (last.last ∷ []) ∙ ap (λ t. text_back r ++ t) (sym last.is) ∙ sym (text_back_cons x r) ∙ e in
-    (last.front, last.is ∙ ap (λ (b : ℕ). last.front ++ b ∷ []) (last_same (text_back r ++ last.front) front last.last 10 whole))
+    (last.front, last.is ∙ ap (λ (b : ℕ). last.front ++ b ∷ []) (same_from_push (text_back r ++ last.front) front last.last 10 whole).1)
 
 bare_text : (r : List Stretch) (x : Stretch) → has_some (stretch_bytes x) ≡ false → text_back (x ∷ r) ≡ text_back r
 bare_text r x s = text_back_cons x r ∙ ap (λ t. text_back r ++ t) (some_none (stretch_bytes x) s) ∙ append-nil (text_back r)
@@ -257,7 +200,7 @@ pub text_ends_line : (r : List Stretch) (front : List ℕ) → IsLegible r → t
 text_ends_line [] front h e = absurd (snoc_some front (10 ∷ []) refl (sym e))
 text_ends_line (Gap b ∷ r) front h e =
     let found : (back : List ℕ) × (b ∷ [] ≡ back ++ 10 ∷ []) = ends_in r (Gap b) front refl e in
-    let ten : b ≡ 10 = last_same [] found.0 b 10 found.1 in rw ten refl
+    let ten : b ≡ 10 = (same_from_push [] found.0 b 10 found.1).1 in rw ten refl
 text_ends_line (Placed p ∷ r) front h e = at (by_cases (has_some p.shown)) (text_ends_line r front h.1) where
   at : (has_some p.shown ≡ true) ⊎ (has_some p.shown ≡ false) → (text_back r ≡ front ++ 10 ∷ [] → ends_line r ≡ true) → ends_line (Placed p ∷ r) ≡ true
   at (inl s) ih =
@@ -275,8 +218,8 @@ pub text_ends_blank : (r : List Stretch) (front : List ℕ) → IsLegible r → 
 text_ends_blank [] front h e = absurd (snoc_some (front ++ 10 ∷ []) (10 ∷ []) refl (sym e))
 text_ends_blank (Gap b ∷ r) front h e =
     let whole : text_back r ++ b ∷ [] ≡ (front ++ 10 ∷ []) ++ 10 ∷ [] = sym (text_back_cons (Gap b) r) ∙ e in
-    let ten : b ≡ 10 = last_same (text_back r) (front ++ 10 ∷ []) b 10 whole in
-    let rest : text_back r ≡ front ++ 10 ∷ [] = front_same (text_back r) (front ++ 10 ∷ []) b 10 whole in
+    let ten : b ≡ 10 = (same_from_push (text_back r) (front ++ 10 ∷ []) b 10 whole).1 in
+    let rest : text_back r ≡ front ++ 10 ∷ [] = (same_from_push (text_back r) (front ++ 10 ∷ []) b 10 whole).0 in
     let line : ends_line r ≡ true = text_ends_line r front h.1 rest in rw (ten, line) refl
 text_ends_blank (Placed p ∷ r) front h e = at (by_cases (has_some p.shown)) (text_ends_blank r front h.1) where
   at : (has_some p.shown ≡ true) ⊎ (has_some p.shown ≡ false) → (text_back r ≡ (front ++ 10 ∷ []) ++ 10 ∷ [] → ends_blank r ≡ true) → ends_blank (Placed p ∷ r) ≡ true
@@ -389,17 +332,4 @@ trim_text (Passed event ∷ r) h = at (by_cases (has_some (event_bytes event))) 
 -- ---- what may be read stays so
 
 pub legible_trimmed : (r : List Stretch) → IsLegible r → IsLegible (trimmed r)
-legible_trimmed [] h = h
-legible_trimmed (Gap b ∷ r) h = legible_trimmed r h.1
-legible_trimmed (Placed e ∷ r) h = at (by_cases (is_inked (chunk_at e))) (legible_trimmed r h.1) where
-  at : (is_inked (chunk_at e) ≡ true) ⊎ (is_inked (chunk_at e) ≡ false) → IsLegible (trimmed r) → IsLegible (trimmed (Placed e ∷ r))
-  at (inl i) ih = subst IsLegible (sym (trimmed_inked e r i)) ((h.0.0, h.0.1, inr refl), h.1)
-  at (inr i) ih = subst IsLegible (sym (trimmed_plain e r i)) ih
-legible_trimmed (Passed event ∷ r) h = at (by_cases (has_some (event_bytes event))) (legible_trimmed r h) where
-  at : (has_some (event_bytes event) ≡ true) ⊎ (has_some (event_bytes event) ≡ false) → IsLegible (trimmed r) → IsLegible (trimmed (Passed event ∷ r))
-  at (inl i) ih = subst IsLegible (sym (trimmed_bytes event r i)) h
-  at (inr i) ih = subst IsLegible (sym (trimmed_bare event r i)) ih
-
-pub legible_padded : (n : ℕ) (r : List Stretch) → IsLegible r → IsLegible (padded n r)
-legible_padded zero r h = h
-legible_padded (suc n) r h = (inl refl, legible_padded n r h)
+legible_trimmed = by_trimmed (λ r t. IsLegible r → IsLegible t) (λ h. h) (λ b r t ih h. ih h.1) (λ e r i h. ((h.0.0, h.0.1, inr refl), h.1)) (λ e r t i ih h. ih h.1) (λ event r i h. h) (λ event r t i ih h. ih h)

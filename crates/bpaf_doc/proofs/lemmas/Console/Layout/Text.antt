@@ -1,15 +1,15 @@
 -- When something is written, what has no place, and the column where a chunk begins.
-use Rattle.std.specs.Prelude.{◌≡◌, ℕ, zero, suc, ◌<◌, ⊤, Bool, true, false, ◌||◌, List, [], ◌∷◌, length, codes, refl, ◌⊎◌}
+use Rattle.std.specs.Prelude.{◌≡◌, ℕ, ◌<◌, ⊤, Bool, true, false, ◌||◌, List, [], ◌∷◌, length, codes, refl, ◌⊎◌}
 use Rattle.std.specs.List.{list_any}
 use Rattle.std.specs.Str.{chars}
 use Rattle.std.proofs.Common.{sym, subst, ap, arith, inl, inr, ◌∙◌}
 use Rattle.bpaf_doc.specs.declared.buffer.Block.{Block}
 use Rattle.bpaf_doc.specs.Shown.{is_term_ref, mark_bytes}
-use Rattle.bpaf_doc.specs.Splitter.Chunks.{Raw, Paragraph, LineBreak, is_inked, is_ordinary, has_some}
-use Rattle.bpaf_doc.specs.Console.Layout.{Event, Shows, Opens, Closes, Stretch, Gap, Placed, Passed, chunk_at, event_bytes, is_inked_event, is_inked_stretch, is_empty_code, is_placed, is_written}
-use Rattle.bpaf_doc.proofs.lemmas.Console.Layout.State.{State, Piece, Lines, none_asked, line_there, line_put, blank_there, second_put, both_put, Begins, first, stays, wraps, places, drops, Next, raw, break, mark, Grows, placing, breaking, passing, padded, trimmed, has_text, put, passed, Fits, Suits, raw_suits, paragraph_suits, line_break_suits, open_suits, close_suits, IsClear}
-use Rattle.bpaf_doc.proofs.lemmas.Console.Layout.Back.{by_cases, EachPlace, trimmed_inked, trimmed_plain, trimmed_bytes, trimmed_bare, fits_of}
-use Rattle.bpaf_doc.proofs.lemmas.Console.Layout.Columns.{Fills, inked_some, column_back, no_text_column, Agrees, agrees_lines}
+use Rattle.bpaf_doc.specs.Splitter.Chunks.{Raw, is_inked, is_ordinary, has_some}
+use Rattle.bpaf_doc.specs.Console.Layout.{Event, Shows, Stretch, Gap, Placed, Passed, chunk_at, event_bytes, is_inked_event, is_inked_stretch, is_empty_code, is_placed, is_written}
+use Rattle.bpaf_doc.proofs.lemmas.Console.Layout.State.{State, Piece, Lines, Begins, first, stays, wraps, places, drops, Next, raw, break, mark, Grows, placing, breaking, passing, padded, trimmed, has_text, put, passed, Fits, Suits, IsClear}
+use Rattle.bpaf_doc.proofs.lemmas.Console.Layout.Back.{by_cases, EachPlace, fits_of, by_lines, lines_back, begins_back, by_trimmed, by_padded, by_mark, by_break}
+use Rattle.bpaf_doc.proofs.lemmas.Console.Layout.Columns.{Fills, inked_some, column_back, no_text_column, Agrees, agrees_lines, no_bytes}
 
 -- ---- what has no place has no ink
 
@@ -23,34 +23,14 @@ EachPassed Q (Passed event ∷ r) = Q event × EachPassed Q r
 abbrev pub NoInk : Event → Type 0
 NoInk event = is_inked_event event ≡ false
 
-pub passed_padded : (Q : Event → Type 0) (n : ℕ) (r : List Stretch) → EachPassed Q r → EachPassed Q (padded n r)
-passed_padded Q zero r h = h
-passed_padded Q (suc n) r h = passed_padded Q n r h
-
 pub no_ink_trimmed : (r : List Stretch) → EachPassed NoInk r → EachPassed NoInk (trimmed r)
-no_ink_trimmed [] h = h
-no_ink_trimmed (Gap b ∷ r) h = no_ink_trimmed r h
-no_ink_trimmed (Placed e ∷ r) h = at (by_cases (is_inked (chunk_at e))) (no_ink_trimmed r h) where
-  at : (is_inked (chunk_at e) ≡ true) ⊎ (is_inked (chunk_at e) ≡ false) → EachPassed NoInk (trimmed r) → EachPassed NoInk (trimmed (Placed e ∷ r))
-  at (inl i) ih = subst (λ x. EachPassed NoInk x) (sym (trimmed_inked e r i)) h
-  at (inr i) ih = subst (λ x. EachPassed NoInk x) (sym (trimmed_plain e r i)) (i, ih)
-no_ink_trimmed (Passed event ∷ r) h = at (by_cases (has_some (event_bytes event))) (no_ink_trimmed r h.1) where
-  at : (has_some (event_bytes event) ≡ true) ⊎ (has_some (event_bytes event) ≡ false) → EachPassed NoInk (trimmed r) → EachPassed NoInk (trimmed (Passed event ∷ r))
-  at (inl i) ih = subst (λ x. EachPassed NoInk x) (sym (trimmed_bytes event r i)) h
-  at (inr i) ih = subst (λ x. EachPassed NoInk x) (sym (trimmed_bare event r i)) (h.0, ih)
+no_ink_trimmed = by_trimmed (λ r t. EachPassed NoInk r → EachPassed NoInk t) (λ h. h) (λ b r t ih h. ih h) (λ e r i h. h) (λ e r t i ih h. (i, ih h)) (λ event r i h. h) (λ event r t i ih h. (h.0, ih h.1))
 
 pub no_ink_lines : {st mid : State} → Lines st mid → EachPassed NoInk st.back → EachPassed NoInk mid.back
-no_ink_lines (none_asked a e) h = subst (λ (s : State). EachPassed NoInk s.back) (sym e) h
-no_ink_lines (line_there a b e) h = subst (λ (s : State). EachPassed NoInk s.back) (sym e) h
-no_ink_lines (line_put a e) h = subst (λ (s : State). EachPassed NoInk s.back) (sym e) h
-no_ink_lines (blank_there a b e) h = subst (λ (s : State). EachPassed NoInk s.back) (sym e) h
-no_ink_lines (second_put a b e) h = subst (λ (s : State). EachPassed NoInk s.back) (sym e) h
-no_ink_lines (both_put a e) h = subst (λ (s : State). EachPassed NoInk s.back) (sym e) h
+no_ink_lines l h = lines_back (EachPassed NoInk) (λ r x. x) l h
 
 pub no_ink_begins : {width : ℕ} {st : State} {p : Piece} {base : State} → Begins width st p base → EachPassed NoInk st.back → EachPassed NoInk base.back
-no_ink_begins (first t e) h = subst (λ (s : State). EachPassed NoInk s.back) (sym e) h
-no_ink_begins (stays t l w) h = no_ink_lines l h
-no_ink_begins (wraps t mid l w b e) h = subst (λ (s : State). EachPassed NoInk s.back) (sym e) (no_ink_trimmed mid.back (no_ink_lines l h))
+no_ink_begins b h = begins_back (EachPassed NoInk) (λ r x. x) no_ink_trimmed b h
 
 blank_ink : (k weight : ℕ) → is_inked_event (Shows k (Raw (codes " ") weight)) ≡ false
 unfolding chars
@@ -61,23 +41,13 @@ no_ink_blank k weight bytes e = rw e (blank_ink k weight)
 
 pub no_ink_grows : {width : ℕ} {margin_of : ℕ → ℕ} {st after : State} {next : Next} → Suits margin_of st next
     → Grows width st next after → EachPassed NoInk st.back → EachPassed NoInk after.back
-no_ink_grows suits (placing p e (places base n b d a)) h = subst (λ (s : State). EachPassed NoInk s.back) (sym a) (passed_padded NoInk n base.back (no_ink_begins b h))
+no_ink_grows suits (placing p e (places base n b d a)) h = subst (λ (s : State). EachPassed NoInk s.back) (sym a) (by_padded (EachPassed NoInk) (λ x y. y) n base.back (no_ink_begins b h))
 no_ink_grows suits (placing p e (drops t mid l w b a)) h =
     subst (λ (s : State). EachPassed NoInk s.back) (sym a) (no_ink_blank p.part p.weight p.bytes b, no_ink_trimmed mid.back (no_ink_lines l h))
-no_ink_grows {margin_of = margin_of} {st = st} {next = next} suits (breaking k chunk e a) h = subst (λ (s : State). EachPassed NoInk s.back) (sym a) (at suits, h) where
-  at : Suits margin_of st next → is_inked_event (Shows k chunk) ≡ false
-  at (raw_suits q f g) = absurd cc
-  at (paragraph_suits j f l m) = let same : chunk ≡ Paragraph = cc in rw same refl
-  at (line_break_suits j f l m) = let same : chunk ≡ LineBreak = cc in rw same refl
-  at (open_suits b margin f l u) = absurd cc
-  at (close_suits b margin f l u) = absurd cc
-no_ink_grows {margin_of = margin_of} {st = st} {next = next} suits (passing event margin e a) h = subst (λ (s : State). EachPassed NoInk s.back) (sym a) (at suits, h) where
-  at : Suits margin_of st next → is_inked_event event ≡ false
-  at (raw_suits q f g) = absurd cc
-  at (paragraph_suits j f l m) = absurd cc
-  at (line_break_suits j f l m) = absurd cc
-  at (open_suits b m f l u) = let same : event ≡ Opens b = cc in rw same refl
-  at (close_suits b m f l u) = let same : event ≡ Closes b = cc in rw same refl
+no_ink_grows suits (breaking k chunk e a) h =
+    subst (λ (s : State). EachPassed NoInk s.back) (sym a) (by_break (λ c j. is_inked_event (Shows j c) ≡ false) suits e (λ j l m. refl) (λ j l m. refl), h)
+no_ink_grows suits (passing event margin e a) h =
+    subst (λ (s : State). EachPassed NoInk s.back) (sym a) (by_mark (λ x m. is_inked_event x ≡ false) suits e (λ b m l u. refl) (λ b m l u. refl), h)
 
 -- ---- ink is text
 
@@ -87,17 +57,11 @@ ink_text (Gap b ∷ r) f q h = refl
 ink_text (Placed e ∷ r) f q h = at (by_cases (is_inked (chunk_at e))) (ink_text r f.1 q) where
   at : (is_inked (chunk_at e) ≡ true) ⊎ (is_inked (chunk_at e) ≡ false) → (list_any is_inked_stretch r ≡ true → has_text r ≡ true) → has_text (Placed e ∷ r) ≡ true
   at (inl i) ih = let some : has_some e.shown ≡ true = f.0 ∙ inked_some e.bytes i in rw some refl
-  at (inr i) ih = let rest : list_any is_inked_stretch r ≡ true = rw i at h in let tail : has_text r ≡ true = ih rest in or_true (has_some e.shown) tail where
-    or_true : (b : Bool) → has_text r ≡ true → (b || has_text r) ≡ true
-    or_true true t = refl
-    or_true false t = t
+  at (inr i) ih = let rest : list_any is_inked_stretch r ≡ true = rw i at h in let tail : has_text r ≡ true = ih rest in grind arith
 ink_text (Passed event ∷ r) f q h = at (by_cases (is_inked_event event)) (ink_text r f q.1) where
   at : (is_inked_event event ≡ true) ⊎ (is_inked_event event ≡ false) → (list_any is_inked_stretch r ≡ true → has_text r ≡ true) → has_text (Passed event ∷ r) ≡ true
   at (inl i) ih = let no : false ≡ true = sym q.0 ∙ i in absurd cc
-  at (inr i) ih = let rest : list_any is_inked_stretch r ≡ true = rw i at h in let tail : has_text r ≡ true = ih rest in or_true (has_some (event_bytes event)) tail where
-    or_true : (b : Bool) → has_text r ≡ true → (b || has_text r) ≡ true
-    or_true true t = refl
-    or_true false t = t
+  at (inr i) ih = let rest : list_any is_inked_stretch r ≡ true = rw i at h in let tail : has_text r ≡ true = ih rest in grind arith
 
 -- ---- nothing is written
 
@@ -109,29 +73,17 @@ abbrev pub IsStarting : State → Type 0
 IsStarting st = has_text st.back ≡ false → (st.column ≡ 0) × (has_place st.back ≡ false)
 
 pub or_false_left : (a b : Bool) → (a || b) ≡ false → a ≡ false
-or_false_left true b h = absurd cc
-or_false_left false b h = refl
+or_false_left a b h = grind arith
 
 pub or_false_right : (a b : Bool) → (a || b) ≡ false → b ≡ false
-or_false_right true b h = absurd cc
-or_false_right false b h = h
+or_false_right a b h = grind arith
 
 pub or_true_right : (a b : Bool) → b ≡ true → (a || b) ≡ true
-or_true_right true b h = refl
-or_true_right false b h = h
-
-pub text_padded : (n : ℕ) (r : List Stretch) → has_text r ≡ true → has_text (padded n r) ≡ true
-text_padded zero r h = h
-text_padded (suc n) r h = refl
+or_true_right a b h = grind arith
 
 -- a page that goes on after some text has text
 pub text_lines : {st mid : State} → Lines st mid → has_text st.back ≡ true → has_text mid.back ≡ true
-text_lines (none_asked a e) h = subst (λ (s : State). has_text s.back ≡ true) (sym e) h
-text_lines (line_there a b e) h = subst (λ (s : State). has_text s.back ≡ true) (sym e) h
-text_lines (line_put a e) h = subst (λ (s : State). has_text s.back ≡ true) (sym e) refl
-text_lines (blank_there a b e) h = subst (λ (s : State). has_text s.back ≡ true) (sym e) h
-text_lines (second_put a b e) h = subst (λ (s : State). has_text s.back ≡ true) (sym e) refl
-text_lines (both_put a e) h = subst (λ (s : State). has_text s.back ≡ true) (sym e) refl
+text_lines l h = lines_back (λ r. has_text r ≡ true) (λ r x. refl) l h
 
 -- an empty chunk that is placed first is an empty line of code, which stands after some text
 empty_first : {margin_of : ℕ → ℕ} (st : State) (p : Piece) → Fits margin_of st p → IsClear st (raw p) → has_text st.back ≡ false → has_some p.bytes ≡ true
@@ -148,9 +100,9 @@ starting_put : {width : ℕ} {margin_of : ℕ → ℕ} (st : State) (p : Piece) 
     → Fits margin_of st p → IsClear st (raw p) → Begins width st p base → has_text (put n p.part p.bytes p.weight base).back ≡ true
 starting_put st p base n fits clear (first t e) = let some : has_some p.bytes ≡ true = empty_first st p fits clear t in rw some refl
 starting_put st p base n fits clear (stays t l w) =
-    or_true_right (has_some p.bytes) (has_text (padded n base.back)) (text_padded n base.back (text_lines l t))
+    or_true_right (has_some p.bytes) (has_text (padded n base.back)) (by_padded (λ x. has_text x ≡ true) (λ x y. refl) n base.back (text_lines l t))
 starting_put st p base n fits clear (wraps t mid l w b e) =
-    or_true_right (has_some p.bytes) (has_text (padded n base.back)) (text_padded n base.back (subst (λ (s : State). has_text s.back ≡ true) (sym e) refl))
+    or_true_right (has_some p.bytes) (has_text (padded n base.back)) (by_padded (λ x. has_text x ≡ true) (λ x y. refl) n base.back (subst (λ (s : State). has_text s.back ≡ true) (sym e) refl))
 
 pub starting_grows : {width : ℕ} {margin_of : ℕ → ℕ} {st after : State} {next : Next}
     → Suits margin_of st next → IsClear st next → Grows width st next after → IsStarting st → IsStarting after
@@ -166,18 +118,15 @@ starting_grows {st = st} suits clear (passing event margin e a) h = subst IsStar
   at : IsStarting (passed event margin st)
   at none =
       let before : (st.column ≡ 0) × (has_place st.back ≡ false) = h (or_false_right (has_some (event_bytes event)) (has_text st.back) none) in
-      let bare : length (event_bytes event) ≡ 0 = no_length (event_bytes event) (or_false_left (has_some (event_bytes event)) (has_text st.back) none) in
+      let bare : length (event_bytes event) ≡ 0 = no_bytes (event_bytes event) (or_false_left (has_some (event_bytes event)) (has_text st.back) none) in
       let zero_column : st.column ≡ 0 = before.0 in
-      (omega arith, before.1) where
-        no_length : (xs : List ℕ) → has_some xs ≡ false → length xs ≡ 0
-        no_length [] h = refl
-        no_length (x ∷ xs) h = absurd cc
+      (omega arith, before.1)
 
 -- ---- what is written stays
 
 pub text_stays : {width : ℕ} {st after : State} {next : Next} → Grows width st next after → has_text st.back ≡ true → has_text after.back ≡ true
 text_stays {width} {st} (placing p e (places base n b d a)) h =
-    subst (λ (s : State). has_text s.back ≡ true) (sym a) (or_true_right (has_some p.bytes) (has_text (padded n base.back)) (text_padded n base.back (begun b))) where
+    subst (λ (s : State). has_text s.back ≡ true) (sym a) (or_true_right (has_some p.bytes) (has_text (padded n base.back)) (by_padded (λ x. has_text x ≡ true) (λ x y. refl) n base.back (begun b))) where
       begun : Begins width st p base → has_text base.back ≡ true
       begun (first t s) = absurd cc
       begun (stays t l w) = text_lines l t
@@ -199,17 +148,11 @@ text_written suits (placing p e (places base n b d a)) h =
     subst (λ (s : State). has_text s.back ≡ true) (sym a) (rw some refl)
 text_written suits (placing p e (drops t mid l w b a)) h = subst (λ (s : State). has_text s.back ≡ true) (sym a) refl
 text_written suits (breaking k chunk e a) h = subst (λ (s : State). has_text s.back ≡ true) (sym a) refl
-text_written {margin_of = margin_of} {st = st} {next = next} suits (passing event margin e a) h =
-    subst (λ (s : State). has_text s.back ≡ true) (sym a) (at suits (subst (λ (x : Next). is_written (next_event x) ≡ true) e h)) where
+text_written {st = st} suits (passing event margin e a) h =
+    subst (λ (s : State). has_text s.back ≡ true) (sym a) (by_mark (λ x m. is_written x ≡ true → (has_some (event_bytes x) || has_text st.back) ≡ true) suits e (λ b m l u. ref b) (λ b m l u. ref b)
+    (subst (λ (x : Next). is_written (next_event x) ≡ true) e h)) where
       ref : (b : Block) → is_term_ref b ≡ true → (has_some (mark_bytes b) || has_text st.back) ≡ true
       ref b t = rw t refl
-
-      at : Suits margin_of st next → is_written event ≡ true → (has_some (event_bytes event) || has_text st.back) ≡ true
-      at (raw_suits q f g) t = absurd cc
-      at (paragraph_suits j f l m) t = absurd cc
-      at (line_break_suits j f l m) t = absurd cc
-      at (open_suits b m f l u) t = let same : event ≡ Opens b = cc in subst (λ (x : Event). (has_some (event_bytes x) || has_text st.back) ≡ true) (sym same) (ref b (subst (λ (x : Event). is_written x ≡ true) same t))
-      at (close_suits b m f l u) t = let same : event ≡ Closes b = cc in subst (λ (x : Event). (has_some (event_bytes x) || has_text st.back) ≡ true) (sym same) (ref b (subst (λ (x : Event). is_written x ≡ true) same t))
 
 -- ---- where a chunk begins
 
@@ -227,12 +170,7 @@ begins_column small f start h (wraps t mid l w b e) = subst (λ (s : State). s.c
 
 -- and the margin is still the one in force, and what was asked for after a term still holds
 pub lines_margin : {st mid : State} → Lines st mid → (mid.margin ≡ st.margin) × (mid.pending ≡ st.pending)
-lines_margin (none_asked a e) = (ap (λ (s : State). s.margin) e, ap (λ (s : State). s.pending) e)
-lines_margin (line_there a b e) = (ap (λ (s : State). s.margin) e, ap (λ (s : State). s.pending) e)
-lines_margin (line_put a e) = (ap (λ (s : State). s.margin) e, ap (λ (s : State). s.pending) e)
-lines_margin (blank_there a b e) = (ap (λ (s : State). s.margin) e, ap (λ (s : State). s.pending) e)
-lines_margin (second_put a b e) = (ap (λ (s : State). s.margin) e, ap (λ (s : State). s.pending) e)
-lines_margin (both_put a e) = (ap (λ (s : State). s.margin) e, ap (λ (s : State). s.pending) e)
+lines_margin {st} l = by_lines (λ s. (s.margin ≡ st.margin) × (s.pending ≡ st.pending)) l (refl, refl) (refl, refl) (refl, refl) (refl, refl)
 
 pub begins_margin : {width : ℕ} {st : State} {p : Piece} {base : State} → Begins width st p base → (base.margin ≡ st.margin) × (base.pending ≡ st.pending)
 begins_margin (first t e) = (ap (λ (s : State). s.margin) e, ap (λ (s : State). s.pending) e)

@@ -24,16 +24,10 @@ reverse_cons x xs = reverse-append (x ∷ []) xs
 -- ---- tests over a turned list
 
 or_comm : (a b : Bool) → (a || (b || false)) ≡ (b || a)
-or_comm true true = refl
-or_comm true false = refl
-or_comm false true = refl
-or_comm false false = refl
+or_comm a b = grind arith
 
 and_comm : (a b : Bool) → (a && (b && true)) ≡ (b && a)
-and_comm true true = refl
-and_comm true false = refl
-and_comm false true = refl
-and_comm false false = refl
+and_comm a b = grind arith
 
 pub any_turned : {A : Type 0} (p : A → Bool) (xs : List A) → list_any p (reverse xs) ≡ list_any p xs
 any_turned p [] = refl
@@ -48,8 +42,6 @@ sum_turned f [] = refl
 sum_turned f (x ∷ xs) =
     let a : sum_by f (reverse (x ∷ xs)) ≡ sum_by f (reverse xs ++ x ∷ []) = ap (λ ys. sum_by f ys) (reverse_cons x xs) in
     let b : sum_by f (reverse xs ++ x ∷ []) ≡ sum_by f (reverse xs) + sum_by f (x ∷ []) = sum_by-append f (reverse xs) (x ∷ []) in
-    let c : sum_by f (x ∷ []) ≡ f x + sum_by f [] = sum_by-cons f x [] in
-    let d : sum_by f [] ≡ 0 = refl in
     let e : sum_by f (x ∷ xs) ≡ f x + sum_by f xs = sum_by-cons f x xs in
     let ih : sum_by f (reverse xs) ≡ sum_by f xs = sum_turned f xs in
     omega arith
@@ -99,7 +91,6 @@ drop_turned k r h =
 
 pub after_last_turned : (p : Stretch → Bool) (r : List Stretch) → after_last p (reverse r) ≡ reverse (since p r)
 after_last_turned p r =
-    let k : ℕ = prefix_len (λ x. not (p x)) r in
     let size : length (reverse r) ≡ length r = length-reverse r in
     let turned : suffix_len (λ x. not (p x)) (reverse r) ≡ prefix_len (λ x. not (p x)) r = ap (λ ys. prefix_len (λ x. not (p x)) ys) (reverse-reverse r) in
     ap (λ (n : ℕ). drop (n - suffix_len (λ x. not (p x)) (reverse r)) (reverse r)) size
@@ -166,17 +157,11 @@ body_turned r =
 quiet_since : (r : List Stretch) → EachPassed NoInk r → list_any is_raw_or_ref (events_back (since is_inked_stretch r)) ≡ not (is_quiet r)
 quiet_since [] q = refl
 quiet_since (Gap b ∷ r) q = quiet_since r q
-quiet_since (Placed e ∷ r) q = at (by_cases (is_inked (chunk_at e))) where
-  at : (is_inked (chunk_at e) ≡ true) ⊎ (is_inked (chunk_at e) ≡ false) → list_any is_raw_or_ref (events_back (since is_inked_stretch (Placed e ∷ r))) ≡ not (is_quiet (Placed e ∷ r))
-  at (inl i) = rw i refl
-  at (inr i) = rw i refl
+quiet_since (Placed e ∷ r) q = elim (by_cases (is_inked (chunk_at e))) [ inl i ↦ rw i refl | inr i ↦ rw i refl ]
 quiet_since (Passed event ∷ r) q = at q.0 (quiet_since r q.1) where
   at : is_inked_event event ≡ false → list_any is_raw_or_ref (events_back (since is_inked_stretch r)) ≡ not (is_quiet r)
       → list_any is_raw_or_ref (events_back (since is_inked_stretch (Passed event ∷ r))) ≡ not (is_quiet (Passed event ∷ r))
-  at i ih = rw i (ap (λ (b : Bool). is_raw_or_ref event || b) ih ∙ both (is_raw_or_ref event) (is_quiet r)) where
-    both : (a b : Bool) → (a || not b) ≡ not (not a && b)
-    both true b = refl
-    both false b = refl
+  at i ih = rw i (ap (λ (b : Bool). is_raw_or_ref event || b) ih ∙ grind arith)
 
 pub quiet_turned : (r : List Stretch) → EachPassed NoInk r → list_any is_raw_or_ref (events_since_ink (reverse r)) ≡ not (is_quiet r)
 quiet_turned r q =
@@ -209,7 +194,6 @@ lines_within bound c (x ∷ xs) h =
       at (inl t) zero_ih ih =
           let found : LinesWithin 0 bound (slice_split is_newline xs) = zero_ih (λ a b s. let l : ahead c (x ∷ a) ≤ bound = h (x ∷ a) b (ap (λ ys. x ∷ ys) s) in rw t at l) in
           let start : c ≤ bound = h [] (x ∷ xs) refl in
-          let none : sum_by stretch_columns [] ≡ 0 = refl in
           let first_line : sum_by stretch_columns found.line ≤ bound = let f : 0 + sum_by stretch_columns found.line ≤ bound = found.front in omega arith in
           record {
             line = [];
@@ -221,7 +205,6 @@ lines_within bound c (x ∷ xs) h =
       at (inr t) zero_ih ih =
           let found : LinesWithin (c + stretch_columns x) bound (slice_split is_newline xs) = ih (λ a b s. let l : ahead c (x ∷ a) ≤ bound = h (x ∷ a) b (ap (λ ys. x ∷ ys) s) in rw t at l) in
           let more : sum_by stretch_columns (x ∷ found.line) ≡ stretch_columns x + sum_by stretch_columns found.line = sum_by-cons stretch_columns x found.line in
-          let f : c + stretch_columns x + sum_by stretch_columns found.line ≤ bound = found.front in
           record { line = x ∷ found.line; others = found.others; is = rw (t, found.is) refl; front = omega arith; rest = found.rest }
 
 ahead_snoc : (c : ℕ) (a : List Stretch) (x : Stretch) → ahead c (a ++ x ∷ []) ≡ (if is_newline x then 0 else (ahead c a + stretch_columns x))

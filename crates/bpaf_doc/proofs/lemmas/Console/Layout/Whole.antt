@@ -1,16 +1,17 @@
 -- A page that grows by the rules is a layout of its document.
 use Rattle.std.specs.Prelude.{◌≡◌, ◌≢◌, ℕ, suc, ◌+◌, ◌<◌, ◌≤◌, max, ⊤, Bool, true, false, not, ◌&&◌, ◌||◌, ◌==◌, List, [], ◌∷◌, ◌++◌, take, reverse, map, fold, sum_by, All, codes, refl, if◌then◌else◌, ◌⊎◌, IsTrue}
 use Rattle.std.specs.List.{list_any, list_all, before_first, after_last, position_or_len}
-use Rattle.std.specs.Str.{trim_end}
 use Rattle.std.proofs.Common.{sym, subst, ap, arith, inl, inr, ◌∙◌, append_assoc}
 use Rattle.std.proofs.lemmas.List.{reverse-append, reverse-reverse, append-nil}
 use Rattle.std.proofs.lemmas.List.Elements.{All-append, All-cons, All-nil}
 use Rattle.std.proofs.lemmas.List.Sums.{sum_by-cons}
 use Rattle.std.proofs.lemmas.List.Folds.{list_any-append}
 use Rattle.std.proofs.lemmas.Bool.Decides.{nat_tests}
+use Rattle.std.proofs.lemmas.Bool.{not-true, or_parts, not-false, eqb-true}
+use Rattle.bpaf_doc.proofs.lemmas.Console.Margins.{more_than}
 use Rattle.bpaf_doc.specs.declared.buffer.Block.{Block}
 use Rattle.bpaf_doc.specs.Buffer.Parts.{Part, ink}
-use Rattle.bpaf_doc.specs.Splitter.Chunks.{Raw, Paragraph, LineBreak, columns, is_inked, is_ordinary, has_some, starts}
+use Rattle.bpaf_doc.specs.Splitter.Chunks.{Raw, columns, is_inked, is_ordinary, has_some, starts}
 use Rattle.bpaf_doc.specs.Shown.{console_ink, is_term_ref}
 use Rattle.bpaf_doc.specs.Console.Margin.{margin, greatest_margin}
 use Rattle.bpaf_doc.specs.Console.Layout.{Event, Shows, Opens, Closes, Stretch, Gap, Placed, Passed, Place, chunk_at, event_bytes, event_columns, stretch_columns, text_of, events_of, shown_events, is_newline, is_placed, holds_line, leads_to_place, is_inked_event, is_inked_stretch, is_empty_code, is_written, is_raw_event, is_ref, asks_newline, asks_blank_line, is_light, is_light_mark, opens_body, column, padding, line_before, stretch_lines, MayStand, BreaksWhereAsked, KeepsBlanks, IsKept, BeginsClear, IsFirstInLine, events_since_ink, is_raw_or_ref, FollowsBlank, KeepsMargin, WrapsOnlyIfNeeded, IsBounded, FitsWidth, PadsToMargin, StandsAlone, room_of, BreaksForRoom, HasBlankLine, widest, IsLayout}
@@ -172,10 +173,7 @@ clear_front (x ∷ xs) = if is_written x then true else (not (is_empty_code x) &
 empty_plain : (event : Event) → is_empty_code event ≡ true → is_written event ≡ true → ⊥
 empty_plain (Shows k (Raw bytes weight)) e i =
     let no : (not true && not (is_ordinary (Raw bytes weight))) ≡ true = subst (λ (b : Bool). (not b && not (is_ordinary (Raw bytes weight))) ≡ true) i e in cc
-empty_plain (Shows k Paragraph) e i = cc
-empty_plain (Shows k LineBreak) e i = cc
-empty_plain (Opens b) e i = cc
-empty_plain (Closes b) e i = cc
+empty_plain _ e i = cc
 
 clear_snoc : (xs : List Event) (x : Event) → clear_front (xs ++ x ∷ []) ≡ true → (clear_front xs ≡ true) × (is_empty_code x ≡ true → list_any is_written xs ≡ true)
 clear_snoc [] x h = (refl, λ e. absurd (at e (by_cases (is_written x)))) where
@@ -335,9 +333,7 @@ known_end (Gap b ∷ m) line x r rest a h =
     let found : KnownEnd m x r (b ∷ rest) = known_end m (b == 10) x r (b ∷ rest) (λ t. ten b t) h.1 in
     record { line = found.line; there = found.there; after = λ t. subst (λ ys. starts ys (codes "\n") ≡ true) (sym (ap (λ ys. ys ++ rest) (text_back_cons (Gap b) m) ∙ append_assoc (text_back m) (b ∷ []) rest)) (found.after t) } where
       ten : (b : ℕ) → (b == 10) ≡ true → starts (b ∷ rest) (codes "\n") ≡ true
-      ten b t = let same : b ≡ 10 = is_ten b t in rw same refl where
-        is_ten : (b : ℕ) → (b == 10) ≡ true → b ≡ 10
-        is_ten b t = grind (arith, nat_tests)
+      ten b t = let same : b ≡ 10 = eqb-true b 10 t in rw same refl
 known_end (Placed e ∷ m) line x r rest a h =
     let found : KnownEnd m x r (e.shown ++ rest) = known_end m (if has_some e.shown then false else line) x r (e.shown ++ rest) (further e.shown) h.1 in
     record { line = found.line; there = found.there; after = λ t. subst (λ ys. starts ys (codes "\n") ≡ true) (sym (ap (λ ys. ys ++ rest) (text_back_cons (Placed e) m) ∙ append_assoc (text_back m) e.shown rest)) (found.after t) } where
@@ -361,10 +357,7 @@ may_stand : (m r : List Stretch) (x : Stretch) → MayEnd false (m ++ x ∷ r) �
 may_stand m r x h q = at x (known_end m false x r [] (λ t. absurd cc) h) q where
   at : (x : Stretch) → KnownEnd m x r [] → EachPassed NoInk (m ++ x ∷ r) → MayStand x (reverse m)
   at (Gap b) k q = k.there.0
-  at (Placed e) k q = kind k.there.0 where
-    kind : (e.shown ≡ e.bytes) ⊎ ((e.shown ≡ trim_end e.bytes) × (k.line ≡ true)) → MayStand (Placed e) (reverse m)
-    kind (inl whole) = inl whole
-    kind (inr cut) = inr (cut.0, subst (λ ys. starts ys (codes "\n") ≡ true) (append-nil (text_back m)) (k.after cut.1))
+  at (Placed e) k q = elim k.there.0 [ inl whole ↦ inl whole | inr cut ↦ inr (cut.0, subst (λ ys. starts ys (codes "\n") ≡ true) (append-nil (text_back m)) (k.after cut.1)) ]
   at (Passed event) k q = let none : is_inked_event event ≡ false = passed_at NoInk m r event q in rw none refl
 
 -- ---- the laws
@@ -391,23 +384,15 @@ debt_paid (Gap b ∷ m) before e f o i a = at (by_cases (b == 10)) (debt_paid m 
   at (inr t) ih = let rest : owes_line (m ++ Placed e ∷ before) ≡ false = rw t at o in rw t (ih rest i a)
 debt_paid (Placed g ∷ m) before e f o i a = debt_paid m before e f.1 f.0 i a
 debt_paid (Passed event ∷ m) before e f o i a = at (by_cases (asks_newline event)) (by_cases (has_newline m)) (debt_paid m before e f) where
-  or_left : (a b : Bool) → (a || b) ≡ false → a ≡ false
-  or_left true b h = absurd cc
-  or_left false b h = refl
-
-  or_right : (a b : Bool) → (a || b) ≡ false → b ≡ false
-  or_right true b h = absurd cc
-  or_right false b h = h
-
   at : (asks_newline event ≡ true) ⊎ (asks_newline event ≡ false) → (has_newline m ≡ true) ⊎ (has_newline m ≡ false)
       → (owes_line (m ++ Placed e ∷ before) ≡ false → is_inked (chunk_at e) ≡ true → list_any asks_newline (events_back m) ≡ true → has_newline m ≡ true) → has_newline (Passed event ∷ m) ≡ true
   at (inl t) (inl n) ih = n
   at (inl t) (inr n) ih =
       let line : inked_line (m ++ Placed e ∷ before) ≡ true = inked_since m e before i n in
-      let none : (asks_newline event && inked_line (m ++ Placed e ∷ before)) ≡ false = or_left _ (owes_line (m ++ Placed e ∷ before)) o in
+      let none : (asks_newline event && inked_line (m ++ Placed e ∷ before)) ≡ false = (or_parts _ (owes_line (m ++ Placed e ∷ before)) o).0 in
       let no : true ≡ false = rw (t, line) at none in absurd cc
   at (inr t) n ih =
-      let rest : owes_line (m ++ Placed e ∷ before) ≡ false = or_right (asks_newline event && inked_line (m ++ Placed e ∷ before)) _ o in
+      let rest : owes_line (m ++ Placed e ∷ before) ≡ false = (or_parts (asks_newline event && inked_line (m ++ Placed e ∷ before)) _ o).1 in
       let asks : list_any asks_newline (events_back m) ≡ true = rw t at a in ih rest i asks
 
 sum_columns : (es : List Event) → chunk_columns es ≡ sum_by event_columns es
@@ -453,21 +438,15 @@ module _ (width : ℕ) (document : List Part) (st : State) (final : List Stretch
         (law_at IsFreeOfDebt base.debt before between h.after e f h.order) h.first_inked (events_any asks_newline between ∙ asks);
     blank_line = λ before between e f h asks none fits.
         let line : HasBlankLine (text_back (reverse between)) = law_at (HasBlankBefore width) base.blank before between h.after e f h.order (reverse between) (reverse before) e refl h.first_inked
-        (events_any is_raw_event between ∙ not_true (list_any is_raw_event (events_of between)) none) (events_any asks_blank_line between ∙ asks) fits in
+        (events_any is_raw_event between ∙ not-true (list_any is_raw_event (events_of between)) none) (events_any asks_blank_line between ∙ asks) fits in
         subst (λ ys. HasBlankLine (text_of ys)) (reverse-reverse between) line;
-  } where
-    not_true : (b : Bool) → IsTrue (not b) → b ≡ false
-    not_true true h = absurd cc
-    not_true false h = refl
+  }
 
   kept_law : KeepsBlanks stretches
   kept_law = λ before between e f h plain bare.
       let found : (e.shown ≡ e.bytes) × AllKept (e.part ≢ f.part) (reverse between) = law_at KeepsBefore base.keeps before between h.after e f h.order (reverse between) (reverse before) e
-      (refl, h.first_inked, any_turned is_inked_stretch between ∙ not_true (list_any is_inked_stretch between) plain, any_turned is_newline between ∙ not_true (list_any is_newline between) bare) in
-      (found.0, subst (λ ys. All (IsKept (e.part ≢ f.part)) ys) (reverse-reverse between) (all_kept (e.part ≢ f.part) (reverse between) found.1)) where
-        not_true : (b : Bool) → IsTrue (not b) → b ≡ false
-        not_true true h = absurd cc
-        not_true false h = refl
+      (refl, h.first_inked, any_turned is_inked_stretch between ∙ not-true (list_any is_inked_stretch between) plain, any_turned is_newline between ∙ not-true (list_any is_newline between) bare) in
+      (found.0, subst (λ ys. All (IsKept (e.part ≢ f.part)) ys) (reverse-reverse between) (all_kept (e.part ≢ f.part) (reverse between) found.1))
 
   no_ink_final : EachPassed NoInk final
   no_ink_final = ends_passed NoInk ends base.no_ink
@@ -501,21 +480,13 @@ module _ (width : ℕ) (document : List Part) (st : State) (final : List Stretch
       at_least = λ before after f s i. subst (λ (n : ℕ). margin document f.part ≤ n) (sym (column_is before)) (one_at (AtMargin (margin document)) clearly.at_margin before after f s);
       exact = λ before after f s i line kind. column_is before ∙ one_at (IsExact (margin document)) clearly.exact before after f s (clear_line before line) (kind_of before after f s kind);
     } where
-      not_true : (b : Bool) → IsTrue (not b) → b ≡ false
-      not_true true h = absurd cc
-      not_true false h = refl
-
-      not_not : (b : Bool) → not b ≡ false → b ≡ true
-      not_not true h = refl
-      not_not false h = absurd cc
-
       clear_line : (before : List Stretch) → IsFirstInLine before → inked_line (reverse before) ≡ false
-      clear_line before h = sym (line_turned is_inked_stretch (reverse before)) ∙ ap (λ ys. list_any is_inked_stretch (line_before ys)) (reverse-reverse before) ∙ not_true (list_any is_inked_stretch (line_before before)) h
+      clear_line before h = sym (line_turned is_inked_stretch (reverse before)) ∙ ap (λ ys. list_any is_inked_stretch (line_before ys)) (reverse-reverse before) ∙ not-true (list_any is_inked_stretch (line_before before)) h
 
       kind_of : (before after : List Stretch) (f : Place) → stretches ≡ before ++ Placed f ∷ after → IsTrue (not (list_any is_raw_or_ref (events_since_ink before))) ⊎ FollowsBlank before f
           → (is_quiet (reverse before) ≡ true) ⊎ AfterBlank (reverse before) f.part
       kind_of before after f s (inl h) =
-          inl (not_not (is_quiet (reverse before)) (sym (quiet_turned (reverse before) (no_ink_front before after f s)) ∙ ap (λ ys. list_any is_raw_or_ref (events_since_ink ys)) (reverse-reverse before) ∙ not_true (list_any is_raw_or_ref (events_since_ink before)) h))
+          inl (not-false (is_quiet (reverse before)) (sym (quiet_turned (reverse before) (no_ink_front before after f s)) ∙ ap (λ ys. list_any is_raw_or_ref (events_since_ink ys)) (reverse-reverse before) ∙ not-true (list_any is_raw_or_ref (events_since_ink before)) h))
       kind_of before after f s (inr h) = inr (record {
         rest = reverse h.between;
         before = reverse h.front;
@@ -575,8 +546,8 @@ module _ (width : ℕ) (document : List Part) (st : State) (final : List Stretch
     room_law : Spacious width (greatest_margin document) st → BreaksForRoom document width stretches
     room_law spacious = λ before between e f h plain quiet line.
         let idle : list_all is_idle (events_back (reverse between)) ≡ true =
-        idle_all (reverse between) (any_turned is_inked_stretch between ∙ not_true (list_any is_inked_stretch between) plain)
-        (events_any asks_newline between ∙ not_true (list_any asks_newline (events_of between)) quiet) in
+        idle_all (reverse between) (any_turned is_inked_stretch between ∙ not-true (list_any is_inked_stretch between) plain)
+        (events_any asks_newline between ∙ not-true (list_any asks_newline (events_of between)) quiet) in
         let over : width < room (greatest_margin document) (events_back (reverse between)) e (reverse before) + columns f.bytes =
         law_at (HasNoRoom width (greatest_margin document)) spacious.no_room before between h.after e f h.order (reverse between) (reverse before) e refl h.first_inked idle (any_turned is_newline between ∙ line) in
         let here : column before ≡ column_back (reverse before) = column_is before in
@@ -586,30 +557,19 @@ module _ (width : ℕ) (document : List Part) (st : State) (final : List Stretch
         let most : allowance (greatest_margin document) (events_back (reverse between)) ≤ (if e.part == f.part then 0 else greatest_margin document) =
         allowed (reverse between) (reverse before) e f (by_cases (list_all is_chunk (events_back (reverse between)))) later in
         omega arith where
-          not_true : (b : Bool) → IsTrue (not b) → b ≡ false
-          not_true true h = absurd cc
-          not_true false h = refl
-
           sum_taken : (es : List Event) → taken es ≡ sum_by room_of es
           sum_taken [] = refl
           sum_taken (x ∷ es) = ap (λ (n : ℕ). room_of x + n) (sum_taken es) ∙ sym (sum_by-cons room_of x es)
-
-          not_same : (a b : ℕ) → a < b → (a == b) ≡ false
-          not_same a b l = grind (arith, nat_tests)
 
           allowed : (m before : List Stretch) (e f : Place) → (list_all is_chunk (events_back m) ≡ true) ⊎ (list_all is_chunk (events_back m) ≡ false) → IsAfterAll (m ++ Placed e ∷ before) f
               → allowance (greatest_margin document) (events_back m) ≤ (if e.part == f.part then 0 else greatest_margin document)
           allowed m before e f (inl t) later = rw t (omega arith)
           allowed m before e f (inr t) later =
               let apart : e.part < f.part = part_later false f.part m before e later (inr t) in
-              let differ : (e.part == f.part) ≡ false = not_same e.part f.part apart in
+              let differ : (e.part == f.part) ≡ false = grind (arith, nat_tests) in
               rw (t, differ) (omega arith)
 
 -- ---- the whole
-
-more_than_widest : (xs : List ℕ) (a : ℕ) → a ≤ fold max a xs
-more_than_widest [] a = omega arith
-more_than_widest (x ∷ xs) a = let rest : max a x ≤ fold max (max a x) xs = more_than_widest xs (max a x) in omega arith
 
 fold_more : (xs : List ℕ) (a b : ℕ) → a ≤ b → fold max a xs ≤ fold max b xs
 fold_more [] a b l = l
@@ -620,7 +580,7 @@ narrow_each : (nexts : List Next) (most : ℕ) → widest (map next_event nexts)
 narrow_each [] most l = tt
 narrow_each (x ∷ xs) most l = (at x (first_le x xs l), narrow_each xs most (rest_le x xs l)) where
   first_le : (x : Next) (xs : List Next) → widest (map next_event (x ∷ xs)) ≤ most → event_columns (next_event x) ≤ most
-  first_le x xs l = let more : max 0 (event_columns (next_event x)) ≤ fold max (max 0 (event_columns (next_event x))) (map event_columns (map next_event xs)) = more_than_widest (map event_columns (map next_event xs)) (max 0 (event_columns (next_event x))) in omega arith
+  first_le x xs l = let more : max 0 (event_columns (next_event x)) ≤ fold max (max 0 (event_columns (next_event x))) (map event_columns (map next_event xs)) = more_than (map event_columns (map next_event xs)) (max 0 (event_columns (next_event x))) in omega arith
 
   rest_le : (x : Next) (xs : List Next) → widest (map next_event (x ∷ xs)) ≤ most → widest (map next_event xs) ≤ most
   rest_le x xs l = let more : fold max 0 (map event_columns (map next_event xs)) ≤ fold max (max 0 (event_columns (next_event x))) (map event_columns (map next_event xs)) =
@@ -634,15 +594,7 @@ narrow_each (x ∷ xs) most l = (at x (first_le x xs l), narrow_each xs most (re
 -- no mark is one of a term reference
 bare_each : (nexts : List Next) → list_any is_ref (map next_event nexts) ≡ false → EachNext WritesNone nexts
 bare_each [] h = tt
-bare_each (x ∷ xs) h = (at x (or_left (is_ref (next_event x)) _ h), bare_each xs (or_right (is_ref (next_event x)) _ h)) where
-  or_left : (a b : Bool) → (a || b) ≡ false → a ≡ false
-  or_left true b h = absurd cc
-  or_left false b h = refl
-
-  or_right : (a b : Bool) → (a || b) ≡ false → b ≡ false
-  or_right true b h = absurd cc
-  or_right false b h = h
-
+bare_each (x ∷ xs) h = (at x (or_parts (is_ref (next_event x)) _ h).0, bare_each xs (or_parts (is_ref (next_event x)) _ h).1) where
   none : (b : Block) → is_term_ref b ≡ false → has_some (event_bytes (Opens b)) ≡ false
   none b h = rw h refl
 
@@ -687,13 +639,9 @@ layout_of_page document full width nexts st final w events shallow ends same = r
   spacious : width < 1_000_000 → BeginsClear (shown_events full document) → Spacious width (greatest_margin document) st
   spacious small clear = written_spacious (greatest_margin document) small w (clear_begins (map next_event nexts) (subst BeginsClear (sym events) clear)) shallow
 
-  not_true : (b : Bool) → IsTrue (not b) → b ≡ false
-  not_true true h = absurd cc
-  not_true false h = refl
-
   bounded : width < 1_000_000 → IsTrue (not (list_any is_ref (shown_events full document))) → IsBounded document width (reverse final)
   bounded small refs =
-      let none : list_any is_ref (map next_event nexts) ≡ false = ap (λ es. list_any is_ref es) events ∙ not_true (list_any is_ref (shown_events full document)) refs in
+      let none : list_any is_ref (map next_event nexts) ≡ false = ap (λ es. list_any is_ref es) events ∙ not-true (list_any is_ref (shown_events full document)) refs in
       let slim : Slim width (greatest_margin document) (widest (map next_event nexts)) st =
       written_slim (greatest_margin document) (widest (map next_event nexts)) small w
       (slim_each (greatest_margin document) (widest (map next_event nexts)) nexts shallow (narrow_each nexts (widest (map next_event nexts)) (omega arith)) (bare_each nexts none)) in

@@ -1,5 +1,5 @@
 -- The page that the code writes is the page as a function of the document.
-use Rattle.std.specs.Prelude.{◌≡◌, ℕ, suc, ◌+◌, ◌-◌, ◌^◌, ◌<◌, Option, Some, None, Bool, true, false, not, ◌&&◌, ◌||◌, ◌==◌, List, [], ◌∷◌, ◌++◌, length, refl, if◌then◌else◌, ◌⊎◌, nat_lt, nat_le, take, IfOk, Result, Ok, Err, String, string_bytes}
+use Rattle.std.specs.Prelude.{◌≡◌, ℕ, ◌+◌, ◌-◌, ◌^◌, ◌<◌, Option, Some, None, Bool, true, false, not, ◌&&◌, ◌||◌, ◌==◌, List, [], ◌∷◌, ◌++◌, length, refl, if◌then◌else◌, ◌⊎◌, nat_lt, nat_le, take, IfOk, Result, Ok, Err, String, string_bytes}
 use Rattle.std.specs.List.{enumerate_from}
 use Rattle.std.specs.Str.{bytes_eq}
 use Rattle.std.proofs.Common.{sym, ap, arith, inl, inr, ◌∙◌}
@@ -38,8 +38,7 @@ abbrev pub view : Sheet → PageSoFar
 view s = record { text = s.out; column = s.column; request = request_of s.asks; is_pending = s.at_body }
 
 view_if : (b : Bool) (x y : Sheet) → view (if b then x else y) ≡ (if b then view x else view y)
-view_if true x y = refl
-view_if false x y = refl
+view_if b x y = grind arith
 
 -- ---- a Raw chunk
 
@@ -82,9 +81,7 @@ raw_cases false false blank s a w put = refl
 
 is_empty : (text : List ℕ) → (length text == 0) ≡ not (has_some text)
 is_empty [] = refl
-is_empty (b ∷ text) = more (length text) where
-  more : (n : ℕ) → (suc n == 0) ≡ false
-  more n = grind (arith, nat_tests)
+is_empty (b ∷ text) = grind (arith, nat_tests)
 
 raw_is : (width level : ℕ) (bytes : List ℕ) (weight : ℕ) (s : Sheet) → page.columns_of bytes weight ≡ columns bytes → s.width ≡ width → page.margin_of s ≡ level
     → view (page.raw_put bytes weight s) ≡ exact.raw_put width level bytes weight (view s)
@@ -153,8 +150,7 @@ text_is full width level (LineBreak ∷ chunks) s good wide margin = text_is ful
 text_is full width level (Paragraph ∷ chunks) s good wide margin = at full (text_is full width level chunks (page.newline_put s) good.1 wide margin) where
   at : (b : Bool) → view (page.text_put full chunks (page.newline_put s)) ≡ exact.chunks_put width level (written_of full chunks) (view (page.newline_put s))
       → view (if b then page.text_put full chunks (page.newline_put s) else page.newline_put s) ≡ exact.chunks_put width level (Paragraph ∷ (if b then written_of full chunks else [])) (view s)
-  at true rest = rest
-  at false rest = refl
+  at b rest = grind arith
 
 -- ---- the marks
 
@@ -165,45 +161,15 @@ new_line_is asked.BlankLine = refl
 
 start_request : (b : Block) (a : Asked) → request_of (page.asked_by_start a b) ≡ exact.request_at_start b (request_of a)
 start_request blocks.Header a = new_line_is a
-start_request blocks.Section2 a = new_line_is a
-start_request blocks.Section3 a = new_line_is a
-start_request blocks.Section4 a = new_line_is a
-start_request blocks.ItemTerm a = new_line_is a
-start_request blocks.ItemBody a = refl
-start_request blocks.DefinitionList a = refl
-start_request blocks.Block a = refl
-start_request blocks.InlineBlock a = refl
-start_request blocks.TermRef a = refl
-start_request blocks.Meta a = refl
-start_request blocks.Mono a = refl
+start_request _ a = grind (arith, new_line_is a)
 
 end_request : (b : Block) (a : Asked) → request_of (page.asked_by_end a b) ≡ exact.request_at_end b (request_of a)
 end_request blocks.Header a = refl
-end_request blocks.Section2 a = refl
-end_request blocks.Section3 a = refl
-end_request blocks.Section4 a = refl
-end_request blocks.ItemTerm a = refl
-end_request blocks.ItemBody a = refl
-end_request blocks.DefinitionList a = refl
-end_request blocks.Block a = refl
-end_request blocks.InlineBlock a = refl
-end_request blocks.TermRef a = refl
-end_request blocks.Meta a = refl
-end_request blocks.Mono a = refl
+end_request _ a = refl
 
 body_same : (b : Block) → page.is_body b ≡ exact.is_item_body b
 body_same blocks.ItemBody = refl
-body_same blocks.Header = refl
-body_same blocks.Section2 = refl
-body_same blocks.Section3 = refl
-body_same blocks.Section4 = refl
-body_same blocks.ItemTerm = refl
-body_same blocks.DefinitionList = refl
-body_same blocks.Block = refl
-body_same blocks.InlineBlock = refl
-body_same blocks.TermRef = refl
-body_same blocks.Meta = refl
-body_same blocks.Mono = refl
+body_same _ = refl
 
 abbrev so_far : Sheet → Request → Bool → PageSoFar
 so_far s request pending = record { text = s.out; column = s.column; request = request; is_pending = pending }
@@ -235,14 +201,10 @@ end_is b s =
 -- ---- the parts
 
 put_if : (c d : Bool) → c ≡ d → (x y : Sheet) (p : PageSoFar) → view y ≡ p → view (if c then x else y) ≡ (if d then view x else p)
-put_if true true e x y p same = refl
-put_if false false e x y p same = same
-put_if true false e x y p same = absurd cc
-put_if false true e x y p same = absurd cc
+put_if c d e x y p same = grind arith
 
 keeps_width_if : (c : Bool) (x y : Sheet) (width : ℕ) → x.width ≡ width → y.width ≡ width → (if c then x else y).width ≡ width
-keeps_width_if true x y width a b = a
-keeps_width_if false x y width a b = b
+keeps_width_if c x y width a b = grind arith
 
 module _ (full : Bool) (document : List Part) (width : ℕ) (is_small : length document < 2 ^ 64) where
   text_part : (index : ℕ) (before rest : List Part) (bytes : List ℕ) (style : Style) (pairs : Pairs) (hidden : ℕ) (s : Sheet) → Walk full document index before (Text bytes style ∷ rest) pairs hidden s

@@ -3,10 +3,10 @@ use Rattle.std.specs.Prelude.{◌≡◌, ◌≢◌, ℕ, zero, suc, ◌+◌, ◌
 use Rattle.std.specs.List.{ends_with}
 use Rattle.std.specs.Str.{trim_end, bytes_eq}
 use Rattle.std.proofs.Common.{sym, subst, ap, arith, inl, inr, ◌∙◌, append_assoc}
-use Rattle.std.proofs.lemmas.List.{append-nil, nil_from_length}
+use Rattle.std.proofs.lemmas.List.{append-nil, nil_from_length, same_from_push}
 use Rattle.std.proofs.lemmas.Grind.{replicate_next}
 use Rattle.std.proofs.lemmas.Slice.Eq.{ends_is, bytes_eq-Decides}
-use Rattle.std.proofs.lemmas.Bool.{cases_lt}
+use Rattle.std.proofs.lemmas.Bool.{cases_lt, eqb-true, and_parts}
 use Rattle.std.proofs.lemmas.Bool.Decides.{nat_tests, Decides-eqb}
 use Rattle.bpaf_doc.specs.declared.console.page.Asked.{Asked}
 use Rattle.bpaf_doc.specs.declared.console.page.Asked.TheVariants.{Nothing, NewLine, BlankLine}
@@ -15,9 +15,9 @@ use Rattle.bpaf_doc.specs.Console.Layout.{Shows, Stretch, Gap, Placed, Passed}
 use Rattle.bpaf_doc.specs.Console.Steps.Page as page
 use Rattle.bpaf_doc.specs.Console.Steps.Page.{Sheet}
 use Rattle.bpaf_doc.proofs.lemmas.Console.Layout.State.{State, Piece, Lines, none_asked, line_there, line_put, blank_there, second_put, both_put, first, stays, wraps, Places, places, drops, Pads, to_margin, after_term, IsPut, sat, padded, trimmed, put, wrapped, dropped, spaced, on_new_line, has_text, ends_line, ends_blank, IsLegible}
-use Rattle.bpaf_doc.proofs.lemmas.Console.Layout.Back.{by_cases}
+use Rattle.bpaf_doc.proofs.lemmas.Console.Layout.Back.{by_cases, by_padded}
 use Rattle.bpaf_doc.proofs.lemmas.Console.Layout.Blank.{text_back, text_back_cons}
-use Rattle.bpaf_doc.proofs.lemmas.Console.Layout.Stretches.{no_text, some_text, text_ends_line, text_ends_blank, trim_text, legible_trimmed, legible_padded}
+use Rattle.bpaf_doc.proofs.lemmas.Console.Layout.Stretches.{no_text, some_text, text_ends_line, text_ends_blank, trim_text, legible_trimmed}
 
 -- ---- the exact page looks as it grew by the rules
 
@@ -67,7 +67,7 @@ draws_spaced n s st d = record {
   asked = d.asked;
   body = d.body;
   margin = d.margin;
-  legible = legible_padded n st.back d.legible;
+  legible = by_padded IsLegible (λ x y. (inl refl, y)) n st.back d.legible;
   fits = omega arith;
 }
 
@@ -104,15 +104,7 @@ draws_blank s st d h =
 one_before : (text : List ℕ) → ends_with nat_eq (text ++ 10 ∷ []) (10 ∷ 10 ∷ []) ≡ true → ends_with nat_eq text (10 ∷ []) ≡ true
 one_before text h =
     let found : (front : List ℕ) × (text ++ 10 ∷ [] ≡ front ++ 10 ∷ 10 ∷ []) = ends_front (10 ∷ 10 ∷ []) (text ++ 10 ∷ []) h in
-    ends_when (10 ∷ []) text found.0 (front_same text (found.0 ++ 10 ∷ []) 10 10 (found.1 ∙ sym (append_assoc found.0 (10 ∷ []) (10 ∷ [])))) where
-      front_same : (xs ys : List ℕ) (a b : ℕ) → xs ++ a ∷ [] ≡ ys ++ b ∷ [] → xs ≡ ys
-      front_same [] [] a b e = refl
-      front_same [] (y ∷ []) a b e = absurd cc
-      front_same [] (y ∷ z ∷ ys) a b e = absurd cc
-      front_same (x ∷ []) [] a b e = absurd cc
-      front_same (x ∷ z ∷ xs) [] a b e = absurd cc
-      front_same (x ∷ xs) (y ∷ ys) a b e =
-          let rest : xs ++ a ∷ [] ≡ ys ++ b ∷ [] = cc in let same : x ≡ y = cc in ap (λ (c : ℕ). c ∷ xs) same ∙ ap (λ zs. y ∷ zs) (front_same xs ys a b rest)
+    ends_when (10 ∷ []) text found.0 (same_from_push text (found.0 ++ 10 ∷ []) 10 10 (found.1 ∙ sym (append_assoc found.0 (10 ∷ []) (10 ∷ [])))).0
 
 abbrev pub LinesTo : Sheet → State → Sheet → Type 0
 LinesTo s st t = (mid : State) × Lines st mid × Draws t mid
@@ -193,17 +185,6 @@ spaces_put s st d = at (by_cases (s.at_body && nat_le 28 (sat (s.column + (page.
   column : s.column ≡ st.column
   column = d.column
 
-  and_left : (a b : Bool) → (a && b) ≡ true → a ≡ true
-  and_left true b h = refl
-  and_left false b h = absurd cc
-
-  and_right : (a b : Bool) → (a && b) ≡ true → b ≡ true
-  and_right true b h = h
-  and_right false b h = absurd cc
-
-  wide : (n : ℕ) → nat_le 28 n ≡ true → 28 ≤ n
-  wide n h = grind (arith, nat_tests)
-
   plain : (s.at_body && nat_le 28 (sat (s.column + (page.margin_of s - s.column)))) ≡ false → page.padded s ≡ page.blanks_put (page.margin_of s - s.column) s
   plain h = rw h refl
 
@@ -220,8 +201,8 @@ spaces_put s st d = at (by_cases (s.at_body && nat_le 28 (sat (s.column + (page.
   at (inr h) l =
       (page.margin_of s - s.column, to_margin (omega arith), subst (λ (t : Sheet). Draws t (spaced (page.margin_of s - s.column) st)) (sym (plain h)) (draws_spaced (page.margin_of s - s.column) s st d))
   at (inl h) (inl l) =
-      let far : 28 ≤ sat (s.column + (page.margin_of s - s.column)) = wide (sat (s.column + (page.margin_of s - s.column))) (and_right s.at_body _ h) in
-      let pending : st.pending ≡ true = sym d.body ∙ and_left s.at_body _ h in
+      let far : 28 ≤ sat (s.column + (page.margin_of s - s.column)) = grind (arith, nat_tests) in
+      let pending : st.pending ≡ true = sym d.body ∙ (and_parts s.at_body _ h).0 in
       let sum : 2 - (page.margin_of s - s.column) + (page.margin_of s - s.column) ≡ 2 = omega arith in (
         2,
         after_term pending (omega arith) (omega arith) refl,
@@ -274,13 +255,7 @@ abbrev pub IsWeighed : Piece → Type 0
 IsWeighed p = p.weight < 1_000_000 → p.weight ≡ columns p.bytes
 
 pub columns_is : (p : Piece) → IsWeighed p → page.columns_of p.bytes p.weight ≡ columns p.bytes
-columns_is p h = at (by_cases (nat_lt p.weight 1000000)) where
-  less : (n : ℕ) → nat_lt n 1000000 ≡ true → n < 1_000_000
-  less n t = grind (arith, nat_tests)
-
-  at : (nat_lt p.weight 1000000 ≡ true) ⊎ (nat_lt p.weight 1000000 ≡ false) → page.columns_of p.bytes p.weight ≡ columns p.bytes
-  at (inl t) = rw t (h (less p.weight t))
-  at (inr t) = rw t refl
+columns_is p h = elim (by_cases (nat_lt p.weight 1000000)) [ inl t ↦ rw t (h (grind (arith, nat_tests))) | inr t ↦ rw t refl ]
 
 abbrev pub RawTo : ℕ → Piece → State → Sheet → Type 0
 RawTo width p st t = (after : State) × Places width st p after × Draws t after
@@ -300,9 +275,6 @@ raw_placed p s st u l weighed d = at (by_cases (length s.out == 0)) where
   full : (n : ℕ) → nat_lt s.width n ≡ true → s.width < n
   full n h = grind (arith, nat_tests)
 
-  zero_length : (n : ℕ) → (n == 0) ≡ true → n ≡ 0
-  zero_length n h = grind (arith, nat_tests)
-
   some_length : (n : ℕ) → (n == 0) ≡ false → n ≡ 0 → ⊥
   some_length n h e = grind (arith, nat_tests)
 
@@ -310,16 +282,10 @@ raw_placed p s st u l weighed d = at (by_cases (length s.out == 0)) where
   move t e r = subst (λ (x : Sheet). RawTo s.width p st x) (sym e) r
 
   empty : (length s.out == 0) ≡ true → has_text st.back ≡ false
-  empty h = test (by_cases (has_text st.back)) where
-    test : (has_text st.back ≡ true) ⊎ (has_text st.back ≡ false) → has_text st.back ≡ false
-    test (inl t) = absurd (some_text st.back t (sym d.bytes ∙ nil_from_length s.out (zero_length (length s.out) h)))
-    test (inr t) = t
+  empty h = elim (by_cases (has_text st.back)) [ inl t ↦ absurd (some_text st.back t (sym d.bytes ∙ nil_from_length s.out (eqb-true (length s.out) 0 h))) | inr t ↦ t ]
 
   some : (length s.out == 0) ≡ false → has_text st.back ≡ true
-  some h = test (by_cases (has_text st.back)) where
-    test : (has_text st.back ≡ true) ⊎ (has_text st.back ≡ false) → has_text st.back ≡ true
-    test (inl t) = t
-    test (inr t) = absurd (some_length (length s.out) h (ap length (d.bytes ∙ no_text st.back t)))
+  some h = elim (by_cases (has_text st.back)) [ inl t ↦ t | inr t ↦ absurd (some_length (length s.out) h (ap length (d.bytes ∙ no_text st.back t))) ]
 
   lines : LinesTo s st (page.asked_put s)
   lines = lines_put s st d
@@ -327,8 +293,7 @@ raw_placed p s st u l weighed d = at (by_cases (length s.out == 0)) where
   same_width : (page.asked_put s).width ≡ s.width
   same_width = width_if (page.lacks_blank_line (page.asked_newline_put s)) (record (page.asked_newline_put s) { out = (page.asked_newline_put s).out ++ 10 ∷ [] }) (page.asked_newline_put s) s.width after_line after_line where
     width_if : (b : Bool) (x y : Sheet) (w : ℕ) → x.width ≡ w → y.width ≡ w → (if b then x else y).width ≡ w
-    width_if true x y w a b = a
-    width_if false x y w a b = b
+    width_if b x y w a b' = grind arith
 
     after_line : (page.asked_newline_put s).width ≡ s.width
     after_line = width_if (page.lacks_newline s) (page.newline_put s) s s.width refl refl

@@ -1,14 +1,14 @@
 -- The page as a function of the document has the console ink, and is a layout.
 use Rattle.std.specs.Prelude.{◌≡◌, ℕ, zero, suc, ◌+◌, ◌^◌, ◌<◌, ◌≤◌, ◌⊎◌, Bool, true, false, List, [], ◌∷◌, ◌++◌, length, take, reverse, map, flat_map, refl, if◌then◌else◌}
 use Rattle.std.specs.List.{enumerate_from}
-use Rattle.std.specs.Str.{trim_end, IsUtf8}
+use Rattle.std.specs.Str.{IsUtf8}
 use Rattle.std.proofs.Common.{sym, subst, ap, arith, inl, inr, ◌∙◌, length-append}
 use Rattle.std.proofs.lemmas.List.{append-nil, length-reverse, reverse-reverse}
 use Rattle.std.proofs.lemmas.Grind.{flat_map-append}
 use Rattle.bpaf_doc.specs.declared.console.pairs.Pairs.{Pairs}
 use Rattle.bpaf_doc.specs.declared.buffer.Block.{Block}
 use Rattle.bpaf_doc.specs.Buffer.Parts.{Part, Text, Start, End, ink, HasUtf8Texts}
-use Rattle.bpaf_doc.specs.Splitter.Chunks.{Chunk, chunk_ink, has_some}
+use Rattle.bpaf_doc.specs.Splitter.Chunks.{Chunk, chunk_ink}
 use Rattle.bpaf_doc.specs.Splitter.Promises.{IsGap}
 use Rattle.bpaf_doc.specs.Shown.{console_ink, is_term_ref, mark_bytes, shown_chunks, shown_part_ink}
 use Rattle.bpaf_doc.specs.Console.Margin.{Shift, Indent, Outdent, Level, shifts, is_skipped}
@@ -23,7 +23,7 @@ use Rattle.bpaf_doc.specs.Console.Laws.{IsExactPageLayout}
 use Rattle.bpaf_doc.proofs.lemmas.Console.Ink.{ink-backquote}
 use Rattle.bpaf_doc.proofs.lemmas.Console.Pages.{skips-mark_bytes}
 use Rattle.bpaf_doc.proofs.lemmas.Splitter.Ink.{ink-nil, ink-append, ink_before_gap}
-use Rattle.bpaf_doc.proofs.lemmas.Console.Layout.Blank.{text_back, text_back_cons}
+use Rattle.bpaf_doc.proofs.lemmas.Console.Layout.Blank.{text_back, text_back_cons, some_none}
 use Rattle.bpaf_doc.proofs.lemmas.Console.Layout.Split.{events_back}
 use Rattle.bpaf_doc.proofs.lemmas.Console.Layout.State.{IsLegible}
 use Rattle.bpaf_doc.proofs.lemmas.Console.Layout.Text.{EachPassed, NoInk, next_event}
@@ -42,18 +42,11 @@ event_ink (Shows k chunk) = chunk_ink chunk
 event_ink (Opens b) = mark_bytes b
 event_ink (Closes b) = mark_bytes b
 
-no_bytes : (bytes : List ℕ) → has_some bytes ≡ false → bytes ≡ []
-no_bytes [] h = refl
-no_bytes (b ∷ bytes) h = absurd cc
-
 mark_ink : (b : Block) → ink (mark_bytes b) ≡ mark_bytes b
-mark_ink b = at (is_term_ref b) where
-  at : (c : Bool) → ink (if c then 96 ∷ [] else []) ≡ (if c then 96 ∷ [] else [])
-  at true = ink-backquote
-  at false = ink-nil
+mark_ink b = elim (is_term_ref b) as (λ (c : Bool). ink (if c then 96 ∷ [] else []) ≡ (if c then 96 ∷ [] else [])) [ true ↦ ink-backquote | false ↦ ink-nil ]
 
 passed_ink : (event : Event) → NoInk event → ink (event_bytes event) ≡ event_ink event
-passed_ink (Shows k chunk) none = ink-nil ∙ sym (no_bytes (chunk_ink chunk) none)
+passed_ink (Shows k chunk) none = ink-nil ∙ sym (some_none (chunk_ink chunk) none)
 passed_ink (Opens b) none = mark_ink b
 passed_ink (Closes b) none = mark_ink b
 
@@ -73,11 +66,8 @@ ink_back (Gap b ∷ r) legible none =
 ink_back (Placed e ∷ r) legible none =
     ap ink (text_back_cons (Placed e) r) ∙ ink-append (text_back r) e.shown (text_utf8 r legible.1)
     ∙ ap (λ front. front ++ ink e.shown) (ink_back r legible.1 none)
-    ∙ ap (λ more. flat_map event_ink (reverse (events_back r)) ++ more) (shown_ink legible.0.2)
-    ∙ sym (inks_cons (Shows e.part (chunk_at e)) (events_back r)) where
-      shown_ink : (e.shown ≡ e.bytes) ⊎ (e.shown ≡ trim_end e.bytes) → ink e.shown ≡ ink e.bytes
-      shown_ink (inl same) = ap ink same
-      shown_ink (inr cut) = ap ink cut ∙ trim_ink e.bytes legible.0.0
+    ∙ ap (λ more. flat_map event_ink (reverse (events_back r)) ++ more) (elim legible.0.2 [ inl same ↦ ap ink same | inr cut ↦ ap ink cut ∙ trim_ink e.bytes legible.0.0 ])
+    ∙ sym (inks_cons (Shows e.part (chunk_at e)) (events_back r))
 ink_back (Passed event ∷ r) legible none =
     ap ink (text_back_cons (Passed event) r) ∙ ink-append (text_back r) (event_bytes event) (text_utf8 r legible)
     ∙ ap (λ front. front ++ ink (event_bytes event)) (ink_back r legible none.1)
@@ -91,8 +81,7 @@ chunks_ink k [] = refl
 chunks_ink k (chunk ∷ chunks) = ap (λ more. chunk_ink chunk ++ more) (chunks_ink k chunks)
 
 mark_if : (c : Bool) (b : Block) (event : Event) → event_ink event ≡ mark_bytes b → (c ≡ true → mark_bytes b ≡ []) → flat_map event_ink (if c then [] else event ∷ []) ≡ mark_bytes b
-mark_if true b event is none = sym (none refl)
-mark_if false b event is none = append-nil (event_ink event) ∙ is
+mark_if c b event is none = grind arith
 
 -- a stack is no deeper than the marks are many
 depth_after : (j : ℕ) (ss : List Shift) (stack : List ℕ) → length (stack_after (take j ss) stack) ≤ j + length stack

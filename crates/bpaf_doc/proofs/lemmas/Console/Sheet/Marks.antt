@@ -2,6 +2,7 @@
 use Rattle.std.specs.Prelude.{◌≡◌, ℕ, ◌+◌, ◌-◌, ◌≤◌, Bool, true, false, not, ◌&&◌, ◌||◌, List, [], ◌∷◌, ◌++◌, length, take, reverse, refl, ◌⊎◌, unwrap_or, slice_get, Option, Some, None}
 use Rattle.std.proofs.Common.{sym, subst, ap, arith, inl, inr, ◌∙◌}
 use Rattle.std.proofs.lemmas.List.{append-nil, reverse-append, length-reverse}
+use Rattle.std.proofs.Math.Bool.{and-true, and-false, or-false, or-true}
 use Rattle.bpaf_doc.specs.declared.console.page.Asked.{Asked}
 use Rattle.bpaf_doc.specs.declared.console.page.Asked.TheVariants.{Nothing, NewLine, BlankLine}
 use Rattle.bpaf_doc.specs.declared.buffer.Block.{Block}
@@ -23,75 +24,19 @@ same_asked BlankLine = refl
 
 start_asked : (a : Asked) (b : Block) → page.asked_by_start a b ≡ asked_after (Opens b) a
 start_asked a blocks.Header = same_asked a
-start_asked a blocks.Section2 = same_asked a
-start_asked a blocks.Section3 = same_asked a
-start_asked a blocks.Section4 = same_asked a
-start_asked a blocks.ItemTerm = same_asked a
-start_asked a blocks.ItemBody = refl
-start_asked a blocks.DefinitionList = refl
-start_asked a blocks.Block = refl
-start_asked a blocks.InlineBlock = refl
-start_asked a blocks.TermRef = refl
-start_asked a blocks.Meta = refl
-start_asked a blocks.Mono = refl
+start_asked a _ = grind (arith, same_asked a)
 
 end_asked : (a : Asked) (b : Block) → page.asked_by_end a b ≡ asked_after (Closes b) a
 end_asked a blocks.Header = refl
-end_asked a blocks.Section2 = refl
-end_asked a blocks.Section3 = refl
-end_asked a blocks.Section4 = refl
-end_asked a blocks.ItemTerm = refl
-end_asked a blocks.ItemBody = refl
-end_asked a blocks.DefinitionList = refl
-end_asked a blocks.Block = refl
-end_asked a blocks.InlineBlock = refl
-end_asked a blocks.TermRef = refl
-end_asked a blocks.Meta = refl
-end_asked a blocks.Mono = refl
-
-or_true : (p : Bool) → (p || true) ≡ true
-or_true true = refl
-or_true false = refl
-
-or_same : (p : Bool) → (p || false) ≡ p
-or_same true = refl
-or_same false = refl
-
-and_false : (p : Bool) → (p && false) ≡ false
-and_false true = refl
-and_false false = refl
-
-and_same : (p : Bool) → (p && true) ≡ p
-and_same true = refl
-and_same false = refl
+end_asked a _ = refl
 
 start_body : (p : Bool) (b : Block) → (p || page.is_body b) ≡ pending_after (Opens b) p
-start_body p blocks.ItemBody = or_true p
-start_body p blocks.Header = or_same p
-start_body p blocks.Section2 = or_same p
-start_body p blocks.Section3 = or_same p
-start_body p blocks.Section4 = or_same p
-start_body p blocks.ItemTerm = or_same p
-start_body p blocks.DefinitionList = or_same p
-start_body p blocks.Block = or_same p
-start_body p blocks.InlineBlock = or_same p
-start_body p blocks.TermRef = or_same p
-start_body p blocks.Meta = or_same p
-start_body p blocks.Mono = or_same p
+start_body p blocks.ItemBody = or-true p
+start_body p _ = or-false p
 
 end_body : (p : Bool) (b : Block) → (p && not (page.is_body b)) ≡ pending_after (Closes b) p
-end_body p blocks.ItemBody = and_false p
-end_body p blocks.Header = and_same p
-end_body p blocks.Section2 = and_same p
-end_body p blocks.Section3 = and_same p
-end_body p blocks.Section4 = and_same p
-end_body p blocks.ItemTerm = and_same p
-end_body p blocks.DefinitionList = and_same p
-end_body p blocks.Block = and_same p
-end_body p blocks.InlineBlock = and_same p
-end_body p blocks.TermRef = and_same p
-end_body p blocks.Meta = and_same p
-end_body p blocks.Mono = and_same p
+end_body p blocks.ItemBody = and-false p
+end_body p _ = and-true p
 
 -- the backquote of a term reference, over a sheet that differs from the page only in what a mark changes
 draws_marked : (event : Event) (b : Block) (s : Sheet) (st : State) → event_bytes event ≡ mark_bytes b → s.out ≡ text_back st.back → s.column ≡ st.column → s.column ≤ 18446744073709551615
@@ -148,7 +93,6 @@ pushed_same (Some n) s = record { out = refl; column = refl; asks = refl; at_bod
 pub draws_opened : (b : Block) (adjacent : Bool) (s : Sheet) (st : State) → Draws s st → Draws (page.opened b adjacent s) (passed (Opens b) (page.margin_of (page.opened b adjacent s)) st)
 unfolding page.opened
 draws_opened b adjacent s st d =
-    let before : Sheet = record s { asks = page.asked_by_start s.asks b; at_body = s.at_body || page.is_body b } in
     let same : SameButMargins (record s { asks = page.asked_by_start s.asks b; at_body = s.at_body || page.is_body b })
     (page.margin_pushed (page.indent_of b s.tab_stop adjacent) (record s { asks = page.asked_by_start s.asks b; at_body = s.at_body || page.is_body b })) =
     pushed_same (page.indent_of b s.tab_stop adjacent) (record s { asks = page.asked_by_start s.asks b; at_body = s.at_body || page.is_body b }) in

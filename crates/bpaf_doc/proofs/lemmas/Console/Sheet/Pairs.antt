@@ -1,5 +1,5 @@
 -- What the exact page remembers of empty Block pairs.
-use Rattle.std.specs.Prelude.{◌≡◌, ℕ, ◌+◌, ◌-◌, ◌^◌, ◌<◌, ◌≤◌, min, Bool, true, false, ◌&&◌, ◌↔◌, ◌⊎◌, List, [], ◌∷◌, length, drop, refl, IsTrue, slice_get, Option, Some, None, nat_le, nat_lt}
+use Rattle.std.specs.Prelude.{◌≡◌, ℕ, ◌+◌, ◌-◌, ◌^◌, ◌<◌, ◌≤◌, min, Bool, true, false, ◌&&◌, ◌↔◌, ◌⊎◌, List, [], ◌∷◌, length, drop, refl, IsTrue, slice_get, Option, Some, nat_le, nat_lt}
 use Rattle.std.specs.List.{position_or_len}
 use Rattle.std.proofs.Common.{sym, subst, ap, arith, inl, inr, ◌∙◌}
 use Rattle.std.proofs.lemmas.Bool.Decides.{nat_tests}
@@ -17,19 +17,7 @@ use Rattle.bpaf_doc.proofs.lemmas.Console.Pairs.{KnowsPairs-none, KnowsPairs-mor
 -- the first Section4 end, by the test on parts
 end_test : (part : Part) → whole.is_section4_end (Some part) ≡ margin.is_section4_end part
 end_test (Text bytes style) = refl
-end_test (Start b) = refl
-end_test (End blocks.Section4) = refl
-end_test (End blocks.Header) = refl
-end_test (End blocks.Section2) = refl
-end_test (End blocks.Section3) = refl
-end_test (End blocks.ItemTerm) = refl
-end_test (End blocks.ItemBody) = refl
-end_test (End blocks.DefinitionList) = refl
-end_test (End blocks.Block) = refl
-end_test (End blocks.InlineBlock) = refl
-end_test (End blocks.TermRef) = refl
-end_test (End blocks.Meta) = refl
-end_test (End blocks.Mono) = refl
+end_test _ = refl
 
 same_position : (p q : Part → Bool) → ((x : Part) → p x ≡ q x) → (xs : List Part) → position_or_len p xs ≡ position_or_len q xs
 same_position p q same [] = refl
@@ -41,38 +29,12 @@ section4_end_is document index =
     same_position (λ part. whole.is_section4_end (Some part)) margin.is_section4_end end_test (drop (index + 1) document) in omega arith
 
 block_start : (part : Option Part) → IsTrue (whole.is_block_start part) ↔ (part ≡ Some (Start blocks.Block))
-block_start None = ((λ h. absurd cc), (λ e. absurd cc))
-block_start (Some (Text bytes style)) = ((λ h. absurd cc), (λ e. absurd cc))
-block_start (Some (End b)) = ((λ h. absurd cc), (λ e. absurd cc))
 block_start (Some (Start blocks.Block)) = ((λ h. refl), (λ e. refl))
-block_start (Some (Start blocks.Header)) = ((λ h. absurd cc), (λ e. absurd cc))
-block_start (Some (Start blocks.Section2)) = ((λ h. absurd cc), (λ e. absurd cc))
-block_start (Some (Start blocks.Section3)) = ((λ h. absurd cc), (λ e. absurd cc))
-block_start (Some (Start blocks.Section4)) = ((λ h. absurd cc), (λ e. absurd cc))
-block_start (Some (Start blocks.ItemTerm)) = ((λ h. absurd cc), (λ e. absurd cc))
-block_start (Some (Start blocks.ItemBody)) = ((λ h. absurd cc), (λ e. absurd cc))
-block_start (Some (Start blocks.DefinitionList)) = ((λ h. absurd cc), (λ e. absurd cc))
-block_start (Some (Start blocks.InlineBlock)) = ((λ h. absurd cc), (λ e. absurd cc))
-block_start (Some (Start blocks.TermRef)) = ((λ h. absurd cc), (λ e. absurd cc))
-block_start (Some (Start blocks.Meta)) = ((λ h. absurd cc), (λ e. absurd cc))
-block_start (Some (Start blocks.Mono)) = ((λ h. absurd cc), (λ e. absurd cc))
+block_start _ = ((λ h. absurd cc), (λ e. absurd cc))
 
 block_end : (part : Option Part) → IsTrue (whole.is_block_end part) ↔ (part ≡ Some (End blocks.Block))
-block_end None = ((λ h. absurd cc), (λ e. absurd cc))
-block_end (Some (Text bytes style)) = ((λ h. absurd cc), (λ e. absurd cc))
-block_end (Some (Start b)) = ((λ h. absurd cc), (λ e. absurd cc))
 block_end (Some (End blocks.Block)) = ((λ h. refl), (λ e. refl))
-block_end (Some (End blocks.Header)) = ((λ h. absurd cc), (λ e. absurd cc))
-block_end (Some (End blocks.Section2)) = ((λ h. absurd cc), (λ e. absurd cc))
-block_end (Some (End blocks.Section3)) = ((λ h. absurd cc), (λ e. absurd cc))
-block_end (Some (End blocks.Section4)) = ((λ h. absurd cc), (λ e. absurd cc))
-block_end (Some (End blocks.ItemTerm)) = ((λ h. absurd cc), (λ e. absurd cc))
-block_end (Some (End blocks.ItemBody)) = ((λ h. absurd cc), (λ e. absurd cc))
-block_end (Some (End blocks.DefinitionList)) = ((λ h. absurd cc), (λ e. absurd cc))
-block_end (Some (End blocks.InlineBlock)) = ((λ h. absurd cc), (λ e. absurd cc))
-block_end (Some (End blocks.TermRef)) = ((λ h. absurd cc), (λ e. absurd cc))
-block_end (Some (End blocks.Meta)) = ((λ h. absurd cc), (λ e. absurd cc))
-block_end (Some (End blocks.Mono)) = ((λ h. absurd cc), (λ e. absurd cc))
+block_end _ = ((λ h. absurd cc), (λ e. absurd cc))
 
 empty_block_is : (document : List Part) (index : ℕ) → length document < 2 ^ 64 → whole.has_empty_block document index ≡ has_empty_block (drop (index + 1) document)
 empty_block_is document index small =
@@ -80,9 +42,7 @@ empty_block_is document index small =
     (subst (λ (o : Option Part). IsTrue (whole.is_block_start (slice_get document (min (index + 1) 18446744073709551615))) ↔ o ≡ Some (Start blocks.Block)) (slice_get-saturates document (index + 1) small)
     (block_start (slice_get document (min (index + 1) 18446744073709551615))))
     (subst (λ (o : Option Part). IsTrue (whole.is_block_end (slice_get document (min (index + 2) 18446744073709551615))) ↔ o ≡ Some (End blocks.Block))
-    (slice_get-saturates document (index + 2) small ∙ ap (λ (k : ℕ). slice_get document k) (places index)) (block_end (slice_get document (min (index + 2) 18446744073709551615)))) where
-      places : (index : ℕ) → index + 2 ≡ index + 1 + 1
-      places index = omega arith
+    (slice_get-saturates document (index + 2) small ∙ ap (λ (k : ℕ). slice_get document k) (omega arith)) (block_end (slice_get document (min (index + 2) 18446744073709551615))))
 
 module _ (document : List Part) (small : length document < 2 ^ 64) where
   pub knows_none : KnowsPairs document 0 whole.no_pairs
@@ -92,25 +52,9 @@ module _ (document : List Part) (small : length document < 2 ^ 64) where
   pub knows_start : (index : ℕ) (b : Block) (pairs : Pairs) → slice_get document index ≡ Some (Start b) → KnowsPairs document index pairs
       → KnowsPairs document (index + 1) (whole.pairs_at document index b pairs) × (whole.is_adjacent b (whole.pairs_at document index b pairs) ≡ (is_section4_start (Start b) && skips_pair document index))
   knows_start index b pairs here knows = at b here (by_cases (whole.is_section4 b)) where
-    less : (a c : ℕ) → nat_le a c ≡ true → a ≤ c
-    less a c h = grind (arith, nat_tests)
-
-    more_than : (a c : ℕ) → nat_le a c ≡ false → c < a
-    more_than a c h = grind (arith, nat_tests)
-
     is_section4_block : (b : Block) → whole.is_section4 b ≡ true → b ≡ blocks.Section4
     is_section4_block blocks.Section4 h = refl
-    is_section4_block blocks.Header h = absurd cc
-    is_section4_block blocks.Section2 h = absurd cc
-    is_section4_block blocks.Section3 h = absurd cc
-    is_section4_block blocks.ItemTerm h = absurd cc
-    is_section4_block blocks.ItemBody h = absurd cc
-    is_section4_block blocks.DefinitionList h = absurd cc
-    is_section4_block blocks.Block h = absurd cc
-    is_section4_block blocks.InlineBlock h = absurd cc
-    is_section4_block blocks.TermRef h = absurd cc
-    is_section4_block blocks.Meta h = absurd cc
-    is_section4_block blocks.Mono h = absurd cc
+    is_section4_block _ h = absurd cc
 
     unlike : (b : Block) → whole.is_section4 b ≡ false → b ≡ blocks.Section4 → ⊥
     unlike b h e = let yes : whole.is_section4 b ≡ true = ap whole.is_section4 e in let no : true ≡ false = sym yes ∙ h in cc
@@ -121,11 +65,9 @@ module _ (document : List Part) (small : length document < 2 ^ 64) where
         let same : whole.pairs_at document index b pairs ≡ pairs = rw h refl in
         let none : is_section4_start (Start b) ≡ false = is_section4_start-other b (unlike b h) in (
           subst (λ (p : Pairs). KnowsPairs document (index + 1) p) (sym same)
-              (KnowsPairs-more document index pairs (λ e. let start : b ≡ blocks.Section4 = same_block b (sym here ∙ e) in unlike b h start) knows),
+              (KnowsPairs-more document index pairs (λ e. let start : b ≡ blocks.Section4 = cc in unlike b h start) knows),
           rw h refl,
-        ) where
-          same_block : (b : Block) → Some (Start b) ≡ Some (Start blocks.Section4) → b ≡ blocks.Section4
-          same_block b e = cc
+        )
 
     at : (b : Block) → slice_get document index ≡ Some (Start b) → (whole.is_section4 b ≡ true) ⊎ (whole.is_section4 b ≡ false)
         → KnowsPairs document (index + 1) (whole.pairs_at document index b pairs) × (whole.is_adjacent b (whole.pairs_at document index b pairs) ≡ (is_section4_start (Start b) && skips_pair document index))
@@ -145,57 +87,33 @@ module _ (document : List Part) (small : length document < 2 ^ 64) where
       section4 (inl l) =
           let is : whole.pairs_at document index b pairs ≡ record { end = whole.section4_end document index; has_pair = whole.has_empty_block document (whole.section4_end document index) } = rw (h, l) refl in
           let known : IsLookedAt document index pairs (whole.pairs_at document index b pairs) b same here knows =
-          looked-found document index pairs (whole.pairs_at document index b pairs) b same here knows (whole.section4_end document index) (less pairs.end index l) (section4_end_is document index)
+          looked-found document index pairs (whole.pairs_at document index b pairs) b same here knows (whole.section4_end document index) (grind (arith, nat_tests)) (section4_end_is document index)
           (ap (λ (p : Pairs). p.end) is) (ap (λ (p : Pairs). p.has_pair) is ∙ empty_block_is document (whole.section4_end document index) small) in
           (known.1, adjacent (whole.pairs_at document index b pairs) ∙ known.0)
       section4 (inr l) =
           let is : whole.pairs_at document index b pairs ≡ pairs = rw (h, l) refl in
           let known : IsLookedAt document index pairs (whole.pairs_at document index b pairs) b same here knows =
-          looked-shared document index pairs (whole.pairs_at document index b pairs) b same here knows (more_than pairs.end index l) is in
+          looked-shared document index pairs (whole.pairs_at document index b pairs) b same here knows (grind (arith, nat_tests)) is in
           (known.1, adjacent (whole.pairs_at document index b pairs) ∙ known.0)
 
   pub skips_is : (index : ℕ) (b : Block) (pairs : Pairs) → KnowsPairs document (index + 1) pairs → HasMarkAt document index b → whole.skips pairs index b ≡ is_skipped document index
   skips_is index b pairs knows mark = at (by_cases (whole.is_block b)) where
     is_block_block : (b : Block) → whole.is_block b ≡ true → b ≡ blocks.Block
     is_block_block blocks.Block h = refl
-    is_block_block blocks.Header h = absurd cc
-    is_block_block blocks.Section2 h = absurd cc
-    is_block_block blocks.Section3 h = absurd cc
-    is_block_block blocks.Section4 h = absurd cc
-    is_block_block blocks.ItemTerm h = absurd cc
-    is_block_block blocks.ItemBody h = absurd cc
-    is_block_block blocks.DefinitionList h = absurd cc
-    is_block_block blocks.InlineBlock h = absurd cc
-    is_block_block blocks.TermRef h = absurd cc
-    is_block_block blocks.Meta h = absurd cc
-    is_block_block blocks.Mono h = absurd cc
+    is_block_block _ h = absurd cc
 
     unlike : whole.is_block b ≡ false → b ≡ blocks.Block → ⊥
     unlike h e = let yes : whole.is_block b ≡ true = ap whole.is_block e in let no : true ≡ false = sym yes ∙ h in cc
 
     within : (p : Bool) (a c : ℕ) → IsTrue (p && (nat_lt a c && nat_le (c - a) 2)) ↔ (p ≡ true) × (a < c) × (c ≤ a + 2)
-    within true a c = ((λ h. (refl, first a c h, second a c h)), (λ h. both a c h.1 h.2)) where
-      first : (a c : ℕ) → (nat_lt a c && nat_le (c - a) 2) ≡ true → a < c
-      first a c h = grind (arith, nat_tests)
-
-      second : (a c : ℕ) → (nat_lt a c && nat_le (c - a) 2) ≡ true → c ≤ a + 2
-      second a c h = grind (arith, nat_tests)
-
-      both : (a c : ℕ) → a < c → c ≤ a + 2 → (nat_lt a c && nat_le (c - a) 2) ≡ true
-      both a c l m = grind (arith, nat_tests)
+    within true a c = ((λ h. (refl, grind (arith, nat_tests), grind (arith, nat_tests))), (λ h. grind (arith, nat_tests)))
     within false a c = ((λ h. absurd cc), (λ h. absurd (let no : false ≡ true = h.0 in cc)))
 
     block_is : whole.is_block b ≡ true → whole.skips pairs index b ≡ (pairs.has_pair && (nat_lt pairs.end index && nat_le (index - pairs.end) 2))
-    block_is h = rw h (drop_true pairs.has_pair (nat_lt pairs.end index && nat_le (index - pairs.end) 2)) where
-      drop_true : (p q : Bool) → ((p && true) && q) ≡ (p && q)
-      drop_true true q = refl
-      drop_true false q = refl
+    block_is h = rw h (grind arith)
 
     other_is : whole.is_block b ≡ false → whole.skips pairs index b ≡ false
-    other_is h = rw h (none pairs.has_pair (nat_lt pairs.end index && nat_le (index - pairs.end) 2)) where
-      none : (p q : Bool) → ((p && false) && q) ≡ false
-      none true q = refl
-      none false q = refl
+    other_is h = rw h (grind arith)
 
     at : (whole.is_block b ≡ true) ⊎ (whole.is_block b ≡ false) → whole.skips pairs index b ≡ is_skipped document index
     at (inl h) = block_is h ∙ skipped-is document index pairs b knows mark (pairs.has_pair && (nat_lt pairs.end index && nat_le (index - pairs.end) 2)) (within pairs.has_pair pairs.end index)

@@ -13,7 +13,7 @@ use Rattle.bpaf_doc.specs.Buffer.Parts.{Part, Text, Start, End}
 use Rattle.bpaf_doc.specs.Splitter.Chunks.{Chunk, Raw, Paragraph, LineBreak, columns, chunks_of}
 use Rattle.bpaf_doc.specs.Shown.{is_hidden, shown_chunks, through_paragraph}
 use Rattle.bpaf_doc.specs.Console.Margin.{margin, is_skipped, skips_pair, is_section4_start, tab_stop, Shift, Indent, Outdent, Level, part_shift, indent}
-use Rattle.bpaf_doc.specs.Console.Steps.Hiding.{hidden_after, is_inline}
+use Rattle.bpaf_doc.specs.Console.Steps.Hiding.{hidden_after}
 use Rattle.bpaf_doc.specs.Console.Steps.Page as page
 use Rattle.bpaf_doc.specs.Console.Steps.Page.{Sheet, blank_sheet}
 use Rattle.bpaf_doc.specs.Console.Steps.Text as whole
@@ -105,9 +105,6 @@ written_brief (Paragraph ∷ chunks) = refl
 
 -- ---- what is hidden
 
-zero_is : (n : ℕ) → (n == 0) ≡ true → n ≡ 0
-zero_is n h = grind (arith, nat_tests)
-
 is_zero : (n : ℕ) → n ≡ 0 → (n == 0) ≡ true
 is_zero n h = grind (arith, nat_tests)
 
@@ -117,10 +114,7 @@ none_hidden full hidden part h t = ap (λ (b : Bool). hidden_after b hidden part
   at : (part : Part) → hidden_after true 0 part ≡ 0
   at (Text bytes style) = refl
   at (Start b) = refl
-  at (End b) = zero_if (is_inline b) where
-    zero_if : (c : Bool) → (if c then 0 - 1 else 0) ≡ 0
-    zero_if true = refl
-    zero_if false = refl
+  at (End b) = grind arith
 
 -- ---- a stack is low: no entry is above 30 for each entry from it down
 
@@ -165,32 +159,12 @@ get_front (x ∷ before) rest part = get_front before rest part
 pub opened_keeps : (b : Block) (adjacent : Bool) (s : Sheet) → ((page.opened b adjacent s).width ≡ s.width) × ((page.opened b adjacent s).tab_stop ≡ s.tab_stop)
 unfolding page.opened
 opened_keeps blocks.Header adjacent s = (refl, refl)
-opened_keeps blocks.Section2 adjacent s = (refl, refl)
-opened_keeps blocks.Section3 adjacent s = (refl, refl)
-opened_keeps blocks.Section4 adjacent s = (refl, refl)
-opened_keeps blocks.ItemTerm adjacent s = (refl, refl)
-opened_keeps blocks.ItemBody adjacent s = (refl, refl)
-opened_keeps blocks.DefinitionList adjacent s = (refl, refl)
-opened_keeps blocks.Block adjacent s = (refl, refl)
-opened_keeps blocks.InlineBlock adjacent s = (refl, refl)
-opened_keeps blocks.TermRef adjacent s = (refl, refl)
-opened_keeps blocks.Meta adjacent s = (refl, refl)
-opened_keeps blocks.Mono adjacent s = (refl, refl)
+opened_keeps _ adjacent s = (refl, refl)
 
 pub closed_keeps : (b : Block) (s : Sheet) → ((page.closed b s).width ≡ s.width) × ((page.closed b s).tab_stop ≡ s.tab_stop) × ((page.closed b s).margins ≡ take (length s.margins - 1) s.margins)
 unfolding page.closed
 closed_keeps blocks.Header s = (refl, refl, refl)
-closed_keeps blocks.Section2 s = (refl, refl, refl)
-closed_keeps blocks.Section3 s = (refl, refl, refl)
-closed_keeps blocks.Section4 s = (refl, refl, refl)
-closed_keeps blocks.ItemTerm s = (refl, refl, refl)
-closed_keeps blocks.ItemBody s = (refl, refl, refl)
-closed_keeps blocks.DefinitionList s = (refl, refl, refl)
-closed_keeps blocks.Block s = (refl, refl, refl)
-closed_keeps blocks.InlineBlock s = (refl, refl, refl)
-closed_keeps blocks.TermRef s = (refl, refl, refl)
-closed_keeps blocks.Meta s = (refl, refl, refl)
-closed_keeps blocks.Mono s = (refl, refl, refl)
+closed_keeps _ s = (refl, refl, refl)
 
 module _ (full : Bool) (document : List Part) where
   -- some parts are done, and others follow
@@ -303,12 +277,8 @@ module _ (full : Bool) (document : List Part) where
     at blocks.Section4 a f = ap (λ (c : Bool). s.margins ++ min (page.innermost s + (if c then 4 else 2)) (2 ^ 128 - 1) ∷ []) a ∙ pushed (if skips_pair document index then 4 else 2) (f (if skips_pair document index then 4 else 2) refl)
     at blocks.ItemTerm a f = pushed 4 (f 4 refl)
     at blocks.ItemBody a f = ap (λ (k : ℕ). s.margins ++ min (page.innermost s + k) (2 ^ 128 - 1) ∷ []) body ∙ pushed (tab_stop document + 2) (f (tab_stop document + 2) refl)
-    at blocks.DefinitionList a f = m
     at blocks.Block a f = pushed 0 (f 0 refl)
-    at blocks.InlineBlock a f = m
-    at blocks.TermRef a f = m
-    at blocks.Meta a f = m
-    at blocks.Mono a f = m
+    at _ a f = m
 
   -- a start
   module _ (is_small : length document < 2 ^ 64) (index : ℕ) (before rest : List Part) (b : Block) (pairs : Pairs) (hidden : ℕ) (s : Sheet) (w : Walk index before (Start b ∷ rest) pairs hidden s) where
@@ -361,30 +331,10 @@ module _ (full : Bool) (document : List Part) where
         same_walk : (parts : List Part) (widest : ℕ) (in_term : Bool) (term : ℕ) → whole.tab_stop_from widest in_term term parts ≡ page.saturated (widest_from widest in_term term parts + 4)
         same_walk [] widest in_term term = refl
         same_walk (Text bytes style ∷ parts) widest in_term term = same_walk parts widest in_term (if in_term then page.saturated (term + columns bytes) else term)
-        same_walk (Start blocks.Header ∷ parts) widest in_term term = same_walk parts widest in_term term
-        same_walk (Start blocks.Section2 ∷ parts) widest in_term term = same_walk parts widest in_term term
-        same_walk (Start blocks.Section3 ∷ parts) widest in_term term = same_walk parts widest in_term term
-        same_walk (Start blocks.Section4 ∷ parts) widest in_term term = same_walk parts widest in_term term
         same_walk (Start blocks.ItemTerm ∷ parts) widest in_term term = same_walk parts widest true 0
-        same_walk (Start blocks.ItemBody ∷ parts) widest in_term term = same_walk parts widest in_term term
-        same_walk (Start blocks.DefinitionList ∷ parts) widest in_term term = same_walk parts widest in_term term
-        same_walk (Start blocks.Block ∷ parts) widest in_term term = same_walk parts widest in_term term
-        same_walk (Start blocks.InlineBlock ∷ parts) widest in_term term = same_walk parts widest in_term term
-        same_walk (Start blocks.TermRef ∷ parts) widest in_term term = same_walk parts widest in_term term
-        same_walk (Start blocks.Meta ∷ parts) widest in_term term = same_walk parts widest in_term term
-        same_walk (Start blocks.Mono ∷ parts) widest in_term term = same_walk parts widest in_term term
-        same_walk (End blocks.Header ∷ parts) widest in_term term = same_walk parts widest in_term term
-        same_walk (End blocks.Section2 ∷ parts) widest in_term term = same_walk parts widest in_term term
-        same_walk (End blocks.Section3 ∷ parts) widest in_term term = same_walk parts widest in_term term
-        same_walk (End blocks.Section4 ∷ parts) widest in_term term = same_walk parts widest in_term term
         same_walk (End blocks.ItemTerm ∷ parts) widest in_term term = same_walk parts (whole.wider_term widest term) false term
-        same_walk (End blocks.ItemBody ∷ parts) widest in_term term = same_walk parts widest in_term term
-        same_walk (End blocks.DefinitionList ∷ parts) widest in_term term = same_walk parts widest in_term term
-        same_walk (End blocks.Block ∷ parts) widest in_term term = same_walk parts widest in_term term
-        same_walk (End blocks.InlineBlock ∷ parts) widest in_term term = same_walk parts widest in_term term
-        same_walk (End blocks.TermRef ∷ parts) widest in_term term = same_walk parts widest in_term term
-        same_walk (End blocks.Meta ∷ parts) widest in_term term = same_walk parts widest in_term term
-        same_walk (End blocks.Mono ∷ parts) widest in_term term = same_walk parts widest in_term term
+        same_walk (Start _ ∷ parts) widest in_term term = same_walk parts widest in_term term
+        same_walk (End _ ∷ parts) widest in_term term = same_walk parts widest in_term term
 
   pub walk_begins : length document < 2 ^ 64 → (width : ℕ) → Walk 0 [] document whole.no_pairs 0 (blank_sheet width (whole.tab_stop_from 0 false 0 document))
   walk_begins is_small width = record {

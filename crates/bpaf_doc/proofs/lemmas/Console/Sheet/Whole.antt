@@ -1,19 +1,20 @@
 -- The exact console text is a layout of its document.
-use Rattle.std.specs.Prelude.{◌≡◌, ◌≢◌, ℕ, suc, ◌+◌, ◌-◌, ◌^◌, ◌<◌, ◌≤◌, ⊤, Bool, true, false, not, ◌&&◌, ◌==◌, List, [], ◌∷◌, ◌++◌, length, take, map, flat_map, All, codes, refl, if◌then◌else◌, ◌⊎◌, IsUtf8, IsTrue, slice_get, IfOk, Result, Ok, Err, String, string_bytes, unwrap_or, Some}
-use Rattle.std.specs.List.{list_all, enumerate_from}
+use Rattle.std.specs.Prelude.{◌≡◌, ◌≢◌, ℕ, suc, ◌+◌, ◌-◌, ◌^◌, ◌<◌, ◌≤◌, ⊤, Bool, true, false, ◌==◌, List, [], ◌∷◌, ◌++◌, length, take, map, flat_map, All, codes, refl, if◌then◌else◌, ◌⊎◌, IsUtf8, slice_get, IfOk, Result, Ok, Err, String, string_bytes, unwrap_or, Some}
+use Rattle.std.specs.List.{enumerate_from}
 use Rattle.std.specs.Str.{chars}
 use Rattle.std.proofs.Common.{sym, subst, ap, arith, inl, inr, ◌∙◌, append_assoc}
 use Rattle.std.proofs.lemmas.List.{append-nil}
 use Rattle.std.proofs.lemmas.List.Elements.{All-get_or}
 use Rattle.std.proofs.lemmas.Option.{get_or_from_slice_get, slice_get_within}
 use Rattle.std.proofs.lemmas.Grind.{flat_map-append}
+use Rattle.bpaf_doc.proofs.lemmas.Splitter.Pieces.{word_line}
 use Rattle.unicode_width.specs.Width.{str_width, step, past_emoji}
 use Rattle.bpaf_doc.specs.declared.console.pairs.Pairs.{Pairs}
 use Rattle.bpaf_doc.specs.declared.buffer.Block.{Block}
 use Rattle.bpaf_doc.specs.declared.buffer.Block.TheVariants as blocks
 use Rattle.bpaf_doc.specs.declared.buffer.Style.{Style}
 use Rattle.bpaf_doc.specs.Buffer.Parts.{Part, Text, Start, End, ink, part_bytes, HasUtf8Texts}
-use Rattle.bpaf_doc.specs.Splitter.Chunks.{Chunk, Raw, Paragraph, LineBreak, IsLine, IsWord, IsOrdinary, has_some, columns, chunks_of, code_weight, fence_weight, is_line_byte, is_word_byte, Spells, Plain, nothing, code_line, fence, before_code, paragraph, line_break, newline, blank, word, opening, later, closing, closing_paragraph, Form}
+use Rattle.bpaf_doc.specs.Splitter.Chunks.{Chunk, Raw, Paragraph, LineBreak, IsLine, IsWord, IsOrdinary, has_some, columns, chunks_of, code_weight, fence_weight, Spells, Plain, nothing, code_line, fence, before_code, paragraph, line_break, newline, blank, word, opening, later, closing, closing_paragraph, Form}
 use Rattle.bpaf_doc.specs.Splitter.Promises.{IsText}
 use Rattle.bpaf_doc.specs.Shown.{console_ink, shown_chunks}
 use Rattle.bpaf_doc.specs.Console.Margin.{margin, greatest_margin, is_skipped, Level, part_shift}
@@ -62,14 +63,6 @@ code_good line l = (l, λ small. absurd (omega arith), λ o. absurd (let no : fa
 
 fence_good : (line : List ℕ) → IsLine line → IsGood (Raw line fence_weight)
 fence_good line l = (l, λ small. absurd (omega arith), λ o. absurd (let no : false ≡ true = o in cc), λ o. absurd (let no : false ≡ true = o in cc))
-
-word_line : (bytes : List ℕ) → IsTrue (list_all is_word_byte bytes) → IsLine bytes
-word_line [] h = refl
-word_line (b ∷ bytes) h = both (b == 10) (b == 32) h (word_line bytes) where
-  both : (n k : Bool) → ((not n && not k) && list_all is_word_byte bytes) ≡ true → (IsTrue (list_all is_word_byte bytes) → IsLine bytes) → (not n && list_all is_line_byte bytes) ≡ true
-  both true k h ih = absurd cc
-  both false true h ih = absurd cc
-  both false false h ih = ih h
 
 some_of : (bytes : List ℕ) → bytes ≢ [] → has_some bytes ≡ true
 some_of [] h = absurd (h refl)
@@ -357,18 +350,8 @@ module _ (full : Bool) (document : List Part) (width : ℕ) (is_small : length d
         (ap (λ cs. map (λ chunk. Shows index chunk) cs) (hidden_is full document index before rest bytes style pairs hidden s w h)))
 
   inline_level : (index : ℕ) (b : Block) → is_inline_block b ≡ true → part_shift document index (Start b) ≡ Level
-  inline_level index blocks.Header h = absurd cc
-  inline_level index blocks.Section2 h = absurd cc
-  inline_level index blocks.Section3 h = absurd cc
-  inline_level index blocks.Section4 h = absurd cc
-  inline_level index blocks.ItemTerm h = absurd cc
-  inline_level index blocks.ItemBody h = absurd cc
-  inline_level index blocks.DefinitionList h = refl
-  inline_level index blocks.Block h = absurd cc
   inline_level index blocks.InlineBlock h = refl
-  inline_level index blocks.TermRef h = absurd cc
-  inline_level index blocks.Meta h = refl
-  inline_level index blocks.Mono h = refl
+  inline_level index _ h = grind arith
 
   start_step : (index : ℕ) (before rest : List Part) (b : Block) (pairs : Pairs) (hidden : ℕ) (s : Sheet)
       → whole.LeavesFew (whole.pairs_at document index b pairs) index (Start b) (whole.part_put full document index pairs hidden (Start b) s)
@@ -404,19 +387,15 @@ module _ (full : Bool) (document : List Part) (width : ℕ) (is_small : length d
         → Going (index + 1) (before ++ Start b ∷ []) rest (whole.pairs_at document index b pairs) (hidden_after full hidden (Start b)) (whole.part_put full document index pairs hidden (Start b) s)
     at (inl h) =
         let skipped : is_skipped document index ≡ true = sym skips_here ∙ h in
-        let same : whole.part_put full document index pairs hidden (Start b) s ≡ s = put_if (whole.skips (whole.pairs_at document index b pairs) index b) h s (page.opened b (whole.is_adjacent b (whole.pairs_at document index b pairs)) s) in
+        let same : whole.part_put full document index pairs hidden (Start b) s ≡ s = rw h refl in
         subst (λ (t : Sheet). Going (index + 1) (before ++ Start b ∷ []) rest (whole.pairs_at document index b pairs) (hidden_after full hidden (Start b)) t) (sym same)
-        (quiet_step index before rest (Start b) pairs hidden s g (whole.pairs_at document index b pairs) (walk_start_skipped full document is_small index before rest b pairs hidden s w skipped) (rw skipped refl)) where
-          put_if : (c : Bool) → c ≡ true → (x y : Sheet) → (if c then x else y) ≡ x
-          put_if c e x y = rw e refl
+        (quiet_step index before rest (Start b) pairs hidden s g (whole.pairs_at document index b pairs) (walk_start_skipped full document is_small index before rest b pairs hidden s w skipped) (rw skipped refl))
     at (inr h) =
         let skipped : is_skipped document index ≡ false = sym skips_here ∙ h in
         let same : whole.part_put full document index pairs hidden (Start b) s ≡ page.opened b (whole.is_adjacent b (whole.pairs_at document index b pairs)) s =
-        put_if (whole.skips (whole.pairs_at document index b pairs) index b) h s (page.opened b (whole.is_adjacent b (whole.pairs_at document index b pairs)) s) in
+        rw h refl in
         subst (λ (t : Sheet). Going (index + 1) (before ++ Start b ∷ []) rest (whole.pairs_at document index b pairs) (hidden_after full hidden (Start b)) t) (sym same)
-        (shown skipped (subst (λ (t : Sheet). page.HasFewMargins t) same (few h))) where
-          put_if : (c : Bool) → c ≡ false → (x y : Sheet) → (if c then x else y) ≡ y
-          put_if c e x y = rw e refl
+        (shown skipped (subst (λ (t : Sheet). page.HasFewMargins t) same (few h)))
 
   end_step : (index : ℕ) (before rest : List Part) (b : Block) (pairs : Pairs) (hidden : ℕ) (s : Sheet)
       → whole.LeavesFew pairs index (End b) (whole.part_put full document index pairs hidden (End b) s)
@@ -443,18 +422,14 @@ module _ (full : Bool) (document : List Part) (width : ℕ) (is_small : length d
         → Going (index + 1) (before ++ End b ∷ []) rest pairs (hidden_after full hidden (End b)) (whole.part_put full document index pairs hidden (End b) s)
     at (inl h) =
         let skipped : is_skipped document index ≡ true = sym skips_here ∙ h in
-        let same : whole.part_put full document index pairs hidden (End b) s ≡ s = put_if (whole.skips pairs index b) h s (page.closed b s) in
+        let same : whole.part_put full document index pairs hidden (End b) s ≡ s = rw h refl in
         subst (λ (t : Sheet). Going (index + 1) (before ++ End b ∷ []) rest pairs (hidden_after full hidden (End b)) t) (sym same)
-        (quiet_step index before rest (End b) pairs hidden s g pairs (walk_end_skipped full document is_small index before rest b pairs hidden s w skipped) (rw skipped refl)) where
-          put_if : (c : Bool) → c ≡ true → (x y : Sheet) → (if c then x else y) ≡ x
-          put_if c e x y = rw e refl
+        (quiet_step index before rest (End b) pairs hidden s g pairs (walk_end_skipped full document is_small index before rest b pairs hidden s w skipped) (rw skipped refl))
     at (inr h) =
         let skipped : is_skipped document index ≡ false = sym skips_here ∙ h in
-        let same : whole.part_put full document index pairs hidden (End b) s ≡ page.closed b s = put_if (whole.skips pairs index b) h s (page.closed b s) in
+        let same : whole.part_put full document index pairs hidden (End b) s ≡ page.closed b s = rw h refl in
         subst (λ (t : Sheet). Going (index + 1) (before ++ End b ∷ []) rest pairs (hidden_after full hidden (End b)) t) (sym same)
-        (shown skipped (subst (λ (t : Sheet). page.HasFewMargins t) same (few h))) where
-          put_if : (c : Bool) → c ≡ false → (x y : Sheet) → (if c then x else y) ≡ y
-          put_if c e x y = rw e refl
+        (shown skipped (subst (λ (t : Sheet). page.HasFewMargins t) same (few h)))
 
   -- all is done
   pub record Done (s : Sheet) : Type 0 where

@@ -1,20 +1,20 @@
 -- The walk over the parts gives the fragments of the document.
-use Rattle.std.proofs.Common.{◌≡◌, ℕ, zero, suc, ◌+◌, Bool, true, false, cond, leb, List, [], ◌∷◌, ◌++◌, length, take, map, refl, sym, ap, ◌∙◌, arith, append_assoc, inl, inr}
-use Rattle.std.specs.Prelude.{◌<◌, not, ◌&&◌, ◌||◌, ◌⊎◌, count_by, flat_map, if◌then◌else◌}
+use Rattle.std.proofs.Common.{◌≡◌, ℕ, zero, suc, ◌+◌, Bool, true, false, cond, List, [], ◌∷◌, ◌++◌, length, take, map, refl, sym, ap, ◌∙◌, arith, append_assoc, append-nil, subst, inl, inr}
+use Rattle.std.specs.Prelude.{◌<◌, ◌-◌, ◌==◌, not, ◌||◌, ◌⊎◌, flat_map, if◌then◌else◌}
 use Rattle.bpaf_doc.specs.declared.buffer.Style.{Style}
-use Rattle.std.specs.List.{list_all, enumerate_from, list_any, before_first, position_or_len}
+use Rattle.std.specs.List.{enumerate_from, list_any, before_first, position_or_len}
 use Rattle.std.proofs.lemmas.List.{take_at, length_push, length-append, length-map}
-use Rattle.std.proofs.lemmas.List.Folds.{list_all-map}
-use Rattle.std.proofs.lemmas.Bool.{cases_lt, lt-leb, le-leb, false≢true}
+use Rattle.std.proofs.lemmas.Bool.{false≢true}
 use Rattle.bpaf_doc.specs.declared.buffer.Block.{Block}
 use Rattle.bpaf_doc.specs.declared.buffer.Block.TheVariants as blocks
 use Rattle.bpaf_doc.specs.Buffer.Parts.{Part, Text, Start as PartStart, End as PartEnd}
 use Rattle.bpaf_doc.specs.Splitter.Chunks.{Chunk, Raw, IsLine, chunks_of, columns, is_paragraph}
 use Rattle.bpaf_doc.specs.Splitter.Steps.Runs.{IsRun}
 use Rattle.bpaf_doc.proofs.lemmas.Splitter.Runs.{AreWords, no_words, a_word, words_of_line, words_some}
-use Rattle.bpaf_doc.specs.Shown.{fronts, stays_open, is_inline_start, is_inline_end, is_hidden, through_paragraph}
-use Rattle.bpaf_doc.specs.Html.Fragments.{Fragment, Shown, TextStart, TextEnd, Hidden, part_fragments, shown_fragments}
-use Rattle.bpaf_doc.proofs.lemmas.Lists.Counting.{one_if, count_by-cons}
+use Rattle.bpaf_doc.specs.Shown.{is_hidden, through_paragraph}
+use Rattle.bpaf_doc.specs.Html.Fragments.{Fragment, Shown, TextStart, TextEnd, part_fragments, shown_fragments}
+use Rattle.bpaf_doc.specs.Console.Steps.Hiding as hiding
+use Rattle.bpaf_doc.proofs.lemmas.Console.Hiding.{not_zero, Counts, Counts-nil, Counts-more, is_hidden-Counts}
 use Rattle.bpaf_doc.specs.Html.Steps.Walk.{is_inline, depth_after, depth_after_text, visible, text_rest, part_walk, walk}
 
 -- what f gives at each part of a document from what stands before it and it
@@ -42,172 +42,29 @@ depth-push : (full : Bool) (depth : ℕ) (parts : List Part) (part : Part) → d
 depth-push full depth [] part = refl
 depth-push full depth (p ∷ ps) part = depth-push full (depth_after full p depth) ps part
 
--- with n inline blocks to end, the last of them stays open
-abbrev open_from : ℕ → List Part → Bool
-open_from n [] = true
-open_from n (Text bytes style ∷ parts) = open_from n parts
-open_from n (PartStart b ∷ parts) = open_from (if is_inline b then suc n else n) parts
-open_from zero (PartEnd b ∷ parts) = if is_inline b then false else open_from zero parts
-open_from (suc n) (PartEnd b ∷ parts) = open_from (if is_inline b then n else suc n) parts
+-- ---- the depth is the console's count of inline blocks that have to end
 
-abbrev is_positive : ℕ → Bool
-is_positive zero = false
-is_positive (suc n) = true
+same_inline : (b : Block) → hiding.is_inline b ≡ is_inline b
+same_inline blocks.InlineBlock = refl
+same_inline _ = refl
 
--- ---- that these are the inline blocks that `stays_open` counts
+same_depth : (part : Part) (depth : ℕ) → hiding.hidden_after false depth part ≡ depth_after false part depth
+same_depth (Text bytes style) zero = refl
+same_depth (Text bytes style) (suc n) = rw (not_zero n) refl
+same_depth (PartStart b) zero = refl
+same_depth (PartStart b) (suc n) = rw (not_zero n, same_inline b) (grind arith)
+same_depth (PartEnd b) zero = grind arith
+same_depth (PartEnd b) (suc n) = rw (same_inline b) (elim (is_inline b) as (λ (i : Bool). (if i then suc n - 1 else suc n) ≡ (if i then n else suc n)) [ true ↦ omega arith | false ↦ refl ])
 
-list_all-same : {X : Type 0} (p q : X → Bool) → ((x : X) → p x ≡ q x) → (xs : List X) → list_all p xs ≡ list_all q xs
-list_all-same p q same [] = refl
-list_all-same p q same (x ∷ xs) = ap (λ b. b && list_all p xs) (same x) ∙ ap (λ b. q x && b) (list_all-same p q same xs)
+depth_counts : (depth : ℕ) (done parts : List Part) → Counts depth done → Counts (depth_after_all false depth parts) (done ++ parts)
+depth_counts depth done [] counts = subst (Counts depth) (sym (append-nil done)) counts
+depth_counts depth done (part ∷ parts) counts =
+    subst (Counts (depth_after_all false depth (part ∷ parts))) (append_assoc done (part ∷ []) parts)
+    (depth_counts (depth_after false part depth) (done ++ part ∷ []) parts
+    (subst (λ (n : ℕ). Counts n (done ++ part ∷ [])) (same_depth part depth) (Counts-more depth done part counts)))
 
-abbrev ends : List Part → ℕ
-ends parts = count_by is_inline_end parts
-
-abbrev starts : List Part → ℕ
-starts parts = count_by is_inline_start parts
-
--- no front has more ends than starts and n
-abbrev holds_at : ℕ → List Part → Bool
-holds_at n front = leb (ends front) (starts front + n)
-
-starts_inline : (b : Block) → is_inline_start (PartStart b) ≡ is_inline b
-starts_inline blocks.InlineBlock = refl
-starts_inline _ = refl
-
-ends_inline : (b : Block) → is_inline_end (PartEnd b) ≡ is_inline b
-ends_inline blocks.InlineBlock = refl
-ends_inline _ = refl
-
-leb-both : (a b c d : ℕ) → a ≡ c → b ≡ d → leb a b ≡ leb c d
-leb-both a b c d e f = ap (λ x. leb x b) e ∙ ap (λ x. leb c x) f
-
-leb-suc : (a b : ℕ) → leb (1 + a) (1 + b) ≡ leb a b
-leb-suc a b = elim (cases_lt b a) [
-  | inl h ↦ lt-leb (1 + a) (1 + b) (omega arith) ∙ sym (lt-leb a b h)
-  | inr h ↦ le-leb (1 + a) (1 + b) (omega arith) ∙ sym (le-leb a b h)
-]
-
-empty_holds : (n : ℕ) → holds_at n [] ≡ true
-empty_holds n = le-leb 0 (0 + n) (omega arith)
-
--- the fronts of a list with one more in front
-fronts-cons : (n : ℕ) (part : Part) (parts : List Part) → list_all (holds_at n) (fronts (part ∷ parts)) ≡ list_all (λ front. holds_at n (part ∷ front)) (fronts parts)
-fronts-cons n part parts = ap (λ b. b && list_all (holds_at n) (map (λ front. part ∷ front) (fronts parts))) (empty_holds n) ∙ list_all-map (holds_at n) (λ front. part ∷ front) (fronts parts)
-
-fronts_first : (f : List Part → Bool) (parts : List Part) → f [] ≡ false → list_all f (fronts parts) ≡ false
-fronts_first f [] e = ap (λ b. b && true) e
-fronts_first f (part ∷ parts) e = ap (λ b. b && list_all f (map (λ front. part ∷ front) (fronts parts))) e
-
-open_is : (n : ℕ) (parts : List Part) → list_all (holds_at n) (fronts parts) ≡ open_from n parts
-open_is n [] = ap (λ b. b && true) (empty_holds n)
-open_is n (Text bytes style ∷ parts) =
-    fronts-cons n (Text bytes style) parts
-    ∙ list_all-same (λ front. holds_at n (Text bytes style ∷ front)) (holds_at n)
-    (λ front. leb-both _ _ _ _ (omega (arith, count_by-cons is_inline_end (Text bytes style) front)) (omega (arith, count_by-cons is_inline_start (Text bytes style) front))) (fronts parts)
-    ∙ open_is n parts
-open_is n (PartStart b ∷ parts) =
-    fronts-cons n (PartStart b) parts
-    ∙ (elim (is_inline b) as (λ i. is_inline b ≡ i → list_all (λ front. holds_at n (PartStart b ∷ front)) (fronts parts) ≡ open_from (if i then suc n else n) parts) [
-      | true ↦ λ e. list_all-same (λ front. holds_at n (PartStart b ∷ front)) (holds_at (suc n))
-          (λ front. leb-both _ _ _ _ (omega (arith, count_by-cons is_inline_end (PartStart b) front))
-          (omega (arith, count_by-cons is_inline_start (PartStart b) front, ap one_if (starts_inline b ∙ e)))) (fronts parts)
-          ∙ open_is (suc n) parts
-      | false ↦ λ e. list_all-same (λ front. holds_at n (PartStart b ∷ front)) (holds_at n)
-          (λ front. leb-both _ _ _ _ (omega (arith, count_by-cons is_inline_end (PartStart b) front))
-          (omega (arith, count_by-cons is_inline_start (PartStart b) front, ap one_if (starts_inline b ∙ e)))) (fronts parts)
-          ∙ open_is n parts
-    ]) refl
-open_is zero (PartEnd b ∷ parts) =
-    fronts-cons zero (PartEnd b) parts
-    ∙ (elim (is_inline b) as (λ i. is_inline b ≡ i → list_all (λ front. holds_at zero (PartEnd b ∷ front)) (fronts parts) ≡ (if i then false else open_from zero parts)) [
-      | true ↦ λ e. fronts_first (λ front. holds_at zero (PartEnd b ∷ front)) parts (ap (λ t. leb (0 + cond t 1 0) 0) (ends_inline b ∙ e))
-      | false ↦ λ e. list_all-same (λ front. holds_at zero (PartEnd b ∷ front)) (holds_at zero)
-          (λ front. leb-both _ _ _ _ (omega (arith, count_by-cons is_inline_end (PartEnd b) front, ap one_if (ends_inline b ∙ e)))
-          (omega (arith, count_by-cons is_inline_start (PartEnd b) front))) (fronts parts)
-          ∙ open_is zero parts
-    ]) refl
-open_is (suc n) (PartEnd b ∷ parts) =
-    fronts-cons (suc n) (PartEnd b) parts
-    ∙ (elim (is_inline b) as (λ i. is_inline b ≡ i → list_all (λ front. holds_at (suc n) (PartEnd b ∷ front)) (fronts parts) ≡ open_from (if i then n else suc n) parts) [
-      | true ↦ λ e. list_all-same (λ front. holds_at (suc n) (PartEnd b ∷ front)) (holds_at n)
-          (λ front. leb-both _ _ (1 + ends front) (1 + (starts front + n)) (omega (arith, count_by-cons is_inline_end (PartEnd b) front, ap one_if (ends_inline b ∙ e)))
-          (omega (arith, count_by-cons is_inline_start (PartEnd b) front)) ∙ leb-suc (ends front) (starts front + n)) (fronts parts)
-          ∙ open_is n parts
-      | false ↦ λ e. list_all-same (λ front. holds_at (suc n) (PartEnd b ∷ front)) (holds_at (suc n))
-          (λ front. leb-both _ _ _ _ (omega (arith, count_by-cons is_inline_end (PartEnd b) front, ap one_if (ends_inline b ∙ e)))
-          (omega (arith, count_by-cons is_inline_start (PartEnd b) front))) (fronts parts)
-          ∙ open_is (suc n) parts
-    ]) refl
-
-stays_open_is : (parts : List Part) → stays_open is_inline_start is_inline_end parts ≡ open_from 0 parts
-stays_open_is parts =
-    list_all-same (λ front. leb (ends front) (starts front)) (holds_at 0) (λ front. ap (λ x. leb (ends front) x) (omega arith)) (fronts parts) ∙ open_is 0 parts
-
-open_more : (n : ℕ) (parts : List Part) → open_from n parts ≡ true → open_from (suc n) parts ≡ true
-open_more n [] h = refl
-open_more n (Text bytes style ∷ parts) h = open_more n parts h
-open_more n (PartStart b ∷ parts) h =
-    (elim (is_inline b) as (λ i. open_from (if i then suc n else n) parts ≡ true → open_from (if i then suc (suc n) else suc n) parts ≡ true) [
-      | true ↦ λ o. open_more (suc n) parts o
-      | false ↦ λ o. open_more n parts o
-    ]) h
-open_more zero (PartEnd b ∷ parts) h =
-    (elim (is_inline b) as (λ i. (if i then false else open_from zero parts) ≡ true → open_from (if i then zero else suc zero) parts ≡ true) [
-      | true ↦ λ o. absurd (false≢true o)
-      | false ↦ λ o. open_more zero parts o
-    ]) h
-open_more (suc n) (PartEnd b ∷ parts) h =
-    (elim (is_inline b) as (λ i. open_from (if i then n else suc n) parts ≡ true → open_from (if i then suc n else suc (suc n)) parts ≡ true) [
-      | true ↦ λ o. open_more n parts o
-      | false ↦ λ o. open_more (suc n) parts o
-    ]) h
-
-open_least : (n : ℕ) (parts : List Part) → open_from 0 parts ≡ true → open_from n parts ≡ true
-open_least zero parts h = h
-open_least (suc n) parts h = open_more n parts (open_least n parts h)
-
-absorb : (a s h : Bool) → (s ≡ true → a ≡ true) → (a || h) ≡ (a || (s || h))
-absorb a false h i = refl
-absorb true true h i = refl
-absorb false true h i = absurd (false≢true (i refl))
-
--- ---- depth and hidden
-
-depth_hides : (parts : List Part) → (is_positive (depth_after_all false zero parts) ≡ is_hidden parts) × ((n : ℕ) → is_positive (depth_after_all false (suc n) parts) ≡ (open_from n parts || is_hidden parts))
-depth_hides [] = (refl, λ n. refl)
-depth_hides (Text bytes style ∷ parts) =
-    let more : (is_positive (depth_after_all false zero parts) ≡ is_hidden parts) × ((n : ℕ) → is_positive (depth_after_all false (suc n) parts) ≡ (open_from n parts || is_hidden parts)) = depth_hides parts in (
-      (elim (list_any is_paragraph (chunks_of bytes)) as (λ b. is_positive (depth_after_all false (if b then 1 else 0) parts) ≡ ((b && stays_open is_inline_start is_inline_end parts) || is_hidden parts)) [
-        | true ↦ more.1 zero ∙ ap (λ x. x || is_hidden parts) (sym (stays_open_is parts))
-        | false ↦ more.0
-      ]),
-      λ n. more.1 n ∙ (elim (list_any is_paragraph (chunks_of bytes)) as (λ b. (open_from n parts || is_hidden parts) ≡ (open_from n parts || ((b && stays_open is_inline_start is_inline_end parts) || is_hidden parts))) [
-        | true ↦ absorb (open_from n parts) (stays_open is_inline_start is_inline_end parts) (is_hidden parts) (λ e. open_least n parts (sym (stays_open_is parts) ∙ e))
-        | false ↦ refl
-      ]),
-    )
-depth_hides (PartStart b ∷ parts) =
-    let more : (is_positive (depth_after_all false zero parts) ≡ is_hidden parts) × ((n : ℕ) → is_positive (depth_after_all false (suc n) parts) ≡ (open_from n parts || is_hidden parts)) = depth_hides parts in (
-      more.0,
-      λ n. elim (is_inline b) as (λ i. is_positive (depth_after_all false (if i then suc (suc n) else suc n) parts) ≡ (open_from (if i then suc n else n) parts || is_hidden parts)) [
-        | true ↦ more.1 (suc n)
-        | false ↦ more.1 n
-      ],
-    )
-depth_hides (PartEnd b ∷ parts) =
-    let more : (is_positive (depth_after_all false zero parts) ≡ is_hidden parts) × ((n : ℕ) → is_positive (depth_after_all false (suc n) parts) ≡ (open_from n parts || is_hidden parts)) = depth_hides parts in (
-      more.0,
-      λ n. elim n as (λ m. is_positive (depth_after_all false (if is_inline b then m else suc m) parts) ≡ (open_from m (PartEnd b ∷ parts) || is_hidden parts)) [
-        | zero ↦ elim (is_inline b) as (λ i. is_positive (depth_after_all false (if i then zero else suc zero) parts) ≡ ((if i then false else open_from zero parts) || is_hidden parts)) [
-          | true ↦ more.0
-          | false ↦ more.1 zero
-        ]
-        | suc m ↦ elim (is_inline b) as (λ i. is_positive (depth_after_all false (if i then suc m else suc (suc m)) parts) ≡ (open_from (if i then m else suc m) parts || is_hidden parts)) [
-          | true ↦ more.1 m
-          | false ↦ more.1 (suc m)
-        ]
-      ],
-    )
+depth_hides : (parts : List Part) → is_hidden parts ≡ not (depth_after_all false 0 parts == 0)
+depth_hides parts = is_hidden-Counts (depth_after_all false 0 parts) parts (depth_counts 0 [] parts Counts-nil)
 
 full_depth : (parts : List Part) → depth_after_all true zero parts ≡ zero
 full_depth [] = refl
@@ -252,11 +109,10 @@ part_same full before (PartStart b) = refl
 part_same full before (PartEnd b) = refl
 part_same true before (Text bytes style) = ap (part_walk true (Text bytes style)) (full_depth before)
 part_same false before (Text bytes style) =
-    (elim (depth_after_all false 0 before) as (λ d. is_positive d ≡ is_hidden before → part_walk false (Text bytes style) d ≡ part_fragments false before (Text bytes style)) [
-      | zero ↦ λ e. ap (λ cs. TextStart style ∷ (map (Shown style) cs ++ TextEnd style ∷ [])) (sym (before_break (chunks_of bytes)))
-          ∙ ap (λ h. if h then Hidden ∷ [] else TextStart style ∷ (map (Shown style) (before_first is_paragraph (if h then [] else through_paragraph (chunks_of bytes))) ++ TextEnd style ∷ [])) e
-      | suc d ↦ λ e. ap (λ h. if h then Hidden ∷ [] else TextStart style ∷ (map (Shown style) (before_first is_paragraph (if h then [] else through_paragraph (chunks_of bytes))) ++ TextEnd style ∷ [])) e
-    ]) (depth_hides before).0
+    (elim (depth_after_all false 0 before) as (λ d. is_hidden before ≡ not (d == 0) → part_walk false (Text bytes style) d ≡ part_fragments false before (Text bytes style)) [
+      | zero ↦ λ e. rw e (ap (λ cs. TextStart style ∷ (map (Shown style) cs ++ TextEnd style ∷ [])) (sym (before_break (chunks_of bytes))))
+      | suc d ↦ λ e. rw (e, not_zero d) refl
+    ]) (depth_hides before)
 
 walk-along : (full : Bool) (before parts : List Part) → walk full (depth_after_all full 0 before) parts ≡ along (part_fragments full) before parts
 walk-along full before [] = refl
