@@ -33,13 +33,5 @@ pub mod WebTexts
 pub mod WebEntries
 pub mod WebLists
 pub mod WebSections
-pub mod Among
-pub mod Apart
-pub mod WebTree
-pub mod WebParts
-pub mod WebTargets
-pub mod WebIdForms
-pub mod WebOwnIds
-pub mod CommandNames
 pub mod UsageTrees
 pub mod UsageLevels

@@ -11,8 +11,8 @@ use Rattle.web_page.specs.Reader.{Draft}
 use Rattle.description.specs.Chunks.{Line, code, ordinary, by_turns, fenced, lines_of, marked, outside}
 use Rattle.description.specs.Texts.{four_blanks, is_fence, lines}
 use Rattle.description.specs.WebPages.Events.{Event, with_event, with_events}
-use Rattle.description.specs.WebPages.Steps.{lines_from, place_of, rest_events}
-use Rattle.description.specs.WebPages.Texts.{prose, closing, line_behind, lines_behind, prose_line, run_of, shown_line, shows_ink, text_events}
+use Rattle.description.specs.WebPages.Steps.{lines_from, place_of, rest_events, run_said}
+use Rattle.description.specs.WebPages.Texts.{prose, closing, line_behind, lines_behind, nothing, prose_line, run_of, shown_line, shows_ink, text_events}
 use Rattle.description.specs.declared.page.texts.Place.{Place}
 use Rattle.description.specs.declared.page.texts.Run.{Run}
 use Rattle.description.specs.declared.page.texts.Run.TheVariants as run
@@ -60,23 +60,23 @@ abbrev marked_at : Bool → List ℕ → Line
 marked_at in_fence l = if in_fence then fenced l else outside l
 
 abbrev from_here : (in_header : Bool) → Place → List ℕ → List (List ℕ) → Bool → List Event
-from_here in_header place l ls fence = lines_behind place.run (map (shown_line in_header) (if fence then lines_from (not place.in_fence) ls else marked_at place.in_fence l ∷ lines_from place.in_fence ls))
+from_here in_header place l ls fence = lines_behind (run_said place.run) (map (shown_line in_header) (if fence then lines_from (not place.in_fence) ls else marked_at place.in_fence l ∷ lines_from place.in_fence ls))
 
 pub fence_put : (in_header : Bool) (page : Draft) (place : Place) (l : List ℕ) (in_fence : Bool) → is_fence l ≡ true → in_fence ≡ not place.in_fence
     → place_of in_header page place l page (record { in_fence = in_fence; run = place.run })
 fence_put in_header page place l in_fence h e ls =
-    ap (λ b. with_events page (lines_behind place.run (map (shown_line in_header) (lines_from b ls)))) e
+    ap (λ b. with_events page (lines_behind (run_said place.run) (map (shown_line in_header) (lines_from b ls)))) e
     ∙ sym (ap (λ b. with_events page (from_here in_header place l ls b)) h)
 
 pub line_put : (in_header : Bool) (page page1 : Draft) (place : Place) (l : List ℕ) (m : Line) (r : Run) → is_fence l ≡ false → m ≡ marked_at place.in_fence l
-    → page1 ≡ with_events page (line_behind place.run (shown_line in_header m)) → r ≡ run_of (shown_line in_header m)
+    → page1 ≡ with_events page (line_behind (run_said place.run) (shown_line in_header m)) → run_said r ≡ run_of (shown_line in_header m)
     → place_of in_header page place l page1 (record { in_fence = place.in_fence; run = r })
 line_put in_header page page1 place l m r h is e f ls =
     let others : List Event = lines_behind (run_of (shown_line in_header m)) (map (shown_line in_header) (lines_from place.in_fence ls)) in
     ap (λ q. with_events page1 (lines_behind q (map (shown_line in_header) (lines_from place.in_fence ls)))) f
     ∙ ap (λ d. with_events d others) e
-    ∙ sym (fold-append with_event page (line_behind place.run (shown_line in_header m)) others)
-    ∙ ap (λ n. with_events page (lines_behind place.run (map (shown_line in_header) (n ∷ lines_from place.in_fence ls)))) is
+    ∙ sym (fold-append with_event page (line_behind (run_said place.run) (shown_line in_header m)) others)
+    ∙ ap (λ n. with_events page (lines_behind (run_said place.run) (map (shown_line in_header) (n ∷ lines_from place.in_fence ls)))) is
     ∙ sym (ap (λ b. with_events page (from_here in_header place l ls b)) h)
 
 -- ---- a text
@@ -84,10 +84,10 @@ line_put in_header page page1 place l m r h is e f ls =
 -- the last line, and the end of what is open
 pub text_put : (in_header : Bool) (page page1 page2 page3 : Draft) (place next : Place) (text rest : List ℕ) → lines rest ≡ rest ∷ []
     → with_events page1 (rest_events in_header place (lines rest)) ≡ with_events page (rest_events in_header (record { in_fence = false; run = run.Nothing }) (lines text))
-    → place_of in_header page1 place rest page2 next → page3 ≡ with_events page2 (closing next.run) → page3 ≡ with_events page (text_events in_header text)
+    → place_of in_header page1 place rest page2 next → page3 ≡ with_events page2 (closing (run_said next.run)) → page3 ≡ with_events page (text_events in_header text)
 text_put in_header page page1 page2 page3 place next text rest one so_far put e =
     e ∙ put [] ∙ sym (ap (λ ls. with_events page1 (rest_events in_header place ls)) one) ∙ so_far
-    ∙ ap (λ ls. with_events page (lines_behind run.Nothing (map (shown_line in_header) ls))) (lines_same text)
+    ∙ ap (λ ls. with_events page (lines_behind nothing (map (shown_line in_header) ls))) (lines_same text)
 
 -- ---- what a line begins with
 

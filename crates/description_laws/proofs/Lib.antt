@@ -7,3 +7,11 @@ pub mod ClearPages
 pub mod ClearTrees
 pub mod PagesReadOnce
 pub mod NestedLevels
+pub mod Among
+pub mod Apart
+pub mod WebTree
+pub mod WebParts
+pub mod WebTargets
+pub mod WebIdForms
+pub mod WebOwnIds
+pub mod CommandNames

@@ -1,10 +1,11 @@
-//! Laws of the texts of a description, and of its manual pages: nothing to call, but statements that the check proves. No
-//! page rests on them, so they stand above `description`, and who makes pages need not have them proved.
+//! Laws of a description and of its pages: nothing to call, but statements that the check proves. No page rests on them,
+//! so they stand above `description`, and who makes pages need not have them proved.
 #![tactic(auto)]
 
 ghost use Rattle.description.specs.Manuals.{SubjectManualsAreWellNested};
 ghost use Rattle.description.specs.Pages.{SubjectsAreWellNested};
 ghost use Rattle.description.specs.ReadOnce.{TitlesAreReadOnce};
+ghost use Rattle.description.specs.WebPages.Laws.{IdsAreDistinct, LinksHaveTargets};
 ghost use Rattle.description_laws.specs.Plain.{TextsArePlain};
 
 /// The documents of a usage line, of a help page and of a manual page are well nested, for the application and for each
@@ -26,4 +27,15 @@ pub fn texts_are_plain()
 /// So a macro that reads its arguments a second time reads the same words.
 pub fn titles_are_read_once()
     ensures { TitlesAreReadOnce }
+{}
+
+/// Each link on the HTML page of a description leads to the id of an element of that page.
+pub fn links_have_targets()
+    ensures { LinksHaveTargets }
+{}
+
+/// No two elements of the HTML page of a description that a TOML text gives have one id, where there are fewer than
+/// 2^64 of them.
+pub fn ids_are_distinct()
+    ensures { IdsAreDistinct }
 {}

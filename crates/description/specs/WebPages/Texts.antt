@@ -12,8 +12,6 @@ use Rattle.description.specs.Chunks as chunks
 use Rattle.description.specs.Chunks.{Line, lines_of, without_blanks}
 use Rattle.description.specs.Texts.{parted, pieces}
 use Rattle.description.specs.WebPages.Events.{Event, start, words, line_break, end, text_in}
-use Rattle.description.specs.declared.page.texts.Run.{Run}
-use Rattle.description.specs.declared.page.texts.Run.TheVariants as run
 
 -- ---- a line
 
@@ -60,41 +58,47 @@ shown_line true (chunks.code line) = if list_any is_ink line then literal_line l
 
 -- ---- a text
 
--- what a line is a part of
+-- what a line is a part of: nothing that stays open, a paragraph, a line of code in a paragraph, or a block of code
+pub data Run : Type 0 where
+  nothing : Run
+  paragraph : Run
+  literal : Run
+  block : Run
+
 abbrev pub run_of : Shown → Run
-run_of gap = run.Nothing
-run_of (prose breaks line) = run.Paragraph
-run_of (literal_line line) = run.Literal
-run_of (code_line line) = run.Code
+run_of gap = nothing
+run_of (prose breaks line) = paragraph
+run_of (literal_line line) = literal
+run_of (code_line line) = block
 
 -- the end of a paragraph, or of lines of code
 abbrev pub closing : Run → List Event
-closing run.Nothing = []
-closing run.Paragraph = end ∷ []
-closing run.Literal = end ∷ []
-closing run.Code = end ∷ end ∷ []
+closing nothing = []
+closing paragraph = end ∷ []
+closing literal = end ∷ []
+closing block = end ∷ end ∷ []
 
 -- what stands before a line of a paragraph, and before one of code: lines of one kind that follow one another are one paragraph, or one block of code, and a line of code in a paragraph
 -- is followed by a new line
 abbrev pub paragraph_seam : Run → (breaks : Bool) → List Event
-paragraph_seam run.Paragraph true = line_break ∷ []
-paragraph_seam run.Paragraph false = words (10 ∷ []) ∷ []
-paragraph_seam run.Literal breaks = line_break ∷ []
-paragraph_seam run.Nothing breaks = start (Of P) [] ∷ []
-paragraph_seam run.Code breaks = end ∷ end ∷ start (Of P) [] ∷ []
+paragraph_seam paragraph true = line_break ∷ []
+paragraph_seam paragraph false = words (10 ∷ []) ∷ []
+paragraph_seam literal breaks = line_break ∷ []
+paragraph_seam nothing breaks = start (Of P) [] ∷ []
+paragraph_seam block breaks = end ∷ end ∷ start (Of P) [] ∷ []
 
 abbrev pub code_seam : Run → List Event
-code_seam run.Code = words (10 ∷ []) ∷ []
-code_seam run.Nothing = start (Of Pre) [] ∷ start (Of Code) [] ∷ []
-code_seam run.Paragraph = end ∷ start (Of Pre) [] ∷ start (Of Code) [] ∷ []
-code_seam run.Literal = end ∷ start (Of Pre) [] ∷ start (Of Code) [] ∷ []
+code_seam block = words (10 ∷ []) ∷ []
+code_seam nothing = start (Of Pre) [] ∷ start (Of Code) [] ∷ []
+code_seam paragraph = end ∷ start (Of Pre) [] ∷ start (Of Code) [] ∷ []
+code_seam literal = end ∷ start (Of Pre) [] ∷ start (Of Code) [] ∷ []
 
 -- a line loses the blanks at its front behind a block of code
 abbrev pub line_after : Run → List ℕ → List ℕ
-line_after run.Code line = without_blanks line
-line_after run.Nothing line = line
-line_after run.Paragraph line = line
-line_after run.Literal line = line
+line_after block line = without_blanks line
+line_after nothing line = line
+line_after paragraph line = line
+line_after literal line = line
 
 abbrev pub line_behind : Run → Shown → List Event
 line_behind before gap = closing before
@@ -107,7 +111,7 @@ lines_behind before [] = closing before
 lines_behind before (line ∷ others) = line_behind before line ++ lines_behind (run_of line) others
 
 abbrev pub text_events : (in_header : Bool) → List ℕ → List Event
-text_events in_header text = lines_behind run.Nothing (map (shown_line in_header) (lines_of text))
+text_events in_header text = lines_behind nothing (map (shown_line in_header) (lines_of text))
 
 -- if there is one
 abbrev pub given_text : (in_header : Bool) → Option (List ℕ) → List Event

@@ -6,9 +6,9 @@ ghost use Rattle.web_page.specs.Models.{is_ink};
 ghost use Rattle.description.specs.Chunks.{code, counted, fenced, is_blank, marked, ordinary, outside};
 ghost use Rattle.description.specs.Texts.{plain_piece};
 ghost use Rattle.description.specs.WebPages.Events.{text_in, with_events};
-ghost use Rattle.description.specs.WebPages.Steps.{line_said, place_of, rest_events};
+ghost use Rattle.description.specs.WebPages.Steps.{line_said, place_of, rest_events, run_said};
 ghost use Rattle.description.specs.WebPages.Texts.{closing, code_seam, given_text, line_after, line_behind, line_events};
-ghost use Rattle.description.specs.WebPages.Texts.{paragraph_seam, piece_events, prose, prose_line, run_of};
+ghost use Rattle.description.specs.WebPages.Texts.{nothing, paragraph, paragraph_seam, piece_events, prose, prose_line, run_of};
 ghost use Rattle.description.specs.WebPages.Texts.{shown_line, shows_ink, text_events};
 
 use crate::chunks::without_blanks;
@@ -147,8 +147,8 @@ fn put_line<B: Allocator>(
     line: Line<'_>,
 ) -> Result<Run, PageError>
     ensures put { OnOk result (page.new
-        ≡ with_events page.old (line_behind before (shown_line in_header (line_said line.entry)))) }
-    ensures run { IfOk result (λ run. run ≡ run_of (shown_line in_header (line_said line.entry))) }
+        ≡ with_events page.old (line_behind (run_said before) (shown_line in_header (line_said line.entry)))) }
+    ensures run { IfOk result (λ run. run_said run ≡ run_of (shown_line in_header (line_said line.entry))) }
 {
     match line {
         Line::Ordinary(text) => put_ordinary(page, before, text),
@@ -158,8 +158,8 @@ fn put_line<B: Allocator>(
 
 fn put_ordinary<B: Allocator>(page: &mut Page<B>, before: Run, line: &str) -> Result<Run, PageError>
     ensures put { OnOk result (page.new
-        ≡ with_events page.old (line_behind before (shown_line false (ordinary line.now)))) }
-    ensures run { IfOk result (λ run. run ≡ run_of (shown_line false (ordinary line.now))) }
+        ≡ with_events page.old (line_behind (run_said before) (shown_line false (ordinary line.now)))) }
+    ensures run { IfOk result (λ run. run_said run ≡ run_of (shown_line false (ordinary line.now))) }
 {
     if shows_ink(line) {
         put_inked(page, before, line)
@@ -172,8 +172,8 @@ fn put_ordinary<B: Allocator>(page: &mut Page<B>, before: Run, line: &str) -> Re
 #[tactic(auto, using(crate::proofs::WebTexts::prose_some, crate::proofs::WebTexts::prose_none))]
 fn put_inked<B: Allocator>(page: &mut Page<B>, before: Run, line: &str) -> Result<Run, PageError>
     requires { shows_ink line.now ≡ true }
-    ensures put { OnOk result (page.new ≡ with_events page.old (line_behind before (prose_line line.now))) }
-    ensures run { IfOk result (λ run. run ≡ run_of (prose_line line.now)) }
+    ensures put { OnOk result (page.new ≡ with_events page.old (line_behind (run_said before) (prose_line line.now))) }
+    ensures run { IfOk result (λ run. run_said run ≡ run_of (prose_line line.now)) }
 {
     match line.strip_prefix(" ") {
         Some(rest) => put_prose(page, before, true, rest),
@@ -188,8 +188,8 @@ fn put_prose<B: Allocator>(
     line: &str,
 ) -> Result<Run, PageError>
     ensures put { OnOk result (page.new
-        ≡ with_events page.old (line_behind before (prose breaks line.now))) }
-    ensures run { IfOk result (λ run. run ≡ Run.Paragraph) }
+        ≡ with_events page.old (line_behind (run_said before) (prose breaks line.now))) }
+    ensures run { IfOk result (λ run. run_said run ≡ paragraph) }
 {
     begin_prose(page, before, breaks)?;
     put_pieces(page, line_after(before, line))?;
@@ -197,7 +197,7 @@ fn put_prose<B: Allocator>(
 }
 
 fn line_after(before: Run, line: &str) -> &str
-    ensures { result.now ≡ line_after before line.now }
+    ensures { result.now ≡ line_after (run_said before) line.now }
 {
     match before {
         Run::Code => without_blanks(line),
@@ -214,8 +214,8 @@ fn put_code<B: Allocator>(
     line: &str,
 ) -> Result<Run, PageError>
     ensures put { OnOk result (page.new
-        ≡ with_events page.old (line_behind before (shown_line in_header (code line.now)))) }
-    ensures run { IfOk result (λ run. run ≡ run_of (shown_line in_header (code line.now))) }
+        ≡ with_events page.old (line_behind (run_said before) (shown_line in_header (code line.now)))) }
+    ensures run { IfOk result (λ run. run_said run ≡ run_of (shown_line in_header (code line.now))) }
 {
     if in_header {
         return put_code_in_header(page, before, line);
@@ -231,8 +231,8 @@ fn put_code_in_header<B: Allocator>(
     line: &str,
 ) -> Result<Run, PageError>
     ensures put { OnOk result (page.new
-        ≡ with_events page.old (line_behind before (shown_line true (code line.now)))) }
-    ensures run { IfOk result (λ run. run ≡ run_of (shown_line true (code line.now))) }
+        ≡ with_events page.old (line_behind (run_said before) (shown_line true (code line.now)))) }
+    ensures run { IfOk result (λ run. run_said run ≡ run_of (shown_line true (code line.now))) }
 {
     if !has_ink(line) {
         close(page, before)?;
@@ -245,7 +245,7 @@ fn put_code_in_header<B: Allocator>(
 
 // What stands before a line of a paragraph.
 fn begin_prose<B: Allocator>(page: &mut Page<B>, before: Run, breaks: bool) -> Result<(), PageError>
-    ensures { OnOk result (page.new ≡ with_events page.old (paragraph_seam before breaks)) }
+    ensures { OnOk result (page.new ≡ with_events page.old (paragraph_seam (run_said before) breaks)) }
 {
     match before {
         Run::Nothing => page.start(Element::P),
@@ -260,7 +260,7 @@ fn begin_prose<B: Allocator>(page: &mut Page<B>, before: Run, breaks: bool) -> R
 }
 
 fn put_seam<B: Allocator>(page: &mut Page<B>, breaks: bool) -> Result<(), PageError>
-    ensures { OnOk result (page.new ≡ with_events page.old (paragraph_seam Run.Paragraph breaks)) }
+    ensures { OnOk result (page.new ≡ with_events page.old (paragraph_seam paragraph breaks)) }
 {
     if breaks {
         page.line_break()
@@ -271,7 +271,7 @@ fn put_seam<B: Allocator>(page: &mut Page<B>, breaks: bool) -> Result<(), PageEr
 
 // What stands before a line of code.
 fn begin_code<B: Allocator>(page: &mut Page<B>, before: Run) -> Result<(), PageError>
-    ensures { OnOk result (page.new ≡ with_events page.old (code_seam before)) }
+    ensures { OnOk result (page.new ≡ with_events page.old (code_seam (run_said before))) }
 {
     match before {
         Run::Nothing => start_code(page),
@@ -284,14 +284,14 @@ fn begin_code<B: Allocator>(page: &mut Page<B>, before: Run) -> Result<(), PageE
 }
 
 fn start_code<B: Allocator>(page: &mut Page<B>) -> Result<(), PageError>
-    ensures { OnOk result (page.new ≡ with_events page.old (code_seam Run.Nothing)) }
+    ensures { OnOk result (page.new ≡ with_events page.old (code_seam nothing)) }
 {
     page.start(Element::Pre)?;
     page.start(Element::Code)
 }
 
 fn close<B: Allocator>(page: &mut Page<B>, run: Run) -> Result<(), PageError>
-    ensures { OnOk result (page.new ≡ with_events page.old (closing run)) }
+    ensures { OnOk result (page.new ≡ with_events page.old (closing (run_said run))) }
 {
     match run {
         Run::Nothing => Ok(()),

@@ -16,12 +16,12 @@ use Rattle.description.specs.Described.Values.{as_short, each_table, flag_at, ha
 use Rattle.description.specs.WebPages.Laws.{IdsAreDistinct}
 use Rattle.description.specs.All.{all_from}
 use Rattle.description.specs.Subjects.{application}
-use Rattle.description.proofs.Among.{Within}
-use Rattle.description.proofs.Apart.{Distinct, distinct_flat, distinct_swap, distinct_test, test_distinct}
+use Rattle.description_laws.proofs.Among.{Within}
+use Rattle.description_laws.proofs.Apart.{Distinct, distinct_flat, distinct_swap, distinct_test, test_distinct}
 use Rattle.description.proofs.Gives.{Gives, Whatever, given, gives_if, gives_map, gives_required, gives_text, gives_then, gives_whatever}
-use Rattle.description.proofs.WebIdForms.{HasBytes}
-use Rattle.description.proofs.WebOwnIds.{CommandTells, CommandsTell, GroupTells, GroupsTell, TellsApart, commands_names, group_names, groups_names, ids_of, name_in, own_ids}
-use Rattle.description.proofs.WebTargets.{ids_on_page}
+use Rattle.description_laws.proofs.WebIdForms.{HasBytes}
+use Rattle.description_laws.proofs.WebOwnIds.{CommandTells, CommandsTell, GroupTells, GroupsTell, TellsApart, commands_names, group_names, groups_names, ids_of, name_in, own_ids}
+use Rattle.description_laws.proofs.WebTargets.{ids_on_page}
 
 -- ---- names have bytes
 

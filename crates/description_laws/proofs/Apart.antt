@@ -4,7 +4,7 @@ use Rattle.std.specs.List.{list_any}
 use Rattle.std.proofs.lemmas.Bool.{and_from, and_parts, cases_Bool, false≢true, not-true, or_cases, or_left, or_right, true≢false}
 use Rattle.std.proofs.lemmas.Slice.Eq.{bytes_eq-Decides}
 use Rattle.description.specs.Described.Taken.{are_distinct}
-use Rattle.description.proofs.Among.{Among, Within, among_either, among_left, among_right, within_flat}
+use Rattle.description_laws.proofs.Among.{Among, Within, among_either, among_left, among_right, within_flat}
 
 abbrev pub Distinct : {X : Type 0} → List X → Type 0
 Distinct [] = Unit {0}

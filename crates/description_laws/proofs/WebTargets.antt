@@ -20,10 +20,10 @@ use Rattle.description.specs.WebPages.Laws.{LinksHaveTargets, ids_in, is_target_
 use Rattle.description.specs.WebPages.Lists.{ListSaid, choice_entries, command_entries, command_entry, entries_of, group_lists, named_list, option_entries, option_entry, own_lists, placed_list, says_nothing, section_lists, value_entries, value_entry}
 use Rattle.description.specs.WebPages.Sections.{application_section, command_section, command_links, commands_links, group_links, groups_links, level_links, link_to, listed_links, shows_commands}
 use Rattle.description.specs.WebPages.Texts.{given_text}
-use Rattle.description.proofs.Among.{Among, Within, among_left, among_right, within_both}
+use Rattle.description_laws.proofs.Among.{Among, Within, among_left, among_right, within_both}
 use Rattle.description.proofs.Each.{Each, each_append}
-use Rattle.description.proofs.WebParts.{Carries, application_gives, entries_ids, entries_targets, entry_ids, entry_targets, given_text_gives, in_element, linked, nothing, one_text, one_words, section_entries, section_ids, section_targets, sections_give, target, two}
-use Rattle.description.proofs.WebTree.{page_ids, page_targets}
+use Rattle.description_laws.proofs.WebParts.{Carries, application_gives, entries_ids, entries_targets, entry_ids, entry_targets, given_text_gives, in_element, linked, nothing, one_text, one_words, section_entries, section_ids, section_targets, sections_give, target, two}
+use Rattle.description_laws.proofs.WebTree.{page_ids, page_targets}
 
 -- ---- lists
 

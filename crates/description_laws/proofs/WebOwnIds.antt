@@ -8,11 +8,11 @@ use Rattle.description.specs.Content.{DescriptionSaid}
 use Rattle.description.specs.Subjects.{SubjectSaid, application, below}
 use Rattle.description.specs.WebPages.Entries.{EntrySaid, an_option, a_value, a_command, has_word, id_behind, option_word, shown_value}
 use Rattle.description.specs.WebPages.Ids.{section_id}
-use Rattle.description.proofs.Among.{Among, Within, among_left, among_right, each_among, each_weaker}
-use Rattle.description.proofs.Apart.{Apart, Distinct, distinct_apart, distinct_append, distinct_left, distinct_right}
+use Rattle.description_laws.proofs.Among.{Among, Within, among_left, among_right, each_among, each_weaker}
+use Rattle.description_laws.proofs.Apart.{Apart, Distinct, distinct_apart, distinct_append, distinct_left, distinct_right}
 use Rattle.description.proofs.Each.{Each, each_append}
-use Rattle.description.proofs.WebIdForms.{HasBytes, IsPath, Tail, id_told, numbered_is, path_more, tail_told, word_tail}
-use Rattle.description.proofs.WebParts.{entries_ids, section_entries, section_ids}
+use Rattle.description_laws.proofs.WebIdForms.{HasBytes, IsPath, Tail, id_told, numbered_is, path_more, tail_told, word_tail}
+use Rattle.description_laws.proofs.WebParts.{entries_ids, section_entries, section_ids}
 
 -- ---- names of commands
 
