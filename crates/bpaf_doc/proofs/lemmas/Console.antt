@@ -10,3 +10,4 @@ pub mod Tabs
 pub mod Layout
 pub mod Sheet
 pub mod Runs
+pub mod Blanks

@@ -1,5 +1,6 @@
 //! A console text while it is written.
-ghost use Rattle.std.specs.Prelude.{◌≡◌, ◌≤◌, ◌++◌, Bool, not, IfOk, IsTrue, OnOk, length, string_bytes, replicate};
+ghost use Rattle.std.specs.Prelude.{◌≡◌, ◌≤◌, ◌++◌, [], ◌∷◌, Bool, not, IfOk, IsTrue, OnOk, length, string_bytes};
+ghost use Rattle.std.specs.Prelude.{replicate};
 ghost use Rattle.std.specs.Str.{trim_end};
 ghost use Rattle.bpaf_doc.specs.Buffer.Parts.{ink};
 ghost use Rattle.std.specs.Int.{is_in_range};
@@ -12,6 +13,7 @@ ghost use Rattle.bpaf_doc.specs.Console.Steps.Page.{sheet_of, blank_sheet, text_
 ghost use Rattle.bpaf_doc.specs.Console.Steps.Page.{wraps, is_too_wide, room_made, placed, asked_put, lacks_newline};
 ghost use Rattle.bpaf_doc.specs.Console.Steps.Page.{lacks_blank_line, wrapped, padded, blanks_put, newline_put, marked};
 ghost use Rattle.bpaf_doc.specs.Console.Steps.Page.{margin_pushed, margin_of, innermost, HasFewMargins, IsWithinLine};
+ghost use Rattle.bpaf_doc.specs.Console.Steps.Page.{DropsBlanks};
 ghost use Rattle.bpaf_doc.specs.Console.Steps.Page.{columns_of, asked_by_start, asked_by_end, indent_of};
 
 use super::tabs::MAX_TAB;
@@ -145,6 +147,9 @@ impl<B: Allocator> Page<B> {
         ensures left { length chunks.new ≤ length chunks.old }
     {
         if !self.is_within_line() {
+            if self.drops_blanks() {
+                self.pass_blanks(chunks);
+            }
             return Ok(());
         }
         if let Some((run, columns)) = chunks.take_fitting(self.width - self.column) {
@@ -163,6 +168,33 @@ impl<B: Allocator> Page<B> {
             && !self.at_body
             && !self.out.is_empty()
             && self.margin() <= self.column
+    }
+
+    // Whether of two blanks that come next nothing would be left: the first would stand on a new line, behind a margin
+    // with no room for more, and the second, which does not fit, would take it and the margin away again.
+    fn drops_blanks(&self) -> bool
+        ensures { IsTrue result → DropsBlanks (sheet_of self.now) }
+    {
+        self.column == 0
+            && self.asked == Asked::Nothing
+            && !self.at_body
+            && self.width > 0
+            && self.width < usize::MAX
+            && self.width - 1 <= self.margin()
+            && ends_bare(&self.out)
+    }
+
+    // Passes over blanks, two by two. So a margin is not written for each two of many.
+    #[inline(always)]
+    fn pass_blanks(&self, chunks: &mut Splitter<'_>)
+        requires { DropsBlanks (sheet_of self.now) }
+        ensures page { (full : Bool)
+            → text_put full chunks.new (sheet_of self.now) ≡ text_put full chunks.old (sheet_of self.now) }
+        ensures ink { (full : Bool) → shown_ink full chunks.new ≡ shown_ink full chunks.old }
+        ensures hides { (full : Bool) → hides full chunks.new ≡ hides full chunks.old }
+        ensures left { length chunks.new ≤ length chunks.old }
+    {
+        'blanks: while chunks.take_blanks() {}
     }
 
     // Writes a Raw chunk. A blank that does not fit its line is left out.
@@ -331,6 +363,15 @@ impl<B: Allocator> Page<B> {
         let few = self.margins.as_slice().len() < 1 << 59;
         prove!(few);
     }
+}
+
+// Whether a newline alone stands behind the last character that is no White_Space.
+fn ends_bare<B: Allocator>(out: &String<B>) -> bool
+    ensures { IsTrue result → string_bytes out.now ≡ trim_end (string_bytes out.now) ++ 10 ∷ [] }
+{
+    let text = out.as_str();
+    let (_, end) = text.as_bytes().split_at(text.trim_end().len());
+    matches!(end, [b'\n'])
 }
 
 // Takes the White_Space at the end of the text away.

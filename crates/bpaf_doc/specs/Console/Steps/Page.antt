@@ -74,6 +74,16 @@ pub record IsWithinLine (s : Sheet) : Type 0 where
   pub past_margin : margin_of s ≤ s.column
   pub room : s.column < s.width
 
+-- a line was begun behind the last ink, and behind its margin no more than one blank fits
+pub record DropsBlanks (s : Sheet) : Type 0 where
+  pub nothing_asked : s.asks ≡ asked.Nothing
+  pub no_body : s.at_body ≡ false
+  pub line_start : s.column ≡ 0
+  pub some_room : 0 < s.width
+  pub no_more : s.width ≤ margin_of s + 1
+  pub small : s.width < 18446744073709551615
+  pub bare : s.out ≡ trim_end s.out ++ 10 ∷ []
+
 -- where a break, or an empty line, is asked for and does not stand at the end
 abbrev pub lacks_newline : Sheet → Bool
 lacks_newline s = asks_break s.asks && not (ends_with nat_eq s.out (10 ∷ []))
