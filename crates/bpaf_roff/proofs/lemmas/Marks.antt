@@ -16,9 +16,9 @@ marked_special : (q : Apostrophes) (before : List ℕ) (prev s : ℕ) → (is_li
     → byte_text q before Special s ≡ (if mark prev s == 1 then 92 ∷ s ∷ [] else s ∷ [])
 marked_special q before prev s h k = by (s == 39) (s == 46) (s == 92 || s == 45) (is_line_start before) (prev == 10) h k
   where
-    by : (a d e l n : Bool) → (l ≡ true → n ≡ true) → (if a || (d && n) then 2 else if e then 1 else 0) < 2
+    by : (a d e l n : Bool) → (l ≡ true → n ≡ true) → (if a || (d && n) then 2 else 0) + (if e then 1 else 0) < 2
         → (if (d || a) && l then codes "\\&" else []) ++ (if e then 92 ∷ s ∷ [] else if a then apostrophe_text q else s ∷ [])
-        ≡ (if (if a || (d && n) then 2 else if e then 1 else 0) == 1 then 92 ∷ s ∷ [] else s ∷ [])
+        ≡ (if ((if a || (d && n) then 2 else 0) + (if e then 1 else 0)) == 1 then 92 ∷ s ∷ [] else s ∷ [])
     by true d e l n h k = absurd (omega (arith, k))
     by false true e l true h k = absurd (omega (arith, k))
     by false true e true false h k = let no = h refl in absurd cc

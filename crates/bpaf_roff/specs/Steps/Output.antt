@@ -1,5 +1,5 @@
 -- What functions that may stop halfway keep.
-use Rattle.std.specs.Prelude.{◌≡◌, ◌⊎◌, ℕ, ◌-◌, ◌<◌, Bool, true, false, not, ◌&&◌, ◌||◌, ◌==◌, List, [], ◌∷◌, length, map, take, slice_index, if◌then◌else◌}
+use Rattle.std.specs.Prelude.{◌≡◌, ◌⊎◌, ℕ, ◌+◌, ◌-◌, ◌<◌, Bool, true, false, not, ◌&&◌, ◌||◌, ◌==◌, List, [], ◌∷◌, length, map, take, slice_index, if◌then◌else◌}
 use Rattle.bpaf_roff.specs.Escaping.{Byte, apostrophe, backslash, dash, dot, newline, text_after}
 use Rattle.bpaf_roff.specs.Roff.{Script}
 use Rattle.bpaf_roff.specs.declared.escape.Apostrophes.{Apostrophes}
@@ -34,7 +34,7 @@ StayUnder label bytes = (q : Apostrophes) (before : List ℕ) → text_after q b
 -- How a byte of a plain text is written behind another one: 0 as it is, 1 behind a backslash, 2 in a way of its own. That is so of an
 -- apostrophe, and of a dot at a line start.
 abbrev pub mark : ℕ → ℕ → ℕ
-mark before b = if b == apostrophe || (b == dot && before == newline) then 2 else if b == backslash || b == dash then 1 else 0
+mark before b = (if b == apostrophe || (b == dot && before == newline) then 2 else 0) + (if b == backslash || b == dash then 1 else 0)
 
 -- the mark of a byte of these, or 2
 abbrev pub IsMark : List ℕ → ℕ → ℕ → Type 0

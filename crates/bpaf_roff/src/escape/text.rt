@@ -10,8 +10,8 @@ ghost use Rattle.bpaf_roff.specs.Steps.Output.{IsText, AreMarks, IsMark, is_plai
 
 use crate::escape::{Apostrophes, Escape};
 
-/// How many bytes are looked at together.
-pub const BLOCK: usize = 64;
+/// How many bytes are looked at together: one, and 64 that are marked by what stands before them.
+pub const BLOCK: usize = 65;
 
 /// What a block becomes at most: `\&\*(Aq` for each byte.
 pub const ROOM: usize = 7 * BLOCK;
@@ -69,13 +69,9 @@ const ODD: u8 = 2;
 fn mark(before: u8, byte: u8) -> u8
     ensures { result ≡ mark before byte }
 {
-    if byte == b'\'' || (byte == b'.' && before == b'\n') {
-        ODD
-    } else if byte == b'\\' || byte == b'-' {
-        1
-    } else {
-        0
-    }
+    let is_odd = byte == b'\'' || (byte == b'.' && before == b'\n');
+    let is_escaped = byte == b'\\' || byte == b'-';
+    ODD * u8::from(is_odd) + u8::from(is_escaped)
 }
 
 // Marks all of these but the first, many at once.
