@@ -41,6 +41,9 @@ impl Chunk<'_> {
 // How many bytes a run has at most. So short a word has not the columns that are the weight of a code line.
 const LONGEST_RUN: usize = 300_000;
 
+// How many bytes of a line are looked at together at most.
+const MOST_COUNTED: usize = 255;
+
 /// How what is left of a text is read.
 #[derive(Clone, Copy, Debug, PartialEq, Eq)]
 enum Form {
@@ -267,14 +270,16 @@ fn begins_with_letters(bytes: &[u8]) -> bool {
     bytes.len() > 1 && is_lettered(bytes[0]) && is_lettered(bytes[1])
 }
 
-// The same for a text of these bytes. The words that fit where each byte takes a column are looked at all at once.
+// The same for a text of these bytes. The words that fit where each byte takes a column are looked at all at once. Out
+// of line, so that the caller's loop keeps its values in registers.
+#[inline(never)]
 fn fitting_words_end(bytes: &[u8], columns: usize) -> (usize, usize)
     ensures run { 0 < result.0 → IsRunEnd bytes.now result.0 }
     ensures lettered { IsLettered (take result.0 bytes.now) }
     ensures taken { result.1 ≡ letters (take result.0 bytes.now) }
     ensures fits { result.1 ≤ columns }
 {
-    let end = first_line_end(bytes, columns.saturating_add(1));
+    let end = first_line_end(bytes, columns.saturating_add(1).min(MOST_COUNTED));
     let (words, _) = bytes.split_at(end);
     if are_lettered(words) {
         let taken = count_letters(words);
@@ -296,15 +301,16 @@ fn are_lettered(bytes: &[u8]) -> bool
     lettered
 }
 
-// How many characters these are.
+// How many characters these are. Counted in a byte, so that many are counted at once.
 fn count_letters(bytes: &[u8]) -> usize
+    requires { length bytes.now ≤ MOST_COUNTED }
     ensures { result ≡ letters bytes.now }
 {
-    let mut count = 0;
+    let mut count: u8 = 0;
     for byte in bytes {
         count += begun(*byte);
     }
-    count
+    usize::from(count)
 }
 
 // The end of such a run and its columns, byte by byte. Out of line: few texts have other characters.
@@ -322,7 +328,7 @@ fn lettered_run_end(bytes: &[u8], columns: usize) -> (usize, usize)
         if bytes[at] == b' ' {
             end = (at, taken);
         }
-        taken += begun(bytes[at]);
+        taken += usize::from(begun(bytes[at]));
         at += 1;
     }
     if taken <= columns && is_line_end(&bytes[at..]) {
@@ -342,7 +348,7 @@ fn is_lettered(byte: u8) -> bool
 
 // How many characters begin with this byte: one, or none where it is a later one of its character.
 #[inline(always)]
-fn begun(byte: u8) -> usize
+fn begun(byte: u8) -> u8
     ensures { result ≡ letters (byte ∷ []) }
 {
     if (0x80..=0xBF).contains(&byte) { 0 } else { 1 }

@@ -11,3 +11,5 @@ pub mod Layout
 pub mod Sheet
 pub mod Runs
 pub mod Blanks
+pub mod Code
+pub mod Ends

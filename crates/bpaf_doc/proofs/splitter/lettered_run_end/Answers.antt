@@ -50,8 +50,8 @@ lettered-preserved c =
     record {
       within = omega (arith, inside);
       lettered = lettered_more bytes c.lettered.at inside inv.lettered letter;
-      counted = ap₂ (λ n m. n + m) inv.counted c.begun-taken.ensures ∙ sym (letters_more bytes c.lettered.at inside);
-      few = omega (arith, inv.few, one, c.begun-taken.ensures);
+      counted = ap₂ (λ n m. n + m) inv.counted (c.from-taken.ensures ∙ c.begun.ensures) ∙ sym (letters_more bytes c.lettered.at inside);
+      few = omega (arith, inv.few, one, c.begun.ensures, c.from-taken.ensures);
       before = omega (arith, mark.before);
       fits = mark.fits;
       end_counted = mark.counted;
