@@ -1,7 +1,7 @@
 //! A text into chunks: words, blanks, line breaks, paragraph breaks and code lines.
 
 ghost use Rattle.std.specs.Prelude.{◌≡◌, ◌≢◌, ◌<◌, ◌≤◌, [], ◌∷◌, ◌++◌, length, take, IfNone, IfSome, IsTrue, IsUtf8};
-ghost use Rattle.std.specs.Prelude.{List, MatchOption, ℕ};
+ghost use Rattle.std.specs.Prelude.{List, MatchBool, MatchOption, codes, ℕ};
 ghost use Rattle.std.specs.Char.{is_ascii_graphic};
 ghost use Rattle.std.specs.Int.{is_in_range};
 ghost use Rattle.std.specs.Iterator.{YieldsFirstBy, item_count};
@@ -11,7 +11,7 @@ ghost use Rattle.bpaf_doc.specs.Splitter.Chunks.{IsPastNewline, IsWordEnd, chunk
 ghost use Rattle.bpaf_doc.specs.Splitter.Chunks.{code_weight, columns, is_word_byte};
 ghost use Rattle.bpaf_doc.specs.Splitter.Promises.{IsOneLine, StandInOrder};
 ghost use Rattle.bpaf_doc.specs.Buffer.Parts.{ink};
-ghost use Rattle.bpaf_doc.specs.Splitter.Steps.Runs.{IsRun, IsRunEnd, IsPrintable, IsLettered, is_lettered, letters};
+ghost use Rattle.bpaf_doc.specs.Splitter.Steps.Runs.{IsRun, IsRunEnd, IsLettered, is_lettered, letters};
 ghost use Rattle.bpaf_doc.specs.Splitter.View.{chunk_of};
 
 use memchr::{memchr, memrchr};
@@ -40,6 +40,9 @@ impl Chunk<'_> {
 
 // How many bytes a run has at most. So short a word has not the columns that are the weight of a code line.
 const LONGEST_RUN: usize = 300_000;
+
+// How many bytes of a line are looked at together at most.
+const MOST_COUNTED: usize = 255;
 
 /// How what is left of a text is read.
 #[derive(Clone, Copy, Debug, PartialEq, Eq)]
@@ -149,6 +152,23 @@ impl<'a> Splitter<'a> {
         }
     }
 
+    /// Takes two blanks off. Answers whether they came next.
+    #[inline(always)]
+    pub(crate) fn take_blanks(&mut self) -> bool
+        ensures { MatchBool result (self.old ≡ Raw (codes " ") 1 ∷ Raw (codes " ") 1 ∷ self.new) (self.new ≡ self.old) }
+    {
+        match self.form {
+            Form::Plain => match self.rest.strip_prefix("  ") {
+                Some(rest) => {
+                    *self = split(rest);
+                    true
+                }
+                None => false,
+            },
+            Form::Opening | Form::Later => false,
+        }
+    }
+
     /// Takes as many words of a line off as have no other characters than printable ASCII and Latin letters and fit
     /// these columns, with the columns that they take. None where none fits.
     #[inline(always)]
@@ -207,20 +227,21 @@ fn line_run_end(text: &str) -> usize
 {
     match text.as_bytes() {
         [] | [b'\n', ..] => 0,
-        bytes => first_line_end(bytes),
+        bytes => first_line_end(bytes, LONGEST_RUN),
     }
 }
 
-// The same for a text of these bytes.
-fn first_line_end(bytes: &[u8]) -> usize
+// The same for a text of these bytes, and a run of so many at most.
+fn first_line_end(bytes: &[u8], longest: usize) -> usize
     ensures run { 0 < result → IsRunEnd bytes.now result }
-    ensures short { result ≤ 300_000 }
+    ensures within { result ≤ length bytes.now }
+    ensures short { result ≤ longest }
 {
-    let (window, _) = bytes.split_at(bytes.len().min(LONGEST_RUN));
+    let (window, _) = bytes.split_at(bytes.len().min(longest));
     if let Some(end) = memchr(b'\n', window) {
         return end;
     }
-    if bytes.len() <= LONGEST_RUN {
+    if bytes.len() <= longest {
         return bytes.len();
     }
     memrchr(b' ', window).unwrap_or(0)
@@ -236,68 +257,78 @@ fn fitting_run_end(text: &str, columns: usize) -> (usize, usize)
     ensures fits { result.1 ≤ columns }
 {
     let bytes = text.as_bytes();
-    let (last, at) = printable_end(bytes, columns);
-    if columns < at {
-        return (last, last);
-    }
-    let rest = &bytes[at..];
-    if is_line_end(rest) {
-        (at, at)
-    } else if begins_with_letter(rest) {
-        lettered_run_end(bytes, columns, last, at)
+    if begins_with_letters(bytes) {
+        fitting_words_end(bytes, columns)
     } else {
-        (last, last)
+        (0, 0)
     }
 }
 
-// Where printable ASCII ends, or one more of it stands than these columns hold, and the last blank before that place,
-// or 0.
+// Whether the first two bytes are such, so that it is worth while to look at all that may fit.
 #[inline(always)]
-fn printable_end(bytes: &[u8], columns: usize) -> (usize, usize)
-    ensures run { 0 < result.0 → IsRunEnd bytes.now result.0 }
-    ensures fits { result.0 ≤ columns }
-    ensures within { result.1 ≤ length bytes.now }
-    ensures before { result.0 ≤ result.1 }
-    ensures printable { IsPrintable (take result.1 bytes.now) }
-{
-    let mut last = 0;
-    let mut at = 0;
-    'printable: while at < bytes.len() && at <= columns && (0x20..=0x7E).contains(&bytes[at]) {
-        if bytes[at] == b' ' {
-            last = at;
-        }
-        at += 1;
-    }
-    (last, at)
+fn begins_with_letters(bytes: &[u8]) -> bool {
+    bytes.len() > 1 && is_lettered(bytes[0]) && is_lettered(bytes[1])
 }
 
-// Whether a Latin letter of two bytes comes next.
-fn begins_with_letter(rest: &[u8]) -> bool {
-    matches!(rest, [0xC3..=0xC8, ..])
-}
-
-// The end of such a run and its columns, where the text is printable up to one place, and `last` is the last blank
-// before that. Out of line: most texts have no such letters.
+// The same for a text of these bytes. The words that fit where each byte takes a column are looked at all at once. Out
+// of line, so that the caller's loop keeps its values in registers.
 #[inline(never)]
-fn lettered_run_end(bytes: &[u8], columns: usize, last: usize, printable: usize) -> (usize, usize)
-    requires run { 0 < last → IsRunEnd bytes.now last }
-    requires fits { printable ≤ columns }
-    requires within { printable ≤ length bytes.now }
-    requires before { last ≤ printable }
-    requires printable { IsPrintable (take printable bytes.now) }
+fn fitting_words_end(bytes: &[u8], columns: usize) -> (usize, usize)
     ensures run { 0 < result.0 → IsRunEnd bytes.now result.0 }
     ensures lettered { IsLettered (take result.0 bytes.now) }
     ensures taken { result.1 ≡ letters (take result.0 bytes.now) }
     ensures fits { result.1 ≤ columns }
 {
-    let mut end = (last, last);
-    let mut at = printable;
-    let mut taken = printable;
+    let end = first_line_end(bytes, columns.saturating_add(1).min(MOST_COUNTED));
+    let (words, _) = bytes.split_at(end);
+    if are_lettered(words) {
+        let taken = count_letters(words);
+        if taken <= columns {
+            return (end, taken);
+        }
+    }
+    lettered_run_end(bytes, columns)
+}
+
+// Whether all of these are. It looks at each, whatever came before, so that it looks at many at once.
+fn are_lettered(bytes: &[u8]) -> bool
+    ensures { result ≡ list_all is_lettered bytes.now }
+{
+    let mut lettered = true;
+    for byte in bytes {
+        lettered &= is_lettered(*byte);
+    }
+    lettered
+}
+
+// How many characters these are. Counted in a byte, so that many are counted at once.
+fn count_letters(bytes: &[u8]) -> usize
+    requires { length bytes.now ≤ MOST_COUNTED }
+    ensures { result ≡ letters bytes.now }
+{
+    let mut count: u8 = 0;
+    for byte in bytes {
+        count += begun(*byte);
+    }
+    usize::from(count)
+}
+
+// The end of such a run and its columns, byte by byte. Out of line: few texts have other characters.
+#[inline(never)]
+fn lettered_run_end(bytes: &[u8], columns: usize) -> (usize, usize)
+    ensures run { 0 < result.0 → IsRunEnd bytes.now result.0 }
+    ensures lettered { IsLettered (take result.0 bytes.now) }
+    ensures taken { result.1 ≡ letters (take result.0 bytes.now) }
+    ensures fits { result.1 ≤ columns }
+{
+    let mut end = (0, 0);
+    let mut at = 0;
+    let mut taken = 0;
     'lettered: while at < bytes.len() && taken <= columns && is_lettered(bytes[at]) {
         if bytes[at] == b' ' {
             end = (at, taken);
         }
-        taken += begun(bytes[at]);
+        taken += usize::from(begun(bytes[at]));
         at += 1;
     }
     if taken <= columns && is_line_end(&bytes[at..]) {
@@ -317,7 +348,7 @@ fn is_lettered(byte: u8) -> bool
 
 // How many characters begin with this byte: one, or none where it is a later one of its character.
 #[inline(always)]
-fn begun(byte: u8) -> usize
+fn begun(byte: u8) -> u8
     ensures { result ≡ letters (byte ∷ []) }
 {
     if (0x80..=0xBF).contains(&byte) { 0 } else { 1 }

@@ -6,6 +6,7 @@ pub mod Sums
 pub mod Fronts
 pub mod EscapedText
 pub mod LineStarts
+pub mod Marks
 pub mod Written
 pub mod Staying
 pub mod Texts

@@ -10,3 +10,6 @@ pub mod Tabs
 pub mod Layout
 pub mod Sheet
 pub mod Runs
+pub mod Blanks
+pub mod Code
+pub mod Ends

@@ -1,5 +1,6 @@
 //! A console text while it is written.
-ghost use Rattle.std.specs.Prelude.{◌≡◌, ◌≤◌, ◌++◌, Bool, not, IfOk, IsTrue, OnOk, length, string_bytes, replicate};
+ghost use Rattle.std.specs.Prelude.{◌≡◌, ◌≤◌, ◌++◌, [], ◌∷◌, Bool, not, IfOk, IsTrue, OnOk, length, string_bytes};
+ghost use Rattle.std.specs.Prelude.{replicate};
 ghost use Rattle.std.specs.Str.{trim_end};
 ghost use Rattle.bpaf_doc.specs.Buffer.Parts.{ink};
 ghost use Rattle.std.specs.Int.{is_in_range};
@@ -12,6 +13,7 @@ ghost use Rattle.bpaf_doc.specs.Console.Steps.Page.{sheet_of, blank_sheet, text_
 ghost use Rattle.bpaf_doc.specs.Console.Steps.Page.{wraps, is_too_wide, room_made, placed, asked_put, lacks_newline};
 ghost use Rattle.bpaf_doc.specs.Console.Steps.Page.{lacks_blank_line, wrapped, padded, blanks_put, newline_put, marked};
 ghost use Rattle.bpaf_doc.specs.Console.Steps.Page.{margin_pushed, margin_of, innermost, HasFewMargins, IsWithinLine};
+ghost use Rattle.bpaf_doc.specs.Console.Steps.Page.{DropsBlanks, IsPastLine, code_put};
 ghost use Rattle.bpaf_doc.specs.Console.Steps.Page.{columns_of, asked_by_start, asked_by_end, indent_of};
 
 use super::tabs::MAX_TAB;
@@ -145,7 +147,10 @@ impl<B: Allocator> Page<B> {
         ensures left { length chunks.new ≤ length chunks.old }
     {
         if !self.is_within_line() {
-            return Ok(());
+            if self.drops_blanks() {
+                self.pass_blanks(chunks);
+            }
+            return self.put_code(chunks);
         }
         if let Some((run, columns)) = chunks.take_fitting(self.width - self.column) {
             self.out.push_str(run)?;
@@ -163,6 +168,82 @@ impl<B: Allocator> Page<B> {
             && !self.at_body
             && !self.out.is_empty()
             && self.margin() <= self.column
+    }
+
+    // Whether of two blanks that come next nothing would be left: the first would stand on a new line, behind a margin
+    // with no room for more, and the second, which does not fit, would take it and the margin away again.
+    fn drops_blanks(&self) -> bool
+        ensures { IsTrue result → DropsBlanks (sheet_of self.now) }
+    {
+        self.column == 0
+            && self.asked == Asked::Nothing
+            && !self.at_body
+            && self.width > 0
+            && self.width < usize::MAX
+            && self.width - 1 <= self.margin()
+            && ends_bare(&self.out)
+    }
+
+    // Passes over blanks, two by two. So a margin is not written for each two of many.
+    #[inline(always)]
+    fn pass_blanks(&self, chunks: &mut Splitter<'_>)
+        requires { DropsBlanks (sheet_of self.now) }
+        ensures page { (full : Bool)
+            → text_put full chunks.new (sheet_of self.now) ≡ text_put full chunks.old (sheet_of self.now) }
+        ensures ink { (full : Bool) → shown_ink full chunks.new ≡ shown_ink full chunks.old }
+        ensures hides { (full : Bool) → hides full chunks.new ≡ hides full chunks.old }
+        ensures left { length chunks.new ≤ length chunks.old }
+    {
+        'blanks: while chunks.take_blanks() {}
+    }
+
+    // Writes the code lines that come next where a line is behind that no chunk fits.
+    #[inline(always)]
+    fn put_code(&mut self, chunks: &mut Splitter<'_>) -> Result<(), AllocError>
+        ensures page { OnOk result ((full : Bool)
+            → text_put full chunks.new (sheet_of self.new) ≡ text_put full chunks.old (sheet_of self.old)) }
+        ensures ink { OnOk result ((full : Bool)
+            → ink (string_bytes self.new.out) ++ shown_ink full chunks.new
+            ≡ ink (string_bytes self.old.out) ++ shown_ink full chunks.old) }
+        ensures hides { (full : Bool) → hides full chunks.new ≡ hides full chunks.old }
+        ensures left { length chunks.new ≤ length chunks.old }
+    {
+        if !self.is_past_line() {
+            return Ok(());
+        }
+        let margin = self.margin();
+        'lines: while let Some(line) = chunks.take_code() {
+            if line == " " {
+                return self.put_raw(line, Chunk::CODE);
+            }
+            self.put_code_line(margin, line)?;
+        }
+        Ok(())
+    }
+
+    // Whether the last line is past the width, as it is behind a code line, and nothing has to come before the next one.
+    fn is_past_line(&self) -> bool
+        ensures { IsTrue result → IsPastLine (sheet_of self.now) }
+    {
+        self.width < self.column
+            && self.width < Chunk::CODE
+            && self.asked == Asked::Nothing
+            && !self.at_body
+            && !self.out.is_empty()
+    }
+
+    // Writes a code line on a line of its own, from this margin on.
+    #[inline(always)]
+    fn put_code_line(&mut self, margin: usize, line: &str) -> Result<(), AllocError>
+        requires { margin ≡ margin_of (sheet_of self.old) }
+        ensures page { OnOk result (sheet_of self.new ≡ code_put line.now (sheet_of self.old)) }
+        ensures ink { OnOk result (ink (string_bytes self.new.out) ≡ ink (string_bytes self.old.out) ++ ink line.now) }
+    {
+        Page::wrap(self)?;
+        self.put_blanks(margin)?;
+        self.out.push_str(line)?;
+        self.column = self.column.saturating_add(Chunk::CODE);
+        Ok(())
     }
 
     // Writes a Raw chunk. A blank that does not fit its line is left out.
@@ -333,11 +414,25 @@ impl<B: Allocator> Page<B> {
     }
 }
 
+// Whether a newline alone stands behind the last character that is no White_Space.
+fn ends_bare<B: Allocator>(out: &String<B>) -> bool
+    ensures { IsTrue result → string_bytes out.now ≡ trim_end (string_bytes out.now) ++ 10 ∷ [] }
+{
+    let text = out.as_str();
+    let (_, end) = text.as_bytes().split_at(text.trim_end().len());
+    matches!(end, [b'\n'])
+}
+
 // Takes the White_Space at the end of the text away.
 fn trim_end<B: Allocator>(out: &mut String<B>)
     ensures bytes { string_bytes out.new ≡ trim_end (string_bytes out.old) }
     ensures ink { ink (string_bytes out.new) ≡ ink (string_bytes out.old) }
 {
+    if let Some((last, _)) = out.as_bytes().split_last() {
+        if last.is_ascii_graphic() {
+            return;
+        }
+    }
     let kept = out.as_str().trim_end().len();
     out.truncate(kept);
 }

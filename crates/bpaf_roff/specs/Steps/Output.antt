@@ -1,6 +1,6 @@
 -- What functions that may stop halfway keep.
-use Rattle.std.specs.Prelude.{◌≡◌, ◌⊎◌, ℕ, Bool, true, false, not, ◌&&◌, ◌==◌, List, [], ◌∷◌, length, map, take}
-use Rattle.bpaf_roff.specs.Escaping.{Byte, apostrophe, backslash, dash, dot, text_after}
+use Rattle.std.specs.Prelude.{◌≡◌, ◌⊎◌, ℕ, ◌+◌, ◌-◌, ◌<◌, Bool, true, false, not, ◌&&◌, ◌||◌, ◌==◌, List, [], ◌∷◌, length, map, take, slice_index, if◌then◌else◌}
+use Rattle.bpaf_roff.specs.Escaping.{Byte, apostrophe, backslash, dash, dot, newline, text_after}
 use Rattle.bpaf_roff.specs.Roff.{Script}
 use Rattle.bpaf_roff.specs.declared.escape.Apostrophes.{Apostrophes}
 use Rattle.bpaf_roff.specs.declared.escape.Escape.{Escape}
@@ -30,3 +30,16 @@ IsText label = label ≡ Special ⊎ label ≡ SpecialNoNewline
 -- these bytes are written as they are under the label, wherever they stand
 abbrev pub StayUnder : Escape → List ℕ → Type 0
 StayUnder label bytes = (q : Apostrophes) (before : List ℕ) → text_after q before (map (Byte label) bytes) ≡ bytes
+
+-- How a byte of a plain text is written behind another one: 0 as it is, 1 behind a backslash, 2 in a way of its own. That is so of an
+-- apostrophe, and of a dot at a line start.
+abbrev pub mark : ℕ → ℕ → ℕ
+mark before b = (if b == apostrophe || (b == dot && before == newline) then 2 else 0) + (if b == backslash || b == dash then 1 else 0)
+
+-- the mark of a byte of these, or 2
+abbrev pub IsMark : List ℕ → ℕ → ℕ → Type 0
+IsMark bytes i m = (m ≡ 2) ⊎ ((0 < i) × (m ≡ mark (slice_index bytes (i - 1)) (slice_index bytes i)))
+
+-- the first of these bytes have such marks
+abbrev pub AreMarks : List ℕ → ℕ → List ℕ → Type 0
+AreMarks bytes end marks = (i : ℕ) → i < end → IsMark bytes i (slice_index marks i)

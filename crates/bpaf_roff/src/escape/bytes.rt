@@ -38,6 +38,7 @@ fn write_argument<A: Allocator>(out: &mut Vec<u8, A>, bytes: &[u8]) -> Result<()
 #[inline(always)]
 fn write_text<A: Allocator>(
     out: &mut Vec<u8, A>,
+    room: &mut [u8; ROOM],
     apostrophes: Apostrophes,
     at_line_start: bool,
     label: Escape,
@@ -49,8 +50,7 @@ fn write_text<A: Allocator>(
         ≡ out.old.items ++ text_after apostrophes (written at_line_start) (map (Byte label) bytes.now)) }
     ensures kept { KeepsFront out.old.items out.new.items }
 {
-    let mut room = [0; ROOM];
-    let end = fill(&mut room, apostrophes, at_line_start, label, bytes);
+    let end = fill(room, apostrophes, at_line_start, label, bytes);
     out.extend_from_slice(&room[..end])
 }
 
@@ -86,6 +86,7 @@ fn write_break<A: Allocator>(
 #[inline(always)]
 fn write_bytes<A: Allocator>(
     out: &mut Vec<u8, A>,
+    room: &mut [u8; ROOM],
     apostrophes: Apostrophes,
     at_line_start: bool,
     label: Escape,
@@ -103,11 +104,19 @@ fn write_bytes<A: Allocator>(
             if are_plain(bytes) {
                 return out.extend_from_slice(bytes);
             }
-            write_text(out, apostrophes, at_line_start, Escape::Special, bytes)
+            write_text(
+                out,
+                room,
+                apostrophes,
+                at_line_start,
+                Escape::Special,
+                bytes,
+            )
         }
         Escape::SpecialNoNewline => {
             write_text(
                 out,
+                room,
                 apostrophes,
                 at_line_start,
                 Escape::SpecialNoNewline,
@@ -121,6 +130,7 @@ fn write_bytes<A: Allocator>(
 #[inline(always)]
 fn write_block<A: Allocator>(
     out: &mut Vec<u8, A>,
+    room: &mut [u8; ROOM],
     apostrophes: Apostrophes,
     at_line_start: bool,
     label: Escape,
@@ -134,13 +144,14 @@ fn write_block<A: Allocator>(
         ++ text_after apostrophes (written at_line_start) (map (Byte label) block.now))) }
     ensures kept { KeepsFront out.old.items out.new.items }
 {
-    write_bytes(out, apostrophes, at_line_start, label, block)?;
+    write_bytes(out, room, apostrophes, at_line_start, label, block)?;
     Ok(starts_line(at_line_start, label, block))
 }
 
-// Answers whether a line starts after the piece.
+// Answers whether a line starts after the piece. The room is for what blocks become: to clear it for each would take time.
 fn write_piece<A: Allocator>(
     out: &mut Vec<u8, A>,
+    room: &mut [u8; ROOM],
     apostrophes: Apostrophes,
     at_line_start: bool,
     label: Escape,
@@ -158,10 +169,10 @@ fn write_piece<A: Allocator>(
     let mut rest = text.as_bytes();
     while rest.len() >= BLOCK {
         let (block, after) = rest.split_at(BLOCK);
-        line_start = write_block(out, apostrophes, line_start, label, block)?;
+        line_start = write_block(out, room, apostrophes, line_start, label, block)?;
         rest = after;
     }
-    let after = write_block(out, apostrophes, line_start, label, rest)?;
+    let after = write_block(out, room, apostrophes, line_start, label, rest)?;
     Ok(after)
 }
 
@@ -180,9 +191,10 @@ pub fn escape<'a, I: Iterator<Item = (&'a Escape, &'a str)> + Drop, A: Allocator
     ensures err { OnErr result (out.new.items ≡ out.old.items) }
 {
     let start = out.len();
+    let mut room = [0; ROOM];
     let mut at_line_start = true;
     for (label, text) in items {
-        match write_piece(out, apostrophes, at_line_start, *label, text) {
+        match write_piece(out, &mut room, apostrophes, at_line_start, *label, text) {
             Ok(after) => at_line_start = after,
             Err(refused) => {
                 out.truncate(start);

@@ -1,16 +1,17 @@
 //! What the bytes of a plain text become, put into a room on the stack. It goes from there to the output at once, since
 //! each push to the output asks whether there is space.
 
-ghost use Rattle.std.specs.Prelude.{◌≡◌, ◌<◌, ◌≤◌, ◌+◌, ◌++◌, [], ◌∷◌, List, ℕ, map, take, length, slice_index};
+ghost use Rattle.std.specs.Prelude.{◌≡◌, ◌<◌, ◌≤◌, ◌+◌, ◌++◌, ◌==◌, [], ◌∷◌, List, ℕ, map, take, length, slice_index};
+ghost use Rattle.std.specs.Prelude.{if◌then◌else◌};
 ghost use Rattle.std.specs.List.{list_all};
 ghost use Rattle.bpaf_roff.specs.Escaping.{Byte, is_line_start, guard, apostrophe_text, special_text, byte_text};
 ghost use Rattle.bpaf_roff.specs.Escaping.{text_after};
-ghost use Rattle.bpaf_roff.specs.Steps.Output.{IsText, is_plain, written};
+ghost use Rattle.bpaf_roff.specs.Steps.Output.{IsText, AreMarks, IsMark, is_plain, mark, written};
 
 use crate::escape::{Apostrophes, Escape};
 
-/// How many bytes are looked at together.
-pub const BLOCK: usize = 64;
+/// How many bytes are looked at together: one, and 64 that are marked by what stands before them.
+pub const BLOCK: usize = 65;
 
 /// What a block becomes at most: `\&\*(Aq` for each byte.
 pub const ROOM: usize = 7 * BLOCK;
@@ -60,12 +61,38 @@ pub fn are_plain(bytes: &[u8]) -> bool
     true
 }
 
+// The mark of a byte that is written neither as it is nor as a backslash and itself, or that may be.
+const ODD: u8 = 2;
+
+// How a byte is written behind another one: 0 stands for as it is, and 1 for behind a backslash.
+#[inline(always)]
+fn mark(before: u8, byte: u8) -> u8
+    ensures { result ≡ mark before byte }
+{
+    let is_odd = byte == b'\'' || (byte == b'.' && before == b'\n');
+    let is_escaped = byte == b'\\' || byte == b'-';
+    ODD * u8::from(is_odd) + u8::from(is_escaped)
+}
+
+// Marks all of these but the first, many at once.
+#[inline(always)]
+fn mark_all(marks: &mut [u8; BLOCK], bytes: &[u8])
+    requires short { length bytes.now ≤ BLOCK }
+    requires first { AreMarks bytes.now 1 marks.now }
+    ensures { AreMarks bytes.now (length bytes.now) marks.new }
+{
+    for index in 1..bytes.len() {
+        marks[index] = mark(bytes[index - 1], bytes[index]);
+    }
+}
+
 // The byte that a text shows for this one.
 #[inline(always)]
 fn shown(label: Escape, byte: u8) -> u8
     requires text { IsText label }
-    ensures { (apostrophes : Apostrophes) (before : List ℕ)
+    ensures text { (apostrophes : Apostrophes) (before : List ℕ)
         → byte_text apostrophes before label byte ≡ byte_text apostrophes before Escape.Special result }
+    ensures mark { (before : ℕ) → mark before byte ≡ mark before result }
 {
     if label == Escape::SpecialNoNewline && byte == b'\n' {
         return b' ';
@@ -160,7 +187,7 @@ fn put_sign(
     put_escaped(room, start, byte)
 }
 
-// What the byte at an index becomes. No branch depends on the byte but for an apostrophe, or where a line starts.
+// Puts what the byte at an index becomes, whatever it is.
 #[inline(always)]
 fn put_byte(
     room: &mut [u8; ROOM],
@@ -185,6 +212,50 @@ fn put_byte(
     put_sign(room, at, apostrophes, line_start, byte)
 }
 
+// A byte with a backslash before it where its mark is 1. That one is put in either case, and the byte over it or behind
+// it: a branch on the byte would often be guessed wrong.
+#[inline(always)]
+fn put_marked(room: &mut [u8; ROOM], at: usize, mark: u8, byte: u8) -> usize
+    requires mark { mark < ODD }
+    requires fits { at + 2 ≤ ROOM }
+    ensures next { result ≤ at + 2 }
+    ensures text { take result room.new
+        ≡ take at room.old ++ (if mark == 1 then 92 ∷ byte ∷ [] else byte ∷ []) }
+{
+    room[at] = b'\\';
+    let start = at + usize::from(mark);
+    room[start] = byte;
+    start + 1
+}
+
+// The same as `put_byte` for a byte with this mark.
+#[inline(always)]
+fn put_at(
+    room: &mut [u8; ROOM],
+    at: usize,
+    apostrophes: Apostrophes,
+    at_line_start: bool,
+    label: Escape,
+    bytes: &[u8],
+    index: usize,
+    mark: u8,
+) -> usize
+    requires text { IsText label }
+    requires within { index < length bytes.now }
+    requires fits { at + 7 ≤ ROOM }
+    requires mark { IsMark bytes.now index mark }
+    ensures next { result ≤ at + 7 }
+    ensures text { take result room.new ≡ take at room.old ++ byte_text apostrophes
+        (written at_line_start
+        ++ text_after apostrophes (written at_line_start) (map (Byte label) (take index bytes.now)))
+        label (slice_index bytes.now index) }
+{
+    if mark >= ODD {
+        return put_byte(room, at, apostrophes, at_line_start, label, bytes, index);
+    }
+    put_marked(room, at, mark, shown(label, bytes[index]))
+}
+
 /// Puts what a text becomes at the start of the room, and answers how many bytes these are.
 #[inline(always)]
 pub fn fill(
@@ -200,9 +271,20 @@ pub fn fill(
     ensures text { take result room.new
         ≡ text_after apostrophes (written at_line_start) (map (Byte label) bytes.now) }
 {
+    let mut marks = [ODD; BLOCK];
+    mark_all(&mut marks, bytes);
     let mut end = 0;
     for index in 0..bytes.len() {
-        end = put_byte(room, end, apostrophes, at_line_start, label, bytes, index);
+        end = put_at(
+            room,
+            end,
+            apostrophes,
+            at_line_start,
+            label,
+            bytes,
+            index,
+            marks[index],
+        );
     }
     end
 }

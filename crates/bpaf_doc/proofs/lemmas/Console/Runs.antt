@@ -23,7 +23,7 @@ use Rattle.bpaf_doc.proofs.lemmas.Splitter.Spelling.{and_left, and_right}
 -- ---- what words leave of a page
 
 -- a page within a line
-abbrev page_at : ℕ → ℕ → List ℕ → List ℕ → ℕ → Sheet
+abbrev pub page_at : ℕ → ℕ → List ℕ → List ℕ → ℕ → Sheet
 page_at width tab_stop margins out column = record { out = out; column = column; width = width; tab_stop = tab_stop; margins = margins; asks = asked.Nothing; at_body = false }
 
 module _ (width tab_stop : ℕ) (margins : List ℕ) (small : width ≤ 18446744073709551615) where
@@ -33,10 +33,10 @@ module _ (width tab_stop : ℕ) (margins : List ℕ) (small : width ≤ 18446744
   fits : (out : List ℕ) (column n : ℕ) → column + n ≤ width → is_too_wide n (at out column) ≡ false
   fits out column n h = le-ltb width (saturated (column + n)) (omega (arith, h))
 
-  no_break : (out : List ℕ) (column n : ℕ) → column + n ≤ width → wraps n (at out column) ≡ false
+  pub no_break : (out : List ℕ) (column n : ℕ) → column + n ≤ width → wraps n (at out column) ≡ false
   no_break out column n h = ap (λ b. not (length out == 0) && b) (fits out column n h) ∙ and-false (not (length out == 0))
 
-  no_room : (out : List ℕ) (column n : ℕ) → column + n ≤ width → room_made n (at out column) ≡ at out column
+  pub no_room : (out : List ℕ) (column n : ℕ) → column + n ≤ width → room_made n (at out column) ≡ at out column
   no_room out column n h =
       ap (λ b. if length out == 0 then at out column else if b then wrapped (at out column) else at out column) (fits out column n h) ∙ grind arith
 

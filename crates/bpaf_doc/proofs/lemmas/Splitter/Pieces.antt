@@ -19,7 +19,7 @@ utf8_after : (b : ℕ) (rest : List ℕ) → b < 128 → IsUtf8 (b ∷ rest) →
 utf8_after b rest small u = IsUtf8-drop (b ∷ rest) 1 u (IsCharBoundary-after_ascii (b ∷ rest) 0 u (omega arith) small)
 
 -- a newline, a blank or the end
-abbrev IsEnd : List ℕ → Type 0
+abbrev pub IsEnd : List ℕ → Type 0
 IsEnd [] = Unit {0}
 IsEnd (b ∷ rest) = b < 128
 
@@ -33,7 +33,7 @@ end_of_word (b ∷ rest) (inl e) = omega (arith, e)
 end_of_word (b ∷ rest) (inr e) = omega (arith, e)
 
 -- a front that ends there, and the rest
-utf8_cut : (front rest : List ℕ) → IsEnd rest → IsUtf8 (front ++ rest) → IsUtf8 front × IsUtf8 rest
+pub utf8_cut : (front rest : List ℕ) → IsEnd rest → IsUtf8 (front ++ rest) → IsUtf8 front × IsUtf8 rest
 utf8_cut front [] e u = (subst (λ text. IsUtf8 text) (append-nil front) u, IsUtf8-nil)
 utf8_cut front (b ∷ rest) e u =
     let within : length front < length (front ++ b ∷ rest) = omega (arith, length-append front (b ∷ rest)) in

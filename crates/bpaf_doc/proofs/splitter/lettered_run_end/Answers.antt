@@ -1,9 +1,9 @@
-use Rattle.std.proofs.Common.{◌≡◌, ℕ, ◌<◌, ◌≤◌, ◌+◌, true, List, [], ◌∷◌, length, take, drop, get_or, sym, subst, ◌∙◌, ap₂, arith}
+use Rattle.std.proofs.Common.{◌≡◌, ℕ, ◌<◌, ◌≤◌, ◌+◌, true, List, [], ◌∷◌, length, take, drop, get_or, sym, subst, refl, ◌∙◌, ap₂, arith}
 use Rattle.std.proofs.lemmas.List.Sums.{count_by-le-length}
 use Rattle.std.proofs.lemmas.List.{take_rest}
 use Rattle.bpaf_doc.specs.Splitter.Chunks.{IsLineEnd}
 use Rattle.bpaf_doc.specs.Splitter.Steps.Runs.{IsRunEnd, begins, is_lettered, letters}
-use Rattle.bpaf_doc.proofs.lemmas.Splitter.Letters.{printable_front_lettered, printable_front_letters, lettered_front, lettered_more, letters_more, lettered_run}
+use Rattle.bpaf_doc.proofs.lemmas.Splitter.Letters.{lettered_front, lettered_more, letters_more, lettered_run}
 use Rattle.bpaf_doc.proofs.lemmas.Splitter.Runs.{line_ends, blank_ends}
 use Rattle.bpaf_doc.proofs.splitter.lettered_run_end.Goals as goal
 use Rattle.bpaf_doc.proofs.splitter.lettered_run_end.Goals.{then-bytes-at-eq32, else-bytes-at-eq32}
@@ -16,19 +16,16 @@ record IsMark (bytes : List ℕ) (columns at : ℕ) (end : ℕ × ℕ) : Type 0 
   run : 0 < end.0 → IsRunEnd bytes end.0
 
 pub lettered-init : goal.lettered-init
-lettered-init c =
-    let bytes = c.args.bytes.now in
-    let all : c.args.printable ≤ c.args.printable = omega arith in
-    record {
-      within = c.requires.within;
-      lettered = printable_front_lettered bytes c.args.printable c.args.printable all c.requires.printable;
-      counted = printable_front_letters bytes c.args.printable c.args.printable all c.requires.within c.requires.printable;
-      few = omega arith;
-      before = c.requires.before;
-      fits = omega (arith, c.requires.before, c.requires.fits);
-      end_counted = printable_front_letters bytes c.args.last c.args.printable c.requires.before c.requires.within c.requires.printable;
-      run = c.requires.run;
-    }
+lettered-init c = record {
+  within = omega arith;
+  lettered = refl;
+  counted = refl;
+  few = omega arith;
+  before = omega arith;
+  fits = omega arith;
+  end_counted = refl;
+  run = λ some. absurd (omega (arith, some));
+}
 
 pub lettered-preserved : goal.lettered-preserved
 lettered-preserved c =
@@ -53,8 +50,8 @@ lettered-preserved c =
     record {
       within = omega (arith, inside);
       lettered = lettered_more bytes c.lettered.at inside inv.lettered letter;
-      counted = ap₂ (λ n m. n + m) inv.counted c.begun-taken.ensures ∙ sym (letters_more bytes c.lettered.at inside);
-      few = omega (arith, inv.few, one, c.begun-taken.ensures);
+      counted = ap₂ (λ n m. n + m) inv.counted (c.from-taken.ensures ∙ c.begun.ensures) ∙ sym (letters_more bytes c.lettered.at inside);
+      few = omega (arith, inv.few, one, c.begun.ensures, c.from-taken.ensures);
       before = omega (arith, mark.before);
       fits = mark.fits;
       end_counted = mark.counted;

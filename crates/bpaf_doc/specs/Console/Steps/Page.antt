@@ -74,6 +74,24 @@ pub record IsWithinLine (s : Sheet) : Type 0 where
   pub past_margin : margin_of s ≤ s.column
   pub room : s.column < s.width
 
+-- nothing is asked for, and the last line is past the width, as it is behind a code line
+pub record IsPastLine (s : Sheet) : Type 0 where
+  pub nothing_asked : s.asks ≡ asked.Nothing
+  pub no_body : s.at_body ≡ false
+  pub some : 0 < length s.out
+  pub past : s.width < s.column
+  pub narrow : s.width < 1000000
+
+-- a line was begun behind the last ink, and behind its margin no more than one blank fits
+pub record DropsBlanks (s : Sheet) : Type 0 where
+  pub nothing_asked : s.asks ≡ asked.Nothing
+  pub no_body : s.at_body ≡ false
+  pub line_start : s.column ≡ 0
+  pub some_room : 0 < s.width
+  pub no_more : s.width ≤ margin_of s + 1
+  pub small : s.width < 18446744073709551615
+  pub bare : s.out ≡ trim_end s.out ++ 10 ∷ []
+
 -- where a break, or an empty line, is asked for and does not stand at the end
 abbrev pub lacks_newline : Sheet → Bool
 lacks_newline s = asks_break s.asks && not (ends_with nat_eq s.out (10 ∷ []))
@@ -104,6 +122,12 @@ wraps more s = not (length s.out == 0) && is_too_wide more (asked_put s)
 
 abbrev pub room_made : ℕ → Sheet → Sheet
 room_made more s = if length s.out == 0 then s else if is_too_wide more (asked_put s) then wrapped (asked_put s) else asked_put s
+
+-- a code line on a line of its own
+abbrev pub code_put : List ℕ → Sheet → Sheet
+code_put line s =
+    let t : Sheet = blanks_put (margin_of s) (wrapped s) in
+    record t { out = t.out ++ line; column = saturated (t.column + 1000000) }
 
 -- blanks up to the margin; before an item's body, beyond the tab stop, at least two
 abbrev pub body_padded : ℕ → Sheet → Sheet

@@ -3,7 +3,13 @@ use Rattle.std.specs.Str.{trim_end, IsTrimEnd}
 use Rattle.std.proofs.lemmas.Str.{IsUtf8-string_bytes}
 use Rattle.bpaf_doc.specs.Buffer.Parts.{ink}
 use Rattle.bpaf_doc.proofs.lemmas.Console.Ink.{ink-trim, trim-cut, trim-boundary}
+use Rattle.bpaf_doc.proofs.lemmas.Console.Ends.{graphic_end}
 use Rattle.bpaf_doc.proofs.console.page.trim_end.Goals as goal
+
+pub returns-then-is_ascii_graphic-clause-bytes : goal.returns-then-is_ascii_graphic-clause-bytes
+returns-then-is_ascii_graphic-clause-bytes g c =
+    sym (graphic_end (string_bytes c.args.out.now) c.in-Some.field-0-1.now c.in-Some.last.now (sym c.as_bytes.ensures.value ∙ c.in-Some.ensures.cases.0)
+    (IsUtf8-string_bytes c.args.out.now) (sym c.is_ascii_graphic.ensures.value ∙ c.if-is_ascii_graphic.true))
 
 pub truncate-requires : goal.truncate-requires
 truncate-requires g c = λ _.

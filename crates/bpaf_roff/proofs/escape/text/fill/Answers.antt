@@ -14,9 +14,9 @@ loop-index-preserved c =
     let so_far = front_text q a.label before a.bytes.now i in
     record {
       in_range = omega arith;
-      fits = omega (arith, inv.fits, c.put_byte-end.ensures.next);
+      fits = omega (arith, inv.fits, c.put_at-end.ensures.next);
       text =
-          c.put_byte-end.ensures.text
+          c.put_at-end.ensures.text
           ∙ ap (λ t. t ++ byte_text q (before ++ so_far) a.label (slice_index a.bytes.now i)) inv.text
           ∙ sym (front_text_more q a.label before a.bytes.now i c.loop-index-test.true);
     }

@@ -1,0 +1,68 @@
+-- What a byte with a mark is written as, and the marks of a front of some bytes.
+use Rattle.std.proofs.Common.{◌≡◌, ℕ, ◌+◌, ◌-◌, ◌<◌, ◌≤◌, ◌==◌, Bool, true, false, ◌&&◌, ◌||◌, List, [], ◌∷◌, ◌++◌, ◌⊎◌, inl, inr, ◌∙◌, map, take, length, get_or, ap, sym, subst, refl, arith, if◌then◌else◌}
+use Rattle.std.specs.Prelude.{codes, slice_index, slice_set}
+use Rattle.std.proofs.lemmas.Bool.{cases_lt}
+use Rattle.std.proofs.lemmas.List.{take_more, get_or-set_same, get_or-set_other}
+use Rattle.bpaf_roff.specs.Escaping.{Byte, newline, is_line_start, apostrophe_text, byte_text, text_after}
+use Rattle.bpaf_roff.specs.Steps.Output.{IsText, IsMark, AreMarks, mark, written}
+use Rattle.bpaf_roff.specs.declared.escape.Apostrophes.{Apostrophes}
+use Rattle.bpaf_roff.specs.declared.escape.Escape.{Escape}
+use Rattle.bpaf_roff.specs.declared.escape.Escape.TheVariants.{Special}
+use Rattle.bpaf_roff.proofs.lemmas.LineStarts.{newline_ends, nothing_ends}
+use Rattle.bpaf_roff.proofs.lemmas.Texts.{line_start_by_last}
+
+-- a byte that has no way of its own
+marked_special : (q : Apostrophes) (before : List ℕ) (prev s : ℕ) → (is_line_start before ≡ true → (prev == newline) ≡ true) → mark prev s < 2
+    → byte_text q before Special s ≡ (if mark prev s == 1 then 92 ∷ s ∷ [] else s ∷ [])
+marked_special q before prev s h k = by (s == 39) (s == 46) (s == 92 || s == 45) (is_line_start before) (prev == 10) h k
+  where
+    by : (a d e l n : Bool) → (l ≡ true → n ≡ true) → (if a || (d && n) then 2 else 0) + (if e then 1 else 0) < 2
+        → (if (d || a) && l then codes "\\&" else []) ++ (if e then 92 ∷ s ∷ [] else if a then apostrophe_text q else s ∷ [])
+        ≡ (if ((if a || (d && n) then 2 else 0) + (if e then 1 else 0)) == 1 then 92 ∷ s ∷ [] else s ∷ [])
+    by true d e l n h k = absurd (omega (arith, k))
+    by false true e l true h k = absurd (omega (arith, k))
+    by false true e true false h k = let no = h refl in absurd cc
+    by false true true false false h k = refl
+    by false true false false false h k = refl
+    by false false true l n h k = refl
+    by false false false l n h k = refl
+
+-- a line starts only behind a newline
+line_behind : (q : Apostrophes) (label : Escape) → IsText label → (x : Bool) (bytes : List ℕ) (i j : ℕ) → i ≡ j + 1 → j < length bytes
+    → is_line_start (written x ++ text_after q (written x) (map (Byte label) (take i bytes))) ≡ true → (slice_index bytes j == newline) ≡ true
+line_behind q label is x bytes i j e lt h = by is
+  where
+    last : take i bytes ≡ take j bytes ++ get_or bytes j 0 ∷ []
+    last = ap (λ k. take k bytes) e ∙ take_more bytes j 0 lt
+
+    by : IsText label → (slice_index bytes j == newline) ≡ true
+    by (inl special) =
+        line_start_by_last x label (take i bytes) (take j bytes) (get_or bytes j 0) last (get_or bytes j 0 == newline) (newline_ends label (get_or bytes j 0) (inr (inl special))) q ∙ h
+    by (inr stripped) =
+        let no = line_start_by_last x label (take i bytes) (take j bytes) (get_or bytes j 0) last false (nothing_ends label (get_or bytes j 0) (inr stripped)) q ∙ h in absurd cc
+
+pub marked_text : (q : Apostrophes) (label : Escape) → IsText label → (x : Bool) (bytes : List ℕ) (i m s : ℕ) → i < length bytes → IsMark bytes i m → m < 2
+    → byte_text q (written x ++ text_after q (written x) (map (Byte label) (take i bytes))) label (slice_index bytes i)
+    ≡ byte_text q (written x ++ text_after q (written x) (map (Byte label) (take i bytes))) Special s
+    → ((before : ℕ) → mark before (slice_index bytes i) ≡ mark before s)
+    → byte_text q (written x ++ text_after q (written x) (map (Byte label) (take i bytes))) label (slice_index bytes i) ≡ (if m == 1 then 92 ∷ s ∷ [] else s ∷ [])
+marked_text q label is x bytes i m s lt (inl odd) few shown same = absurd (omega (arith, odd, few))
+marked_text q label is x bytes i m s lt (inr right) few shown same =
+    let prev = slice_index bytes (i - 1) in
+    let known : m ≡ mark prev s = right.1 ∙ same prev in
+    let behind : i ≡ i - 1 + 1 = omega (arith, right.0) in
+    let inside : i - 1 < length bytes = omega (arith, right.0, lt) in
+    shown
+    ∙ marked_special q (written x ++ text_after q (written x) (map (Byte label) (take i bytes))) prev s (line_behind q label is x bytes i (i - 1) behind inside) (omega (arith, known, few))
+    ∙ ap (λ n. if n == 1 then 92 ∷ s ∷ [] else s ∷ []) (sym known)
+
+-- one byte more is marked
+pub marks_more : (bytes marks : List ℕ) (i m : ℕ) → 0 < i → i < length marks → AreMarks bytes i marks → m ≡ mark (slice_index bytes (i - 1)) (slice_index bytes i)
+    → AreMarks bytes (i + 1) (slice_set marks i m)
+marks_more bytes marks i m some lt all e j l = at (cases_lt j i)
+  where
+    at : (j < i) ⊎ (i ≤ j) → IsMark bytes j (slice_index (slice_set marks i m) j)
+    at (inl below) = subst (λ n. IsMark bytes j n) (sym (get_or-set_other marks i j m 0 (λ same. omega (arith, same, below)))) (all j below)
+    at (inr above) =
+        let same : j ≡ i = omega (arith, l, above) in
+        subst (λ k. IsMark bytes k (slice_index (slice_set marks i m) k)) (sym same) (inr (some, get_or-set_same marks i m 0 lt ∙ e))
