@@ -46,9 +46,8 @@ first_columns-cons part parts = ap (λ ps. sum_by text_columns ps) (take_while-c
 
 first_columns-one : (part : Part) → first_columns (part ∷ []) ≡ text_columns part
 first_columns-one (Text bytes style) = zero-add (columns bytes)
-first_columns-one (Start b) = refl
 first_columns-one (End blocks.ItemTerm) = refl
-first_columns-one (End b) = refl
+first_columns-one _ = refl
 
 first_columns-push : (parts : List Part) (part : Part) → first_columns (parts ++ part ∷ []) ≡ first_columns parts + (if list_any is_term_end parts then 0 else text_columns part)
 first_columns-push [] part = first_columns-one part ∙ sym (zero-add (text_columns part))

@@ -23,10 +23,7 @@ use Rattle.bpaf_doc.proofs.lemmas.Console.Layout.Blank.{text_back, text_back_con
 -- the characters without the white space at their end
 white : (ds : List ℕ) → has_some (filter is_not_whitespace ds) ≡ false → drop_trailing_whitespace ds ≡ []
 white [] h = refl
-white (d ∷ ds) h = at (by_cases (is_whitespace d)) (white ds) where
-  at : (is_whitespace d ≡ true) ⊎ (is_whitespace d ≡ false) → (has_some (filter is_not_whitespace ds) ≡ false → drop_trailing_whitespace ds ≡ []) → drop_trailing_whitespace (d ∷ ds) ≡ []
-  at (inl w) ih = let rest : has_some (filter is_not_whitespace ds) ≡ false = rw w at h in let none : drop_trailing_whitespace ds ≡ [] = ih rest in rw (none, w) refl
-  at (inr w) ih = let no : true ≡ false = rw w at h in absurd cc
+white (d ∷ ds) h = grind (arith, white ds)
 
 dropped_white : (cs ds : List ℕ) → has_some (filter is_not_whitespace ds) ≡ false → drop_trailing_whitespace (cs ++ ds) ≡ drop_trailing_whitespace cs
 dropped_white [] ds h = white ds h
@@ -182,8 +179,7 @@ shown_line e u l (inr s) = subst IsLine (sym s) (trim_line e.bytes u l)
 
 event_line : (event : Event) → IsLine (event_bytes event)
 event_line (Shows k chunk) = refl
-event_line (Opens b) = grind arith
-event_line (Closes b) = grind arith
+event_line _ = grind arith
 
 ends_in : (r : List Stretch) (x : Stretch) (front : List ℕ) → has_some (stretch_bytes x) ≡ true → text_back (x ∷ r) ≡ front ++ 10 ∷ [] → (back : List ℕ) × (stretch_bytes x ≡ back ++ 10 ∷ [])
 ends_in r x front s e =

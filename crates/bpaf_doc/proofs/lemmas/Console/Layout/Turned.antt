@@ -78,10 +78,7 @@ since_take p (x ∷ r) = at (by_cases (p x)) (since_take p r) where
 
 prefix_le : (p : Stretch → Bool) (r : List Stretch) → prefix_len p r ≤ length r
 prefix_le p [] = omega arith
-prefix_le p (x ∷ r) = at (by_cases (p x)) (prefix_le p r) where
-  at : (p x ≡ true) ⊎ (p x ≡ false) → prefix_len p r ≤ length r → prefix_len p (x ∷ r) ≤ length (x ∷ r)
-  at (inl t) ih = rw t (omega arith)
-  at (inr t) ih = rw t (omega arith)
+prefix_le p (x ∷ r) = grind (arith, prefix_le p r)
 
 drop_turned : (k : ℕ) (r : List Stretch) → k ≤ length r → drop (length r - k) (reverse r) ≡ reverse (take k r)
 drop_turned k r h =
@@ -102,20 +99,14 @@ after_last_turned p r =
 
 sum_since : (r : List Stretch) → sum_by stretch_columns (since is_newline r) ≡ column_back r
 sum_since [] = refl
-sum_since (x ∷ r) = at (by_cases (is_newline x)) (sum_since r) where
-  at : (is_newline x ≡ true) ⊎ (is_newline x ≡ false) → sum_by stretch_columns (since is_newline r) ≡ column_back r → sum_by stretch_columns (since is_newline (x ∷ r)) ≡ column_back (x ∷ r)
-  at (inl t) ih = rw t refl
-  at (inr t) ih = rw t (sum_by-cons stretch_columns x (since is_newline r) ∙ ap (λ (n : ℕ). stretch_columns x + n) ih)
+sum_since (x ∷ r) = grind (arith, sum_since r, sum_by-cons stretch_columns x (since is_newline r))
 
 pub column_turned : (r : List Stretch) → column (reverse r) ≡ column_back r
 column_turned r = ap (λ ys. sum_by stretch_columns ys) (after_last_turned is_newline r) ∙ sum_turned stretch_columns (since is_newline r) ∙ sum_since r
 
 any_since_line : (p : Stretch → Bool) (r : List Stretch) → list_any p (since is_newline r) ≡ any_in_line p r
 any_since_line p [] = refl
-any_since_line p (x ∷ r) = at (by_cases (is_newline x)) (any_since_line p r) where
-  at : (is_newline x ≡ true) ⊎ (is_newline x ≡ false) → list_any p (since is_newline r) ≡ any_in_line p r → list_any p (since is_newline (x ∷ r)) ≡ any_in_line p (x ∷ r)
-  at (inl t) ih = rw t refl
-  at (inr t) ih = rw t (ap (λ (b : Bool). p x || b) ih)
+any_since_line p (x ∷ r) = grind (arith, any_since_line p r)
 
 pub line_turned : (p : Stretch → Bool) (r : List Stretch) → list_any p (line_before (reverse r)) ≡ any_in_line p r
 line_turned p r = ap (λ ys. list_any p ys) (after_last_turned is_newline r) ∙ any_turned p (since is_newline r) ∙ any_since_line p r
@@ -123,15 +114,7 @@ line_turned p r = ap (λ ys. list_any p ys) (after_last_turned is_newline r) ∙
 -- the blanks since the last place in the line
 count_since : (r : List Stretch) → count_by is_gap (since is_placed (since is_newline r)) ≡ pads_back r
 count_since [] = refl
-count_since (x ∷ r) = at (by_cases (is_newline x)) (by_cases (is_placed x)) (count_since r) where
-  cost : Stretch → ℕ
-  cost y = cond (is_gap y) 1 0
-
-  at : (is_newline x ≡ true) ⊎ (is_newline x ≡ false) → (is_placed x ≡ true) ⊎ (is_placed x ≡ false) → count_by is_gap (since is_placed (since is_newline r)) ≡ pads_back r
-      → count_by is_gap (since is_placed (since is_newline (x ∷ r))) ≡ pads_back (x ∷ r)
-  at (inl t) s ih = rw t refl
-  at (inr t) (inl s) ih = rw (t, s) refl
-  at (inr t) (inr s) ih = rw (t, s) (sum_by-cons (λ y. cond (is_gap y) 1 0) x (since is_placed (since is_newline r)) ∙ ap (λ (n : ℕ). cond (is_gap x) 1 0 + n) ih)
+count_since (x ∷ r) = grind (arith, count_since r, sum_by-cons (λ y. cond (is_gap y) 1 0) x (since is_placed (since is_newline r)))
 
 pub padding_turned : (r : List Stretch) → padding (reverse r) ≡ pads_back r
 padding_turned r =
@@ -141,10 +124,9 @@ padding_turned r =
     ∙ count_since r
 
 any_since_place : (r : List Stretch) → list_any opens_body (events_back (since is_placed r)) ≡ body_back r
-any_since_place [] = refl
 any_since_place (Gap b ∷ r) = any_since_place r
-any_since_place (Placed e ∷ r) = refl
 any_since_place (Passed event ∷ r) = ap (λ (b : Bool). opens_body event || b) (any_since_place r)
+any_since_place _ = refl
 
 pub body_turned : (r : List Stretch) → list_any opens_body (events_of (after_last is_placed (reverse r))) ≡ body_back r
 body_turned r =
@@ -253,6 +235,5 @@ turned_between before between after x y =
 
 pub place_at : (P : List Stretch → Place → Type 0) (m r : List Stretch) (f : Place) → EachPlace P (m ++ Placed f ∷ r) → P r f
 place_at P [] r f h = h.0
-place_at P (Gap b ∷ m) r f h = place_at P m r f h
 place_at P (Placed g ∷ m) r f h = place_at P m r f h.1
-place_at P (Passed event ∷ m) r f h = place_at P m r f h
+place_at P (_ ∷ m) r f h = place_at P m r f h
