@@ -32,8 +32,7 @@ left_over start e rest is = omega (arith, length-drop (e.end - start) rest, is.n
 
 taken_bytes : (k : Kind) (n : ℕ) (rest : List ℕ) → MayTake k n → part_bytes (part_with k (take n rest)) ≡ take n rest
 taken_bytes (kind.Text style) n rest may = refl
-taken_bytes (kind.Start b) n rest may = rw may refl
-taken_bytes (kind.End b) n rest may = rw may refl
+taken_bytes _ n rest may = rw may refl
 
 -- the texts joined are the payload
 pub document_bytes-parts_from : (start : ℕ) (es : List PartEnd) (rest : List ℕ) → AreEnds start es rest → document_bytes (parts_from start es rest) ≡ rest
@@ -106,8 +105,7 @@ empty_is_end k end may =
 
 may_take_none : (k : Kind) → MayTake k 0
 may_take_none (kind.Text style) = tt
-may_take_none (kind.Start b) = refl
-may_take_none (kind.End b) = refl
+may_take_none _ = refl
 
 module _ (start : ℕ) (es : List PartEnd) (rest : List ℕ) (k : Kind) where
   -- behind the other ends

@@ -91,14 +91,7 @@ closing_is_other styles.Text = inl refl
 closing_is_other _ = line_is_other _ refl
 
 character_line : (b : ℕ) → is_line_byte b ≡ true → list_all is_line_byte (escaped_character b) ≡ true
-character_line b h =
-    elim (b == 60) as (λ s. list_all is_line_byte (if s then codes "&lt;" else (if (b == 62) then codes "&gt;" else (b ∷ []))) ≡ true) [
-      | true ↦ refl
-      | false ↦ elim (b == 62) as (λ s. list_all is_line_byte (if s then codes "&gt;" else (b ∷ [])) ≡ true) [
-        | true ↦ refl
-        | false ↦ and_from (is_line_byte b) true h refl
-      ]
-    ]
+character_line b h = grind (arith, h)
 
 words_line : (bytes : List ℕ) → list_all is_line_byte bytes ≡ true → list_all is_line_byte (flat_map escaped_character bytes) ≡ true
 words_line [] h = refl
@@ -196,11 +189,9 @@ head_fresh p b e = by (is_header b) p.fresh
 
 step_bytes : (before : List Fragment) (p : Written) (f : Fragment) → Agrees before p → (page_after p f).bytes ≡ p.bytes ++ fragment_html p.bytes before f
 unfolding nth
-step_bytes before p (TextStart style) h = refl
 step_bytes before p (Shown style (Raw bytes weight)) h = refl
 step_bytes before p (Shown style Paragraph) h = refl
 step_bytes before p (Shown style LineBreak) h = refl
-step_bytes before p (TextEnd style) h = refl
 step_bytes before p Hidden h = sym (append-nil p.bytes)
 step_bytes before p (Start b) h =
     ap (λ x. x ++ start_tag b p.in_list) (head_bytes p b h.fresh)
@@ -210,6 +201,7 @@ step_bytes before p (End b) h =
     ap (λ x. x ++ end_tag b (first_or_false p.outer)) (head_bytes (closed p) b h.fresh)
     ∙ append_assoc p.bytes (header_break p.bytes b) (end_tag b (first_or_false p.outer))
     ∙ ap (λ x. p.bytes ++ (header_break p.bytes b ++ end_tag b x)) (first_is p.outer ∙ h.lists 1 ∙ ap (in_list_at 0) (sym (backwards before (End b))))
+step_bytes before p _ h = refl
 
 step_fresh : (p : Written) (f : Fragment) → fragment_is_line f ≡ true → p.fresh ≡ is_at_break p.bytes → (page_after p f).fresh ≡ is_at_break (page_after p f).bytes
 step_fresh p (TextStart style) line e = fresh_put p.bytes (opening_tags style) p.fresh e (opening_is_other style)

@@ -10,7 +10,7 @@ use Rattle.bpaf_doc.specs.Html.Fragments.{Fragment, TextStart, Shown, TextEnd, H
 use Rattle.bpaf_doc.specs.Markdown.Page.{Newline, MarkdownSnippet, Put, Of, fragments_in, is_newline}
 use Rattle.bpaf_doc.specs.Markdown.Steps.Page.{Marked, with_item, is_term_end, marked_after}
 use Rattle.bpaf_doc.proofs.lemmas.Lists.Passing.{state_after, passes, passes_back, passes_both, passes_first, passes_rest}
-use Rattle.bpaf_doc.proofs.lemmas.Markdown.Cut.{own_snippets, snippets_of, cut_from, item_snippets, open_snippets, close_snippets, line_snippets, new_line_snippets, step-flags, step-code, item-code, item_marks, new_line_marks, open_marks, close_marks}
+use Rattle.bpaf_doc.proofs.lemmas.Markdown.Cut.{raw_cut, by_weight, own_snippets, snippets_of, cut_from, item_snippets, open_snippets, close_snippets, line_snippets, new_line_snippets, step-flags, step-code, item-code, item_marks, new_line_marks, open_marks, close_marks}
 use Rattle.bpaf_doc.proofs.lemmas.Markdown.Kept.{step-fragments, own-fragments}
 
 -- ---- touching
@@ -120,8 +120,8 @@ words_are : (p : Marked) (style : Style) (bytes : List ℕ) (weight : ℕ) → i
 words_are p style bytes weight h =
     let f : Fragment = Shown style (Raw bytes weight) in
     let q : Marked = with_item p false in
-    ap (λ t. item_snippets p.pending false ++ (if t then new_line_snippets q.bytes ++ line_snippets f else (if weight == code_weight then open_snippets q.in_code ++ line_snippets f else (close_snippets q.in_code ++ Of f ∷ [])))) (not_whole bytes weight h).0
-    ∙ ap (λ t. item_snippets p.pending false ++ (if t then open_snippets q.in_code ++ line_snippets f else (close_snippets q.in_code ++ Of f ∷ []))) (not_whole bytes weight h).1
+    ap (λ t. item_snippets p.pending false ++ raw_cut t (weight == code_weight) q f) (not_whole bytes weight h).0
+    ∙ ap (λ c. item_snippets p.pending false ++ raw_cut false c q f) (not_whole bytes weight h).1
     ∙ ap (λ c. item_snippets p.pending false ++ (close_snippets c ++ Of f ∷ [])) (item-code p false)
     ∙ sym (append_assoc (item_snippets p.pending false) (close_snippets p.in_code) (Of f ∷ []))
 
@@ -266,15 +266,11 @@ words_quiet bytes weight e h = ap (λ c. c || (weight == fence_weight)) h ∙ e
 raw_followed : (p : Marked) (style : Style) (bytes : List ℕ) (weight : ℕ) → all_followed (own_snippets p (Shown style (Raw bytes weight))) ≡ true
 raw_followed p style bytes weight =
     let f : Fragment = Shown style (Raw bytes weight) in
-    (elim (weight == fence_weight) as (λ t. (weight == fence_weight) ≡ t
-    → all_followed (if t then new_line_snippets p.bytes ++ line_snippets f else (if weight == code_weight then open_snippets p.in_code ++ line_snippets f else (close_snippets p.in_code ++ Of f ∷ []))) ≡ true) [
-      | true ↦ λ e. followed_both (new_line_snippets p.bytes) (line_snippets f) (marks_followed (new_line_snippets p.bytes) (new_line_marks p.bytes)) (line_followed style bytes weight)
-      | false ↦ λ e. (elim (weight == code_weight) as (λ t. (weight == code_weight) ≡ t → all_followed (if t then open_snippets p.in_code ++ line_snippets f else (close_snippets p.in_code ++ Of f ∷ [])) ≡ true) [
-        | true ↦ λ h. followed_both (open_snippets p.in_code) (line_snippets f) (marks_followed (open_snippets p.in_code) (open_marks p.in_code)) (line_followed style bytes weight)
-        | false ↦ λ h. followed_both (close_snippets p.in_code) (Of f ∷ []) (marks_followed (close_snippets p.in_code) (close_marks p.in_code))
-            (quiet_followed (Of f ∷ []) f refl (ap not (words_quiet bytes weight e h)))
-      ]) refl
-    ]) refl
+    let line : all_followed (line_snippets f) ≡ true = line_followed style bytes weight in
+    by_weight weight (λ t c. all_followed (raw_cut t c p f) ≡ true)
+    (λ e c. followed_both (new_line_snippets p.bytes) (line_snippets f) (marks_followed (new_line_snippets p.bytes) (new_line_marks p.bytes)) line)
+    (λ e h. followed_both (open_snippets p.in_code) (line_snippets f) (marks_followed (open_snippets p.in_code) (open_marks p.in_code)) line)
+    (λ e h. followed_both (close_snippets p.in_code) (Of f ∷ []) (marks_followed (close_snippets p.in_code) (close_marks p.in_code)) (quiet_followed (Of f ∷ []) f refl (ap not (words_quiet bytes weight e h))))
 
 own_followed : (p : Marked) (f : Fragment) → all_followed (own_snippets p f) ≡ true
 own_followed p (Shown style (Raw bytes weight)) = raw_followed p style bytes weight

@@ -91,12 +91,7 @@ list-push before f = ap (λ xs. begins_with_list_start (filter is_list_mark xs))
     cases _ = refl
 
 counted : (p : Fragment → Bool) (before : List Fragment) (f : Fragment) (n : ℕ) → count_by p before ≡ n → count_by p before + one_if (p f) < 2 ^ 64 → count_by p (before ++ f ∷ []) ≡ (if p f then one_more n else n)
-counted p before f n e room =
-    count_by-push p before f
-    ∙ (elim (p f) as (λ b. count_by p before + one_if b < 2 ^ 64 → count_by p before + one_if b ≡ (if b then one_more n else n)) [
-      | true ↦ λ r. omega (arith, r, e)
-      | false ↦ λ r. omega (arith, e)
-    ]) room
+counted p before f n e room = grind (arith, count_by-push p before f)
 
 room_here : (p : Fragment → Bool) (before : List Fragment) (f : Fragment) (fs : List Fragment) → count_by p before + count_by p (f ∷ fs) < 2 ^ 64 → count_by p before + one_if (p f) < 2 ^ 64
 room_here p before f fs room = omega (arith, room, count_by-cons p f fs)

@@ -49,12 +49,11 @@ same_inline blocks.InlineBlock = refl
 same_inline _ = refl
 
 same_depth : (part : Part) (depth : ℕ) → hiding.hidden_after false depth part ≡ depth_after false part depth
-same_depth (Text bytes style) zero = refl
 same_depth (Text bytes style) (suc n) = rw (not_zero n) refl
-same_depth (PartStart b) zero = refl
 same_depth (PartStart b) (suc n) = rw (not_zero n, same_inline b) (grind arith)
 same_depth (PartEnd b) zero = grind arith
 same_depth (PartEnd b) (suc n) = rw (same_inline b) (elim (is_inline b) as (λ (i : Bool). (if i then suc n - 1 else suc n) ≡ (if i then n else suc n)) [ true ↦ omega arith | false ↦ refl ])
+same_depth _ zero = refl
 
 depth_counts : (depth : ℕ) (done parts : List Part) → Counts depth done → Counts (depth_after_all false depth parts) (done ++ parts)
 depth_counts depth done [] counts = subst (Counts depth) (sym (append-nil done)) counts
@@ -105,14 +104,13 @@ before_break : (chunks : List Chunk) → before_first is_paragraph (through_para
 before_break chunks = before_through is_paragraph chunks
 
 part_same : (full : Bool) (before : List Part) (part : Part) → part_walk full part (depth_after_all full 0 before) ≡ part_fragments full before part
-part_same full before (PartStart b) = refl
-part_same full before (PartEnd b) = refl
 part_same true before (Text bytes style) = ap (part_walk true (Text bytes style)) (full_depth before)
 part_same false before (Text bytes style) =
     (elim (depth_after_all false 0 before) as (λ d. is_hidden before ≡ not (d == 0) → part_walk false (Text bytes style) d ≡ part_fragments false before (Text bytes style)) [
       | zero ↦ λ e. rw e (ap (λ cs. TextStart style ∷ (map (Shown style) cs ++ TextEnd style ∷ [])) (sym (before_break (chunks_of bytes))))
       | suc d ↦ λ e. rw (e, not_zero d) refl
     ]) (depth_hides before)
+part_same full before _ = refl
 
 walk-along : (full : Bool) (before parts : List Part) → walk full (depth_after_all full 0 before) parts ≡ along (part_fragments full) before parts
 walk-along full before [] = refl
