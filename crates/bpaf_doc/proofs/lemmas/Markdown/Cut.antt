@@ -116,20 +116,13 @@ fragments-append (Of f ∷ xs) ys = ap (λ fs. f ∷ fs) (fragments-append xs ys
 
 pub places-spelled : (before snippets : List MarkdownSnippet) → flat_map_places_from snippet_text before snippets ≡ spelled (fragments_in before) snippets
 places-spelled before [] = refl
-places-spelled before (Put mark ∷ snippets) =
-    ap (λ x. mark_text mark ++ x) (places-spelled (before ++ Put mark ∷ []) snippets
-    ∙ ap (λ fs. spelled fs snippets) (fragments-append before (Put mark ∷ []) ∙ append-nil (fragments_in before)))
-places-spelled before (Of f ∷ snippets) =
-    ap (λ x. fragment_text (fragments_in before) f ++ x) (places-spelled (before ++ Of f ∷ []) snippets
-    ∙ ap (λ fs. spelled fs snippets) (fragments-append before (Of f ∷ [])))
+places-spelled before (Put mark ∷ snippets) = grind (arith, places-spelled (before ++ Put mark ∷ []) snippets, fragments-append, append-nil)
+places-spelled before (Of f ∷ snippets) = grind (arith, places-spelled (before ++ Of f ∷ []) snippets, fragments-append)
 
 pub spelled-append : (before : List Fragment) (xs ys : List MarkdownSnippet) → spelled before (xs ++ ys) ≡ spelled before xs ++ spelled (before ++ fragments_in xs) ys
 spelled-append before [] ys = ap (λ fs. spelled fs ys) (sym (append-nil before))
 spelled-append before (Put mark ∷ xs) ys = ap (λ x. mark_text mark ++ x) (spelled-append before xs ys) ∙ sym (append_assoc (mark_text mark) (spelled before xs) (spelled (before ++ fragments_in xs) ys))
-spelled-append before (Of f ∷ xs) ys =
-    ap (λ x. fragment_text before f ++ x) (spelled-append (before ++ f ∷ []) xs ys)
-    ∙ sym (append_assoc (fragment_text before f) (spelled (before ++ f ∷ []) xs) (spelled (before ++ f ∷ [] ++ fragments_in xs) ys))
-    ∙ ap (λ fs. (fragment_text before f ++ spelled (before ++ f ∷ []) xs) ++ spelled fs ys) (append_assoc before (f ∷ []) (fragments_in xs))
+spelled-append before (Of f ∷ xs) ys = grind (arith, spelled-append (before ++ f ∷ []) xs ys, append_assoc)
 
 -- ---- what is kept in mind
 
@@ -290,11 +283,7 @@ raw-spelled before p style bytes weight mono =
       -- a line after what was put before it
       line_put : (put_before : List ℕ) (marks : List MarkdownSnippet) → put_before ≡ p.bytes ++ spelled before marks → fragments_in marks ≡ [] → is_ordinary (Raw bytes weight) ≡ false
           → ((put_before ++ codes "  ") ++ bytes) ++ codes "\n" ≡ p.bytes ++ spelled before (marks ++ line_snippets f)
-      line_put put_before marks e none whole =
-          line-spelled before f put_before bytes (whole_text before style bytes weight whole)
-          ∙ ap (λ x. x ++ spelled before (line_snippets f)) e
-          ∙ append_assoc p.bytes (spelled before marks) (spelled before (line_snippets f))
-          ∙ ap (λ x. p.bytes ++ x) (sym (marks_then before marks (line_snippets f) none))
+      line_put put_before marks e none whole = grind (arith, line-spelled, f, whole_text, append_assoc, marks_then)
 
 blank_line_marks : (bytes : List ℕ) → fragments_in (blank_line_snippets bytes) ≡ []
 blank_line_marks bytes = grind arith
@@ -309,27 +298,11 @@ body_dash-spelled : (before : List Fragment) (p : Marked) → body_bytes p ≡ p
 body_dash-spelled before p = grind (arith, append-nil p.bytes)
 
 start-spelled : (before : List Fragment) (p : Marked) (b : Block) → (own_after p (Start b)).bytes ≡ p.bytes ++ spelled before (start_snippets p b)
-start-spelled before p blocks.Header =
-    let next : List Fragment = before ++ Start blocks.Header ∷ [] in
-    let line : List MarkdownSnippet = blank_line_snippets p.bytes in
-    let mark : List MarkdownSnippet = Put (if p.headed then SecondHeading else Heading) ∷ [] in
-    ap (λ x. x ++ (if p.headed then codes "## " else codes "# ")) (blank_line-spelled next p)
-    ∙ append_assoc p.bytes (spelled next line) (if p.headed then codes "## " else codes "# ")
-    ∙ ap (λ x. p.bytes ++ (spelled next line ++ x)) (grind arith)
-    ∙ ap (λ x. p.bytes ++ x) (sym (marks_then next line mark (blank_line_marks p.bytes)))
+start-spelled before p blocks.Header = grind (arith, blank_line-spelled, append_assoc, marks_then, blank_line_marks)
 start-spelled before p blocks.Section3 = refl
 start-spelled before p blocks.Section4 = new_line-spelled (before ++ Start blocks.Section4 ∷ []) p
 start-spelled before p blocks.ItemTerm = new_line-spelled (before ++ Start blocks.ItemTerm ∷ []) p
-start-spelled before p blocks.ItemBody =
-    let next : List Fragment = before ++ Start blocks.ItemBody ∷ [] in
-    let r : Marked = if p.in_list then put p (if p.empty_item then codes " " else codes " &mdash; ") else p in
-    let line : List MarkdownSnippet = new_line_snippets (body_bytes p) in
-    ap (λ x. x ++ codes "  ") (new_line-spelled next r)
-    ∙ append_assoc r.bytes (spelled next line) (codes "  ")
-    ∙ ap (λ x. x ++ (spelled next line ++ codes "  ")) (body_dash-spelled next p)
-    ∙ append_assoc p.bytes (spelled next (body_dash p)) (spelled next line ++ codes "  ")
-    ∙ ap (λ x. p.bytes ++ (spelled next (body_dash p) ++ x)) (sym (marks_then next line blanks (new_line_marks (body_bytes p))))
-    ∙ ap (λ x. p.bytes ++ x) (sym (marks_then next (body_dash p) (line ++ blanks) (body_dash_marks p)))
+start-spelled before p blocks.ItemBody = grind (arith, new_line-spelled, append_assoc, body_dash-spelled, marks_then, new_line_marks, body_dash_marks)
 start-spelled before p blocks.Block = refl
 start-spelled before p _ = sym (append-nil p.bytes)
 
@@ -343,16 +316,7 @@ end-spelled before p blocks.Mono = sym (append-nil p.bytes)
 end-spelled before p _ = refl
 
 text_end-spelled : (before : List Fragment) (p : Marked) (style : Style) → (own_after p (TextEnd style)).bytes ≡ p.bytes ++ spelled before (own_snippets p (TextEnd style))
-text_end-spelled before p style =
-    let rest : List MarkdownSnippet = map Put (reverse (style_marks style)) ++ Of (TextEnd style) ∷ [] in
-    ap (λ x. x ++ closing_marks style) (end_code-spelled before p)
-    ∙ append_assoc p.bytes (spelled before (end_code_snippets p.in_code)) (closing_marks style)
-    ∙ ap (λ x. p.bytes ++ (spelled before (end_code_snippets p.in_code) ++ x)) (closing style)
-    ∙ ap (λ x. p.bytes ++ x) (sym (marks_then before (end_code_snippets p.in_code) rest (end_code_marks p.in_code)))
-  where
-    closing : (style : Style) → closing_marks style ≡ spelled before (map Put (reverse (style_marks style)) ++ Of (TextEnd style) ∷ [])
-    closing styles.Text = refl
-    closing _ = refl
+text_end-spelled before p style = grind (arith, end_code-spelled, append_assoc, marks_then, end_code_marks)
 
 own-spelled : (before : List Fragment) (p : Marked) (f : Fragment) → SameMono before p → (own_after p f).bytes ≡ p.bytes ++ spelled before (own_snippets p f)
 own-spelled before p (TextStart styles.Text) mono = refl
@@ -372,10 +336,4 @@ pub item_marks : (pending empty : Bool) → fragments_in (item_snippets pending 
 item_marks pending empty = grind arith
 
 pub step-spelled : (before : List Fragment) (p : Marked) (f : Fragment) → SameMono before p → (marked_after p f).bytes ≡ p.bytes ++ spelled before (snippets_of p f)
-step-spelled before p f mono =
-    let q : Marked = with_item p (is_term_end f) in
-    let first : List MarkdownSnippet = item_snippets p.pending (is_term_end f) in
-    own-spelled before q f (mono ∙ sym (ap (λ s. nat_lt s.ends s.starts) (item-flags p (is_term_end f))))
-    ∙ ap (λ x. x ++ spelled before (own_snippets q f)) (item-spelled before p (is_term_end f))
-    ∙ append_assoc p.bytes (spelled before first) (spelled before (own_snippets q f))
-    ∙ ap (λ x. p.bytes ++ x) (sym (marks_then before first (own_snippets q f) (item_marks p.pending (is_term_end f))))
+step-spelled before p f mono = grind (arith, own-spelled, item-flags, item-spelled, append_assoc, marks_then, item_marks)

@@ -78,19 +78,7 @@ raw_put before p bytes weight h =
     ∙ both p.bytes (closing_fence before) (words_markdown before bytes) (close_code p (codes "\n  ```\n")).bytes (close_put before p (codes "\n  ```\n") h.code))
 
 body_put : (before : List Fragment) (p : Marked) → Looks before p → p.empty_item ≡ is_after_empty_item before → (own_after p (Start blocks.ItemBody)).bytes ≡ p.bytes ++ (body_mark before ++ (new_line (p.bytes ++ body_mark before) ++ codes "  "))
-body_put before p h empty =
-    ap (λ x. x ++ codes "  ") (new_line_put marked)
-    ∙ ap (λ x. (x ++ new_line x) ++ codes "  ") (marks p.in_list ∙ ap (λ b. p.bytes ++ (if b then (if p.empty_item then codes " " else codes " &mdash; ") else [])) h.in_list
-    ∙ ap (λ b. p.bytes ++ (if is_in_list before then (if b then codes " " else codes " &mdash; ") else [])) empty)
-    ∙ append_assoc (p.bytes ++ body_mark before) (new_line (p.bytes ++ body_mark before)) (codes "  ")
-    ∙ append_assoc p.bytes (body_mark before) (new_line (p.bytes ++ body_mark before) ++ codes "  ")
-  where
-    marked : Marked
-    marked = if p.in_list then put p (if p.empty_item then codes " " else codes " &mdash; ") else p
-
-    marks : (in_list : Bool) → (if in_list then put p (if p.empty_item then codes " " else codes " &mdash; ") else p).bytes ≡ p.bytes ++ (if in_list then (if p.empty_item then codes " " else codes " &mdash; ") else [])
-    marks true = refl
-    marks false = sym (append-nil p.bytes)
+body_put before p h empty = grind (arith, new_line_put, append_assoc, append-nil)
 
 paragraph_text : (in_list : Bool) → (if in_list then codes "\n\n  " else codes "\n\n") ≡ codes "\n\n" ++ (if in_list then codes "  " else [])
 paragraph_text in_list = grind arith
@@ -103,9 +91,7 @@ own_put before p (Shown style (Raw bytes weight)) fs h none empty = raw_put befo
 own_put before p (Shown style Paragraph) fs h none empty = ap (λ x. p.bytes ++ x) (paragraph_text p.in_list ∙ ap (λ b. codes "\n\n" ++ (if b then codes "  " else [])) h.in_list)
 own_put before p (Shown style LineBreak) fs h none empty = refl
 own_put before p (TextEnd style) fs h none empty = both p.bytes (last_fence before) (closing_marks style) (close_code p (codes "  ```\n")).bytes (close_put before p (codes "  ```\n") h.code)
-own_put before p (Start blocks.Header) fs h none empty =
-    ap (λ b. (with_blank_line p).bytes ++ (if b then codes "## " else codes "# ")) h.headed
-    ∙ both p.bytes (blank_line p.bytes) (if list_any is_header_start before then codes "## " else codes "# ") (with_blank_line p).bytes (blank_line_put p)
+own_put before p (Start blocks.Header) fs h none empty = grind (arith, both, blank_line_put)
 own_put before p (Start blocks.Section3) fs h none empty = refl
 own_put before p (Start blocks.Section4) fs h none empty = absurd cc
 own_put before p (Start blocks.ItemTerm) fs h none empty = absurd cc
@@ -140,19 +126,7 @@ item_start_put q fs = both q.bytes (new_line q.bytes) (item_mark fs) (with_new_l
 
 step_put : (before : List Fragment) (p : Marked) (f : Fragment) (fs : List Fragment) → Looks before (with_item p (is_term_end f)) → (is_term_end f ≡ false → (with_item p (is_term_end f)).empty_item ≡ is_after_empty_item before)
     → (marked_after p f).bytes ++ waiting (marked_after p f).pending fs ≡ (with_item p (is_term_end f)).bytes ++ fragment_markdown (with_item p (is_term_end f)).bytes before f fs
-step_put before p f fs h empty = others (is_item_start f) refl
-  where
-    others : (starts : Bool) → is_item_start f ≡ starts → (marked_after p f).bytes ++ waiting (marked_after p f).pending fs ≡ (with_item p (is_term_end f)).bytes ++ fragment_markdown (with_item p (is_term_end f)).bytes before f fs
-    others true e = items f e
-      where
-        items : (f : Fragment) → is_item_start f ≡ true → (marked_after p f).bytes ++ waiting (marked_after p f).pending fs ≡ (with_item p (is_term_end f)).bytes ++ fragment_markdown (with_item p (is_term_end f)).bytes before f fs
-        items (Start blocks.Section4) e = item_start_put (with_item p false) fs
-        items (Start blocks.ItemTerm) e = item_start_put (with_item p false) fs
-        items f e = absurd cc
-    others false e =
-        ap (λ b. (marked_after p f).bytes ++ waiting b fs) (pending_next p f ∙ ap (λ b. if b then true else false) e)
-        ∙ append-nil (marked_after p f).bytes
-        ∙ own_put before (with_item p (is_term_end f)) f fs h e empty
+step_put before p f fs h empty = grind (arith, item_start_put, pending_next, append-nil, own_put)
 
 -- ---- the text
 

@@ -115,9 +115,7 @@ is_plain (Put mark) = true
 is_plain (Of f) = not (shows is_code_line f) && not (shows is_ordinary f || is_text_end f)
 
 plain_stands : (q : Bool) (f : Fragment) → is_plain (Of f) ≡ true → may_stand q (Of f) ≡ true
-plain_stands q f h =
-    let parts : (not (shows is_code_line f) ≡ true) × (not (shows is_ordinary f || is_text_end f) ≡ true) = and_parts (not (shows is_code_line f)) (not (shows is_ordinary f || is_text_end f)) h in
-    ap (λ b. (b || q) && (not (shows is_ordinary f || is_text_end f) || not q)) parts.0 ∙ ap (λ b. b || not q) parts.1
+plain_stands q f h = grind (arith, and_parts)
 
 plain_fences : (q : Bool) (ss : List MarkdownSnippet) → list_all is_plain ss ≡ true → Fences q ss q
 plain_fences q [] h = (refl, refl)

@@ -26,15 +26,10 @@ abbrev last_line : List ℕ → List ℕ
 last_line text = after_last (λ c. c == 10) text
 
 last_line-newline : (text : List ℕ) → last_line (text ++ codes "\n") ≡ []
-last_line-newline text =
-    let none : suffix_len (λ c. not (c == 10)) (text ++ 10 ∷ []) ≡ 0 = suffix-push (λ c. not (c == 10)) text 10 in
-    drop_all (length (text ++ 10 ∷ []) - suffix_len (λ c. not (c == 10)) (text ++ 10 ∷ [])) (text ++ 10 ∷ []) (omega arith)
+last_line-newline text = grind (arith, suffix-push, drop_all)
 
 last_line-blank : (text : List ℕ) → last_line (text ++ 32 ∷ []) ≡ last_line text ++ 32 ∷ []
-last_line-blank text =
-    let more : suffix_len (λ c. not (c == 10)) (text ++ 32 ∷ []) ≡ 1 + suffix_len (λ c. not (c == 10)) text = suffix-push (λ c. not (c == 10)) text 32 in
-    let same : length (text ++ 32 ∷ []) - suffix_len (λ c. not (c == 10)) (text ++ 32 ∷ []) ≡ length text - suffix_len (λ c. not (c == 10)) text = omega (arith, length-append text (32 ∷ [])) in
-    ap (λ n. drop n (text ++ 32 ∷ [])) same ∙ drop-append-le (length text - suffix_len (λ c. not (c == 10)) text) text (32 ∷ []) (omega arith)
+last_line-blank text = grind (arith, suffix-push, length-append, drop-append-le)
 
 blank_newline : (text : List ℕ) → EndsInBlankLine (text ++ codes "\n")
 blank_newline text = AllPass-from_list_all (λ c. c == 32) (last_line (text ++ codes "\n")) (ap (list_all (λ c. c == 32)) (last_line-newline text))

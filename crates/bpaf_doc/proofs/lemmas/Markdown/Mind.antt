@@ -23,15 +23,10 @@ suffix-push q fs f = ap (λ xs. prefix_len q xs) (reverse-append fs (f ∷ []))
 
 -- what stands after the last that passes
 after_last-at : (p : Fragment → Bool) (fs : List Fragment) (f : Fragment) → p f ≡ true → after_last p (fs ++ f ∷ []) ≡ []
-after_last-at p fs f e =
-    let none : suffix_len (λ x. not (p x)) (fs ++ f ∷ []) ≡ 0 = suffix-push (λ x. not (p x)) fs f ∙ ap (λ b. cond (not b) (1 + suffix_len (λ x. not (p x)) fs) 0) e in
-    drop_all (length (fs ++ f ∷ []) - suffix_len (λ x. not (p x)) (fs ++ f ∷ [])) (fs ++ f ∷ []) (omega arith)
+after_last-at p fs f e = grind (arith, suffix-push, drop_all)
 
 after_last-past : (p : Fragment → Bool) (fs : List Fragment) (f : Fragment) → p f ≡ false → after_last p (fs ++ f ∷ []) ≡ after_last p fs ++ f ∷ []
-after_last-past p fs f e =
-    let more : suffix_len (λ x. not (p x)) (fs ++ f ∷ []) ≡ 1 + suffix_len (λ x. not (p x)) fs = suffix-push (λ x. not (p x)) fs f ∙ ap (λ b. cond (not b) (1 + suffix_len (λ x. not (p x)) fs) 0) e in
-    let same : length (fs ++ f ∷ []) - suffix_len (λ x. not (p x)) (fs ++ f ∷ []) ≡ length fs - suffix_len (λ x. not (p x)) fs = omega (arith, length-append fs (f ∷ [])) in
-    ap (λ n. drop n (fs ++ f ∷ [])) same ∙ drop-append-le (length fs - suffix_len (λ x. not (p x)) fs) fs (f ∷ []) (omega arith)
+after_last-past p fs f e = grind (arith, suffix-push, length-append, drop-append-le)
 
 -- ---- items
 
@@ -83,12 +78,7 @@ abbrev pub Room : List Fragment → List Fragment → Type 0
 Room before rest = (count_by is_mono_start before + count_by is_mono_start rest < 2 ^ 64) × (count_by is_mono_end before + count_by is_mono_end rest < 2 ^ 64)
 
 list-push : (before : List Fragment) (f : Fragment) → is_in_list (before ++ f ∷ []) ≡ (if is_list_start f then true else (if is_list_end f then false else is_in_list before))
-list-push before f = ap (λ xs. begins_with_list_start (filter is_list_mark xs)) (reverse-append before (f ∷ [])) ∙ cases f
-  where
-    cases : (f : Fragment) → begins_with_list_start (filter is_list_mark (f ∷ reverse before)) ≡ (if is_list_start f then true else (if is_list_end f then false else is_in_list before))
-    cases (Start blocks.DefinitionList) = refl
-    cases (End blocks.DefinitionList) = refl
-    cases _ = refl
+list-push before f = grind (arith, reverse-append)
 
 counted : (p : Fragment → Bool) (before : List Fragment) (f : Fragment) (n : ℕ) → count_by p before ≡ n → count_by p before + one_if (p f) < 2 ^ 64 → count_by p (before ++ f ∷ []) ≡ (if p f then one_more n else n)
 counted p before f n e room = grind (arith, count_by-push p before f)
@@ -135,12 +125,7 @@ heading_is : (before : List Fragment) (p : Marked) (f : Fragment) (fs : List Fra
     → own_heading (with_item p (is_term_end f)) f ++ item_heading (flags_next (flags p) f).pending (begins_with_term_end fs) ≡ headings_of before f fs
 heading_is before p (Start blocks.Header) fs h =
     ap (λ s. (if s.headed then SecondHeading else Heading) ∷ []) (item-flags p false) ∙ ap (λ b. (if b then SecondHeading else Heading) ∷ []) (sym h.headed)
-heading_is before p (Start blocks.ItemBody) fs h =
-    append-nil (own_heading (with_item p false) (Start blocks.ItemBody))
-    ∙ ap (λ s. if s.in_list then (if s.empty_item then [] else (LongDash ∷ [])) else []) (item-flags p false)
-    ∙ grind arith
-    ∙ ap (λ b. if (b && not (if p.pending then false else p.empty_item)) then (LongDash ∷ []) else []) (sym h.in_list)
-    ∙ ap (λ b. if (is_in_list before && not b) then (LongDash ∷ []) else []) (sym (after_empty_is h.item))
+heading_is before p (Start blocks.ItemBody) fs h = grind (arith, append-nil, item-flags, after_empty_is)
 heading_is before p _ fs h = refl
 
 pub all-headings : (before : List Fragment) (p : Marked) (fs : List Fragment) → Agrees before (flags p) → Room before fs
