@@ -63,9 +63,7 @@ shown_ink-full (Raw bytes weight ∷ chunks) = ap (λ more. ink bytes ++ more) (
 shown_ink-full (_ ∷ chunks) = shown_ink-full chunks
 
 one_more : (chunk : Chunk) (chunks : List Chunk) → is_paragraph chunk ≡ false → through_paragraph (chunk ∷ chunks) ≡ chunk ∷ through_paragraph chunks
-one_more chunk chunks e = rw (e, next (position_or_len is_paragraph chunks)) refl where
-  next : (n : ℕ) → 1 + n + 1 ≡ suc (n + 1)
-  next n = omega arith
+one_more chunk chunks e = grind arith
 
 pub shown_ink-brief : (chunks : List Chunk) → flat_map chunk_ink (through_paragraph chunks) ≡ shown_ink false chunks
 shown_ink-brief (Raw bytes weight ∷ chunks) =
@@ -113,10 +111,7 @@ full_at before _ = refl
 
 full_from : (document parts : List Part) (k : ℕ) → flat_map (λ (k, part). shown_part_ink true (take k document) part) (enumerate_from k parts) ≡ ink_from true 0 parts
 full_from document [] k = refl
-full_from document (part ∷ parts) k =
-    both (shown_part_ink true (take k document) part) (flat_map (λ (k, part). shown_part_ink true (take k document) part) (enumerate_from (k + 1) parts))
-    (ink_at true 0 part) (ink_from true (hidden_after true 0 part) parts) (full_at (take k document) part)
-    (full_from document parts (k + 1) ∙ ap (λ n. ink_from true n parts) (sym (full_stays part)))
+full_from document (part ∷ parts) k = grind (arith, full_from document parts (k + 1), both, full_at, full_stays)
 
 -- from the start on it is the console ink
 pub ink_from-console_ink : (full : Bool) (document : List Part) → ink_from full 0 document ≡ console_ink full document

@@ -101,10 +101,7 @@ end-skipped pairs index b page skipped = ap (λ t. if t then page else closed b 
 
 -- what is passed over has no ink
 pub skips-mark_bytes : (pairs : Pairs) (index : ℕ) (b : Block) → true ≡ skips pairs index b → mark_bytes b ≡ []
-skips-mark_bytes pairs index b skipped = quiet b (grind arith) where
-  quiet : (b : Block) → is_block b ≡ true → mark_bytes b ≡ []
-  quiet blocks.TermRef e = absurd cc
-  quiet _ e = refl
+skips-mark_bytes pairs index b skipped = grind arith
 
 -- nothing is left
 pub IsPageLeft-none : {Z E : Type 0} (r : Result (String Z) E) (full : Bool) (document : List Part) (whole : Sheet) (few : Type 0) (index : ℕ) (pairs : Pairs) (hidden : ℕ) (parts : List Part) (page : Sheet)

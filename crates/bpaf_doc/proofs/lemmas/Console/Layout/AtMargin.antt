@@ -35,15 +35,7 @@ quiet_column : (r : List Stretch) → is_quiet r ≡ true → inked_line r ≡ f
 quiet_column [] q i p = refl
 quiet_column (Gap b ∷ r) q i p = elim (by_cases (b == 10)) [ inl e ↦ rw e refl | inr e ↦ let some : 1 + pads_back r ≡ 0 = rw e at p in absurd (omega arith) ]
 quiet_column (Placed e ∷ r) q i p = let some : true ≡ false = rw q at i in absurd cc
-quiet_column (Passed event ∷ r) q i p = at (by_cases (is_raw_or_ref event)) (quiet_column r) where
-  at : (is_raw_or_ref event ≡ true) ⊎ (is_raw_or_ref event ≡ false) → (is_quiet r ≡ true → inked_line r ≡ false → pads_back r ≡ 0 → column_back r ≡ 0) → column_back (Passed event ∷ r) ≡ 0
-  at (inl x) ih = let no : false ≡ true = rw x at q in absurd cc
-  at (inr x) ih =
-      let rest : is_quiet r ≡ true = rw x at q in
-      let none : length (event_bytes event) ≡ 0 = bare_event event x in
-      let pads : pads_back r ≡ 0 = omega arith in
-      let tail : column_back r ≡ 0 = ih rest (or_false_right (is_inked_stretch (Passed event)) (inked_line r) i) pads in
-      omega arith
+quiet_column (Passed event ∷ r) q i p = grind (arith, quiet_column r, bare_event, or_false_right)
 
 -- ---- one blank since the last ink
 

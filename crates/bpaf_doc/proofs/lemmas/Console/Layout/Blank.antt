@@ -146,23 +146,12 @@ last_between : (m : List Stretch) (e : Place) (before : List Stretch) → HasNoR
 last_between [] e before none i = i
 last_between (Gap b ∷ m) e before none i = last_between m e before none i
 last_between (Placed g ∷ m) e before none i = absurd cc
-last_between (Passed event ∷ m) e before none i =
-    let plain : is_raw_event event ≡ false = or_false_left (is_raw_event event) (list_any is_raw_event (events_back m)) none in
-    rw plain (last_between m e before (or_false_right (is_raw_event event) (list_any is_raw_event (events_back m)) none) i)
+last_between (Passed event ∷ m) e before none i = grind (arith, last_between m e before, or_false_left, or_false_right)
 
 owes_between : (m : List Stretch) (e : Place) (before : List Stretch) → HasNoRaw m → is_inked (chunk_at e) ≡ true → list_any asks_blank_line (events_back m) ≡ true
     → owes_blank (m ++ Placed e ∷ before) ≡ true
 owes_between (Gap b ∷ m) e before none i a = owes_between m e before none i a
-owes_between (Passed event ∷ m) e before none i a = at (by_cases (asks_blank_line event)) (owes_between m e before (or_false_right (is_raw_event event) (list_any is_raw_event (events_back m)) none) i) where
-  plain : is_raw_event event ≡ false
-  plain = or_false_left (is_raw_event event) (list_any is_raw_event (events_back m)) none
-
-  at : (asks_blank_line event ≡ true) ⊎ (asks_blank_line event ≡ false) → (list_any asks_blank_line (events_back m) ≡ true → owes_blank (m ++ Placed e ∷ before) ≡ true)
-      → owes_blank (Passed event ∷ (m ++ Placed e ∷ before)) ≡ true
-  at (inl b) ih =
-      let last : last_raw_inked (m ++ Placed e ∷ before) ≡ true = last_between m e before (or_false_right (is_raw_event event) (list_any is_raw_event (events_back m)) none) i in
-      rw (plain, b, last) refl
-  at (inr b) ih = let rest : list_any asks_blank_line (events_back m) ≡ true = rw b at a in rw plain (or_true_right (asks_blank_line event && last_raw_inked (m ++ Placed e ∷ before)) _ (ih rest))
+owes_between (Passed event ∷ m) e before none i a = grind (arith, owes_between m e before, or_false_right, or_false_left, last_between, or_true_right)
 owes_between _ e before none i a = absurd cc
 
 module _ (width : ℕ) where
@@ -198,9 +187,7 @@ module _ (width : ℕ) where
       (λ event r t i ih. at event r t (by_cases (is_raw_event event)) ih) where
         owed : (event : Event) (r t : List Stretch) → Owes r t → ((asks_blank_line event && last_raw_inked t) ≡ true) ⊎ (owes_blank t ≡ true)
             → ((asks_blank_line event && last_raw_inked r) || owes_blank r) ≡ true
-        owed event r t ih (inl last) =
-            let both : (asks_blank_line event ≡ true) × (last_raw_inked t ≡ true) = and_parts (asks_blank_line event) (last_raw_inked t) last in
-            rw (both.0, ih.0 both.1) refl
+        owed event r t ih (inl last) = grind (arith, and_parts)
         owed event r t ih (inr owes) = or_true_right (asks_blank_line event && last_raw_inked r) (owes_blank r) (ih.1 owes)
 
         at : (event : Event) (r t : List Stretch) → (is_raw_event event ≡ true) ⊎ (is_raw_event event ≡ false) → Owes r t → Owes (Passed event ∷ r) (Passed event ∷ t)

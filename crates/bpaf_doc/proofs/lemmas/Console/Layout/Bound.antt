@@ -86,21 +86,9 @@ module _ (width deepest most : ℕ) where
 
   within_put : {st : State} (p : Piece) (base : State) (n : ℕ) → width < 1_000_000 → EachPlace Fills st.back → Agrees st → st.margin ≤ deepest → columns p.bytes ≤ most
       → Begins width st p base → Pads base n → columns p.bytes + (n + column_back base.back) ≤ bound
-  within_put {st} p base n small f h m c (first t e) d =
-      let none : column_back base.back ≡ 0 = subst (λ (s : State). column_back s.back ≡ 0) (sym e) (no_text_column st.back f t) in
-      let in_force : base.margin ≤ deepest = subst (λ (s : State). s.margin ≤ deepest) (sym e) m in
-      let pads : n + column_back base.back ≤ deepest + 2 = within_first n base in_force none d in omega arith
-  within_put {st} p base n small f h m c (stays t l w) d = at (agrees_lines f l h) where
-    in_force : base.margin ≤ deepest
-    in_force = subst (λ (k : ℕ). k ≤ deepest) (sym (lines_margin l).0) m
-
-    at : Agrees base → columns p.bytes + (n + column_back base.back) ≤ bound
-    at (inl x) = elim (within_pads n base in_force x d) [ inl x ↦ omega arith | inr x ↦ omega arith ]
-    at (inr x) = absurd (omega arith)
-  within_put {st} p base n small f h m c (wraps t mid l w b e) d =
-      let none : column_back base.back ≡ 0 = subst (λ (s : State). column_back s.back ≡ 0) (sym e) refl in
-      let in_force : base.margin ≤ deepest = subst (λ (k : ℕ). k ≤ deepest) (sym (ap (λ (s : State). s.margin) e ∙ (lines_margin l).0)) m in
-      let pads : n + column_back base.back ≤ deepest + 2 = within_first n base in_force none d in omega arith
+  within_put {st} p base n small f h m c (first t e) d = grind (arith, no_text_column, within_first)
+  within_put {st} p base n small f h m c (stays t l w) d = grind (arith, agrees_lines, lines_margin, within_pads)
+  within_put {st} p base n small f h m c (wraps t mid l w b e) d = grind (arith, lines_margin, within_first)
 
   pub within_grows : {st after : State} {next : Next} → width < 1_000_000 → EachPlace Fills st.back → EachPassed IsBare st.back → Agrees st → st.margin ≤ deepest
       → WritesNone next → IsNarrow most next → Grows width st next after → EachFront (Within bound) st.back → EachFront (Within bound) after.back

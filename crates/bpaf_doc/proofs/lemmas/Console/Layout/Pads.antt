@@ -49,10 +49,7 @@ no_ref _ h = grind arith
 -- on a page without text and without places stands nothing
 no_text_holds : (r : List Stretch) → has_text r ≡ false → has_place r ≡ false → holds_back r ≡ false
 no_text_holds [] t p = refl
-no_text_holds (Passed event ∷ r) t p =
-    let bare : is_ref event ≡ false = no_ref event (or_false_left (has_some (event_bytes event)) (has_text r) t) in
-    let rest : holds_back r ≡ false = no_text_holds r (or_false_right (has_some (event_bytes event)) (has_text r) t) p in
-    rw bare rest
+no_text_holds (Passed event ∷ r) t p = grind (arith, no_text_holds r, no_ref, or_false_left, or_false_right)
 no_text_holds (_ ∷ r) t p = absurd cc
 
 module _ (width : ℕ) where

@@ -148,13 +148,5 @@ idle_sound width deepest small = record {
 pub idle_all : (m : List Stretch) → list_any is_inked_stretch m ≡ false → list_any asks_newline (events_back m) ≡ false → list_all is_idle (events_back m) ≡ true
 idle_all [] i a = refl
 idle_all (Gap b ∷ m) i a = idle_all m i a
-idle_all (Placed e ∷ m) i a =
-    let plain : is_inked (chunk_at e) ≡ false = or_false_left (is_inked (chunk_at e)) false (or_false_left (is_inked_stretch (Placed e)) (list_any is_inked_stretch m) i) in
-    let rest : list_all is_idle (events_back m) ≡ true = idle_all m (or_false_right (is_inked_stretch (Placed e)) (list_any is_inked_stretch m) i) a in
-    rw plain rest
-idle_all (Passed event ∷ m) i a =
-    let plain : is_inked_event event ≡ false = or_false_left (is_inked_event event) false (or_false_left (is_inked_stretch (Passed event)) (list_any is_inked_stretch m) i) in
-    let quiet : asks_newline event ≡ false = or_false_left (asks_newline event) (list_any asks_newline (events_back m)) a in
-    let rest : list_all is_idle (events_back m) ≡ true =
-    idle_all m (or_false_right (is_inked_stretch (Passed event)) (list_any is_inked_stretch m) i) (or_false_right (asks_newline event) (list_any asks_newline (events_back m)) a) in
-    rw (plain, quiet) rest
+idle_all (Placed e ∷ m) i a = grind (arith, idle_all m, or_false_left, or_false_right)
+idle_all (Passed event ∷ m) i a = grind (arith, idle_all m, or_false_left, or_false_right)

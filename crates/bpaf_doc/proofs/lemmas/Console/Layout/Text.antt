@@ -129,10 +129,7 @@ pub begins_column : {width : ℕ} {st : State} {p : Piece} {base : State} → wi
 begins_column {st = st} small f start h (first t e) =
     let here : st.column ≡ column_back st.back = (start t).0 ∙ sym (no_text_column st.back f t) in
     subst (λ (s : State). s.column ≡ column_back s.back) (sym e) here
-begins_column {width} {st} {p} {base} small f start h (stays t l w) = at (agrees_lines f l h) where
-  at : Agrees base → base.column ≡ column_back base.back
-  at (inl c) = c
-  at (inr c) = absurd (omega arith)
+begins_column {width} {st} {p} {base} small f start h (stays t l w) = grind (arith, agrees_lines)
 begins_column small f start h (wraps t mid l w b e) = subst (λ (s : State). s.column ≡ column_back s.back) (sym e) refl
 
 -- and the margin is still the one in force, and what was asked for after a term still holds

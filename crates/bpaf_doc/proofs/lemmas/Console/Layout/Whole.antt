@@ -43,9 +43,7 @@ map_snoc (y ∷ xs) x = ap (λ es. next_event y ∷ es) (map_snoc xs x)
 module _ {width : ℕ} {margin_of : ℕ → ℕ} {clear : State → Next → Type 0} where
   pub written_events : {nexts : List Next} {st : State} → Written width margin_of clear nexts st → events_back st.back ≡ reverse (map next_event nexts)
   written_events (nothing e s) = ap (λ (x : State). events_back x.back) s ∙ sym (ap (λ ns. reverse (map next_event ns)) e)
-  written_events (more earlier before next e w suits c g) =
-      events_grows g ∙ ap (λ es. next_event next ∷ es) (written_events w)
-      ∙ sym (ap (λ ns. reverse (map next_event ns)) e ∙ ap (λ es. reverse es) (map_snoc earlier next) ∙ reverse-append (map next_event earlier) (next_event next ∷ []))
+  written_events (more earlier before next e w suits c g) = grind (arith, written_events w, events_grows, map_snoc, reverse-append)
 
 -- ---- what always holds
 
@@ -554,10 +552,7 @@ module _ (width : ℕ) (document : List Part) (st : State) (final : List Stretch
           allowed : (m before : List Stretch) (e f : Place) → (list_all is_chunk (events_back m) ≡ true) ⊎ (list_all is_chunk (events_back m) ≡ false) → IsAfterAll (m ++ Placed e ∷ before) f
               → allowance (greatest_margin document) (events_back m) ≤ (if e.part == f.part then 0 else greatest_margin document)
           allowed m before e f (inl t) later = rw t (omega arith)
-          allowed m before e f (inr t) later =
-              let apart : e.part < f.part = part_later false f.part m before e later (inr t) in
-              let differ : (e.part == f.part) ≡ false = grind (arith, nat_tests) in
-              rw (t, differ) (omega arith)
+          allowed m before e f (inr t) later = grind (arith, part_later, nat_tests)
 
 -- ---- the whole
 
