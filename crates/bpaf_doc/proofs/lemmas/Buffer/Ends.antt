@@ -171,8 +171,7 @@ with_text_end-kept es fs o e style end was is other = grind (arith, with_text_en
 
 pub with_text_end-replaced : (es fs : List PartEnd) (o : Option PartEnd) (e : PartEnd) (style : Style) (end : ℕ) → es ≡ fs ++ option_to_list o → o ≡ Some e → is_text_of e.kind style ≡ true
     → with_text_end es style end ≡ fs ++ text_end style end ∷ []
-with_text_end-replaced es fs o e style end was is same =
-    rw (was, is) (with_text_end-push fs e style end) ∙ ap (λ b. fs ++ (if b then text_end style end ∷ [] else e ∷ text_end style end ∷ [])) same
+with_text_end-replaced es fs o e style end was is same = grind (arith, with_text_end-push)
 
 pub with_text_end-none : (es fs : List PartEnd) (o : Option PartEnd) (style : Style) (end : ℕ) → es ≡ fs ++ option_to_list o → o ≡ None → length fs ≤ 0
     → with_text_end es style end ≡ fs ++ text_end style end ∷ []

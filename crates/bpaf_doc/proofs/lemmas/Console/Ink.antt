@@ -66,8 +66,7 @@ one_more : (chunk : Chunk) (chunks : List Chunk) → is_paragraph chunk ≡ fals
 one_more chunk chunks e = grind arith
 
 pub shown_ink-brief : (chunks : List Chunk) → flat_map chunk_ink (through_paragraph chunks) ≡ shown_ink false chunks
-shown_ink-brief (Raw bytes weight ∷ chunks) =
-    ap (λ cs. flat_map chunk_ink cs) (one_more (Raw bytes weight) chunks refl) ∙ ap (λ more. ink bytes ++ more) (shown_ink-brief chunks)
+shown_ink-brief (Raw bytes weight ∷ chunks) = grind (arith, shown_ink-brief chunks, one_more)
 shown_ink-brief (LineBreak ∷ chunks) = ap (λ cs. flat_map chunk_ink cs) (one_more LineBreak chunks refl) ∙ shown_ink-brief chunks
 shown_ink-brief _ = refl
 
@@ -171,8 +170,7 @@ IsLeft-all full count document len = record {
 
 -- nothing is left
 pub IsLeft-none : (full : Bool) (count hidden : ℕ) (out all : List ℕ) (parts : List Part) → IsLeft full count hidden out all parts → parts ≡ [] → ink out ≡ all
-IsLeft-none full count hidden out all parts left none =
-    sym (append-nil (ink out)) ∙ ap (λ ps. ink out ++ ink_from full hidden ps) (sym none) ∙ left.same_ink
+IsLeft-none full count hidden out all parts left none = grind (arith, append-nil)
 
 -- a text that is shown, with and without a Paragraph that hides what follows, and one that is hidden
 pub IsLeft-shown : (full : Bool) (count hidden : ℕ) (out new all bytes : List ℕ) (style : Style) (parts rest : List Part)

@@ -93,8 +93,7 @@ take_next : {A : Type 0} (f : ℕ × Part → A) (j k : ℕ) (parts : List Part)
 take_next f zero k [] part rest e = absurd cc
 take_next f zero k (p ∷ ps) part rest e = grind (arith, add-zero)
 take_next f (suc j) k [] part rest e = absurd cc
-take_next f (suc j) k (p ∷ ps) part rest e =
-    ap (λ xs. f (k, p) ∷ xs) (take_next f j (k + 1) ps part rest e ∙ ap (λ n. take j (map f (enumerate_from (k + 1) ps)) ++ f (n, part) ∷ []) (omega arith))
+take_next f (suc j) k (p ∷ ps) part rest e = grind (arith, take_next f j (k + 1) ps part rest e)
 
 -- the part at place j shifts the stack
 pub stack_at-more : (document : List Part) (j : ℕ) (part : Part) (rest : List Part) → drop j document ≡ part ∷ rest

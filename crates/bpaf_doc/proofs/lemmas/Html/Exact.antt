@@ -118,8 +118,7 @@ no_break text t some other = at (cases_Bool (ends_with nat_eq (text ++ t) break_
 
 -- what the code keeps about breaks, after it wrote something else
 fresh_put : (text t : List ℕ) (fresh : Bool) → fresh ≡ is_at_break text → IsOther t → (fresh && is_empty t) ≡ is_at_break (text ++ t)
-fresh_put text t fresh e (inl none) =
-    ap (λ x. fresh && is_empty x) none ∙ and-true fresh ∙ e ∙ ap is_at_break (sym (append-nil text)) ∙ ap (λ x. is_at_break (text ++ x)) (sym none)
+fresh_put text t fresh e (inl none) = grind (arith, and-true, append-nil)
 fresh_put text t fresh e (inr some) = ap (λ b. fresh && b) some.0 ∙ and-false fresh ∙ sym (no_break text t some.0 some.1)
 
 -- ---- what the code keeps is what looking back says

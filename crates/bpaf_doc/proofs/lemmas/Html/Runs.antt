@@ -19,8 +19,7 @@ words_on p a b = grind (arith, ap₂, append_assoc, flat_map-append)
 
 words_page : {chunks : List Chunk} {text : List ℕ} → AreWords chunks text → (p : Written) (style : Style) → page_after_all p (map (Shown style) chunks) ≡ with_words p text
 words_page (no_words ec et) p style = ap (λ cs. page_after_all p (map (Shown style) cs)) ec ∙ sym (ap (with_words p) et ∙ words_nothing p)
-words_page (a_word bytes rest others ec et w) p style =
-    ap (λ cs. page_after_all p (map (Shown style) cs)) ec ∙ words_page w (with_words p bytes) style ∙ words_on p bytes rest ∙ ap (with_words p) (sym et)
+words_page (a_word bytes rest others ec et w) p style = grind (arith, words_page w, words_on)
 
 -- the page after the chunks of a run
 pub run_page : (p : Written) (style : Style) (run : List ℕ) → IsLine run → page_after_all p (map (Shown style) (chunks_of run)) ≡ with_words p run

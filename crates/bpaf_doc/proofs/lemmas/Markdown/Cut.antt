@@ -215,13 +215,11 @@ abbrev pub SameMono : List Fragment → Marked → Type 0
 SameMono before p = is_in_mono before ≡ nat_lt p.ends p.starts
 
 whole_text : (before : List Fragment) (style : Style) (bytes : List ℕ) (weight : ℕ) → is_ordinary (Raw bytes weight) ≡ false → fragment_text before (Shown style (Raw bytes weight)) ≡ bytes
-whole_text before style bytes weight e =
-    ap (λ o. if (is_in_mono before && o) then flat_map escaped_character bytes else bytes) e ∙ ap (λ t. if t then flat_map escaped_character bytes else bytes) (and-false (is_in_mono before))
+whole_text before style bytes weight e = grind (arith, and-false)
 
 words_text : (before : List Fragment) (style : Style) (bytes : List ℕ) (weight : ℕ) → is_ordinary (Raw bytes weight) ≡ true
     → fragment_text before (Shown style (Raw bytes weight)) ≡ (if is_in_mono before then flat_map escaped_character bytes else bytes)
-words_text before style bytes weight e =
-    ap (λ o. if (is_in_mono before && o) then flat_map escaped_character bytes else bytes) e ∙ ap (λ t. if t then flat_map escaped_character bytes else bytes) (and-true (is_in_mono before))
+words_text before style bytes weight e = grind (arith, and-true)
 
 pub fence_is_whole : (bytes : List ℕ) (weight : ℕ) → (weight == fence_weight) ≡ true → is_ordinary (Raw bytes weight) ≡ false
 fence_is_whole bytes weight e = ap (λ t. not (weight == code_weight) && not t) e ∙ and-false (not (weight == code_weight))
@@ -237,8 +235,7 @@ new_line-spelled before p = grind (arith, append-nil p.bytes)
 
 -- marks before a fragment are spelled alike wherever they stand
 line-spelled : (before : List Fragment) (f : Fragment) (bytes text : List ℕ) → fragment_text before f ≡ text → ((bytes ++ codes "  ") ++ text) ++ codes "\n" ≡ bytes ++ spelled before (line_snippets f)
-line-spelled before f bytes text e =
-    append_assoc (bytes ++ codes "  ") text (codes "\n") ∙ append_assoc bytes (codes "  ") (text ++ codes "\n") ∙ ap (λ x. bytes ++ (codes "  " ++ (x ++ codes "\n"))) (sym e)
+line-spelled before f bytes text e = grind (arith, append_assoc)
 
 pub marks_then : (before : List Fragment) (marks rest : List MarkdownSnippet) → fragments_in marks ≡ [] → spelled before (marks ++ rest) ≡ spelled before marks ++ spelled before rest
 marks_then before marks rest e = spelled-append before marks rest ∙ ap (λ fs. spelled before marks ++ spelled (before ++ fs) rest) e ∙ ap (λ fs. spelled before marks ++ spelled fs rest) (append-nil before)

@@ -41,12 +41,9 @@ begins_is (End blocks.ItemTerm) rest = refl
 begins_is _ rest = refl
 
 pub after_empty_is : {before : List Fragment} {pending empty : Bool} → Item before pending empty → is_after_empty_item before ≡ (if pending then false else empty)
-after_empty_is {before} {pending} {empty} (none any p e) =
-    ap (λ b. b && begins_with_term_end (after_last is_item_start before)) any ∙ sym (ap (λ b. if b then false else empty) p ∙ e)
-after_empty_is {before} {pending} {empty} (waiting any last p) =
-    ap (λ b. b && begins_with_term_end (after_last is_item_start before)) any ∙ ap begins_with_term_end last ∙ sym (ap (λ b. if b then false else empty) p)
-after_empty_is {before} {pending} {empty} (past g rest any last p e) =
-    ap (λ b. b && begins_with_term_end (after_last is_item_start before)) any ∙ ap begins_with_term_end last ∙ begins_is g rest ∙ sym (ap (λ b. if b then false else empty) p ∙ e)
+after_empty_is {before} {pending} {empty} (none any p e) = grind arith
+after_empty_is {before} {pending} {empty} (waiting any last p) = grind arith
+after_empty_is {before} {pending} {empty} (past g rest any last p e) = grind (arith, begins_is)
 
 item_next : {before : List Fragment} {pending empty : Bool} (f : Fragment) → Item before pending empty
     → Item (before ++ f ∷ []) (if is_item_start f then true else false) (if is_item_start f then false else (if pending then is_term_end f else empty))
@@ -123,8 +120,7 @@ all-spelled before p (f ∷ fs) h room =
 
 heading_is : (before : List Fragment) (p : Marked) (f : Fragment) (fs : List Fragment) → Agrees before (flags p)
     → own_heading (with_item p (is_term_end f)) f ++ item_heading (flags_next (flags p) f).pending (begins_with_term_end fs) ≡ headings_of before f fs
-heading_is before p (Start blocks.Header) fs h =
-    ap (λ s. (if s.headed then SecondHeading else Heading) ∷ []) (item-flags p false) ∙ ap (λ b. (if b then SecondHeading else Heading) ∷ []) (sym h.headed)
+heading_is before p (Start blocks.Header) fs h = grind (arith, item-flags)
 heading_is before p (Start blocks.ItemBody) fs h = grind (arith, append-nil, item-flags, after_empty_is)
 heading_is before p _ fs h = refl
 

@@ -339,8 +339,7 @@ closing_paragraph_is n (b ∷ text) e f g = rw (f, chunks_within) rw (g, chunks_
 -- the same list, from a line, a rest and the chunks of the rest
 joined : (n : ℕ) (form : Form) (line other_line next other_next : List ℕ) (others : List Chunk) → other_line ≡ line → other_next ≡ next → others ≡ chunks_within n form next
     → Raw line fence_weight ∷ others ≡ Raw other_line fence_weight ∷ chunks_within n form other_next
-joined n form line other_line next other_next others a b c =
-    ap (λ l. Raw l fence_weight ∷ others) (sym a) ∙ ap (λ xs. Raw other_line fence_weight ∷ xs) (c ∙ ap (λ xs. chunks_within n form xs) (sym b))
+joined n form line other_line next other_next others a b c = grind arith
 
 word_parts : (b : ℕ) → is_word_byte b ≡ true → ((b == 10) ≡ false) × ((b == 32) ≡ false)
 word_parts b h = (
@@ -394,8 +393,7 @@ unique {text = text} (line_break rest others ec et t s) (suc n) h = grind (arith
 unique {text = text} (newline rest others ec et t f s) zero h = absurd (not_zero text (codes "\n") rest et (omega arith) h)
 unique {text = text} (newline rest others ec et t f s) (suc n) h = grind (arith, unique s n, rest_len, newline_is)
 unique {text = text} (blank rest others ec et s) zero h = absurd (not_zero text (codes " ") rest et (omega arith) h)
-unique {text = text} (blank rest others ec et s) (suc n) h =
-    ec ∙ ap (λ xs. Raw (codes " ") 1 ∷ xs) (unique s n (rest_len text (codes " ") rest n et (omega arith) h)) ∙ ap (λ t. chunks_within (suc n) Plain t) (sym et)
+unique {text = text} (blank rest others ec et s) (suc n) h = grind (arith, unique s n, rest_len)
 unique {text = text} (word bytes rest others ec et w r s) zero h = absurd (empty_len text h (λ none. word_some bytes rest w.0 (sym et ∙ none)))
 unique {text = text} (word bytes rest others ec et w r s) (suc n) h =
     ec ∙ word_is n bytes rest others w r (unique s n (rest_len text bytes rest n et (some_len bytes w.0) h)) ∙ ap (λ t. chunks_within (suc n) Plain t) (sym et)

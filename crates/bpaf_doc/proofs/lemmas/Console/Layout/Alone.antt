@@ -63,8 +63,7 @@ heavy_put p base n alone = λ m before e there whole none. at m before e whole n
   at : (m before : List Stretch) (e : Place) → is_whole_line (chunk_at e) ≡ true → has_newline m ≡ false → FirstOrLater (Placed (place_of p)) (padded n base.back) m e before
       → 1_000_000 ≤ (put n p.part p.bytes p.weight base).column
   at m before e whole none (here is x r) = grind (arith, heavy_weight)
-  at m before e whole none (later rest is there) =
-      let line : has_newline m ≡ true = ap has_newline is ∙ alone rest before e there whole in absurd cc
+  at m before e whole none (later rest is there) = grind arith
 
 pub heavy_grows : {width : ℕ} {st after : State} {next : Next} → width < 1_000_000 → IsStarting st → Grows width st next after → IsHeavy st → IsHeavy after
 heavy_grows small start (placing p e (places base n b d a)) h = subst IsHeavy (sym a) (heavy_put p base n (alone_padded n base.back (place_of p) (alone_begins p base small start h b)))

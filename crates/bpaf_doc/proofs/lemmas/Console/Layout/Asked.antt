@@ -84,10 +84,7 @@ owes_lines f q h (second_put a b e) = subst (λ (s : State). owes_line s.back �
 owes_lines f q h (both_put a e) = subst (λ (s : State). owes_line s.back ≡ false) (sym e) refl
 
 owes_begins : {width : ℕ} {st : State} {p : Piece} {base : State} → EachPlace Fills st.back → EachPassed NoInk st.back → IsAskedLine st → Begins width st p base → owes_line base.back ≡ false
-owes_begins {st = st} f q h (first t e) = subst (λ (s : State). owes_line s.back ≡ false) (sym e) (at (by_cases (owes_line st.back))) where
-  at : (owes_line st.back ≡ true) ⊎ (owes_line st.back ≡ false) → owes_line st.back ≡ false
-  at (inl o) = let text : has_text st.back ≡ true = ink_text st.back f q (owes_ink st.back o) in absurd cc
-  at (inr o) = o
+owes_begins {st = st} f q h (first t e) = grind (arith, ink_text, owes_ink)
 owes_begins f q h (stays t l w) = owes_lines f q h l
 owes_begins f q h (wraps t mid l w b e) = subst (λ (s : State). owes_line s.back ≡ false) (sym e) refl
 

@@ -197,9 +197,7 @@ module _ (width : ℕ) where
   blank_begins : {st : State} {p : Piece} {base : State} → EachPlace Fills st.back → EachPassed NoInk st.back → IsAskedBlank st → IsFreshAtZero st
       → Begins width st p base → columns p.bytes ≤ width → (m before : List Stretch) (e : Place) → Cut base.back m e before → is_inked (chunk_at e) ≡ true
       → owes_blank base.back ≡ true → ends_blank base.back ≡ true
-  blank_begins {st = st} f q h z (first t s) c m before e there i o =
-      let ink : list_any is_inked_stretch st.back ≡ true = subst (λ (x : State). list_any is_inked_stretch x.back ≡ true) s (subst (λ x. list_any is_inked_stretch x ≡ true) (sym there) (ink_at m e before i)) in
-      let text : has_text st.back ≡ true = ink_text st.back f q ink in absurd cc
+  blank_begins {st = st} f q h z (first t s) c m before e there i o = grind (arith, ink_at, ink_text)
   blank_begins f q h z (stays t l w) c m before e there i o = lines_blank h (sym (owes_lines l) ∙ o) l
   blank_begins {st = st} f q h z (wraps t mid l w b s) c m before e there i o =
       let kept : owes_blank (trimmed mid.back) ≡ true = subst (λ (x : State). owes_blank x.back ≡ true) s o in

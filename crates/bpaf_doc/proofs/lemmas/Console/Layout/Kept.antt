@@ -122,8 +122,7 @@ kept_same st k n settled unsettled order h o moved d m before e there =
       earlier = part_before st.latest found.rest e before (subst (λ x. EachPlace (NotAfter st.latest) x) found.there order)
 
       strict : (inked_line st.back ≡ false) ⊎ (st.marked ≡ true) → e.part < k
-      strict (inl i) =
-          let some : inked_line st.back ≡ true = subst (λ x. inked_line x ≡ true) (sym found.there) (inked_since found.rest e before near.1 near.3) in absurd cc
+      strict (inl i) = grind (arith, found, inked_since, near)
       strict (inr t) = let l : st.latest < k = moved t in let p : e.part ≤ st.latest = earlier in omega arith
 
       at : (st.settled ≡ true) ⊎ (st.settled ≡ false) → (e.shown ≡ e.bytes) × AllKept (e.part < k) m

@@ -34,8 +34,7 @@ events_begins {st = st} b = begins_back (λ r. events_back r ≡ events_back st.
 pub events_grows : {width : ℕ} {st after : State} {next : Next} → Grows width st next after → events_back after.back ≡ next_event next ∷ events_back st.back
 events_grows {st = st} (placing p e (places base n b d a)) =
     ap (λ (s : State). events_back s.back) a ∙ ap (λ es. Shows p.part (Raw p.bytes p.weight) ∷ es) (same_padded events_back (λ x. refl) n base.back ∙ events_begins b) ∙ ap (λ (x : Next). next_event x ∷ events_back st.back) (sym e)
-events_grows {st = st} (placing p e (drops t mid l w b a)) =
-    ap (λ (s : State). events_back s.back) a ∙ ap (λ es. Shows p.part (Raw p.bytes p.weight) ∷ es) (events_trimmed mid.back ∙ events_lines l) ∙ ap (λ (x : Next). next_event x ∷ events_back st.back) (sym e)
+events_grows {st = st} (placing p e (drops t mid l w b a)) = grind (arith, events_trimmed, events_lines)
 events_grows {st = st} (breaking k chunk e a) = ap (λ (s : State). events_back s.back) a ∙ ap (λ (x : Next). next_event x ∷ events_back st.back) (sym e)
 events_grows {st = st} (passing event level e a) = ap (λ (s : State). events_back s.back) a ∙ ap (λ (x : Next). next_event x ∷ events_back st.back) (sym e)
 

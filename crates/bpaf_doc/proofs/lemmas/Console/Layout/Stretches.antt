@@ -45,8 +45,7 @@ dropped_some (c ∷ cs) ds h =
 
 pub trim_white : (front back : List ℕ) → IsUtf8 front → has_some (ink back) ≡ false → trim_end (front ++ back) ≡ trim_end front
 unfolding trim_end
-trim_white front back u h =
-    ap (λ cs. encode_utf8_all (drop_trailing_whitespace cs)) (chars-append front back u) ∙ ap encode_utf8_all (dropped_white (chars front) (chars back) h)
+trim_white front back u h = grind (arith, chars-append, dropped_white)
 
 pub trim_some : (front back : List ℕ) → IsUtf8 front → has_some (ink back) ≡ true → trim_end (front ++ back) ≡ front ++ trim_end back
 unfolding trim_end
@@ -81,8 +80,7 @@ trim_utf8 text u = (drop_trailing_whitespace (chars text), (kept_scalars text u,
 
 pub trim_twice : (text : List ℕ) → IsUtf8 text → trim_end (trim_end text) ≡ trim_end text
 unfolding trim_end
-trim_twice text u =
-    ap (λ cs. encode_utf8_all (drop_trailing_whitespace cs)) (chars-encodes (drop_trailing_whitespace (chars text)) (kept_scalars text u)) ∙ ap encode_utf8_all (twice_chars (chars text))
+trim_twice text u = grind (arith, chars-encodes, kept_scalars, twice_chars)
 
 -- a text without its blank end begins the text
 pub trim_front : (text : List ℕ) → IsUtf8 text → (rest : List ℕ) × (text ≡ trim_end text ++ rest)
@@ -293,8 +291,7 @@ trim_text (Passed event ∷ r) h = at (by_cases (has_some (event_bytes event))) 
   at (inl s) ih =
       ap trim_end (text_back_cons (Passed event) r) ∙ trim_some (text_back r) (event_bytes event) (text_utf8 r h) (event_ink event s)
       ∙ ap (λ xs. text_back r ++ xs) (event_trim event s) ∙ sym (text_back_cons (Passed event) r) ∙ ap text_back (sym (trimmed_bytes event r s))
-  at (inr s) ih =
-      ap trim_end (bare_text r (Passed event) s) ∙ ih ∙ sym (bare_text (trimmed r) (Passed event) s) ∙ ap text_back (sym (trimmed_bare event r s))
+  at (inr s) ih = grind (arith, bare_text, trimmed_bare)
 
 -- ---- what may be read stays so
 

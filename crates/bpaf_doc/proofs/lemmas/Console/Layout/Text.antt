@@ -114,21 +114,14 @@ next_event (mark event level) = event
 
 -- what puts a byte on the page leaves some text
 pub text_written : {width : ℕ} {margin_of : ℕ → ℕ} {st after : State} {next : Next} → Suits margin_of st next → Grows width st next after → is_written (next_event next) ≡ true → has_text after.back ≡ true
-text_written {st = st} suits g h = by_grows (λ s. has_text s.back ≡ true) g
-    (λ p base n e b d. let some : has_some p.bytes ≡ true = subst (λ (x : Next). is_written (next_event x) ≡ true) e h in rw some refl) (λ p mid e l w b. refl) (λ k chunk e. refl)
-    (λ event margin e. by_mark (λ x m. is_written x ≡ true → (has_some (event_bytes x) || has_text st.back) ≡ true) suits e (λ b m l u. ref b) (λ b m l u. ref b)
-    (subst (λ (x : Next). is_written (next_event x) ≡ true) e h)) where
-      ref : (b : Block) → is_term_ref b ≡ true → (has_some (mark_bytes b) || has_text st.back) ≡ true
-      ref b t = rw t refl
+text_written {st = st} suits g h = grind (arith, by_grows, by_mark)
 
 -- ---- where a chunk begins
 
 -- the column that is kept is the page's where a chunk is placed
 pub begins_column : {width : ℕ} {st : State} {p : Piece} {base : State} → width < 1_000_000 → EachPlace Fills st.back → IsStarting st → Agrees st
     → Begins width st p base → base.column ≡ column_back base.back
-begins_column {st = st} small f start h (first t e) =
-    let here : st.column ≡ column_back st.back = (start t).0 ∙ sym (no_text_column st.back f t) in
-    subst (λ (s : State). s.column ≡ column_back s.back) (sym e) here
+begins_column {st = st} small f start h (first t e) = grind (arith, no_text_column)
 begins_column {width} {st} {p} {base} small f start h (stays t l w) = grind (arith, agrees_lines)
 begins_column small f start h (wraps t mid l w b e) = subst (λ (s : State). s.column ≡ column_back s.back) (sym e) refl
 

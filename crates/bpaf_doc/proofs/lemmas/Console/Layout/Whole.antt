@@ -242,8 +242,7 @@ abbrev pub IsSlim : ℕ → ℕ → Next → Type 0
 IsSlim deepest most next = IsShallow deepest next × IsNarrow most next × WritesNone next
 
 shallow_grows : {width deepest : ℕ} {st after : State} {next : Next} → IsShallow deepest next → Grows width st next after → st.margin ≤ deepest → after.margin ≤ deepest
-shallow_grows {deepest = deepest} shallow g h = by_grows (λ s. s.margin ≤ deepest) g (λ p base n e b d. subst (λ (k : ℕ). k ≤ deepest) (sym (begins_margin b).0) h)
-    (λ p mid e l w b. subst (λ (k : ℕ). k ≤ deepest) (sym (lines_margin l).0) h) (λ k chunk e. h) (λ event level e. subst (λ (x : Next). IsShallow deepest x) e shallow)
+shallow_grows {deepest = deepest} shallow g h = grind (arith, by_grows, begins_margin, lines_margin)
 
 record Slim (width deepest most : ℕ) (st : State) : Type 0 where
   bare : EachPassed IsBare st.back
@@ -568,8 +567,7 @@ narrow_each (x ∷ xs) most l = (at x (first_le x xs l), narrow_each xs most (re
   first_le x xs l = let more : max 0 (event_columns (next_event x)) ≤ fold max (max 0 (event_columns (next_event x))) (map event_columns (map next_event xs)) = more_than (map event_columns (map next_event xs)) (max 0 (event_columns (next_event x))) in omega arith
 
   rest_le : (x : Next) (xs : List Next) → widest (map next_event (x ∷ xs)) ≤ most → widest (map next_event xs) ≤ most
-  rest_le x xs l = let more : fold max 0 (map event_columns (map next_event xs)) ≤ fold max (max 0 (event_columns (next_event x))) (map event_columns (map next_event xs)) =
-      fold_more (map event_columns (map next_event xs)) 0 (max 0 (event_columns (next_event x))) (omega arith) in omega arith
+  rest_le x xs l = grind (arith, fold_more)
 
   at : (x : Next) → event_columns (next_event x) ≤ most → IsNarrow most x
   at (raw p) l = l

@@ -59,8 +59,7 @@ inks_cons x xs = grind (arith, reverse_cons, flat_map-append, append-nil)
 
 ink_back : (r : List Stretch) → IsLegible r → EachPassed NoInk r → ink (text_back r) ≡ flat_map event_ink (reverse (events_back r))
 ink_back [] legible none = ink-nil
-ink_back (Gap b ∷ r) legible none =
-    ap ink (text_back_cons (Gap b) r) ∙ ink_before_gap (text_back r) (b ∷ []) (text_utf8 r legible.1) (gap_is_gap b legible.0) ∙ ink_back r legible.1 none
+ink_back (Gap b ∷ r) legible none = grind (arith, ink_back r legible.1 none, text_back_cons, ink_before_gap, text_utf8, gap_is_gap)
 ink_back (Placed e ∷ r) legible none = grind (arith, ink_back r legible.1 none, text_back_cons, ink-append, text_utf8, trim_ink, inks_cons)
 ink_back (Passed event ∷ r) legible none = grind (arith, ink_back r legible none.1, text_back_cons, ink-append, text_utf8, passed_ink, inks_cons)
 

@@ -260,8 +260,7 @@ module _ (full : Bool) (document : List Part) (width : ℕ) (is_small : length d
 
     -- the margin after a mark
     level_is : (next : Pairs) (t : Sheet) → Walk full document (index + 1) (before ++ part ∷ []) rest next (hidden_after full hidden part) t → page.HasFewMargins t → page.margin_of t ≡ margin document index
-    level_is next t walk few =
-        level_top t (stack_at document (index + 1)) walk.margins (few_fits t (stack_at document (index + 1)) walk.margins walk.low few) ∙ top-margin document index
+    level_is next t walk few = grind (arith, level_top, few_fits, top-margin)
 
     st_margin : g.later.st.margin ≡ top (stack_at document index)
     st_margin = sym g.later.draws.margin ∙ level_top s (stack_at document index) g.walk.margins g.fits
