@@ -32,8 +32,7 @@ left_over start e rest is = omega (arith, length-drop (e.end - start) rest, is.n
 
 taken_bytes : (k : Kind) (n : ℕ) (rest : List ℕ) → MayTake k n → part_bytes (part_with k (take n rest)) ≡ take n rest
 taken_bytes (kind.Text style) n rest may = refl
-taken_bytes (kind.Start b) n rest may = rw may refl
-taken_bytes (kind.End b) n rest may = rw may refl
+taken_bytes _ n rest may = rw may refl
 
 -- the texts joined are the payload
 pub document_bytes-parts_from : (start : ℕ) (es : List PartEnd) (rest : List ℕ) → AreEnds start es rest → document_bytes (parts_from start es rest) ≡ rest
@@ -106,8 +105,7 @@ empty_is_end k end may =
 
 may_take_none : (k : Kind) → MayTake k 0
 may_take_none (kind.Text style) = tt
-may_take_none (kind.Start b) = refl
-may_take_none (kind.End b) = refl
+may_take_none _ = refl
 
 module _ (start : ℕ) (es : List PartEnd) (rest : List ℕ) (k : Kind) where
   -- behind the other ends
@@ -169,15 +167,11 @@ with_text_end-push (f ∷ g ∷ es) e style end = ap (λ fs. f ∷ fs) (with_tex
 -- the last end was taken off, and put back unless it is a text of that style
 pub with_text_end-kept : (es fs : List PartEnd) (o : Option PartEnd) (e : PartEnd) (style : Style) (end : ℕ) → es ≡ fs ++ option_to_list o → o ≡ Some e → is_text_of e.kind style ≡ false
     → with_text_end es style end ≡ (fs ++ e ∷ []) ++ text_end style end ∷ []
-with_text_end-kept es fs o e style end was is other =
-    rw (was, is) (with_text_end-push fs e style end)
-    ∙ ap (λ b. fs ++ (if b then text_end style end ∷ [] else e ∷ text_end style end ∷ [])) other
-    ∙ sym (append_assoc fs (e ∷ []) (text_end style end ∷ []))
+with_text_end-kept es fs o e style end was is other = grind (arith, with_text_end-push, append_assoc)
 
 pub with_text_end-replaced : (es fs : List PartEnd) (o : Option PartEnd) (e : PartEnd) (style : Style) (end : ℕ) → es ≡ fs ++ option_to_list o → o ≡ Some e → is_text_of e.kind style ≡ true
     → with_text_end es style end ≡ fs ++ text_end style end ∷ []
-with_text_end-replaced es fs o e style end was is same =
-    rw (was, is) (with_text_end-push fs e style end) ∙ ap (λ b. fs ++ (if b then text_end style end ∷ [] else e ∷ text_end style end ∷ [])) same
+with_text_end-replaced es fs o e style end was is same = grind (arith, with_text_end-push)
 
 pub with_text_end-none : (es fs : List PartEnd) (o : Option PartEnd) (style : Style) (end : ℕ) → es ≡ fs ++ option_to_list o → o ≡ None → length fs ≤ 0
     → with_text_end es style end ≡ fs ++ text_end style end ∷ []
@@ -251,10 +245,7 @@ module _ (style : Style) (text : List ℕ) where
   parts_from-with_text_end start end [] [] is are = text_alone start end (omega arith)
   parts_from-with_text_end start end [] (x ∷ rest) is are = cc
   parts_from-with_text_end start end (e ∷ []) rest is are = text_after start end e.end rest is e.kind are
-  parts_from-with_text_end start end (e ∷ f ∷ es) rest is are =
-      let n = e.end - start in
-      rw (take-append-le n rest text are.0.within, drop-append-le n rest text are.0.within)
-      (ap (λ ps. part_with e.kind (take n rest) ∷ ps) (parts_from-with_text_end e.end end (f ∷ es) (drop n rest) (omega (arith, left_over start e rest are.0)) are.1))
+  parts_from-with_text_end start end (e ∷ f ∷ es) rest is are = grind (arith, parts_from-with_text_end e.end end (f ∷ es), take-append-le, drop-append-le, left_over)
 
   pub AreEnds-with_text_end : IsUtf8 text → (start end : ℕ) (es : List PartEnd) (rest : List ℕ) → end ≡ start + (length rest + length text) → AreEnds start es rest
       → AreEnds start (with_text_end es style end) (rest ++ text)

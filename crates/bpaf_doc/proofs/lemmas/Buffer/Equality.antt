@@ -1,5 +1,5 @@
 -- Equal documents have the same parts.
-use Rattle.std.proofs.Common.{◌≡◌, ◌==◌, Bool, true, List, [], ◌∷◌, refl, ap, subst, nat_eq}
+use Rattle.std.proofs.Common.{arith, ◌≡◌, ◌==◌, Bool, true, List, [], ◌∷◌, refl, ap, subst, nat_eq}
 use Rattle.std.specs.Cmp.Lexicographic.{pointwise}
 use Rattle.std.proofs.lemmas.Bool.{eqb-true, and_parts}
 use denote.Enum.Bare.{tag_one}
@@ -13,18 +13,10 @@ pointwise_is : {X : Type 0} (same : X → X → Bool) → ((x y : X) → same x 
 pointwise_is same tells [] [] h = refl
 pointwise_is same tells [] (y ∷ ys) h = cc
 pointwise_is same tells (x ∷ xs) [] h = cc
-pointwise_is same tells (x ∷ xs) (y ∷ ys) h =
-    let t = and_parts (same x y) (pointwise same xs ys) h in
-    let head : x ≡ y = tells x y t.0 in
-    let tail : xs ≡ ys = pointwise_is same tells xs ys t.1 in
-    cc
+pointwise_is same tells (x ∷ xs) (y ∷ ys) h = grind (arith, pointwise_is same tells xs ys, and_parts)
 
 same_part_is : (p q : Part) → same_part p q ≡ true → p ≡ q
-same_part_is (Text b s) (Text c r) h =
-    let t = and_parts (same_text b c) (tag_of style.the_type s == tag_of style.the_type r) h in
-    let bytes : b ≡ c = pointwise_is nat_eq eqb-true b c t.0 in
-    let label : s ≡ r = tag_one style.the_type tt s r (eqb-true _ _ t.1) in
-    cc
+same_part_is (Text b s) (Text c r) h = grind (arith, and_parts, pointwise_is, nat_eq, eqb-true)
 same_part_is (Start b) (Start c) h = ap Start (tag_one block.the_type tt b c (eqb-true _ _ h))
 same_part_is (End b) (End c) h = ap End (tag_one block.the_type tt b c (eqb-true _ _ h))
 same_part_is _ _ h = cc

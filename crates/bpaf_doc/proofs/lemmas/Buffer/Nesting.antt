@@ -1,5 +1,5 @@
 -- What is written into a well-nested document leaves it well nested.
-use Rattle.std.proofs.Common.{◌≡◌, ℕ, Bool, true, false, List, [], ◌∷◌, ◌++◌, map, sym, refl, ap, ◌∙◌, append_assoc, append-nil, subst}
+use Rattle.std.proofs.Common.{arith, ◌≡◌, ℕ, Bool, true, false, List, [], ◌∷◌, ◌++◌, map, sym, refl, ap, ◌∙◌, append_assoc, append-nil, subst}
 use Rattle.std.specs.Prelude.{if◌then◌else◌}
 use Rattle.std.specs.Borrow.{Bor}
 use Rattle.std.specs.List.{list_any, before_first, after_first}
@@ -45,8 +45,7 @@ IsWellNested-in_block b ps inner nested also =
 -- a start joins no text, so what is written behind it does not depend on what stands before
 module _ (ps : List Part) (b : Block) where
   with_text-behind_start : (qs : List Part) (bytes : List ℕ) (style : Style) → with_text ((ps ++ Start b ∷ []) ++ qs) bytes style ≡ (ps ++ Start b ∷ []) ++ with_text qs bytes style
-  with_text-behind_start [] bytes style =
-      ap (λ rs. with_text rs bytes style) (append-nil (ps ++ Start b ∷ [])) ∙ with_text-append ps (Start b) [] bytes style ∙ sym (append_assoc ps (Start b ∷ []) (Text bytes style ∷ []))
+  with_text-behind_start [] bytes style = grind (arith, append-nil, with_text-append, append_assoc)
   with_text-behind_start (q ∷ qs) bytes style = with_text-append (ps ++ Start b ∷ []) q qs bytes style
 
   with_writes-behind_start : (qs : List Part) (ws : List Write) → with_writes ((ps ++ Start b ∷ []) ++ qs) ws ≡ (ps ++ Start b ∷ []) ++ with_writes qs ws

@@ -32,8 +32,7 @@ Extends (p ∷ p' ∷ ps) (q ∷ qs) = (q ≡ p) × Extends (p' ∷ ps) qs
 IsLonger-refl : (p : Part) → IsLonger p p
 unfolding IsLonger
 IsLonger-refl (Text bytes style) = ([], ap (λ b. Text b style) (sym (append-nil bytes)))
-IsLonger-refl (Start b) = refl
-IsLonger-refl (End b) = refl
+IsLonger-refl _ = refl
 
 Extends-refl : (ps : List Part) → Extends ps ps
 Extends-refl [] = tt
@@ -66,8 +65,7 @@ Extends-joined p false before kind bytes style same is = is
 
 Extends-part_then_text : (p q : Part) (bytes : List ℕ) (style : Style) → IsLonger p q → Extends (p ∷ []) (part_then_text q bytes style)
 Extends-part_then_text p (Text before kind) bytes style is = Extends-joined p (same_style kind style) before kind bytes style refl is
-Extends-part_then_text p (Start b) bytes style is = is
-Extends-part_then_text p (End b) bytes style is = is
+Extends-part_then_text p _ bytes style is = is
 
 Extends-with_text : (ps qs : List Part) (bytes : List ℕ) (style : Style) → Extends ps qs → Extends ps (with_text qs bytes style)
 Extends-with_text [] qs bytes style h = tt
@@ -99,8 +97,7 @@ module _ (k : Kind) (n : ℕ) (rest : List ℕ) where
 
 text_kind : (k : Kind) (n : ℕ) (rest bytes : List ℕ) (style : Style) → part_with k (take n rest) ≡ Text bytes style → (k ≡ kind.Text style) × (take n rest ≡ bytes)
 text_kind (kind.Text other) n rest bytes style is = (let e : other ≡ style = cc in ap (λ s. kind.Text s) e, cc)
-text_kind (kind.Start b) n rest bytes style is = cc
-text_kind (kind.End b) n rest bytes style is = cc
+text_kind _ n rest bytes style is = cc
 
 front_is : (n : ℕ) (rest bytes more : List ℕ) → take n rest ≡ bytes ++ more → (length bytes ≤ n) × (take (length bytes) rest ≡ bytes)
 front_is n rest bytes more is =
@@ -120,8 +117,7 @@ cut_back _ n rest _ is = cc
 -- the bytes of a part that is as it was
 same_bytes : (k : Kind) (n : ℕ) (rest : List ℕ) (p : Part) → MayTake k n → n ≤ length rest → part_with k (take n rest) ≡ p → length (part_bytes p) ≡ n
 same_bytes (kind.Text style) n rest p may le is = ap (λ q. length (part_bytes q)) (sym is) ∙ length-take-le n rest le
-same_bytes (kind.Start b) n rest p may le is = ap (λ q. length (part_bytes q)) (sym is) ∙ sym may
-same_bytes (kind.End b) n rest p may le is = ap (λ q. length (part_bytes q)) (sym is) ∙ sym may
+same_bytes _ n rest p may le is = ap (λ q. length (part_bytes q)) (sym is) ∙ sym may
 
 -- the ends and the payload cut back to a document, of which `last` is the end
 pub record IsCut (start last : ℕ) (es : List PartEnd) (rest : List ℕ) (ps : List Part) : Type 0 where

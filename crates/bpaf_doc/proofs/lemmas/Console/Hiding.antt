@@ -60,27 +60,16 @@ kept zero (Start b) parts = refl
 kept (suc more) (Start b) parts =
     rw (not_zero more, start_is b) (or-false (nat_le (if is_inline b then ended parts - 1 else ended parts) more) ∙ at (is_inline b)) where
       at : (i : Bool) → nat_le (if i then ended parts - 1 else ended parts) more ≡ stays_hidden (if i then suc more + 1 else suc more) parts
-      at true = one_less (ended parts) ∙ ap (λ n. stays_hidden n parts) next where
-        one_less : (c : ℕ) → nat_le (c - 1) more ≡ nat_le c (suc more)
-        one_less c = grind (arith, nat_tests)
-
-        next : suc (suc more) ≡ suc more + 1
-        next = omega arith
+      at true = grind (arith, nat_tests)
       at false = refl
 kept zero (End b) parts = grind arith
 kept (suc more) (End b) parts = rw (end_is b) (or-false (nat_le (if is_inline b then ended parts + 1 else ended parts) more) ∙ at (is_inline b)) where
   gone : (more : ℕ) → nat_le (ended parts + 1) more ≡ stays_hidden more parts
-  gone zero = none (ended parts) where
-    none : (c : ℕ) → nat_le (c + 1) 0 ≡ false
-    none c = grind (arith, nat_tests)
-  gone (suc more) = one_more (ended parts) where
-    one_more : (c : ℕ) → nat_le (c + 1) (suc more) ≡ nat_le c more
-    one_more c = grind (arith, nat_tests)
+  gone zero = grind (arith, nat_tests)
+  gone (suc more) = grind (arith, nat_tests)
 
   at : (i : Bool) → nat_le (if i then ended parts + 1 else ended parts) more ≡ stays_hidden (if i then suc more - 1 else suc more) parts
-  at true = gone more ∙ ap (λ n. stays_hidden n parts) back where
-    back : more ≡ suc more - 1
-    back = omega arith
+  at true = grind (arith, gone)
   at false = refl
 
 -- ---- the count after a front

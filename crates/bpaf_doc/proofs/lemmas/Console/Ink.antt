@@ -60,20 +60,15 @@ ink-trim text kept u v (n, same, blank, ends, len, within) =
 pub shown_ink-full : (chunks : List Chunk) → flat_map chunk_ink chunks ≡ shown_ink true chunks
 shown_ink-full [] = refl
 shown_ink-full (Raw bytes weight ∷ chunks) = ap (λ more. ink bytes ++ more) (shown_ink-full chunks)
-shown_ink-full (Paragraph ∷ chunks) = shown_ink-full chunks
-shown_ink-full (LineBreak ∷ chunks) = shown_ink-full chunks
+shown_ink-full (_ ∷ chunks) = shown_ink-full chunks
 
 one_more : (chunk : Chunk) (chunks : List Chunk) → is_paragraph chunk ≡ false → through_paragraph (chunk ∷ chunks) ≡ chunk ∷ through_paragraph chunks
-one_more chunk chunks e = rw (e, next (position_or_len is_paragraph chunks)) refl where
-  next : (n : ℕ) → 1 + n + 1 ≡ suc (n + 1)
-  next n = omega arith
+one_more chunk chunks e = grind arith
 
 pub shown_ink-brief : (chunks : List Chunk) → flat_map chunk_ink (through_paragraph chunks) ≡ shown_ink false chunks
-shown_ink-brief [] = refl
-shown_ink-brief (Raw bytes weight ∷ chunks) =
-    ap (λ cs. flat_map chunk_ink cs) (one_more (Raw bytes weight) chunks refl) ∙ ap (λ more. ink bytes ++ more) (shown_ink-brief chunks)
-shown_ink-brief (Paragraph ∷ chunks) = refl
+shown_ink-brief (Raw bytes weight ∷ chunks) = grind (arith, shown_ink-brief chunks, one_more)
 shown_ink-brief (LineBreak ∷ chunks) = ap (λ cs. flat_map chunk_ink cs) (one_more LineBreak chunks refl) ∙ shown_ink-brief chunks
+shown_ink-brief _ = refl
 
 -- ---- the ink of the parts, one after another
 
@@ -85,8 +80,7 @@ shown_at hidden before (Text bytes style) counts = rw (is_hidden-Counts hidden b
   at : (b : Bool) → flat_map chunk_ink (if not b then [] else through_paragraph (chunks_of bytes)) ≡ (if b then shown_ink false (chunks_of bytes) else [])
   at true = shown_ink-brief (chunks_of bytes)
   at false = refl
-shown_at hidden before (Start b) counts = refl
-shown_at hidden before (End b) counts = refl
+shown_at hidden before _ counts = refl
 
 take_front : {A : Type 0} (front back : List A) → take (length front) (front ++ back) ≡ front
 take_front [] back = refl
@@ -107,21 +101,16 @@ brief_from document before (part ∷ parts) hidden same counts =
     ∙ brief_from document (before ++ part ∷ []) parts (hidden_after false hidden part) (same ∙ sym (append_assoc before (part ∷ []) parts)) (Counts-more hidden before part counts))
 
 full_stays : (part : Part) → hidden_after true 0 part ≡ 0
-full_stays (Text bytes style) = refl
-full_stays (Start b) = refl
 full_stays (End b) = grind arith
+full_stays _ = refl
 
 full_at : (before : List Part) (part : Part) → shown_part_ink true before part ≡ ink_at true 0 part
 full_at before (Text bytes style) = shown_ink-full (chunks_of bytes)
-full_at before (Start b) = refl
-full_at before (End b) = refl
+full_at before _ = refl
 
 full_from : (document parts : List Part) (k : ℕ) → flat_map (λ (k, part). shown_part_ink true (take k document) part) (enumerate_from k parts) ≡ ink_from true 0 parts
 full_from document [] k = refl
-full_from document (part ∷ parts) k =
-    both (shown_part_ink true (take k document) part) (flat_map (λ (k, part). shown_part_ink true (take k document) part) (enumerate_from (k + 1) parts))
-    (ink_at true 0 part) (ink_from true (hidden_after true 0 part) parts) (full_at (take k document) part)
-    (full_from document parts (k + 1) ∙ ap (λ n. ink_from true n parts) (sym (full_stays part)))
+full_from document (part ∷ parts) k = grind (arith, full_from document parts (k + 1), both, full_at, full_stays)
 
 -- from the start on it is the console ink
 pub ink_from-console_ink : (full : Bool) (document : List Part) → ink_from full 0 document ≡ console_ink full document
@@ -181,8 +170,7 @@ IsLeft-all full count document len = record {
 
 -- nothing is left
 pub IsLeft-none : (full : Bool) (count hidden : ℕ) (out all : List ℕ) (parts : List Part) → IsLeft full count hidden out all parts → parts ≡ [] → ink out ≡ all
-IsLeft-none full count hidden out all parts left none =
-    sym (append-nil (ink out)) ∙ ap (λ ps. ink out ++ ink_from full hidden ps) (sym none) ∙ left.same_ink
+IsLeft-none full count hidden out all parts left none = grind (arith, append-nil)
 
 -- a text that is shown, with and without a Paragraph that hides what follows, and one that is hidden
 pub IsLeft-shown : (full : Bool) (count hidden : ℕ) (out new all bytes : List ℕ) (style : Style) (parts rest : List Part)

@@ -11,6 +11,7 @@ pub mod Split
 pub mod Asked
 pub mod Blank
 pub mod Kept
+pub mod Reach
 pub mod Needed
 pub mod Room
 pub mod AtMargin

@@ -66,26 +66,8 @@ popped_at (m ∷ ms) k = refl
 -- Entry by entry: where shifts take k entries away, the top is the entry below these and the indents in force since.
 top_after : (ss : List Shift) (stack : List ℕ) → top (stack_after ss stack) ≡ get_or stack (taken ss) 0 + indents_in_force ss
 top_after [] stack = top_is stack ∙ sym (add-zero (get_or stack 0 0))
-top_after (Indent n ∷ ss) stack = top_after ss ((top stack + n) ∷ stack) ∙ at (taken ss) (stays_open is_indent is_outdent ss) (indents_in_force ss) (open_is ss) where
-  at : (t : ℕ) (b : Bool) (i : ℕ) → b ≡ nat_le t 0 → get_or ((top stack + n) ∷ stack) t 0 + i ≡ get_or stack (t - 1) 0 + ((if b then n else 0) + i)
-  at zero true i e = ap (λ m. m + n + i) (top_is stack) ∙ sums (get_or stack 0 0) i where
-    sums : (m i : ℕ) → m + n + i ≡ m + (n + i)
-    sums m i = omega arith
-  at zero false i e = absurd (different e) where
-    different : false ≡ nat_le 0 0 → ⊥
-    different e = grind (arith, nat_tests)
-  at (suc t) true i e = absurd (different t e) where
-    different : (t : ℕ) → true ≡ nat_le (suc t) 0 → ⊥
-    different t e = grind (arith, nat_tests)
-  at (suc t) false i e = ap (λ k. get_or stack k 0 + i) (back t) ∙ sums (get_or stack (suc t - 1) 0) i where
-    back : (t : ℕ) → t ≡ suc t - 1
-    back t = omega arith
-
-    sums : (m i : ℕ) → m + i ≡ m + (0 + i)
-    sums m i = omega arith
-top_after (Outdent ∷ ss) stack = top_after ss (popped stack) ∙ ap (λ m. m + indents_in_force ss) (popped_at stack (taken ss)) ∙ at (taken ss) (indents_in_force ss) where
-  at : (t i : ℕ) → get_or stack (suc t) 0 + i ≡ get_or stack (t + 1) 0 + ((if stays_open is_indent is_outdent ss then 0 else 0) + i)
-  at t i = rw (add-one t) (ap (λ m. get_or stack (suc t) 0 + m) (grind arith))
+top_after (Indent n ∷ ss) stack = grind (arith, top_after ss, open_is, top_is, nat_tests)
+top_after (Outdent ∷ ss) stack = grind (arith, top_after ss, popped_at, add-one)
 top_after (Level ∷ ss) stack = top_after ss stack ∙ ap (λ m. get_or stack (taken ss) 0 + m) (grind arith)
 
 -- from an empty stack on it is the sum of the indents in force
@@ -109,12 +91,9 @@ stack_after-append (s ∷ ss) ts stack = stack_after-append ss ts (shifted s sta
 take_next : {A : Type 0} (f : ℕ × Part → A) (j k : ℕ) (parts : List Part) (part : Part) (rest : List Part) → drop j parts ≡ part ∷ rest
     → take (suc j) (map f (enumerate_from k parts)) ≡ take j (map f (enumerate_from k parts)) ++ f (k + j, part) ∷ []
 take_next f zero k [] part rest e = absurd cc
-take_next f zero k (p ∷ ps) part rest e =
-    let same : p ≡ part = cc in
-    ap (λ (q : Part). f (k, q) ∷ []) same ∙ ap (λ n. f (n, part) ∷ []) (sym (add-zero k))
+take_next f zero k (p ∷ ps) part rest e = grind (arith, add-zero)
 take_next f (suc j) k [] part rest e = absurd cc
-take_next f (suc j) k (p ∷ ps) part rest e =
-    ap (λ xs. f (k, p) ∷ xs) (take_next f j (k + 1) ps part rest e ∙ ap (λ n. take j (map f (enumerate_from (k + 1) ps)) ++ f (n, part) ∷ []) (omega arith))
+take_next f (suc j) k (p ∷ ps) part rest e = grind (arith, take_next f j (k + 1) ps part rest e)
 
 -- the part at place j shifts the stack
 pub stack_at-more : (document : List Part) (j : ℕ) (part : Part) (rest : List Part) → drop j document ≡ part ∷ rest
@@ -157,10 +136,7 @@ module _ (document : List Part) (j : ℕ) (part : Part) (rest : List Part) (here
 
   -- and does not grow at a block end
   pub margin-outdent : shift_at document j part ≡ Outdent → margin document j ≤ top (stack_at document j)
-  margin-outdent e =
-      let same : margin document j ≡ top (popped (stack_at document j)) = margin_here ∙ ap (λ s. top (shifted s (stack_at document j))) e in
-      let less : top (popped (stack_at document j)) ≤ top (stack_at document j) = popped_le (stack_at document j) (falls_after (take j (shifts document)) [] tt) in
-      omega arith
+  margin-outdent e = grind (arith, margin_here, popped_le, falls_after)
 
 -- which shift a part has
 pub shift_at-skipped : (document : List Part) (j : ℕ) (part : Part) → is_skipped document j ≡ true → shift_at document j part ≡ Level
@@ -185,13 +161,7 @@ margin-end document j b rest here = at (is_skipped document j) refl where
 
 greatest_le : (most : ℕ) (ns : List ℕ) (a : ℕ) → a ≤ most → fold max a (filter (λ n. nat_le n most) ns) ≤ most
 greatest_le most [] a l = l
-greatest_le most (n ∷ ns) a l = at (nat_le n most) refl (λ k m. greatest_le most ns k m) where
-  both : (a n most : ℕ) → a ≤ most → nat_le n most ≡ true → max a n ≤ most
-  both a n most l e = let m : n ≤ most = grind (arith, nat_tests) in omega arith
-
-  at : (b : Bool) → nat_le n most ≡ b → ((k : ℕ) → k ≤ most → fold max k (filter (λ n. nat_le n most) ns) ≤ most)
-      → fold max a (if b then n ∷ filter (λ n. nat_le n most) ns else filter (λ n. nat_le n most) ns) ≤ most
-  at b e more = grind arith
+greatest_le most (n ∷ ns) a l = grind (arith, greatest_le most ns, nat_tests)
 
 pub tab_stop-le : (document : List Part) → tab_stop document ≤ 28
 tab_stop-le document = let l : greatest (filter (λ n. nat_le n 24) (term_lengths document)) ≤ 24 = greatest_le 24 (term_lengths document) 0 (omega arith) in omega arith
@@ -210,12 +180,7 @@ indent-le document j part = at (is_skipped document j) where
 in_force-le : (document : List Part) (j k : ℕ) (parts : List Part) → indents_in_force (take j (map (λ (i, part). shift_at document i part) (enumerate_from k parts))) ≤ 30 * j
 in_force-le document zero k parts = omega arith
 in_force-le document (suc j) k [] = omega arith
-in_force-le document (suc j) k (part ∷ parts) = at (shift_at document k part) (indent-le document k part) (stays_open is_indent is_outdent (others)) (in_force-le document j (k + 1) parts) where
-  others : List Shift
-  others = take j (map (λ (i, part). shift_at document i part) (enumerate_from (k + 1) parts))
-
-  at : (s : Shift) → indent s ≤ 30 → (b : Bool) → indents_in_force others ≤ 30 * j → (if b then indent s else 0) + indents_in_force others ≤ 30 * suc j
-  at s l b m = grind arith
+in_force-le document (suc j) k (part ∷ parts) = grind (arith, in_force-le document j (k + 1) parts, indent-le)
 
 pub margin-le : (document : List Part) (j : ℕ) → margin document j ≤ 30 * (j + 1)
 margin-le document j = in_force-le document (j + 1) 0 document
@@ -226,9 +191,7 @@ more_than (n ∷ ns) a = let rest : max a n ≤ fold max (max a n) ns = more_tha
 
 greatest_at : (f : ℕ → ℕ) (j k a : ℕ) (parts : List Part) → j < length parts → f (k + j) ≤ fold max a (map (λ (i, part). f i) (enumerate_from k parts))
 greatest_at f j k a [] l = absurd (omega arith)
-greatest_at f zero k a (part ∷ parts) l =
-    let more : max a (f k) ≤ fold max (max a (f k)) (map (λ (i, part). f i) (enumerate_from (k + 1) parts)) = more_than (map (λ (i, part). f i) (enumerate_from (k + 1) parts)) (max a (f k)) in
-    subst (λ n. f n ≤ fold max (max a (f k)) (map (λ (i, part). f i) (enumerate_from (k + 1) parts))) (sym (add-zero k)) (omega arith)
+greatest_at f zero k a (part ∷ parts) l = grind (arith, more_than, add-zero)
 greatest_at f (suc j) k a (part ∷ parts) l =
     subst (λ n. f n ≤ fold max (max a (f k)) (map (λ (i, part). f i) (enumerate_from (k + 1) parts))) (omega arith) (greatest_at f j (k + 1) (max a (f k)) parts (omega arith))
 

@@ -66,16 +66,14 @@ skipped-few pairs index b page skipped shown = absurd (let no : true ≡ false =
 -- a text that is shown, and one that is hidden
 pub text-shown : (full : Bool) (document : List Part) (index : ℕ) (pairs : Pairs) (hidden : ℕ) (bytes : List ℕ) (style : Style) (page new : Sheet)
     → hidden ≡ 0 → new ≡ text_put full (chunks_of bytes) page → new ≡ part_put full document index pairs hidden (Text bytes style) page
-text-shown full document index pairs hidden bytes style page new none wrote =
-    wrote ∙ sym (ap (λ h. part_put full document index pairs h (Text bytes style) page) none)
+text-shown full document index pairs hidden bytes style page new none wrote = grind arith
 
 not_none : (hidden : ℕ) → hidden ≢ 0 → (hidden == 0) ≡ false
 not_none hidden some = grind (arith, nat_tests)
 
 pub text-hidden : (full : Bool) (document : List Part) (index : ℕ) (pairs : Pairs) (hidden : ℕ) (bytes : List ℕ) (style : Style) (page : Sheet)
     → hidden ≢ 0 → page ≡ part_put full document index pairs hidden (Text bytes style) page
-text-hidden full document index pairs hidden bytes style page some =
-    sym (ap (λ b. if b then text_put full (chunks_of bytes) page else page) (not_none hidden some))
+text-hidden full document index pairs hidden bytes style page some = grind (arith, not_none)
 
 pub hidden-shown : (full : Bool) (hidden : ℕ) (bytes : List ℕ) (style : Style) (broke : Bool) → hidden ≡ 0 → broke ≡ hides full (chunks_of bytes)
     → (if broke then 1 else 0) ≡ hidden_after full hidden (Text bytes style)
@@ -87,8 +85,7 @@ hidden-still full hidden bytes style some = sym (ap (λ b. if b && hides full (c
 -- a mark, and one that is passed over
 pub start-shown : (pairs : Pairs) (index : ℕ) (b : Block) (adjacent : Bool) (page new : Sheet) → false ≡ skips pairs index b → adjacent ≡ is_adjacent b pairs
     → new ≡ opened b adjacent page → new ≡ start_put pairs index b page
-start-shown pairs index b adjacent page new shown says wrote =
-    wrote ∙ ap (λ a. opened b a page) says ∙ ap (λ t. if t then page else opened b (is_adjacent b pairs) page) shown
+start-shown pairs index b adjacent page new shown says wrote = grind arith
 
 pub start-skipped : (pairs : Pairs) (index : ℕ) (b : Block) (page : Sheet) → true ≡ skips pairs index b → page ≡ start_put pairs index b page
 start-skipped pairs index b page skipped = ap (λ t. if t then page else opened b (is_adjacent b pairs) page) skipped
@@ -101,17 +98,13 @@ end-skipped pairs index b page skipped = ap (λ t. if t then page else closed b 
 
 -- what is passed over has no ink
 pub skips-mark_bytes : (pairs : Pairs) (index : ℕ) (b : Block) → true ≡ skips pairs index b → mark_bytes b ≡ []
-skips-mark_bytes pairs index b skipped = quiet b (grind arith) where
-  quiet : (b : Block) → is_block b ≡ true → mark_bytes b ≡ []
-  quiet blocks.TermRef e = absurd cc
-  quiet _ e = refl
+skips-mark_bytes pairs index b skipped = grind arith
 
 -- nothing is left
 pub IsPageLeft-none : {Z E : Type 0} (r : Result (String Z) E) (full : Bool) (document : List Part) (whole : Sheet) (few : Type 0) (index : ℕ) (pairs : Pairs) (hidden : ℕ) (parts : List Part) (page : Sheet)
     → IsPageLeft full document whole few index pairs hidden parts page → parts ≡ []
     → IfOk r (λ text. string_bytes text ≡ finished page) → IfOk r (λ text. string_bytes text ≡ finished whole)
-IsPageLeft-none (Ok text) full document whole few index pairs hidden parts page left none h =
-    h ∙ ap finished (ap (λ ps. parts_put full document index pairs hidden ps page) (sym none) ∙ left.same_page)
+IsPageLeft-none (Ok text) full document whole few index pairs hidden parts page left none h = grind arith
 IsPageLeft-none (Err error) full document whole few index pairs hidden parts page left none h = tt
 
 pub IsPageLeft-few : {Z E : Type 0} (r : Result (String Z) E) (full : Bool) (document : List Part) (whole : Sheet) (few : Type 0) (index : ℕ) (pairs : Pairs) (hidden : ℕ) (parts : List Part) (page : Sheet)

@@ -30,16 +30,11 @@ start_is _ h = absurd cc
 slice_get-drop : {A : Type 0} (m n : ℕ) (xs : List A) → slice_get (drop m xs) n ≡ slice_get xs (m + n)
 slice_get-drop zero n xs = ap (λ k. slice_get xs k) (sym (zero-add n))
 slice_get-drop (suc m) n [] = refl
-slice_get-drop (suc m) n (x ∷ xs) = slice_get-drop m n xs ∙ ap (λ k. slice_get (x ∷ xs) k) (at m n) where
-  at : (m n : ℕ) → suc (m + n) ≡ suc m + n
-  at m n = omega arith
+slice_get-drop (suc m) n (x ∷ xs) = grind (arith, slice_get-drop m n xs)
 
 -- a place behind a usize has no part
 pub slice_get-saturates : (document : List Part) (k : ℕ) → length document < 2 ^ 64 → slice_get document (min k 18446744073709551615) ≡ slice_get document k
-slice_get-saturates document k small = at (grind arith) where
-  at : (k ≤ 18446744073709551615) ⊎ (18446744073709551615 < k) → slice_get document (min k 18446744073709551615) ≡ slice_get document k
-  at (inl l) = ap (λ n. slice_get document n) (omega arith)
-  at (inr l) = slice_get_past document (min k 18446744073709551615) (omega arith) ∙ sym (slice_get_past document k (omega arith))
+slice_get-saturates document k small = grind (arith, slice_get_past)
 
 -- ---- the first Section4 end after a place
 
@@ -91,10 +86,7 @@ empty_block-at _ h = absurd cc
 empty_block-from : (parts : List Part) → slice_get parts 0 ≡ Some (Start blocks.Block) → slice_get parts 1 ≡ Some (End blocks.Block) → has_empty_block parts ≡ true
 empty_block-from [] h i = absurd cc
 empty_block-from (p ∷ []) h i = absurd cc
-empty_block-from (p ∷ q ∷ rest) h i =
-    let first : p ≡ Start blocks.Block = cc in
-    let second : q ≡ End blocks.Block = cc in
-    rw (first, second) refl
+empty_block-from (p ∷ q ∷ rest) h i = grind arith
 
 -- and what stands at the places of a skipped pair
 pair_there : (document : List Part) (i : ℕ) → skips_pair document i ≡ true
@@ -108,16 +100,7 @@ pair_there document i h = at (after_section4 document i) h where
 -- the two tests of the code
 pub empty_block-is : (document : List Part) (k : ℕ) (first second : Bool) → (IsTrue first ↔ slice_get document k ≡ Some (Start blocks.Block))
     → (IsTrue second ↔ slice_get document (k + 1) ≡ Some (End blocks.Block)) → (first && second) ≡ has_empty_block (drop k document)
-empty_block-is document k first second f s = same_tests (first && second) (has_empty_block (drop k document)) there back where
-  there : (first && second) ≡ true → has_empty_block (drop k document) ≡ true
-  there h =
-      empty_block-from (drop k document) (slice_get-drop k 0 document ∙ ap (λ n. slice_get document n) (add-zero k) ∙ f.0 (and_parts first second h).0)
-      (slice_get-drop k 1 document ∙ s.0 (and_parts first second h).1)
-
-  back : has_empty_block (drop k document) ≡ true → (first && second) ≡ true
-  back h =
-      let pair : (slice_get (drop k document) 0 ≡ Some (Start blocks.Block)) × (slice_get (drop k document) 1 ≡ Some (End blocks.Block)) = empty_block-at (drop k document) h in
-      and_from first second (f.1 (ap (λ n. slice_get document n) (sym (add-zero k)) ∙ sym (slice_get-drop k 0 document) ∙ pair.0)) (s.1 (sym (slice_get-drop k 1 document) ∙ pair.1))
+empty_block-is document k first second f s = grind (arith, same_tests, empty_block-from, slice_get-drop, add-zero, and_parts, empty_block-at, and_from)
 
 -- ---- a place that is skipped, by the start that skips it
 
@@ -136,14 +119,8 @@ module _ (f : ℕ → Part → Bool) where
 
   any_from : (parts : List Part) (k i : ℕ) (part : Part) → slice_get parts i ≡ Some part → f (k + i) part ≡ true → list_any (λ (i, part). f i part) (enumerate_from k parts) ≡ true
   any_from [] k i part here h = absurd cc
-  any_from (p ∷ ps) k zero part here h =
-      let same : p ≡ part = cc in
-      at (f k p) (ap (λ q. f k q) same ∙ ap (λ n. f n part) (sym (add-zero k)) ∙ h) where
-        at : (b : Bool) → b ≡ true → (b || list_any (λ (i, part). f i part) (enumerate_from (k + 1) ps)) ≡ true
-        at b e = grind arith
-  any_from (p ∷ ps) k (suc i) part here h = at (f k p) (any_from ps (k + 1) i part here (ap (λ n. f n part) (omega arith) ∙ h)) where
-    at : (b : Bool) → list_any (λ (i, part). f i part) (enumerate_from (k + 1) ps) ≡ true → (b || list_any (λ (i, part). f i part) (enumerate_from (k + 1) ps)) ≡ true
-    at b e = grind arith
+  any_from (p ∷ ps) k zero part here h = grind (arith, add-zero)
+  any_from (p ∷ ps) k (suc i) part here h = grind (arith, any_from ps (k + 1) i part here)
 
 abbrev skips : List Part → ℕ → ℕ → Part → Bool
 skips document k i part = (is_section4_start part && skips_pair document i) && ((k == after_section4 document i) || (k == after_section4 document i + 1))
@@ -205,14 +182,10 @@ module _ (document : List Part) where
     shared = knows.ahead before
 
     same_end : after_section4 document index ≡ pairs.end + 1
-    same_end = at shared where
-      at : ((i : ℕ) × (i < index) × (after_section4 document i ≡ pairs.end + 1) × (pairs.has_pair ≡ skips_pair document i)) → after_section4 document index ≡ pairs.end + 1
-      at (i, l, e, h) = after_section4-shared document i index (omega arith) (omega arith) ∙ e
+    same_end = grind (arith, shared, after_section4-shared)
 
     pub shared_answer : pairs.has_pair ≡ skips_pair document index
-    shared_answer = at shared where
-      at : ((i : ℕ) × (i < index) × (after_section4 document i ≡ pairs.end + 1) × (pairs.has_pair ≡ skips_pair document i)) → pairs.has_pair ≡ skips_pair document index
-      at (i, l, e, h) = h ∙ ap (λ k. has_empty_block (drop k document)) (e ∙ sym same_end)
+    shared_answer = grind (arith, shared, same_end)
 
     pub KnowsPairs-shared : KnowsPairs document (index + 1) pairs
     KnowsPairs-shared = record {
@@ -293,12 +266,7 @@ module _ (document : List Part) where
       still (inr g) = absurd (passed (after_section4 document i) g place)
 
   pub skipped-known : (index : ℕ) (pairs : Pairs) → KnowsPairs document (index + 1) pairs → pairs.has_pair ≡ true → pairs.end < index → index ≤ pairs.end + 2 → is_skipped document index ≡ true
-  skipped-known index pairs knows h l m = at (knows.found h) where
-    place : (a : ℕ) → a ≡ pairs.end + 1 → (index ≡ a) ⊎ (index ≡ a + 1)
-    place a e = grind arith
-
-    at : ((i : ℕ) × SkipsAt document i × (after_section4 document i ≡ pairs.end + 1)) → is_skipped document index ≡ true
-    at (i, skips, e) = skipped_from document index i skips (place (after_section4 document i) e)
+  skipped-known index pairs knows h l m = grind (arith, skipped_from)
 
 -- ---- the code's loop and tests
 

@@ -46,17 +46,12 @@ first_columns-cons part parts = ap (λ ps. sum_by text_columns ps) (take_while-c
 
 first_columns-one : (part : Part) → first_columns (part ∷ []) ≡ text_columns part
 first_columns-one (Text bytes style) = zero-add (columns bytes)
-first_columns-one (Start b) = refl
 first_columns-one (End blocks.ItemTerm) = refl
-first_columns-one (End b) = refl
+first_columns-one _ = refl
 
 first_columns-push : (parts : List Part) (part : Part) → first_columns (parts ++ part ∷ []) ≡ first_columns parts + (if list_any is_term_end parts then 0 else text_columns part)
 first_columns-push [] part = first_columns-one part ∙ sym (zero-add (text_columns part))
-first_columns-push (p ∷ ps) part =
-    first_columns-cons p (ps ++ part ∷ []) ∙ at (is_term_end p) (list_any is_term_end ps) (text_columns p) (text_columns part) (first_columns ps) (first_columns (ps ++ part ∷ [])) (first_columns-push ps part)
-    ∙ ap (λ n. n + (if is_term_end p || list_any is_term_end ps then 0 else text_columns part)) (sym (first_columns-cons p ps)) where
-      at : (b c : Bool) (m n s t : ℕ) → t ≡ s + (if c then 0 else n) → (if b then 0 else m + t) ≡ (if b then 0 else m + s) + (if b || c then 0 else n)
-      at b c m n s t e = grind arith
+first_columns-push (p ∷ ps) part = grind (arith, first_columns-push ps part, first_columns-cons)
 
 -- a term has started and not ended
 abbrev is_in_term : List Part → Bool
@@ -66,31 +61,11 @@ any_push : (p : Part → Bool) (parts : List Part) (part : Part) → list_any p 
 any_push p parts part = list_any-append p parts (part ∷ []) ∙ ap (λ (b : Bool). list_any p parts || b) (or-false (p part))
 
 is_in_term-push : (before : List Part) (part : Part) → is_in_term (before ++ part ∷ []) ≡ (if is_term_start part then true else is_in_term before && not (is_term_end part))
-is_in_term-push before part =
-    ap (λ (b : Bool). b && not (list_any is_term_end (after_last is_term_start (before ++ part ∷ [])))) (any_push is_term_start before part)
-    ∙ ap (λ ps. (list_any is_term_start before || is_term_start part) && not (list_any is_term_end ps)) (after_last-append is_term_start before part)
-    ∙ at (list_any is_term_start before) (is_term_start part) (any_push is_term_end (after_last is_term_start before) part) where
-      at : (a s : Bool) → list_any is_term_end (after_last is_term_start before ++ part ∷ []) ≡ (list_any is_term_end (after_last is_term_start before) || is_term_end part)
-          → ((a || s) && not (list_any is_term_end (if s then [] else after_last is_term_start before ++ part ∷ [])))
-          ≡ (if s then true else (a && not (list_any is_term_end (after_last is_term_start before))) && not (is_term_end part))
-      at true true e = refl
-      at false true e = refl
-      at false false e = refl
-      at true false e = ap not e ∙ grind arith
+is_in_term-push before part = grind (arith, any_push, after_last-append)
 
 term_length-push : (before : List Part) (part : Part)
     → term_length (before ++ part ∷ []) ≡ (if is_term_start part then 0 else term_length before + (if is_in_term before then text_columns part else 0))
-term_length-push before part =
-    ap (λ (b : Bool). if b then first_columns (after_last is_term_start (before ++ part ∷ [])) else 0) (any_push is_term_start before part)
-    ∙ ap (λ ps. if list_any is_term_start before || is_term_start part then first_columns ps else 0) (after_last-append is_term_start before part)
-    ∙ at (list_any is_term_start before) (is_term_start part) (first_columns-push (after_last is_term_start before) part) where
-      at : (a s : Bool) → first_columns (after_last is_term_start before ++ part ∷ []) ≡ first_columns (after_last is_term_start before) + (if list_any is_term_end (after_last is_term_start before) then 0 else text_columns part)
-          → (if a || s then first_columns (if s then [] else after_last is_term_start before ++ part ∷ []) else 0)
-          ≡ (if s then 0 else (if a then first_columns (after_last is_term_start before) else 0) + (if a && not (list_any is_term_end (after_last is_term_start before)) then text_columns part else 0))
-      at true true e = refl
-      at false true e = refl
-      at false false e = refl
-      at true false e = e ∙ ap (λ n. first_columns (after_last is_term_start before) + n) (grind arith)
+term_length-push before part = grind (arith, any_push, after_last-append, first_columns-push)
 
 -- ---- all parts
 
@@ -108,11 +83,7 @@ passed : (document before rest : List Part) (part : Part) (widest : ℕ) (in_ter
     → (document ≡ (before ++ part ∷ []) ++ rest → widest_from widest (is_in_term (before ++ part ∷ [])) (sat (term_length (before ++ part ∷ []))) rest
     ≡ widest_of document (before ++ part ∷ []) rest widest)
     → widest_from widest in_term count rest ≡ fold max widest (filter (λ n. nat_le n 24) (lengths_from document (length before + 1) rest))
-passed document before rest part widest in_term count e f same more =
-    ap (λ (b : Bool). widest_from widest b count rest) e
-    ∙ ap (λ n. widest_from widest (is_in_term (before ++ part ∷ [])) n rest) f
-    ∙ more (same ∙ sym (append_assoc before (part ∷ []) rest))
-    ∙ ap (λ k. fold max widest (filter (λ n. nat_le n 24) (lengths_from document k rest))) (length-append before (part ∷ []))
+passed document before rest part widest in_term count e f same more = grind (arith, append_assoc, length-append, nat_tests)
 
 -- a mark that is no start and no end of a term
 quiet : (document before rest : List Part) (part : Part) (widest : ℕ) → is_term_start part ≡ false → is_term_end part ≡ false → text_columns part ≡ 0
@@ -128,9 +99,7 @@ quiet document before rest part widest s e n same more =
 
 -- what a length does to the widest, as it is and with all its columns
 counted : (widest n : ℕ) (ns : List ℕ) → fold max (wider widest (sat n)) (filter (λ n. nat_le n 24) ns) ≡ fold max widest (filter (λ n. nat_le n 24) (n ∷ ns))
-counted widest n ns = ap (λ (m : ℕ). fold max m (filter (λ n. nat_le n 24) ns)) (grind (arith, nat_tests)) ∙ at (nat_le n 24) where
-  at : (b : Bool) → fold max (if b then max widest n else widest) (filter (λ n. nat_le n 24) ns) ≡ fold max widest (if b then n ∷ filter (λ n. nat_le n 24) ns else filter (λ n. nat_le n 24) ns)
-  at b = grind arith
+counted widest n ns = grind (arith, nat_tests)
 
 walk : (document before rest : List Part) (widest : ℕ) → document ≡ before ++ rest
     → widest_from widest (is_in_term before) (sat (term_length before)) rest ≡ widest_of document before rest widest

@@ -46,23 +46,15 @@ inked_asks _ h = absurd (false≢true h)
 asked_breaks : (between after : List HtmlSnippet) (b : Fragment) → well_broken Asked (between ++ Of b ∷ after) ≡ true → shows is_inked b ≡ true → list_any is_break between ≡ true
 asked_breaks [] after b h i = absurd (false≢true (sym (ap not i) ∙ passes_first may_come since_next Asked (Of b) after h))
 asked_breaks (Break ∷ between) after b h i = refl
-asked_breaks (Open e ∷ between) after b h i = asked_breaks between after b h i
-asked_breaks (Close e ∷ between) after b h i = asked_breaks between after b h i
-asked_breaks (Newline ∷ between) after b h i = asked_breaks between after b h i
 asked_breaks (Of f ∷ between) after b h i = asked_breaks between after b (passes_rest may_come since_next Asked (Of f) (between ++ Of b ∷ after) h) i
+asked_breaks (_ ∷ between) after b h i = asked_breaks between after b h i
 
 inked_breaks : (between after : List HtmlSnippet) (b : Fragment) → well_broken Inked (between ++ Of b ∷ after) ≡ true → shows is_inked b ≡ true
     → list_any asks_break (fragments_in between) ≡ true → list_any is_break between ≡ true
 inked_breaks [] after b h i a = absurd (false≢true a)
 inked_breaks (Break ∷ between) after b h i a = refl
-inked_breaks (Open e ∷ between) after b h i a = inked_breaks between after b h i a
-inked_breaks (Close e ∷ between) after b h i a = inked_breaks between after b h i a
-inked_breaks (Newline ∷ between) after b h i a = inked_breaks between after b h i a
-inked_breaks (Of f ∷ between) after b h i a =
-    (elim (asks_break f) as (λ t. well_broken (if t then Asked else Inked) (between ++ Of b ∷ after) ≡ true → (t || list_any asks_break (fragments_in between)) ≡ true → list_any is_break between ≡ true) [
-      | true ↦ λ w _. asked_breaks between after b w i
-      | false ↦ λ w k. inked_breaks between after b w i k
-    ]) h a
+inked_breaks (Of f ∷ between) after b h i a = grind (arith, asked_breaks between after b, inked_breaks between after b)
+inked_breaks (_ ∷ between) after b h i a = inked_breaks between after b h i a
 
 from_ink : (q : Since) (between after : List HtmlSnippet) (a b : Fragment) → well_broken q (Of a ∷ (between ++ Of b ∷ after)) ≡ true → shows is_inked a ≡ true → shows is_inked b ≡ true
     → list_any asks_break (fragments_in between) ≡ true → list_any is_break between ≡ true
@@ -113,18 +105,11 @@ rests_clear p (Shown style (Raw bytes weight)) = (
 rests_clear p (Shown style Paragraph) = (refl, refl)
 rests_clear p (Shown style LineBreak) = (refl, refl)
 rests_clear p (TextEnd styles.Text) = (refl, refl)
-rests_clear p Hidden = (refl, refl)
-rests_clear p (Start blocks.Header) =
-    elim (p.fresh) as (λ f. (well_broken Clear (start_snippets f p.in_list blocks.Header) ≡ true) × (at_rest (state_after may_come since_next Clear (start_snippets f p.in_list blocks.Header)) (page_after p (Start blocks.Header)).fresh ≡ true)) [ true ↦ (refl, refl) | false ↦ (refl, refl) ]
-rests_clear p (Start blocks.ItemBody) =
-    elim (p.in_list) as (λ l. (well_broken Clear (start_snippets p.fresh l blocks.ItemBody) ≡ true) × (at_rest (state_after may_come since_next Clear (start_snippets p.fresh l blocks.ItemBody)) (page_after p (Start blocks.ItemBody)).fresh ≡ true)) [ true ↦ (refl, refl) | false ↦ (refl, refl) ]
-rests_clear p (Start _) = (refl, refl)
-rests_clear p (End blocks.Header) =
-    elim (p.fresh) as (λ f. (well_broken Clear (end_snippets f (first_or_false p.outer) blocks.Header) ≡ true) × (at_rest (state_after may_come since_next Clear (end_snippets f (first_or_false p.outer) blocks.Header)) (page_after p (End blocks.Header)).fresh ≡ true)) [ true ↦ (refl, refl) | false ↦ (refl, refl) ]
-rests_clear p (End blocks.ItemBody) =
-    elim (first_or_false p.outer) as (λ l. (well_broken Clear (end_snippets p.fresh l blocks.ItemBody) ≡ true) × (at_rest (state_after may_come since_next Clear (end_snippets p.fresh l blocks.ItemBody)) (page_after p (End blocks.ItemBody)).fresh ≡ true)) [ true ↦ (refl, refl) | false ↦ (refl, refl) ]
-rests_clear p (End _) = (refl, refl)
-rests_clear p (TextEnd _) = (refl, refl)
+rests_clear p (Start blocks.Header) = (grind arith, grind arith)
+rests_clear p (Start blocks.ItemBody) = (grind arith, grind arith)
+rests_clear p (End blocks.Header) = (grind arith, grind arith)
+rests_clear p (End blocks.ItemBody) = (grind arith, grind arith)
+rests_clear p _ = (refl, refl)
 
 rests_inked : (p : Written) (f : Fragment) → not p.fresh ≡ true → Rests Inked p f
 rests_inked p (TextStart styles.Text) h = (refl, not_fresh p.fresh true h)
@@ -133,15 +118,11 @@ rests_inked p (Shown style Paragraph) h = (refl, refl)
 rests_inked p (Shown style LineBreak) h = (refl, refl)
 rests_inked p (TextEnd styles.Text) h = (refl, not_fresh p.fresh true h)
 rests_inked p Hidden h = (refl, h)
-rests_inked p (Start blocks.Header) h =
-    (elim (p.fresh) as (λ f. not f ≡ true → (well_broken Inked (start_snippets f p.in_list blocks.Header) ≡ true) × (at_rest (state_after may_come since_next Inked (start_snippets f p.in_list blocks.Header)) (page_after p (Start blocks.Header)).fresh ≡ true)) [ true ↦ λ n. absurd (false≢true n) | false ↦ λ _. (refl, refl) ]) h
-rests_inked p (Start blocks.ItemBody) h =
-    (elim (p.in_list) as (λ l. (well_broken Inked (start_snippets p.fresh l blocks.ItemBody) ≡ true) × (at_rest (state_after may_come since_next Inked (start_snippets p.fresh l blocks.ItemBody)) (p.fresh && is_empty (start_tag blocks.ItemBody l)) ≡ true)) [ true ↦ (refl, not_fresh p.fresh false h) | false ↦ (refl, not_fresh p.fresh false h) ])
+rests_inked p (Start blocks.Header) h = (grind arith, grind arith)
+rests_inked p (Start blocks.ItemBody) h = (grind arith, grind arith)
 rests_inked p (Start b) h = (refl, not_fresh p.fresh (is_empty (start_tag b p.in_list)) h)
-rests_inked p (End blocks.Header) h =
-    (elim (p.fresh) as (λ f. not f ≡ true → (well_broken Inked (end_snippets f (first_or_false p.outer) blocks.Header) ≡ true) × (at_rest (state_after may_come since_next Inked (end_snippets f (first_or_false p.outer) blocks.Header)) (page_after p (End blocks.Header)).fresh ≡ true)) [ true ↦ λ n. absurd (false≢true n) | false ↦ λ _. (refl, refl) ]) h
-rests_inked p (End blocks.ItemBody) h =
-    (elim (first_or_false p.outer) as (λ l. (well_broken Inked (end_snippets p.fresh l blocks.ItemBody) ≡ true) × (at_rest (state_after may_come since_next Inked (end_snippets p.fresh l blocks.ItemBody)) (p.fresh && is_empty (end_tag blocks.ItemBody l)) ≡ true)) [ true ↦ (refl, not_fresh p.fresh false h) | false ↦ (refl, not_fresh p.fresh false h) ])
+rests_inked p (End blocks.Header) h = (grind arith, grind arith)
+rests_inked p (End blocks.ItemBody) h = (grind arith, grind arith)
 rests_inked p (End b) h = (refl, not_fresh p.fresh (is_empty (end_tag b (first_or_false p.outer))) h)
 rests_inked p _ h = (refl, not_fresh p.fresh false h)
 
@@ -188,19 +169,13 @@ well_joined = passes may_follow beside_next
 
 apart_ends : (between after : List HtmlSnippet) (b : Fragment) → well_joined Apart (between ++ Of b ∷ after) ≡ true → shows is_raw b ≡ true → fragments_in between ≡ [] → ⊥
 apart_ends [] after b h r none = false≢true (sym (ap not r) ∙ passes_first may_follow beside_next Apart (Of b) after h)
-apart_ends (Open e ∷ between) after b h r none = apart_ends between after b h r none
-apart_ends (Close e ∷ between) after b h r none = apart_ends between after b h r none
-apart_ends (Break ∷ between) after b h r none = apart_ends between after b h r none
-apart_ends (Newline ∷ between) after b h r none = apart_ends between after b h r none
 apart_ends (Of f ∷ between) after b h r none = cc
+apart_ends (_ ∷ between) after b h r none = apart_ends between after b h r none
 
 joined_touch : (between after : List HtmlSnippet) (b : Fragment) → well_joined Joined (between ++ Of b ∷ after) ≡ true → shows is_raw b ≡ true → fragments_in between ≡ [] → between ≡ []
 joined_touch [] after b h r none = refl
-joined_touch (Open e ∷ between) after b h r none = absurd (apart_ends between after b h r none)
-joined_touch (Close e ∷ between) after b h r none = absurd (apart_ends between after b h r none)
-joined_touch (Break ∷ between) after b h r none = absurd (apart_ends between after b h r none)
-joined_touch (Newline ∷ between) after b h r none = absurd (apart_ends between after b h r none)
 joined_touch (Of f ∷ between) after b h r none = cc
+joined_touch (_ ∷ between) after b h r none = absurd (apart_ends between after b h r none)
 
 touching_between : (cut before between after : List HtmlSnippet) (a b : Fragment) → well_joined Loose cut ≡ true → cut ≡ before ++ Of a ∷ (between ++ Of b ∷ after)
     → IsTrue (shows is_raw a) → IsTrue (shows is_raw b) → fragments_in between ≡ [] → between ≡ []
@@ -226,19 +201,11 @@ settles q p (Shown style (Raw bytes weight)) h = (refl, refl)
 settles q p (Shown style Paragraph) h = (refl, refl)
 settles q p (Shown style LineBreak) h = (refl, refl)
 settles q p (TextEnd styles.Text) h = (refl, refl)
-settles q p Hidden h = (refl, refl)
-settles q p (Start blocks.Header) h =
-    elim (p.fresh) as (λ f. (well_joined q (start_snippets f p.in_list blocks.Header) ≡ true) × (settled (state_after may_follow beside_next q (start_snippets f p.in_list blocks.Header)) ≡ true)) [ true ↦ (refl, refl) | false ↦ (refl, refl) ]
-settles q p (Start blocks.ItemBody) h =
-    elim (p.in_list) as (λ l. (well_joined q (start_snippets p.fresh l blocks.ItemBody) ≡ true) × (settled (state_after may_follow beside_next q (start_snippets p.fresh l blocks.ItemBody)) ≡ true)) [ true ↦ (refl, refl) | false ↦ (refl, refl) ]
-settles q p (Start _) h = (refl, refl)
-settles q p (End blocks.Header) h =
-    elim (p.fresh) as (λ f. (well_joined q (end_snippets f (first_or_false p.outer) blocks.Header) ≡ true) × (settled (state_after may_follow beside_next q (end_snippets f (first_or_false p.outer) blocks.Header)) ≡ true)) [ true ↦ (refl, refl) | false ↦ (refl, refl) ]
-settles q p (End blocks.ItemBody) h =
-    elim ((first_or_false p.outer)) as (λ l. (well_joined q (end_snippets p.fresh l blocks.ItemBody) ≡ true) × (settled (state_after may_follow beside_next q (end_snippets p.fresh l blocks.ItemBody)) ≡ true)) [ true ↦ (refl, refl) | false ↦ (refl, refl) ]
-settles q p (End _) h = (refl, refl)
-settles q p (TextStart _) h = (refl, refl)
-settles q p (TextEnd _) h = (refl, refl)
+settles q p (Start blocks.Header) h = (grind arith, grind arith)
+settles q p (Start blocks.ItemBody) h = (grind arith, grind arith)
+settles q p (End blocks.Header) h = (grind arith, grind arith)
+settles q p (End blocks.ItemBody) h = (grind arith, grind arith)
+settles q p _ h = (refl, refl)
 
 cut_joined : (q : Beside) (p : Written) (fs : List Fragment) → settled q ≡ true → well_joined q (cut_from p fs) ≡ true
 cut_joined q p [] h = refl

@@ -53,20 +53,12 @@ spelled snippets = flat_map snippet_text snippets
 -- ---- they spell its bytes
 
 start-spelled : (p : Written) (b : Block) → (page_after p (Start b)).bytes ≡ p.bytes ++ spelled (start_snippets p.fresh p.in_list b)
-start-spelled p blocks.Header =
-    elim (p.fresh) as (λ f. (if f then p else with_break p).bytes ++ codes "# " ≡ p.bytes ++ spelled (start_snippets f p.in_list blocks.Header)) [
-      | true ↦ refl
-      | false ↦ append_assoc p.bytes (codes "<br>\n") (codes "# ")
-    ]
+start-spelled p blocks.Header = grind (arith, append_assoc p.bytes (codes "<br>\n") (codes "# "))
 start-spelled p blocks.ItemBody = grind arith
 start-spelled p _ = refl
 
 end-spelled : (p : Written) (b : Block) → (page_after p (End b)).bytes ≡ p.bytes ++ spelled (end_snippets p.fresh (first_or_false p.outer) b)
-end-spelled p blocks.Header =
-    elim (p.fresh) as (λ f. (if f then closed p else with_break (closed p)).bytes ++ [] ≡ p.bytes ++ spelled (end_snippets f (first_or_false p.outer) blocks.Header)) [
-      | true ↦ refl
-      | false ↦ append-nil (p.bytes ++ codes "<br>\n")
-    ]
+end-spelled p blocks.Header = grind (arith, append-nil (p.bytes ++ codes "<br>\n"))
 end-spelled p blocks.ItemBody = grind arith
 end-spelled p _ = refl
 
@@ -79,8 +71,7 @@ step-spelled p (TextEnd styles.Text) = refl
 step-spelled p Hidden = sym (append-nil p.bytes)
 step-spelled p (Start b) = start-spelled p b
 step-spelled p (End b) = end-spelled p b
-step-spelled p (TextStart _) = refl
-step-spelled p (TextEnd _) = refl
+step-spelled p _ = refl
 
 pub page-spelled : (p : Written) (fs : List Fragment) → (page_after_all p fs).bytes ≡ p.bytes ++ spelled (cut_from p fs)
 page-spelled p [] = sym (append-nil p.bytes)
@@ -94,11 +85,8 @@ page-spelled p (f ∷ fs) =
 
 pub fragments-append : (xs ys : List HtmlSnippet) → fragments_in (xs ++ ys) ≡ fragments_in xs ++ fragments_in ys
 fragments-append [] ys = refl
-fragments-append (Open e ∷ xs) ys = fragments-append xs ys
-fragments-append (Close e ∷ xs) ys = fragments-append xs ys
-fragments-append (Break ∷ xs) ys = fragments-append xs ys
-fragments-append (Newline ∷ xs) ys = fragments-append xs ys
 fragments-append (Of f ∷ xs) ys = ap (λ fs. f ∷ fs) (fragments-append xs ys)
+fragments-append (_ ∷ xs) ys = fragments-append xs ys
 
 step-fragments : (p : Written) (f : Fragment) → fragments_in (snippets_of p f) ≡ f ∷ []
 step-fragments p (TextStart styles.Text) = refl

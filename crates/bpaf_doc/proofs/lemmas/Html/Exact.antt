@@ -91,20 +91,11 @@ closing_is_other styles.Text = inl refl
 closing_is_other _ = line_is_other _ refl
 
 character_line : (b : ℕ) → is_line_byte b ≡ true → list_all is_line_byte (escaped_character b) ≡ true
-character_line b h =
-    elim (b == 60) as (λ s. list_all is_line_byte (if s then codes "&lt;" else (if (b == 62) then codes "&gt;" else (b ∷ []))) ≡ true) [
-      | true ↦ refl
-      | false ↦ elim (b == 62) as (λ s. list_all is_line_byte (if s then codes "&gt;" else (b ∷ [])) ≡ true) [
-        | true ↦ refl
-        | false ↦ and_from (is_line_byte b) true h refl
-      ]
-    ]
+character_line b h = grind (arith, h)
 
 words_line : (bytes : List ℕ) → list_all is_line_byte bytes ≡ true → list_all is_line_byte (flat_map escaped_character bytes) ≡ true
 words_line [] h = refl
-words_line (b ∷ bs) h =
-    let parts : (is_line_byte b ≡ true) × (list_all is_line_byte bs ≡ true) = and_parts (is_line_byte b) (list_all is_line_byte bs) h in
-    list_all-append is_line_byte (escaped_character b) (flat_map escaped_character bs) ∙ and_from _ _ (character_line b parts.0) (words_line bs parts.1)
+words_line (b ∷ bs) h = grind (arith, words_line bs, and_parts, list_all-append, and_from, character_line)
 
 some_stays : (text t : List ℕ) → is_empty t ≡ false → is_empty (text ++ t) ≡ false
 some_stays [] t h = h
@@ -127,8 +118,7 @@ no_break text t some other = at (cases_Bool (ends_with nat_eq (text ++ t) break_
 
 -- what the code keeps about breaks, after it wrote something else
 fresh_put : (text t : List ℕ) (fresh : Bool) → fresh ≡ is_at_break text → IsOther t → (fresh && is_empty t) ≡ is_at_break (text ++ t)
-fresh_put text t fresh e (inl none) =
-    ap (λ x. fresh && is_empty x) none ∙ and-true fresh ∙ e ∙ ap is_at_break (sym (append-nil text)) ∙ ap (λ x. is_at_break (text ++ x)) (sym none)
+fresh_put text t fresh e (inl none) = grind (arith, and-true, append-nil)
 fresh_put text t fresh e (inr some) = ap (λ b. fresh && b) some.0 ∙ and-false fresh ∙ sym (no_break text t some.0 some.1)
 
 -- ---- what the code keeps is what looking back says
@@ -166,50 +156,26 @@ unfolding nth
 next_lists before p (Shown style Paragraph) h n = h n
 next_lists before p (Start b) h zero = refl
 next_lists before p (Start b) h (suc n) = grind arith ∙ h n
-next_lists before p (End b) h n = kept p.fresh (is_header b) ∙ outer_is p.outer n ∙ h (suc n)
-  where
-    kept : (fresh header : Bool)
-        → nth n ((if header then (if fresh then closed p else with_break (closed p)) else closed p).in_list ∷ (if header then (if fresh then closed p else with_break (closed p)) else closed p).outer)
-        ≡ nth n (first_or_false p.outer ∷ without_first p.outer)
-    kept fresh false = refl
-    kept true true = refl
-    kept false true = refl
+next_lists before p (End b) h n = grind (arith, outer_is)
 next_lists before p _ h n = h n
 
 -- ---- a fragment more
 
 head_bytes : (p : Written) (b : Block) → p.fresh ≡ is_at_break p.bytes → (with_heading p b).bytes ≡ p.bytes ++ header_break p.bytes b
-head_bytes p b e = by (is_header b) p.fresh ∙ ap (λ fresh. p.bytes ++ (if is_header b then (if fresh then [] else break_text) else [])) e
-  where
-    by : (header fresh : Bool) → (if header then (if fresh then p else with_break p) else p).bytes ≡ p.bytes ++ (if header then (if fresh then [] else break_text) else [])
-    by false fresh = sym (append-nil p.bytes)
-    by true true = sym (append-nil p.bytes)
-    by true false = refl
+head_bytes p b e = grind (arith, append-nil)
 
 head_fresh : (p : Written) (b : Block) → p.fresh ≡ is_at_break p.bytes → (with_heading p b).fresh ≡ is_at_break (with_heading p b).bytes
-head_fresh p b e = by (is_header b) p.fresh
-  where
-    by : (header fresh : Bool) → (if header then (if fresh then p else with_break p) else p).fresh ≡ is_at_break (if header then (if fresh then p else with_break p) else p).bytes
-    by false fresh = e
-    by true true = e
-    by true false = sym (break_put p.bytes)
+head_fresh p b e = grind (arith, break_put)
 
 step_bytes : (before : List Fragment) (p : Written) (f : Fragment) → Agrees before p → (page_after p f).bytes ≡ p.bytes ++ fragment_html p.bytes before f
 unfolding nth
-step_bytes before p (TextStart style) h = refl
 step_bytes before p (Shown style (Raw bytes weight)) h = refl
 step_bytes before p (Shown style Paragraph) h = refl
 step_bytes before p (Shown style LineBreak) h = refl
-step_bytes before p (TextEnd style) h = refl
 step_bytes before p Hidden h = sym (append-nil p.bytes)
-step_bytes before p (Start b) h =
-    ap (λ x. x ++ start_tag b p.in_list) (head_bytes p b h.fresh)
-    ∙ append_assoc p.bytes (header_break p.bytes b) (start_tag b p.in_list)
-    ∙ ap (λ x. p.bytes ++ (header_break p.bytes b ++ start_tag b x)) (h.lists 0)
-step_bytes before p (End b) h =
-    ap (λ x. x ++ end_tag b (first_or_false p.outer)) (head_bytes (closed p) b h.fresh)
-    ∙ append_assoc p.bytes (header_break p.bytes b) (end_tag b (first_or_false p.outer))
-    ∙ ap (λ x. p.bytes ++ (header_break p.bytes b ++ end_tag b x)) (first_is p.outer ∙ h.lists 1 ∙ ap (in_list_at 0) (sym (backwards before (End b))))
+step_bytes before p (Start b) h = grind (arith, head_bytes, append_assoc)
+step_bytes before p (End b) h = grind (arith, head_bytes, append_assoc, first_is, backwards)
+step_bytes before p _ h = refl
 
 step_fresh : (p : Written) (f : Fragment) → fragment_is_line f ≡ true → p.fresh ≡ is_at_break p.bytes → (page_after p f).fresh ≡ is_at_break (page_after p f).bytes
 step_fresh p (TextStart style) line e = fresh_put p.bytes (opening_tags style) p.fresh e (opening_is_other style)

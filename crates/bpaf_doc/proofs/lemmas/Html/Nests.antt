@@ -1,5 +1,5 @@
 -- A page of well-nested fragments is well-nested HTML, and has the tags of its blocks.
-use Rattle.std.proofs.Common.{◌≡◌, ℕ, Bool, true, false, List, [], ◌∷◌, ◌++◌, map, refl, sym, ap, ◌∙◌, subst, append_assoc, append-nil}
+use Rattle.std.proofs.Common.{arith, ◌≡◌, ℕ, Bool, true, false, List, [], ◌∷◌, ◌++◌, map, refl, sym, ap, ◌∙◌, subst, append_assoc, append-nil}
 use Rattle.std.specs.Prelude.{not, ◌&&◌, ◌||◌, ◌==◌, flat_map, filter, codes, if◌then◌else◌}
 use Rattle.std.specs.List.{list_all}
 use Rattle.std.proofs.lemmas.List.Concat.{flat_map-append}
@@ -39,8 +39,7 @@ SameBlocks p q = (q.in_list ≡ p.in_list) × (q.outer ≡ p.outer)
 
 chunk_blocks : (p : Written) (style : Style) (chunk : Chunk) → SameBlocks p (page_after p (Shown style chunk))
 chunk_blocks p style (Raw bytes weight) = (refl, refl)
-chunk_blocks p style Paragraph = (refl, refl)
-chunk_blocks p style LineBreak = (refl, refl)
+chunk_blocks p style _ = (refl, refl)
 
 then_blocks : (p q r : Written) → SameBlocks p q → SameBlocks q r → SameBlocks p r
 then_blocks p q r h k = (k.0 ∙ h.0, k.1 ∙ h.1)
@@ -51,10 +50,7 @@ chunks_blocks p style (c ∷ cs) =
     then_blocks p (page_after p (Shown style c)) (page_after_all (page_after p (Shown style c)) (map (Shown style) cs)) (chunk_blocks p style c) (chunks_blocks (page_after p (Shown style c)) style cs)
 
 heading_blocks : (p : Written) (b : Block) → SameBlocks p (with_heading p b)
-heading_blocks p b = elim (is_header b) as (λ h. SameBlocks p (if h then (if p.fresh then p else with_break p) else p)) [
-  | true ↦ elim (p.fresh) as (λ f. SameBlocks p (if f then p else with_break p)) [ true ↦ (refl, refl) | false ↦ (refl, refl) ]
-  | false ↦ (refl, refl)
-]
+heading_blocks p b = (grind arith, grind arith)
 
 start_outer : (p : Written) (b : Block) → (page_after p (Start b)).outer ≡ p.in_list ∷ p.outer
 start_outer p b = let same : SameBlocks p (with_heading p b) = heading_blocks p b in ap (λ x. x ∷ (with_heading p b).outer) same.0 ∙ ap (λ x. p.in_list ∷ x) same.1
@@ -105,8 +101,7 @@ text_end_tags p _ = refl
 
 chunk_tags : (p : Written) (style : Style) (chunk : Chunk) → tags_of (snippets_of p (Shown style chunk)) ≡ Of (Shown style chunk) ∷ []
 chunk_tags p style (Raw bytes weight) = refl
-chunk_tags p style Paragraph = refl
-chunk_tags p style LineBreak = refl
+chunk_tags p style _ = refl
 
 start_tags : (fresh in_list : Bool) (b : Block) → tags_of (start_snippets fresh in_list b) ≡ Of (Start b) ∷ map Open (block_elements in_list b)
 start_tags true in_list blocks.Header = refl
@@ -186,14 +181,7 @@ as_characters : (bytes : List ℕ) → list_all is_no_angle bytes ≡ true → I
 as_characters bytes h = characters (AllPass-from_list_all is_no_angle bytes h)
 
 escaped_plain : (b : ℕ) → list_all is_no_angle (escaped_character b) ≡ true
-escaped_plain b =
-    (elim (b == 60) as (λ s. (b == 60) ≡ s → list_all is_no_angle (if s then codes "&lt;" else (if (b == 62) then codes "&gt;" else (b ∷ []))) ≡ true) [
-      | true ↦ λ e. refl
-      | false ↦ λ e. (elim (b == 62) as (λ s. (b == 62) ≡ s → list_all is_no_angle (if s then codes "&gt;" else (b ∷ [])) ≡ true) [
-        | true ↦ λ f. refl
-        | false ↦ λ f. ap (λ x. not (x || (b == 62)) && true) e ∙ ap (λ x. not x && true) f
-      ]) refl
-    ]) refl
+escaped_plain b = grind arith
 
 words_plain : (bytes : List ℕ) → list_all is_no_angle (flat_map escaped_character bytes) ≡ true
 words_plain [] = refl
@@ -207,8 +195,7 @@ break_html = html_joined (codes "<br>") (codes "\n") refl (line_break refl) newl
 
 chunk_html : (p : Written) (style : Style) (chunk : Chunk) → IsWellNestedHtml (spelled (snippets_of p (Shown style chunk)))
 chunk_html p style (Raw bytes weight) = subst IsWellNestedHtml (sym (append-nil (flat_map escaped_character bytes))) (as_characters (flat_map escaped_character bytes) (words_plain bytes))
-chunk_html p style Paragraph = break_html
-chunk_html p style LineBreak = break_html
+chunk_html p style _ = break_html
 
 chunks_html : (p : Written) (style : Style) (chunks : List Chunk) → IsWellNestedHtml (spelled (cut_from p (map (Shown style) chunks)))
 chunks_html p style [] = no_html refl
@@ -220,12 +207,11 @@ chunks_html p style (c ∷ cs) =
 -- a text in its style's tags
 styled_html : (p q : Written) (style : Style) (inner : List ℕ) → IsWellNestedHtml inner → IsWellNestedHtml (spelled (snippets_of p (TextStart style)) ++ (inner ++ spelled (snippets_of q (TextEnd style))))
 styled_html p q styles.Text inner h = subst IsWellNestedHtml (sym (append-nil inner)) h
-styled_html p q styles.Emphasis inner h = html_enclosed B inner refl h
 styled_html p q styles.Literal inner h =
     html_enclosed Tt (opening_tag B ++ (inner ++ closing_tag B)) (ap (λ x. codes "<tt><b>" ++ x) (sym (append_assoc inner (codes "</b>") (codes "</tt>")))) (html_enclosed B inner refl h)
 styled_html p q styles.Metavar inner h =
     html_enclosed Tt (opening_tag I ++ (inner ++ closing_tag I)) (ap (λ x. codes "<tt><i>" ++ x) (sym (append_assoc inner (codes "</i>") (codes "</tt>")))) (html_enclosed I inner refl h)
-styled_html p q styles.Invalid inner h = html_enclosed B inner refl h
+styled_html p q _ inner h = html_enclosed B inner refl h
 
 -- an element and a newline
 element_line : (e : Element) (inner : List ℕ) → IsWellNestedHtml inner → IsWellNestedHtml (opening_tag e ++ (inner ++ (closing_tag e ++ codes "\n")))

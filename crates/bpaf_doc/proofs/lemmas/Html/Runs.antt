@@ -1,5 +1,5 @@
 -- A run that is written at once is its chunks written one after another.
-use Rattle.std.proofs.Common.{◌≡◌, Bool, true, false, List, ℕ, [], ◌∷◌, ◌++◌, map, refl, sym, ap, ap₂, ◌∙◌, append_assoc, append-nil}
+use Rattle.std.proofs.Common.{arith, ◌≡◌, Bool, true, false, List, ℕ, [], ◌∷◌, ◌++◌, map, refl, sym, ap, ap₂, ◌∙◌, append_assoc, append-nil}
 use Rattle.std.specs.Prelude.{◌&&◌, flat_map}
 use Rattle.std.proofs.lemmas.List.Concat.{flat_map-append}
 use Rattle.std.proofs.Math.Bool.{and-true}
@@ -15,20 +15,11 @@ words_nothing : (p : Written) → with_words p [] ≡ p
 words_nothing p = ap₂ (λ x y. record p { bytes = x; fresh = y }) (append-nil p.bytes) (and-true p.fresh)
 
 words_on : (p : Written) (a b : List ℕ) → with_words (with_words p a) b ≡ with_words p (a ++ b)
-words_on p a b =
-    ap₂ (λ x y. record p { bytes = x; fresh = y })
-    (append_assoc p.bytes (flat_map escaped_character a) (flat_map escaped_character b) ∙ ap (λ t. p.bytes ++ t) (sym (flat_map-append escaped_character a b)))
-    (still p.fresh a)
-  where
-    still : (fresh : Bool) (c : List ℕ) → ((fresh && is_empty c) && is_empty b) ≡ (fresh && is_empty (c ++ b))
-    still true [] = refl
-    still true (d ∷ c) = refl
-    still false c = refl
+words_on p a b = grind (arith, ap₂, append_assoc, flat_map-append)
 
 words_page : {chunks : List Chunk} {text : List ℕ} → AreWords chunks text → (p : Written) (style : Style) → page_after_all p (map (Shown style) chunks) ≡ with_words p text
 words_page (no_words ec et) p style = ap (λ cs. page_after_all p (map (Shown style) cs)) ec ∙ sym (ap (with_words p) et ∙ words_nothing p)
-words_page (a_word bytes rest others ec et w) p style =
-    ap (λ cs. page_after_all p (map (Shown style) cs)) ec ∙ words_page w (with_words p bytes) style ∙ words_on p bytes rest ∙ ap (with_words p) (sym et)
+words_page (a_word bytes rest others ec et w) p style = grind (arith, words_page w, words_on)
 
 -- the page after the chunks of a run
 pub run_page : (p : Written) (style : Style) (run : List ℕ) → IsLine run → page_after_all p (map (Shown style) (chunks_of run)) ≡ with_words p run

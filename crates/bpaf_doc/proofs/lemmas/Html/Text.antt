@@ -1,5 +1,5 @@
 -- A page without its tags and newlines is the HTML text.
-use Rattle.std.proofs.Common.{◌≡◌, ℕ, true, false, cond, List, [], ◌∷◌, ◌++◌, refl, sym, ap, ◌∙◌, append_assoc}
+use Rattle.std.proofs.Common.{arith, ◌≡◌, ℕ, true, false, cond, List, [], ◌∷◌, ◌++◌, refl, sym, ap, ◌∙◌, append_assoc}
 use Rattle.std.specs.Prelude.{not, ◌&&◌, ◌==◌, flat_map, filter, codes, if◌then◌else◌}
 use Rattle.std.specs.List.{list_all}
 use Rattle.std.proofs.lemmas.Bool.{and_parts}
@@ -15,28 +15,14 @@ abbrev pub plain : List ℕ → List ℕ
 plain text = filter is_line_byte (erased text)
 
 plain_one : (b : ℕ) (rest : List ℕ) → (b == 60) ≡ false → is_line_byte b ≡ true → plain (b ∷ rest) ≡ b ∷ plain rest
-plain_one b rest e l =
-    ap (λ t. filter is_line_byte ((if t then [] else (b ∷ [])) ++ erased_from (t && not (b == 62)) rest)) e
-    ∙ ap (λ t. cond t (b ∷ plain rest) (plain rest)) l
+plain_one b rest e l = grind arith
 
 plain_character : (b : ℕ) (rest : List ℕ) → is_line_byte b ≡ true → plain (escaped_character b ++ rest) ≡ escaped_character b ++ plain rest
-plain_character b rest l =
-    (elim (b == 60) as (λ s. (b == 60) ≡ s → plain ((if s then codes "&lt;" else (if (b == 62) then codes "&gt;" else (b ∷ []))) ++ rest) ≡ (if s then codes "&lt;" else (if (b == 62) then codes "&gt;" else (b ∷ []))) ++ plain rest) [
-      | true ↦ λ e. refl
-      | false ↦ λ e. elim (b == 62) as (λ s. plain ((if s then codes "&gt;" else (b ∷ [])) ++ rest) ≡ (if s then codes "&gt;" else (b ∷ [])) ++ plain rest) [
-        | true ↦ refl
-        | false ↦ plain_one b rest e l
-      ]
-    ]) refl
+plain_character b rest l = grind (arith, plain_one b rest, l)
 
 plain_words : (bytes rest : List ℕ) → list_all is_line_byte bytes ≡ true → plain (flat_map escaped_character bytes ++ rest) ≡ flat_map escaped_character bytes ++ plain rest
 plain_words [] rest h = refl
-plain_words (b ∷ bs) rest h =
-    let parts : (is_line_byte b ≡ true) × (list_all is_line_byte bs ≡ true) = and_parts (is_line_byte b) (list_all is_line_byte bs) h in
-    ap plain (append_assoc (escaped_character b) (flat_map escaped_character bs) rest)
-    ∙ plain_character b (flat_map escaped_character bs ++ rest) parts.0
-    ∙ ap (λ x. escaped_character b ++ x) (plain_words bs rest parts.1)
-    ∙ sym (append_assoc (escaped_character b) (flat_map escaped_character bs) (plain rest))
+plain_words (b ∷ bs) rest h = grind (arith, plain_words bs rest, and_parts, append_assoc, plain_character)
 
 plain_fragment : (f : Fragment) (rest : List ℕ) → fragment_is_line f ≡ true → plain (fragment_text f ++ rest) ≡ fragment_text f ++ plain rest
 plain_fragment (Shown style (Raw bytes weight)) rest h = plain_words bytes rest h
@@ -50,10 +36,5 @@ pub plain_spelled : (snippets : List HtmlSnippet) → list_all fragment_is_line 
 plain_spelled [] h = refl
 plain_spelled (Open Tt ∷ snippets) h = plain_spelled snippets h
 plain_spelled (Close Tt ∷ snippets) h = plain_spelled snippets h
-plain_spelled (Break ∷ snippets) h = plain_spelled snippets h
-plain_spelled (Newline ∷ snippets) h = plain_spelled snippets h
-plain_spelled (Of f ∷ snippets) h =
-    let parts : (fragment_is_line f ≡ true) × (list_all fragment_is_line (fragments_in snippets) ≡ true) = and_parts (fragment_is_line f) (list_all fragment_is_line (fragments_in snippets)) h in
-    plain_fragment f (spelled snippets) parts.0 ∙ ap (λ x. fragment_text f ++ x) (plain_spelled snippets parts.1)
-plain_spelled (Open _ ∷ snippets) h = plain_spelled snippets h
-plain_spelled (Close _ ∷ snippets) h = plain_spelled snippets h
+plain_spelled (Of f ∷ snippets) h = grind (arith, plain_spelled snippets, and_parts, plain_fragment)
+plain_spelled (_ ∷ snippets) h = plain_spelled snippets h

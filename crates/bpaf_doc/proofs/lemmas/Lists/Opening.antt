@@ -29,17 +29,11 @@ module _ {A : Type 0} (opens closes : A → Bool) (apart : (x : A) → closes x 
   none_within more = grind (arith, nat_tests)
 
   one_within : (more less : ℕ) (x : A) (front : List A) → one_if (closes x) + less ≡ one_if (opens x) + more → is_within more (x ∷ front) ≡ is_within less front
-  one_within more less x front e =
-      at (count_by closes (x ∷ front)) (count_by opens (x ∷ front)) (one_if (closes x)) (one_if (opens x)) (count_by closes front) (count_by opens front)
-      (count_by-cons closes x front) (count_by-cons opens x front) e where
-        at : (a b c o d f : ℕ) → a ≡ c + d → b ≡ o + f → c + less ≡ o + more → nat_le a (b + more) ≡ nat_le d (f + less)
-        at a b c o d f i j e = grind (arith, nat_tests)
+  one_within more less x front e = grind (arith, count_by-cons, nat_tests)
 
   -- what one more in front does to the test
   step : (more less : ℕ) (x : A) (xs : List A) → one_if (closes x) + less ≡ one_if (opens x) + more → stays_by more (x ∷ xs) ≡ stays_by less xs
-  step more less x xs e =
-      rw (none_within more) (list_all-map (is_within more) (λ front. x ∷ front) (fronts xs)
-      ∙ list_all-ext (λ front. is_within more (x ∷ front)) (is_within less) (λ front. one_within more less x front e) (fronts xs))
+  step more less x xs e = grind (arith, none_within, list_all-map, list_all-ext, one_within)
 
   none_left : (x : A) (xs : List A) → closes x ≡ true → opens x ≡ false → stays_by 0 (x ∷ xs) ≡ false
   none_left x xs c o = rw (none_within 0, at xs) refl where

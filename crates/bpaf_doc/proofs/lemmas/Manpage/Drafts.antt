@@ -53,16 +53,12 @@ record Holds (page : List (Piece Escape)) (by_page : Bool) (done : List Part) (d
   heading : draft.heading ≡ captured_texts done
 
 document_pieces-append : (by_page : Bool) (done : List Part) (part : Part) → document_pieces by_page (done ++ part ∷ []) ≡ document_pieces by_page done ++ part_pieces by_page (done, part)
-document_pieces-append by_page done part =
-    ap (flat_map (part_pieces by_page)) (places-append [] done part) ∙ flat_map-append (part_pieces by_page) (places [] done) ((done, part) ∷ [])
-    ∙ ap (λ more. document_pieces by_page done ++ more) (append-nil (part_pieces by_page (done, part)))
+document_pieces-append by_page done part = grind (arith, places-append, flat_map-append, append-nil)
 
 -- the pieces of one part more
 one_more : (page pieces : List (Piece Escape)) (by_page : Bool) (done : List Part) (part : Part) (more : List (Piece Escape)) → pieces ≡ page ++ document_pieces by_page done → more ≡ part_pieces by_page (done, part)
     → pieces ++ more ≡ page ++ document_pieces by_page (done ++ part ∷ [])
-one_more page pieces by_page done part more e same =
-    ap (λ x. x ++ more) e ∙ ap (λ x. (page ++ document_pieces by_page done) ++ x) same ∙ append_assoc page (document_pieces by_page done) (part_pieces by_page (done, part))
-    ∙ ap (λ x. page ++ x) (sym (document_pieces-append by_page done part))
+one_more page pieces by_page done part more e same = grind (arith, append_assoc, document_pieces-append)
 
 -- the last mark of a term, after one more part
 strips-append : (by_page : Bool) (before : List Part) (part : Part) → strips_newlines by_page (before ++ part ∷ []) ≡ (if is_term_mark part then is_start (Some part) else strips_newlines by_page before)
@@ -163,20 +159,13 @@ kept_strips None = refl
 kept_strips (Some mark) = refl
 
 kept_part : (place : List Part × Part) → part_pieces false place ≡ flat_map pieces_of (place_calls place)
-kept_part (before, Text bytes how) = by (last_is_start is_section_mark before)
-  where
-    by : (captured : Bool) → (if captured then [] else style_pieces how ++ text_pieces (strips_newlines false before) ((font_of how, bytes) ∷ []))
-        ≡ flat_map pieces_of (if captured then [] else control_calls (style_name how) ++ TextCall (last_is_start is_term_mark before) (font_of how) bytes ∷ [])
-    by true = refl
-    by false = ap (λ strip. style_pieces how ++ text_pieces strip ((font_of how, bytes) ∷ [])) (kept_strips (find is_term_mark (reverse before))) ∙ sym (text_same how (last_is_start is_term_mark before) bytes)
+kept_part (before, Text bytes how) = grind (arith, kept_strips, text_same)
 kept_part (before, Start b) = sym (start_same b)
 kept_part (before, End b) = sym (end_same before b)
 
 kept_parts : (ps : List (List Part × Part)) → flat_map (part_pieces false) ps ≡ flat_map pieces_of (flat_map place_calls ps)
 kept_parts [] = refl
-kept_parts (place ∷ ps) =
-    ap (λ more. part_pieces false place ++ more) (kept_parts ps) ∙ ap (λ first. first ++ flat_map pieces_of (flat_map place_calls ps)) (kept_part place)
-    ∙ sym (flat_map-append pieces_of (place_calls place) (flat_map place_calls ps))
+kept_parts (place ∷ ps) = grind (arith, kept_parts ps, kept_part, flat_map-append)
 
 -- A page that takes a document is, with the document on it, read as the document's events.
 pub taken_page : (page : Script) (document : List Part) (text : List ℕ) → TakesDocument page → text ≡ roff_page page document → IsPageOf page document text

@@ -21,25 +21,8 @@ places-append done (p ∷ before) part = rw (places-append (done ++ p ∷ []) be
 
 -- what stands after the last that passes, after one more
 pub after_last-append : {X : Type 0} (p : X → Bool) (xs : List X) (x : X) → after_last p (xs ++ x ∷ []) ≡ (if p x then [] else after_last p xs ++ x ∷ [])
-after_last-append {X = X} p xs x = ap (λ ys. drop (length (xs ++ x ∷ []) - prefix_len fails ys) (xs ++ x ∷ [])) (reverse-append xs (x ∷ [])) ∙ by (p x) refl
-  where
-    fails : X → Bool
-    fails y = not (p y)
-
-    by : (t : Bool) → p x ≡ t → drop (length (xs ++ x ∷ []) - prefix_len fails (x ∷ reverse xs)) (xs ++ x ∷ []) ≡ (if p x then [] else after_last p xs ++ x ∷ [])
-    by true e = rw e (drop_all _ (xs ++ x ∷ []) (omega arith))
-    by false e = rw e (ap (λ n. drop n (xs ++ x ∷ [])) fewer ∙ drop-append-le (length xs - prefix_len fails (reverse xs)) xs (x ∷ []) (omega arith))
-      where
-        fewer : length (xs ++ x ∷ []) - (1 + prefix_len fails (reverse xs)) ≡ length xs - prefix_len fails (reverse xs)
-        fewer = omega (arith, length-append xs (x ∷ []))
+after_last-append {X = X} p xs x = grind (arith, reverse-append, drop_all, drop-append-le, length-append)
 
 -- the captured texts since the last section end, after one more part
 pub captured_texts-append : (before : List Part) (part : Part) → captured_texts (before ++ part ∷ []) ≡ (if is_section_end part then [] else captured_texts before ++ captured_text (before, part))
-captured_texts-append before part = ap (λ ps. flat_map captured_text (after_last ends ps)) (places-append [] before part) ∙ ap (flat_map captured_text) (after_last-append ends (places [] before) (before, part)) ∙ by (is_section_end part)
-  where
-    ends : List Part × Part → Bool
-    ends place = is_section_end place.1
-
-    by : (x : Bool) → flat_map captured_text (if x then [] else after_last ends (places [] before) ++ (before, part) ∷ []) ≡ (if x then [] else captured_texts before ++ captured_text (before, part))
-    by true = refl
-    by false = flat_map-append captured_text (after_last ends (places [] before)) ((before, part) ∷ []) ∙ ap (λ t. captured_texts before ++ t) (append-nil (captured_text (before, part)))
+captured_texts-append before part = grind (arith, places-append, after_last-append, flat_map-append, append-nil)

@@ -1,6 +1,6 @@
 -- A text is read as at most one list of events: whatever it is read as, the program reads it so.
 use Rattle.std.specs.Prelude.{◌≡◌, ◌≢◌, ℕ, List, [], ◌∷◌, ◌++◌, Some, None, refl}
-use Rattle.std.proofs.Common.{ap, ◌∙◌, append_assoc}
+use Rattle.std.proofs.Common.{arith, ap, ◌∙◌, append_assoc}
 use Rattle.std.proofs.lemmas.List.{append-nil}
 use Rattle.std.proofs.lemmas.Bool.{ne_eqb}
 use Rattle.bpaf_roff.specs.Escaping.{newline}
@@ -36,10 +36,7 @@ arguments_read (AreArguments.argument a w r more et ew nw ha h) events name rest
 -- before no control a newline makes no difference
 guarded_read : (text : List ℕ) → StartsNoControl text → (events : List Event) (font : Font) (front rest : List ℕ) → read_from events (AfterNewline font front) ((text ++ restore_font) ++ rest) ≡ read_from events (Inside font front) ((text ++ restore_font) ++ rest)
 guarded_read [] h events font front rest = refl
-guarded_read (b ∷ text) h events font front rest = ap (λ t. read_from events t ((text ++ restore_font) ++ rest)) after
-  where
-    after : next (AfterNewline font front) b ≡ next (Inside font front) b
-    after = rw (ne_eqb b 46 h.0, ne_eqb b 39 h.1) refl
+guarded_read (b ∷ text) h events font front rest = grind (arith, ne_eqb)
 
 span_read : {text content : List ℕ} → IsSpanText text content → (events : List Event) (font : Font) (front rest : List ℕ) → read_from events (Inside font front) ((text ++ restore_font) ++ rest) ≡ read_from (events ++ Span font (front ++ content) ∷ []) Within rest
 span_read (IsSpanText.end et ec) events font front rest = rw (et, ec, append-nil front) refl

@@ -31,15 +31,7 @@ place_calls (before, Start b) = control_calls (start_name b)
 place_calls (before, End b) = end_calls before b (heading_name b)
 
 text_steps : (before : List Part) (bytes : List ℕ) (how : Style) → map step_of (place_calls (before, Text bytes how)) ≡ place_steps (before, Text bytes how)
-text_steps before bytes how = by how (last_is_start is_section_mark before) refl
-  where
-    by : (how : Style) (x : Bool) → last_is_start is_section_mark before ≡ x → map step_of (place_calls (before, Text bytes how)) ≡ place_steps (before, Text bytes how)
-    by how true e = rw e refl
-    by style.Text false e = rw e refl
-    by style.Emphasis false e = rw e refl
-    by style.Literal false e = rw e refl
-    by style.Metavar false e = rw e refl
-    by style.Invalid false e = rw e refl
+text_steps before bytes how = grind arith
 
 steps_of_start : (b : Block) → map step_of (control_calls (start_name b)) ≡ start_steps b
 steps_of_start block.ItemTerm = refl

@@ -10,7 +10,7 @@ use Rattle.bpaf_doc.specs.Html.Fragments.{Fragment, TextStart, Shown, TextEnd, H
 use Rattle.bpaf_doc.specs.Markdown.Page.{Newline, MarkdownSnippet, Put, Of, fragments_in, is_newline}
 use Rattle.bpaf_doc.specs.Markdown.Steps.Page.{Marked, with_item, is_term_end, marked_after}
 use Rattle.bpaf_doc.proofs.lemmas.Lists.Passing.{state_after, passes, passes_back, passes_both, passes_first, passes_rest}
-use Rattle.bpaf_doc.proofs.lemmas.Markdown.Cut.{own_snippets, snippets_of, cut_from, item_snippets, open_snippets, close_snippets, line_snippets, new_line_snippets, step-flags, step-code, item-code, item_marks, new_line_marks, open_marks, close_marks}
+use Rattle.bpaf_doc.proofs.lemmas.Markdown.Cut.{raw_cut, by_weight, own_snippets, snippets_of, cut_from, item_snippets, open_snippets, close_snippets, line_snippets, new_line_snippets, step-flags, step-code, item-code, item_marks, new_line_marks, open_marks, close_marks}
 use Rattle.bpaf_doc.proofs.lemmas.Markdown.Kept.{step-fragments, own-fragments}
 
 -- ---- touching
@@ -117,13 +117,7 @@ abbrev before_words : Marked → List MarkdownSnippet
 before_words p = item_snippets p.pending false ++ close_snippets p.in_code
 
 words_are : (p : Marked) (style : Style) (bytes : List ℕ) (weight : ℕ) → is_ordinary (Raw bytes weight) ≡ true → snippets_of p (Shown style (Raw bytes weight)) ≡ before_words p ++ Of (Shown style (Raw bytes weight)) ∷ []
-words_are p style bytes weight h =
-    let f : Fragment = Shown style (Raw bytes weight) in
-    let q : Marked = with_item p false in
-    ap (λ t. item_snippets p.pending false ++ (if t then new_line_snippets q.bytes ++ line_snippets f else (if weight == code_weight then open_snippets q.in_code ++ line_snippets f else (close_snippets q.in_code ++ Of f ∷ [])))) (not_whole bytes weight h).0
-    ∙ ap (λ t. item_snippets p.pending false ++ (if t then open_snippets q.in_code ++ line_snippets f else (close_snippets q.in_code ++ Of f ∷ []))) (not_whole bytes weight h).1
-    ∙ ap (λ c. item_snippets p.pending false ++ (close_snippets c ++ Of f ∷ [])) (item-code p false)
-    ∙ sym (append_assoc (item_snippets p.pending false) (close_snippets p.in_code) (Of f ∷ []))
+words_are p style bytes weight h = grind (arith, not_whole, item-code, append_assoc)
 
 words_marks : (pending in_code : Bool) → fragments_in (item_snippets pending false ++ close_snippets in_code) ≡ []
 words_marks pending in_code = grind arith
@@ -220,17 +214,12 @@ or_stays : (a b c : Bool) → (b ≡ true → c ≡ true) → (a || b) ≡ true 
 or_stays a b c i h = grind arith
 
 followed_stays : (f : Fragment) (xs ys : List MarkdownSnippet) → is_followed f xs ≡ true → is_followed f (xs ++ ys) ≡ true
-followed_stays f xs ys h =
-    let parts : ((not (shows is_paragraph f) || begins_two xs) ≡ true) × ((not (shows is_line_break f || shows is_whole_line f) || begins_line xs) ≡ true) = and_parts _ _ h in
-    and_from _ _ (or_stays (not (shows is_paragraph f)) (begins_two xs) (begins_two (xs ++ ys)) (two_stay xs ys) parts.0)
-    (or_stays (not (shows is_line_break f || shows is_whole_line f)) (begins_line xs) (begins_line (xs ++ ys)) (line_stays xs ys) parts.1)
+followed_stays f xs ys h = grind (arith, and_parts, and_from, or_stays, two_stay, line_stays)
 
 followed_both : (xs ys : List MarkdownSnippet) → all_followed xs ≡ true → all_followed ys ≡ true → all_followed (xs ++ ys) ≡ true
 followed_both [] ys h k = k
 followed_both (Put mark ∷ xs) ys h k = followed_both xs ys h k
-followed_both (Of f ∷ xs) ys h k =
-    let parts : (is_followed f xs ≡ true) × (all_followed xs ≡ true) = and_parts (is_followed f xs) (all_followed xs) h in
-    and_from (is_followed f (xs ++ ys)) (all_followed (xs ++ ys)) (followed_stays f xs ys parts.0) (followed_both xs ys parts.1 k)
+followed_both (Of f ∷ xs) ys h k = grind (arith, followed_both xs ys, and_parts, and_from, followed_stays)
 
 followed_back : (xs ys : List MarkdownSnippet) → all_followed (xs ++ ys) ≡ true → all_followed ys ≡ true
 followed_back [] ys h = h
@@ -249,12 +238,7 @@ asks_nothing f = not (shows is_paragraph f) && not (shows is_line_break f || sho
 quiet_followed : (ss : List MarkdownSnippet) (f : Fragment) → fragments_in ss ≡ f ∷ [] → asks_nothing f ≡ true → all_followed ss ≡ true
 quiet_followed [] f e h = refl
 quiet_followed (Put mark ∷ ss) f e h = quiet_followed ss f e h
-quiet_followed (Of g ∷ ss) f e h =
-    let same : asks_nothing g ≡ true = ap asks_nothing (ap (first_or f) e) ∙ h in
-    let parts : (not (shows is_paragraph g) ≡ true) × (not (shows is_line_break g || shows is_whole_line g) ≡ true) = and_parts _ _ same in
-    and_from (is_followed g ss) (all_followed ss)
-    (and_from _ _ (ap (λ b. b || begins_two ss) parts.0) (ap (λ b. b || begins_line ss) parts.1))
-    (marks_followed ss (ap without_first e))
+quiet_followed (Of g ∷ ss) f e h = grind (arith, and_parts, and_from, marks_followed)
 
 -- a line with its newline after it
 line_followed : (style : Style) (bytes : List ℕ) (weight : ℕ) → all_followed (line_snippets (Shown style (Raw bytes weight))) ≡ true
@@ -264,17 +248,7 @@ words_quiet : (bytes : List ℕ) (weight : ℕ) → (weight == fence_weight) ≡
 words_quiet bytes weight e h = ap (λ c. c || (weight == fence_weight)) h ∙ e
 
 raw_followed : (p : Marked) (style : Style) (bytes : List ℕ) (weight : ℕ) → all_followed (own_snippets p (Shown style (Raw bytes weight))) ≡ true
-raw_followed p style bytes weight =
-    let f : Fragment = Shown style (Raw bytes weight) in
-    (elim (weight == fence_weight) as (λ t. (weight == fence_weight) ≡ t
-    → all_followed (if t then new_line_snippets p.bytes ++ line_snippets f else (if weight == code_weight then open_snippets p.in_code ++ line_snippets f else (close_snippets p.in_code ++ Of f ∷ []))) ≡ true) [
-      | true ↦ λ e. followed_both (new_line_snippets p.bytes) (line_snippets f) (marks_followed (new_line_snippets p.bytes) (new_line_marks p.bytes)) (line_followed style bytes weight)
-      | false ↦ λ e. (elim (weight == code_weight) as (λ t. (weight == code_weight) ≡ t → all_followed (if t then open_snippets p.in_code ++ line_snippets f else (close_snippets p.in_code ++ Of f ∷ [])) ≡ true) [
-        | true ↦ λ h. followed_both (open_snippets p.in_code) (line_snippets f) (marks_followed (open_snippets p.in_code) (open_marks p.in_code)) (line_followed style bytes weight)
-        | false ↦ λ h. followed_both (close_snippets p.in_code) (Of f ∷ []) (marks_followed (close_snippets p.in_code) (close_marks p.in_code))
-            (quiet_followed (Of f ∷ []) f refl (ap not (words_quiet bytes weight e h)))
-      ]) refl
-    ]) refl
+raw_followed p style bytes weight = grind (arith, line_followed, by_weight, followed_both, marks_followed, new_line_marks, open_marks, close_marks, quiet_followed, words_quiet)
 
 own_followed : (p : Marked) (f : Fragment) → all_followed (own_snippets p f) ≡ true
 own_followed p (Shown style (Raw bytes weight)) = raw_followed p style bytes weight
@@ -324,13 +298,7 @@ paragraph_between (Of f ∷ between) after b h any =
 line_break_between : (between after : List MarkdownSnippet) (b : Fragment) → all_followed (between ++ Of b ∷ after) ≡ true → list_any (shows is_line_break) (fragments_in between) ≡ true → list_any is_newline between ≡ true
 line_break_between [] after b h any = absurd (false≢true any)
 line_break_between (Put mark ∷ between) after b h any = or_right (is_newline (Put mark)) (list_any is_newline between) (line_break_between between after b h any)
-line_break_between (Of f ∷ between) after b h any =
-    let parts : (is_followed f (between ++ Of b ∷ after) ≡ true) × (all_followed (between ++ Of b ∷ after) ≡ true) = and_parts (is_followed f (between ++ Of b ∷ after)) (all_followed (between ++ Of b ∷ after)) h in
-    (elim (shows is_line_break f) as (λ t. shows is_line_break f ≡ t → (t || list_any (shows is_line_break) (fragments_in between)) ≡ true → list_any is_newline between ≡ true) [
-      | true ↦ λ e _. line_inside between after b
-          (implies (shows is_line_break f || shows is_whole_line f) (begins_line (between ++ Of b ∷ after)) (and_parts _ _ parts.0).1 (ap (λ t. t || shows is_whole_line f) e))
-      | false ↦ λ e k. line_break_between between after b parts.1 k
-    ]) refl any
+line_break_between (Of f ∷ between) after b h any = grind (arith, line_break_between between after b, and_parts, line_inside, implies)
 
 pub paragraphs_of : (p : Marked) (fs : List Fragment) (before between after : List MarkdownSnippet) (a b : Fragment) → cut_from p fs ≡ before ++ Of a ∷ (between ++ Of b ∷ after)
     → IsTrue (list_any (shows is_paragraph) (fragments_in between)) → (front back : List MarkdownSnippet) × (between ≡ front ++ Put Newline ∷ Put Newline ∷ back)

@@ -36,11 +36,26 @@ end_code_snippets in_code = if in_code then (Put Blank ∷ Put Blank ∷ Put Fen
 abbrev pub line_snippets : Fragment → List MarkdownSnippet
 line_snippets f = Put Blank ∷ Put Blank ∷ Of f ∷ Put Newline ∷ []
 
+-- a Raw that is a fence line, or a code line, or ordinary
+abbrev pub raw_cut : Bool → Bool → Marked → Fragment → List MarkdownSnippet
+raw_cut is_fence is_code p f =
+    if is_fence then new_line_snippets p.bytes ++ line_snippets f else (if is_code then open_snippets p.in_code ++ line_snippets f else (close_snippets p.in_code ++ Of f ∷ []))
+
+abbrev pub raw_marked : Bool → Bool → Marked → List ℕ → Marked
+raw_marked is_fence is_code p bytes = if is_fence then with_line (with_new_line p) bytes else (if is_code then with_line (open_code p) bytes else with_words p bytes)
+
+-- P of a weight, by these
+pub by_weight : (weight : ℕ) (P : Bool → Bool → Type 0) → ((weight == fence_weight) ≡ true → (c : Bool) → P true c)
+    → ((weight == fence_weight) ≡ false → (weight == code_weight) ≡ true → P false true) → ((weight == fence_weight) ≡ false → (weight == code_weight) ≡ false → P false false)
+    → P (weight == fence_weight) (weight == code_weight)
+by_weight weight P if_fence if_code if_words = at (weight == fence_weight) (weight == code_weight) refl refl where
+  at : (t c : Bool) → (weight == fence_weight) ≡ t → (weight == code_weight) ≡ c → P t c
+  at true c e h = if_fence e c
+  at false true e h = if_code e h
+  at false false e h = if_words e h
+
 abbrev pub raw_snippets : Marked → Style → List ℕ → ℕ → List MarkdownSnippet
-raw_snippets p style bytes weight =
-    if weight == fence_weight then new_line_snippets p.bytes ++ line_snippets (Shown style (Raw bytes weight))
-    else (if weight == code_weight then open_snippets p.in_code ++ line_snippets (Shown style (Raw bytes weight))
-    else (close_snippets p.in_code ++ Of (Shown style (Raw bytes weight)) ∷ []))
+raw_snippets p style bytes weight = raw_cut (weight == fence_weight) (weight == code_weight) p (Shown style (Raw bytes weight))
 
 abbrev pub body_dash : Marked → List MarkdownSnippet
 body_dash p = if p.in_list then (if p.empty_item then (Put Blank ∷ []) else (Put LongDash ∷ [])) else []
@@ -101,20 +116,13 @@ fragments-append (Of f ∷ xs) ys = ap (λ fs. f ∷ fs) (fragments-append xs ys
 
 pub places-spelled : (before snippets : List MarkdownSnippet) → flat_map_places_from snippet_text before snippets ≡ spelled (fragments_in before) snippets
 places-spelled before [] = refl
-places-spelled before (Put mark ∷ snippets) =
-    ap (λ x. mark_text mark ++ x) (places-spelled (before ++ Put mark ∷ []) snippets
-    ∙ ap (λ fs. spelled fs snippets) (fragments-append before (Put mark ∷ []) ∙ append-nil (fragments_in before)))
-places-spelled before (Of f ∷ snippets) =
-    ap (λ x. fragment_text (fragments_in before) f ++ x) (places-spelled (before ++ Of f ∷ []) snippets
-    ∙ ap (λ fs. spelled fs snippets) (fragments-append before (Of f ∷ [])))
+places-spelled before (Put mark ∷ snippets) = grind (arith, places-spelled (before ++ Put mark ∷ []) snippets, fragments-append, append-nil)
+places-spelled before (Of f ∷ snippets) = grind (arith, places-spelled (before ++ Of f ∷ []) snippets, fragments-append)
 
 pub spelled-append : (before : List Fragment) (xs ys : List MarkdownSnippet) → spelled before (xs ++ ys) ≡ spelled before xs ++ spelled (before ++ fragments_in xs) ys
 spelled-append before [] ys = ap (λ fs. spelled fs ys) (sym (append-nil before))
 spelled-append before (Put mark ∷ xs) ys = ap (λ x. mark_text mark ++ x) (spelled-append before xs ys) ∙ sym (append_assoc (mark_text mark) (spelled before xs) (spelled (before ++ fragments_in xs) ys))
-spelled-append before (Of f ∷ xs) ys =
-    ap (λ x. fragment_text before f ++ x) (spelled-append (before ++ f ∷ []) xs ys)
-    ∙ sym (append_assoc (fragment_text before f) (spelled (before ++ f ∷ []) xs) (spelled (before ++ f ∷ [] ++ fragments_in xs) ys))
-    ∙ ap (λ fs. (fragment_text before f ++ spelled (before ++ f ∷ []) xs) ++ spelled fs ys) (append_assoc before (f ∷ []) (fragments_in xs))
+spelled-append before (Of f ∷ xs) ys = grind (arith, spelled-append (before ++ f ∷ []) xs ys, append_assoc)
 
 -- ---- what is kept in mind
 
@@ -167,15 +175,13 @@ start-flags p blocks.Header = grind arith
 start-flags p _ = grind arith
 
 own-flags : (p : Marked) (f : Fragment) → flags (own_after p f) ≡ own_flags (flags p) f
-own-flags p (TextStart style) = refl
 own-flags p (Shown style (Raw bytes weight)) = raw-flags p bytes weight
 own-flags p (Shown style Paragraph) = refl
 own-flags p (Shown style LineBreak) = refl
 own-flags p (TextEnd style) = close_code-flags p (codes "  ```\n")
-own-flags p Hidden = refl
 own-flags p (Start b) = start-flags p b
 own-flags p (End blocks.ItemBody) = refl
-own-flags p (End _) = refl
+own-flags p _ = refl
 
 pub step-flags : (p : Marked) (f : Fragment) → flags (marked_after p f) ≡ flags_next (flags p) f
 step-flags p f = own-flags (with_item p (is_term_end f)) f ∙ ap (λ s. own_flags s f) (item-flags p (is_term_end f))
@@ -190,7 +196,7 @@ pub item-code : (p : Marked) (empty : Bool) → (with_item p empty).in_code ≡ 
 item-code p empty = grind arith
 
 pub close-code : (p : Marked) (fence : List ℕ) → (close_code p fence).in_code ≡ false
-close-code p fence = (elim (p.in_code) as (λ b. p.in_code ≡ b → (if b then record p { bytes = p.bytes ++ fence; in_code = false } else p).in_code ≡ false) [ true ↦ λ e. refl | false ↦ λ e. e ]) refl
+close-code p fence = grind arith
 
 own-code : (p : Marked) (f : Fragment) → (own_after p f).in_code ≡ code_next p.in_code f
 own-code p (Shown style (Raw bytes weight)) = grind arith
@@ -209,13 +215,11 @@ abbrev pub SameMono : List Fragment → Marked → Type 0
 SameMono before p = is_in_mono before ≡ nat_lt p.ends p.starts
 
 whole_text : (before : List Fragment) (style : Style) (bytes : List ℕ) (weight : ℕ) → is_ordinary (Raw bytes weight) ≡ false → fragment_text before (Shown style (Raw bytes weight)) ≡ bytes
-whole_text before style bytes weight e =
-    ap (λ o. if (is_in_mono before && o) then flat_map escaped_character bytes else bytes) e ∙ ap (λ t. if t then flat_map escaped_character bytes else bytes) (and-false (is_in_mono before))
+whole_text before style bytes weight e = grind (arith, and-false)
 
 words_text : (before : List Fragment) (style : Style) (bytes : List ℕ) (weight : ℕ) → is_ordinary (Raw bytes weight) ≡ true
     → fragment_text before (Shown style (Raw bytes weight)) ≡ (if is_in_mono before then flat_map escaped_character bytes else bytes)
-words_text before style bytes weight e =
-    ap (λ o. if (is_in_mono before && o) then flat_map escaped_character bytes else bytes) e ∙ ap (λ t. if t then flat_map escaped_character bytes else bytes) (and-true (is_in_mono before))
+words_text before style bytes weight e = grind (arith, and-true)
 
 pub fence_is_whole : (bytes : List ℕ) (weight : ℕ) → (weight == fence_weight) ≡ true → is_ordinary (Raw bytes weight) ≡ false
 fence_is_whole bytes weight e = ap (λ t. not (weight == code_weight) && not t) e ∙ and-false (not (weight == code_weight))
@@ -227,15 +231,11 @@ pub others_are_ordinary : (bytes : List ℕ) (weight : ℕ) → (weight == fence
 others_are_ordinary bytes weight e h = ap (λ t. not t && not (weight == fence_weight)) h ∙ ap not e
 
 pub new_line-spelled : (before : List Fragment) (p : Marked) → (with_new_line p).bytes ≡ p.bytes ++ spelled before (new_line_snippets p.bytes)
-new_line-spelled before p = elim (starts_line p.bytes) as (λ b. (if b then p else put p (codes "\n")).bytes ≡ p.bytes ++ spelled before (if b then [] else (Put Newline ∷ []))) [
-  | true ↦ sym (append-nil p.bytes)
-  | false ↦ refl
-]
+new_line-spelled before p = grind (arith, append-nil p.bytes)
 
 -- marks before a fragment are spelled alike wherever they stand
 line-spelled : (before : List Fragment) (f : Fragment) (bytes text : List ℕ) → fragment_text before f ≡ text → ((bytes ++ codes "  ") ++ text) ++ codes "\n" ≡ bytes ++ spelled before (line_snippets f)
-line-spelled before f bytes text e =
-    append_assoc (bytes ++ codes "  ") text (codes "\n") ∙ append_assoc bytes (codes "  ") (text ++ codes "\n") ∙ ap (λ x. bytes ++ (codes "  " ++ (x ++ codes "\n"))) (sym e)
+line-spelled before f bytes text e = grind (arith, append_assoc)
 
 pub marks_then : (before : List Fragment) (marks rest : List MarkdownSnippet) → fragments_in marks ≡ [] → spelled before (marks ++ rest) ≡ spelled before marks ++ spelled before rest
 marks_then before marks rest e = spelled-append before marks rest ∙ ap (λ fs. spelled before marks ++ spelled (before ++ fs) rest) e ∙ ap (λ fs. spelled before marks ++ spelled fs rest) (append-nil before)
@@ -253,94 +253,53 @@ end_code_marks : (in_code : Bool) → fragments_in (end_code_snippets in_code) �
 end_code_marks in_code = grind arith
 
 pub open-spelled : (before : List Fragment) (p : Marked) → (open_code p).bytes ≡ p.bytes ++ spelled before (open_snippets p.in_code)
-open-spelled before p = elim (p.in_code) as (λ b. (if b then p else record p { bytes = p.bytes ++ codes "\n\n  ```text\n"; in_code = true }).bytes ≡ p.bytes ++ spelled before (open_snippets b)) [
-  | true ↦ sym (append-nil p.bytes)
-  | false ↦ refl
-]
+open-spelled before p = grind (arith, append-nil p.bytes)
 
 close-spelled : (before : List Fragment) (p : Marked) → (close_code p (codes "\n  ```\n")).bytes ≡ p.bytes ++ spelled before (close_snippets p.in_code)
-close-spelled before p = elim (p.in_code) as (λ b. (if b then record p { bytes = p.bytes ++ codes "\n  ```\n"; in_code = false } else p).bytes ≡ p.bytes ++ spelled before (close_snippets b)) [
-  | true ↦ refl
-  | false ↦ sym (append-nil p.bytes)
-]
+close-spelled before p = grind (arith, append-nil p.bytes)
 
 end_code-spelled : (before : List Fragment) (p : Marked) → (close_code p (codes "  ```\n")).bytes ≡ p.bytes ++ spelled before (end_code_snippets p.in_code)
-end_code-spelled before p = elim (p.in_code) as (λ b. (if b then record p { bytes = p.bytes ++ codes "  ```\n"; in_code = false } else p).bytes ≡ p.bytes ++ spelled before (end_code_snippets b)) [
-  | true ↦ refl
-  | false ↦ sym (append-nil p.bytes)
-]
+end_code-spelled before p = grind (arith, append-nil p.bytes)
 
 raw-spelled : (before : List Fragment) (p : Marked) (style : Style) (bytes : List ℕ) (weight : ℕ) → SameMono before p → (with_raw p bytes weight).bytes ≡ p.bytes ++ spelled before (raw_snippets p style bytes weight)
 raw-spelled before p style bytes weight mono =
-    let f : Fragment = Shown style (Raw bytes weight) in
-    (elim (weight == fence_weight) as (λ t. (weight == fence_weight) ≡ t
-    → (if t then with_line (with_new_line p) bytes else (if weight == code_weight then with_line (open_code p) bytes else with_words p bytes)).bytes
-    ≡ p.bytes ++ spelled before (if t then new_line_snippets p.bytes ++ line_snippets f else (if weight == code_weight then open_snippets p.in_code ++ line_snippets f else (close_snippets p.in_code ++ Of f ∷ [])))) [
-      | true ↦ λ e.
-          line-spelled before f (with_new_line p).bytes bytes (whole_text before style bytes weight (fence_is_whole bytes weight e))
-          ∙ ap (λ x. x ++ spelled before (line_snippets f)) (new_line-spelled before p)
-          ∙ append_assoc p.bytes (spelled before (new_line_snippets p.bytes)) (spelled before (line_snippets f))
-          ∙ ap (λ x. p.bytes ++ x) (sym (marks_then before (new_line_snippets p.bytes) (line_snippets f) (new_line_marks p.bytes)))
-      | false ↦ λ e. (elim (weight == code_weight) as (λ t. (weight == code_weight) ≡ t
-          → (if t then with_line (open_code p) bytes else with_words p bytes).bytes
-          ≡ p.bytes ++ spelled before (if t then open_snippets p.in_code ++ line_snippets f else (close_snippets p.in_code ++ Of f ∷ []))) [
-            | true ↦ λ h.
-                line-spelled before f (open_code p).bytes bytes (whole_text before style bytes weight (code_is_whole bytes weight h))
-                ∙ ap (λ x. x ++ spelled before (line_snippets f)) (open-spelled before p)
-                ∙ append_assoc p.bytes (spelled before (open_snippets p.in_code)) (spelled before (line_snippets f))
-                ∙ ap (λ x. p.bytes ++ x) (sym (marks_then before (open_snippets p.in_code) (line_snippets f) (open_marks p.in_code)))
-            | false ↦ λ h.
-                let q : Marked = close_code p (codes "\n  ```\n") in
-                ap (λ t. q.bytes ++ (if t then flat_map escaped_character bytes else bytes)) (sym mono)
-                ∙ ap (λ x. q.bytes ++ x) (sym (words_text before style bytes weight (others_are_ordinary bytes weight e h)))
-                ∙ ap (λ x. x ++ fragment_text before f) (close-spelled before p)
-                ∙ append_assoc p.bytes (spelled before (close_snippets p.in_code)) (fragment_text before f)
-                ∙ ap (λ x. p.bytes ++ (spelled before (close_snippets p.in_code) ++ x)) (sym (append-nil (fragment_text before f)))
-                ∙ ap (λ x. p.bytes ++ x) (sym (marks_then before (close_snippets p.in_code) (Of f ∷ []) (close_marks p.in_code)))
-          ]) refl
-    ]) refl
+    by_weight weight (λ t c. (raw_marked t c p bytes).bytes ≡ p.bytes ++ spelled before (raw_cut t c p f))
+    (λ e c. line_put (with_new_line p).bytes (new_line_snippets p.bytes) (new_line-spelled before p) (new_line_marks p.bytes) (fence_is_whole bytes weight e))
+    (λ e h. line_put (open_code p).bytes (open_snippets p.in_code) (open-spelled before p) (open_marks p.in_code) (code_is_whole bytes weight h))
+    (λ e h.
+    let q : Marked = close_code p (codes "\n  ```\n") in
+    ap (λ t. q.bytes ++ (if t then flat_map escaped_character bytes else bytes)) (sym mono)
+    ∙ ap (λ x. q.bytes ++ x) (sym (words_text before style bytes weight (others_are_ordinary bytes weight e h)))
+    ∙ ap (λ x. x ++ fragment_text before f) (close-spelled before p)
+    ∙ append_assoc p.bytes (spelled before (close_snippets p.in_code)) (fragment_text before f)
+    ∙ ap (λ x. p.bytes ++ (spelled before (close_snippets p.in_code) ++ x)) (sym (append-nil (fragment_text before f)))
+    ∙ ap (λ x. p.bytes ++ x) (sym (marks_then before (close_snippets p.in_code) (Of f ∷ []) (close_marks p.in_code)))) where
+      f : Fragment
+      f = Shown style (Raw bytes weight)
+
+      -- a line after what was put before it
+      line_put : (put_before : List ℕ) (marks : List MarkdownSnippet) → put_before ≡ p.bytes ++ spelled before marks → fragments_in marks ≡ [] → is_ordinary (Raw bytes weight) ≡ false
+          → ((put_before ++ codes "  ") ++ bytes) ++ codes "\n" ≡ p.bytes ++ spelled before (marks ++ line_snippets f)
+      line_put put_before marks e none whole = grind (arith, line-spelled, f, whole_text, append_assoc, marks_then)
 
 blank_line_marks : (bytes : List ℕ) → fragments_in (blank_line_snippets bytes) ≡ []
 blank_line_marks bytes = grind arith
 
 blank_line-spelled : (before : List Fragment) (p : Marked) → (with_blank_line p).bytes ≡ p.bytes ++ spelled before (blank_line_snippets p.bytes)
-blank_line-spelled before p = elim (starts_paragraph p.bytes) as (λ b. (if b then p else put p (codes "\n\n")).bytes ≡ p.bytes ++ spelled before (if b then [] else (Put Newline ∷ Put Newline ∷ []))) [
-  | true ↦ sym (append-nil p.bytes)
-  | false ↦ refl
-]
+blank_line-spelled before p = grind (arith, append-nil p.bytes)
 
 body_dash_marks : (p : Marked) → fragments_in (body_dash p) ≡ []
 body_dash_marks p = grind arith
 
 body_dash-spelled : (before : List Fragment) (p : Marked) → body_bytes p ≡ p.bytes ++ spelled before (body_dash p)
-body_dash-spelled before p =
-    elim (p.in_list) as (λ l. (if l then put p (if p.empty_item then codes " " else codes " &mdash; ") else p).bytes ≡ p.bytes ++ spelled before (if l then (if p.empty_item then (Put Blank ∷ []) else (Put LongDash ∷ [])) else [])) [
-      | true ↦ elim (p.empty_item) as (λ t. p.bytes ++ (if t then codes " " else codes " &mdash; ") ≡ p.bytes ++ spelled before (if t then (Put Blank ∷ []) else (Put LongDash ∷ []))) [ true ↦ refl | false ↦ refl ]
-      | false ↦ sym (append-nil p.bytes)
-    ]
+body_dash-spelled before p = grind (arith, append-nil p.bytes)
 
 start-spelled : (before : List Fragment) (p : Marked) (b : Block) → (own_after p (Start b)).bytes ≡ p.bytes ++ spelled before (start_snippets p b)
-start-spelled before p blocks.Header =
-    let next : List Fragment = before ++ Start blocks.Header ∷ [] in
-    let line : List MarkdownSnippet = blank_line_snippets p.bytes in
-    let mark : List MarkdownSnippet = Put (if p.headed then SecondHeading else Heading) ∷ [] in
-    ap (λ x. x ++ (if p.headed then codes "## " else codes "# ")) (blank_line-spelled next p)
-    ∙ append_assoc p.bytes (spelled next line) (if p.headed then codes "## " else codes "# ")
-    ∙ ap (λ x. p.bytes ++ (spelled next line ++ x)) (grind arith)
-    ∙ ap (λ x. p.bytes ++ x) (sym (marks_then next line mark (blank_line_marks p.bytes)))
+start-spelled before p blocks.Header = grind (arith, blank_line-spelled, append_assoc, marks_then, blank_line_marks)
 start-spelled before p blocks.Section3 = refl
 start-spelled before p blocks.Section4 = new_line-spelled (before ++ Start blocks.Section4 ∷ []) p
 start-spelled before p blocks.ItemTerm = new_line-spelled (before ++ Start blocks.ItemTerm ∷ []) p
-start-spelled before p blocks.ItemBody =
-    let next : List Fragment = before ++ Start blocks.ItemBody ∷ [] in
-    let r : Marked = if p.in_list then put p (if p.empty_item then codes " " else codes " &mdash; ") else p in
-    let line : List MarkdownSnippet = new_line_snippets (body_bytes p) in
-    ap (λ x. x ++ codes "  ") (new_line-spelled next r)
-    ∙ append_assoc r.bytes (spelled next line) (codes "  ")
-    ∙ ap (λ x. x ++ (spelled next line ++ codes "  ")) (body_dash-spelled next p)
-    ∙ append_assoc p.bytes (spelled next (body_dash p)) (spelled next line ++ codes "  ")
-    ∙ ap (λ x. p.bytes ++ (spelled next (body_dash p) ++ x)) (sym (marks_then next line blanks (new_line_marks (body_bytes p))))
-    ∙ ap (λ x. p.bytes ++ x) (sym (marks_then next (body_dash p) (line ++ blanks) (body_dash_marks p)))
+start-spelled before p blocks.ItemBody = grind (arith, new_line-spelled, append_assoc, body_dash-spelled, marks_then, new_line_marks, body_dash_marks)
 start-spelled before p blocks.Block = refl
 start-spelled before p _ = sym (append-nil p.bytes)
 
@@ -354,19 +313,7 @@ end-spelled before p blocks.Mono = sym (append-nil p.bytes)
 end-spelled before p _ = refl
 
 text_end-spelled : (before : List Fragment) (p : Marked) (style : Style) → (own_after p (TextEnd style)).bytes ≡ p.bytes ++ spelled before (own_snippets p (TextEnd style))
-text_end-spelled before p style =
-    let rest : List MarkdownSnippet = map Put (reverse (style_marks style)) ++ Of (TextEnd style) ∷ [] in
-    ap (λ x. x ++ closing_marks style) (end_code-spelled before p)
-    ∙ append_assoc p.bytes (spelled before (end_code_snippets p.in_code)) (closing_marks style)
-    ∙ ap (λ x. p.bytes ++ (spelled before (end_code_snippets p.in_code) ++ x)) (closing style)
-    ∙ ap (λ x. p.bytes ++ x) (sym (marks_then before (end_code_snippets p.in_code) rest (end_code_marks p.in_code)))
-  where
-    closing : (style : Style) → closing_marks style ≡ spelled before (map Put (reverse (style_marks style)) ++ Of (TextEnd style) ∷ [])
-    closing styles.Text = refl
-    closing styles.Emphasis = refl
-    closing styles.Literal = refl
-    closing styles.Metavar = refl
-    closing styles.Invalid = refl
+text_end-spelled before p style = grind (arith, end_code-spelled, append_assoc, marks_then, end_code_marks)
 
 own-spelled : (before : List Fragment) (p : Marked) (f : Fragment) → SameMono before p → (own_after p f).bytes ≡ p.bytes ++ spelled before (own_snippets p f)
 own-spelled before p (TextStart styles.Text) mono = refl
@@ -380,19 +327,10 @@ own-spelled before p (End b) mono = end-spelled before p b
 own-spelled before p (TextStart _) mono = refl
 
 pub item-spelled : (before : List Fragment) (p : Marked) (empty : Bool) → (with_item p empty).bytes ≡ p.bytes ++ spelled before (item_snippets p.pending empty)
-item-spelled before p empty = elim (p.pending) as (λ b. (if b then record p { bytes = p.bytes ++ (if empty then codes "  " else codes "- "); pending = false; empty_item = empty } else p).bytes ≡ p.bytes ++ spelled before (item_snippets b empty)) [
-  | true ↦ elim empty as (λ t. p.bytes ++ (if t then codes "  " else codes "- ") ≡ p.bytes ++ spelled before (item_snippets true t)) [ true ↦ refl | false ↦ refl ]
-  | false ↦ sym (append-nil p.bytes)
-]
+item-spelled before p empty = grind (arith, append-nil p.bytes)
 
 pub item_marks : (pending empty : Bool) → fragments_in (item_snippets pending empty) ≡ []
 item_marks pending empty = grind arith
 
 pub step-spelled : (before : List Fragment) (p : Marked) (f : Fragment) → SameMono before p → (marked_after p f).bytes ≡ p.bytes ++ spelled before (snippets_of p f)
-step-spelled before p f mono =
-    let q : Marked = with_item p (is_term_end f) in
-    let first : List MarkdownSnippet = item_snippets p.pending (is_term_end f) in
-    own-spelled before q f (mono ∙ sym (ap (λ s. nat_lt s.ends s.starts) (item-flags p (is_term_end f))))
-    ∙ ap (λ x. x ++ spelled before (own_snippets q f)) (item-spelled before p (is_term_end f))
-    ∙ append_assoc p.bytes (spelled before first) (spelled before (own_snippets q f))
-    ∙ ap (λ x. p.bytes ++ x) (sym (marks_then before first (own_snippets q f) (item_marks p.pending (is_term_end f))))
+step-spelled before p f mono = grind (arith, own-spelled, item-flags, item-spelled, append_assoc, marks_then, item_marks)

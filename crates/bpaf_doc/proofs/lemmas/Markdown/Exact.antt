@@ -11,7 +11,7 @@ use Rattle.bpaf_doc.specs.Html.Fragments.{Fragment, TextStart, Shown, TextEnd, H
 use Rattle.bpaf_doc.specs.Markdown.Page.{IsMarkdownOf, escaped_character, is_header_start, is_in_list, is_in_mono, is_item_start, is_after_empty_item}
 use Rattle.bpaf_doc.specs.Markdown.Exact.{starts_line, starts_paragraph, new_line, blank_line, indented_line, decides_code, begins_with_code_line, is_in_code, opening_fence, closing_fence, last_fence, words_markdown, raw_markdown, item_mark, body_mark, closing_marks, fragment_markdown, markdown_after, markdown_page}
 use Rattle.bpaf_doc.specs.Markdown.Steps.Page.{Marked, blank_text, put, with_new_line, with_blank_line, with_item, with_line, open_code, close_code, with_words, with_raw, own_after, is_term_end, marked_after, marked_after_all}
-use Rattle.bpaf_doc.proofs.lemmas.Markdown.Cut.{flags, item-flags, step-flags, code_next, item-code, step-code}
+use Rattle.bpaf_doc.proofs.lemmas.Markdown.Cut.{raw_marked, by_weight, flags, item-flags, step-flags, code_next, item-code, step-code}
 use Rattle.bpaf_doc.proofs.lemmas.Markdown.Mind.{Agrees, Room, begins_is, after_empty_is, agrees_after, rooms_next, same_mono}
 use Rattle.bpaf_doc.proofs.lemmas.Markdown.Meets.{room_for, at_start, markdown_meets}
 
@@ -53,20 +53,16 @@ line_put : (bytes line : List ℕ) → ((bytes ++ codes "  ") ++ line) ++ codes 
 line_put bytes line = append_assoc (bytes ++ codes "  ") line (codes "\n") ∙ append_assoc bytes (codes "  ") (line ++ codes "\n")
 
 new_line_put : (p : Marked) → (with_new_line p).bytes ≡ p.bytes ++ new_line p.bytes
-new_line_put p = elim (starts_line p.bytes) as (λ b. (if b then p else put p (codes "\n")).bytes ≡ p.bytes ++ (if b then [] else codes "\n")) [ true ↦ sym (append-nil p.bytes) | false ↦ refl ]
+new_line_put p = grind (arith, append-nil p.bytes)
 
 blank_line_put : (p : Marked) → (with_blank_line p).bytes ≡ p.bytes ++ blank_line p.bytes
-blank_line_put p = elim (starts_paragraph p.bytes) as (λ b. (if b then p else put p (codes "\n\n")).bytes ≡ p.bytes ++ (if b then [] else codes "\n\n")) [ true ↦ sym (append-nil p.bytes) | false ↦ refl ]
+blank_line_put p = grind (arith, append-nil p.bytes)
 
 open_put : (before : List Fragment) (p : Marked) → p.in_code ≡ is_in_code before → (open_code p).bytes ≡ p.bytes ++ opening_fence before
-open_put before p code =
-    (elim (p.in_code) as (λ b. (if b then p else record p { bytes = p.bytes ++ codes "\n\n  ```text\n"; in_code = true }).bytes ≡ p.bytes ++ (if b then [] else codes "\n\n  ```text\n")) [ true ↦ sym (append-nil p.bytes) | false ↦ refl ])
-    ∙ ap (λ b. p.bytes ++ (if b then [] else codes "\n\n  ```text\n")) code
+open_put before p code = grind (arith, append-nil p.bytes, code)
 
 close_put : (before : List Fragment) (p : Marked) (fence : List ℕ) → p.in_code ≡ is_in_code before → (close_code p fence).bytes ≡ p.bytes ++ (if is_in_code before then fence else [])
-close_put before p fence code =
-    (elim (p.in_code) as (λ b. (if b then record p { bytes = p.bytes ++ fence; in_code = false } else p).bytes ≡ p.bytes ++ (if b then fence else [])) [ true ↦ refl | false ↦ sym (append-nil p.bytes) ])
-    ∙ ap (λ b. p.bytes ++ (if b then fence else [])) code
+close_put before p fence code = grind (arith, append-nil p.bytes, code)
 
 -- first one text, and then another
 both : (bytes first second : List ℕ) (after : List ℕ) → after ≡ bytes ++ first → after ++ second ≡ bytes ++ (first ++ second)
@@ -74,31 +70,15 @@ both bytes first second after e = ap (λ x. x ++ second) e ∙ append_assoc byte
 
 raw_put : (before : List Fragment) (p : Marked) (bytes : List ℕ) (weight : ℕ) → Looks before p → (with_raw p bytes weight).bytes ≡ p.bytes ++ raw_markdown p.bytes before bytes weight
 raw_put before p bytes weight h =
-    elim (weight == fence_weight) as (λ t. (if t then with_line (with_new_line p) bytes else (if weight == code_weight then with_line (open_code p) bytes else with_words p bytes)).bytes
-    ≡ p.bytes ++ (if t then new_line p.bytes ++ indented_line bytes else (if weight == code_weight then opening_fence before ++ indented_line bytes else (closing_fence before ++ words_markdown before bytes)))) [
-      | true ↦ line_put (with_new_line p).bytes bytes ∙ both p.bytes (new_line p.bytes) (indented_line bytes) (with_new_line p).bytes (new_line_put p)
-      | false ↦ elim (weight == code_weight) as (λ t. (if t then with_line (open_code p) bytes else with_words p bytes).bytes
-          ≡ p.bytes ++ (if t then opening_fence before ++ indented_line bytes else (closing_fence before ++ words_markdown before bytes))) [
-            | true ↦ line_put (open_code p).bytes bytes ∙ both p.bytes (opening_fence before) (indented_line bytes) (open_code p).bytes (open_put before p h.code)
-            | false ↦ ap (λ b. (close_code p (codes "\n  ```\n")).bytes ++ (if b then flat_map escaped_character bytes else bytes)) h.mono
-                ∙ both p.bytes (closing_fence before) (words_markdown before bytes) (close_code p (codes "\n  ```\n")).bytes (close_put before p (codes "\n  ```\n") h.code)
-          ]
-    ]
+    by_weight weight (λ t c. (raw_marked t c p bytes).bytes
+    ≡ p.bytes ++ (if t then new_line p.bytes ++ indented_line bytes else (if c then opening_fence before ++ indented_line bytes else (closing_fence before ++ words_markdown before bytes))))
+    (λ e c. line_put (with_new_line p).bytes bytes ∙ both p.bytes (new_line p.bytes) (indented_line bytes) (with_new_line p).bytes (new_line_put p))
+    (λ e k. line_put (open_code p).bytes bytes ∙ both p.bytes (opening_fence before) (indented_line bytes) (open_code p).bytes (open_put before p h.code))
+    (λ e k. ap (λ b. (close_code p (codes "\n  ```\n")).bytes ++ (if b then flat_map escaped_character bytes else bytes)) h.mono
+    ∙ both p.bytes (closing_fence before) (words_markdown before bytes) (close_code p (codes "\n  ```\n")).bytes (close_put before p (codes "\n  ```\n") h.code))
 
 body_put : (before : List Fragment) (p : Marked) → Looks before p → p.empty_item ≡ is_after_empty_item before → (own_after p (Start blocks.ItemBody)).bytes ≡ p.bytes ++ (body_mark before ++ (new_line (p.bytes ++ body_mark before) ++ codes "  "))
-body_put before p h empty =
-    ap (λ x. x ++ codes "  ") (new_line_put marked)
-    ∙ ap (λ x. (x ++ new_line x) ++ codes "  ") (marks p.in_list ∙ ap (λ b. p.bytes ++ (if b then (if p.empty_item then codes " " else codes " &mdash; ") else [])) h.in_list
-    ∙ ap (λ b. p.bytes ++ (if is_in_list before then (if b then codes " " else codes " &mdash; ") else [])) empty)
-    ∙ append_assoc (p.bytes ++ body_mark before) (new_line (p.bytes ++ body_mark before)) (codes "  ")
-    ∙ append_assoc p.bytes (body_mark before) (new_line (p.bytes ++ body_mark before) ++ codes "  ")
-  where
-    marked : Marked
-    marked = if p.in_list then put p (if p.empty_item then codes " " else codes " &mdash; ") else p
-
-    marks : (in_list : Bool) → (if in_list then put p (if p.empty_item then codes " " else codes " &mdash; ") else p).bytes ≡ p.bytes ++ (if in_list then (if p.empty_item then codes " " else codes " &mdash; ") else [])
-    marks true = refl
-    marks false = sym (append-nil p.bytes)
+body_put before p h empty = grind (arith, new_line_put, append_assoc, append-nil)
 
 paragraph_text : (in_list : Bool) → (if in_list then codes "\n\n  " else codes "\n\n") ≡ codes "\n\n" ++ (if in_list then codes "  " else [])
 paragraph_text in_list = grind arith
@@ -111,16 +91,12 @@ own_put before p (Shown style (Raw bytes weight)) fs h none empty = raw_put befo
 own_put before p (Shown style Paragraph) fs h none empty = ap (λ x. p.bytes ++ x) (paragraph_text p.in_list ∙ ap (λ b. codes "\n\n" ++ (if b then codes "  " else [])) h.in_list)
 own_put before p (Shown style LineBreak) fs h none empty = refl
 own_put before p (TextEnd style) fs h none empty = both p.bytes (last_fence before) (closing_marks style) (close_code p (codes "  ```\n")).bytes (close_put before p (codes "  ```\n") h.code)
-own_put before p Hidden fs h none empty = sym (append-nil p.bytes)
-own_put before p (Start blocks.Header) fs h none empty =
-    ap (λ b. (with_blank_line p).bytes ++ (if b then codes "## " else codes "# ")) h.headed
-    ∙ both p.bytes (blank_line p.bytes) (if list_any is_header_start before then codes "## " else codes "# ") (with_blank_line p).bytes (blank_line_put p)
+own_put before p (Start blocks.Header) fs h none empty = grind (arith, both, blank_line_put)
 own_put before p (Start blocks.Section3) fs h none empty = refl
 own_put before p (Start blocks.Section4) fs h none empty = absurd cc
 own_put before p (Start blocks.ItemTerm) fs h none empty = absurd cc
 own_put before p (Start blocks.ItemBody) fs h none empty = body_put before p h (empty refl)
 own_put before p (Start blocks.Block) fs h none empty = refl
-own_put before p (Start _) fs h none empty = sym (append-nil p.bytes)
 own_put before p (End blocks.Header) fs h none empty = refl
 own_put before p (End blocks.Section2) fs h none empty = refl
 own_put before p (End blocks.Section3) fs h none empty = refl
@@ -128,7 +104,7 @@ own_put before p (End blocks.Section4) fs h none empty = refl
 own_put before p (End blocks.ItemBody) fs h none empty = ap (λ b. p.bytes ++ (if b then codes "\n" else [])) h.in_list
 own_put before p (End blocks.DefinitionList) fs h none empty = refl
 own_put before p (End blocks.Block) fs h none empty = refl
-own_put before p (End _) fs h none empty = sym (append-nil p.bytes)
+own_put before p _ fs h none empty = sym (append-nil p.bytes)
 
 -- ---- the dash that waits for the next fragment
 
@@ -136,18 +112,10 @@ abbrev waiting : Bool → List Fragment → List ℕ
 waiting pending after = if pending then item_mark after else []
 
 item_put : (p : Marked) (f : Fragment) (fs : List Fragment) → (with_item p (is_term_end f)).bytes ≡ p.bytes ++ waiting p.pending (f ∷ fs)
-item_put p f fs =
-    (elim (p.pending) as (λ b. (if b then record p { bytes = p.bytes ++ (if is_term_end f then codes "  " else codes "- "); pending = false; empty_item = is_term_end f } else p).bytes ≡ p.bytes ++ (if b then (if is_term_end f then codes "  " else codes "- ") else [])) [
-      | true ↦ refl
-      | false ↦ sym (append-nil p.bytes)
-    ])
-    ∙ ap (λ e. p.bytes ++ (if p.pending then (if e then codes "  " else codes "- ") else [])) (sym (begins_is f fs))
+item_put p f fs = grind (arith, append-nil p.bytes, begins_is f fs)
 
 last_item_put : (p : Marked) → (with_item p false).bytes ≡ p.bytes ++ waiting p.pending []
-last_item_put p = elim (p.pending) as (λ b. (if b then record p { bytes = p.bytes ++ codes "- "; pending = false; empty_item = false } else p).bytes ≡ p.bytes ++ (if b then codes "- " else [])) [
-  | true ↦ refl
-  | false ↦ sym (append-nil p.bytes)
-]
+last_item_put p = grind (arith, append-nil p.bytes)
 
 pending_next : (p : Marked) (f : Fragment) → (marked_after p f).pending ≡ (if is_item_start f then true else false)
 pending_next p f = ap (λ s. s.pending) (step-flags p f)
@@ -158,19 +126,7 @@ item_start_put q fs = both q.bytes (new_line q.bytes) (item_mark fs) (with_new_l
 
 step_put : (before : List Fragment) (p : Marked) (f : Fragment) (fs : List Fragment) → Looks before (with_item p (is_term_end f)) → (is_term_end f ≡ false → (with_item p (is_term_end f)).empty_item ≡ is_after_empty_item before)
     → (marked_after p f).bytes ++ waiting (marked_after p f).pending fs ≡ (with_item p (is_term_end f)).bytes ++ fragment_markdown (with_item p (is_term_end f)).bytes before f fs
-step_put before p f fs h empty = others (is_item_start f) refl
-  where
-    others : (starts : Bool) → is_item_start f ≡ starts → (marked_after p f).bytes ++ waiting (marked_after p f).pending fs ≡ (with_item p (is_term_end f)).bytes ++ fragment_markdown (with_item p (is_term_end f)).bytes before f fs
-    others true e = items f e
-      where
-        items : (f : Fragment) → is_item_start f ≡ true → (marked_after p f).bytes ++ waiting (marked_after p f).pending fs ≡ (with_item p (is_term_end f)).bytes ++ fragment_markdown (with_item p (is_term_end f)).bytes before f fs
-        items (Start blocks.Section4) e = item_start_put (with_item p false) fs
-        items (Start blocks.ItemTerm) e = item_start_put (with_item p false) fs
-        items f e = absurd cc
-    others false e =
-        ap (λ b. (marked_after p f).bytes ++ waiting b fs) (pending_next p f ∙ ap (λ b. if b then true else false) e)
-        ∙ append-nil (marked_after p f).bytes
-        ∙ own_put before (with_item p (is_term_end f)) f fs h e empty
+step_put before p f fs h empty = grind (arith, item_start_put, pending_next, append-nil, own_put)
 
 -- ---- the text
 

@@ -13,7 +13,7 @@ use Rattle.bpaf_doc.specs.Markdown.Page.{TextFence, Fence, Newline, MarkdownSnip
 use Rattle.bpaf_doc.specs.Markdown.Steps.Page.{Marked, starts_line, with_item, is_term_end, marked_after}
 use Rattle.bpaf_doc.proofs.lemmas.Lists.Counting.{one_if, count_by-cons}
 use Rattle.bpaf_doc.proofs.lemmas.Lists.Passing.{state_after, passes, passes_back, passes_both, passes_first, passes_rest}
-use Rattle.bpaf_doc.proofs.lemmas.Markdown.Cut.{blanks, start_snippets, own_snippets, snippets_of, cut_from, item_snippets, open_snippets, close_snippets, end_code_snippets, line_snippets, new_line_snippets, code_next, step-code, item-code, fence_is_whole, code_is_whole, others_are_ordinary}
+use Rattle.bpaf_doc.proofs.lemmas.Markdown.Cut.{raw_cut, by_weight, blanks, start_snippets, own_snippets, snippets_of, cut_from, item_snippets, open_snippets, close_snippets, end_code_snippets, line_snippets, new_line_snippets, code_next, step-code, item-code, fence_is_whole, code_is_whole, others_are_ordinary}
 
 -- where a block is open: a fence with `text` opens one, another closes it
 abbrev may_stand : Bool → MarkdownSnippet → Bool
@@ -84,19 +84,13 @@ item_fences q false empty = (refl, refl)
 raw_fences : (p : Marked) (style : Style) (bytes : List ℕ) (weight : ℕ) → Fences p.in_code (own_snippets p (Shown style (Raw bytes weight))) (code_next p.in_code (Shown style (Raw bytes weight)))
 raw_fences p style bytes weight =
     let f : Fragment = Shown style (Raw bytes weight) in
-    (elim (weight == fence_weight) as (λ t. (weight == fence_weight) ≡ t
-    → Fences p.in_code (if t then new_line_snippets p.bytes ++ line_snippets f else (if weight == code_weight then open_snippets p.in_code ++ line_snippets f else (close_snippets p.in_code ++ Of f ∷ [])))
-    (if t then p.in_code else (if weight == code_weight then true else false))) [
-      | true ↦ λ e. then_fences p.in_code p.in_code p.in_code (new_line_snippets p.bytes) (line_snippets f) (new_line_fences p.in_code p.bytes)
-          (one_fences p.in_code f (Put Newline ∷ []) p.in_code (raw_stands bytes weight false false p.in_code (fence_is_no_code weight e) (fence_is_whole bytes weight e)) (refl, refl))
-      | false ↦ λ e. (elim (weight == code_weight) as (λ t. (weight == code_weight) ≡ t
-          → Fences p.in_code (if t then open_snippets p.in_code ++ line_snippets f else (close_snippets p.in_code ++ Of f ∷ [])) (if t then true else false)) [
-            | true ↦ λ h. then_fences p.in_code true true (open_snippets p.in_code) (line_snippets f) (open_fences p.in_code)
-                (one_fences true f (Put Newline ∷ []) true (raw_stands bytes weight true false true h (code_is_whole bytes weight h)) (refl, refl))
-            | false ↦ λ h. then_fences p.in_code false false (close_snippets p.in_code) (Of f ∷ []) (close_fences p.in_code)
-                (one_fences false f [] false (raw_stands bytes weight false true false h (others_are_ordinary bytes weight e h)) (refl, refl))
-          ]) refl
-    ]) refl
+    by_weight weight (λ t c. Fences p.in_code (raw_cut t c p f) (if t then p.in_code else (if c then true else false)))
+    (λ e c. then_fences p.in_code p.in_code p.in_code (new_line_snippets p.bytes) (line_snippets f) (new_line_fences p.in_code p.bytes)
+    (one_fences p.in_code f (Put Newline ∷ []) p.in_code (raw_stands bytes weight false false p.in_code (fence_is_no_code weight e) (fence_is_whole bytes weight e)) (refl, refl)))
+    (λ e h. then_fences p.in_code true true (open_snippets p.in_code) (line_snippets f) (open_fences p.in_code)
+    (one_fences true f (Put Newline ∷ []) true (raw_stands bytes weight true false true h (code_is_whole bytes weight h)) (refl, refl)))
+    (λ e h. then_fences p.in_code false false (close_snippets p.in_code) (Of f ∷ []) (close_fences p.in_code)
+    (one_fences false f [] false (raw_stands bytes weight false true false h (others_are_ordinary bytes weight e h)) (refl, refl)))
   where
     new_line_fences : (q : Bool) (bytes : List ℕ) → Fences q (new_line_snippets bytes) q
     new_line_fences q bytes = elim (starts_line bytes) as (λ b. Fences q (if b then [] else (Put Newline ∷ [])) q) [ true ↦ (refl, refl) | false ↦ (refl, refl) ]
@@ -121,9 +115,7 @@ is_plain (Put mark) = true
 is_plain (Of f) = not (shows is_code_line f) && not (shows is_ordinary f || is_text_end f)
 
 plain_stands : (q : Bool) (f : Fragment) → is_plain (Of f) ≡ true → may_stand q (Of f) ≡ true
-plain_stands q f h =
-    let parts : (not (shows is_code_line f) ≡ true) × (not (shows is_ordinary f || is_text_end f) ≡ true) = and_parts (not (shows is_code_line f)) (not (shows is_ordinary f || is_text_end f)) h in
-    ap (λ b. (b || q) && (not (shows is_ordinary f || is_text_end f) || not q)) parts.0 ∙ ap (λ b. b || not q) parts.1
+plain_stands q f h = grind (arith, and_parts)
 
 plain_fences : (q : Bool) (ss : List MarkdownSnippet) → list_all is_plain ss ≡ true → Fences q ss q
 plain_fences q [] h = (refl, refl)
@@ -146,15 +138,12 @@ own_fences p (TextStart styles.Text) = plain_fences p.in_code (own_snippets p (T
 own_fences p (TextStart style) = plain_fences p.in_code (own_snippets p (TextStart style)) refl
 own_fences p (Shown style (Raw bytes weight)) = raw_fences p style bytes weight
 own_fences p (Shown style Paragraph) =
-    plain_fences p.in_code (own_snippets p (Shown style Paragraph))
-    (elim (p.in_list) as (λ l. list_all is_plain (Of (Shown style Paragraph) ∷ Put Newline ∷ Put Newline ∷ (if l then blanks else [])) ≡ true) [ true ↦ refl | false ↦ refl ])
+    plain_fences p.in_code (own_snippets p (Shown style Paragraph)) (grind arith)
 own_fences p (Shown style LineBreak) = plain_fences p.in_code (own_snippets p (Shown style LineBreak)) refl
 own_fences p (TextEnd styles.Text) = then_fences p.in_code false false (end_code_snippets p.in_code) (map Put (reverse (style_marks styles.Text)) ++ Of (TextEnd styles.Text) ∷ []) (end_fences p.in_code) (refl, refl)
 own_fences p (TextEnd style) = then_fences p.in_code false false (end_code_snippets p.in_code) (map Put (reverse (style_marks style)) ++ Of (TextEnd style) ∷ []) (end_fences p.in_code) (refl, refl)
 own_fences p Hidden = plain_fences p.in_code (own_snippets p Hidden) refl
 own_fences p (Start b) = plain_fences p.in_code (start_snippets p b) (start_plain p b)
-own_fences p (End blocks.ItemBody) =
-    plain_fences p.in_code (own_snippets p (End blocks.ItemBody)) (elim (p.in_list) as (λ l. list_all is_plain (Of (End blocks.ItemBody) ∷ (if l then (Put Newline ∷ []) else [])) ≡ true) [ true ↦ refl | false ↦ refl ])
 own_fences p (End b) = plain_fences p.in_code (own_snippets p (End b)) (end_plain b)
   where
     end_plain : (b : Block) → list_all is_plain (own_snippets p (End b)) ≡ true

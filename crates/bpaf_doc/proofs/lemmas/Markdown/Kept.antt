@@ -52,10 +52,7 @@ pub item-headings : (pending empty : Bool) → filter is_heading_or_fragment (it
 item-headings pending empty = grind arith
 
 pub step-fragments : (p : Marked) (f : Fragment) → fragments_in (snippets_of p f) ≡ f ∷ []
-step-fragments p f =
-    fragments-append (item_snippets p.pending (is_term_end f)) (own_snippets (with_item p (is_term_end f)) f)
-    ∙ ap (λ x. x ++ fragments_in (own_snippets (with_item p (is_term_end f)) f)) (item_marks p.pending (is_term_end f))
-    ∙ own-fragments (with_item p (is_term_end f)) f
+step-fragments p f = grind (arith, fragments-append, item_marks, own-fragments)
 
 pub cut-fragments : (p : Marked) (fs : List Fragment) → fragments_in (cut_from p fs) ≡ fs
 cut-fragments p [] = item_marks p.pending false
@@ -65,10 +62,7 @@ cut-fragments p (f ∷ fs) =
     ∙ ap (λ x. f ∷ x) (cut-fragments (marked_after p f) fs)
 
 step-styles : (p : Marked) (f : Fragment) → filter is_style_mark_or_fragment (snippets_of p f) ≡ styled_snippets f
-step-styles p f =
-    filter-append is_style_mark_or_fragment (item_snippets p.pending (is_term_end f)) (own_snippets (with_item p (is_term_end f)) f)
-    ∙ ap (λ x. x ++ filter is_style_mark_or_fragment (own_snippets (with_item p (is_term_end f)) f)) (item-styles p.pending (is_term_end f))
-    ∙ own-styles (with_item p (is_term_end f)) f
+step-styles p f = grind (arith, filter-append, item-styles, own-styles)
 
 pub cut-styles : (p : Marked) (fs : List Fragment) → filter is_style_mark_or_fragment (cut_from p fs) ≡ flat_map styled_snippets fs
 cut-styles p [] = item-styles p.pending false
@@ -79,7 +73,4 @@ cut-styles p (f ∷ fs) =
 
 pub step-headings : (p : Marked) (f : Fragment)
     → filter is_heading_or_fragment (snippets_of p f) ≡ map Put (item_heading p.pending (is_term_end f)) ++ Of f ∷ map Put (own_heading (with_item p (is_term_end f)) f)
-step-headings p f =
-    filter-append is_heading_or_fragment (item_snippets p.pending (is_term_end f)) (own_snippets (with_item p (is_term_end f)) f)
-    ∙ ap (λ x. x ++ filter is_heading_or_fragment (own_snippets (with_item p (is_term_end f)) f)) (item-headings p.pending (is_term_end f))
-    ∙ ap (λ x. map Put (item_heading p.pending (is_term_end f)) ++ x) (own-headings (with_item p (is_term_end f)) f)
+step-headings p f = grind (arith, filter-append, item-headings, own-headings)

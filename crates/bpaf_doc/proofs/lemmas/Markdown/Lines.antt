@@ -12,7 +12,7 @@ use Rattle.bpaf_doc.specs.Splitter.Chunks.{Chunk, Raw, Paragraph, LineBreak, cod
 use Rattle.bpaf_doc.specs.Html.Fragments.{Fragment, TextStart, Shown, TextEnd, Hidden, Start, End, shows}
 use Rattle.bpaf_doc.specs.Markdown.Page.{mark_text, MarkdownSnippet, Put, Of, fragments_in, fragment_text, EndsInBlankLine, is_item_start}
 use Rattle.bpaf_doc.specs.Markdown.Steps.Page.{Marked, put, starts_line, with_new_line, open_code, with_line, with_words, with_raw, with_chunk, marked_after}
-use Rattle.bpaf_doc.proofs.lemmas.Markdown.Cut.{spelled, own_snippets, snippets_of, cut_from, item_snippets, open_snippets, close_snippets, line_snippets, new_line_snippets, flags, step-flags, step-code, item_marks, step-spelled, new_line-spelled, open-spelled, new_line_marks, open_marks, close-code}
+use Rattle.bpaf_doc.proofs.lemmas.Markdown.Cut.{raw_cut, raw_marked, by_weight, spelled, own_snippets, snippets_of, cut_from, item_snippets, open_snippets, close_snippets, line_snippets, new_line_snippets, flags, step-flags, step-code, item_marks, step-spelled, new_line-spelled, open-spelled, new_line_marks, open_marks, close-code}
 use Rattle.bpaf_doc.proofs.lemmas.Markdown.Kept.{step-fragments}
 use Rattle.bpaf_doc.proofs.lemmas.Markdown.Breaks.{first_or, without_first}
 use Rattle.bpaf_doc.proofs.lemmas.Markdown.Mind.{Agrees, Room, agrees_after, rooms_next, same_mono}
@@ -26,15 +26,10 @@ abbrev last_line : List ℕ → List ℕ
 last_line text = after_last (λ c. c == 10) text
 
 last_line-newline : (text : List ℕ) → last_line (text ++ codes "\n") ≡ []
-last_line-newline text =
-    let none : suffix_len (λ c. not (c == 10)) (text ++ 10 ∷ []) ≡ 0 = suffix-push (λ c. not (c == 10)) text 10 in
-    drop_all (length (text ++ 10 ∷ []) - suffix_len (λ c. not (c == 10)) (text ++ 10 ∷ [])) (text ++ 10 ∷ []) (omega arith)
+last_line-newline text = grind (arith, suffix-push, drop_all)
 
 last_line-blank : (text : List ℕ) → last_line (text ++ 32 ∷ []) ≡ last_line text ++ 32 ∷ []
-last_line-blank text =
-    let more : suffix_len (λ c. not (c == 10)) (text ++ 32 ∷ []) ≡ 1 + suffix_len (λ c. not (c == 10)) text = suffix-push (λ c. not (c == 10)) text 32 in
-    let same : length (text ++ 32 ∷ []) - suffix_len (λ c. not (c == 10)) (text ++ 32 ∷ []) ≡ length text - suffix_len (λ c. not (c == 10)) text = omega (arith, length-append text (32 ∷ [])) in
-    ap (λ n. drop n (text ++ 32 ∷ [])) same ∙ drop-append-le (length text - suffix_len (λ c. not (c == 10)) text) text (32 ∷ []) (omega arith)
+last_line-blank text = grind (arith, suffix-push, length-append, drop-append-le)
 
 blank_newline : (text : List ℕ) → EndsInBlankLine (text ++ codes "\n")
 blank_newline text = AllPass-from_list_all (λ c. c == 32) (last_line (text ++ codes "\n")) (ap (list_all (λ c. c == 32)) (last_line-newline text))
@@ -117,14 +112,10 @@ line_stands before text f h = (λ _. one_blank (text ++ 32 ∷ []) (one_blank te
 raw_stands : (before : List Fragment) (p : Marked) (style : Style) (bytes : List ℕ) (weight : ℕ) → (p.in_code ≡ true → EndsInBlankLine p.bytes) → LinesStand before p.bytes (own_snippets p (Shown style (Raw bytes weight)))
 raw_stands before p style bytes weight h =
     let f : Fragment = Shown style (Raw bytes weight) in
-    (elim (weight == fence_weight) as (λ t. (weight == fence_weight) ≡ t
-    → LinesStand before p.bytes (if t then new_line_snippets p.bytes ++ line_snippets f else (if weight == code_weight then open_snippets p.in_code ++ line_snippets f else (close_snippets p.in_code ++ Of f ∷ [])))) [
-      | true ↦ λ e. after_marks (new_line_snippets p.bytes) (new_line_marks p.bytes) (subst EndsInBlankLine (new_line-spelled before p) (new_line_blank p))
-      | false ↦ λ e. (elim (weight == code_weight) as (λ t. (weight == code_weight) ≡ t → LinesStand before p.bytes (if t then open_snippets p.in_code ++ line_snippets f else (close_snippets p.in_code ++ Of f ∷ []))) [
-        | true ↦ λ k. after_marks (open_snippets p.in_code) (open_marks p.in_code) (subst EndsInBlankLine (open-spelled before p) (open_blank p h))
-        | false ↦ λ k. other_stands before p.bytes (close_snippets p.in_code ++ Of f ∷ []) f (grind arith) (ap (λ c. c || (weight == fence_weight)) k ∙ e)
-      ]) refl
-    ]) refl
+    by_weight weight (λ t c. LinesStand before p.bytes (raw_cut t c p f))
+    (λ e c. after_marks (new_line_snippets p.bytes) (new_line_marks p.bytes) (subst EndsInBlankLine (new_line-spelled before p) (new_line_blank p)))
+    (λ e k. after_marks (open_snippets p.in_code) (open_marks p.in_code) (subst EndsInBlankLine (open-spelled before p) (open_blank p h)))
+    (λ e k. other_stands before p.bytes (close_snippets p.in_code ++ Of f ∷ []) f (grind arith) (ap (λ c. c || (weight == fence_weight)) k ∙ e))
   where
     after_marks : (marks : List MarkdownSnippet) → fragments_in marks ≡ [] → EndsInBlankLine (p.bytes ++ spelled before marks) → LinesStand before p.bytes (marks ++ line_snippets (Shown style (Raw bytes weight)))
     after_marks marks none k =
@@ -155,15 +146,8 @@ with_line_blank : (p : Marked) (text : List ℕ) → EndsInBlankLine (with_line 
 with_line_blank p text = blank_newline ((p.bytes ++ codes "  ") ++ text)
 
 raw_keeps : (p : Marked) (bytes : List ℕ) (weight : ℕ) → (with_raw p bytes weight).in_code ≡ true → EndsInBlankLine (with_raw p bytes weight).bytes
-raw_keeps p bytes weight =
-    elim (weight == fence_weight) as (λ t. (if t then with_line (with_new_line p) bytes else (if weight == code_weight then with_line (open_code p) bytes else with_words p bytes)).in_code ≡ true
-    → EndsInBlankLine (if t then with_line (with_new_line p) bytes else (if weight == code_weight then with_line (open_code p) bytes else with_words p bytes)).bytes) [
-      | true ↦ λ _. with_line_blank (with_new_line p) bytes
-      | false ↦ elim (weight == code_weight) as (λ t. (if t then with_line (open_code p) bytes else with_words p bytes).in_code ≡ true → EndsInBlankLine (if t then with_line (open_code p) bytes else with_words p bytes).bytes) [
-        | true ↦ λ _. with_line_blank (open_code p) bytes
-        | false ↦ λ h. never (with_words p bytes).in_code (close-code p (codes "\n  ```\n")) h
-      ]
-    ]
+raw_keeps p bytes weight = by_weight weight (λ t c. (raw_marked t c p bytes).in_code ≡ true → EndsInBlankLine (raw_marked t c p bytes).bytes)
+    (λ e c h. with_line_blank (with_new_line p) bytes) (λ e k h. with_line_blank (open_code p) bytes) (λ e k h. never (with_words p bytes).in_code (close-code p (codes "\n  ```\n")) h)
 
 chunk_keeps : (p : Marked) (chunk : Chunk) → (with_chunk p chunk).in_code ≡ true → EndsInBlankLine (with_chunk p chunk).bytes
 chunk_keeps p (Raw bytes weight) = raw_keeps p bytes weight

@@ -23,15 +23,10 @@ suffix-push q fs f = ap (λ xs. prefix_len q xs) (reverse-append fs (f ∷ []))
 
 -- what stands after the last that passes
 after_last-at : (p : Fragment → Bool) (fs : List Fragment) (f : Fragment) → p f ≡ true → after_last p (fs ++ f ∷ []) ≡ []
-after_last-at p fs f e =
-    let none : suffix_len (λ x. not (p x)) (fs ++ f ∷ []) ≡ 0 = suffix-push (λ x. not (p x)) fs f ∙ ap (λ b. cond (not b) (1 + suffix_len (λ x. not (p x)) fs) 0) e in
-    drop_all (length (fs ++ f ∷ []) - suffix_len (λ x. not (p x)) (fs ++ f ∷ [])) (fs ++ f ∷ []) (omega arith)
+after_last-at p fs f e = grind (arith, suffix-push, drop_all)
 
 after_last-past : (p : Fragment → Bool) (fs : List Fragment) (f : Fragment) → p f ≡ false → after_last p (fs ++ f ∷ []) ≡ after_last p fs ++ f ∷ []
-after_last-past p fs f e =
-    let more : suffix_len (λ x. not (p x)) (fs ++ f ∷ []) ≡ 1 + suffix_len (λ x. not (p x)) fs = suffix-push (λ x. not (p x)) fs f ∙ ap (λ b. cond (not b) (1 + suffix_len (λ x. not (p x)) fs) 0) e in
-    let same : length (fs ++ f ∷ []) - suffix_len (λ x. not (p x)) (fs ++ f ∷ []) ≡ length fs - suffix_len (λ x. not (p x)) fs = omega (arith, length-append fs (f ∷ [])) in
-    ap (λ n. drop n (fs ++ f ∷ [])) same ∙ drop-append-le (length fs - suffix_len (λ x. not (p x)) fs) fs (f ∷ []) (omega arith)
+after_last-past p fs f e = grind (arith, suffix-push, length-append, drop-append-le)
 
 -- ---- items
 
@@ -46,12 +41,9 @@ begins_is (End blocks.ItemTerm) rest = refl
 begins_is _ rest = refl
 
 pub after_empty_is : {before : List Fragment} {pending empty : Bool} → Item before pending empty → is_after_empty_item before ≡ (if pending then false else empty)
-after_empty_is {before} {pending} {empty} (none any p e) =
-    ap (λ b. b && begins_with_term_end (after_last is_item_start before)) any ∙ sym (ap (λ b. if b then false else empty) p ∙ e)
-after_empty_is {before} {pending} {empty} (waiting any last p) =
-    ap (λ b. b && begins_with_term_end (after_last is_item_start before)) any ∙ ap begins_with_term_end last ∙ sym (ap (λ b. if b then false else empty) p)
-after_empty_is {before} {pending} {empty} (past g rest any last p e) =
-    ap (λ b. b && begins_with_term_end (after_last is_item_start before)) any ∙ ap begins_with_term_end last ∙ begins_is g rest ∙ sym (ap (λ b. if b then false else empty) p ∙ e)
+after_empty_is {before} {pending} {empty} (none any p e) = grind arith
+after_empty_is {before} {pending} {empty} (waiting any last p) = grind arith
+after_empty_is {before} {pending} {empty} (past g rest any last p e) = grind (arith, begins_is)
 
 item_next : {before : List Fragment} {pending empty : Bool} (f : Fragment) → Item before pending empty
     → Item (before ++ f ∷ []) (if is_item_start f then true else false) (if is_item_start f then false else (if pending then is_term_end f else empty))
@@ -83,20 +75,10 @@ abbrev pub Room : List Fragment → List Fragment → Type 0
 Room before rest = (count_by is_mono_start before + count_by is_mono_start rest < 2 ^ 64) × (count_by is_mono_end before + count_by is_mono_end rest < 2 ^ 64)
 
 list-push : (before : List Fragment) (f : Fragment) → is_in_list (before ++ f ∷ []) ≡ (if is_list_start f then true else (if is_list_end f then false else is_in_list before))
-list-push before f = ap (λ xs. begins_with_list_start (filter is_list_mark xs)) (reverse-append before (f ∷ [])) ∙ cases f
-  where
-    cases : (f : Fragment) → begins_with_list_start (filter is_list_mark (f ∷ reverse before)) ≡ (if is_list_start f then true else (if is_list_end f then false else is_in_list before))
-    cases (Start blocks.DefinitionList) = refl
-    cases (End blocks.DefinitionList) = refl
-    cases _ = refl
+list-push before f = grind (arith, reverse-append)
 
 counted : (p : Fragment → Bool) (before : List Fragment) (f : Fragment) (n : ℕ) → count_by p before ≡ n → count_by p before + one_if (p f) < 2 ^ 64 → count_by p (before ++ f ∷ []) ≡ (if p f then one_more n else n)
-counted p before f n e room =
-    count_by-push p before f
-    ∙ (elim (p f) as (λ b. count_by p before + one_if b < 2 ^ 64 → count_by p before + one_if b ≡ (if b then one_more n else n)) [
-      | true ↦ λ r. omega (arith, r, e)
-      | false ↦ λ r. omega (arith, e)
-    ]) room
+counted p before f n e room = grind (arith, count_by-push p before f)
 
 room_here : (p : Fragment → Bool) (before : List Fragment) (f : Fragment) (fs : List Fragment) → count_by p before + count_by p (f ∷ fs) < 2 ^ 64 → count_by p before + one_if (p f) < 2 ^ 64
 room_here p before f fs room = omega (arith, room, count_by-cons p f fs)
@@ -138,14 +120,8 @@ all-spelled before p (f ∷ fs) h room =
 
 heading_is : (before : List Fragment) (p : Marked) (f : Fragment) (fs : List Fragment) → Agrees before (flags p)
     → own_heading (with_item p (is_term_end f)) f ++ item_heading (flags_next (flags p) f).pending (begins_with_term_end fs) ≡ headings_of before f fs
-heading_is before p (Start blocks.Header) fs h =
-    ap (λ s. (if s.headed then SecondHeading else Heading) ∷ []) (item-flags p false) ∙ ap (λ b. (if b then SecondHeading else Heading) ∷ []) (sym h.headed)
-heading_is before p (Start blocks.ItemBody) fs h =
-    append-nil (own_heading (with_item p false) (Start blocks.ItemBody))
-    ∙ ap (λ s. if s.in_list then (if s.empty_item then [] else (LongDash ∷ [])) else []) (item-flags p false)
-    ∙ grind arith
-    ∙ ap (λ b. if (b && not (if p.pending then false else p.empty_item)) then (LongDash ∷ []) else []) (sym h.in_list)
-    ∙ ap (λ b. if (is_in_list before && not b) then (LongDash ∷ []) else []) (sym (after_empty_is h.item))
+heading_is before p (Start blocks.Header) fs h = grind (arith, item-flags)
+heading_is before p (Start blocks.ItemBody) fs h = grind (arith, append-nil, item-flags, after_empty_is)
 heading_is before p _ fs h = refl
 
 pub all-headings : (before : List Fragment) (p : Marked) (fs : List Fragment) → Agrees before (flags p) → Room before fs

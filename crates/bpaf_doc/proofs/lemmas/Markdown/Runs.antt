@@ -28,10 +28,7 @@ spelled_nothing : (ends starts : ℕ) → spelled ends starts [] ≡ []
 spelled_nothing ends starts = grind arith
 
 spelled_on : (ends starts : ℕ) (a b : List ℕ) → spelled ends starts a ++ spelled ends starts b ≡ spelled ends starts (a ++ b)
-spelled_on ends starts a b = by (nat_lt ends starts) where
-  by : (x : Bool) → (if x then flat_map escaped_character a else a) ++ (if x then flat_map escaped_character b else b) ≡ (if x then flat_map escaped_character (a ++ b) else a ++ b)
-  by true = sym (flat_map-append escaped_character a b)
-  by false = refl
+spelled_on ends starts a b = grind (arith, flat_map-append)
 
 put_on : (p : Marked) (a b : List ℕ) → put (put p a) b ≡ put p (a ++ b)
 put_on p a b = ap (λ x. record p { bytes = x }) (append_assoc p.bytes a b)
@@ -52,16 +49,12 @@ words_settled p text s = ap (λ q. put q (spelled p.ends p.starts text)) (no_cod
 
 -- a raw chunk that is no line of code
 raw_words : (p : Marked) (bytes : List ℕ) (weight : ℕ) → weight < 1_000_000 → with_raw p bytes weight ≡ with_words p bytes
-raw_words p bytes weight few = by (ne_eqb weight fence_weight (omega arith)) (ne_eqb weight code_weight (omega arith)) where
-  by : (weight == fence_weight) ≡ false → (weight == code_weight) ≡ false → with_raw p bytes weight ≡ with_words p bytes
-  by f c = rw (f, c) refl
+raw_words p bytes weight few = grind (arith, ne_eqb)
 
 -- what follows words
 words_more : {chunks : List Chunk} {text : List ℕ} → AreWords chunks text → length text ≤ 300_000 → (p : Marked) (style : Style) → IsSettled p
     → marked_after_all p (map (Shown style) chunks) ≡ put p (spelled p.ends p.starts text)
-words_more (no_words ec et) le p style s =
-    ap (λ cs. marked_after_all p (map (Shown style) cs)) ec
-    ∙ sym (ap (λ t. put p t) (ap (spelled p.ends p.starts) et ∙ spelled_nothing p.ends p.starts) ∙ ap (λ x. record p { bytes = x }) (append-nil p.bytes))
+words_more (no_words ec et) le p style s = grind (arith, spelled_nothing, append-nil)
 words_more {chunks} {text} (a_word bytes rest others ec et w) le p style s =
     let sizes : length text ≡ length bytes + length rest = ap length et ∙ length-append bytes rest in
     let few : columns bytes < 1_000_000 = columns_few bytes (omega (arith, sizes, le)) in

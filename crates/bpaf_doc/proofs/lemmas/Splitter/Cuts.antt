@@ -50,9 +50,7 @@ line_from_no_newline bytes none = all_at is_line_byte bytes (λ i l. no_newline 
 pub line_before_newline : (bytes : List ℕ) (end : ℕ) → NoneBefore (Passes (is_byte 10) bytes) 0 (length bytes) end → IsLine (take end bytes)
 line_before_newline bytes end first = all_at is_line_byte (take end bytes) at where
   at : (i : ℕ) → i < length (take end bytes) → is_line_byte (get_or (take end bytes) i 0) ≡ true
-  at i l =
-      let below : i < end = omega (arith, l, length-take end bytes) in
-      subst (λ b. is_line_byte b ≡ true) (sym (get_or-take end bytes i 0 below)) (no_newline (get_or bytes i 0) (first.before i (omega arith) below))
+  at i l = grind (arith, length-take, get_or-take, no_newline, get_or)
 
 pub newline_cut : (bytes : List ℕ) (end : ℕ) → NoneBefore (Passes (is_byte 10) bytes) 0 (length bytes) end → Passes (is_byte 10) bytes end → IsCharBoundary bytes end
 newline_cut bytes end first passes =

@@ -17,12 +17,7 @@ use Rattle.bpaf_doc.proofs.lemmas.Splitter.Ink.{ink-nil, ink-append, ink_after_g
 
 ink_of_pieces : {chunks : List Chunk} {text : List ℕ} → Pieces chunks text → IsUtf8 text → flat_map chunk_ink chunks ≡ ink text
 ink_of_pieces (none ec et) u = ap (λ cs. flat_map chunk_ink cs) ec ∙ sym (ap ink et ∙ ink-nil)
-ink_of_pieces (piece gap there after rest chunk others ec et g h t l w s) u =
-    let v : IsUtf8 there × IsUtf8 rest = w u in
-    ap (λ cs. flat_map chunk_ink cs) ec
-    ∙ ap (λ cs. cs ++ flat_map chunk_ink others) (stands_ink chunk there t)
-    ∙ ap (λ cs. ink there ++ cs) (ink_of_pieces s v.1 ∙ sym (ink_after_gap after rest h))
-    ∙ sym (ap ink et ∙ ink_after_gap gap (there ++ (after ++ rest)) g ∙ ink-append there (after ++ rest) v.0)
+ink_of_pieces (piece gap there after rest chunk others ec et g h t l w s) u = grind (arith, ink_of_pieces s, stands_ink, ink_after_gap, ink-append)
 
 -- the chunks of a UTF-8 text have together its ink
 pub ink_of_chunks : (text : List ℕ) → IsUtf8 text → flat_map chunk_ink (chunks_of text) ≡ ink text
@@ -62,9 +57,7 @@ IsGap-append a b g h = list_all-append is_gap_byte a b ∙ rw g h
 
 -- what stands in the middle of a text
 middle : (a b c : List ℕ) → slice_range (a ++ (b ++ c)) (length a) (length (a ++ b)) ≡ b
-middle a b c =
-    let n : length b ≡ length (a ++ b) - length a = omega (arith, length-append a b) in
-    ap (λ xs. take (length (a ++ b) - length a) xs) (drop_at a (b ++ c) (length a) refl) ∙ take_at b c (length (a ++ b) - length a) n
+middle a b c = grind (arith, length-append, drop_at, take_at)
 
 -- a chunk that stands after a gap
 place_after : (text front gap there back : List ℕ) (chunk : Chunk) → text ≡ (front ++ gap) ++ (there ++ back) → IsGap gap → StandsFor chunk there

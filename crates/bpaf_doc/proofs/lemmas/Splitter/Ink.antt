@@ -32,10 +32,7 @@ ink-nil = ap (λ cs. filter is_not_whitespace cs) chars-nil
 -- a gap has no ink
 pub ink_after_gap : (gap rest : List ℕ) → IsGap gap → ink (gap ++ rest) ≡ ink rest
 ink_after_gap [] rest g = refl
-ink_after_gap (b ∷ gap) rest g = at b (gap_is b (and_left (is_gap_byte b) (list_all is_gap_byte gap) g)) ∙ ink_after_gap gap rest (and_right (is_gap_byte b) (list_all is_gap_byte gap) g) where
-  at : (b : ℕ) → (b ≡ 10) ⊎ (b ≡ 32) → ink (b ∷ (gap ++ rest)) ≡ ink (gap ++ rest)
-  at b (inl e) = rw e (ap (λ cs. filter is_not_whitespace cs) (newline_chars (gap ++ rest)))
-  at b (inr e) = rw e (ap (λ cs. filter is_not_whitespace cs) (blank_chars (gap ++ rest)))
+ink_after_gap (b ∷ gap) rest g = grind (arith, ink_after_gap gap rest, gap_is, and_left, and_right, newline_chars, blank_chars)
 
 pub gap_ink : (gap : List ℕ) → IsGap gap → ink gap ≡ []
 gap_ink gap g = ap ink (sym (append-nil gap)) ∙ ink_after_gap gap [] g ∙ ink-nil

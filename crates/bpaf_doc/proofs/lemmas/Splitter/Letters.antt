@@ -98,16 +98,11 @@ encode_two c low high = rw (le-ltb c 128 low, lt-ltb c 2048 high) refl
 
 encode_three : (c : ℕ) → 2048 ≤ c → c < 65536 → encode c ≡ (224 + c / 4096) ∷ (128 + c / 64 % 64) ∷ (128 + c % 64) ∷ []
 unfolding encode
-encode_three c low high =
-    let above : 128 ≤ c = omega (arith, low) in
-    rw (le-ltb c 128 above, le-ltb c 2048 low, lt-ltb c 65536 high) refl
+encode_three c low high = grind (arith, le-ltb, lt-ltb)
 
 encode_four : (c : ℕ) → 65536 ≤ c → encode c ≡ (240 + c / 262144) ∷ (128 + c / 4096 % 64) ∷ (128 + c / 64 % 64) ∷ (128 + c % 64) ∷ []
 unfolding encode
-encode_four c low =
-    let above : 128 ≤ c = omega (arith, low) in
-    let far : 2048 ≤ c = omega (arith, low) in
-    rw (le-ltb c 128 above, le-ltb c 2048 far, le-ltb c 65536 low) refl
+encode_four c low = grind (arith, le-ltb)
 
 -- a lettered first byte
 lettered_ascii : (b : ℕ) → b < 128 → is_lettered b ≡ true → is_in_range 0x20 0x7E b ≡ true
@@ -187,10 +182,7 @@ are_letters (c ∷ cs) h =
     }
 
 pub lettered_columns : (bytes : List ℕ) → IsUtf8 bytes → list_all is_lettered bytes ≡ true → letters bytes ≡ columns bytes
-lettered_columns bytes u h =
-    let are = are_letters u.0 (ap (list_all is_lettered) u.1.1 ∙ h) in
-    ap letters (sym u.1.1) ∙ sym are.counted ∙ sym (str_width-simple false u.0 are.simple)
-    ∙ ap (str_width false) (chars_from_encodes u.0 bytes u u.1.1)
+lettered_columns bytes u h = grind (arith, are_letters, str_width-simple, chars_from_encodes)
 
 -- ---- runs of such characters
 
@@ -216,9 +208,7 @@ pub printable_front_lettered : (text : List ℕ) (i at : ℕ) → i ≤ at → I
 printable_front_lettered text i at le h = printable_lettered (take i text) (printable_front text i at le h)
 
 pub printable_front_letters : (text : List ℕ) (i at : ℕ) → i ≤ at → at ≤ length text → IsPrintable (take at text) → i ≡ letters (take i text)
-printable_front_letters text i at le within h =
-    let long : i ≡ length (take i text) = omega (arith, le, within, length-take i text) in
-    long ∙ sym (printable_letters (take i text) (printable_front text i at le h))
+printable_front_letters text i at le within h = grind (arith, length-take, printable_letters, printable_front)
 
 -- a front of them, and one byte more
 pub lettered_front : (text : List ℕ) (i j : ℕ) → i ≤ j → IsLettered (take j text) → IsLettered (take i text)

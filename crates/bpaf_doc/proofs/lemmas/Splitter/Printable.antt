@@ -26,9 +26,7 @@ small_one b h = grind (arith, nat_tests)
 
 pub each : (p q : ℕ → Bool) (bytes : List ℕ) → ((b : ℕ) → p b ≡ true → q b ≡ true) → list_all p bytes ≡ true → list_all q bytes ≡ true
 each p q [] one h = refl
-each p q (b ∷ bytes) one h =
-    let parts = and_parts (p b) (list_all p bytes) h in
-    rw (one b parts.0) (each p q bytes one parts.1)
+each p q (b ∷ bytes) one h = grind (arith, each p q bytes one, and_parts)
 
 all_small : (bytes : List ℕ) → list_all is_ascii_graphic bytes ≡ true → All (λ b. b < 128) bytes
 all_small bytes h k d l = small_one _ (AllPass-from_list_all is_ascii_graphic bytes h k d l)
@@ -40,9 +38,7 @@ pub printable_word : (bytes : List ℕ) → list_all is_ascii_graphic bytes ≡ 
 printable_word bytes h = each is_ascii_graphic is_word_byte bytes word_one h
 
 pub printable_columns : (bytes : List ℕ) → list_all is_ascii_graphic bytes ≡ true → length bytes ≡ columns bytes
-printable_columns bytes h =
-    sym (ap (str_width false) (chars-IsAscii bytes (ascii bytes h))
-    ∙ str_width-printable false bytes (each is_ascii_graphic (is_in_range 0x20 0x7E) bytes column_one h))
+printable_columns bytes h = grind (arith, chars-IsAscii, ascii, str_width-printable, each, column_one)
 
 pub printable_cut : (text : List ℕ) (n : ℕ) → IsUtf8 text → n ≤ length text → list_all is_ascii_graphic (take n text) ≡ true → IsCharBoundary text n
 printable_cut text n u l h = IsCharBoundary-from_take text n u l (IsUtf8-from_ascii (take n text) (ascii (take n text) h))

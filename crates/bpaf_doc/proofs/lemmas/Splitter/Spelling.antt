@@ -23,12 +23,7 @@ not_true b h t = cc
 pub starts_front : (front text : List ℕ) → IsTrue (starts text front) → text ≡ front ++ drop (length front) text
 starts_front [] text h = refl
 starts_front (f ∷ front) [] h = absurd cc
-starts_front (f ∷ front) (t ∷ text) h =
-    let e : IsTrue (f == t) = and_left (f == t) (starts text front) h in
-    let same : t ≡ f = equal t f e in
-    rw (same, sym (starts_front front text (and_right (f == t) (starts text front) h))) refl where
-      equal : (t f : ℕ) → IsTrue (f == t) → t ≡ f
-      equal t f e = grind (arith, nat_tests)
+starts_front (f ∷ front) (t ∷ text) h = grind (arith, starts_front front text, and_left, and_right, nat_tests)
 
 -- the bytes from the front on that pass a test, and the others
 front_split : (test : ℕ → Bool) (bytes : List ℕ) → bytes ≡ take_while test bytes ++ without_front test bytes
@@ -265,15 +260,11 @@ spells_its_chunks text = spelled (length text) Plain text (omega arith)
 
 take_while_append : (test : ℕ → Bool) (front rest : List ℕ) → IsTrue (list_all test front) → (take_while test rest ≡ []) → take_while test (front ++ rest) ≡ front
 take_while_append test [] rest h e = e
-take_while_append test (b ∷ front) rest h e =
-    take_while_true test b (front ++ rest) (and_left (test b) (list_all test front) h)
-    ∙ ap (λ xs. b ∷ xs) (take_while_append test front rest (and_right (test b) (list_all test front) h) e)
+take_while_append test (b ∷ front) rest h e = grind (arith, take_while_append test front rest, take_while_true, and_left, and_right)
 
 without_append : (test : ℕ → Bool) (front rest : List ℕ) → IsTrue (list_all test front) → (without_front test rest ≡ rest) → without_front test (front ++ rest) ≡ rest
 without_append test [] rest h e = e
-without_append test (b ∷ front) rest h e =
-    without_true test b (front ++ rest) (and_left (test b) (list_all test front) h)
-    ∙ without_append test front rest (and_right (test b) (list_all test front) h) e
+without_append test (b ∷ front) rest h e = grind (arith, without_append test front rest, without_true, and_left, and_right)
 
 line_stops : (rest : List ℕ) → IsLineEnd rest → (take_while is_line_byte rest ≡ []) × (without_front is_line_byte rest ≡ rest)
 line_stops [] e = (refl, refl)
@@ -289,18 +280,11 @@ past_is rest next (inl e) = (subst (λ xs. IsLineEnd xs) (sym e) refl, ap (λ xs
 past_is rest next (inr e) = (subst (λ xs. IsLineEnd xs) (sym e.0) tt, ap (λ xs. drop 1 xs) e.0 ∙ sym e.1)
 
 next_len : (text line rest next : List ℕ) (n : ℕ) → text ≡ line ++ rest → IsPastNewline rest next → length text ≤ suc n → length next ≤ n
-next_len text line rest next n e (inl p) h =
-    let a : length text ≡ length (line ++ rest) = ap length e in
-    let b : length (line ++ rest) ≡ length line + length rest = length-append line rest in
-    let c : length rest ≡ suc (length next) = ap length p in
-    omega (arith, a, b, c, h)
+next_len text line rest next n e (inl p) h = grind (arith, length-append)
 next_len text line rest next n e (inr p) h = let c : length next ≡ 0 = ap length p.1 in omega (arith, c)
 
 rest_len : (text front rest : List ℕ) (n : ℕ) → text ≡ front ++ rest → 0 < length front → length text ≤ suc n → length rest ≤ n
-rest_len text front rest n e some h =
-    let a : length text ≡ length (front ++ rest) = ap length e in
-    let b : length (front ++ rest) ≡ length front + length rest = length-append front rest in
-    omega (arith, a, b, some, h)
+rest_len text front rest n e some h = grind (arith, length-append)
 
 not_zero : (text front rest : List ℕ) → text ≡ front ++ rest → 0 < length front → length text ≤ 0 → ⊥
 not_zero text front rest e some h =
@@ -355,8 +339,7 @@ closing_paragraph_is n (b ∷ text) e f g = rw (f, chunks_within) rw (g, chunks_
 -- the same list, from a line, a rest and the chunks of the rest
 joined : (n : ℕ) (form : Form) (line other_line next other_next : List ℕ) (others : List Chunk) → other_line ≡ line → other_next ≡ next → others ≡ chunks_within n form next
     → Raw line fence_weight ∷ others ≡ Raw other_line fence_weight ∷ chunks_within n form other_next
-joined n form line other_line next other_next others a b c =
-    ap (λ l. Raw l fence_weight ∷ others) (sym a) ∙ ap (λ xs. Raw other_line fence_weight ∷ xs) (c ∙ ap (λ xs. chunks_within n form xs) (sym b))
+joined n form line other_line next other_next others a b c = grind arith
 
 word_parts : (b : ℕ) → is_word_byte b ≡ true → ((b == 10) ≡ false) × ((b == 32) ≡ false)
 word_parts b h = (
@@ -375,14 +358,7 @@ word_some (b ∷ bytes) rest e none = cc
 newline_is : (n : ℕ) (rest : List ℕ) → ¬ IsTrue (starts rest (codes "\n")) → ¬ IsTrue (starts rest (codes " "))
     → Raw (codes " ") 1 ∷ chunks_within n Plain rest ≡ chunks_within (suc n) Plain (10 ∷ rest)
 unfolding chunks_within
-newline_is n rest t f =
-    at (false_of (starts rest (codes "    ")) (λ u. f (subst (λ xs. IsTrue (starts xs (codes " "))) (sym (starts_front (codes "    ") rest u)) refl)))
-    (false_of (starts rest (codes "\n```")) (λ u. t (subst (λ xs. IsTrue (starts xs (codes "\n"))) (sym (starts_front (codes "\n```") rest u)) refl)))
-    (false_of (starts rest (codes "\n    ")) (λ u. t (subst (λ xs. IsTrue (starts xs (codes "\n"))) (sym (starts_front (codes "\n    ") rest u)) refl)))
-    (false_of (starts rest (codes "\n")) t) (false_of (starts rest (codes " ")) f) where
-      at : starts rest (codes "    ") ≡ false → starts rest (codes "\n```") ≡ false → starts rest (codes "\n    ") ≡ false → starts rest (codes "\n") ≡ false → starts rest (codes " ") ≡ false
-          → Raw (codes " ") 1 ∷ chunks_within n Plain rest ≡ chunks_within (suc n) Plain (10 ∷ rest)
-      at a b c d e = rw (a, chunks_within) rw (b, chunks_within) rw (c, chunks_within) rw (d, chunks_within) rw (e, chunks_within) refl
+newline_is n rest t f = grind (arith, false_of, starts_front)
 
 word_is : (n : ℕ) (bytes rest : List ℕ) (others : List Chunk) → IsWord bytes → IsWordEnd rest → others ≡ chunks_within n Plain rest
     → Raw bytes (columns bytes) ∷ others ≡ chunks_within (suc n) Plain (bytes ++ rest)
@@ -405,65 +381,28 @@ unfolding chunks_within
 unique {form} {chunks} {text} (nothing ec et) zero h = ec
 unique {form} {chunks} {text} (nothing ec et) (suc n) h = ec ∙ ap (λ t. chunks_within (suc n) form t) (sym et)
 unique {chunks = chunks} {text = text} (code_line line rest others ec et il ir s) zero h = absurd (not_zero text (codes "\n    ") (line ++ rest) et (omega arith) h)
-unique {chunks = chunks} {text = text} (code_line line rest others ec et il ir s) (suc n) h =
-    ec ∙ ap (λ l. Raw l code_weight ∷ others) (sym (line_of (line ++ rest) line rest refl il ir))
-    ∙ ap (λ xs. Raw (take_while is_line_byte (line ++ rest)) code_weight ∷ xs) (unique s n len ∙ ap (λ xs. chunks_within n Plain xs) (sym (rest_of (line ++ rest) line rest refl il ir)))
-    ∙ ap (λ t. chunks_within (suc n) Plain t) (sym et) where
-      len : length rest ≤ n
-      len = let a : length (line ++ rest) ≤ n = rest_len text (codes "\n    ") (line ++ rest) n et (omega arith) h in
-          let b : length (line ++ rest) ≡ length line + length rest = length-append line rest in omega (arith, a, b)
+unique {chunks = chunks} {text = text} (code_line line rest others ec et il ir s) (suc n) h = grind (arith, unique s n, line_of, rest_of, rest_len, length-append)
 unique {text = text} (fence rest others ec et t s) zero h = absurd (not_zero text (codes "\n\n") rest et (omega arith) h)
-unique {text = text} (fence rest others ec et t s) (suc n) h =
-    ec ∙ ap (λ xs. Paragraph ∷ xs) (unique s n (rest_len text (codes "\n\n") rest n et (omega arith) h))
-    ∙ step ∙ ap (λ t. chunks_within (suc n) Plain t) (sym et) where
-      step : Paragraph ∷ chunks_within n Opening rest ≡ chunks_within (suc n) Plain (10 ∷ 10 ∷ rest)
-      step = rw (t, chunks_within) refl
+unique {text = text} (fence rest others ec et t s) (suc n) h = grind (arith, unique s n, rest_len)
 unique {text = text} (before_code rest others ec et t s) zero h = absurd (not_zero text (codes "\n") rest et (omega arith) h)
-unique {text = text} (before_code rest others ec et t s) (suc n) h =
-    ec ∙ ap (λ xs. Paragraph ∷ xs) (unique s n (rest_len text (codes "\n") rest n et (omega arith) h))
-    ∙ subst (λ r. Paragraph ∷ chunks_within n Plain r ≡ chunks_within (suc n) Plain (10 ∷ r)) (sym (starts_front (codes "\n    ") rest t)) refl
-    ∙ ap (λ t. chunks_within (suc n) Plain t) (sym et)
+unique {text = text} (before_code rest others ec et t s) (suc n) h = grind (arith, unique s n, rest_len, starts_front)
 unique {text = text} (paragraph rest others ec et t f s) zero h = absurd (not_zero text (codes "\n\n") rest et (omega arith) h)
-unique {text = text} (paragraph rest others ec et t f s) (suc n) h =
-    ec ∙ ap (λ xs. Paragraph ∷ xs) (unique s n (rest_len text (codes "\n\n") rest n et (omega arith) h))
-    ∙ step (false_of (starts rest (codes "```")) t) (false_of (starts rest (codes "    ")) f) ∙ ap (λ t. chunks_within (suc n) Plain t) (sym et) where
-      step : starts rest (codes "```") ≡ false → starts rest (codes "    ") ≡ false → Paragraph ∷ chunks_within n Plain rest ≡ chunks_within (suc n) Plain (10 ∷ 10 ∷ rest)
-      step a b = rw (a, chunks_within) rw (b, chunks_within) refl
+unique {text = text} (paragraph rest others ec et t f s) (suc n) h = grind (arith, unique s n, rest_len, false_of)
 unique {text = text} (line_break rest others ec et t s) zero h = absurd (not_zero text (codes "\n ") rest et (omega arith) h)
-unique {text = text} (line_break rest others ec et t s) (suc n) h =
-    ec ∙ ap (λ xs. LineBreak ∷ xs) (unique s n (rest_len text (codes "\n ") rest n et (omega arith) h))
-    ∙ step (false_of (starts rest (codes "   ")) t) ∙ ap (λ t. chunks_within (suc n) Plain t) (sym et) where
-      step : starts rest (codes "   ") ≡ false → LineBreak ∷ chunks_within n Plain rest ≡ chunks_within (suc n) Plain (10 ∷ 32 ∷ rest)
-      step a = rw (a, chunks_within) refl
+unique {text = text} (line_break rest others ec et t s) (suc n) h = grind (arith, unique s n, rest_len, false_of)
 unique {text = text} (newline rest others ec et t f s) zero h = absurd (not_zero text (codes "\n") rest et (omega arith) h)
-unique {text = text} (newline rest others ec et t f s) (suc n) h =
-    ec ∙ ap (λ xs. Raw (codes " ") 1 ∷ xs) (unique s n (rest_len text (codes "\n") rest n et (omega arith) h))
-    ∙ newline_is n rest t f ∙ ap (λ t. chunks_within (suc n) Plain t) (sym et)
+unique {text = text} (newline rest others ec et t f s) (suc n) h = grind (arith, unique s n, rest_len, newline_is)
 unique {text = text} (blank rest others ec et s) zero h = absurd (not_zero text (codes " ") rest et (omega arith) h)
-unique {text = text} (blank rest others ec et s) (suc n) h =
-    ec ∙ ap (λ xs. Raw (codes " ") 1 ∷ xs) (unique s n (rest_len text (codes " ") rest n et (omega arith) h)) ∙ ap (λ t. chunks_within (suc n) Plain t) (sym et)
+unique {text = text} (blank rest others ec et s) (suc n) h = grind (arith, unique s n, rest_len)
 unique {text = text} (word bytes rest others ec et w r s) zero h = absurd (empty_len text h (λ none. word_some bytes rest w.0 (sym et ∙ none)))
 unique {text = text} (word bytes rest others ec et w r s) (suc n) h =
     ec ∙ word_is n bytes rest others w r (unique s n (rest_len text bytes rest n et (some_len bytes w.0) h)) ∙ ap (λ t. chunks_within (suc n) Plain t) (sym et)
 unique {text = text} (opening line rest next others ec et some il p s) zero h = absurd (empty_len text h some)
-unique {text = text} (opening line rest next others ec et some il p s) (suc n) h =
-    ec ∙ joined n Later line (take_while is_line_byte text) next (drop 1 (without_front is_line_byte text)) others
-    (line_of text line rest et il (past_is rest next p).0) (ap (λ xs. drop 1 xs) (rest_of text line rest et il (past_is rest next p).0) ∙ (past_is rest next p).1)
-    (unique s n (next_len text line rest next n et p h))
-    ∙ sym (opening_is n text some)
+unique {text = text} (opening line rest next others ec et some il p s) (suc n) h = grind (arith, unique s n (next_len text line rest next n et p h), line_of, past_is, rest_of, next_len, opening_is)
 unique {text = text} (later line rest next others ec et some il t p s) zero h = absurd (empty_len text h some)
-unique {text = text} (later line rest next others ec et some il t p s) (suc n) h =
-    ec ∙ joined n Later line (take_while is_line_byte text) next (drop 1 (without_front is_line_byte text)) others
-    (line_of text line rest et il (past_is rest next p).0) (ap (λ xs. drop 1 xs) (rest_of text line rest et il (past_is rest next p).0) ∙ (past_is rest next p).1)
-    (unique s n (next_len text line rest next n et p h))
-    ∙ sym (later_is n text some (false_of (starts text (codes "```")) (λ u. t (subst (λ xs. IsTrue (starts xs (codes "```"))) (line_of text line rest et il (past_is rest next p).0) (line_ticks text u)))))
+unique {text = text} (later line rest next others ec et some il t p s) (suc n) h = grind (arith, unique s n (next_len text line rest next n et p h), line_of, past_is, rest_of, next_len, later_is, false_of, line_ticks)
 unique {text = text} (closing line rest next others ec et il t f p s) zero h = absurd (empty_len text h (ticks_some text line rest et t))
-unique {text = text} (closing line rest next others ec et il t f p s) (suc n) h =
-    ec ∙ joined n Plain line (take_while is_line_byte text) next (drop 1 (without_front is_line_byte text)) others
-    (line_of text line rest et il (past_is rest next p).0) (ap (λ xs. drop 1 xs) (rest_of text line rest et il (past_is rest next p).0) ∙ (past_is rest next p).1)
-    (unique s n (next_len text line rest next n et p h))
-    ∙ sym (closing_is n text (ticks_some text line rest et t) (text_ticks text line rest et t)
-    (subst (λ xs. starts xs (codes "\n\n") ≡ false) (sym (rest_of text line rest et il (past_is rest next p).0)) (false_of (starts rest (codes "\n\n")) f)))
+unique {text = text} (closing line rest next others ec et il t f p s) (suc n) h = grind (arith, unique s n (next_len text line rest next n et p h), line_of, past_is, rest_of, next_len, closing_is, ticks_some, text_ticks, false_of)
 unique {text = text} (closing_paragraph line rest others ec et il t f s) zero h = absurd (empty_len text h (ticks_some text line rest et t))
 unique {text = text} (closing_paragraph line rest others ec et il t f s) (suc n) h =
     ec ∙ joined n Plain line (take_while is_line_byte text) rest (without_front is_line_byte text) others

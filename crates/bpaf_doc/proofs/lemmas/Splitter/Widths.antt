@@ -40,9 +40,7 @@ of_four n m a b d s t u r h k = grind arith
 
 selectors_most : (c total : ℕ) (after : After) → (past_selectors false c total after).0 ≤ total + 3
 unfolding past_selectors
-selectors_most c total after =
-    of_four total (alone false c).0 (skips_marks after && (c == 0x200D)) (skips_marks after && is_ligature_transparent c) ((false && is_solidus after) && is_solidus_transparent c)
-    (before (with_joiner after)) (before after) (before afters.Solidus) (joined_or total (joins false after c) (alone false c)) (alone_most c) (joined_most total (joins false after c) (alone false c) (alone_most c))
+selectors_most c total after = grind (arith, of_four, alone_most, joined_most, nat_tests)
 
 of_six : (n : ℕ) (a b d e f : Bool) (s t u v w : State) (r : Reading) → r.0 ≤ n + 3
     → (pick a (n, s) (pick b (n, t) (pick d (n, u) (pick e (n + 1, v) (pick f (n + 2, w) r))))).0 ≤ n + 3
@@ -50,10 +48,7 @@ of_six n a b d e f s t u v w r h = grind arith
 
 context_most : (c total : ℕ) (s : State) → (in_context false c total s).0 ≤ total + 3
 unfolding in_context
-context_most c total s =
-    of_six total (c == 0xFE0F) (is_quote_selector false c) (not false && (c == 0xFE0E)) (s.text && is_text_presentation_base c) (s.quote && is_quote c)
-    (record (if is_joined_emoji s.after then s else if_kept s) { emoji = true }) (record (if_kept s) { quote = true }) (record (if_kept s) { text = true }) plain plain
-    (past_selectors false c total s.after) (selectors_most c total s.after)
+context_most c total s = grind (arith, of_six, selectors_most, nat_tests)
 
 of_all : (n m : ℕ) (a b d e f : Bool) (s t u v w : State) (r : Reading) → m ≤ 3 → r.0 ≤ n + 3
     → (pick a (n + 2, s) (pick b (n + 1, t) (pick d (n, u) (pick e (n + 1, v) (pick f (n + m, w) r))))).0 ≤ n + 3
@@ -61,9 +56,7 @@ of_all n m a b d e f s t u v w r g h = grind arith
 
 emoji_most : (c total : ℕ) (s : State) → (past_emoji false c total s).0 ≤ total + 3
 unfolding past_emoji
-emoji_most c total s =
-    of_all total (alone false c).0 (((false && is_striking s.after) && not s.quote) && is_in_range 0x3C 0x3E c) (c == 0x0A) ((c == 0x0D) && is_line_feed s.after) (nat_le c 0xA0) (is_plain s)
-    plain (before afters.LineFeed) plain plain (alone false c).1 (in_context false c total s) (alone_most c) (context_most c total s)
+emoji_most c total s = grind (arith, of_all, alone_most, context_most, nat_tests)
 
 two_or_none : (b : Bool) → (if b then 0 else 2) ≤ 3
 two_or_none b = grind arith
@@ -73,9 +66,7 @@ of_three n m a b s r q h k l = grind arith
 
 step_most : (c : ℕ) (r : Reading) → (step false c r).0 ≤ r.0 + 3
 unfolding step
-step_most c (total, s) =
-    of_three total (if is_joined_emoji s.after then 0 else 2) (not s.emoji) (is_emoji_variation_base c) (before afters.Emoji) (past_emoji false c total s) (past_emoji false c total (record (if_kept s) { emoji = false }))
-    (two_or_none (is_joined_emoji s.after)) (emoji_most c total s) (emoji_most c total (record (if_kept s) { emoji = false }))
+step_most c (total, s) = grind (arith, of_three, two_or_none, emoji_most)
 
 read_most : (cs : List ℕ) → (read_before false cs (0, plain)).0 ≤ 3 * length cs
 read_most [] = omega arith

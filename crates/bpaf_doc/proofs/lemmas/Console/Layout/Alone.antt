@@ -50,9 +50,7 @@ alone_begins {width} {st} p base small start h (stays t l w) = λ m before e the
   at : (m before : List Stretch) (e : Place) → Cut base.back m e before → is_whole_line (chunk_at e) ≡ true → SameOrLine st base → (has_newline m ≡ true) ⊎ (has_newline m ≡ false) → has_newline m ≡ true
   at m before e there whole kind (inl n) = n
   at m before e there whole (new_line rest is) (inr n) = line_since base.back rest m before e is there
-  at m before e there whole (same_page s) (inr n) =
-      let far : 1_000_000 ≤ st.column = h m before e (subst (λ (x : State). Cut x.back m e before) s there) whole n in
-      let same : base.column ≡ st.column = ap (λ (x : State). x.column) s in absurd (omega arith)
+  at m before e there whole (same_page s) (inr n) = grind arith
 alone_begins p base small start h (wraps t mid l w b s) = λ m before e there whole. line_since base.back (trimmed mid.back) m before e (ap (λ (x : State). x.back) s) there
 
 alone_padded : (n : ℕ) (r : List Stretch) (f : Place) → AloneBefore r f → AloneBefore (padded n r) f
@@ -64,11 +62,8 @@ heavy_put : (p : Piece) (base : State) (n : ℕ) → AloneBefore (padded n base.
 heavy_put p base n alone = λ m before e there whole none. at m before e whole none (cut_cons (Placed (place_of p)) (padded n base.back) m e before there) where
   at : (m before : List Stretch) (e : Place) → is_whole_line (chunk_at e) ≡ true → has_newline m ≡ false → FirstOrLater (Placed (place_of p)) (padded n base.back) m e before
       → 1_000_000 ≤ (put n p.part p.bytes p.weight base).column
-  at m before e whole none (here is x r) =
-      let same : place_of p ≡ e = cc in
-      let weight : 1_000_000 ≤ p.weight = heavy_weight p.weight (subst (λ (y : Place). is_whole_line (chunk_at y) ≡ true) (sym same) whole) in omega arith
-  at m before e whole none (later rest is there) =
-      let line : has_newline m ≡ true = ap has_newline is ∙ alone rest before e there whole in absurd cc
+  at m before e whole none (here is x r) = grind (arith, heavy_weight)
+  at m before e whole none (later rest is there) = grind arith
 
 pub heavy_grows : {width : ℕ} {st after : State} {next : Next} → width < 1_000_000 → IsStarting st → Grows width st next after → IsHeavy st → IsHeavy after
 heavy_grows small start (placing p e (places base n b d a)) h = subst IsHeavy (sym a) (heavy_put p base n (alone_padded n base.back (place_of p) (alone_begins p base small start h b)))

@@ -9,7 +9,7 @@ use Rattle.bpaf_doc.specs.Console.Layout.{Event, Stretch, Gap, Placed, Passed, P
 use Rattle.bpaf_doc.specs.declared.console.page.Asked.{Asked}
 use Rattle.bpaf_doc.specs.declared.console.page.Asked.TheVariants.{Nothing, NewLine, BlankLine}
 use Rattle.bpaf_doc.proofs.lemmas.Console.Layout.State.{State, Piece, Lines, none_asked, line_there, line_put, blank_there, second_put, both_put, Begins, first, stays, wraps, places, drops, Next, Grows, placing, breaking, passing, padded, has_text, ends_line, ends_blank, put, passed, at_least_line, is_nothing}
-use Rattle.bpaf_doc.proofs.lemmas.Console.Layout.Back.{by_cases, EachPlace, each_grows, place_of, same_padded}
+use Rattle.bpaf_doc.proofs.lemmas.Console.Layout.Back.{by_cases, EachPlace, each_grows, place_of, same_padded, by_grows}
 use Rattle.bpaf_doc.proofs.lemmas.Console.Layout.Columns.{Fills, inked_some}
 use Rattle.bpaf_doc.proofs.lemmas.Console.Layout.Text.{EachPassed, NoInk, ink_text, or_true_right}
 use Rattle.bpaf_doc.proofs.lemmas.Console.Layout.Split.{inked_line}
@@ -61,36 +61,16 @@ ends_line_owes (Passed event ∷ r) f q h = at (by_cases (has_some (event_bytes 
 -- what ends in two newlines ends in one
 pub blank_line_ends : (r : List Stretch) → ends_blank r ≡ true → ends_line r ≡ true
 blank_line_ends [] h = h
-blank_line_ends (x ∷ r) h = at (by_cases (has_some (stretch_bytes x))) (blank_line_ends r) where
-  at : (has_some (stretch_bytes x) ≡ true) ⊎ (has_some (stretch_bytes x) ≡ false) → (ends_blank r ≡ true → ends_line r ≡ true) → ends_line (x ∷ r) ≡ true
-  at (inl s) ih = let both : (is_newline x && ends_line r) ≡ true = rw s at h in rw s (and_parts (is_newline x) (ends_line r) both).0
-  at (inr s) ih = let rest : ends_blank r ≡ true = rw s at h in rw s (ih rest)
+blank_line_ends (x ∷ r) h = grind (arith, blank_line_ends r)
 
 inked_line_ink : (r : List Stretch) → inked_line r ≡ true → list_any is_inked_stretch r ≡ true
 inked_line_ink [] h = h
-inked_line_ink (x ∷ r) h = at (by_cases (is_newline x)) (by_cases (is_inked_stretch x)) (inked_line_ink r) where
-  at : (is_newline x ≡ true) ⊎ (is_newline x ≡ false) → (is_inked_stretch x ≡ true) ⊎ (is_inked_stretch x ≡ false) → (inked_line r ≡ true → list_any is_inked_stretch r ≡ true)
-      → list_any is_inked_stretch (x ∷ r) ≡ true
-  at (inl n) i ih = let no : false ≡ true = rw n at h in absurd cc
-  at (inr n) (inl i) ih = rw i refl
-  at (inr n) (inr i) ih = let rest : inked_line r ≡ true = rw (n, i) at h in rw i (ih rest)
+inked_line_ink (x ∷ r) h = grind (arith, inked_line_ink r)
 
 owes_ink : (r : List Stretch) → owes_line r ≡ true → list_any is_inked_stretch r ≡ true
 owes_ink [] h = absurd cc
-owes_ink (Gap b ∷ r) h = at (by_cases (b == 10)) (owes_ink r) where
-  at : ((b == 10) ≡ true) ⊎ ((b == 10) ≡ false) → (owes_line r ≡ true → list_any is_inked_stretch r ≡ true) → list_any is_inked_stretch (Gap b ∷ r) ≡ true
-  at (inl n) ih = let no : false ≡ true = rw n at h in absurd cc
-  at (inr n) ih = let rest : owes_line r ≡ true = rw n at h in ih rest
-owes_ink (Placed e ∷ r) h = at (by_cases (is_inked (chunk_at e))) (owes_ink r) where
-  at : (is_inked (chunk_at e) ≡ true) ⊎ (is_inked (chunk_at e) ≡ false) → (owes_line r ≡ true → list_any is_inked_stretch r ≡ true) → list_any is_inked_stretch (Placed e ∷ r) ≡ true
-  at (inl n) ih = rw n refl
-  at (inr n) ih = let rest : owes_line r ≡ true = rw n at h in or_true_right _ _ (ih rest)
-owes_ink (Passed event ∷ r) h = at (by_cases (asks_newline event)) (by_cases (inked_line r)) (owes_ink r) where
-  at : (asks_newline event ≡ true) ⊎ (asks_newline event ≡ false) → (inked_line r ≡ true) ⊎ (inked_line r ≡ false) → (owes_line r ≡ true → list_any is_inked_stretch r ≡ true)
-      → list_any is_inked_stretch (Passed event ∷ r) ≡ true
-  at (inl n) (inl i) ih = or_true_right (is_inked_stretch (Passed event)) (list_any is_inked_stretch r) (inked_line_ink r i)
-  at (inl n) (inr i) ih = let rest : owes_line r ≡ true = rw (n, i) at h in or_true_right (is_inked_stretch (Passed event)) (list_any is_inked_stretch r) (ih rest)
-  at (inr n) i ih = let rest : owes_line r ≡ true = rw n at h in or_true_right (is_inked_stretch (Passed event)) (list_any is_inked_stretch r) (ih rest)
+owes_ink (Passed event ∷ r) h = grind (arith, owes_ink r, inked_line_ink r)
+owes_ink (_ ∷ r) h = grind (arith, owes_ink r)
 
 not_owed : (st : State) → IsAskedLine st → st.asked ≡ Nothing → owes_line st.back ≡ false
 not_owed st h a = elim (by_cases (owes_line st.back)) [ inl o ↦ let some : is_nothing st.asked ≡ false = h o in let none : is_nothing st.asked ≡ true = rw a refl in absurd cc | inr o ↦ o ]
@@ -104,37 +84,22 @@ owes_lines f q h (second_put a b e) = subst (λ (s : State). owes_line s.back �
 owes_lines f q h (both_put a e) = subst (λ (s : State). owes_line s.back ≡ false) (sym e) refl
 
 owes_begins : {width : ℕ} {st : State} {p : Piece} {base : State} → EachPlace Fills st.back → EachPassed NoInk st.back → IsAskedLine st → Begins width st p base → owes_line base.back ≡ false
-owes_begins {st = st} f q h (first t e) = subst (λ (s : State). owes_line s.back ≡ false) (sym e) (at (by_cases (owes_line st.back))) where
-  at : (owes_line st.back ≡ true) ⊎ (owes_line st.back ≡ false) → owes_line st.back ≡ false
-  at (inl o) = let text : has_text st.back ≡ true = ink_text st.back f q (owes_ink st.back o) in absurd cc
-  at (inr o) = o
+owes_begins {st = st} f q h (first t e) = grind (arith, ink_text, owes_ink)
 owes_begins f q h (stays t l w) = owes_lines f q h l
 owes_begins f q h (wraps t mid l w b e) = subst (λ (s : State). owes_line s.back ≡ false) (sym e) refl
 
 at_least_something : (a : Asked) → is_nothing (at_least_line a) ≡ false
 at_least_something Nothing = refl
-at_least_something NewLine = refl
-at_least_something BlankLine = refl
+at_least_something _ = refl
 
 asked_line_passed : (event : Event) (margin : ℕ) (st : State) → IsAskedLine st → IsAskedLine (passed event margin st)
-asked_line_passed event margin st h = at (by_cases (asks_blank_line event)) (by_cases (asks_newline event)) where
-  at : (asks_blank_line event ≡ true) ⊎ (asks_blank_line event ≡ false) → (asks_newline event ≡ true) ⊎ (asks_newline event ≡ false) → IsAskedLine (passed event margin st)
-  at (inl b) n = λ o. rw b refl
-  at (inr b) (inl n) = λ o. rw (b, n) (at_least_something st.asked)
-  at (inr b) (inr n) = λ o. let rest : owes_line st.back ≡ true = rw n at o in let some : is_nothing st.asked ≡ false = h rest in rw (b, n) some
+asked_line_passed event margin st h = grind (arith, at_least_something st.asked, h)
 
 pub asked_line_grows : {width : ℕ} {st after : State} {next : Next} → EachPlace Fills st.back → EachPassed NoInk st.back
     → Grows width st next after → IsAskedLine st → IsAskedLine after
-asked_line_grows f q (placing p e (places base n b d a)) h = subst IsAskedLine (sym a) (at (by_cases (is_inked (chunk_at (place_of p))))) where
-  none : owes_line (padded n base.back) ≡ false
-  none = same_padded owes_line (λ x. refl) n base.back ∙ owes_begins f q h b
-
-  at : (is_inked (chunk_at (place_of p)) ≡ true) ⊎ (is_inked (chunk_at (place_of p)) ≡ false) → IsAskedLine (put n p.part p.bytes p.weight base)
-  at (inl i) = λ o. let no : false ≡ true = rw i at o in absurd cc
-  at (inr i) = λ o. let some : owes_line (padded n base.back) ≡ true = rw i at o in let no : false ≡ true = sym none ∙ some in absurd cc
-asked_line_grows f q (placing p e (drops t mid l w b a)) h = subst IsAskedLine (sym a) (λ o. absurd cc)
-asked_line_grows f q (breaking k chunk e a) h = subst IsAskedLine (sym a) (λ o. absurd cc)
-asked_line_grows {st = st} f q (passing event margin e a) h = subst IsAskedLine (sym a) (asked_line_passed event margin st h)
+asked_line_grows {st = st} f q g h = by_grows IsAskedLine g
+    (λ p base n e b d o. let none : owes_line (padded n base.back) ≡ false = same_padded owes_line (λ x. refl) n base.back ∙ owes_begins f q h b in absurd (grind arith))
+    (λ p mid e l w b o. absurd cc) (λ k chunk e o. absurd cc) (λ event margin e. asked_line_passed event margin st h)
 
 -- no newline is owed where an inked chunk stands
 abbrev pub IsFreeOfDebt : List Stretch → Place → Type 0

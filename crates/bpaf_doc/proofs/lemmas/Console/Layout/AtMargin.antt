@@ -35,15 +35,7 @@ quiet_column : (r : List Stretch) → is_quiet r ≡ true → inked_line r ≡ f
 quiet_column [] q i p = refl
 quiet_column (Gap b ∷ r) q i p = elim (by_cases (b == 10)) [ inl e ↦ rw e refl | inr e ↦ let some : 1 + pads_back r ≡ 0 = rw e at p in absurd (omega arith) ]
 quiet_column (Placed e ∷ r) q i p = let some : true ≡ false = rw q at i in absurd cc
-quiet_column (Passed event ∷ r) q i p = at (by_cases (is_raw_or_ref event)) (quiet_column r) where
-  at : (is_raw_or_ref event ≡ true) ⊎ (is_raw_or_ref event ≡ false) → (is_quiet r ≡ true → inked_line r ≡ false → pads_back r ≡ 0 → column_back r ≡ 0) → column_back (Passed event ∷ r) ≡ 0
-  at (inl x) ih = let no : false ≡ true = rw x at q in absurd cc
-  at (inr x) ih =
-      let rest : is_quiet r ≡ true = rw x at q in
-      let none : length (event_bytes event) ≡ 0 = bare_event event x in
-      let pads : pads_back r ≡ 0 = omega arith in
-      let tail : column_back r ≡ 0 = ih rest (or_false_right (is_inked_stretch (Passed event)) (inked_line r) i) pads in
-      omega arith
+quiet_column (Passed event ∷ r) q i p = grind (arith, quiet_column r, bare_event, or_false_right)
 
 -- ---- one blank since the last ink
 
@@ -154,16 +146,14 @@ module _ (margin_of : ℕ → ℕ) where
         let total : column_back (padded n base.back) ≡ n + column_back base.back = column_padded n base.back in
         omega arith where
           after_blank : inked_line base.back ≡ false → (found : AfterBlank (padded n base.back) p.part) → AfterPads n base.back found.rest found.place found.before → Begins width st p base → column_back base.back ≡ 0
-          after_blank clear found cut_there (first t s) =
-              absurd (no_place_first st f q t cut_there.rest found.before found.place (subst (λ (x : State). Cut x.back cut_there.rest found.place found.before) s cut_there.there) found.inked)
+          after_blank clear found cut_there (first t s) = grind (arith, no_place_first)
           after_blank clear found cut_there (stays t l w) = at (by_cases (has_newline cut_there.rest)) where
             blank : events_back cut_there.rest ≡ Shows p.part (Raw (codes " ") 1) ∷ []
             blank = sym (ap events_back cut_there.is ∙ same_padded events_back (λ x. refl) n cut_there.rest) ∙ found.blank
 
             at : (has_newline cut_there.rest ≡ true) ⊎ (has_newline cut_there.rest ≡ false) → column_back base.back ≡ 0
             at (inl y) = lines_start h l cut_there.rest found.before found.place p.part cut_there.there found.inked blank y
-            at (inr y) =
-                let some : inked_line base.back ≡ true = subst (λ x. inked_line x ≡ true) (sym cut_there.there) (inked_since cut_there.rest found.place found.before found.inked y) in absurd cc
+            at (inr y) = grind (arith, inked_since)
           after_blank clear found cut_there (wraps t mid l w x s) = ap (λ (y : State). column_back y.back) s
 
           zero_at : inked_line base.back ≡ false → (is_quiet (padded n base.back) ≡ true) ⊎ AfterBlank (padded n base.back) p.part → column_back base.back ≡ 0

@@ -1,10 +1,10 @@
 -- Facts that hold of each place of a page, and what keeps them.
-use Rattle.std.specs.Prelude.{◌≡◌, ℕ, zero, suc, ◌<◌, ◌≤◌, ⊤, Bool, true, false, List, [], ◌∷◌, refl}
+use Rattle.std.specs.Prelude.{◌≡◌, ℕ, zero, suc, ◌+◌, ◌<◌, ◌≤◌, ⊤, Bool, true, false, List, [], ◌∷◌, codes, refl}
 use Rattle.std.proofs.Common.{sym, subst, ◌∙◌, ◌⊎◌, inl, inr}
-use Rattle.bpaf_doc.specs.Splitter.Chunks.{Chunk, Paragraph, LineBreak, is_inked, has_some}
+use Rattle.bpaf_doc.specs.Splitter.Chunks.{Chunk, Paragraph, LineBreak, columns, is_inked, has_some}
 use Rattle.bpaf_doc.specs.declared.buffer.Block.{Block}
 use Rattle.bpaf_doc.specs.Console.Layout.{Event, Shows, Opens, Closes, is_inline_block, Stretch, Gap, Placed, Passed, Place, chunk_at, event_bytes}
-use Rattle.bpaf_doc.proofs.lemmas.Console.Layout.State.{State, Piece, Lines, none_asked, line_there, line_put, blank_there, second_put, both_put, Pads, Begins, first, stays, wraps, places, drops, Next, raw, break, mark, Grows, placing, breaking, passing, padded, trimmed, cut, Fits, Suits, raw_suits, paragraph_suits, line_break_suits, open_suits, close_suits, on_new_line}
+use Rattle.bpaf_doc.proofs.lemmas.Console.Layout.State.{State, Piece, Lines, none_asked, line_there, line_put, blank_there, second_put, both_put, Pads, Begins, first, stays, wraps, places, drops, Next, raw, break, mark, Grows, placing, breaking, passing, padded, trimmed, cut, Fits, Suits, raw_suits, paragraph_suits, line_break_suits, open_suits, close_suits, on_new_line, sat, put, dropped, wrapped, broken, passed}
 
 pub by_cases : (b : Bool) → (b ≡ true) ⊎ (b ≡ false)
 by_cases true = inl refl
@@ -89,6 +89,17 @@ each_lines P l h = lines_back (EachPlace P) (λ r x. x) l h
 pub each_begins : (P : List Stretch → Place → Type 0) → KeepsCut P → {width : ℕ} {st : State} {p : Piece} {base : State} → Begins width st p base → EachPlace P st.back → EachPlace P base.back
 each_begins P keeps b h = begins_back (EachPlace P) (λ r x. x) (each_trimmed P keeps) b h
 
+-- Q of the page after what comes next: a chunk is placed or dropped, a line is broken, or a mark is passed
+pub by_grows : {width : ℕ} {st after : State} {next : Next} (Q : State → Type 0) → Grows width st next after
+    → ((p : Piece) (base : State) (n : ℕ) → next ≡ raw p → Begins width st p base → Pads base n → Q (put n p.part p.bytes p.weight base))
+    → ((p : Piece) (mid : State) → next ≡ raw p → Lines st mid → width < sat (mid.column + columns p.bytes) → p.bytes ≡ codes " " → Q (dropped p.part p.bytes p.weight (wrapped mid)))
+    → ((k : ℕ) (chunk : Chunk) → next ≡ break k chunk → Q (broken k chunk st))
+    → ((event : Event) (margin : ℕ) → next ≡ mark event margin → Q (passed event margin st)) → Q after
+by_grows Q (placing p e (places base n b d a)) if_put if_dropped if_broken if_passed = subst Q (sym a) (if_put p base n e b d)
+by_grows Q (placing p e (drops t mid l w b a)) if_put if_dropped if_broken if_passed = subst Q (sym a) (if_dropped p mid e l w b)
+by_grows Q (breaking k chunk e a) if_put if_dropped if_broken if_passed = subst Q (sym a) (if_broken k chunk e)
+by_grows Q (passing event margin e a) if_put if_dropped if_broken if_passed = subst Q (sym a) (if_passed event margin e)
+
 -- the place that a piece gets
 abbrev pub place_of : Piece → Place
 place_of p = record { part = p.part; bytes = p.bytes; weight = p.weight; shown = p.bytes }
@@ -97,12 +108,9 @@ place_of p = record { part = p.part; bytes = p.bytes; weight = p.weight; shown =
 pub each_grows : (P : List Stretch → Place → Type 0) → KeepsCut P → {width : ℕ} {st after : State} {next : Next}
     → ((p : Piece) (base : State) (n : ℕ) → next ≡ raw p → Begins width st p base → Pads base n → P (padded n base.back) (place_of p))
     → Grows width st next after → EachPlace P st.back → EachPlace P after.back
-each_grows P keeps core (placing p e (places base n b d a)) h =
-    subst (λ (s : State). EachPlace P s.back) (sym a) (core p base n e b d, by_padded (EachPlace P) (λ x y. y) n base.back (each_begins P keeps b h))
-each_grows P keeps core (placing p e (drops t mid l w b a)) h =
-    subst (λ (s : State). EachPlace P s.back) (sym a) (each_trimmed P keeps mid.back (each_lines P l h))
-each_grows P keeps core (breaking k chunk e a) h = subst (λ (s : State). EachPlace P s.back) (sym a) h
-each_grows P keeps core (passing event margin e a) h = subst (λ (s : State). EachPlace P s.back) (sym a) h
+each_grows P keeps core g h = by_grows (λ s. EachPlace P s.back) g
+    (λ p base n e b d. (core p base n e b d, by_padded (EachPlace P) (λ x y. y) n base.back (each_begins P keeps b h)))
+    (λ p mid e l w b. each_trimmed P keeps mid.back (each_lines P l h)) (λ k chunk e. h) (λ event margin e. h)
 
 -- what suits a chunk that is placed
 pub fits_of : {margin_of : ℕ → ℕ} {st : State} {next : Next} {p : Piece} → Suits margin_of st next → next ≡ raw p → Fits margin_of st p

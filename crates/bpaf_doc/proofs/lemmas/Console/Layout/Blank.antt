@@ -1,5 +1,5 @@
 -- A blank line stands where one is asked for.
-use Rattle.std.specs.Prelude.{◌≡◌, ℕ, zero, suc, ◌≤◌, Bool, true, false, ◌&&◌, ◌||◌, ◌==◌, List, [], ◌∷◌, ◌++◌, reverse, length, codes, refl, if◌then◌else◌, ◌⊎◌}
+use Rattle.std.specs.Prelude.{◌≡◌, ℕ, zero, suc, ◌+◌, ◌≤◌, Bool, true, false, ◌&&◌, ◌||◌, ◌==◌, List, [], ◌∷◌, ◌++◌, reverse, length, codes, refl, if◌then◌else◌, ◌⊎◌}
 use Rattle.std.specs.List.{list_any}
 use Rattle.std.proofs.Common.{sym, subst, ap, arith, inl, inr, ◌∙◌, append_assoc}
 use Rattle.std.proofs.lemmas.List.{reverse-append, append-nil}
@@ -9,8 +9,8 @@ use Rattle.bpaf_doc.specs.Splitter.Chunks.{Chunk, columns, is_inked, has_some}
 use Rattle.bpaf_doc.specs.Console.Layout.{Event, Shows, Stretch, Gap, Placed, Passed, Place, chunk_at, event_bytes, stretch_bytes, is_inked_stretch, asks_newline, asks_blank_line, is_raw_event, text_of, HasBlankLine}
 use Rattle.bpaf_doc.specs.declared.console.page.Asked.{Asked}
 use Rattle.bpaf_doc.specs.declared.console.page.Asked.TheVariants.{Nothing, NewLine, BlankLine}
-use Rattle.bpaf_doc.proofs.lemmas.Console.Layout.State.{State, Piece, Lines, none_asked, line_there, line_put, blank_there, second_put, both_put, Pads, Begins, first, stays, wraps, places, drops, Next, raw, break, Grows, placing, breaking, passing, padded, trimmed, has_text, ends_line, ends_blank, passed, at_least_line, Suits}
-use Rattle.bpaf_doc.proofs.lemmas.Console.Layout.Back.{by_cases, EachPlace, each_grows, place_of, lines_back, by_trimmed, same_padded, by_break}
+use Rattle.bpaf_doc.proofs.lemmas.Console.Layout.State.{State, Piece, Lines, none_asked, line_there, line_put, blank_there, second_put, both_put, Pads, Begins, first, stays, wraps, places, drops, Next, raw, break, Grows, placing, breaking, passing, padded, trimmed, has_text, ends_line, ends_blank, passed, at_least_line, sat, Suits}
+use Rattle.bpaf_doc.proofs.lemmas.Console.Layout.Back.{by_cases, EachPlace, each_grows, place_of, lines_back, by_trimmed, same_padded, by_break, by_grows}
 use Rattle.bpaf_doc.proofs.lemmas.Console.Layout.Columns.{Fills, inked_some, fills_begins, no_bytes}
 use Rattle.bpaf_doc.proofs.lemmas.Console.Layout.Text.{EachPassed, NoInk, ink_text, or_true_right, or_false_left, or_false_right}
 use Rattle.bpaf_doc.proofs.lemmas.Console.Layout.Split.{events_back, Cut, AfterPads, cut_padded, ink_at}
@@ -44,42 +44,23 @@ abbrev pub IsFreshAtZero : State → Type 0
 IsFreshAtZero st = is_fresh st.back ≡ true → st.column ≡ 0
 
 pub fresh_grows : {width : ℕ} {st after : State} {next : Next} → Grows width st next after → IsFreshAtZero st → IsFreshAtZero after
-fresh_grows (placing p e (places base n b d a)) h = subst IsFreshAtZero (sym a) (λ o. absurd cc)
-fresh_grows (placing p e (drops t mid l w b a)) h = subst IsFreshAtZero (sym a) (λ o. refl)
-fresh_grows (breaking k chunk e a) h = subst IsFreshAtZero (sym a) (λ o. refl)
-fresh_grows {st = st} (passing event margin e a) h = subst IsFreshAtZero (sym a) (at (by_cases (has_some (event_bytes event)))) where
-  at : (has_some (event_bytes event) ≡ true) ⊎ (has_some (event_bytes event) ≡ false) → IsFreshAtZero (passed event margin st)
-  at (inl s) = λ o. let no : false ≡ true = rw s at o in absurd cc
-  at (inr s) = λ o.
-      let rest : is_fresh st.back ≡ true = rw s at o in
-      let none : length (event_bytes event) ≡ 0 = no_bytes (event_bytes event) s in
-      let here : st.column ≡ 0 = h rest in omega arith
+fresh_grows {st = st} g h = by_grows IsFreshAtZero g (λ p base n e b d o. absurd cc) (λ p mid e l w b o. refl) (λ k chunk e o. refl)
+    (λ event margin e o. at event (by_cases (has_some (event_bytes event))) o) where
+      at : (event : Event) → (has_some (event_bytes event) ≡ true) ⊎ (has_some (event_bytes event) ≡ false) → (if has_some (event_bytes event) then false else is_fresh st.back) ≡ true → sat (st.column + length (event_bytes event)) ≡ 0
+      at event (inl s) o = let no : false ≡ true = rw s at o in absurd cc
+      at event (inr s) o =
+          let none : length (event_bytes event) ≡ 0 = no_bytes (event_bytes event) s in
+          let here : st.column ≡ 0 = h (rw s at o) in omega arith
 
 last_fresh : (r : List Stretch) → EachPlace Fills r → last_raw_inked r ≡ true → ends_line r ≡ true → is_fresh r ≡ true
-last_fresh [] f i h = h
-last_fresh (Gap b ∷ r) f i h = h
 last_fresh (Placed e ∷ r) f i h = let some : has_some e.shown ≡ true = f.0 ∙ inked_some e.bytes i in let no : false ≡ true = rw some at h in absurd cc
-last_fresh (Passed event ∷ r) f i h = at (by_cases (is_raw_event event)) (by_cases (has_some (event_bytes event))) (last_fresh r f) where
-  at : (is_raw_event event ≡ true) ⊎ (is_raw_event event ≡ false) → (has_some (event_bytes event) ≡ true) ⊎ (has_some (event_bytes event) ≡ false)
-      → (last_raw_inked r ≡ true → ends_line r ≡ true → is_fresh r ≡ true) → is_fresh (Passed event ∷ r) ≡ true
-  at (inl x) s ih = let no : false ≡ true = rw x at i in absurd cc
-  at (inr x) (inl s) ih = let no : false ≡ true = rw s at h in absurd cc
-  at (inr x) (inr s) ih = let rest : ends_line r ≡ true = rw s at h in let last : last_raw_inked r ≡ true = rw x at i in rw s (ih last rest)
+last_fresh (Passed event ∷ r) f i h = grind (arith, last_fresh r f)
+last_fresh _ f i h = h
 
 pub owes_fresh : (r : List Stretch) → EachPlace Fills r → owes_blank r ≡ true → ends_line r ≡ true → is_fresh r ≡ true
-owes_fresh [] f o h = h
-owes_fresh (Gap b ∷ r) f o h = h
 owes_fresh (Placed e ∷ r) f o h = absurd cc
-owes_fresh (Passed event ∷ r) f o h = at (by_cases (is_raw_event event)) (by_cases (has_some (event_bytes event))) (by_cases (owes_blank r)) (owes_fresh r f) where
-  at : (is_raw_event event ≡ true) ⊎ (is_raw_event event ≡ false) → (has_some (event_bytes event) ≡ true) ⊎ (has_some (event_bytes event) ≡ false)
-      → (owes_blank r ≡ true) ⊎ (owes_blank r ≡ false) → (owes_blank r ≡ true → ends_line r ≡ true → is_fresh r ≡ true) → is_fresh (Passed event ∷ r) ≡ true
-  at (inl x) s y ih = let no : false ≡ true = rw x at o in absurd cc
-  at (inr x) (inl s) y ih = let no : false ≡ true = rw s at h in absurd cc
-  at (inr x) (inr s) (inl y) ih = let rest : ends_line r ≡ true = rw s at h in rw s (ih y rest)
-  at (inr x) (inr s) (inr y) ih =
-      let last : (asks_blank_line event && last_raw_inked r) ≡ true = grind arith in
-      let rest : ends_line r ≡ true = rw s at h in
-      rw s (last_fresh r f (and_parts (asks_blank_line event) (last_raw_inked r) last).1 rest)
+owes_fresh (Passed event ∷ r) f o h = grind (arith, owes_fresh r f, last_fresh r f)
+owes_fresh _ f o h = h
 
 -- ---- what is owed is asked for
 
@@ -87,27 +68,14 @@ at_least_blank : (a : Asked) → a ≡ BlankLine → at_least_line a ≡ BlankLi
 at_least_blank a h = rw h refl
 
 asked_blank_passed : (event : Event) (margin : ℕ) (st : State) → IsAskedBlank st → IsAskedBlank (passed event margin st)
-asked_blank_passed event margin st h = at (by_cases (is_raw_event event)) (by_cases (asks_blank_line event)) (by_cases (asks_newline event)) where
-  at : (is_raw_event event ≡ true) ⊎ (is_raw_event event ≡ false) → (asks_blank_line event ≡ true) ⊎ (asks_blank_line event ≡ false)
-      → (asks_newline event ≡ true) ⊎ (asks_newline event ≡ false) → IsAskedBlank (passed event margin st)
-  at (inl x) b n = λ o. let no : false ≡ true = rw x at o in absurd cc
-  at (inr x) (inl b) n = λ o. rw b refl
-  at (inr x) (inr b) (inl n) = λ o. let rest : owes_blank st.back ≡ true = rw (x, b) at o in rw (b, n) (at_least_blank st.asked (h rest))
-  at (inr x) (inr b) (inr n) = λ o. let rest : owes_blank st.back ≡ true = rw (x, b) at o in rw (b, n) (h rest)
-
-asked_blank_broken : {margin_of : ℕ → ℕ} (st : State) (next : Next) (k : ℕ) (chunk : Chunk) → Suits margin_of st next → next ≡ break k chunk
-    → (is_raw_event (Shows k chunk) ≡ false) × (asks_blank_line (Shows k chunk) ≡ false)
-asked_blank_broken st next k chunk suits e = by_break (λ c j. (is_raw_event (Shows j c) ≡ false) × (asks_blank_line (Shows j c) ≡ false)) suits e (λ j l m. (refl, refl)) (λ j l m. (refl, refl))
+asked_blank_passed event margin st h = λ o. grind (arith, at_least_blank, h)
 
 pub asked_blank_grows : {width : ℕ} {margin_of : ℕ → ℕ} {st after : State} {next : Next} → Suits margin_of st next
     → Grows width st next after → IsAskedBlank st → IsAskedBlank after
-asked_blank_grows suits (placing p e (places base n b d a)) h = subst IsAskedBlank (sym a) (λ o. absurd cc)
-asked_blank_grows suits (placing p e (drops t mid l w b a)) h = subst IsAskedBlank (sym a) (λ o. absurd cc)
-asked_blank_grows {st = st} {next = next} suits (breaking k chunk e a) h =
-    let plain : (is_raw_event (Shows k chunk) ≡ false) × (asks_blank_line (Shows k chunk) ≡ false) = asked_blank_broken st next k chunk suits e in
-    let r : is_raw_event (Shows k chunk) ≡ false = plain.0 in
-    subst IsAskedBlank (sym a) (λ o. let rest : owes_blank st.back ≡ true = rw r at o in h rest)
-asked_blank_grows {st = st} suits (passing event margin e a) h = subst IsAskedBlank (sym a) (asked_blank_passed event margin st h)
+asked_blank_grows {st = st} suits g h = by_grows IsAskedBlank g (λ p base n e b d o. absurd cc) (λ p mid e l w b o. absurd cc)
+    (λ k chunk e o. let plain : is_raw_event (Shows k chunk) ≡ false = by_break (λ c j. is_raw_event (Shows j c) ≡ false) suits e (λ j l m. refl) (λ j l m. refl) in
+    h (rw plain at o))
+    (λ event margin e. asked_blank_passed event margin st h)
 
 -- ---- the text between
 
@@ -178,25 +146,13 @@ last_between : (m : List Stretch) (e : Place) (before : List Stretch) → HasNoR
 last_between [] e before none i = i
 last_between (Gap b ∷ m) e before none i = last_between m e before none i
 last_between (Placed g ∷ m) e before none i = absurd cc
-last_between (Passed event ∷ m) e before none i =
-    let plain : is_raw_event event ≡ false = or_false_left (is_raw_event event) (list_any is_raw_event (events_back m)) none in
-    rw plain (last_between m e before (or_false_right (is_raw_event event) (list_any is_raw_event (events_back m)) none) i)
+last_between (Passed event ∷ m) e before none i = grind (arith, last_between m e before, or_false_left, or_false_right)
 
 owes_between : (m : List Stretch) (e : Place) (before : List Stretch) → HasNoRaw m → is_inked (chunk_at e) ≡ true → list_any asks_blank_line (events_back m) ≡ true
     → owes_blank (m ++ Placed e ∷ before) ≡ true
-owes_between [] e before none i a = absurd cc
 owes_between (Gap b ∷ m) e before none i a = owes_between m e before none i a
-owes_between (Placed g ∷ m) e before none i a = absurd cc
-owes_between (Passed event ∷ m) e before none i a = at (by_cases (asks_blank_line event)) (owes_between m e before (or_false_right (is_raw_event event) (list_any is_raw_event (events_back m)) none) i) where
-  plain : is_raw_event event ≡ false
-  plain = or_false_left (is_raw_event event) (list_any is_raw_event (events_back m)) none
-
-  at : (asks_blank_line event ≡ true) ⊎ (asks_blank_line event ≡ false) → (list_any asks_blank_line (events_back m) ≡ true → owes_blank (m ++ Placed e ∷ before) ≡ true)
-      → owes_blank (Passed event ∷ (m ++ Placed e ∷ before)) ≡ true
-  at (inl b) ih =
-      let last : last_raw_inked (m ++ Placed e ∷ before) ≡ true = last_between m e before (or_false_right (is_raw_event event) (list_any is_raw_event (events_back m)) none) i in
-      rw (plain, b, last) refl
-  at (inr b) ih = let rest : list_any asks_blank_line (events_back m) ≡ true = rw b at a in rw plain (or_true_right (asks_blank_line event && last_raw_inked (m ++ Placed e ∷ before)) _ (ih rest))
+owes_between (Passed event ∷ m) e before none i a = grind (arith, owes_between m e before, or_false_right, or_false_left, last_between, or_true_right)
+owes_between _ e before none i a = absurd cc
 
 module _ (width : ℕ) where
   abbrev pub HasBlankBefore : List Stretch → Place → Type 0
@@ -231,9 +187,7 @@ module _ (width : ℕ) where
       (λ event r t i ih. at event r t (by_cases (is_raw_event event)) ih) where
         owed : (event : Event) (r t : List Stretch) → Owes r t → ((asks_blank_line event && last_raw_inked t) ≡ true) ⊎ (owes_blank t ≡ true)
             → ((asks_blank_line event && last_raw_inked r) || owes_blank r) ≡ true
-        owed event r t ih (inl last) =
-            let both : (asks_blank_line event ≡ true) × (last_raw_inked t ≡ true) = and_parts (asks_blank_line event) (last_raw_inked t) last in
-            rw (both.0, ih.0 both.1) refl
+        owed event r t ih (inl last) = grind (arith, and_parts)
         owed event r t ih (inr owes) = or_true_right (asks_blank_line event && last_raw_inked r) (owes_blank r) (ih.1 owes)
 
         at : (event : Event) (r t : List Stretch) → (is_raw_event event ≡ true) ⊎ (is_raw_event event ≡ false) → Owes r t → Owes (Passed event ∷ r) (Passed event ∷ t)
@@ -243,9 +197,7 @@ module _ (width : ℕ) where
   blank_begins : {st : State} {p : Piece} {base : State} → EachPlace Fills st.back → EachPassed NoInk st.back → IsAskedBlank st → IsFreshAtZero st
       → Begins width st p base → columns p.bytes ≤ width → (m before : List Stretch) (e : Place) → Cut base.back m e before → is_inked (chunk_at e) ≡ true
       → owes_blank base.back ≡ true → ends_blank base.back ≡ true
-  blank_begins {st = st} f q h z (first t s) c m before e there i o =
-      let ink : list_any is_inked_stretch st.back ≡ true = subst (λ (x : State). list_any is_inked_stretch x.back ≡ true) s (subst (λ x. list_any is_inked_stretch x ≡ true) (sym there) (ink_at m e before i)) in
-      let text : has_text st.back ≡ true = ink_text st.back f q ink in absurd cc
+  blank_begins {st = st} f q h z (first t s) c m before e there i o = grind (arith, ink_at, ink_text)
   blank_begins f q h z (stays t l w) c m before e there i o = lines_blank h (sym (owes_lines l) ∙ o) l
   blank_begins {st = st} f q h z (wraps t mid l w b s) c m before e there i o =
       let kept : owes_blank (trimmed mid.back) ≡ true = subst (λ (x : State). owes_blank x.back ≡ true) s o in

@@ -5,7 +5,7 @@ use Rattle.std.proofs.lemmas.Bool.{cases_lt}
 use Rattle.bpaf_doc.specs.Splitter.Chunks.{columns, has_some}
 use Rattle.bpaf_doc.specs.Console.Layout.{Event, Stretch, event_bytes}
 use Rattle.bpaf_doc.proofs.lemmas.Console.Layout.State.{State, Piece, Lines, Pads, to_margin, after_term, Begins, first, stays, wraps, places, drops, Next, raw, break, mark, Grows, placing, breaking, passing, padded, trimmed}
-use Rattle.bpaf_doc.proofs.lemmas.Console.Layout.Back.{EachPlace, lines_back, begins_back, by_trimmed, by_padded}
+use Rattle.bpaf_doc.proofs.lemmas.Console.Layout.Back.{EachPlace, lines_back, begins_back, by_trimmed, by_padded, by_grows}
 use Rattle.bpaf_doc.proofs.lemmas.Console.Layout.Columns.{Fills, column_back, column_padded, no_text_column, Agrees, agrees_lines, no_bytes}
 use Rattle.bpaf_doc.proofs.lemmas.Console.Layout.Text.{EachPassed, lines_margin}
 
@@ -56,10 +56,8 @@ WritesNone (break k chunk) = ⊤
 WritesNone (mark event margin) = IsBare event
 
 pub bare_grows : {width : ℕ} {st after : State} {next : Next} → WritesNone next → Grows width st next after → EachPassed IsBare st.back → EachPassed IsBare after.back
-bare_grows writes (placing p e (places base n b d a)) h = subst (λ (s : State). EachPassed IsBare s.back) (sym a) (by_padded (EachPassed IsBare) (λ x y. y) n base.back (bare_begins b h))
-bare_grows writes (placing p e (drops t mid l w b a)) h = subst (λ (s : State). EachPassed IsBare s.back) (sym a) (refl, bare_trimmed mid.back (bare_lines l h))
-bare_grows writes (breaking k chunk e a) h = subst (λ (s : State). EachPassed IsBare s.back) (sym a) (refl, h)
-bare_grows writes (passing event margin e a) h = subst (λ (s : State). EachPassed IsBare s.back) (sym a) (subst WritesNone e writes, h)
+bare_grows writes g h = by_grows (λ s. EachPassed IsBare s.back) g (λ p base n e b d. by_padded (EachPassed IsBare) (λ x y. y) n base.back (bare_begins b h))
+    (λ p mid e l w b. (refl, bare_trimmed mid.back (bare_lines l h))) (λ k chunk e. (refl, h)) (λ event margin e. (subst WritesNone e writes, h))
 
 -- the columns of a chunk that comes are at most these
 abbrev pub IsNarrow : ℕ → Next → Type 0
@@ -88,34 +86,18 @@ module _ (width deepest most : ℕ) where
 
   within_put : {st : State} (p : Piece) (base : State) (n : ℕ) → width < 1_000_000 → EachPlace Fills st.back → Agrees st → st.margin ≤ deepest → columns p.bytes ≤ most
       → Begins width st p base → Pads base n → columns p.bytes + (n + column_back base.back) ≤ bound
-  within_put {st} p base n small f h m c (first t e) d =
-      let none : column_back base.back ≡ 0 = subst (λ (s : State). column_back s.back ≡ 0) (sym e) (no_text_column st.back f t) in
-      let in_force : base.margin ≤ deepest = subst (λ (s : State). s.margin ≤ deepest) (sym e) m in
-      let pads : n + column_back base.back ≤ deepest + 2 = within_first n base in_force none d in omega arith
-  within_put {st} p base n small f h m c (stays t l w) d = at (agrees_lines f l h) where
-    in_force : base.margin ≤ deepest
-    in_force = subst (λ (k : ℕ). k ≤ deepest) (sym (lines_margin l).0) m
-
-    at : Agrees base → columns p.bytes + (n + column_back base.back) ≤ bound
-    at (inl x) = elim (within_pads n base in_force x d) [ inl x ↦ omega arith | inr x ↦ omega arith ]
-    at (inr x) = absurd (omega arith)
-  within_put {st} p base n small f h m c (wraps t mid l w b e) d =
-      let none : column_back base.back ≡ 0 = subst (λ (s : State). column_back s.back ≡ 0) (sym e) refl in
-      let in_force : base.margin ≤ deepest = subst (λ (k : ℕ). k ≤ deepest) (sym (ap (λ (s : State). s.margin) e ∙ (lines_margin l).0)) m in
-      let pads : n + column_back base.back ≤ deepest + 2 = within_first n base in_force none d in omega arith
+  within_put {st} p base n small f h m c (first t e) d = grind (arith, no_text_column, within_first)
+  within_put {st} p base n small f h m c (stays t l w) d = grind (arith, agrees_lines, lines_margin, within_pads)
+  within_put {st} p base n small f h m c (wraps t mid l w b e) d = grind (arith, lines_margin, within_first)
 
   pub within_grows : {st after : State} {next : Next} → width < 1_000_000 → EachPlace Fills st.back → EachPassed IsBare st.back → Agrees st → st.margin ≤ deepest
       → WritesNone next → IsNarrow most next → Grows width st next after → EachFront (Within bound) st.back → EachFront (Within bound) after.back
-  within_grows {st} {after} small f q agrees m writes narrow (placing p e (places base n b d a)) h =
+  within_grows {st} small f q agrees m writes narrow g h =
+      let front : column_back st.back ≤ bound = whole_front (Within bound) st.back h in
+      by_grows (λ s. EachFront (Within bound) s.back) g
+      (λ p base n e b d.
       let line : columns p.bytes + (n + column_back base.back) ≤ bound = within_put p base n small f agrees m (subst (λ (x : Next). IsNarrow most x) e narrow) b d in
       let pads : column_back (padded n base.back) ≡ n + column_back base.back = column_padded n base.back in
-      subst (λ (s : State). EachFront (Within bound) s.back) (sym a) (omega arith, within_padded bound n base.back (omega arith) (within_begins q b h))
-  within_grows small f q agrees m writes narrow (placing p e (drops t mid l w b a)) h =
-      subst (λ (s : State). EachFront (Within bound) s.back) (sym a) (omega arith, (omega arith, within_trimmed bound mid.back (bare_lines l q) (within_lines bound l h)))
-  within_grows {st} small f q agrees m writes narrow (breaking k chunk e a) h =
-      let front : column_back st.back ≤ bound = whole_front (Within bound) st.back h in
-      subst (λ (s : State). EachFront (Within bound) s.back) (sym a) (omega arith, (omega arith, h))
-  within_grows {st} small f q agrees m writes narrow (passing event margin e a) h =
-      let none : length (event_bytes event) ≡ 0 = no_bytes (event_bytes event) (subst WritesNone e writes) in
-      let front : column_back st.back ≤ bound = whole_front (Within bound) st.back h in
-      subst (λ (s : State). EachFront (Within bound) s.back) (sym a) (omega arith, h)
+      (omega arith, within_padded bound n base.back (omega arith) (within_begins q b h)))
+      (λ p mid e l w b. (omega arith, (omega arith, within_trimmed bound mid.back (bare_lines l q) (within_lines bound l h)))) (λ k chunk e. (omega arith, (omega arith, h)))
+      (λ event margin e. let none : length (event_bytes event) ≡ 0 = no_bytes (event_bytes event) (subst WritesNone e writes) in (omega arith, h))

@@ -11,20 +11,13 @@ use Rattle.bpaf_doc.specs.Buffer.Parts.{ink}
 use Rattle.bpaf_doc.specs.Splitter.Chunks.{Raw, columns, is_ordinary, IsOrdinary, has_some, code_weight, fence_weight}
 use Rattle.bpaf_doc.specs.Console.Layout.{Stretch, Gap, Placed, Passed, Place, event_bytes, stretch_columns, is_newline}
 use Rattle.bpaf_doc.proofs.lemmas.Console.Layout.State.{State, Piece, Lines, none_asked, line_there, line_put, blank_there, second_put, both_put, Begins, first, stays, wraps, places, drops, Next, Grows, placing, breaking, passing, padded, has_text, ends_line, sat, put, passed, Suits}
-use Rattle.bpaf_doc.proofs.lemmas.Console.Layout.Back.{by_cases, EachPlace, KeepsCut, each_begins, each_grows, fits_of}
+use Rattle.bpaf_doc.proofs.lemmas.Console.Layout.Back.{by_cases, EachPlace, KeepsCut, each_begins, each_grows, fits_of, by_grows}
 
 -- ---- a chunk with ink keeps some bytes when its blank end is cut
 
 pub whole_trim : (cs : List ℕ) → has_some (filter is_not_whitespace cs) ≡ true → 0 < length (drop_trailing_whitespace cs)
 whole_trim [] h = absurd cc
-whole_trim (c ∷ cs) h = at (by_cases (is_whitespace c)) (whole_trim cs) where
-  at : (is_whitespace c ≡ true) ⊎ (is_whitespace c ≡ false) → (has_some (filter is_not_whitespace cs) ≡ true → 0 < length (drop_trailing_whitespace cs))
-      → 0 < length (drop_trailing_whitespace (c ∷ cs))
-  at (inl w) ih =
-      let tail : has_some (filter is_not_whitespace cs) ≡ true = rw w at h in
-      let no : (length (drop_trailing_whitespace cs) == 0) ≡ false = grind (arith, nat_tests) in
-      rw (w, no) (omega arith)
-  at (inr w) ih = rw w (omega arith)
+whole_trim (c ∷ cs) h = grind (arith, nat_tests, whole_trim cs)
 
 some_of_length : (xs : List ℕ) → 0 < length xs → has_some xs ≡ true
 some_of_length [] h = absurd (omega arith)
@@ -86,39 +79,15 @@ no_bytes (x ∷ xs) h = absurd cc
 pub ends_line_column : (r : List Stretch) → EachPlace Fills r → ends_line r ≡ true → column_back r ≡ 0
 ends_line_column [] f h = refl
 ends_line_column (Gap b ∷ r) f h = elim (by_cases (b == 10)) [ inl e ↦ rw e refl | inr e ↦ absurd cc ]
-ends_line_column (Placed e ∷ r) f h = at (by_cases (has_some e.shown)) (ends_line_column r f.1) where
-  at : (has_some e.shown ≡ true) ⊎ (has_some e.shown ≡ false) → (ends_line r ≡ true → column_back r ≡ 0) → column_back (Placed e ∷ r) ≡ 0
-  at (inl s) ih = let no : false ≡ true = rw s at h in absurd cc
-  at (inr s) ih =
-      let rest : ends_line r ≡ true = rw s at h in
-      let none : columns e.bytes ≡ 0 = empty_columns e.bytes (sym f.0 ∙ s) in
-      omega arith
-ends_line_column (Passed event ∷ r) f h = at (by_cases (has_some (event_bytes event))) (ends_line_column r f) where
-  at : (has_some (event_bytes event) ≡ true) ⊎ (has_some (event_bytes event) ≡ false) → (ends_line r ≡ true → column_back r ≡ 0) → column_back (Passed event ∷ r) ≡ 0
-  at (inl s) ih = let no : false ≡ true = rw s at h in absurd cc
-  at (inr s) ih =
-      let rest : ends_line r ≡ true = rw s at h in
-      let none : length (event_bytes event) ≡ 0 = no_bytes (event_bytes event) s in
-      omega arith
+ends_line_column (Placed e ∷ r) f h = grind (arith, ends_line_column r f.1, empty_columns e.bytes, f.0)
+ends_line_column (Passed event ∷ r) f h = grind (arith, ends_line_column r f, no_bytes (event_bytes event))
 
 -- a page without text is at column 0
 pub no_text_column : (r : List Stretch) → EachPlace Fills r → has_text r ≡ false → column_back r ≡ 0
 no_text_column [] f h = refl
 no_text_column (Gap b ∷ r) f h = absurd cc
-no_text_column (Placed e ∷ r) f h = at (by_cases (has_some e.shown)) (no_text_column r f.1) where
-  at : (has_some e.shown ≡ true) ⊎ (has_some e.shown ≡ false) → (has_text r ≡ false → column_back r ≡ 0) → column_back (Placed e ∷ r) ≡ 0
-  at (inl s) ih = let no : true ≡ false = rw s at h in absurd cc
-  at (inr s) ih =
-      let rest : has_text r ≡ false = rw s at h in
-      let none : columns e.bytes ≡ 0 = empty_columns e.bytes (sym f.0 ∙ s) in
-      omega arith
-no_text_column (Passed event ∷ r) f h = at (by_cases (has_some (event_bytes event))) (no_text_column r f) where
-  at : (has_some (event_bytes event) ≡ true) ⊎ (has_some (event_bytes event) ≡ false) → (has_text r ≡ false → column_back r ≡ 0) → column_back (Passed event ∷ r) ≡ 0
-  at (inl s) ih = let no : true ≡ false = rw s at h in absurd cc
-  at (inr s) ih =
-      let rest : has_text r ≡ false = rw s at h in
-      let none : length (event_bytes event) ≡ 0 = no_bytes (event_bytes event) s in
-      omega arith
+no_text_column (Placed e ∷ r) f h = grind (arith, no_text_column r f.1, empty_columns e.bytes, f.0)
+no_text_column (Passed event ∷ r) f h = grind (arith, no_text_column r f, no_bytes (event_bytes event))
 
 -- ---- the column that is kept
 
@@ -155,10 +124,5 @@ agrees_put n p base weighed h = at (by_cases (is_ordinary (Raw p.bytes p.weight)
 
 pub agrees_grows : {width : ℕ} {margin_of : ℕ → ℕ} {st after : State} {next : Next} → Suits margin_of st next → EachPlace Fills st.back
     → Grows width st next after → Agrees st → Agrees after
-agrees_grows suits f (placing p e (places base n b d a)) h = subst Agrees (sym a) (agrees_put n p base (fits_of suits e).weighed (agrees_begins f b h))
-agrees_grows suits f (placing p e (drops t mid l w b a)) h = subst Agrees (sym a) (inl refl)
-agrees_grows suits f (breaking k chunk e a) h = subst Agrees (sym a) (inl refl)
-agrees_grows {st = st} suits f (passing event margin e a) h = subst Agrees (sym a) (at h) where
-  at : Agrees st → Agrees (passed event margin st)
-  at (inl c) = sat_agrees (st.column + length (event_bytes event)) (length (event_bytes event) + column_back st.back) (omega arith)
-  at (inr c) = inr (omega arith)
+agrees_grows {st = st} suits f g h = by_grows Agrees g (λ p base n e b d. agrees_put n p base (fits_of suits e).weighed (agrees_begins f b h)) (λ p mid e l w b. inl refl) (λ k chunk e. inl refl)
+    (λ event margin e. elim h [ inl c ↦ sat_agrees (st.column + length (event_bytes event)) (length (event_bytes event) + column_back st.back) (omega arith) | inr c ↦ inr (omega arith) ])

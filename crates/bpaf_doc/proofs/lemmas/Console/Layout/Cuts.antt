@@ -5,7 +5,7 @@ use Rattle.std.proofs.Common.{sym, subst, inl, inr, ◌∙◌, arith}
 use Rattle.bpaf_doc.specs.Splitter.Chunks.{has_some}
 use Rattle.bpaf_doc.specs.Console.Layout.{Stretch, Gap, Placed, Passed, event_bytes}
 use Rattle.bpaf_doc.proofs.lemmas.Console.Layout.State.{State, Piece, Lines, Begins, first, stays, wraps, places, drops, Next, Grows, placing, breaking, passing, padded, trimmed, wrapped}
-use Rattle.bpaf_doc.proofs.lemmas.Console.Layout.Back.{by_cases, EachPlace, each_lines, lines_back, by_trimmed, by_padded}
+use Rattle.bpaf_doc.proofs.lemmas.Console.Layout.Back.{by_cases, EachPlace, each_lines, lines_back, by_trimmed, by_padded, by_grows}
 use Rattle.bpaf_doc.proofs.lemmas.Console.Layout.Columns.{Fills, inked_trim, inked_some}
 
 -- what may stand where the text after it begins with a newline, or where nothing is known of it
@@ -17,8 +17,6 @@ MayEnd line (Passed event ∷ r) = MayEnd (if has_some (event_bytes event) then 
 
 -- nothing is known is less than a newline
 pub may_end_line : (r : List Stretch) → MayEnd false r → MayEnd true r
-may_end_line [] h = h
-may_end_line (Gap b ∷ r) h = h
 may_end_line (Placed e ∷ r) h = ((elim h.0 [ inl x ↦ inl x | inr x ↦ inr (x.0, refl) ]), at (by_cases (has_some e.shown)) (may_end_line r)) where
   at : (has_some e.shown ≡ true) ⊎ (has_some e.shown ≡ false) → (MayEnd false r → MayEnd true r) → MayEnd (if has_some e.shown then false else true) r
   at (inl s) ih = let rest : MayEnd false r = rw s at h.1 in rw s rest
@@ -27,6 +25,7 @@ may_end_line (Passed event ∷ r) h = at (by_cases (has_some (event_bytes event)
   at : (has_some (event_bytes event) ≡ true) ⊎ (has_some (event_bytes event) ≡ false) → (MayEnd false r → MayEnd true r) → MayEnd (if has_some (event_bytes event) then false else true) r
   at (inl s) ih = let rest : MayEnd false r = rw s at h in rw s rest
   at (inr s) ih = let rest : MayEnd false r = rw s at h in rw s (ih rest)
+may_end_line _ h = h
 
 same_false : (b : Bool) → (if b then false else false) ≡ false
 same_false b = grind arith
@@ -56,9 +55,7 @@ whole_begins f (stays t l w) h = whole_lines l h
 whole_begins f (wraps t mid l w b e) h = subst IsWhole (sym e) (whole_wrapped mid (each_lines Fills l f) (whole_lines l h))
 
 pub whole_grows : {width : ℕ} {st after : State} {next : Next} → EachPlace Fills st.back → Grows width st next after → IsWhole st → IsWhole after
-whole_grows f (placing p e (places base n b d a)) h =
-    subst IsWhole (sym a) (inl refl, subst (λ (x : Bool). MayEnd x (padded n base.back)) (sym (same_false (has_some p.bytes))) (by_padded (MayEnd false) (λ x y. (inl refl, y)) n base.back (whole_begins f b h)))
-whole_grows f (placing p e (drops t mid l w b a)) h = subst IsWhole (sym a) (whole_wrapped mid (each_lines Fills l f) (whole_lines l h))
-whole_grows {st = st} f (breaking k chunk e a) h = subst IsWhole (sym a) (inr refl, may_end_line st.back h)
-whole_grows {st = st} f (passing event margin e a) h =
-    subst IsWhole (sym a) (subst (λ (x : Bool). MayEnd x st.back) (sym (same_false (has_some (event_bytes event)))) h)
+whole_grows {st = st} f g h = by_grows IsWhole g
+    (λ p base n e b d. (inl refl, subst (λ (x : Bool). MayEnd x (padded n base.back)) (sym (same_false (has_some p.bytes))) (by_padded (MayEnd false) (λ x y. (inl refl, y)) n base.back (whole_begins f b h))))
+    (λ p mid e l w b. whole_wrapped mid (each_lines Fills l f) (whole_lines l h)) (λ k chunk e. (inr refl, may_end_line st.back h))
+    (λ event margin e. subst (λ (x : Bool). MayEnd x st.back) (sym (same_false (has_some (event_bytes event)))) h)

@@ -5,7 +5,7 @@ use Rattle.std.proofs.Common.{sym, subst, ap, arith, inl, inr, ◌∙◌}
 use Rattle.bpaf_doc.specs.Splitter.Chunks.{Chunk, Raw, is_inked}
 use Rattle.bpaf_doc.specs.Console.Layout.{Event, Shows, Stretch, Gap, Placed, Passed, Place, chunk_at, is_inked_stretch, is_inked_event, is_raw_event}
 use Rattle.bpaf_doc.proofs.lemmas.Console.Layout.State.{State, Piece, Lines, Pads, to_margin, after_term, Begins, first, stays, wraps, places, drops, Next, raw, break, Grows, placing, breaking, passing, padded, trimmed, sat, wrapped, put, passed, dropped, Suits}
-use Rattle.bpaf_doc.proofs.lemmas.Console.Layout.Back.{by_cases, EachPlace, each_grows, each_begins, each_trimmed, each_lines, place_of, fits_of, by_lines, by_padded, same_padded, by_mark, by_break}
+use Rattle.bpaf_doc.proofs.lemmas.Console.Layout.Back.{by_cases, EachPlace, each_grows, each_begins, each_trimmed, each_lines, place_of, fits_of, by_lines, by_padded, same_padded, by_mark, by_break, by_grows}
 use Rattle.bpaf_doc.proofs.lemmas.Console.Layout.Text.{or_false_right, begins_margin, lines_margin, no_ink_blank}
 use Rattle.bpaf_doc.proofs.lemmas.Console.Layout.Split.{Cut, FirstOrLater, here, later, cut_cons, AfterGap, cut_gap, AfterPassed, cut_passed, AfterPads, cut_padded, has_newline, inked_line, inked_since}
 
@@ -16,9 +16,8 @@ NotAfter latest r f = f.part ≤ latest
 
 each_later : (a b : ℕ) → a ≤ b → (r : List Stretch) → EachPlace (NotAfter a) r → EachPlace (NotAfter b) r
 each_later a b l [] h = h
-each_later a b l (Gap c ∷ r) h = each_later a b l r h
-each_later a b l (Passed event ∷ r) h = each_later a b l r h
 each_later a b l (Placed e ∷ r) h = (omega arith, each_later a b l r h.1)
+each_later a b l (_ ∷ r) h = each_later a b l r h
 
 abbrev pub InOrder : State → Type 0
 InOrder st = EachPlace (NotAfter st.latest) st.back
@@ -27,12 +26,10 @@ broken_order : {margin_of : ℕ → ℕ} (st : State) (next : Next) (k : ℕ) (c
 broken_order st next k chunk suits e = by_break (λ c j. st.latest ≤ j) suits e (λ j l m. l) (λ j l m. l)
 
 pub order_grows : {width : ℕ} {margin_of : ℕ → ℕ} {st after : State} {next : Next} → Suits margin_of st next → Grows width st next after → InOrder st → InOrder after
-order_grows {st = st} suits (placing p e (places base n b d a)) h = subst InOrder (sym a)
-    (omega arith, by_padded (EachPlace (NotAfter p.part)) (λ x y. y) n base.back (each_begins (NotAfter p.part) (λ r f i x. x) b (each_later st.latest p.part (fits_of suits e).order st.back h)))
-order_grows {st = st} suits (placing p e (drops t mid l w b a)) h = subst InOrder (sym a)
-    (each_trimmed (NotAfter p.part) (λ r f i x. x) mid.back (each_lines (NotAfter p.part) l (each_later st.latest p.part (fits_of suits e).order st.back h)))
-order_grows {st = st} {next = next} suits (breaking k chunk e a) h = subst InOrder (sym a) (each_later st.latest k (broken_order st next k chunk suits e) st.back h)
-order_grows suits (passing event margin e a) h = subst InOrder (sym a) h
+order_grows {st = st} {next = next} suits g h = by_grows InOrder g
+    (λ p base n e b d. (omega arith, by_padded (EachPlace (NotAfter p.part)) (λ x y. y) n base.back (each_begins (NotAfter p.part) (λ r f i x. x) b (each_later st.latest p.part (fits_of suits e).order st.back h))))
+    (λ p mid e l w b. each_trimmed (NotAfter p.part) (λ r f i x. x) mid.back (each_lines (NotAfter p.part) l (each_later st.latest p.part (fits_of suits e).order st.back h)))
+    (λ k chunk e. each_later st.latest k (broken_order st next k chunk suits e) st.back h) (λ event margin e. h)
 
 -- ---- where a chunk was placed last, its margin is reached
 
@@ -47,30 +44,23 @@ abbrev pub IsSmall : State → Type 0
 IsSmall st = st.margin ≤ 18446744073709551615
 
 pub small_grows : {width : ℕ} {margin_of : ℕ → ℕ} {st after : State} {next : Next} → Suits margin_of st next → Grows width st next after → IsSmall st → IsSmall after
-small_grows suits (placing p e (places base n b d a)) h = subst IsSmall (sym a) (subst (λ (m : ℕ). m ≤ 18446744073709551615) (sym (begins_margin b).0) h)
-small_grows suits (placing p e (drops t mid l w b a)) h = subst IsSmall (sym a) (subst (λ (m : ℕ). m ≤ 18446744073709551615) (sym (lines_margin l).0) h)
-small_grows suits (breaking k chunk e a) h = subst IsSmall (sym a) h
-small_grows suits (passing event margin e a) h = subst IsSmall (sym a) (by_mark (λ x m. m ≤ 18446744073709551615) suits e (λ b m l u. u) (λ b m l u. u))
+small_grows suits g h = by_grows IsSmall g (λ p base n e b d. subst (λ (m : ℕ). m ≤ 18446744073709551615) (sym (begins_margin b).0) h)
+    (λ p mid e l w b. subst (λ (m : ℕ). m ≤ 18446744073709551615) (sym (lines_margin l).0) h) (λ k chunk e. h)
+    (λ event margin e. by_mark (λ x m. m ≤ 18446744073709551615) suits e (λ b m l u. u) (λ b m l u. u))
 
 settled_put : (n : ℕ) (p : Piece) (base : State) → IsSmall base → Pads base n → base.margin ≤ sat (base.column + n + p.weight)
 settled_put n p base small (to_margin e) = omega arith
 settled_put n p base small (after_term t wide few e) = omega arith
 
 pub settled_grows : {width : ℕ} {st after : State} {next : Next} → IsSmall st → Grows width st next after → IsSettled st → IsSettled after
-settled_grows {st = st} small (placing p e (places base n b d a)) h =
-    let here : base.margin ≤ 18446744073709551615 = subst (λ (m : ℕ). m ≤ 18446744073709551615) (sym (begins_margin b).0) small in
-    subst IsSettled (sym a) (λ o. (settled_put n p base here d, refl))
-settled_grows small (placing p e (drops t mid l w b a)) h = subst IsSettled (sym a) (λ o. absurd cc)
-settled_grows small (breaking k chunk e a) h = subst IsSettled (sym a) (λ o. absurd cc)
-settled_grows small (passing event margin e a) h = subst IsSettled (sym a) (λ o. absurd cc)
+settled_grows small g h = by_grows IsSettled g
+    (λ p base n e b d o. (settled_put n p base (subst (λ (m : ℕ). m ≤ 18446744073709551615) (sym (begins_margin b).0) small) d, refl))
+    (λ p mid e l w b o. absurd cc) (λ k chunk e o. absurd cc) (λ event margin e o. absurd cc)
 
 pub unsettled_grows : {width : ℕ} {st after : State} {next : Next} → Grows width st next after → IsUnsettled st → IsUnsettled after
-unsettled_grows (placing p e (places base n b d a)) h = subst IsUnsettled (sym a) (λ o. absurd cc)
-unsettled_grows {width} {st} {after} {next} (placing p e (drops t mid l w b a)) h = subst IsUnsettled (sym a) (λ o. inl (plain (no_ink_blank p.part p.weight p.bytes b))) where
-  plain : is_inked_event (Shows p.part (Raw p.bytes p.weight)) ≡ false → inked_line (dropped p.part p.bytes p.weight (wrapped mid)).back ≡ false
-  plain i = rw i refl
-unsettled_grows (breaking k chunk e a) h = subst IsUnsettled (sym a) (λ o. inl refl)
-unsettled_grows (passing event margin e a) h = subst IsUnsettled (sym a) (λ o. inr refl)
+unsettled_grows g h = by_grows IsUnsettled g (λ p base n e b d o. absurd cc)
+    (λ p mid e l w b o. let plain : is_inked_event (Shows p.part (Raw p.bytes p.weight)) ≡ false = no_ink_blank p.part p.weight p.bytes b in inl (rw plain refl))
+    (λ k chunk e o. inl refl) (λ event margin e o. inr refl)
 
 -- ---- what stands since the last inked chunk of the line
 
@@ -84,8 +74,7 @@ AllKept may_add (Passed event ∷ m) = (is_raw_event event ≡ false) × AllKept
 kept_weaker : {A B : Type 0} → (A → B) → (m : List Stretch) → AllKept A m → AllKept B m
 kept_weaker f [] h = h
 kept_weaker f (Gap b ∷ m) h = (f h.0, kept_weaker f m h.1)
-kept_weaker f (Placed e ∷ m) h = (h.0, kept_weaker f m h.1)
-kept_weaker f (Passed event ∷ m) h = (h.0, kept_weaker f m h.1)
+kept_weaker f (_ ∷ m) h = (h.0, kept_weaker f m h.1)
 
 kept_padded : {A : Type 0} (n : ℕ) (m : List Stretch) → A → AllKept A m → AllKept A (padded n m)
 kept_padded zero m a h = h
@@ -100,9 +89,8 @@ IsKeptSince st = (m before : List Stretch) (e : Place) → IsNeighbour st.back m
 
 part_before : (latest : ℕ) (m : List Stretch) (e : Place) (before : List Stretch) → EachPlace (NotAfter latest) (m ++ Placed e ∷ before) → e.part ≤ latest
 part_before latest [] e before h = h.0
-part_before latest (Gap b ∷ m) e before h = part_before latest m e before h
 part_before latest (Placed g ∷ m) e before h = part_before latest m e before h.1
-part_before latest (Passed event ∷ m) e before h = part_before latest m e before h
+part_before latest (_ ∷ m) e before h = part_before latest m e before h
 
 -- no blank is added where a chunk was placed last
 no_pads : (st : State) (n : ℕ) → IsSettled st → st.settled ≡ true → Pads st n → n ≡ 0
@@ -134,8 +122,7 @@ kept_same st k n settled unsettled order h o moved d m before e there =
       earlier = part_before st.latest found.rest e before (subst (λ x. EachPlace (NotAfter st.latest) x) found.there order)
 
       strict : (inked_line st.back ≡ false) ⊎ (st.marked ≡ true) → e.part < k
-      strict (inl i) =
-          let some : inked_line st.back ≡ true = subst (λ x. inked_line x ≡ true) (sym found.there) (inked_since found.rest e before near.1 near.3) in absurd cc
+      strict (inl i) = grind (arith, found, inked_since, near)
       strict (inr t) = let l : st.latest < k = moved t in let p : e.part ≤ st.latest = earlier in omega arith
 
       at : (st.settled ≡ true) ⊎ (st.settled ≡ false) → (e.shown ≡ e.bytes) × AllKept (e.part < k) m

@@ -5,7 +5,7 @@ use Rattle.std.proofs.lemmas.List.{reverse-append}
 use Rattle.bpaf_doc.specs.Splitter.Chunks.{columns, has_some}
 use Rattle.bpaf_doc.specs.Console.Layout.{Event, Shows, Opens, Closes, Stretch, Gap, Placed, Passed, Place, event_bytes, is_newline, is_placed, is_gap, is_ref, holds_line, leads_to_place, opens_body}
 use Rattle.bpaf_doc.proofs.lemmas.Console.Layout.State.{State, Piece, Lines, Pads, to_margin, after_term, Begins, first, stays, wraps, places, drops, Next, raw, Grows, placing, breaking, passing, padded, trimmed, passed, closes_body, has_text, Suits}
-use Rattle.bpaf_doc.proofs.lemmas.Console.Layout.Back.{by_cases, EachPlace, KeepsCut, each_grows, place_of, fits_of, by_lines, lines_back, begins_back, by_trimmed, by_padded, same_padded}
+use Rattle.bpaf_doc.proofs.lemmas.Console.Layout.Back.{by_cases, EachPlace, KeepsCut, each_grows, place_of, fits_of, by_lines, lines_back, begins_back, by_trimmed, by_padded, same_padded, by_grows}
 use Rattle.bpaf_doc.proofs.lemmas.Console.Layout.Columns.{Fills, column_back, column_padded, Agrees, any_in_line}
 use Rattle.bpaf_doc.proofs.lemmas.Console.Layout.Text.{IsStarting, has_place, begins_column, begins_margin, or_true_right, or_false_left, or_false_right}
 
@@ -34,10 +34,7 @@ pub pads_begins : {width : ℕ} {st : State} {p : Piece} {base : State} → Begi
 pads_begins b h = begins_back (λ r. pads_back r ≡ 0) (λ r x. refl) (λ r x. refl) b h
 
 pub no_pads_grows : {width : ℕ} {st after : State} {next : Next} → Grows width st next after → HasNoPads st → HasNoPads after
-no_pads_grows (placing p e (places base n b d a)) h = subst HasNoPads (sym a) refl
-no_pads_grows (placing p e (drops t mid l w b a)) h = subst HasNoPads (sym a) refl
-no_pads_grows (breaking k chunk e a) h = subst HasNoPads (sym a) refl
-no_pads_grows (passing event margin e a) h = subst HasNoPads (sym a) (omega arith)
+no_pads_grows g h = by_grows HasNoPads g (λ p base n e b d. refl) (λ p mid e l w b. refl) (λ k chunk e. refl) (λ event margin e. omega arith)
 
 -- ---- chunks that fit
 
@@ -47,18 +44,13 @@ holds_back r = any_in_line holds_line r
 
 no_ref : (event : Event) → has_some (event_bytes event) ≡ false → is_ref event ≡ false
 no_ref (Shows k chunk) h = refl
-no_ref (Opens b) h = grind arith
-no_ref (Closes b) h = grind arith
+no_ref _ h = grind arith
 
 -- on a page without text and without places stands nothing
 no_text_holds : (r : List Stretch) → has_text r ≡ false → has_place r ≡ false → holds_back r ≡ false
 no_text_holds [] t p = refl
-no_text_holds (Gap b ∷ r) t p = absurd cc
-no_text_holds (Placed e ∷ r) t p = absurd cc
-no_text_holds (Passed event ∷ r) t p =
-    let bare : is_ref event ≡ false = no_ref event (or_false_left (has_some (event_bytes event)) (has_text r) t) in
-    let rest : holds_back r ≡ false = no_text_holds r (or_false_right (has_some (event_bytes event)) (has_text r) t) p in
-    rw bare rest
+no_text_holds (Passed event ∷ r) t p = grind (arith, no_text_holds r, no_ref, or_false_left, or_false_right)
+no_text_holds (_ ∷ r) t p = absurd cc
 
 module _ (width : ℕ) where
   -- behind a place or a backquote, a chunk fits but for the blanks before it
@@ -94,13 +86,11 @@ Leads place (Placed e ∷ r) = Leads true r
 Leads place (Passed event ∷ r) = Leads false r
 
 leads_more : (r : List Stretch) → Leads false r → Leads true r
-leads_more [] h = h
 leads_more (Gap b ∷ r) h = (λ t. refl, at (by_cases (b == 32))) where
   at : ((b == 32) ≡ true) ⊎ ((b == 32) ≡ false) → Leads ((b == 32) && true) r
   at (inl t) = let no : false ≡ true = h.0 t in absurd cc
   at (inr t) = let rest : Leads false r = rw t at h.1 in rw t rest
-leads_more (Placed e ∷ r) h = h
-leads_more (Passed event ∷ r) h = h
+leads_more _ h = h
 
 leads_trimmed : (r : List Stretch) (place : Bool) → Leads place r → Leads false (trimmed r)
 leads_trimmed = by_trimmed (λ r t. (place : Bool) → Leads place r → Leads false t) (λ place h. h) (λ b r t ih place h. ih ((b == 32) && place) h.1) (λ e r i place h. h)
@@ -119,10 +109,8 @@ led_begins : {width : ℕ} {st : State} {p : Piece} {base : State} → Begins wi
 led_begins b h = begins_back (Leads false) leads_newline (λ r x. leads_newline (trimmed r) (leads_trimmed r false x)) b h
 
 pub led_grows : {width : ℕ} {st after : State} {next : Next} → Grows width st next after → IsLed st → IsLed after
-led_grows (placing p e (places base n b d a)) h = subst IsLed (sym a) (by_padded (Leads true) (λ x y. ((λ t. refl), y)) n base.back (leads_more base.back (led_begins b h)))
-led_grows (placing p e (drops t mid l w b a)) h = subst IsLed (sym a) (leads_newline (trimmed mid.back) (leads_trimmed mid.back false (led_lines l h)))
-led_grows {st = st} (breaking k chunk e a) h = subst IsLed (sym a) (leads_newline (Passed (Shows k chunk) ∷ st.back) h)
-led_grows (passing event margin e a) h = subst IsLed (sym a) h
+led_grows {st = st} g h = by_grows IsLed g (λ p base n e b d. by_padded (Leads true) (λ x y. ((λ t. refl), y)) n base.back (leads_more base.back (led_begins b h)))
+    (λ p mid e l w b. leads_newline (trimmed mid.back) (leads_trimmed mid.back false (led_lines l h))) (λ k chunk e. leads_newline (Passed (Shows k chunk) ∷ st.back) h) (λ event margin e. h)
 
 -- a blank of the page leads to a place
 pub leads_at : (place : Bool) (m r rest : List Stretch) → Leads place (m ++ Gap 32 ∷ r) → (place ≡ true → leads_to_place rest ≡ true) → leads_to_place (reverse m ++ rest) ≡ true
@@ -158,14 +146,7 @@ pending_begins (stays t l w) h = pending_lines l h
 pending_begins (wraps t mid l w b e) h = subst IsPending (sym e) (λ t. body_trimmed mid.back (pending_lines l h t))
 
 pub pending_grows : {width : ℕ} {st after : State} {next : Next} → Grows width st next after → IsPending st → IsPending after
-pending_grows (placing p e (places base n b d a)) h = subst IsPending (sym a) (λ t. absurd cc)
-pending_grows (placing p e (drops t mid l w b a)) h = subst IsPending (sym a) (λ t. body_trimmed mid.back (pending_lines l h t))
-pending_grows {st = st} (breaking k chunk e a) h = subst IsPending (sym a) (λ t. h t)
-pending_grows {st = st} (passing event margin e a) h = subst IsPending (sym a) (at (by_cases (opens_body event)) (by_cases (closes_body event))) where
-  at : (opens_body event ≡ true) ⊎ (opens_body event ≡ false) → (closes_body event ≡ true) ⊎ (closes_body event ≡ false) → IsPending (passed event margin st)
-  at (inl o) c = λ t. rw o refl
-  at (inr o) (inl c) = λ t. let no : false ≡ true = rw (o, c) at t in absurd cc
-  at (inr o) (inr c) = λ t. let same : st.pending ≡ true = rw (o, c) at t in or_true_right (opens_body event) (body_back st.back) (h same)
+pending_grows g h = by_grows IsPending g (λ p base n e b d t. absurd cc) (λ p mid e l w b t. body_trimmed mid.back (pending_lines l h t)) (λ k chunk e t. h t) (λ event margin e t. grind (arith, h))
 
 module _ (margin_of : ℕ → ℕ) where
   -- blanks before a chunk end at the margin, or are two after the start of an ItemBody

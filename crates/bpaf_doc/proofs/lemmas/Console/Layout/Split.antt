@@ -34,8 +34,7 @@ events_begins {st = st} b = begins_back (λ r. events_back r ≡ events_back st.
 pub events_grows : {width : ℕ} {st after : State} {next : Next} → Grows width st next after → events_back after.back ≡ next_event next ∷ events_back st.back
 events_grows {st = st} (placing p e (places base n b d a)) =
     ap (λ (s : State). events_back s.back) a ∙ ap (λ es. Shows p.part (Raw p.bytes p.weight) ∷ es) (same_padded events_back (λ x. refl) n base.back ∙ events_begins b) ∙ ap (λ (x : Next). next_event x ∷ events_back st.back) (sym e)
-events_grows {st = st} (placing p e (drops t mid l w b a)) =
-    ap (λ (s : State). events_back s.back) a ∙ ap (λ es. Shows p.part (Raw p.bytes p.weight) ∷ es) (events_trimmed mid.back ∙ events_lines l) ∙ ap (λ (x : Next). next_event x ∷ events_back st.back) (sym e)
+events_grows {st = st} (placing p e (drops t mid l w b a)) = grind (arith, events_trimmed, events_lines)
 events_grows {st = st} (breaking k chunk e a) = ap (λ (s : State). events_back s.back) a ∙ ap (λ (x : Next). next_event x ∷ events_back st.back) (sym e)
 events_grows {st = st} (passing event level e a) = ap (λ (s : State). events_back s.back) a ∙ ap (λ (x : Next). next_event x ∷ events_back st.back) (sym e)
 
@@ -193,16 +192,11 @@ inked_line r = any_in_line is_inked_stretch r
 -- without a newline since an inked place, its line has ink
 pub inked_since : (m : List Stretch) (e : Place) (before : List Stretch) → is_inked (chunk_at e) ≡ true → has_newline m ≡ false → inked_line (m ++ Placed e ∷ before) ≡ true
 inked_since [] e before i n = rw i refl
-inked_since (x ∷ m) e before i n =
-    let first : is_newline x ≡ false = (or_parts (is_newline x) (has_newline m) n).0 in
-    let ih : inked_line (m ++ Placed e ∷ before) ≡ true = inked_since m e before i (or_parts (is_newline x) (has_newline m) n).1 in
-    rw first (grind arith)
+inked_since (x ∷ m) e before i n = grind (arith, inked_since m e before i, or_parts)
 
 -- ---- the page where a chunk begins
 
 -- a place with ink is ink
 pub ink_at : (m : List Stretch) (e : Place) (before : List Stretch) → is_inked (chunk_at e) ≡ true → list_any is_inked_stretch (m ++ Placed e ∷ before) ≡ true
 ink_at [] e before i = rw i refl
-ink_at (x ∷ m) e before i = or_true (is_inked_stretch x) (ink_at m e before i) where
-  or_true : (a : Bool) → list_any is_inked_stretch (m ++ Placed e ∷ before) ≡ true → (a || list_any is_inked_stretch (m ++ Placed e ∷ before)) ≡ true
-  or_true a t = grind arith
+ink_at (x ∷ m) e before i = grind (arith, ink_at m e before i)

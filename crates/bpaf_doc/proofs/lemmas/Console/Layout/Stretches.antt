@@ -23,10 +23,7 @@ use Rattle.bpaf_doc.proofs.lemmas.Console.Layout.Blank.{text_back, text_back_con
 -- the characters without the white space at their end
 white : (ds : List ℕ) → has_some (filter is_not_whitespace ds) ≡ false → drop_trailing_whitespace ds ≡ []
 white [] h = refl
-white (d ∷ ds) h = at (by_cases (is_whitespace d)) (white ds) where
-  at : (is_whitespace d ≡ true) ⊎ (is_whitespace d ≡ false) → (has_some (filter is_not_whitespace ds) ≡ false → drop_trailing_whitespace ds ≡ []) → drop_trailing_whitespace (d ∷ ds) ≡ []
-  at (inl w) ih = let rest : has_some (filter is_not_whitespace ds) ≡ false = rw w at h in let none : drop_trailing_whitespace ds ≡ [] = ih rest in rw (none, w) refl
-  at (inr w) ih = let no : true ≡ false = rw w at h in absurd cc
+white (d ∷ ds) h = grind (arith, white ds)
 
 dropped_white : (cs ds : List ℕ) → has_some (filter is_not_whitespace ds) ≡ false → drop_trailing_whitespace (cs ++ ds) ≡ drop_trailing_whitespace cs
 dropped_white [] ds h = white ds h
@@ -48,14 +45,11 @@ dropped_some (c ∷ cs) ds h =
 
 pub trim_white : (front back : List ℕ) → IsUtf8 front → has_some (ink back) ≡ false → trim_end (front ++ back) ≡ trim_end front
 unfolding trim_end
-trim_white front back u h =
-    ap (λ cs. encode_utf8_all (drop_trailing_whitespace cs)) (chars-append front back u) ∙ ap encode_utf8_all (dropped_white (chars front) (chars back) h)
+trim_white front back u h = grind (arith, chars-append, dropped_white)
 
 pub trim_some : (front back : List ℕ) → IsUtf8 front → has_some (ink back) ≡ true → trim_end (front ++ back) ≡ front ++ trim_end back
 unfolding trim_end
-trim_some front back u h =
-    ap (λ cs. encode_utf8_all (drop_trailing_whitespace cs)) (chars-append front back u) ∙ ap encode_utf8_all (dropped_some (chars front) (chars back) h)
-    ∙ encodes-append (chars front) (drop_trailing_whitespace (chars back)) ∙ ap (λ bs. bs ++ encode_utf8_all (drop_trailing_whitespace (chars back))) (encodes-chars front u)
+trim_some front back u h = grind (arith, chars-append, dropped_some, encodes-append, encodes-chars)
 
 -- what is dropped is a front
 kept_front : (cs : List ℕ) → (rest : List ℕ) × (cs ≡ drop_trailing_whitespace cs ++ rest)
@@ -72,9 +66,7 @@ twice_chars (c ∷ cs) = elim (by_cases (is_whitespace c && (length (drop_traili
 
 scalars_front : (cs ds : List ℕ) → scalars (cs ++ ds) ≡ true → scalars cs ≡ true
 scalars_front [] ds h = refl
-scalars_front (c ∷ cs) ds h = both (scalar c) h (scalars_front cs ds) where
-  both : (t : Bool) → (t && scalars (cs ++ ds)) ≡ true → (scalars (cs ++ ds) ≡ true → scalars cs ≡ true) → (t && scalars cs) ≡ true
-  both t h ih = grind arith
+scalars_front (c ∷ cs) ds h = grind (arith, scalars_front cs ds, scalar, scalars)
 
 kept_scalars : (text : List ℕ) → IsUtf8 text → scalars (drop_trailing_whitespace (chars text)) ≡ true
 kept_scalars text u =
@@ -88,8 +80,7 @@ trim_utf8 text u = (drop_trailing_whitespace (chars text), (kept_scalars text u,
 
 pub trim_twice : (text : List ℕ) → IsUtf8 text → trim_end (trim_end text) ≡ trim_end text
 unfolding trim_end
-trim_twice text u =
-    ap (λ cs. encode_utf8_all (drop_trailing_whitespace cs)) (chars-encodes (drop_trailing_whitespace (chars text)) (kept_scalars text u)) ∙ ap encode_utf8_all (twice_chars (chars text))
+trim_twice text u = grind (arith, chars-encodes, kept_scalars, twice_chars)
 
 -- a text without its blank end begins the text
 pub trim_front : (text : List ℕ) → IsUtf8 text → (rest : List ℕ) × (text ≡ trim_end text ++ rest)
@@ -146,9 +137,7 @@ snoc_some (x ∷ xs) ys h = λ none. absurd cc
 -- a page without bytes has an empty text, and only such a page
 pub no_text : (r : List Stretch) → has_text r ≡ false → text_back r ≡ []
 no_text [] h = refl
-no_text (x ∷ r) h =
-    let none : stretch_bytes x ≡ [] = some_none (stretch_bytes x) (or_parts (has_some (stretch_bytes x)) (has_text r) h).0 in
-    text_back_cons x r ∙ ap (λ t. t ++ stretch_bytes x) (no_text r (or_parts (has_some (stretch_bytes x)) (has_text r) h).1) ∙ none
+no_text (x ∷ r) h = grind (arith, no_text r, some_none, or_parts, text_back_cons)
 
 pub some_text : (r : List Stretch) → has_text r ≡ true → text_back r ≢ []
 some_text [] h = λ e. absurd cc
@@ -182,8 +171,7 @@ shown_line e u l (inr s) = subst IsLine (sym s) (trim_line e.bytes u l)
 
 event_line : (event : Event) → IsLine (event_bytes event)
 event_line (Shows k chunk) = refl
-event_line (Opens b) = grind arith
-event_line (Closes b) = grind arith
+event_line _ = grind arith
 
 ends_in : (r : List Stretch) (x : Stretch) (front : List ℕ) → has_some (stretch_bytes x) ≡ true → text_back (x ∷ r) ≡ front ++ 10 ∷ [] → (back : List ℕ) × (stretch_bytes x ≡ back ++ 10 ∷ [])
 ends_in r x front s e =
@@ -216,11 +204,7 @@ text_ends_line (Passed event ∷ r) front h e = at (by_cases (has_some (event_by
 
 pub text_ends_blank : (r : List Stretch) (front : List ℕ) → IsLegible r → text_back r ≡ (front ++ 10 ∷ []) ++ 10 ∷ [] → ends_blank r ≡ true
 text_ends_blank [] front h e = absurd (snoc_some (front ++ 10 ∷ []) (10 ∷ []) refl (sym e))
-text_ends_blank (Gap b ∷ r) front h e =
-    let whole : text_back r ++ b ∷ [] ≡ (front ++ 10 ∷ []) ++ 10 ∷ [] = sym (text_back_cons (Gap b) r) ∙ e in
-    let ten : b ≡ 10 = (same_from_push (text_back r) (front ++ 10 ∷ []) b 10 whole).1 in
-    let rest : text_back r ≡ front ++ 10 ∷ [] = (same_from_push (text_back r) (front ++ 10 ∷ []) b 10 whole).0 in
-    let line : ends_line r ≡ true = text_ends_line r front h.1 rest in rw (ten, line) refl
+text_ends_blank (Gap b ∷ r) front h e = grind (arith, text_back_cons, same_from_push, text_ends_line)
 text_ends_blank (Placed p ∷ r) front h e = at (by_cases (has_some p.shown)) (text_ends_blank r front h.1) where
   at : (has_some p.shown ≡ true) ⊎ (has_some p.shown ≡ false) → (text_back r ≡ (front ++ 10 ∷ []) ++ 10 ∷ [] → ends_blank r ≡ true) → ends_blank (Placed p ∷ r) ≡ true
   at (inl s) ih =
@@ -247,26 +231,14 @@ backquote_ink = refl
 
 event_ink : (event : Event) → has_some (event_bytes event) ≡ true → has_some (ink (event_bytes event)) ≡ true
 event_ink (Shows k chunk) h = absurd cc
-event_ink (Opens b) h = at (is_term_ref b) h where
-  at : (t : Bool) → has_some (if t then 96 ∷ [] else []) ≡ true → has_some (ink (if t then 96 ∷ [] else [])) ≡ true
-  at true h = backquote_ink
-  at false h = absurd cc
-event_ink (Closes b) h = at (is_term_ref b) h where
-  at : (t : Bool) → has_some (if t then 96 ∷ [] else []) ≡ true → has_some (ink (if t then 96 ∷ [] else [])) ≡ true
-  at true h = backquote_ink
-  at false h = absurd cc
+event_ink (Opens b) h = grind (arith, backquote_ink)
+event_ink (Closes b) h = grind (arith, backquote_ink)
 
 event_trim : (event : Event) → has_some (event_bytes event) ≡ true → trim_end (event_bytes event) ≡ event_bytes event
 unfolding chars trim_end lib.Utf8.encode
 event_trim (Shows k chunk) h = absurd cc
-event_trim (Opens b) h = at (is_term_ref b) h where
-  at : (t : Bool) → has_some (if t then 96 ∷ [] else []) ≡ true → trim_end (if t then 96 ∷ [] else []) ≡ (if t then 96 ∷ [] else [])
-  at true h = refl
-  at false h = absurd cc
-event_trim (Closes b) h = at (is_term_ref b) h where
-  at : (t : Bool) → has_some (if t then 96 ∷ [] else []) ≡ true → trim_end (if t then 96 ∷ [] else []) ≡ (if t then 96 ∷ [] else [])
-  at true h = refl
-  at false h = absurd cc
+event_trim (Opens b) h = grind arith
+event_trim (Closes b) h = grind arith
 
 plain_trim : (text : List ℕ) → has_some (ink text) ≡ false → trim_end text ≡ []
 unfolding trim_end
@@ -312,22 +284,14 @@ shown_inked e u (inr s) i = subst (λ xs. has_some (ink xs) ≡ true) (sym s) (a
 pub trim_text : (r : List Stretch) → IsLegible r → trim_end (text_back r) ≡ text_back (trimmed r)
 trim_text [] h = plain_trim [] no_ink_nil
 trim_text (Gap b ∷ r) h = ap trim_end (text_back_cons (Gap b) r) ∙ trim_white (text_back r) (b ∷ []) (text_utf8 r h.1) (gap_plain b h.0) ∙ trim_text r h.1
-trim_text (Placed e ∷ r) h = at (by_cases (is_inked (chunk_at e))) (trim_text r h.1) where
-  at : (is_inked (chunk_at e) ≡ true) ⊎ (is_inked (chunk_at e) ≡ false) → trim_end (text_back r) ≡ text_back (trimmed r) → trim_end (text_back (Placed e ∷ r)) ≡ text_back (trimmed (Placed e ∷ r))
-  at (inl i) ih =
-      ap trim_end (text_back_cons (Placed e) r) ∙ trim_some (text_back r) e.shown (text_utf8 r h.1) (shown_inked e h.0.0 h.0.2 i)
-      ∙ ap (λ xs. text_back r ++ xs) (shown_trim e h.0.0 h.0.2) ∙ sym (text_back_cons (Placed (cut e)) r) ∙ ap text_back (sym (trimmed_inked e r i))
-  at (inr i) ih =
-      ap trim_end (text_back_cons (Placed e) r) ∙ trim_white (text_back r) e.shown (text_utf8 r h.1) (shown_ink_same e h.0.0 h.0.2 i)
-      ∙ ih ∙ sym (bare_text (trimmed r) (Passed (Shows e.part (chunk_at e))) refl) ∙ ap text_back (sym (trimmed_plain e r i))
+trim_text (Placed e ∷ r) h = grind (arith, trim_text r h.1, text_back_cons, trim_some, text_utf8, shown_inked, shown_trim, trimmed_inked, trim_white, shown_ink_same, bare_text, trimmed_plain)
 trim_text (Passed event ∷ r) h = at (by_cases (has_some (event_bytes event))) (trim_text r h) where
   at : (has_some (event_bytes event) ≡ true) ⊎ (has_some (event_bytes event) ≡ false) → trim_end (text_back r) ≡ text_back (trimmed r)
       → trim_end (text_back (Passed event ∷ r)) ≡ text_back (trimmed (Passed event ∷ r))
   at (inl s) ih =
       ap trim_end (text_back_cons (Passed event) r) ∙ trim_some (text_back r) (event_bytes event) (text_utf8 r h) (event_ink event s)
       ∙ ap (λ xs. text_back r ++ xs) (event_trim event s) ∙ sym (text_back_cons (Passed event) r) ∙ ap text_back (sym (trimmed_bytes event r s))
-  at (inr s) ih =
-      ap trim_end (bare_text r (Passed event) s) ∙ ih ∙ sym (bare_text (trimmed r) (Passed event) s) ∙ ap text_back (sym (trimmed_bare event r s))
+  at (inr s) ih = grind (arith, bare_text, trimmed_bare)
 
 -- ---- what may be read stays so
 

@@ -8,7 +8,7 @@ use Rattle.bpaf_doc.specs.Shown.{is_term_ref, mark_bytes}
 use Rattle.bpaf_doc.specs.Splitter.Chunks.{Raw, is_inked, is_ordinary, has_some}
 use Rattle.bpaf_doc.specs.Console.Layout.{Event, Shows, Stretch, Gap, Placed, Passed, chunk_at, event_bytes, is_inked_event, is_inked_stretch, is_empty_code, is_placed, is_written}
 use Rattle.bpaf_doc.proofs.lemmas.Console.Layout.State.{State, Piece, Lines, Begins, first, stays, wraps, places, drops, Next, raw, break, mark, Grows, placing, breaking, passing, padded, trimmed, has_text, put, passed, Fits, Suits, IsClear}
-use Rattle.bpaf_doc.proofs.lemmas.Console.Layout.Back.{by_cases, EachPlace, fits_of, by_lines, lines_back, begins_back, by_trimmed, by_padded, by_mark, by_break}
+use Rattle.bpaf_doc.proofs.lemmas.Console.Layout.Back.{by_cases, EachPlace, fits_of, by_lines, lines_back, begins_back, by_trimmed, by_padded, by_mark, by_break, by_grows}
 use Rattle.bpaf_doc.proofs.lemmas.Console.Layout.Columns.{Fills, inked_some, column_back, no_text_column, Agrees, agrees_lines, no_bytes}
 
 -- ---- what has no place has no ink
@@ -41,27 +41,18 @@ no_ink_blank k weight bytes e = rw e (blank_ink k weight)
 
 pub no_ink_grows : {width : ℕ} {margin_of : ℕ → ℕ} {st after : State} {next : Next} → Suits margin_of st next
     → Grows width st next after → EachPassed NoInk st.back → EachPassed NoInk after.back
-no_ink_grows suits (placing p e (places base n b d a)) h = subst (λ (s : State). EachPassed NoInk s.back) (sym a) (by_padded (EachPassed NoInk) (λ x y. y) n base.back (no_ink_begins b h))
-no_ink_grows suits (placing p e (drops t mid l w b a)) h =
-    subst (λ (s : State). EachPassed NoInk s.back) (sym a) (no_ink_blank p.part p.weight p.bytes b, no_ink_trimmed mid.back (no_ink_lines l h))
-no_ink_grows suits (breaking k chunk e a) h =
-    subst (λ (s : State). EachPassed NoInk s.back) (sym a) (by_break (λ c j. is_inked_event (Shows j c) ≡ false) suits e (λ j l m. refl) (λ j l m. refl), h)
-no_ink_grows suits (passing event margin e a) h =
-    subst (λ (s : State). EachPassed NoInk s.back) (sym a) (by_mark (λ x m. is_inked_event x ≡ false) suits e (λ b m l u. refl) (λ b m l u. refl), h)
+no_ink_grows suits g h = by_grows (λ s. EachPassed NoInk s.back) g (λ p base n e b d. by_padded (EachPassed NoInk) (λ x y. y) n base.back (no_ink_begins b h))
+    (λ p mid e l w b. (no_ink_blank p.part p.weight p.bytes b, no_ink_trimmed mid.back (no_ink_lines l h)))
+    (λ k chunk e. (by_break (λ c j. is_inked_event (Shows j c) ≡ false) suits e (λ j l m. refl) (λ j l m. refl), h))
+    (λ event margin e. (by_mark (λ x m. is_inked_event x ≡ false) suits e (λ b m l u. refl) (λ b m l u. refl), h))
 
 -- ---- ink is text
 
 pub ink_text : (r : List Stretch) → EachPlace Fills r → EachPassed NoInk r → list_any is_inked_stretch r ≡ true → has_text r ≡ true
 ink_text [] f q h = absurd cc
 ink_text (Gap b ∷ r) f q h = refl
-ink_text (Placed e ∷ r) f q h = at (by_cases (is_inked (chunk_at e))) (ink_text r f.1 q) where
-  at : (is_inked (chunk_at e) ≡ true) ⊎ (is_inked (chunk_at e) ≡ false) → (list_any is_inked_stretch r ≡ true → has_text r ≡ true) → has_text (Placed e ∷ r) ≡ true
-  at (inl i) ih = let some : has_some e.shown ≡ true = f.0 ∙ inked_some e.bytes i in rw some refl
-  at (inr i) ih = let rest : list_any is_inked_stretch r ≡ true = rw i at h in let tail : has_text r ≡ true = ih rest in grind arith
-ink_text (Passed event ∷ r) f q h = at (by_cases (is_inked_event event)) (ink_text r f q.1) where
-  at : (is_inked_event event ≡ true) ⊎ (is_inked_event event ≡ false) → (list_any is_inked_stretch r ≡ true → has_text r ≡ true) → has_text (Passed event ∷ r) ≡ true
-  at (inl i) ih = let no : false ≡ true = sym q.0 ∙ i in absurd cc
-  at (inr i) ih = let rest : list_any is_inked_stretch r ≡ true = rw i at h in let tail : has_text r ≡ true = ih rest in grind arith
+ink_text (Placed e ∷ r) f q h = grind (arith, ink_text r f.1 q, inked_some e.bytes, f.0)
+ink_text (Passed event ∷ r) f q h = grind (arith, ink_text r f q.1, q.0)
 
 -- ---- nothing is written
 
@@ -87,14 +78,7 @@ text_lines l h = lines_back (λ r. has_text r ≡ true) (λ r x. refl) l h
 
 -- an empty chunk that is placed first is an empty line of code, which stands after some text
 empty_first : {margin_of : ℕ → ℕ} (st : State) (p : Piece) → Fits margin_of st p → IsClear st (raw p) → has_text st.back ≡ false → has_some p.bytes ≡ true
-empty_first st p fits clear none = at (by_cases (has_some p.bytes)) (by_cases (is_ordinary (Raw p.bytes p.weight))) where
-  at : (has_some p.bytes ≡ true) ⊎ (has_some p.bytes ≡ false) → (is_ordinary (Raw p.bytes p.weight) ≡ true) ⊎ (is_ordinary (Raw p.bytes p.weight) ≡ false) → has_some p.bytes ≡ true
-  at (inl s) o = s
-  at (inr s) (inl o) = fits.filled o
-  at (inr s) (inr o) =
-      let empty : is_empty_code (Shows p.part (Raw p.bytes p.weight)) ≡ true = rw (s, o) refl in
-      let text : has_text st.back ≡ true = clear empty in
-      absurd cc
+empty_first st p fits clear none = grind (arith, fits.filled, clear)
 
 starting_put : {width : ℕ} {margin_of : ℕ → ℕ} (st : State) (p : Piece) (base : State) (n : ℕ)
     → Fits margin_of st p → IsClear st (raw p) → Begins width st p base → has_text (put n p.part p.bytes p.weight base).back ≡ true
@@ -106,34 +90,21 @@ starting_put st p base n fits clear (wraps t mid l w b e) =
 
 pub starting_grows : {width : ℕ} {margin_of : ℕ → ℕ} {st after : State} {next : Next}
     → Suits margin_of st next → IsClear st next → Grows width st next after → IsStarting st → IsStarting after
-starting_grows {margin_of = margin_of} {st = st} {after = after} suits clear (placing p e (places base n b d a)) h = λ none.
-    let text : has_text (put n p.part p.bytes p.weight base).back ≡ true =
-    starting_put st p base n (fits_of suits e) (subst (λ (x : Next). IsClear st x) e clear) b in
-    let same : has_text after.back ≡ true = subst (λ (s : State). has_text s.back ≡ true) (sym a) text in absurd cc
-starting_grows {after = after} suits clear (placing p e (drops t mid l w b a)) h = λ none.
-    let same : has_text after.back ≡ true = subst (λ (s : State). has_text s.back ≡ true) (sym a) refl in absurd cc
-starting_grows {after = after} suits clear (breaking k chunk e a) h = λ none.
-    let same : has_text after.back ≡ true = subst (λ (s : State). has_text s.back ≡ true) (sym a) refl in absurd cc
-starting_grows {st = st} suits clear (passing event margin e a) h = subst IsStarting (sym a) at where
-  at : IsStarting (passed event margin st)
-  at none =
-      let before : (st.column ≡ 0) × (has_place st.back ≡ false) = h (or_false_right (has_some (event_bytes event)) (has_text st.back) none) in
-      let bare : length (event_bytes event) ≡ 0 = no_bytes (event_bytes event) (or_false_left (has_some (event_bytes event)) (has_text st.back) none) in
-      let zero_column : st.column ≡ 0 = before.0 in
-      (omega arith, before.1)
+starting_grows {st = st} suits clear g h = by_grows IsStarting g
+    (λ p base n e b d none. let some : has_text (put n p.part p.bytes p.weight base).back ≡ true = starting_put st p base n (fits_of suits e) (subst (λ (x : Next). IsClear st x) e clear) b in absurd cc)
+    (λ p mid e l w b none. absurd cc) (λ k chunk e none. absurd cc)
+    (λ event margin e none.
+    let before : (st.column ≡ 0) × (has_place st.back ≡ false) = h (or_false_right (has_some (event_bytes event)) (has_text st.back) none) in
+    let bare : length (event_bytes event) ≡ 0 = no_bytes (event_bytes event) (or_false_left (has_some (event_bytes event)) (has_text st.back) none) in
+    let zero_column : st.column ≡ 0 = before.0 in
+    (omega arith, before.1))
 
 -- ---- what is written stays
 
 pub text_stays : {width : ℕ} {st after : State} {next : Next} → Grows width st next after → has_text st.back ≡ true → has_text after.back ≡ true
-text_stays {width} {st} (placing p e (places base n b d a)) h =
-    subst (λ (s : State). has_text s.back ≡ true) (sym a) (or_true_right (has_some p.bytes) (has_text (padded n base.back)) (by_padded (λ x. has_text x ≡ true) (λ x y. refl) n base.back (begun b))) where
-      begun : Begins width st p base → has_text base.back ≡ true
-      begun (first t s) = absurd cc
-      begun (stays t l w) = text_lines l t
-      begun (wraps t mid l w x s) = subst (λ (y : State). has_text y.back ≡ true) (sym s) refl
-text_stays (placing p e (drops t mid l w b a)) h = subst (λ (s : State). has_text s.back ≡ true) (sym a) refl
-text_stays (breaking k chunk e a) h = subst (λ (s : State). has_text s.back ≡ true) (sym a) refl
-text_stays (passing event margin e a) h = subst (λ (s : State). has_text s.back ≡ true) (sym a) (or_true_right (has_some (event_bytes event)) _ h)
+text_stays g h = by_grows (λ s. has_text s.back ≡ true) g
+    (λ p base n e b d. or_true_right (has_some p.bytes) (has_text (padded n base.back)) (by_padded (λ x. has_text x ≡ true) (λ x y. refl) n base.back (begins_back (λ r. has_text r ≡ true) (λ r x. refl) (λ r x. refl) b h)))
+    (λ p mid e l w b. refl) (λ k chunk e. refl) (λ event margin e. or_true_right (has_some (event_bytes event)) _ h)
 
 -- what comes next, as an event
 abbrev pub next_event : Next → Event
@@ -143,29 +114,15 @@ next_event (mark event level) = event
 
 -- what puts a byte on the page leaves some text
 pub text_written : {width : ℕ} {margin_of : ℕ → ℕ} {st after : State} {next : Next} → Suits margin_of st next → Grows width st next after → is_written (next_event next) ≡ true → has_text after.back ≡ true
-text_written suits (placing p e (places base n b d a)) h =
-    let some : has_some p.bytes ≡ true = subst (λ (x : Next). is_written (next_event x) ≡ true) e h in
-    subst (λ (s : State). has_text s.back ≡ true) (sym a) (rw some refl)
-text_written suits (placing p e (drops t mid l w b a)) h = subst (λ (s : State). has_text s.back ≡ true) (sym a) refl
-text_written suits (breaking k chunk e a) h = subst (λ (s : State). has_text s.back ≡ true) (sym a) refl
-text_written {st = st} suits (passing event margin e a) h =
-    subst (λ (s : State). has_text s.back ≡ true) (sym a) (by_mark (λ x m. is_written x ≡ true → (has_some (event_bytes x) || has_text st.back) ≡ true) suits e (λ b m l u. ref b) (λ b m l u. ref b)
-    (subst (λ (x : Next). is_written (next_event x) ≡ true) e h)) where
-      ref : (b : Block) → is_term_ref b ≡ true → (has_some (mark_bytes b) || has_text st.back) ≡ true
-      ref b t = rw t refl
+text_written {st = st} suits g h = grind (arith, by_grows, by_mark)
 
 -- ---- where a chunk begins
 
 -- the column that is kept is the page's where a chunk is placed
 pub begins_column : {width : ℕ} {st : State} {p : Piece} {base : State} → width < 1_000_000 → EachPlace Fills st.back → IsStarting st → Agrees st
     → Begins width st p base → base.column ≡ column_back base.back
-begins_column {st = st} small f start h (first t e) =
-    let here : st.column ≡ column_back st.back = (start t).0 ∙ sym (no_text_column st.back f t) in
-    subst (λ (s : State). s.column ≡ column_back s.back) (sym e) here
-begins_column {width} {st} {p} {base} small f start h (stays t l w) = at (agrees_lines f l h) where
-  at : Agrees base → base.column ≡ column_back base.back
-  at (inl c) = c
-  at (inr c) = absurd (omega arith)
+begins_column {st = st} small f start h (first t e) = grind (arith, no_text_column)
+begins_column {width} {st} {p} {base} small f start h (stays t l w) = grind (arith, agrees_lines)
 begins_column small f start h (wraps t mid l w b e) = subst (λ (s : State). s.column ≡ column_back s.back) (sym e) refl
 
 -- and the margin is still the one in force, and what was asked for after a term still holds

@@ -39,22 +39,13 @@ all_turned p (x ∷ xs) = ap (λ ys. list_all p ys) (reverse_cons x xs) ∙ list
 
 pub sum_turned : {A : Type 0} (f : A → ℕ) (xs : List A) → sum_by f (reverse xs) ≡ sum_by f xs
 sum_turned f [] = refl
-sum_turned f (x ∷ xs) =
-    let a : sum_by f (reverse (x ∷ xs)) ≡ sum_by f (reverse xs ++ x ∷ []) = ap (λ ys. sum_by f ys) (reverse_cons x xs) in
-    let b : sum_by f (reverse xs ++ x ∷ []) ≡ sum_by f (reverse xs) + sum_by f (x ∷ []) = sum_by-append f (reverse xs) (x ∷ []) in
-    let e : sum_by f (x ∷ xs) ≡ f x + sum_by f xs = sum_by-cons f x xs in
-    let ih : sum_by f (reverse xs) ≡ sum_by f xs = sum_turned f xs in
-    omega arith
+sum_turned f (x ∷ xs) = grind (arith, sum_turned f xs, reverse_cons, sum_by-append, sum_by-cons)
 
 -- ---- the events and the text
 
 pub events_turned : (r : List Stretch) → events_of (reverse r) ≡ reverse (events_back r)
 events_turned [] = refl
-events_turned (x ∷ r) = ap events_of (reverse_cons x r) ∙ flat_map-append stretch_events (reverse r) (x ∷ []) ∙ at x (events_turned r) where
-  at : (x : Stretch) → events_of (reverse r) ≡ reverse (events_back r) → events_of (reverse r) ++ flat_map stretch_events (x ∷ []) ≡ reverse (events_back (x ∷ r))
-  at (Gap b) ih = append-nil (events_of (reverse r)) ∙ ih
-  at (Placed e) ih = ap (λ es. es ++ Shows e.part (chunk_at e) ∷ []) ih ∙ sym (reverse_cons (Shows e.part (chunk_at e)) (events_back r))
-  at (Passed event) ih = ap (λ es. es ++ event ∷ []) ih ∙ sym (reverse_cons event (events_back r))
+events_turned (x ∷ r) = grind (arith, events_turned r, reverse_cons, flat_map-append, append-nil)
 
 -- the events of what stands between, which is turned
 pub events_between : (m : List Stretch) → events_back (reverse m) ≡ reverse (events_of m)
@@ -78,10 +69,7 @@ since_take p (x ∷ r) = at (by_cases (p x)) (since_take p r) where
 
 prefix_le : (p : Stretch → Bool) (r : List Stretch) → prefix_len p r ≤ length r
 prefix_le p [] = omega arith
-prefix_le p (x ∷ r) = at (by_cases (p x)) (prefix_le p r) where
-  at : (p x ≡ true) ⊎ (p x ≡ false) → prefix_len p r ≤ length r → prefix_len p (x ∷ r) ≤ length (x ∷ r)
-  at (inl t) ih = rw t (omega arith)
-  at (inr t) ih = rw t (omega arith)
+prefix_le p (x ∷ r) = grind (arith, prefix_le p r)
 
 drop_turned : (k : ℕ) (r : List Stretch) → k ≤ length r → drop (length r - k) (reverse r) ≡ reverse (take k r)
 drop_turned k r h =
@@ -90,32 +78,20 @@ drop_turned k r h =
     ap (λ (n : ℕ). drop n (reverse r)) (sym size) ∙ ap (λ ys. drop (length (reverse (drop k r))) ys) cut ∙ drop-append_seam (reverse (drop k r)) (reverse (take k r))
 
 pub after_last_turned : (p : Stretch → Bool) (r : List Stretch) → after_last p (reverse r) ≡ reverse (since p r)
-after_last_turned p r =
-    let size : length (reverse r) ≡ length r = length-reverse r in
-    let turned : suffix_len (λ x. not (p x)) (reverse r) ≡ prefix_len (λ x. not (p x)) r = ap (λ ys. prefix_len (λ x. not (p x)) ys) (reverse-reverse r) in
-    ap (λ (n : ℕ). drop (n - suffix_len (λ x. not (p x)) (reverse r)) (reverse r)) size
-    ∙ ap (λ (n : ℕ). drop (length r - n) (reverse r)) turned
-    ∙ drop_turned (prefix_len (λ x. not (p x)) r) r (prefix_le (λ x. not (p x)) r)
-    ∙ ap (λ ys. reverse ys) (since_take p r)
+after_last_turned p r = grind (arith, length-reverse, reverse-reverse, drop_turned, prefix_le, since_take)
 
 -- ---- columns and lines
 
 sum_since : (r : List Stretch) → sum_by stretch_columns (since is_newline r) ≡ column_back r
 sum_since [] = refl
-sum_since (x ∷ r) = at (by_cases (is_newline x)) (sum_since r) where
-  at : (is_newline x ≡ true) ⊎ (is_newline x ≡ false) → sum_by stretch_columns (since is_newline r) ≡ column_back r → sum_by stretch_columns (since is_newline (x ∷ r)) ≡ column_back (x ∷ r)
-  at (inl t) ih = rw t refl
-  at (inr t) ih = rw t (sum_by-cons stretch_columns x (since is_newline r) ∙ ap (λ (n : ℕ). stretch_columns x + n) ih)
+sum_since (x ∷ r) = grind (arith, sum_since r, sum_by-cons stretch_columns x (since is_newline r))
 
 pub column_turned : (r : List Stretch) → column (reverse r) ≡ column_back r
 column_turned r = ap (λ ys. sum_by stretch_columns ys) (after_last_turned is_newline r) ∙ sum_turned stretch_columns (since is_newline r) ∙ sum_since r
 
 any_since_line : (p : Stretch → Bool) (r : List Stretch) → list_any p (since is_newline r) ≡ any_in_line p r
 any_since_line p [] = refl
-any_since_line p (x ∷ r) = at (by_cases (is_newline x)) (any_since_line p r) where
-  at : (is_newline x ≡ true) ⊎ (is_newline x ≡ false) → list_any p (since is_newline r) ≡ any_in_line p r → list_any p (since is_newline (x ∷ r)) ≡ any_in_line p (x ∷ r)
-  at (inl t) ih = rw t refl
-  at (inr t) ih = rw t (ap (λ (b : Bool). p x || b) ih)
+any_since_line p (x ∷ r) = grind (arith, any_since_line p r)
 
 pub line_turned : (p : Stretch → Bool) (r : List Stretch) → list_any p (line_before (reverse r)) ≡ any_in_line p r
 line_turned p r = ap (λ ys. list_any p ys) (after_last_turned is_newline r) ∙ any_turned p (since is_newline r) ∙ any_since_line p r
@@ -123,34 +99,18 @@ line_turned p r = ap (λ ys. list_any p ys) (after_last_turned is_newline r) ∙
 -- the blanks since the last place in the line
 count_since : (r : List Stretch) → count_by is_gap (since is_placed (since is_newline r)) ≡ pads_back r
 count_since [] = refl
-count_since (x ∷ r) = at (by_cases (is_newline x)) (by_cases (is_placed x)) (count_since r) where
-  cost : Stretch → ℕ
-  cost y = cond (is_gap y) 1 0
-
-  at : (is_newline x ≡ true) ⊎ (is_newline x ≡ false) → (is_placed x ≡ true) ⊎ (is_placed x ≡ false) → count_by is_gap (since is_placed (since is_newline r)) ≡ pads_back r
-      → count_by is_gap (since is_placed (since is_newline (x ∷ r))) ≡ pads_back (x ∷ r)
-  at (inl t) s ih = rw t refl
-  at (inr t) (inl s) ih = rw (t, s) refl
-  at (inr t) (inr s) ih = rw (t, s) (sum_by-cons (λ y. cond (is_gap y) 1 0) x (since is_placed (since is_newline r)) ∙ ap (λ (n : ℕ). cond (is_gap x) 1 0 + n) ih)
+count_since (x ∷ r) = grind (arith, count_since r, sum_by-cons (λ y. cond (is_gap y) 1 0) x (since is_placed (since is_newline r)))
 
 pub padding_turned : (r : List Stretch) → padding (reverse r) ≡ pads_back r
-padding_turned r =
-    ap (λ ys. count_by is_gap (after_last is_placed ys)) (after_last_turned is_newline r)
-    ∙ ap (λ ys. count_by is_gap ys) (after_last_turned is_placed (since is_newline r))
-    ∙ sum_turned (λ y. cond (is_gap y) 1 0) (since is_placed (since is_newline r))
-    ∙ count_since r
+padding_turned r = grind (arith, after_last_turned, sum_turned, count_since)
 
 any_since_place : (r : List Stretch) → list_any opens_body (events_back (since is_placed r)) ≡ body_back r
-any_since_place [] = refl
 any_since_place (Gap b ∷ r) = any_since_place r
-any_since_place (Placed e ∷ r) = refl
 any_since_place (Passed event ∷ r) = ap (λ (b : Bool). opens_body event || b) (any_since_place r)
+any_since_place _ = refl
 
 pub body_turned : (r : List Stretch) → list_any opens_body (events_of (after_last is_placed (reverse r))) ≡ body_back r
-body_turned r =
-    ap (λ ys. list_any opens_body (events_of ys)) (after_last_turned is_placed r)
-    ∙ ap (λ es. list_any opens_body es) (events_turned (since is_placed r))
-    ∙ any_turned opens_body (events_back (since is_placed r)) ∙ any_since_place r
+body_turned r = grind (arith, after_last_turned, events_turned, any_turned, any_since_place)
 
 -- ---- since the last ink
 
@@ -158,16 +118,10 @@ quiet_since : (r : List Stretch) → EachPassed NoInk r → list_any is_raw_or_r
 quiet_since [] q = refl
 quiet_since (Gap b ∷ r) q = quiet_since r q
 quiet_since (Placed e ∷ r) q = elim (by_cases (is_inked (chunk_at e))) [ inl i ↦ rw i refl | inr i ↦ rw i refl ]
-quiet_since (Passed event ∷ r) q = at q.0 (quiet_since r q.1) where
-  at : is_inked_event event ≡ false → list_any is_raw_or_ref (events_back (since is_inked_stretch r)) ≡ not (is_quiet r)
-      → list_any is_raw_or_ref (events_back (since is_inked_stretch (Passed event ∷ r))) ≡ not (is_quiet (Passed event ∷ r))
-  at i ih = rw i (ap (λ (b : Bool). is_raw_or_ref event || b) ih ∙ grind arith)
+quiet_since (Passed event ∷ r) q = grind (arith, quiet_since r q.1)
 
 pub quiet_turned : (r : List Stretch) → EachPassed NoInk r → list_any is_raw_or_ref (events_since_ink (reverse r)) ≡ not (is_quiet r)
-quiet_turned r q =
-    ap (λ ys. list_any is_raw_or_ref (events_of ys)) (after_last_turned is_inked_stretch r)
-    ∙ ap (λ es. list_any is_raw_or_ref es) (events_turned (since is_inked_stretch r))
-    ∙ any_turned is_raw_or_ref (events_back (since is_inked_stretch r)) ∙ quiet_since r q
+quiet_turned r q = grind (arith, after_last_turned, events_turned, any_turned, quiet_since)
 
 -- ---- the lines
 
@@ -213,10 +167,7 @@ ahead_snoc c (y ∷ a) x = ahead_snoc (if is_newline y then 0 else (c + stretch_
 
 ahead_back : (r : List Stretch) → ahead 0 (reverse r) ≡ column_back r
 ahead_back [] = refl
-ahead_back (x ∷ r) = ap (λ ys. ahead 0 ys) (reverse_cons x r) ∙ ahead_snoc 0 (reverse r) x ∙ at (by_cases (is_newline x)) (ahead_back r) where
-  at : (is_newline x ≡ true) ⊎ (is_newline x ≡ false) → ahead 0 (reverse r) ≡ column_back r → (if is_newline x then 0 else (ahead 0 (reverse r) + stretch_columns x)) ≡ column_back (x ∷ r)
-  at (inl t) ih = rw t refl
-  at (inr t) ih = rw t (omega arith)
+ahead_back (x ∷ r) = grind (arith, ahead_back r, reverse_cons, ahead_snoc)
 
 front_at : (Q : List Stretch → Type 0) (m r : List Stretch) → EachFront Q (m ++ r) → Q r
 front_at Q [] r h = whole_front Q r h
@@ -245,14 +196,9 @@ turned_at back before after x s =
 -- two places in order
 pub turned_between : (before between after : List Stretch) (x y : Stretch)
     → reverse (before ++ x ∷ (between ++ y ∷ after)) ≡ reverse after ++ y ∷ (reverse between ++ x ∷ reverse before)
-turned_between before between after x y =
-    reverse-append before (x ∷ (between ++ y ∷ after)) ∙ ap (λ ys. ys ++ reverse before) (reverse_cons x (between ++ y ∷ after))
-    ∙ append_assoc (reverse (between ++ y ∷ after)) (x ∷ []) (reverse before)
-    ∙ ap (λ ys. ys ++ x ∷ reverse before) (reverse-append between (y ∷ after) ∙ ap (λ ys. ys ++ reverse between) (reverse_cons y after) ∙ append_assoc (reverse after) (y ∷ []) (reverse between))
-    ∙ append_assoc (reverse after) (y ∷ reverse between) (x ∷ reverse before)
+turned_between before between after x y = grind (arith, reverse-append, reverse_cons, append_assoc)
 
 pub place_at : (P : List Stretch → Place → Type 0) (m r : List Stretch) (f : Place) → EachPlace P (m ++ Placed f ∷ r) → P r f
 place_at P [] r f h = h.0
-place_at P (Gap b ∷ m) r f h = place_at P m r f h
 place_at P (Placed g ∷ m) r f h = place_at P m r f h.1
-place_at P (Passed event ∷ m) r f h = place_at P m r f h
+place_at P (_ ∷ m) r f h = place_at P m r f h

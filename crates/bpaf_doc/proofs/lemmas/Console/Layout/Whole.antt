@@ -14,21 +14,22 @@ use Rattle.bpaf_doc.specs.Buffer.Parts.{Part, ink}
 use Rattle.bpaf_doc.specs.Splitter.Chunks.{Raw, columns, is_inked, is_ordinary, has_some, starts}
 use Rattle.bpaf_doc.specs.Shown.{console_ink, is_term_ref}
 use Rattle.bpaf_doc.specs.Console.Margin.{margin, greatest_margin}
-use Rattle.bpaf_doc.specs.Console.Layout.{Event, Shows, Opens, Closes, Stretch, Gap, Placed, Passed, Place, chunk_at, event_bytes, event_columns, stretch_columns, text_of, events_of, shown_events, is_newline, is_placed, holds_line, leads_to_place, is_inked_event, is_inked_stretch, is_empty_code, is_written, is_raw_event, is_ref, asks_newline, asks_blank_line, is_light, is_light_mark, opens_body, column, padding, line_before, stretch_lines, MayStand, BreaksWhereAsked, KeepsBlanks, IsKept, BeginsClear, IsFirstInLine, events_since_ink, is_raw_or_ref, FollowsBlank, KeepsMargin, WrapsOnlyIfNeeded, IsBounded, FitsWidth, PadsToMargin, StandsAlone, room_of, BreaksForRoom, HasBlankLine, widest, IsLayout}
+use Rattle.bpaf_doc.specs.Console.Layout.{Event, Shows, Opens, Closes, Stretch, Gap, Placed, Passed, Place, AreApart, chunk_at, event_bytes, event_columns, stretch_columns, text_of, events_of, shown_events, is_newline, is_placed, holds_line, leads_to_place, is_inked_event, is_inked_stretch, is_empty_code, is_written, is_raw_event, is_ref, asks_newline, asks_blank_line, is_light, is_light_mark, opens_body, column, padding, line_before, stretch_lines, MayStand, BreaksWhereAsked, KeepsBlanks, IsKept, BeginsClear, IsFirstInLine, events_since_ink, is_raw_or_ref, FollowsBlank, KeepsMargin, WrapsOnlyIfNeeded, IsBounded, FitsWidth, PadsToMargin, StandsAlone, room_of, BreaksForRoom, HasBlankLine, widest, IsLayout}
 use Rattle.bpaf_doc.proofs.lemmas.Console.Layout.State.{State, has_text, IsShallow, Next, raw, break, mark, Grows, placing, breaking, passing, places, drops, Suits, IsClear, blank_page, Written, nothing, more, Ends, as_is, with_newline}
-use Rattle.bpaf_doc.proofs.lemmas.Console.Layout.Back.{by_cases, EachPlace}
+use Rattle.bpaf_doc.proofs.lemmas.Console.Layout.Back.{by_cases, EachPlace, by_grows}
 use Rattle.bpaf_doc.proofs.lemmas.Console.Layout.Columns.{Fills, fills_grows, Agrees, agrees_grows, column_back}
 use Rattle.bpaf_doc.proofs.lemmas.Console.Layout.Text.{EachPassed, NoInk, no_ink_grows, IsStarting, starting_grows, next_event, text_stays, text_written, begins_margin, lines_margin}
 use Rattle.bpaf_doc.proofs.lemmas.Console.Layout.Margin.{AtMargin, at_margin_grows}
 use Rattle.bpaf_doc.proofs.lemmas.Console.Layout.Bound.{EachFront, Within, IsBare, WritesNone, IsNarrow, bare_grows, bound, within_grows}
 use Rattle.bpaf_doc.proofs.lemmas.Console.Layout.Pads.{FitsBefore, fits_width_grows, holds_back, IsLed, Leads, led_grows, leads_at, HasNoPads, no_pads_grows, IsPending, pending_grows, PadsOnly, pads_only_grows, pads_back, body_back}
-use Rattle.bpaf_doc.proofs.lemmas.Console.Layout.Room.{ComesInOrder, in_order_blank, in_order_grows, IsAfterAll, after_all_grows, part_later, is_chunk, taken, allowance, room, IsRoomy, roomy_grows, HasNoRoom, no_room_grows, is_idle, idle_all}
+use Rattle.bpaf_doc.proofs.lemmas.Console.Layout.Reach.{Rule, sum_of, end_of, IsRun, HasNoRoom, BreaksBy, IsSound, breaks_grows}
+use Rattle.bpaf_doc.proofs.lemmas.Console.Layout.Room.{ComesInOrder, in_order_blank, in_order_grows, IsAfterAll, after_all_grows, part_later, is_chunk, allowance, is_idle, idle_all, idle, idle_sound}
 use Rattle.bpaf_doc.proofs.lemmas.Console.Layout.Alone.{IsHeavy, heavy_grows, AloneBefore, alone_grows}
 use Rattle.bpaf_doc.proofs.lemmas.Console.Layout.Split.{events_back, events_grows, Cut, has_newline, inked_line, inked_since}
 use Rattle.bpaf_doc.proofs.lemmas.Console.Layout.Asked.{IsAskedLine, asked_line_grows, IsFreeOfDebt, free_of_debt_grows, owes_line}
 use Rattle.bpaf_doc.proofs.lemmas.Console.Layout.Blank.{IsAskedBlank, asked_blank_grows, IsFreshAtZero, fresh_grows, HasBlankBefore, blank_before_grows, text_back, text_back_cons}
 use Rattle.bpaf_doc.proofs.lemmas.Console.Layout.Kept.{InOrder, order_grows, IsSettled, settled_grows, IsUnsettled, unsettled_grows, IsSmall, small_grows, IsKeptSince, kept_since_grows, KeepsBefore, keeps_before_grows, AllKept}
-use Rattle.bpaf_doc.proofs.lemmas.Console.Layout.Needed.{IsReached, reached_grows, IsMarked, marked_grows, IsNeededBefore, needed_before_grows, reach, chunk_columns}
+use Rattle.bpaf_doc.proofs.lemmas.Console.Layout.Needed.{is_plain, light, light_sound, light_marks, light_marks_sound}
 use Rattle.bpaf_doc.proofs.lemmas.Console.Layout.AtMargin.{IsLast, last_grows, IsAtStart, start_grows, AfterBlank, IsExact, exact_grows, is_quiet}
 use Rattle.bpaf_doc.proofs.lemmas.Console.Layout.Cuts.{MayEnd, IsWhole, whole_grows, may_end_line}
 use Rattle.bpaf_doc.proofs.lemmas.Console.Layout.Turned.{reverse_cons, any_turned, all_turned, sum_turned, events_turned, events_between, column_turned, line_turned, padding_turned, body_turned, quiet_turned, lines_bounded, turned_at, turned_between, place_at}
@@ -42,9 +43,7 @@ map_snoc (y ∷ xs) x = ap (λ es. next_event y ∷ es) (map_snoc xs x)
 module _ {width : ℕ} {margin_of : ℕ → ℕ} {clear : State → Next → Type 0} where
   pub written_events : {nexts : List Next} {st : State} → Written width margin_of clear nexts st → events_back st.back ≡ reverse (map next_event nexts)
   written_events (nothing e s) = ap (λ (x : State). events_back x.back) s ∙ sym (ap (λ ns. reverse (map next_event ns)) e)
-  written_events (more earlier before next e w suits c g) =
-      events_grows g ∙ ap (λ es. next_event next ∷ es) (written_events w)
-      ∙ sym (ap (λ ns. reverse (map next_event ns)) e ∙ ap (λ es. reverse es) (map_snoc earlier next) ∙ reverse-append (map next_event earlier) (next_event next ∷ []))
+  written_events (more earlier before next e w suits c g) = grind (arith, written_events w, events_grows, map_snoc, reverse-append)
 
 -- ---- what always holds
 
@@ -126,26 +125,20 @@ base_grows {width} suits g b = record {
 
 pub record Clearly (width : ℕ) (margin_of : ℕ → ℕ) (st : State) : Type 0 where
   pub starting : IsStarting st
-  pub reached : IsReached width st
-  pub marked : IsMarked width st
   pub at_margin : EachPlace (AtMargin margin_of) st.back
   pub exact : EachPlace (IsExact margin_of) st.back
   pub fits : EachPlace (FitsBefore width) st.back
   pub pads_only : EachPlace (PadsOnly margin_of) st.back
-  pub needed : EachPlace (IsNeededBefore width) st.back
   pub heavy : IsHeavy st
   pub alone : EachPlace AloneBefore st.back
 
 clearly_blank : (width : ℕ) (margin_of : ℕ → ℕ) → Clearly width margin_of blank_page
 clearly_blank width margin_of = record {
   starting = λ o. (refl, refl);
-  reached = λ m before e h p l. nothing_cut m before e h;
-  marked = λ m before e h p l. nothing_cut m before e h;
   at_margin = tt;
   exact = tt;
   fits = tt;
   pads_only = tt;
-  needed = tt;
   heavy = λ m before e h w n. nothing_cut m before e h;
   alone = tt;
 }
@@ -154,13 +147,10 @@ clearly_grows : {width : ℕ} {margin_of : ℕ → ℕ} {st after : State} {next
     → Base width st → Clearly width margin_of st → Clearly width margin_of after
 clearly_grows {width} {margin_of} small suits clear g b c = record {
   starting = starting_grows suits clear g c.starting;
-  reached = reached_grows width small b.fills b.no_ink c.starting b.agrees suits g c.reached;
-  marked = marked_grows width small b.fills c.starting b.agrees suits g c.marked;
   at_margin = at_margin_grows margin_of small b.fills c.starting b.agrees suits g c.at_margin;
   exact = exact_grows margin_of small b.fills b.no_ink c.starting b.agrees b.pads b.start suits g c.exact;
   fits = fits_width_grows width small b.fills c.starting b.agrees b.pads g c.fits;
   pads_only = pads_only_grows margin_of small b.fills c.starting b.agrees suits b.pads b.pending g c.pads_only;
-  needed = needed_before_grows width b.fills b.no_ink c.reached c.marked g c.needed;
   heavy = heavy_grows small c.starting g c.heavy;
   alone = alone_grows small c.starting c.heavy g c.alone;
 }
@@ -207,8 +197,7 @@ clear_begins (x ∷ xs) h = at (by_cases (is_written x)) (by_cases (is_empty_cod
 
 clear_next : (before : State) (next : Next) → (is_empty_code (next_event next) ≡ true → has_text before.back ≡ true) → IsClear before next
 clear_next before (raw p) h = h
-clear_next before (break k chunk) h = tt
-clear_next before (mark event level) h = tt
+clear_next before _ h = tt
 
 module _ {width : ℕ} {margin_of : ℕ → ℕ} {clear : State → Next → Type 0} where
   pub written_base : {nexts : List Next} {st : State} → Written width margin_of clear nexts st → Base width st
@@ -253,10 +242,7 @@ abbrev pub IsSlim : ℕ → ℕ → Next → Type 0
 IsSlim deepest most next = IsShallow deepest next × IsNarrow most next × WritesNone next
 
 shallow_grows : {width deepest : ℕ} {st after : State} {next : Next} → IsShallow deepest next → Grows width st next after → st.margin ≤ deepest → after.margin ≤ deepest
-shallow_grows {deepest = deepest} shallow (placing p e (places base n b d a)) h = subst (λ (s : State). s.margin ≤ deepest) (sym a) (subst (λ (k : ℕ). k ≤ deepest) (sym (begins_margin b).0) h)
-shallow_grows {deepest = deepest} shallow (placing p e (drops t mid l w b a)) h = subst (λ (s : State). s.margin ≤ deepest) (sym a) (subst (λ (k : ℕ). k ≤ deepest) (sym (lines_margin l).0) h)
-shallow_grows {deepest = deepest} shallow (breaking k chunk e a) h = subst (λ (s : State). s.margin ≤ deepest) (sym a) h
-shallow_grows {deepest = deepest} shallow (passing event level e a) h = subst (λ (s : State). s.margin ≤ deepest) (sym a) (subst (λ (x : Next). IsShallow deepest x) e shallow)
+shallow_grows {deepest = deepest} shallow g h = grind (arith, by_grows, begins_margin, lines_margin)
 
 record Slim (width deepest most : ℕ) (st : State) : Type 0 where
   bare : EachPassed IsBare st.back
@@ -281,28 +267,41 @@ module _ {width : ℕ} {margin_of : ℕ → ℕ} {clear : State → Next → Typ
 record Spacious (width deepest : ℕ) (st : State) : Type 0 where
   in_order : ComesInOrder st
   after_all : EachPlace IsAfterAll st.back
-  roomy : IsRoomy width deepest st
-  no_room : EachPlace (HasNoRoom width deepest) st.back
+  by_light : BreaksBy width light st
+  by_marks : BreaksBy width light_marks st
+  by_idle : BreaksBy width (idle deepest) st
+
+breaks_blank : (width : ℕ) (rule : Rule) → BreaksBy width rule blank_page
+breaks_blank width rule = record { roomy = λ m before e h run. nothing_cut m before e h; no_room = tt }
 
 spacious_blank : (width deepest : ℕ) → Spacious width deepest blank_page
-spacious_blank width deepest = record { in_order = in_order_blank blank_page refl; after_all = tt; roomy = λ m before e h i a. nothing_cut m before e h; no_room = tt }
+spacious_blank width deepest = record {
+  in_order = in_order_blank blank_page refl;
+  after_all = tt;
+  by_light = breaks_blank width light;
+  by_marks = breaks_blank width light_marks;
+  by_idle = breaks_blank width (idle deepest);
+}
 
 module _ {width : ℕ} {margin_of : ℕ → ℕ} {clear : State → Next → Type 0} where
   written_spacious : {nexts : List Next} {st : State} (deepest : ℕ) → width < 1_000_000 → Written width margin_of clear nexts st → clear_front (map next_event nexts) ≡ true
       → EachNext (IsShallow deepest) nexts → Spacious width deepest st
   written_spacious deepest small (nothing e s) h shallow = subst (Spacious width deepest) (sym s) (spacious_blank width deepest)
-  written_spacious deepest small (more earlier before next e w suits c g) h shallow =
+  written_spacious {st = st} deepest small (more earlier before next e w suits c g) h shallow =
       let front : clear_front (map next_event earlier ++ next_event next ∷ []) ≡ true = subst (λ es. clear_front es ≡ true) (ap (λ ns. map next_event ns) e ∙ map_snoc earlier next) h in
       let first : clear_front (map next_event earlier) ≡ true = (clear_snoc (map next_event earlier) (next_event next) front).0 in
       let parts : EachNext (IsShallow deepest) earlier × IsShallow deepest next = each_snoc (IsShallow deepest) earlier next (subst (λ ns. EachNext (IsShallow deepest) ns) e shallow) in
       let b : Base width before = written_base w in
       let c : Clearly width margin_of before = written_clearly small w first in
       let ih : Spacious width deepest before = written_spacious deepest small w first parts.0 in
+      let step : (rule : Rule) → IsSound width deepest rule → BreaksBy width rule before → BreaksBy width rule st =
+      λ rule sound. breaks_grows width rule deepest sound small b.fills c.starting b.agrees suits parts.1 g in
       record {
         in_order = in_order_grows suits g ih.in_order;
         after_all = after_all_grows suits ih.in_order g ih.after_all;
-        roomy = roomy_grows width deepest small b.fills c.starting b.agrees suits parts.1 g ih.roomy;
-        no_room = no_room_grows width deepest c.starting ih.roomy g ih.no_room;
+        by_light = step light (light_sound width deepest) ih.by_light;
+        by_marks = step light_marks (light_marks_sound width deepest) ih.by_marks;
+        by_idle = step (idle deepest) (idle_sound width deepest small) ih.by_idle;
       }
 
 -- ---- the end of the page
@@ -349,9 +348,8 @@ known_end (Passed event ∷ m) line x r rest a h =
 
 passed_at : (Q : Event → Type 0) (m r : List Stretch) (event : Event) → EachPassed Q (m ++ Passed event ∷ r) → Q event
 passed_at Q [] r event h = h.0
-passed_at Q (Gap b ∷ m) r event h = passed_at Q m r event h
-passed_at Q (Placed g ∷ m) r event h = passed_at Q m r event h
 passed_at Q (Passed f ∷ m) r event h = passed_at Q m r event h.1
+passed_at Q (_ ∷ m) r event h = passed_at Q m r event h
 
 may_stand : (m r : List Stretch) (x : Stretch) → MayEnd false (m ++ x ∷ r) → EachPassed NoInk (m ++ x ∷ r) → MayStand x (reverse m)
 may_stand m r x h q = at x (known_end m false x r [] (λ t. absurd cc) h) q where
@@ -377,27 +375,13 @@ all_kept may_add (x ∷ m) h = subst (λ ys. All (IsKept may_add) ys) (sym (reve
 debt_paid : (m before : List Stretch) (e : Place) → EachPlace IsFreeOfDebt (m ++ Placed e ∷ before) → owes_line (m ++ Placed e ∷ before) ≡ false → is_inked (chunk_at e) ≡ true
     → list_any asks_newline (events_back m) ≡ true → has_newline m ≡ true
 debt_paid [] before e f o i a = absurd cc
-debt_paid (Gap b ∷ m) before e f o i a = at (by_cases (b == 10)) (debt_paid m before e f) where
-  at : ((b == 10) ≡ true) ⊎ ((b == 10) ≡ false)
-      → (owes_line (m ++ Placed e ∷ before) ≡ false → is_inked (chunk_at e) ≡ true → list_any asks_newline (events_back m) ≡ true → has_newline m ≡ true) → has_newline (Gap b ∷ m) ≡ true
-  at (inl t) ih = rw t refl
-  at (inr t) ih = let rest : owes_line (m ++ Placed e ∷ before) ≡ false = rw t at o in rw t (ih rest i a)
+debt_paid (Gap b ∷ m) before e f o i a = grind (arith, debt_paid m before e f)
 debt_paid (Placed g ∷ m) before e f o i a = debt_paid m before e f.1 f.0 i a
-debt_paid (Passed event ∷ m) before e f o i a = at (by_cases (asks_newline event)) (by_cases (has_newline m)) (debt_paid m before e f) where
-  at : (asks_newline event ≡ true) ⊎ (asks_newline event ≡ false) → (has_newline m ≡ true) ⊎ (has_newline m ≡ false)
-      → (owes_line (m ++ Placed e ∷ before) ≡ false → is_inked (chunk_at e) ≡ true → list_any asks_newline (events_back m) ≡ true → has_newline m ≡ true) → has_newline (Passed event ∷ m) ≡ true
-  at (inl t) (inl n) ih = n
-  at (inl t) (inr n) ih =
-      let line : inked_line (m ++ Placed e ∷ before) ≡ true = inked_since m e before i n in
-      let none : (asks_newline event && inked_line (m ++ Placed e ∷ before)) ≡ false = (or_parts _ (owes_line (m ++ Placed e ∷ before)) o).0 in
-      let no : true ≡ false = rw (t, line) at none in absurd cc
-  at (inr t) n ih =
-      let rest : owes_line (m ++ Placed e ∷ before) ≡ false = (or_parts (asks_newline event && inked_line (m ++ Placed e ∷ before)) _ o).1 in
-      let asks : list_any asks_newline (events_back m) ≡ true = rw t at a in ih rest i asks
+debt_paid (Passed event ∷ m) before e f o i a = grind (arith, debt_paid m before e f, inked_since m e before i)
 
-sum_columns : (es : List Event) → chunk_columns es ≡ sum_by event_columns es
-sum_columns [] = refl
-sum_columns (x ∷ es) = ap (λ (n : ℕ). event_columns x + n) (sum_columns es) ∙ sym (sum_by-cons event_columns x es)
+sum_is : (takes : Event → ℕ) (es : List Event) → sum_of takes es ≡ sum_by takes es
+sum_is takes [] = refl
+sum_is takes (x ∷ es) = ap (λ (n : ℕ). takes x + n) (sum_is takes es) ∙ sym (sum_by-cons takes x es)
 
 module _ (width : ℕ) (document : List Part) (st : State) (final : List Stretch) (ends : Ends st final) (base : Base width st) where
   abbrev stretches : List Stretch
@@ -424,9 +408,8 @@ module _ (width : ℕ) (document : List Part) (st : State) (final : List Stretch
 
   place_fronts : (P : List Stretch → Place → Type 0) (m r : List Stretch) (f : Place) → EachPlace P (m ++ Placed f ∷ r) → EachPlace P r
   place_fronts P [] r f h = h.1
-  place_fronts P (Gap b ∷ m) r f h = place_fronts P m r f h
   place_fronts P (Placed g ∷ m) r f h = place_fronts P m r f h.1
-  place_fronts P (Passed event ∷ m) r f h = place_fronts P m r f h
+  place_fronts P (_ ∷ m) r f h = place_fronts P m r f h
 
   asked_law : BreaksWhereAsked width stretches
   asked_law = record {
@@ -496,18 +479,28 @@ module _ (width : ℕ) (document : List Part) (st : State) (final : List Stretch
         blank = events_between h.between ∙ ap (λ es. reverse es) h.one_blank;
       })
 
-    needed_law : WrapsOnlyIfNeeded width stretches
-    needed_law = λ before between e f h first_plain second_plain light line.
-        let over : width < reach (reverse between) e (reverse before) + columns f.bytes = law_at (IsNeededBefore width) clearly.needed before between h.after e f h.order (reverse between) (reverse before) e refl
-        (first_plain, h.first_inked) (kind between light) (any_turned is_newline between ∙ line) in
-        let here : column before ≡ column_back (reverse before) = column_is before in
-        let sums : chunk_columns (events_back (reverse between)) ≡ sum_by event_columns (events_of between) =
-        sum_columns (events_back (reverse between)) ∙ ap (λ es. sum_by event_columns es) (events_between between) ∙ sum_turned event_columns (events_of between) in
-        omega arith where
-          kind : (between : List Stretch) → IsTrue (list_all is_light (events_of between)) ⊎ IsTrue (list_all is_light_mark (events_of between))
-              → (list_all is_light (events_back (reverse between)) ≡ true) ⊎ (list_all is_light_mark (events_back (reverse between)) ≡ true)
-          kind between (inl l) = inl (events_all is_light between ∙ l)
-          kind between (inr l) = inr (events_all is_light_mark between ∙ l)
+    sums_turned : (takes : Event → ℕ) (between : List Stretch) → sum_of takes (events_back (reverse between)) ≡ sum_by takes (events_of between)
+    sums_turned takes between = sum_is takes (events_back (reverse between)) ∙ ap (λ es. sum_by takes es) (events_between between) ∙ sum_turned takes (events_of between)
+
+    -- where the line is broken, what the rule reckons is more than the width
+    over_width : (rule : Rule) → BreaksBy width rule st → (before between : List Stretch) (e f : Place) → AreApart stretches before e between f → IsRun width rule (reverse between) e
+        → IsTrue (list_any is_newline between) → width < column before + rule.takes (Shows e.part (chunk_at e)) + rule.taken (events_back (reverse between)) + columns f.bytes
+    over_width rule broken before between e f h run line =
+        let over : width < end_of width rule (events_back (reverse between)) e (reverse before) + columns f.bytes =
+        law_at (HasNoRoom width rule) broken.no_room before between h.after e f h.order (reverse between) (reverse before) e refl run (any_turned is_newline between ∙ line) in
+        let here : column before ≡ column_back (reverse before) = column_is before in omega arith
+
+    needed_law : Spacious width (greatest_margin document) st → WrapsOnlyIfNeeded width stretches
+    needed_law spacious = λ before between e f h ordinary second kind line.
+        let inked : is_inked (chunk_at e) ≡ true = h.first_inked in
+        let plain : is_plain (chunk_at e) ≡ true = rw (ordinary, inked) refl in
+        let sums : sum_of event_columns (events_back (reverse between)) ≡ sum_by event_columns (events_of between) = sums_turned event_columns between in
+        elim kind [
+          | inl l ↦ let over : width < column before + columns e.bytes + sum_of event_columns (events_back (reverse between)) + columns f.bytes =
+              over_width light spacious.by_light before between e f h (plain, events_all is_light between ∙ l) line in omega arith
+          | inr l ↦ let over : width < column before + columns e.bytes + sum_of event_columns (events_back (reverse between)) + columns f.bytes =
+              over_width light_marks spacious.by_marks before between e f h (plain, events_all is_light_mark between ∙ l) line in omega arith
+        ]
 
     padding_is : (before : List Stretch) → padding before ≡ pads_back (reverse before)
     padding_is before = ap padding (sym (reverse-reverse before)) ∙ padding_turned (reverse before)
@@ -545,29 +538,20 @@ module _ (width : ℕ) (document : List Part) (st : State) (final : List Stretch
 
     room_law : Spacious width (greatest_margin document) st → BreaksForRoom document width stretches
     room_law spacious = λ before between e f h plain quiet line.
-        let idle : list_all is_idle (events_back (reverse between)) ≡ true =
+        let idles : list_all is_idle (events_back (reverse between)) ≡ true =
         idle_all (reverse between) (any_turned is_inked_stretch between ∙ not-true (list_any is_inked_stretch between) plain)
         (events_any asks_newline between ∙ not-true (list_any asks_newline (events_of between)) quiet) in
-        let over : width < room (greatest_margin document) (events_back (reverse between)) e (reverse before) + columns f.bytes =
-        law_at (HasNoRoom width (greatest_margin document)) spacious.no_room before between h.after e f h.order (reverse between) (reverse before) e refl h.first_inked idle (any_turned is_newline between ∙ line) in
-        let here : column before ≡ column_back (reverse before) = column_is before in
-        let sums : taken (events_back (reverse between)) ≡ sum_by room_of (events_of between) =
-        sum_taken (events_back (reverse between)) ∙ ap (λ es. sum_by room_of es) (events_between between) ∙ sum_turned room_of (events_of between) in
+        let over : width < column before + e.weight + (sum_of room_of (events_back (reverse between)) + allowance (greatest_margin document) (events_back (reverse between))) + columns f.bytes =
+        over_width (idle (greatest_margin document)) spacious.by_idle before between e f h (h.first_inked, idles) line in
+        let sums : sum_of room_of (events_back (reverse between)) ≡ sum_by room_of (events_of between) = sums_turned room_of between in
         let later : IsAfterAll (reverse between ++ Placed e ∷ reverse before) f = law_at IsAfterAll spacious.after_all before between h.after e f h.order in
         let most : allowance (greatest_margin document) (events_back (reverse between)) ≤ (if e.part == f.part then 0 else greatest_margin document) =
         allowed (reverse between) (reverse before) e f (by_cases (list_all is_chunk (events_back (reverse between)))) later in
         omega arith where
-          sum_taken : (es : List Event) → taken es ≡ sum_by room_of es
-          sum_taken [] = refl
-          sum_taken (x ∷ es) = ap (λ (n : ℕ). room_of x + n) (sum_taken es) ∙ sym (sum_by-cons room_of x es)
-
           allowed : (m before : List Stretch) (e f : Place) → (list_all is_chunk (events_back m) ≡ true) ⊎ (list_all is_chunk (events_back m) ≡ false) → IsAfterAll (m ++ Placed e ∷ before) f
               → allowance (greatest_margin document) (events_back m) ≤ (if e.part == f.part then 0 else greatest_margin document)
           allowed m before e f (inl t) later = rw t (omega arith)
-          allowed m before e f (inr t) later =
-              let apart : e.part < f.part = part_later false f.part m before e later (inr t) in
-              let differ : (e.part == f.part) ≡ false = grind (arith, nat_tests) in
-              rw (t, differ) (omega arith)
+          allowed m before e f (inr t) later = grind (arith, part_later, nat_tests)
 
 -- ---- the whole
 
@@ -583,8 +567,7 @@ narrow_each (x ∷ xs) most l = (at x (first_le x xs l), narrow_each xs most (re
   first_le x xs l = let more : max 0 (event_columns (next_event x)) ≤ fold max (max 0 (event_columns (next_event x))) (map event_columns (map next_event xs)) = more_than (map event_columns (map next_event xs)) (max 0 (event_columns (next_event x))) in omega arith
 
   rest_le : (x : Next) (xs : List Next) → widest (map next_event (x ∷ xs)) ≤ most → widest (map next_event xs) ≤ most
-  rest_le x xs l = let more : fold max 0 (map event_columns (map next_event xs)) ≤ fold max (max 0 (event_columns (next_event x))) (map event_columns (map next_event xs)) =
-      fold_more (map event_columns (map next_event xs)) 0 (max 0 (event_columns (next_event x))) (omega arith) in omega arith
+  rest_le x xs l = grind (arith, fold_more)
 
   at : (x : Next) → event_columns (next_event x) ≤ most → IsNarrow most x
   at (raw p) l = l
@@ -623,7 +606,7 @@ layout_of_page document full width nexts st final w events shallow ends same = r
   asked = asked_law width document st final ends base;
   kept = kept_law width document st final ends base;
   margin = λ small clear. margin_law width document st final ends base (clearly small clear);
-  needed = λ small clear. needed_law width document st final ends base (clearly small clear);
+  needed = λ small clear. needed_law width document st final ends base (clearly small clear) (spacious small clear);
   fits = λ small clear. fits_law width document st final ends base (clearly small clear);
   padded = λ small clear. padded_law width document st final ends base (clearly small clear);
   room = λ small clear. room_law width document st final ends base (clearly small clear) (spacious small clear);

@@ -65,10 +65,7 @@ body_is : (n : ℕ) (s : Sheet) → view (page.body_padded n s) ≡ exact.body_p
 body_is n s = view_if (s.at_body && nat_le 28 s.column) (page.blanks_put (2 - n) s) s
 
 placed_is : (level : ℕ) (bytes : List ℕ) (weight : ℕ) (s : Sheet) → page.margin_of s ≡ level → view (page.placed bytes weight s) ≡ exact.placed level bytes weight (view s)
-placed_is level bytes weight s e =
-    ap (λ p. exact.slice_put bytes weight p)
-    (body_is (page.margin_of s - s.column) (page.blanks_put (page.margin_of s - s.column) s)
-    ∙ ap (λ (m : ℕ). exact.body_parted (m - s.column) (exact.with_blanks (m - s.column) (view s))) e)
+placed_is level bytes weight s e = grind (arith, body_is)
 
 -- the cases of a Raw chunk, in the order of the rules
 raw_cases : (empty wide blank : Bool) (s a w : Sheet) (put : Sheet → Sheet)
@@ -147,10 +144,7 @@ text_is full width level (Raw bytes weight ∷ chunks) s good wide margin =
     text_is full width level chunks (page.raw_put bytes weight s) good.1 (frame.width ∙ wide) (margin_kept s (page.raw_put bytes weight s) frame ∙ margin)
     ∙ ap (exact.chunks_put width level (written_of full chunks)) (raw_is width level bytes weight s (columns_good bytes weight good.0) wide margin)
 text_is full width level (LineBreak ∷ chunks) s good wide margin = text_is full width level chunks (page.newline_put s) good.1 wide margin
-text_is full width level (Paragraph ∷ chunks) s good wide margin = at full (text_is full width level chunks (page.newline_put s) good.1 wide margin) where
-  at : (b : Bool) → view (page.text_put full chunks (page.newline_put s)) ≡ exact.chunks_put width level (written_of full chunks) (view (page.newline_put s))
-      → view (if b then page.text_put full chunks (page.newline_put s) else page.newline_put s) ≡ exact.chunks_put width level (Paragraph ∷ (if b then written_of full chunks else [])) (view s)
-  at b rest = grind arith
+text_is full width level (Paragraph ∷ chunks) s good wide margin = grind (arith, text_is full width level chunks)
 
 -- ---- the marks
 
@@ -183,20 +177,11 @@ pushed_is (Some n) s = refl
 
 start_is : (b : Block) (adjacent : Bool) (s : Sheet) → view (page.opened b adjacent s) ≡ exact.start_put b (view s)
 unfolding page.opened
-start_is b adjacent s =
-    marked_is b (page.margin_pushed (page.indent_of b s.tab_stop adjacent) (record s { asks = page.asked_by_start s.asks b; at_body = s.at_body || page.is_body b }))
-    ∙ ap (exact.backquoted b)
-    (pushed_is (page.indent_of b s.tab_stop adjacent) (record s { asks = page.asked_by_start s.asks b; at_body = s.at_body || page.is_body b })
-    ∙ ap (λ (r : Request). so_far s r (s.at_body || page.is_body b)) (start_request b s.asks)
-    ∙ ap (λ (c : Bool). so_far s (exact.request_at_start b (request_of s.asks)) (s.at_body || c)) (body_same b))
+start_is b adjacent s = grind (arith, marked_is, pushed_is, start_request, body_same)
 
 end_is : (b : Block) (s : Sheet) → view (page.closed b s) ≡ exact.end_put b (view s)
 unfolding page.closed
-end_is b s =
-    marked_is b (record s { margins = take (length s.margins - 1) s.margins; asks = page.asked_by_end s.asks b; at_body = s.at_body && not (page.is_body b) })
-    ∙ ap (exact.backquoted b)
-    (ap (λ (r : Request). so_far s r (s.at_body && not (page.is_body b))) (end_request b s.asks)
-    ∙ ap (λ (c : Bool). so_far s (exact.request_at_end b (request_of s.asks)) (s.at_body && not c)) (body_same b))
+end_is b s = grind (arith, marked_is, end_request, body_same)
 
 -- ---- the parts
 
@@ -239,19 +224,13 @@ module _ (full : Bool) (document : List Part) (width : ℕ) (is_small : length d
 
   same_width : (index : ℕ) (part : Part) (pairs : Pairs) (hidden : ℕ) (s : Sheet) → s.width ≡ width → (whole.part_put full document index pairs hidden part s).width ≡ width
   same_width index (Text bytes style) pairs hidden s wide = keeps_width_if (hidden == 0) (page.text_put full (chunks_of bytes) s) s width ((text_frame full (chunks_of bytes) s).width ∙ wide) wide
-  same_width index (Start b) pairs hidden s wide =
-      keeps_width_if (whole.skips next index b) s (page.opened b (whole.is_adjacent b next) s) width wide ((opened_keeps b (whole.is_adjacent b next) s).0 ∙ wide) where
-        next : Pairs
-        next = whole.pairs_at document index b pairs
+  same_width index (Start b) pairs hidden s wide = grind (arith, keeps_width_if, opened_keeps)
   same_width index (End b) pairs hidden s wide = keeps_width_if (whole.skips pairs index b) s (page.closed b s) width wide ((closed_keeps b s).0 ∙ wide)
 
   parts_same : (parts : List Part) (index : ℕ) (before : List Part) (pairs : Pairs) (hidden : ℕ) (s : Sheet) → Walk full document index before parts pairs hidden s → s.width ≡ width
       → view (whole.parts_put full document index pairs hidden parts s) ≡ exact.parts_put full width document (enumerate_from index parts) (view s)
   parts_same [] index before pairs hidden s w wide = refl
-  parts_same (part ∷ parts) index before pairs hidden s w wide =
-      parts_same parts (index + 1) (before ++ part ∷ []) (whole.pairs_after document index pairs part) (hidden_after full hidden part) (whole.part_put full document index pairs hidden part s)
-      (walk_part full document is_small index before parts part pairs hidden s w) (same_width index part pairs hidden s wide)
-      ∙ ap (exact.parts_put full width document (enumerate_from (index + 1) parts)) (part_same index before parts part pairs hidden s w wide)
+  parts_same (part ∷ parts) index before pairs hidden s w wide = grind (arith, parts_same parts (index + 1) (before ++ part ∷ []), walk_part, same_width, part_same)
 
   pub text-page : console_text full width document ≡ console_page full width document
   text-page =

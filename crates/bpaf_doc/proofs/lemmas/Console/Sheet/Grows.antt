@@ -167,9 +167,7 @@ padded_more zero b r = let e : 0 + b ≡ b = omega arith in ap (λ (n : ℕ). pa
 padded_more (suc a) b r = let e : suc a + b ≡ suc (a + b) = omega arith in ap (λ xs. Gap 32 ∷ xs) (padded_more a b r) ∙ ap (λ (n : ℕ). padded n r) (sym e)
 
 spaced_more : (a b : ℕ) (st : State) → spaced a (spaced b st) ≡ spaced (a + b) st
-spaced_more a b st =
-    let column : sat (sat (st.column + b) + a) ≡ sat (st.column + (a + b)) = omega arith in
-    ap (λ xs. record st { back = xs; column = sat (sat (st.column + b) + a) }) (padded_more a b st.back) ∙ ap (λ (k : ℕ). record st { back = padded (a + b) st.back; column = k }) column
+spaced_more a b st = grind (arith, padded_more)
 
 abbrev pub SpacesTo : Sheet → State → Sheet → Type 0
 SpacesTo s st t = (n : ℕ) × Pads st n × Draws t (spaced n st)
@@ -291,12 +289,7 @@ raw_placed p s st u l weighed d = at (by_cases (length s.out == 0)) where
   lines = lines_put s st d
 
   same_width : (page.asked_put s).width ≡ s.width
-  same_width = width_if (page.lacks_blank_line (page.asked_newline_put s)) (record (page.asked_newline_put s) { out = (page.asked_newline_put s).out ++ 10 ∷ [] }) (page.asked_newline_put s) s.width after_line after_line where
-    width_if : (b : Bool) (x y : Sheet) (w : ℕ) → x.width ≡ w → y.width ≡ w → (if b then x else y).width ≡ w
-    width_if b x y w a b' = grind arith
-
-    after_line : (page.asked_newline_put s).width ≡ s.width
-    after_line = width_if (page.lacks_newline s) (page.newline_put s) s s.width refl refl
+  same_width = grind arith
 
   is_first : (length s.out == 0) ≡ true → page.raw_put p.bytes p.weight s ≡ page.placed p.bytes p.weight s
   is_first h = rw h refl
@@ -322,22 +315,10 @@ raw_placed p s st u l weighed d = at (by_cases (length s.out == 0)) where
     column = lines.2.column
 
     over : page.is_too_wide (page.columns_of p.bytes p.weight) (page.asked_put s) ≡ true → s.width < sat (lines.0.column + columns p.bytes)
-    over k =
-        let a : (page.asked_put s).width < sat ((page.asked_put s).column + page.columns_of p.bytes p.weight) = more_than (page.asked_put s).width (sat ((page.asked_put s).column + page.columns_of p.bytes p.weight)) k in
-        let b : (page.asked_put s).width ≡ s.width = same_width in
-        let c : (page.asked_put s).column ≡ lines.0.column = column in
-        let e : page.columns_of p.bytes p.weight ≡ columns p.bytes = same_columns in omega arith where
-          more_than : (w n : ℕ) → nat_lt w n ≡ true → w < n
-          more_than w n h = grind (arith, nat_tests)
+    over k = grind (arith, column, nat_tests)
 
     under : page.is_too_wide (page.columns_of p.bytes p.weight) (page.asked_put s) ≡ false → sat (lines.0.column + columns p.bytes) ≤ s.width
-    under k =
-        let a : sat ((page.asked_put s).column + page.columns_of p.bytes p.weight) ≤ (page.asked_put s).width = at_most (page.asked_put s).width (sat ((page.asked_put s).column + page.columns_of p.bytes p.weight)) k in
-        let b : (page.asked_put s).width ≡ s.width = same_width in
-        let c : (page.asked_put s).column ≡ lines.0.column = column in
-        let e : page.columns_of p.bytes p.weight ≡ columns p.bytes = same_columns in omega arith where
-          at_most : (w n : ℕ) → nat_lt w n ≡ false → n ≤ w
-          at_most w n h = grind (arith, nat_tests)
+    under k = grind (arith, column, nat_tests)
 
     turned : Draws (page.wrapped (page.asked_put s)) (wrapped lines.0)
     turned = draws_wrapped (page.asked_put s) lines.0 lines.2

@@ -55,24 +55,13 @@ gap_is_gap b (inl e) = rw e refl
 gap_is_gap b (inr e) = rw e refl
 
 inks_cons : (x : Event) (xs : List Event) → flat_map event_ink (reverse (x ∷ xs)) ≡ flat_map event_ink (reverse xs) ++ event_ink x
-inks_cons x xs =
-    ap (flat_map event_ink) (reverse_cons x xs) ∙ flat_map-append event_ink (reverse xs) (x ∷ [])
-    ∙ ap (λ more. flat_map event_ink (reverse xs) ++ more) (append-nil (event_ink x))
+inks_cons x xs = grind (arith, reverse_cons, flat_map-append, append-nil)
 
 ink_back : (r : List Stretch) → IsLegible r → EachPassed NoInk r → ink (text_back r) ≡ flat_map event_ink (reverse (events_back r))
 ink_back [] legible none = ink-nil
-ink_back (Gap b ∷ r) legible none =
-    ap ink (text_back_cons (Gap b) r) ∙ ink_before_gap (text_back r) (b ∷ []) (text_utf8 r legible.1) (gap_is_gap b legible.0) ∙ ink_back r legible.1 none
-ink_back (Placed e ∷ r) legible none =
-    ap ink (text_back_cons (Placed e) r) ∙ ink-append (text_back r) e.shown (text_utf8 r legible.1)
-    ∙ ap (λ front. front ++ ink e.shown) (ink_back r legible.1 none)
-    ∙ ap (λ more. flat_map event_ink (reverse (events_back r)) ++ more) (elim legible.0.2 [ inl same ↦ ap ink same | inr cut ↦ ap ink cut ∙ trim_ink e.bytes legible.0.0 ])
-    ∙ sym (inks_cons (Shows e.part (chunk_at e)) (events_back r))
-ink_back (Passed event ∷ r) legible none =
-    ap ink (text_back_cons (Passed event) r) ∙ ink-append (text_back r) (event_bytes event) (text_utf8 r legible)
-    ∙ ap (λ front. front ++ ink (event_bytes event)) (ink_back r legible none.1)
-    ∙ ap (λ more. flat_map event_ink (reverse (events_back r)) ++ more) (passed_ink event none.0)
-    ∙ sym (inks_cons event (events_back r))
+ink_back (Gap b ∷ r) legible none = grind (arith, ink_back r legible.1 none, text_back_cons, ink_before_gap, text_utf8, gap_is_gap)
+ink_back (Placed e ∷ r) legible none = grind (arith, ink_back r legible.1 none, text_back_cons, ink-append, text_utf8, trim_ink, inks_cons)
+ink_back (Passed event ∷ r) legible none = grind (arith, ink_back r legible none.1, text_back_cons, ink-append, text_utf8, passed_ink, inks_cons)
 
 -- ---- the ink of what is shown
 
@@ -158,13 +147,7 @@ module _ (full : Bool) (document : List Part) (few : length document < 2 ^ 59) w
         ∙ all_ink width
 
     page_ink : ink (console_text full width document) ≡ console_ink full document
-    page_ink = at (page.asks_break (whole.whole_page full width document).asks) where
-      is_text : IsUtf8 (whole.whole_page full width document).out
-      is_text = subst IsUtf8 (sym page_done.later.draws.bytes) (text_utf8 page_done.later.st.back page_done.later.draws.legible)
-
-      at : (c : Bool) → ink (if c then (whole.whole_page full width document).out ++ 10 ∷ [] else (whole.whole_page full width document).out) ≡ console_ink full document
-      at true = ink_before_gap (whole.whole_page full width document).out (10 ∷ []) is_text refl ∙ out_ink
-      at false = out_ink
+    page_ink = grind (arith, page_done, text_utf8, ink_before_gap, out_ink)
 
     page_layout : IsLayout document full width (console_page full width document)
     page_layout =

@@ -121,9 +121,7 @@ length_turned m ms = let a : length (reverse (m ∷ ms)) ≡ length (m ∷ ms) =
 
 pub top_innermost : (s : Sheet) (stack : List ℕ) → s.margins ≡ reverse stack → page.innermost s ≡ top stack
 top_innermost s [] e = ap (λ (ms : List ℕ). unwrap_or (slice_get ms (length ms - 1)) 0) e
-top_innermost s (m ∷ ms) e =
-    ap (λ (xs : List ℕ). unwrap_or (slice_get xs (length xs - 1)) 0) e ∙ ap (λ (i : ℕ). unwrap_or (slice_get (reverse (m ∷ ms)) i) 0) (length_turned m ms)
-    ∙ ap (λ (xs : List ℕ). unwrap_or (slice_get xs (length (reverse ms))) 0) (turned m ms) ∙ ap (λ o. unwrap_or o 0) (get_last (reverse ms) m)
+top_innermost s (m ∷ ms) e = grind (arith, length_turned, turned, get_last)
 
 take_front : (xs : List ℕ) (m : ℕ) → take (length xs) (xs ++ m ∷ []) ≡ xs
 take_front [] m = refl
@@ -131,9 +129,7 @@ take_front (x ∷ xs) m = ap (λ ys. x ∷ ys) (take_front xs m)
 
 pub popped_margins : (margins stack : List ℕ) → margins ≡ reverse stack → take (length margins - 1) margins ≡ reverse (popped stack)
 popped_margins margins [] e = ap (λ (ms : List ℕ). take (length ms - 1) ms) e
-popped_margins margins (m ∷ ms) e =
-    ap (λ (xs : List ℕ). take (length xs - 1) xs) e ∙ ap (λ (i : ℕ). take i (reverse (m ∷ ms))) (length_turned m ms)
-    ∙ ap (λ (xs : List ℕ). take (length (reverse ms)) xs) (turned m ms) ∙ take_front (reverse ms) m
+popped_margins margins (m ∷ ms) e = grind (arith, length_turned, turned, take_front)
 
 pub pushed_margins : (margins stack : List ℕ) (m : ℕ) → margins ≡ reverse stack → margins ++ m ∷ [] ≡ reverse (m ∷ stack)
 pushed_margins margins stack m e = ap (λ (xs : List ℕ). xs ++ m ∷ []) e ∙ sym (turned m stack)

@@ -24,9 +24,7 @@ same_position p q same [] = refl
 same_position p q same (x ∷ xs) = rw (same x, same_position p q same xs) refl
 
 section4_end_is : (document : List Part) (index : ℕ) → whole.section4_end document index + 1 ≡ after_section4 document index
-section4_end_is document index =
-    let e : position_or_len (λ part. whole.is_section4_end (Some part)) (drop (index + 1) document) ≡ position_or_len margin.is_section4_end (drop (index + 1) document) =
-    same_position (λ part. whole.is_section4_end (Some part)) margin.is_section4_end end_test (drop (index + 1) document) in omega arith
+section4_end_is document index = grind (arith, same_position, end_test)
 
 block_start : (part : Option Part) → IsTrue (whole.is_block_start part) ↔ (part ≡ Some (Start blocks.Block))
 block_start (Some (Start blocks.Block)) = ((λ h. refl), (λ e. refl))

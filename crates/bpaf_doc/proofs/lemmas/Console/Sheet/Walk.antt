@@ -110,11 +110,7 @@ is_zero n h = grind (arith, nat_tests)
 
 -- in full nothing is hidden
 none_hidden : (full : Bool) (hidden : ℕ) (part : Part) → (full ≡ true → hidden ≡ 0) → full ≡ true → hidden_after full hidden part ≡ 0
-none_hidden full hidden part h t = ap (λ (b : Bool). hidden_after b hidden part) t ∙ ap (λ (n : ℕ). hidden_after true n part) (h t) ∙ at part where
-  at : (part : Part) → hidden_after true 0 part ≡ 0
-  at (Text bytes style) = refl
-  at (Start b) = refl
-  at (End b) = grind arith
+none_hidden full hidden part h t = grind arith
 
 -- ---- a stack is low: no entry is above 30 for each entry from it down
 
@@ -128,10 +124,7 @@ low_top (m ∷ ms) low = low.0
 
 -- so few margins fit a usize, and the margin in force is the top
 pub few_fits : (s : Sheet) (stack : List ℕ) → s.margins ≡ reverse stack → IsLow stack → page.HasFewMargins s → top stack ≤ 18446744073709551615
-few_fits s stack margins low few =
-    let most : top stack ≤ 30 * length stack = low_top stack low in
-    let many : length s.margins ≡ length stack = ap length margins ∙ length-reverse stack in
-    let less : length s.margins < 2 ^ 59 = few in omega arith
+few_fits s stack margins low few = grind (arith, low_top, length-reverse)
 
 pub level_top : (s : Sheet) (stack : List ℕ) → s.margins ≡ reverse stack → top stack ≤ 18446744073709551615 → page.margin_of s ≡ top stack
 level_top s stack margins fits = let is : page.innermost s ≡ top stack = top_innermost s stack margins in omega arith
@@ -237,14 +230,7 @@ module _ (full : Bool) (document : List Part) where
 
     -- the chunks that are shown, where the text is
     pub shown_is : (hidden == 0) ≡ true → shown_chunks full (take index document) bytes ≡ written_of full (chunks_of bytes)
-    shown_is h = both full refl where
-      both : (b : Bool) → full ≡ b → shown_chunks full (take index document) bytes ≡ written_of full (chunks_of bytes)
-      both true t = ap (λ (c : Bool). shown_chunks c (take index document) bytes) t ∙ sym (written_all (chunks_of bytes)) ∙ ap (λ (c : Bool). written_of c (chunks_of bytes)) (sym t)
-      both false f =
-          let shown : is_hidden (take index document) ≡ false = hiding_is f ∙ ap not h in
-          ap (λ (c : Bool). shown_chunks c (take index document) bytes) f
-          ∙ ap (λ (c : Bool). if c then [] else through_paragraph (chunks_of bytes)) shown
-          ∙ sym (written_brief (chunks_of bytes)) ∙ ap (λ (c : Bool). written_of c (chunks_of bytes)) (sym f)
+    shown_is h = grind (arith, written_all, hiding_is, written_brief)
 
     pub hidden_is : (hidden == 0) ≡ false → shown_chunks full (take index document) bytes ≡ []
     hidden_is h = both full refl where

@@ -196,17 +196,11 @@ events_from full document k parts = flat_map (λ (j, part). part_events full doc
 
 enumerate_snoc : (k : ℕ) (xs : List Part) (x : Part) → enumerate_from k (xs ++ x ∷ []) ≡ enumerate_from k xs ++ (k + length xs, x) ∷ []
 enumerate_snoc k [] x = let e : k ≡ k + 0 = omega arith in ap (λ (n : ℕ). (n, x) ∷ []) e
-enumerate_snoc k (y ∷ xs) x =
-    let e : k + 1 + length xs ≡ k + suc (length xs) = omega arith in
-    ap (λ ys. (k, y) ∷ ys) (enumerate_snoc (k + 1) xs x ∙ ap (λ (n : ℕ). enumerate_from (k + 1) xs ++ (n, x) ∷ []) e)
+enumerate_snoc k (y ∷ xs) x = grind (arith, enumerate_snoc (k + 1) xs x)
 
 events_snoc : (full : Bool) (document before : List Part) (part : Part) (index : ℕ) → length before ≡ index
     → events_from full document 0 (before ++ part ∷ []) ≡ events_from full document 0 before ++ part_events full document index part
-events_snoc full document before part index e =
-    let place : 0 + length before ≡ index = omega arith in
-    ap (λ ps. flat_map (λ (j, p). part_events full document j p) ps) (enumerate_snoc 0 before part)
-    ∙ flat_map-append (λ (j, p). part_events full document j p) (enumerate_from 0 before) ((0 + length before, part) ∷ [])
-    ∙ ap (λ es. events_from full document 0 before ++ es) (append-nil (part_events full document (0 + length before) part) ∙ ap (λ (j : ℕ). part_events full document j part) place)
+events_snoc full document before part index e = grind (arith, enumerate_snoc, flat_map-append, append-nil)
 
 map_append : (xs ys : List Next) → map next_event (xs ++ ys) ≡ map next_event xs ++ map next_event ys
 map_append [] ys = refl
@@ -266,8 +260,7 @@ module _ (full : Bool) (document : List Part) (width : ℕ) (is_small : length d
 
     -- the margin after a mark
     level_is : (next : Pairs) (t : Sheet) → Walk full document (index + 1) (before ++ part ∷ []) rest next (hidden_after full hidden part) t → page.HasFewMargins t → page.margin_of t ≡ margin document index
-    level_is next t walk few =
-        level_top t (stack_at document (index + 1)) walk.margins (few_fits t (stack_at document (index + 1)) walk.margins walk.low few) ∙ top-margin document index
+    level_is next t walk few = grind (arith, level_top, few_fits, top-margin)
 
     st_margin : g.later.st.margin ≡ top (stack_at document index)
     st_margin = sym g.later.draws.margin ∙ level_top s (stack_at document index) g.walk.margins g.fits
@@ -488,14 +481,10 @@ module _ (full : Bool) (document : List Part) (width : ℕ) (is_small : length d
         (layout_of_page document full width ended_page.nexts ended_page.later.st final ended_page.later.written ended_page.events ended_page.shallow ends (ap ink (sym text) ∙ same))
 
     ended : page.asks_break (whole.whole_page full width document).asks ≡ true → console_text full width document ≡ (whole.whole_page full width document).out ++ 10 ∷ []
-    ended h = put_if (page.asks_break (whole.whole_page full width document).asks) h where
-      put_if : (c : Bool) → c ≡ true → (if c then (whole.whole_page full width document).out ++ 10 ∷ [] else (whole.whole_page full width document).out) ≡ (whole.whole_page full width document).out ++ 10 ∷ []
-      put_if c e = rw e refl
+    ended h = grind arith
 
     open_end : page.asks_break (whole.whole_page full width document).asks ≡ false → console_text full width document ≡ (whole.whole_page full width document).out
-    open_end h = put_if (page.asks_break (whole.whole_page full width document).asks) h where
-      put_if : (c : Bool) → c ≡ false → (if c then (whole.whole_page full width document).out ++ 10 ∷ [] else (whole.whole_page full width document).out) ≡ (whole.whole_page full width document).out
-      put_if c e = rw e refl
+    open_end h = grind arith
 
     at : (page.asks_break (whole.whole_page full width document).asks ≡ true) ⊎ (page.asks_break (whole.whole_page full width document).asks ≡ false) → IsLayout document full width (console_text full width document)
     at (inl h) = layout (Gap 10 ∷ ended_page.later.st.back) (with_newline refl) (ended h ∙ ap (λ bs. bs ++ 10 ∷ []) bytes ∙ sym (text_back_cons (Gap 10) ended_page.later.st.back))

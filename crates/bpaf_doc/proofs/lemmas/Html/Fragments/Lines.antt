@@ -1,5 +1,5 @@
 -- No chunk of a text has a newline in it, so no fragment of a document has.
-use Rattle.std.proofs.Common.{◌≡◌, ℕ, zero, suc, Bool, true, false, List, [], ◌∷◌, map, take, refl, ap, ◌∙◌}
+use Rattle.std.proofs.Common.{arith, ◌≡◌, ℕ, zero, suc, Bool, true, false, List, [], ◌∷◌, map, take, refl, ap, ◌∙◌}
 use Rattle.std.specs.Prelude.{not, ◌&&◌, ◌==◌}
 use Rattle.std.specs.List.{list_all, position_or_len}
 use Rattle.std.proofs.lemmas.List.Folds.{list_all-append, list_all-map}
@@ -22,9 +22,7 @@ fragment_is_line _ = true
 
 word_is_line : (bytes : List ℕ) → list_all is_word_byte bytes ≡ true → list_all is_line_byte bytes ≡ true
 word_is_line [] h = refl
-word_is_line (b ∷ bs) h =
-    let parts : (is_word_byte b ≡ true) × (list_all is_word_byte bs ≡ true) = and_parts (is_word_byte b) (list_all is_word_byte bs) h in
-    and_from (is_line_byte b) (list_all is_line_byte bs) (and_parts (not (b == 10)) (not (b == 32)) parts.0).0 (word_is_line bs parts.1)
+word_is_line (b ∷ bs) h = grind (arith, word_is_line bs, and_parts, and_from)
 
 one_more_line : (c : Chunk) (chunks others : List Chunk) → chunks ≡ c ∷ others → chunk_is_line c ≡ true → list_all chunk_is_line others ≡ true → list_all chunk_is_line chunks ≡ true
 one_more_line c chunks others e h more = ap (list_all chunk_is_line) e ∙ and_from (chunk_is_line c) (list_all chunk_is_line others) h more
@@ -50,18 +48,14 @@ lines_of text = spelled_lines (spells_its_chunks text)
 list_all-take : {X : Type 0} (p : X → Bool) (n : ℕ) (xs : List X) → list_all p xs ≡ true → list_all p (take n xs) ≡ true
 list_all-take p zero xs h = refl
 list_all-take p (suc n) [] h = refl
-list_all-take p (suc n) (x ∷ xs) h =
-    let parts : (p x ≡ true) × (list_all p xs ≡ true) = and_parts (p x) (list_all p xs) h in
-    and_from (p x) (list_all p (take n xs)) parts.0 (list_all-take p n xs parts.1)
+list_all-take p (suc n) (x ∷ xs) h = grind (arith, list_all-take p n xs, and_parts, and_from)
 
 visible_lines : (full : Bool) (chunks : List Chunk) → list_all chunk_is_line chunks ≡ true → list_all chunk_is_line (visible full chunks) ≡ true
 visible_lines true chunks h = h
 visible_lines false chunks h = list_all-take chunk_is_line (position_or_len is_paragraph chunks) chunks h
 
 part_lines : (full : Bool) (part : Part) (depth : ℕ) → list_all fragment_is_line (part_walk full part depth) ≡ true
-part_lines full (Text bytes style) zero =
-    list_all-append fragment_is_line (map (Shown style) (visible full (chunks_of bytes))) (TextEnd style ∷ [])
-    ∙ ap (λ b. b && true) (list_all-map fragment_is_line (Shown style) (visible full (chunks_of bytes)) ∙ visible_lines full (chunks_of bytes) (lines_of bytes))
+part_lines full (Text bytes style) zero = grind (arith, list_all-append, list_all-map, visible_lines, lines_of)
 part_lines full (Text bytes style) (suc depth) = refl
 part_lines full (PartStart b) depth = refl
 part_lines full (PartEnd b) depth = refl

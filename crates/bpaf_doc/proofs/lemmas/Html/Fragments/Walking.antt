@@ -25,13 +25,7 @@ along f before (part ∷ parts) = f before part ++ along f (before ++ part ∷ [
 along-numbered : {X : Type 0} (f : List Part → Part → List X) (document before parts : List Part) → document ≡ before ++ parts
     → flat_map (λ (k, part). f (take k document) part) (enumerate_from (length before) parts) ≡ along f before parts
 along-numbered f document before [] e = refl
-along-numbered f document before (part ∷ parts) e =
-    let front : take (length before) document ≡ before = ap (take (length before)) e ∙ take_at before (part ∷ parts) (length before) refl in
-    let rest : flat_map (λ (k, p). f (take k document) p) (enumerate_from (length (before ++ part ∷ [])) parts) ≡ along f (before ++ part ∷ []) parts
-    = along-numbered f document (before ++ part ∷ []) parts (e ∙ sym (append_assoc before (part ∷ []) parts)) in
-    ap (λ x. f x part ++ flat_map (λ (k, p). f (take k document) p) (enumerate_from (length before + 1) parts)) front
-    ∙ ap (λ n. f before part ++ flat_map (λ (k, p). f (take k document) p) (enumerate_from n parts)) (sym (length_push before part))
-    ∙ ap (λ x. f before part ++ x) rest
+along-numbered f document before (part ∷ parts) e = grind (arith, along-numbered f document (before ++ part ∷ []) parts, take_at, append_assoc, length_push)
 
 -- how deep hiding is after some parts
 abbrev pub depth_after_all : Bool → ℕ → List Part → ℕ
@@ -49,12 +43,11 @@ same_inline blocks.InlineBlock = refl
 same_inline _ = refl
 
 same_depth : (part : Part) (depth : ℕ) → hiding.hidden_after false depth part ≡ depth_after false part depth
-same_depth (Text bytes style) zero = refl
 same_depth (Text bytes style) (suc n) = rw (not_zero n) refl
-same_depth (PartStart b) zero = refl
 same_depth (PartStart b) (suc n) = rw (not_zero n, same_inline b) (grind arith)
 same_depth (PartEnd b) zero = grind arith
 same_depth (PartEnd b) (suc n) = rw (same_inline b) (elim (is_inline b) as (λ (i : Bool). (if i then suc n - 1 else suc n) ≡ (if i then n else suc n)) [ true ↦ omega arith | false ↦ refl ])
+same_depth _ zero = refl
 
 depth_counts : (depth : ℕ) (done parts : List Part) → Counts depth done → Counts (depth_after_all false depth parts) (done ++ parts)
 depth_counts depth done [] counts = subst (Counts depth) (sym (append-nil done)) counts
@@ -78,9 +71,7 @@ pub before_first-stop : {X : Type 0} (p : X → Bool) (x : X) (xs : List X) → 
 before_first-stop p x xs e = ap (λ b. take (cond (not b) (1 + position_or_len p xs) 0) (x ∷ xs)) e
 
 pub before_first-skip : {X : Type 0} (p : X → Bool) (x : X) (xs : List X) → p x ≡ false → before_first p (x ∷ xs) ≡ x ∷ before_first p xs
-before_first-skip p x xs e =
-    let one : 1 + position_or_len p xs ≡ suc (position_or_len p xs) = omega arith in
-    ap (λ b. take (cond (not b) (1 + position_or_len p xs) 0) (x ∷ xs)) e ∙ ap (λ n. take n (x ∷ xs)) one
+before_first-skip p x xs e = grind arith
 
 one_more : (n : ℕ) → 1 + n + 1 ≡ suc (n + 1)
 one_more n = omega arith
@@ -88,38 +79,19 @@ one_more n = omega arith
 -- what stands before the first is the same in what goes through it
 before_through : {X : Type 0} (p : X → Bool) (xs : List X) → before_first p (take (position_or_len p xs + 1) xs) ≡ before_first p xs
 before_through p [] = refl
-before_through p (x ∷ xs) =
-    (elim (p x) as (λ b. p x ≡ b → before_first p (take (position_or_len p (x ∷ xs) + 1) (x ∷ xs)) ≡ before_first p (x ∷ xs)) [
-      | true ↦ λ e.
-          ap (λ b. before_first p (take (cond (not b) (1 + position_or_len p xs) 0 + 1) (x ∷ xs))) e
-          ∙ before_first-stop p x [] e ∙ sym (before_first-stop p x xs e)
-      | false ↦ λ e.
-          ap (λ b. before_first p (take (cond (not b) (1 + position_or_len p xs) 0 + 1) (x ∷ xs))) e
-          ∙ ap (λ n. before_first p (take n (x ∷ xs))) (one_more (position_or_len p xs))
-          ∙ before_first-skip p x (take (position_or_len p xs + 1) xs) e
-          ∙ ap (λ ys. x ∷ ys) (before_through p xs)
-          ∙ sym (before_first-skip p x xs e)
-    ]) refl
+before_through p (x ∷ xs) = grind (arith, before_through p xs, before_first-stop, one_more, before_first-skip)
 
 before_break : (chunks : List Chunk) → before_first is_paragraph (through_paragraph chunks) ≡ before_first is_paragraph chunks
 before_break chunks = before_through is_paragraph chunks
 
 part_same : (full : Bool) (before : List Part) (part : Part) → part_walk full part (depth_after_all full 0 before) ≡ part_fragments full before part
-part_same full before (PartStart b) = refl
-part_same full before (PartEnd b) = refl
 part_same true before (Text bytes style) = ap (part_walk true (Text bytes style)) (full_depth before)
-part_same false before (Text bytes style) =
-    (elim (depth_after_all false 0 before) as (λ d. is_hidden before ≡ not (d == 0) → part_walk false (Text bytes style) d ≡ part_fragments false before (Text bytes style)) [
-      | zero ↦ λ e. rw e (ap (λ cs. TextStart style ∷ (map (Shown style) cs ++ TextEnd style ∷ [])) (sym (before_break (chunks_of bytes))))
-      | suc d ↦ λ e. rw (e, not_zero d) refl
-    ]) (depth_hides before)
+part_same false before (Text bytes style) = grind (arith, before_break, not_zero, depth_hides)
+part_same full before _ = refl
 
 walk-along : (full : Bool) (before parts : List Part) → walk full (depth_after_all full 0 before) parts ≡ along (part_fragments full) before parts
 walk-along full before [] = refl
-walk-along full before (part ∷ parts) =
-    ap (λ x. x ++ walk full (depth_after full part (depth_after_all full 0 before)) parts) (part_same full before part)
-    ∙ ap (λ d. part_fragments full before part ++ walk full d parts) (sym (depth-push full 0 before part))
-    ∙ ap (λ x. part_fragments full before part ++ x) (walk-along full (before ++ part ∷ []) parts)
+walk-along full before (part ∷ parts) = grind (arith, walk-along full (before ++ part ∷ []) parts, part_same, depth-push)
 
 -- the walk over a document gives its fragments
 pub walked : (full : Bool) (document : List Part) → walk full 0 document ≡ shown_fragments full document
@@ -145,9 +117,7 @@ text_more false style chunk chunks parts (inr h) =
 
 pub left_more : (now : List Fragment) (full in_text : Bool) (style : Style) (chunk : Chunk) (chunks rest : List Chunk) (depth : ℕ) (parts : List Part)
     → left_of full in_text style chunks depth parts ≡ now → in_text ≡ true → chunks ≡ chunk ∷ rest → IsVisible full chunk → now ≡ Shown style chunk ∷ left_of full in_text style rest depth parts
-left_more now full in_text style chunk chunks rest depth parts view begun e visible =
-    sym view ∙ ap (λ t. left_of full t style chunks depth parts) begun ∙ ap (λ cs. left_of full true style cs depth parts) e
-    ∙ text_more full style chunk rest parts visible ∙ ap (λ t. Shown style chunk ∷ left_of full t style rest depth parts) (sym begun)
+left_more now full in_text style chunk chunks rest depth parts view begun e visible = grind (arith, text_more)
 
 -- ---- a run more
 

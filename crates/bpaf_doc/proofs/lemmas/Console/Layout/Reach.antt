@@ -1,0 +1,289 @@
+-- How much of a line is taken since a chunk, reckoned by some rule; and that the line is broken only where the next chunk has no room.
+use Rattle.std.specs.Prelude.{◌≡◌, ℕ, ◌+◌, ◌<◌, ◌≤◌, Bool, true, false, ◌&&◌, List, [], ◌∷◌, length, refl, ◌⊎◌}
+use Rattle.std.specs.List.{list_all}
+use Rattle.std.proofs.Common.{sym, subst, ap, arith, inl, inr, ◌∙◌}
+use Rattle.std.proofs.lemmas.Bool.{and_parts}
+use Rattle.bpaf_doc.specs.declared.buffer.Block.{Block}
+use Rattle.bpaf_doc.specs.declared.console.page.Asked.{Asked}
+use Rattle.bpaf_doc.specs.declared.console.page.Asked.TheVariants.{Nothing}
+use Rattle.bpaf_doc.specs.Splitter.Chunks.{Chunk, Raw, Paragraph, LineBreak, columns, IsOrdinary}
+use Rattle.bpaf_doc.specs.Console.Layout.{Event, Shows, Opens, Closes, Stretch, Gap, Placed, Passed, Place, chunk_at, event_bytes, is_inline_block}
+use Rattle.bpaf_doc.proofs.lemmas.Console.Layout.State.{State, Piece, Lines, Pads, to_margin, after_term, Begins, first, stays, wraps, places, drops, Next, raw, break, mark, Grows, placing, breaking, passing, padded, trimmed, sat, wrapped, put, passed, dropped, broken, asked_after, pending_after, Suits, IsShallow}
+use Rattle.bpaf_doc.proofs.lemmas.Console.Layout.Back.{EachPlace, each_grows, place_of, fits_of, same_padded, by_mark, by_break, by_grows}
+use Rattle.bpaf_doc.proofs.lemmas.Console.Layout.Columns.{Fills, column_back, column_padded, Agrees}
+use Rattle.bpaf_doc.proofs.lemmas.Console.Layout.Text.{IsStarting, has_place, begins_column}
+use Rattle.bpaf_doc.proofs.lemmas.Console.Layout.Alone.{place_in}
+use Rattle.bpaf_doc.proofs.lemmas.Console.Layout.Split.{events_back, lines_same, Earlier, after_lines, Cut, FirstOrLater, here, later, cut_cons, AfterGap, cut_gap, AfterPassed, cut_passed, AfterPads, cut_padded, FromTrimmed, cut_trimmed, has_newline}
+
+-- ---- rules
+
+-- Which chunks are looked at; what may follow them, and whether chunks may; what an event takes of the line, and what all since the chunk do.
+pub record Rule : Type 0 where
+  pub begins : Chunk → Bool
+  pub follows : Event → Bool
+  pub has_chunks : Bool
+  pub takes : Event → ℕ
+  pub taken : List Event → ℕ
+
+-- what some events take, one by one
+abbrev pub sum_of : (Event → ℕ) → List Event → ℕ
+sum_of takes [] = 0
+sum_of takes (x ∷ xs) = takes x + sum_of takes xs
+
+-- the piece as a document event
+abbrev pub shown : Piece → Event
+shown p = Shows p.part (Raw p.bytes p.weight)
+
+-- an ordinary chunk weighs its columns
+abbrev pub IsWeighed : Piece → Type 0
+IsWeighed p = IsOrdinary (Raw p.bytes p.weight) → p.weight ≡ columns p.bytes
+
+-- what a mark does that may follow, where the margin goes from this level to the next
+pub record IsQuiet (rule : Rule) (level next : ℕ) (event : Event) : Type 0 where
+  pub asked : (a : Asked) → asked_after event a ≡ a
+  pub bytes : length (event_bytes event) ≤ rule.takes event
+  pub pending : rule.has_chunks ≡ true → (p : Bool) → pending_after event p ≡ true → (p ≡ true) ⊎ (length (event_bytes event) + 2 ≤ rule.takes event)
+  pub margin : rule.has_chunks ≡ true → (es : List Event) → (next ≤ level) ⊎ (next ≤ rule.taken (event ∷ es))
+
+-- the rule takes account of all that moves the column or the margin, where no margin is deeper than this
+pub record IsSound (width deepest : ℕ) (rule : Rule) : Type 0 where
+  pub more : (event : Event) (es : List Event) → rule.takes event + rule.taken es ≤ rule.taken (event ∷ es)
+  pub weighs : (p : Piece) → IsWeighed p → rule.begins (Raw p.bytes p.weight) ≡ true → p.weight ≤ rule.takes (shown p)
+  pub chunk : (p : Piece) → IsWeighed p → rule.follows (shown p) ≡ true
+      → (rule.has_chunks ≡ true) × (p.weight ≤ rule.takes (shown p)) × ((columns p.bytes ≤ rule.takes (shown p)) ⊎ (width < rule.takes (shown p)))
+  pub opens : (b : Block) (level margin : ℕ) → rule.follows (Opens b) ≡ true → (is_inline_block b ≡ true → margin ≤ level) → margin ≤ deepest → IsQuiet rule level margin (Opens b)
+  pub closes : (b : Block) (level margin : ℕ) → rule.follows (Closes b) ≡ true → margin ≤ level → IsQuiet rule level margin (Closes b)
+  pub paragraph : (k : ℕ) → rule.follows (Shows k Paragraph) ≡ false
+  pub line_break : (k : ℕ) → rule.follows (Shows k LineBreak) ≡ false
+
+passes : (width end some most : ℕ) → (some ≤ most) ⊎ (width < most) → width < end + some → width < end + most
+passes width end some most (inl l) over = omega arith
+passes width end some most (inr l) over = omega arith
+
+margin_reached : (n : ℕ) (base : State) → Pads base n → base.margin ≤ base.column + n
+margin_reached n base (to_margin e) = omega arith
+margin_reached n base (after_term t wide few e) = omega arith
+
+module _ (width : ℕ) (rule : Rule) where
+  -- where all since e would end at most, if it stood in its line
+  abbrev pub end_of : List Event → Place → List Stretch → ℕ
+  end_of es e before = column_back before + rule.takes (Shows e.part (chunk_at e)) + rule.taken es
+
+  -- what is known of the page there
+  pub record InReach (end : ℕ) (st : State) : Type 0 where
+    pub column : st.column ≤ end
+    pub asked : st.asked ≡ Nothing
+    pub margin : rule.has_chunks ≡ true → st.margin ≤ end
+    pub pending : rule.has_chunks ≡ true → st.pending ≡ true → st.column + 2 ≤ end
+
+  pub record Known (st : State) (m : List Stretch) (e : Place) (before : List Stretch) : Type 0 where
+    pub reach : InReach (end_of (events_back m) e before) st
+    pub needed : has_newline m ≡ true → width < end_of (events_back m) e before
+
+  -- the chunk is looked at, and all since may follow
+  abbrev pub IsRun : List Stretch → Place → Type 0
+  IsRun m e = (rule.begins (chunk_at e) ≡ true) × (list_all rule.follows (events_back m) ≡ true)
+
+  abbrev pub IsRoomy : State → Type 0
+  IsRoomy st = (m before : List Stretch) (e : Place) → Cut st.back m e before → IsRun m e → Known st m e before
+
+  -- it is broken before this chunk only where there is no room
+  abbrev pub HasNoRoom : List Stretch → Place → Type 0
+  HasNoRoom r f = (m before : List Stretch) (e : Place) → Cut r m e before → IsRun m e → has_newline m ≡ true → width < end_of (events_back m) e before + columns f.bytes
+
+  -- what holds of a page by the rule
+  pub record BreaksBy (st : State) : Type 0 where
+    pub roomy : IsRoomy st
+    pub no_room : EachPlace HasNoRoom st.back
+
+  run_on : (m others : List Stretch) (e : Place) → events_back others ≡ events_back m → IsRun m e → IsRun others e
+  run_on m others e same run = (run.0, subst (λ es. list_all rule.follows es ≡ true) (sym same) run.1)
+
+  run_parts : (event : Event) (m rest : List Stretch) (e : Place) → events_back m ≡ event ∷ events_back rest → IsRun m e → (rule.follows event ≡ true) × IsRun rest e
+  run_parts event m rest e events run =
+      let both : (rule.follows event && list_all rule.follows (events_back rest)) ≡ true = subst (λ es. list_all rule.follows es ≡ true) events run.1 in
+      let parts : (rule.follows event ≡ true) × (list_all rule.follows (events_back rest) ≡ true) = and_parts (rule.follows event) (list_all rule.follows (events_back rest)) both in
+      (parts.0, (run.0, parts.1))
+
+  known_lines : {st mid : State} → IsRoomy st → Lines st mid → (m before : List Stretch) (e : Place) → Cut mid.back m e before → IsRun m e → Known mid m e before
+  known_lines {st} {mid} h l m before e there run =
+      let earlier : Earlier st.back m e before = after_lines l m before e there in
+      let old : Known st earlier.rest e before = h earlier.rest before e earlier.there (run_on m earlier.rest e earlier.events run) in
+      let is : mid ≡ st = lines_same old.reach.asked l in
+      subst (λ (x : State). Known x m e before) (sym is) (h m before e (subst (λ (x : State). Cut x.back m e before) is there) run)
+
+  -- the page without its blank end
+  known_trimmed : {st mid : State} → IsRoomy st → Lines st mid → (m before : List Stretch) (e : Place) → Cut (trimmed mid.back) m e before → IsRun m e → InReach (end_of (events_back m) e before) mid
+  known_trimmed {st} {mid} h l m before e there run =
+      let old : FromTrimmed mid.back m e before = cut_trimmed mid.back m e before there in
+      let chunk : chunk_at old.place ≡ chunk_at e = ap (λ bs. Raw bs old.place.weight) old.bytes ∙ ap (λ (w : ℕ). Raw e.bytes w) old.weight in
+      let event : Shows old.place.part (chunk_at old.place) ≡ Shows e.part (chunk_at e) = ap (λ (k : ℕ). Shows k (chunk_at old.place)) old.part ∙ ap (Shows e.part) chunk in
+      let on : IsRun old.rest e = run_on m old.rest e old.events run in
+      let known : Known mid old.rest old.place before = known_lines h l old.rest before old.place old.there (ap rule.begins chunk ∙ on.0, on.1) in
+      let same : end_of (events_back old.rest) old.place before ≡ end_of (events_back m) e before =
+      ap (λ (x : Event). column_back before + rule.takes x + rule.taken (events_back old.rest)) event ∙ ap (λ es. end_of es e before) old.events in
+      subst (λ (end : ℕ). InReach end mid) same known.reach
+
+  -- what is known at the chunk that is placed next
+  record Ready (p : Piece) (base : State) (m : List Stretch) (e : Place) (before : List Stretch) : Type 0 where
+    reach : InReach (end_of (events_back m) e before) base
+    needed : has_newline m ≡ true → width < end_of (events_back m) e before + columns p.bytes
+
+  wrapped_in_reach : (mid : State) (end : ℕ) → InReach end mid → InReach end (wrapped mid)
+  wrapped_in_reach mid end r = record {
+    column = omega arith;
+    asked = r.asked;
+    margin = r.margin;
+    pending = λ c t. let more : mid.column + 2 ≤ end = r.pending c t in omega arith;
+  }
+
+  ready_begins : {st : State} (p : Piece) (base : State) → IsStarting st → IsRoomy st → Begins width st p base → (m before : List Stretch) (e : Place) → Cut base.back m e before → IsRun m e
+      → Ready p base m e before
+  ready_begins {st} p base start h (first t s) m before e there run =
+      let none : has_place st.back ≡ false = (start t).1 in
+      let some : has_place st.back ≡ true = subst (λ x. has_place x ≡ true) (sym there ∙ ap (λ (y : State). y.back) s) (place_in m before e) in absurd cc
+  ready_begins p base start h (stays t l w) m before e there run =
+      let known : Known base m e before = known_lines h l m before e there run in
+      record { reach = known.reach; needed = λ n. let over : width < end_of (events_back m) e before = known.needed n in omega arith }
+  ready_begins p base start h (wraps t mid l w b s) m before e there run =
+      let gap : AfterGap 10 (trimmed mid.back) m e before = cut_gap 10 (trimmed mid.back) m e before (subst (λ (x : State). Cut x.back m e before) s there) in
+      let same : events_back gap.rest ≡ events_back m = sym (ap events_back gap.is) in
+      let reach : InReach (end_of (events_back m) e before) mid =
+      subst (λ es. InReach (end_of es e before) mid) same (known_trimmed h l gap.rest before e gap.there (run_on m gap.rest e same run)) in
+      record {
+        reach = subst (InReach (end_of (events_back m) e before)) (sym s) (wrapped_in_reach mid (end_of (events_back m) e before) reach);
+        needed = λ n. let column : mid.column ≤ end_of (events_back m) e before = reach.column in omega arith;
+      }
+
+  ready_padded : {st : State} (p : Piece) (base : State) (n : ℕ) → IsStarting st → IsRoomy st → Begins width st p base → (m before : List Stretch) (e : Place) → Cut (padded n base.back) m e before → IsRun m e
+      → Ready p base m e before
+  ready_padded p base n start h b m before e there run =
+      let found : AfterPads n base.back m e before = cut_padded n base.back m e before there in
+      let same : events_back found.rest ≡ events_back m = sym (ap events_back found.is ∙ same_padded events_back (λ x. refl) n found.rest) in
+      let line : has_newline m ≡ has_newline found.rest = ap has_newline found.is ∙ same_padded has_newline (λ x. refl) n found.rest in
+      let ready : Ready p base found.rest e before = ready_begins p base start h b found.rest before e found.there (run_on m found.rest e same run) in
+      record {
+        reach = subst (λ es. InReach (end_of es e before) base) same ready.reach;
+        needed = λ t. subst (λ es. width < end_of es e before + columns p.bytes) same (ready.needed (sym line ∙ t));
+      }
+
+  -- the blanks before a chunk stay in reach
+  pads_in_reach : (n : ℕ) (base : State) (end : ℕ) → rule.has_chunks ≡ true → InReach end base → Pads base n → base.column + n ≤ end
+  pads_in_reach n base end c r (to_margin e) = let column : base.column ≤ end = r.column in let m : base.margin ≤ end = r.margin c in omega arith
+  pads_in_reach n base end c r (after_term t wide few e) = let more : base.column + 2 ≤ end = r.pending c t in omega arith
+
+  no_room_grows : {st after : State} {next : Next} → IsStarting st → IsRoomy st → Grows width st next after → EachPlace HasNoRoom st.back → EachPlace HasNoRoom after.back
+  no_room_grows {st} {after} {next} start h g all = each_grows HasNoRoom (λ r f i x. x) core g all where
+    core : (p : Piece) (base : State) (n : ℕ) → next ≡ raw p → Begins width st p base → Pads base n → HasNoRoom (padded n base.back) (place_of p)
+    core p base n e b d = λ m before g there run line. (ready_padded p base n start h b m before g there run).needed line
+
+  module _ (deepest : ℕ) (sound : IsSound width deepest rule) where
+    known_put : {st : State} (p : Piece) (base : State) (n : ℕ) → width < 1_000_000 → EachPlace Fills st.back → IsStarting st → Agrees st → IsWeighed p
+        → Begins width st p base → Pads base n → IsRoomy st → IsRoomy (put n p.part p.bytes p.weight base)
+    known_put p base n small f start agrees weighed b d h = λ m before e there run. at m before e run (cut_cons (Placed (place_of p)) (padded n base.back) m e before there) where
+      at : (m before : List Stretch) (e : Place) → IsRun m e → FirstOrLater (Placed (place_of p)) (padded n base.back) m e before → Known (put n p.part p.bytes p.weight base) m e before
+      at m before e run (here none is rest) =
+          let same : place_of p ≡ e = cc in
+          let event : rule.takes (shown p) ≡ rule.takes (Shows e.part (chunk_at e)) = ap (λ (x : Place). rule.takes (Shows x.part (chunk_at x))) same in
+          let weight : p.weight ≤ rule.takes (shown p) = sound.weighs p weighed (subst (λ (x : Place). rule.begins (chunk_at x) ≡ true) (sym same) run.0) in
+          let before_is : column_back (padded n base.back) ≡ column_back before = ap column_back rest in
+          let column : base.column ≡ column_back base.back = begins_column small f start agrees b in
+          let pads : column_back (padded n base.back) ≡ n + column_back base.back = column_padded n base.back in
+          let most : base.margin ≤ base.column + n = margin_reached n base d in
+          record {
+            reach = record { column = omega arith; asked = refl; margin = λ c. omega arith; pending = λ c t. absurd cc };
+            needed = λ t. let line : true ≡ false = sym t ∙ ap has_newline none in absurd cc;
+          }
+      at m before e run (later rest is there) =
+          let events : events_back m ≡ shown p ∷ events_back rest = ap events_back is in
+          let parts : (rule.follows (shown p) ≡ true) × IsRun rest e = run_parts (shown p) m rest e events run in
+          let chunk : (rule.has_chunks ≡ true) × (p.weight ≤ rule.takes (shown p)) × ((columns p.bytes ≤ rule.takes (shown p)) ⊎ (width < rule.takes (shown p))) = sound.chunk p weighed parts.0 in
+          let ready : Ready p base rest e before = ready_padded p base n start h b rest before e there parts.1 in
+          let total : rule.taken (events_back m) ≡ rule.taken (shown p ∷ events_back rest) = ap rule.taken events in
+          let more : rule.takes (shown p) + rule.taken (events_back rest) ≤ rule.taken (shown p ∷ events_back rest) = sound.more (shown p) (events_back rest) in
+          let a : base.column + n ≤ end_of (events_back rest) e before = pads_in_reach n base (end_of (events_back rest) e before) chunk.0 ready.reach d in
+          record {
+            reach = record {
+              column = omega arith;
+              asked = refl;
+              margin = λ c. let old : base.margin ≤ end_of (events_back rest) e before = ready.reach.margin c in omega arith;
+              pending = λ c t. absurd cc;
+            };
+            needed = λ t.
+                let over : width < end_of (events_back rest) e before + rule.takes (shown p) =
+                passes width (end_of (events_back rest) e before) (columns p.bytes) (rule.takes (shown p)) chunk.2 (ready.needed (sym (ap has_newline is) ∙ t)) in omega arith;
+          }
+
+    known_dropped : {st mid : State} (p : Piece) → IsWeighed p → Lines st mid → width < sat (mid.column + columns p.bytes) → IsRoomy st → IsRoomy (dropped p.part p.bytes p.weight (wrapped mid))
+    known_dropped {mid = mid} p weighed l w h = λ m before e there run. at m before e run (cut_passed (shown p) (Gap 10 ∷ trimmed mid.back) m e before there) where
+      at : (m before : List Stretch) (e : Place) → IsRun m e → AfterPassed (shown p) (Gap 10 ∷ trimmed mid.back) m e before → Known (dropped p.part p.bytes p.weight (wrapped mid)) m e before
+      at m before e run found =
+          let gap : AfterGap 10 (trimmed mid.back) found.rest e before = cut_gap 10 (trimmed mid.back) found.rest e before found.there in
+          let events : events_back m ≡ shown p ∷ events_back gap.rest = ap events_back found.is ∙ ap (λ es. shown p ∷ es) (ap events_back gap.is) in
+          let parts : (rule.follows (shown p) ≡ true) × IsRun gap.rest e = run_parts (shown p) m gap.rest e events run in
+          let chunk : (rule.has_chunks ≡ true) × (p.weight ≤ rule.takes (shown p)) × ((columns p.bytes ≤ rule.takes (shown p)) ⊎ (width < rule.takes (shown p))) = sound.chunk p weighed parts.0 in
+          let reach : InReach (end_of (events_back gap.rest) e before) mid = known_trimmed h l gap.rest before e gap.there parts.1 in
+          let total : rule.taken (events_back m) ≡ rule.taken (shown p ∷ events_back gap.rest) = ap rule.taken events in
+          let more : rule.takes (shown p) + rule.taken (events_back gap.rest) ≤ rule.taken (shown p ∷ events_back gap.rest) = sound.more (shown p) (events_back gap.rest) in
+          let column : mid.column ≤ end_of (events_back gap.rest) e before = reach.column in
+          record {
+            reach = record {
+              column = omega arith;
+              asked = reach.asked;
+              margin = λ c. let old : mid.margin ≤ end_of (events_back gap.rest) e before = reach.margin c in omega arith;
+              pending = λ c t. let two : mid.column + 2 ≤ end_of (events_back gap.rest) e before = reach.pending c t in omega arith;
+            };
+            needed = λ t.
+                let over : width < end_of (events_back gap.rest) e before + rule.takes (shown p) =
+                passes width (end_of (events_back gap.rest) e before) (columns p.bytes) (rule.takes (shown p)) chunk.2 (omega arith) in omega arith;
+          }
+
+    known_passed : (event : Event) (margin : ℕ) (st : State) → (rule.follows event ≡ true → IsQuiet rule st.margin margin event) → IsRoomy st → IsRoomy (passed event margin st)
+    known_passed event margin st quiet h = λ m before e there run. at m before e run (cut_passed event st.back m e before there) where
+      at : (m before : List Stretch) (e : Place) → IsRun m e → AfterPassed event st.back m e before → Known (passed event margin st) m e before
+      at m before e run found =
+          let events : events_back m ≡ event ∷ events_back found.rest = ap events_back found.is in
+          let parts : (rule.follows event ≡ true) × IsRun found.rest e = run_parts event m found.rest e events run in
+          let mark_is : IsQuiet rule st.margin margin event = quiet parts.0 in
+          let known : Known st found.rest e before = h found.rest before e found.there parts.1 in
+          let total : rule.taken (events_back m) ≡ rule.taken (event ∷ events_back found.rest) = ap rule.taken events in
+          let more : rule.takes event + rule.taken (events_back found.rest) ≤ rule.taken (event ∷ events_back found.rest) = sound.more event (events_back found.rest) in
+          let bytes : length (event_bytes event) ≤ rule.takes event = mark_is.bytes in
+          let column : st.column ≤ end_of (events_back found.rest) e before = known.reach.column in
+          record {
+            reach = record {
+              column = omega arith;
+              asked = mark_is.asked st.asked ∙ known.reach.asked;
+              margin = λ c. let old : st.margin ≤ end_of (events_back found.rest) e before = known.reach.margin c in elim (mark_is.margin c (events_back found.rest)) [ inl l ↦ omega arith | inr l ↦ omega arith ];
+              pending = λ c t. elim (mark_is.pending c st.pending t)
+                  [ inl was ↦ let two : st.column + 2 ≤ end_of (events_back found.rest) e before = known.reach.pending c was in omega arith | inr few ↦ omega arith ];
+            };
+            needed = λ t. let over : width < end_of (events_back found.rest) e before = known.needed (sym (ap has_newline found.is) ∙ t) in omega arith;
+          }
+
+    -- a break does not follow
+    no_break : {A : Type 0} {margin_of : ℕ → ℕ} (st : State) (next : Next) (k : ℕ) (chunk : Chunk) → Suits margin_of st next → next ≡ break k chunk → rule.follows (Shows k chunk) ≡ true → A
+    no_break {A} st next k chunk suits e = by_break (λ c j. rule.follows (Shows j c) ≡ true → A) suits e
+        (λ j l m h. let no : rule.follows (Shows j Paragraph) ≡ false = sound.paragraph j in absurd cc) (λ j l m h. let no : rule.follows (Shows j LineBreak) ≡ false = sound.line_break j in absurd cc)
+
+    known_broken : {margin_of : ℕ → ℕ} (st : State) (next : Next) (k : ℕ) (chunk : Chunk) → Suits margin_of st next → next ≡ break k chunk → IsRoomy (broken k chunk st)
+    known_broken st next k chunk suits e = λ m before g there run.
+        let gap : AfterGap 10 (Passed (Shows k chunk) ∷ st.back) m g before = cut_gap 10 (Passed (Shows k chunk) ∷ st.back) m g before there in
+        let found : AfterPassed (Shows k chunk) st.back gap.rest g before = cut_passed (Shows k chunk) st.back gap.rest g before gap.there in
+        no_break st next k chunk suits e (run_parts (Shows k chunk) m found.rest g (ap events_back gap.is ∙ ap events_back found.is) run).0
+
+    quiet_mark : {margin_of : ℕ → ℕ} (st : State) (next : Next) (event : Event) (margin : ℕ) → Suits margin_of st next → next ≡ mark event margin → margin ≤ deepest
+        → rule.follows event ≡ true → IsQuiet rule st.margin margin event
+    quiet_mark st next event margin suits e = by_mark (λ x m. m ≤ deepest → rule.follows x ≡ true → IsQuiet rule st.margin m x) suits e
+        (λ b m l u deep f. sound.opens b st.margin m f l deep) (λ b m l u deep f. sound.closes b st.margin m f l)
+
+    roomy_grows : {margin_of : ℕ → ℕ} {st after : State} {next : Next} → width < 1_000_000 → EachPlace Fills st.back → IsStarting st → Agrees st → Suits margin_of st next → IsShallow deepest next
+        → Grows width st next after → IsRoomy st → IsRoomy after
+    roomy_grows {st = st} {next = next} small f start agrees suits shallow g h = by_grows IsRoomy g
+        (λ p base n e b d. known_put p base n small f start agrees (fits_of suits e).weighed b d h) (λ p mid e l w b. known_dropped p (fits_of suits e).weighed l w h)
+        (λ k chunk e. known_broken st next k chunk suits e)
+        (λ event margin e. known_passed event margin st (quiet_mark st next event margin suits e (subst (IsShallow deepest) e shallow)) h)
+
+    pub breaks_grows : {margin_of : ℕ → ℕ} {st after : State} {next : Next} → width < 1_000_000 → EachPlace Fills st.back → IsStarting st → Agrees st → Suits margin_of st next → IsShallow deepest next
+        → Grows width st next after → BreaksBy st → BreaksBy after
+    breaks_grows small f start agrees suits shallow g h = record { roomy = roomy_grows small f start agrees suits shallow g h.roomy; no_room = no_room_grows start h.roomy g h.no_room }
