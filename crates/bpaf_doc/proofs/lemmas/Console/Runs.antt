@@ -14,7 +14,7 @@ use Rattle.bpaf_doc.specs.Splitter.Promises.{IsText}
 use Rattle.bpaf_doc.specs.Splitter.Steps.Runs.{IsLettered, is_lettered, letters}
 use Rattle.bpaf_doc.specs.Console.Steps.Hiding.{hides}
 use Rattle.bpaf_doc.specs.Console.Steps.Ink.{shown_ink}
-use Rattle.bpaf_doc.specs.Console.Steps.Page.{Sheet, IsWithinLine, saturated, margin_of, is_too_wide, wraps, wrapped, room_made, blanks_put, raw_added, placed, columns_of, raw_put, text_put}
+use Rattle.bpaf_doc.specs.Console.Steps.Page.{Sheet, IsWithinLine, saturated, margin_of, is_too_wide, wraps, room_made, blanks_put, raw_added, placed, columns_of, raw_put, text_put}
 use Rattle.bpaf_doc.proofs.lemmas.Splitter.Facts.{ink_of_chunks, text_chunks}
 use Rattle.bpaf_doc.proofs.lemmas.Splitter.Letters.{letters-append, lettered_columns}
 use Rattle.bpaf_doc.proofs.lemmas.Splitter.Runs.{AreWords, no_words, a_word, words_of_line}

@@ -5,7 +5,7 @@ use Rattle.std.proofs.Common.{sym, subst, ap, arith, inl, inr, ◌∙◌}
 use Rattle.bpaf_doc.specs.declared.buffer.Block.{Block}
 use Rattle.bpaf_doc.specs.declared.buffer.Block.TheVariants as blocks
 use Rattle.bpaf_doc.specs.Splitter.Chunks.{Chunk, Raw, columns, is_inked, is_ordinary}
-use Rattle.bpaf_doc.specs.Console.Layout.{Event, Shows, Opens, Closes, Stretch, Gap, Placed, Passed, Place, chunk_at, is_inked_event, is_inked_stretch, asks_newline, room_of}
+use Rattle.bpaf_doc.specs.Console.Layout.{Event, Shows, Opens, Closes, Stretch, Gap, Placed, Passed, Place, is_inked_event, is_inked_stretch, asks_newline, room_of}
 use Rattle.bpaf_doc.proofs.lemmas.Console.Layout.State.{State, Pads, Piece, Begins, places, drops, Next, raw, break, mark, Grows, placing, breaking, passing, padded, Suits}
 use Rattle.bpaf_doc.proofs.lemmas.Console.Layout.Back.{by_cases, EachPlace, each_grows, place_of, fits_of, same_padded, by_mark, by_break}
 use Rattle.bpaf_doc.proofs.lemmas.Console.Layout.Columns.{heavy}

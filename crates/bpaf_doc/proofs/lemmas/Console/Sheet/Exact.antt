@@ -1,5 +1,5 @@
 -- The page that the code writes is the page as a function of the document.
-use Rattle.std.specs.Prelude.{◌≡◌, ℕ, ◌+◌, ◌-◌, ◌^◌, ◌<◌, Option, Some, None, Bool, true, false, not, ◌&&◌, ◌||◌, ◌==◌, List, [], ◌∷◌, ◌++◌, length, refl, if◌then◌else◌, ◌⊎◌, nat_lt, nat_le, take, IfOk, Result, Ok, Err, String, string_bytes}
+use Rattle.std.specs.Prelude.{◌≡◌, ℕ, ◌+◌, ◌-◌, ◌^◌, ◌<◌, Option, Some, None, Bool, true, false, not, ◌&&◌, ◌==◌, List, [], ◌∷◌, ◌++◌, length, refl, if◌then◌else◌, ◌⊎◌, nat_lt, nat_le, IfOk, Result, Ok, Err, String, string_bytes}
 use Rattle.std.specs.List.{enumerate_from}
 use Rattle.std.specs.Str.{bytes_eq}
 use Rattle.std.proofs.Common.{sym, ap, arith, inl, inr, ◌∙◌}
@@ -14,7 +14,6 @@ use Rattle.bpaf_doc.specs.Buffer.Parts.{Part, Text, Start, End}
 use Rattle.bpaf_doc.specs.Splitter.Chunks.{Chunk, Raw, Paragraph, LineBreak, columns, chunks_of, has_some}
 use Rattle.bpaf_doc.specs.Shown.{is_term_ref}
 use Rattle.bpaf_doc.specs.Console.Margin.{margin, is_skipped}
-use Rattle.bpaf_doc.specs.Console.Steps.Hiding.{hidden_after}
 use Rattle.bpaf_doc.specs.Console.Steps.Page as page
 use Rattle.bpaf_doc.specs.Console.Steps.Page.{Sheet, blank_sheet}
 use Rattle.bpaf_doc.specs.Console.Steps.Text as whole
