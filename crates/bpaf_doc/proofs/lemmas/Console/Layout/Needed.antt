@@ -35,7 +35,8 @@ light_close blocks.Meta level margin low h = record { asked = λ a. refl; bytes 
 light_close blocks.DefinitionList level margin low h = record { asked = λ a. refl; bytes = omega arith; pending = λ c p t. inl t; margin = λ c es. inl low }
 light_close _ level margin low h = absurd cc
 
-asks_nothing : (event : Event) (level margin : ℕ) → ((a : Asked) → asked_after event a ≡ a) → length (event_bytes event) ≡ 0 → IsQuiet light_marks level margin event
+asks_nothing : (event : Event) (level margin : ℕ) → ((a : Asked) → asked_after event a ≡ a) → length (event_bytes event) ≡ 0
+    → IsQuiet light_marks level margin event
 asks_nothing event level margin same none = record { asked = same; bytes = omega arith; pending = λ c p t. absurd cc; margin = λ c es. absurd cc }
 
 marks_open : (b : Block) (level margin : ℕ) → is_light_mark (Opens b) ≡ true → IsQuiet light_marks level margin (Opens b)

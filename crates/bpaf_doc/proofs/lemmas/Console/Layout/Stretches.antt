@@ -231,14 +231,12 @@ backquote_ink = refl
 
 event_ink : (event : Event) → has_some (event_bytes event) ≡ true → has_some (ink (event_bytes event)) ≡ true
 event_ink (Shows k chunk) h = absurd cc
-event_ink (Opens b) h = grind (arith, backquote_ink)
-event_ink (Closes b) h = grind (arith, backquote_ink)
+event_ink _ h = grind (arith, backquote_ink)
 
 event_trim : (event : Event) → has_some (event_bytes event) ≡ true → trim_end (event_bytes event) ≡ event_bytes event
 unfolding chars trim_end lib.Utf8.encode
 event_trim (Shows k chunk) h = absurd cc
-event_trim (Opens b) h = grind arith
-event_trim (Closes b) h = grind arith
+event_trim _ h = grind arith
 
 plain_trim : (text : List ℕ) → has_some (ink text) ≡ false → trim_end text ≡ []
 unfolding trim_end

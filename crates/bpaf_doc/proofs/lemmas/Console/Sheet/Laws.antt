@@ -94,8 +94,7 @@ module _ (full : Bool) (document : List Part) (few : length document < 2 ^ 59) w
 
   leaves_few : (pairs : Pairs) (index : ℕ) (part : Part) (s : Sheet) → page.HasFewMargins s → whole.LeavesFew pairs index part s
   leaves_few pairs index (Text bytes style) s few = tt
-  leaves_few pairs index (Start b) s few = λ shown. few
-  leaves_few pairs index (End b) s few = λ shown. few
+  leaves_few pairs index _ s few = λ shown. few
 
   keeps_few : (parts : List Part) (index : ℕ) (before : List Part) (pairs : Pairs) (hidden : ℕ) (s : Sheet) → Walk full document index before parts pairs hidden s → whole.KeepsFew full document index pairs hidden parts s
   keeps_few [] index before pairs hidden s w = tt
