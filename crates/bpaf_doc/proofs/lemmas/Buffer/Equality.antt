@@ -1,12 +1,10 @@
 -- Equal documents have the same parts.
-use Rattle.std.proofs.Common.{arith, ◌≡◌, ◌==◌, Bool, true, List, [], ◌∷◌, refl, ap, subst, nat_eq}
+use Rattle.std.proofs.Common.{arith, ◌≡◌, Bool, true, List, [], ◌∷◌, refl, ap, subst, nat_eq}
 use Rattle.std.specs.Cmp.Lexicographic.{pointwise}
 use Rattle.std.proofs.lemmas.Bool.{eqb-true, and_parts}
 use denote.Enum.Bare.{tag_one}
-use denote.Enum.Declared.{tag_of}
-use Rattle.bpaf_doc.specs.contracts.buffer.Style as style
 use Rattle.bpaf_doc.specs.contracts.buffer.Block as block
-use Rattle.bpaf_doc.specs.Buffer.Equality.{IsEqualityOfParts, documents_equiv, same_document, same_part, same_text}
+use Rattle.bpaf_doc.specs.Buffer.Equality.{IsEqualityOfParts, documents_equiv, same_document, same_part}
 use Rattle.bpaf_doc.specs.Buffer.Parts.{Part, Text, Start, End}
 
 pointwise_is : {X : Type 0} (same : X → X → Bool) → ((x y : X) → same x y ≡ true → x ≡ y) → (xs ys : List X) → pointwise same xs ys ≡ true → xs ≡ ys

@@ -1,7 +1,7 @@
 -- The ink that the console's steps leave is the console ink of the document.
-use Rattle.std.specs.Prelude.{◌≡◌, ◌≢◌, ℕ, suc, ◌+◌, ◌-◌, ◌≤◌, Bool, true, false, not, ◌&&◌, ◌==◌, List, [], ◌∷◌, ◌++◌, refl, length, drop, take, filter, flat_map, String, string_bytes, Result, Ok, Err, IfOk, if◌then◌else◌}
+use Rattle.std.specs.Prelude.{◌≡◌, ◌≢◌, ℕ, ◌+◌, ◌-◌, ◌≤◌, Bool, true, false, not, ◌&&◌, ◌==◌, List, [], ◌∷◌, ◌++◌, refl, length, drop, take, filter, flat_map, String, string_bytes, Result, Ok, Err, IfOk, if◌then◌else◌}
 use Rattle.std.specs.Char.{is_not_whitespace, encode_utf8}
-use Rattle.std.specs.List.{enumerate_from, position_or_len}
+use Rattle.std.specs.List.{enumerate_from}
 use Rattle.std.specs.Str.{chars, IsUtf8, IsCharBoundary, IsTrimEnd, NonePass}
 use Rattle.std.proofs.Common.{sym, ◌∙◌, ap, subst, arith, append_assoc}
 use Rattle.std.proofs.lemmas.Str.{chars-nil, chars_from_encodes, IsCharBoundary-from_take, IsUtf8-drop, encode_ascii, IsUtf8-string_bytes}

@@ -1,8 +1,7 @@
 -- What a loop over the parts keeps of the page that it writes.
-use Rattle.std.specs.Prelude.{◌≡◌, ◌≢◌, ℕ, ◌+◌, Bool, true, false, ◌&&◌, ◌==◌, List, [], ◌∷◌, refl, length, if◌then◌else◌, String, string_bytes, Result, Ok, Err, IfOk}
+use Rattle.std.specs.Prelude.{◌≡◌, ◌≢◌, ℕ, ◌+◌, Bool, true, false, ◌&&◌, ◌==◌, List, [], ◌∷◌, length, if◌then◌else◌, String, string_bytes, Result, Ok, Err, IfOk}
 use Rattle.std.proofs.Common.{sym, subst, ◌∙◌, ap, arith}
 use Rattle.std.proofs.lemmas.Bool.Decides.{nat_tests}
-use Rattle.bpaf_doc.specs.declared.buffer.Block.TheVariants as blocks
 use Rattle.bpaf_doc.specs.declared.buffer.Block.{Block}
 use Rattle.bpaf_doc.specs.declared.buffer.Style.{Style}
 use Rattle.bpaf_doc.specs.declared.console.pairs.Pairs.{Pairs}
@@ -11,7 +10,7 @@ use Rattle.bpaf_doc.specs.Splitter.Chunks.{chunks_of}
 use Rattle.bpaf_doc.specs.Shown.{mark_bytes}
 use Rattle.bpaf_doc.specs.Console.Steps.Hiding.{hides, hidden_after}
 use Rattle.bpaf_doc.specs.Console.Steps.Page.{Sheet, HasFewMargins, blank_sheet, text_put, opened, closed, finished}
-use Rattle.bpaf_doc.specs.Console.Steps.Text.{is_block, is_adjacent, skips, pairs_after, start_put, end_put, part_put, parts_put, no_pairs, tab_stop_from, whole_page, LeavesFew, KeepsFew, HasFewThroughout}
+use Rattle.bpaf_doc.specs.Console.Steps.Text.{is_adjacent, skips, pairs_after, start_put, end_put, part_put, parts_put, no_pairs, tab_stop_from, whole_page, LeavesFew, KeepsFew, HasFewThroughout}
 
 -- The parts that are left, from this place on, make the page whole; where they keep few margins, all did.
 pub record IsPageLeft (full : Bool) (document : List Part) (whole : Sheet) (few : Type 0) (index : ℕ) (pairs : Pairs) (hidden : ℕ) (parts : List Part) (page : Sheet) : Type 0 where

@@ -37,7 +37,8 @@ module _ (width tab_stop : ℕ) (margins : List ℕ) (small : width ≤ 18446744
   no_break out column n h = ap (λ b. not (length out == 0) && b) (fits out column n h) ∙ and-false (not (length out == 0))
 
   pub no_room : (out : List ℕ) (column n : ℕ) → column + n ≤ width → room_made n (at out column) ≡ at out column
-  no_room out column n h = grind arith
+  no_room out column n h =
+      ap (λ b. if length out == 0 then at out column else if b then wrapped (at out column) else at out column) (fits out column n h) ∙ grind arith
 
   word_placed : (out raw : List ℕ) (column weight : ℕ) → margin_of (at out column) ≤ column → column + weight ≤ width
       → placed raw weight (at out column) ≡ at (out ++ raw) (column + weight)
@@ -61,7 +62,10 @@ module _ (width tab_stop : ℕ) (margins : List ℕ) (small : width ≤ 18446744
 
   words_put : {chunks : List Chunk} {text : List ℕ} → AreWords chunks text → All IsText chunks → IsLettered text → (out : List ℕ) (column : ℕ) → margin_of (at out column) ≤ column → column + letters text ≤ width
       → (full : Bool) (rest : List Chunk) → text_put full (chunks ++ rest) (at out column) ≡ text_put full rest (at (out ++ text) (column + letters text))
-  words_put {chunks} {text} (no_words ec et) us p out column level h full rest = grind (arith, ap₂, append-nil)
+  words_put {chunks} {text} (no_words ec et) us p out column level h full rest =
+      let stays : column ≡ column + letters text = omega (arith, ap letters et) in
+      ap (λ cs. text_put full (cs ++ rest) (at out column)) ec
+      ∙ ap₂ (λ o n. text_put full rest (at o n)) (sym (ap (λ t. out ++ t) et ∙ append-nil out)) stays
   words_put {chunks} {text} (a_word bytes more others ec et w) us p out column level h full rest =
       let both : (list_all is_lettered bytes && list_all is_lettered more) ≡ true
       = sym (list_all-append is_lettered bytes more) ∙ ap (list_all is_lettered) (sym et) ∙ p in
@@ -94,7 +98,8 @@ run_put s run full chunks rest is small e line u lettered h =
 -- ---- their ink, and what they hide
 
 words_ink : {chunks : List Chunk} {text : List ℕ} → AreWords chunks text → (full : Bool) (rest : List Chunk) → shown_ink full (chunks ++ rest) ≡ flat_map chunk_ink chunks ++ shown_ink full rest
-words_ink (no_words ec et) full rest = grind arith
+words_ink (no_words ec et) full rest =
+    ap (λ cs. shown_ink full (cs ++ rest)) ec ∙ sym (ap (λ cs. flat_map chunk_ink cs ++ shown_ink full rest) ec)
 words_ink (a_word bytes more others ec et w) full rest =
     ap (λ cs. shown_ink full (cs ++ rest)) ec
     ∙ ap (λ t. ink bytes ++ t) (words_ink w full rest)

@@ -1,6 +1,6 @@
 -- A break stands where a page has to have one, and nothing stands between words.
 use Rattle.std.proofs.Common.{◌≡◌, ℕ, Bool, true, false, List, [], ◌∷◌, ◌++◌, refl, sym, ap, ◌∙◌, arith}
-use Rattle.std.specs.Prelude.{not, ◌&&◌, ◌||◌, if◌then◌else◌, IsTrue}
+use Rattle.std.specs.Prelude.{not, ◌&&◌, if◌then◌else◌, IsTrue}
 use Rattle.std.specs.List.{list_any}
 use Rattle.std.specs.Char.{is_not_whitespace}
 use Rattle.std.specs.Prelude.{filter}
@@ -10,9 +10,9 @@ use Rattle.bpaf_doc.specs.declared.buffer.Style.TheVariants as styles
 use Rattle.bpaf_doc.specs.declared.buffer.Block.TheVariants as blocks
 use Rattle.bpaf_doc.specs.Splitter.Chunks.{Raw, Paragraph, LineBreak, is_inked, is_raw, has_some}
 use Rattle.bpaf_doc.specs.Html.Fragments.{Fragment, TextStart, Shown, TextEnd, Hidden, Start, End, shows}
-use Rattle.bpaf_doc.specs.Html.Page.{HtmlSnippet, Open, Close, Break, Newline, Of, fragments_in, asks_break, is_break}
+use Rattle.bpaf_doc.specs.Html.Page.{HtmlSnippet, Break, Of, fragments_in, asks_break, is_break}
 use Rattle.bpaf_doc.specs.Html.Steps.Page.{Written, page_after, first_or_false, is_empty, start_tag, end_tag}
-use Rattle.bpaf_doc.proofs.lemmas.Html.Cut.{snippets_of, cut_from, start_snippets, end_snippets}
+use Rattle.bpaf_doc.proofs.lemmas.Html.Cut.{snippets_of, cut_from}
 use Rattle.bpaf_doc.proofs.lemmas.Lists.Passing.{state_after, passes, passes_back, passes_both, passes_first, passes_rest}
 
 -- ---- breaks

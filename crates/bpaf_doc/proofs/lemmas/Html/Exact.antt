@@ -1,6 +1,6 @@
 -- The page that the code writes, one fragment after another, is the page as a function of the document, and this meets the laws.
 use Rattle.std.proofs.Common.{◌≡◌, ℕ, zero, suc, Bool, true, false, List, [], ◌∷◌, ◌++◌, ◌⊎◌, inl, inr, refl, sym, ap, ◌∙◌, append_assoc, append-nil, arith}
-use Rattle.std.specs.Prelude.{◌&&◌, ◌||◌, ◌==◌, reverse, flat_map, codes, if◌then◌else◌, nat_eq, length, take, ◌-◌}
+use Rattle.std.specs.Prelude.{◌&&◌, ◌||◌, reverse, flat_map, codes, nat_eq, length, take, ◌-◌}
 use Rattle.std.specs.List.{list_all, ends_with}
 use Rattle.std.proofs.lemmas.List.{reverse-append}
 use Rattle.std.proofs.lemmas.List.Folds.{list_all-append}
@@ -16,8 +16,8 @@ use Rattle.bpaf_doc.specs.Buffer.Parts.{Part, IsWellNested}
 use Rattle.bpaf_doc.specs.Splitter.Chunks.{Raw, Paragraph, LineBreak, is_line_byte}
 use Rattle.bpaf_doc.specs.Html.Fragments.{Fragment, TextStart, Shown, TextEnd, Hidden, Start, End, shown_fragments}
 use Rattle.bpaf_doc.specs.Html.Page.{escaped_character, IsHtmlPageOf, IsHtmlTextPageOf}
-use Rattle.bpaf_doc.specs.Html.Exact.{start_tag, end_tag, opening_tags, closing_tags, open_block, is_open_list, break_text, is_empty, is_at_break, is_header, header_break, fragment_html, html_after, html_page}
-use Rattle.bpaf_doc.specs.Html.Steps.Page.{Written, blank_page, with_break, with_heading, first_or_false, without_first, closed, page_after, page_after_all}
+use Rattle.bpaf_doc.specs.Html.Exact.{start_tag, end_tag, opening_tags, closing_tags, open_block, is_open_list, break_text, is_empty, is_at_break, header_break, fragment_html, html_after, html_page}
+use Rattle.bpaf_doc.specs.Html.Steps.Page.{Written, blank_page, with_heading, first_or_false, without_first, closed, page_after, page_after_all}
 use Rattle.bpaf_doc.proofs.lemmas.Html.Fragments.Lines.{fragment_is_line}
 use Rattle.bpaf_doc.proofs.lemmas.Html.Meets.{shown_lines, page_meets, page_text}
 

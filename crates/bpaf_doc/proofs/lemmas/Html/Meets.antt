@@ -1,5 +1,5 @@
 -- The pages that the code writes are what `IsHtmlOf` promises.
-use Rattle.std.proofs.Common.{arith, ◌≡◌, ℕ, Bool, true, List, sym, ap, ◌∙◌, subst}
+use Rattle.std.proofs.Common.{◌≡◌, ℕ, Bool, true, List, sym, ap, ◌∙◌, subst}
 use Rattle.std.specs.Prelude.{filter, flat_map}
 use Rattle.std.specs.List.{list_all}
 use Rattle.bpaf_doc.specs.Buffer.Parts.{Part, IsWellNested}

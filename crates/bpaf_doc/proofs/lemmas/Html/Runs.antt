@@ -1,13 +1,10 @@
 -- A run that is written at once is its chunks written one after another.
-use Rattle.std.proofs.Common.{arith, ◌≡◌, Bool, true, false, List, ℕ, [], ◌∷◌, ◌++◌, map, refl, sym, ap, ap₂, ◌∙◌, append_assoc, append-nil}
-use Rattle.std.specs.Prelude.{◌&&◌, flat_map}
+use Rattle.std.proofs.Common.{arith, ◌≡◌, List, ℕ, [], ◌++◌, map, sym, ap, ap₂, ◌∙◌, append_assoc, append-nil}
 use Rattle.std.proofs.lemmas.List.Concat.{flat_map-append}
 use Rattle.std.proofs.Math.Bool.{and-true}
 use Rattle.bpaf_doc.specs.declared.buffer.Style.{Style}
 use Rattle.bpaf_doc.specs.Splitter.Chunks.{Chunk, chunks_of, IsLine}
 use Rattle.bpaf_doc.specs.Html.Fragments.{Shown}
-use Rattle.bpaf_doc.specs.Html.Page.{escaped_character}
-use Rattle.bpaf_doc.specs.Html.Exact.{is_empty}
 use Rattle.bpaf_doc.specs.Html.Steps.Page.{Written, with_words, page_after_all}
 use Rattle.bpaf_doc.proofs.lemmas.Splitter.Runs.{AreWords, no_words, a_word, words_of_line}
 

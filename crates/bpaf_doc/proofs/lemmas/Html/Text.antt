@@ -1,12 +1,12 @@
 -- A page without its tags and newlines is the HTML text.
-use Rattle.std.proofs.Common.{arith, ◌≡◌, ℕ, true, false, cond, List, [], ◌∷◌, ◌++◌, refl, sym, ap, ◌∙◌, append_assoc}
-use Rattle.std.specs.Prelude.{not, ◌&&◌, ◌==◌, flat_map, filter, codes, if◌then◌else◌}
+use Rattle.std.proofs.Common.{arith, ◌≡◌, ℕ, true, false, List, [], ◌∷◌, ◌++◌, refl, append_assoc}
+use Rattle.std.specs.Prelude.{◌==◌, flat_map, filter}
 use Rattle.std.specs.List.{list_all}
 use Rattle.std.proofs.lemmas.Bool.{and_parts}
 use Rattle.bpaf_doc.specs.declared.buffer.Block.TheVariants as blocks
 use Rattle.bpaf_doc.specs.Splitter.Chunks.{Raw, Paragraph, LineBreak, is_line_byte}
 use Rattle.bpaf_doc.specs.Html.Fragments.{Fragment, Shown, Start}
-use Rattle.bpaf_doc.specs.Html.Page.{erased, erased_from, escaped_character, fragment_text, HtmlSnippet, Open, Close, Break, Newline, Of, Tt, fragments_in}
+use Rattle.bpaf_doc.specs.Html.Page.{erased, escaped_character, fragment_text, HtmlSnippet, Open, Close, Of, Tt, fragments_in}
 use Rattle.bpaf_doc.proofs.lemmas.Html.Fragments.Lines.{fragment_is_line}
 use Rattle.bpaf_doc.proofs.lemmas.Html.Cut.{spelled}
 

@@ -1,6 +1,6 @@
 -- What looking back from a place gives after one more part: what a loop over the parts keeps.
-use Rattle.std.specs.Prelude.{◌≡◌, Bool, true, false, not, List, [], ◌∷◌, ◌++◌, ◌+◌, ◌-◌, Option, Some, find, reverse, length, drop, flat_map, if◌then◌else◌, refl}
-use Rattle.std.specs.List.{after_last, prefix_len}
+use Rattle.std.specs.Prelude.{◌≡◌, Bool, List, [], ◌∷◌, ◌++◌, Option, Some, find, reverse, if◌then◌else◌, refl}
+use Rattle.std.specs.List.{after_last}
 use Rattle.std.proofs.Common.{ap, ◌∙◌, append_assoc, arith}
 use Rattle.std.proofs.lemmas.List.{append-nil, reverse-append, drop-append-le, drop_all, length-append}
 use Rattle.std.proofs.lemmas.List.Concat.{flat_map-append}

@@ -10,7 +10,7 @@ use Rattle.bpaf_doc.specs.Html.Fragments.{Fragment, TextStart, Shown, TextEnd, H
 use Rattle.bpaf_doc.specs.Markdown.Page.{Newline, MarkdownSnippet, Put, Of, fragments_in, is_newline}
 use Rattle.bpaf_doc.specs.Markdown.Steps.Page.{Marked, with_item, is_term_end, marked_after}
 use Rattle.bpaf_doc.proofs.lemmas.Lists.Passing.{state_after, passes, passes_back, passes_both, passes_first, passes_rest}
-use Rattle.bpaf_doc.proofs.lemmas.Markdown.Cut.{raw_cut, by_weight, own_snippets, snippets_of, cut_from, item_snippets, open_snippets, close_snippets, line_snippets, new_line_snippets, step-flags, step-code, item-code, item_marks, new_line_marks, open_marks, close_marks}
+use Rattle.bpaf_doc.proofs.lemmas.Markdown.Cut.{by_weight, own_snippets, snippets_of, cut_from, item_snippets, close_snippets, line_snippets, step-flags, step-code, item-code, item_marks, new_line_marks, open_marks, close_marks}
 use Rattle.bpaf_doc.proofs.lemmas.Markdown.Kept.{step-fragments, own-fragments}
 
 -- ---- touching

@@ -1,16 +1,16 @@
 -- The text that the code writes, one fragment after another, is the text as a function of the document, and this meets the laws.
 use Rattle.std.proofs.Common.{◌≡◌, ℕ, ◌^◌, ◌<◌, Bool, true, false, List, [], ◌∷◌, ◌++◌, length, refl, sym, ap, ◌∙◌, append_assoc, append-nil, nat_lt, arith}
-use Rattle.std.specs.Prelude.{◌==◌, filter, reverse, flat_map, if◌then◌else◌, codes}
+use Rattle.std.specs.Prelude.{filter, reverse, flat_map, if◌then◌else◌, codes}
 use Rattle.std.specs.List.{list_any}
 use Rattle.std.proofs.lemmas.List.{reverse-append}
 use Rattle.bpaf_doc.specs.declared.buffer.Style.{Style}
 use Rattle.bpaf_doc.specs.declared.buffer.Block.TheVariants as blocks
 use Rattle.bpaf_doc.specs.Buffer.Parts.{Part}
-use Rattle.bpaf_doc.specs.Splitter.Chunks.{Raw, Paragraph, LineBreak, code_weight, fence_weight}
-use Rattle.bpaf_doc.specs.Html.Fragments.{Fragment, TextStart, Shown, TextEnd, Hidden, Start, End, shown_fragments}
+use Rattle.bpaf_doc.specs.Splitter.Chunks.{Raw, Paragraph, LineBreak}
+use Rattle.bpaf_doc.specs.Html.Fragments.{Fragment, TextStart, Shown, TextEnd, Start, End, shown_fragments}
 use Rattle.bpaf_doc.specs.Markdown.Page.{IsMarkdownOf, escaped_character, is_header_start, is_in_list, is_in_mono, is_item_start, is_after_empty_item}
-use Rattle.bpaf_doc.specs.Markdown.Exact.{starts_line, starts_paragraph, new_line, blank_line, indented_line, decides_code, begins_with_code_line, is_in_code, opening_fence, closing_fence, last_fence, words_markdown, raw_markdown, item_mark, body_mark, closing_marks, fragment_markdown, markdown_after, markdown_page}
-use Rattle.bpaf_doc.specs.Markdown.Steps.Page.{Marked, blank_text, put, with_new_line, with_blank_line, with_item, with_line, open_code, close_code, with_words, with_raw, own_after, is_term_end, marked_after, marked_after_all}
+use Rattle.bpaf_doc.specs.Markdown.Exact.{new_line, blank_line, indented_line, decides_code, begins_with_code_line, is_in_code, opening_fence, closing_fence, last_fence, words_markdown, raw_markdown, item_mark, body_mark, closing_marks, fragment_markdown, markdown_after, markdown_page}
+use Rattle.bpaf_doc.specs.Markdown.Steps.Page.{Marked, blank_text, with_new_line, with_blank_line, with_item, open_code, close_code, with_raw, own_after, is_term_end, marked_after, marked_after_all}
 use Rattle.bpaf_doc.proofs.lemmas.Markdown.Cut.{raw_marked, by_weight, flags, item-flags, step-flags, code_next, item-code, step-code}
 use Rattle.bpaf_doc.proofs.lemmas.Markdown.Mind.{Agrees, Room, begins_is, after_empty_is, agrees_after, rooms_next, same_mono}
 use Rattle.bpaf_doc.proofs.lemmas.Markdown.Meets.{room_for, at_start, markdown_meets}

@@ -13,7 +13,7 @@ use Rattle.bpaf_doc.specs.Markdown.Page.{TextFence, Fence, Newline, MarkdownSnip
 use Rattle.bpaf_doc.specs.Markdown.Steps.Page.{Marked, starts_line, with_item, is_term_end, marked_after}
 use Rattle.bpaf_doc.proofs.lemmas.Lists.Counting.{one_if, count_by-cons}
 use Rattle.bpaf_doc.proofs.lemmas.Lists.Passing.{state_after, passes, passes_back, passes_both, passes_first, passes_rest}
-use Rattle.bpaf_doc.proofs.lemmas.Markdown.Cut.{raw_cut, by_weight, blanks, start_snippets, own_snippets, snippets_of, cut_from, item_snippets, open_snippets, close_snippets, end_code_snippets, line_snippets, new_line_snippets, code_next, step-code, item-code, fence_is_whole, code_is_whole, others_are_ordinary}
+use Rattle.bpaf_doc.proofs.lemmas.Markdown.Cut.{raw_cut, by_weight, start_snippets, own_snippets, snippets_of, cut_from, item_snippets, open_snippets, close_snippets, end_code_snippets, line_snippets, new_line_snippets, code_next, step-code, item-code, fence_is_whole, code_is_whole, others_are_ordinary}
 
 -- where a block is open: a fence with `text` opens one, another closes it
 abbrev may_stand : Bool → MarkdownSnippet → Bool

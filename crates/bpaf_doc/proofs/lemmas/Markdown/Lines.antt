@@ -1,6 +1,6 @@
 -- A whole line of a markdown text stands alone on its line.
 use Rattle.std.proofs.Common.{◌≡◌, ℕ, ◌+◌, ◌-◌, Bool, true, false, cond, List, [], ◌∷◌, ◌++◌, length, take, drop, refl, sym, ap, ◌∙◌, subst, arith, append_assoc, append-nil, length-append}
-use Rattle.std.specs.Prelude.{not, ◌&&◌, ◌||◌, ◌==◌, if◌then◌else◌, IsTrue, codes, nat_eq}
+use Rattle.std.specs.Prelude.{◌&&◌, ◌||◌, ◌==◌, if◌then◌else◌, IsTrue, codes, nat_eq}
 use Rattle.std.specs.List.{list_all, after_last, suffix_len, prefix_len}
 use lib.Pointwise.{pointwise}
 use Rattle.std.proofs.lemmas.List.{reverse-append, drop-append-le, drop_all, take-append-drop}
@@ -8,7 +8,7 @@ use Rattle.std.proofs.lemmas.List.Sums.{AllPass-from_list_all, list_all-from_All
 use Rattle.std.proofs.lemmas.List.Folds.{list_all-append}
 use Rattle.std.proofs.lemmas.Bool.{false≢true, and_parts, eqb-true}
 use Rattle.bpaf_doc.specs.declared.buffer.Style.{Style}
-use Rattle.bpaf_doc.specs.Splitter.Chunks.{Chunk, Raw, Paragraph, LineBreak, code_weight, fence_weight, is_whole_line}
+use Rattle.bpaf_doc.specs.Splitter.Chunks.{Chunk, Raw, Paragraph, LineBreak, fence_weight, is_whole_line}
 use Rattle.bpaf_doc.specs.Html.Fragments.{Fragment, TextStart, Shown, TextEnd, Hidden, Start, End, shows}
 use Rattle.bpaf_doc.specs.Markdown.Page.{mark_text, MarkdownSnippet, Put, Of, fragments_in, fragment_text, EndsInBlankLine, is_item_start}
 use Rattle.bpaf_doc.specs.Markdown.Steps.Page.{Marked, put, starts_line, with_new_line, open_code, with_line, with_words, with_raw, with_chunk, marked_after}

@@ -1,5 +1,5 @@
 -- What holds of the chunks of each text.
-use Rattle.std.specs.Prelude.{◌≡◌, ℕ, ◌+◌, ◌-◌, List, [], ◌∷◌, ◌++◌, refl, length, take, drop, slice_range}
+use Rattle.std.specs.Prelude.{◌≡◌, ℕ, ◌+◌, List, [], ◌∷◌, ◌++◌, refl, length, drop, slice_range}
 use Rattle.std.specs.List.{All, flat_map}
 use Rattle.std.specs.Str.{IsUtf8}
 use Rattle.std.proofs.Common.{sym, ◌∙◌, ap, subst, inl, inr, arith, append_assoc}
@@ -37,8 +37,7 @@ one_line_chunks text = one_line_of_pieces (pieces (spells_its_chunks text))
 text_of_piece : (chunk : Chunk) (there : List ℕ) → StandsFor chunk there → IsUtf8 there → IsText chunk
 text_of_piece (Raw bytes weight) there (inl e) u = subst (λ t. IsUtf8 t) e u
 text_of_piece (Raw bytes weight) there (inr h) u = subst (λ t. IsUtf8 t) (sym h.1) IsUtf8-blank
-text_of_piece Paragraph there t u = tt
-text_of_piece LineBreak there t u = tt
+text_of_piece _ there t u = tt
 
 texts_of_pieces : {chunks : List Chunk} {text : List ℕ} → Pieces chunks text → IsUtf8 text → All IsText chunks
 texts_of_pieces {chunks} (none ec et) u = All-same IsText chunks [] ec (All-nil IsText)

@@ -11,7 +11,7 @@ use Rattle.std.proofs.lemmas.List.Folds.{list_all-append, list_all_more}
 use Rattle.std.proofs.lemmas.List.{take_more}
 use Rattle.std.proofs.lemmas.List.Sums.{sum_by-append, sum_by-cons}
 use Rattle.std.proofs.lemmas.Str.{chars_from_encodes}
-use Rattle.unicode_width.specs.Width.{str_width, char_width}
+use Rattle.unicode_width.specs.Width.{char_width}
 use Rattle.unicode_width.proofs.Rules.{is_simple, width_or_zero, str_width-simple}
 use Rattle.unicode_width.proofs.Computing.{unicode_width}
 use Rattle.bpaf_doc.specs.Splitter.Chunks.{IsWordEnd, columns, is_line_byte}

@@ -1,7 +1,6 @@
 -- How many columns a text takes at most: three for each character.
-use Rattle.std.specs.Prelude.{ℕ, zero, suc, ◌+◌, ◌-◌, ◌*◌, ◌<◌, ◌≤◌, ◌==◌, ◌&&◌, not, nat_le, Bool, true, false, List, [], ◌∷◌, Option, Some, None, length, if◌then◌else◌}
+use Rattle.std.specs.Prelude.{ℕ, zero, suc, ◌+◌, ◌-◌, ◌*◌, ◌<◌, ◌≤◌, Bool, false, List, [], ◌∷◌, Option, Some, None, length, if◌then◌else◌}
 use Rattle.std.proofs.Common.{arith}
-use Rattle.std.specs.Int.{is_in_range}
 use Rattle.std.specs.Str.{chars, chars_after, continuation_len, lead_bits}
 use Rattle.std.proofs.lemmas.Bool.Decides.{nat_tests}
 use Rattle.unicode_width.specs.declared.kind.Kind.{Kind}
@@ -10,9 +9,8 @@ use Rattle.unicode_width.specs.declared.state.State.{State}
 use Rattle.unicode_width.specs.declared.state.After.{After}
 use Rattle.unicode_width.specs.declared.state.Change.{Change}
 use Rattle.unicode_width.specs.declared.state.Change.TheVariants as changes
-use Rattle.unicode_width.specs.declared.state.After.TheVariants as afters
-use Rattle.unicode_width.specs.Kind.{kind, is_ligature_transparent, is_solidus_transparent, is_text_presentation_base}
-use Rattle.unicode_width.specs.Width.{Reading, single, of_kind, alone, joins, joined_or, past_selectors, in_context, past_emoji, step, read_before, str_width, plain, before, is_plain, is_joined_emoji, if_kept, skips_marks, is_solidus, is_striking, is_line_feed, with_joiner, is_quote_selector, is_quote, is_emoji_variation_base}
+use Rattle.unicode_width.specs.Kind.{kind}
+use Rattle.unicode_width.specs.Width.{Reading, single, of_kind, alone, joined_or, past_selectors, in_context, past_emoji, step, read_before, str_width, plain}
 use Rattle.bpaf_doc.specs.Splitter.Chunks.{columns}
 
 -- one of two readings

@@ -86,7 +86,8 @@ each_trimmed P keeps = by_trimmed (λ r t. EachPlace P r → EachPlace P t) (λ 
 pub each_lines : (P : List Stretch → Place → Type 0) {st mid : State} → Lines st mid → EachPlace P st.back → EachPlace P mid.back
 each_lines P l h = lines_back (EachPlace P) (λ r x. x) l h
 
-pub each_begins : (P : List Stretch → Place → Type 0) → KeepsCut P → {width : ℕ} {st : State} {p : Piece} {base : State} → Begins width st p base → EachPlace P st.back → EachPlace P base.back
+pub each_begins : (P : List Stretch → Place → Type 0) → KeepsCut P → {width : ℕ} {st : State} {p : Piece} {base : State} → Begins width st p base
+    → EachPlace P st.back → EachPlace P base.back
 each_begins P keeps b h = begins_back (EachPlace P) (λ r x. x) (each_trimmed P keeps) b h
 
 -- Q of the page after what comes next: a chunk is placed or dropped, a line is broken, or a mark is passed
@@ -121,7 +122,8 @@ fits_of (open_suits b margin e l u) h = absurd cc
 fits_of (close_suits b margin e l u) h = absurd cc
 
 -- Q of a mark that comes next, where it opens a block and where it closes one
-pub by_mark : {margin_of : ℕ → ℕ} {st : State} {next : Next} {event : Event} {margin : ℕ} (Q : Event → ℕ → Type 0) → Suits margin_of st next → next ≡ mark event margin
+pub by_mark : {margin_of : ℕ → ℕ} {st : State} {next : Next} {event : Event} {margin : ℕ} (Q : Event → ℕ → Type 0) → Suits margin_of st next
+    → next ≡ mark event margin
     → ((b : Block) (m : ℕ) → (is_inline_block b ≡ true → m ≤ st.margin) → m ≤ 18446744073709551615 → Q (Opens b) m)
     → ((b : Block) (m : ℕ) → m ≤ st.margin → m ≤ 18446744073709551615 → Q (Closes b) m) → Q event margin
 by_mark Q (raw_suits q f g) e opens closes = absurd cc
@@ -134,7 +136,8 @@ by_mark {event = event} {margin = margin} Q (close_suits b n f l u) e opens clos
 
 -- Q of a break that comes next, at a Paragraph and at a LineBreak
 pub by_break : {margin_of : ℕ → ℕ} {st : State} {next : Next} {k : ℕ} {chunk : Chunk} (Q : Chunk → ℕ → Type 0) → Suits margin_of st next → next ≡ break k chunk
-    → ((j : ℕ) → st.latest ≤ j → (st.marked ≡ true → st.latest < j) → Q Paragraph j) → ((j : ℕ) → st.latest ≤ j → (st.marked ≡ true → st.latest < j) → Q LineBreak j) → Q chunk k
+    → ((j : ℕ) → st.latest ≤ j → (st.marked ≡ true → st.latest < j) → Q Paragraph j)
+    → ((j : ℕ) → st.latest ≤ j → (st.marked ≡ true → st.latest < j) → Q LineBreak j) → Q chunk k
 by_break Q (raw_suits q f g) e paragraph line = absurd cc
 by_break {k = k} {chunk = chunk} Q (paragraph_suits j f l m) e paragraph line =
     let same : Paragraph ≡ chunk = cc in let part : j ≡ k = cc in subst (λ (c : Chunk). Q c k) same (subst (Q Paragraph) part (paragraph j l m))

@@ -1,10 +1,10 @@
 -- No line of a page passes the bound.
 use Rattle.std.specs.Prelude.{◌≡◌, ℕ, zero, suc, ◌+◌, ◌<◌, ◌≤◌, max, ⊤, true, false, List, [], ◌∷◌, length, refl, ◌⊎◌}
-use Rattle.std.proofs.Common.{sym, subst, ap, arith, inl, inr, ◌∙◌}
+use Rattle.std.proofs.Common.{sym, subst, arith, inl, inr, ◌∙◌}
 use Rattle.std.proofs.lemmas.Bool.{cases_lt}
 use Rattle.bpaf_doc.specs.Splitter.Chunks.{columns, has_some}
 use Rattle.bpaf_doc.specs.Console.Layout.{Event, Stretch, event_bytes}
-use Rattle.bpaf_doc.proofs.lemmas.Console.Layout.State.{State, Piece, Lines, Pads, to_margin, after_term, Begins, first, stays, wraps, places, drops, Next, raw, break, mark, Grows, placing, breaking, passing, padded, trimmed}
+use Rattle.bpaf_doc.proofs.lemmas.Console.Layout.State.{State, Piece, Lines, Pads, to_margin, after_term, Begins, first, stays, wraps, Next, raw, break, mark, Grows, padded, trimmed}
 use Rattle.bpaf_doc.proofs.lemmas.Console.Layout.Back.{EachPlace, lines_back, begins_back, by_trimmed, by_padded, by_grows}
 use Rattle.bpaf_doc.proofs.lemmas.Console.Layout.Columns.{Fills, column_back, column_padded, no_text_column, Agrees, agrees_lines, no_bytes}
 use Rattle.bpaf_doc.proofs.lemmas.Console.Layout.Text.{EachPassed, lines_margin}

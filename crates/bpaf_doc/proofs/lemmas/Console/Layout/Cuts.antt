@@ -4,7 +4,7 @@ use Rattle.std.specs.Str.{trim_end}
 use Rattle.std.proofs.Common.{sym, subst, inl, inr, ◌∙◌, arith}
 use Rattle.bpaf_doc.specs.Splitter.Chunks.{has_some}
 use Rattle.bpaf_doc.specs.Console.Layout.{Stretch, Gap, Placed, Passed, event_bytes}
-use Rattle.bpaf_doc.proofs.lemmas.Console.Layout.State.{State, Piece, Lines, Begins, first, stays, wraps, places, drops, Next, Grows, placing, breaking, passing, padded, trimmed, wrapped}
+use Rattle.bpaf_doc.proofs.lemmas.Console.Layout.State.{State, Piece, Lines, Begins, first, stays, wraps, Next, Grows, padded, trimmed, wrapped}
 use Rattle.bpaf_doc.proofs.lemmas.Console.Layout.Back.{by_cases, EachPlace, each_lines, lines_back, by_trimmed, by_padded, by_grows}
 use Rattle.bpaf_doc.proofs.lemmas.Console.Layout.Columns.{Fills, inked_trim, inked_some}
 

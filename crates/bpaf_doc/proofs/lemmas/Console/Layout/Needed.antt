@@ -1,14 +1,14 @@
 -- The rules of what is light: a line is broken between ordinary chunks with light chunks and marks between them only where the second would
 -- pass the width.
-use Rattle.std.specs.Prelude.{◌≡◌, ℕ, ◌≤◌, Bool, true, false, not, ◌&&◌, List, length, refl}
+use Rattle.std.specs.Prelude.{◌≡◌, ℕ, ◌≤◌, Bool, true, false, ◌&&◌, length, refl}
 use Rattle.std.proofs.Common.{arith, inl}
 use Rattle.std.proofs.lemmas.Bool.{and_parts}
 use Rattle.bpaf_doc.specs.declared.buffer.Block.{Block}
 use Rattle.bpaf_doc.specs.declared.buffer.Block.TheVariants as blocks
 use Rattle.bpaf_doc.specs.declared.console.page.Asked.{Asked}
 use Rattle.bpaf_doc.specs.Splitter.Chunks.{Chunk, Raw, columns, is_inked, is_ordinary}
-use Rattle.bpaf_doc.specs.Console.Layout.{Event, Shows, Opens, Closes, event_bytes, event_columns, is_light, is_light_mark, is_inline_block}
-use Rattle.bpaf_doc.proofs.lemmas.Console.Layout.State.{Piece, asked_after, pending_after}
+use Rattle.bpaf_doc.specs.Console.Layout.{Event, Opens, Closes, event_bytes, event_columns, is_light, is_light_mark, is_inline_block}
+use Rattle.bpaf_doc.proofs.lemmas.Console.Layout.State.{Piece, asked_after}
 use Rattle.bpaf_doc.proofs.lemmas.Console.Layout.Reach.{Rule, IsSound, IsQuiet, IsWeighed, sum_of}
 
 -- an ordinary inked chunk
@@ -35,7 +35,8 @@ light_close blocks.Meta level margin low h = record { asked = λ a. refl; bytes 
 light_close blocks.DefinitionList level margin low h = record { asked = λ a. refl; bytes = omega arith; pending = λ c p t. inl t; margin = λ c es. inl low }
 light_close _ level margin low h = absurd cc
 
-asks_nothing : (event : Event) (level margin : ℕ) → ((a : Asked) → asked_after event a ≡ a) → length (event_bytes event) ≡ 0 → IsQuiet light_marks level margin event
+asks_nothing : (event : Event) (level margin : ℕ) → ((a : Asked) → asked_after event a ≡ a) → length (event_bytes event) ≡ 0
+    → IsQuiet light_marks level margin event
 asks_nothing event level margin same none = record { asked = same; bytes = omega arith; pending = λ c p t. absurd cc; margin = λ c es. absurd cc }
 
 marks_open : (b : Block) (level margin : ℕ) → is_light_mark (Opens b) ≡ true → IsQuiet light_marks level margin (Opens b)

@@ -8,7 +8,7 @@ use Rattle.bpaf_doc.specs.declared.console.page.Asked.{Asked}
 use Rattle.bpaf_doc.specs.declared.console.page.Asked.TheVariants.{Nothing}
 use Rattle.bpaf_doc.specs.Splitter.Chunks.{Chunk, Raw, Paragraph, LineBreak, columns, IsOrdinary}
 use Rattle.bpaf_doc.specs.Console.Layout.{Event, Shows, Opens, Closes, Stretch, Gap, Placed, Passed, Place, chunk_at, event_bytes, is_inline_block}
-use Rattle.bpaf_doc.proofs.lemmas.Console.Layout.State.{State, Piece, Lines, Pads, to_margin, after_term, Begins, first, stays, wraps, places, drops, Next, raw, break, mark, Grows, placing, breaking, passing, padded, trimmed, sat, wrapped, put, passed, dropped, broken, asked_after, pending_after, Suits, IsShallow}
+use Rattle.bpaf_doc.proofs.lemmas.Console.Layout.State.{State, Piece, Lines, Pads, to_margin, after_term, Begins, first, stays, wraps, Next, raw, break, mark, Grows, padded, trimmed, sat, wrapped, put, passed, dropped, broken, asked_after, pending_after, Suits, IsShallow}
 use Rattle.bpaf_doc.proofs.lemmas.Console.Layout.Back.{EachPlace, each_grows, place_of, fits_of, same_padded, by_mark, by_break, by_grows}
 use Rattle.bpaf_doc.proofs.lemmas.Console.Layout.Columns.{Fills, column_back, column_padded, Agrees}
 use Rattle.bpaf_doc.proofs.lemmas.Console.Layout.Text.{IsStarting, has_place, begins_column}
@@ -51,7 +51,8 @@ pub record IsSound (width deepest : ℕ) (rule : Rule) : Type 0 where
   pub weighs : (p : Piece) → IsWeighed p → rule.begins (Raw p.bytes p.weight) ≡ true → p.weight ≤ rule.takes (shown p)
   pub chunk : (p : Piece) → IsWeighed p → rule.follows (shown p) ≡ true
       → (rule.has_chunks ≡ true) × (p.weight ≤ rule.takes (shown p)) × ((columns p.bytes ≤ rule.takes (shown p)) ⊎ (width < rule.takes (shown p)))
-  pub opens : (b : Block) (level margin : ℕ) → rule.follows (Opens b) ≡ true → (is_inline_block b ≡ true → margin ≤ level) → margin ≤ deepest → IsQuiet rule level margin (Opens b)
+  pub opens : (b : Block) (level margin : ℕ) → rule.follows (Opens b) ≡ true → (is_inline_block b ≡ true → margin ≤ level) → margin ≤ deepest
+      → IsQuiet rule level margin (Opens b)
   pub closes : (b : Block) (level margin : ℕ) → rule.follows (Closes b) ≡ true → margin ≤ level → IsQuiet rule level margin (Closes b)
   pub paragraph : (k : ℕ) → rule.follows (Shows k Paragraph) ≡ false
   pub line_break : (k : ℕ) → rule.follows (Shows k LineBreak) ≡ false
@@ -99,13 +100,15 @@ module _ (width : ℕ) (rule : Rule) where
   run_on : (m others : List Stretch) (e : Place) → events_back others ≡ events_back m → IsRun m e → IsRun others e
   run_on m others e same run = (run.0, subst (λ es. list_all rule.follows es ≡ true) (sym same) run.1)
 
-  run_parts : (event : Event) (m rest : List Stretch) (e : Place) → events_back m ≡ event ∷ events_back rest → IsRun m e → (rule.follows event ≡ true) × IsRun rest e
+  run_parts : (event : Event) (m rest : List Stretch) (e : Place) → events_back m ≡ event ∷ events_back rest → IsRun m e
+      → (rule.follows event ≡ true) × IsRun rest e
   run_parts event m rest e events run =
       let both : (rule.follows event && list_all rule.follows (events_back rest)) ≡ true = subst (λ es. list_all rule.follows es ≡ true) events run.1 in
       let parts : (rule.follows event ≡ true) × (list_all rule.follows (events_back rest) ≡ true) = and_parts (rule.follows event) (list_all rule.follows (events_back rest)) both in
       (parts.0, (run.0, parts.1))
 
-  known_lines : {st mid : State} → IsRoomy st → Lines st mid → (m before : List Stretch) (e : Place) → Cut mid.back m e before → IsRun m e → Known mid m e before
+  known_lines : {st mid : State} → IsRoomy st → Lines st mid → (m before : List Stretch) (e : Place) → Cut mid.back m e before → IsRun m e
+      → Known mid m e before
   known_lines {st} {mid} h l m before e there run =
       let earlier : Earlier st.back m e before = after_lines l m before e there in
       let old : Known st earlier.rest e before = h earlier.rest before e earlier.there (run_on m earlier.rest e earlier.events run) in
@@ -113,7 +116,8 @@ module _ (width : ℕ) (rule : Rule) where
       subst (λ (x : State). Known x m e before) (sym is) (h m before e (subst (λ (x : State). Cut x.back m e before) is there) run)
 
   -- the page without its blank end
-  known_trimmed : {st mid : State} → IsRoomy st → Lines st mid → (m before : List Stretch) (e : Place) → Cut (trimmed mid.back) m e before → IsRun m e → InReach (end_of (events_back m) e before) mid
+  known_trimmed : {st mid : State} → IsRoomy st → Lines st mid → (m before : List Stretch) (e : Place) → Cut (trimmed mid.back) m e before → IsRun m e
+      → InReach (end_of (events_back m) e before) mid
   known_trimmed {st} {mid} h l m before e there run =
       let old : FromTrimmed mid.back m e before = cut_trimmed mid.back m e before there in
       let chunk : chunk_at old.place ≡ chunk_at e = ap (λ bs. Raw bs old.place.weight) old.bytes ∙ ap (λ (w : ℕ). Raw e.bytes w) old.weight in
@@ -137,7 +141,8 @@ module _ (width : ℕ) (rule : Rule) where
     pending = λ c t. let more : mid.column + 2 ≤ end = r.pending c t in omega arith;
   }
 
-  ready_begins : {st : State} (p : Piece) (base : State) → IsStarting st → IsRoomy st → Begins width st p base → (m before : List Stretch) (e : Place) → Cut base.back m e before → IsRun m e
+  ready_begins : {st : State} (p : Piece) (base : State) → IsStarting st → IsRoomy st → Begins width st p base → (m before : List Stretch) (e : Place)
+      → Cut base.back m e before → IsRun m e
       → Ready p base m e before
   ready_begins {st} p base start h (first t s) m before e there run =
       let none : has_place st.back ≡ false = (start t).1 in
@@ -155,7 +160,8 @@ module _ (width : ℕ) (rule : Rule) where
         needed = λ n. let column : mid.column ≤ end_of (events_back m) e before = reach.column in omega arith;
       }
 
-  ready_padded : {st : State} (p : Piece) (base : State) (n : ℕ) → IsStarting st → IsRoomy st → Begins width st p base → (m before : List Stretch) (e : Place) → Cut (padded n base.back) m e before → IsRun m e
+  ready_padded : {st : State} (p : Piece) (base : State) (n : ℕ) → IsStarting st → IsRoomy st → Begins width st p base
+      → (m before : List Stretch) (e : Place) → Cut (padded n base.back) m e before → IsRun m e
       → Ready p base m e before
   ready_padded p base n start h b m before e there run =
       let found : AfterPads n base.back m e before = cut_padded n base.back m e before there in
@@ -172,7 +178,8 @@ module _ (width : ℕ) (rule : Rule) where
   pads_in_reach n base end c r (to_margin e) = let column : base.column ≤ end = r.column in let m : base.margin ≤ end = r.margin c in omega arith
   pads_in_reach n base end c r (after_term t wide few e) = let more : base.column + 2 ≤ end = r.pending c t in omega arith
 
-  no_room_grows : {st after : State} {next : Next} → IsStarting st → IsRoomy st → Grows width st next after → EachPlace HasNoRoom st.back → EachPlace HasNoRoom after.back
+  no_room_grows : {st after : State} {next : Next} → IsStarting st → IsRoomy st → Grows width st next after → EachPlace HasNoRoom st.back
+      → EachPlace HasNoRoom after.back
   no_room_grows {st} {after} {next} start h g all = each_grows HasNoRoom (λ r f i x. x) core g all where
     core : (p : Piece) (base : State) (n : ℕ) → next ≡ raw p → Begins width st p base → Pads base n → HasNoRoom (padded n base.back) (place_of p)
     core p base n e b d = λ m before g there run line. (ready_padded p base n start h b m before g there run).needed line
@@ -181,7 +188,8 @@ module _ (width : ℕ) (rule : Rule) where
     known_put : {st : State} (p : Piece) (base : State) (n : ℕ) → width < 1_000_000 → EachPlace Fills st.back → IsStarting st → Agrees st → IsWeighed p
         → Begins width st p base → Pads base n → IsRoomy st → IsRoomy (put n p.part p.bytes p.weight base)
     known_put p base n small f start agrees weighed b d h = λ m before e there run. at m before e run (cut_cons (Placed (place_of p)) (padded n base.back) m e before there) where
-      at : (m before : List Stretch) (e : Place) → IsRun m e → FirstOrLater (Placed (place_of p)) (padded n base.back) m e before → Known (put n p.part p.bytes p.weight base) m e before
+      at : (m before : List Stretch) (e : Place) → IsRun m e → FirstOrLater (Placed (place_of p)) (padded n base.back) m e before
+          → Known (put n p.part p.bytes p.weight base) m e before
       at m before e run (here none is rest) =
           let same : place_of p ≡ e = cc in
           let event : rule.takes (shown p) ≡ rule.takes (Shows e.part (chunk_at e)) = ap (λ (x : Place). rule.takes (Shows x.part (chunk_at x))) same in
@@ -214,9 +222,11 @@ module _ (width : ℕ) (rule : Rule) where
                 passes width (end_of (events_back rest) e before) (columns p.bytes) (rule.takes (shown p)) chunk.2 (ready.needed (sym (ap has_newline is) ∙ t)) in omega arith;
           }
 
-    known_dropped : {st mid : State} (p : Piece) → IsWeighed p → Lines st mid → width < sat (mid.column + columns p.bytes) → IsRoomy st → IsRoomy (dropped p.part p.bytes p.weight (wrapped mid))
+    known_dropped : {st mid : State} (p : Piece) → IsWeighed p → Lines st mid → width < sat (mid.column + columns p.bytes) → IsRoomy st
+        → IsRoomy (dropped p.part p.bytes p.weight (wrapped mid))
     known_dropped {mid = mid} p weighed l w h = λ m before e there run. at m before e run (cut_passed (shown p) (Gap 10 ∷ trimmed mid.back) m e before there) where
-      at : (m before : List Stretch) (e : Place) → IsRun m e → AfterPassed (shown p) (Gap 10 ∷ trimmed mid.back) m e before → Known (dropped p.part p.bytes p.weight (wrapped mid)) m e before
+      at : (m before : List Stretch) (e : Place) → IsRun m e → AfterPassed (shown p) (Gap 10 ∷ trimmed mid.back) m e before
+          → Known (dropped p.part p.bytes p.weight (wrapped mid)) m e before
       at m before e run found =
           let gap : AfterGap 10 (trimmed mid.back) found.rest e before = cut_gap 10 (trimmed mid.back) found.rest e before found.there in
           let events : events_back m ≡ shown p ∷ events_back gap.rest = ap events_back found.is ∙ ap (λ es. shown p ∷ es) (ap events_back gap.is) in
@@ -238,7 +248,8 @@ module _ (width : ℕ) (rule : Rule) where
                 passes width (end_of (events_back gap.rest) e before) (columns p.bytes) (rule.takes (shown p)) chunk.2 (omega arith) in omega arith;
           }
 
-    known_passed : (event : Event) (margin : ℕ) (st : State) → (rule.follows event ≡ true → IsQuiet rule st.margin margin event) → IsRoomy st → IsRoomy (passed event margin st)
+    known_passed : (event : Event) (margin : ℕ) (st : State) → (rule.follows event ≡ true → IsQuiet rule st.margin margin event) → IsRoomy st
+        → IsRoomy (passed event margin st)
     known_passed event margin st quiet h = λ m before e there run. at m before e run (cut_passed event st.back m e before there) where
       at : (m before : List Stretch) (e : Place) → IsRun m e → AfterPassed event st.back m e before → Known (passed event margin st) m e before
       at m before e run found =
@@ -262,28 +273,33 @@ module _ (width : ℕ) (rule : Rule) where
           }
 
     -- a break does not follow
-    no_break : {A : Type 0} {margin_of : ℕ → ℕ} (st : State) (next : Next) (k : ℕ) (chunk : Chunk) → Suits margin_of st next → next ≡ break k chunk → rule.follows (Shows k chunk) ≡ true → A
+    no_break : {A : Type 0} {margin_of : ℕ → ℕ} (st : State) (next : Next) (k : ℕ) (chunk : Chunk) → Suits margin_of st next → next ≡ break k chunk
+        → rule.follows (Shows k chunk) ≡ true → A
     no_break {A} st next k chunk suits e = by_break (λ c j. rule.follows (Shows j c) ≡ true → A) suits e
         (λ j l m h. let no : rule.follows (Shows j Paragraph) ≡ false = sound.paragraph j in absurd cc) (λ j l m h. let no : rule.follows (Shows j LineBreak) ≡ false = sound.line_break j in absurd cc)
 
-    known_broken : {margin_of : ℕ → ℕ} (st : State) (next : Next) (k : ℕ) (chunk : Chunk) → Suits margin_of st next → next ≡ break k chunk → IsRoomy (broken k chunk st)
+    known_broken : {margin_of : ℕ → ℕ} (st : State) (next : Next) (k : ℕ) (chunk : Chunk) → Suits margin_of st next → next ≡ break k chunk
+        → IsRoomy (broken k chunk st)
     known_broken st next k chunk suits e = λ m before g there run.
         let gap : AfterGap 10 (Passed (Shows k chunk) ∷ st.back) m g before = cut_gap 10 (Passed (Shows k chunk) ∷ st.back) m g before there in
         let found : AfterPassed (Shows k chunk) st.back gap.rest g before = cut_passed (Shows k chunk) st.back gap.rest g before gap.there in
         no_break st next k chunk suits e (run_parts (Shows k chunk) m found.rest g (ap events_back gap.is ∙ ap events_back found.is) run).0
 
-    quiet_mark : {margin_of : ℕ → ℕ} (st : State) (next : Next) (event : Event) (margin : ℕ) → Suits margin_of st next → next ≡ mark event margin → margin ≤ deepest
+    quiet_mark : {margin_of : ℕ → ℕ} (st : State) (next : Next) (event : Event) (margin : ℕ) → Suits margin_of st next → next ≡ mark event margin
+        → margin ≤ deepest
         → rule.follows event ≡ true → IsQuiet rule st.margin margin event
     quiet_mark st next event margin suits e = by_mark (λ x m. m ≤ deepest → rule.follows x ≡ true → IsQuiet rule st.margin m x) suits e
         (λ b m l u deep f. sound.opens b st.margin m f l deep) (λ b m l u deep f. sound.closes b st.margin m f l)
 
-    roomy_grows : {margin_of : ℕ → ℕ} {st after : State} {next : Next} → width < 1_000_000 → EachPlace Fills st.back → IsStarting st → Agrees st → Suits margin_of st next → IsShallow deepest next
+    roomy_grows : {margin_of : ℕ → ℕ} {st after : State} {next : Next} → width < 1_000_000 → EachPlace Fills st.back → IsStarting st → Agrees st
+        → Suits margin_of st next → IsShallow deepest next
         → Grows width st next after → IsRoomy st → IsRoomy after
     roomy_grows {st = st} {next = next} small f start agrees suits shallow g h = by_grows IsRoomy g
         (λ p base n e b d. known_put p base n small f start agrees (fits_of suits e).weighed b d h) (λ p mid e l w b. known_dropped p (fits_of suits e).weighed l w h)
         (λ k chunk e. known_broken st next k chunk suits e)
         (λ event margin e. known_passed event margin st (quiet_mark st next event margin suits e (subst (IsShallow deepest) e shallow)) h)
 
-    pub breaks_grows : {margin_of : ℕ → ℕ} {st after : State} {next : Next} → width < 1_000_000 → EachPlace Fills st.back → IsStarting st → Agrees st → Suits margin_of st next → IsShallow deepest next
+    pub breaks_grows : {margin_of : ℕ → ℕ} {st after : State} {next : Next} → width < 1_000_000 → EachPlace Fills st.back → IsStarting st → Agrees st
+        → Suits margin_of st next → IsShallow deepest next
         → Grows width st next after → BreaksBy st → BreaksBy after
     breaks_grows small f start agrees suits shallow g h = record { roomy = roomy_grows small f start agrees suits shallow g h.roomy; no_room = no_room_grows start h.roomy g h.no_room }

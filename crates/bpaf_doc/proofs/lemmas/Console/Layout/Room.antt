@@ -5,7 +5,7 @@ use Rattle.std.proofs.Common.{sym, subst, ap, arith, inl, inr, ◌∙◌}
 use Rattle.bpaf_doc.specs.declared.buffer.Block.{Block}
 use Rattle.bpaf_doc.specs.declared.buffer.Block.TheVariants as blocks
 use Rattle.bpaf_doc.specs.Splitter.Chunks.{Chunk, Raw, columns, is_inked, is_ordinary}
-use Rattle.bpaf_doc.specs.Console.Layout.{Event, Shows, Opens, Closes, Stretch, Gap, Placed, Passed, Place, chunk_at, is_inked_event, is_inked_stretch, asks_newline, room_of}
+use Rattle.bpaf_doc.specs.Console.Layout.{Event, Shows, Opens, Closes, Stretch, Gap, Placed, Passed, Place, is_inked_event, is_inked_stretch, asks_newline, room_of}
 use Rattle.bpaf_doc.proofs.lemmas.Console.Layout.State.{State, Pads, Piece, Begins, places, drops, Next, raw, break, mark, Grows, placing, breaking, passing, padded, Suits}
 use Rattle.bpaf_doc.proofs.lemmas.Console.Layout.Back.{by_cases, EachPlace, each_grows, place_of, fits_of, same_padded, by_mark, by_break}
 use Rattle.bpaf_doc.proofs.lemmas.Console.Layout.Columns.{heavy}
@@ -51,17 +51,21 @@ in_order_chunk st after k chunk is order moved h = record {
   next = λ j l m. (omega arith, h.next j (omega arith) (λ t. let step : st.latest < k = moved t in omega arith));
 }
 
-in_order_mark : (st after : State) (event : Event) → is_chunk event ≡ false → after.latest ≡ st.latest → after.marked ≡ true → ComesInOrder st → IsInOrder after (event ∷ events_back st.back)
+in_order_mark : (st after : State) (event : Event) → is_chunk event ≡ false → after.latest ≡ st.latest → after.marked ≡ true → ComesInOrder st
+    → IsInOrder after (event ∷ events_back st.back)
 in_order_mark st after (Shows k chunk) c is marked h = absurd cc
 in_order_mark st after _ c is marked h = record { after = λ k l. h.after k (omega arith); next = λ k l m. let more : after.latest < k = m marked in h.after k (omega arith) }
 
-mark_chunk : {margin_of : ℕ → ℕ} (st : State) (next : Next) (event : Event) (margin : ℕ) → Suits margin_of st next → next ≡ mark event margin → is_chunk event ≡ false
+mark_chunk : {margin_of : ℕ → ℕ} (st : State) (next : Next) (event : Event) (margin : ℕ) → Suits margin_of st next → next ≡ mark event margin
+    → is_chunk event ≡ false
 mark_chunk st next event margin suits e = by_mark (λ x m. is_chunk x ≡ false) suits e (λ b m l u. refl) (λ b m l u. refl)
 
-break_order : {margin_of : ℕ → ℕ} (st : State) (next : Next) (k : ℕ) (chunk : Chunk) → Suits margin_of st next → next ≡ break k chunk → (st.latest ≤ k) × (st.marked ≡ true → st.latest < k)
+break_order : {margin_of : ℕ → ℕ} (st : State) (next : Next) (k : ℕ) (chunk : Chunk) → Suits margin_of st next → next ≡ break k chunk
+    → (st.latest ≤ k) × (st.marked ≡ true → st.latest < k)
 break_order st next k chunk suits e = by_break (λ c j. (st.latest ≤ j) × (st.marked ≡ true → st.latest < j)) suits e (λ j l m. (l, m)) (λ j l m. (l, m))
 
-pub in_order_grows : {width : ℕ} {margin_of : ℕ → ℕ} {st after : State} {next : Next} → Suits margin_of st next → Grows width st next after → ComesInOrder st → ComesInOrder after
+pub in_order_grows : {width : ℕ} {margin_of : ℕ → ℕ} {st after : State} {next : Next} → Suits margin_of st next → Grows width st next after
+    → ComesInOrder st → ComesInOrder after
 in_order_grows {st = st} {after = after} {next = next} suits g h = subst (IsInOrder after) (sym (events_grows g)) (at g) where
   event_is : {x : Next} → next ≡ x → IsInOrder after (next_event x ∷ events_back st.back) → IsInOrder after (next_event next ∷ events_back st.back)
   event_is e i = subst (λ (x : Next). IsInOrder after (next_event x ∷ events_back st.back)) (sym e) i
@@ -109,8 +113,7 @@ idle deepest = record { begins = is_inked; follows = is_idle; has_chunks = true;
 
 allowance_more : (deepest : ℕ) (event : Event) (es : List Event) → allowance deepest es ≤ allowance deepest (event ∷ es)
 allowance_more deepest (Shows k chunk) es = omega arith
-allowance_more deepest (Opens b) es = grind arith
-allowance_more deepest (Closes b) es = grind arith
+allowance_more deepest _ es = grind arith
 
 idle_open : (b : Block) (deepest level margin : ℕ) → margin ≤ deepest → is_idle (Opens b) ≡ true → IsQuiet (idle deepest) level margin (Opens b)
 idle_open blocks.ItemBody deepest level margin deep h = record { asked = λ a. refl; bytes = omega arith; pending = λ c p t. inr (omega arith); margin = λ c es. inr (omega arith) }
@@ -145,8 +148,8 @@ idle_sound width deepest small = record {
 }
 
 -- without ink and without a newline asked for, all is idle
-pub idle_all : (m : List Stretch) → list_any is_inked_stretch m ≡ false → list_any asks_newline (events_back m) ≡ false → list_all is_idle (events_back m) ≡ true
+pub idle_all : (m : List Stretch) → list_any is_inked_stretch m ≡ false → list_any asks_newline (events_back m) ≡ false
+    → list_all is_idle (events_back m) ≡ true
 idle_all [] i a = refl
 idle_all (Gap b ∷ m) i a = idle_all m i a
-idle_all (Placed e ∷ m) i a = grind (arith, idle_all m, or_false_left, or_false_right)
-idle_all (Passed event ∷ m) i a = grind (arith, idle_all m, or_false_left, or_false_right)
+idle_all (_ ∷ m) i a = grind (arith, idle_all m, or_false_left, or_false_right)

@@ -1,5 +1,5 @@
 -- A page cut before one of its places.
-use Rattle.std.specs.Prelude.{◌≡◌, ℕ, zero, suc, Bool, true, false, ◌||◌, List, [], ◌∷◌, ◌++◌, refl, ◌⊎◌}
+use Rattle.std.specs.Prelude.{◌≡◌, ℕ, zero, suc, Bool, true, false, List, [], ◌∷◌, ◌++◌, refl, ◌⊎◌}
 use Rattle.std.specs.List.{list_any}
 use Rattle.std.proofs.Common.{sym, subst, ap, inl, inr, ◌∙◌, arith}
 use Rattle.std.proofs.lemmas.Bool.{or_parts}

@@ -14,7 +14,7 @@ use Rattle.bpaf_doc.specs.Buffer.Parts.{ink}
 use Rattle.bpaf_doc.specs.Splitter.Chunks.{is_inked, has_some, IsLine, is_line_byte}
 use Rattle.bpaf_doc.specs.Shown.{is_term_ref}
 use Rattle.bpaf_doc.specs.Console.Layout.{Event, Shows, Opens, Closes, Stretch, Gap, Placed, Passed, Place, chunk_at, event_bytes, stretch_bytes}
-use Rattle.bpaf_doc.proofs.lemmas.Console.Layout.State.{has_text, ends_line, ends_blank, trimmed, cut, IsLegible}
+use Rattle.bpaf_doc.proofs.lemmas.Console.Layout.State.{has_text, ends_line, ends_blank, trimmed, IsLegible}
 use Rattle.bpaf_doc.proofs.lemmas.Console.Layout.Back.{by_cases, trimmed_inked, trimmed_plain, trimmed_bytes, trimmed_bare, by_trimmed}
 use Rattle.bpaf_doc.proofs.lemmas.Console.Layout.Blank.{text_back, text_back_cons, some_none}
 
@@ -231,14 +231,12 @@ backquote_ink = refl
 
 event_ink : (event : Event) → has_some (event_bytes event) ≡ true → has_some (ink (event_bytes event)) ≡ true
 event_ink (Shows k chunk) h = absurd cc
-event_ink (Opens b) h = grind (arith, backquote_ink)
-event_ink (Closes b) h = grind (arith, backquote_ink)
+event_ink _ h = grind (arith, backquote_ink)
 
 event_trim : (event : Event) → has_some (event_bytes event) ≡ true → trim_end (event_bytes event) ≡ event_bytes event
 unfolding chars trim_end lib.Utf8.encode
 event_trim (Shows k chunk) h = absurd cc
-event_trim (Opens b) h = grind arith
-event_trim (Closes b) h = grind arith
+event_trim _ h = grind arith
 
 plain_trim : (text : List ℕ) → has_some (ink text) ≡ false → trim_end text ≡ []
 unfolding trim_end

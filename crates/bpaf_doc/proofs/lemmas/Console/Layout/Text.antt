@@ -1,14 +1,12 @@
 -- When something is written, what has no place, and the column where a chunk begins.
-use Rattle.std.specs.Prelude.{◌≡◌, ℕ, ◌<◌, ⊤, Bool, true, false, ◌||◌, List, [], ◌∷◌, length, codes, refl, ◌⊎◌}
+use Rattle.std.specs.Prelude.{◌≡◌, ℕ, ◌<◌, ⊤, Bool, true, false, ◌||◌, List, [], ◌∷◌, length, codes, refl}
 use Rattle.std.specs.List.{list_any}
 use Rattle.std.specs.Str.{chars}
-use Rattle.std.proofs.Common.{sym, subst, ap, arith, inl, inr, ◌∙◌}
-use Rattle.bpaf_doc.specs.declared.buffer.Block.{Block}
-use Rattle.bpaf_doc.specs.Shown.{is_term_ref, mark_bytes}
-use Rattle.bpaf_doc.specs.Splitter.Chunks.{Raw, is_inked, is_ordinary, has_some}
-use Rattle.bpaf_doc.specs.Console.Layout.{Event, Shows, Stretch, Gap, Placed, Passed, chunk_at, event_bytes, is_inked_event, is_inked_stretch, is_empty_code, is_placed, is_written}
-use Rattle.bpaf_doc.proofs.lemmas.Console.Layout.State.{State, Piece, Lines, Begins, first, stays, wraps, places, drops, Next, raw, break, mark, Grows, placing, breaking, passing, padded, trimmed, has_text, put, passed, Fits, Suits, IsClear}
-use Rattle.bpaf_doc.proofs.lemmas.Console.Layout.Back.{by_cases, EachPlace, fits_of, by_lines, lines_back, begins_back, by_trimmed, by_padded, by_mark, by_break, by_grows}
+use Rattle.std.proofs.Common.{sym, subst, ap, arith, ◌∙◌}
+use Rattle.bpaf_doc.specs.Splitter.Chunks.{Raw, has_some}
+use Rattle.bpaf_doc.specs.Console.Layout.{Event, Shows, Stretch, Gap, Placed, Passed, event_bytes, is_inked_event, is_inked_stretch, is_placed, is_written}
+use Rattle.bpaf_doc.proofs.lemmas.Console.Layout.State.{State, Piece, Lines, Begins, first, stays, wraps, Next, raw, break, mark, Grows, padded, trimmed, has_text, put, Fits, Suits, IsClear}
+use Rattle.bpaf_doc.proofs.lemmas.Console.Layout.Back.{EachPlace, fits_of, by_lines, lines_back, begins_back, by_trimmed, by_padded, by_mark, by_break, by_grows}
 use Rattle.bpaf_doc.proofs.lemmas.Console.Layout.Columns.{Fills, inked_some, column_back, no_text_column, Agrees, agrees_lines, no_bytes}
 
 -- ---- what has no place has no ink

@@ -15,7 +15,7 @@ use Rattle.bpaf_doc.specs.Splitter.Chunks.{Raw, columns, is_inked, is_ordinary, 
 use Rattle.bpaf_doc.specs.Shown.{console_ink, is_term_ref}
 use Rattle.bpaf_doc.specs.Console.Margin.{margin, greatest_margin}
 use Rattle.bpaf_doc.specs.Console.Layout.{Event, Shows, Opens, Closes, Stretch, Gap, Placed, Passed, Place, AreApart, chunk_at, event_bytes, event_columns, stretch_columns, text_of, events_of, shown_events, is_newline, is_placed, holds_line, leads_to_place, is_inked_event, is_inked_stretch, is_empty_code, is_written, is_raw_event, is_ref, asks_newline, asks_blank_line, is_light, is_light_mark, opens_body, column, padding, line_before, stretch_lines, MayStand, BreaksWhereAsked, KeepsBlanks, IsKept, BeginsClear, IsFirstInLine, events_since_ink, is_raw_or_ref, FollowsBlank, KeepsMargin, WrapsOnlyIfNeeded, IsBounded, FitsWidth, PadsToMargin, StandsAlone, room_of, BreaksForRoom, HasBlankLine, widest, IsLayout}
-use Rattle.bpaf_doc.proofs.lemmas.Console.Layout.State.{State, has_text, IsShallow, Next, raw, break, mark, Grows, placing, breaking, passing, places, drops, Suits, IsClear, blank_page, Written, nothing, more, Ends, as_is, with_newline}
+use Rattle.bpaf_doc.proofs.lemmas.Console.Layout.State.{State, has_text, IsShallow, Next, raw, break, mark, Grows, Suits, IsClear, blank_page, Written, nothing, more, Ends, as_is, with_newline}
 use Rattle.bpaf_doc.proofs.lemmas.Console.Layout.Back.{by_cases, EachPlace, by_grows}
 use Rattle.bpaf_doc.proofs.lemmas.Console.Layout.Columns.{Fills, fills_grows, Agrees, agrees_grows, column_back}
 use Rattle.bpaf_doc.proofs.lemmas.Console.Layout.Text.{EachPassed, NoInk, no_ink_grows, IsStarting, starting_grows, next_event, text_stays, text_written, begins_margin, lines_margin}

@@ -1,5 +1,5 @@
 -- The page that the code writes is the page as a function of the document.
-use Rattle.std.specs.Prelude.{◌≡◌, ℕ, ◌+◌, ◌-◌, ◌^◌, ◌<◌, Option, Some, None, Bool, true, false, not, ◌&&◌, ◌||◌, ◌==◌, List, [], ◌∷◌, ◌++◌, length, refl, if◌then◌else◌, ◌⊎◌, nat_lt, nat_le, take, IfOk, Result, Ok, Err, String, string_bytes}
+use Rattle.std.specs.Prelude.{◌≡◌, ℕ, ◌+◌, ◌-◌, ◌^◌, ◌<◌, Option, Some, None, Bool, true, false, not, ◌&&◌, ◌==◌, List, [], ◌∷◌, ◌++◌, length, refl, if◌then◌else◌, ◌⊎◌, nat_lt, nat_le, IfOk, Result, Ok, Err, String, string_bytes}
 use Rattle.std.specs.List.{enumerate_from}
 use Rattle.std.specs.Str.{bytes_eq}
 use Rattle.std.proofs.Common.{sym, ap, arith, inl, inr, ◌∙◌}
@@ -14,7 +14,6 @@ use Rattle.bpaf_doc.specs.Buffer.Parts.{Part, Text, Start, End}
 use Rattle.bpaf_doc.specs.Splitter.Chunks.{Chunk, Raw, Paragraph, LineBreak, columns, chunks_of, has_some}
 use Rattle.bpaf_doc.specs.Shown.{is_term_ref}
 use Rattle.bpaf_doc.specs.Console.Margin.{margin, is_skipped}
-use Rattle.bpaf_doc.specs.Console.Steps.Hiding.{hidden_after}
 use Rattle.bpaf_doc.specs.Console.Steps.Page as page
 use Rattle.bpaf_doc.specs.Console.Steps.Page.{Sheet, blank_sheet}
 use Rattle.bpaf_doc.specs.Console.Steps.Text as whole
@@ -44,13 +43,11 @@ view_if b x y = grind arith
 
 asks_line_is : (a : Asked) → page.asks_break a ≡ exact.asks_line (request_of a)
 asks_line_is asked.Nothing = refl
-asks_line_is asked.NewLine = refl
-asks_line_is asked.BlankLine = refl
+asks_line_is _ = refl
 
 asks_blank_line_is : (a : Asked) → page.asks_blank_line a ≡ exact.asks_blank_line (request_of a)
 asks_blank_line_is asked.Nothing = refl
-asks_blank_line_is asked.NewLine = refl
-asks_blank_line_is asked.BlankLine = refl
+asks_blank_line_is _ = refl
 
 line_ended_is : (s : Sheet) → view (page.asked_newline_put s) ≡ exact.line_ended (view s)
 line_ended_is s = view_if (page.lacks_newline s) (page.newline_put s) s ∙ rw (asks_line_is s.asks) refl
@@ -150,8 +147,7 @@ text_is full width level (Paragraph ∷ chunks) s good wide margin = grind (arit
 
 new_line_is : (a : Asked) → request_of (page.new_line_asked a) ≡ exact.at_least_new_line (request_of a)
 new_line_is asked.Nothing = refl
-new_line_is asked.NewLine = refl
-new_line_is asked.BlankLine = refl
+new_line_is _ = refl
 
 start_request : (b : Block) (a : Asked) → request_of (page.asked_by_start a b) ≡ exact.request_at_start b (request_of a)
 start_request blocks.Header a = new_line_is a

@@ -1,7 +1,6 @@
 -- The page as a function of the document has the console ink, and is a layout.
 use Rattle.std.specs.Prelude.{◌≡◌, ℕ, zero, suc, ◌+◌, ◌^◌, ◌<◌, ◌≤◌, ◌⊎◌, Bool, true, false, List, [], ◌∷◌, ◌++◌, length, take, reverse, map, flat_map, refl, if◌then◌else◌}
 use Rattle.std.specs.List.{enumerate_from}
-use Rattle.std.specs.Str.{IsUtf8}
 use Rattle.std.proofs.Common.{sym, subst, ap, arith, inl, inr, ◌∙◌, length-append}
 use Rattle.std.proofs.lemmas.List.{append-nil, length-reverse, reverse-reverse}
 use Rattle.std.proofs.lemmas.Grind.{flat_map-append}
@@ -12,7 +11,7 @@ use Rattle.bpaf_doc.specs.Splitter.Chunks.{Chunk, chunk_ink}
 use Rattle.bpaf_doc.specs.Splitter.Promises.{IsGap}
 use Rattle.bpaf_doc.specs.Shown.{console_ink, is_term_ref, mark_bytes, shown_chunks, shown_part_ink}
 use Rattle.bpaf_doc.specs.Console.Margin.{Shift, Indent, Outdent, Level, shifts, is_skipped}
-use Rattle.bpaf_doc.specs.Console.Layout.{Event, Shows, Opens, Closes, part_events, shown_events, Stretch, Gap, Placed, Passed, chunk_at, event_bytes, IsLayout}
+use Rattle.bpaf_doc.specs.Console.Layout.{Event, Shows, Opens, Closes, part_events, shown_events, Stretch, Gap, Placed, Passed, event_bytes, IsLayout}
 use Rattle.bpaf_doc.specs.Console.Steps.Hiding.{hidden_after}
 use Rattle.bpaf_doc.specs.Console.Steps.Page as page
 use Rattle.bpaf_doc.specs.Console.Steps.Page.{Sheet, blank_sheet}
@@ -95,8 +94,7 @@ module _ (full : Bool) (document : List Part) (few : length document < 2 ^ 59) w
 
   leaves_few : (pairs : Pairs) (index : ℕ) (part : Part) (s : Sheet) → page.HasFewMargins s → whole.LeavesFew pairs index part s
   leaves_few pairs index (Text bytes style) s few = tt
-  leaves_few pairs index (Start b) s few = λ shown. few
-  leaves_few pairs index (End b) s few = λ shown. few
+  leaves_few pairs index _ s few = λ shown. few
 
   keeps_few : (parts : List Part) (index : ℕ) (before : List Part) (pairs : Pairs) (hidden : ℕ) (s : Sheet) → Walk full document index before parts pairs hidden s → whole.KeepsFew full document index pairs hidden parts s
   keeps_few [] index before pairs hidden s w = tt

@@ -19,8 +19,7 @@ use Rattle.bpaf_doc.proofs.lemmas.Console.Sheet.Grows.{Draws}
 
 same_asked : (a : Asked) → page.new_line_asked a ≡ at_least_line a
 same_asked Nothing = refl
-same_asked NewLine = refl
-same_asked BlankLine = refl
+same_asked _ = refl
 
 start_asked : (a : Asked) (b : Block) → page.asked_by_start a b ≡ asked_after (Opens b) a
 start_asked a blocks.Header = same_asked a

@@ -96,10 +96,6 @@ module _ (document : List Part) (small : length document < 2 ^ 64) where
 
   pub skips_is : (index : ℕ) (b : Block) (pairs : Pairs) → KnowsPairs document (index + 1) pairs → HasMarkAt document index b → whole.skips pairs index b ≡ is_skipped document index
   skips_is index b pairs knows mark = at (by_cases (whole.is_block b)) where
-    is_block_block : (b : Block) → whole.is_block b ≡ true → b ≡ blocks.Block
-    is_block_block blocks.Block h = refl
-    is_block_block _ h = absurd cc
-
     unlike : whole.is_block b ≡ false → b ≡ blocks.Block → ⊥
     unlike h e = let yes : whole.is_block b ≡ true = ap whole.is_block e in let no : true ≡ false = sym yes ∙ h in cc
 

@@ -98,10 +98,9 @@ take_next : (k : ℕ) (x : Chunk) (xs : List Chunk) → take (1 + k + 1) (x ∷ 
 take_next k x xs = let e : 1 + k + 1 ≡ suc (k + 1) = omega arith in rw e refl
 
 pub written_brief : (chunks : List Chunk) → written_of false chunks ≡ through_paragraph chunks
-written_brief [] = refl
 written_brief (Raw bytes weight ∷ chunks) = ap (λ cs. Raw bytes weight ∷ cs) (written_brief chunks) ∙ sym (take_next _ (Raw bytes weight) chunks)
 written_brief (LineBreak ∷ chunks) = ap (λ cs. LineBreak ∷ cs) (written_brief chunks) ∙ sym (take_next _ LineBreak chunks)
-written_brief (Paragraph ∷ chunks) = refl
+written_brief _ = refl
 
 -- ---- what is hidden
 
@@ -319,8 +318,7 @@ module _ (full : Bool) (document : List Part) where
         same_walk (Text bytes style ∷ parts) widest in_term term = same_walk parts widest in_term (if in_term then page.saturated (term + columns bytes) else term)
         same_walk (Start blocks.ItemTerm ∷ parts) widest in_term term = same_walk parts widest true 0
         same_walk (End blocks.ItemTerm ∷ parts) widest in_term term = same_walk parts (whole.wider_term widest term) false term
-        same_walk (Start _ ∷ parts) widest in_term term = same_walk parts widest in_term term
-        same_walk (End _ ∷ parts) widest in_term term = same_walk parts widest in_term term
+        same_walk (_ ∷ parts) widest in_term term = same_walk parts widest in_term term
 
   pub walk_begins : length document < 2 ^ 64 → (width : ℕ) → Walk 0 [] document whole.no_pairs 0 (blank_sheet width (whole.tab_stop_from 0 false 0 document))
   walk_begins is_small width = record {

@@ -208,8 +208,7 @@ map_append (x ∷ xs) ys = ap (λ es. next_event x ∷ es) (map_append xs ys)
 
 shows_chunk : (k : ℕ) (chunk : Chunk) → next_event (chunk_next k chunk) ≡ Shows k chunk
 shows_chunk k (Raw bytes weight) = refl
-shows_chunk k Paragraph = refl
-shows_chunk k LineBreak = refl
+shows_chunk k _ = refl
 
 shows_chunks : (k : ℕ) (chunks : List Chunk) → map next_event (map (chunk_next k) chunks) ≡ map (λ chunk. Shows k chunk) chunks
 shows_chunks k [] = refl

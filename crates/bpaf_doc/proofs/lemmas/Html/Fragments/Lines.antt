@@ -1,12 +1,11 @@
 -- No chunk of a text has a newline in it, so no fragment of a document has.
-use Rattle.std.proofs.Common.{arith, ◌≡◌, ℕ, zero, suc, Bool, true, false, List, [], ◌∷◌, map, take, refl, ap, ◌∙◌}
-use Rattle.std.specs.Prelude.{not, ◌&&◌, ◌==◌}
+use Rattle.std.proofs.Common.{arith, ◌≡◌, ℕ, zero, suc, Bool, true, false, List, [], ◌∷◌, take, refl, ap, ◌∙◌}
 use Rattle.std.specs.List.{list_all, position_or_len}
 use Rattle.std.proofs.lemmas.List.Folds.{list_all-append, list_all-map}
 use Rattle.std.proofs.lemmas.Bool.{and_parts, and_from}
 use Rattle.bpaf_doc.specs.Buffer.Parts.{Part, Text, Start as PartStart, End as PartEnd}
 use Rattle.bpaf_doc.specs.Splitter.Chunks.{Chunk, Raw, Paragraph, LineBreak, is_line_byte, is_word_byte, is_paragraph, Form, Spells, nothing, code_line, fence, before_code, paragraph, line_break, newline, blank, word, opening, later, closing, closing_paragraph, chunks_of}
-use Rattle.bpaf_doc.specs.Html.Fragments.{Fragment, Shown, TextEnd}
+use Rattle.bpaf_doc.specs.Html.Fragments.{Fragment, Shown}
 use Rattle.bpaf_doc.specs.Html.Steps.Walk.{visible, part_walk, walk, depth_after}
 use Rattle.bpaf_doc.proofs.lemmas.Splitter.Spelling.{spells_its_chunks}
 

@@ -12,7 +12,7 @@ use Rattle.bpaf_doc.specs.Splitter.Chunks.{Chunk, Raw, IsLine, chunks_of, column
 use Rattle.bpaf_doc.specs.Splitter.Steps.Runs.{IsRun}
 use Rattle.bpaf_doc.proofs.lemmas.Splitter.Runs.{AreWords, no_words, a_word, words_of_line, words_some}
 use Rattle.bpaf_doc.specs.Shown.{is_hidden, through_paragraph}
-use Rattle.bpaf_doc.specs.Html.Fragments.{Fragment, Shown, TextStart, TextEnd, part_fragments, shown_fragments}
+use Rattle.bpaf_doc.specs.Html.Fragments.{Fragment, Shown, TextEnd, part_fragments, shown_fragments}
 use Rattle.bpaf_doc.specs.Console.Steps.Hiding as hiding
 use Rattle.bpaf_doc.proofs.lemmas.Console.Hiding.{not_zero, Counts, Counts-nil, Counts-more, is_hidden-Counts}
 use Rattle.bpaf_doc.specs.Html.Steps.Walk.{is_inline, depth_after, depth_after_text, visible, text_rest, part_walk, walk}
