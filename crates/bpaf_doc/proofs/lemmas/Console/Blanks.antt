@@ -62,7 +62,7 @@ module _ (width tab_stop : ℕ) (margins : List ℕ) where
   unfolding raw_put
   second_blank out column some wide =
       ap₂ (λ z b. if (not z && b) && bytes_eq (32 ∷ []) (32 ∷ []) then (if z then at out column else if b then wrapped (at out column) else at out column)
-        else placed (32 ∷ []) 1 (if z then at out column else if b then wrapped (at out column) else at out column)) some wide
+      else placed (32 ∷ []) 1 (if z then at out column else if b then wrapped (at out column) else at out column)) some wide
 
 pub blanks_pass : (s : Sheet) → DropsBlanks s → IsUtf8 s.out → (full : Bool) (rest : List Chunk) → text_put full (Raw (codes " ") 1 ∷ Raw (codes " ") 1 ∷ rest) s ≡ text_put full rest s
 blanks_pass s is u full rest =
@@ -77,7 +77,7 @@ blanks_pass s is u full rest =
     ∙ ap (λ t. text_put full rest (raw_put (32 ∷ []) 1 t)) (first_blank w s.tab_stop s.margins s.out (omega (arith, is.small)) is.some_room)
     ∙ ap (λ t. text_put full rest t)
     (second_blank w s.tab_stop s.margins (filled w s.tab_stop s.margins s.out) (filled_column w s.tab_stop s.margins)
-     (some_blank (s.out ++ replicate m 32)) (lt-ltb w (saturated (filled_column w s.tab_stop s.margins + 1)) (omega (arith, is.no_more, is.small))))
+    (some_blank (s.out ++ replicate m 32)) (lt-ltb w (saturated (filled_column w s.tab_stop s.margins + 1)) (omega (arith, is.no_more, is.small))))
     ∙ ap (λ o. text_put full rest (at w s.tab_stop s.margins o 0)) back
     ∙ ap (λ t. text_put full rest t) (sym there)
 
