@@ -1,15 +1,14 @@
 -- Of two blanks that come to a line without room behind its margin nothing is left.
-use Rattle.std.specs.Prelude.{◌≡◌, ℕ, zero, suc, ◌+◌, ◌-◌, ◌<◌, ◌≤◌, ◌==◌, Bool, true, false, not, ◌&&◌, List, [], ◌∷◌, ◌++◌, codes, refl, length, replicate, nat_lt, IsUtf8, if◌then◌else◌}
+use Rattle.std.specs.Prelude.{◌≡◌, ℕ, zero, suc, ◌+◌, ◌-◌, ◌<◌, ◌≤◌, ◌==◌, Bool, true, false, not, ◌&&◌, List, [], ◌∷◌, ◌++◌, codes, length, replicate, nat_lt, IsUtf8, if◌then◌else◌}
 use Rattle.std.specs.Str.{bytes_eq, trim_end}
 use Rattle.std.proofs.Common.{sym, ap, ap₂, arith, rules, ◌∙◌, append_assoc}
 use Rattle.std.proofs.lemmas.Bool.{lt-ltb}
 use Rattle.std.proofs.lemmas.Bool.Decides.{nat_tests}
 use Rattle.std.proofs.lemmas.Str.{IsUtf8-from_ascii}
-use Rattle.bpaf_doc.specs.declared.console.page.Asked.TheVariants as asked
 use Rattle.bpaf_doc.specs.Buffer.Parts.{ink}
 use Rattle.bpaf_doc.specs.Splitter.Chunks.{Chunk, Raw, has_some}
 use Rattle.bpaf_doc.specs.Console.Steps.Ink.{shown_ink}
-use Rattle.bpaf_doc.specs.Console.Steps.Page.{Sheet, DropsBlanks, saturated, margin_of, is_too_wide, wraps, wrapped, room_made, body_padded, blanks_put, raw_added, placed, columns_of, raw_put, text_put}
+use Rattle.bpaf_doc.specs.Console.Steps.Page.{Sheet, DropsBlanks, saturated, margin_of, wrapped, room_made, body_padded, blanks_put, raw_added, placed, raw_put, text_put}
 use Rattle.bpaf_doc.proofs.lemmas.Console.Ink.{ink-blank}
 use Rattle.bpaf_doc.proofs.lemmas.Console.Layout.Stretches.{trim_white}
 use Rattle.bpaf_doc.proofs.lemmas.Console.Runs.{page_at, no_break, no_room}
