@@ -1,15 +1,14 @@
 -- Of two blanks that come to a line without room behind its margin nothing is left.
-use Rattle.std.specs.Prelude.{◌≡◌, ℕ, zero, suc, ◌+◌, ◌-◌, ◌<◌, ◌≤◌, ◌==◌, Bool, true, false, not, ◌&&◌, List, [], ◌∷◌, ◌++◌, codes, refl, length, replicate, nat_lt, IsUtf8, if◌then◌else◌}
+use Rattle.std.specs.Prelude.{◌≡◌, ℕ, zero, suc, ◌+◌, ◌-◌, ◌<◌, ◌≤◌, ◌==◌, Bool, true, false, not, ◌&&◌, List, [], ◌∷◌, ◌++◌, codes, length, replicate, nat_lt, IsUtf8, if◌then◌else◌}
 use Rattle.std.specs.Str.{bytes_eq, trim_end}
 use Rattle.std.proofs.Common.{sym, ap, ap₂, arith, rules, ◌∙◌, append_assoc}
 use Rattle.std.proofs.lemmas.Bool.{lt-ltb}
 use Rattle.std.proofs.lemmas.Bool.Decides.{nat_tests}
 use Rattle.std.proofs.lemmas.Str.{IsUtf8-from_ascii}
-use Rattle.bpaf_doc.specs.declared.console.page.Asked.TheVariants as asked
 use Rattle.bpaf_doc.specs.Buffer.Parts.{ink}
 use Rattle.bpaf_doc.specs.Splitter.Chunks.{Chunk, Raw, has_some}
 use Rattle.bpaf_doc.specs.Console.Steps.Ink.{shown_ink}
-use Rattle.bpaf_doc.specs.Console.Steps.Page.{Sheet, DropsBlanks, saturated, margin_of, is_too_wide, wraps, wrapped, room_made, body_padded, blanks_put, raw_added, placed, columns_of, raw_put, text_put}
+use Rattle.bpaf_doc.specs.Console.Steps.Page.{Sheet, DropsBlanks, saturated, margin_of, wrapped, room_made, body_padded, blanks_put, raw_added, placed, raw_put, text_put}
 use Rattle.bpaf_doc.proofs.lemmas.Console.Ink.{ink-blank}
 use Rattle.bpaf_doc.proofs.lemmas.Console.Layout.Stretches.{trim_white}
 use Rattle.bpaf_doc.proofs.lemmas.Console.Runs.{page_at, no_break, no_room}
@@ -62,7 +61,7 @@ module _ (width tab_stop : ℕ) (margins : List ℕ) where
   unfolding raw_put
   second_blank out column some wide =
       ap₂ (λ z b. if (not z && b) && bytes_eq (32 ∷ []) (32 ∷ []) then (if z then at out column else if b then wrapped (at out column) else at out column)
-        else placed (32 ∷ []) 1 (if z then at out column else if b then wrapped (at out column) else at out column)) some wide
+      else placed (32 ∷ []) 1 (if z then at out column else if b then wrapped (at out column) else at out column)) some wide
 
 pub blanks_pass : (s : Sheet) → DropsBlanks s → IsUtf8 s.out → (full : Bool) (rest : List Chunk) → text_put full (Raw (codes " ") 1 ∷ Raw (codes " ") 1 ∷ rest) s ≡ text_put full rest s
 blanks_pass s is u full rest =
@@ -77,7 +76,7 @@ blanks_pass s is u full rest =
     ∙ ap (λ t. text_put full rest (raw_put (32 ∷ []) 1 t)) (first_blank w s.tab_stop s.margins s.out (omega (arith, is.small)) is.some_room)
     ∙ ap (λ t. text_put full rest t)
     (second_blank w s.tab_stop s.margins (filled w s.tab_stop s.margins s.out) (filled_column w s.tab_stop s.margins)
-     (some_blank (s.out ++ replicate m 32)) (lt-ltb w (saturated (filled_column w s.tab_stop s.margins + 1)) (omega (arith, is.no_more, is.small))))
+    (some_blank (s.out ++ replicate m 32)) (lt-ltb w (saturated (filled_column w s.tab_stop s.margins + 1)) (omega (arith, is.no_more, is.small))))
     ∙ ap (λ o. text_put full rest (at w s.tab_stop s.margins o 0)) back
     ∙ ap (λ t. text_put full rest t) (sym there)
 

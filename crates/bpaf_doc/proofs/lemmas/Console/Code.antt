@@ -1,14 +1,12 @@
 -- A code line that comes to a line past the width.
-use Rattle.std.specs.Prelude.{◌≡◌, ℕ, ◌+◌, ◌-◌, ◌<◌, ◌≤◌, ◌==◌, Bool, true, false, not, ◌&&◌, List, [], ◌∷◌, ◌++◌, refl, length, replicate, nat_lt, IsUtf8, if◌then◌else◌}
-use Rattle.std.specs.Char.{is_ascii_graphic, is_whitespace}
+use Rattle.std.specs.Prelude.{◌≡◌, ℕ, ◌+◌, ◌-◌, ◌<◌, ◌==◌, true, false, ◌&&◌, List, [], ◌∷◌, ◌++◌, length, replicate, if◌then◌else◌}
 use Rattle.std.specs.Str.{bytes_eq, trim_end}
 use Rattle.std.proofs.Common.{sym, ap, ap₂, arith, ◌∙◌}
 use Rattle.std.proofs.lemmas.Bool.{lt-ltb}
 use Rattle.std.proofs.lemmas.Bool.Decides.{nat_tests}
 use Rattle.std.proofs.lemmas.List.{length-append}
 use Rattle.std.proofs.Math.Bool.{and-false}
-use Rattle.bpaf_doc.specs.declared.console.page.Asked.TheVariants as asked
-use Rattle.bpaf_doc.specs.Console.Steps.Page.{Sheet, IsPastLine, saturated, margin_of, is_too_wide, wraps, wrapped, asked_put, room_made, body_padded, blanks_put, raw_added, placed, code_put, columns_of, raw_put}
+use Rattle.bpaf_doc.specs.Console.Steps.Page.{Sheet, IsPastLine, saturated, margin_of, is_too_wide, wraps, wrapped, room_made, body_padded, blanks_put, raw_added, placed, code_put, columns_of, raw_put}
 use Rattle.bpaf_doc.proofs.lemmas.Console.Runs.{page_at}
 
 module _ (width tab_stop : ℕ) (margins : List ℕ) where

@@ -1,5 +1,5 @@
 -- A text that ends in a printable ASCII character has no White_Space at its end.
-use Rattle.std.specs.Prelude.{◌≡◌, ℕ, zero, suc, ◌<◌, Bool, true, false, List, [], ◌∷◌, ◌++◌, refl, filter, IsUtf8, if◌then◌else◌}
+use Rattle.std.specs.Prelude.{◌≡◌, ℕ, zero, suc, ◌<◌, true, false, List, [], ◌∷◌, ◌++◌, refl, filter, IsUtf8}
 use Rattle.std.specs.Char.{is_ascii_graphic, is_whitespace, is_not_whitespace}
 use Rattle.std.specs.Str.{IsAscii, chars, drop_trailing_whitespace, encode_utf8_all, trim_end}
 use Rattle.std.proofs.Common.{sym, ap, subst, arith, ◌∙◌}

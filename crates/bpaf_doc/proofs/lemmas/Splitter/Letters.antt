@@ -3,7 +3,7 @@ use Rattle.std.specs.Prelude.{◌≡◌, ℕ, zero, suc, ◌+◌, ◌-◌, ◌/�
 use Rattle.std.specs.Int.{is_in_range}
 use Rattle.std.specs.List.{list_all}
 use Rattle.std.specs.Str.{IsUtf8}
-use Rattle.std.proofs.Common.{sym, ap, ap₂, ◌∙◌, ◌⊎◌, inl, inr, get_or, length-take, arith}
+use Rattle.std.proofs.Common.{sym, ap, ap₂, ◌∙◌, ◌⊎◌, inl, inr, get_or, arith}
 use Rattle.std.proofs.Math.Utf8.{encode, encodes}
 use Rattle.std.proofs.lemmas.Bool.{and_parts, cases_lt, lt-ltb, le-ltb, eqb-true}
 use Rattle.std.proofs.lemmas.Bool.Decides.{nat_tests}
@@ -15,9 +15,9 @@ use Rattle.unicode_width.specs.Width.{char_width}
 use Rattle.unicode_width.proofs.Rules.{is_simple, width_or_zero, str_width-simple}
 use Rattle.unicode_width.proofs.Computing.{unicode_width}
 use Rattle.bpaf_doc.specs.Splitter.Chunks.{IsWordEnd, columns, is_line_byte}
-use Rattle.bpaf_doc.specs.Splitter.Steps.Runs.{IsRunEnd, IsPrintable, IsLettered, is_lettered, begins, letters}
+use Rattle.bpaf_doc.specs.Splitter.Steps.Runs.{IsRunEnd, IsLettered, is_lettered, begins, letters}
 use Rattle.bpaf_doc.proofs.lemmas.Splitter.Printable.{each}
-use Rattle.bpaf_doc.proofs.lemmas.Splitter.Runs.{tested_front, printable_front}
+use Rattle.bpaf_doc.proofs.lemmas.Splitter.Runs.{tested_front}
 
 -- ---- characters
 
@@ -185,30 +185,6 @@ pub lettered_columns : (bytes : List ℕ) → IsUtf8 bytes → list_all is_lette
 lettered_columns bytes u h = grind (arith, are_letters, str_width-simple, chars_from_encodes)
 
 -- ---- runs of such characters
-
--- printable ASCII is a part of them, and each of its bytes a character
-printable_lettered_one : (b : ℕ) → is_in_range 0x20 0x7E b ≡ true → is_lettered b ≡ true
-printable_lettered_one b h = grind (arith, nat_tests)
-
-printable_begins : (b : ℕ) → is_in_range 0x20 0x7E b ≡ true → begins b ≡ true
-printable_begins b h = grind (arith, nat_tests)
-
-printable_lettered : (bytes : List ℕ) → IsPrintable bytes → IsLettered bytes
-printable_lettered bytes h = each (is_in_range 0x20 0x7E) is_lettered bytes printable_lettered_one h
-
-printable_letters : (bytes : List ℕ) → IsPrintable bytes → letters bytes ≡ length bytes
-printable_letters [] h = refl
-printable_letters (b ∷ bytes) h =
-    let both = and_parts (is_in_range 0x20 0x7E b) (list_all (is_in_range 0x20 0x7E) bytes) h in
-    let one : letters (b ∷ []) ≡ 1 = rw (printable_begins b both.0) refl in
-    let whole : 1 + length bytes ≡ length (b ∷ bytes) = omega arith in
-    letters-append (b ∷ []) bytes ∙ ap₂ (λ n m. n + m) one (printable_letters bytes both.1) ∙ whole
-
-pub printable_front_lettered : (text : List ℕ) (i at : ℕ) → i ≤ at → IsPrintable (take at text) → IsLettered (take i text)
-printable_front_lettered text i at le h = printable_lettered (take i text) (printable_front text i at le h)
-
-pub printable_front_letters : (text : List ℕ) (i at : ℕ) → i ≤ at → at ≤ length text → IsPrintable (take at text) → i ≡ letters (take i text)
-printable_front_letters text i at le within h = grind (arith, length-take, printable_letters, printable_front)
 
 -- a front of them, and one byte more
 pub lettered_front : (text : List ℕ) (i j : ℕ) → i ≤ j → IsLettered (take j text) → IsLettered (take i text)

@@ -1,6 +1,5 @@
 -- The chunks of a run, and of a text that begins with one.
 use Rattle.std.specs.Prelude.{◌≡◌, ◌≢◌, ℕ, suc, ◌<◌, ◌≤◌, Bool, true, IsTrue, ◌⊎◌, List, [], ◌∷◌, ◌++◌, codes, refl, length, take, drop, Option, Some, None, unwrap_or}
-use Rattle.std.specs.Int.{is_in_range}
 use Rattle.std.specs.List.{list_all}
 use Rattle.std.proofs.Common.{sym, ◌∙◌, ap, subst, inl, inr, arith, append_assoc, get_or, take-append-drop, take_all, drop-cons, length-take}
 use Rattle.std.proofs.lemmas.List.{take-take, drop_all, get_or-take}
@@ -8,7 +7,7 @@ use Rattle.memchr.specs.Find.{Nowhere, NoneBefore, NoneAfter, Passes, IsLastByte
 use Rattle.std.proofs.lemmas.List.Folds.{list_all-append}
 use Rattle.std.proofs.lemmas.Bool.Decides.{nat_tests}
 use Rattle.bpaf_doc.specs.Splitter.Chunks.{Chunk, Raw, Form, Plain, Spells, nothing, code_line, fence, before_code, paragraph, line_break, newline, blank, word, opening, later, closing, closing_paragraph, chunks_of, columns, is_line_byte, IsLine, IsLineEnd, IsWordEnd}
-use Rattle.bpaf_doc.specs.Splitter.Steps.Runs.{IsRun, IsRunEnd, IsPrintable}
+use Rattle.bpaf_doc.specs.Splitter.Steps.Runs.{IsRun, IsRunEnd}
 use Rattle.bpaf_doc.proofs.lemmas.Splitter.Cuts.{is_newline, line_from_no_newline, line_before_newline}
 use Rattle.bpaf_doc.proofs.lemmas.Splitter.Printable.{line_columns_are}
 use Rattle.bpaf_doc.proofs.lemmas.Splitter.Spelling.{and_left, and_right, spells_its_chunks, only_its_chunks}
@@ -92,28 +91,6 @@ tested_front test text i j le h =
     let split : take j text ≡ take i text ++ drop i (take j text) = sym (take-append-drop i (take j text)) ∙ ap (λ t. t ++ drop i (take j text)) (take-take i j text le) in
     and_left (list_all test (take i text)) (list_all test (drop i (take j text)))
     (sym (list_all-append test (take i text) (drop i (take j text))) ∙ ap (list_all test) (sym split) ∙ h)
-
-pub printable_front : (text : List ℕ) (i j : ℕ) → i ≤ j → IsPrintable (take j text) → IsPrintable (take i text)
-printable_front text i j le h = tested_front (is_in_range 0x20 0x7E) text i j le h
-
-line_byte : (b : ℕ) → is_in_range 0x20 0x7E b ≡ true → is_line_byte b ≡ true
-line_byte b h = grind (arith, nat_tests)
-
-printable_line : (bytes : List ℕ) → IsPrintable bytes → IsLine bytes
-printable_line [] h = refl
-printable_line (b ∷ bytes) h =
-    let one : is_in_range 0x20 0x7E b ≡ true = and_left (is_in_range 0x20 0x7E b) (list_all (is_in_range 0x20 0x7E) bytes) h in
-    rw (line_byte b one) (printable_line bytes (and_right (is_in_range 0x20 0x7E b) (list_all (is_in_range 0x20 0x7E) bytes) h))
-
--- a run of printable ASCII
-pub printable_run : (text : List ℕ) (end : ℕ) → end ≤ length text → IsPrintable (take end text) → IsWordEnd (drop end text) → IsRunEnd text end
-printable_run text end le h w = record { within = le; line = printable_line (take end text) h; word_end = w }
-
--- one up to a place that was seen before the end of the printable ASCII
-pub printable_last : (text : List ℕ) (last at : ℕ) → at ≤ length text → last ≤ at → IsPrintable (take at text) → (0 < last → IsWordEnd (drop last text)) → 0 < last → IsRunEnd text last
-printable_last text last at within before h ends some =
-    let inside : last ≤ length text = omega (arith, within, before) in
-    printable_run text last inside (printable_front text last at before h) (ends some)
 
 -- a blank ends a word
 pub blank_ends : (text : List ℕ) (i : ℕ) → i < length text → get_or text i 0 ≡ 32 → IsWordEnd (drop i text)

@@ -16,10 +16,6 @@ pub record IsRun (run : List ℕ) : Type 0 where
   pub line : IsLine run
   pub short : length run ≤ 300_000
 
--- each byte is printable ASCII, a blank among it
-abbrev pub IsPrintable : List ℕ → Type 0
-IsPrintable bytes = list_all (is_in_range 0x20 0x7E) bytes ≡ true
-
 -- printable ASCII, or one of the bytes of a Latin letter of two bytes, from U+00C0 up to U+023F
 abbrev pub is_lettered : ℕ → Bool
 is_lettered b = (is_in_range 0x20 0x7E b || is_in_range 0x80 0xBF b) || is_in_range 0xC3 0xC8 b
