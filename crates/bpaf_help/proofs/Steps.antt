@@ -14,17 +14,15 @@ use Rattle.bpaf_doc.specs.Buffer.Parts.{Part}
 use Rattle.bpaf_doc.specs.Manpage.Events.{word_of}
 use Rattle.bpaf_doc.specs.Manpage.Reader.{Control}
 use Rattle.bpaf_doc.specs.Manpage.Page.{TakesDocument, IsPageOf, IsManualPageOf, TitlePageTakesDocument, TitledPageIsManualPage, title_page}
-use Rattle.bpaf_doc.specs.Buffer.Writes.{Write, start, end, plain, inside, path_writes, with_writes, document_of}
+use Rattle.bpaf_doc.specs.Buffer.Writes.{Write, start, end, plain, inside, doc_writes, path_writes, with_writes, document_of}
+use Rattle.bpaf_doc.proofs.lemmas.Buffer.Nesting.{with_writes-inside}
 use Rattle.bpaf_meta.specs.Content.{Tree, any, positional, command, flag, argument, Head, head}
 use Rattle.bpaf_meta.specs.declared.item.Item.{the_lemmas}
 use Rattle.bpaf_meta.specs.declared.meta_help.Info.{Info}
-use Rattle.bpaf_meta.specs.Meta.Misplaced.{IsWellPlaced}
 use Rattle.bpaf_meta.specs.View.{head_of, tree_of, text_of}
 use Rattle.bpaf_items.specs.declared.meta_help.entry.HiTy.TheVariants as ty
 use Rattle.bpaf_items.specs.declared.meta_help.error.HelpError.{HelpError}
 use Rattle.bpaf_items.specs.declared.meta_help.error.HelpError.TheVariants as error
-use Rattle.bpaf_items.specs.Page.PageAnswers.{IsHelpPageAnswer}
-use Rattle.bpaf_items.specs.View.{answer_of}
 use Rattle.bpaf_items.specs.Listing.ItemList.{Entry, listed, note, group_start, group_end, adjacent_start, adjacent_stop, item_list}
 use Rattle.bpaf_items.specs.Listing.Falls.{shown_entries, group_members, heading_members, is_group_start}
 use Rattle.bpaf_items.specs.Page.EnvTexts.{Texts, no_texts}
@@ -211,17 +209,6 @@ collected_whole app t i cs first d1 d2 none is e f =
 
 -- ---- pages
 
--- what an answer for a help page says
-module _ {A : Type 0} (path : List (List ℕ)) (i : Head) (t help : Tree) (included : Bool) (texts : Texts) where
-  pub page_placed : (r : Result (List Part) (HelpError A)) → IsHelpPageAnswer path i t help included texts (answer_of r) → OnOk r (IsWellPlaced t)
-  page_placed (Ok x) h = h.0
-  page_placed (Err e) h = tt
-
-  pub page_error : (r : Result (List Part) (HelpError A)) → IsHelpPageAnswer path i t help included texts (answer_of r) → IfErr r (IsErrorOf t)
-  page_error (Ok x) h = tt
-  page_error (Err (error.Memory e)) h = tt
-  page_error (Err (error.Misplaced l)) h = h
-
 -- an error at a chapter behind others that are well placed
 pub error_at : {A : Type 0} (front back all : List Chapter) (c : Chapter) (e : HelpError A) → all ≡ front ++ c ∷ back → AreWellPlaced front → IsErrorOf c.content e → AreErrorOf all e
 error_at front back all c (error.Memory e) order placed h = tt
@@ -241,11 +228,20 @@ at_place f (y ∷ ys) (suc i) x within is =
     rw e (ap (λ zs. f y ∷ zs) (at_place f ys i x (omega arith) is))
 
 -- the help page of a chapter
-pub own_page : {A B : Type 0} (path : List (List ℕ)) (i : Info A) (t : Tree) (texts : Texts) (r : Result (List Part) (HelpError B)) → IsHelpPageAnswer path (head_of i) t (tree_of i.help) false texts (answer_of r)
-    → IfOk r (λ page. page ≡ document_of (own_page_writes (record { path = path; info = head_of i; content = t })))
-own_page path i t texts (Ok page) h =
-    h.1 ∙ ap document_of (help_page_alone texts no_texts path (head_of i) t (tree_of i.help)) ∙ ap (λ help. document_of (help_page_writes path (head_of i) t help false no_texts)) (sym (ap help_tree (view_info i)))
-own_page path i t texts (Err e) h = tt
+own_writes : {A : Type 0} (path : List (List ℕ)) (i : Info A) (t : Tree) (texts : Texts)
+    → help_page_writes path (head_of i) t (tree_of i.help) false texts ≡ own_page_writes (record { path = path; info = head_of i; content = t })
+own_writes path i t texts = help_page_alone texts no_texts path (head_of i) t (tree_of i.help) ∙ ap (λ help. help_page_writes path (head_of i) t help false no_texts) (sym (ap help_tree (view_info i)))
+
+-- and written between the marks of an inline block, which is the page as a document
+pub page_put : {A T E : Type 0} (r : Result T E) (path : List (List ℕ)) (i : Info A) (t : Tree) (texts : Texts) (d0 d1 d2 d3 : List Part)
+    → d1 ≡ with_writes d0 (start block.InlineBlock ∷ []) → d2 ≡ with_writes d1 (help_page_writes path (head_of i) t (tree_of i.help) false texts) → OnOk r (d3 ≡ with_writes d2 (end block.InlineBlock ∷ []))
+    → OnOk r (d3 ≡ with_writes d0 (doc_writes (document_of (own_page_writes (record { path = path; info = head_of i; content = t })))))
+page_put (Ok x) path i t texts d0 d1 d2 d3 e f h =
+    let ws = help_page_writes path (head_of i) t (tree_of i.help) false texts in
+    written_then d0 d2 d3 (start block.InlineBlock ∷ ws) (end block.InlineBlock ∷ []) (written_then d0 d1 d2 (start block.InlineBlock ∷ []) ws e f) h
+    ∙ with_writes-inside d0 block.InlineBlock ws
+    ∙ ap (λ vs. with_writes d0 (doc_writes (document_of vs))) (own_writes path i t texts)
+page_put (Err x) path i t texts d0 d1 d2 d3 e f h = tt
 
 -- ---- the manual page
 

@@ -23,4 +23,4 @@ pub use error::HelpError;
 pub use given::HelpItemsIter;
 pub use key::ItemKey;
 pub use list::HelpItems;
-pub use page::{render_help, write_help_item_groups};
+pub use page::{render_help, write_help, write_help_item_groups};

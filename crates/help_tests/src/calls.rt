@@ -3,10 +3,10 @@
 use crate::arenas::{leave, roomy};
 use crate::meta::calls::{Make, Write, is_made, read_is_shown, shorts_are_put, write_in};
 use crate::pages_calls::{PageCall, page_ended};
-use crate::trees::tree;
+use crate::trees::{info, path, tree};
 use bpaf_doc::buffer::Doc;
 use bpaf_help::meta::Meta;
-use bpaf_help::meta_help::{EnvTexts, HelpItem, HelpItems, write_help_item_groups};
+use bpaf_help::meta_help::{EnvTexts, HelpItem, HelpItems, write_help, write_help_item_groups};
 use bumpalo::Bump;
 use std::alloc::{Allocator, Global};
 use std::fmt::Write as _;
@@ -21,6 +21,8 @@ pub enum Call {
     Insert,
     Replace,
     Groups,
+    /// A help page behind a text.
+    HelpPage,
     Write(Write),
     Make(Make),
     Shorts,
@@ -182,6 +184,7 @@ fn doc_is_written<'a>(
             leave(rt, arena, room);
             write_in(&mut doc, tree, call).is_ok()
         }
+        Call::HelpPage => page_is_written(rt, arena, room, tree, &mut doc),
         _ => are_written(rt, arena, room, tree, &mut doc, shown),
     };
     write!(shown, "{doc:?}").expect(rt, "a text");
@@ -204,5 +207,23 @@ fn are_written<'a>(
     let is_done = write_help_item_groups(doc, list, true, &texts).is_ok();
     write!(shown, "{texts:?} ").expect(rt, "a text");
     drop(texts);
+    is_done
+}
+
+fn page_is_written<'a>(
+    rt: &impl Abort,
+    arena: &'a Bump,
+    room: usize,
+    tree: &Meta<&'a Bump>,
+    doc: &mut Doc<&'a Bump>,
+) -> bool {
+    let info = info(rt, arena, "Prints things");
+    let path = path(rt, arena);
+    let texts = EnvTexts::new(arena);
+    leave(rt, arena, room);
+    let is_done = write_help(doc, arena, &path, &info, tree, tree, true, &texts).is_ok();
+    drop(texts);
+    drop(path);
+    drop(info);
     is_done
 }

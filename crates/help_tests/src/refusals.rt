@@ -84,6 +84,7 @@ const CALLS: &[(Call, &str)] = &[
     (Call::Insert, "{} None None"),
     (Call::Replace, r#"{"V": "7"} Some("7") None"#),
     (Call::Groups, r#"{"V": "7"} [Text("before", Literal)]"#),
+    (Call::HelpPage, r#"[Text("before", Literal)]"#),
     (Call::Page(PageCall::Help), ""),
 ];
 

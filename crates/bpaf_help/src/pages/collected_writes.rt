@@ -1,6 +1,6 @@
 //! What stands on a page that collects help pages.
 ghost use Rattle.std.specs.Prelude.{◌≡◌, ◌∷◌, [], flat_map, IfErr, IfOk, OnOk, map, string_bytes};
-ghost use Rattle.bpaf_doc.specs.Buffer.Writes.{document_of, plain, with_writes};
+ghost use Rattle.bpaf_doc.specs.Buffer.Writes.{doc_writes, document_of, plain, with_writes};
 ghost use Rattle.bpaf_items.specs.Page.EntryWrites.{body};
 ghost use Rattle.bpaf_meta.specs.Meta.Misplaced.{IsWellPlaced};
 ghost use Rattle.bpaf_meta.specs.View.{tree_of};
@@ -13,7 +13,7 @@ use crate::pages::paths::{anchor, joined};
 use crate::pages::sections::DocSection;
 use crate::pages::titles::{put_title, put_title_block};
 use bpaf_doc::buffer::{Block, Doc, Style, Token};
-use bpaf_items::meta_help::{EnvTexts, HelpError, render_help};
+use bpaf_items::meta_help::{EnvTexts, HelpError, write_help};
 use std::alloc::{AllocError, Allocator};
 
 /// A summary of two sections or more.
@@ -100,22 +100,37 @@ fn put_page<'m, A: Allocator + Copy, B: Allocator + Copy>(
     ensures page { OnOk result (doc.new ≡ with_writes doc.old (chapter_page (chapter_of section.now))) }
     ensures misplaced { IfErr result (IsErrorOf (tree_of section.now.meta.now)) }
 {
-    let page = help_of(alloc, section)?;
-    put_title(doc, joined(alloc, &section.path, ' ')?.as_str())?;
-    doc.doc(&page)?;
+    if let Err(item) = section.meta.positional_invariant_check() {
+        return Err(HelpError::Misplaced(item));
+    }
+    put_titled_page(alloc, doc, section)?;
     Ok(())
 }
 
-fn help_of<'m, A: Allocator + Copy, B: Allocator + Copy>(
+fn put_titled_page<A: Allocator + Copy, B: Allocator + Copy>(
     alloc: A,
-    section: &DocSection<'m, B, A>,
-) -> Result<Doc<A>, HelpError<'m, B>>
-    ensures placed { OnOk result (IsWellPlaced (tree_of section.now.meta.now)) }
-    ensures page { IfOk result (λ page. page ≡ document_of (own_page_writes (chapter_of section.now))) }
-    ensures misplaced { IfErr result (IsErrorOf (tree_of section.now.meta.now)) }
+    doc: &mut Doc<A>,
+    section: &DocSection<'_, B, A>,
+) -> Result<(), AllocError>
+    ensures { OnOk result (doc.new ≡ with_writes doc.old (chapter_page (chapter_of section.now))) }
+{
+    put_title(doc, joined(alloc, &section.path, ' ')?.as_str())?;
+    put_help(alloc, doc, section)
+}
+
+// The help page of a section, as a document in another.
+fn put_help<A: Allocator + Copy, B: Allocator + Copy>(
+    alloc: A,
+    doc: &mut Doc<A>,
+    section: &DocSection<'_, B, A>,
+) -> Result<(), AllocError>
+    ensures { OnOk result (doc.new
+        ≡ with_writes doc.old (doc_writes (document_of (own_page_writes (chapter_of section.now))))) }
 {
     let texts = EnvTexts::new(alloc);
-    render_help(
+    doc.token(Token::BlockStart(Block::InlineBlock))?;
+    write_help(
+        doc,
         alloc,
         &section.path,
         section.info,
@@ -123,5 +138,6 @@ fn help_of<'m, A: Allocator + Copy, B: Allocator + Copy>(
         &section.info.help,
         false,
         &texts,
-    )
+    )?;
+    doc.token(Token::BlockEnd(Block::InlineBlock))
 }

@@ -328,3 +328,7 @@ page_keeps path (head descr header footer usage own) t help included texts h k l
 
 pub help_pages_are_nested : HelpPagesAreNested
 help_pages_are_nested path i t help included texts h k l = written_keeps (page_keeps path i t help included texts h k l)
+
+-- and written behind what a document holds
+pub help_pages_keep : (path : List (List ℕ)) (i : Head) (t help : Tree) (included : Bool) (texts : Texts) → HasNestedHead i → HasNestedTexts t → HasNestedTexts help → KeepsNested (help_page_writes path i t help included texts)
+help_pages_keep path i t help included texts h k l = (page_keeps path i t help included texts h k l).nested

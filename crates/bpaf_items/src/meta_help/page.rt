@@ -1,7 +1,7 @@
 //! The entries of a list under their groups and headings, and the help page.
 ghost use Rattle.std.specs.Prelude.{◌≡◌, ◌++◌, All, None, IfOk, OnOk, OnErr, map, string_bytes};
 ghost use Rattle.bpaf_doc.specs.Buffer.Parts.{IsWellNested};
-ghost use Rattle.bpaf_doc.specs.Buffer.Writes.{document_of, inside, with_writes};
+ghost use Rattle.bpaf_doc.specs.Buffer.Writes.{inside, with_writes};
 ghost use Rattle.bpaf_meta.specs.View.{head_of, tree_of};
 ghost use Rattle.bpaf_items.specs.Listing.ItemList.{item_list};
 ghost use Rattle.bpaf_items.specs.Listing.Groups.{HasPairedGroups};
@@ -10,6 +10,7 @@ ghost use Rattle.bpaf_items.specs.Page.HelpPage.{doc_within, groups_writes, help
 ghost use Rattle.bpaf_items.specs.Page.NestedTexts.{HasNestedEntry, HasNestedHead, HasNestedTexts};
 ghost use Rattle.bpaf_items.specs.Page.PageAnswers.{IsHelpPageAnswer};
 ghost use Rattle.bpaf_items.specs.Page.Steps.Pages.{front_writes};
+ghost use Rattle.bpaf_items.specs.Page.Steps.Pieces.{Leaves};
 ghost use Rattle.bpaf_items.specs.View.{answer_of, entry_of};
 
 use crate::meta_help::entry::HelpItem;
@@ -64,9 +65,39 @@ impl<'t, C: Allocator, L: Allocator + Copy> Writer<'t, C, L> {
     }
 }
 
-/// The help page of a command line: its texts, its usage line behind the path to it, and the items of `parser` and then
-/// of `help` under their groups and headings. `Misplaced` is the first named item of `parser` that stands behind a
-/// positional one; it comes before memory is asked for. `Memory` says that an allocation failed.
+/// Writes the help page of a command line behind what the document holds: its texts, its usage line behind the path to
+/// it, and the items of `parser` and then of `help` under their groups and headings. No item's place is checked. Memory
+/// is used on the way. After `AllocError` the document is as it was.
+pub fn write_help<
+    A: Allocator,
+    L: Allocator + Copy,
+    P: Allocator,
+    B: Allocator + Copy,
+    C: Allocator,
+>(
+    doc: &mut Doc<A>,
+    alloc: L,
+    path: &[String<P>],
+    info: &Info<B>,
+    parser: &Meta<B>,
+    help: &Meta<B>,
+    include_env: bool,
+    texts: &EnvTexts<C>,
+) -> Result<(), AllocError>
+    ensures ok { OnOk result (doc.new ≡ with_writes doc.old (help_page_writes (map string_bytes path.now)
+        (head_of info.now) (tree_of parser.now) (tree_of help.now) include_env (texts_in texts.now))) }
+    ensures err { OnErr result (doc.new ≡ doc.old) }
+    ensures nested { HasNestedHead (head_of info.now) → HasNestedTexts (tree_of parser.now)
+        → HasNestedTexts (tree_of help.now) → IsWellNested doc.old → IsWellNested doc.new }
+{
+    let before = doc.checkpoint();
+    let written = put_page(doc, alloc, path, info, parser, help, include_env, texts);
+    doc.settle(before, written)
+}
+
+/// The help page of a command line as a document of its own, as `write_help` writes it. `Misplaced` is the first named
+/// item of `parser` that stands behind a positional one; it comes before memory is asked for. `Memory` says that an
+/// allocation failed.
 pub fn render_help<'m, A: Allocator + Copy, P: Allocator, B: Allocator + Copy, C: Allocator>(
     alloc: A,
     path: &[String<P>],
@@ -84,30 +115,39 @@ pub fn render_help<'m, A: Allocator + Copy, P: Allocator, B: Allocator + Copy, C
     if let Err(item) = parser.positional_invariant_check() {
         return Err(HelpError::Misplaced(item));
     }
-    match page(alloc, path, info, parser, help, include_env, texts) {
-        Ok(page) => Ok(page),
+    let mut page = Doc::new(alloc);
+    match write_help(
+        &mut page,
+        alloc,
+        path,
+        info,
+        parser,
+        help,
+        include_env,
+        texts,
+    ) {
+        Ok(()) => Ok(page),
         Err(refused) => Err(HelpError::Memory(refused)),
     }
 }
 
-fn page<A: Allocator + Copy, P: Allocator, B: Allocator + Copy, C: Allocator>(
-    alloc: A,
+fn put_page<A: Allocator, L: Allocator + Copy, P: Allocator, B: Allocator + Copy, C: Allocator>(
+    doc: &mut Doc<A>,
+    alloc: L,
     path: &[String<P>],
     info: &Info<B>,
     parser: &Meta<B>,
     help: &Meta<B>,
     include_env: bool,
     texts: &EnvTexts<C>,
-) -> Result<Doc<A>, AllocError>
-    ensures { IfOk result (λ page. page ≡ document_of (help_page_writes (map string_bytes path.now) (head_of info.now)
-        (tree_of parser.now) (tree_of help.now) include_env (texts_in texts.now))) }
+) -> Result<(), AllocError>
+    ensures { Leaves result doc.old doc.new (help_page_writes (map string_bytes path.now) (head_of info.now)
+        (tree_of parser.now) (tree_of help.now) include_env (texts_in texts.now)) }
 {
     let items = listing(alloc, parser, help)?;
-    let mut page = Doc::new(alloc);
-    put_front(&mut page, path, info, parser)?;
-    write_help_item_groups(&mut page, items, include_env, texts)?;
-    put_within(&mut page, &info.footer)?;
-    Ok(page)
+    put_front(doc, path, info, parser)?;
+    write_help_item_groups(doc, items, include_env, texts)?;
+    put_within(doc, &info.footer)
 }
 
 fn listing<'a, A: Allocator + Copy, B: Allocator>(
@@ -130,8 +170,8 @@ fn put_front<A: Allocator, P: Allocator, B: Allocator + Copy>(
     info: &Info<B>,
     parser: &Meta<B>,
 ) -> Result<(), AllocError>
-    ensures { OnOk result (doc.new ≡ with_writes doc.old
-        (front_writes (map string_bytes path.now) (head_of info.now) (tree_of parser.now))) }
+    ensures { Leaves result doc.old doc.new
+        (front_writes (map string_bytes path.now) (head_of info.now) (tree_of parser.now)) }
 {
     put_within(doc, &info.descr)?;
     put_usage(doc, path, &info.usage, parser)?;
@@ -142,7 +182,7 @@ fn put_within<A: Allocator, B: Allocator + Copy>(
     doc: &mut Doc<A>,
     text: &Option<Doc<B>>,
 ) -> Result<(), AllocError>
-    ensures { OnOk result (doc.new ≡ with_writes doc.old (doc_within Block.Block text.now)) }
+    ensures { Leaves result doc.old doc.new (doc_within Block.Block text.now) }
 {
     match text {
         None => Ok(()),
@@ -156,8 +196,8 @@ fn put_usage<A: Allocator, P: Allocator, B: Allocator + Copy>(
     usage: &Option<Doc<B>>,
     parser: &Meta<B>,
 ) -> Result<(), AllocError>
-    ensures { OnOk result (doc.new ≡ with_writes doc.old
-        (inside Block.Block (usage_line_writes (map string_bytes path.now) usage.now (tree_of parser.now)))) }
+    ensures { Leaves result doc.old doc.new
+        (inside Block.Block (usage_line_writes (map string_bytes path.now) usage.now (tree_of parser.now))) }
 {
     put_words(doc, &[Piece::Start(Block::Block)])?;
     put_usage_text(doc, path, usage, parser)?;
@@ -170,8 +210,8 @@ fn put_usage_text<A: Allocator, P: Allocator, B: Allocator + Copy>(
     usage: &Option<Doc<B>>,
     parser: &Meta<B>,
 ) -> Result<(), AllocError>
-    ensures { OnOk result (doc.new ≡ with_writes doc.old
-        (usage_line_writes (map string_bytes path.now) usage.now (tree_of parser.now))) }
+    ensures { Leaves result doc.old doc.new
+        (usage_line_writes (map string_bytes path.now) usage.now (tree_of parser.now)) }
 {
     match usage {
         None => put_usage_line(doc, path, parser),
@@ -184,8 +224,7 @@ fn put_usage_line<A: Allocator, P: Allocator, B: Allocator + Copy>(
     path: &[String<P>],
     parser: &Meta<B>,
 ) -> Result<(), AllocError>
-    ensures { OnOk result (doc.new ≡ with_writes doc.old
-        (usage_line_writes (map string_bytes path.now) None (tree_of parser.now))) }
+    ensures { Leaves result doc.old doc.new (usage_line_writes (map string_bytes path.now) None (tree_of parser.now)) }
 {
     put_words(
         doc,

@@ -1,18 +1,24 @@
-use Rattle.std.proofs.Common.{true, ◌∷◌, [], ◌++◌, map}
+use Rattle.std.proofs.Common.{true, ◌∷◌, [], ◌++◌, ◌∙◌, map, rules}
 use Rattle.std.specs.Prelude.{string_bytes}
 use Rattle.bpaf_doc.specs.declared.buffer.Block.TheVariants as block
 use Rattle.bpaf_doc.specs.Buffer.Writes.{end, path_writes}
 use Rattle.bpaf_meta.specs.View.{tree_of}
 use Rattle.bpaf_meta.specs.Usage.Writes.{usage_writes}
 use Rattle.bpaf_items.specs.Page.Steps.Pages.{usage_start}
-use Rattle.bpaf_items.proofs.Page.Leaving.{done_then, written_then}
+use Rattle.bpaf_items.proofs.Page.Leaving.{leaves_then, written_then}
 use Rattle.bpaf_items.proofs.meta_help.page.put_usage_line.Goals as goal
+
+pub returns-in_err-write_meta : goal.returns-in_err-write_meta
+returns-in_err-write_meta g c =
+    let names = path_writes (map string_bytes c.args.path.now) in
+    let named = written_then c.args.doc.now c.put_words.new.doc c.write_path.new.self usage_start names c.in_ok-put_words.ensures.1 c.in_ok-write_path.ensures.ok in
+    ((usage_start ++ names, c.in_err-write_meta.ensures.err ∙ named), search rules)
 
 pub returns : goal.returns
 returns g c =
     let names = path_writes (map string_bytes c.args.path.now) in
     let usage = usage_writes true (tree_of c.args.parser.now) in
-    done_then c.put_words-2.result c.args.doc.now c.write_meta.new.doc c.put_words-2.new.doc (usage_start ++ (names ++ usage)) (end block.Mono ∷ [])
+    leaves_then _ _ _ _ (usage_start ++ (names ++ usage)) (end block.Mono ∷ [])
     (written_then c.args.doc.now c.put_words.new.doc c.write_meta.new.doc usage_start (names ++ usage) c.in_ok-put_words.ensures.1
     (written_then c.put_words.new.doc c.write_path.new.self c.write_meta.new.doc names usage c.in_ok-write_path.ensures.ok c.in_ok-write_meta.ensures.ok))
-    c.put_words-2.ensures.1
+    c.put_words-2.ensures
