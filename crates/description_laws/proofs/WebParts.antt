@@ -28,7 +28,8 @@ use Rattle.description.specs.WebPages.Ids.{section_id}
 use Rattle.description.specs.WebPages.Laws.{values_named}
 use Rattle.description.specs.WebPages.Lists.{ListSaid, entries_events, entries_of, list_events, lists_events, section_lists}
 use Rattle.description.specs.WebPages.Sections.{application_section, body_events, command_section, heading_events, topic_events, usage_events}
-use Rattle.description.specs.WebPages.Texts.{Run, block, literal, nothing, paragraph, Shown, gap, prose, literal_line, code_line, closing, code_seam, given_text, line_behind, line_events, line_after, lines_behind, paragraph_seam, piece_events, run_of, shown_line, styled, text_events}
+use Rattle.description.specs.WebPages.Texts.{Run, Shown, gap, prose, literal_line, code_line, closing, code_seam, given_text, line_behind, line_events, line_after, lines_behind, paragraph_seam, piece_events, run_of, shown_line, styled, text_events}
+use Rattle.description.specs.WebPages.Texts as run
 use Rattle.description_laws.proofs.WebTree.{AreBalanced, given_in, opened, outer}
 
 -- ---- parts
@@ -107,10 +108,10 @@ line_gives line = flat piece_events piece_gives (pieces (parted line))
 
 -- the elements that a paragraph or lines of code have open
 abbrev open_in : Run → List Tag → List Tag
-open_in nothing tags = tags
-open_in paragraph tags = Of P ∷ tags
-open_in literal tags = Of P ∷ tags
-open_in block tags = Of Code ∷ Of Pre ∷ tags
+open_in run.nothing tags = tags
+open_in run.paragraph tags = Of P ∷ tags
+open_in run.literal tags = Of P ∷ tags
+open_in run.block tags = Of Code ∷ Of Pre ∷ tags
 
 record Leads (before after : Run) (es : List Event) : Type 0 where
   moved : (tags : List Tag) → fold opened (open_in before tags) es ≡ open_in after tags
@@ -124,34 +125,34 @@ leads_then {r} {s} {t} es fs p q = record {
   targets = flat_map-append _ es fs ∙ ap (λ vs. vs ++ given_in (codes "href") fs) p.targets ∙ q.targets;
 }
 
-inside_paragraph : (es : List Event) → Quiet es → Leads paragraph paragraph es
+inside_paragraph : (es : List Event) → Quiet es → Leads run.paragraph run.paragraph es
 inside_paragraph es p = record { moved = λ tags. p.balanced (Of P ∷ tags); ids = p.ids; targets = p.targets }
 
-closing_leads : (r : Run) → Leads r nothing (closing r)
-closing_leads nothing = record { moved = λ tags. refl; ids = refl; targets = refl }
-closing_leads paragraph = record { moved = λ tags. refl; ids = refl; targets = refl }
-closing_leads literal = record { moved = λ tags. refl; ids = refl; targets = refl }
-closing_leads block = record { moved = λ tags. refl; ids = refl; targets = refl }
+closing_leads : (r : Run) → Leads r run.nothing (closing r)
+closing_leads run.nothing = record { moved = λ tags. refl; ids = refl; targets = refl }
+closing_leads run.paragraph = record { moved = λ tags. refl; ids = refl; targets = refl }
+closing_leads run.literal = record { moved = λ tags. refl; ids = refl; targets = refl }
+closing_leads run.block = record { moved = λ tags. refl; ids = refl; targets = refl }
 
-paragraph_leads : (r : Run) (breaks : Bool) → Leads r paragraph (paragraph_seam r breaks)
-paragraph_leads paragraph true = record { moved = λ tags. refl; ids = refl; targets = refl }
-paragraph_leads paragraph false = record { moved = λ tags. refl; ids = refl; targets = refl }
-paragraph_leads literal breaks = record { moved = λ tags. refl; ids = refl; targets = refl }
-paragraph_leads nothing breaks = record { moved = λ tags. refl; ids = refl; targets = refl }
-paragraph_leads block breaks = record { moved = λ tags. refl; ids = refl; targets = refl }
+paragraph_leads : (r : Run) (breaks : Bool) → Leads r run.paragraph (paragraph_seam r breaks)
+paragraph_leads run.paragraph true = record { moved = λ tags. refl; ids = refl; targets = refl }
+paragraph_leads run.paragraph false = record { moved = λ tags. refl; ids = refl; targets = refl }
+paragraph_leads run.literal breaks = record { moved = λ tags. refl; ids = refl; targets = refl }
+paragraph_leads run.nothing breaks = record { moved = λ tags. refl; ids = refl; targets = refl }
+paragraph_leads run.block breaks = record { moved = λ tags. refl; ids = refl; targets = refl }
 
-code_leads : (r : Run) (line : List ℕ) → Leads r block (code_seam r ++ words line ∷ [])
-code_leads block line = record { moved = λ tags. refl; ids = refl; targets = refl }
-code_leads nothing line = record { moved = λ tags. refl; ids = refl; targets = refl }
-code_leads paragraph line = record { moved = λ tags. refl; ids = refl; targets = refl }
-code_leads literal line = record { moved = λ tags. refl; ids = refl; targets = refl }
+code_leads : (r : Run) (line : List ℕ) → Leads r run.block (code_seam r ++ words line ∷ [])
+code_leads run.block line = record { moved = λ tags. refl; ids = refl; targets = refl }
+code_leads run.nothing line = record { moved = λ tags. refl; ids = refl; targets = refl }
+code_leads run.paragraph line = record { moved = λ tags. refl; ids = refl; targets = refl }
+code_leads run.literal line = record { moved = λ tags. refl; ids = refl; targets = refl }
 
 -- a line of code in a paragraph
-literal_leads : (r : Run) (line : List ℕ) → Leads r literal (paragraph_seam r true ++ text_in Code line)
-literal_leads nothing line = record { moved = λ tags. refl; ids = refl; targets = refl }
-literal_leads paragraph line = record { moved = λ tags. refl; ids = refl; targets = refl }
-literal_leads literal line = record { moved = λ tags. refl; ids = refl; targets = refl }
-literal_leads block line = record { moved = λ tags. refl; ids = refl; targets = refl }
+literal_leads : (r : Run) (line : List ℕ) → Leads r run.literal (paragraph_seam r true ++ text_in Code line)
+literal_leads run.nothing line = record { moved = λ tags. refl; ids = refl; targets = refl }
+literal_leads run.paragraph line = record { moved = λ tags. refl; ids = refl; targets = refl }
+literal_leads run.literal line = record { moved = λ tags. refl; ids = refl; targets = refl }
+literal_leads run.block line = record { moved = λ tags. refl; ids = refl; targets = refl }
 
 line_leads : (r : Run) (line : Shown) → Leads r (run_of line) (line_behind r line)
 line_leads r gap = closing_leads r
@@ -161,13 +162,13 @@ line_leads r (prose breaks line) =
 line_leads r (literal_line line) = literal_leads r line
 line_leads r (code_line line) = code_leads r line
 
-lines_lead : (r : Run) (lines : List Shown) → Leads r nothing (lines_behind r lines)
+lines_lead : (r : Run) (lines : List Shown) → Leads r run.nothing (lines_behind r lines)
 lines_lead r [] = closing_leads r
 lines_lead r (line ∷ lines) = leads_then (line_behind r line) (lines_behind (run_of line) lines) (line_leads r line) (lines_lead (run_of line) lines)
 
 pub text_gives : (in_header : Bool) (text : List ℕ) → Quiet (text_events in_header text)
 text_gives in_header text =
-    let p = lines_lead nothing (map (shown_line in_header) (lines_of text)) in
+    let p = lines_lead run.nothing (map (shown_line in_header) (lines_of text)) in
     record { balanced = p.moved; ids = p.ids; targets = p.targets }
 
 pub given_text_gives : (in_header : Bool) (text : Option (List ℕ)) → Quiet (given_text in_header text)
