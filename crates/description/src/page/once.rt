@@ -75,10 +75,7 @@ fn with_item<'d, 'a, A: Allocator, B: Allocator + Copy>(
     ensures { IfOk result (λ listed. entry_said listed.entry ≡ entry_said entry.entry) }
 {
     let item = item_of(alloc, entry)?;
-    Ok(Listed {
-        entry,
-        item,
-    })
+    Ok(Listed { entry, item })
 }
 
 fn with_new_keys<'d, 'a, A: Allocator, B: Allocator + Copy>(
