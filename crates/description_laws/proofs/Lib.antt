@@ -7,3 +7,6 @@ pub mod ClearPages
 pub mod ClearTrees
 pub mod PagesReadOnce
 pub mod NestedLevels
+pub mod ItemLists
+pub mod ShownLists
+pub mod ShownSections

@@ -1,11 +1,13 @@
-//! Laws of the texts of a description, and of its manual pages: nothing to call, but statements that the check proves. No
-//! page rests on them, so they stand above `description`, and who makes pages need not have them proved.
+//! Laws of the texts of a description, of its manual pages, and of the entries of its complete HTML page: nothing to call,
+//! but statements that the check proves. No page rests on them, so they stand above `description`, and who makes pages
+//! need not have them proved.
 #![tactic(auto)]
 
 ghost use Rattle.description.specs.Manuals.{SubjectManualsAreWellNested};
 ghost use Rattle.description.specs.Pages.{SubjectsAreWellNested};
 ghost use Rattle.description.specs.ReadOnce.{TitlesAreReadOnce};
 ghost use Rattle.description_laws.specs.Plain.{TextsArePlain};
+ghost use Rattle.description_laws.specs.Sections.{SectionsListTheItems};
 
 /// The documents of a usage line, of a help page and of a manual page are well nested, for the application and for each
 /// command.
@@ -26,4 +28,12 @@ pub fn texts_are_plain()
 /// So a macro that reads its arguments a second time reads the same words.
 pub fn titles_are_read_once()
     ensures { TitlesAreReadOnce }
+{}
+
+/// The lists of each section of the complete HTML page are those of the help page of that level, of the application or
+/// of a command: in order, with their titles, and without those that hold nothing. The entries of each are, in order,
+/// those that the help page shows there, each key once, and no others; each stands for the item that is shown, with its
+/// names, its value and its help.
+pub fn sections_list_the_items()
+    ensures { SectionsListTheItems }
 {}
