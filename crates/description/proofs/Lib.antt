@@ -31,6 +31,7 @@ pub mod WebEvents
 pub mod WebIds
 pub mod WebTexts
 pub mod WebEntries
+pub mod WebWords
 pub mod WebLists
 pub mod WebSections
 pub mod UsageTrees

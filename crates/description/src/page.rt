@@ -13,14 +13,15 @@ use crate::subjects::Subject;
 use std::alloc::Allocator;
 use web_page::{Element, Level, Page, PageError};
 
+mod apart;
 mod before;
 mod documents;
 mod elements;
 mod entries;
 mod ids;
 mod links;
-mod listed;
 mod lists;
+mod once;
 mod sections;
 mod terms;
 mod texts;

@@ -5,7 +5,7 @@ ghost use Rattle.bpaf_doc.specs.Buffer.Writes.{document_of, with_writes};
 ghost use Rattle.bpaf_meta.specs.Content.{many as many_of, optional as optional_of, required as required_of};
 ghost use Rattle.bpaf_meta.specs.Content.{strict as strict_of, or_of, subsection as subsection_of};
 ghost use Rattle.bpaf_meta.specs.Names.{short_name};
-ghost use Rattle.bpaf_meta.specs.View.{head_of, name_of, text_of, tree_of, trees_in};
+ghost use Rattle.bpaf_meta.specs.View.{head_of, leaf_of, name_of, text_of, tree_of, trees_in};
 ghost use Rattle.description.specs.Texts.{plain_document};
 ghost use Rattle.description.specs.Topics.{topics_footer};
 ghost use Rattle.description.specs.Trees.{all_of, behind_dashes, choice_tree, command_item, command_items};
@@ -14,11 +14,12 @@ ghost use Rattle.description.specs.Trees.{alternative_tree, help_said, is_shown}
 ghost use Rattle.description.specs.Notes.{command_notes, noted_writes, rest_writes, value_notes};
 ghost use Rattle.description.specs.Paragraphs.{without_back};
 ghost use Rattle.description.specs.Trees.{named_group, named_groups, once_in_usage, one_of_commands};
-ghost use Rattle.description.specs.Trees.{any_item, named_item, option_item, option_tree, options_tree, placed_group};
+ghost use Rattle.description.specs.Items.{option_leaf, positional_leaf, spelled_leaf};
+ghost use Rattle.description.specs.Trees.{option_item, option_tree, options_tree, placed_group};
 ghost use Rattle.description.specs.Trees.{placed_groups, positional_tree, titled, show_command, spelled_item, wrapped};
 ghost use Rattle.description.specs.Trees.{on_help_pages, on_manual_page};
 ghost use Rattle.description.specs.Notes.Steps.{gap_behind, with_note};
-ghost use Rattle.description_parts.specs.Content.{syntax};
+ghost use Rattle.description_parts.specs.Content.{named, syntax};
 ghost use Rattle.description.specs.View.{shared_said};
 ghost use Rattle.description_parts.specs.View.{choice_said, command_said, commands_said, group_said};
 ghost use Rattle.description_parts.specs.View.{groups_said, level_said, opt_said, positional_said, topic_said};
@@ -145,8 +146,8 @@ fn put_gap<B: Allocator>(notes: &mut String<B>) -> Result<(), AllocError>
     }
 }
 
-// A help with the other names of a command.
-fn command_help<B: Allocator + Copy>(
+/// A help with the other names of a command.
+pub(crate) fn command_help<B: Allocator + Copy>(
     alloc: B,
     help: Option<&str>,
     aliases: &[&'static str],
@@ -269,6 +270,65 @@ fn put<B: Allocator>(parts: &mut Vec<Meta<B>, B>, tree: Meta<B>) -> Result<(), A
     Ok(())
 }
 
+/// The item of an option.
+pub(crate) fn option_leaf<B: Allocator + Copy>(
+    alloc: B,
+    option: &Opt<'_>,
+) -> Result<Item<B>, AllocError>
+    ensures { IfOk result (λ i. leaf_of i ≡ option_leaf (opt_said option.now)) }
+{
+    match option.spelling {
+        Spelling::Names(name) => named_leaf(alloc, name, option),
+        Spelling::Syntax(text) => syntax_leaf(alloc, text, option),
+    }
+}
+
+fn named_leaf<B: Allocator + Copy>(
+    alloc: B,
+    name: ShortLong,
+    option: &Opt<'_>,
+) -> Result<Item<B>, AllocError>
+    ensures { IfOk result (λ i. leaf_of i ≡ spelled_leaf (named (name_of name)) (opt_said option.now)) }
+{
+    let shorts = shorts(alloc, name)?;
+    let help = value_help(alloc, option.help, option.default, option.values, None)?;
+    match option.value {
+        None => Ok(Item::Flag {
+            name,
+            shorts,
+            env: option.env,
+            help,
+        }),
+        Some(value) => Ok(Item::Argument {
+            name,
+            shorts,
+            metavar: Metavar(value),
+            env: option.env,
+            help,
+        }),
+    }
+}
+
+fn syntax_leaf<B: Allocator + Copy>(
+    alloc: B,
+    text: &str,
+    option: &Opt<'_>,
+) -> Result<Item<B>, AllocError>
+    ensures { IfOk result (λ i. leaf_of i ≡ spelled_leaf (syntax text.now) (opt_said option.now)) }
+{
+    Ok(Item::Any {
+        metavar: syntax_document(alloc, text)?,
+        anywhere: true,
+        help: value_help(
+            alloc,
+            option.help,
+            option.default,
+            option.values,
+            option.env,
+        )?,
+    })
+}
+
 // An option, of which a piece with a bar stands in round brackets in a usage line if `is_bracketed` is set.
 fn option_item<B: Allocator + Copy>(
     alloc: B,
@@ -278,7 +338,7 @@ fn option_item<B: Allocator + Copy>(
     ensures { IfOk result (λ m. tree_of m ≡ option_item is_bracketed (opt_said option.now)) }
 {
     match option.spelling {
-        Spelling::Names(name) => named_item(alloc, name, option),
+        Spelling::Names(name) => Meta::from_item(alloc, named_leaf(alloc, name, option)?),
         Spelling::Syntax(text) => syntax_item(alloc, text, option, is_bracketed),
     }
 }
@@ -291,57 +351,9 @@ fn syntax_item<B: Allocator + Copy>(
 ) -> Result<Meta<B>, AllocError>
     ensures { IfOk result (λ m. tree_of m ≡ spelled_item is_bracketed (syntax text.now) (opt_said option.now)) }
 {
-    let item = Box::new(alloc, any_item(alloc, text, option)?)?;
+    let item = Meta::from_item(alloc, syntax_leaf(alloc, text, option)?)?;
     let usage = Box::new(alloc, usage_document(alloc, text, is_bracketed)?)?;
-    Ok(Meta::CustomUsage(item, usage))
-}
-
-fn any_item<B: Allocator + Copy>(
-    alloc: B,
-    text: &str,
-    option: &Opt<'_>,
-) -> Result<Meta<B>, AllocError>
-    ensures { IfOk result (λ m. tree_of m ≡ any_item text.now (opt_said option.now)) }
-{
-    let item = Item::Any {
-        metavar: syntax_document(alloc, text)?,
-        anywhere: true,
-        help: value_help(
-            alloc,
-            option.help,
-            option.default,
-            option.values,
-            option.env,
-        )?,
-    };
-    Meta::from_item(alloc, item)
-}
-
-fn named_item<B: Allocator + Copy>(
-    alloc: B,
-    name: ShortLong,
-    option: &Opt<'_>,
-) -> Result<Meta<B>, AllocError>
-    ensures { IfOk result (λ m. tree_of m ≡ named_item (name_of name) (opt_said option.now)) }
-{
-    let shorts = shorts(alloc, name)?;
-    let help = value_help(alloc, option.help, option.default, option.values, None)?;
-    let item = match option.value {
-        None => Item::Flag {
-            name,
-            shorts,
-            env: option.env,
-            help,
-        },
-        Some(value) => Item::Argument {
-            name,
-            shorts,
-            metavar: Metavar(value),
-            env: option.env,
-            help,
-        },
-    };
-    Meta::from_item(alloc, item)
+    Ok(Meta::CustomUsage(Box::new(alloc, item)?, usage))
 }
 
 fn option_tree<B: Allocator + Copy>(alloc: B, option: &Opt<'_>) -> Result<Meta<B>, AllocError>
@@ -421,6 +433,26 @@ fn put_choices<A: Allocator, B: Allocator + Copy>(
     Ok(())
 }
 
+/// The item of a positional value.
+pub(crate) fn positional_leaf<B: Allocator + Copy>(
+    alloc: B,
+    positional: &Positional<'_>,
+) -> Result<Item<B>, AllocError>
+    ensures { IfOk result (λ i. leaf_of i ≡ positional_leaf (positional_said positional.now)) }
+{
+    let help = value_help(
+        alloc,
+        positional.help,
+        positional.default,
+        positional.values,
+        None,
+    )?;
+    Ok(Item::Positional {
+        metavar: Metavar(positional.value),
+        help,
+    })
+}
+
 fn positional_tree<B: Allocator + Copy>(
     alloc: B,
     positional: &Positional<'_>,
@@ -430,18 +462,7 @@ fn positional_tree<B: Allocator + Copy>(
     if positional.hidden {
         return Ok(Meta::Skip);
     }
-    let help = value_help(
-        alloc,
-        positional.help,
-        positional.default,
-        positional.values,
-        None,
-    )?;
-    let item = Item::Positional {
-        metavar: Metavar(positional.value),
-        help,
-    };
-    let item = Meta::from_item(alloc, item)?;
+    let item = Meta::from_item(alloc, positional_leaf(alloc, positional)?)?;
     let tree = wrapped(alloc, positional.required, positional.repeated, item)?;
     behind_dashes(alloc, positional.strict, tree)
 }

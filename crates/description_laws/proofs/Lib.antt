@@ -15,3 +15,6 @@ pub mod WebTargets
 pub mod WebIdForms
 pub mod WebOwnIds
 pub mod CommandNames
+pub mod ItemLists
+pub mod ShownLists
+pub mod ShownSections

@@ -13,7 +13,7 @@ use Rattle.description.specs.Content.{DescriptionSaid}
 use Rattle.description.specs.Subjects.{SubjectSaid, application, below}
 use Rattle.description.specs.UsageLines.{texts_in}
 use Rattle.description.specs.WebPages.{header_events, main_of, nav_of, page_events, page_tree}
-use Rattle.description.specs.WebPages.Entries.{EntrySaid, an_option, a_value, a_command, each_once, same_entry, with_entry}
+use Rattle.description.specs.WebPages.Entries.{EntrySaid, an_option, a_value, a_command, each_once, if_new, new_behind, same_entry}
 use Rattle.description.specs.WebPages.Events.{Event, inside, text_in, words}
 use Rattle.description.specs.WebPages.Ids.{section_id}
 use Rattle.description.specs.WebPages.Laws.{LinksHaveTargets, ids_in, is_target_of}
@@ -71,13 +71,13 @@ entries_within ids path before (e ∷ es) h =
 
 -- those that are listed
 
-each_of_once : (P : EntrySaid → Type 0) (before es : List EntrySaid) → Each P before → Each P es → Each P (fold with_entry before es)
-each_of_once P before [] h k = h
-each_of_once P before (e ∷ es) h k =
-    each_of_once P (with_entry before e) es (either_each P (list_any (same_entry e) before) before (before ++ e ∷ []) h (each_append P before (e ∷ []) h (k.0, tt))) k.1
+each_new : (P : EntrySaid → Type 0) (before es : List EntrySaid) → Each P es → Each P (new_behind before es)
+each_new P before [] h = tt
+each_new P before (e ∷ es) h =
+    each_append P (if_new before e) (new_behind (before ++ e ∷ []) es) (either_each P (list_any (same_entry e) before) [] (e ∷ []) tt (h.0, tt)) (each_new P (before ++ e ∷ []) es h.1)
 
 once_there : (P : EntrySaid → Type 0) (es : List EntrySaid) → Each P es → Each P (each_once es)
-once_there P es h = each_of_once P [] es tt h
+once_there P es h = each_new P [] es h
 
 module _ (s : SubjectSaid) (ids : List (List ℕ)) where
   abbrev There : EntrySaid → Type 0

@@ -7,6 +7,7 @@ ghost use Rattle.description.specs.Pages.{SubjectsAreWellNested};
 ghost use Rattle.description.specs.ReadOnce.{TitlesAreReadOnce};
 ghost use Rattle.description.specs.WebPages.Laws.{IdsAreDistinct, LinksHaveTargets};
 ghost use Rattle.description_laws.specs.Plain.{TextsArePlain};
+ghost use Rattle.description_laws.specs.Sections.{SectionsListTheItems};
 
 /// The documents of a usage line, of a help page and of a manual page are well nested, for the application and for each
 /// command.
@@ -38,4 +39,12 @@ pub fn links_have_targets()
 /// 2^64 of them.
 pub fn ids_are_distinct()
     ensures { IdsAreDistinct }
+{}
+
+/// The lists of each section of the complete HTML page are those of the help page of that level, of the application or
+/// of a command: in order, with their titles, and without those that hold nothing. The entries of each are, in order,
+/// those that the help page shows there, each key once, and no others; each stands for the item that is shown, with its
+/// names, its value and its help.
+pub fn sections_list_the_items()
+    ensures { SectionsListTheItems }
 {}

@@ -238,3 +238,77 @@ fn the_page_has_its_language(rt: HostRuntime) {
     assert!(rt; is_in(rt.alloc(), "", "") == Err(PageError::Language));
     assert!(rt; is_in(rt.alloc(), "e n", "") == Err(PageError::Language));
 }
+
+// Four options of one name. The helps of the first three are one document, with the note that the help page shows.
+fn with_one_help(alloc: Global) -> Result<Level<'static>, AllocError> {
+    let mut top: Level<'static> = Level::new(alloc);
+    let noted: Opt<'static> = Opt::long("o").help("Help").default("d");
+    top.option(noted)?;
+    let said: Opt<'static> = Opt::long("o").help("Help\n [default: d]");
+    top.option(said)?;
+    let behind: Opt<'static> = Opt::long("o").help("Help\n\n").default("d");
+    top.option(behind)?;
+    let other: Opt<'static> = Opt::long("o").help("Other").default("d");
+    top.option(other)?;
+    Ok(top)
+}
+
+const ONE_HELP: &str =
+    "<h3>Available options</h3><dl><dt id=\"app::o\"><a href=\"#app::o\"><code>--o</code></a></dt><dd><p>Help</p><p>[default: d]</p></dd><dt id=\"app::o::2\"><a href=\"#app::o::2\"><code>--o</code></a></dt><dd><p>Other</p><p>[default: d]</p></dd></dl></section></main>";
+
+// A value and a command of one word and one help, in one group.
+fn with_one_word(alloc: Global) -> Result<Level<'static>, AllocError> {
+    let mut group: Group<'static> = Group::new(alloc, "One");
+    let value: Positional<'static> = Positional::new("RUN").help("Runs");
+    group.positional(value)?;
+    let inner: Level<'static> = Level::new(alloc);
+    let command: Command<'static> = Command::new("RUN", inner).help("Runs");
+    group.command(command)?;
+    let mut top: Level<'static> = Level::new(alloc);
+    top.group(group)?;
+    Ok(top)
+}
+
+const ONE_WORD: &str =
+    "<h3>One</h3><dl><dt id=\"app::RUN\"><a href=\"#app::RUN\"><var>RUN</var></a></dt><dd><p>Runs</p></dd></dl></section><section id=\"app:RUN\">";
+
+// Three commands of one name, the first two of one help.
+fn with_one_command(alloc: Global) -> Result<Level<'static>, AllocError> {
+    let mut top: Level<'static> = Level::new(alloc);
+    let first: Level<'static> = Level::new(alloc);
+    let first: Command<'static> = Command::new("run", first).help("Runs");
+    top.command(first)?;
+    let second: Level<'static> = Level::new(alloc);
+    let second: Command<'static> = Command::new("run", second).short('r').help("Runs");
+    top.command(second)?;
+    let third: Level<'static> = Level::new(alloc);
+    let mut third: Command<'static> = Command::new("run", third).help("Runs");
+    third.alias("go")?;
+    top.command(third)?;
+    Ok(top)
+}
+
+const ONE_COMMAND: &str =
+    "<h3>Available commands</h3><dl><dt><a href=\"#app:run\"><code>run</code></a></dt><dd><p>Runs</p></dd><dt><a href=\"#app:run\"><code>run</code></a></dt><dd><p>Runs</p><p>[aliases: go]</p></dd></dl></section><section id=\"app:run\">";
+
+// Whether the page of a description with this level has these lists.
+fn has_lists(alloc: Global, top: Level<'static>, lists: &str) -> Result<bool, PageError> {
+    let app: Description<'static> = Description::new(alloc, "app", top);
+    let page = app.page(alloc)?;
+    match page.split_once(lists) {
+        None => Ok(false),
+        Some(_) => Ok(true),
+    }
+}
+
+fn are_shown_once(alloc: Global) -> Result<bool, PageError> {
+    let options = has_lists(alloc, with_one_help(alloc)?, ONE_HELP)?;
+    let words = has_lists(alloc, with_one_word(alloc)?, ONE_WORD)?;
+    let commands = has_lists(alloc, with_one_command(alloc)?, ONE_COMMAND)?;
+    Ok(options && words && commands)
+}
+
+#[test]
+fn entries_of_one_key_are_shown_once(rt: HostRuntime) {
+    assert!(rt; are_shown_once(rt.alloc()) == Ok(true));
+}

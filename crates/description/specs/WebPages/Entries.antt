@@ -1,14 +1,15 @@
 -- The entries of a page: options, values that are taken by their place, and commands.
-use Rattle.std.specs.Prelude.{ℕ, List, [], ◌∷◌, ◌++◌, ◌&&◌, fold, count_by, chars, codes, Bool, false, if◌then◌else◌, Option, Some, None, bytes_eq, encode_utf8}
+use Rattle.std.specs.Prelude.{ℕ, List, [], ◌∷◌, ◌++◌, count_by, chars, codes, Bool, false, if◌then◌else◌, Option, Some, None, bytes_eq, encode_utf8}
 use Rattle.std.specs.List.{list_all, list_any}
-use Rattle.std.specs.Option.{option_eq}
-use Rattle.bpaf_items.specs.Listing.Keys.{same_name}
+use Rattle.bpaf_items.specs.Listing.Keys.{Key, word_key, key_of, same_key}
 use Rattle.bpaf_meta.specs.Content.{Name, short, long, both}
 use Rattle.bpaf_meta.specs.Usage.Writes.{is_bare_character}
 use Rattle.web_page.specs.declared.elements.Element.TheVariants.{Code, Dd, Dt, P, Var}
 use Rattle.description_parts.specs.Content.{SpellingSaid, named, syntax, OptSaid, PositionalSaid, CommandSaid, command}
-use Rattle.description.specs.Notes.{listed_texts}
+use Rattle.description.specs.Items.{option_leaf, positional_leaf}
+use Rattle.description.specs.Notes.{command_notes, listed_texts}
 use Rattle.description.specs.Syntax.{bare_syntax}
+use Rattle.description.specs.Trees.{help_said}
 use Rattle.description.specs.WebPages.Events.{Event, document_events, words, end, start_with_id, link_start, inside, link, text_in}
 use Rattle.description.specs.WebPages.Ids.{entry_id, numbered, section_id}
 use Rattle.description.specs.WebPages.Texts.{given_text}
@@ -20,35 +21,26 @@ pub data EntrySaid : Type 0 where
 
 -- ---- each once
 
--- what counts of an option that is written by its names alone, and what beside a syntax alone
-abbrev pub by_names : SpellingSaid → Option (List ℕ) → Option (List ℕ)
-by_names (named name) text = text
-by_names (syntax whole) text = None
+-- by what a help page tells it apart: the key of the item that stands for it. That of a command is the same whatever stands below the command.
+abbrev pub entry_key : EntrySaid → Key
+entry_key (an_option o) = key_of (option_leaf o)
+entry_key (a_value v) = key_of (positional_leaf v)
+entry_key (a_command (command names h l)) = word_key names.name (help_said h (command_notes names.aliases))
 
-abbrev pub by_syntax : SpellingSaid → Option (List ℕ) → Option (List ℕ)
-by_syntax (named name) text = None
-by_syntax (syntax whole) text = text
-
-abbrev pub same_spelling : SpellingSaid → SpellingSaid → Bool
-same_spelling (named name) (named other) = same_name name other
-same_spelling (syntax text) (syntax other) = bytes_eq text other
-same_spelling s t = false
-
-abbrev pub same_option : OptSaid → OptSaid → Bool
-same_option o p = same_spelling o.spelling p.spelling && option_eq bytes_eq (by_names o.spelling o.value) (by_names p.spelling p.value) && option_eq bytes_eq o.help p.help && option_eq bytes_eq o.default p.default && option_eq bytes_eq o.values p.values && option_eq bytes_eq (by_syntax o.spelling o.env) (by_syntax p.spelling p.env)
-
--- two options, or two values, of which the same is shown
 abbrev pub same_entry : EntrySaid → EntrySaid → Bool
-same_entry (an_option o) (an_option p) = same_option o p
-same_entry (a_value v) (a_value w) = bytes_eq v.value w.value && option_eq bytes_eq v.help w.help && option_eq bytes_eq v.default w.default && option_eq bytes_eq v.values w.values
-same_entry e f = false
+same_entry e f = same_key (entry_key e) (entry_key f)
 
--- an entry joins those before it unless one of them is the same
-abbrev pub with_entry : List EntrySaid → EntrySaid → List EntrySaid
-with_entry before e = if list_any (same_entry e) before then before else before ++ e ∷ []
+-- an entry behind some others, if none of them has its key
+abbrev pub if_new : (before : List EntrySaid) → EntrySaid → List EntrySaid
+if_new before e = if list_any (same_entry e) before then [] else e ∷ []
 
+abbrev pub new_behind : (before : List EntrySaid) → List EntrySaid → List EntrySaid
+new_behind before [] = []
+new_behind before (e ∷ es) = if_new before e ++ new_behind (before ++ e ∷ []) es
+
+-- of entries with one key the first
 abbrev pub each_once : List EntrySaid → List EntrySaid
-each_once = fold with_entry []
+each_once = new_behind []
 
 -- ---- names and values
 
@@ -141,6 +133,15 @@ value_notes default values = given_note (codes "default") default ++ given_note 
 abbrev pub other_names : List (List ℕ) → List Event
 other_names [] = []
 other_names (name ∷ names) = note_events (codes "aliases") (listed_texts (name ∷ names))
+
+-- what counts of an option that is written by its names alone, and what beside a syntax alone
+abbrev pub by_names : SpellingSaid → Option (List ℕ) → Option (List ℕ)
+by_names (named name) text = text
+by_names (syntax whole) text = None
+
+abbrev pub by_syntax : SpellingSaid → Option (List ℕ) → Option (List ℕ)
+by_syntax (named name) text = None
+by_syntax (syntax whole) text = text
 
 -- the environment variable that stands for an option
 abbrev pub env_events : Option (List ℕ) → List Event

@@ -1,7 +1,8 @@
 -- What the steps of the code leave.
 pub mod Counts
-pub mod Listed
+pub mod Once
 pub mod UsageLevels
+pub mod Words
 use Rattle.std.specs.Prelude.{◌≡◌, ℕ, List, [], ◌∷◌, map, Bool, not, if◌then◌else◌}
 use Rattle.web_page.specs.Reader.{Draft}
 use Rattle.description.specs.Chunks as chunks

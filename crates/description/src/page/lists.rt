@@ -12,7 +12,7 @@ ghost use Rattle.description_parts.specs.View.{level_said, opt_said, positional_
 use crate::page::before::Before;
 use crate::page::elements::put_text_in;
 use crate::page::entries::{Entry, put_choices, put_commands, put_options, put_values};
-use crate::page::listed::each_once;
+use crate::page::once::each_once;
 use crate::page::terms::put_entry;
 use description_parts::levels::{Command, Group, Level};
 use description_parts::options::{Choice, Opt};
@@ -148,7 +148,7 @@ fn named<'d, 'a, A: Allocator, B: Allocator + Copy>(
     let mut entries: Vec<Entry<'d, 'a, A>, B> = Vec::new(alloc);
     put_options(&mut entries, options)?;
     put_choices(&mut entries, choices)?;
-    each_once(alloc, &entries)
+    each_once(alloc, entries)
 }
 
 // The same, with further options behind them.
@@ -166,7 +166,7 @@ fn options_in<'d, 'a, A: Allocator, B: Allocator + Copy>(
     put_options(&mut entries, options)?;
     put_choices(&mut entries, choices)?;
     put_options(&mut entries, others)?;
-    each_once(alloc, &entries)
+    each_once(alloc, entries)
 }
 
 // The entries of values and commands, each once.
@@ -181,7 +181,7 @@ fn placed<'d, 'a, A: Allocator, B: Allocator + Copy>(
     let mut entries: Vec<Entry<'d, 'a, A>, B> = Vec::new(alloc);
     put_values(&mut entries, values)?;
     put_commands(&mut entries, commands)?;
-    each_once(alloc, &entries)
+    each_once(alloc, entries)
 }
 
 fn values_in<'d, 'a, A: Allocator, B: Allocator + Copy>(
@@ -193,7 +193,7 @@ fn values_in<'d, 'a, A: Allocator, B: Allocator + Copy>(
 {
     let mut entries: Vec<Entry<'d, 'a, A>, B> = Vec::new(alloc);
     put_values(&mut entries, values)?;
-    each_once(alloc, &entries)
+    each_once(alloc, entries)
 }
 
 fn commands_in<'d, 'a, A: Allocator, B: Allocator + Copy>(
@@ -205,7 +205,7 @@ fn commands_in<'d, 'a, A: Allocator, B: Allocator + Copy>(
 {
     let mut entries: Vec<Entry<'d, 'a, A>, B> = Vec::new(alloc);
     put_commands(&mut entries, commands)?;
-    each_once(alloc, &entries)
+    each_once(alloc, entries)
 }
 
 // Puts entries under a title, unless there are none.
