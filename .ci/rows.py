@@ -17,6 +17,7 @@ A row is an input with what comes of it. Each has a number here, in the order of
 - `replay`: so many requests, behind a remark of these words in `crates/replay/stdin`. Their answers are in the golden file `stdout` beside it;
 - the crate `rows`: so many of its equations, behind a comment of these words in its `proofs/`. Each is proved, most by computing;
 - a test function, which says in its name what holds;
+- a table of rows that a test goes through, listed there with what it shows;
 - a program: what it is run on and its golden file, beside its sources.
 
 `.ci/rows.py`, which `.ci/run` runs before the proofs, fails where a row of these files is not on this page; `.ci/rows.py write` writes it.
@@ -63,6 +64,10 @@ def tests(crate):
         module = "::".join(file.relative_to(root).with_suffix("").parts)
         for name in re.findall(r"#\[test\]\n *(?:pub )?fn (\w+)", file.read_text(encoding="utf-8")):
             yield name.replace("_", " "), f"`{crate}::{module}::{name}`"
+    if (listed := root / "tables.rt").exists():
+        table = r'\(\s*"([^"]*)",\s*(?:(?:""|NAME),\s*)?(\w+::[A-Z_]+),?\s*\)'
+        for words, name in re.findall(table, listed.read_text(encoding="utf-8")):
+            yield words, f"`{crate}::{name}`"
 
 
 def programs():

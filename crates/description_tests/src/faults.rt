@@ -1,10 +1,7 @@
 //! What is said of texts and names that no description holds, and that others are read.
-use crate::reading::{said, table};
-use std::alloc::Global;
-use std::process::Abort;
 
 // A description, and what is said of it.
-const TEXTS: &[(&str, &str)] = &[
+pub const TEXTS: &[(&str, &str)] = &[
     (
         "name = 'a'\nabout = \"\\u0000\"\n",
         "description: about holds a control character",
@@ -90,7 +87,7 @@ const TEXTS: &[(&str, &str)] = &[
     ),
 ];
 
-const LINES: &[(&str, &str)] = &[
+pub const LINES: &[(&str, &str)] = &[
     (
         "name = 'a'\n[[option]]\nshort = 'b'\nvalue = ''\n",
         "option 1: value is empty",
@@ -201,7 +198,7 @@ const LINES: &[(&str, &str)] = &[
     ),
 ];
 
-const SECTIONS: &[(&str, &str)] = &[
+pub const SECTIONS: &[(&str, &str)] = &[
     ("section = 0", "a"),
     ("section = 1", "a"),
     ("section = 9", "a"),
@@ -255,7 +252,7 @@ const SECTIONS: &[(&str, &str)] = &[
     ),
 ];
 
-const TOPICS: &[(&str, &str)] = &[
+pub const TOPICS: &[(&str, &str)] = &[
     ("name = 'a'\n[[topic]]\ntitle = 'T'\ntext = 't'\n", "a"),
     (
         "name = 'a'\n[[topic]]\ntext = 't'\n",
@@ -317,7 +314,7 @@ const TOPICS: &[(&str, &str)] = &[
     ),
 ];
 
-const NAMES: &[(&str, &str)] = &[
+pub const NAMES: &[(&str, &str)] = &[
     ("name = ''", "description: name is empty"),
     ("name = 'a b'", "description: name holds a blank"),
     ("name = \"a\\tb\"", "description: name holds a blank"),
@@ -438,7 +435,7 @@ const NAMES: &[(&str, &str)] = &[
     ("name = 1", "description: name is no text"),
 ];
 
-const TAKEN: &[(&str, &str)] = &[
+pub const TAKEN: &[(&str, &str)] = &[
     // A short name that is the name or the short name of another command, in either order, also of a group.
     (
         "name = 'a'\n[[command]]\nname = 'b'\n[[command]]\nname = 'c'\nshort = 'b'\n",
@@ -492,7 +489,7 @@ const TAKEN: &[(&str, &str)] = &[
     ),
 ];
 
-const KEYS: &[(&str, &str)] = &[
+pub const KEYS: &[(&str, &str)] = &[
     (
         "[[option]]\nlnog = 1",
         "option 1: no key lnog is known here; is it long?",
@@ -555,7 +552,7 @@ const KEYS: &[(&str, &str)] = &[
 ];
 
 // Keys that say something of values, and other names of commands.
-const SAID: &[(&str, &str)] = &[
+pub const SAID: &[(&str, &str)] = &[
     (
         "[[option]]\nlong = 'b'\nvalue = 'V'\ndefault = 'x'",
         "a [--b=V]",
@@ -683,68 +680,3 @@ const SAID: &[(&str, &str)] = &[
         "a COMMAND ...",
     ),
 ];
-
-// Whether the usage line of what was read, or its fault, is this.
-fn says(rt: &impl Abort, out: Global, text: &str, want: &str) -> bool {
-    let table = table(rt, out, text);
-    let line = said(rt, out, out, &table).expect(rt, "a line");
-    drop(table);
-    let is_that = line.as_str().trim_end() == want;
-    drop(line);
-    is_that
-}
-
-// The rows stand behind a head that is the same for all.
-fn says_behind(rt: &impl Abort, out: Global, head: &str, text: &str, want: &str) -> bool {
-    let whole = format!(in out; "{head}{text}").expect(rt, "a text");
-    let is_that = says(rt, out, &whole, want);
-    drop(whole);
-    is_that
-}
-
-/// Sees that each text behind the head has the usage line or the fault of its row.
-pub fn check(rt: &impl Abort, out: Global, head: &str, rows: &[(&str, &str)]) {
-    for &(text, want) in rows {
-        assert!(rt; says_behind(rt, out, head, text, want), "{text}");
-    }
-}
-
-#[test]
-fn texts_hold_lines_alone(rt: HostRuntime) {
-    check(&rt, rt.alloc(), "", TEXTS);
-}
-
-#[test]
-fn words_stand_on_one_line(rt: HostRuntime) {
-    check(&rt, rt.alloc(), "", LINES);
-}
-
-#[test]
-fn topics_say_what_they_lack(rt: HostRuntime) {
-    check(&rt, rt.alloc(), "", TOPICS);
-}
-
-#[test]
-fn sections_of_the_manual(rt: HostRuntime) {
-    check(&rt, rt.alloc(), "name = 'a'\n", SECTIONS);
-}
-
-#[test]
-fn names_say_why_they_are_none(rt: HostRuntime) {
-    check(&rt, rt.alloc(), "", NAMES);
-}
-
-#[test]
-fn words_of_commands_are_taken_once(rt: HostRuntime) {
-    check(&rt, rt.alloc(), "", TAKEN);
-}
-
-#[test]
-fn keys_that_are_near_are_named(rt: HostRuntime) {
-    check(&rt, rt.alloc(), "name = 'a'\n", KEYS);
-}
-
-#[test]
-fn what_is_said_stands_where_it_may(rt: HostRuntime) {
-    check(&rt, rt.alloc(), "name = 'a'\n", SAID);
-}

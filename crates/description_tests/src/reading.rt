@@ -1,5 +1,7 @@
-//! Descriptions that are read from TOML, with each growth of theirs refused in turn. The tables and the names
-//! stand in other memory.
+//! Descriptions that are read from TOML, and what is made of them, with ample memory or with each growth refused in turn:
+//! budgets rise from nothing, and each refuses the first growth that does not fit, until the call succeeds. Tables and
+//! names stand in other memory.
+use crate::forms::{Form, made};
 use description::{Description, DescriptionError};
 use lasting_names::Names;
 use linked_list_allocator::LocalHeap;
@@ -7,93 +9,147 @@ use std::alloc::{Allocator, Global};
 use std::process::Abort;
 use toml::Table;
 
-// A text, and the usage line of what is read, or its fault.
-const ROWS: &[(&str, &str)] = &[
-    // A description with a table of each kind.
-    (
-        "name = 'app'\ndate = 2026-11-23\n[[help_option]]\nshort = 'h'\n[[option]]\nlong = 'output'\nvalue = 'FILE'\nenv = 'OUT'\n[[option]]\nsyntax = '-s, --[no-]save[=(A|B)]'\nenv = 'SAVE'\n[[choice]]\n[[choice.option]]\nshort = 'a'\n[[choice.option]]\nshort = 'b'\n[[group]]\ntitle = 'More'\n[[group.option]]\nshort = 'm'\nvalue = 'M'\nvalues = ['a', 'b']\nrepeated = true\n[[positional]]\nvalue = 'INPUT'\ndefault = 7\n[[command]]\nname = 'run'\naliases = ['go']\n[[command.option]]\nshort = 'n'\n[[command.topic]]\ntitle = 'Files'\ntext = 'None'\n",
-        "app [--output=FILE] [--[no-]save[=(A|B)]] [-a | -b] [-m=M]... [INPUT] COMMAND ...\n",
-    ),
-    // No description.
-    (
-        "name = 'app'\n[[command]]\nname = 'run'\n[[command.option]]\nshort = 'n'\n[[command.option]]\nlong = 'x y'\n",
-        "command 1, option 2: long holds a blank",
-    ),
-    // None, since a name of a syntax is taken.
-    (
-        "name = 'app'\n[[option]]\nsyntax = '-o, --[no-]x'\n[[option]]\nlong = 'x'\n",
-        "description: --x is taken",
-    ),
-    // None either, since a key is not known, and the known one is near.
-    (
-        "name = 'app'\n[[option]]\nlnog = 'x'\n",
-        "option 1: no key lnog is known here; is it long?",
-    ),
-];
+/// A text, the words that lead to a level of what it describes, and what is made of that, or the fault of the text.
+pub type Row<'a> = (&'a str, &'a [&'a str], Form, &'a str);
 
-/// The table of a text.
-pub fn table(rt: &impl Abort, out: Global, text: &str) -> Table {
+/// No words, which lead to the top.
+pub const TOP: &[&str] = &[];
+
+fn table(rt: &impl Abort, out: Global, text: &str) -> Table {
     toml::table_from_str(out, text).ok().expect(rt, "a table")
 }
 
-/// The usage line of what was read, or its fault. None where a growth was refused.
-pub fn said<A: Allocator + Copy>(
+fn copied<B: Allocator>(rt: &impl Abort, out: Global, text: Option<String<B>>) -> Option<String> {
+    match text {
+        Some(text) => {
+            let copy = String::from_str(out, text.as_str()).expect(rt, "a text");
+            drop(text);
+            Some(copy)
+        }
+        None => None,
+    }
+}
+
+// What is made of the description that a table gives, or its fault. None where a growth of reading is refused.
+fn said<A: Allocator + Copy>(
     rt: &impl Abort,
     out: Global,
     alloc: A,
     table: &Table,
+    &(_, words, form, _): &Row<'_>,
 ) -> Option<String> {
     let mut names = Names::new(out);
     match Description::from_table(alloc, &mut names, table) {
         Ok(app) => {
-            let line = app.usage(out).expect(rt, "a line");
+            let text = made(out, &app, words, form).expect(rt, "a text");
             drop(app);
-            Some(line)
+            Some(text)
         }
-        Err(DescriptionError::Content(line)) => {
-            let copy = String::from_str(out, line.as_str()).expect(rt, "a line");
-            drop(line);
-            Some(copy)
-        }
+        Err(DescriptionError::Content(line)) => copied(rt, out, Some(line)),
         Err(DescriptionError::Memory(_)) => None,
     }
 }
 
-// Whether this is said on so much memory. None where a growth is refused.
-fn is_said(rt: &impl Abort, out: Global, budget: usize, table: &Table, want: &str) -> Option<bool> {
+/// What is made of the description that a text gives, or its fault.
+pub fn told(rt: &impl Abort, out: Global, row: &Row<'_>) -> String {
+    let table = table(rt, out, row.0);
+    let told = said(rt, out, out, &table, row).expect(rt, "a text");
+    drop(table);
+    told
+}
+
+/// Whether this is made of the description that a text gives, or is its fault.
+pub fn says(rt: &impl Abort, out: Global, row: &Row<'_>) -> bool {
+    let told = told(rt, out, row);
+    let is_that = told.as_str() == row.3;
+    drop(told);
+    is_that
+}
+
+// What growths are refused in: the reading of a table, or what is made of a description.
+#[derive(Clone, Copy)]
+enum Work<'a, 'd> {
+    Reading(&'a Table),
+    Making(&'a Description<'d>),
+}
+
+// What comes of it on so much memory. None where a growth is refused.
+fn told_on(
+    rt: &impl Abort,
+    out: Global,
+    budget: usize,
+    work: Work<'_, '_>,
+    row: &Row<'_>,
+) -> Option<String> {
     let heap = LocalHeap::new(out, budget).expect(rt, "a heap");
-    let is_said = match said(rt, out, &heap, table) {
-        Some(line) => {
-            let is_that = line.as_str() == want;
-            drop(line);
+    let told = match work {
+        Work::Reading(table) => said(rt, out, &heap, table, row),
+        Work::Making(app) => copied(rt, out, made(&heap, app, row.1, row.2).ok()),
+    };
+    drop(heap);
+    told
+}
+
+// Whether that comes of it which should. None where a growth is refused.
+fn is_told_on(
+    rt: &impl Abort,
+    out: Global,
+    budget: usize,
+    work: Work<'_, '_>,
+    row: &Row<'_>,
+) -> Option<bool> {
+    match told_on(rt, out, budget, work, row) {
+        Some(text) => {
+            let is_that = text.as_str() == row.3;
+            drop(text);
             Some(is_that)
         }
         None => None,
-    };
-    drop(heap);
-    is_said
+    }
 }
 
-// Whether some budget is refused, and with the first that is not this is said.
-fn is_said_with_more(rt: &impl Abort, out: Global, table: &Table, want: &str) -> bool {
+// Whether some budget is refused, and with the first that is not that comes of it which should.
+fn is_told_with_more(rt: &impl Abort, out: Global, work: Work<'_, '_>, row: &Row<'_>) -> bool {
     for budget in 0..4096usize {
-        if let Some(is_that) = is_said(rt, out, budget * 16, table, want) {
+        if let Some(is_that) = is_told_on(rt, out, budget * 16, work, row) {
             return is_that && budget > 0;
         }
     }
     false
 }
 
-fn takes_memory(rt: &impl Abort, out: Global, text: &str, want: &str) -> bool {
-    let table = table(rt, out, text);
-    let is_said = is_said_with_more(rt, out, &table, want);
+/// Whether the reading of a row's text takes memory, and with the first budget that is not refused that comes of it which
+/// should.
+pub fn is_read_with_more(rt: &impl Abort, out: Global, row: &Row<'_>) -> bool {
+    let table = table(rt, out, row.0);
+    let is_read = is_told_with_more(rt, out, Work::Reading(&table), row);
     drop(table);
-    is_said
+    is_read
 }
 
-#[test]
-fn a_refused_table_is_read_with_more(rt: HostRuntime) {
-    for &(text, want) in ROWS {
-        assert!(rt; takes_memory(&rt, rt.alloc(), text, want), "{want}");
-    }
+// The same of what is made of a description, compared with what is made with ample memory.
+fn is_made_over(
+    rt: &impl Abort,
+    out: Global,
+    app: &Description<'_>,
+    &(text, words, form, _): &Row<'_>,
+) -> bool {
+    let want = made(out, app, words, form).expect(rt, "a text");
+    let row = (text, words, form, want.as_str());
+    let is_made = is_told_with_more(rt, out, Work::Making(app), &row);
+    drop(want);
+    is_made
+}
+
+/// Whether the form of a row takes memory, and is with the first budget that is not refused what it is with ample memory.
+pub fn is_made_with_more(rt: &impl Abort, out: Global, row: &Row<'_>) -> bool {
+    let table = table(rt, out, row.0);
+    let mut names = Names::new(out);
+    let app = Description::from_table(out, &mut names, &table)
+        .ok()
+        .expect(rt, "a description");
+    let is_made = is_made_over(rt, out, &app, row);
+    drop(app);
+    drop(table);
+    is_made
 }

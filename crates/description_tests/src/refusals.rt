@@ -1,127 +1,140 @@
-//! Each growth refused in turn. Budgets rise from nothing, and each refuses the first growth that does not fit,
-//! until the call succeeds. Each refusal leaves what was lent as it was, and the answer at the end is that of
-//! ample memory.
-use crate::samples::with_help;
+//! Each growth refused in turn. Each refusal leaves what was lent as it was, and the answer at the end is that of ample
+//! memory.
+use crate::forms::Form;
+use crate::reading::{Row, is_made_with_more, is_read_with_more};
+use crate::{all, manuals, subjects, web_pages};
 use description::{Choice, Command, Description, Group, Level, Opt, Positional, Topic};
 use linked_list_allocator::LocalHeap;
-use std::alloc::{AllocError, Allocator, Global};
+use std::alloc::{AllocError, Global};
 use std::process::Abort;
 
-/// What is made of a description. A tree and an info are seen as debug text, which is the same over all allocators.
-#[derive(Clone, Copy, Debug)]
-pub enum Page {
-    Tree,
-    Info,
-    Usage,
-    Full,
-    Brief,
-    Html,
-    Markdown,
-    Manual,
-}
+/// An application with one command and a topic, an option that takes a value, one that is written by a syntax, and one
+/// that asks for help.
+pub const WITH_HELP: &str = "name = 'app'
+[[help_option]]
+short = 'h'
+long = 'help'
+help = 'Print this help'
+[[option]]
+long = 'to'
+value = 'X'
+default = 'a'
+values = ['a', 'b']
+[[option]]
+syntax = '--[no-]edit=HOW | -e'
+repeated = true
+env = 'EDIT'
+[[command]]
+name = 'run'
+aliases = ['go']
+[[topic]]
+title = 'Files'
+text = '''
+It reads `none`
 
-fn tree_shown<B: Allocator + Copy>(
-    alloc: B,
-    app: &Description<'_>,
-) -> Result<String<B>, AllocError> {
-    let tree = app.tree(alloc)?;
-    let shown = format!(in alloc; "{tree:?}");
-    drop(tree);
-    shown
-}
+So:
+    $ app
 
-fn info_shown<B: Allocator + Copy>(
-    alloc: B,
-    app: &Description<'_>,
-) -> Result<String<B>, AllocError> {
-    let info = app.info(alloc)?;
-    let shown = format!(in alloc; "{info:?}");
-    drop(info);
-    shown
-}
+lasts'''
+";
 
-pub fn made<B: Allocator + Copy>(
-    alloc: B,
-    app: &Description<'_>,
-    page: Page,
-) -> Result<String<B>, AllocError> {
-    match page {
-        Page::Tree => tree_shown(alloc, app),
-        Page::Info => info_shown(alloc, app),
-        Page::Usage => app.usage(alloc),
-        Page::Full => app.help(alloc, true),
-        Page::Brief => app.help(alloc, false),
-        Page::Html => app.html(alloc),
-        Page::Markdown => app.markdown(alloc),
-        Page::Manual => app.manpage(alloc),
+// Of what is read stands the usage line.
+const TABLES: &[Row<'static>] = &[
+    // A description with a table of each kind.
+    (
+        "name = 'app'\ndate = 2026-11-23\n[[help_option]]\nshort = 'h'\n[[option]]\nlong = 'output'\nvalue = 'FILE'\nenv = 'OUT'\n[[option]]\nsyntax = '-s, --[no-]save[=(A|B)]'\nenv = 'SAVE'\n[[choice]]\n[[choice.option]]\nshort = 'a'\n[[choice.option]]\nshort = 'b'\n[[group]]\ntitle = 'More'\n[[group.option]]\nshort = 'm'\nvalue = 'M'\nvalues = ['a', 'b']\nrepeated = true\n[[positional]]\nvalue = 'INPUT'\ndefault = 7\n[[command]]\nname = 'run'\naliases = ['go']\n[[command.option]]\nshort = 'n'\n[[command.topic]]\ntitle = 'Files'\ntext = 'None'\n",
+        &[],
+        Form::Usage,
+        "app [--output=FILE] [--[no-]save[=(A|B)]] [-a | -b] [-m=M]... [INPUT] COMMAND ...\n",
+    ),
+    // No description.
+    (
+        "name = 'app'\n[[command]]\nname = 'run'\n[[command.option]]\nshort = 'n'\n[[command.option]]\nlong = 'x y'\n",
+        &[],
+        Form::Usage,
+        "command 1, option 2: long holds a blank",
+    ),
+    // None, since a name of a syntax is taken.
+    (
+        "name = 'app'\n[[option]]\nsyntax = '-o, --[no-]x'\n[[option]]\nlong = 'x'\n",
+        &[],
+        Form::Usage,
+        "description: --x is taken",
+    ),
+    // None either, since a key is not known, and the known one is near.
+    (
+        "name = 'app'\n[[option]]\nlnog = 'x'\n",
+        &[],
+        Form::Usage,
+        "option 1: no key lnog is known here; is it long?",
+    ),
+];
+
+#[test]
+fn a_refused_table_is_read_with_more(rt: HostRuntime) {
+    for row in TABLES {
+        assert!(rt; is_read_with_more(&rt, rt.alloc(), row), "{}", row.3);
     }
 }
 
-// Whether the page that is made on so much memory is this. None where a growth is refused.
-fn is_made(
-    rt: &impl Abort,
-    out: Global,
-    budget: usize,
-    app: &Description<'static>,
-    page: Page,
-    want: &str,
-) -> Option<bool> {
-    let heap = LocalHeap::new(out, budget).expect(rt, "a heap");
-    let is_made = match made(&heap, app, page) {
-        Ok(text) => {
-            let is_that = text.as_str() == want;
-            drop(text);
-            Some(is_that)
-        }
-        Err(AllocError) => None,
-    };
-    drop(heap);
-    is_made
-}
-
-fn is_made_with_more(
-    rt: &impl Abort,
-    out: Global,
-    app: &Description<'static>,
-    page: Page,
-    want: &str,
-) -> bool {
-    for budget in 0..4096usize {
-        if let Some(is_that) = is_made(rt, out, budget * 16, app, page, want) {
-            return is_that && budget > 0;
-        }
+// A row has its name in place of what is made.
+fn check_made(rt: &impl Abort, out: Global, rows: &[Row<'_>]) {
+    for row in rows {
+        assert!(rt; is_made_with_more(rt, out, row), "{}", row.3);
     }
-    false
 }
 
-// Whether some budget is refused, and the first that is not gives the page of ample memory.
-fn takes_memory(rt: &impl Abort, out: Global, page: Page) -> bool {
-    let app = with_help(rt, out);
-    let want = made(out, &app, page).expect(rt, "a page");
-    let is_made = is_made_with_more(rt, out, &app, page, &want);
-    drop(want);
-    drop(app);
-    is_made
-}
-
-const PAGES: &[Page] = &[
-    Page::Tree,
-    Page::Info,
-    Page::Usage,
-    Page::Brief,
-    Page::Html,
-    Page::Markdown,
-    Page::Manual,
+const PAGES: &[Row<'static>] = &[
+    (WITH_HELP, &[], Form::Tree, "tree"),
+    (WITH_HELP, &[], Form::Info, "info"),
+    (WITH_HELP, &[], Form::Usage, "usage"),
+    (WITH_HELP, &[], Form::Brief, "brief"),
+    (WITH_HELP, &[], Form::Html, "html"),
+    (WITH_HELP, &[], Form::Markdown, "markdown"),
+    (WITH_HELP, &[], Form::Manual, "manual"),
 ];
 
 #[test]
 fn a_refused_page_is_made_with_more(rt: HostRuntime) {
-    for &page in PAGES {
-        assert!(rt; takes_memory(&rt, rt.alloc(), page), "{page:?}");
-    }
+    check_made(&rt, rt.alloc(), PAGES);
 }
 
-#[derive(Clone, Copy, Debug)]
+const LEVELS: &[Row<'static>] = &[
+    (
+        subjects::APP,
+        &["remote", "add"],
+        Form::Line(100),
+        "usage of a command",
+    ),
+    (
+        subjects::APP,
+        &["remote", "add"],
+        Form::Help(true, 100),
+        "help of a command",
+    ),
+    (
+        manuals::APP,
+        &["remote", "add"],
+        Form::LevelManual,
+        "manual page of a command",
+    ),
+    (all::APP, &[], Form::File(5), "files"),
+];
+
+#[test]
+fn a_refused_page_of_a_level_is_made_with_more(rt: HostRuntime) {
+    check_made(&rt, rt.alloc(), LEVELS);
+}
+
+const WEB: &[Row<'static>] = &[(web_pages::APP, &[], Form::Web("", ""), "page")];
+
+#[test]
+fn a_refused_web_page_is_made_with_more(rt: HostRuntime) {
+    check_made(&rt, rt.alloc(), WEB);
+}
+
+/// What is put into a level, a group, or the one list of a choice, a description or a command.
+#[derive(Clone, Copy)]
 enum Part {
     Option,
     Choice,
@@ -129,51 +142,59 @@ enum Part {
     Positional,
     Command,
     Topic,
+    OptionOfGroup,
+    ChoiceOfGroup,
+    PositionalOfGroup,
+    CommandOfGroup,
+    OptionOfChoice,
+    HelpOption,
+    OtherName,
 }
 
-const PARTS: &[Part] = &[
-    Part::Option,
-    Part::Choice,
-    Part::Group,
-    Part::Positional,
-    Part::Command,
-    Part::Topic,
-];
+// What parts are put into.
+#[derive(Drop)]
+struct Lent<'a> {
+    level: Level<'a, &'a LocalHeap>,
+    group: Group<'a, &'a LocalHeap>,
+    choice: Choice<'a, &'a LocalHeap>,
+    app: Description<'a, &'a LocalHeap>,
+    command: Command<'a, &'a LocalHeap>,
+}
 
-fn put<'a>(
-    heap: &'a LocalHeap,
-    level: &mut Level<'_, &'a LocalHeap>,
-    part: Part,
-) -> Result<(), AllocError> {
-    match part {
-        Part::Option => level.option(Opt::short('a')),
-        Part::Choice => level.choice(Choice::new(heap)),
-        Part::Group => level.group(Group::new(heap, "T")),
-        Part::Positional => level.positional(Positional::new("P")),
-        Part::Command => level.command(Command::new("x", Level::new(heap))),
-        Part::Topic => level.topic(Topic::new("T", "t")),
+fn make_lent<'a>(heap: &'a LocalHeap) -> Lent<'a> {
+    Lent {
+        level: Level::new(heap),
+        group: Group::new(heap, "T"),
+        choice: Choice::new(heap),
+        app: Description::new(heap, "app", Level::new(heap)),
+        command: Command::new("x", Level::new(heap)),
     }
 }
 
-fn put_in_group<'a>(
-    heap: &'a LocalHeap,
-    group: &mut Group<'_, &'a LocalHeap>,
-    part: Part,
-) -> Result<(), AllocError> {
+fn put<'a>(heap: &'a LocalHeap, lent: &mut Lent<'a>, part: Part) -> Result<(), AllocError> {
     match part {
-        Part::Option => group.option(Opt::short('a')),
-        Part::Choice => group.choice(Choice::new(heap)),
-        Part::Group | Part::Positional | Part::Topic => group.positional(Positional::new("P")),
-        Part::Command => group.command(Command::new("x", Level::new(heap))),
+        Part::Option => lent.level.option(Opt::short('a')),
+        Part::Choice => lent.level.choice(Choice::new(heap)),
+        Part::Group => lent.level.group(Group::new(heap, "T")),
+        Part::Positional => lent.level.positional(Positional::new("P")),
+        Part::Command => lent.level.command(Command::new("x", Level::new(heap))),
+        Part::Topic => lent.level.topic(Topic::new("T", "t")),
+        Part::OptionOfGroup => lent.group.option(Opt::short('a')),
+        Part::ChoiceOfGroup => lent.group.choice(Choice::new(heap)),
+        Part::PositionalOfGroup => lent.group.positional(Positional::new("P")),
+        Part::CommandOfGroup => lent.group.command(Command::new("x", Level::new(heap))),
+        Part::OptionOfChoice => lent.choice.option(Opt::short('a')),
+        Part::HelpOption => lent.app.help_option(Opt::short('h')),
+        Part::OtherName => lent.command.alias("y"),
     }
 }
 
-fn level_shown<A: Allocator>(rt: &impl Abort, out: Global, level: &Level<'_, A>) -> String {
-    format!(in out; "{level:?}").expect(rt, "a text")
-}
-
-fn group_shown<A: Allocator>(rt: &impl Abort, out: Global, group: &Group<'_, A>) -> String {
-    format!(in out; "{group:?}").expect(rt, "a text")
+fn shown(rt: &impl Abort, out: Global, lent: &Lent<'_>) -> String {
+    let text = format!(in out;
+        "{:?} {:?} {:?} {:?} {:?}",
+        lent.level, lent.group, lent.choice, lent.app, lent.command
+    );
+    text.expect(rt, "a text")
 }
 
 // Whether two texts are the same.
@@ -184,27 +205,15 @@ fn are_same(one: String, other: String) -> bool {
     are_same
 }
 
-// Whether a level has the part afterwards. None where it has not, and is not as it was.
+// Whether the part stands there afterwards. None where it does not, and what was lent is not as it was.
 fn is_put(rt: &impl Abort, out: Global, heap: &LocalHeap, part: Part) -> Option<bool> {
-    let mut level = Level::new(heap);
-    let before = level_shown(rt, out, &level);
-    let is_put = put(heap, &mut level, part).is_ok();
-    let after = level_shown(rt, out, &level);
-    drop(level);
+    let mut lent = make_lent(heap);
+    let before = shown(rt, out, &lent);
+    let is_put = put(heap, &mut lent, part).is_ok();
+    let after = shown(rt, out, &lent);
+    drop(lent);
     (are_same(before, after) != is_put).then_some(is_put)
 }
-
-fn is_put_in_group(rt: &impl Abort, out: Global, heap: &LocalHeap, part: Part) -> Option<bool> {
-    let mut group = Group::new(heap, "T");
-    let before = group_shown(rt, out, &group);
-    let is_put = put_in_group(heap, &mut group, part).is_ok();
-    let after = group_shown(rt, out, &group);
-    drop(group);
-    (are_same(before, after) != is_put).then_some(is_put)
-}
-
-// How many bytes are ample for a part.
-const AMPLE: usize = 65536;
 
 fn put_on(rt: &impl Abort, out: Global, budget: usize, part: Part) -> Option<bool> {
     let heap = LocalHeap::new(out, budget).expect(rt, "a heap");
@@ -213,76 +222,32 @@ fn put_on(rt: &impl Abort, out: Global, budget: usize, part: Part) -> Option<boo
     is_put
 }
 
+// How many bytes are ample for a part.
+const AMPLE: usize = 65536;
+
+fn takes_room(rt: &impl Abort, out: Global, part: Part) -> bool {
+    put_on(rt, out, 0, part) == Some(false) && put_on(rt, out, AMPLE, part) == Some(true)
+}
+
+const PARTS: &[(Part, &str)] = &[
+    (Part::Option, "option"),
+    (Part::Choice, "choice"),
+    (Part::Group, "group"),
+    (Part::Positional, "positional value"),
+    (Part::Command, "command"),
+    (Part::Topic, "topic"),
+    (Part::OptionOfGroup, "option of a group"),
+    (Part::ChoiceOfGroup, "choice of a group"),
+    (Part::PositionalOfGroup, "positional value of a group"),
+    (Part::CommandOfGroup, "command of a group"),
+    (Part::OptionOfChoice, "option of a choice"),
+    (Part::HelpOption, "help option"),
+    (Part::OtherName, "other name"),
+];
+
 #[test]
-fn a_refused_part_leaves_the_level(rt: HostRuntime) {
-    for &part in PARTS {
-        assert!(rt; put_on(&rt, rt.alloc(), 0, part) == Some(false), "{part:?}");
-        assert!(rt;
-            put_on(&rt, rt.alloc(), AMPLE, part) == Some(true),
-            "{part:?}"
-        );
+fn a_refused_part_leaves_what_it_is_put_into(rt: HostRuntime) {
+    for &(part, name) in PARTS {
+        assert!(rt; takes_room(&rt, rt.alloc(), part), "{name}");
     }
-}
-
-fn put_in_group_on(rt: &impl Abort, out: Global, budget: usize, part: Part) -> Option<bool> {
-    let heap = LocalHeap::new(out, budget).expect(rt, "a heap");
-    let is_put = is_put_in_group(rt, out, &heap, part);
-    drop(heap);
-    is_put
-}
-
-#[test]
-fn a_refused_member_leaves_the_group(rt: HostRuntime) {
-    for &part in PARTS {
-        assert!(rt;
-            put_in_group_on(&rt, rt.alloc(), 0, part) == Some(false),
-            "{part:?}"
-        );
-        assert!(rt;
-            put_in_group_on(&rt, rt.alloc(), AMPLE, part) == Some(true),
-            "{part:?}"
-        );
-    }
-}
-
-// Whether a choice has one option more afterwards. None where it has not, and is not as it was.
-fn is_chosen(heap: &LocalHeap) -> Option<bool> {
-    let mut choice = Choice::new(heap);
-    let is_put = choice.option(Opt::short('a')).is_ok();
-    let count = choice.options.len();
-    drop(choice);
-    (count == usize::from(is_put)).then_some(is_put)
-}
-
-// The same of the options that ask for help.
-fn is_asked(heap: &LocalHeap) -> Option<bool> {
-    let mut app = Description::new(heap, "app", Level::new(heap));
-    let is_put = app.help_option(Opt::short('h')).is_ok();
-    let count = app.help_options.len();
-    drop(app);
-    (count == usize::from(is_put)).then_some(is_put)
-}
-
-// The same of the other names of a command.
-fn is_named(heap: &LocalHeap) -> Option<bool> {
-    let mut command = Command::new("x", Level::new(heap));
-    let is_put = command.alias("y").is_ok();
-    let count = command.aliases.len();
-    drop(command);
-    (count == usize::from(is_put)).then_some(is_put)
-}
-
-fn are_put(rt: &impl Abort, out: Global, budget: usize, want: bool) -> bool {
-    let heap = LocalHeap::new(out, budget).expect(rt, "a heap");
-    let are_put = is_chosen(&heap) == Some(want)
-        && is_asked(&heap) == Some(want)
-        && is_named(&heap) == Some(want);
-    drop(heap);
-    are_put
-}
-
-#[test]
-fn a_refused_option_leaves_the_list(rt: HostRuntime) {
-    assert!(rt; are_put(&rt, rt.alloc(), 0, false));
-    assert!(rt; are_put(&rt, rt.alloc(), AMPLE, true));
 }

@@ -1,130 +1,191 @@
 //! Usage lines with ample memory.
-use crate::pages::shows;
-use crate::refusals::Page;
-use crate::samples::{
-    named_group, placed_group, two_options, with_all, with_choice, with_commands, with_group,
-    with_option, with_positional,
-};
-use description::{Choice, Description, Group, Level, Opt, Positional};
+use crate::forms::Form;
+use crate::reading::Row;
+use description::{Choice, Description, Level, Opt};
 use std::alloc::Global;
 use std::process::Abort;
 
+pub const OPTIONS: &[Row<'static>] = &[
+    (
+        "name = 'app'\n[[option]]\nlong = 'output'\nvalue = 'FILE'\nrequired = true\n",
+        &[],
+        Form::Usage,
+        "app --output=FILE\n",
+    ),
+    (
+        "name = 'app'\n[[option]]\nlong = 'output'\nvalue = 'FILE'\n",
+        &[],
+        Form::Usage,
+        "app [--output=FILE]\n",
+    ),
+    (
+        "name = 'app'\n[[option]]\nlong = 'output'\nvalue = 'FILE'\nrequired = true\nrepeated = true\n",
+        &[],
+        Form::Usage,
+        "app --output=FILE...\n",
+    ),
+    (
+        "name = 'app'\n[[option]]\nlong = 'output'\nvalue = 'FILE'\nrepeated = true\n",
+        &[],
+        Form::Usage,
+        "app [--output=FILE]...\n",
+    ),
+    (
+        "name = 'app'\n[[option]]\nshort = 'n'\n",
+        &[],
+        Form::Usage,
+        "app [-n]\n",
+    ),
+    (
+        "name = 'app'\n[[option]]\nshort = 'v'\nlong = 'verbose'\n",
+        &[],
+        Form::Usage,
+        "app [-v]\n",
+    ),
+];
+
+pub const VALUES: &[Row<'static>] = &[
+    (
+        "name = 'app'\n[[positional]]\nvalue = 'INPUT'\n",
+        &[],
+        Form::Usage,
+        "app INPUT\n",
+    ),
+    (
+        "name = 'app'\n[[positional]]\nvalue = 'INPUT'\nrequired = false\n",
+        &[],
+        Form::Usage,
+        "app [INPUT]\n",
+    ),
+    (
+        "name = 'app'\n[[positional]]\nvalue = 'INPUT'\nrepeated = true\n",
+        &[],
+        Form::Usage,
+        "app INPUT...\n",
+    ),
+    (
+        "name = 'app'\n[[positional]]\nvalue = 'INPUT'\nrequired = false\nrepeated = true\n",
+        &[],
+        Form::Usage,
+        "app [INPUT]...\n",
+    ),
+    (
+        "name = 'app'\n[[positional]]\nvalue = 'INPUT'\nstrict = true\n",
+        &[],
+        Form::Usage,
+        "app -- INPUT\n",
+    ),
+    (
+        "name = 'app'\n[[positional]]\nvalue = 'INPUT'\nstrict = true\nrequired = false\n",
+        &[],
+        Form::Usage,
+        "app -- [INPUT]\n",
+    ),
+    (
+        "name = 'app'\n[[positional]]\nvalue = 'file'\n",
+        &[],
+        Form::Usage,
+        "app <file>\n",
+    ),
+];
+
+pub const KINDS: &[Row<'static>] = &[
+    (
+        "name = 'app'\n[[command]]\nname = 'x'\n[[command]]\nname = 'y'\n",
+        &[],
+        Form::Usage,
+        "app COMMAND ...\n",
+    ),
+    (
+        "name = 'app'\ncommand_required = false\n[[command]]\nname = 'x'\n[[command]]\nname = 'y'\n",
+        &[],
+        Form::Usage,
+        "app [COMMAND ...]\n",
+    ),
+    // Something of each kind, put in another order than that of the line.
+    (
+        "name = 'app'\n[[command]]\nname = 'x'\n[[command]]\nname = 'y'\n[[positional]]\nvalue = 'Q'\n[[group]]\ntitle = 'Both'\n[[group.positional]]\nvalue = 'P'\n[[group.option]]\nshort = 'a'\nrequired = true\n[[option]]\nshort = 'b'\nrequired = true\n[[option]]\nlong = 'output'\nvalue = 'FILE'\n",
+        &[],
+        Form::Usage,
+        "app -b [--output=FILE] -a P Q COMMAND ...\n",
+    ),
+    ("name = 'app'\n", &[], Form::Usage, "app \n"),
+];
+
+pub const GROUPS: &[Row<'static>] = &[
+    (
+        "name = 'app'\n[[group]]\ntitle = 'Extra'\n[[group.option]]\nshort = 'a'\nhelp = 'A'\nrequired = true\n",
+        &[],
+        Form::Full,
+        "Usage: app -a\n\nExtra\n    -a  A\n",
+    ),
+    (
+        "name = 'app'\n[[group]]\ntitle = 'G'\n[[group.command]]\nname = 'X'\nhelp = 'h'\n[[group.positional]]\nvalue = 'X'\nhelp = 'h'\n",
+        &[],
+        Form::Full,
+        "Usage: app X COMMAND ...\n\nG\n    X  h\n",
+    ),
+];
+
+// A syntax, whether it stands beside a value and is required, and the usage line.
+type Syntax = (&'static str, bool, &'static str);
+
+const SYNTAXES: &[Syntax] = &[
+    ("--color[=WHEN]", false, "app [--color[=WHEN]]\n"),
+    // A value counts for nothing beside a syntax.
+    ("-a", true, "app -a\n"),
+    // What no TOML text may say.
+    ("-a, x]", false, "app [x]]\n"),
+    (")-a, x", false, "app [)-a, x]\n"),
+    ("", false, "app \n"),
+];
+
 fn usage_is(rt: &impl Abort, out: Global, level: Level<'static>, want: &str) -> bool {
-    shows(
-        rt,
-        out,
-        Description::new(out, "app", level),
-        Page::Usage,
-        want,
-    )
+    let app = Description::new(out, "app", level);
+    let line = app.usage(out).expect(rt, "a line");
+    drop(app);
+    let is_that = line.as_str() == want;
+    drop(line);
+    is_that
 }
 
 fn option_is(rt: &impl Abort, out: Global, option: Opt<'static>, want: &str) -> bool {
-    usage_is(rt, out, with_option(rt, out, option), want)
+    let mut level: Level<'static> = Level::new(out);
+    level.option(option).expect(rt, "an option");
+    usage_is(rt, out, level, want)
 }
 
-#[test]
-fn options(rt: HostRuntime) {
-    let option = Opt::long("output").value("FILE");
-    let required = option.required();
-    assert!(rt; option_is(&rt, rt.alloc(), required, "app --output=FILE\n"));
-    assert!(rt; option_is(&rt, rt.alloc(), option, "app [--output=FILE]\n"));
-    assert!(rt;
-        option_is(
-            &rt,
-            rt.alloc(),
-            required.repeated(),
-            "app --output=FILE...\n"
-        )
-    );
-    assert!(rt;
-        option_is(
-            &rt,
-            rt.alloc(),
-            option.repeated(),
-            "app [--output=FILE]...\n"
-        )
-    );
-    assert!(rt; option_is(&rt, rt.alloc(), Opt::short('n'), "app [-n]\n"));
-    assert!(rt; option_is(&rt, rt.alloc(), Opt::flag('v', "verbose"), "app [-v]\n"));
+fn syntax_is(rt: &impl Abort, out: Global, &(syntax, is_full, want): &Syntax) -> bool {
+    let option = Opt::syntax(syntax);
+    let full = option.value("V").required();
+    option_is(rt, out, if is_full { full } else { option }, want)
 }
 
-#[test]
-fn options_of_any_syntax(rt: HostRuntime) {
-    let option = Opt::syntax("--color[=WHEN]");
-    assert!(rt; option_is(&rt, rt.alloc(), option, "app [--color[=WHEN]]\n"));
-    // A value counts for nothing beside a syntax.
-    let option = Opt::syntax("-a").value("V").required();
-    assert!(rt; option_is(&rt, rt.alloc(), option, "app -a\n"));
-    // What no TOML text may say.
-    assert!(rt; option_is(&rt, rt.alloc(), Opt::syntax("-a, x]"), "app [x]]\n"));
-    assert!(rt; option_is(&rt, rt.alloc(), Opt::syntax(")-a, x"), "app [)-a, x]\n"));
-    assert!(rt; option_is(&rt, rt.alloc(), Opt::syntax(""), "app \n"));
-}
-
-fn value_is(rt: &impl Abort, out: Global, value: Positional<'static>, want: &str) -> bool {
-    usage_is(rt, out, with_positional(rt, out, value), want)
-}
-
-#[test]
-fn positional_values(rt: HostRuntime) {
-    let value = Positional::new("INPUT");
-    assert!(rt; value_is(&rt, rt.alloc(), value, "app INPUT\n"));
-    assert!(rt; value_is(&rt, rt.alloc(), value.optional(), "app [INPUT]\n"));
-    assert!(rt; value_is(&rt, rt.alloc(), value.repeated(), "app INPUT...\n"));
-    let both = value.optional().repeated();
-    assert!(rt; value_is(&rt, rt.alloc(), both, "app [INPUT]...\n"));
-    assert!(rt; value_is(&rt, rt.alloc(), value.strict(), "app -- INPUT\n"));
-    let both = value.strict().optional();
-    assert!(rt; value_is(&rt, rt.alloc(), both, "app -- [INPUT]\n"));
-    assert!(rt; value_is(&rt, rt.alloc(), Positional::new("file"), "app <file>\n"));
+// Options of a choice are not wrapped. No TOML text may say that they are required and repeated.
+fn two_options(rt: &impl Abort, out: Global) -> Choice<'static> {
+    let mut choice = Choice::new(out);
+    choice
+        .option(Opt::short('a').required())
+        .expect(rt, "an option");
+    choice
+        .option(Opt::short('b').repeated())
+        .expect(rt, "an option");
+    choice
 }
 
 fn choice_is(rt: &impl Abort, out: Global, choice: Choice<'static>, want: &str) -> bool {
-    usage_is(rt, out, with_choice(rt, out, choice), want)
+    let mut level: Level<'static> = Level::new(out);
+    level.choice(choice).expect(rt, "a choice");
+    usage_is(rt, out, level, want)
 }
 
 #[test]
-fn choices_of_options_that_are_not_wrapped(rt: HostRuntime) {
+fn what_no_text_may_say(rt: HostRuntime) {
+    for row in SYNTAXES {
+        assert!(rt; syntax_is(&rt, rt.alloc(), row), "{}", row.0);
+    }
     let required = two_options(&rt, rt.alloc()).required();
     assert!(rt; choice_is(&rt, rt.alloc(), required, "app (-a | -b)\n"));
     let optional = two_options(&rt, rt.alloc());
     assert!(rt; choice_is(&rt, rt.alloc(), optional, "app [-a | -b]\n"));
-}
-
-#[test]
-fn commands(rt: HostRuntime) {
-    let required = with_commands(&rt, rt.alloc());
-    assert!(rt; usage_is(&rt, rt.alloc(), required, "app COMMAND ...\n"));
-    let optional = with_commands(&rt, rt.alloc()).commands_optional();
-    assert!(rt; usage_is(&rt, rt.alloc(), optional, "app [COMMAND ...]\n"));
-}
-
-#[test]
-fn kinds_in_their_order(rt: HostRuntime) {
-    let all = with_all(&rt, rt.alloc());
-    let want = "app -b [--output=FILE] -a P Q COMMAND ...\n";
-    assert!(rt; usage_is(&rt, rt.alloc(), all, want));
-    assert!(rt; usage_is(&rt, rt.alloc(), Level::new(rt.alloc()), "app \n"));
-}
-
-fn help_is(rt: &impl Abort, out: Global, group: Group<'static>, want: &str) -> bool {
-    let level = with_group(rt, out, group);
-    shows(
-        rt,
-        out,
-        Description::new(out, "app", level),
-        Page::Full,
-        want,
-    )
-}
-
-#[test]
-fn groups(rt: HostRuntime) {
-    let named = named_group(&rt, rt.alloc());
-    let want = "Usage: app -a\n\nExtra\n    -a  A\n";
-    assert!(rt; help_is(&rt, rt.alloc(), named, want));
-    let placed = placed_group(&rt, rt.alloc());
-    let want = "Usage: app X COMMAND ...\n\nG\n    X  h\n";
-    assert!(rt; help_is(&rt, rt.alloc(), placed, want));
 }

@@ -1,9 +1,9 @@
 //! Options that are written by a syntax: their usage lines and faults, and what stands in the list.
-use crate::faults;
-use crate::keys::{Form, Row, check};
+use crate::forms::Form;
+use crate::reading::Row;
 
 // The piece that a usage line shows, and the round brackets around one with a bar.
-const PIECES: &[(&str, &str)] = &[
+pub const PIECES: &[(&str, &str)] = &[
     (
         "[[option]]\nsyntax = '--color[=WHEN]'",
         "a [--color[=WHEN]]",
@@ -71,7 +71,7 @@ const PIECES: &[(&str, &str)] = &[
     ("[[option]]\nsyntax = '-o FILE'\nhidden = true", "a"),
 ];
 
-const FAULTS: &[(&str, &str)] = &[
+pub const FAULTS: &[(&str, &str)] = &[
     (
         "[[option]]\nsyntax = '-v'\nshort = 'v'",
         "option 1: syntax stands beside short",
@@ -178,7 +178,7 @@ const FAULTS: &[(&str, &str)] = &[
 ];
 
 // Names that are taken, and names that are not.
-const TAKEN: &[(&str, &str)] = &[
+pub const TAKEN: &[(&str, &str)] = &[
     (
         "[[option]]\nsyntax = '-v, --verbose'\n[[option]]\nshort = 'v'",
         "description: -v is taken",
@@ -223,44 +223,24 @@ const TAKEN: &[(&str, &str)] = &[
 const LIST: &str =
     "name = 'a'\n[[option]]\nsyntax = '--color[=WHEN]'\nhelp = \"When to colour.\\n\\nMore.\"\nenv = 'COLOR'\nvalues = ['never', 'always']\ndefault = 'never'\n[[option]]\nsyntax = '-n, --line, --number'\n[[option]]\nsyntax = '--[no-]edit'\nenv = 'EDIT'\n";
 
-const LIST_ROWS: &[Row] = &[
+pub const LIST_ROWS: &[Row<'static>] = &[
     (
         LIST,
         &[],
-        Form::Brief,
+        Form::Help(false, 100),
         "Usage: a [--color[=WHEN]] [-n] [--[no-]edit]\n\nAvailable options:\n        --color[=WHEN]    When to colour.\n                          [default: never] [possible values: never, always] [env: COLOR]\n    -n, --line, --number\n        --[no-]edit       [env: EDIT]\n",
     ),
     // Which texts are names, and which stand for a value.
     (
         "name = 'a'\n[[option]]\nsyntax = '--[no-]edit[=HOW|x-Y]'\nhelp = 'E'\n",
         &[],
-        Form::Manual,
+        Form::LevelManual,
         ".ie \\n(.g .ds Aq \\(aq\n.el .ds Aq '\n.TH a 1 - - \"\"\n.SH SYNOPSIS\n\\fBa\\fP\\fR \\fP\\fR[\\fP\\fR\\-\\-[no\\-]\\fP\\fBedit\\fP\\fR[=\\fP\\fIHOW\\fP\\fR|x\\-Y]\\fP\\fR]\\fP\n.PP\n.SS AVAILABLE\\ OPTIONS:\n.TP\n\\fB    \\fP\\fR\\-\\-[no\\-]\\fP\\fBedit\\fP\\fR[=\\fP\\fIHOW\\fP\\fR|x\\-Y]\\fP\n\\fRE\\fP\n.PP\n",
     ),
     (
         "name = 'a'\n[[option]]\nsyntax = '--to=TO-2,-to T_o é.X'\nhelp = 'E'\n",
         &[],
-        Form::Manual,
+        Form::LevelManual,
         ".ie \\n(.g .ds Aq \\(aq\n.el .ds Aq '\n.TH a 1 - - \"\"\n.SH SYNOPSIS\n\\fBa\\fP\\fR \\fP\\fR[\\fP\\fB\\-\\-to\\fP\\fR=\\fP\\fITO\\-2\\fP\\fR]\\fP\n.PP\n.SS AVAILABLE\\ OPTIONS:\n.TP\n\\fB    \\-\\-to\\fP\\fR=\\fP\\fITO\\-2\\fP\\fR,\\fP\\fB\\-to\\fP\\fR T_o é.\\fP\\fIX\\fP\n\\fRE\\fP\n.PP\n",
     ),
 ];
-
-#[test]
-fn a_usage_line_shows_one_piece(rt: HostRuntime) {
-    faults::check(&rt, rt.alloc(), "name = 'a'\n", PIECES);
-}
-
-#[test]
-fn what_is_no_syntax_is_told(rt: HostRuntime) {
-    faults::check(&rt, rt.alloc(), "name = 'a'\n", FAULTS);
-}
-
-#[test]
-fn names_of_a_syntax_are_taken_once(rt: HostRuntime) {
-    faults::check(&rt, rt.alloc(), "name = 'a'\n", TAKEN);
-}
-
-#[test]
-fn a_syntax_stands_in_the_list(rt: HostRuntime) {
-    check(&rt, rt.alloc(), LIST_ROWS);
-}

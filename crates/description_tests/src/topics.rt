@@ -1,10 +1,13 @@
 //! The texts of topics, some of whose lines are code.
-use crate::refusals::{Page, made};
+use crate::forms::Form;
+use crate::reading::{TOP, says};
+use crate::texts::is_text;
 use bpaf_doc::buffer::{Block, Doc, Style, Token};
-use bpaf_help::meta_help::Info;
-use description::{Description, Level, Topic};
 use std::alloc::{AllocError, Global};
 use std::process::Abort;
+
+// What stands before the text of the topic.
+const HEAD: &str = "name = 'app'\nusage = 'Call it'\n[[topic]]\ntitle = 'T'\ntext = ";
 
 // Texts and the parts of their documents.
 const PARTS: &[(&str, &[(&str, Style)])] = &[
@@ -102,30 +105,9 @@ fn topic_of(alloc: Global, want: &[(&str, Style)]) -> Result<Doc, AllocError> {
     Ok(topic)
 }
 
-// Whether the footer of an info is the topic of these parts.
-fn are_parts(rt: &impl Abort, out: Global, info: &Info, want: &[(&str, Style)]) -> bool {
+fn is_written(rt: &impl Abort, out: Global, text: &str, want: &[(&str, Style)]) -> bool {
     let want = topic_of(out, want).expect(rt, "a document");
-    let are_parts = match &info.footer {
-        None => false,
-        Some(document) => document.parts().eq(want.parts()),
-    };
-    drop(want);
-    are_parts
-}
-
-fn with_topic(rt: &impl Abort, out: Global, text: &'static str) -> Description<'static> {
-    let mut level: Level<'static> = Level::new(out).usage("Call it");
-    level.topic(Topic::new("T", text)).expect(rt, "a topic");
-    Description::new(out, "app", level)
-}
-
-fn is_written(rt: &impl Abort, out: Global, text: &'static str, want: &[(&str, Style)]) -> bool {
-    let app = with_topic(rt, out, text);
-    let info = app.info(out).expect(rt, "an info");
-    drop(app);
-    let is_written = are_parts(rt, out, &info, want);
-    drop(info);
-    is_written
+    is_text(rt, out, HEAD, text, Form::Footer, want)
 }
 
 #[test]
@@ -136,16 +118,16 @@ fn parts_of_a_topic(rt: HostRuntime) {
 }
 
 // What stands before the text of the topic and behind it, on each page.
-const FRAMES: &[(Page, &str, &str)] = &[
-    (Page::Full, "Call it\n\nT\n\n", "\n"),
+const FRAMES: &[(Form, &str, &str)] = &[
+    (Form::Full, "Call it\n\nT\n\n", "\n"),
     (
-        Page::Html,
+        Form::Html,
         "# app<br>\n<p>Call it</p><p><p><div>\n<b>T</b></div></p><p>",
         "</p></p>",
     ),
-    (Page::Markdown, "# app\n\nCall it\n\n\n**T**\n\n\n", "\n\n"),
+    (Form::Markdown, "# app\n\nCall it\n\n\n**T**\n\n\n", "\n\n"),
     (
-        Page::Manual,
+        Form::Manual,
         ".ie \\n(.g .ds Aq \\(aq\n.el .ds Aq '\n.TH app 1 - - \"\"\n.SH SYNOPSIS\n\\fBapp\\fP\\fR \\fP\n.PP\n.SH T\n.PP\n",
         "",
     ),
@@ -192,27 +174,19 @@ const PAGES: &[(&str, &[&str])] = &[
     ),
 ];
 
-// Whether a page is this between what stands before and behind it.
-fn is_between(page: &str, front: &str, want: &str, back: &str) -> bool {
-    match page.strip_prefix(front) {
-        None => false,
-        Some(rest) => rest.strip_suffix(back) == Some(want),
-    }
-}
-
+// Whether this stands on the page of a topic, in its frame.
 fn shows(
     rt: &impl Abort,
     out: Global,
-    text: &'static str,
-    frame: &(Page, &str, &str),
+    text: &str,
+    &(form, front, back): &(Form, &str, &str),
     want: &str,
 ) -> bool {
-    let &(page, front, back) = frame;
-    let app = with_topic(rt, out, text);
-    let made = made(out, &app, page).expect(rt, "a page");
-    drop(app);
-    let is_that = is_between(&made, front, want, back);
-    drop(made);
+    let whole = format!(in out; "{HEAD}{text:?}").expect(rt, "a text");
+    let page = format!(in out; "{front}{want}{back}").expect(rt, "a page");
+    let is_that = says(rt, out, &(whole.as_str(), TOP, form, page.as_str()));
+    drop(page);
+    drop(whole);
     is_that
 }
 

@@ -1,0 +1,174 @@
+//! The tables of rows with ample memory, each with what it shows. A test goes through a few: one over all is too much for
+//! the prover.
+use crate::forms::Form;
+use crate::reading::{Row, TOP, says, told};
+use crate::{all, faults, keys, manuals, pages, rows, subjects, syntaxes, texts, web_pages};
+use std::alloc::Global;
+use std::process::Abort;
+
+type Table = (&'static str, &'static [Row<'static>]);
+
+fn check(rt: &impl Abort, out: Global, name: &str, rows: &[Row<'_>]) {
+    for row in rows {
+        assert!(rt; says(rt, out, row), "{name}: {}", row.3);
+    }
+}
+
+const HIDDEN: &[Table] = &[
+    ("no level has two files", all::NO_OTHER),
+    ("what is hidden is on no page", keys::HIDDEN_ROWS),
+];
+
+#[test]
+fn what_is_hidden_is_shown_nowhere(rt: HostRuntime) {
+    for &(name, rows) in HIDDEN {
+        check(&rt, rt.alloc(), name, rows);
+    }
+}
+
+const KEYS: &[Table] = &[
+    ("other names lead to a command", keys::ALIASES_ROWS),
+    (
+        "what is said of values is behind the first paragraph",
+        keys::VALUES_ROWS,
+    ),
+];
+
+#[test]
+fn keys_are_shown(rt: HostRuntime) {
+    for &(name, rows) in KEYS {
+        check(&rt, rt.alloc(), name, rows);
+    }
+}
+
+#[test]
+fn each_level_has_its_manual_page(rt: HostRuntime) {
+    check(&rt, rt.alloc(), "manuals", manuals::ROWS);
+}
+
+#[test]
+fn a_command_has_its_own_pages(rt: HostRuntime) {
+    check(&rt, rt.alloc(), "subjects", subjects::ROWS);
+}
+
+const PAGES: &[Table] = &[
+    ("pages of the sample", pages::PAGES),
+    ("texts of a page, and words of the title line", pages::TEXTS),
+    ("options", rows::OPTIONS),
+    ("positional values", rows::VALUES),
+    ("commands, and kinds in their order", rows::KINDS),
+    ("groups", rows::GROUPS),
+    ("a syntax stands in the list", syntaxes::LIST_ROWS),
+    ("topics of a level", texts::PAGES),
+];
+
+#[test]
+fn pages_are_shown(rt: HostRuntime) {
+    for &(name, rows) in PAGES {
+        check(&rt, rt.alloc(), name, rows);
+    }
+}
+
+const WEB_PAGES: &[Table] = &[
+    ("the complete page is that of the rules", web_pages::PAGE),
+    ("texts of the complete page", web_pages::TEXTS),
+    ("code in the header has lines of its own", web_pages::ABOUTS),
+    ("terms of syntaxes", web_pages::SYNTAXES),
+    ("entries of one key are shown once", web_pages::ONE_KEY),
+    (
+        "the complete page has its language",
+        web_pages::IN_PORTUGUESE,
+    ),
+];
+
+#[test]
+fn web_pages_are_shown(rt: HostRuntime) {
+    for &(name, rows) in WEB_PAGES {
+        check(&rt, rt.alloc(), name, rows);
+    }
+}
+
+// A text, and the usage line of what it describes, or its fault. All texts of a table stand behind one head.
+type Faults = (
+    &'static str,
+    &'static str,
+    &'static [(&'static str, &'static str)],
+);
+
+const NAME: &str = "name = 'a'\n";
+
+fn is_told(rt: &impl Abort, out: Global, head: &str, text: &str, want: &str) -> bool {
+    let whole = format!(in out; "{head}{text}").expect(rt, "a text");
+    let told = told(rt, out, &(whole.as_str(), TOP, Form::Usage, want));
+    drop(whole);
+    let is_that = told.as_str().trim_end() == want;
+    drop(told);
+    is_that
+}
+
+fn check_faults(rt: &impl Abort, out: Global, name: &str, head: &str, rows: &[(&str, &str)]) {
+    for &(text, want) in rows {
+        assert!(rt; is_told(rt, out, head, text, want), "{name}: {text}");
+    }
+}
+
+const NO_TEXTS: &[Faults] = &[
+    ("texts hold lines alone", "", faults::TEXTS),
+    ("words stand on one line", "", faults::LINES),
+];
+
+#[test]
+fn texts_that_are_none_are_told(rt: HostRuntime) {
+    for &(name, head, rows) in NO_TEXTS {
+        check_faults(&rt, rt.alloc(), name, head, rows);
+    }
+}
+
+const NO_TOPICS: &[Faults] = &[
+    ("topics say what they lack", "", faults::TOPICS),
+    ("sections of the manual", NAME, faults::SECTIONS),
+    ("keys that are near are named", NAME, faults::KEYS),
+];
+
+#[test]
+fn topics_and_keys_that_are_none_are_told(rt: HostRuntime) {
+    for &(name, head, rows) in NO_TOPICS {
+        check_faults(&rt, rt.alloc(), name, head, rows);
+    }
+}
+
+const NO_NAMES: &[Faults] = &[
+    ("names say why they are none", "", faults::NAMES),
+    ("words of commands are taken once", "", faults::TAKEN),
+];
+
+#[test]
+fn names_that_are_none_are_told(rt: HostRuntime) {
+    for &(name, head, rows) in NO_NAMES {
+        check_faults(&rt, rt.alloc(), name, head, rows);
+    }
+}
+
+const NO_VALUES: &[Faults] = &[
+    ("what is said stands where it may", NAME, faults::SAID),
+    ("names of a syntax are taken once", NAME, syntaxes::TAKEN),
+];
+
+#[test]
+fn what_stands_where_it_may_not_is_told(rt: HostRuntime) {
+    for &(name, head, rows) in NO_VALUES {
+        check_faults(&rt, rt.alloc(), name, head, rows);
+    }
+}
+
+const NO_SYNTAXES: &[Faults] = &[
+    ("a usage line shows one piece", NAME, syntaxes::PIECES),
+    ("what is no syntax is told", NAME, syntaxes::FAULTS),
+];
+
+#[test]
+fn syntaxes_that_are_none_are_told(rt: HostRuntime) {
+    for &(name, head, rows) in NO_SYNTAXES {
+        check_faults(&rt, rt.alloc(), name, head, rows);
+    }
+}
