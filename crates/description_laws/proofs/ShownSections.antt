@@ -18,7 +18,7 @@ use Rattle.description.specs.Texts.{plain_document}
 use Rattle.description.specs.Trees.{all_of, choice_tree, command_items, hold_commands, holds_command, level_tree, named_group, named_groups, on_help_pages, one_of_commands, option_tree, options_tree, placed_group, placed_groups, positional_tree, show_command, titled}
 use Rattle.description.specs.WebPages.Entries.{EntrySaid, each_once, if_new, new_behind, same_entry}
 use Rattle.description.specs.WebPages.Lists.{ListSaid, choice_entries, command_entries, group_lists, list_of, named_list, option_entries, own_lists, placed_list, section_lists, value_entries}
-use Rattle.description.proofs.Among.{each_weaker}
+use Rattle.description_laws.proofs.Among.{each_weaker}
 use Rattle.description.proofs.Each.{Each, each_append}
 use Rattle.description_laws.specs.Sections.{Listing, SectionsListTheItems, entry_items, group_listing, heading_listing, listing_of, lists_some, page_listings, shown_items, without_empty}
 use Rattle.description_laws.proofs.ItemLists.{IsListed, all_list, choices_list, choices_listed, commands_list, commands_listed, item_at, options_list, options_listed, titled_list, values_list, values_listed}
