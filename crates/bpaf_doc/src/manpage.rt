@@ -2,14 +2,15 @@
 
 ghost use Rattle.std.specs.Prelude.{◌≡◌, [], ◌∷◌, IfOk, OnOk, string_bytes};
 ghost use Rattle.std.specs.Option.{option_copied};
-ghost use Rattle.bpaf_roff.specs.Roff.{with_pieces, control_pieces};
+ghost use Rattle.bpaf_roff.specs.Roff.{with_written, control_pieces, text_pieces};
 ghost use Rattle.bpaf_doc.specs.Manpage.Page.{TakesDocument, IsPageOf};
 ghost use Rattle.bpaf_doc.specs.Manpage.Exact.{roff_page};
 ghost use Rattle.bpaf_doc.specs.Manpage.Steps.Draft.{start_name, end_name, heading_name, after_parts, draft_on};
 
 use crate::buffer::{Block, Doc, Part, Parts, Style};
-use bpaf_roff::escape::Apostrophes;
-use bpaf_roff::roff::{Font, Roff};
+use bpaf_roff::escape::{Apostrophes, Escape};
+use bpaf_roff::roff::{Font, RESTORE_FONT, Roff};
+use bpaf_roff::writer::RoffWriter;
 use std::alloc::{AllocError, Allocator};
 use std::marker::Model;
 
@@ -41,28 +42,31 @@ impl<A: Allocator> Doc<A> {
         ensures read { TakesDocument page → IfOk result (λ text. IsPageOf page self.now (string_bytes text)) }
         ensures exact { IfOk result (λ text. string_bytes text ≡ roff_page page self.now) }
     {
-        let page = written(page, self.parts())?;
-        page.render(Apostrophes::Handle)
+        let room = self.text_len().saturating_mul(2);
+        let begun = page.begin(Apostrophes::Handle, room)?;
+        let text = written(begun, page.strip_newlines, self.parts())?;
+        Ok(text.into_string())
     }
 
-    /// The same text as that of `render_roff`. The document is used up: its memory is given back before the text is
-    /// made, so that no more than two of document, pieces and text stand beside one another. An `AllocError` says that
-    /// a growth was refused; nothing of document and page is left then.
+    /// The same text as that of `render_roff`. The document is used up. An `AllocError` says that a growth was refused;
+    /// nothing of document and page is left then.
     pub fn into_roff<B: Allocator + Copy>(self, page: Roff<B>) -> Result<String<B>, AllocError>
         ensures read { TakesDocument page → IfOk result (λ text. IsPageOf page self (string_bytes text)) }
         ensures exact { IfOk result (λ text. string_bytes text ≡ roff_page page self) }
     {
-        let pieces = written(page, self.parts())?;
-        drop(self);
-        pieces.render(Apostrophes::Handle)
+        self.render_roff(page)
     }
 }
 
 // The page with the parts on it.
-fn written<A: Allocator + Copy>(page: Roff<A>, parts: Parts<'_>) -> Result<Roff<A>, AllocError>
-    ensures { IfOk result (λ new. new ≡ (after_parts (draft_on page) parts.entry).script) }
+fn written<A: Allocator + Copy>(
+    page: RoffWriter<A>,
+    strip_newlines: bool,
+    parts: Parts<'_>,
+) -> Result<RoffWriter<A>, AllocError>
+    ensures { IfOk result (λ new. new ≡ (after_parts (draft_on page strip_newlines) parts.entry).page) }
 {
-    let mut writer = Writer::new(page);
+    let mut writer = Writer::new(page, strip_newlines);
     for part in parts {
         writer.part(part)?;
     }
@@ -72,7 +76,9 @@ fn written<A: Allocator + Copy>(page: Roff<A>, parts: Parts<'_>) -> Result<Roff<
 // A page that a document is being written on.
 #[derive(Drop)]
 struct Writer<A: Allocator> {
-    page: Roff<A>,
+    page: RoffWriter<A>,
+    // Whether plain text gets a blank for each newline.
+    strip_newlines: bool,
     // The captured texts since the last end of a section.
     heading: String<A>,
     // Whether a text goes into the heading.
@@ -85,16 +91,22 @@ impl<A: Allocator> Model for Writer<A> {
 
     ghost Value = { Draft };
 
-    ghost view = { λ w. record { script = w.page; heading = string_bytes w.heading; captures = w.captures } };
+    ghost view = { λ w. record {
+      page = w.page;
+      strips = w.strip_newlines;
+      heading = string_bytes w.heading;
+      captures = w.captures;
+    } };
 }
 
 impl<A: Allocator + Copy> Writer<A> {
-    fn new(page: Roff<A>) -> Writer<A>
-        ensures { result ≡ draft_on page }
+    fn new(page: RoffWriter<A>, strip_newlines: bool) -> Writer<A>
+        ensures { result ≡ draft_on page strip_newlines }
     {
         let heading = String::new(*page.allocator());
         Writer {
             page,
+            strip_newlines,
             heading,
             captures: false,
         }
@@ -126,20 +138,19 @@ impl<A: Allocator> Writer<A> {
             return self.heading.push_str(text);
         }
         if style == Style::Emphasis {
-            self.page.control0("SS")?;
+            write_control(&mut self.page, "SS")?;
         }
-        self.page.text(&[(Font::from(style), text)])?;
-        Ok(())
+        write_text(&mut self.page, self.strip_newlines, Font::from(style), text)
     }
 
     fn start(&mut self, block: Block) -> Result<(), AllocError>
         ensures { OnOk result (self.new ≡ after_start self.old block) }
     {
         if let Some(name) = start_control(block) {
-            self.page.control0(name)?;
+            write_control(&mut self.page, name)?;
         }
         if block == Block::ItemTerm {
-            self.page.strip_newlines(true);
+            self.strip_newlines = true;
         }
         if heading_control(block).is_some() {
             self.captures = true;
@@ -163,13 +174,13 @@ impl<A: Allocator> Writer<A> {
         ensures { OnOk result (self.new ≡ after_block self.old block) }
     {
         if block == Block::ItemTerm {
-            self.page.roff_linebreak()?;
+            self.page.put(Escape::UnescapedAtNewline, "")?;
         }
         if let Some(name) = end_control(block) {
-            self.page.control0(name)?;
+            write_control(&mut self.page, name)?;
         }
         if block == Block::ItemTerm || block == Block::ItemBody {
-            self.page.strip_newlines(false);
+            self.strip_newlines = false;
         }
         Ok(())
     }
@@ -209,14 +220,46 @@ fn heading_control(block: Block) -> Option<&'static str>
     }
 }
 
-// By itself, since a slice that borrows from one field beside a loan of another gets no proof.
+// The line of a control without arguments.
+fn write_control<A: Allocator>(page: &mut RoffWriter<A>, name: &str) -> Result<(), AllocError>
+    ensures { OnOk result (page.new ≡ with_written page.old (control_pieces name.now [])) }
+{
+    page.put(Escape::UnescapedAtNewline, ".")?;
+    page.put(Escape::Unescaped, name)?;
+    page.put(Escape::UnescapedAtNewline, "")
+}
+
+// The line of a control with a heading as its argument.
 fn write_heading<A: Allocator>(
-    page: &mut Roff<A>,
+    page: &mut RoffWriter<A>,
     name: &str,
     heading: &str,
 ) -> Result<(), AllocError>
-    ensures { OnOk result (page.new ≡ with_pieces page.old (control_pieces name.now (heading.now ∷ []))) }
+    ensures { OnOk result (page.new ≡ with_written page.old (control_pieces name.now (heading.now ∷ []))) }
 {
-    page.control(name, &[heading])?;
-    Ok(())
+    let word = if heading.is_empty() { "\"\"" } else { heading };
+    page.put(Escape::UnescapedAtNewline, ".")?;
+    page.put(Escape::Unescaped, name)?;
+    page.put(Escape::Unescaped, " ")?;
+    page.put(Escape::Spaces, word)?;
+    page.put(Escape::UnescapedAtNewline, "")
+}
+
+// A plain text in its font.
+fn write_text<A: Allocator>(
+    page: &mut RoffWriter<A>,
+    strip_newlines: bool,
+    font: Font,
+    text: &str,
+) -> Result<(), AllocError>
+    ensures { OnOk result (page.new ≡ with_written page.old (text_pieces strip_newlines ((font, text.now) ∷ []))) }
+{
+    let label = if strip_newlines {
+        Escape::SpecialNoNewline
+    } else {
+        Escape::Special
+    };
+    page.put(Escape::Unescaped, font.escape())?;
+    page.put(label, text)?;
+    page.put(Escape::Unescaped, RESTORE_FONT)
 }

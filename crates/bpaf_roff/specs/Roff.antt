@@ -1,8 +1,8 @@
 -- The pieces that each call of a roff adds, and what a roff is rendered to.
 use Rattle.std.specs.Borrow.{Bor}
-use Rattle.std.specs.Prelude.{ℕ, Bool, false, List, [], ◌∷◌, ◌++◌, Option, Some, None, flat_map, codes, if◌then◌else◌}
+use Rattle.std.specs.Prelude.{ℕ, Bool, false, List, [], ◌∷◌, ◌++◌, Option, Some, None, flat_map, fold, codes, if◌then◌else◌}
 use Rattle.bpaf_roff.specs.Pieces.{Piece}
-use Rattle.bpaf_roff.specs.Escaping.{escaped}
+use Rattle.bpaf_roff.specs.Escaping.{escaped, signs_of, text_after}
 use Rattle.bpaf_roff.specs.declared.escape.Apostrophes.{Apostrophes}
 use Rattle.bpaf_roff.specs.declared.escape.Apostrophes.TheVariants.{Handle, DontHandle}
 use Rattle.bpaf_roff.specs.declared.escape.Escape.{Escape}
@@ -107,3 +107,20 @@ preamble_for DontHandle = []
 -- what pieces are rendered to
 abbrev pub rendering : Apostrophes → List (Piece Escape) → List ℕ
 rendering apostrophes pieces = preamble_for apostrophes ++ escaped apostrophes pieces
+
+-- the text of a roff under way, and how its apostrophes are written
+pub record RoffText : Type 0 where
+  pub bytes : List ℕ
+  pub apostrophes : Apostrophes
+
+-- the text of pieces
+abbrev pub text_of : Apostrophes → List (Piece Escape) → RoffText
+text_of apostrophes pieces = record { bytes = rendering apostrophes pieces; apostrophes = apostrophes }
+
+-- with a piece written last
+unfoldable pub with_piece : RoffText → Piece Escape → RoffText
+with_piece text piece = record text { bytes = text.bytes ++ text_after text.apostrophes text.bytes (signs_of piece) }
+
+-- with several, in order
+abbrev pub with_written : RoffText → List (Piece Escape) → RoffText
+with_written = fold with_piece

@@ -1,7 +1,7 @@
 //! What the bytes of a piece are written as.
 
 pub mod bytes;
-mod text;
+pub(crate) mod text;
 
 /// Whether an apostrophe is written as the string `Aq`, which the preamble defines.
 #[derive(Clone, Copy, Debug, PartialEq, Eq)]

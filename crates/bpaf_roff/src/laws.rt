@@ -7,6 +7,7 @@ ghost use Rattle.bpaf_roff.specs.Pieces.{Piece, Labelled, AreCopies, no_pieces, 
 ghost use Rattle.bpaf_roff.specs.Equality.{labelled_eq, IsSamePiece};
 ghost use Rattle.bpaf_roff.specs.Escaping.{signs, text_after, escaped};
 ghost use Rattle.bpaf_roff.specs.Roff.{Script, script_sum, no_script, font_escape, restore_font, preamble, rendering};
+ghost use Rattle.bpaf_roff.specs.Roff.{text_of, with_written};
 
 use crate::escape::{APOSTROPHE_PREABMLE, Apostrophes, Escape};
 use crate::roff::RESTORE_FONT;
@@ -92,6 +93,13 @@ pub fn renderings_go_on()
         → rendering apostrophes (pieces ++ more)
         ≡ rendering apostrophes pieces
         ++ text_after apostrophes (escaped apostrophes pieces) (signs more) }
+{}
+
+/// Pieces that a writer puts behind the text of others come to the text of all.
+#[tactic(auto, using(crate::proofs::lemmas::Written::written_on))]
+pub fn writers_go_on()
+    ensures { (apostrophes : Apostrophes) (pieces more : List (Piece Escape))
+        → with_written (text_of apostrophes pieces) more ≡ text_of apostrophes (pieces ++ more) }
 {}
 
 /// Pieces of text are escaped to text.

@@ -5,3 +5,4 @@ pub mod escape;
 pub mod laws;
 pub mod monoid;
 pub mod roff;
+pub mod writer;

@@ -8,12 +8,13 @@ ghost use Rattle.bpaf_roff.specs.Pieces.{labelled_text};
 ghost use Rattle.bpaf_roff.specs.Roff.{Script, no_script, with_pieces, script_sum, scripts_sum, script_at, piece};
 ghost use Rattle.bpaf_roff.specs.Roff.{font_escape, font_change, text_at, argument_word, argument_pieces};
 ghost use Rattle.bpaf_roff.specs.Roff.{control_pieces, linebreak_pieces, escape_pieces, plaintext_pieces, text_pieces};
-ghost use Rattle.bpaf_roff.specs.Roff.{preamble_for, rendering};
+ghost use Rattle.bpaf_roff.specs.Roff.{preamble_for, rendering, text_of};
 ghost use Rattle.bpaf_roff.specs.Steps.Output.{OnlyAdds};
 
 use crate::escape::bytes::escape;
 use crate::escape::{APOSTROPHE_PREABMLE, Apostrophes, Escape};
 use crate::monoid::FreeMonoid;
+use crate::writer::RoffWriter;
 use std::alloc::{AllocError, Allocator, Global};
 use std::marker::Model;
 
@@ -391,10 +392,18 @@ impl<A: Allocator + Copy> Roff<A> {
         ensures { IfOk result (λ text. string_bytes text ≡ rendering apostrophes self.now.pieces) }
     {
         let room = self.payload.payload_size().saturating_mul(2);
+        Ok(self.begin(apostrophes, room)?.into_string())
+    }
+
+    /// What writes on behind the same text as that of `render`. Memory for `room` bytes is asked for at once.
+    /// An error comes where a growth was refused.
+    pub fn begin(&self, apostrophes: Apostrophes, room: usize) -> Result<RoffWriter<A>, AllocError>
+        ensures { IfOk result (λ writer. writer ≡ text_of apostrophes self.now.pieces) }
+    {
         let mut out = Vec::with_capacity(*self.payload.allocator(), room)?;
         out.extend_from_slice(preamble(apostrophes).as_bytes())?;
         escape(self.payload.iter(), &mut out, apostrophes)?;
-        // `escape` puts a text behind a text, and so no pass looks whether the bytes are one.
-        Ok(unsafe { String::from_utf8_unchecked(out) })
+        // `escape` puts a text behind a text.
+        Ok(RoffWriter::new(out, apostrophes))
     }
 }

@@ -126,7 +126,7 @@ break_text q label before = IsUtf8-from_ascii _ (Low-IsAscii _ (low label))
     low UnescapedAtNewline = Low-append (sign_text q before Break) [] (by (is_line_start before)) tt
     low _ = tt
 
-piece_text : (q : Apostrophes) (piece : Piece Escape) (before : List ℕ) → IsUtf8 piece.text → IsUtf8 (text_after q before (signs_of piece))
+pub piece_text : (q : Apostrophes) (piece : Piece Escape) (before : List ℕ) → IsUtf8 piece.text → IsUtf8 (text_after q before (signs_of piece))
 piece_text q piece before h = rw (text_after-append q before (breaks piece.label) (map (Byte piece.label) piece.text)) (IsUtf8-append _ _ (break_text q piece.label before) (rw (← h.1.1) (chars_text q piece.label h.0 h.1.0 (before ++ text_after q before (breaks piece.label)))))
 
 -- Pieces of text are escaped to text.

@@ -1,13 +1,17 @@
 -- What a loop over bytes, one over the blocks of a piece, and one over pieces have written so far.
-use Rattle.std.proofs.Common.{◌≡◌, ◌+◌, ◌<◌, ◌∷◌, [], ◌++◌, ◌∙◌, List, ℕ, Bool, length, map, take, get_or, ap, sym, append_assoc}
-use Rattle.std.proofs.lemmas.List.{take_more, map-append}
+use Rattle.std.proofs.Common.{◌≡◌, ◌+◌, ◌<◌, ◌∷◌, [], ◌++◌, ◌∙◌, List, ℕ, Bool, true, length, map, take, get_or, ap, sym, append_assoc, refl}
+use Rattle.std.proofs.lemmas.List.{take_more, map-append, append-nil}
 use Rattle.std.specs.List.{AllByRecursion}
+use Rattle.std.specs.Str.{IsUtf8}
+use Rattle.std.proofs.lemmas.Str.{IsUtf8-append}
 use Rattle.bpaf_roff.specs.Pieces.{Piece}
 use Rattle.bpaf_roff.specs.Escaping.{is_line_start, Sign, Byte, byte_text, signs, signs_of, text_after, escaped}
+use Rattle.bpaf_roff.specs.Roff.{RoffText, text_of, with_piece, with_written, preamble, preamble_for, rendering}
 use Rattle.bpaf_roff.specs.Steps.Output.{written}
 use Rattle.bpaf_roff.specs.declared.escape.Apostrophes.{Apostrophes}
+use Rattle.bpaf_roff.specs.declared.escape.Apostrophes.TheVariants.{Handle, DontHandle}
 use Rattle.bpaf_roff.specs.declared.escape.Escape.{Escape}
-use Rattle.bpaf_roff.proofs.lemmas.EscapedText.{text_after-append}
+use Rattle.bpaf_roff.proofs.lemmas.EscapedText.{text_after-append, piece_text, rendering-append}
 use Rattle.bpaf_roff.proofs.lemmas.LineStarts.{text_after-push, text_after-written, is_line_start-after, signs-push}
 
 module _ (q : Apostrophes) (label : Escape) (before bytes : List ℕ) where
@@ -63,3 +67,34 @@ module _ (q : Apostrophes) (ps : List (Piece Escape)) (p : Piece Escape) (x : Bo
 pub AllByRecursion-push : {X : Type 0} (P : X → Type 0) (xs : List X) (x : X) → AllByRecursion P xs → P x → AllByRecursion P (xs ++ x ∷ [])
 AllByRecursion-push P [] x all here = (here, tt)
 AllByRecursion-push P (y ∷ xs) x all here = (all.0, AllByRecursion-push P xs x all.1 here)
+
+-- A piece behind a text of which is known whether it ends a line.
+module _ (q : Apostrophes) (old new : List ℕ) (p : Piece Escape) (x : Bool) (e : x ≡ is_line_start old) (is : new ≡ old ++ text_after q (written x) (signs_of p)) where
+  pub piece_on : new ≡ old ++ text_after q old (signs_of p)
+  piece_on = is ∙ ap (λ t. old ++ t) (sym (text_after-written q (signs_of p) old x e))
+
+  pub piece_line_start : (y : Bool) → y ≡ is_line_start (written x ++ text_after q (written x) (signs_of p)) → y ≡ is_line_start new
+  piece_line_start y h = h ∙ sym (is_line_start-after old (text_after q (written x) (signs_of p)) x e) ∙ ap is_line_start (sym is)
+
+  pub piece_utf8 : IsUtf8 old → IsUtf8 p.text → IsUtf8 new
+  piece_utf8 h k = rw is (IsUtf8-append old (text_after q (written x) (signs_of p)) h (piece_text q p (written x) k))
+
+-- ---- a text that is gone on with
+
+after_preamble : (q : Apostrophes) (t : List ℕ) → is_line_start t ≡ is_line_start (preamble_for q ++ t)
+after_preamble Handle t = sym (is_line_start-after preamble t true refl)
+after_preamble DontHandle t = refl
+
+one_written : (q : Apostrophes) (ps : List (Piece Escape)) (p : Piece Escape) → with_piece (text_of q ps) p ≡ text_of q (ps ++ p ∷ [])
+unfolding with_piece
+one_written q ps p =
+    let text : List ℕ → RoffText = λ bytes. record { bytes = bytes; apostrophes = q } in
+    let so_far = rendering q ps in
+    let x = is_line_start (escaped q ps) in
+    ap text (ap (λ t. so_far ++ t) (text_after-written q (signs_of p) so_far x (after_preamble q (escaped q ps)) ∙ sym (text_after-written q (signs_of p) (escaped q ps) x refl)
+    ∙ ap (text_after q (escaped q ps)) (sym (append-nil (signs_of p)))) ∙ sym (rendering-append q ps (p ∷ [])))
+
+-- Pieces that are written behind the text of others come to the text of all.
+pub written_on : (q : Apostrophes) (ps more : List (Piece Escape)) → with_written (text_of q ps) more ≡ text_of q (ps ++ more)
+written_on q ps [] = rw (append-nil ps) refl
+written_on q ps (p ∷ more) = rw (one_written q ps p, written_on q (ps ++ p ∷ []) more, append_assoc ps (p ∷ []) more) refl

@@ -148,8 +148,9 @@ fn write_block<A: Allocator>(
     Ok(starts_line(at_line_start, label, block))
 }
 
-// Answers whether a line starts after the piece. The room is for what blocks become: to clear it for each would take time.
-fn write_piece<A: Allocator>(
+/// Answers whether a line starts after the piece. The room is for what blocks become: to clear it for each would take time.
+#[inline(always)]
+pub(crate) fn write_piece<A: Allocator>(
     out: &mut Vec<u8, A>,
     room: &mut [u8; ROOM],
     apostrophes: Apostrophes,

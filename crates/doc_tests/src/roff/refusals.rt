@@ -13,6 +13,10 @@ use std::process::Abort;
 /// A text that no spare room holds.
 pub const LONG: &str = "long enough to grow";
 
+/// A text of two blocks, each of which may be refused.
+pub const MANY: &str =
+    "long enough to grow, in two blocks of a piece: the first of them is put down, then goes-";
+
 #[derive(Clone, Copy, Debug)]
 enum Call {
     OnMonoid(MonoidCall),
@@ -39,7 +43,7 @@ const PIECES: [(Escape, &str); 5] = [
 ];
 
 // Each call, the setting after it, and what it adds behind what stands there.
-const ROWS: [(Call, bool, &str); 26] = [
+const ROWS: [(Call, bool, &str); 28] = [
     (
         Call::Escape,
         false,
@@ -122,6 +126,12 @@ const ROWS: [(Call, bool, &str); 26] = [
     (Call::OnRoff(RoffCall::Extend), true, "texttext"),
     (Call::OnRoff(RoffCall::Clone), false, ""),
     (Call::OnRoff(RoffCall::Render), false, ""),
+    (Call::OnRoff(RoffCall::Begin), false, ""),
+    (
+        Call::OnRoff(RoffCall::Put),
+        false,
+        "long enough to grow, in two blocks of a piece: the first of them is put down, then goes\\-",
+    ),
 ];
 
 fn escaped<A: Allocator>(out: &mut Vec<u8, A>) -> Result<(), AllocError> {

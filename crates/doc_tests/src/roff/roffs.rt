@@ -1,7 +1,7 @@
 //! The calls of a roff over a small arena.
 use crate::arenas::taken;
-use crate::roff::refusals::{LONG, Outcome};
-use bpaf_roff::escape::Apostrophes;
+use crate::roff::refusals::{LONG, MANY, Outcome};
+use bpaf_roff::escape::{Apostrophes, Escape};
 use bpaf_roff::roff::{Font, Roff};
 use bumpalo::Bump;
 use std::alloc::{AllocError, Allocator};
@@ -27,6 +27,8 @@ pub enum RoffCall {
     Add,
     Clone,
     Render,
+    Begin,
+    Put,
 }
 
 const WORDS: [&str; 3] = ["a b", LONG, ""];
@@ -90,6 +92,33 @@ fn rendered(rt: &(impl Abort + AllocGlobal), roff: &Roff<&Bump>) -> Outcome {
     }
 }
 
+// What a writer has that begins with the roff, or the roff itself where none does.
+fn begun(rt: &(impl Abort + AllocGlobal), roff: &Roff<&Bump>) -> Outcome {
+    match roff.begin(Apostrophes::DontHandle, 1) {
+        Ok(writer) => Outcome {
+            done: true,
+            setting: roff.strip_newlines,
+            shown: String::from_str(rt.alloc(), writer.into_string().as_str()).expect(rt, "a text"),
+        },
+        Err(AllocError) => outcome(rt, false, roff),
+    }
+}
+
+// What a writer has that began with so many pieces, after one more was put or refused.
+fn written(rt: &(impl Abort + AllocGlobal), arena: &Bump, room: usize, pieces: usize) -> Outcome {
+    let roff = start(rt, arena, pieces);
+    let mut writer = roff
+        .begin(Apostrophes::DontHandle, 0)
+        .expect(rt, "a writer");
+    let _taken = taken(rt, arena, room);
+    let done = writer.put(Escape::Special, MANY).is_ok();
+    Outcome {
+        done,
+        setting: roff.strip_newlines,
+        shown: String::from_str(rt.alloc(), writer.into_string().as_str()).expect(rt, "a text"),
+    }
+}
+
 fn copied(rt: &(impl Abort + AllocGlobal), roff: &Roff<&Bump>) -> Outcome {
     match roff.clone() {
         Ok(copy) => outcome(rt, true, &copy),
@@ -117,12 +146,16 @@ pub fn attempt_on_roff(
     call: RoffCall,
     pieces: usize,
 ) -> Outcome {
+    if let RoffCall::Put = call {
+        return written(rt, arena, room, pieces);
+    }
     let mut other = start(rt, rt.alloc(), 1);
     other.strip_newlines(true);
     let mut roff = start(rt, arena, pieces);
     let _taken = taken(rt, arena, room);
     match call {
         RoffCall::Render => rendered(rt, &roff),
+        RoffCall::Begin => begun(rt, &roff),
         RoffCall::Clone => copied(rt, &roff),
         RoffCall::Add => added(rt, roff, &other, pieces),
         _ => {

@@ -6,9 +6,10 @@ use Rattle.std.proofs.Common.{ap, ◌∙◌, sym, subst, append_assoc, arith}
 use Rattle.std.proofs.lemmas.List.{append-nil, reverse-append}
 use Rattle.std.proofs.lemmas.List.Concat.{flat_map-append}
 use Rattle.bpaf_roff.specs.Pieces.{Piece}
-use Rattle.bpaf_roff.specs.Roff.{Script, rendering, text_pieces}
+use Rattle.bpaf_roff.specs.Roff.{Script, RoffText, text_of, with_written, rendering, text_pieces}
 use Rattle.bpaf_roff.specs.declared.escape.Apostrophes.TheVariants.{Handle}
 use Rattle.bpaf_roff.specs.declared.escape.Escape.{Escape}
+use Rattle.bpaf_roff.proofs.lemmas.Written.{written_on}
 use Rattle.bpaf_doc.specs.Buffer.Parts.{Part, Text, Start, End}
 use Rattle.bpaf_doc.specs.Manpage.Events.{places, font_of, is_start, last_is_start, is_section, is_section_mark, is_term_mark, captured_texts}
 use Rattle.bpaf_doc.specs.Manpage.Page.{TakesDocument, IsPageOf}
@@ -45,40 +46,46 @@ text_same _ strip bytes = refl
 
 -- ---- one part more
 
--- the draft has the pieces of the parts so far after those of the page, and knows what looking back from here gives
+-- the draft is the text of the page and of the pieces of the parts so far, and knows what looking back from here gives
 record Holds (page : List (Piece Escape)) (by_page : Bool) (done : List Part) (draft : Draft) : Type 0 where
-  pieces : draft.script.pieces ≡ page ++ document_pieces by_page done
-  strips : draft.script.strip_newlines ≡ strips_newlines by_page done
+  text : draft.page ≡ text_of Handle (page ++ document_pieces by_page done)
+  strips : draft.strips ≡ strips_newlines by_page done
   captures : draft.captures ≡ last_is_start is_section_mark done
   heading : draft.heading ≡ captured_texts done
 
 document_pieces-append : (by_page : Bool) (done : List Part) (part : Part) → document_pieces by_page (done ++ part ∷ []) ≡ document_pieces by_page done ++ part_pieces by_page (done, part)
 document_pieces-append by_page done part = grind (arith, places-append, flat_map-append, append-nil)
 
+-- no piece more
+none_more : (page : List (Piece Escape)) (by_page : Bool) (done : List Part) (part : Part) → [] ≡ part_pieces by_page (done, part) → page ++ document_pieces by_page done ≡ page ++ document_pieces by_page (done ++ part ∷ [])
+none_more page by_page done part same = ap (λ t. page ++ t) (sym (append-nil (document_pieces by_page done)) ∙ ap (λ t. document_pieces by_page done ++ t) same ∙ sym (document_pieces-append by_page done part))
+
 -- the pieces of one part more
-one_more : (page pieces : List (Piece Escape)) (by_page : Bool) (done : List Part) (part : Part) (more : List (Piece Escape)) → pieces ≡ page ++ document_pieces by_page done → more ≡ part_pieces by_page (done, part)
-    → pieces ++ more ≡ page ++ document_pieces by_page (done ++ part ∷ [])
-one_more page pieces by_page done part more e same = grind (arith, append_assoc, document_pieces-append)
+one_more : (page : List (Piece Escape)) (text : RoffText) (by_page : Bool) (done : List Part) (part : Part) (more : List (Piece Escape)) → text ≡ text_of Handle (page ++ document_pieces by_page done) → more ≡ part_pieces by_page (done, part)
+    → with_written text more ≡ text_of Handle (page ++ document_pieces by_page (done ++ part ∷ []))
+one_more page text by_page done part more e same =
+    ap (λ t. with_written t more) e ∙ written_on Handle (page ++ document_pieces by_page done) more
+    ∙ ap (text_of Handle) (append_assoc page (document_pieces by_page done) more ∙ ap (λ t. page ++ t) (ap (λ t. document_pieces by_page done ++ t) same ∙ sym (document_pieces-append by_page done part)))
 
 -- the last mark of a term, after one more part
 strips-append : (by_page : Bool) (before : List Part) (part : Part) → strips_newlines by_page (before ++ part ∷ []) ≡ (if is_term_mark part then is_start (Some part) else strips_newlines by_page before)
 strips-append by_page before part = ap (λ parts. start_or by_page (find is_term_mark parts)) (reverse-append before (part ∷ [])) ∙ grind arith
 
 -- a text, by whether it is captured
-text_by : (captures : Bool) (page : List (Piece Escape)) (by_page : Bool) (done : List Part) (script : Script) (heading text : List ℕ) (how : Style) → Holds page by_page done (record { script = script; heading = heading; captures = captures })
-    → Holds page by_page (done ++ Text text how ∷ []) (after_text (record { script = script; heading = heading; captures = captures }) text how)
-text_by true page by_page done script heading text how h =
+text_by : (captures : Bool) (page : List (Piece Escape)) (by_page : Bool) (done : List Part) (so_far : RoffText) (strips : Bool) (heading text : List ℕ) (how : Style) → Holds page by_page done (record { page = so_far; strips = strips; heading = heading; captures = captures })
+    → Holds page by_page (done ++ Text text how ∷ []) (after_text (record { page = so_far; strips = strips; heading = heading; captures = captures }) text how)
+text_by true page by_page done so_far strips heading text how h =
     let captured = sym h.captures in
     record {
-      pieces = sym (append-nil script.pieces) ∙ one_more page script.pieces by_page done (Text text how) [] h.pieces (rw captured refl);
+      text = h.text ∙ ap (text_of Handle) (none_more page by_page done (Text text how) (rw captured refl));
       strips = h.strips ∙ sym (strips-append by_page done (Text text how));
       captures = h.captures ∙ sym (last_is_start-append is_section_mark done (Text text how));
       heading = ap (λ before. before ++ text) h.heading ∙ ap (λ x. captured_texts done ++ (if x then text else [])) h.captures ∙ sym (captured_texts-append done (Text text how));
     }
-text_by false page by_page done script heading text how h =
+text_by false page by_page done so_far strips heading text how h =
     let written = sym h.captures in
     record {
-      pieces = one_more page script.pieces by_page done (Text text how) _ h.pieces (rw written (text_same how script.strip_newlines text ∙ ap (λ strip. style_pieces how ++ text_pieces strip ((font_of how, text) ∷ [])) h.strips));
+      text = one_more page so_far by_page done (Text text how) (flat_map pieces_of (control_calls (style_name how) ++ TextCall strips (font_of how) text ∷ [])) h.text (rw written (text_same how strips text ∙ ap (λ strip. style_pieces how ++ text_pieces strip ((font_of how, text) ∷ [])) h.strips));
       strips = h.strips ∙ sym (strips-append by_page done (Text text how));
       captures = h.captures ∙ sym (last_is_start-append is_section_mark done (Text text how));
       heading = h.heading ∙ sym (append-nil (captured_texts done)) ∙ ap (λ x. captured_texts done ++ (if x then text else [])) h.captures ∙ sym (captured_texts-append done (Text text how));
@@ -93,8 +100,8 @@ strips_at_start _ strips = refl
 
 start_holds : (page : List (Piece Escape)) (by_page : Bool) (done : List Part) (draft : Draft) (b : Block) → Holds page by_page done draft → Holds page by_page (done ++ Start b ∷ []) (after_start draft b)
 start_holds page by_page done draft b h = record {
-  pieces = one_more page draft.script.pieces by_page done (Start b) _ h.pieces (start_same b);
-  strips = strips_at_start b draft.script.strip_newlines ∙ ap (λ x. if is_term_mark (Start b) then true else x) h.strips ∙ sym (strips-append by_page done (Start b));
+  text = one_more page draft.page by_page done (Start b) _ h.text (start_same b);
+  strips = strips_at_start b draft.strips ∙ ap (λ x. if is_term_mark (Start b) then true else x) h.strips ∙ sym (strips-append by_page done (Start b));
   captures = or_choice draft.captures (is_section b) ∙ ap (λ x. if is_section b then true else x) h.captures ∙ sym (last_is_start-append is_section_mark done (Start b));
   heading = h.heading ∙ sym (append-nil (captured_texts done)) ∙ sym (captured_texts-append done (Start b));
 }
@@ -108,7 +115,7 @@ strips_at_end _ strips = refl
 section_holds : (page : List (Piece Escape)) (by_page : Bool) (done : List Part) (draft : Draft) (b : Block) (name : List ℕ) → heading_name b ≡ Some name → is_section b ≡ true → is_term_mark (End b) ≡ false
     → Holds page by_page done draft → Holds page by_page (done ++ End b ∷ []) (after_section draft name)
 section_holds page by_page done draft b name named section term h = record {
-  pieces = one_more page draft.script.pieces by_page done (End b) (flat_map pieces_of (ControlCall name (str_to_ascii_uppercase draft.heading ∷ []) ∷ [])) h.pieces
+  text = one_more page draft.page by_page done (End b) (flat_map pieces_of (ControlCall name (str_to_ascii_uppercase draft.heading ∷ []) ∷ [])) h.text
       (ap (λ text. flat_map pieces_of (ControlCall name (str_to_ascii_uppercase text ∷ []) ∷ [])) h.heading
       ∙ ap (λ found. flat_map pieces_of (end_calls done b found)) (sym named) ∙ end_same done b);
   strips = h.strips ∙ sym (strips-append by_page done (End b) ∙ ap (λ x. if x then false else strips_newlines by_page done) term);
@@ -120,8 +127,8 @@ section_holds page by_page done draft b name named section term h = record {
 block_holds : (page : List (Piece Escape)) (by_page : Bool) (done : List Part) (draft : Draft) (b : Block) → heading_name b ≡ None → is_section b ≡ false → Holds page by_page done draft
     → Holds page by_page (done ++ End b ∷ []) (after_block draft b)
 block_holds page by_page done draft b unnamed inner h = record {
-  pieces = one_more page draft.script.pieces by_page done (End b) _ h.pieces (ap (λ found. flat_map pieces_of (end_calls done b found)) (sym unnamed) ∙ end_same done b);
-  strips = strips_at_end b draft.script.strip_newlines ∙ ap (λ x. if is_term_mark (End b) then false else x) h.strips ∙ sym (strips-append by_page done (End b));
+  text = one_more page draft.page by_page done (End b) _ h.text (ap (λ found. flat_map pieces_of (end_calls done b found)) (sym unnamed) ∙ end_same done b);
+  strips = strips_at_end b draft.strips ∙ ap (λ x. if is_term_mark (End b) then false else x) h.strips ∙ sym (strips-append by_page done (End b));
   captures = h.captures ∙ sym (last_is_start-append is_section_mark done (End b) ∙ ap (λ x. if x then false else last_is_start is_section_mark done) inner);
   heading = h.heading ∙ sym (captured_texts-append done (End b) ∙ ap (λ x. if x then [] else captured_texts done ++ []) inner ∙ append-nil (captured_texts done));
 }
@@ -134,7 +141,7 @@ end_holds page by_page done draft block.Section4 h = section_holds page by_page 
 end_holds page by_page done draft b h = block_holds page by_page done draft b refl refl h
 
 part_holds : (page : List (Piece Escape)) (by_page : Bool) (done : List Part) (draft : Draft) (part : Part) → Holds page by_page done draft → Holds page by_page (done ++ part ∷ []) (after_part draft part)
-part_holds page by_page done draft (Text text how) h = text_by draft.captures page by_page done draft.script draft.heading text how h
+part_holds page by_page done draft (Text text how) h = text_by draft.captures page by_page done draft.page draft.strips draft.heading text how h
 part_holds page by_page done draft (Start b) h = start_holds page by_page done draft b h
 part_holds page by_page done draft (End b) h = end_holds page by_page done draft b h
 
@@ -144,13 +151,15 @@ parts_hold page by_page done draft (part ∷ parts) h = rw (← append_assoc don
 
 -- ---- the page
 
--- A page with the parts on it has the pieces of the document after its own.
-written_pieces : (page : Script) (document : List Part) → (after_parts (draft_on page) document).script.pieces ≡ page.pieces ++ document_pieces page.strip_newlines document
-written_pieces page document = (parts_hold page.pieces page.strip_newlines [] (draft_on page) document (record { pieces = sym (append-nil page.pieces); strips = refl; captures = refl; heading = refl })).pieces
+-- A page with the parts on it has the text of its own pieces and of the document's.
+written_text : (page : Script) (document : List Part) → (after_parts (draft_on (text_of Handle page.pieces) page.strip_newlines) document).page ≡ text_of Handle (page.pieces ++ document_pieces page.strip_newlines document)
+written_text page document = (parts_hold page.pieces page.strip_newlines [] (draft_on (text_of Handle page.pieces) page.strip_newlines) document (record { text = ap (text_of Handle) (sym (append-nil page.pieces)); strips = refl; captures = refl; heading = refl })).text
 
 -- So its text is the page as a function of the document.
-pub exact_page : (page written : Script) (document : List Part) (text : List ℕ) → written ≡ (after_parts (draft_on page) document).script → text ≡ rendering Handle written.pieces → text ≡ roff_page page document
-exact_page page written document text on e = e ∙ ap (rendering Handle) (ap (λ (script : Script). script.pieces) on ∙ written_pieces page document)
+pub exact_page : (page : Script) (begun written : RoffText) (document : List Part) (text : List ℕ) → begun ≡ text_of Handle page.pieces → written ≡ (after_parts (draft_on begun page.strip_newlines) document).page → text ≡ written.bytes
+    → text ≡ roff_page page document
+exact_page page begun written document text begins on e =
+    e ∙ ap (λ (t : RoffText). t.bytes) (on ∙ ap (λ t. (after_parts (draft_on t page.strip_newlines) document).page) begins ∙ written_text page document)
 
 -- ---- a page that keeps newlines
 

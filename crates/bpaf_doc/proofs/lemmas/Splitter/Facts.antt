@@ -7,7 +7,7 @@ use Rattle.std.proofs.lemmas.List.{append-nil, take_at, drop_at, length-append}
 use Rattle.std.proofs.lemmas.List.Elements.{All-nil, All-cons, All-same}
 use Rattle.std.proofs.lemmas.List.Folds.{list_all-append}
 use Rattle.bpaf_doc.specs.Buffer.Parts.{ink}
-use Rattle.bpaf_doc.specs.Splitter.Chunks.{Chunk, Raw, Paragraph, LineBreak, chunk_ink, chunks_of}
+use Rattle.bpaf_doc.specs.Splitter.Chunks.{Chunk, Raw, chunk_ink, chunks_of}
 use Rattle.bpaf_doc.specs.Splitter.Promises.{IsGap, IsOneLine, IsPlace, IsSpelledOnce, IsText, StandInOrder, StandsFor, is_gap_byte}
 use Rattle.bpaf_doc.proofs.lemmas.Splitter.Spelling.{spells_its_chunks, only_its_chunks}
 use Rattle.bpaf_doc.proofs.lemmas.Splitter.Pieces.{Pieces, none, piece, pieces, stands_ink, IsUtf8-blank}

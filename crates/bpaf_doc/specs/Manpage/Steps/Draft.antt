@@ -3,7 +3,7 @@
 use Rattle.std.specs.Prelude.{ℕ, Bool, true, false, List, [], ◌∷◌, ◌++◌, ◌||◌, Option, Some, None, flat_map, fold, codes, if◌then◌else◌}
 use Rattle.std.specs.Str.{str_to_ascii_uppercase}
 use Rattle.bpaf_roff.specs.Pieces.{Piece}
-use Rattle.bpaf_roff.specs.Roff.{Script, with_pieces, control_pieces, linebreak_pieces, text_pieces}
+use Rattle.bpaf_roff.specs.Roff.{RoffText, with_written, control_pieces, linebreak_pieces, text_pieces}
 use Rattle.bpaf_roff.specs.declared.escape.Escape.{Escape}
 use Rattle.bpaf_roff.specs.declared.roff.Font.{Font}
 use Rattle.bpaf_doc.specs.Buffer.Parts.{Part, Text, Start, End}
@@ -24,8 +24,8 @@ pieces_of (ControlCall name arguments) = control_pieces name arguments
 pieces_of (TextCall strip font text) = text_pieces strip ((font, text) ∷ [])
 pieces_of BreakCall = linebreak_pieces
 
-abbrev pub with_calls : Script → List Call → Script
-with_calls script calls = with_pieces script (flat_map pieces_of calls)
+abbrev pub with_calls : RoffText → List Call → RoffText
+with_calls text calls = with_written text (flat_map pieces_of calls)
 
 -- a control without arguments, if there is one
 abbrev pub control_calls : Option (List ℕ) → List Call
@@ -58,23 +58,24 @@ abbrev pub style_name : Style → Option (List ℕ)
 style_name style.Emphasis = Some (codes "SS")
 style_name _ = None
 
--- the page, the captured texts since the last end of a section, and whether a text is captured
+-- the text of the page, whether newlines are stripped, the captured texts since the last end of a section, and whether a text is captured
 pub record Draft : Type 0 where
-  pub script : Script
+  pub page : RoffText
+  pub strips : Bool
   pub heading : List ℕ
   pub captures : Bool
 
 -- with calls on the page
 abbrev pub with_draft_calls : Draft → List Call → Draft
-with_draft_calls draft calls = record draft { script = with_calls draft.script calls }
+with_draft_calls draft calls = record draft { page = with_calls draft.page calls }
 
 -- a page that nothing of the document is on
-abbrev pub draft_on : Script → Draft
-draft_on script = record { script = script; heading = []; captures = false }
+abbrev pub draft_on : RoffText → Bool → Draft
+draft_on page strips = record { page = page; strips = strips; heading = []; captures = false }
 
 -- a text in capture is kept for the heading, and any other is written
 abbrev pub after_text : Draft → List ℕ → Style → Draft
-after_text draft text how = if draft.captures then record draft { heading = draft.heading ++ text } else with_draft_calls draft (control_calls (style_name how) ++ TextCall draft.script.strip_newlines (font_of how) text ∷ [])
+after_text draft text how = if draft.captures then record draft { heading = draft.heading ++ text } else with_draft_calls draft (control_calls (style_name how) ++ TextCall draft.strips (font_of how) text ∷ [])
 
 -- newlines are stripped from the start of a term on
 abbrev pub strips_after_start : Block → Bool → Bool
@@ -87,15 +88,12 @@ strips_after_end block.ItemTerm strips = false
 strips_after_end block.ItemBody strips = false
 strips_after_end _ strips = strips
 
-abbrev pub with_strips : Script → Bool → Script
-with_strips script strips = record script { strip_newlines = strips }
-
 abbrev pub after_start : Draft → Block → Draft
-after_start draft b = record draft { script = with_strips (with_calls draft.script (control_calls (start_name b))) (strips_after_start b draft.script.strip_newlines); captures = draft.captures || is_section b }
+after_start draft b = record draft { page = with_calls draft.page (control_calls (start_name b)); strips = strips_after_start b draft.strips; captures = draft.captures || is_section b }
 
 -- a heading goes out in capitals
 abbrev pub after_section : Draft → List ℕ → Draft
-after_section draft name = record { script = with_calls draft.script (ControlCall name (str_to_ascii_uppercase draft.heading ∷ []) ∷ []); heading = []; captures = false }
+after_section draft name = record { page = with_calls draft.page (ControlCall name (str_to_ascii_uppercase draft.heading ∷ []) ∷ []); strips = draft.strips; heading = []; captures = false }
 
 -- a term ends its line
 abbrev pub break_calls : Block → List Call
@@ -103,7 +101,7 @@ break_calls block.ItemTerm = BreakCall ∷ []
 break_calls _ = []
 
 abbrev pub after_block : Draft → Block → Draft
-after_block draft b = record draft { script = with_strips (with_calls draft.script (break_calls b ++ control_calls (end_name b))) (strips_after_end b draft.script.strip_newlines) }
+after_block draft b = record draft { page = with_calls draft.page (break_calls b ++ control_calls (end_name b)); strips = strips_after_end b draft.strips }
 
 abbrev pub after_end_by : Draft → Block → Option (List ℕ) → Draft
 after_end_by draft b None = after_block draft b

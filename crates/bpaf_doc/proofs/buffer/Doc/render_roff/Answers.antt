@@ -1,10 +1,6 @@
 -- The page with the parts on it is the page as a function of the document, and so a reader reads it.
-use Rattle.std.proofs.Common.{◌≡◌, string_bytes}
-use Rattle.std.proofs.lemmas.Result.{IfOk-weaker}
-use Rattle.bpaf_roff.specs.Roff.{rendering}
-use Rattle.bpaf_roff.specs.declared.escape.Apostrophes.TheVariants.{Handle}
-use Rattle.bpaf_doc.specs.Manpage.Page.{IsPageOf}
-use Rattle.bpaf_doc.specs.Manpage.Exact.{roff_page}
+use Rattle.std.proofs.Common.{◌≡◌, ◌∙◌, ap, string_bytes}
+use Rattle.bpaf_roff.specs.Roff.{Script}
 use Rattle.bpaf_doc.specs.Manpage.Steps.Draft.{after_parts, draft_on}
 use Rattle.bpaf_doc.proofs.lemmas.Manpage.Drafts.{exact_page, taken_page}
 use Rattle.bpaf_doc.proofs.buffer.Doc.render_roff.Goals as goal
@@ -12,16 +8,13 @@ use Rattle.bpaf_doc.proofs.buffer.Doc.render_roff.Goals as goal
 pub returns-clause-exact : goal.returns-clause-exact
 returns-clause-exact g c =
     let page = c.args.page in
+    let begun = c.in_ok-begun.begun in
+    let written = c.in_ok-text.text in
     let document = c.args.self.now in
-    let written = c.in_ok-page.page in
-    let on_page : written ≡ (after_parts (draft_on page) document).script = rw c.parts.ensures.parts at c.in_ok-page.ensures in
-    IfOk-weaker c.render.result (λ text. string_bytes text ≡ rendering Handle written.pieces) (λ text. string_bytes text ≡ roff_page page document) (λ text. exact_page page written document (string_bytes text) on_page) c.render.ensures
+    let strips = ap (λ (script : Script). script.strip_newlines) c.page.view_is in
+    let inside : written ≡ (after_parts (draft_on begun c.page.inside.strip_newlines) document).page = rw c.parts.ensures.parts at c.in_ok-text.ensures in
+    let on_page : written ≡ (after_parts (draft_on begun page.strip_newlines) document).page = inside ∙ ap (λ strip. (after_parts (draft_on begun strip) document).page) strips in
+    exact_page page begun written document (string_bytes c.into_string.result) c.in_ok-begun.ensures on_page c.into_string.ensures
 
 pub returns-clause-read : goal.returns-clause-read
-returns-clause-read g c =
-    let page = c.args.page in
-    let document = c.args.self.now in
-    let written = c.in_ok-page.page in
-    let on_page : written ≡ (after_parts (draft_on page) document).script = rw c.parts.ensures.parts at c.in_ok-page.ensures in
-    λ takes. IfOk-weaker c.render.result (λ text. string_bytes text ≡ rendering Handle written.pieces) (λ text. IsPageOf page document (string_bytes text))
-    (λ text e. taken_page page document (string_bytes text) takes (exact_page page written document (string_bytes text) on_page e)) c.render.ensures
+returns-clause-read g c = λ takes. taken_page c.args.page c.args.self.now (string_bytes c.into_string.result) takes (returns-clause-exact g c)
