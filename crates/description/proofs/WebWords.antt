@@ -1,5 +1,5 @@
 -- Entries with one key have one word.
-use Rattle.std.proofs.Common.{◌≡◌, ℕ, ◌+◌, Bool, true, false, cond, not, ◌&&◌, ◌||◌, List, [], ◌∷◌, ◌++◌, codes, drop, map, flat_map, refl, sym, ap, ◌∙◌, append_assoc, append-nil, one-add, Option, Some, None}
+use Rattle.std.proofs.Common.{◌≡◌, ℕ, Bool, true, false, cond, not, ◌&&◌, ◌||◌, List, [], ◌∷◌, ◌++◌, codes, drop, map, flat_map, refl, sym, ap, ◌∙◌, append_assoc, append-nil, one-add, Option, Some, None}
 use Rattle.std.specs.Prelude.{◌==◌, bytes_eq, if◌then◌else◌, nat_eq}
 use Rattle.std.specs.Cmp.{IsEquivalence, and_equiv, on_equiv, nat_eq_equiv}
 use Rattle.std.specs.Cmp.Lexicographic.{nat_list_eq_equiv, options_equiv}
@@ -11,7 +11,7 @@ use Rattle.bpaf_doc.specs.declared.buffer.Style.{Style}
 use Rattle.bpaf_doc.specs.Buffer.Parts.{Part, Text, Start, End}
 use Rattle.bpaf_doc.specs.Buffer.Writes as write
 use Rattle.bpaf_doc.specs.Buffer.Writes.{Write, literal, metavar, plain, same_style, with_text, with_writes}
-use Rattle.bpaf_items.specs.Listing.Keys.{Key, any_key, word_key, flag_key, argument_key, key_of, same_key}
+use Rattle.bpaf_items.specs.Listing.Keys.{Key, any_key, word_key, flag_key, argument_key, key_of}
 use Rattle.bpaf_items.proofs.Listing.KeyLaws.{equality_of_keys}
 use Rattle.bpaf_meta.specs.Content.{Name}
 use Rattle.description_parts.specs.Content.{SpellingSaid, named, syntax, OptSaid, command}

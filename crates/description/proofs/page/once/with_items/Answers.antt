@@ -1,4 +1,4 @@
-use Rattle.std.proofs.Common.{◌≡◌, ap, map, sym, take, take_all, arith, ◌∙◌, ◌++◌, ◌∷◌, []}
+use Rattle.std.proofs.Common.{ap, map, sym, take_all, arith, ◌∙◌, ◌++◌, ◌∷◌, []}
 use Rattle.std.proofs.lemmas.List.{map-append}
 use Rattle.description.specs.declared.page.once.Listed.{Listed}
 use Rattle.description.specs.WebPages.Entries.{EntrySaid}

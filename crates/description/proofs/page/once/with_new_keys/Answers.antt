@@ -1,4 +1,4 @@
-use Rattle.std.proofs.Common.{◌≡◌, ap, map, subst, sym, take, take_all, arith, ◌+◌, ◌∙◌, ◌++◌, ◌∷◌, []}
+use Rattle.std.proofs.Common.{◌≡◌, ap, map, subst, sym, take, take_all, arith, ◌+◌, ◌∙◌, ◌∷◌, []}
 use Rattle.std.proofs.lemmas.List.{map-append}
 use Rattle.description.specs.WebPages.Entries.{each_once}
 use Rattle.description.specs.WebPages.Steps.Once.{HasSeen}
