@@ -12,10 +12,9 @@ Makes COUNT descriptions (100) from SEED (1), every second one with texts of `ho
   that of the form `usage`, and its names and words for values with what stands in `strong` and in `var`;
 - has no id twice, links that show something and lead somewhere, one `main`, and no heading that skips a level;
 - lists in each section what the form `full` lists of that level. These two forms are given the level alone, without
-  texts around its lists; where a line of these may look like another, as a help like an entry, they are skipped, and
-  where two entries are alike on the help page and say something else, as a note in a help and a note.
+  texts around its lists; where a line of these may look like another, as a help like an entry, they are skipped.
 
-Some entries are given a twin that says the same, or nearly. Needs Debian's packages `python3-html5lib` and `tidy`.
+Some entries are given a twin that says the same, or nearly, and some one whose help has the other's notes in it. Needs Debian's packages `python3-html5lib` and `tidy`.
 Prints a line for each difference, and how many pages agree. Ends with status 1 where any differs.
 """
 import argparse
@@ -56,10 +55,9 @@ HOLDERS = {"html", "head", "body", "header", "nav", "main", "section", "ul", "dl
 
 
 class Entry(typing.NamedTuple):
-    """An entry of a list: what tells it from others on a help page, and here; its word in an id, or the command it
-    leads to; and contents."""
+    """An entry of a list: what tells it from others, here as on a help page; its word in an id, or the command it leads
+    to; and contents."""
     key: tuple
-    record: tuple
     word: str
     command: str
     term: list
@@ -142,37 +140,29 @@ def said(table):
     return found + [element("p", f"[{words}: {shown(table[key])}]") for words, key, shown in notes if key in table]
 
 
-def notes(table):
-    """The help of an entry, and what is noted of its value."""
-    return table.get("help"), str(table["default"]) if "default" in table else None, table.get("values")
-
-
 def option_entry(option):
     help_text = asking.help_of(option)
     if "syntax" in option:
         syntax = option["syntax"]
-        record = 1, syntax, *notes(option), option.get("env")
-        return Entry((1, syntax, help_text), record, syntax, None, phrasing(syntaxes.styled(syntax)), said(option))
+        return Entry((1, syntax, help_text), syntax, None, phrasing(syntaxes.styled(syntax)), said(option))
     short, long, word = option.get("short"), option.get("long"), option.get("value")
     names = ([f"-{short}"] if short else []) + ([f"--{long}"] if long else [])
     term = [element("code", names[0])] + ([", ", element("code", names[1])] if len(names) > 1 else [])
     term += ["=", element("var", value(word))] if word else []
-    record = 3, short, long, word, *notes(option)
-    return Entry((3, short, long, word, help_text), record, long or short, None, term, said(option))
+    return Entry((3, short, long, word, help_text), long or short, None, term, said(option))
 
 
 def positional_entry(positional):
     word = positional["value"]
     key = 2, word, asking.help_of(positional)
-    record = 2, word, *notes(positional)
-    return Entry(key, record, value(word), None, [element("var", value(word))], said(positional))
+    return Entry(key, value(word), None, [element("var", value(word))], said(positional))
 
 
 def command_entry(command):
     names = [command["name"]] + ([command["short"]] if "short" in command else [])
     term = [part for name in names for part in [", ", element("code", name)]][1:]
     key = 2, command["name"], asking.help_of(command)
-    return Entry(key, (id(command),), None, command["name"], term, said(command))
+    return Entry(key, None, command["name"], term, said(command))
 
 
 def shown(tables):
@@ -195,7 +185,7 @@ def commands(table):
 
 
 def lists(level, top):
-    """The titles of the lists of a level, and their entries, each once. A command is never the same as another."""
+    """The titles of the lists of a level, and their entries, each key once."""
     groups = level.get("group", [])
     found = [(group["title"], map(option_entry, options(group))) for group in groups]
     found += [(group["title"], [*positionals(group), *commands(group)]) for group in groups]
@@ -205,7 +195,7 @@ def lists(level, top):
     for title, entries in found:
         once = []
         for entry in entries:
-            if all(entry.record != other.record for other in once):
+            if all(entry.key != other.key for other in once):
                 once.append(entry)
         if once:
             yield title, once
@@ -369,11 +359,8 @@ def alone(table, names):
 
 
 def is_ambiguous(level, top):
-    """Whether a line of a help, a title or a syntax may look like something else among the lists of a console page, or
-    entries are alike there."""
+    """Whether a line of a help, a title or a syntax may look like something else among the lists of a console page."""
     found = list(lists(level, top))
-    if any(len({entry.key for entry in entries}) < len(entries) for _, entries in found):
-        return True
     terms = ["".join(map(plain, entry.term)) for _, entries in found for entry in entries]
     if any(title.startswith("    ") for title, _ in found) or any(term.startswith(" ") for term in terms):
         return True
@@ -470,7 +457,7 @@ def tables(data):
 def twin(table, chances):
     """An entry that says what another says, or nearly."""
     other = {key: each for key, each in table.items() if key not in ["required", "hidden"]}
-    change = chances.choice(["none", "env", "help", "help", "default"])
+    change = chances.choice(["none", "env", "help", "help", "default", "notes"])
     if change == "env" and {"short", "long"} & set(other):
         other["env"] = "OTHER"
     elif change == "help" and other.get("help"):
@@ -479,6 +466,8 @@ def twin(table, chances):
         del other["help"]
     elif change == "default" and "default" in other:
         other["default"] = str(other["default"])
+    elif change == "notes" and "default" in other and not {"values", "syntax"} & set(other):
+        other["help"] = f"{other.get('help', '').rstrip()}\n [default: {other.pop('default')}]".lstrip()
     return other
 
 
