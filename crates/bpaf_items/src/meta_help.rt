@@ -6,7 +6,6 @@ mod error;
 mod given;
 mod groups;
 mod key;
-mod keyed;
 mod list;
 mod lists;
 mod page;

@@ -8,7 +8,7 @@ ghost use Rattle.description.specs.View.{file_said};
 use description::PageFile;
 use description::words::Shown;
 use std::alloc::{AllocError, Allocator};
-use std::collections::HashSet;
+use std::collections::BTreeSet;
 use thiserror::Error;
 
 /// How many bytes a name has at most. On the way there it has a dot before it and `.new` behind it, too.
@@ -51,7 +51,7 @@ fn first_refused<A: Allocator, B: Allocator + Copy>(
     ensures judged { IfOk result (λ first. is_first_name (names_of (map file_said (drop first files.now)))
         ≡ are_file_names (names_of (map file_said files.now))) }
 {
-    let mut behind = HashSet::new(alloc);
+    let mut behind = BTreeSet::new(alloc);
     let mut first = files.len();
     let mut index = files.len();
     while index > 0 {

@@ -11,6 +11,7 @@ pub mod Reading
 pub mod Tables
 pub mod Pushed
 pub mod Depths
+pub mod Ordered
 pub mod Distinct
 pub mod Named
 pub mod Refused

@@ -1,36 +1,43 @@
 -- The texts of a list of keys: what each call on the set does to them.
-use Rattle.std.proofs.Common.{◌≡◌, ◌∙◌, refl, sym, ap, subst, ℕ, Bool, true, false, true≢false, not, ◌||◌, List, [], ◌∷◌, ◌++◌, map, Contains, IsPermutation, MatchBool, bytes_eq, Result, Ok, Err, OnErr, ◌⊎◌, inl, inr}
+use Rattle.std.proofs.Common.{◌≡◌, ◌∙◌, refl, sym, ap, subst, ℕ, Bool, true, false, true≢false, ◌||◌, List, [], ◌∷◌, map, Contains, bytes_eq, ◌⊎◌, inl, inr}
 use denote.Ref.{Bor}
-use Rattle.std.specs.Cmp.Lexicographic.{bytes_decides}
+use Rattle.std.specs.BTreeSet.{insert_key}
+use Rattle.std.specs.Cmp.Lexicographic.{bytes_decides, nat_list_eq_equiv, slice_cmp, texts_ties}
 use Rattle.std.specs.List.{list_any, IsDistinct, AllByRecursion}
-use Rattle.std.proofs.lemmas.List.Elements.{Contains-append_left, Contains-push, Contains-push_cases}
-use Rattle.std.proofs.lemmas.List.Sorted.{IsPermutation-map, IsPermutation-sym, IsPermutation-trans, IsPermutation-to_front, Contains-permutation}
+use Rattle.std.specs.List.Sorted.{IsStrictlySortedBy}
+use Rattle.std.specs.Ordering.{eq_by_cmp, is_eq, match_ordering, nat_cmp}
+use Rattle.std.specs.declared.cmp.Ordering.{Ordering}
+use Rattle.std.specs.declared.cmp.Ordering.TheVariants.{Less, Equal, Greater}
+use Rattle.std.proofs.lemmas.Map.Keys.{IsDistinct-from_sorted}
 use Rattle.std.proofs.lemmas.Map.Made.{AllPairs-from_IsDistinct}
-use Rattle.std.proofs.lemmas.Map.Views.{Contains-from_any}
-use Rattle.lasting_names.specs.Kept.{KeepsTheSame, KeepsAlso, EachOnce}
+use Rattle.std.proofs.lemmas.Map.Views.{Contains-from_any, list_any-from_Contains}
+use Rattle.lasting_names.specs.Kept.{KeepsAlso, EachOnce}
 
 -- the bytes of each key
 abbrev pub texts : List (Bor (List ℕ)) → List (List ℕ)
 texts ks = map (λ k. k.now) ks
 
-any_text : (t : List ℕ) (ks : List (Bor (List ℕ))) → list_any (λ k. bytes_eq t k.now) ks ≡ list_any (bytes_eq t) (texts ks)
+-- the order of the set
+abbrev pub cmp : Bor (List ℕ) → Bor (List ℕ) → Ordering
+cmp x y = slice_cmp nat_cmp x.now y.now
+
+one_of : (t : List ℕ) (ks : List (List ℕ)) → list_any (bytes_eq t) ks ≡ true → Contains ks t
+one_of = Contains-from_any {eq = bytes_eq} (λ x y. (bytes_decides x y).0)
+
+is_one : (t : List ℕ) (ks : List (List ℕ)) → Contains ks t → list_any (bytes_eq t) ks ≡ true
+is_one = list_any-from_Contains nat_list_eq_equiv
+
+any_text : (t : List ℕ) (ks : List (Bor (List ℕ))) → list_any (λ k. is_eq (slice_cmp nat_cmp t k.now)) ks ≡ list_any (bytes_eq t) (texts ks)
 any_text t [] = refl
-any_text t (k ∷ ks) = ap (λ b. bytes_eq t k.now || b) (any_text t ks)
+any_text t (k ∷ ks) = λ i. sym (texts_ties t k.now) i || any_text t ks i
 
 -- a text that a look-up finds is kept
-pub found : (t : List ℕ) (ks : List (Bor (List ℕ))) → list_any (λ k. bytes_eq t k.now) ks ≡ true → Contains (texts ks) t
-found t ks h = Contains-from_any {eq = bytes_eq} (λ x y. (bytes_decides x y).0) t (texts ks) (sym (any_text t ks) ∙ h)
+pub found : (t : List ℕ) (ks : List (Bor (List ℕ))) → list_any (λ k. is_eq (slice_cmp nat_cmp t k.now)) ks ≡ true → Contains (texts ks) t
+found t ks h = one_of t (texts ks) (sym (any_text t ks) ∙ h)
 
--- what holds anyway holds where the result is an error
-pub on_err : {T E : Type 0} {P : Type 0} (r : Result T E) → P → OnErr r P
-on_err (Ok x) p = tt
-on_err (Err e) p = p
-
--- keys in another order are the same texts
-pub reordered : (ks ls : List (Bor (List ℕ))) → IsPermutation ks ls → KeepsTheSame (texts ks) (texts ls)
-reordered ks ls p t =
-    let q = IsPermutation-map (λ k. k.now) ks ls p in
-    (Contains-permutation (texts ls) (texts ks) t (IsPermutation-sym (texts ks) (texts ls) q), Contains-permutation (texts ks) (texts ls) t q)
+-- it is the text of the key that is found
+pub same_text : (t u : List ℕ) → slice_cmp nat_cmp t u ≡ Equal → u ≡ t
+same_text t u h = sym ((bytes_decides t u).0 (texts_ties t u ∙ ap is_eq h))
 
 -- a text that is kept already adds none
 pub kept_already : (text : List ℕ) (before : List (List ℕ)) → Contains before text → KeepsAlso text before before
@@ -40,59 +47,54 @@ kept_already text before h t = (inl, by)
     by (inl k) = k
     by (inr e) = subst (Contains before) (sym e) h
 
-added_last : (text : List ℕ) (before : List (List ℕ)) → KeepsAlso text before (before ++ text ∷ [])
-added_last text before t = (there, back)
-  where
-    there : Contains (before ++ text ∷ []) t → Contains before t ⊎ (t ≡ text)
-    there h = turn (Contains-push_cases before text t h)
-      where
-        turn : Contains before t ⊎ (text ≡ t) → Contains before t ⊎ (t ≡ text)
-        turn (inl k) = inl k
-        turn (inr e) = inr (sym e)
+or_again : (a b : Bool) → (a || b) ≡ (a || (a || b))
+or_again true b = refl
+or_again false b = refl
 
-    back : Contains before t ⊎ (t ≡ text) → Contains (before ++ text ∷ []) t
-    back (inl k) = Contains-append_left before (text ∷ []) t k
-    back (inr e) = subst (Contains (before ++ text ∷ [])) (sym e) (Contains-push before text)
+behind : (a b c : Bool) → (b || (a || c)) ≡ (a || (b || c))
+behind true true c = refl
+behind true false c = refl
+behind false b c = refl
 
-pub then_same : (text : List ℕ) (before middle after : List (List ℕ)) → KeepsAlso text before middle → KeepsTheSame middle after → KeepsAlso text before after
-then_same text before middle after a s t = (λ h. (a t).0 ((s t).0 h), λ h. (s t).1 ((a t).1 h))
-
-pub same_then : (text : List ℕ) (before middle after : List (List ℕ)) → KeepsTheSame before middle → KeepsAlso text middle after → KeepsAlso text before after
-same_then text before middle after s a t = (λ h. forth ((a t).0 h), λ h. (a t).1 (back h))
-  where
-    forth : Contains middle t ⊎ (t ≡ text) → Contains before t ⊎ (t ≡ text)
-    forth (inl k) = inl ((s t).0 k)
-    forth (inr e) = inr e
-
-    back : Contains before t ⊎ (t ≡ text) → Contains middle t ⊎ (t ≡ text)
-    back (inl k) = inl ((s t).1 k)
-    back (inr e) = inr e
-
-put_new : (k : Bor (List ℕ)) (ks ls : List (Bor (List ℕ))) → IsPermutation (k ∷ ks) ls → KeepsAlso k.now (texts ks) (texts ls)
-put_new k ks ls p =
-    let front = IsPermutation-to_front (texts ks) k.now in
-    let all = IsPermutation-trans (texts ks ++ k.now ∷ []) (k.now ∷ texts ks) (texts ls) front (IsPermutation-map (λ x. x.now) (k ∷ ks) ls p) in
-    then_same k.now (texts ks) (texts ks ++ k.now ∷ []) (texts ls) (added_last k.now (texts ks))
-    (λ t. (Contains-permutation (texts ls) (texts ks ++ k.now ∷ []) t (IsPermutation-sym (texts ks ++ k.now ∷ []) (texts ls) all), Contains-permutation (texts ks ++ k.now ∷ []) (texts ls) t all))
+any_put : (t : List ℕ) (k : Bor (List ℕ)) (ks : List (Bor (List ℕ))) → list_any (bytes_eq t) (texts (insert_key cmp ks k)) ≡ (bytes_eq t k.now || list_any (bytes_eq t) (texts ks))
+any_put t k [] = refl
+any_put t k (x ∷ ks) = by (cmp k x) refl (any_put t k ks) where
+  by : (o : Ordering) → cmp k x ≡ o → list_any (bytes_eq t) (texts (insert_key cmp ks k)) ≡ (bytes_eq t k.now || list_any (bytes_eq t) (texts ks))
+      → list_any (bytes_eq t) (texts (match_ordering o (k ∷ x ∷ ks) (x ∷ ks) (x ∷ insert_key cmp ks k))) ≡ (bytes_eq t k.now || (bytes_eq t x.now || list_any (bytes_eq t) (texts ks)))
+  by Less e rest = refl
+  by Equal e rest =
+      let same : k.now ≡ x.now = (bytes_decides k.now x.now).0 (texts_ties k.now x.now ∙ ap is_eq e) in
+      or_again (bytes_eq t x.now) (list_any (bytes_eq t) (texts ks)) ∙ ap (λ u. bytes_eq t u || (bytes_eq t x.now || list_any (bytes_eq t) (texts ks))) (sym same)
+  by Greater e rest = ap (λ b. bytes_eq t x.now || b) rest ∙ behind (bytes_eq t k.now) (bytes_eq t x.now) (list_any (bytes_eq t) (texts ks))
 
 -- after `insert` of k the text of k is kept besides
-pub put : (k : Bor (List ℕ)) (ks ls : List (Bor (List ℕ))) (added : Bool) → added ≡ not (list_any (λ x. bytes_eq k.now x.now) ks) → MatchBool added (IsPermutation (k ∷ ks) ls) (ls ≡ ks) → KeepsAlso k.now (texts ks) (texts ls)
-put k ks ls true e p = put_new k ks ls p
-put k ks ls false e p = subst (λ l. KeepsAlso k.now (texts ks) (texts l)) (sym p) (kept_already k.now (texts ks) (found k.now ks (not_false _ e)))
+pub put : (k : Bor (List ℕ)) (ks ls : List (Bor (List ℕ))) → ls ≡ insert_key cmp ks k → KeepsAlso k.now (texts ks) (texts ls)
+put k ks ls is t = (λ h. there (bytes_eq t k.now) refl (sym one ∙ is_one t (texts ls) h), back)
   where
-    not_false : (b : Bool) → false ≡ not b → b ≡ true
-    not_false true h = refl
-    not_false false h = absurd (true≢false (sym h))
+    one : list_any (bytes_eq t) (texts ls) ≡ (bytes_eq t k.now || list_any (bytes_eq t) (texts ks))
+    one = ap (λ l. list_any (bytes_eq t) (texts l)) is ∙ any_put t k ks
 
-apart : (t : List ℕ) (ks : List (Bor (List ℕ))) → AllByRecursion (λ k. bytes_eq t k.now ≡ false) ks → AllByRecursion (λ b. bytes_eq t b ≡ false) (texts ks)
+    there : (b : Bool) → bytes_eq t k.now ≡ b → (b || list_any (bytes_eq t) (texts ks)) ≡ true → Contains (texts ks) t ⊎ (t ≡ k.now)
+    there true e h = inr ((bytes_decides t k.now).0 e)
+    there false e h = inl (one_of t (texts ks) h)
+
+    or_true : (b : Bool) → (b || true) ≡ true
+    or_true true = refl
+    or_true false = refl
+
+    back : Contains (texts ks) t ⊎ (t ≡ k.now) → Contains (texts ls) t
+    back (inl h) = one_of t (texts ls) (one ∙ ap (λ b. bytes_eq t k.now || b) (is_one t (texts ks) h) ∙ or_true (bytes_eq t k.now))
+    back (inr e) = one_of t (texts ls) (one ∙ ap (λ b. b || list_any (bytes_eq t) (texts ks)) ((bytes_decides t k.now).1 e))
+
+apart : (t : List ℕ) (ks : List (Bor (List ℕ))) → AllByRecursion (λ k. is_eq (slice_cmp nat_cmp t k.now) ≡ false) ks → AllByRecursion (λ b. bytes_eq t b ≡ false) (texts ks)
 apart t [] h = tt
-apart t (k ∷ ks) h = (h.0, apart t ks h.1)
+apart t (k ∷ ks) h = (texts_ties t k.now ∙ h.0, apart t ks h.1)
 
-distinct : (ks : List (Bor (List ℕ))) → IsDistinct (λ x y. bytes_eq x.now y.now) ks → IsDistinct bytes_eq (texts ks)
+distinct : (ks : List (Bor (List ℕ))) → IsDistinct (eq_by_cmp cmp) ks → IsDistinct bytes_eq (texts ks)
 unfolding IsDistinct
 distinct [] h = tt
 distinct (k ∷ ks) h = (apart k.now ks h.0, distinct ks h.1)
 
--- keys of which no two are equal are texts of which none stands twice
-pub each_once : (ks : List (Bor (List ℕ))) → IsDistinct (λ x y. bytes_eq x.now y.now) ks → EachOnce (texts ks)
-each_once ks d = AllPairs-from_IsDistinct bytes_decides (texts ks) (distinct ks d)
+-- keys that ascend are texts of which none stands twice
+pub each_once : (ks : List (Bor (List ℕ))) → IsStrictlySortedBy cmp ks → EachOnce (texts ks)
+each_once ks d = AllPairs-from_IsDistinct bytes_decides (texts ks) (distinct ks (IsDistinct-from_sorted cmp ks d))

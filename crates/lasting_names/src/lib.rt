@@ -5,7 +5,7 @@ ghost use Rattle.std.specs.Prelude.{◌≡◌, [], IfOk, OnOk, OnErr};
 ghost use Rattle.lasting_names.specs.Kept.{KeepsTheSame, KeepsAlso, EachOnce};
 
 use std::alloc::{AllocError, Allocator, Global};
-use std::collections::HashSet;
+use std::collections::BTreeSet;
 use std::marker::Model;
 use std::str;
 
@@ -14,21 +14,22 @@ use std::str;
 #[derive(Drop)]
 pub struct Names {
     alloc: Global,
-    kept: HashSet<&'static str>,
+    kept: BTreeSet<&'static str>,
 }
 
 /// Contracts see the texts that are kept, each as its bytes.
 impl Model for Names {
     ghost use Rattle.std.specs.Prelude.{List, ℕ, map};
-    ghost use Rattle.std.specs.HashSet.{IsUnique};
-    ghost use Rattle.std.specs.Str.{bytes_eq};
+    ghost use Rattle.std.specs.BTreeSet.{IsOrdered};
+    ghost use Rattle.std.specs.Cmp.Lexicographic.{slice_cmp};
+    ghost use Rattle.std.specs.Ordering.{nat_cmp};
 
     ghost Value = { List (List ℕ) };
 
     ghost view = { λ n. map (λ k. k.now) n.kept.keys };
 
-    // No two keys are equal, as the set itself promises.
-    ghost invariant = { λ n. IsUnique (λ x y. bytes_eq x.now y.now) n.kept };
+    // The keys ascend, as the set itself promises.
+    ghost invariant = { λ n. IsOrdered (λ x y. slice_cmp nat_cmp x.now y.now) n.kept };
 }
 
 impl Names {
@@ -38,12 +39,13 @@ impl Names {
     {
         Names {
             alloc,
-            kept: HashSet::new(alloc),
+            kept: BTreeSet::new(alloc),
         }
     }
 
     /// The text as one that lasts: the one that was kept when it was first asked for.
-    /// `AllocError` comes where a growth was refused, and then the kept texts are as they were.
+    /// `AllocError` comes where an allocation failed, and then the kept texts are as they were; a copy that was made of
+    /// this one is not freed.
     pub fn get(&mut self, text: &str) -> Result<&'static str, AllocError>
         ensures text { IfOk result (λ name. name.now ≡ text.now) }
         ensures ok { OnOk result (KeepsAlso text.now self.old self.new) }
@@ -53,7 +55,6 @@ impl Names {
         if let Some(known) = self.kept.get(text) {
             return Ok(*known);
         }
-        self.kept.reserve(1)?;
         let name = lasting_copy(self.alloc, text)?;
         self.kept.insert(name)?;
         Ok(name)

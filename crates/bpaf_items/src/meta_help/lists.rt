@@ -27,7 +27,7 @@ impl<'t, C: Allocator, L: Allocator + Copy> Writer<'t, C, L> {
             (list_writes self.now.include_env (texts_in self.now.texts.now) (map entry_at entries.now)) }
     {
         reserve_for(doc, entries)?;
-        let mut repeats: Repeats<'a, 's, B, L> = Repeats::with_room(self.alloc, entries.len())?;
+        let mut repeats: Repeats<'s, B, L> = Repeats::new(self.alloc);
         for entry in entries {
             self.put_next(doc, &mut repeats, *entry)?;
         }
@@ -37,7 +37,7 @@ impl<'t, C: Allocator, L: Allocator + Copy> Writer<'t, C, L> {
     fn put_next<'a, 's, A: Allocator, B: Allocator + Copy>(
         &self,
         doc: &mut Doc<A>,
-        repeats: &mut Repeats<'a, 's, B, L>,
+        repeats: &mut Repeats<'s, B, L>,
         entry: &'s HelpItem<'a, B>,
     ) -> Result<(), AllocError>
         ensures grows { Grows doc.old doc.new }

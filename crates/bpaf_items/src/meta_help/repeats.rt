@@ -1,55 +1,53 @@
 //! Which entries of a list are shown: each key once, and a note below what is shown.
-ghost use Rattle.std.specs.Prelude.{◌≡◌, ◌≤◌, not, ◌||◌, ◌++◌, ◌∷◌, [], IfOk, List};
-ghost use Rattle.std.specs.HashSet.{PutsKey, contains, spare};
-ghost use Rattle.std.specs.Ordering.{on};
+ghost use Rattle.std.specs.Prelude.{◌≡◌, ◌||◌, ◌++◌, ◌∷◌, [], IfOk, List};
 ghost use Rattle.bpaf_items.specs.Listing.ItemList.{Entry};
 ghost use Rattle.bpaf_items.specs.Listing.Falls.{is_shown};
-ghost use Rattle.bpaf_items.specs.Page.Steps.Repeats.{Remembers, key_at, same_keys};
-ghost use Rattle.bpaf_items.specs.View.{entry_of};
+ghost use Rattle.bpaf_items.specs.Page.Steps.Repeats.{AreHashed, PutsKey, Remembers, key_hash};
+ghost use Rattle.bpaf_items.specs.View.{entry_of, key_in};
 
 use crate::meta_help::entry::HelpItem;
-use crate::meta_help::keyed::Keyed;
+use crate::meta_help::key::ItemKey;
 use std::alloc::{AllocError, Allocator};
-use std::collections::HashSet;
-use std::hash::{BuildHasherDefault, FoldHasher};
+use std::collections::BTreeSet;
+use std::hash::{FoldHasher, Hash, Hasher};
 
 /// What is remembered of the entries of one group or heading: the keys of its items, and whether a note would be shown
-/// now.
+/// now. Each key stands behind its hash, so that most are told apart by a number. Where hashes collide, the keys
+/// are in order still, and none is compared with all others.
 #[derive(Drop)]
-pub struct Repeats<'a, 's, B: Allocator, L: Allocator> {
-    keys: HashSet<Keyed<'a, 's, B>, BuildHasherDefault<FoldHasher>, L>,
+pub struct Repeats<'s, B: Allocator, L: Allocator> {
+    keys: BTreeSet<(u64, ItemKey<'s, B>), L>,
     shown: bool,
 }
 
-impl<'a, 's, B: Allocator, L: Allocator + Copy> Repeats<'a, 's, B, L> {
-    /// Nothing is remembered. There is room for that many keys.
-    pub fn with_room(alloc: L, count: usize) -> Result<Repeats<'a, 's, B, L>, AllocError>
-        ensures nothing { IfOk result (λ repeats. Remembers repeats.keys.keys repeats.shown []) }
-        ensures room { IfOk result (λ repeats. count ≤ spare repeats.keys) }
+impl<'s, B: Allocator, L: Allocator + Copy> Repeats<'s, B, L> {
+    /// Nothing is remembered.
+    pub fn new(alloc: L) -> Repeats<'s, B, L>
+        ensures { Remembers result.keys.keys result.shown [] }
     {
-        Ok(Repeats {
-            keys: HashSet::with_capacity(alloc, count)?,
+        Repeats {
+            keys: BTreeSet::new(alloc),
             shown: false,
-        })
+        }
     }
 
     /// Whether the next entry is shown: a mark; an item with a new key; a note directly after one of these.
-    pub fn shows(&mut self, entry: &'s HelpItem<'a, B>) -> Result<bool, AllocError>
+    pub fn shows<'a>(&mut self, entry: &'s HelpItem<'a, B>) -> Result<bool, AllocError>
         ensures { (before : List Entry) → Remembers self.old.keys.keys self.old.shown before → IfOk result (λ shown.
             (shown ≡ is_shown (before, entry_of entry.now))
             × Remembers self.new.keys.keys self.new.shown (before ++ entry_of entry.now ∷ [])) }
     {
         match entry.key() {
-            Some(_) => self.shows_item(Keyed(entry)),
+            Some(key) => self.shows_item(key),
             None => Ok(self.shows_other(entry.is_mark())),
         }
     }
 
-    fn shows_item(&mut self, entry: Keyed<'a, 's, B>) -> Result<bool, AllocError>
-        ensures { IfOk result (λ shown. (shown ≡ not (contains (on key_at same_keys) self.old.keys entry.entry))
-            × PutsKey self.old.keys self.new.keys entry.entry shown × (self.new.shown ≡ shown)) }
+    fn shows_item(&mut self, key: ItemKey<'s, B>) -> Result<bool, AllocError>
+        ensures { AreHashed self.old.keys.keys → IfOk result (λ shown.
+            PutsKey self.old.keys.keys self.new.keys.keys (key_in key.entry) shown × (self.new.shown ≡ shown)) }
     {
-        let shown = self.keys.insert(entry)?;
+        let shown = self.keys.insert((hash_of(key), key))?;
         self.shown = shown;
         Ok(shown)
     }
@@ -64,4 +62,12 @@ impl<'a, 's, B: Allocator, L: Allocator + Copy> Repeats<'a, 's, B, L> {
         self.shown = is_mark;
         shown
     }
+}
+
+fn hash_of<B: Allocator>(key: ItemKey<'_, B>) -> u64
+    ensures { result ≡ key_hash (key_in key.entry) }
+{
+    let mut state = FoldHasher::default();
+    key.hash(&mut state);
+    state.finish()
 }

@@ -15,7 +15,7 @@ use super::faults::Fault;
 use super::values::value_at;
 use crate::syntax::put_names;
 use std::alloc::{AllocError, Allocator};
-use std::collections::HashSet;
+use std::collections::BTreeSet;
 use toml::{Table, Value};
 
 /// Refuses a level on which two options share a name, which may stand in a syntax, or two commands a name, a short
@@ -78,7 +78,7 @@ fn first_repeated<'a, A: Allocator + Copy>(
 ) -> Result<Option<&'a str>, AllocError>
     ensures { IfOk result (λ repeated. is_none repeated ≡ are_distinct (words_of texts.now)) }
 {
-    let mut seen = HashSet::new(alloc);
+    let mut seen = BTreeSet::new(alloc);
     for text in texts {
         if !seen.insert(*text)? {
             return Ok(Some(*text));
@@ -174,7 +174,7 @@ fn put_distinct<'a, A: Allocator + Copy>(
 ) -> Result<(), AllocError>
     ensures { OnOk result (words_of words.new.items ≡ words_of words.old.items ++ distinct (words_of texts.now)) }
 {
-    let mut seen = HashSet::new(alloc);
+    let mut seen = BTreeSet::new(alloc);
     for text in texts {
         if seen.insert(*text)? {
             words.push(*text)?;

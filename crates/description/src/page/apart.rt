@@ -11,10 +11,10 @@ use crate::page::entries::Entry;
 use bpaf_help::item::ShortLong;
 use description_parts::options::Spelling;
 use std::alloc::{AllocError, Allocator};
-use std::collections::HashSet;
+use std::collections::BTreeSet;
 
 /// What entries of one key have in common.
-#[derive(Clone, Copy, PartialEq, Eq, Hash)]
+#[derive(Clone, Copy, PartialEq, Eq, PartialOrd, Ord)]
 struct Word<'a> {
     initial: Option<char>,
     text: &'a str,
@@ -28,7 +28,7 @@ pub fn are_apart<A: Allocator, B: Allocator + Copy>(
     ensures { IfOk result (λ apart.
         IsTrue apart → each_once (map entry_said entries.now) ≡ map entry_said entries.now) }
 {
-    let mut words = HashSet::with_capacity(alloc, entries.len())?;
+    let mut words = BTreeSet::new(alloc);
     for entry in entries {
         if !words.insert(word_of(*entry))? {
             return Ok(false);

@@ -1,7 +1,7 @@
 //! What a section has before an entry.
 ghost use Rattle.std.specs.Prelude.{◌≡◌, ◌+◌, ◌<◌, ◌^◌, ◌++◌, ◌∷◌, [], ℕ, List, IfOk, OnErr, OnOk, count_by, map};
 ghost use Rattle.std.specs.Prelude.{bytes_eq, if◌then◌else◌, string_bytes};
-ghost use Rattle.std.specs.HashMap.{IsUnchanged};
+ghost use Rattle.std.specs.BTreeMap.{IsUnchanged};
 ghost use Rattle.description.specs.WebPages.Entries.{has_word};
 ghost use Rattle.description.specs.WebPages.Steps.Counts.{Counts, count_of};
 ghost use Rattle.description.specs.WebPages.View.{entry_said};
@@ -9,8 +9,7 @@ ghost use Rattle.description.specs.WebPages.View.{entry_said};
 use crate::page::entries::Entry;
 use crate::page::words::{option_word, shown_value};
 use std::alloc::{AllocError, Allocator};
-use std::collections::HashMap;
-use std::hash::{BuildHasherDefault, FoldHasher};
+use std::collections::BTreeMap;
 
 /// The entries before, with how many of them have an id of each word, so that no entry has to look through them.
 #[derive(Drop)]
@@ -18,18 +17,18 @@ pub struct Before<'d, 'a, A: Allocator, B: Allocator> {
     /// No code reads them: contracts speak of them, and since they have room the counts fit.
     pub entries: Vec<Entry<'d, 'a, A>, B>,
     // A word that none has may be absent.
-    counts: HashMap<String<B>, usize, BuildHasherDefault<FoldHasher>, B>,
+    counts: BTreeMap<String<B>, usize, B>,
     ghost counted: { Counts counts (map entry_said entries.items) },
 }
 
 impl<'d, 'a, A: Allocator, B: Allocator + Copy> Before<'d, 'a, A, B> {
-    /// Nothing is before. There is room for so many entries, and what counts them is not made anew as these come.
+    /// Nothing is before. There is room for so many entries.
     pub fn with_capacity(alloc: B, capacity: usize) -> Result<Before<'d, 'a, A, B>, AllocError>
         ensures { IfOk result (λ before. before.entries.items ≡ []) }
     {
         Ok(Before {
             entries: Vec::with_capacity(alloc, capacity)?,
-            counts: HashMap::with_capacity(alloc, capacity)?,
+            counts: BTreeMap::new(alloc),
         })
     }
 
@@ -53,7 +52,7 @@ impl<'d, 'a, A: Allocator, B: Allocator + Copy> Before<'d, 'a, A, B> {
 }
 
 fn count_in<B: Allocator>(
-    counts: &HashMap<String<B>, usize, BuildHasherDefault<FoldHasher>, B>,
+    counts: &BTreeMap<String<B>, usize, B>,
     word: &str,
 ) -> usize
     ensures { result ≡ count_of counts.now word.now }
@@ -67,7 +66,7 @@ fn count_in<B: Allocator>(
 // Counts an entry under its word. Commands have none.
 fn count_entry<A: Allocator, B: Allocator + Copy>(
     alloc: B,
-    counts: &mut HashMap<String<B>, usize, BuildHasherDefault<FoldHasher>, B>,
+    counts: &mut BTreeMap<String<B>, usize, B>,
     entry: Entry<'_, '_, A>,
 ) -> Result<(), AllocError>
     requires { (word : List ℕ) → count_of counts.old word < 2 ^ 63 }
@@ -83,7 +82,7 @@ fn count_entry<A: Allocator, B: Allocator + Copy>(
 }
 
 fn count_word<B: Allocator + Copy>(
-    counts: &mut HashMap<String<B>, usize, BuildHasherDefault<FoldHasher>, B>,
+    counts: &mut BTreeMap<String<B>, usize, B>,
     word: String<B>,
 ) -> Result<(), AllocError>
     requires { count_of counts.old (string_bytes word) < 2 ^ 63 }

@@ -17,8 +17,7 @@ use bpaf_help::meta::Meta;
 use bpaf_help::meta_help::{HelpItem, Info, ItemKey};
 use description_parts::levels::Command;
 use std::alloc::{AllocError, Allocator};
-use std::collections::HashSet;
-use std::hash::{BuildHasherDefault, FoldHasher};
+use std::collections::BTreeSet;
 
 /// An entry, and an item that has its key.
 #[derive(Drop)]
@@ -85,7 +84,7 @@ fn with_new_keys<'d, 'a, A: Allocator, B: Allocator + Copy>(
     ensures { IfOk result (λ once.
         map entry_said once.items ≡ each_once (map (λ l. entry_said l.entry) listed.now)) }
 {
-    let mut seen = HashSet::with_capacity(alloc, listed.len())?;
+    let mut seen = BTreeSet::new(alloc);
     let mut once = Vec::with_capacity(alloc, listed.len())?;
     for one in listed {
         if is_new(&mut seen, one)? {
@@ -97,7 +96,7 @@ fn with_new_keys<'d, 'a, A: Allocator, B: Allocator + Copy>(
 
 // Whether its key was not seen before. It is seen then.
 fn is_new<'d, 'a, 's, A: Allocator, B: Allocator + Copy>(
-    seen: &mut HashSet<ItemKey<'s, B>, BuildHasherDefault<FoldHasher>, B>,
+    seen: &mut BTreeSet<ItemKey<'s, B>, B>,
     listed: &'s Listed<'d, 'a, A, B>,
 ) -> Result<bool, AllocError>
     ensures { (before : List EntrySaid) → HasSeen seen.old.keys before → IfOk result (λ new.

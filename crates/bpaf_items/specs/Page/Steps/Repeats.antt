@@ -1,57 +1,54 @@
 -- What is remembered of the entries of a list so far, and what the next one writes.
-use Rattle.std.specs.Prelude.{◌≡◌, ℕ, Bool, true, false, if◌then◌else◌, List, [], Option, Some, None, refl}
-use Rattle.std.specs.Option.{option_eq, option_map_or}
-use Rattle.std.specs.List.{list_any, last_or}
-use Rattle.std.specs.Cmp.{IsEquivalence}
-use Rattle.std.specs.Cmp.Lexicographic.{options_equiv}
+use Rattle.std.specs.Prelude.{◌≡◌, ℕ, Bool, true, false, not, ◌||◌, if◌then◌else◌, fold, List, [], Option, Some, None}
+use Rattle.std.specs.Hash.FoldHasher as folding
+use Rattle.std.specs.Option.{option_map_or}
+use Rattle.std.specs.List.{AllByRecursion, list_any, last_or}
 use Rattle.bpaf_doc.specs.Buffer.Writes.{Write}
 use Rattle.bpaf_meta.specs.Content.{Leaf}
-use Rattle.bpaf_items.specs.declared.meta_help.keyed.Keyed.{Keyed}
+use Rattle.bpaf_items.specs.declared.meta_help.key.ItemKey.{ItemKey}
 use Rattle.bpaf_items.specs.Listing.ItemList.{Entry}
-use Rattle.bpaf_items.specs.Listing.Keys.{Key, entry_key, same_key, keys_equiv}
-use Rattle.bpaf_items.specs.Listing.KeyInput.{apart, key_input, key_fed}
+use Rattle.bpaf_items.specs.Listing.Keys.{Key, key_of, same_key}
+use Rattle.bpaf_items.specs.Listing.KeyInput.{key_input}
 use Rattle.bpaf_items.specs.Listing.Falls.{placed, has_key_of, is_mark_or_new, is_shown}
 use Rattle.bpaf_items.specs.Page.EnvTexts.{Texts}
 use Rattle.bpaf_items.specs.Page.EntryWrites.{entry_writes}
-use Rattle.bpaf_items.specs.View.{entry_of}
+use Rattle.bpaf_items.specs.View.{key_in}
 
--- ---- entries by their keys
+-- ---- keys behind their hashes
 
-abbrev pub entry_in : {B : Type 0} → Keyed B → Entry
-entry_in k = entry_of k.0.now
+abbrev pub key_hash : Key → ℕ
+key_hash k = folding.finish (fold folding.write folding.initial (key_input k))
 
-abbrev pub key_at : {B : Type 0} → Keyed B → Option Key
-key_at k = entry_key (entry_in k)
+-- a key of an item with its hash
+abbrev pub Hashed : Type 0 → Type 0
+Hashed B = ℕ × ItemKey B
 
-abbrev pub same_keys : Option Key → Option Key → Bool
-same_keys = option_eq same_key
+abbrev pub IsHashed : {B : Type 0} → Hashed B → Type 0
+IsHashed k = k.0 ≡ key_hash (key_in k.1)
 
-pub same_keys_equiv : IsEquivalence same_keys
-same_keys_equiv = options_equiv keys_equiv
+abbrev pub AreHashed : {B : Type 0} → List (Hashed B) → Type 0
+AreHashed = AllByRecursion IsHashed
 
-abbrev pub keys_input : Option Key → List (List ℕ)
-keys_input None = []
-keys_input (Some k) = key_input k
+-- one of these is the key
+abbrev pub has_key : {B : Type 0} → List (Hashed B) → Key → Bool
+has_key keys q = list_any (λ k. same_key q (key_in k.1)) keys
 
-pub keys_fed : (o p : Option Key) → same_keys o p ≡ true → keys_input o ≡ keys_input p
-keys_fed None None h = refl
-keys_fed None (Some l) h = apart h
-keys_fed (Some k) None h = apart h
-keys_fed (Some k) (Some l) h = key_fed k l h
+-- the keys after one is put among them, where the answer says whether it is new
+pub record PutsKey {B : Type 0} (keys after : List (Hashed B)) (key : Key) (is_new : Bool) : Type 0 where
+  pub answer : is_new ≡ not (has_key keys key)
+  pub has : (q : Key) → has_key after q ≡ (same_key q key || has_key keys q)
+  pub hashed : AreHashed after
 
 -- ---- what is remembered
-
--- one of these has the key of an item
-abbrev pub has_key : {B : Type 0} → List (Keyed B) → Leaf → Bool
-has_key keys l = list_any (λ k. has_key_of l (entry_in k)) keys
 
 -- the last of some entries is a mark or a shown item
 abbrev pub is_last_shown : List Entry → Bool
 is_last_shown before = option_map_or is_mark_or_new (last_or None (placed before)) false
 
 -- the keys are those of the items before, and the mark says whether a note would be shown now
-pub record Remembers {B : Type 0} (keys : List (Keyed B)) (shown : Bool) (before : List Entry) : Type 0 where
-  pub seen : (l : Leaf) → has_key keys l ≡ list_any (has_key_of l) before
+pub record Remembers {B : Type 0} (keys : List (Hashed B)) (shown : Bool) (before : List Entry) : Type 0 where
+  pub hashed : AreHashed keys
+  pub seen : (l : Leaf) → has_key keys (key_of l) ≡ list_any (has_key_of l) before
   pub last : shown ≡ is_last_shown before
 
 -- what an entry writes after those before it

@@ -1,5 +1,6 @@
-use Rattle.std.proofs.Common.{◌≡◌, ◌+◌, ◌-◌, ◌<◌, ◌&&◌, not, length, get_or, ap, arith, refl, subst, sym, ◌∙◌}
+use Rattle.std.proofs.Common.{◌≡◌, ◌+◌, ◌-◌, ◌<◌, ◌&&◌, not, length, get_or, ap, arith, refl, string_bytes, subst, sym, ◌∙◌}
 use Rattle.clidoc_engine.specs.Files.{are_file_names, is_file_name, is_first_name}
+use Rattle.description.proofs.Ordered.{text_added, text_updated}
 use Rattle.clidoc_engine.proofs.FileNames.{Held, alone_is, held_more, names_from, passed_here, refused_here, small}
 use Rattle.clidoc_engine.proofs.files.first_refused.Goals as goal
 
@@ -16,12 +17,12 @@ loop-index-preserved-then-is_refused g c =
     let same = c.in_ok-to_ascii_lowercase.ensures.ok ∙ ap small c.as_str-name.ensures.value in
     let key = c.in_ok-to_ascii_lowercase.field-0 in
     let alone = c.in_ok-is_alone.is_alone in
-    let is = alone_is fs i f c.index-files-index.result refl below c.loop-index.behind.keys c.insert.new.self.keys key same held alone c.in_ok-is_alone.ensures.added in
+    let is = alone_is fs i f c.index-files-index.result refl below c.loop-index.behind.keys c.insert.new.self.keys key same held alone (text_added string_bytes _ _ _ c.in_ok-is_alone.ensures.added) in
     let refused = sym c.if-is_refused.true ∙ c.is_refused.ensures ∙ ap (λ x. not (is_file_name x && alone)) c.as_str-name.ensures.value in
     record {
       in_range = omega arith;
       within = omega arith;
-      known = held_more fs i f c.index-files-index.result refl below c.loop-index.behind.keys c.insert.new.self.keys key same held c.in_ok-is_alone.ensures.updates.0;
+      known = held_more fs i f c.index-files-index.result refl below c.loop-index.behind.keys c.insert.new.self.keys key same held (text_updated string_bytes _ _ _ c.in_ok-is_alone.ensures.updates.0);
       judged = refused_here fs i f c.index-files-index.result refl below alone is refused;
     }
 
@@ -39,11 +40,11 @@ loop-index-preserved g c =
     let same = c.in_ok-to_ascii_lowercase.ensures.ok ∙ ap small c.as_str-name.ensures.value in
     let key = c.in_ok-to_ascii_lowercase.field-0 in
     let alone = c.in_ok-is_alone.is_alone in
-    let is = alone_is fs i f c.index-files-index.result refl below c.loop-index.behind.keys c.insert.new.self.keys key same held alone c.in_ok-is_alone.ensures.added in
+    let is = alone_is fs i f c.index-files-index.result refl below c.loop-index.behind.keys c.insert.new.self.keys key same held alone (text_added string_bytes _ _ _ c.in_ok-is_alone.ensures.added) in
     let passed = sym c.if-is_refused.false ∙ c.is_refused.ensures ∙ ap (λ x. not (is_file_name x && alone)) c.as_str-name.ensures.value in
     record {
       in_range = omega arith;
       within = c.loop-index.invariant.within;
-      known = held_more fs i f c.index-files-index.result refl below c.loop-index.behind.keys c.insert.new.self.keys key same held c.in_ok-is_alone.ensures.updates.0;
+      known = held_more fs i f c.index-files-index.result refl below c.loop-index.behind.keys c.insert.new.self.keys key same held (text_updated string_bytes _ _ _ c.in_ok-is_alone.ensures.updates.0);
       judged = passed_here fs i f c.index-files-index.result refl below alone is c.loop-index.first passed judged;
     }

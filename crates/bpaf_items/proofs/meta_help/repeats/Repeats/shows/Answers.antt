@@ -4,7 +4,7 @@ use Rattle.bpaf_items.proofs.meta_help.repeats.Repeats.shows.Goals as goal
 
 pub returns-in-Some : goal.returns-in-Some
 returns-in-Some g c = λ before h.
-    item_goes c.shows_item.result c.args.self.now.keys.keys c.shows_item.new.self.keys.keys c.args.self.now.shown c.shows_item.new.self.shown _ _ before
+    item_goes c.shows_item.result c.args.self.now.keys.keys c.shows_item.new.self.keys.keys c.args.self.now.shown c.shows_item.new.self.shown _ (entry_of c.args.entry.now) before
     (rw c.in-Some.is at c.key.ensures) c.shows_item.ensures h
 
 pub returns-in-None : goal.returns-in-None
