@@ -6,8 +6,10 @@ use Rattle.std.specs.List.{filter, list_any}
 use Rattle.std.proofs.lemmas.List.Elements.{filter-append}
 use Rattle.std.specs.Cmp.Lexicographic.{on_texts_equal}
 use Rattle.std.proofs.lemmas.List.Folds.{list_any-append}
+use Rattle.std.specs.Ordering.{eq_by_cmp}
 use Rattle.description.specs.Described.Steps.{words_of}
 use Rattle.description.specs.Described.Taken.{are_distinct, distinct}
+use Rattle.description.proofs.Ordered.{text_added, text_cmp, text_updated}
 
 texts_equal : (s t : List ℕ) → bytes_eq s t ≡ bytes_eq t s
 texts_equal s t = (on_texts_equal (λ (x : List ℕ). x)).symm s t
@@ -59,6 +61,14 @@ repeated_then (x ∷ xs) t ys h = by (bytes_eq t x) refl h (repeated_then xs t y
 abbrev has_text : List (Bor (List ℕ)) → Bor (List ℕ) → Bool
 has_text keys q = list_any (λ k. bytes_eq q.now k.now) keys
 
+-- the same by the order of the set
+abbrev pub holds : List (Bor (List ℕ)) → Bor (List ℕ) → Bool
+holds keys q = list_any (eq_by_cmp (text_cmp (λ k. k.now)) q) keys
+
+-- after one more is put among the keys
+abbrev pub IsPut : (keys more : List (Bor (List ℕ))) → Bor (List ℕ) → Type 0
+IsPut keys more t = (q : Bor (List ℕ)) → holds more q ≡ cond (eq_by_cmp (text_cmp (λ k. k.now)) t q) true (holds keys q)
+
 abbrev Seen : List (Bor (List ℕ)) → List (Bor (List ℕ)) → ℕ → Type 0
 Seen keys ts i = (are_distinct (words_of (take i ts)) ≡ true) × ((q : Bor (List ℕ)) → has_text keys q ≡ list_any (bytes_eq q.now) (words_of (take i ts)))
 
@@ -76,9 +86,9 @@ not_true : (b : Bool) → not b ≡ true → b ≡ false
 not_true false h = refl
 not_true true h = cc
 
-pub repeated_here : (keys ts : List (Bor (List ℕ))) (i : ℕ) (d : Bor (List ℕ)) (added : Bool) → i < length ts → Seen keys ts i → added ≡ not (has_text keys (get_or ts i d)) → added ≡ false → false ≡ are_distinct (words_of ts)
+pub repeated_here : (keys ts : List (Bor (List ℕ))) (i : ℕ) (d : Bor (List ℕ)) (added : Bool) → i < length ts → Seen keys ts i → added ≡ not (holds keys (get_or ts i d)) → added ≡ false → false ≡ are_distinct (words_of ts)
 repeated_here keys ts i d added h s e f =
-    let there : has_text keys (get_or ts i d) ≡ true = not_false (has_text keys (get_or ts i d)) (sym e ∙ f) in
+    let there : has_text keys (get_or ts i d) ≡ true = not_false (has_text keys (get_or ts i d)) (sym (text_added (λ k. k.now) keys (get_or ts i d) added e) ∙ f) in
     sym (ap are_distinct (whole_words ts i d h) ∙ repeated_then (words_of (take i ts)) (get_or ts i d).now (words_of (drop (i + 1) ts)) (sym (s.1 (get_or ts i d)) ∙ there))
 
 one_more : (b c : Bool) (rest : Bool) → c ≡ rest → cond b true c ≡ (rest || (b || false))
@@ -90,16 +100,16 @@ one_more false c false e = e
 abbrev Held : List (Bor (List ℕ)) → List (Bor (List ℕ)) → ℕ → Type 0
 Held keys ts i = (q : Bor (List ℕ)) → has_text keys q ≡ list_any (bytes_eq q.now) (words_of (take i ts))
 
-held_more : (keys more ts : List (Bor (List ℕ))) (i : ℕ) (d : Bor (List ℕ)) → i < length ts → Held keys ts i → ((q : Bor (List ℕ)) → has_text more q ≡ cond (bytes_eq (get_or ts i d).now q.now) true (has_text keys q)) → Held more ts (i + 1)
+held_more : (keys more ts : List (Bor (List ℕ))) (i : ℕ) (d : Bor (List ℕ)) → i < length ts → Held keys ts i → IsPut keys more (get_or ts i d) → Held more ts (i + 1)
 held_more keys more ts i d h s u q =
     let text = (get_or ts i d).now in
-    u q ∙ ap (λ b. cond b true (has_text keys q)) (texts_equal text q.now) ∙ one_more (bytes_eq q.now text) (has_text keys q) (list_any (bytes_eq q.now) (words_of (take i ts))) (s q)
+    text_updated (λ k. k.now) keys more (get_or ts i d) u q ∙ ap (λ b. cond b true (has_text keys q)) (texts_equal text q.now) ∙ one_more (bytes_eq q.now text) (has_text keys q) (list_any (bytes_eq q.now) (words_of (take i ts))) (s q)
     ∙ sym (ap (list_any (bytes_eq q.now)) (front_words ts i d h) ∙ list_any-append (bytes_eq q.now) (words_of (take i ts)) (text ∷ []))
 
-pub seen_more : (keys more ts : List (Bor (List ℕ))) (i : ℕ) (d : Bor (List ℕ)) (added : Bool) → i < length ts → Seen keys ts i → added ≡ not (has_text keys (get_or ts i d)) → added ≡ true
-    → ((q : Bor (List ℕ)) → has_text more q ≡ cond (bytes_eq (get_or ts i d).now q.now) true (has_text keys q)) → Seen more ts (i + 1)
+pub seen_more : (keys more ts : List (Bor (List ℕ))) (i : ℕ) (d : Bor (List ℕ)) (added : Bool) → i < length ts → Seen keys ts i → added ≡ not (holds keys (get_or ts i d)) → added ≡ true
+    → IsPut keys more (get_or ts i d) → Seen more ts (i + 1)
 seen_more keys more ts i d added h s e f u =
-    let absent : has_text keys (get_or ts i d) ≡ false = not_true (has_text keys (get_or ts i d)) (sym e ∙ f) in (
+    let absent : has_text keys (get_or ts i d) ≡ false = not_true (has_text keys (get_or ts i d)) (sym (text_added (λ k. k.now) keys (get_or ts i d) added e) ∙ f) in (
       ap are_distinct (front_words ts i d h) ∙ distinct_then (words_of (take i ts)) (get_or ts i d).now s.0 (sym (s.1 (get_or ts i d)) ∙ absent),
       held_more keys more ts i d h s.1 u,
     )
@@ -129,12 +139,15 @@ distinct_old (x ∷ xs) t h = by (list_any (bytes_eq t) xs) refl (bytes_eq t x) 
 abbrev pub Kept : (old new : List (List ℕ)) → List (Bor (List ℕ)) → List (Bor (List ℕ)) → ℕ → Type 0
 Kept old new keys ts i = (new ≡ old ++ distinct (words_of (take i ts))) × Held keys ts i
 
-module _ (old w : List (List ℕ)) (keys more ts : List (Bor (List ℕ))) (i : ℕ) (d : Bor (List ℕ)) (added : Bool) (below : i < length ts) (kept : Kept old w keys ts i) (is : added ≡ not (has_text keys (get_or ts i d)))
-    (u : (q : Bor (List ℕ)) → has_text more q ≡ cond (bytes_eq (get_or ts i d).now q.now) true (has_text keys q)) where
+module _ (old w : List (List ℕ)) (keys more ts : List (Bor (List ℕ))) (i : ℕ) (d : Bor (List ℕ)) (added : Bool) (below : i < length ts) (kept : Kept old w keys ts i) (is : added ≡ not (holds keys (get_or ts i d)))
+    (u : IsPut keys more (get_or ts i d)) where
+  by_text : added ≡ not (has_text keys (get_or ts i d))
+  by_text = text_added (λ k. k.now) keys (get_or ts i d) added is
+
   pub kept_new : (v : List (List ℕ)) → added ≡ true → v ≡ w ++ (get_or ts i d).now ∷ [] → Kept old v more ts (i + 1)
   kept_new v f e =
       let t = (get_or ts i d).now in
-      let absent : list_any (bytes_eq t) (words_of (take i ts)) ≡ false = sym (kept.1 (get_or ts i d)) ∙ not_true (has_text keys (get_or ts i d)) (sym is ∙ f) in (
+      let absent : list_any (bytes_eq t) (words_of (take i ts)) ≡ false = sym (kept.1 (get_or ts i d)) ∙ not_true (has_text keys (get_or ts i d)) (sym by_text ∙ f) in (
         e ∙ ap (λ ws. ws ++ t ∷ []) kept.0 ∙ append_assoc old (distinct (words_of (take i ts))) (t ∷ []) ∙ ap (λ ws. old ++ ws) (sym (ap distinct (front_words ts i d below) ∙ distinct_new (words_of (take i ts)) t absent)),
         held_more keys more ts i d below kept.1 u,
       )
@@ -142,7 +155,7 @@ module _ (old w : List (List ℕ)) (keys more ts : List (Bor (List ℕ))) (i : �
   pub kept_old : added ≡ false → Kept old w more ts (i + 1)
   kept_old f =
       let t = (get_or ts i d).now in
-      let there : list_any (bytes_eq t) (words_of (take i ts)) ≡ true = sym (kept.1 (get_or ts i d)) ∙ not_false (has_text keys (get_or ts i d)) (sym is ∙ f) in (
+      let there : list_any (bytes_eq t) (words_of (take i ts)) ≡ true = sym (kept.1 (get_or ts i d)) ∙ not_false (has_text keys (get_or ts i d)) (sym by_text ∙ f) in (
         kept.0 ∙ ap (λ ws. old ++ ws) (sym (ap distinct (front_words ts i d below) ∙ distinct_old (words_of (take i ts)) t there)),
         held_more keys more ts i d below kept.1 u,
       )

@@ -22,10 +22,10 @@ module _ {K : Type 0} (cmp : K → K → Ordering) (same : K → K → Bool) (ti
 -- ---- keys that are told apart by a text
 
 module _ {K : Type 0} (text : K → List ℕ) where
-  text_cmp : K → K → Ordering
+  abbrev pub text_cmp : K → K → Ordering
   text_cmp x y = slice_cmp nat_cmp (text x) (text y)
 
-  same_text : K → K → Bool
+  abbrev pub same_text : K → K → Bool
   same_text x y = bytes_eq (text x) (text y)
 
   pub text_added : (keys : List K) (key : K) (added : Bool) → added ≡ not (list_any (eq_by_cmp text_cmp key) keys) → added ≡ not (list_any (same_text key) keys)

@@ -5,6 +5,7 @@ use Rattle.std.specs.Cmp.{IsEquivalence, and_equiv, on_equiv, nat_eq_equiv}
 use Rattle.std.specs.Cmp.Lexicographic.{nat_list_eq_equiv, options_equiv}
 use Rattle.std.specs.List.{list_any, prefix_len, starts_with}
 use Rattle.std.specs.Option.{option_eq}
+use Rattle.std.specs.Ordering.{eq_by_cmp}
 use Rattle.std.proofs.lemmas.List.Folds.{list_any-append}
 use Rattle.std.proofs.lemmas.List.Concat.{flat_map-append}
 use Rattle.bpaf_doc.specs.declared.buffer.Style.{Style}
@@ -16,12 +17,13 @@ use Rattle.bpaf_items.proofs.Listing.KeyLaws.{equality_of_keys}
 use Rattle.bpaf_meta.specs.Content.{Name}
 use Rattle.description_parts.specs.Content.{SpellingSaid, named, syntax, OptSaid, command}
 use Rattle.description.specs.Chunks.{is_blank, without_blanks}
-use Rattle.description.specs.Trees.{named_leaf}
+use Rattle.description.specs.Trees.{named_leaf, spelled_leaf}
 use Rattle.description.specs.Syntax.{indent_writes, is_metavar, is_name, is_negated, is_separator, is_word_byte, onto_stretches, is_same, stretch_writes, stretches, syntax_document, syntax_writes, word_write, word_writes, writes_behind}
-use Rattle.description.specs.Items.{spelled_leaf}
 use Rattle.description.specs.WebPages.Entries.{EntrySaid, an_option, a_value, a_command, each_once, entry_key, same_entry}
 use Rattle.description.specs.WebPages.Steps.Words.{WordSaid, entry_word, name_word, spelling_word, word_said}
 use Rattle.description.specs.declared.page.apart.Word.{Word}
+use Rattle.description.specs.contracts.page.apart.WordOrd.TheImpl as word_ord
+use Rattle.description.specs.contracts.page.apart.WordOrd.TheImpl.Laws.{matches_eq-law}
 use Rattle.description.proofs.WebEntries.{all_new, not_true, one_more}
 
 -- ---- the text of a document
@@ -139,6 +141,10 @@ same_word u v = option_eq nat_eq u.0 v.0 && bytes_eq u.1 v.1
 
 words_equiv : IsEquivalence same_word
 words_equiv = and_equiv (on_equiv (λ (u : WordSaid). u.0) (options_equiv nat_eq_equiv)) (on_equiv (λ (u : WordSaid). u.1) nat_list_eq_equiv)
+
+-- the order of words finds two equal exactly where they are
+pub words_tied : (u v : Word) → same_word (word_said u) (word_said v) ≡ eq_by_cmp (word_ord.ghosts).cmp u v
+words_tied = matches_eq-law
 
 -- entries with none of their words before have none of their keys before
 none_same : (e : EntrySaid) (es : List EntrySaid) → list_any (λ f. same_word (entry_word e) (entry_word f)) es ≡ false → list_any (same_entry e) es ≡ false

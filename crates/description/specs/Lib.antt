@@ -6,7 +6,6 @@ pub mod Chunks
 pub mod Topics
 pub mod Syntax
 pub mod Trees
-pub mod Items
 pub mod UsageLines
 pub mod Pages
 pub mod Paragraphs

@@ -31,17 +31,21 @@ abbrev pub named_leaf : (value : Option (List ℕ)) → Name → (env : Option (
 named_leaf None name env help = flag name (option_to_list (short_name name)) env help
 named_leaf (Some value) name env help = argument name (option_to_list (short_name name)) value env help
 
-abbrev pub named_item : Name → OptSaid → Tree
-named_item name o = item (named_leaf o.value name o.env (help_said o.help (value_notes o.default o.values None)))
+-- an option that is written by its names, or by a syntax; beside a syntax the environment variable is a note, and a value counts for nothing
+abbrev pub spelled_leaf : SpellingSaid → OptSaid → Leaf
+spelled_leaf (named name) o = named_leaf o.value name o.env (help_said o.help (value_notes o.default o.values None))
+spelled_leaf (syntax text) o = any (syntax_document text) true (help_said o.help (value_notes o.default o.values o.env))
 
--- beside a syntax the environment variable is a note, and a value counts for nothing
-abbrev pub any_item : (text : List ℕ) → OptSaid → Tree
-any_item text o = item (any (syntax_document text) true (help_said o.help (value_notes o.default o.values o.env)))
+abbrev pub option_leaf : OptSaid → Leaf
+option_leaf o = spelled_leaf o.spelling o
 
--- an option that is written by its names, or by a syntax, of which a usage line shows one piece
+abbrev pub positional_leaf : PositionalSaid → Leaf
+positional_leaf p = positional p.value (help_said p.help (value_notes p.default p.values None))
+
+-- of a syntax a usage line shows one piece
 abbrev pub spelled_item : (bracketed : Bool) → SpellingSaid → OptSaid → Tree
-spelled_item bracketed (named name) o = named_item name o
-spelled_item bracketed (syntax text) o = custom_usage (any_item text o) (usage_document bracketed text)
+spelled_item bracketed (named name) o = item (spelled_leaf (named name) o)
+spelled_item bracketed (syntax text) o = custom_usage (item (spelled_leaf (syntax text) o)) (usage_document bracketed text)
 
 abbrev pub option_item : (bracketed : Bool) → OptSaid → Tree
 option_item bracketed o = spelled_item bracketed o.spelling o
@@ -74,7 +78,7 @@ behind_dashes true t = strict t
 behind_dashes false t = t
 
 abbrev pub positional_tree : PositionalSaid → Tree
-positional_tree p = unless_hidden p.hidden (behind_dashes p.strict (wrapped p.required p.repeated (item (positional p.value (help_said p.help (value_notes p.default p.values None))))))
+positional_tree p = unless_hidden p.hidden (behind_dashes p.strict (wrapped p.required p.repeated (item (positional_leaf p))))
 
 -- ---- groups and levels
 

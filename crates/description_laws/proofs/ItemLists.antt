@@ -13,10 +13,9 @@ use Rattle.bpaf_items.specs.Listing.ItemList.{Entry, listed, entries_of, entries
 use Rattle.bpaf_items.specs.Listing.Keys.{key_of}
 use Rattle.description_parts.specs.Content.{SpellingSaid, named, syntax, OptSaid, ChoiceSaid, PositionalSaid, CommandsSaid, no_commands, commands, CommandSaid, command}
 use Rattle.description.specs.Content.{SharedSaid}
-use Rattle.description.specs.Items.{option_leaf, positional_leaf, spelled_leaf}
 use Rattle.description.specs.Notes.{command_notes, value_notes}
 use Rattle.description.specs.Texts.{plain_document}
-use Rattle.description.specs.Trees.{all_of, alternative_tree, behind_dashes, choice_tree, command_item, command_items, help_said, level_head, level_tree, named_leaf, once_in_usage, one_of_commands, option_item, option_tree, options_tree, positional_tree, spelled_item, titled, unless_hidden, wrapped}
+use Rattle.description.specs.Trees.{all_of, alternative_tree, behind_dashes, choice_tree, command_item, command_items, help_said, level_head, level_tree, named_leaf, once_in_usage, one_of_commands, option_item, option_tree, options_tree, positional_tree, spelled_item, titled, unless_hidden, wrapped, option_leaf, positional_leaf, spelled_leaf}
 use Rattle.description.specs.WebPages.Entries.{EntrySaid, an_option, a_value, a_command, entry_key}
 use Rattle.description.specs.WebPages.Lists.{choice_entries, command_entries, command_entry, option_entries, option_entry, says_nothing, value_entries, value_entry}
 use Rattle.description.proofs.Each.{Each, each_append}

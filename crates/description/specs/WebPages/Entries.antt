@@ -6,10 +6,9 @@ use Rattle.bpaf_meta.specs.Content.{Name, short, long, both}
 use Rattle.bpaf_meta.specs.Usage.Writes.{is_bare_character}
 use Rattle.web_page.specs.declared.elements.Element.TheVariants.{Code, Dd, Dt, P, Var}
 use Rattle.description_parts.specs.Content.{SpellingSaid, named, syntax, OptSaid, PositionalSaid, CommandSaid, command}
-use Rattle.description.specs.Items.{option_leaf, positional_leaf}
 use Rattle.description.specs.Notes.{command_notes, listed_texts}
 use Rattle.description.specs.Syntax.{bare_syntax}
-use Rattle.description.specs.Trees.{help_said}
+use Rattle.description.specs.Trees.{help_said, option_leaf, positional_leaf}
 use Rattle.description.specs.WebPages.Events.{Event, document_events, words, end, start_with_id, link_start, inside, link, text_in}
 use Rattle.description.specs.WebPages.Ids.{entry_id, numbered, section_id}
 use Rattle.description.specs.WebPages.Texts.{given_text}

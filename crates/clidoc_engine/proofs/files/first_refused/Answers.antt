@@ -17,12 +17,12 @@ loop-index-preserved-then-is_refused g c =
     let same = c.in_ok-to_ascii_lowercase.ensures.ok ∙ ap small c.as_str-name.ensures.value in
     let key = c.in_ok-to_ascii_lowercase.field-0 in
     let alone = c.in_ok-is_alone.is_alone in
-    let is = alone_is fs i f c.index-files-index.result refl below c.loop-index.behind.keys c.insert.new.self.keys key same held alone (text_added string_bytes _ _ _ c.in_ok-is_alone.ensures.added) in
+    let is = alone_is fs i f c.index-files-index.result refl below c.loop-index.behind.keys c.insert.new.self.keys key same held alone (text_added string_bytes c.loop-index.behind.keys key alone c.in_ok-is_alone.ensures.added) in
     let refused = sym c.if-is_refused.true ∙ c.is_refused.ensures ∙ ap (λ x. not (is_file_name x && alone)) c.as_str-name.ensures.value in
     record {
       in_range = omega arith;
       within = omega arith;
-      known = held_more fs i f c.index-files-index.result refl below c.loop-index.behind.keys c.insert.new.self.keys key same held (text_updated string_bytes _ _ _ c.in_ok-is_alone.ensures.updates.0);
+      known = held_more fs i f c.index-files-index.result refl below c.loop-index.behind.keys c.insert.new.self.keys key same held (text_updated string_bytes c.loop-index.behind.keys c.insert.new.self.keys key c.in_ok-is_alone.ensures.updates.0);
       judged = refused_here fs i f c.index-files-index.result refl below alone is refused;
     }
 
@@ -40,11 +40,11 @@ loop-index-preserved g c =
     let same = c.in_ok-to_ascii_lowercase.ensures.ok ∙ ap small c.as_str-name.ensures.value in
     let key = c.in_ok-to_ascii_lowercase.field-0 in
     let alone = c.in_ok-is_alone.is_alone in
-    let is = alone_is fs i f c.index-files-index.result refl below c.loop-index.behind.keys c.insert.new.self.keys key same held alone (text_added string_bytes _ _ _ c.in_ok-is_alone.ensures.added) in
+    let is = alone_is fs i f c.index-files-index.result refl below c.loop-index.behind.keys c.insert.new.self.keys key same held alone (text_added string_bytes c.loop-index.behind.keys key alone c.in_ok-is_alone.ensures.added) in
     let passed = sym c.if-is_refused.false ∙ c.is_refused.ensures ∙ ap (λ x. not (is_file_name x && alone)) c.as_str-name.ensures.value in
     record {
       in_range = omega arith;
       within = c.loop-index.invariant.within;
-      known = held_more fs i f c.index-files-index.result refl below c.loop-index.behind.keys c.insert.new.self.keys key same held (text_updated string_bytes _ _ _ c.in_ok-is_alone.ensures.updates.0);
+      known = held_more fs i f c.index-files-index.result refl below c.loop-index.behind.keys c.insert.new.self.keys key same held (text_updated string_bytes c.loop-index.behind.keys c.insert.new.self.keys key c.in_ok-is_alone.ensures.updates.0);
       judged = passed_here fs i f c.index-files-index.result refl below alone is c.loop-index.first passed judged;
     }
