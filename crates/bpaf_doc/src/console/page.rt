@@ -65,6 +65,7 @@ impl<B: Allocator + Copy> Page<B> {
 impl<B: Allocator> Page<B> {
     /// Writes the chunks of a text, in brief up to the first paragraph break. Answers whether that break hides what
     /// follows.
+    #[tactic(auto, using(crate::proofs::lemmas::Console::Ink::text_left))]
     pub fn put_text(&mut self, text: &str, full: bool) -> Result<bool, AllocError>
         ensures page { OnOk result (sheet_of self.new ≡ text_put full (chunks_of text.now) (sheet_of self.old)) }
         ensures hides { IfOk result (λ hidden. hidden ≡ hides full (chunks_of text.now)) }
@@ -123,6 +124,7 @@ impl<B: Allocator> Page<B> {
     }
 
     /// The whole text, with a last newline where one is still asked for.
+    #[tactic(auto, using(crate::proofs::lemmas::Console::Ink::pushed_ink))]
     pub fn finish(self) -> Result<String<B>, AllocError>
         ensures text { IfOk result (λ text. string_bytes text ≡ finished (sheet_of self)) }
         ensures ink { IfOk result (λ text. ink (string_bytes text) ≡ ink (string_bytes self.out)) }
@@ -136,6 +138,7 @@ impl<B: Allocator> Page<B> {
 
     // Writes as many of the words that come next as fit behind the last one, all at once. Inlined, so that the chunks
     // that are left need not lie in memory.
+    #[tactic(auto, using(crate::proofs::lemmas::Console::Runs::run_hides))]
     #[inline(always)]
     fn put_run(&mut self, chunks: &mut Splitter<'_>) -> Result<(), AllocError>
         ensures page { OnOk result ((full : Bool)
@@ -185,6 +188,7 @@ impl<B: Allocator> Page<B> {
     }
 
     // Passes over blanks, two by two. So a margin is not written for each two of many.
+    #[tactic(auto, using(crate::proofs::lemmas::Console::Blanks::passed_blanks))]
     #[inline(always)]
     fn pass_blanks(&self, chunks: &mut Splitter<'_>)
         requires { DropsBlanks (sheet_of self.now) }
@@ -233,6 +237,7 @@ impl<B: Allocator> Page<B> {
     }
 
     // Writes a code line on a line of its own, from this margin on.
+    #[tactic(auto, using(crate::proofs::lemmas::Console::Ink::pushed_ink))]
     #[inline(always)]
     fn put_code_line(&mut self, margin: usize, line: &str) -> Result<(), AllocError>
         requires { margin ≡ margin_of (sheet_of self.old) }
@@ -247,7 +252,7 @@ impl<B: Allocator> Page<B> {
     }
 
     // Writes a Raw chunk. A blank that does not fit its line is left out.
-    #[tactic(auto, unfolding(crate::specs::Console::Steps::Page::raw_put))]
+    #[tactic(auto, using(crate::proofs::lemmas::Console::Ink::dropped_blank), unfolding(crate::specs::Console::Steps::Page::raw_put))]
     fn put_raw(&mut self, raw: &str, weight: usize) -> Result<(), AllocError>
         ensures page { OnOk result (sheet_of self.new ≡ raw_put raw.now weight (sheet_of self.old)) }
         ensures ink { OnOk result (ink (string_bytes self.new.out) ≡ ink (string_bytes self.old.out) ++ ink raw.now) }
@@ -288,6 +293,7 @@ impl<B: Allocator> Page<B> {
     }
 
     // Writes a Raw chunk to its line, from its margin on.
+    #[tactic(auto, using(crate::proofs::lemmas::Console::Ink::pushed_ink))]
     fn place(&mut self, raw: &str, weight: usize) -> Result<(), AllocError>
         ensures page { OnOk result (sheet_of self.new ≡ placed raw.now weight (sheet_of self.old)) }
         ensures ink { OnOk result (ink (string_bytes self.new.out) ≡ ink (string_bytes self.old.out) ++ ink raw.now) }
@@ -301,6 +307,7 @@ impl<B: Allocator> Page<B> {
     }
 
     // Ends the line, and writes an empty one, where that is asked for.
+    #[tactic(auto, using(crate::proofs::lemmas::Console::Ink::pushed_ink))]
     fn put_asked(&mut self) -> Result<(), AllocError>
         ensures page { OnOk result (sheet_of self.new ≡ asked_put (sheet_of self.old)) }
         ensures ink { OnOk result (ink (string_bytes self.new.out) ≡ ink (string_bytes self.old.out)) }
@@ -359,6 +366,7 @@ impl<B: Allocator> Page<B> {
         Ok(())
     }
 
+    #[tactic(auto, using(crate::proofs::lemmas::Console::Ink::pushed_ink))]
     fn put_newline(&mut self) -> Result<(), AllocError>
         ensures page { OnOk result (sheet_of self.new ≡ newline_put (sheet_of self.old)) }
         ensures ink { OnOk result (ink (string_bytes self.new.out) ≡ ink (string_bytes self.old.out)) }
@@ -369,6 +377,7 @@ impl<B: Allocator> Page<B> {
     }
 
     // The backquote of a term reference.
+    #[tactic(auto, using(crate::proofs::lemmas::Console::Ink::pushed_ink))]
     fn put_mark(&mut self, block: Block) -> Result<(), AllocError>
         ensures page { OnOk result (sheet_of self.new ≡ marked block (sheet_of self.old)) }
         ensures ink { OnOk result (ink (string_bytes self.new.out)
@@ -424,6 +433,7 @@ fn ends_bare<B: Allocator>(out: &String<B>) -> bool
 }
 
 // Takes the White_Space at the end of the text away.
+#[tactic(auto, using(crate::proofs::lemmas::Console::Ends::trimmed_end))]
 fn trim_end<B: Allocator>(out: &mut String<B>)
     ensures bytes { string_bytes out.new ≡ trim_end (string_bytes out.old) }
     ensures ink { ink (string_bytes out.new) ≡ ink (string_bytes out.old) }
@@ -448,6 +458,7 @@ fn push_blanks<B: Allocator>(out: &mut String<B>, count: usize) -> Result<(), Al
 }
 
 // The columns of a line. Each printable ASCII character takes one, and most lines hold no other.
+#[tactic(auto, using(crate::proofs::lemmas::Splitter::Printable::line_columns_are))]
 fn line_columns(line: &str) -> usize
     ensures { result ≡ columns line.now }
 {

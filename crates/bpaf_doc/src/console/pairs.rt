@@ -54,6 +54,7 @@ impl Pairs {
 }
 
 // The place of the first Section4 end after `index`, or the number of parts.
+#[tactic(auto, using(crate::proofs::lemmas::Console::Places::first_ends))]
 fn section4_end<A: Allocator>(doc: &Doc<A>, index: usize) -> usize
     requires { index < length doc.now }
     ensures { result ≡ section4_end doc.now index }

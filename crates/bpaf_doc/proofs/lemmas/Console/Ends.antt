@@ -1,12 +1,13 @@
 -- A text that ends in a printable ASCII character has no White_Space at its end.
-use Rattle.std.specs.Prelude.{◌≡◌, ℕ, zero, suc, ◌<◌, true, false, List, [], ◌∷◌, ◌++◌, refl, filter, IsUtf8}
+use Rattle.std.specs.Prelude.{◌≡◌, ℕ, ◌<◌, true, false, List, [], ◌∷◌, ◌++◌, refl, filter, IsUtf8}
 use Rattle.std.specs.Char.{is_ascii_graphic, is_whitespace, is_not_whitespace}
-use Rattle.std.specs.Str.{IsAscii, chars, drop_trailing_whitespace, encode_utf8_all, trim_end}
+use Rattle.std.specs.Str.{IsAscii, chars, trim_end}
 use Rattle.std.proofs.Common.{sym, ap, subst, arith, ◌∙◌}
 use Rattle.std.proofs.lemmas.Bool.Decides.{nat_tests}
-use Rattle.std.proofs.lemmas.Str.{chars-IsAscii, encodes-chars, IsUtf8-from_ascii}
+use Rattle.std.proofs.lemmas.Str.{chars-IsAscii, encodes-chars, IsUtf8-from_ascii, IsUtf8-string_bytes}
 use Rattle.bpaf_doc.specs.Buffer.Parts.{ink}
 use Rattle.bpaf_doc.specs.Splitter.Chunks.{has_some}
+use Rattle.bpaf_doc.proofs.lemmas.Console.Ink.{ink-trim, trim-boundary, trim-cut}
 use Rattle.bpaf_doc.proofs.lemmas.Splitter.Pieces.{utf8_cut}
 use Rattle.bpaf_doc.proofs.lemmas.Console.Layout.Stretches.{trim_some}
 
@@ -17,17 +18,14 @@ dark : (b : ℕ) → is_ascii_graphic b ≡ true → is_whitespace b ≡ false
 dark b h = grind (arith, nat_tests)
 
 one_ascii : (b : ℕ) → b < 128 → IsAscii (b ∷ [])
-one_ascii b h zero = h
-one_ascii b h (suc i) = omega arith
+one_ascii b h e = grind arith
 
 one_char : (b : ℕ) → is_ascii_graphic b ≡ true → chars (b ∷ []) ≡ b ∷ []
 one_char b h = chars-IsAscii (b ∷ []) (one_ascii b (small b h))
 
 trim_one : (b : ℕ) → is_ascii_graphic b ≡ true → trim_end (b ∷ []) ≡ b ∷ []
 unfolding trim_end
-trim_one b h =
-    let kept : drop_trailing_whitespace (b ∷ []) ≡ b ∷ [] = rw (dark b h) refl in
-    ap encode_utf8_all (ap drop_trailing_whitespace (one_char b h) ∙ kept ∙ sym (one_char b h)) ∙ encodes-chars (b ∷ []) (IsUtf8-from_ascii (b ∷ []) (one_ascii b (small b h)))
+trim_one b h = grind (arith, dark, one_char, encodes-chars, IsUtf8-from_ascii, one_ascii, small)
 
 one_ink : (b : ℕ) → is_ascii_graphic b ≡ true → has_some (ink (b ∷ [])) ≡ true
 one_ink b h = ap (λ cs. has_some (filter is_not_whitespace cs)) (one_char b h) ∙ rw (dark b h) refl
@@ -36,3 +34,5 @@ pub graphic_end : (text front : List ℕ) (b : ℕ) → text ≡ front ++ b ∷ 
 graphic_end text front b e u h =
     let cut = utf8_cut front (b ∷ []) (small b h) (subst IsUtf8 e u) in
     ap trim_end e ∙ trim_some front (b ∷ []) cut.0 (one_ink b h) ∙ ap (λ t. front ++ t) (trim_one b h) ∙ sym e
+
+pub ruleset trimmed_end = (graphic_end, trim-boundary, trim-cut, ink-trim, IsUtf8-string_bytes)

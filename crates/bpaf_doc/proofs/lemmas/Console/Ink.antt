@@ -1,18 +1,19 @@
 -- The ink that the console's steps leave is the console ink of the document.
-use Rattle.std.specs.Prelude.{◌≡◌, ◌≢◌, ℕ, ◌+◌, ◌-◌, ◌≤◌, Bool, true, false, not, ◌&&◌, ◌==◌, List, [], ◌∷◌, ◌++◌, refl, length, drop, take, filter, flat_map, String, string_bytes, Result, Ok, Err, IfOk, if◌then◌else◌}
+use Rattle.std.specs.Prelude.{◌≡◌, ◌≢◌, ℕ, ◌+◌, ◌≤◌, Bool, true, false, not, ◌==◌, List, [], ◌∷◌, ◌++◌, refl, length, drop, take, filter, flat_map, String, string_bytes, Result, IfOk, if◌then◌else◌}
 use Rattle.std.specs.Char.{is_not_whitespace, encode_utf8}
 use Rattle.std.specs.List.{enumerate_from}
 use Rattle.std.specs.Str.{chars, IsUtf8, IsCharBoundary, IsTrimEnd, NonePass}
 use Rattle.std.proofs.Common.{sym, ◌∙◌, ap, subst, arith, append_assoc}
 use Rattle.std.proofs.lemmas.Str.{chars-nil, chars_from_encodes, IsCharBoundary-from_take, IsUtf8-drop, encode_ascii, IsUtf8-string_bytes}
 use Rattle.std.proofs.lemmas.List.{take-append-drop, append-nil, length-append}
+use Rattle.std.proofs.lemmas.Slice.Eq.{bytes_eq-Decides}
 use Rattle.std.proofs.lemmas.Bool.Decides.{nat_tests}
 use Rattle.bpaf_doc.proofs.lemmas.Splitter.Ink.{ink-append}
 use Rattle.bpaf_doc.specs.declared.buffer.Style.{Style}
-use Rattle.bpaf_doc.specs.Buffer.Parts.{Part, Text, Start, End, ink}
+use Rattle.bpaf_doc.specs.Buffer.Parts.{Part, Text, ink}
 use Rattle.bpaf_doc.specs.Splitter.Chunks.{Chunk, Raw, Paragraph, LineBreak, chunks_of, chunk_ink, is_paragraph}
 use Rattle.bpaf_doc.specs.Shown.{through_paragraph, shown_part_ink, console_ink}
-use Rattle.bpaf_doc.specs.Console.Steps.Hiding.{hides, is_inline, hidden_after}
+use Rattle.bpaf_doc.specs.Console.Steps.Hiding.{hides, hidden_after}
 use Rattle.bpaf_doc.specs.Console.Steps.Ink.{shown_ink, ink_at, ink_from}
 use Rattle.bpaf_doc.proofs.lemmas.Console.Hiding.{Counts, Counts-nil, Counts-more, is_hidden-Counts}
 
@@ -43,8 +44,7 @@ pub trim-cut : (text kept : List ℕ) → IsTrimEnd text kept → kept ≡ take 
 trim-cut text kept (n, same, blank, ends, len, within) = same ∙ ap (λ k. take k text) (sym len)
 
 pub trim-boundary : (text kept : List ℕ) → IsUtf8 text → IsUtf8 kept → IsTrimEnd text kept → IsCharBoundary text (length kept)
-trim-boundary text kept u v (n, same, blank, ends, len, within) =
-    subst (λ k. IsCharBoundary text k) (sym len) (IsCharBoundary-from_take text n u within (subst (λ xs. IsUtf8 xs) same v))
+trim-boundary text kept u v (n, same, blank, ends, len, within) = grind (arith, IsCharBoundary-from_take)
 
 -- and has the same ink
 pub ink-trim : (text kept : List ℕ) → IsUtf8 text → IsUtf8 kept → IsTrimEnd text kept → ink kept ≡ ink text
@@ -59,15 +59,13 @@ ink-trim text kept u v (n, same, blank, ends, len, within) =
 
 pub shown_ink-full : (chunks : List Chunk) → flat_map chunk_ink chunks ≡ shown_ink true chunks
 shown_ink-full [] = refl
-shown_ink-full (Raw bytes weight ∷ chunks) = ap (λ more. ink bytes ++ more) (shown_ink-full chunks)
-shown_ink-full (_ ∷ chunks) = shown_ink-full chunks
+shown_ink-full (x ∷ chunks) = grind (arith, shown_ink-full chunks)
 
 one_more : (chunk : Chunk) (chunks : List Chunk) → is_paragraph chunk ≡ false → through_paragraph (chunk ∷ chunks) ≡ chunk ∷ through_paragraph chunks
 one_more chunk chunks e = grind arith
 
 pub shown_ink-brief : (chunks : List Chunk) → flat_map chunk_ink (through_paragraph chunks) ≡ shown_ink false chunks
-shown_ink-brief (Raw bytes weight ∷ chunks) = grind (arith, shown_ink-brief chunks, one_more)
-shown_ink-brief (LineBreak ∷ chunks) = ap (λ cs. flat_map chunk_ink cs) (one_more LineBreak chunks refl) ∙ shown_ink-brief chunks
+shown_ink-brief (x ∷ chunks) = grind (arith, shown_ink-brief chunks, one_more)
 shown_ink-brief _ = refl
 
 -- ---- the ink of the parts, one after another
@@ -93,20 +91,13 @@ brief_from : (document before parts : List Part) (hidden : ℕ) → document ≡
     → flat_map (brief_part document) (enumerate_from (length before) parts) ≡ ink_from false hidden parts
 brief_from document before [] hidden same counts = refl
 brief_from document before (part ∷ parts) hidden same counts =
-    both (brief_part document (length before, part)) (flat_map (brief_part document) (enumerate_from (length before + 1) parts))
-    (ink_at false hidden part) (ink_from false (hidden_after false hidden part) parts)
-    (ap (λ d. shown_part_ink false (take (length before) d) part) same ∙ ap (λ d. shown_part_ink false d part) (take_front before (part ∷ parts))
-    ∙ shown_at hidden before part counts)
-    (ap (λ k. flat_map (brief_part document) (enumerate_from k parts)) (sym (length-append before (part ∷ [])))
-    ∙ brief_from document (before ++ part ∷ []) parts (hidden_after false hidden part) (same ∙ sym (append_assoc before (part ∷ []) parts)) (Counts-more hidden before part counts))
+    grind (arith, brief_from document (before ++ part ∷ []) parts, both, take_front, shown_at, length-append, append_assoc, Counts-more)
 
 full_stays : (part : Part) → hidden_after true 0 part ≡ 0
-full_stays (End b) = grind arith
-full_stays _ = refl
+full_stays part = grind arith
 
 full_at : (before : List Part) (part : Part) → shown_part_ink true before part ≡ ink_at true 0 part
-full_at before (Text bytes style) = shown_ink-full (chunks_of bytes)
-full_at before _ = refl
+full_at before part = grind (arith, shown_ink-full)
 
 full_from : (document parts : List Part) (k : ℕ) → flat_map (λ (k, part). shown_part_ink true (take k document) part) (enumerate_from k parts) ≡ ink_from true 0 parts
 full_from document [] k = refl
@@ -126,9 +117,7 @@ pub ink-push_blank : {Z : Type 0} (old : String Z) (new : List ℕ) → new ≡ 
 ink-push_blank old new e = ap ink e ∙ ink-more (string_bytes old) (encode_utf8 32) (IsUtf8-string_bytes old) (ap ink (encode_ascii 32 (omega arith)) ∙ ink-blank)
 
 pub ink-push_backquote : {Z : Type 0} (old : String Z) (new : List ℕ) → new ≡ string_bytes old ++ encode_utf8 96 → ink new ≡ ink (string_bytes old) ++ 96 ∷ []
-ink-push_backquote old new e =
-    ap ink e ∙ ink-append (string_bytes old) (encode_utf8 96) (IsUtf8-string_bytes old)
-    ∙ ap (λ more. ink (string_bytes old) ++ more) (ap ink (encode_ascii 96 (omega arith)) ∙ ink-backquote)
+ink-push_backquote old new e = grind (arith, ink-append, IsUtf8-string_bytes, encode_ascii, ink-backquote)
 
 pub ink-push_str : {Z : Type 0} (old : String Z) (new text : List ℕ) → new ≡ string_bytes old ++ text → ink new ≡ ink (string_bytes old) ++ ink text
 ink-push_str old new text e = ap ink e ∙ ink-append (string_bytes old) text (IsUtf8-string_bytes old)
@@ -139,9 +128,7 @@ ink-nil = ap (filter is_not_whitespace) chars-nil
 -- ---- a loop over the parts
 
 hidden_after-le : (full : Bool) (hidden : ℕ) (part : Part) → hidden_after full hidden part ≤ hidden + 1
-hidden_after-le full hidden (Text bytes style) = grind arith
-hidden_after-le full hidden (Start b) = elim (not (hidden == 0) && is_inline b) as (λ (c : Bool). (if c then hidden + 1 else hidden) ≤ hidden + 1) [ true ↦ omega arith | false ↦ omega arith ]
-hidden_after-le full hidden (End b) = elim (is_inline b) as (λ (c : Bool). (if c then hidden - 1 else hidden) ≤ hidden + 1) [ true ↦ omega arith | false ↦ omega arith ]
+hidden_after-le full hidden part = grind arith
 
 -- At this count of hidden blocks, out and the parts that are left have all the ink, and the count stays in range.
 pub record IsLeft (full : Bool) (count hidden : ℕ) (out all : List ℕ) (parts : List Part) : Type 0 where
@@ -152,21 +139,11 @@ pub record IsLeft (full : Bool) (count hidden : ℕ) (out all : List ℕ) (parts
 pub IsLeft-more : (full : Bool) (count hidden next : ℕ) (out new all : List ℕ) (part : Part) (parts rest : List Part)
     → IsLeft full count hidden out all parts → parts ≡ part ∷ rest → next ≡ hidden_after full hidden part
     → ink new ≡ ink out ++ ink_at full hidden part → IsLeft full count next new all rest
-IsLeft-more full count hidden next out new all part parts rest left first counted wrote = record {
-  same_ink =
-      both (ink new) (ink_from full next rest) (ink out ++ ink_at full hidden part) (ink_from full (hidden_after full hidden part) rest) wrote
-      (ap (λ n. ink_from full n rest) counted)
-      ∙ append_assoc (ink out) (ink_at full hidden part) (ink_from full (hidden_after full hidden part) rest)
-      ∙ ap (λ ps. ink out ++ ink_from full hidden ps) (sym first) ∙ left.same_ink;
-  in_range = omega (arith, left.in_range, ap length first, counted, hidden_after-le full hidden part);
-}
+IsLeft-more full count hidden next out new all part parts rest left first counted wrote = grind (arith, both, append_assoc, hidden_after-le)
 
 -- the whole document is left
 pub IsLeft-all : (full : Bool) (count : ℕ) (document : List Part) → length document ≡ count → IsLeft full count 0 [] (console_ink full document) document
-IsLeft-all full count document len = record {
-  same_ink = ap (λ before. before ++ ink_from full 0 document) ink-nil ∙ ink_from-console_ink full document;
-  in_range = omega (arith, len);
-}
+IsLeft-all full count document len = grind (arith, ink-nil, ink_from-console_ink)
 
 -- nothing is left
 pub IsLeft-none : (full : Bool) (count hidden : ℕ) (out all : List ℕ) (parts : List Part) → IsLeft full count hidden out all parts → parts ≡ [] → ink out ≡ all
@@ -182,16 +159,12 @@ IsLeft-shown full count hidden out new all bytes style parts rest left first non
 
 pub IsLeft-hidden : (full : Bool) (count hidden : ℕ) (out all bytes : List ℕ) (style : Style) (parts rest : List Part)
     → IsLeft full count hidden out all parts → parts ≡ Text bytes style ∷ rest → hidden ≢ 0 → IsLeft full count hidden out all rest
-IsLeft-hidden full count hidden out all bytes style parts rest left first some =
-    let e : (hidden == 0) ≡ false = grind (arith, nat_tests) in
-    IsLeft-more full count hidden hidden out out all (Text bytes style) parts rest left first (rw e refl)
-    (rw e (sym (append-nil (ink out))))
+IsLeft-hidden full count hidden out all bytes style parts rest left first some = grind (arith, nat_tests, IsLeft-more, append-nil)
 
 -- an Ok text with this ink has that ink
 pub IfOk-ink : {Z E : Type 0} (r : Result (String Z) E) (this that : List ℕ) → this ≡ that
     → IfOk r (λ text. ink (string_bytes text) ≡ this) → IfOk r (λ text. ink (string_bytes text) ≡ that)
-IfOk-ink (Ok text) this that e h = h ∙ e
-IfOk-ink (Err error) this that e h = tt
+IfOk-ink r this that e h = grind arith
 
 -- ---- a loop over the chunks of a text
 
@@ -202,41 +175,29 @@ pub record IsTextLeft (full hidden : Bool) (out all : List ℕ) (chunks : List C
 
 pub IsTextLeft-raw : (full hidden : Bool) (out new all bytes : List ℕ) (weight : ℕ) (chunks rest : List Chunk)
     → IsTextLeft full hidden out all chunks → chunks ≡ Raw bytes weight ∷ rest → ink new ≡ ink out ++ ink bytes → IsTextLeft full hidden new all rest
-IsTextLeft-raw full hidden out new all bytes weight chunks rest left first wrote = record {
-  same_ink =
-      ap (λ before. before ++ shown_ink full rest) wrote ∙ append_assoc (ink out) (ink bytes) (shown_ink full rest)
-      ∙ ap (λ cs. ink out ++ shown_ink full cs) (sym first) ∙ left.same_ink;
-  same_hiding = ap (hides full) (sym first) ∙ left.same_hiding;
-}
+IsTextLeft-raw full hidden out new all bytes weight chunks rest left first wrote = grind (arith, append_assoc)
 
 pub IsTextLeft-line_break : (full hidden : Bool) (out new all : List ℕ) (chunks rest : List Chunk)
     → IsTextLeft full hidden out all chunks → chunks ≡ LineBreak ∷ rest → ink new ≡ ink out → IsTextLeft full hidden new all rest
-IsTextLeft-line_break full hidden out new all chunks rest left first wrote = record {
-  same_ink = ap (λ before. before ++ shown_ink full rest) wrote ∙ ap (λ cs. ink out ++ shown_ink full cs) (sym first) ∙ left.same_ink;
-  same_hiding = ap (hides full) (sym first) ∙ left.same_hiding;
-}
+IsTextLeft-line_break full hidden out new all chunks rest left first wrote = grind arith
 
 -- in full a paragraph break is a line break
 pub IsTextLeft-paragraph : (full hidden : Bool) (out new all : List ℕ) (chunks rest : List Chunk) → full ≡ true
     → IsTextLeft full hidden out all chunks → chunks ≡ Paragraph ∷ rest → ink new ≡ ink out → IsTextLeft full hidden new all rest
-IsTextLeft-paragraph true hidden out new all chunks rest e left first wrote = record {
-  same_ink = ap (λ before. before ++ shown_ink true rest) wrote ∙ ap (λ cs. ink out ++ shown_ink true cs) (sym first) ∙ left.same_ink;
-  same_hiding = ap (hides true) (sym first) ∙ left.same_hiding;
-}
-IsTextLeft-paragraph false hidden out new all chunks rest e left first wrote = absurd cc
+IsTextLeft-paragraph full hidden out new all chunks rest e left first wrote = grind arith
 
 -- in brief it hides the rest
 pub IsTextLeft-hides : (full hidden : Bool) (out new all : List ℕ) (chunks rest : List Chunk) → full ≡ false
     → IsTextLeft full hidden out all chunks → chunks ≡ Paragraph ∷ rest → ink new ≡ ink out → (ink new ≡ all) × (true ≡ hidden)
-IsTextLeft-hides false hidden out new all chunks rest e left first wrote = (
-  wrote ∙ sym (append-nil (ink out)) ∙ ap (λ cs. ink out ++ shown_ink false cs) (sym first) ∙ left.same_ink,
-  ap (hides false) (sym first) ∙ left.same_hiding,
-)
-IsTextLeft-hides true hidden out new all chunks rest e left first wrote = absurd cc
+IsTextLeft-hides full hidden out new all chunks rest e left first wrote = grind (arith, append-nil)
 
 pub IsTextLeft-none : (full hidden : Bool) (out all : List ℕ) (chunks : List Chunk) → IsTextLeft full hidden out all chunks → chunks ≡ []
     → (ink out ≡ all) × (false ≡ hidden)
-IsTextLeft-none full hidden out all chunks left none = (
-  sym (append-nil (ink out)) ∙ ap (λ cs. ink out ++ shown_ink full cs) (sym none) ∙ left.same_ink,
-  (elim full as (λ (b : Bool). false ≡ hides b []) [ true ↦ refl | false ↦ refl ]) ∙ ap (hides full) (sym none) ∙ left.same_hiding,
-)
+IsTextLeft-none full hidden out all chunks left none = grind (arith, append-nil)
+
+-- the ink of what is pushed, and a blank that is dropped
+pub ruleset pushed_ink = (ink-push_str, ink-push_newline, ink-push_backquote)
+
+pub ruleset dropped_blank = (bytes_eq-Decides, append-nil, ink-blank)
+
+pub ruleset text_left = (IsTextLeft-line_break, IsTextLeft-paragraph, IsTextLeft-hides, IsTextLeft-none)

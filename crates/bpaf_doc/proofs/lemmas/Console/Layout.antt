@@ -8,7 +8,6 @@ pub mod Bound
 pub mod Pads
 pub mod Alone
 pub mod Split
-pub mod Asked
 pub mod Blank
 pub mod Kept
 pub mod Reach

@@ -1,16 +1,15 @@
 -- A stack of margins, walked over the marks of a document, has the margin at each place on top.
-use Rattle.std.specs.Prelude.{◌≡◌, ℕ, zero, suc, ◌+◌, ◌*◌, ◌<◌, ◌≤◌, max, ⊤, Bool, true, false, List, [], ◌∷◌, ◌++◌, length, refl, map, filter, take, drop, fold, get_or, nat_le, if◌then◌else◌}
+use Rattle.std.specs.Prelude.{◌≡◌, ℕ, zero, suc, ◌+◌, ◌*◌, ◌<◌, ◌≤◌, max, ⊤, true, false, List, [], ◌∷◌, ◌++◌, length, refl, map, filter, take, drop, fold, get_or, nat_le, if◌then◌else◌}
 use Rattle.std.specs.List.{enumerate_from}
 use Rattle.std.proofs.Common.{sym, ◌∙◌, ap, subst, arith, add-one}
 use Rattle.std.proofs.lemmas.Bool.Decides.{nat_tests}
 use Rattle.std.proofs.Math.Nat.{zero-add, add-zero}
-use Rattle.bpaf_doc.specs.declared.buffer.Block.TheVariants as blocks
 use Rattle.bpaf_doc.specs.declared.buffer.Block.{Block}
 use Rattle.bpaf_doc.specs.declared.buffer.Style.{Style}
-use Rattle.bpaf_doc.specs.Buffer.Parts.{Part, Text, Start, End}
+use Rattle.bpaf_doc.specs.Buffer.Parts.{Part, Text, End}
 use Rattle.bpaf_doc.specs.Shown.{stays_open}
 use Rattle.bpaf_doc.proofs.lemmas.Lists.Opening.{closed, stays_open_is}
-use Rattle.bpaf_doc.specs.Console.Margin.{greatest, is_skipped, skips_pair, term_lengths, tab_stop, Shift, Indent, Outdent, Level, part_shift, shifts, is_indent, is_outdent, indent, indents_in_force, margin, greatest_margin}
+use Rattle.bpaf_doc.specs.Console.Margin.{greatest, is_skipped, term_lengths, tab_stop, Shift, Indent, Outdent, Level, part_shift, shifts, is_indent, is_outdent, indent, indents_in_force, margin, greatest_margin}
 
 -- ---- the stack, newest first
 
@@ -48,27 +47,20 @@ abbrev taken : List Shift → ℕ
 taken ss = closed is_indent is_outdent ss
 
 open_is : (ss : List Shift) → stays_open is_indent is_outdent ss ≡ nat_le (taken ss) 0
-open_is ss = stays_open_is is_indent is_outdent apart ss where
-  apart : (s : Shift) → is_outdent s ≡ true → is_indent s ≡ false
-  apart Outdent h = refl
-  apart _ h = absurd cc
+open_is ss = grind (arith, stays_open_is)
 
 -- ---- the top of the stack
 
 top_is : (stack : List ℕ) → top stack ≡ get_or stack 0 0
-top_is [] = refl
-top_is (m ∷ ms) = refl
+top_is stack = grind arith
 
 popped_at : (stack : List ℕ) (k : ℕ) → get_or (popped stack) k 0 ≡ get_or stack (suc k) 0
-popped_at [] k = refl
-popped_at (m ∷ ms) k = refl
+popped_at stack k = grind arith
 
 -- Entry by entry: where shifts take k entries away, the top is the entry below these and the indents in force since.
 top_after : (ss : List Shift) (stack : List ℕ) → top (stack_after ss stack) ≡ get_or stack (taken ss) 0 + indents_in_force ss
 top_after [] stack = top_is stack ∙ sym (add-zero (get_or stack 0 0))
-top_after (Indent n ∷ ss) stack = grind (arith, top_after ss, open_is, top_is, nat_tests)
-top_after (Outdent ∷ ss) stack = grind (arith, top_after ss, popped_at, add-one)
-top_after (Level ∷ ss) stack = top_after ss stack ∙ ap (λ m. get_or stack (taken ss) 0 + m) (grind arith)
+top_after (x ∷ ss) stack = grind (arith, top_after ss, open_is, top_is, nat_tests, popped_at, add-one)
 
 -- from an empty stack on it is the sum of the indents in force
 pub top-stack_after : (ss : List Shift) → top (stack_after ss []) ≡ indents_in_force ss
@@ -119,8 +111,7 @@ falls_after (Outdent ∷ ss) (m ∷ ms) h = falls_after ss ms h.1
 falls_after (Level ∷ ss) stack h = falls_after ss stack h
 
 popped_le : (stack : List ℕ) → Falls stack → top (popped stack) ≤ top stack
-popped_le [] h = omega arith
-popped_le (m ∷ ms) h = h.0
+popped_le stack h = grind arith
 
 -- the stack after the part at place j by that before it
 module _ (document : List Part) (j : ℕ) (part : Part) (rest : List Part) (here : drop j document ≡ part ∷ rest) where
@@ -150,12 +141,7 @@ shift_at-text document j bytes style = grind arith
 
 -- a block end never raises the margin, skipped or not
 pub margin-end : (document : List Part) (j : ℕ) (b : Block) (rest : List Part) → drop j document ≡ End b ∷ rest → margin document j ≤ top (stack_at document j)
-margin-end document j b rest here = at (is_skipped document j) refl where
-  at : (skips : Bool) → is_skipped document j ≡ skips → margin document j ≤ top (stack_at document j)
-  at true e =
-      let same : margin document j ≡ top (stack_at document j) = margin-level document j (End b) rest here (shift_at-skipped document j (End b) e) in
-      omega arith
-  at false e = margin-outdent document j (End b) rest here (shift_at-shown document j (End b) e)
+margin-end document j b rest here = grind (arith, margin-level, shift_at-skipped, margin-outdent, shift_at-shown)
 
 -- ---- bounds
 
@@ -167,15 +153,10 @@ pub tab_stop-le : (document : List Part) → tab_stop document ≤ 28
 tab_stop-le document = let l : greatest (filter (λ n. nat_le n 24) (term_lengths document)) ≤ 24 = greatest_le 24 (term_lengths document) 0 (omega arith) in omega arith
 
 part_indent-le : (document : List Part) (j : ℕ) (part : Part) → indent (part_shift document j part) ≤ 30
-part_indent-le document j (Start blocks.Section4) = elim (skips_pair document j) as (λ (b : Bool). (if b then 4 else 2) ≤ 30) [ true ↦ omega arith | false ↦ omega arith ]
-part_indent-le document j (Start blocks.ItemBody) = let l : tab_stop document ≤ 28 = tab_stop-le document in omega arith
-part_indent-le document j _ = omega arith
+part_indent-le document j part = grind (arith, tab_stop-le)
 
 pub indent-le : (document : List Part) (j : ℕ) (part : Part) → indent (shift_at document j part) ≤ 30
-indent-le document j part = at (is_skipped document j) where
-  at : (b : Bool) → indent (if b then Level else part_shift document j part) ≤ 30
-  at true = omega arith
-  at false = part_indent-le document j part
+indent-le document j part = grind (arith, part_indent-le)
 
 in_force-le : (document : List Part) (j k : ℕ) (parts : List Part) → indents_in_force (take j (map (λ (i, part). shift_at document i part) (enumerate_from k parts))) ≤ 30 * j
 in_force-le document zero k parts = omega arith
@@ -192,8 +173,7 @@ more_than (n ∷ ns) a = let rest : max a n ≤ fold max (max a n) ns = more_tha
 greatest_at : (f : ℕ → ℕ) (j k a : ℕ) (parts : List Part) → j < length parts → f (k + j) ≤ fold max a (map (λ (i, part). f i) (enumerate_from k parts))
 greatest_at f j k a [] l = absurd (omega arith)
 greatest_at f zero k a (part ∷ parts) l = grind (arith, more_than, add-zero)
-greatest_at f (suc j) k a (part ∷ parts) l =
-    subst (λ n. f n ≤ fold max (max a (f k)) (map (λ (i, part). f i) (enumerate_from (k + 1) parts))) (omega arith) (greatest_at f j (k + 1) (max a (f k)) parts (omega arith))
+greatest_at f (suc j) k a (part ∷ parts) l = grind (arith, greatest_at f j (k + 1) (max a (f k)) parts)
 
 pub margin-le-greatest : (document : List Part) (j : ℕ) → j < length document → margin document j ≤ greatest_margin document
 margin-le-greatest document j l =

@@ -1,6 +1,6 @@
 -- What a loop over the parts keeps of the page that it writes.
-use Rattle.std.specs.Prelude.{◌≡◌, ◌≢◌, ℕ, ◌+◌, Bool, true, false, ◌&&◌, ◌==◌, List, [], ◌∷◌, length, if◌then◌else◌, String, string_bytes, Result, Ok, Err, IfOk}
-use Rattle.std.proofs.Common.{sym, subst, ◌∙◌, ap, arith}
+use Rattle.std.specs.Prelude.{◌≡◌, ◌≢◌, ℕ, ◌+◌, Bool, true, false, ◌&&◌, ◌==◌, List, [], ◌∷◌, length, if◌then◌else◌, String, string_bytes, Result, IfOk}
+use Rattle.std.proofs.Common.{sym, ◌∙◌, ap, arith}
 use Rattle.std.proofs.lemmas.Bool.Decides.{nat_tests}
 use Rattle.bpaf_doc.specs.declared.buffer.Block.{Block}
 use Rattle.bpaf_doc.specs.declared.buffer.Style.{Style}
@@ -22,41 +22,14 @@ pub record IsPageLeft (full : Bool) (document : List Part) (whole : Sheet) (few 
 pub IsPageLeft-all : (full : Bool) (width : ℕ) (document : List Part) (index : ℕ) (pairs : Pairs) (parts : List Part) (page : Sheet)
     → index ≡ 0 → pairs ≡ no_pairs → parts ≡ document → page ≡ blank_sheet width (tab_stop_from 0 false 0 document)
     → IsPageLeft full document (whole_page full width document) (HasFewThroughout full width document) index pairs 0 parts page
-IsPageLeft-all full width document index pairs parts page counted known all blank = record {
-  same_page =
-      ap (λ i. parts_put full document i pairs 0 parts page) counted
-      ∙ ap (λ p. parts_put full document 0 p 0 parts page) known
-      ∙ ap (λ ps. parts_put full document 0 no_pairs 0 ps page) all
-      ∙ ap (λ s. parts_put full document 0 no_pairs 0 document s) blank;
-  in_place = omega (arith, counted, ap length all);
-  few_margins = λ keeps.
-      subst (λ s. KeepsFew full document 0 no_pairs 0 document s) blank
-      (subst (λ ps. KeepsFew full document 0 no_pairs 0 ps page) all
-      (subst (λ p. KeepsFew full document 0 p 0 parts page) known (subst (λ i. KeepsFew full document i pairs 0 parts page) counted keeps)));
-}
+IsPageLeft-all full width document index pairs parts page counted known all blank = grind arith
 
 -- one part is written
 pub IsPageLeft-more : (full : Bool) (document : List Part) (whole : Sheet) (few : Type 0) (index more : ℕ) (pairs next : Pairs) (hidden after : ℕ) (part : Part) (parts rest : List Part) (page new : Sheet)
     → IsPageLeft full document whole few index pairs hidden parts page → parts ≡ part ∷ rest → more ≡ index + 1
     → next ≡ pairs_after document index pairs part → after ≡ hidden_after full hidden part → new ≡ part_put full document index pairs hidden part page
     → LeavesFew next index part new → IsPageLeft full document whole few more next after rest new
-IsPageLeft-more full document whole few index more pairs next hidden after part parts rest page new left first counted known still wrote leaves = record {
-  same_page =
-      ap (λ i. parts_put full document i next after rest new) counted
-      ∙ ap (λ p. parts_put full document (index + 1) p after rest new) known
-      ∙ ap (λ h. parts_put full document (index + 1) (pairs_after document index pairs part) h rest new) still
-      ∙ ap (λ s. parts_put full document (index + 1) (pairs_after document index pairs part) (hidden_after full hidden part) rest s) wrote
-      ∙ ap (λ ps. parts_put full document index pairs hidden ps page) (sym first) ∙ left.same_page;
-  in_place = omega (arith, left.in_place, ap length first, counted);
-  few_margins = λ keeps.
-      left.few_margins
-      (subst (λ ps. KeepsFew full document index pairs hidden ps page) (sym first) (
-        subst (λ s. LeavesFew (pairs_after document index pairs part) index part s) wrote (subst (λ p. LeavesFew p index part new) known leaves),
-        subst (λ s. KeepsFew full document (index + 1) (pairs_after document index pairs part) (hidden_after full hidden part) rest s) wrote
-            (subst (λ h. KeepsFew full document (index + 1) (pairs_after document index pairs part) h rest new) still
-            (subst (λ p. KeepsFew full document (index + 1) p after rest new) known (subst (λ i. KeepsFew full document i next after rest new) counted keeps))),
-      ));
-}
+IsPageLeft-more full document whole few index more pairs next hidden after part parts rest page new left first counted known still wrote leaves = grind arith
 
 -- a mark that is passed over says nothing of margins
 pub skipped-few : (pairs : Pairs) (index : ℕ) (b : Block) (page : Sheet) → true ≡ skips pairs index b → skips pairs index b ≡ false → HasFewMargins page
@@ -103,11 +76,8 @@ skips-mark_bytes pairs index b skipped = grind arith
 pub IsPageLeft-none : {Z E : Type 0} (r : Result (String Z) E) (full : Bool) (document : List Part) (whole : Sheet) (few : Type 0) (index : ℕ) (pairs : Pairs) (hidden : ℕ) (parts : List Part) (page : Sheet)
     → IsPageLeft full document whole few index pairs hidden parts page → parts ≡ []
     → IfOk r (λ text. string_bytes text ≡ finished page) → IfOk r (λ text. string_bytes text ≡ finished whole)
-IsPageLeft-none (Ok text) full document whole few index pairs hidden parts page left none h = grind arith
-IsPageLeft-none (Err error) full document whole few index pairs hidden parts page left none h = tt
+IsPageLeft-none r full document whole few index pairs hidden parts page left none h = grind arith
 
 pub IsPageLeft-few : {Z E : Type 0} (r : Result (String Z) E) (full : Bool) (document : List Part) (whole : Sheet) (few : Type 0) (index : ℕ) (pairs : Pairs) (hidden : ℕ) (parts : List Part) (page : Sheet)
     → IsPageLeft full document whole few index pairs hidden parts page → parts ≡ [] → IfOk r (λ text. few)
-IsPageLeft-few (Ok text) full document whole few index pairs hidden parts page left none =
-    left.few_margins (subst (λ ps. KeepsFew full document index pairs hidden ps page) (sym none) tt)
-IsPageLeft-few (Err error) full document whole few index pairs hidden parts page left none = tt
+IsPageLeft-few r full document whole few index pairs hidden parts page left none = grind arith

@@ -1,5 +1,5 @@
 -- What is remembered of empty Block pairs tells of each mark whether it is skipped.
-use Rattle.std.specs.Prelude.{◌≡◌, ℕ, zero, suc, ◌+◌, ◌-◌, ◌^◌, ◌<◌, ◌≤◌, min, Bool, true, false, not, cond, ◌&&◌, ◌||◌, ◌==◌, ◌⊎◌, IsTrue, ◌↔◌, List, [], ◌∷◌, Some, length, refl, drop, slice_get}
+use Rattle.std.specs.Prelude.{◌≡◌, ℕ, zero, suc, ◌+◌, ◌-◌, ◌^◌, ◌<◌, ◌≤◌, min, Bool, true, false, not, cond, ◌&&◌, ◌||◌, ◌==◌, ◌⊎◌, IsTrue, ◌↔◌, List, [], ◌∷◌, Some, length, refl, drop, slice_get, Option, nat_le, nat_lt}
 use Rattle.std.specs.List.{list_any, position_or_len, enumerate_from}
 use Rattle.std.proofs.Common.{sym, ◌∙◌, ap, subst, inl, inr, arith}
 use Rattle.std.proofs.lemmas.List.{drop-drop}
@@ -7,23 +7,24 @@ use Rattle.std.proofs.lemmas.Option.{slice_get_past}
 use Rattle.std.proofs.lemmas.Bool.Decides.{nat_tests}
 use Rattle.std.proofs.lemmas.Bool.{both_ways, and_from, and_parts, false≢true}
 use Rattle.std.proofs.Math.Nat.{zero-add, add-zero}
+use Rattle.std.proofs.Math.Bool.{and-true, and-false}
 use Rattle.bpaf_doc.specs.declared.buffer.Block.TheVariants as blocks
 use Rattle.bpaf_doc.specs.declared.buffer.Block.{Block}
 use Rattle.bpaf_doc.specs.declared.console.pairs.Pairs.{Pairs}
 use Rattle.bpaf_doc.specs.Buffer.Parts.{Part, Start, End}
 use Rattle.bpaf_doc.specs.Console.Margin.{is_section4_start, is_section4_end, has_empty_block, after_section4, skips_pair, is_skipped}
 use Rattle.bpaf_doc.specs.Console.Steps.Pairs.{SkipsAt, HasMarkAt, KnowsPairs}
+use Rattle.bpaf_doc.specs.Console.Margin as margin
+use Rattle.bpaf_doc.specs.Console.Steps.Text as whole
+use Rattle.bpaf_doc.proofs.lemmas.Console.Layout.Back.{by_test}
 
 -- ---- tests
 
 same_tests : (a b : Bool) → (a ≡ true → b ≡ true) → (b ≡ true → a ≡ true) → a ≡ b
-same_tests true b f g = sym (f refl)
-same_tests false true f g = absurd (false≢true (g refl))
-same_tests false false f g = refl
+same_tests a b f g = grind (arith, false≢true)
 
 start_is : (part : Part) → is_section4_start part ≡ true → part ≡ Start blocks.Section4
-start_is (Start blocks.Section4) h = refl
-start_is _ h = absurd cc
+start_is part h = grind arith
 
 -- ---- a part by its place
 
@@ -52,9 +53,7 @@ position_passes p [] x e = absurd cc
 position_passes p (y ∷ ys) x e = at (p y) refl e (λ e. position_passes p ys x e) where
   at : (b : Bool) → p y ≡ b → slice_get (y ∷ ys) (cond (not b) (1 + position_or_len p ys) 0) ≡ Some x → (slice_get ys (position_or_len p ys) ≡ Some x → p x ≡ true) → p x ≡ true
   at true h e more = let same : y ≡ x = cc in ap p (sym same) ∙ h
-  at false h e more = more (ap (λ k. slice_get (y ∷ ys) k) (next (position_or_len p ys)) ∙ e) where
-    next : (n : ℕ) → suc n ≡ 1 + n
-    next n = omega arith
+  at false h e more = grind arith
 
 -- two places before the same end
 after_section4-shared : (document : List Part) (i j : ℕ) → i ≤ j → j + 1 < after_section4 document i → after_section4 document j ≡ after_section4 document i
@@ -80,13 +79,10 @@ end_there document i j part e here =
 
 -- two places are an empty Block
 empty_block-at : (parts : List Part) → has_empty_block parts ≡ true → (slice_get parts 0 ≡ Some (Start blocks.Block)) × (slice_get parts 1 ≡ Some (End blocks.Block))
-empty_block-at (Start blocks.Block ∷ End blocks.Block ∷ rest) h = (refl, refl)
-empty_block-at _ h = absurd cc
+empty_block-at parts h = grind arith
 
 empty_block-from : (parts : List Part) → slice_get parts 0 ≡ Some (Start blocks.Block) → slice_get parts 1 ≡ Some (End blocks.Block) → has_empty_block parts ≡ true
-empty_block-from [] h i = absurd cc
-empty_block-from (p ∷ []) h i = absurd cc
-empty_block-from (p ∷ q ∷ rest) h i = grind arith
+empty_block-from parts h i = grind arith
 
 -- and what stands at the places of a skipped pair
 pair_there : (document : List Part) (i : ℕ) → skips_pair document i ≡ true
@@ -129,12 +125,7 @@ skipped_by : (document : List Part) (k : ℕ) → is_skipped document k ≡ true
     → (i : ℕ) × SkipsAt document i × ((k ≡ after_section4 document i) ⊎ (k ≡ after_section4 document i + 1))
 skipped_by document k h = at (any_found (skips document k) document 0 h) where
   by : (i : ℕ) (part : Part) → slice_get document i ≡ Some part → skips document k i part ≡ true → (i : ℕ) × SkipsAt document i × ((k ≡ after_section4 document i) ⊎ (k ≡ after_section4 document i + 1))
-  by i part here h =
-      let first : (is_section4_start part && skips_pair document i) ≡ true = (and_parts (is_section4_start part && skips_pair document i) _ h).0 in (
-        i,
-        (here ∙ ap (λ p. Some p) (start_is part (and_parts (is_section4_start part) (skips_pair document i) first).0), (and_parts (is_section4_start part) (skips_pair document i) first).1),
-        grind (arith, nat_tests),
-      )
+  by i part here h = grind (arith, and_parts, start_is, nat_tests)
 
   at : ((i : ℕ) × (part : Part) × (slice_get document i ≡ Some part) × (skips document k (0 + i) part ≡ true))
       → (i : ℕ) × SkipsAt document i × ((k ≡ after_section4 document i) ⊎ (k ≡ after_section4 document i + 1))
@@ -152,29 +143,11 @@ after_section4-later document i = omega arith
 
 module _ (document : List Part) where
   pub KnowsPairs-none : (pairs : Pairs) → pairs.end ≡ 0 → pairs.has_pair ≡ false → KnowsPairs document 0 pairs
-  KnowsPairs-none pairs e h = record {
-    found = λ pair. absurd (both_ways pairs.has_pair h pair);
-    ahead = λ l. absurd (omega arith);
-    earlier = λ i l skips. absurd (omega arith);
-  }
+  KnowsPairs-none pairs e h = grind (arith, both_ways)
 
   -- over a part that is no start of Section4
   pub KnowsPairs-more : (index : ℕ) (pairs : Pairs) → (slice_get document index ≡ Some (Start blocks.Section4) → ⊥) → KnowsPairs document index pairs → KnowsPairs document (index + 1) pairs
-  KnowsPairs-more index pairs other knows = record {
-    found = knows.found;
-    ahead = λ l. more (knows.ahead (omega arith));
-    earlier = λ i l skips. at i l skips (cases i l);
-  } where
-    more : ((i : ℕ) × (i < index) × (after_section4 document i ≡ pairs.end + 1) × (pairs.has_pair ≡ skips_pair document i))
-        → (i : ℕ) × (i < index + 1) × (after_section4 document i ≡ pairs.end + 1) × (pairs.has_pair ≡ skips_pair document i)
-    more (i, l, e, h) = (i, omega arith, e, h)
-
-    cases : (i : ℕ) → i < index + 1 → (i < index) ⊎ (i ≡ index)
-    cases i l = grind arith
-
-    at : (i : ℕ) → i < index + 1 → SkipsAt document i → (i < index) ⊎ (i ≡ index) → ((after_section4 document i ≡ pairs.end + 1) × (pairs.has_pair ≡ true)) ⊎ (after_section4 document i + 2 < index + 1)
-    at i l skips (inl less) = elim (knows.earlier i less skips) [ inl h ↦ inl h | inr h ↦ inr (omega arith) ]
-    at i l skips (inr same) = absurd (other (ap (λ k. slice_get document k) (sym same) ∙ skips.0))
+  KnowsPairs-more index pairs other knows = grind arith
 
   -- a start before an end that is known
   module _ (index : ℕ) (pairs : Pairs) (here : slice_get document index ≡ Some (Start blocks.Section4)) (knows : KnowsPairs document index pairs) (before : index < pairs.end) where
@@ -188,17 +161,7 @@ module _ (document : List Part) where
     shared_answer = grind (arith, shared, same_end)
 
     pub KnowsPairs-shared : KnowsPairs document (index + 1) pairs
-    KnowsPairs-shared = record {
-      found = knows.found;
-      ahead = λ l. (index, omega arith, same_end, shared_answer);
-      earlier = λ i l skips. at i skips (cases i l);
-    } where
-      cases : (i : ℕ) → i < index + 1 → (i < index) ⊎ (i ≡ index)
-      cases i l = grind arith
-
-      at : (i : ℕ) → SkipsAt document i → (i < index) ⊎ (i ≡ index) → ((after_section4 document i ≡ pairs.end + 1) × (pairs.has_pair ≡ true)) ⊎ (after_section4 document i + 2 < index + 1)
-      at i skips (inl less) = elim (knows.earlier i less skips) [ inl h ↦ inl h | inr h ↦ inr (omega arith) ]
-      at i skips (inr same) = inl (ap (after_section4 document) same ∙ same_end, shared_answer ∙ ap (λ k. skips_pair document k) (sym same) ∙ skips.1)
+    KnowsPairs-shared = grind (arith, same_end, shared_answer)
 
   -- a start that looks for its end
   pub KnowsPairs-found : (index : ℕ) (pairs next : Pairs) → slice_get document index ≡ Some (Start blocks.Section4) → KnowsPairs document index pairs → pairs.end ≤ index
@@ -216,23 +179,16 @@ module _ (document : List Part) where
     not_end i same = false≢true (end_there document i index (Start blocks.Section4) same here)
 
     not_first : (i : ℕ) → skips_pair document i ≡ true → index ≡ after_section4 document i → ⊥
-    not_first i pair same = different (sym here ∙ ap (λ k. slice_get document k) same ∙ (pair_there document i pair).0) where
-      different : Some (Start blocks.Section4) ≡ Some (Start blocks.Block) → ⊥
-      different e = cc
+    not_first i pair same = grind (arith, pair_there)
 
     not_second : (i : ℕ) → skips_pair document i ≡ true → index ≡ after_section4 document i + 1 → ⊥
-    not_second i pair same = different (sym here ∙ ap (λ k. slice_get document k) same ∙ (pair_there document i pair).1) where
-      different : Some (Start blocks.Section4) ≡ Some (End blocks.Block) → ⊥
-      different e = cc
+    not_second i pair same = grind (arith, pair_there)
 
     behind : (a : ℕ) → a ≤ index + 1 → (index + 1 ≡ a → ⊥) → (index ≡ a → ⊥) → (index ≡ a + 1 → ⊥) → a + 2 < index + 1
     behind a l no_end no_first no_second = grind arith
 
     at : (i : ℕ) → SkipsAt document i → (i < index) ⊎ (i ≡ index) → ((after_section4 document i ≡ next.end + 1) × (next.has_pair ≡ true)) ⊎ (after_section4 document i + 2 < index + 1)
-    at i skips (inl less) = still (knows.earlier i less skips) where
-      still : ((after_section4 document i ≡ pairs.end + 1) × (pairs.has_pair ≡ true)) ⊎ (after_section4 document i + 2 < index) → ((after_section4 document i ≡ next.end + 1) × (next.has_pair ≡ true)) ⊎ (after_section4 document i + 2 < index + 1)
-      still (inl g) = inr (behind (after_section4 document i) (omega (arith, g.0)) (not_end i) (not_first i skips.1) (not_second i skips.1))
-      still (inr g) = inr (omega arith)
+    at i skips (inl less) = grind (arith, behind, not_end, not_first, not_second)
     at i skips (inr same) = inl (ap (after_section4 document) same ∙ sym e, h ∙ ap (λ k. skips_pair document k) (sym same) ∙ skips.1)
 
   -- ---- what it tells of a mark
@@ -249,21 +205,11 @@ module _ (document : List Part) where
   skipped-shown index pairs block knows mark h = at (skipped_by document index h) where
     at : ((i : ℕ) × SkipsAt document i × ((index ≡ after_section4 document i) ⊎ (index ≡ after_section4 document i + 1)))
         → (pairs.has_pair ≡ true) × (block ≡ blocks.Block) × (pairs.end < index) × (index ≤ pairs.end + 2)
-    at (i, skips, place) = still (knows.earlier i (near (after_section4 document i) (after_section4-later document i) place) skips) where
-      near : (a : ℕ) → i + 2 ≤ a → (index ≡ a) ⊎ (index ≡ a + 1) → i < index + 1
-      near a l place = grind arith
-
-      first : (a : ℕ) → a ≡ pairs.end + 1 → (index ≡ a) ⊎ (index ≡ a + 1) → (pairs.end < index) × (index ≤ pairs.end + 2)
-      first a e (inl p) = (omega arith, omega arith)
-      first a e (inr p) = (omega arith, omega arith)
-
-      passed : (a : ℕ) → a + 2 < index + 1 → (index ≡ a) ⊎ (index ≡ a + 1) → ⊥
-      passed a l (inl p) = omega arith
-      passed a l (inr p) = omega arith
-
-      still : ((after_section4 document i ≡ pairs.end + 1) × (pairs.has_pair ≡ true)) ⊎ (after_section4 document i + 2 < index + 1) → (pairs.has_pair ≡ true) × (block ≡ blocks.Block) × (pairs.end < index) × (index ≤ pairs.end + 2)
-      still (inl g) = let there : (pairs.end < index) × (index ≤ pairs.end + 2) = first (after_section4 document i) g.0 place in (g.1, is_block index i block skips.1 place mark, there.0, there.1)
-      still (inr g) = absurd (passed (after_section4 document i) g place)
+    at (i, skips, place) =
+        let later : i + 2 ≤ after_section4 document i = after_section4-later document i in
+        let near : i < index + 1 = grind arith in
+        let is : block ≡ blocks.Block = is_block index i block skips.1 place mark in
+        elim (knows.earlier i near skips) [ inl g ↦ (g.1, is, grind arith, grind arith) | inr g ↦ absurd (grind arith) ]
 
   pub skipped-known : (index : ℕ) (pairs : Pairs) → KnowsPairs document (index + 1) pairs → pairs.has_pair ≡ true → pairs.end < index → index ≤ pairs.end + 2 → is_skipped document index ≡ true
   skipped-known index pairs knows h l m = grind (arith, skipped_from)
@@ -283,32 +229,53 @@ module _ (document : List Part) (index : ℕ) (pairs : Pairs) (block : Block) (k
   pub skipped-other : (block ≡ blocks.Block → ⊥) → false ≡ is_skipped document index
   skipped-other other = same_tests false (is_skipped document index) (λ h. absurd (false≢true h)) (λ h. absurd (other (skipped-shown document index pairs block knows mark h).1))
 
--- a block that is no Section4
-pub is_section4_start-other : (block : Block) → (block ≡ blocks.Section4 → ⊥) → is_section4_start (Start block) ≡ false
-is_section4_start-other blocks.Section4 unlike = absurd (unlike refl)
-is_section4_start-other other unlike = refl
+-- ---- what the page remembers of them, step by step
 
-pub is_section4_start-same : (block : Block) → block ≡ blocks.Section4 → is_section4_start (Start block) ≡ true
-is_section4_start-same this e = rw e refl
+-- the first Section4 end, by the test on parts
+end_test : (part : Part) → whole.is_section4_end (Some part) ≡ margin.is_section4_end part
+end_test part = grind arith
 
--- what the start of a block leaves: where its end is known, and where it looks for it
-module _ (document : List Part) (index : ℕ) (pairs next : Pairs) (this : Block) (same : this ≡ blocks.Section4)
-    (here : slice_get document index ≡ Some (Start this)) (knows : KnowsPairs document index pairs) where
-  section4_here : slice_get document index ≡ Some (Start blocks.Section4)
-  section4_here = here ∙ ap (λ b. Some (Start b)) same
+same_position : (p q : Part → Bool) → ((x : Part) → p x ≡ q x) → (xs : List Part) → position_or_len p xs ≡ position_or_len q xs
+same_position p q same [] = refl
+same_position p q same (x ∷ xs) = rw (same x, same_position p q same xs) refl
 
-  abbrev pub IsLookedAt : Type 0
-  IsLookedAt = (next.has_pair ≡ (is_section4_start (Start this) && skips_pair document index)) × KnowsPairs document (index + 1) next
+section4_end_is : (document : List Part) (index : ℕ) → whole.section4_end document index + 1 ≡ after_section4 document index
+section4_end_is document index = grind (arith, same_position, end_test)
 
-  pub looked-shared : index < pairs.end → next ≡ pairs → IsLookedAt
-  looked-shared l e = (
-    ap (λ (p : Pairs). p.has_pair) e ∙ shared_answer document index pairs section4_here knows l ∙ ap (λ b. b && skips_pair document index) (sym (is_section4_start-same this same)),
-    subst (λ p. KnowsPairs document (index + 1) p) (sym e) (KnowsPairs-shared document index pairs section4_here knows l),
-  )
+block_start : (part : Option Part) → IsTrue (whole.is_block_start part) ↔ (part ≡ Some (Start blocks.Block))
+block_start part = grind arith
 
-  pub looked-found : (last : ℕ) → pairs.end ≤ index → last + 1 ≡ after_section4 document index → next.end ≡ last → next.has_pair ≡ has_empty_block (drop (last + 1) document) → IsLookedAt
-  looked-found last l first e h =
-      let pair : next.has_pair ≡ skips_pair document index = h ∙ ap (λ k. has_empty_block (drop k document)) first in (
-        pair ∙ ap (λ b. b && skips_pair document index) (sym (is_section4_start-same this same)),
-        KnowsPairs-found document index pairs next section4_here knows l (ap (λ n. n + 1) e ∙ first) pair,
-      )
+block_end : (part : Option Part) → IsTrue (whole.is_block_end part) ↔ (part ≡ Some (End blocks.Block))
+block_end part = grind arith
+
+empty_block_is : (document : List Part) (index : ℕ) → length document < 2 ^ 64 → whole.has_empty_block document index ≡ has_empty_block (drop (index + 1) document)
+empty_block_is document index small =
+    empty_block-is document (index + 1) (whole.is_block_start (slice_get document (min (index + 1) 18446744073709551615))) (whole.is_block_end (slice_get document (min (index + 2) 18446744073709551615)))
+    (subst (λ (o : Option Part). IsTrue (whole.is_block_start (slice_get document (min (index + 1) 18446744073709551615))) ↔ o ≡ Some (Start blocks.Block)) (slice_get-saturates document (index + 1) small)
+    (block_start (slice_get document (min (index + 1) 18446744073709551615))))
+    (subst (λ (o : Option Part). IsTrue (whole.is_block_end (slice_get document (min (index + 2) 18446744073709551615))) ↔ o ≡ Some (End blocks.Block))
+    (slice_get-saturates document (index + 2) small ∙ ap (λ (k : ℕ). slice_get document k) (omega arith)) (block_end (slice_get document (min (index + 2) 18446744073709551615))))
+
+module _ (document : List Part) (small : length document < 2 ^ 64) where
+  pub knows_none : KnowsPairs document 0 whole.no_pairs
+  knows_none = KnowsPairs-none document whole.no_pairs refl refl
+
+  -- the start of a block
+  pub knows_start : (index : ℕ) (b : Block) (pairs : Pairs) → slice_get document index ≡ Some (Start b) → KnowsPairs document index pairs
+      → KnowsPairs document (index + 1) (whole.pairs_at document index b pairs) × (whole.is_adjacent b (whole.pairs_at document index b pairs) ≡ (is_section4_start (Start b) && skips_pair document index))
+  knows_start index b pairs here knows =
+      grind (arith, by_test, KnowsPairs-found, nat_tests, section4_end_is, KnowsPairs-shared, shared_answer, empty_block_is, KnowsPairs-more)
+
+  pub skips_is : (index : ℕ) (b : Block) (pairs : Pairs) → KnowsPairs document (index + 1) pairs → HasMarkAt document index b → whole.skips pairs index b ≡ is_skipped document index
+  skips_is index b pairs knows mark = at (whole.is_block b) refl where
+    within : (p : Bool) (a c : ℕ) → IsTrue (p && (nat_lt a c && nat_le (c - a) 2)) ↔ (p ≡ true) × (a < c) × (c ≤ a + 2)
+    within true a c = ((λ h. (refl, grind (arith, nat_tests), grind (arith, nat_tests))), (λ h. grind (arith, nat_tests)))
+    within false a c = ((λ h. absurd cc), (λ h. absurd (let no : false ≡ true = h.0 in cc)))
+
+    at : (c : Bool) → whole.is_block b ≡ c → ((pairs.has_pair && c) && (nat_lt pairs.end index && nat_le (index - pairs.end) 2)) ≡ is_skipped document index
+    at true h =
+        ap (λ t. t && (nat_lt pairs.end index && nat_le (index - pairs.end) 2)) (and-true pairs.has_pair)
+        ∙ skipped-is document index pairs b knows mark (pairs.has_pair && (nat_lt pairs.end index && nat_le (index - pairs.end) 2)) (within pairs.has_pair pairs.end index)
+    at false h =
+        ap (λ t. t && (nat_lt pairs.end index && nat_le (index - pairs.end) 2)) (and-false pairs.has_pair)
+        ∙ skipped-other document index pairs b knows mark (λ e. let yes : whole.is_block b ≡ true = ap whole.is_block e in let no : true ≡ false = sym yes ∙ h in cc)

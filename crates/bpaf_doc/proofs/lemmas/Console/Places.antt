@@ -23,3 +23,5 @@ first_end-later (p ∷ parts) (suc at) within e =
     first_end-later parts at (omega arith) e ∙ ap (λ n. 1 + first_end (drop n (p ∷ parts))) (next at) where
       next : (at : ℕ) → suc (at + 1) ≡ suc at + 1
       next at = omega arith
+
+pub ruleset first_ends = (first_end-here, first_end-later)

@@ -1,7 +1,7 @@
 -- Words that are written at once are the same as one after another.
-use Rattle.std.specs.Prelude.{◌≡◌, ℕ, ◌+◌, ◌-◌, ◌≤◌, ◌==◌, Bool, true, false, not, ◌&&◌, List, [], ◌∷◌, ◌++◌, refl, length, flat_map, nat_lt, if◌then◌else◌}
+use Rattle.std.specs.Prelude.{◌≡◌, ℕ, ◌+◌, ◌≤◌, ◌==◌, Bool, true, false, not, ◌&&◌, List, ◌∷◌, ◌++◌, refl, length, flat_map, nat_lt, if◌then◌else◌}
 use Rattle.std.specs.List.{All, list_all, list_any}
-use Rattle.std.specs.Str.{bytes_eq, IsUtf8}
+use Rattle.std.specs.Str.{IsUtf8}
 use Rattle.std.proofs.Common.{sym, subst, ap, ap₂, arith, ◌∙◌, append_assoc, append-nil}
 use Rattle.std.proofs.lemmas.List.Elements.{All-head, All-tail}
 use Rattle.std.proofs.lemmas.List.Folds.{list_all-append}
@@ -14,7 +14,7 @@ use Rattle.bpaf_doc.specs.Splitter.Promises.{IsText}
 use Rattle.bpaf_doc.specs.Splitter.Steps.Runs.{IsLettered, is_lettered, letters}
 use Rattle.bpaf_doc.specs.Console.Steps.Hiding.{hides}
 use Rattle.bpaf_doc.specs.Console.Steps.Ink.{shown_ink}
-use Rattle.bpaf_doc.specs.Console.Steps.Page.{Sheet, IsWithinLine, saturated, margin_of, is_too_wide, wraps, wrapped, room_made, blanks_put, raw_added, placed, columns_of, raw_put, text_put}
+use Rattle.bpaf_doc.specs.Console.Steps.Page.{Sheet, IsWithinLine, saturated, margin_of, is_too_wide, wraps, room_made, placed, columns_of, raw_put, text_put}
 use Rattle.bpaf_doc.proofs.lemmas.Splitter.Facts.{ink_of_chunks, text_chunks}
 use Rattle.bpaf_doc.proofs.lemmas.Splitter.Letters.{letters-append, lettered_columns}
 use Rattle.bpaf_doc.proofs.lemmas.Splitter.Runs.{AreWords, no_words, a_word, words_of_line}
@@ -37,16 +37,11 @@ module _ (width tab_stop : ℕ) (margins : List ℕ) (small : width ≤ 18446744
   no_break out column n h = ap (λ b. not (length out == 0) && b) (fits out column n h) ∙ and-false (not (length out == 0))
 
   pub no_room : (out : List ℕ) (column n : ℕ) → column + n ≤ width → room_made n (at out column) ≡ at out column
-  no_room out column n h =
-      ap (λ b. if length out == 0 then at out column else if b then wrapped (at out column) else at out column) (fits out column n h) ∙ grind arith
+  no_room out column n h = grind (arith, fits)
 
   word_placed : (out raw : List ℕ) (column weight : ℕ) → margin_of (at out column) ≤ column → column + weight ≤ width
       → placed raw weight (at out column) ≡ at (out ++ raw) (column + weight)
-  word_placed out raw column weight level h =
-      let none : margin_of (at out column) - column ≡ 0 = omega (arith, level) in
-      let still : saturated (saturated (column + 0) + weight) ≡ column + weight = omega (arith, h, small) in
-      ap (λ k. raw_added raw weight (blanks_put k (at out column))) none
-      ∙ ap₂ (λ o n. at (o ++ raw) n) (append-nil out) still
+  word_placed out raw column weight level h = grind (arith, append-nil)
 
   weighs : (raw : List ℕ) (weight : ℕ) → weight ≡ columns raw → columns_of raw weight ≡ weight
   weighs raw weight e = elim (nat_lt weight 1000000) as (λ (b : Bool). (if b then weight else columns raw) ≡ weight) [ true ↦ refl | false ↦ sym e ]
@@ -54,18 +49,11 @@ module _ (width tab_stop : ℕ) (margins : List ℕ) (small : width ≤ 18446744
   word_put : (out raw : List ℕ) (column weight : ℕ) → weight ≡ columns raw → margin_of (at out column) ≤ column → column + weight ≤ width
       → raw_put raw weight (at out column) ≡ at (out ++ raw) (column + weight)
   unfolding raw_put
-  word_put out raw column weight e level h =
-      ap (λ m. if wraps m (at out column) && bytes_eq raw (32 ∷ []) then room_made m (at out column) else placed raw weight (room_made m (at out column))) (weighs raw weight e)
-      ∙ ap (λ b. if b && bytes_eq raw (32 ∷ []) then room_made weight (at out column) else placed raw weight (room_made weight (at out column))) (no_break out column weight h)
-      ∙ ap (λ s. placed raw weight s) (no_room out column weight h)
-      ∙ word_placed out raw column weight level h
+  word_put out raw column weight e level h = grind (arith, weighs, no_break, no_room, word_placed)
 
   words_put : {chunks : List Chunk} {text : List ℕ} → AreWords chunks text → All IsText chunks → IsLettered text → (out : List ℕ) (column : ℕ) → margin_of (at out column) ≤ column → column + letters text ≤ width
       → (full : Bool) (rest : List Chunk) → text_put full (chunks ++ rest) (at out column) ≡ text_put full rest (at (out ++ text) (column + letters text))
-  words_put {chunks} {text} (no_words ec et) us p out column level h full rest =
-      let stays : column ≡ column + letters text = omega (arith, ap letters et) in
-      ap (λ cs. text_put full (cs ++ rest) (at out column)) ec
-      ∙ ap₂ (λ o n. text_put full rest (at o n)) (sym (ap (λ t. out ++ t) et ∙ append-nil out)) stays
+  words_put {chunks} {text} (no_words ec et) us p out column level h full rest = grind (arith, append-nil)
   words_put {chunks} {text} (a_word bytes more others ec et w) us p out column level h full rest =
       let both : (list_all is_lettered bytes && list_all is_lettered more) ≡ true
       = sym (list_all-append is_lettered bytes more) ∙ ap (list_all is_lettered) (sym et) ∙ p in
@@ -89,22 +77,13 @@ within s is = ap₂ (λ a b. record s { asks = a; at_body = b }) is.nothing_aske
 -- the words of a run
 pub run_put : (s : Sheet) (run : List ℕ) (full : Bool) (chunks rest : List Chunk) → IsWithinLine s → s.width ≤ 18446744073709551615 → chunks ≡ chunks_of run ++ rest → IsLine run → IsUtf8 run → IsLettered run
     → s.column + letters run ≤ s.width → text_put full rest (record s { out = s.out ++ run; column = s.column + letters run }) ≡ text_put full chunks s
-run_put s run full chunks rest is small e line u lettered h =
-    ap (λ t. text_put full rest (record t { out = s.out ++ run; column = s.column + letters run })) (within s is)
-    ∙ sym (words_put s.width s.tab_stop s.margins small (words_of_line run line) (text_chunks run u) lettered s.out s.column is.past_margin h full rest)
-    ∙ ap (λ t. text_put full (chunks_of run ++ rest) t) (sym (within s is))
-    ∙ ap (λ cs. text_put full cs s) (sym e)
+run_put s run full chunks rest is small e line u lettered h = grind (arith, within, words_put, words_of_line, text_chunks)
 
 -- ---- their ink, and what they hide
 
 words_ink : {chunks : List Chunk} {text : List ℕ} → AreWords chunks text → (full : Bool) (rest : List Chunk) → shown_ink full (chunks ++ rest) ≡ flat_map chunk_ink chunks ++ shown_ink full rest
-words_ink (no_words ec et) full rest =
-    ap (λ cs. shown_ink full (cs ++ rest)) ec ∙ sym (ap (λ cs. flat_map chunk_ink cs ++ shown_ink full rest) ec)
-words_ink (a_word bytes more others ec et w) full rest =
-    ap (λ cs. shown_ink full (cs ++ rest)) ec
-    ∙ ap (λ t. ink bytes ++ t) (words_ink w full rest)
-    ∙ sym (append_assoc (ink bytes) (flat_map chunk_ink others) (shown_ink full rest))
-    ∙ sym (ap (λ cs. flat_map chunk_ink cs ++ shown_ink full rest) ec)
+words_ink (no_words ec et) full rest = grind arith
+words_ink (a_word bytes more others ec et w) full rest = grind (arith, words_ink w full rest, append_assoc)
 
 pub run_ink : (before run : List ℕ) (full : Bool) (chunks rest : List Chunk) → chunks ≡ chunks_of run ++ rest → IsLine run → IsUtf8 run
     → (before ++ ink run) ++ shown_ink full rest ≡ before ++ shown_ink full chunks

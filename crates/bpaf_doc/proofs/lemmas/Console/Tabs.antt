@@ -45,9 +45,7 @@ first_columns-cons part parts = ap (λ ps. sum_by text_columns ps) (take_while-c
   at false = sum_by-cons text_columns part (before_first is_term_end parts)
 
 first_columns-one : (part : Part) → first_columns (part ∷ []) ≡ text_columns part
-first_columns-one (Text bytes style) = zero-add (columns bytes)
-first_columns-one (End blocks.ItemTerm) = refl
-first_columns-one _ = refl
+first_columns-one part = grind (arith, zero-add)
 
 first_columns-push : (parts : List Part) (part : Part) → first_columns (parts ++ part ∷ []) ≡ first_columns parts + (if list_any is_term_end parts then 0 else text_columns part)
 first_columns-push [] part = first_columns-one part ∙ sym (zero-add (text_columns part))
@@ -110,8 +108,7 @@ walk document before (Text bytes style ∷ rest) widest e =
     ((grind arith) ∙ ap sat (sym (term_length-push before (Text bytes style))))
     e (λ same. walk document (before ++ Text bytes style ∷ []) rest widest same)
 walk document before (Start blocks.ItemTerm ∷ rest) widest e =
-    passed document before rest (Start blocks.ItemTerm) widest true 0 (sym (is_in_term-push before (Start blocks.ItemTerm))) (ap sat (sym (term_length-push before (Start blocks.ItemTerm))))
-    e (λ same. walk document (before ++ Start blocks.ItemTerm ∷ []) rest widest same)
+    grind (arith, walk document (before ++ Start blocks.ItemTerm ∷ []) rest widest, passed, is_in_term-push, term_length-push)
 walk document before (Start b ∷ rest) widest e = quiet document before rest (Start b) widest refl refl refl e (λ same. walk document (before ++ Start b ∷ []) rest widest same)
 walk document before (End blocks.ItemTerm ∷ rest) widest e =
     passed document before rest (End blocks.ItemTerm) (wider widest (sat (term_length before))) false (sat (term_length before))

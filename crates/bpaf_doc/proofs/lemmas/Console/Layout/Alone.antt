@@ -7,7 +7,7 @@ use Rattle.bpaf_doc.specs.Console.Layout.{Shows, Stretch, Gap, Placed, Passed, P
 use Rattle.bpaf_doc.proofs.lemmas.Console.Layout.State.{State, Piece, Lines, Begins, first, stays, wraps, places, drops, Next, Grows, placing, breaking, passing, padded, trimmed, put}
 use Rattle.bpaf_doc.proofs.lemmas.Console.Layout.Back.{by_cases, EachPlace, each_grows, place_of, by_lines, same_padded}
 use Rattle.bpaf_doc.proofs.lemmas.Console.Layout.Text.{IsStarting, has_place, or_true_right}
-use Rattle.bpaf_doc.proofs.lemmas.Console.Layout.Split.{Cut, FirstOrLater, here, later, cut_cons, AfterGap, cut_gap, AfterPassed, cut_passed, AfterPads, cut_padded, has_newline}
+use Rattle.bpaf_doc.proofs.lemmas.Console.Layout.Split.{Cut, cut_cons, AfterGap, cut_gap, AfterPassed, cut_passed, AfterPads, cut_padded, has_newline}
 
 -- ---- helpers
 
@@ -43,9 +43,7 @@ abbrev pub AloneBefore : List Stretch → Place → Type 0
 AloneBefore r f = (m before : List Stretch) (e : Place) → Cut r m e before → is_whole_line (chunk_at e) ≡ true → has_newline m ≡ true
 
 alone_begins : {width : ℕ} {st : State} (p : Piece) (base : State) → width < 1_000_000 → IsStarting st → IsHeavy st → Begins width st p base → AloneBefore base.back (place_of p)
-alone_begins {st = st} p base small start h (first t s) = λ m before e there whole.
-    let none : has_place st.back ≡ false = (start t).1 in
-    let some : has_place st.back ≡ true = subst (λ x. has_place x ≡ true) (sym there ∙ ap (λ (y : State). y.back) s) (place_in m before e) in absurd cc
+alone_begins {st = st} p base small start h (first t s) = grind (arith, place_in)
 alone_begins {width} {st} p base small start h (stays t l w) = λ m before e there whole. at m before e there whole (lines_same_or_line l) (by_cases (has_newline m)) where
   at : (m before : List Stretch) (e : Place) → Cut base.back m e before → is_whole_line (chunk_at e) ≡ true → SameOrLine st base → (has_newline m ≡ true) ⊎ (has_newline m ≡ false) → has_newline m ≡ true
   at m before e there whole kind (inl n) = n
@@ -59,11 +57,7 @@ alone_padded n r f h = λ m before e there whole.
     ap has_newline found.is ∙ same_padded has_newline (λ x. refl) n found.rest ∙ h found.rest before e found.there whole
 
 heavy_put : (p : Piece) (base : State) (n : ℕ) → AloneBefore (padded n base.back) (place_of p) → IsHeavy (put n p.part p.bytes p.weight base)
-heavy_put p base n alone = λ m before e there whole none. at m before e whole none (cut_cons (Placed (place_of p)) (padded n base.back) m e before there) where
-  at : (m before : List Stretch) (e : Place) → is_whole_line (chunk_at e) ≡ true → has_newline m ≡ false → FirstOrLater (Placed (place_of p)) (padded n base.back) m e before
-      → 1_000_000 ≤ (put n p.part p.bytes p.weight base).column
-  at m before e whole none (here is x r) = grind (arith, heavy_weight)
-  at m before e whole none (later rest is there) = grind arith
+heavy_put p base n alone = grind (arith, cut_cons, heavy_weight)
 
 pub heavy_grows : {width : ℕ} {st after : State} {next : Next} → width < 1_000_000 → IsStarting st → Grows width st next after → IsHeavy st → IsHeavy after
 heavy_grows small start (placing p e (places base n b d a)) h = subst IsHeavy (sym a) (heavy_put p base n (alone_padded n base.back (place_of p) (alone_begins p base small start h b)))

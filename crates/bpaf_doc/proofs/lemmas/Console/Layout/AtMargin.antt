@@ -1,18 +1,17 @@
 -- The first inked chunk of a line stands at its margin, where only marks or one blank stand before it.
-use Rattle.std.specs.Prelude.{◌≡◌, ℕ, ◌+◌, ◌<◌, Bool, true, false, not, ◌&&◌, ◌==◌, List, [], ◌∷◌, length, codes, refl, ◌⊎◌}
-use Rattle.std.specs.List.{list_any}
+use Rattle.std.specs.Prelude.{◌≡◌, ℕ, ◌+◌, ◌<◌, Bool, true, false, not, ◌&&◌, List, [], ◌∷◌, length, codes, refl, ◌⊎◌}
 use Rattle.std.proofs.Common.{sym, subst, ap, arith, inl, inr, ◌∙◌}
 use Rattle.bpaf_doc.specs.declared.buffer.Block.{Block}
 use Rattle.bpaf_doc.specs.Splitter.Chunks.{Chunk, Raw, is_inked}
 use Rattle.bpaf_doc.specs.Shown.{is_term_ref, mark_bytes}
-use Rattle.bpaf_doc.specs.Console.Layout.{Event, Shows, Opens, Closes, Stretch, Gap, Placed, Passed, Place, chunk_at, event_bytes, is_inked_stretch, is_raw_or_ref}
+use Rattle.bpaf_doc.specs.Console.Layout.{Event, Shows, Stretch, Gap, Placed, Passed, Place, chunk_at, event_bytes, is_raw_or_ref}
 use Rattle.bpaf_doc.specs.declared.console.page.Asked.TheVariants.{Nothing}
-use Rattle.bpaf_doc.proofs.lemmas.Console.Layout.State.{State, Piece, Lines, Pads, to_margin, after_term, Begins, first, stays, wraps, places, drops, Next, raw, mark, Grows, placing, breaking, passing, padded, trimmed, has_text, put, Suits}
+use Rattle.bpaf_doc.proofs.lemmas.Console.Layout.State.{State, Piece, Lines, Pads, Begins, first, stays, wraps, places, drops, Next, raw, mark, Grows, placing, breaking, passing, padded, has_text, put, Suits}
 use Rattle.bpaf_doc.proofs.lemmas.Console.Layout.Back.{by_cases, EachPlace, each_grows, place_of, fits_of, by_lines, same_padded, by_mark}
 use Rattle.bpaf_doc.proofs.lemmas.Console.Layout.Columns.{Fills, column_back, column_padded, Agrees}
 use Rattle.bpaf_doc.proofs.lemmas.Console.Layout.Text.{EachPassed, NoInk, ink_text, IsStarting, begins_column, begins_margin, or_false_right}
 use Rattle.bpaf_doc.proofs.lemmas.Console.Layout.Pads.{pads_back, HasNoPads, pads_begins}
-use Rattle.bpaf_doc.proofs.lemmas.Console.Layout.Split.{events_back, Cut, FirstOrLater, here, later, cut_cons, AfterGap, cut_gap, AfterPassed, cut_passed, AfterPads, cut_padded, has_newline, inked_line, inked_since, ink_at, Earlier, after_lines, lines_same}
+use Rattle.bpaf_doc.proofs.lemmas.Console.Layout.Split.{events_back, Cut, FirstOrLater, here, later, cut_cons, cut_gap, AfterPassed, cut_passed, AfterPads, cut_padded, has_newline, inked_line, inked_since, ink_at, Earlier, after_lines, lines_same}
 
 -- ---- only marks since the last ink
 
@@ -27,15 +26,11 @@ no_backquote : (b : Block) → is_term_ref b ≡ false → length (mark_bytes b)
 no_backquote b h = rw h refl
 
 bare_event : (event : Event) → is_raw_or_ref event ≡ false → length (event_bytes event) ≡ 0
-bare_event (Shows k chunk) h = refl
-bare_event (Opens b) h = no_backquote b h
-bare_event (Closes b) h = no_backquote b h
+bare_event event h = grind (arith, no_backquote)
 
 quiet_column : (r : List Stretch) → is_quiet r ≡ true → inked_line r ≡ false → pads_back r ≡ 0 → column_back r ≡ 0
 quiet_column [] q i p = refl
-quiet_column (Gap b ∷ r) q i p = elim (by_cases (b == 10)) [ inl e ↦ rw e refl | inr e ↦ let some : 1 + pads_back r ≡ 0 = rw e at p in absurd (omega arith) ]
-quiet_column (Placed e ∷ r) q i p = let some : true ≡ false = rw q at i in absurd cc
-quiet_column (Passed event ∷ r) q i p = grind (arith, quiet_column r, bare_event, or_false_right)
+quiet_column (x ∷ r) q i p = grind (arith, quiet_column r, bare_event, or_false_right)
 
 -- ---- one blank since the last ink
 
@@ -44,20 +39,7 @@ abbrev pub IsLast : State → Type 0
 IsLast st = (m before : List Stretch) (e : Place) → Cut st.back m e before → is_inked (chunk_at e) ≡ true → events_back m ≡ [] → (m ≡ []) × (st.asked ≡ Nothing)
 
 pub last_grows : {width : ℕ} {st after : State} {next : Next} → Grows width st next after → IsLast st → IsLast after
-last_grows (placing p e (places base n b d a)) h = subst IsLast (sym a) (λ m before g there i none. at m before g none (cut_cons (Placed (place_of p)) (padded n base.back) m g before there)) where
-  at : (m before : List Stretch) (g : Place) → events_back m ≡ [] → FirstOrLater (Placed (place_of p)) (padded n base.back) m g before → (m ≡ []) × (Nothing ≡ Nothing)
-  at m before g none (here is x r) = (is, refl)
-  at m before g none (later rest is r) = let some : Shows p.part (chunk_at (place_of p)) ∷ events_back rest ≡ [] = sym (ap events_back is) ∙ none in absurd cc
-last_grows (placing p e (drops t mid l w b a)) h = subst IsLast (sym a) (λ m before g there i none.
-    let found : AfterPassed (Shows p.part (Raw p.bytes p.weight)) (Gap 10 ∷ trimmed mid.back) m g before = cut_passed (Shows p.part (Raw p.bytes p.weight)) (Gap 10 ∷ trimmed mid.back) m g before there in
-    let some : Shows p.part (Raw p.bytes p.weight) ∷ events_back found.rest ≡ [] = sym (ap events_back found.is) ∙ none in absurd cc)
-last_grows {st = st} (breaking k chunk e a) h = subst IsLast (sym a) (λ m before g there i none.
-    let gap : AfterGap 10 (Passed (Shows k chunk) ∷ st.back) m g before = cut_gap 10 (Passed (Shows k chunk) ∷ st.back) m g before there in
-    let found : AfterPassed (Shows k chunk) st.back gap.rest g before = cut_passed (Shows k chunk) st.back gap.rest g before gap.there in
-    let some : Shows k chunk ∷ events_back found.rest ≡ [] = sym (ap events_back gap.is ∙ ap events_back found.is) ∙ none in absurd cc)
-last_grows {st = st} (passing event margin e a) h = subst IsLast (sym a) (λ m before g there i none.
-    let found : AfterPassed event st.back m g before = cut_passed event st.back m g before there in
-    let some : event ∷ events_back found.rest ≡ [] = sym (ap events_back found.is) ∙ none in absurd cc)
+last_grows e h = grind (arith, cut_cons, cut_passed, cut_gap)
 
 -- after one blank and a newline the column is 0
 abbrev pub IsAtStart : State → Type 0
@@ -65,9 +47,7 @@ IsAtStart st = (m before : List Stretch) (e : Place) (k : ℕ) → Cut st.back m
     → has_newline m ≡ true → column_back st.back ≡ 0
 
 no_place_first : (st : State) → EachPlace Fills st.back → EachPassed NoInk st.back → has_text st.back ≡ false → (m before : List Stretch) (e : Place) → Cut st.back m e before → is_inked (chunk_at e) ≡ true → ⊥
-no_place_first st f q none m before e there i =
-    let ink : list_any is_inked_stretch st.back ≡ true = subst (λ x. list_any is_inked_stretch x ≡ true) (sym there) (ink_at m e before i) in
-    let text : has_text st.back ≡ true = ink_text st.back f q ink in cc
+no_place_first st f q none m before e there i = grind (arith, ink_at, ink_text)
 
 -- after what was asked for, directly after an inked chunk, nothing was written
 last_lines : {st mid : State} → IsLast st → Lines st mid → (m before : List Stretch) (e : Place) → Cut mid.back m e before → is_inked (chunk_at e) ≡ true → events_back m ≡ [] → m ≡ []
@@ -127,8 +107,7 @@ module _ (margin_of : ℕ → ℕ) where
   IsExact r f = inked_line r ≡ false → (is_quiet r ≡ true) ⊎ AfterBlank r f.part → column_back r ≡ margin_of f.part
 
   exact_pads : (n : ℕ) (base : State) (m : ℕ) → base.margin ≡ m → base.column ≡ 0 → Pads base n → n ≡ m
-  exact_pads n base m a c (to_margin e) = omega arith
-  exact_pads n base m a c (after_term t wide few e) = absurd (omega arith)
+  exact_pads n base m a c h = grind arith
 
   lines_start : {st mid : State} → IsAtStart st → Lines st mid → IsAtStart mid
   lines_start h l = by_lines IsAtStart l h (λ m before e k there i blank line. refl) (λ m before e k there i blank line. refl) (λ m before e k there i blank line. refl)

@@ -1,5 +1,5 @@
 -- Facts that hold of each place of a page, and what keeps them.
-use Rattle.std.specs.Prelude.{◌≡◌, ℕ, zero, suc, ◌+◌, ◌<◌, ◌≤◌, ⊤, Bool, true, false, List, [], ◌∷◌, codes, refl}
+use Rattle.std.specs.Prelude.{◌≡◌, ℕ, zero, suc, ◌+◌, ◌<◌, ◌≤◌, ⊤, Bool, true, false, List, [], ◌∷◌, ◌++◌, codes, refl, if◌then◌else◌}
 use Rattle.std.proofs.Common.{sym, subst, ◌∙◌, ◌⊎◌, inl, inr}
 use Rattle.bpaf_doc.specs.Splitter.Chunks.{Chunk, Paragraph, LineBreak, columns, is_inked, has_some}
 use Rattle.bpaf_doc.specs.declared.buffer.Block.{Block}
@@ -10,6 +10,11 @@ pub by_cases : (b : Bool) → (b ≡ true) ⊎ (b ≡ false)
 by_cases true = inl refl
 by_cases false = inr refl
 
+-- P of what a test chooses
+pub by_test : {A : Type 0} (P : A → Type 0) (b : Bool) (x y : A) → (b ≡ true → P x) → (b ≡ false → P y) → P (if b then x else y)
+by_test P true x y holds fails = holds refl
+by_test P false x y holds fails = fails refl
+
 -- P of each place and what stands before it, newest first
 abbrev pub EachPlace : (List Stretch → Place → Type 0) → List Stretch → Type 0
 EachPlace P [] = ⊤
@@ -17,21 +22,13 @@ EachPlace P (Gap b ∷ r) = EachPlace P r
 EachPlace P (Passed event ∷ r) = EachPlace P r
 EachPlace P (Placed f ∷ r) = P r f × EachPlace P r
 
+pub each_back : (P : List Stretch → Place → Type 0) (m r : List Stretch) → EachPlace P (m ++ r) → EachPlace P r
+each_back P [] r h = h
+each_back P (Placed g ∷ m) r h = each_back P m r h.1
+each_back P (_ ∷ m) r h = each_back P m r h
+
 abbrev pub KeepsCut : (List Stretch → Place → Type 0) → Type 0
 KeepsCut P = (r : List Stretch) (f : Place) → is_inked (chunk_at f) ≡ true → P r f → P r (cut f)
-
--- the trimmed page at each form of its last stretch
-pub trimmed_inked : (e : Place) (r : List Stretch) → is_inked (chunk_at e) ≡ true → trimmed (Placed e ∷ r) ≡ Placed (cut e) ∷ r
-trimmed_inked e r h = rw h refl
-
-pub trimmed_plain : (e : Place) (r : List Stretch) → is_inked (chunk_at e) ≡ false → trimmed (Placed e ∷ r) ≡ Passed (Shows e.part (chunk_at e)) ∷ trimmed r
-trimmed_plain e r h = rw h refl
-
-pub trimmed_bytes : (event : Event) (r : List Stretch) → has_some (event_bytes event) ≡ true → trimmed (Passed event ∷ r) ≡ Passed event ∷ r
-trimmed_bytes event r h = rw h refl
-
-pub trimmed_bare : (event : Event) (r : List Stretch) → has_some (event_bytes event) ≡ false → trimmed (Passed event ∷ r) ≡ Passed event ∷ trimmed r
-trimmed_bare event r h = rw h refl
 
 -- P of a page with one blank more is P of it with some more
 pub by_padded : (P : List Stretch → Type 0) → ((r : List Stretch) → P r → P (Gap 32 ∷ r)) → (n : ℕ) (r : List Stretch) → P r → P (padded n r)
@@ -51,14 +48,10 @@ pub by_trimmed : (P : List Stretch → List Stretch → Type 0) → P [] [] → 
     → (r : List Stretch) → P r (trimmed r)
 by_trimmed P none gap inked plain bytes bare [] = none
 by_trimmed P none gap inked plain bytes bare (Gap b ∷ r) = gap b r (trimmed r) (by_trimmed P none gap inked plain bytes bare r)
-by_trimmed P none gap inked plain bytes bare (Placed e ∷ r) = at (by_cases (is_inked (chunk_at e))) (by_trimmed P none gap inked plain bytes bare r) where
-  at : (is_inked (chunk_at e) ≡ true) ⊎ (is_inked (chunk_at e) ≡ false) → P r (trimmed r) → P (Placed e ∷ r) (trimmed (Placed e ∷ r))
-  at (inl i) ih = subst (P (Placed e ∷ r)) (sym (trimmed_inked e r i)) (inked e r i)
-  at (inr i) ih = subst (P (Placed e ∷ r)) (sym (trimmed_plain e r i)) (plain e r (trimmed r) i ih)
-by_trimmed P none gap inked plain bytes bare (Passed event ∷ r) = at (by_cases (has_some (event_bytes event))) (by_trimmed P none gap inked plain bytes bare r) where
-  at : (has_some (event_bytes event) ≡ true) ⊎ (has_some (event_bytes event) ≡ false) → P r (trimmed r) → P (Passed event ∷ r) (trimmed (Passed event ∷ r))
-  at (inl i) ih = subst (P (Passed event ∷ r)) (sym (trimmed_bytes event r i)) (bytes event r i)
-  at (inr i) ih = subst (P (Passed event ∷ r)) (sym (trimmed_bare event r i)) (bare event r (trimmed r) i ih)
+by_trimmed P none gap inked plain bytes bare (Placed e ∷ r) =
+    by_test (P (Placed e ∷ r)) (is_inked (chunk_at e)) _ _ (inked e r) (λ i. plain e r (trimmed r) i (by_trimmed P none gap inked plain bytes bare r))
+by_trimmed P none gap inked plain bytes bare (Passed event ∷ r) =
+    by_test (P (Passed event ∷ r)) (has_some (event_bytes event)) _ _ (bytes event r) (λ i. bare event r (trimmed r) i (by_trimmed P none gap inked plain bytes bare r))
 
 -- Q of the page on which all is written that was asked for
 pub by_lines : (Q : State → Type 0) {st mid : State} → Lines st mid → Q st → Q (on_new_line st) → Q (record st { back = Gap 10 ∷ st.back }) → Q (on_new_line (on_new_line st)) → Q mid

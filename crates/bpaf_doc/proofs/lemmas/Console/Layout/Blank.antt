@@ -1,20 +1,89 @@
 -- A blank line stands where one is asked for.
-use Rattle.std.specs.Prelude.{◌≡◌, ℕ, zero, suc, ◌+◌, ◌≤◌, Bool, true, false, ◌&&◌, ◌||◌, ◌==◌, List, [], ◌∷◌, ◌++◌, reverse, length, codes, refl, if◌then◌else◌, ◌⊎◌}
+use Rattle.std.specs.Prelude.{◌≡◌, ℕ, zero, suc, ◌≤◌, Bool, true, false, ◌&&◌, ◌||◌, ◌==◌, List, [], ◌∷◌, ◌++◌, reverse, codes, refl, if◌then◌else◌, ◌⊎◌}
 use Rattle.std.specs.List.{list_any}
 use Rattle.std.proofs.Common.{sym, subst, ap, arith, inl, inr, ◌∙◌, append_assoc}
 use Rattle.std.proofs.lemmas.List.{reverse-append, append-nil}
 use Rattle.std.proofs.lemmas.Grind.{flat_map-append}
 use Rattle.std.proofs.lemmas.Bool.{and_parts, eqb-true, or_cases}
 use Rattle.bpaf_doc.specs.Splitter.Chunks.{columns, is_inked, has_some}
-use Rattle.bpaf_doc.specs.Console.Layout.{Event, Shows, Stretch, Gap, Placed, Passed, Place, chunk_at, event_bytes, stretch_bytes, asks_blank_line, is_raw_event, text_of, HasBlankLine}
+use Rattle.bpaf_doc.specs.Console.Layout.{Event, Stretch, Gap, Placed, Passed, Place, chunk_at, event_bytes, stretch_bytes, asks_blank_line, is_raw_event, text_of, HasBlankLine, is_inked_stretch, asks_newline}
 use Rattle.bpaf_doc.specs.declared.console.page.Asked.{Asked}
-use Rattle.bpaf_doc.specs.declared.console.page.Asked.TheVariants.{Nothing, NewLine, BlankLine}
-use Rattle.bpaf_doc.proofs.lemmas.Console.Layout.State.{State, Piece, Lines, none_asked, line_there, line_put, blank_there, second_put, both_put, Pads, Begins, first, stays, wraps, Next, raw, Grows, padded, trimmed, ends_line, ends_blank, passed, at_least_line, sat, Suits}
+use Rattle.bpaf_doc.specs.declared.console.page.Asked.TheVariants.{Nothing, BlankLine}
+use Rattle.bpaf_doc.specs.Buffer.Parts.{ink}
+use Rattle.bpaf_doc.proofs.lemmas.Console.Layout.State.{State, Piece, Lines, Pads, Begins, first, stays, wraps, Next, raw, Grows, padded, trimmed, ends_line, ends_blank, passed, at_least_line, Suits, is_nothing}
 use Rattle.bpaf_doc.proofs.lemmas.Console.Layout.Back.{by_cases, EachPlace, each_grows, place_of, lines_back, by_trimmed, same_padded, by_break, by_grows}
 use Rattle.bpaf_doc.proofs.lemmas.Console.Layout.Columns.{Fills, inked_some, fills_begins, no_bytes}
 use Rattle.bpaf_doc.proofs.lemmas.Console.Layout.Text.{EachPassed, NoInk, ink_text, or_true_right, or_false_left, or_false_right}
-use Rattle.bpaf_doc.proofs.lemmas.Console.Layout.Split.{events_back, Cut, AfterPads, cut_padded, ink_at}
-use Rattle.bpaf_doc.proofs.lemmas.Console.Layout.Asked.{blank_line_ends}
+use Rattle.bpaf_doc.proofs.lemmas.Console.Layout.Split.{events_back, Cut, AfterPads, cut_padded, ink_at, inked_line}
+
+-- ---- a newline
+
+-- a newline is asked for since an inked chunk in the last line
+abbrev pub owes_line : List Stretch → Bool
+owes_line [] = false
+owes_line (Gap b ∷ r) = if b == 10 then false else owes_line r
+owes_line (Placed e ∷ r) = if is_inked (chunk_at e) then false else owes_line r
+owes_line (Passed event ∷ r) = (asks_newline event && inked_line r) || owes_line r
+
+abbrev pub IsAskedLine : State → Type 0
+IsAskedLine st = owes_line st.back ≡ true → is_nothing st.asked ≡ false
+
+-- a page that ends in a newline owes none, and has no ink in its last line
+record NothingOwed (r : List Stretch) : Type 0 where
+  owes : owes_line r ≡ false
+  line : inked_line r ≡ false
+
+no_ink_of_none : (bytes : List ℕ) → has_some bytes ≡ false → has_some (ink bytes) ≡ false
+no_ink_of_none bytes none = elim (by_cases (has_some (ink bytes))) [ inl i ↦ let some : has_some bytes ≡ true = inked_some bytes i in absurd cc | inr i ↦ i ]
+
+ends_line_owes : (r : List Stretch) → EachPlace Fills r → EachPassed NoInk r → ends_line r ≡ true → NothingOwed r
+ends_line_owes [] f q h = record { owes = refl; line = refl }
+ends_line_owes (x ∷ r) f q h = grind (arith, ends_line_owes r, no_ink_of_none)
+
+-- what ends in two newlines ends in one
+pub blank_line_ends : (r : List Stretch) → ends_blank r ≡ true → ends_line r ≡ true
+blank_line_ends [] h = h
+blank_line_ends (x ∷ r) h = grind (arith, blank_line_ends r)
+
+inked_line_ink : (r : List Stretch) → inked_line r ≡ true → list_any is_inked_stretch r ≡ true
+inked_line_ink [] h = h
+inked_line_ink (x ∷ r) h = grind (arith, inked_line_ink r)
+
+owes_ink : (r : List Stretch) → owes_line r ≡ true → list_any is_inked_stretch r ≡ true
+owes_ink [] h = absurd cc
+owes_ink (x ∷ r) h = grind (arith, owes_ink r, inked_line_ink)
+
+not_owed : (st : State) → IsAskedLine st → st.asked ≡ Nothing → owes_line st.back ≡ false
+not_owed st h a = elim (by_cases (owes_line st.back)) [ inl o ↦ let some : is_nothing st.asked ≡ false = h o in let none : is_nothing st.asked ≡ true = rw a refl in absurd cc | inr o ↦ o ]
+
+owes_lines : {st mid : State} → EachPlace Fills st.back → EachPassed NoInk st.back → IsAskedLine st → Lines st mid → owes_line mid.back ≡ false
+owes_lines f q h e = grind (arith, not_owed, ends_line_owes, blank_line_ends)
+
+owes_begins : {width : ℕ} {st : State} {p : Piece} {base : State} → EachPlace Fills st.back → EachPassed NoInk st.back → IsAskedLine st → Begins width st p base → owes_line base.back ≡ false
+owes_begins f q h e = grind (arith, ink_text, owes_ink, owes_lines)
+
+at_least_something : (a : Asked) → is_nothing (at_least_line a) ≡ false
+at_least_something a = grind arith
+
+asked_line_passed : (event : Event) (margin : ℕ) (st : State) → IsAskedLine st → IsAskedLine (passed event margin st)
+asked_line_passed event margin st h = grind (arith, at_least_something st.asked, h)
+
+pub asked_line_grows : {width : ℕ} {st after : State} {next : Next} → EachPlace Fills st.back → EachPassed NoInk st.back
+    → Grows width st next after → IsAskedLine st → IsAskedLine after
+asked_line_grows {st = st} f q g h = by_grows IsAskedLine g
+    (λ p base n e b d o. let none : owes_line (padded n base.back) ≡ false = same_padded owes_line (λ x. refl) n base.back ∙ owes_begins f q h b in absurd (grind arith))
+    (λ p mid e l w b o. absurd cc) (λ k chunk e o. absurd cc) (λ event margin e. asked_line_passed event margin st h)
+
+-- no newline is owed where an inked chunk stands
+abbrev pub IsFreeOfDebt : List Stretch → Place → Type 0
+IsFreeOfDebt r f = owes_line r ≡ false
+
+pub free_of_debt_grows : {width : ℕ} {st after : State} {next : Next} → EachPlace Fills st.back → EachPassed NoInk st.back → IsAskedLine st
+    → Grows width st next after → EachPlace IsFreeOfDebt st.back → EachPlace IsFreeOfDebt after.back
+free_of_debt_grows f q h g e =
+    each_grows IsFreeOfDebt (λ r p i x. x) (λ p base n is b d. same_padded owes_line (λ x. refl) n base.back ∙ owes_begins f q h b) g e
+
+-- ---- a new line is asked for
 
 -- the last Raw chunk is inked
 abbrev pub last_raw_inked : List Stretch → Bool
@@ -44,22 +113,14 @@ abbrev pub IsFreshAtZero : State → Type 0
 IsFreshAtZero st = is_fresh st.back ≡ true → st.column ≡ 0
 
 pub fresh_grows : {width : ℕ} {st after : State} {next : Next} → Grows width st next after → IsFreshAtZero st → IsFreshAtZero after
-fresh_grows {st = st} g h = by_grows IsFreshAtZero g (λ p base n e b d o. absurd cc) (λ p mid e l w b o. refl) (λ k chunk e o. refl)
-    (λ event margin e o. at event (by_cases (has_some (event_bytes event))) o) where
-      at : (event : Event) → (has_some (event_bytes event) ≡ true) ⊎ (has_some (event_bytes event) ≡ false) → (if has_some (event_bytes event) then false else is_fresh st.back) ≡ true → sat (st.column + length (event_bytes event)) ≡ 0
-      at event (inl s) o = let no : false ≡ true = rw s at o in absurd cc
-      at event (inr s) o =
-          let none : length (event_bytes event) ≡ 0 = no_bytes (event_bytes event) s in
-          let here : st.column ≡ 0 = h (rw s at o) in omega arith
+fresh_grows {st = st} g h = grind (arith, by_grows, no_bytes)
 
 last_fresh : (r : List Stretch) → EachPlace Fills r → last_raw_inked r ≡ true → ends_line r ≡ true → is_fresh r ≡ true
-last_fresh (Placed e ∷ r) f i h = let some : has_some e.shown ≡ true = f.0 ∙ inked_some e.bytes i in let no : false ≡ true = rw some at h in absurd cc
-last_fresh (Passed event ∷ r) f i h = grind (arith, last_fresh r f)
+last_fresh (x ∷ r) f i h = grind (arith, last_fresh r, inked_some)
 last_fresh _ f i h = h
 
 pub owes_fresh : (r : List Stretch) → EachPlace Fills r → owes_blank r ≡ true → ends_line r ≡ true → is_fresh r ≡ true
-owes_fresh (Placed e ∷ r) f o h = absurd cc
-owes_fresh (Passed event ∷ r) f o h = grind (arith, owes_fresh r f, last_fresh r f)
+owes_fresh (x ∷ r) f o h = grind (arith, owes_fresh r, last_fresh)
 owes_fresh _ f o h = h
 
 -- ---- what is owed is asked for
@@ -72,10 +133,7 @@ asked_blank_passed event margin st h = λ o. grind (arith, at_least_blank, h)
 
 pub asked_blank_grows : {width : ℕ} {margin_of : ℕ → ℕ} {st after : State} {next : Next} → Suits margin_of st next
     → Grows width st next after → IsAskedBlank st → IsAskedBlank after
-asked_blank_grows {st = st} suits g h = by_grows IsAskedBlank g (λ p base n e b d o. absurd cc) (λ p mid e l w b o. absurd cc)
-    (λ k chunk e o. let plain : is_raw_event (Shows k chunk) ≡ false = by_break (λ c j. is_raw_event (Shows j c) ≡ false) suits e (λ j l m. refl) (λ j l m. refl) in
-    h (rw plain at o))
-    (λ event margin e. asked_blank_passed event margin st h)
+asked_blank_grows {st = st} suits g h = grind (arith, by_grows, by_break, asked_blank_passed)
 
 -- ---- the text between
 
@@ -88,8 +146,7 @@ text_back_cons x m =
     ap text_of turned ∙ flat_map-append stretch_bytes (reverse m) (x ∷ []) ∙ ap (λ t. text_back m ++ t) (append-nil (stretch_bytes x))
 
 pub some_none : (xs : List ℕ) → has_some xs ≡ false → xs ≡ []
-some_none [] h = refl
-some_none (x ∷ xs) h = absurd cc
+some_none xs h = grind arith
 
 -- the text ends in a newline
 abbrev EndsLine : List Stretch → Type 0
@@ -105,29 +162,12 @@ line_between (Gap b ∷ m) e before none some h =
     let ten : b ≡ 10 = eqb-true b 10 h in
     (text_back m, text_back_cons (Gap b) m ∙ ap (λ c. text_back m ++ c ∷ []) ten)
 line_between (Placed g ∷ m) e before none some h = absurd cc
-line_between (Passed event ∷ m) e before none some h = at (by_cases (has_some (event_bytes event))) (line_between m e before (or_false_right (is_raw_event event) _ none) some) where
-  at : (has_some (event_bytes event) ≡ true) ⊎ (has_some (event_bytes event) ≡ false) → (ends_line (m ++ Placed e ∷ before) ≡ true → EndsLine m) → EndsLine (Passed event ∷ m)
-  at (inl s) ih = let no : false ≡ true = rw s at h in absurd cc
-  at (inr s) ih =
-      let rest : ends_line (m ++ Placed e ∷ before) ≡ true = rw s at h in
-      let found : EndsLine m = ih rest in
-      let same : text_back (Passed event ∷ m) ≡ text_back m = text_back_cons (Passed event) m ∙ ap (λ t. text_back m ++ t) (some_none (event_bytes event) s) ∙ append-nil (text_back m) in
-      (found.0, same ∙ found.1)
+line_between (Passed event ∷ m) e before none some h = grind (arith, line_between m e before, or_false_right, text_back_cons, some_none, append-nil)
 
 blank_between : (m : List Stretch) (e : Place) (before : List Stretch) → HasNoRaw m → has_some e.shown ≡ true → ends_blank (m ++ Placed e ∷ before) ≡ true → HasBlankLine (text_back m)
 blank_between [] e before none some h = let no : false ≡ true = rw some at h in absurd cc
-blank_between (Gap b ∷ m) e before none some h =
-    let ten : b ≡ 10 = eqb-true b 10 (and_parts (b == 10) _ h).0 in
-    let line : EndsLine m = line_between m e before none some (and_parts (b == 10) _ h).1 in
-    (line.0, [], text_back_cons (Gap b) m ∙ ap (λ t. t ++ b ∷ []) line.1 ∙ ap (λ c. (line.0 ++ codes "\n") ++ c ∷ []) ten ∙ append_assoc line.0 (codes "\n") (codes "\n") ∙ sym (append-nil (line.0 ++ codes "\n\n")))
-blank_between (Placed g ∷ m) e before none some h = absurd cc
-blank_between (Passed event ∷ m) e before none some h = at (by_cases (has_some (event_bytes event))) (blank_between m e before (or_false_right (is_raw_event event) _ none) some) where
-  at : (has_some (event_bytes event) ≡ true) ⊎ (has_some (event_bytes event) ≡ false) → (ends_blank (m ++ Placed e ∷ before) ≡ true → HasBlankLine (text_back m)) → HasBlankLine (text_back (Passed event ∷ m))
-  at (inl s) ih = let no : false ≡ true = rw s at h in absurd cc
-  at (inr s) ih =
-      let rest : ends_blank (m ++ Placed e ∷ before) ≡ true = rw s at h in
-      let same : text_back (Passed event ∷ m) ≡ text_back m = text_back_cons (Passed event) m ∙ ap (λ t. text_back m ++ t) (some_none (event_bytes event) s) ∙ append-nil (text_back m) in
-      subst (λ t. HasBlankLine t) (sym same) (ih rest)
+blank_between (x ∷ m) e before none some h =
+    grind (arith, blank_between m, eqb-true, and_parts, line_between, text_back_cons, append_assoc, append-nil, or_false_right, some_none)
 
 blank_longer : (m : List Stretch) (x : Stretch) → HasBlankLine (text_back m) → HasBlankLine (text_back (x ∷ m))
 blank_longer m x h =
@@ -144,14 +184,11 @@ raw_padded n m h = subst (λ es. list_any is_raw_event es ≡ false) (same_padde
 
 last_between : (m : List Stretch) (e : Place) (before : List Stretch) → HasNoRaw m → is_inked (chunk_at e) ≡ true → last_raw_inked (m ++ Placed e ∷ before) ≡ true
 last_between [] e before none i = i
-last_between (Gap b ∷ m) e before none i = last_between m e before none i
-last_between (Placed g ∷ m) e before none i = absurd cc
-last_between (Passed event ∷ m) e before none i = grind (arith, last_between m e before, or_false_left, or_false_right)
+last_between (x ∷ m) e before none i = grind (arith, last_between m, or_false_left, or_false_right)
 
 owes_between : (m : List Stretch) (e : Place) (before : List Stretch) → HasNoRaw m → is_inked (chunk_at e) ≡ true → list_any asks_blank_line (events_back m) ≡ true
     → owes_blank (m ++ Placed e ∷ before) ≡ true
-owes_between (Gap b ∷ m) e before none i a = owes_between m e before none i a
-owes_between (Passed event ∷ m) e before none i a = grind (arith, owes_between m e before, or_false_right, or_false_left, last_between, or_true_right)
+owes_between (x ∷ m) e before none i a = grind (arith, owes_between m, or_false_right, or_false_left, last_between, or_true_right)
 owes_between _ e before none i a = absurd cc
 
 module _ (width : ℕ) where
@@ -160,24 +197,14 @@ module _ (width : ℕ) where
       → list_any asks_blank_line (events_back m) ≡ true → columns f.bytes ≤ width → HasBlankLine (text_back m)
 
   lines_blank : {st mid : State} → IsAskedBlank st → owes_blank st.back ≡ true → Lines st mid → ends_blank mid.back ≡ true
-  lines_blank h o (none_asked a e) = let b : Nothing ≡ BlankLine = sym a ∙ h o in absurd cc
-  lines_blank h o (line_there a b e) = let c : NewLine ≡ BlankLine = sym a ∙ h o in absurd cc
-  lines_blank h o (line_put a e) = let c : NewLine ≡ BlankLine = sym a ∙ h o in absurd cc
-  lines_blank h o (blank_there a b e) = subst (λ (s : State). ends_blank s.back ≡ true) (sym e) b
-  lines_blank h o (second_put a b e) = subst (λ (s : State). ends_blank s.back ≡ true) (sym e) b
-  lines_blank h o (both_put a e) = subst (λ (s : State). ends_blank s.back ≡ true) (sym e) refl
+  lines_blank h o e = grind arith
 
-  owes_lines : {st mid : State} → Lines st mid → owes_blank mid.back ≡ owes_blank st.back
-  owes_lines {st} l = lines_back (λ r. owes_blank r ≡ owes_blank st.back) (λ r x. x) l refl
+  owed_lines : {st mid : State} → Lines st mid → owes_blank mid.back ≡ owes_blank st.back
+  owed_lines {st} l = lines_back (λ r. owes_blank r ≡ owes_blank st.back) (λ r x. x) l refl
 
   -- after a blank line was written the column is 0
   lines_zero : {st mid : State} → EachPlace Fills st.back → IsAskedBlank st → IsFreshAtZero st → owes_blank st.back ≡ true → Lines st mid → mid.column ≡ 0
-  lines_zero f h z o (none_asked a e) = let b : Nothing ≡ BlankLine = sym a ∙ h o in absurd cc
-  lines_zero f h z o (line_there a b e) = let c : NewLine ≡ BlankLine = sym a ∙ h o in absurd cc
-  lines_zero f h z o (line_put a e) = let c : NewLine ≡ BlankLine = sym a ∙ h o in absurd cc
-  lines_zero {st} f h z o (blank_there a b e) = ap (λ (s : State). s.column) e ∙ z (owes_fresh st.back f o (blank_line_ends st.back b))
-  lines_zero {st} f h z o (second_put a b e) = ap (λ (s : State). s.column) e ∙ z (owes_fresh st.back f o b)
-  lines_zero f h z o (both_put a e) = ap (λ (s : State). s.column) e
+  lines_zero f h z o e = grind (arith, owes_fresh, blank_line_ends)
 
   abbrev Owes : List Stretch → List Stretch → Type 0
   Owes r t = (last_raw_inked t ≡ true → last_raw_inked r ≡ true) × (owes_blank t ≡ true → owes_blank r ≡ true)
@@ -198,10 +225,10 @@ module _ (width : ℕ) where
       → Begins width st p base → columns p.bytes ≤ width → (m before : List Stretch) (e : Place) → Cut base.back m e before → is_inked (chunk_at e) ≡ true
       → owes_blank base.back ≡ true → ends_blank base.back ≡ true
   blank_begins {st = st} f q h z (first t s) c m before e there i o = grind (arith, ink_at, ink_text)
-  blank_begins f q h z (stays t l w) c m before e there i o = lines_blank h (sym (owes_lines l) ∙ o) l
+  blank_begins f q h z (stays t l w) c m before e there i o = lines_blank h (sym (owed_lines l) ∙ o) l
   blank_begins {st = st} f q h z (wraps t mid l w b s) c m before e there i o =
       let kept : owes_blank (trimmed mid.back) ≡ true = subst (λ (x : State). owes_blank x.back ≡ true) s o in
-      let owed : owes_blank st.back ≡ true = sym (owes_lines l) ∙ (owes_trimmed mid.back).1 kept in
+      let owed : owes_blank st.back ≡ true = sym (owed_lines l) ∙ (owes_trimmed mid.back).1 kept in
       let zero_column : mid.column ≡ 0 = lines_zero f h z owed l in
       absurd (omega arith)
 

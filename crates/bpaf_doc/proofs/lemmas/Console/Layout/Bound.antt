@@ -1,10 +1,10 @@
 -- No line of a page passes the bound.
 use Rattle.std.specs.Prelude.{◌≡◌, ℕ, zero, suc, ◌+◌, ◌<◌, ◌≤◌, max, ⊤, true, false, List, [], ◌∷◌, length, refl, ◌⊎◌}
-use Rattle.std.proofs.Common.{sym, subst, arith, inl, inr, ◌∙◌}
+use Rattle.std.proofs.Common.{sym, subst, arith, ◌∙◌}
 use Rattle.std.proofs.lemmas.Bool.{cases_lt}
 use Rattle.bpaf_doc.specs.Splitter.Chunks.{columns, has_some}
 use Rattle.bpaf_doc.specs.Console.Layout.{Event, Stretch, event_bytes}
-use Rattle.bpaf_doc.proofs.lemmas.Console.Layout.State.{State, Piece, Lines, Pads, to_margin, after_term, Begins, first, stays, wraps, Next, raw, break, mark, Grows, padded, trimmed}
+use Rattle.bpaf_doc.proofs.lemmas.Console.Layout.State.{State, Piece, Lines, Pads, Begins, Next, raw, break, mark, Grows, padded, trimmed}
 use Rattle.bpaf_doc.proofs.lemmas.Console.Layout.Back.{EachPlace, lines_back, begins_back, by_trimmed, by_padded, by_grows}
 use Rattle.bpaf_doc.proofs.lemmas.Console.Layout.Columns.{Fills, column_back, column_padded, no_text_column, Agrees, agrees_lines, no_bytes}
 use Rattle.bpaf_doc.proofs.lemmas.Console.Layout.Text.{EachPassed, lines_margin}
@@ -26,8 +26,7 @@ IsBare event = has_some (event_bytes event) ≡ false
 
 within_padded : (bound n : ℕ) (r : List Stretch) → n + column_back r ≤ bound → EachFront (Within bound) r → EachFront (Within bound) (padded n r)
 within_padded bound zero r l h = h
-within_padded bound (suc n) r l h =
-    (let c : column_back (padded n r) ≡ n + column_back r = column_padded n r in omega arith, within_padded bound n r (omega arith) h)
+within_padded bound (suc n) r l h = grind (arith, within_padded bound n r, column_padded)
 
 within_trimmed : (bound : ℕ) (r : List Stretch) → EachPassed IsBare r → EachFront (Within bound) r → EachFront (Within bound) (trimmed r)
 within_trimmed bound = by_trimmed (λ r t. EachPassed IsBare r → EachFront (Within bound) r → EachFront (Within bound) t) (λ q h. h) (λ b r t ih q h. ih q h.1) (λ e r i q h. h)
@@ -70,25 +69,18 @@ module _ (width deepest most : ℕ) where
   bound = deepest + 2 + max width most
 
   within_begins : {st : State} {p : Piece} {base : State} → EachPassed IsBare st.back → Begins width st p base → EachFront (Within bound) st.back → EachFront (Within bound) base.back
-  within_begins q (first t e) h = subst (λ (s : State). EachFront (Within bound) s.back) (sym e) h
-  within_begins q (stays t l w) h = within_lines bound l h
-  within_begins q (wraps t mid l w b e) h =
-      subst (λ (s : State). EachFront (Within bound) s.back) (sym e) (omega arith, within_trimmed bound mid.back (bare_lines l q) (within_lines bound l h))
+  within_begins q e h = grind (arith, within_lines, within_trimmed, bare_lines)
 
   within_pads : (n : ℕ) (base : State) → base.margin ≤ deepest → base.column ≡ column_back base.back → Pads base n
       → (n + column_back base.back ≤ deepest + 2) ⊎ (n + column_back base.back ≤ 2 + base.column)
-  within_pads n base m c (to_margin e) = elim (cases_lt base.column base.margin) [ inl l ↦ inl (omega arith) | inr l ↦ inr (omega arith) ]
-  within_pads n base m c (after_term t wide few e) = inr (omega arith)
+  within_pads n base m c h = grind (arith, cases_lt)
 
   within_first : (n : ℕ) (base : State) → base.margin ≤ deepest → column_back base.back ≡ 0 → Pads base n → n + column_back base.back ≤ deepest + 2
-  within_first n base m c (to_margin e) = omega arith
-  within_first n base m c (after_term t wide few e) = omega arith
+  within_first n base m c h = grind arith
 
   within_put : {st : State} (p : Piece) (base : State) (n : ℕ) → width < 1_000_000 → EachPlace Fills st.back → Agrees st → st.margin ≤ deepest → columns p.bytes ≤ most
       → Begins width st p base → Pads base n → columns p.bytes + (n + column_back base.back) ≤ bound
-  within_put {st} p base n small f h m c (first t e) d = grind (arith, no_text_column, within_first)
-  within_put {st} p base n small f h m c (stays t l w) d = grind (arith, agrees_lines, lines_margin, within_pads)
-  within_put {st} p base n small f h m c (wraps t mid l w b e) d = grind (arith, lines_margin, within_first)
+  within_put p base n small f h m c e d = grind (arith, no_text_column, within_first, agrees_lines, lines_margin, within_pads)
 
   pub within_grows : {st after : State} {next : Next} → width < 1_000_000 → EachPlace Fills st.back → EachPassed IsBare st.back → Agrees st → st.margin ≤ deepest
       → WritesNone next → IsNarrow most next → Grows width st next after → EachFront (Within bound) st.back → EachFront (Within bound) after.back

@@ -2,16 +2,16 @@
 use Rattle.std.specs.Prelude.{◌≡◌, ℕ, zero, suc, ◌+◌, ◌<◌, ◌≤◌, Bool, true, false, not, ◌&&◌, ◌||◌, ◌==◌, List, [], ◌∷◌, length, filter, chars, refl, if◌then◌else◌, ◌⊎◌}
 use Rattle.std.specs.Str.{trim_end, drop_trailing_whitespace, chars, encode_utf8_all}
 use Rattle.std.specs.Char.{is_not_whitespace}
-use Rattle.std.proofs.Common.{sym, subst, arith, inl, inr, ◌∙◌}
+use Rattle.std.proofs.Common.{sym, arith, inl, inr, ◌∙◌}
 use Rattle.std.proofs.lemmas.Bool.{cases_lt}
 use Rattle.std.proofs.lemmas.Str.{length-le-encodes}
 use Rattle.std.proofs.lemmas.Bool.Decides.{nat_tests}
 use Rattle.unicode_width.specs.Width.{str_width}
 use Rattle.bpaf_doc.specs.Buffer.Parts.{ink}
-use Rattle.bpaf_doc.specs.Splitter.Chunks.{Raw, columns, is_ordinary, IsOrdinary, has_some, code_weight, fence_weight}
-use Rattle.bpaf_doc.specs.Console.Layout.{Stretch, Gap, Placed, Passed, Place, event_bytes, stretch_columns, is_newline}
-use Rattle.bpaf_doc.proofs.lemmas.Console.Layout.State.{State, Piece, Lines, none_asked, line_there, line_put, blank_there, second_put, both_put, Begins, first, stays, wraps, Next, Grows, padded, has_text, ends_line, sat, put, Suits}
-use Rattle.bpaf_doc.proofs.lemmas.Console.Layout.Back.{by_cases, EachPlace, KeepsCut, each_begins, each_grows, fits_of, by_grows}
+use Rattle.bpaf_doc.specs.Splitter.Chunks.{Raw, columns, IsOrdinary, has_some, code_weight, fence_weight}
+use Rattle.bpaf_doc.specs.Console.Layout.{Stretch, Place, event_bytes, stretch_columns, is_newline}
+use Rattle.bpaf_doc.proofs.lemmas.Console.Layout.State.{State, Piece, Lines, Begins, Next, Grows, padded, has_text, ends_line, sat, put, Suits}
+use Rattle.bpaf_doc.proofs.lemmas.Console.Layout.Back.{EachPlace, KeepsCut, each_begins, each_grows, fits_of, by_grows}
 
 -- ---- a chunk with ink keeps some bytes when its blank end is cut
 
@@ -20,8 +20,7 @@ whole_trim [] h = absurd cc
 whole_trim (c ∷ cs) h = grind (arith, nat_tests, whole_trim cs)
 
 some_of_length : (xs : List ℕ) → 0 < length xs → has_some xs ≡ true
-some_of_length [] h = absurd (omega arith)
-some_of_length (x ∷ xs) h = refl
+some_of_length xs h = grind arith
 
 pub inked_trim : (bytes : List ℕ) → has_some (ink bytes) ≡ true → has_some (trim_end bytes) ≡ true
 unfolding trim_end
@@ -31,8 +30,7 @@ inked_trim bytes h =
 
 pub inked_some : (bytes : List ℕ) → has_some (ink bytes) ≡ true → has_some bytes ≡ true
 unfolding chars
-inked_some [] h = absurd cc
-inked_some (b ∷ bytes) h = refl
+inked_some bytes h = grind arith
 
 -- ---- what is shown of a chunk is empty only where the chunk is
 
@@ -68,26 +66,20 @@ unfolding chars str_width
 no_columns = refl
 
 empty_columns : (bytes : List ℕ) → has_some bytes ≡ false → columns bytes ≡ 0
-empty_columns [] h = no_columns
-empty_columns (b ∷ bytes) h = absurd cc
+empty_columns bytes h = grind (arith, no_columns)
 
 pub no_bytes : (xs : List ℕ) → has_some xs ≡ false → length xs ≡ 0
-no_bytes [] h = refl
-no_bytes (x ∷ xs) h = absurd cc
+no_bytes xs h = grind arith
 
 -- a page that ends in a newline is at column 0
 pub ends_line_column : (r : List Stretch) → EachPlace Fills r → ends_line r ≡ true → column_back r ≡ 0
 ends_line_column [] f h = refl
-ends_line_column (Gap b ∷ r) f h = elim (by_cases (b == 10)) [ inl e ↦ rw e refl | inr e ↦ absurd cc ]
-ends_line_column (Placed e ∷ r) f h = grind (arith, ends_line_column r f.1, empty_columns e.bytes, f.0)
-ends_line_column (Passed event ∷ r) f h = grind (arith, ends_line_column r f, no_bytes (event_bytes event))
+ends_line_column (x ∷ r) f h = grind (arith, ends_line_column r, empty_columns, no_bytes)
 
 -- a page without text is at column 0
 pub no_text_column : (r : List Stretch) → EachPlace Fills r → has_text r ≡ false → column_back r ≡ 0
 no_text_column [] f h = refl
-no_text_column (Gap b ∷ r) f h = absurd cc
-no_text_column (Placed e ∷ r) f h = grind (arith, no_text_column r f.1, empty_columns e.bytes, f.0)
-no_text_column (Passed event ∷ r) f h = grind (arith, no_text_column r f, no_bytes (event_bytes event))
+no_text_column (x ∷ r) f h = grind (arith, no_text_column r, empty_columns, no_bytes)
 
 -- ---- the column that is kept
 
@@ -96,17 +88,10 @@ abbrev pub Agrees : State → Type 0
 Agrees st = (st.column ≡ column_back st.back) ⊎ (1_000_000 ≤ st.column)
 
 pub agrees_lines : {st mid : State} → EachPlace Fills st.back → Lines st mid → Agrees st → Agrees mid
-agrees_lines f (none_asked a e) h = subst Agrees (sym e) h
-agrees_lines f (line_there a b e) h = subst Agrees (sym e) h
-agrees_lines f (line_put a e) h = subst Agrees (sym e) (inl refl)
-agrees_lines f (blank_there a b e) h = subst Agrees (sym e) h
-agrees_lines {st} f (second_put a b e) h = subst Agrees (sym e) (elim h [ inl c ↦ inl (c ∙ ends_line_column st.back f b) | inr c ↦ inr c ])
-agrees_lines f (both_put a e) h = subst Agrees (sym e) (inl refl)
+agrees_lines f e h = grind (arith, ends_line_column)
 
 pub agrees_begins : {width : ℕ} {st : State} {p : Piece} {base : State} → EachPlace Fills st.back → Begins width st p base → Agrees st → Agrees base
-agrees_begins f (first t e) h = subst Agrees (sym e) h
-agrees_begins f (stays t l w) h = agrees_lines f l h
-agrees_begins f (wraps t mid l w b e) h = subst Agrees (sym e) (inl refl)
+agrees_begins f e h = grind (arith, agrees_lines)
 
 pub heavy : (weight : ℕ) → (not (weight == code_weight) && not (weight == fence_weight)) ≡ false → 1_000_000 ≤ weight
 heavy weight o = grind (arith, nat_tests)
@@ -115,12 +100,7 @@ pub sat_agrees : (a b : ℕ) → a ≡ b → (sat a ≡ b) ⊎ (1_000_000 ≤ sa
 sat_agrees a b e = elim (cases_lt a 18446744073709551616) [ inl l ↦ inl (omega arith) | inr l ↦ inr (omega arith) ]
 
 pub agrees_put : (n : ℕ) (p : Piece) (base : State) → (IsOrdinary (Raw p.bytes p.weight) → p.weight ≡ columns p.bytes) → Agrees base → Agrees (put n p.part p.bytes p.weight base)
-agrees_put n p base weighed h = at (by_cases (is_ordinary (Raw p.bytes p.weight))) h where
-  at : (is_ordinary (Raw p.bytes p.weight) ≡ true) ⊎ (is_ordinary (Raw p.bytes p.weight) ≡ false) → Agrees base → Agrees (put n p.part p.bytes p.weight base)
-  at (inl o) (inl c) =
-      sat_agrees (base.column + n + p.weight) (columns p.bytes + column_back (padded n base.back)) (omega (arith, column_padded n base.back))
-  at (inl o) (inr c) = inr (omega arith)
-  at (inr o) _ = let w : 1_000_000 ≤ p.weight = heavy p.weight o in inr (omega arith)
+agrees_put n p base weighed h = grind (arith, sat_agrees, column_padded, heavy)
 
 pub agrees_grows : {width : ℕ} {margin_of : ℕ → ℕ} {st after : State} {next : Next} → Suits margin_of st next → EachPlace Fills st.back
     → Grows width st next after → Agrees st → Agrees after

@@ -4,8 +4,8 @@ use Rattle.std.specs.Str.{trim_end}
 use Rattle.std.proofs.Common.{sym, subst, inl, inr, ◌∙◌, arith}
 use Rattle.bpaf_doc.specs.Splitter.Chunks.{has_some}
 use Rattle.bpaf_doc.specs.Console.Layout.{Stretch, Gap, Placed, Passed, event_bytes}
-use Rattle.bpaf_doc.proofs.lemmas.Console.Layout.State.{State, Piece, Lines, Begins, first, stays, wraps, Next, Grows, padded, trimmed, wrapped}
-use Rattle.bpaf_doc.proofs.lemmas.Console.Layout.Back.{by_cases, EachPlace, each_lines, lines_back, by_trimmed, by_padded, by_grows}
+use Rattle.bpaf_doc.proofs.lemmas.Console.Layout.State.{State, Piece, Lines, Begins, Next, Grows, padded, trimmed, wrapped}
+use Rattle.bpaf_doc.proofs.lemmas.Console.Layout.Back.{EachPlace, each_lines, lines_back, by_trimmed, by_padded, by_grows}
 use Rattle.bpaf_doc.proofs.lemmas.Console.Layout.Columns.{Fills, inked_trim, inked_some}
 
 -- what may stand where the text after it begins with a newline, or where nothing is known of it
@@ -17,14 +17,7 @@ MayEnd line (Passed event ∷ r) = MayEnd (if has_some (event_bytes event) then 
 
 -- nothing is known is less than a newline
 pub may_end_line : (r : List Stretch) → MayEnd false r → MayEnd true r
-may_end_line (Placed e ∷ r) h = ((elim h.0 [ inl x ↦ inl x | inr x ↦ inr (x.0, refl) ]), at (by_cases (has_some e.shown)) (may_end_line r)) where
-  at : (has_some e.shown ≡ true) ⊎ (has_some e.shown ≡ false) → (MayEnd false r → MayEnd true r) → MayEnd (if has_some e.shown then false else true) r
-  at (inl s) ih = let rest : MayEnd false r = rw s at h.1 in rw s rest
-  at (inr s) ih = let rest : MayEnd false r = rw s at h.1 in rw s (ih rest)
-may_end_line (Passed event ∷ r) h = at (by_cases (has_some (event_bytes event))) (may_end_line r) where
-  at : (has_some (event_bytes event) ≡ true) ⊎ (has_some (event_bytes event) ≡ false) → (MayEnd false r → MayEnd true r) → MayEnd (if has_some (event_bytes event) then false else true) r
-  at (inl s) ih = let rest : MayEnd false r = rw s at h in rw s rest
-  at (inr s) ih = let rest : MayEnd false r = rw s at h in rw s (ih rest)
+may_end_line (x ∷ r) h = grind (arith, may_end_line r)
 may_end_line _ h = h
 
 same_false : (b : Bool) → (if b then false else false) ≡ false
@@ -50,9 +43,7 @@ whole_wrapped : (mid : State) → EachPlace Fills mid.back → IsWhole mid → I
 whole_wrapped mid f h = (inr refl, may_end_trimmed mid.back false f h)
 
 whole_begins : {width : ℕ} {st : State} {p : Piece} {base : State} → EachPlace Fills st.back → Begins width st p base → IsWhole st → IsWhole base
-whole_begins f (first t e) h = subst IsWhole (sym e) h
-whole_begins f (stays t l w) h = whole_lines l h
-whole_begins f (wraps t mid l w b e) h = subst IsWhole (sym e) (whole_wrapped mid (each_lines Fills l f) (whole_lines l h))
+whole_begins f e h = grind (arith, whole_lines, whole_wrapped, each_lines)
 
 pub whole_grows : {width : ℕ} {st after : State} {next : Next} → EachPlace Fills st.back → Grows width st next after → IsWhole st → IsWhole after
 whole_grows {st = st} f g h = by_grows IsWhole g

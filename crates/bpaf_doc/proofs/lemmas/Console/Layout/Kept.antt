@@ -1,11 +1,11 @@
 -- Between neighbouring inked chunks of one line nothing is cut or left out, and within one text nothing is added.
-use Rattle.std.specs.Prelude.{◌≡◌, ◌≢◌, ℕ, zero, suc, ◌+◌, ◌<◌, ◌≤◌, ⊤, true, false, ◌||◌, List, [], ◌∷◌, ◌++◌, refl, ◌⊎◌}
+use Rattle.std.specs.Prelude.{◌≡◌, ◌≢◌, ℕ, zero, suc, ◌+◌, ◌<◌, ◌≤◌, ⊤, true, false, ◌||◌, List, [], ◌∷◌, refl, ◌⊎◌}
 use Rattle.std.specs.List.{list_any}
-use Rattle.std.proofs.Common.{sym, subst, ap, arith, inl, inr, ◌∙◌}
+use Rattle.std.proofs.Common.{sym, subst, arith, inl, inr, ◌∙◌}
 use Rattle.bpaf_doc.specs.Splitter.Chunks.{Chunk, Raw, is_inked}
 use Rattle.bpaf_doc.specs.Console.Layout.{Event, Shows, Stretch, Gap, Placed, Passed, Place, chunk_at, is_inked_stretch, is_inked_event, is_raw_event}
-use Rattle.bpaf_doc.proofs.lemmas.Console.Layout.State.{State, Piece, Lines, Pads, to_margin, after_term, Begins, first, stays, wraps, places, drops, Next, raw, break, Grows, placing, breaking, passing, padded, trimmed, sat, put, passed, Suits}
-use Rattle.bpaf_doc.proofs.lemmas.Console.Layout.Back.{by_cases, EachPlace, each_grows, each_begins, each_trimmed, each_lines, place_of, fits_of, by_lines, by_padded, same_padded, by_mark, by_break, by_grows}
+use Rattle.bpaf_doc.proofs.lemmas.Console.Layout.State.{State, Piece, Lines, Pads, Begins, first, stays, wraps, places, drops, Next, raw, break, Grows, placing, breaking, passing, padded, trimmed, sat, put, passed, Suits}
+use Rattle.bpaf_doc.proofs.lemmas.Console.Layout.Back.{each_back, by_cases, EachPlace, each_grows, each_begins, each_trimmed, each_lines, place_of, fits_of, by_lines, by_padded, same_padded, by_mark, by_break, by_grows}
 use Rattle.bpaf_doc.proofs.lemmas.Console.Layout.Text.{or_false_right, begins_margin, lines_margin, no_ink_blank}
 use Rattle.bpaf_doc.proofs.lemmas.Console.Layout.Split.{Cut, FirstOrLater, here, later, cut_cons, AfterGap, cut_gap, AfterPassed, cut_passed, AfterPads, cut_padded, has_newline, inked_line, inked_since}
 
@@ -16,8 +16,7 @@ NotAfter latest r f = f.part ≤ latest
 
 each_later : (a b : ℕ) → a ≤ b → (r : List Stretch) → EachPlace (NotAfter a) r → EachPlace (NotAfter b) r
 each_later a b l [] h = h
-each_later a b l (Placed e ∷ r) h = (omega arith, each_later a b l r h.1)
-each_later a b l (_ ∷ r) h = each_later a b l r h
+each_later a b l (x ∷ r) h = grind (arith, each_later a b l r)
 
 abbrev pub InOrder : State → Type 0
 InOrder st = EachPlace (NotAfter st.latest) st.back
@@ -44,18 +43,13 @@ abbrev pub IsSmall : State → Type 0
 IsSmall st = st.margin ≤ 18446744073709551615
 
 pub small_grows : {width : ℕ} {margin_of : ℕ → ℕ} {st after : State} {next : Next} → Suits margin_of st next → Grows width st next after → IsSmall st → IsSmall after
-small_grows suits g h = by_grows IsSmall g (λ p base n e b d. subst (λ (m : ℕ). m ≤ 18446744073709551615) (sym (begins_margin b).0) h)
-    (λ p mid e l w b. subst (λ (m : ℕ). m ≤ 18446744073709551615) (sym (lines_margin l).0) h) (λ k chunk e. h)
-    (λ event margin e. by_mark (λ x m. m ≤ 18446744073709551615) suits e (λ b m l u. u) (λ b m l u. u))
+small_grows suits g h = grind (arith, by_grows, begins_margin, lines_margin, by_mark)
 
 settled_put : (n : ℕ) (p : Piece) (base : State) → IsSmall base → Pads base n → base.margin ≤ sat (base.column + n + p.weight)
-settled_put n p base small (to_margin e) = omega arith
-settled_put n p base small (after_term t wide few e) = omega arith
+settled_put n p base small h = grind arith
 
 pub settled_grows : {width : ℕ} {st after : State} {next : Next} → IsSmall st → Grows width st next after → IsSettled st → IsSettled after
-settled_grows small g h = by_grows IsSettled g
-    (λ p base n e b d o. (settled_put n p base (subst (λ (m : ℕ). m ≤ 18446744073709551615) (sym (begins_margin b).0) small) d, refl))
-    (λ p mid e l w b o. absurd cc) (λ k chunk e o. absurd cc) (λ event margin e o. absurd cc)
+settled_grows small g h = grind (arith, by_grows, settled_put, begins_margin)
 
 pub unsettled_grows : {width : ℕ} {st after : State} {next : Next} → Grows width st next after → IsUnsettled st → IsUnsettled after
 unsettled_grows g h = by_grows IsUnsettled g (λ p base n e b d o. absurd cc)
@@ -73,8 +67,7 @@ AllKept may_add (Passed event ∷ m) = (is_raw_event event ≡ false) × AllKept
 
 kept_weaker : {A B : Type 0} → (A → B) → (m : List Stretch) → AllKept A m → AllKept B m
 kept_weaker f [] h = h
-kept_weaker f (Gap b ∷ m) h = (f h.0, kept_weaker f m h.1)
-kept_weaker f (_ ∷ m) h = (h.0, kept_weaker f m h.1)
+kept_weaker f (x ∷ m) h = grind (arith, kept_weaker f m)
 
 kept_padded : {A : Type 0} (n : ℕ) (m : List Stretch) → A → AllKept A m → AllKept A (padded n m)
 kept_padded zero m a h = h
@@ -87,15 +80,19 @@ IsNeighbour r m e before = Cut r m e before × (is_inked (chunk_at e) ≡ true) 
 abbrev pub IsKeptSince : State → Type 0
 IsKeptSince st = (m before : List Stretch) (e : Place) → IsNeighbour st.back m e before → (e.shown ≡ e.bytes) × AllKept (e.part < st.latest) m
 
-part_before : (latest : ℕ) (m : List Stretch) (e : Place) (before : List Stretch) → EachPlace (NotAfter latest) (m ++ Placed e ∷ before) → e.part ≤ latest
-part_before latest [] e before h = h.0
-part_before latest (Placed g ∷ m) e before h = part_before latest m e before h.1
-part_before latest (_ ∷ m) e before h = part_before latest m e before h
-
 -- no blank is added where a chunk was placed last
 no_pads : (st : State) (n : ℕ) → IsSettled st → st.settled ≡ true → Pads st n → n ≡ 0
-no_pads st n h s (to_margin e) = let here : st.margin ≤ st.column = (h s).0 in omega arith
-no_pads st n h s (after_term t wide few e) = let none : st.pending ≡ false = (h s).1 in absurd cc
+no_pads st n h s e = grind arith
+
+-- blanks that are put stand between neighbours
+neighbour_padded : (n : ℕ) (r m : List Stretch) (e : Place) (before : List Stretch) → (there : IsNeighbour (padded n r) m e before) → IsNeighbour r (cut_padded n r m e before there.0).rest e before
+neighbour_padded n r m e before there =
+    let found : AfterPads n r m e before = cut_padded n r m e before there.0 in (
+      found.there,
+      there.1,
+      sym (same_padded (list_any is_inked_stretch) (λ x. refl) n found.rest) ∙ subst (λ x. list_any is_inked_stretch x ≡ false) found.is there.2,
+      sym (same_padded has_newline (λ x. refl) n found.rest) ∙ subst (λ x. has_newline x ≡ false) found.is there.3,
+    )
 
 kept_same : (st : State) (k n : ℕ) → IsSettled st → IsUnsettled st → InOrder st → IsKeptSince st → st.latest ≤ k → (st.marked ≡ true → st.latest < k) → Pads st n
     → (m before : List Stretch) (e : Place) → IsNeighbour (padded n st.back) m e before → (e.shown ≡ e.bytes) × AllKept (e.part < k) m
@@ -105,12 +102,7 @@ kept_same st k n settled unsettled order h o moved d m before e there =
       found = cut_padded n st.back m e before there.0
 
       near : IsNeighbour st.back found.rest e before
-      near = (
-        found.there,
-        there.1,
-        sym (same_padded (list_any is_inked_stretch) (λ x. refl) n found.rest) ∙ subst (λ x. list_any is_inked_stretch x ≡ false) found.is there.2,
-        sym (same_padded has_newline (λ x. refl) n found.rest) ∙ subst (λ x. has_newline x ≡ false) found.is there.3,
-      )
+      near = neighbour_padded n st.back m e before there
 
       since : (e.shown ≡ e.bytes) × AllKept (e.part < st.latest) found.rest
       since = h found.rest before e near
@@ -119,17 +111,14 @@ kept_same st k n settled unsettled order h o moved d m before e there =
       wider = kept_weaker (λ (l : e.part < st.latest). omega arith) found.rest since.1
 
       earlier : e.part ≤ st.latest
-      earlier = part_before st.latest found.rest e before (subst (λ x. EachPlace (NotAfter st.latest) x) found.there order)
+      earlier = (each_back (NotAfter st.latest) found.rest (Placed e ∷ before) (subst (λ x. EachPlace (NotAfter st.latest) x) found.there order)).0
 
       strict : (inked_line st.back ≡ false) ⊎ (st.marked ≡ true) → e.part < k
       strict (inl i) = grind (arith, found, inked_since, near)
       strict (inr t) = let l : st.latest < k = moved t in let p : e.part ≤ st.latest = earlier in omega arith
 
       at : (st.settled ≡ true) ⊎ (st.settled ≡ false) → (e.shown ≡ e.bytes) × AllKept (e.part < k) m
-      at (inl s) =
-          let none : n ≡ 0 = no_pads st n settled s d in
-          let same : m ≡ found.rest = found.is ∙ ap (λ (i : ℕ). padded i found.rest) none in
-          (since.0, subst (λ x. AllKept (e.part < k) x) (sym same) wider)
+      at (inl s) = grind (arith, no_pads, found, since, wider)
       at (inr s) = (since.0, subst (λ x. AllKept (e.part < k) x) (sym found.is) (kept_padded n found.rest (strict (unsettled s)) wider))
 
 -- no neighbour stands before a newline
@@ -140,13 +129,7 @@ no_neighbour r m e before there =
 
 no_neighbour_padded : (n : ℕ) (r m : List Stretch) (e : Place) (before : List Stretch) → IsNeighbour (padded n (Gap 10 ∷ r)) m e before → ⊥
 no_neighbour_padded n r m e before there =
-    let found : AfterPads n (Gap 10 ∷ r) m e before = cut_padded n (Gap 10 ∷ r) m e before there.0 in
-    no_neighbour r found.rest e before (
-      found.there,
-      there.1,
-      sym (same_padded (list_any is_inked_stretch) (λ x. refl) n found.rest) ∙ subst (λ x. list_any is_inked_stretch x ≡ false) found.is there.2,
-      sym (same_padded has_newline (λ x. refl) n found.rest) ∙ subst (λ x. has_newline x ≡ false) found.is there.3,
-    )
+    no_neighbour r (cut_padded n (Gap 10 ∷ r) m e before there.0).rest e before (neighbour_padded n (Gap 10 ∷ r) m e before there)
 
 record Ready (st : State) (k : ℕ) : Type 0 where
   settled : IsSettled st
@@ -176,9 +159,7 @@ kept_put : {width : ℕ} {st : State} (p : Piece) (base : State) (n : ℕ) → R
 kept_put p base n y b d = λ m before e there. at m before e there (cut_cons (Placed (place_of p)) (padded n base.back) m e before there.0) where
   at : (m before : List Stretch) (e : Place) → IsNeighbour (Placed (place_of p) ∷ padded n base.back) m e before → FirstOrLater (Placed (place_of p)) (padded n base.back) m e before
       → (e.shown ≡ e.bytes) × AllKept (e.part < p.part) m
-  at m before e there (here none is rest) =
-      let same : place_of p ≡ e = cc in
-      (subst (λ (x : Place). x.shown ≡ x.bytes) same refl, subst (λ x. AllKept (e.part < p.part) x) (sym none) tt)
+  at m before e there (here none is rest) = grind arith
   at m before e there (later rest is cut_there) =
       let plain : (is_inked_stretch (Placed (place_of p)) || list_any is_inked_stretch rest) ≡ false = subst (λ x. list_any is_inked_stretch x ≡ false) is there.2 in
       let bare : has_newline rest ≡ false = subst (λ x. has_newline x ≡ false) is there.3 in
@@ -189,12 +170,7 @@ kept_put p base n y b d = λ m before e there. at m before e there (cut_cons (Pl
 kept_passed : (event : Event) (margin : ℕ) (st : State) → is_raw_event event ≡ false → IsKeptSince st → IsKeptSince (passed event margin st)
 kept_passed event margin st plain_mark h = λ m before e there. at m before e there (cut_passed event st.back m e before there.0) where
   at : (m before : List Stretch) (e : Place) → IsNeighbour (Passed event ∷ st.back) m e before → AfterPassed event st.back m e before → (e.shown ≡ e.bytes) × AllKept (e.part < st.latest) m
-  at m before e there found =
-      let plain : (is_inked_stretch (Passed event) || list_any is_inked_stretch found.rest) ≡ false = subst (λ x. list_any is_inked_stretch x ≡ false) found.is there.2 in
-      let bare : has_newline found.rest ≡ false = subst (λ x. has_newline x ≡ false) found.is there.3 in
-      let since : (e.shown ≡ e.bytes) × AllKept (e.part < st.latest) found.rest = h found.rest before e
-      (found.there, there.1, or_false_right (is_inked_stretch (Passed event)) (list_any is_inked_stretch found.rest) plain, bare) in
-      (since.0, subst (λ x. AllKept (e.part < st.latest) x) (sym found.is) (plain_mark, since.1))
+  at m before e there found = grind (arith, or_false_right)
 
 pub kept_since_grows : {width : ℕ} {margin_of : ℕ → ℕ} {st after : State} {next : Next} → Suits margin_of st next → IsSettled st → IsUnsettled st → InOrder st
     → Grows width st next after → IsKeptSince st → IsKeptSince after

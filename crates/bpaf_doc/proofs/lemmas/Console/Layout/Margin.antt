@@ -2,7 +2,7 @@
 use Rattle.std.specs.Prelude.{◌≡◌, ℕ, ◌+◌, ◌<◌, ◌≤◌, List}
 use Rattle.std.proofs.Common.{arith, ◌∙◌}
 use Rattle.bpaf_doc.specs.Console.Layout.{Stretch, Place}
-use Rattle.bpaf_doc.proofs.lemmas.Console.Layout.State.{State, Piece, Pads, to_margin, after_term, Begins, Next, raw, Grows, padded, Suits}
+use Rattle.bpaf_doc.proofs.lemmas.Console.Layout.State.{State, Piece, Pads, Begins, Next, raw, Grows, padded, Suits}
 use Rattle.bpaf_doc.proofs.lemmas.Console.Layout.Back.{EachPlace, KeepsCut, each_grows, place_of, fits_of}
 use Rattle.bpaf_doc.proofs.lemmas.Console.Layout.Columns.{Fills, column_back, column_padded, Agrees}
 use Rattle.bpaf_doc.proofs.lemmas.Console.Layout.Text.{IsStarting, begins_column, begins_margin}
@@ -17,8 +17,7 @@ module _ (margin_of : ℕ → ℕ) where
   at_margin_cut r f i h = h
 
   at_margin_pads : (n : ℕ) (base : State) (m : ℕ) → base.margin ≡ m → base.column ≡ column_back base.back → Pads base n → m ≤ n + column_back base.back
-  at_margin_pads n base m a c (to_margin e) = omega arith
-  at_margin_pads n base m a c (after_term t wide few e) = omega arith
+  at_margin_pads n base m a c h = grind arith
 
   pub at_margin_grows : {width : ℕ} {st after : State} {next : Next} → width < 1_000_000 → EachPlace Fills st.back → IsStarting st → Agrees st → Suits margin_of st next
       → Grows width st next after → EachPlace AtMargin st.back → EachPlace AtMargin after.back

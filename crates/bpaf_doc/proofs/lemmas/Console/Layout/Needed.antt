@@ -1,10 +1,9 @@
 -- The rules of what is light: a line is broken between ordinary chunks with light chunks and marks between them only where the second would
 -- pass the width.
-use Rattle.std.specs.Prelude.{◌≡◌, ℕ, ◌≤◌, Bool, true, false, ◌&&◌, length, refl}
-use Rattle.std.proofs.Common.{arith, inl}
+use Rattle.std.specs.Prelude.{◌≡◌, ℕ, ◌≤◌, Bool, true, false, ◌&&◌, length}
+use Rattle.std.proofs.Common.{arith}
 use Rattle.std.proofs.lemmas.Bool.{and_parts}
 use Rattle.bpaf_doc.specs.declared.buffer.Block.{Block}
-use Rattle.bpaf_doc.specs.declared.buffer.Block.TheVariants as blocks
 use Rattle.bpaf_doc.specs.declared.console.page.Asked.{Asked}
 use Rattle.bpaf_doc.specs.Splitter.Chunks.{Chunk, Raw, columns, is_inked, is_ordinary}
 use Rattle.bpaf_doc.specs.Console.Layout.{Event, Opens, Closes, event_bytes, event_columns, is_light, is_light_mark, is_inline_block}
@@ -22,60 +21,26 @@ abbrev pub light_marks : Rule
 light_marks = record { begins = is_plain; follows = is_light_mark; has_chunks = false; takes = event_columns; taken = λ es. sum_of event_columns es }
 
 light_open : (b : Block) (level margin : ℕ) → (is_inline_block b ≡ true → margin ≤ level) → is_light (Opens b) ≡ true → IsQuiet light level margin (Opens b)
-light_open blocks.InlineBlock level margin low h = record { asked = λ a. refl; bytes = omega arith; pending = λ c p t. inl t; margin = λ c es. inl (low refl) }
-light_open blocks.Mono level margin low h = record { asked = λ a. refl; bytes = omega arith; pending = λ c p t. inl t; margin = λ c es. inl (low refl) }
-light_open blocks.Meta level margin low h = record { asked = λ a. refl; bytes = omega arith; pending = λ c p t. inl t; margin = λ c es. inl (low refl) }
-light_open blocks.DefinitionList level margin low h = record { asked = λ a. refl; bytes = omega arith; pending = λ c p t. inl t; margin = λ c es. inl (low refl) }
-light_open _ level margin low h = absurd cc
+light_open b level margin low h = grind arith
 
 light_close : (b : Block) (level margin : ℕ) → margin ≤ level → is_light (Closes b) ≡ true → IsQuiet light level margin (Closes b)
-light_close blocks.InlineBlock level margin low h = record { asked = λ a. refl; bytes = omega arith; pending = λ c p t. inl t; margin = λ c es. inl low }
-light_close blocks.Mono level margin low h = record { asked = λ a. refl; bytes = omega arith; pending = λ c p t. inl t; margin = λ c es. inl low }
-light_close blocks.Meta level margin low h = record { asked = λ a. refl; bytes = omega arith; pending = λ c p t. inl t; margin = λ c es. inl low }
-light_close blocks.DefinitionList level margin low h = record { asked = λ a. refl; bytes = omega arith; pending = λ c p t. inl t; margin = λ c es. inl low }
-light_close _ level margin low h = absurd cc
+light_close b level margin low h = grind arith
 
 asks_nothing : (event : Event) (level margin : ℕ) → ((a : Asked) → asked_after event a ≡ a) → length (event_bytes event) ≡ 0
     → IsQuiet light_marks level margin event
 asks_nothing event level margin same none = record { asked = same; bytes = omega arith; pending = λ c p t. absurd cc; margin = λ c es. absurd cc }
 
 marks_open : (b : Block) (level margin : ℕ) → is_light_mark (Opens b) ≡ true → IsQuiet light_marks level margin (Opens b)
-marks_open blocks.ItemBody level margin h = asks_nothing (Opens blocks.ItemBody) level margin (λ a. refl) refl
-marks_open blocks.InlineBlock level margin h = asks_nothing (Opens blocks.InlineBlock) level margin (λ a. refl) refl
-marks_open blocks.Mono level margin h = asks_nothing (Opens blocks.Mono) level margin (λ a. refl) refl
-marks_open blocks.Meta level margin h = asks_nothing (Opens blocks.Meta) level margin (λ a. refl) refl
-marks_open blocks.DefinitionList level margin h = asks_nothing (Opens blocks.DefinitionList) level margin (λ a. refl) refl
-marks_open _ level margin h = absurd cc
+marks_open b level margin h = grind (arith, asks_nothing)
 
 marks_close : (b : Block) (level margin : ℕ) → is_light_mark (Closes b) ≡ true → IsQuiet light_marks level margin (Closes b)
-marks_close blocks.ItemTerm level margin h = asks_nothing (Closes blocks.ItemTerm) level margin (λ a. refl) refl
-marks_close blocks.InlineBlock level margin h = asks_nothing (Closes blocks.InlineBlock) level margin (λ a. refl) refl
-marks_close blocks.Mono level margin h = asks_nothing (Closes blocks.Mono) level margin (λ a. refl) refl
-marks_close blocks.Meta level margin h = asks_nothing (Closes blocks.Meta) level margin (λ a. refl) refl
-marks_close blocks.DefinitionList level margin h = asks_nothing (Closes blocks.DefinitionList) level margin (λ a. refl) refl
-marks_close _ level margin h = absurd cc
+marks_close b level margin h = grind (arith, asks_nothing)
 
 plain_weighs : (p : Piece) → IsWeighed p → is_plain (Raw p.bytes p.weight) ≡ true → p.weight ≤ columns p.bytes
 plain_weighs p weighed b = let same : p.weight ≡ columns p.bytes = weighed (and_parts (is_ordinary (Raw p.bytes p.weight)) _ b).0 in omega arith
 
 pub light_sound : (width deepest : ℕ) → IsSound width deepest light
-light_sound width deepest = record {
-  more = λ event es. omega arith;
-  weighs = plain_weighs;
-  chunk = λ p weighed f. let same : p.weight ≡ columns p.bytes = weighed (and_parts (is_ordinary (Raw p.bytes p.weight)) _ f).0 in (refl, omega arith, inl (omega arith));
-  opens = λ b level margin f low deep. light_open b level margin low f;
-  closes = λ b level margin f low. light_close b level margin low f;
-  paragraph = λ k. refl;
-  line_break = λ k. refl;
-}
+light_sound width deepest = grind (arith, plain_weighs, and_parts, light_open, light_close)
 
 pub light_marks_sound : (width deepest : ℕ) → IsSound width deepest light_marks
-light_marks_sound width deepest = record {
-  more = λ event es. omega arith;
-  weighs = plain_weighs;
-  chunk = λ p weighed f. absurd cc;
-  opens = λ b level margin f low deep. marks_open b level margin f;
-  closes = λ b level margin f low. marks_close b level margin f;
-  paragraph = λ k. refl;
-  line_break = λ k. refl;
-}
+light_marks_sound width deepest = grind (arith, plain_weighs, marks_open, marks_close)

@@ -4,7 +4,7 @@ use Rattle.std.proofs.Common.{sym, subst, ap, arith, inl, inr, ◌∙◌, append
 use Rattle.std.proofs.lemmas.List.{reverse-append}
 use Rattle.bpaf_doc.specs.Splitter.Chunks.{columns, has_some}
 use Rattle.bpaf_doc.specs.Console.Layout.{Event, Shows, Stretch, Gap, Placed, Passed, Place, event_bytes, is_newline, is_placed, is_gap, is_ref, holds_line, leads_to_place, opens_body}
-use Rattle.bpaf_doc.proofs.lemmas.Console.Layout.State.{State, Piece, Lines, Pads, to_margin, after_term, Begins, first, stays, wraps, Next, raw, Grows, padded, trimmed, has_text, Suits}
+use Rattle.bpaf_doc.proofs.lemmas.Console.Layout.State.{State, Piece, Lines, Pads, Begins, first, stays, wraps, Next, raw, Grows, padded, trimmed, has_text, Suits}
 use Rattle.bpaf_doc.proofs.lemmas.Console.Layout.Back.{by_cases, EachPlace, KeepsCut, each_grows, place_of, fits_of, by_lines, lines_back, begins_back, by_trimmed, by_padded, same_padded, by_grows}
 use Rattle.bpaf_doc.proofs.lemmas.Console.Layout.Columns.{Fills, column_back, column_padded, Agrees, any_in_line}
 use Rattle.bpaf_doc.proofs.lemmas.Console.Layout.Text.{IsStarting, has_place, begins_column, begins_margin, or_true_right, or_false_left, or_false_right}
@@ -43,14 +43,12 @@ abbrev pub holds_back : List Stretch → Bool
 holds_back r = any_in_line holds_line r
 
 no_ref : (event : Event) → has_some (event_bytes event) ≡ false → is_ref event ≡ false
-no_ref (Shows k chunk) h = refl
-no_ref _ h = grind arith
+no_ref event h = grind arith
 
 -- on a page without text and without places stands nothing
 no_text_holds : (r : List Stretch) → has_text r ≡ false → has_place r ≡ false → holds_back r ≡ false
 no_text_holds [] t p = refl
-no_text_holds (Passed event ∷ r) t p = grind (arith, no_text_holds r, no_ref, or_false_left, or_false_right)
-no_text_holds (_ ∷ r) t p = absurd cc
+no_text_holds (x ∷ r) t p = grind (arith, no_text_holds r, no_ref, or_false_left, or_false_right)
 
 module _ (width : ℕ) where
   -- behind a place or a backquote, a chunk fits but for the blanks before it
@@ -62,11 +60,7 @@ module _ (width : ℕ) where
   fits_place {st} p base n small f start h none (first t e) = λ holds.
       let bare : holds_back st.back ≡ false = no_text_holds st.back t (start t).1 in
       let some : holds_back st.back ≡ true = sym (same_padded holds_back (λ x. refl) n st.back) ∙ subst (λ (x : State). holds_back (padded n x.back) ≡ true) e holds in absurd cc
-  fits_place {st} p base n small f start h none (stays t l w) = λ holds.
-      let here : base.column ≡ column_back base.back = begins_column {p = p} small f start h (stays t l w) in
-      let line : column_back (padded n base.back) ≡ n + column_back base.back = column_padded n base.back in
-      let pads : pads_back (padded n base.back) ≡ n + pads_back base.back = pads_padded n base.back in
-      omega arith
+  fits_place {st} p base n small f start h none (stays t l w) = grind (arith, begins_column, column_padded, pads_padded)
   fits_place p base n small f start h none (wraps t mid l w b e) = λ holds.
       let some : holds_back base.back ≡ true = sym (same_padded holds_back (λ x. refl) n base.back) ∙ holds in
       let no : false ≡ true = subst (λ (x : State). holds_back x.back ≡ true) e some in absurd cc
@@ -86,10 +80,7 @@ Leads place (Placed e ∷ r) = Leads true r
 Leads place (Passed event ∷ r) = Leads false r
 
 leads_more : (r : List Stretch) → Leads false r → Leads true r
-leads_more (Gap b ∷ r) h = (λ t. refl, at (by_cases (b == 32))) where
-  at : ((b == 32) ≡ true) ⊎ ((b == 32) ≡ false) → Leads ((b == 32) && true) r
-  at (inl t) = let no : false ≡ true = h.0 t in absurd cc
-  at (inr t) = let rest : Leads false r = rw t at h.1 in rw t rest
+leads_more (Gap b ∷ r) h = grind arith
 leads_more _ h = h
 
 leads_trimmed : (r : List Stretch) (place : Bool) → Leads place r → Leads false (trimmed r)
@@ -119,9 +110,7 @@ leads_at place (x ∷ m) r rest h k =
     ap (λ xs. leads_to_place (xs ++ rest)) (reverse-append (x ∷ []) m) ∙ ap leads_to_place (append_assoc (reverse m) (x ∷ []) rest) ∙ at x h (λ flag. leads_at flag m r (x ∷ rest)) where
       at : (x : Stretch) → Leads place (x ∷ (m ++ Gap 32 ∷ r)) → ((flag : Bool) → Leads flag (m ++ Gap 32 ∷ r) → (flag ≡ true → leads_to_place (x ∷ rest) ≡ true) → leads_to_place (reverse m ++ x ∷ rest) ≡ true)
           → leads_to_place (reverse m ++ x ∷ rest) ≡ true
-      at (Gap b) h ih = ih ((b == 32) && place) h.1 (both (b == 32) place (leads_to_place rest) k) where
-        both : (t place ok : Bool) → (place ≡ true → ok ≡ true) → (t && place) ≡ true → (t && ok) ≡ true
-        both t place ok k h = grind arith
+      at (Gap b) h ih = grind arith
       at (Placed e) h ih = ih true h (λ t. refl)
       at (Passed event) h ih = ih false h (λ t. absurd cc)
 
@@ -141,9 +130,7 @@ pending_lines : {st mid : State} → Lines st mid → IsPending st → IsPending
 pending_lines l h = by_lines IsPending l h h h h
 
 pub pending_begins : {width : ℕ} {st : State} {p : Piece} {base : State} → Begins width st p base → IsPending st → IsPending base
-pending_begins (first t e) h = subst IsPending (sym e) h
-pending_begins (stays t l w) h = pending_lines l h
-pending_begins (wraps t mid l w b e) h = subst IsPending (sym e) (λ t. body_trimmed mid.back (pending_lines l h t))
+pending_begins e h = grind (arith, pending_lines, body_trimmed)
 
 pub pending_grows : {width : ℕ} {st after : State} {next : Next} → Grows width st next after → IsPending st → IsPending after
 pending_grows g h = by_grows IsPending g (λ p base n e b d t. absurd cc) (λ p mid e l w b t. body_trimmed mid.back (pending_lines l h t)) (λ k chunk e t. h t) (λ event margin e t. grind (arith, h))
@@ -158,8 +145,7 @@ module _ (margin_of : ℕ → ℕ) where
 
   pads_only : (n : ℕ) (base : State) (m : ℕ) → base.margin ≡ m → base.column ≡ column_back base.back → HasNoPads base → IsPending base → Pads base n
       → 0 < pads_back (padded n base.back) → (column_back (padded n base.back) ≡ m) ⊎ ((pads_back (padded n base.back) ≡ 2) × (body_back (padded n base.back) ≡ true))
-  pads_only n base m a c none pending (to_margin e) some = inl (omega (arith, column_padded n base.back, pads_padded n base.back))
-  pads_only n base m a c none pending (after_term t wide few e) some = inr (omega (arith, pads_padded n base.back), by_padded (λ x. body_back x ≡ true) (λ x y. y) n base.back (pending t))
+  pads_only n base m a c none pending h some = grind (arith, column_padded, pads_padded, by_padded)
 
   pub pads_only_grows : {width : ℕ} {st after : State} {next : Next} → width < 1_000_000 → EachPlace Fills st.back → IsStarting st → Agrees st → Suits margin_of st next
       → HasNoPads st → IsPending st → Grows width st next after → EachPlace PadsOnly st.back → EachPlace PadsOnly after.back

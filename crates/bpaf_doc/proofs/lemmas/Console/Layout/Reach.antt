@@ -1,17 +1,17 @@
 -- How much of a line is taken since a chunk, reckoned by some rule; and that the line is broken only where the next chunk has no room.
-use Rattle.std.specs.Prelude.{◌≡◌, ℕ, ◌+◌, ◌<◌, ◌≤◌, Bool, true, false, ◌&&◌, List, [], ◌∷◌, length, refl, ◌⊎◌}
+use Rattle.std.specs.Prelude.{◌≡◌, ℕ, ◌+◌, ◌<◌, ◌≤◌, Bool, true, false, List, [], ◌∷◌, length, refl, ◌⊎◌}
 use Rattle.std.specs.List.{list_all}
-use Rattle.std.proofs.Common.{sym, subst, ap, arith, inl, inr, ◌∙◌}
+use Rattle.std.proofs.Common.{sym, subst, ap, arith, ◌∙◌}
 use Rattle.std.proofs.lemmas.Bool.{and_parts}
 use Rattle.bpaf_doc.specs.declared.buffer.Block.{Block}
 use Rattle.bpaf_doc.specs.declared.console.page.Asked.{Asked}
 use Rattle.bpaf_doc.specs.declared.console.page.Asked.TheVariants.{Nothing}
 use Rattle.bpaf_doc.specs.Splitter.Chunks.{Chunk, Raw, Paragraph, LineBreak, columns, IsOrdinary}
 use Rattle.bpaf_doc.specs.Console.Layout.{Event, Shows, Opens, Closes, Stretch, Gap, Placed, Passed, Place, chunk_at, event_bytes, is_inline_block}
-use Rattle.bpaf_doc.proofs.lemmas.Console.Layout.State.{State, Piece, Lines, Pads, to_margin, after_term, Begins, first, stays, wraps, Next, raw, break, mark, Grows, padded, trimmed, sat, wrapped, put, passed, dropped, broken, asked_after, pending_after, Suits, IsShallow}
+use Rattle.bpaf_doc.proofs.lemmas.Console.Layout.State.{State, Piece, Lines, Pads, Begins, first, stays, wraps, Next, raw, break, mark, Grows, padded, trimmed, sat, wrapped, put, passed, dropped, broken, asked_after, pending_after, Suits, IsShallow}
 use Rattle.bpaf_doc.proofs.lemmas.Console.Layout.Back.{EachPlace, each_grows, place_of, fits_of, same_padded, by_mark, by_break, by_grows}
 use Rattle.bpaf_doc.proofs.lemmas.Console.Layout.Columns.{Fills, column_back, column_padded, Agrees}
-use Rattle.bpaf_doc.proofs.lemmas.Console.Layout.Text.{IsStarting, has_place, begins_column}
+use Rattle.bpaf_doc.proofs.lemmas.Console.Layout.Text.{IsStarting, begins_column}
 use Rattle.bpaf_doc.proofs.lemmas.Console.Layout.Alone.{place_in}
 use Rattle.bpaf_doc.proofs.lemmas.Console.Layout.Split.{events_back, lines_same, Earlier, after_lines, Cut, FirstOrLater, here, later, cut_cons, AfterGap, cut_gap, AfterPassed, cut_passed, AfterPads, cut_padded, FromTrimmed, cut_trimmed, has_newline}
 
@@ -58,12 +58,10 @@ pub record IsSound (width deepest : ℕ) (rule : Rule) : Type 0 where
   pub line_break : (k : ℕ) → rule.follows (Shows k LineBreak) ≡ false
 
 passes : (width end some most : ℕ) → (some ≤ most) ⊎ (width < most) → width < end + some → width < end + most
-passes width end some most (inl l) over = omega arith
-passes width end some most (inr l) over = omega arith
+passes width end some most h over = grind arith
 
 margin_reached : (n : ℕ) (base : State) → Pads base n → base.margin ≤ base.column + n
-margin_reached n base (to_margin e) = omega arith
-margin_reached n base (after_term t wide few e) = omega arith
+margin_reached n base h = grind arith
 
 module _ (width : ℕ) (rule : Rule) where
   -- where all since e would end at most, if it stood in its line
@@ -102,10 +100,7 @@ module _ (width : ℕ) (rule : Rule) where
 
   run_parts : (event : Event) (m rest : List Stretch) (e : Place) → events_back m ≡ event ∷ events_back rest → IsRun m e
       → (rule.follows event ≡ true) × IsRun rest e
-  run_parts event m rest e events run =
-      let both : (rule.follows event && list_all rule.follows (events_back rest)) ≡ true = subst (λ es. list_all rule.follows es ≡ true) events run.1 in
-      let parts : (rule.follows event ≡ true) × (list_all rule.follows (events_back rest) ≡ true) = and_parts (rule.follows event) (list_all rule.follows (events_back rest)) both in
-      (parts.0, (run.0, parts.1))
+  run_parts event m rest e events run = grind (arith, and_parts)
 
   known_lines : {st mid : State} → IsRoomy st → Lines st mid → (m before : List Stretch) (e : Place) → Cut mid.back m e before → IsRun m e
       → Known mid m e before
@@ -134,22 +129,13 @@ module _ (width : ℕ) (rule : Rule) where
     needed : has_newline m ≡ true → width < end_of (events_back m) e before + columns p.bytes
 
   wrapped_in_reach : (mid : State) (end : ℕ) → InReach end mid → InReach end (wrapped mid)
-  wrapped_in_reach mid end r = record {
-    column = omega arith;
-    asked = r.asked;
-    margin = r.margin;
-    pending = λ c t. let more : mid.column + 2 ≤ end = r.pending c t in omega arith;
-  }
+  wrapped_in_reach mid end r = grind arith
 
   ready_begins : {st : State} (p : Piece) (base : State) → IsStarting st → IsRoomy st → Begins width st p base → (m before : List Stretch) (e : Place)
       → Cut base.back m e before → IsRun m e
       → Ready p base m e before
-  ready_begins {st} p base start h (first t s) m before e there run =
-      let none : has_place st.back ≡ false = (start t).1 in
-      let some : has_place st.back ≡ true = subst (λ x. has_place x ≡ true) (sym there ∙ ap (λ (y : State). y.back) s) (place_in m before e) in absurd cc
-  ready_begins p base start h (stays t l w) m before e there run =
-      let known : Known base m e before = known_lines h l m before e there run in
-      record { reach = known.reach; needed = λ n. let over : width < end_of (events_back m) e before = known.needed n in omega arith }
+  ready_begins {st} p base start h (first t s) m before e there run = grind (arith, place_in)
+  ready_begins p base start h (stays t l w) m before e there run = grind (arith, known_lines)
   ready_begins p base start h (wraps t mid l w b s) m before e there run =
       let gap : AfterGap 10 (trimmed mid.back) m e before = cut_gap 10 (trimmed mid.back) m e before (subst (λ (x : State). Cut x.back m e before) s there) in
       let same : events_back gap.rest ≡ events_back m = sym (ap events_back gap.is) in
@@ -175,8 +161,7 @@ module _ (width : ℕ) (rule : Rule) where
 
   -- the blanks before a chunk stay in reach
   pads_in_reach : (n : ℕ) (base : State) (end : ℕ) → rule.has_chunks ≡ true → InReach end base → Pads base n → base.column + n ≤ end
-  pads_in_reach n base end c r (to_margin e) = let column : base.column ≤ end = r.column in let m : base.margin ≤ end = r.margin c in omega arith
-  pads_in_reach n base end c r (after_term t wide few e) = let more : base.column + 2 ≤ end = r.pending c t in omega arith
+  pads_in_reach n base end c r h = grind arith
 
   no_room_grows : {st after : State} {next : Next} → IsStarting st → IsRoomy st → Grows width st next after → EachPlace HasNoRoom st.back
       → EachPlace HasNoRoom after.back
@@ -190,18 +175,7 @@ module _ (width : ℕ) (rule : Rule) where
     known_put p base n small f start agrees weighed b d h = λ m before e there run. at m before e run (cut_cons (Placed (place_of p)) (padded n base.back) m e before there) where
       at : (m before : List Stretch) (e : Place) → IsRun m e → FirstOrLater (Placed (place_of p)) (padded n base.back) m e before
           → Known (put n p.part p.bytes p.weight base) m e before
-      at m before e run (here none is rest) =
-          let same : place_of p ≡ e = cc in
-          let event : rule.takes (shown p) ≡ rule.takes (Shows e.part (chunk_at e)) = ap (λ (x : Place). rule.takes (Shows x.part (chunk_at x))) same in
-          let weight : p.weight ≤ rule.takes (shown p) = sound.weighs p weighed (subst (λ (x : Place). rule.begins (chunk_at x) ≡ true) (sym same) run.0) in
-          let before_is : column_back (padded n base.back) ≡ column_back before = ap column_back rest in
-          let column : base.column ≡ column_back base.back = begins_column small f start agrees b in
-          let pads : column_back (padded n base.back) ≡ n + column_back base.back = column_padded n base.back in
-          let most : base.margin ≤ base.column + n = margin_reached n base d in
-          record {
-            reach = record { column = omega arith; asked = refl; margin = λ c. omega arith; pending = λ c t. absurd cc };
-            needed = λ t. let line : true ≡ false = sym t ∙ ap has_newline none in absurd cc;
-          }
+      at m before e run (here none is rest) = grind (arith, begins_column, column_padded, margin_reached)
       at m before e run (later rest is there) =
           let events : events_back m ≡ shown p ∷ events_back rest = ap events_back is in
           let parts : (rule.follows (shown p) ≡ true) × IsRun rest e = run_parts (shown p) m rest e events run in
@@ -252,31 +226,12 @@ module _ (width : ℕ) (rule : Rule) where
         → IsRoomy (passed event margin st)
     known_passed event margin st quiet h = λ m before e there run. at m before e run (cut_passed event st.back m e before there) where
       at : (m before : List Stretch) (e : Place) → IsRun m e → AfterPassed event st.back m e before → Known (passed event margin st) m e before
-      at m before e run found =
-          let events : events_back m ≡ event ∷ events_back found.rest = ap events_back found.is in
-          let parts : (rule.follows event ≡ true) × IsRun found.rest e = run_parts event m found.rest e events run in
-          let mark_is : IsQuiet rule st.margin margin event = quiet parts.0 in
-          let known : Known st found.rest e before = h found.rest before e found.there parts.1 in
-          let total : rule.taken (events_back m) ≡ rule.taken (event ∷ events_back found.rest) = ap rule.taken events in
-          let more : rule.takes event + rule.taken (events_back found.rest) ≤ rule.taken (event ∷ events_back found.rest) = sound.more event (events_back found.rest) in
-          let bytes : length (event_bytes event) ≤ rule.takes event = mark_is.bytes in
-          let column : st.column ≤ end_of (events_back found.rest) e before = known.reach.column in
-          record {
-            reach = record {
-              column = omega arith;
-              asked = mark_is.asked st.asked ∙ known.reach.asked;
-              margin = λ c. let old : st.margin ≤ end_of (events_back found.rest) e before = known.reach.margin c in elim (mark_is.margin c (events_back found.rest)) [ inl l ↦ omega arith | inr l ↦ omega arith ];
-              pending = λ c t. elim (mark_is.pending c st.pending t)
-                  [ inl was ↦ let two : st.column + 2 ≤ end_of (events_back found.rest) e before = known.reach.pending c was in omega arith | inr few ↦ omega arith ];
-            };
-            needed = λ t. let over : width < end_of (events_back found.rest) e before = known.needed (sym (ap has_newline found.is) ∙ t) in omega arith;
-          }
+      at m before e run found = grind (arith, run_parts)
 
     -- a break does not follow
     no_break : {A : Type 0} {margin_of : ℕ → ℕ} (st : State) (next : Next) (k : ℕ) (chunk : Chunk) → Suits margin_of st next → next ≡ break k chunk
         → rule.follows (Shows k chunk) ≡ true → A
-    no_break {A} st next k chunk suits e = by_break (λ c j. rule.follows (Shows j c) ≡ true → A) suits e
-        (λ j l m h. let no : rule.follows (Shows j Paragraph) ≡ false = sound.paragraph j in absurd cc) (λ j l m h. let no : rule.follows (Shows j LineBreak) ≡ false = sound.line_break j in absurd cc)
+    no_break {A} st next k chunk suits e = grind (arith, by_break)
 
     known_broken : {margin_of : ℕ → ℕ} (st : State) (next : Next) (k : ℕ) (chunk : Chunk) → Suits margin_of st next → next ≡ break k chunk
         → IsRoomy (broken k chunk st)

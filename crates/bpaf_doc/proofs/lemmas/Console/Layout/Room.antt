@@ -1,15 +1,14 @@
 -- The rule of what asks for no newline: a line is broken between neighbouring inked chunks only where the second has no room in it.
 use Rattle.std.specs.Prelude.{◌≡◌, ℕ, ◌+◌, ◌<◌, ◌≤◌, ⊤, Bool, true, false, not, ◌&&◌, List, [], ◌∷◌, ◌++◌, refl, if◌then◌else◌, ◌⊎◌}
 use Rattle.std.specs.List.{list_any, list_all}
-use Rattle.std.proofs.Common.{sym, subst, ap, arith, inl, inr, ◌∙◌}
+use Rattle.std.proofs.Common.{sym, subst, arith, inl, inr, ◌∙◌}
 use Rattle.bpaf_doc.specs.declared.buffer.Block.{Block}
-use Rattle.bpaf_doc.specs.declared.buffer.Block.TheVariants as blocks
-use Rattle.bpaf_doc.specs.Splitter.Chunks.{Chunk, Raw, columns, is_inked, is_ordinary}
+use Rattle.bpaf_doc.specs.Splitter.Chunks.{Chunk, is_inked}
 use Rattle.bpaf_doc.specs.Console.Layout.{Event, Shows, Opens, Closes, Stretch, Gap, Placed, Passed, Place, is_inked_event, is_inked_stretch, asks_newline, room_of}
-use Rattle.bpaf_doc.proofs.lemmas.Console.Layout.State.{State, Pads, Piece, Begins, places, drops, Next, raw, break, mark, Grows, placing, breaking, passing, padded, Suits}
-use Rattle.bpaf_doc.proofs.lemmas.Console.Layout.Back.{by_cases, EachPlace, each_grows, place_of, fits_of, same_padded, by_mark, by_break}
+use Rattle.bpaf_doc.proofs.lemmas.Console.Layout.State.{State, Pads, Piece, Begins, Next, raw, break, mark, Grows, padded, Suits}
+use Rattle.bpaf_doc.proofs.lemmas.Console.Layout.Back.{EachPlace, each_grows, place_of, fits_of, same_padded, by_mark, by_break}
 use Rattle.bpaf_doc.proofs.lemmas.Console.Layout.Columns.{heavy}
-use Rattle.bpaf_doc.proofs.lemmas.Console.Layout.Text.{next_event, or_false_left, or_false_right}
+use Rattle.bpaf_doc.proofs.lemmas.Console.Layout.Text.{or_false_left, or_false_right}
 use Rattle.bpaf_doc.proofs.lemmas.Console.Layout.Split.{events_back, events_begins, events_grows}
 use Rattle.bpaf_doc.proofs.lemmas.Console.Layout.Reach.{Rule, IsSound, IsQuiet, sum_of}
 
@@ -46,15 +45,11 @@ in_order_blank st e = subst (λ r. IsInOrder st (events_back r)) (sym e) (record
 
 in_order_chunk : (st after : State) (k : ℕ) (chunk : Chunk) → after.latest ≡ k → st.latest ≤ k → (st.marked ≡ true → st.latest < k) → ComesInOrder st
     → IsInOrder after (Shows k chunk ∷ events_back st.back)
-in_order_chunk st after k chunk is order moved h = record {
-  after = λ j l. (omega arith, h.after j (omega arith));
-  next = λ j l m. (omega arith, h.next j (omega arith) (λ t. let step : st.latest < k = moved t in omega arith));
-}
+in_order_chunk st after k chunk is order moved h = grind arith
 
 in_order_mark : (st after : State) (event : Event) → is_chunk event ≡ false → after.latest ≡ st.latest → after.marked ≡ true → ComesInOrder st
     → IsInOrder after (event ∷ events_back st.back)
-in_order_mark st after (Shows k chunk) c is marked h = absurd cc
-in_order_mark st after _ c is marked h = record { after = λ k l. h.after k (omega arith); next = λ k l m. let more : after.latest < k = m marked in h.after k (omega arith) }
+in_order_mark st after event c is marked h = grind arith
 
 mark_chunk : {margin_of : ℕ → ℕ} (st : State) (next : Next) (event : Event) (margin : ℕ) → Suits margin_of st next → next ≡ mark event margin
     → is_chunk event ≡ false
@@ -66,16 +61,7 @@ break_order st next k chunk suits e = by_break (λ c j. (st.latest ≤ j) × (st
 
 pub in_order_grows : {width : ℕ} {margin_of : ℕ → ℕ} {st after : State} {next : Next} → Suits margin_of st next → Grows width st next after
     → ComesInOrder st → ComesInOrder after
-in_order_grows {st = st} {after = after} {next = next} suits g h = subst (IsInOrder after) (sym (events_grows g)) (at g) where
-  event_is : {x : Next} → next ≡ x → IsInOrder after (next_event x ∷ events_back st.back) → IsInOrder after (next_event next ∷ events_back st.back)
-  event_is e i = subst (λ (x : Next). IsInOrder after (next_event x ∷ events_back st.back)) (sym e) i
-
-  at : {width : ℕ} → Grows width st next after → IsInOrder after (next_event next ∷ events_back st.back)
-  at (placing p e (places base n b d a)) = event_is e (in_order_chunk st after p.part (Raw p.bytes p.weight) (ap (λ (s : State). s.latest) a) (fits_of suits e).order (fits_of suits e).moved h)
-  at (placing p e (drops t mid l w b a)) = event_is e (in_order_chunk st after p.part (Raw p.bytes p.weight) (ap (λ (s : State). s.latest) a) (fits_of suits e).order (fits_of suits e).moved h)
-  at (breaking k chunk e a) = event_is e (in_order_chunk st after k chunk (ap (λ (s : State). s.latest) a) (break_order st next k chunk suits e).0 (break_order st next k chunk suits e).1 h)
-  at (passing event margin e a) =
-      event_is e (in_order_mark st after event (mark_chunk st next event margin suits e) (ap (λ (s : State). s.latest) a) (ap (λ (s : State). s.marked) a) h)
+in_order_grows {st = st} {after = after} {next = next} suits g h = grind (arith, events_grows, in_order_chunk, fits_of, break_order, in_order_mark, mark_chunk)
 
 -- what stands before a chunk is of texts up to its own
 abbrev pub IsAfterAll : List Stretch → Place → Type 0
@@ -112,44 +98,19 @@ abbrev pub idle : ℕ → Rule
 idle deepest = record { begins = is_inked; follows = is_idle; has_chunks = true; takes = room_of; taken = λ es. sum_of room_of es + allowance deepest es }
 
 allowance_more : (deepest : ℕ) (event : Event) (es : List Event) → allowance deepest es ≤ allowance deepest (event ∷ es)
-allowance_more deepest (Shows k chunk) es = omega arith
-allowance_more deepest _ es = grind arith
+allowance_more deepest event es = grind arith
 
 idle_open : (b : Block) (deepest level margin : ℕ) → margin ≤ deepest → is_idle (Opens b) ≡ true → IsQuiet (idle deepest) level margin (Opens b)
-idle_open blocks.ItemBody deepest level margin deep h = record { asked = λ a. refl; bytes = omega arith; pending = λ c p t. inr (omega arith); margin = λ c es. inr (omega arith) }
-idle_open blocks.Header deepest level margin deep h = absurd cc
-idle_open blocks.Section2 deepest level margin deep h = absurd cc
-idle_open blocks.Section3 deepest level margin deep h = absurd cc
-idle_open blocks.Section4 deepest level margin deep h = absurd cc
-idle_open blocks.ItemTerm deepest level margin deep h = absurd cc
-idle_open _ deepest level margin deep h = record { asked = λ a. refl; bytes = omega arith; pending = λ c p t. inl t; margin = λ c es. inr (omega arith) }
+idle_open b deepest level margin deep h = grind arith
 
 idle_close : (b : Block) (deepest level margin : ℕ) → margin ≤ level → is_idle (Closes b) ≡ true → IsQuiet (idle deepest) level margin (Closes b)
-idle_close blocks.ItemBody deepest level margin low h = record { asked = λ a. refl; bytes = omega arith; pending = λ c p t. absurd cc; margin = λ c es. inl low }
-idle_close blocks.Block deepest level margin low h = absurd cc
-idle_close _ deepest level margin low h = record { asked = λ a. refl; bytes = omega arith; pending = λ c p t. inl t; margin = λ c es. inl low }
+idle_close b deepest level margin low h = grind arith
 
 pub idle_sound : (width deepest : ℕ) → width < 1_000_000 → IsSound width deepest (idle deepest)
-idle_sound width deepest small = record {
-  more = λ event es. let l : allowance deepest es ≤ allowance deepest (event ∷ es) = allowance_more deepest event es in omega arith;
-  weighs = λ p weighed b. omega arith;
-  chunk = λ p weighed f. (
-    refl,
-    omega arith,
-    elim (by_cases (is_ordinary (Raw p.bytes p.weight))) [
-      | inl o ↦ inl (let same : p.weight ≡ columns p.bytes = weighed o in omega arith)
-      | inr o ↦ inr (let much : 1_000_000 ≤ p.weight = heavy p.weight o in omega arith)
-    ],
-  );
-  opens = λ b level margin f low deep. idle_open b deepest level margin deep f;
-  closes = λ b level margin f low. idle_close b deepest level margin low f;
-  paragraph = λ k. refl;
-  line_break = λ k. refl;
-}
+idle_sound width deepest small = grind (arith, allowance_more, heavy, idle_open, idle_close)
 
 -- without ink and without a newline asked for, all is idle
 pub idle_all : (m : List Stretch) → list_any is_inked_stretch m ≡ false → list_any asks_newline (events_back m) ≡ false
     → list_all is_idle (events_back m) ≡ true
 idle_all [] i a = refl
-idle_all (Gap b ∷ m) i a = idle_all m i a
-idle_all (_ ∷ m) i a = grind (arith, idle_all m, or_false_left, or_false_right)
+idle_all (x ∷ m) i a = grind (arith, idle_all m, or_false_left, or_false_right)

@@ -1,15 +1,15 @@
 -- A page cut before one of its places.
-use Rattle.std.specs.Prelude.{◌≡◌, ℕ, zero, suc, Bool, true, false, List, [], ◌∷◌, ◌++◌, refl, ◌⊎◌}
+use Rattle.std.specs.Prelude.{◌≡◌, ℕ, zero, suc, Bool, true, false, List, [], ◌∷◌, ◌++◌, refl}
 use Rattle.std.specs.List.{list_any}
-use Rattle.std.proofs.Common.{sym, subst, ap, inl, inr, ◌∙◌, arith}
+use Rattle.std.proofs.Common.{sym, ap, ◌∙◌, arith}
 use Rattle.std.proofs.lemmas.Bool.{or_parts}
 use Rattle.bpaf_doc.specs.Splitter.Chunks.{Raw, is_inked, has_some}
 use Rattle.bpaf_doc.specs.Console.Layout.{Event, Shows, Stretch, Gap, Placed, Passed, Place, chunk_at, event_bytes, is_newline, is_inked_stretch}
 use Rattle.bpaf_doc.proofs.lemmas.Console.Layout.Columns.{any_in_line}
-use Rattle.bpaf_doc.proofs.lemmas.Console.Layout.State.{State, Piece, Lines, none_asked, line_there, line_put, blank_there, second_put, both_put, Begins, places, drops, Next, Grows, placing, breaking, passing, padded, trimmed, cut}
+use Rattle.bpaf_doc.proofs.lemmas.Console.Layout.State.{State, Piece, Lines, Begins, places, drops, Next, Grows, placing, breaking, passing, padded, trimmed, cut}
 use Rattle.bpaf_doc.proofs.lemmas.Console.Layout.Text.{next_event}
-use Rattle.bpaf_doc.specs.declared.console.page.Asked.TheVariants.{Nothing, NewLine, BlankLine}
-use Rattle.bpaf_doc.proofs.lemmas.Console.Layout.Back.{by_cases, trimmed_inked, trimmed_plain, trimmed_bytes, trimmed_bare, lines_back, begins_back, by_trimmed, same_padded}
+use Rattle.bpaf_doc.specs.declared.console.page.Asked.TheVariants.{Nothing}
+use Rattle.bpaf_doc.proofs.lemmas.Console.Layout.Back.{lines_back, begins_back, by_trimmed, same_padded}
 
 -- ---- the events, newest first
 
@@ -59,10 +59,7 @@ pub record AfterGap (b : ℕ) (r m : List Stretch) (e : Place) (before : List St
   pub there : Cut r rest e before
 
 pub cut_gap : (b : ℕ) (r m : List Stretch) (e : Place) (before : List Stretch) → Cut (Gap b ∷ r) m e before → AfterGap b r m e before
-cut_gap b r m e before h = at (cut_cons (Gap b) r m e before h) where
-  at : FirstOrLater (Gap b) r m e before → AfterGap b r m e before
-  at (here a x c) = absurd cc
-  at (later rest a c) = record { rest = rest; is = a; there = c }
+cut_gap b r m e before h = grind (arith, cut_cons)
 
 pub record AfterPassed (event : Event) (r m : List Stretch) (e : Place) (before : List Stretch) : Type 0 where
   pub rest : List Stretch
@@ -70,10 +67,7 @@ pub record AfterPassed (event : Event) (r m : List Stretch) (e : Place) (before 
   pub there : Cut r rest e before
 
 pub cut_passed : (event : Event) (r m : List Stretch) (e : Place) (before : List Stretch) → Cut (Passed event ∷ r) m e before → AfterPassed event r m e before
-cut_passed event r m e before h = at (cut_cons (Passed event) r m e before h) where
-  at : FirstOrLater (Passed event) r m e before → AfterPassed event r m e before
-  at (here a x c) = absurd cc
-  at (later rest a c) = record { rest = rest; is = a; there = c }
+cut_passed event r m e before h = grind (arith, cut_cons)
 
 pub record AfterPads (n : ℕ) (r m : List Stretch) (e : Place) (before : List Stretch) : Type 0 where
   pub rest : List Stretch
@@ -113,13 +107,18 @@ past x y r m e before both rest is f = record {
   events = both f.rest rest f.events ∙ ap events_back (sym is);
 }
 
+-- each cut of t comes from one of r
+abbrev ComesFrom : List Stretch → List Stretch → Type 0
+ComesFrom r t = (m : List Stretch) (e : Place) (before : List Stretch) → Cut t m e before → FromTrimmed r m e before
+
 pub cut_trimmed : (r m : List Stretch) (e : Place) (before : List Stretch) → Cut (trimmed r) m e before → FromTrimmed r m e before
-cut_trimmed [] m e before h = same_cut [] m e before h
-cut_trimmed (Gap b ∷ r) m e before h = let f : FromTrimmed r m e before = cut_trimmed r m e before h in
-    record { rest = Gap b ∷ f.rest; place = f.place; there = ap (λ z. Gap b ∷ z) f.there; part = f.part; bytes = f.bytes; weight = f.weight; events = f.events }
-cut_trimmed (Placed g ∷ r) m e before h = at (by_cases (is_inked (chunk_at g))) (cut_trimmed r) where
-  inked : Cut (Placed (cut g) ∷ r) m e before → FromTrimmed (Placed g ∷ r) m e before
-  inked c = each (cut_cons (Placed (cut g)) r m e before c) where
+cut_trimmed r = by_trimmed ComesFrom (same_cut []) gap inked plain (λ event r i. same_cut (Passed event ∷ r)) bare r where
+  gap : (b : ℕ) (r t : List Stretch) → ComesFrom r t → ComesFrom (Gap b ∷ r) t
+  gap b r t ih m e before h = let f : FromTrimmed r m e before = ih m e before h in
+      record { rest = Gap b ∷ f.rest; place = f.place; there = ap (λ z. Gap b ∷ z) f.there; part = f.part; bytes = f.bytes; weight = f.weight; events = f.events }
+
+  inked : (g : Place) (r : List Stretch) → is_inked (chunk_at g) ≡ true → ComesFrom (Placed g ∷ r) (Placed (cut g) ∷ r)
+  inked g r i m e before h = each (cut_cons (Placed (cut g)) r m e before h) where
     each : FirstOrLater (Placed (cut g)) r m e before → FromTrimmed (Placed g ∷ r) m e before
     each (here a x b) =
         let same : cut g ≡ e = cc in
@@ -134,38 +133,22 @@ cut_trimmed (Placed g ∷ r) m e before h = at (by_cases (is_inked (chunk_at g))
         }
     each (later rest a b) = past (Placed g) (Placed (cut g)) r m e before (λ x y s. ap (λ z. Shows g.part (chunk_at g) ∷ z) s) rest a (same_cut r rest e before b)
 
-  plain : Cut (Passed (Shows g.part (chunk_at g)) ∷ trimmed r) m e before → ((m : List Stretch) (e : Place) (before : List Stretch) → Cut (trimmed r) m e before → FromTrimmed r m e before)
-      → FromTrimmed (Placed g ∷ r) m e before
-  plain c ih =
-      let next : AfterPassed (Shows g.part (chunk_at g)) (trimmed r) m e before = cut_passed (Shows g.part (chunk_at g)) (trimmed r) m e before c in
-      past (Placed g) (Passed (Shows g.part (chunk_at g))) r m e before (λ x y s. ap (λ z. Shows g.part (chunk_at g) ∷ z) s) next.rest next.is (ih next.rest e before next.there)
+  passes : (x : Stretch) (event : Event) (r t : List Stretch) → ((rest others : List Stretch) → events_back rest ≡ events_back others → events_back (x ∷ rest) ≡ event ∷ events_back others)
+      → ComesFrom r t → ComesFrom (x ∷ r) (Passed event ∷ t)
+  passes x event r t both ih m e before h =
+      let next : AfterPassed event t m e before = cut_passed event t m e before h in past x (Passed event) r m e before both next.rest next.is (ih next.rest e before next.there)
 
-  at : (is_inked (chunk_at g) ≡ true) ⊎ (is_inked (chunk_at g) ≡ false) → ((m : List Stretch) (e : Place) (before : List Stretch) → Cut (trimmed r) m e before → FromTrimmed r m e before)
-      → FromTrimmed (Placed g ∷ r) m e before
-  at (inl i) ih = inked (subst (λ x. Cut x m e before) (trimmed_inked g r i) h)
-  at (inr i) ih = plain (subst (λ x. Cut x m e before) (trimmed_plain g r i) h) ih
-cut_trimmed (Passed event ∷ r) m e before h = at (by_cases (has_some (event_bytes event))) (cut_trimmed r) where
-  bare : Cut (Passed event ∷ trimmed r) m e before → ((m : List Stretch) (e : Place) (before : List Stretch) → Cut (trimmed r) m e before → FromTrimmed r m e before)
-      → FromTrimmed (Passed event ∷ r) m e before
-  bare c ih =
-      let next : AfterPassed event (trimmed r) m e before = cut_passed event (trimmed r) m e before c in
-      past (Passed event) (Passed event) r m e before (λ x y s. ap (λ z. event ∷ z) s) next.rest next.is (ih next.rest e before next.there)
+  plain : (g : Place) (r t : List Stretch) → is_inked (chunk_at g) ≡ false → ComesFrom r t → ComesFrom (Placed g ∷ r) (Passed (Shows g.part (chunk_at g)) ∷ t)
+  plain g r t i = passes (Placed g) (Shows g.part (chunk_at g)) r t (λ x y s. ap (λ z. Shows g.part (chunk_at g) ∷ z) s)
 
-  at : (has_some (event_bytes event) ≡ true) ⊎ (has_some (event_bytes event) ≡ false) → ((m : List Stretch) (e : Place) (before : List Stretch) → Cut (trimmed r) m e before → FromTrimmed r m e before)
-      → FromTrimmed (Passed event ∷ r) m e before
-  at (inl i) ih = same_cut (Passed event ∷ r) m e before (subst (λ x. Cut x m e before) (trimmed_bytes event r i) h)
-  at (inr i) ih = bare (subst (λ x. Cut x m e before) (trimmed_bare event r i) h) ih
+  bare : (event : Event) (r t : List Stretch) → has_some (event_bytes event) ≡ false → ComesFrom r t → ComesFrom (Passed event ∷ r) (Passed event ∷ t)
+  bare event r t i = passes (Passed event) event r t (λ x y s. ap (λ z. event ∷ z) s)
 
 -- ---- what was asked for
 
 -- the page and what is asked for are as they were, since nothing was asked for
 pub lines_same : {st mid : State} → st.asked ≡ Nothing → Lines st mid → mid ≡ st
-lines_same h (none_asked a e) = e
-lines_same h (line_there a b e) = absurd (let c : NewLine ≡ Nothing = sym a ∙ h in cc)
-lines_same h (line_put a e) = absurd (let c : NewLine ≡ Nothing = sym a ∙ h in cc)
-lines_same h (blank_there a b e) = absurd (let c : BlankLine ≡ Nothing = sym a ∙ h in cc)
-lines_same h (second_put a b e) = absurd (let c : BlankLine ≡ Nothing = sym a ∙ h in cc)
-lines_same h (both_put a e) = absurd (let c : BlankLine ≡ Nothing = sym a ∙ h in cc)
+lines_same h e = grind arith
 
 -- a cut after what was asked for is one of the page before, at the same events
 pub record Earlier (r m : List Stretch) (e : Place) (before : List Stretch) : Type 0 where

@@ -1,6 +1,5 @@
 -- What the text of a page shows of its stretches, and what it is without its blank end.
 use Rattle.std.specs.Prelude.{◌≡◌, ◌≢◌, ℕ, ◌+◌, ◌<◌, Bool, true, false, ◌&&◌, ◌==◌, List, [], ◌∷◌, ◌++◌, length, filter, refl, if◌then◌else◌, ◌⊎◌, IsUtf8}
-use Rattle.std.specs.List.{list_all}
 use Rattle.std.specs.Str.{trim_end, drop_trailing_whitespace, chars, encode_utf8_all}
 use Rattle.std.specs.Char.{is_whitespace, is_not_whitespace}
 use Rattle.std.proofs.Common.{rules, sym, subst, ap, arith, inl, inr, ◌∙◌, append_assoc}
@@ -11,11 +10,11 @@ use Rattle.std.proofs.lemmas.Bool.Decides.{nat_tests}
 use Rattle.std.proofs.lemmas.Bool.{or_parts}
 use Rattle.bpaf_doc.proofs.lemmas.Console.Layout.Columns.{whole_trim}
 use Rattle.bpaf_doc.specs.Buffer.Parts.{ink}
-use Rattle.bpaf_doc.specs.Splitter.Chunks.{is_inked, has_some, IsLine, is_line_byte}
+use Rattle.bpaf_doc.specs.Splitter.Chunks.{is_inked, has_some, IsLine}
 use Rattle.bpaf_doc.specs.Shown.{is_term_ref}
 use Rattle.bpaf_doc.specs.Console.Layout.{Event, Shows, Opens, Closes, Stretch, Gap, Placed, Passed, Place, chunk_at, event_bytes, stretch_bytes}
 use Rattle.bpaf_doc.proofs.lemmas.Console.Layout.State.{has_text, ends_line, ends_blank, trimmed, IsLegible}
-use Rattle.bpaf_doc.proofs.lemmas.Console.Layout.Back.{by_cases, trimmed_inked, trimmed_plain, trimmed_bytes, trimmed_bare, by_trimmed}
+use Rattle.bpaf_doc.proofs.lemmas.Console.Layout.Back.{by_cases, by_test, by_trimmed}
 use Rattle.bpaf_doc.proofs.lemmas.Console.Layout.Blank.{text_back, text_back_cons, some_none}
 
 -- ---- trimming
@@ -54,11 +53,9 @@ trim_some front back u h = grind (arith, chars-append, dropped_some, encodes-app
 -- what is dropped is a front
 kept_front : (cs : List ℕ) → (rest : List ℕ) × (cs ≡ drop_trailing_whitespace cs ++ rest)
 kept_front [] = ([], refl)
-kept_front (c ∷ cs) = at (by_cases (is_whitespace c && (length (drop_trailing_whitespace cs) == 0))) (kept_front cs) where
-  at : ((is_whitespace c && (length (drop_trailing_whitespace cs) == 0)) ≡ true) ⊎ ((is_whitespace c && (length (drop_trailing_whitespace cs) == 0)) ≡ false)
-      → ((rest : List ℕ) × (cs ≡ drop_trailing_whitespace cs ++ rest)) → (rest : List ℕ) × (c ∷ cs ≡ drop_trailing_whitespace (c ∷ cs) ++ rest)
-  at (inl t) ih = (c ∷ cs, rw t refl)
-  at (inr t) ih = (ih.0, rw t (ap (λ xs. c ∷ xs) ih.1))
+kept_front (c ∷ cs) =
+    by_test (λ ys. (rest : List ℕ) × (c ∷ cs ≡ ys ++ rest)) (is_whitespace c && (length (drop_trailing_whitespace cs) == 0)) [] (c ∷ drop_trailing_whitespace cs) (λ t. (c ∷ cs, refl))
+    (λ t. ((kept_front cs).0, ap (λ xs. c ∷ xs) (kept_front cs).1))
 
 twice_chars : (cs : List ℕ) → drop_trailing_whitespace (drop_trailing_whitespace cs) ≡ drop_trailing_whitespace cs
 twice_chars [] = refl
@@ -91,9 +88,7 @@ trim_front text u =
 
 line_front : (front rest : List ℕ) → IsLine (front ++ rest) → IsLine front
 line_front [] rest h = refl
-line_front (b ∷ front) rest h = both (is_line_byte b) h (line_front front rest) where
-  both : (t : Bool) → (t && list_all is_line_byte (front ++ rest)) ≡ true → (IsLine (front ++ rest) → IsLine front) → (t && list_all is_line_byte front) ≡ true
-  both t h ih = grind arith
+line_front (b ∷ front) rest h = grind (arith, line_front front rest)
 
 pub trim_line : (text : List ℕ) → IsUtf8 text → IsLine text → IsLine (trim_end text)
 trim_line text u l = let front : (rest : List ℕ) × (text ≡ trim_end text ++ rest) = trim_front text u in line_front (trim_end text) front.0 (subst IsLine front.1 l)
@@ -115,8 +110,7 @@ event_utf8 (Opens b) = elim (is_term_ref b) as (λ (t : Bool). IsUtf8 (if t then
 event_utf8 (Closes b) = elim (is_term_ref b) as (λ (t : Bool). IsUtf8 (if t then 96 ∷ [] else [])) [ true ↦ utf8_backquote | false ↦ IsUtf8-nil ]
 
 gap_utf8 : (b : ℕ) → (b ≡ 32) ⊎ (b ≡ 10) → IsUtf8 (b ∷ [])
-gap_utf8 b (inl e) = subst (λ (c : ℕ). IsUtf8 (c ∷ [])) (sym e) utf8_blank
-gap_utf8 b (inr e) = subst (λ (c : ℕ). IsUtf8 (c ∷ [])) (sym e) utf8_newline
+gap_utf8 b h = grind (arith, utf8_blank, utf8_newline)
 
 shown_utf8 : (e : Place) → IsUtf8 e.bytes → (e.shown ≡ e.bytes) ⊎ (e.shown ≡ trim_end e.bytes) → IsUtf8 e.shown
 shown_utf8 e u (inl s) = subst IsUtf8 (sym s) u
@@ -141,11 +135,7 @@ no_text (x ∷ r) h = grind (arith, no_text r, some_none, or_parts, text_back_co
 
 pub some_text : (r : List Stretch) → has_text r ≡ true → text_back r ≢ []
 some_text [] h = λ e. absurd cc
-some_text (x ∷ r) h = at (by_cases (has_some (stretch_bytes x))) (some_text r) where
-  at : (has_some (stretch_bytes x) ≡ true) ⊎ (has_some (stretch_bytes x) ≡ false) → (has_text r ≡ true → text_back r ≢ []) → text_back (x ∷ r) ≢ []
-  at (inl s) ih = λ e. snoc_some (text_back r) (stretch_bytes x) s (sym (text_back_cons x r) ∙ e)
-  at (inr s) ih = λ e. let rest : has_text r ≡ true = rw s at h in
-      ih rest (sym (append-nil (text_back r)) ∙ ap (λ t. text_back r ++ t) (sym (some_none (stretch_bytes x) s)) ∙ sym (text_back_cons x r) ∙ e)
+some_text (x ∷ r) h = grind (arith, some_text r, snoc_some, text_back_cons, append-nil, some_none)
 
 -- a list of some bytes ends in one of them
 record LastByte (xs : List ℕ) : Type 0 where
@@ -160,18 +150,13 @@ last_byte (x ∷ y ∷ xs) h = let rest : LastByte (y ∷ xs) = last_byte (y ∷
 
 line_end_lem : (front : List ℕ) → IsLine (front ++ 10 ∷ []) → ⊥
 line_end_lem [] h = cc
-line_end_lem (b ∷ front) h = both (is_line_byte b) h (line_end_lem front) where
-  both : (t : Bool) → (t && list_all is_line_byte (front ++ 10 ∷ [])) ≡ true → (IsLine (front ++ 10 ∷ []) → ⊥) → ⊥
-  both true h ih = ih h
-  both false h ih = cc
+line_end_lem (b ∷ front) h = grind (arith, line_end_lem front)
 
 shown_line : (e : Place) → IsUtf8 e.bytes → IsLine e.bytes → (e.shown ≡ e.bytes) ⊎ (e.shown ≡ trim_end e.bytes) → IsLine e.shown
-shown_line e u l (inl s) = subst IsLine (sym s) l
-shown_line e u l (inr s) = subst IsLine (sym s) (trim_line e.bytes u l)
+shown_line e u l h = grind (arith, trim_line)
 
 event_line : (event : Event) → IsLine (event_bytes event)
-event_line (Shows k chunk) = refl
-event_line _ = grind arith
+event_line event = grind arith
 
 ends_in : (r : List Stretch) (x : Stretch) (front : List ℕ) → has_some (stretch_bytes x) ≡ true → text_back (x ∷ r) ≡ front ++ 10 ∷ [] → (back : List ℕ) × (stretch_bytes x ≡ back ++ 10 ∷ [])
 ends_in r x front s e =
@@ -189,54 +174,43 @@ text_ends_line [] front h e = absurd (snoc_some front (10 ∷ []) refl (sym e))
 text_ends_line (Gap b ∷ r) front h e =
     let found : (back : List ℕ) × (b ∷ [] ≡ back ++ 10 ∷ []) = ends_in r (Gap b) front refl e in
     let ten : b ≡ 10 = (same_from_push [] found.0 b 10 found.1).1 in rw ten refl
-text_ends_line (Placed p ∷ r) front h e = at (by_cases (has_some p.shown)) (text_ends_line r front h.1) where
-  at : (has_some p.shown ≡ true) ⊎ (has_some p.shown ≡ false) → (text_back r ≡ front ++ 10 ∷ [] → ends_line r ≡ true) → ends_line (Placed p ∷ r) ≡ true
-  at (inl s) ih =
-      let found : (back : List ℕ) × (p.shown ≡ back ++ 10 ∷ []) = ends_in r (Placed p) front s e in
-      absurd (line_end_lem found.0 (subst IsLine found.1 (shown_line p h.0.0 h.0.1 h.0.2)))
-  at (inr s) ih = rw s (ih (sym (bare_text r (Placed p) s) ∙ e))
-text_ends_line (Passed event ∷ r) front h e = at (by_cases (has_some (event_bytes event))) (text_ends_line r front h) where
-  at : (has_some (event_bytes event) ≡ true) ⊎ (has_some (event_bytes event) ≡ false) → (text_back r ≡ front ++ 10 ∷ [] → ends_line r ≡ true) → ends_line (Passed event ∷ r) ≡ true
-  at (inl s) ih =
-      let found : (back : List ℕ) × (event_bytes event ≡ back ++ 10 ∷ []) = ends_in r (Passed event) front s e in
-      absurd (line_end_lem found.0 (subst IsLine found.1 (event_line event)))
-  at (inr s) ih = rw s (ih (sym (bare_text r (Passed event) s) ∙ e))
+text_ends_line (Placed p ∷ r) front h e =
+    by_test (λ b. b ≡ true) (has_some p.shown) false (ends_line r)
+    (λ s. let found : (back : List ℕ) × (p.shown ≡ back ++ 10 ∷ []) = ends_in r (Placed p) front s e in absurd (line_end_lem found.0 (subst IsLine found.1 (shown_line p h.0.0 h.0.1 h.0.2))))
+    (λ s. text_ends_line r front h.1 (sym (bare_text r (Placed p) s) ∙ e))
+text_ends_line (Passed event ∷ r) front h e =
+    by_test (λ b. b ≡ true) (has_some (event_bytes event)) false (ends_line r)
+    (λ s. let found : (back : List ℕ) × (event_bytes event ≡ back ++ 10 ∷ []) = ends_in r (Passed event) front s e in absurd (line_end_lem found.0 (subst IsLine found.1 (event_line event))))
+    (λ s. text_ends_line r front h (sym (bare_text r (Passed event) s) ∙ e))
 
 pub text_ends_blank : (r : List Stretch) (front : List ℕ) → IsLegible r → text_back r ≡ (front ++ 10 ∷ []) ++ 10 ∷ [] → ends_blank r ≡ true
 text_ends_blank [] front h e = absurd (snoc_some (front ++ 10 ∷ []) (10 ∷ []) refl (sym e))
 text_ends_blank (Gap b ∷ r) front h e = grind (arith, text_back_cons, same_from_push, text_ends_line)
-text_ends_blank (Placed p ∷ r) front h e = at (by_cases (has_some p.shown)) (text_ends_blank r front h.1) where
-  at : (has_some p.shown ≡ true) ⊎ (has_some p.shown ≡ false) → (text_back r ≡ (front ++ 10 ∷ []) ++ 10 ∷ [] → ends_blank r ≡ true) → ends_blank (Placed p ∷ r) ≡ true
-  at (inl s) ih =
-      let found : (back : List ℕ) × (p.shown ≡ back ++ 10 ∷ []) = ends_in r (Placed p) (front ++ 10 ∷ []) s e in
-      absurd (line_end_lem found.0 (subst IsLine found.1 (shown_line p h.0.0 h.0.1 h.0.2)))
-  at (inr s) ih = rw s (ih (sym (bare_text r (Placed p) s) ∙ e))
-text_ends_blank (Passed event ∷ r) front h e = at (by_cases (has_some (event_bytes event))) (text_ends_blank r front h) where
-  at : (has_some (event_bytes event) ≡ true) ⊎ (has_some (event_bytes event) ≡ false) → (text_back r ≡ (front ++ 10 ∷ []) ++ 10 ∷ [] → ends_blank r ≡ true) → ends_blank (Passed event ∷ r) ≡ true
-  at (inl s) ih =
-      let found : (back : List ℕ) × (event_bytes event ≡ back ++ 10 ∷ []) = ends_in r (Passed event) (front ++ 10 ∷ []) s e in
-      absurd (line_end_lem found.0 (subst IsLine found.1 (event_line event)))
-  at (inr s) ih = rw s (ih (sym (bare_text r (Passed event) s) ∙ e))
+text_ends_blank (Placed p ∷ r) front h e =
+    by_test (λ b. b ≡ true) (has_some p.shown) false (ends_blank r)
+    (λ s. let found : (back : List ℕ) × (p.shown ≡ back ++ 10 ∷ []) = ends_in r (Placed p) (front ++ 10 ∷ []) s e in absurd (line_end_lem found.0 (subst IsLine found.1 (shown_line p h.0.0 h.0.1 h.0.2))))
+    (λ s. text_ends_blank r front h.1 (sym (bare_text r (Placed p) s) ∙ e))
+text_ends_blank (Passed event ∷ r) front h e =
+    by_test (λ b. b ≡ true) (has_some (event_bytes event)) false (ends_blank r)
+    (λ s. let found : (back : List ℕ) × (event_bytes event ≡ back ++ 10 ∷ []) = ends_in r (Passed event) (front ++ 10 ∷ []) s e in absurd (line_end_lem found.0 (subst IsLine found.1 (event_line event))))
+    (λ s. text_ends_blank r front h (sym (bare_text r (Passed event) s) ∙ e))
 
 -- ---- the trimmed page
 
 gap_plain : (b : ℕ) → (b ≡ 32) ⊎ (b ≡ 10) → has_some (ink (b ∷ [])) ≡ false
 unfolding chars
-gap_plain b (inl e) = rw e refl
-gap_plain b (inr e) = rw e refl
+gap_plain b h = grind arith
 
 backquote_ink : has_some (ink (96 ∷ [])) ≡ true
 unfolding chars
 backquote_ink = refl
 
 event_ink : (event : Event) → has_some (event_bytes event) ≡ true → has_some (ink (event_bytes event)) ≡ true
-event_ink (Shows k chunk) h = absurd cc
-event_ink _ h = grind (arith, backquote_ink)
+event_ink event h = grind (arith, backquote_ink)
 
 event_trim : (event : Event) → has_some (event_bytes event) ≡ true → trim_end (event_bytes event) ≡ event_bytes event
 unfolding chars trim_end lib.Utf8.encode
-event_trim (Shows k chunk) h = absurd cc
-event_trim _ h = grind arith
+event_trim event h = grind arith
 
 plain_trim : (text : List ℕ) → has_some (ink text) ≡ false → trim_end text ≡ []
 unfolding trim_end
@@ -247,12 +221,10 @@ unfolding chars
 no_ink_nil = refl
 
 shown_ink_same : (e : Place) → IsUtf8 e.bytes → (e.shown ≡ e.bytes) ⊎ (e.shown ≡ trim_end e.bytes) → is_inked (chunk_at e) ≡ false → has_some (ink e.shown) ≡ false
-shown_ink_same e u (inl s) i = subst (λ xs. has_some (ink xs) ≡ false) (sym s) i
-shown_ink_same e u (inr s) i = let none : trim_end e.bytes ≡ [] = plain_trim e.bytes i in subst (λ xs. has_some (ink xs) ≡ false) (sym (s ∙ none)) no_ink_nil
+shown_ink_same e u h i = grind (arith, plain_trim, no_ink_nil)
 
 shown_trim : (e : Place) → IsUtf8 e.bytes → (e.shown ≡ e.bytes) ⊎ (e.shown ≡ trim_end e.bytes) → trim_end e.shown ≡ trim_end e.bytes
-shown_trim e u (inl s) = ap trim_end s
-shown_trim e u (inr s) = ap trim_end s ∙ trim_twice e.bytes u
+shown_trim e u h = grind (arith, trim_twice)
 
 kept_ink : (cs : List ℕ) → filter is_not_whitespace (drop_trailing_whitespace cs) ≡ filter is_not_whitespace cs
 kept_ink [] = refl
@@ -264,10 +236,7 @@ kept_ink (c ∷ cs) = at (by_cases (is_whitespace c)) (by_cases (length (drop_tr
   at : (is_whitespace c ≡ true) ⊎ (is_whitespace c ≡ false) → ((length (drop_trailing_whitespace cs) == 0) ≡ true) ⊎ ((length (drop_trailing_whitespace cs) == 0) ≡ false)
       → filter is_not_whitespace (drop_trailing_whitespace cs) ≡ filter is_not_whitespace cs
       → filter is_not_whitespace (drop_trailing_whitespace (c ∷ cs)) ≡ filter is_not_whitespace (c ∷ cs)
-  at (inl w) (inl n) ih =
-      let none : drop_trailing_whitespace cs ≡ [] = none_of (drop_trailing_whitespace cs) n in
-      let rest : [] ≡ filter is_not_whitespace cs = sym (ap (λ xs. filter is_not_whitespace xs) none) ∙ ih in
-      rw (w, n) rest
+  at (inl w) (inl n) ih = grind (arith, none_of)
   at (inl w) (inr n) ih = rw (w, n) (rw w ih)
   at (inr w) n ih = rw w (rw w (ap (λ xs. c ∷ xs) ih))
 
@@ -276,20 +245,12 @@ unfolding trim_end
 trim_ink text u = ap (λ cs. filter is_not_whitespace cs) (chars-encodes (drop_trailing_whitespace (chars text)) (kept_scalars text u)) ∙ kept_ink (chars text)
 
 shown_inked : (e : Place) → IsUtf8 e.bytes → (e.shown ≡ e.bytes) ⊎ (e.shown ≡ trim_end e.bytes) → is_inked (chunk_at e) ≡ true → has_some (ink e.shown) ≡ true
-shown_inked e u (inl s) i = subst (λ xs. has_some (ink xs) ≡ true) (sym s) i
-shown_inked e u (inr s) i = subst (λ xs. has_some (ink xs) ≡ true) (sym s) (ap has_some (trim_ink e.bytes u) ∙ i)
+shown_inked e u h i = grind (arith, trim_ink)
 
 pub trim_text : (r : List Stretch) → IsLegible r → trim_end (text_back r) ≡ text_back (trimmed r)
 trim_text [] h = plain_trim [] no_ink_nil
-trim_text (Gap b ∷ r) h = ap trim_end (text_back_cons (Gap b) r) ∙ trim_white (text_back r) (b ∷ []) (text_utf8 r h.1) (gap_plain b h.0) ∙ trim_text r h.1
-trim_text (Placed e ∷ r) h = grind (arith, trim_text r h.1, text_back_cons, trim_some, text_utf8, shown_inked, shown_trim, trimmed_inked, trim_white, shown_ink_same, bare_text, trimmed_plain)
-trim_text (Passed event ∷ r) h = at (by_cases (has_some (event_bytes event))) (trim_text r h) where
-  at : (has_some (event_bytes event) ≡ true) ⊎ (has_some (event_bytes event) ≡ false) → trim_end (text_back r) ≡ text_back (trimmed r)
-      → trim_end (text_back (Passed event ∷ r)) ≡ text_back (trimmed (Passed event ∷ r))
-  at (inl s) ih =
-      ap trim_end (text_back_cons (Passed event) r) ∙ trim_some (text_back r) (event_bytes event) (text_utf8 r h) (event_ink event s)
-      ∙ ap (λ xs. text_back r ++ xs) (event_trim event s) ∙ sym (text_back_cons (Passed event) r) ∙ ap text_back (sym (trimmed_bytes event r s))
-  at (inr s) ih = grind (arith, bare_text, trimmed_bare)
+trim_text (x ∷ r) h =
+    grind (arith, trim_text r, text_back_cons, trim_white, text_utf8, gap_plain, trim_some, shown_inked, shown_trim, shown_ink_same, bare_text, event_ink, event_trim)
 
 -- ---- what may be read stays so
 

@@ -2,10 +2,10 @@
 use Rattle.std.specs.Prelude.{◌≡◌, ℕ, ◌<◌, ⊤, Bool, true, false, ◌||◌, List, [], ◌∷◌, length, codes, refl}
 use Rattle.std.specs.List.{list_any}
 use Rattle.std.specs.Str.{chars}
-use Rattle.std.proofs.Common.{sym, subst, ap, arith, ◌∙◌}
+use Rattle.std.proofs.Common.{subst, arith}
 use Rattle.bpaf_doc.specs.Splitter.Chunks.{Raw, has_some}
 use Rattle.bpaf_doc.specs.Console.Layout.{Event, Shows, Stretch, Gap, Placed, Passed, event_bytes, is_inked_event, is_inked_stretch, is_placed, is_written}
-use Rattle.bpaf_doc.proofs.lemmas.Console.Layout.State.{State, Piece, Lines, Begins, first, stays, wraps, Next, raw, break, mark, Grows, padded, trimmed, has_text, put, Fits, Suits, IsClear}
+use Rattle.bpaf_doc.proofs.lemmas.Console.Layout.State.{State, Piece, Lines, Begins, Next, raw, break, mark, Grows, padded, trimmed, has_text, put, Fits, Suits, IsClear}
 use Rattle.bpaf_doc.proofs.lemmas.Console.Layout.Back.{EachPlace, fits_of, by_lines, lines_back, begins_back, by_trimmed, by_padded, by_mark, by_break, by_grows}
 use Rattle.bpaf_doc.proofs.lemmas.Console.Layout.Columns.{Fills, inked_some, column_back, no_text_column, Agrees, agrees_lines, no_bytes}
 
@@ -48,9 +48,7 @@ no_ink_grows suits g h = by_grows (λ s. EachPassed NoInk s.back) g (λ p base n
 
 pub ink_text : (r : List Stretch) → EachPlace Fills r → EachPassed NoInk r → list_any is_inked_stretch r ≡ true → has_text r ≡ true
 ink_text [] f q h = absurd cc
-ink_text (Gap b ∷ r) f q h = refl
-ink_text (Placed e ∷ r) f q h = grind (arith, ink_text r f.1 q, inked_some e.bytes, f.0)
-ink_text (Passed event ∷ r) f q h = grind (arith, ink_text r f q.1, q.0)
+ink_text (x ∷ r) f q h = grind (arith, ink_text r, inked_some)
 
 -- ---- nothing is written
 
@@ -80,11 +78,7 @@ empty_first st p fits clear none = grind (arith, fits.filled, clear)
 
 starting_put : {width : ℕ} {margin_of : ℕ → ℕ} (st : State) (p : Piece) (base : State) (n : ℕ)
     → Fits margin_of st p → IsClear st (raw p) → Begins width st p base → has_text (put n p.part p.bytes p.weight base).back ≡ true
-starting_put st p base n fits clear (first t e) = let some : has_some p.bytes ≡ true = empty_first st p fits clear t in rw some refl
-starting_put st p base n fits clear (stays t l w) =
-    or_true_right (has_some p.bytes) (has_text (padded n base.back)) (by_padded (λ x. has_text x ≡ true) (λ x y. refl) n base.back (text_lines l t))
-starting_put st p base n fits clear (wraps t mid l w b e) =
-    or_true_right (has_some p.bytes) (has_text (padded n base.back)) (by_padded (λ x. has_text x ≡ true) (λ x y. refl) n base.back (subst (λ (s : State). has_text s.back ≡ true) (sym e) refl))
+starting_put st p base n fits clear h = grind (arith, empty_first, or_true_right, by_padded, text_lines)
 
 pub starting_grows : {width : ℕ} {margin_of : ℕ → ℕ} {st after : State} {next : Next}
     → Suits margin_of st next → IsClear st next → Grows width st next after → IsStarting st → IsStarting after
@@ -119,15 +113,11 @@ text_written {st = st} suits g h = grind (arith, by_grows, by_mark)
 -- the column that is kept is the page's where a chunk is placed
 pub begins_column : {width : ℕ} {st : State} {p : Piece} {base : State} → width < 1_000_000 → EachPlace Fills st.back → IsStarting st → Agrees st
     → Begins width st p base → base.column ≡ column_back base.back
-begins_column {st = st} small f start h (first t e) = grind (arith, no_text_column)
-begins_column {width} {st} {p} {base} small f start h (stays t l w) = grind (arith, agrees_lines)
-begins_column small f start h (wraps t mid l w b e) = subst (λ (s : State). s.column ≡ column_back s.back) (sym e) refl
+begins_column small f start h e = grind (arith, no_text_column, agrees_lines)
 
 -- and the margin is still the one in force, and what was asked for after a term still holds
 pub lines_margin : {st mid : State} → Lines st mid → (mid.margin ≡ st.margin) × (mid.pending ≡ st.pending)
 lines_margin {st} l = by_lines (λ s. (s.margin ≡ st.margin) × (s.pending ≡ st.pending)) l (refl, refl) (refl, refl) (refl, refl) (refl, refl)
 
 pub begins_margin : {width : ℕ} {st : State} {p : Piece} {base : State} → Begins width st p base → (base.margin ≡ st.margin) × (base.pending ≡ st.pending)
-begins_margin (first t e) = (ap (λ (s : State). s.margin) e, ap (λ (s : State). s.pending) e)
-begins_margin (stays t l w) = lines_margin l
-begins_margin (wraps t mid l w b e) = (ap (λ (s : State). s.margin) e ∙ (lines_margin l).0, ap (λ (s : State). s.pending) e ∙ (lines_margin l).1)
+begins_margin h = grind (arith, lines_margin)

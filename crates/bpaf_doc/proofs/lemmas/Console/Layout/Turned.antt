@@ -8,9 +8,8 @@ use Rattle.std.proofs.lemmas.List.Folds.{list_any-append, list_all-append}
 use Rattle.std.proofs.lemmas.Grind.{flat_map-append}
 use Rattle.std.proofs.lemmas.List.Elements.{All-cons, All-nil}
 use Rattle.std.proofs.Math.Seq.{drop-append_seam}
-use Rattle.bpaf_doc.specs.Splitter.Chunks.{is_inked}
-use Rattle.bpaf_doc.specs.Console.Layout.{Stretch, Gap, Placed, Passed, Place, chunk_at, stretch_columns, events_of, is_newline, is_placed, is_gap, is_inked_stretch, line_before, column, padding, stretch_lines, opens_body, is_raw_or_ref, events_since_ink}
-use Rattle.bpaf_doc.proofs.lemmas.Console.Layout.Back.{by_cases, EachPlace}
+use Rattle.bpaf_doc.specs.Console.Layout.{Stretch, stretch_columns, events_of, is_newline, is_placed, is_gap, is_inked_stretch, line_before, column, padding, stretch_lines, opens_body, is_raw_or_ref, events_since_ink}
+use Rattle.bpaf_doc.proofs.lemmas.Console.Layout.Back.{by_cases}
 use Rattle.bpaf_doc.proofs.lemmas.Console.Layout.Columns.{column_back, any_in_line}
 use Rattle.bpaf_doc.proofs.lemmas.Console.Layout.Text.{EachPassed, NoInk}
 use Rattle.bpaf_doc.proofs.lemmas.Console.Layout.Bound.{EachFront, whole_front}
@@ -105,8 +104,7 @@ pub padding_turned : (r : List Stretch) → padding (reverse r) ≡ pads_back r
 padding_turned r = grind (arith, after_last_turned, sum_turned, count_since)
 
 any_since_place : (r : List Stretch) → list_any opens_body (events_back (since is_placed r)) ≡ body_back r
-any_since_place (Gap b ∷ r) = any_since_place r
-any_since_place (Passed event ∷ r) = ap (λ (b : Bool). opens_body event || b) (any_since_place r)
+any_since_place (x ∷ r) = grind (arith, any_since_place r)
 any_since_place _ = refl
 
 pub body_turned : (r : List Stretch) → list_any opens_body (events_of (after_last is_placed (reverse r))) ≡ body_back r
@@ -116,9 +114,7 @@ body_turned r = grind (arith, after_last_turned, events_turned, any_turned, any_
 
 quiet_since : (r : List Stretch) → EachPassed NoInk r → list_any is_raw_or_ref (events_back (since is_inked_stretch r)) ≡ not (is_quiet r)
 quiet_since [] q = refl
-quiet_since (Gap b ∷ r) q = quiet_since r q
-quiet_since (Placed e ∷ r) q = elim (by_cases (is_inked (chunk_at e))) [ inl i ↦ rw i refl | inr i ↦ rw i refl ]
-quiet_since (Passed event ∷ r) q = grind (arith, quiet_since r q.1)
+quiet_since (x ∷ r) q = grind (arith, quiet_since r)
 
 pub quiet_turned : (r : List Stretch) → EachPassed NoInk r → list_any is_raw_or_ref (events_since_ink (reverse r)) ≡ not (is_quiet r)
 quiet_turned r q = grind (arith, after_last_turned, events_turned, any_turned, quiet_since)
@@ -197,8 +193,3 @@ turned_at back before after x s =
 pub turned_between : (before between after : List Stretch) (x y : Stretch)
     → reverse (before ++ x ∷ (between ++ y ∷ after)) ≡ reverse after ++ y ∷ (reverse between ++ x ∷ reverse before)
 turned_between before between after x y = grind (arith, reverse-append, reverse_cons, append_assoc)
-
-pub place_at : (P : List Stretch → Place → Type 0) (m r : List Stretch) (f : Place) → EachPlace P (m ++ Placed f ∷ r) → P r f
-place_at P [] r f h = h.0
-place_at P (Placed g ∷ m) r f h = place_at P m r f h.1
-place_at P (_ ∷ m) r f h = place_at P m r f h

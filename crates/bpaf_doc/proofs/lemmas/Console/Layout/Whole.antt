@@ -1,6 +1,6 @@
 -- A page that grows by the rules is a layout of its document.
-use Rattle.std.specs.Prelude.{◌≡◌, ◌≢◌, ℕ, suc, ◌+◌, ◌<◌, ◌≤◌, max, ⊤, Bool, true, false, not, ◌&&◌, ◌||◌, ◌==◌, List, [], ◌∷◌, ◌++◌, take, reverse, map, fold, sum_by, All, codes, refl, if◌then◌else◌, ◌⊎◌, IsTrue}
-use Rattle.std.specs.List.{list_any, list_all, before_first, after_last, position_or_len}
+use Rattle.std.specs.Prelude.{◌≡◌, ◌≢◌, ℕ, suc, ◌+◌, ◌<◌, ◌≤◌, max, ⊤, Bool, true, false, not, ◌&&◌, ◌==◌, List, [], ◌∷◌, ◌++◌, take, reverse, map, fold, sum_by, All, codes, refl, if◌then◌else◌, ◌⊎◌, IsTrue}
+use Rattle.std.specs.List.{list_any, list_all, after_last}
 use Rattle.std.proofs.Common.{sym, subst, ap, arith, inl, inr, ◌∙◌, append_assoc}
 use Rattle.std.proofs.lemmas.List.{reverse-append, reverse-reverse, append-nil}
 use Rattle.std.proofs.lemmas.List.Elements.{All-append, All-cons, All-nil}
@@ -9,14 +9,13 @@ use Rattle.std.proofs.lemmas.List.Folds.{list_any-append}
 use Rattle.std.proofs.lemmas.Bool.Decides.{nat_tests}
 use Rattle.std.proofs.lemmas.Bool.{not-true, or_parts, not-false, eqb-true}
 use Rattle.bpaf_doc.proofs.lemmas.Console.Margins.{more_than}
-use Rattle.bpaf_doc.specs.declared.buffer.Block.{Block}
 use Rattle.bpaf_doc.specs.Buffer.Parts.{Part, ink}
-use Rattle.bpaf_doc.specs.Splitter.Chunks.{Raw, columns, is_inked, is_ordinary, has_some, starts}
-use Rattle.bpaf_doc.specs.Shown.{console_ink, is_term_ref}
+use Rattle.bpaf_doc.specs.Splitter.Chunks.{columns, is_inked, has_some, starts}
+use Rattle.bpaf_doc.specs.Shown.{console_ink}
 use Rattle.bpaf_doc.specs.Console.Margin.{margin, greatest_margin}
-use Rattle.bpaf_doc.specs.Console.Layout.{Event, Shows, Opens, Closes, Stretch, Gap, Placed, Passed, Place, AreApart, chunk_at, event_bytes, event_columns, stretch_columns, text_of, events_of, shown_events, is_newline, is_placed, holds_line, leads_to_place, is_inked_event, is_inked_stretch, is_empty_code, is_written, is_raw_event, is_ref, asks_newline, asks_blank_line, is_light, is_light_mark, opens_body, column, padding, line_before, stretch_lines, MayStand, BreaksWhereAsked, KeepsBlanks, IsKept, BeginsClear, IsFirstInLine, events_since_ink, is_raw_or_ref, FollowsBlank, KeepsMargin, WrapsOnlyIfNeeded, IsBounded, FitsWidth, PadsToMargin, StandsAlone, room_of, BreaksForRoom, HasBlankLine, widest, IsLayout}
-use Rattle.bpaf_doc.proofs.lemmas.Console.Layout.State.{State, has_text, IsShallow, Next, raw, break, mark, Grows, Suits, IsClear, blank_page, Written, nothing, more, Ends, as_is, with_newline}
-use Rattle.bpaf_doc.proofs.lemmas.Console.Layout.Back.{by_cases, EachPlace, by_grows}
+use Rattle.bpaf_doc.specs.Console.Layout.{Event, Shows, Stretch, Gap, Placed, Passed, Place, AreApart, chunk_at, event_bytes, event_columns, stretch_columns, text_of, events_of, shown_events, is_newline, is_placed, holds_line, leads_to_place, is_inked_event, is_inked_stretch, is_empty_code, is_written, is_raw_event, is_ref, asks_newline, asks_blank_line, is_light, is_light_mark, opens_body, column, padding, line_before, stretch_lines, MayStand, BreaksWhereAsked, KeepsBlanks, IsKept, BeginsClear, IsFirstInLine, events_since_ink, is_raw_or_ref, FollowsBlank, KeepsMargin, WrapsOnlyIfNeeded, IsBounded, FitsWidth, PadsToMargin, StandsAlone, room_of, BreaksForRoom, HasBlankLine, widest, IsLayout}
+use Rattle.bpaf_doc.proofs.lemmas.Console.Layout.State.{State, has_text, IsShallow, Next, Grows, Suits, IsClear, blank_page, Written, nothing, more, Ends, as_is, with_newline}
+use Rattle.bpaf_doc.proofs.lemmas.Console.Layout.Back.{each_back, by_cases, EachPlace, by_grows}
 use Rattle.bpaf_doc.proofs.lemmas.Console.Layout.Columns.{Fills, fills_grows, Agrees, agrees_grows, column_back}
 use Rattle.bpaf_doc.proofs.lemmas.Console.Layout.Text.{EachPassed, NoInk, no_ink_grows, IsStarting, starting_grows, next_event, text_stays, text_written, begins_margin, lines_margin}
 use Rattle.bpaf_doc.proofs.lemmas.Console.Layout.Margin.{AtMargin, at_margin_grows}
@@ -26,13 +25,12 @@ use Rattle.bpaf_doc.proofs.lemmas.Console.Layout.Reach.{Rule, sum_of, end_of, Is
 use Rattle.bpaf_doc.proofs.lemmas.Console.Layout.Room.{ComesInOrder, in_order_blank, in_order_grows, IsAfterAll, after_all_grows, part_later, is_chunk, allowance, is_idle, idle_all, idle, idle_sound}
 use Rattle.bpaf_doc.proofs.lemmas.Console.Layout.Alone.{IsHeavy, heavy_grows, AloneBefore, alone_grows}
 use Rattle.bpaf_doc.proofs.lemmas.Console.Layout.Split.{events_back, events_grows, Cut, has_newline, inked_line, inked_since}
-use Rattle.bpaf_doc.proofs.lemmas.Console.Layout.Asked.{IsAskedLine, asked_line_grows, IsFreeOfDebt, free_of_debt_grows, owes_line}
-use Rattle.bpaf_doc.proofs.lemmas.Console.Layout.Blank.{IsAskedBlank, asked_blank_grows, IsFreshAtZero, fresh_grows, HasBlankBefore, blank_before_grows, text_back, text_back_cons}
+use Rattle.bpaf_doc.proofs.lemmas.Console.Layout.Blank.{IsAskedBlank, asked_blank_grows, IsFreshAtZero, fresh_grows, HasBlankBefore, blank_before_grows, text_back, text_back_cons, IsAskedLine, asked_line_grows, IsFreeOfDebt, free_of_debt_grows, owes_line}
 use Rattle.bpaf_doc.proofs.lemmas.Console.Layout.Kept.{InOrder, order_grows, IsSettled, settled_grows, IsUnsettled, unsettled_grows, IsSmall, small_grows, IsKeptSince, kept_since_grows, KeepsBefore, keeps_before_grows, AllKept}
 use Rattle.bpaf_doc.proofs.lemmas.Console.Layout.Needed.{is_plain, light, light_sound, light_marks, light_marks_sound}
 use Rattle.bpaf_doc.proofs.lemmas.Console.Layout.AtMargin.{IsLast, last_grows, IsAtStart, start_grows, AfterBlank, IsExact, exact_grows, is_quiet}
 use Rattle.bpaf_doc.proofs.lemmas.Console.Layout.Cuts.{MayEnd, IsWhole, whole_grows, may_end_line}
-use Rattle.bpaf_doc.proofs.lemmas.Console.Layout.Turned.{reverse_cons, any_turned, all_turned, sum_turned, events_turned, events_between, column_turned, line_turned, padding_turned, body_turned, quiet_turned, lines_bounded, turned_at, turned_between, place_at}
+use Rattle.bpaf_doc.proofs.lemmas.Console.Layout.Turned.{reverse_cons, any_turned, all_turned, sum_turned, events_turned, events_between, column_turned, line_turned, padding_turned, body_turned, quiet_turned, lines_bounded, turned_at, turned_between}
 
 -- ---- the events of a page
 
@@ -145,15 +143,8 @@ clearly_blank width margin_of = record {
 
 clearly_grows : {width : ℕ} {margin_of : ℕ → ℕ} {st after : State} {next : Next} → width < 1_000_000 → Suits margin_of st next → IsClear st next → Grows width st next after
     → Base width st → Clearly width margin_of st → Clearly width margin_of after
-clearly_grows {width} {margin_of} small suits clear g b c = record {
-  starting = starting_grows suits clear g c.starting;
-  at_margin = at_margin_grows margin_of small b.fills c.starting b.agrees suits g c.at_margin;
-  exact = exact_grows margin_of small b.fills b.no_ink c.starting b.agrees b.pads b.start suits g c.exact;
-  fits = fits_width_grows width small b.fills c.starting b.agrees b.pads g c.fits;
-  pads_only = pads_only_grows margin_of small b.fills c.starting b.agrees suits b.pads b.pending g c.pads_only;
-  heavy = heavy_grows small c.starting g c.heavy;
-  alone = alone_grows small c.starting c.heavy g c.alone;
-}
+clearly_grows {width} {margin_of} small suits clear g b c =
+    grind (arith, starting_grows, at_margin_grows, exact_grows, fits_width_grows, pads_only_grows, heavy_grows, alone_grows)
 
 -- no empty line of code stands before the first byte
 abbrev clear_front : List Event → Bool
@@ -161,22 +152,11 @@ clear_front [] = true
 clear_front (x ∷ xs) = if is_written x then true else (not (is_empty_code x) && clear_front xs)
 
 empty_plain : (event : Event) → is_empty_code event ≡ true → is_written event ≡ true → ⊥
-empty_plain (Shows k (Raw bytes weight)) e i =
-    let no : (not true && not (is_ordinary (Raw bytes weight))) ≡ true = subst (λ (b : Bool). (not b && not (is_ordinary (Raw bytes weight))) ≡ true) i e in cc
-empty_plain _ e i = cc
+empty_plain event e i = grind arith
 
 clear_snoc : (xs : List Event) (x : Event) → clear_front (xs ++ x ∷ []) ≡ true → (clear_front xs ≡ true) × (is_empty_code x ≡ true → list_any is_written xs ≡ true)
-clear_snoc [] x h = (refl, λ e. absurd (at e (by_cases (is_written x)))) where
-  at : is_empty_code x ≡ true → (is_written x ≡ true) ⊎ (is_written x ≡ false) → ⊥
-  at e (inl i) = empty_plain x e i
-  at e (inr i) = let no : false ≡ true = rw (i, e) at h in cc
-clear_snoc (y ∷ xs) x h = at (by_cases (is_written y)) (by_cases (is_empty_code y)) (clear_snoc xs x) where
-  at : (is_written y ≡ true) ⊎ (is_written y ≡ false) → (is_empty_code y ≡ true) ⊎ (is_empty_code y ≡ false)
-      → (clear_front (xs ++ x ∷ []) ≡ true → (clear_front xs ≡ true) × (is_empty_code x ≡ true → list_any is_written xs ≡ true))
-      → (clear_front (y ∷ xs) ≡ true) × (is_empty_code x ≡ true → list_any is_written (y ∷ xs) ≡ true)
-  at (inl i) e ih = (rw i refl, λ t. rw i refl)
-  at (inr i) (inl e) ih = let no : false ≡ true = rw (i, e) at h in absurd cc
-  at (inr i) (inr e) ih = let rest : clear_front (xs ++ x ∷ []) ≡ true = rw (i, e) at h in (rw (i, e) (ih rest).0, λ t. rw i ((ih rest).1 t))
+clear_snoc [] x h = grind (arith, empty_plain)
+clear_snoc (y ∷ xs) x h = grind (arith, clear_snoc xs x)
 
 clear_begins : (events : List Event) → BeginsClear events → clear_front events ≡ true
 clear_begins [] h = refl
@@ -186,18 +166,10 @@ clear_begins (x ∷ xs) h = at (by_cases (is_written x)) (by_cases (is_empty_cod
 
   at : (is_written x ≡ true) ⊎ (is_written x ≡ false) → (is_empty_code x ≡ true) ⊎ (is_empty_code x ≡ false) → (BeginsClear xs → clear_front xs ≡ true) → clear_front (x ∷ xs) ≡ true
   at (inl i) e ih = rw i refl
-  at (inr i) e ih =
-      let g : not (list_any is_empty_code (take (1 + position_or_len is_written xs) (x ∷ xs))) ≡ true = rw i at h in
-      let s : not (is_empty_code x || list_any is_empty_code (before_first is_written xs)) ≡ true = subst (λ ys. not (list_any is_empty_code ys) ≡ true) (step (position_or_len is_written xs)) g in
-      rw i (both e s ih) where
-        both : (is_empty_code x ≡ true) ⊎ (is_empty_code x ≡ false) → not (is_empty_code x || list_any is_empty_code (before_first is_written xs)) ≡ true → (BeginsClear xs → clear_front xs ≡ true)
-            → (not (is_empty_code x) && clear_front xs) ≡ true
-        both (inl e) s ih = let no : false ≡ true = rw e at s in absurd cc
-        both (inr e) s ih = let rest : not (list_any is_empty_code (before_first is_written xs)) ≡ true = rw e at s in rw e (ih rest)
+  at (inr i) e ih = grind (arith, step)
 
 clear_next : (before : State) (next : Next) → (is_empty_code (next_event next) ≡ true → has_text before.back ≡ true) → IsClear before next
-clear_next before (raw p) h = h
-clear_next before _ h = tt
+clear_next before next h = grind arith
 
 module _ {width : ℕ} {margin_of : ℕ → ℕ} {clear : State → Next → Type 0} where
   pub written_base : {nexts : List Next} {st : State} → Written width margin_of clear nexts st → Base width st
@@ -207,18 +179,7 @@ module _ {width : ℕ} {margin_of : ℕ → ℕ} {clear : State → Next → Typ
   -- a page has text once something was written
   written_text : {nexts : List Next} {st : State} → Written width margin_of clear nexts st → list_any is_written (map next_event nexts) ≡ true → has_text st.back ≡ true
   written_text (nothing e s) h = let no : false ≡ true = subst (λ ns. list_any is_written (map next_event ns) ≡ true) e h in absurd cc
-  written_text {nexts} {st} (more earlier before next e w suits c g) h = at (or_true (list_any is_written (map next_event earlier)) (is_written (next_event next)) last) (written_text w) where
-    last : (list_any is_written (map next_event earlier) || (is_written (next_event next) || false)) ≡ true
-    last = sym (ap (λ ns. list_any is_written (map next_event ns)) e ∙ ap (list_any is_written) (map_snoc earlier next) ∙ list_any-append is_written (map next_event earlier) (next_event next ∷ [])) ∙ h
-
-    or_true : (a b : Bool) → (a || (b || false)) ≡ true → (a ≡ true) ⊎ (b ≡ true)
-    or_true true b h = inl refl
-    or_true false true h = inr refl
-    or_true false false h = absurd cc
-
-    at : (list_any is_written (map next_event earlier) ≡ true) ⊎ (is_written (next_event next) ≡ true) → (list_any is_written (map next_event earlier) ≡ true → has_text before.back ≡ true) → has_text st.back ≡ true
-    at (inl t) ih = text_stays g (ih t)
-    at (inr t) ih = text_written suits g t
+  written_text {nexts} {st} (more earlier before next e w suits c g) h = grind (arith, written_text w, map_snoc, list_any-append, text_stays, text_written)
 
   pub written_clearly : {nexts : List Next} {st : State} → width < 1_000_000 → Written width margin_of clear nexts st → clear_front (map next_event nexts) ≡ true → Clearly width margin_of st
   written_clearly small (nothing e s) h = subst (Clearly width margin_of) (sym s) (clearly_blank width margin_of)
@@ -307,16 +268,13 @@ module _ {width : ℕ} {margin_of : ℕ → ℕ} {clear : State → Next → Typ
 -- ---- the end of the page
 
 ends_places : (P : List Stretch → Place → Type 0) {st : State} {final : List Stretch} → Ends st final → EachPlace P st.back → EachPlace P final
-ends_places P (as_is e) h = subst (λ r. EachPlace P r) (sym e) h
-ends_places P (with_newline e) h = subst (λ r. EachPlace P r) (sym e) h
+ends_places P e h = grind arith
 
 ends_passed : (Q : Event → Type 0) {st : State} {final : List Stretch} → Ends st final → EachPassed Q st.back → EachPassed Q final
-ends_passed Q (as_is e) h = subst (λ r. EachPassed Q r) (sym e) h
-ends_passed Q (with_newline e) h = subst (λ r. EachPassed Q r) (sym e) h
+ends_passed Q e h = grind arith
 
 ends_events : {st : State} {final : List Stretch} → Ends st final → events_back final ≡ events_back st.back
-ends_events (as_is e) = ap events_back e
-ends_events (with_newline e) = ap events_back e
+ends_events h = grind arith
 
 -- ---- what may stand
 
@@ -328,11 +286,7 @@ record KnownEnd (m : List Stretch) (x : Stretch) (r : List Stretch) (rest : List
 
 known_end : (m : List Stretch) (line : Bool) (x : Stretch) (r : List Stretch) (rest : List ℕ) → (line ≡ true → starts rest (codes "\n") ≡ true) → MayEnd line (m ++ x ∷ r) → KnownEnd m x r rest
 known_end [] line x r rest a h = record { line = line; there = h; after = a }
-known_end (Gap b ∷ m) line x r rest a h =
-    let found : KnownEnd m x r (b ∷ rest) = known_end m (b == 10) x r (b ∷ rest) (λ t. ten b t) h.1 in
-    record { line = found.line; there = found.there; after = λ t. subst (λ ys. starts ys (codes "\n") ≡ true) (sym (ap (λ ys. ys ++ rest) (text_back_cons (Gap b) m) ∙ append_assoc (text_back m) (b ∷ []) rest)) (found.after t) } where
-      ten : (b : ℕ) → (b == 10) ≡ true → starts (b ∷ rest) (codes "\n") ≡ true
-      ten b t = let same : b ≡ 10 = eqb-true b 10 t in rw same refl
+known_end (Gap b ∷ m) line x r rest a h = grind (arith, known_end m (b == 10) x r (b ∷ rest), text_back_cons, append_assoc, eqb-true)
 known_end (Placed e ∷ m) line x r rest a h =
     let found : KnownEnd m x r (e.shown ++ rest) = known_end m (if has_some e.shown then false else line) x r (e.shown ++ rest) (further e.shown) h.1 in
     record { line = found.line; there = found.there; after = λ t. subst (λ ys. starts ys (codes "\n") ≡ true) (sym (ap (λ ys. ys ++ rest) (text_back_cons (Placed e) m) ∙ append_assoc (text_back m) e.shown rest)) (found.after t) } where
@@ -346,17 +300,17 @@ known_end (Passed event ∷ m) line x r rest a h =
       further [] t = a t
       further (y ∷ xs) t = absurd cc
 
-passed_at : (Q : Event → Type 0) (m r : List Stretch) (event : Event) → EachPassed Q (m ++ Passed event ∷ r) → Q event
-passed_at Q [] r event h = h.0
-passed_at Q (Passed f ∷ m) r event h = passed_at Q m r event h.1
-passed_at Q (_ ∷ m) r event h = passed_at Q m r event h
+passed_back : (Q : Event → Type 0) (m r : List Stretch) → EachPassed Q (m ++ r) → EachPassed Q r
+passed_back Q [] r h = h
+passed_back Q (Passed f ∷ m) r h = passed_back Q m r h.1
+passed_back Q (_ ∷ m) r h = passed_back Q m r h
 
 may_stand : (m r : List Stretch) (x : Stretch) → MayEnd false (m ++ x ∷ r) → EachPassed NoInk (m ++ x ∷ r) → MayStand x (reverse m)
 may_stand m r x h q = at x (known_end m false x r [] (λ t. absurd cc) h) q where
   at : (x : Stretch) → KnownEnd m x r [] → EachPassed NoInk (m ++ x ∷ r) → MayStand x (reverse m)
   at (Gap b) k q = k.there.0
   at (Placed e) k q = elim k.there.0 [ inl whole ↦ inl whole | inr cut ↦ inr (cut.0, subst (λ ys. starts ys (codes "\n") ≡ true) (append-nil (text_back m)) (k.after cut.1)) ]
-  at (Passed event) k q = let none : is_inked_event event ≡ false = passed_at NoInk m r event q in rw none refl
+  at (Passed event) k q = let none : is_inked_event event ≡ false = (passed_back NoInk m (Passed event ∷ r) q).0 in rw none refl
 
 -- ---- the laws
 
@@ -375,9 +329,7 @@ all_kept may_add (x ∷ m) h = subst (λ ys. All (IsKept may_add) ys) (sym (reve
 debt_paid : (m before : List Stretch) (e : Place) → EachPlace IsFreeOfDebt (m ++ Placed e ∷ before) → owes_line (m ++ Placed e ∷ before) ≡ false → is_inked (chunk_at e) ≡ true
     → list_any asks_newline (events_back m) ≡ true → has_newline m ≡ true
 debt_paid [] before e f o i a = absurd cc
-debt_paid (Gap b ∷ m) before e f o i a = grind (arith, debt_paid m before e f)
-debt_paid (Placed g ∷ m) before e f o i a = debt_paid m before e f.1 f.0 i a
-debt_paid (Passed event ∷ m) before e f o i a = grind (arith, debt_paid m before e f, inked_since m e before i)
+debt_paid (x ∷ m) before e f o i a = grind (arith, debt_paid m, inked_since)
 
 sum_is : (takes : Event → ℕ) (es : List Event) → sum_of takes es ≡ sum_by takes es
 sum_is takes [] = refl
@@ -395,10 +347,10 @@ module _ (width : ℕ) (document : List Part) (st : State) (final : List Stretch
   law_at : (P : List Stretch → Place → Type 0) → EachPlace P st.back → (before between after : List Stretch) (e f : Place) → stretches ≡ before ++ Placed e ∷ (between ++ Placed f ∷ after)
       → P (reverse between ++ Placed e ∷ reverse before) f
   law_at P h before between after e f s =
-      place_at P (reverse after) (reverse between ++ Placed e ∷ reverse before) f (subst (λ ys. EachPlace P ys) (apart_at before between after e f s) (ends_places P ends h))
+      (each_back P (reverse after) (Placed f ∷ (reverse between ++ Placed e ∷ reverse before)) (subst (λ ys. EachPlace P ys) (apart_at before between after e f s) (ends_places P ends h))).0
 
   one_at : (P : List Stretch → Place → Type 0) → EachPlace P st.back → (before after : List Stretch) (f : Place) → stretches ≡ before ++ Placed f ∷ after → P (reverse before) f
-  one_at P h before after f s = place_at P (reverse after) (reverse before) f (subst (λ ys. EachPlace P ys) (turned_at final before after (Placed f) s) (ends_places P ends h))
+  one_at P h before after f s = (each_back P (reverse after) (Placed f ∷ reverse before) (subst (λ ys. EachPlace P ys) (turned_at final before after (Placed f) s) (ends_places P ends h))).0
 
   events_any : (p : Event → Bool) (between : List Stretch) → list_any p (events_back (reverse between)) ≡ list_any p (events_of between)
   events_any p between = ap (λ es. list_any p es) (events_between between) ∙ any_turned p (events_of between)
@@ -406,18 +358,13 @@ module _ (width : ℕ) (document : List Part) (st : State) (final : List Stretch
   events_all : (p : Event → Bool) (between : List Stretch) → list_all p (events_back (reverse between)) ≡ list_all p (events_of between)
   events_all p between = ap (λ es. list_all p es) (events_between between) ∙ all_turned p (events_of between)
 
-  place_fronts : (P : List Stretch → Place → Type 0) (m r : List Stretch) (f : Place) → EachPlace P (m ++ Placed f ∷ r) → EachPlace P r
-  place_fronts P [] r f h = h.1
-  place_fronts P (Placed g ∷ m) r f h = place_fronts P m r f h.1
-  place_fronts P (_ ∷ m) r f h = place_fronts P m r f h
-
   asked_law : BreaksWhereAsked width stretches
   asked_law = record {
     newline = λ before between e f h asks.
         let whole : EachPlace IsFreeOfDebt final = ends_places IsFreeOfDebt ends base.debt in
         let split : EachPlace IsFreeOfDebt (reverse h.after ++ Placed f ∷ (reverse between ++ Placed e ∷ reverse before)) = subst (λ ys. EachPlace IsFreeOfDebt ys) (apart_at before between h.after e f h.order) whole in
         sym (any_turned is_newline between) ∙ debt_paid (reverse between) (reverse before) e
-        (place_fronts IsFreeOfDebt (reverse h.after) (reverse between ++ Placed e ∷ reverse before) f split)
+        (each_back IsFreeOfDebt (reverse h.after) (Placed f ∷ (reverse between ++ Placed e ∷ reverse before)) split).1
         (law_at IsFreeOfDebt base.debt before between h.after e f h.order) h.first_inked (events_any asks_newline between ∙ asks);
     blank_line = λ before between e f h asks none fits.
         let line : HasBlankLine (text_back (reverse between)) = law_at (HasBlankBefore width) base.blank before between h.after e f h.order (reverse between) (reverse before) e refl h.first_inked
@@ -435,10 +382,7 @@ module _ (width : ℕ) (document : List Part) (st : State) (final : List Stretch
   no_ink_final = ends_passed NoInk ends base.no_ink
 
   whole_final : MayEnd false final
-  whole_final = at ends where
-    at : Ends st final → MayEnd false final
-    at (as_is e) = subst (λ r. MayEnd false r) (sym e) base.whole
-    at (with_newline e) = subst (λ r. MayEnd false r) (sym e) (inr refl, may_end_line st.back base.whole)
+  whole_final = grind (arith, base, may_end_line)
 
   stand_law : (before after : List Stretch) (x : Stretch) → stretches ≡ before ++ x ∷ after → MayStand x after
   stand_law before after x s =
@@ -448,12 +392,7 @@ module _ (width : ℕ) (document : List Part) (st : State) (final : List Stretch
 
   module _ (clearly : Clearly width (margin document) st) where
     no_ink_front : (before after : List Stretch) (f : Place) → stretches ≡ before ++ Placed f ∷ after → EachPassed NoInk (reverse before)
-    no_ink_front before after f s = back (reverse after) (subst (λ ys. EachPassed NoInk ys) (turned_at final before after (Placed f) s) no_ink_final) where
-      back : (m : List Stretch) → EachPassed NoInk (m ++ Placed f ∷ reverse before) → EachPassed NoInk (reverse before)
-      back [] h = h
-      back (Gap b ∷ m) h = back m h
-      back (Placed g ∷ m) h = back m h
-      back (Passed event ∷ m) h = back m h.1
+    no_ink_front before after f s = passed_back NoInk (reverse after) (Placed f ∷ reverse before) (subst (λ ys. EachPassed NoInk ys) (turned_at final before after (Placed f) s) no_ink_final)
 
     column_is : (before : List Stretch) → column before ≡ column_back (reverse before)
     column_is before = ap column (sym (reverse-reverse before)) ∙ column_turned (reverse before)
@@ -470,14 +409,7 @@ module _ (width : ℕ) (document : List Part) (st : State) (final : List Stretch
           → (is_quiet (reverse before) ≡ true) ⊎ AfterBlank (reverse before) f.part
       kind_of before after f s (inl h) =
           inl (not-false (is_quiet (reverse before)) (sym (quiet_turned (reverse before) (no_ink_front before after f s)) ∙ ap (λ ys. list_any is_raw_or_ref (events_since_ink ys)) (reverse-reverse before) ∙ not-true (list_any is_raw_or_ref (events_since_ink before)) h))
-      kind_of before after f s (inr h) = inr (record {
-        rest = reverse h.between;
-        before = reverse h.front;
-        place = h.e;
-        there = ap (λ ys. reverse ys) h.order ∙ reverse-append h.front (Placed h.e ∷ h.between) ∙ ap (λ ys. ys ++ reverse h.front) (reverse_cons (Placed h.e) h.between) ∙ append_assoc (reverse h.between) (Placed h.e ∷ []) (reverse h.front);
-        inked = h.inked;
-        blank = events_between h.between ∙ ap (λ es. reverse es) h.one_blank;
-      })
+      kind_of before after f s (inr h) = grind (arith, reverse-append, reverse_cons, append_assoc, events_between)
 
     sums_turned : (takes : Event → ℕ) (between : List Stretch) → sum_of takes (events_back (reverse between)) ≡ sum_by takes (events_of between)
     sums_turned takes between = sum_is takes (events_back (reverse between)) ∙ ap (λ es. sum_by takes es) (events_between between) ∙ sum_turned takes (events_of between)
@@ -514,10 +446,7 @@ module _ (width : ℕ) (document : List Part) (st : State) (final : List Stretch
         omega arith
 
     led_final : Leads false final
-    led_final = at ends where
-      at : Ends st final → Leads false final
-      at (as_is e) = subst (λ r. Leads false r) (sym e) base.led
-      at (with_newline e) = subst (λ r. Leads false r) (sym e) (λ t. absurd cc, base.led)
+    led_final = grind (arith, base)
 
     padded_law : PadsToMargin document stretches
     padded_law = record {
@@ -562,31 +491,12 @@ fold_more (x ∷ xs) a b l = fold_more xs (max a x) (max b x) (omega arith)
 -- each chunk that comes is at most as wide as the widest
 narrow_each : (nexts : List Next) (most : ℕ) → widest (map next_event nexts) ≤ most → EachNext (IsNarrow most) nexts
 narrow_each [] most l = tt
-narrow_each (x ∷ xs) most l = (at x (first_le x xs l), narrow_each xs most (rest_le x xs l)) where
-  first_le : (x : Next) (xs : List Next) → widest (map next_event (x ∷ xs)) ≤ most → event_columns (next_event x) ≤ most
-  first_le x xs l = let more : max 0 (event_columns (next_event x)) ≤ fold max (max 0 (event_columns (next_event x))) (map event_columns (map next_event xs)) = more_than (map event_columns (map next_event xs)) (max 0 (event_columns (next_event x))) in omega arith
-
-  rest_le : (x : Next) (xs : List Next) → widest (map next_event (x ∷ xs)) ≤ most → widest (map next_event xs) ≤ most
-  rest_le x xs l = grind (arith, fold_more)
-
-  at : (x : Next) → event_columns (next_event x) ≤ most → IsNarrow most x
-  at (raw p) l = l
-  at (break k chunk) l = tt
-  at (mark event level) l = tt
+narrow_each (x ∷ xs) most l = grind (arith, narrow_each xs most, more_than, fold_more)
 
 -- no mark is one of a term reference
 bare_each : (nexts : List Next) → list_any is_ref (map next_event nexts) ≡ false → EachNext WritesNone nexts
 bare_each [] h = tt
-bare_each (x ∷ xs) h = (at x (or_parts (is_ref (next_event x)) _ h).0, bare_each xs (or_parts (is_ref (next_event x)) _ h).1) where
-  none : (b : Block) → is_term_ref b ≡ false → has_some (event_bytes (Opens b)) ≡ false
-  none b h = rw h refl
-
-  at : (x : Next) → is_ref (next_event x) ≡ false → WritesNone x
-  at (raw p) h = tt
-  at (break k chunk) h = tt
-  at (mark (Shows k chunk) level) h = refl
-  at (mark (Opens b) level) h = none b h
-  at (mark (Closes b) level) h = none b h
+bare_each (x ∷ xs) h = grind (arith, bare_each xs, or_parts)
 
 slim_each : (deepest most : ℕ) (nexts : List Next) → EachNext (IsShallow deepest) nexts → EachNext (IsNarrow most) nexts → EachNext WritesNone nexts → EachNext (IsSlim deepest most) nexts
 slim_each deepest most [] a b c = tt

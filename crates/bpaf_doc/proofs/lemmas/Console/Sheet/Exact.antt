@@ -1,30 +1,45 @@
 -- The page that the code writes is the page as a function of the document.
-use Rattle.std.specs.Prelude.{◌≡◌, ℕ, ◌+◌, ◌-◌, ◌^◌, ◌<◌, Option, Some, None, Bool, true, false, not, ◌&&◌, ◌==◌, List, [], ◌∷◌, ◌++◌, length, refl, if◌then◌else◌, ◌⊎◌, nat_lt, nat_le, IfOk, Result, Ok, Err, String, string_bytes}
+use Rattle.std.specs.Prelude.{◌≡◌, ℕ, ◌+◌, ◌-◌, ◌^◌, ◌<◌, Option, Bool, true, false, not, ◌&&◌, ◌==◌, List, [], ◌∷◌, ◌++◌, length, refl, if◌then◌else◌, ◌⊎◌, nat_le, IfOk, Result, String, string_bytes, zero, suc, ◌≤◌, take, reverse, map, flat_map}
 use Rattle.std.specs.List.{enumerate_from}
 use Rattle.std.specs.Str.{bytes_eq}
-use Rattle.std.proofs.Common.{sym, ap, arith, inl, inr, ◌∙◌}
+use Rattle.std.proofs.Common.{sym, ap, arith, ◌∙◌, length-append}
 use Rattle.std.proofs.lemmas.Bool.Decides.{nat_tests}
+use Rattle.std.proofs.lemmas.List.{append-nil, length-reverse, reverse-reverse}
+use Rattle.std.proofs.lemmas.Grind.{flat_map-append}
 use Rattle.bpaf_doc.specs.declared.console.pairs.Pairs.{Pairs}
 use Rattle.bpaf_doc.specs.declared.console.page.Asked.{Asked}
 use Rattle.bpaf_doc.specs.declared.console.page.Asked.TheVariants as asked
 use Rattle.bpaf_doc.specs.declared.buffer.Block.{Block}
-use Rattle.bpaf_doc.specs.declared.buffer.Block.TheVariants as blocks
 use Rattle.bpaf_doc.specs.declared.buffer.Style.{Style}
-use Rattle.bpaf_doc.specs.Buffer.Parts.{Part, Text, Start, End}
-use Rattle.bpaf_doc.specs.Splitter.Chunks.{Chunk, Raw, Paragraph, LineBreak, columns, chunks_of, has_some}
-use Rattle.bpaf_doc.specs.Shown.{is_term_ref}
-use Rattle.bpaf_doc.specs.Console.Margin.{margin, is_skipped}
+use Rattle.bpaf_doc.specs.Buffer.Parts.{Part, Text, Start, End, ink, HasUtf8Texts}
+use Rattle.bpaf_doc.specs.Splitter.Chunks.{Chunk, Raw, Paragraph, LineBreak, columns, chunks_of, has_some, chunk_ink}
+use Rattle.bpaf_doc.specs.Shown.{is_term_ref, console_ink, mark_bytes, shown_chunks, shown_part_ink}
+use Rattle.bpaf_doc.specs.Console.Margin.{margin, is_skipped, Shift, Indent, Outdent, Level}
 use Rattle.bpaf_doc.specs.Console.Steps.Page as page
 use Rattle.bpaf_doc.specs.Console.Steps.Page.{Sheet, blank_sheet}
 use Rattle.bpaf_doc.specs.Console.Steps.Text as whole
 use Rattle.bpaf_doc.specs.Console.Steps.Text.{console_text}
 use Rattle.bpaf_doc.specs.Console.Exact as exact
 use Rattle.bpaf_doc.specs.Console.Exact.{Request, NoBreak, NewLine, BlankLine, PageSoFar, console_page}
-use Rattle.bpaf_doc.proofs.lemmas.Console.Layout.Back.{by_cases}
-use Rattle.bpaf_doc.proofs.lemmas.Console.Margins.{top, stack_at, shifted, top-margin}
-use Rattle.bpaf_doc.proofs.lemmas.Console.Sheet.Marks.{top_innermost}
+use Rattle.bpaf_doc.specs.Splitter.Promises.{IsGap}
+use Rattle.bpaf_doc.specs.Console.Layout.{Event, Shows, Opens, Closes, part_events, shown_events, Stretch, event_bytes, IsLayout}
+use Rattle.bpaf_doc.specs.Console.Steps.Hiding.{hidden_after}
+use Rattle.bpaf_doc.specs.Console.Laws.{IsExactPageLayout}
+use Rattle.bpaf_doc.proofs.lemmas.Console.Layout.Back.{by_test}
+use Rattle.bpaf_doc.proofs.lemmas.Console.Margins.{top, stack_at, shifted, top-margin, stack_after}
+use Rattle.bpaf_doc.proofs.lemmas.Console.Sheet.Grows.{raw_cases, top_innermost}
 use Rattle.bpaf_doc.proofs.lemmas.Console.Sheet.Walk.{Frame, asked_keeps, text_frame, raw_frame, written_of, Walk, stack_next, text_level, shown_is, hidden_is, start_skips, end_skips, walk_begins, walk_part, opened_keeps, closed_keeps}
-use Rattle.bpaf_doc.proofs.lemmas.Console.Sheet.Whole.{Each, IsGood, text_good, columns_good, margin_kept}
+use Rattle.bpaf_doc.proofs.lemmas.Console.Sheet.Whole.{Each, IsGood, text_good, columns_good, margin_kept, Done, done, console_layout, events_from, text_is_utf8}
+use Rattle.bpaf_doc.proofs.lemmas.Console.Ink.{ink-backquote}
+use Rattle.bpaf_doc.proofs.lemmas.Console.Pages.{skips-mark_bytes}
+use Rattle.bpaf_doc.proofs.lemmas.Splitter.Ink.{ink-nil, ink-append, ink_before_gap}
+use Rattle.bpaf_doc.proofs.lemmas.Console.Layout.Blank.{text_back, text_back_cons, some_none}
+use Rattle.bpaf_doc.proofs.lemmas.Console.Layout.Split.{events_back}
+use Rattle.bpaf_doc.proofs.lemmas.Console.Layout.State.{IsLegible}
+use Rattle.bpaf_doc.proofs.lemmas.Console.Layout.Text.{EachPassed, NoInk}
+use Rattle.bpaf_doc.proofs.lemmas.Console.Layout.Turned.{reverse_cons}
+use Rattle.bpaf_doc.proofs.lemmas.Console.Layout.Whole.{written_base, written_events}
+use Rattle.bpaf_doc.proofs.lemmas.Console.Layout.Stretches.{text_utf8, trim_ink}
 
 -- ---- a sheet, seen as the page so far
 
@@ -39,15 +54,17 @@ view s = record { text = s.out; column = s.column; request = request_of s.asks; 
 view_if : (b : Bool) (x y : Sheet) → view (if b then x else y) ≡ (if b then view x else view y)
 view_if b x y = grind arith
 
+-- what two equal tests choose
+view_same : (c d : Bool) → c ≡ d → (x y : Sheet) (p q : PageSoFar) → view x ≡ p → view y ≡ q → view (if c then x else y) ≡ (if d then p else q)
+view_same c d e x y p q same_x same_y = grind arith
+
 -- ---- a Raw chunk
 
 asks_line_is : (a : Asked) → page.asks_break a ≡ exact.asks_line (request_of a)
-asks_line_is asked.Nothing = refl
-asks_line_is _ = refl
+asks_line_is a = grind arith
 
 asks_blank_line_is : (a : Asked) → page.asks_blank_line a ≡ exact.asks_blank_line (request_of a)
-asks_blank_line_is asked.Nothing = refl
-asks_blank_line_is _ = refl
+asks_blank_line_is a = grind arith
 
 line_ended_is : (s : Sheet) → view (page.asked_newline_put s) ≡ exact.line_ended (view s)
 line_ended_is s = view_if (page.lacks_newline s) (page.newline_put s) s ∙ rw (asks_line_is s.asks) refl
@@ -64,72 +81,31 @@ body_is n s = view_if (s.at_body && nat_le 28 s.column) (page.blanks_put (2 - n)
 placed_is : (level : ℕ) (bytes : List ℕ) (weight : ℕ) (s : Sheet) → page.margin_of s ≡ level → view (page.placed bytes weight s) ≡ exact.placed level bytes weight (view s)
 placed_is level bytes weight s e = grind (arith, body_is)
 
--- the cases of a Raw chunk, in the order of the rules
-raw_cases : (empty wide blank : Bool) (s a w : Sheet) (put : Sheet → Sheet)
-    → (if (not empty && wide) && blank then (if empty then s else if wide then w else a) else put (if empty then s else if wide then w else a))
-    ≡ (if empty then put s else if wide then (if blank then w else put w) else put a)
-raw_cases true wide blank s a w put = refl
-raw_cases false true true s a w put = refl
-raw_cases false true false s a w put = refl
-raw_cases false false blank s a w put = refl
-
 is_empty : (text : List ℕ) → (length text == 0) ≡ not (has_some text)
-is_empty [] = refl
-is_empty (b ∷ text) = grind (arith, nat_tests)
+is_empty text = grind (arith, nat_tests)
 
 raw_is : (width level : ℕ) (bytes : List ℕ) (weight : ℕ) (s : Sheet) → page.columns_of bytes weight ≡ columns bytes → s.width ≡ width → page.margin_of s ≡ level
     → view (page.raw_put bytes weight s) ≡ exact.raw_put width level bytes weight (view s)
 unfolding page.raw_put
 raw_is width level bytes weight s same_columns wide margin =
     ap view (raw_cases (length s.out == 0) (page.is_too_wide (page.columns_of bytes weight) (page.asked_put s)) (bytes_eq bytes (32 ∷ [])) s (page.asked_put s) (page.wrapped (page.asked_put s)) (page.placed bytes weight))
-    ∙ split (length s.out == 0) (has_some s.out) (is_empty s.out) where
-      asked_frame : Frame s (page.asked_put s)
-      asked_frame = asked_keeps s
-
+    ∙ view_same (length s.out == 0) (not (has_some s.out)) (is_empty s.out) _ _ _ _ (placed_is level bytes weight s margin)
+    (view_same (page.is_too_wide (page.columns_of bytes weight) (page.asked_put s)) (exact.is_too_wide width bytes (exact.request_met (view s))) too_wide _ _ _ _
+    (view_same (bytes_eq bytes (32 ∷ [])) (bytes_eq bytes (32 ∷ [])) refl _ _ _ _ wrapped_is (placed_is level bytes weight (page.wrapped (page.asked_put s)) asked_margin ∙ ap (exact.placed level bytes weight) wrapped_is))
+    (placed_is level bytes weight (page.asked_put s) asked_margin ∙ ap (exact.placed level bytes weight) (request_is s)))
+    ∙ turned (has_some s.out) (exact.placed level bytes weight (view s)) (exact.fitted width level bytes weight (exact.request_met (view s))) where
       asked_margin : page.margin_of (page.asked_put s) ≡ level
-      asked_margin = margin_kept s (page.asked_put s) asked_frame ∙ margin
+      asked_margin = margin_kept s (page.asked_put s) (asked_keeps s) ∙ margin
 
       too_wide : page.is_too_wide (page.columns_of bytes weight) (page.asked_put s) ≡ exact.is_too_wide width bytes (exact.request_met (view s))
-      too_wide =
-          ap (λ (n : ℕ). nat_lt n (page.saturated ((page.asked_put s).column + page.columns_of bytes weight))) (asked_frame.width ∙ wide)
-          ∙ ap (λ (n : ℕ). nat_lt width (page.saturated ((page.asked_put s).column + n))) same_columns
-          ∙ ap (λ (p : PageSoFar). nat_lt width (page.saturated (p.column + columns bytes))) (request_is s)
+      too_wide = grind (arith, asked_keeps, request_is)
 
       wrapped_is : view (page.wrapped (page.asked_put s)) ≡ exact.wrapped (exact.request_met (view s))
       wrapped_is = ap exact.wrapped (request_is s)
 
-      wrapped_placed : view (page.placed bytes weight (page.wrapped (page.asked_put s))) ≡ exact.placed level bytes weight (exact.wrapped (exact.request_met (view s)))
-      wrapped_placed = placed_is level bytes weight (page.wrapped (page.asked_put s)) asked_margin ∙ ap (exact.placed level bytes weight) wrapped_is
-
-      asked_placed : view (page.placed bytes weight (page.asked_put s)) ≡ exact.placed level bytes weight (exact.request_met (view s))
-      asked_placed = placed_is level bytes weight (page.asked_put s) asked_margin ∙ ap (exact.placed level bytes weight) (request_is s)
-
-      fit : (t : Bool) → view (if t then (if bytes_eq bytes (32 ∷ []) then page.wrapped (page.asked_put s) else page.placed bytes weight (page.wrapped (page.asked_put s))) else page.placed bytes weight (page.asked_put s))
-          ≡ (if t then (if bytes_eq bytes (32 ∷ []) then exact.wrapped (exact.request_met (view s)) else exact.placed level bytes weight (exact.wrapped (exact.request_met (view s)))) else exact.placed level bytes weight (exact.request_met (view s)))
-      fit false = asked_placed
-      fit true = drop (bytes_eq bytes (32 ∷ [])) where
-        drop : (b : Bool) → view (if b then page.wrapped (page.asked_put s) else page.placed bytes weight (page.wrapped (page.asked_put s)))
-            ≡ (if b then exact.wrapped (exact.request_met (view s)) else exact.placed level bytes weight (exact.wrapped (exact.request_met (view s))))
-        drop true = wrapped_is
-        drop false = wrapped_placed
-
-      fitted_is : view
-          (if page.is_too_wide (page.columns_of bytes weight) (page.asked_put s)
-          then (if bytes_eq bytes (32 ∷ []) then page.wrapped (page.asked_put s) else page.placed bytes weight (page.wrapped (page.asked_put s))) else page.placed bytes weight (page.asked_put s))
-          ≡ exact.fitted width level bytes weight (exact.request_met (view s))
-      fitted_is =
-          fit (page.is_too_wide (page.columns_of bytes weight) (page.asked_put s))
-          ∙ ap (λ (t : Bool). if t then (if bytes_eq bytes (32 ∷ []) then exact.wrapped (exact.request_met (view s)) else exact.placed level bytes weight (exact.wrapped (exact.request_met (view s)))) else exact.placed level bytes weight (exact.request_met (view s))) too_wide
-
-      split : (empty some : Bool) → empty ≡ not some
-          → view (if empty then page.placed bytes weight s else
-          if page.is_too_wide (page.columns_of bytes weight) (page.asked_put s)
-          then (if bytes_eq bytes (32 ∷ []) then page.wrapped (page.asked_put s) else page.placed bytes weight (page.wrapped (page.asked_put s))) else page.placed bytes weight (page.asked_put s))
-          ≡ (if some then exact.fitted width level bytes weight (exact.request_met (view s)) else exact.placed level bytes weight (view s))
-      split true true e = absurd cc
-      split true false e = placed_is level bytes weight s margin
-      split false true e = fitted_is
-      split false false e = absurd cc
+      turned : (b : Bool) (x y : PageSoFar) → (if not b then x else y) ≡ (if b then y else x)
+      turned true x y = refl
+      turned false x y = refl
 
 -- ---- the chunks of a text
 
@@ -146,20 +122,16 @@ text_is full width level (Paragraph ∷ chunks) s good wide margin = grind (arit
 -- ---- the marks
 
 new_line_is : (a : Asked) → request_of (page.new_line_asked a) ≡ exact.at_least_new_line (request_of a)
-new_line_is asked.Nothing = refl
-new_line_is _ = refl
+new_line_is a = grind arith
 
 start_request : (b : Block) (a : Asked) → request_of (page.asked_by_start a b) ≡ exact.request_at_start b (request_of a)
-start_request blocks.Header a = new_line_is a
-start_request _ a = grind (arith, new_line_is a)
+start_request b a = grind (arith, new_line_is)
 
 end_request : (b : Block) (a : Asked) → request_of (page.asked_by_end a b) ≡ exact.request_at_end b (request_of a)
-end_request blocks.Header a = refl
-end_request _ a = refl
+end_request b a = grind arith
 
 body_same : (b : Block) → page.is_body b ≡ exact.is_item_body b
-body_same blocks.ItemBody = refl
-body_same _ = refl
+body_same b = grind arith
 
 abbrev so_far : Sheet → Request → Bool → PageSoFar
 so_far s request pending = record { text = s.out; column = s.column; request = request; is_pending = pending }
@@ -168,8 +140,7 @@ marked_is : (b : Block) (s : Sheet) → view (page.marked b s) ≡ exact.backquo
 marked_is b s = view_if (is_term_ref b) (record s { out = s.out ++ 96 ∷ []; column = page.saturated (s.column + 1) }) s
 
 pushed_is : (indent : Option ℕ) (s : Sheet) → view (page.margin_pushed indent s) ≡ view s
-pushed_is None s = refl
-pushed_is (Some n) s = refl
+pushed_is indent s = grind arith
 
 start_is : (b : Block) (adjacent : Bool) (s : Sheet) → view (page.opened b adjacent s) ≡ exact.start_put b (view s)
 unfolding page.opened
@@ -181,47 +152,37 @@ end_is b s = grind (arith, marked_is, end_request, body_same)
 
 -- ---- the parts
 
-put_if : (c d : Bool) → c ≡ d → (x y : Sheet) (p : PageSoFar) → view y ≡ p → view (if c then x else y) ≡ (if d then view x else p)
-put_if c d e x y p same = grind arith
-
 keeps_width_if : (c : Bool) (x y : Sheet) (width : ℕ) → x.width ≡ width → y.width ≡ width → (if c then x else y).width ≡ width
 keeps_width_if c x y width a b = grind arith
 
 module _ (full : Bool) (document : List Part) (width : ℕ) (is_small : length document < 2 ^ 64) where
   text_part : (index : ℕ) (before rest : List Part) (bytes : List ℕ) (style : Style) (pairs : Pairs) (hidden : ℕ) (s : Sheet) → Walk full document index before (Text bytes style ∷ rest) pairs hidden s
       → s.width ≡ width → view (whole.part_put full document index pairs hidden (Text bytes style) s) ≡ exact.part_put full width document index (Text bytes style) (view s)
-  text_part index before rest bytes style pairs hidden s w wide = at (by_cases (hidden == 0)) where
-    level : page.margin_of s ≡ exact.saturated (margin document index)
-    level =
-        ap page.saturated
-        (top_innermost s (stack_at document index) w.margins
-        ∙ sym (ap top (stack_next full document index before rest (Text bytes style) pairs hidden s w ∙ ap (λ x. shifted x (stack_at document index)) (text_level full document index before rest bytes style pairs hidden s w)))
-        ∙ top-margin document index)
-
-    at : ((hidden == 0) ≡ true) ⊎ ((hidden == 0) ≡ false) → view (whole.part_put full document index pairs hidden (Text bytes style) s) ≡ exact.part_put full width document index (Text bytes style) (view s)
-    at (inl h) =
-        let same : whole.part_put full document index pairs hidden (Text bytes style) s ≡ page.text_put full (chunks_of bytes) s = rw h refl in
-        ap view same ∙ text_is full width (exact.saturated (margin document index)) (chunks_of bytes) s (text_good bytes) wide level
-        ∙ ap (λ chunks. exact.chunks_put width (exact.saturated (margin document index)) chunks (view s)) (sym (shown_is full document index before rest bytes style pairs hidden s w h))
-    at (inr h) =
-        let same : whole.part_put full document index pairs hidden (Text bytes style) s ≡ s = rw h refl in
-        ap view same ∙ ap (λ chunks. exact.chunks_put width (exact.saturated (margin document index)) chunks (view s)) (sym (hidden_is full document index before rest bytes style pairs hidden s w h))
+  text_part index before rest bytes style pairs hidden s w wide =
+      by_test (λ x. view x ≡ exact.part_put full width document index (Text bytes style) (view s)) (hidden == 0) (page.text_put full (chunks_of bytes) s) s
+      (λ h. text_is full width (exact.saturated (margin document index)) (chunks_of bytes) s (text_good bytes) wide level
+      ∙ ap (λ chunks. exact.chunks_put width (exact.saturated (margin document index)) chunks (view s)) (sym (shown_is full document index before rest bytes style pairs hidden s w h)))
+      (λ h. ap (λ chunks. exact.chunks_put width (exact.saturated (margin document index)) chunks (view s)) (sym (hidden_is full document index before rest bytes style pairs hidden s w h))) where
+        level : page.margin_of s ≡ exact.saturated (margin document index)
+        level =
+            ap page.saturated
+            (top_innermost s (stack_at document index) w.margins
+            ∙ sym (ap top (stack_next full document index before rest (Text bytes style) pairs hidden s w ∙ ap (λ x. shifted x (stack_at document index)) (text_level full document index before rest bytes style pairs hidden s w)))
+            ∙ top-margin document index)
 
   part_same : (index : ℕ) (before rest : List Part) (part : Part) (pairs : Pairs) (hidden : ℕ) (s : Sheet) → Walk full document index before (part ∷ rest) pairs hidden s → s.width ≡ width
       → view (whole.part_put full document index pairs hidden part s) ≡ exact.part_put full width document index part (view s)
   part_same index before rest (Text bytes style) pairs hidden s w wide = text_part index before rest bytes style pairs hidden s w wide
   part_same index before rest (Start b) pairs hidden s w wide =
-      put_if (whole.skips next index b) (is_skipped document index) (start_skips full document is_small index before rest b pairs hidden s w) s (page.opened b (whole.is_adjacent b next) s) (exact.start_put b (view s))
+      view_same (whole.skips next index b) (is_skipped document index) (start_skips full document is_small index before rest b pairs hidden s w) s (page.opened b (whole.is_adjacent b next) s) (view s) (exact.start_put b (view s)) refl
       (start_is b (whole.is_adjacent b next) s) where
         next : Pairs
         next = whole.pairs_at document index b pairs
   part_same index before rest (End b) pairs hidden s w wide =
-      put_if (whole.skips pairs index b) (is_skipped document index) (end_skips full document is_small index before rest b pairs hidden s w) s (page.closed b s) (exact.end_put b (view s)) (end_is b s)
+      view_same (whole.skips pairs index b) (is_skipped document index) (end_skips full document is_small index before rest b pairs hidden s w) s (page.closed b s) (view s) (exact.end_put b (view s)) refl (end_is b s)
 
   same_width : (index : ℕ) (part : Part) (pairs : Pairs) (hidden : ℕ) (s : Sheet) → s.width ≡ width → (whole.part_put full document index pairs hidden part s).width ≡ width
-  same_width index (Text bytes style) pairs hidden s wide = keeps_width_if (hidden == 0) (page.text_put full (chunks_of bytes) s) s width ((text_frame full (chunks_of bytes) s).width ∙ wide) wide
-  same_width index (Start b) pairs hidden s wide = grind (arith, keeps_width_if, opened_keeps)
-  same_width index (End b) pairs hidden s wide = keeps_width_if (whole.skips pairs index b) s (page.closed b s) width wide ((closed_keeps b s).0 ∙ wide)
+  same_width index part pairs hidden s wide = grind (arith, keeps_width_if, text_frame, opened_keeps, closed_keeps)
 
   parts_same : (parts : List Part) (index : ℕ) (before : List Part) (pairs : Pairs) (hidden : ℕ) (s : Sheet) → Walk full document index before parts pairs hidden s → s.width ≡ width
       → view (whole.parts_put full document index pairs hidden parts s) ≡ exact.parts_put full width document (enumerate_from index parts) (view s)
@@ -236,5 +197,110 @@ module _ (full : Bool) (document : List Part) (width : ℕ) (is_small : length d
 -- the answer of a call that lays the document out
 pub IfOk-exact : {Z E : Type 0} (full : Bool) (width : ℕ) (document : List Part) → length document < 2 ^ 64
     → (r : Result (String Z) E) → IfOk r (λ text. string_bytes text ≡ console_text full width document) → IfOk r (λ text. string_bytes text ≡ console_page full width document)
-IfOk-exact full width document small (Err error) same = tt
-IfOk-exact full width document small (Ok text) same = same ∙ text-page full document width small
+IfOk-exact full width document small r same = grind (arith, text-page)
+
+-- ---- the ink and the layout of that page
+
+-- ---- the ink of a text by its stretches
+
+abbrev event_ink : Event → List ℕ
+event_ink (Shows k chunk) = chunk_ink chunk
+event_ink (Opens b) = mark_bytes b
+event_ink (Closes b) = mark_bytes b
+
+mark_ink : (b : Block) → ink (mark_bytes b) ≡ mark_bytes b
+mark_ink b = elim (is_term_ref b) as (λ (c : Bool). ink (if c then 96 ∷ [] else []) ≡ (if c then 96 ∷ [] else [])) [ true ↦ ink-backquote | false ↦ ink-nil ]
+
+passed_ink : (event : Event) → NoInk event → ink (event_bytes event) ≡ event_ink event
+passed_ink event none = grind (arith, ink-nil, some_none, mark_ink)
+
+gap_is_gap : (b : ℕ) → (b ≡ 32) ⊎ (b ≡ 10) → IsGap (b ∷ [])
+gap_is_gap b h = grind arith
+
+inks_cons : (x : Event) (xs : List Event) → flat_map event_ink (reverse (x ∷ xs)) ≡ flat_map event_ink (reverse xs) ++ event_ink x
+inks_cons x xs = grind (arith, reverse_cons, flat_map-append, append-nil)
+
+ink_back : (r : List Stretch) → IsLegible r → EachPassed NoInk r → ink (text_back r) ≡ flat_map event_ink (reverse (events_back r))
+ink_back [] legible none = ink-nil
+ink_back (x ∷ r) legible none = grind (arith, ink_back r, text_back_cons, ink_before_gap, text_utf8, gap_is_gap, ink-append, trim_ink, inks_cons, passed_ink)
+
+-- ---- the ink of what is shown
+
+chunks_ink : (k : ℕ) (chunks : List Chunk) → flat_map event_ink (map (λ chunk. Shows k chunk) chunks) ≡ flat_map chunk_ink chunks
+chunks_ink k [] = refl
+chunks_ink k (chunk ∷ chunks) = ap (λ more. chunk_ink chunk ++ more) (chunks_ink k chunks)
+
+mark_if : (c : Bool) (b : Block) (event : Event) → event_ink event ≡ mark_bytes b → (c ≡ true → mark_bytes b ≡ []) → flat_map event_ink (if c then [] else event ∷ []) ≡ mark_bytes b
+mark_if c b event is none = grind arith
+
+-- a stack is no deeper than the marks are many
+depth_after : (j : ℕ) (ss : List Shift) (stack : List ℕ) → length (stack_after (take j ss) stack) ≤ j + length stack
+depth_after zero ss stack = omega arith
+depth_after (suc j) [] stack = omega arith
+depth_after (suc j) (Indent n ∷ ss) stack = let rest : length (stack_after (take j ss) (shifted (Indent n) stack)) ≤ j + length (shifted (Indent n) stack) = depth_after j ss (shifted (Indent n) stack) in omega arith
+depth_after (suc j) (Outdent ∷ ss) [] = let rest : length (stack_after (take j ss) []) ≤ j + 0 = depth_after j ss [] in omega arith
+depth_after (suc j) (Outdent ∷ ss) (m ∷ ms) = let rest : length (stack_after (take j ss) ms) ≤ j + length ms = depth_after j ss ms in omega arith
+depth_after (suc j) (Level ∷ ss) stack = let rest : length (stack_after (take j ss) stack) ≤ j + length stack = depth_after j ss stack in omega arith
+
+module _ (full : Bool) (document : List Part) (few : length document < 2 ^ 59) where
+  is_small : length document < 2 ^ 64
+  is_small = omega arith
+
+  few_after : (index : ℕ) (before rest : List Part) (pairs : Pairs) (hidden : ℕ) (s : Sheet) → Walk full document index before rest pairs hidden s → page.HasFewMargins s
+  few_after index before rest pairs hidden s w = grind (arith, length-reverse, depth_after, length-append)
+
+  leaves_few : (pairs : Pairs) (index : ℕ) (part : Part) (s : Sheet) → page.HasFewMargins s → whole.LeavesFew pairs index part s
+  leaves_few pairs index part s few = grind arith
+
+  keeps_few : (parts : List Part) (index : ℕ) (before : List Part) (pairs : Pairs) (hidden : ℕ) (s : Sheet) → Walk full document index before parts pairs hidden s → whole.KeepsFew full document index pairs hidden parts s
+  keeps_few [] index before pairs hidden s w = tt
+  keeps_few (part ∷ parts) index before pairs hidden s w =
+      let next : Walk full document (index + 1) (before ++ part ∷ []) parts (whole.pairs_after document index pairs part) (hidden_after full hidden part) (whole.part_put full document index pairs hidden part s) =
+      walk_part full document is_small index before parts part pairs hidden s w in (
+        leaves_few (whole.pairs_after document index pairs part) index part (whole.part_put full document index pairs hidden part s)
+            (few_after (index + 1) (before ++ part ∷ []) parts (whole.pairs_after document index pairs part) (hidden_after full hidden part) (whole.part_put full document index pairs hidden part s) next),
+        keeps_few parts (index + 1) (before ++ part ∷ []) (whole.pairs_after document index pairs part) (hidden_after full hidden part) (whole.part_put full document index pairs hidden part s) next,
+      )
+
+  part_ink_is : (index : ℕ) (before rest : List Part) (part : Part) (pairs : Pairs) (hidden : ℕ) (s : Sheet) → Walk full document index before (part ∷ rest) pairs hidden s
+      → flat_map event_ink (part_events full document index part) ≡ shown_part_ink full (take index document) part
+  part_ink_is index before rest (Text bytes style) pairs hidden s w = chunks_ink index (shown_chunks full (take index document) bytes)
+  part_ink_is index before rest (Start b) pairs hidden s w =
+      mark_if (is_skipped document index) b (Opens b) refl
+      (λ e. skips-mark_bytes (whole.pairs_at document index b pairs) index b (sym (start_skips full document is_small index before rest b pairs hidden s w ∙ e)))
+  part_ink_is index before rest (End b) pairs hidden s w =
+      mark_if (is_skipped document index) b (Closes b) refl (λ e. skips-mark_bytes pairs index b (sym (end_skips full document is_small index before rest b pairs hidden s w ∙ e)))
+
+  parts_ink : (parts : List Part) (index : ℕ) (before : List Part) (pairs : Pairs) (hidden : ℕ) (s : Sheet) → Walk full document index before parts pairs hidden s
+      → flat_map event_ink (events_from full document index parts) ≡ flat_map (λ (k, part). shown_part_ink full (take k document) part) (enumerate_from index parts)
+  parts_ink [] index before pairs hidden s w = refl
+  parts_ink (part ∷ parts) index before pairs hidden s w =
+      flat_map-append event_ink (part_events full document index part) (events_from full document (index + 1) parts)
+      ∙ ap (λ front. front ++ flat_map event_ink (events_from full document (index + 1) parts)) (part_ink_is index before parts part pairs hidden s w)
+      ∙ ap (λ more. shown_part_ink full (take index document) part ++ more)
+      (parts_ink parts (index + 1) (before ++ part ∷ []) (whole.pairs_after document index pairs part) (hidden_after full hidden part) (whole.part_put full document index pairs hidden part s)
+      (walk_part full document is_small index before parts part pairs hidden s w))
+
+  all_ink : (width : ℕ) → flat_map event_ink (shown_events full document) ≡ console_ink full document
+  all_ink width = parts_ink document 0 [] whole.no_pairs 0 (blank_sheet width (whole.tab_stop_from 0 false 0 document)) (walk_begins full document is_small width)
+
+  -- ---- the page
+
+  module _ (width : ℕ) (utf8 : HasUtf8Texts document) where
+    has_few : whole.HasFewThroughout full width document
+    has_few = keeps_few document 0 [] whole.no_pairs 0 (blank_sheet width (whole.tab_stop_from 0 false 0 document)) (walk_begins full document is_small width)
+
+    page_done : Done full document width is_small (text_is_utf8 document utf8) (whole.whole_page full width document)
+    page_done = done full document width is_small (text_is_utf8 document utf8) has_few
+
+    out_ink : ink (whole.whole_page full width document).out ≡ console_ink full document
+    out_ink = grind (arith, page_done, ink_back, written_base, written_events, reverse-reverse, all_ink)
+
+    page_ink : ink (console_text full width document) ≡ console_ink full document
+    page_ink = grind (arith, page_done, text_utf8, ink_before_gap, out_ink)
+
+    page_layout : IsLayout document full width (console_page full width document)
+    page_layout = grind (arith, text-page, is_small, console_layout, text_is_utf8, has_few, page_ink)
+
+pub exact_page_is_layout : IsExactPageLayout
+exact_page_is_layout full width document utf8 few = page_layout full document few width utf8

@@ -1,23 +1,27 @@
 -- Each step of the exact page is a step of the console's rules.
-use Rattle.std.specs.Prelude.{◌≡◌, ◌≢◌, ℕ, zero, suc, ◌+◌, ◌-◌, ◌<◌, ◌≤◌, true, false, ◌&&◌, ◌==◌, List, [], ◌∷◌, ◌++◌, length, take, replicate, codes, refl, ◌⊎◌, IsUtf8, nat_eq, nat_lt, nat_le}
+use Rattle.std.specs.Prelude.{◌≡◌, ℕ, zero, suc, ◌+◌, ◌-◌, ◌<◌, ◌≤◌, Bool, true, false, not, ◌&&◌, ◌==◌, List, [], ◌∷◌, ◌++◌, length, take, replicate, refl, ◌⊎◌, IsUtf8, nat_eq, nat_lt, nat_le, if◌then◌else◌, ◌||◌, reverse, slice_get, Option, Some}
 use Rattle.std.specs.List.{ends_with}
-use Rattle.std.specs.Str.{trim_end, bytes_eq}
+use Rattle.std.specs.Str.{bytes_eq}
 use Rattle.std.proofs.Common.{sym, subst, ap, arith, inl, inr, ◌∙◌, append_assoc}
-use Rattle.std.proofs.lemmas.List.{append-nil, nil_from_length, same_from_push}
+use Rattle.std.proofs.lemmas.List.{append-nil, nil_from_length, same_from_push, reverse-append, length-reverse}
 use Rattle.std.proofs.lemmas.Grind.{replicate_next}
 use Rattle.std.proofs.lemmas.Slice.Eq.{ends_is, bytes_eq-Decides}
-use Rattle.std.proofs.lemmas.Bool.{cases_lt, eqb-true, and_parts}
+use Rattle.std.proofs.lemmas.Bool.{cases_lt, eqb-true, and_parts, not-true, not-false}
 use Rattle.std.proofs.lemmas.Bool.Decides.{nat_tests, Decides-eqb}
+use Rattle.std.proofs.Math.Bool.{and-true, and-false, or-false, or-true}
 use Rattle.bpaf_doc.specs.declared.console.page.Asked.{Asked}
 use Rattle.bpaf_doc.specs.declared.console.page.Asked.TheVariants.{Nothing, NewLine, BlankLine}
-use Rattle.bpaf_doc.specs.Splitter.Chunks.{Raw, IsLine, columns}
-use Rattle.bpaf_doc.specs.Console.Layout.{Shows, Stretch, Gap, Placed, Passed}
+use Rattle.bpaf_doc.specs.Splitter.Chunks.{IsLine, columns}
+use Rattle.bpaf_doc.specs.Console.Layout.{Stretch, Gap, Placed, Event, Opens, Closes, event_bytes}
 use Rattle.bpaf_doc.specs.Console.Steps.Page as page
 use Rattle.bpaf_doc.specs.Console.Steps.Page.{Sheet}
-use Rattle.bpaf_doc.proofs.lemmas.Console.Layout.State.{State, Piece, Lines, none_asked, line_there, line_put, blank_there, second_put, both_put, first, stays, wraps, Places, places, drops, Pads, to_margin, after_term, IsPut, sat, padded, trimmed, put, wrapped, dropped, spaced, on_new_line, has_text, ends_line, ends_blank, IsLegible}
-use Rattle.bpaf_doc.proofs.lemmas.Console.Layout.Back.{by_cases, by_padded}
+use Rattle.bpaf_doc.specs.declared.buffer.Block.{Block}
+use Rattle.bpaf_doc.specs.Shown.{mark_bytes}
+use Rattle.bpaf_doc.proofs.lemmas.Console.Layout.State.{State, Piece, Lines, none_asked, line_there, line_put, blank_there, second_put, both_put, Begins, first, stays, wraps, Places, places, drops, Pads, to_margin, IsPut, sat, padded, put, wrapped, dropped, spaced, on_new_line, has_text, ends_line, ends_blank, IsLegible, passed, asked_after, pending_after, at_least_line}
+use Rattle.bpaf_doc.proofs.lemmas.Console.Layout.Back.{by_cases, by_test, by_padded}
 use Rattle.bpaf_doc.proofs.lemmas.Console.Layout.Blank.{text_back, text_back_cons}
 use Rattle.bpaf_doc.proofs.lemmas.Console.Layout.Stretches.{no_text, some_text, text_ends_line, text_ends_blank, trim_text, legible_trimmed}
+use Rattle.bpaf_doc.proofs.lemmas.Console.Margins.{top, popped}
 
 -- ---- the exact page looks as it grew by the rules
 
@@ -31,26 +35,10 @@ pub record Draws (s : Sheet) (st : State) : Type 0 where
   pub fits : s.column ≤ 18446744073709551615
 
 pub draws_newline : (s : Sheet) (st : State) → Draws s st → Draws (page.newline_put s) (on_new_line st)
-draws_newline s st d = record {
-  bytes = ap (λ bs. bs ++ 10 ∷ []) d.bytes ∙ sym (text_back_cons (Gap 10) st.back);
-  column = refl;
-  asked = d.asked;
-  body = d.body;
-  margin = d.margin;
-  legible = (inr refl, d.legible);
-  fits = omega arith;
-}
+draws_newline s st d = grind (arith, text_back_cons)
 
 draws_second : (s : Sheet) (st : State) → Draws s st → Draws (record s { out = s.out ++ 10 ∷ [] }) (record st { back = Gap 10 ∷ st.back })
-draws_second s st d = record {
-  bytes = ap (λ bs. bs ++ 10 ∷ []) d.bytes ∙ sym (text_back_cons (Gap 10) st.back);
-  column = d.column;
-  asked = d.asked;
-  body = d.body;
-  margin = d.margin;
-  legible = (inr refl, d.legible);
-  fits = d.fits;
-}
+draws_second s st d = grind (arith, text_back_cons)
 
 text_padded : (n : ℕ) (r : List Stretch) → text_back (padded n r) ≡ text_back r ++ replicate n 32
 text_padded zero r = sym (append-nil (text_back r))
@@ -72,15 +60,7 @@ draws_spaced n s st d = record {
 }
 
 draws_wrapped : (s : Sheet) (st : State) → Draws s st → Draws (page.wrapped s) (wrapped st)
-draws_wrapped s st d = record {
-  bytes = ap (λ bs. bs ++ 10 ∷ []) (ap trim_end d.bytes ∙ trim_text st.back d.legible) ∙ sym (text_back_cons (Gap 10) (trimmed st.back));
-  column = refl;
-  asked = d.asked;
-  body = d.body;
-  margin = d.margin;
-  legible = (inr refl, legible_trimmed st.back d.legible);
-  fits = omega arith;
-}
+draws_wrapped s st d = grind (arith, trim_text, text_back_cons, legible_trimmed)
 
 -- ---- what is asked for
 
@@ -106,59 +86,25 @@ one_before text h =
     let found : (front : List ℕ) × (text ++ 10 ∷ [] ≡ front ++ 10 ∷ 10 ∷ []) = ends_front (10 ∷ 10 ∷ []) (text ++ 10 ∷ []) h in
     ends_when (10 ∷ []) text found.0 (same_from_push text (found.0 ++ 10 ∷ []) 10 10 (found.1 ∙ sym (append_assoc found.0 (10 ∷ []) (10 ∷ [])))).0
 
-abbrev pub LinesTo : Sheet → State → Sheet → Type 0
-LinesTo s st t = (mid : State) × Lines st mid × Draws t mid
+abbrev pub LinesTo : State → Sheet → Type 0
+LinesTo st t = (mid : State) × Lines st mid × Draws t mid
 
-pub lines_put : (s : Sheet) (st : State) → Draws s st → LinesTo s st (page.asked_put s)
-lines_put s st d = at s.asks refl where
-  with_asks : (a : Asked) → s.asks ≡ a → st.asked ≡ a
-  with_asks a e = sym d.asked ∙ e
-
-  same : (t : Sheet) → page.asked_put s ≡ t → LinesTo s st t → LinesTo s st (page.asked_put s)
-  same t e l = subst (λ (x : Sheet). LinesTo s st x) (sym e) l
-
-  is_nothing : s.asks ≡ Nothing → page.asked_put s ≡ s
-  is_nothing e = rw e refl
-
-  is_line_there : s.asks ≡ NewLine → ends_with nat_eq s.out (10 ∷ []) ≡ true → page.asked_put s ≡ s
-  is_line_there e h = rw (e, h) refl
-
-  is_line_put : s.asks ≡ NewLine → ends_with nat_eq s.out (10 ∷ []) ≡ false → page.asked_put s ≡ page.newline_put s
-  is_line_put e h = rw (e, h) refl
-
-  at : (a : Asked) → s.asks ≡ a → LinesTo s st (page.asked_put s)
-  at Nothing e = same s (is_nothing e) (st, none_asked (with_asks Nothing e) refl, d)
-  at NewLine e = line (by_cases (ends_with nat_eq s.out (10 ∷ []))) where
-    line : (ends_with nat_eq s.out (10 ∷ []) ≡ true) ⊎ (ends_with nat_eq s.out (10 ∷ []) ≡ false) → LinesTo s st (page.asked_put s)
-    line (inl h) = same s (is_line_there e h) (st, line_there (with_asks NewLine e) (draws_line s st d h) refl, d)
-    line (inr h) = same (page.newline_put s) (is_line_put e h) (on_new_line st, line_put (with_asks NewLine e) refl, draws_newline s st d)
-  at BlankLine e = line (by_cases (ends_with nat_eq s.out (10 ∷ []))) where
-    is_there : ends_with nat_eq s.out (10 ∷ []) ≡ true → ends_with nat_eq s.out (10 ∷ 10 ∷ []) ≡ true → page.asked_put s ≡ s
-    is_there h k = rw (e, h, k) refl
-
-    is_second : ends_with nat_eq s.out (10 ∷ []) ≡ true → ends_with nat_eq s.out (10 ∷ 10 ∷ []) ≡ false → page.asked_put s ≡ record s { out = s.out ++ 10 ∷ [] }
-    is_second h k = rw (e, h, k) refl
-
-    is_both : ends_with nat_eq s.out (10 ∷ []) ≡ false → ends_with nat_eq (s.out ++ 10 ∷ []) (10 ∷ 10 ∷ []) ≡ false
-        → page.asked_put s ≡ record (page.newline_put s) { out = (s.out ++ 10 ∷ []) ++ 10 ∷ [] }
-    is_both h k = rw (e, h, k) refl
-
-    blank : ends_with nat_eq s.out (10 ∷ []) ≡ true → (ends_with nat_eq s.out (10 ∷ 10 ∷ []) ≡ true) ⊎ (ends_with nat_eq s.out (10 ∷ 10 ∷ []) ≡ false) → LinesTo s st (page.asked_put s)
-    blank h (inl k) = same s (is_there h k) (st, blank_there (with_asks BlankLine e) (draws_blank s st d k) refl, d)
-    blank h (inr k) =
-        same (record s { out = s.out ++ 10 ∷ [] }) (is_second h k)
-        (record st { back = Gap 10 ∷ st.back }, second_put (with_asks BlankLine e) (draws_line s st d h) refl, draws_second s st d)
-
-    fresh : ends_with nat_eq s.out (10 ∷ []) ≡ false → (ends_with nat_eq (s.out ++ 10 ∷ []) (10 ∷ 10 ∷ []) ≡ true) ⊎ (ends_with nat_eq (s.out ++ 10 ∷ []) (10 ∷ 10 ∷ []) ≡ false)
-        → LinesTo s st (page.asked_put s)
-    fresh h (inl k) = let yes : ends_with nat_eq s.out (10 ∷ []) ≡ true = one_before s.out k in absurd (let no : true ≡ false = sym yes ∙ h in cc)
-    fresh h (inr k) =
-        same (record (page.newline_put s) { out = (s.out ++ 10 ∷ []) ++ 10 ∷ [] }) (is_both h k)
-        (on_new_line (on_new_line st), both_put (with_asks BlankLine e) refl, draws_second (page.newline_put s) (on_new_line st) (draws_newline s st d))
-
-    line : (ends_with nat_eq s.out (10 ∷ []) ≡ true) ⊎ (ends_with nat_eq s.out (10 ∷ []) ≡ false) → LinesTo s st (page.asked_put s)
-    line (inl h) = blank h (by_cases (ends_with nat_eq s.out (10 ∷ 10 ∷ [])))
-    line (inr h) = fresh h (by_cases (ends_with nat_eq (s.out ++ 10 ∷ []) (10 ∷ 10 ∷ [])))
+pub lines_put : (s : Sheet) (st : State) → Draws s st → LinesTo st (page.asked_put s)
+lines_put s st d = at s.asks d where
+  at : (a : Asked) → Draws (record s { asks = a }) st → LinesTo st (page.asked_put (record s { asks = a }))
+  at Nothing d = (st, none_asked (sym d.asked) refl, d)
+  at NewLine d =
+      by_test (λ x. LinesTo st (page.asked_blank_line_put x)) (not (ends_with nat_eq s.out (10 ∷ []))) _ _
+      (λ h. (on_new_line st, line_put (sym d.asked) refl, draws_newline (record s { asks = NewLine }) st d))
+      (λ h. (st, line_there (sym d.asked) (draws_line (record s { asks = NewLine }) st d (not-false (ends_with nat_eq s.out (10 ∷ [])) h)) refl, d))
+  at BlankLine d =
+      by_test (λ x. LinesTo st (page.asked_blank_line_put x)) (not (ends_with nat_eq s.out (10 ∷ []))) _ _
+      (λ h. by_test (LinesTo st) (not (ends_with nat_eq (s.out ++ 10 ∷ []) (10 ∷ 10 ∷ []))) _ _
+      (λ k. (on_new_line (on_new_line st), both_put (sym d.asked) refl, draws_second (page.newline_put (record s { asks = BlankLine })) (on_new_line st) (draws_newline (record s { asks = BlankLine }) st d)))
+      (λ k. absurd (let one : ends_with nat_eq s.out (10 ∷ []) ≡ true = one_before s.out (not-false (ends_with nat_eq (s.out ++ 10 ∷ []) (10 ∷ 10 ∷ [])) k) in let no : true ≡ false = sym one ∙ not-true (ends_with nat_eq s.out (10 ∷ [])) h in cc)))
+      (λ h. by_test (LinesTo st) (not (ends_with nat_eq s.out (10 ∷ 10 ∷ []))) _ _
+      (λ k. (record st { back = Gap 10 ∷ st.back }, second_put (sym d.asked) (draws_line (record s { asks = BlankLine }) st d (not-false (ends_with nat_eq s.out (10 ∷ [])) h)) refl, draws_second (record s { asks = BlankLine }) st d))
+      (λ k. (st, blank_there (sym d.asked) (draws_blank (record s { asks = BlankLine }) st d (not-false (ends_with nat_eq s.out (10 ∷ 10 ∷ [])) k)) refl, d)))
 
 -- ---- a chunk
 
@@ -169,60 +115,35 @@ padded_more (suc a) b r = let e : suc a + b ≡ suc (a + b) = omega arith in ap 
 spaced_more : (a b : ℕ) (st : State) → spaced a (spaced b st) ≡ spaced (a + b) st
 spaced_more a b st = grind (arith, padded_more)
 
-abbrev pub SpacesTo : Sheet → State → Sheet → Type 0
-SpacesTo s st t = (n : ℕ) × Pads st n × Draws t (spaced n st)
+abbrev pub SpacesTo : State → Sheet → Type 0
+SpacesTo st t = (n : ℕ) × Pads st n × Draws t (spaced n st)
 
-spaces_put : (s : Sheet) (st : State) → Draws s st → SpacesTo s st (page.padded s)
-spaces_put s st d = at (by_cases (s.at_body && nat_le 28 (sat (s.column + (page.margin_of s - s.column))))) (cases_lt (page.margin_of s - s.column) 2) where
-  missing : ℕ
-  missing = page.margin_of s - s.column
+spaces_put : (s : Sheet) (st : State) → Draws s st → SpacesTo st (page.padded s)
+spaces_put s st d = at (page.margin_of s - s.column) refl where
+  pads : (m : ℕ) → m ≡ st.margin - st.column → (s.at_body && nat_le 28 (sat (s.column + m))) ≡ true → (m < 2) ⊎ (2 ≤ m) → Pads st (2 - m + m)
+  pads m is h (inl l) = grind (arith, nat_tests, and_parts)
+  pads m is h (inr l) = to_margin (omega arith)
 
-  margin : page.margin_of s ≡ st.margin
-  margin = d.margin
-
-  column : s.column ≡ st.column
-  column = d.column
-
-  plain : (s.at_body && nat_le 28 (sat (s.column + (page.margin_of s - s.column)))) ≡ false → page.padded s ≡ page.blanks_put (page.margin_of s - s.column) s
-  plain h = rw h refl
-
-  two : (s.at_body && nat_le 28 (sat (s.column + (page.margin_of s - s.column)))) ≡ true
-      → page.padded s ≡ page.blanks_put (2 - (page.margin_of s - s.column)) (page.blanks_put (page.margin_of s - s.column) s)
-  two h = rw h refl
-
-  draws_two : Draws (page.blanks_put (2 - (page.margin_of s - s.column)) (page.blanks_put (page.margin_of s - s.column) s))
-      (spaced (2 - (page.margin_of s - s.column)) (spaced (page.margin_of s - s.column) st))
-  draws_two = draws_spaced (2 - (page.margin_of s - s.column)) (page.blanks_put (page.margin_of s - s.column) s) (spaced (page.margin_of s - s.column) st) (draws_spaced (page.margin_of s - s.column) s st d)
-
-  at : ((s.at_body && nat_le 28 (sat (s.column + (page.margin_of s - s.column)))) ≡ true) ⊎ ((s.at_body && nat_le 28 (sat (s.column + (page.margin_of s - s.column)))) ≡ false)
-      → (page.margin_of s - s.column < 2) ⊎ (2 ≤ page.margin_of s - s.column) → SpacesTo s st (page.padded s)
-  at (inr h) l =
-      (page.margin_of s - s.column, to_margin (omega arith), subst (λ (t : Sheet). Draws t (spaced (page.margin_of s - s.column) st)) (sym (plain h)) (draws_spaced (page.margin_of s - s.column) s st d))
-  at (inl h) (inl l) =
-      let far : 28 ≤ sat (s.column + (page.margin_of s - s.column)) = grind (arith, nat_tests) in
-      let pending : st.pending ≡ true = sym d.body ∙ (and_parts s.at_body _ h).0 in
-      let sum : 2 - (page.margin_of s - s.column) + (page.margin_of s - s.column) ≡ 2 = omega arith in (
-        2,
-        after_term pending (omega arith) (omega arith) refl,
-        subst (λ (t : Sheet). Draws t (spaced 2 st)) (sym (two h))
-            (subst (λ (x : State). Draws (page.blanks_put (2 - (page.margin_of s - s.column)) (page.blanks_put (page.margin_of s - s.column) s)) x)
-            (spaced_more (2 - (page.margin_of s - s.column)) (page.margin_of s - s.column) st ∙ ap (λ (n : ℕ). spaced n st) sum) draws_two),
-      )
-  at (inl h) (inr l) =
-      let sum : 2 - (page.margin_of s - s.column) + (page.margin_of s - s.column) ≡ page.margin_of s - s.column = omega arith in (
-        page.margin_of s - s.column,
-        to_margin (omega arith),
-        subst (λ (t : Sheet). Draws t (spaced (page.margin_of s - s.column) st)) (sym (two h))
-            (subst (λ (x : State). Draws (page.blanks_put (2 - (page.margin_of s - s.column)) (page.blanks_put (page.margin_of s - s.column) s)) x)
-            (spaced_more (2 - (page.margin_of s - s.column)) (page.margin_of s - s.column) st ∙ ap (λ (n : ℕ). spaced n st) sum) draws_two),
-      )
+  at : (m : ℕ) → m ≡ page.margin_of s - s.column → SpacesTo st (page.body_padded m (page.blanks_put m s))
+  at m missing =
+      let margin : page.margin_of s ≡ st.margin = d.margin in
+      let column : s.column ≡ st.column = d.column in
+      let is : m ≡ st.margin - st.column = omega arith in
+      by_test (SpacesTo st) (s.at_body && nat_le 28 (sat (s.column + m))) _ _
+      (λ h. (
+        2 - m + m,
+        pads m is h (cases_lt m 2),
+        subst (Draws (page.blanks_put (2 - m) (page.blanks_put m s))) (spaced_more (2 - m) m st)
+            (draws_spaced (2 - m) (page.blanks_put m s) (spaced m st) (draws_spaced m s st d)),
+      ))
+      (λ h. (m, to_margin is, draws_spaced m s st d))
 
 abbrev pub PlacedTo : Piece → State → Sheet → Type 0
 PlacedTo p st t = (after : State) × IsPut p st after × Draws t after
 
 put_placed : (p : Piece) (s : Sheet) (st : State) → IsUtf8 p.bytes → IsLine p.bytes → Draws s st → PlacedTo p st (page.placed p.bytes p.weight s)
 put_placed p s st u l d =
-    let spaces : SpacesTo s st (page.padded s) = spaces_put s st d in
+    let spaces : SpacesTo st (page.padded s) = spaces_put s st d in
     let column : sat (sat (st.column + spaces.0) + p.weight) ≡ sat (st.column + spaces.0 + p.weight) = omega arith in (
       put spaces.0 p.part p.bytes p.weight st,
       (spaces.0, spaces.1, refl),
@@ -238,15 +159,7 @@ put_placed p s st u l d =
     )
 
 draws_dropped : (p : Piece) (s : Sheet) (st : State) → Draws s st → Draws s (dropped p.part p.bytes p.weight st)
-draws_dropped p s st d = record {
-  bytes = d.bytes ∙ sym (text_back_cons (Passed (Shows p.part (Raw p.bytes p.weight))) st.back ∙ append-nil (text_back st.back));
-  column = d.column;
-  asked = d.asked;
-  body = d.body;
-  margin = d.margin;
-  legible = d.legible;
-  fits = d.fits;
-}
+draws_dropped p s st d = grind (arith, text_back_cons, append-nil)
 
 -- a chunk weighs its columns, unless it is a line of code
 abbrev pub IsWeighed : Piece → Type 0
@@ -255,89 +168,121 @@ IsWeighed p = p.weight < 1_000_000 → p.weight ≡ columns p.bytes
 pub columns_is : (p : Piece) → IsWeighed p → page.columns_of p.bytes p.weight ≡ columns p.bytes
 columns_is p h = elim (by_cases (nat_lt p.weight 1000000)) [ inl t ↦ rw t (h (grind (arith, nat_tests))) | inr t ↦ rw t refl ]
 
+-- the cases of a Raw chunk, in the order of the rules
+pub raw_cases : (empty wide blank : Bool) (s a w : Sheet) (put : Sheet → Sheet)
+    → (if (not empty && wide) && blank then (if empty then s else if wide then w else a) else put (if empty then s else if wide then w else a))
+    ≡ (if empty then put s else if wide then (if blank then w else put w) else put a)
+raw_cases empty wide blank s a w put = grind arith
+
 abbrev pub RawTo : ℕ → Piece → State → Sheet → Type 0
 RawTo width p st t = (after : State) × Places width st p after × Draws t after
 
 pub raw_placed : (p : Piece) (s : Sheet) (st : State) → IsUtf8 p.bytes → IsLine p.bytes → IsWeighed p → Draws s st → RawTo s.width p st (page.raw_put p.bytes p.weight s)
 unfolding page.raw_put
-raw_placed p s st u l weighed d = at (by_cases (length s.out == 0)) where
-  more : ℕ
-  more = page.columns_of p.bytes p.weight
+raw_placed p s st u l weighed d =
+    subst (RawTo s.width p st) (sym (raw_cases (length s.out == 0) (page.is_too_wide (page.columns_of p.bytes p.weight) (page.asked_put s)) (bytes_eq p.bytes (32 ∷ [])) s (page.asked_put s) (page.wrapped (page.asked_put s)) (page.placed p.bytes p.weight)))
+    (by_test (RawTo s.width p st) (length s.out == 0) _ _ (λ h. on s st d (first (empty h) refl))
+    (λ h. by_test (RawTo s.width p st) (page.is_too_wide (page.columns_of p.bytes p.weight) (page.asked_put s)) _ _
+    (λ k. by_test (RawTo s.width p st) (bytes_eq p.bytes (32 ∷ [])) _ _
+    (λ b. (dropped p.part p.bytes p.weight (wrapped lines.0), drops (some h) lines.0 lines.1 (over k) ((bytes_eq-Decides p.bytes (32 ∷ [])).0 b) refl, draws_dropped p (page.wrapped (page.asked_put s)) (wrapped lines.0) turned))
+    (λ b. on (page.wrapped (page.asked_put s)) (wrapped lines.0) turned (wraps (some h) lines.0 lines.1 (over k) (λ e. let no : true ≡ false = sym ((bytes_eq-Decides p.bytes (32 ∷ [])).1 e) ∙ b in cc) refl)))
+    (λ k. on (page.asked_put s) lines.0 lines.2 (stays (some h) lines.1 (under k))))) where
+      same_columns : page.columns_of p.bytes p.weight ≡ columns p.bytes
+      same_columns = columns_is p weighed
 
-  same_columns : page.columns_of p.bytes p.weight ≡ columns p.bytes
-  same_columns = columns_is p weighed
+      empty : (length s.out == 0) ≡ true → has_text st.back ≡ false
+      empty h = elim (by_cases (has_text st.back)) [ inl t ↦ absurd (some_text st.back t (sym d.bytes ∙ nil_from_length s.out (eqb-true (length s.out) 0 h))) | inr t ↦ t ]
 
-  fits : (n : ℕ) → nat_lt s.width n ≡ false → n ≤ s.width
-  fits n h = grind (arith, nat_tests)
+      some : (length s.out == 0) ≡ false → has_text st.back ≡ true
+      some h = elim (by_cases (has_text st.back)) [ inl t ↦ t | inr t ↦ absurd (let none : length s.out ≡ 0 = ap length (d.bytes ∙ no_text st.back t) in grind (arith, nat_tests)) ]
 
-  full : (n : ℕ) → nat_lt s.width n ≡ true → s.width < n
-  full n h = grind (arith, nat_tests)
+      lines : LinesTo st (page.asked_put s)
+      lines = lines_put s st d
 
-  some_length : (n : ℕ) → (n == 0) ≡ false → n ≡ 0 → ⊥
-  some_length n h e = grind (arith, nat_tests)
+      same_width : (page.asked_put s).width ≡ s.width
+      same_width = grind arith
 
-  move : (t : Sheet) → page.raw_put p.bytes p.weight s ≡ t → RawTo s.width p st t → RawTo s.width p st (page.raw_put p.bytes p.weight s)
-  move t e r = subst (λ (x : Sheet). RawTo s.width p st x) (sym e) r
+      column : (page.asked_put s).column ≡ lines.0.column
+      column = lines.2.column
 
-  empty : (length s.out == 0) ≡ true → has_text st.back ≡ false
-  empty h = elim (by_cases (has_text st.back)) [ inl t ↦ absurd (some_text st.back t (sym d.bytes ∙ nil_from_length s.out (eqb-true (length s.out) 0 h))) | inr t ↦ t ]
+      over : page.is_too_wide (page.columns_of p.bytes p.weight) (page.asked_put s) ≡ true → s.width < sat (lines.0.column + columns p.bytes)
+      over k = grind (arith, column, nat_tests)
 
-  some : (length s.out == 0) ≡ false → has_text st.back ≡ true
-  some h = elim (by_cases (has_text st.back)) [ inl t ↦ t | inr t ↦ absurd (some_length (length s.out) h (ap length (d.bytes ∙ no_text st.back t))) ]
+      under : page.is_too_wide (page.columns_of p.bytes p.weight) (page.asked_put s) ≡ false → sat (lines.0.column + columns p.bytes) ≤ s.width
+      under k = grind (arith, column, nat_tests)
 
-  lines : LinesTo s st (page.asked_put s)
-  lines = lines_put s st d
+      turned : Draws (page.wrapped (page.asked_put s)) (wrapped lines.0)
+      turned = draws_wrapped (page.asked_put s) lines.0 lines.2
 
-  same_width : (page.asked_put s).width ≡ s.width
-  same_width = grind arith
+      -- where it is placed
+      on : (t : Sheet) (base : State) → Draws t base → Begins s.width st p base → RawTo s.width p st (page.placed p.bytes p.weight t)
+      on t base drawn begins = let placed : PlacedTo p base (page.placed p.bytes p.weight t) = put_placed p t base u l drawn in (placed.0, places base placed.1.0 begins placed.1.1 placed.1.2, placed.2)
 
-  is_first : (length s.out == 0) ≡ true → page.raw_put p.bytes p.weight s ≡ page.placed p.bytes p.weight s
-  is_first h = rw h refl
+-- ---- the marks of a document, and the stack of margins
 
-  is_here : (length s.out == 0) ≡ false → page.is_too_wide (page.columns_of p.bytes p.weight) (page.asked_put s) ≡ false
-      → page.raw_put p.bytes p.weight s ≡ page.placed p.bytes p.weight (page.asked_put s)
-  is_here h k = rw (h, k) refl
+same_asked : (a : Asked) → page.new_line_asked a ≡ at_least_line a
+same_asked a = grind arith
 
-  is_dropped : (length s.out == 0) ≡ false → page.is_too_wide (page.columns_of p.bytes p.weight) (page.asked_put s) ≡ true → bytes_eq p.bytes (32 ∷ []) ≡ true
-      → page.raw_put p.bytes p.weight s ≡ page.wrapped (page.asked_put s)
-  is_dropped h k b = rw (h, k, b) refl
+start_asked : (a : Asked) (b : Block) → page.asked_by_start a b ≡ asked_after (Opens b) a
+start_asked a b = grind (arith, same_asked)
 
-  is_wrapped : (length s.out == 0) ≡ false → page.is_too_wide (page.columns_of p.bytes p.weight) (page.asked_put s) ≡ true → bytes_eq p.bytes (32 ∷ []) ≡ false
-      → page.raw_put p.bytes p.weight s ≡ page.placed p.bytes p.weight (page.wrapped (page.asked_put s))
-  is_wrapped h k b = rw (h, k, b) refl
+end_asked : (a : Asked) (b : Block) → page.asked_by_end a b ≡ asked_after (Closes b) a
+end_asked a b = grind arith
 
-  at : ((length s.out == 0) ≡ true) ⊎ ((length s.out == 0) ≡ false) → RawTo s.width p st (page.raw_put p.bytes p.weight s)
-  at (inl h) =
-      let placed : PlacedTo p st (page.placed p.bytes p.weight s) = put_placed p s st u l d in
-      move (page.placed p.bytes p.weight s) (is_first h) (placed.0, places st placed.1.0 (first (empty h) refl) placed.1.1 placed.1.2, placed.2)
-  at (inr h) = room (by_cases (page.is_too_wide (page.columns_of p.bytes p.weight) (page.asked_put s))) where
-    column : (page.asked_put s).column ≡ lines.0.column
-    column = lines.2.column
+start_body : (p : Bool) (b : Block) → (p || page.is_body b) ≡ pending_after (Opens b) p
+start_body p b = grind (arith, or-true, or-false)
 
-    over : page.is_too_wide (page.columns_of p.bytes p.weight) (page.asked_put s) ≡ true → s.width < sat (lines.0.column + columns p.bytes)
-    over k = grind (arith, column, nat_tests)
+end_body : (p : Bool) (b : Block) → (p && not (page.is_body b)) ≡ pending_after (Closes b) p
+end_body p b = grind (arith, and-false, and-true)
 
-    under : page.is_too_wide (page.columns_of p.bytes p.weight) (page.asked_put s) ≡ false → sat (lines.0.column + columns p.bytes) ≤ s.width
-    under k = grind (arith, column, nat_tests)
+-- the backquote of a term reference, over a sheet that differs from the page only in what a mark changes
+draws_marked : (event : Event) (b : Block) (s : Sheet) (st : State) → event_bytes event ≡ mark_bytes b → s.out ≡ text_back st.back → s.column ≡ st.column → s.column ≤ 18446744073709551615
+    → s.asks ≡ asked_after event st.asked → s.at_body ≡ pending_after event st.pending → IsLegible st.back → Draws (page.marked b s) (passed event (page.margin_of (page.marked b s)) st)
+draws_marked event b s st e o c l a p g = grind (arith, by_test, text_back_cons, append-nil)
 
-    turned : Draws (page.wrapped (page.asked_put s)) (wrapped lines.0)
-    turned = draws_wrapped (page.asked_put s) lines.0 lines.2
+-- pushing a margin changes nothing else
+record SameButMargins (s t : Sheet) : Type 0 where
+  out : t.out ≡ s.out
+  column : t.column ≡ s.column
+  asks : t.asks ≡ s.asks
+  at_body : t.at_body ≡ s.at_body
+  width : t.width ≡ s.width
+  tab_stop : t.tab_stop ≡ s.tab_stop
 
-    wide : page.is_too_wide (page.columns_of p.bytes p.weight) (page.asked_put s) ≡ true → (bytes_eq p.bytes (32 ∷ []) ≡ true) ⊎ (bytes_eq p.bytes (32 ∷ []) ≡ false)
-        → RawTo s.width p st (page.raw_put p.bytes p.weight s)
-    wide k (inl b) =
-        move (page.wrapped (page.asked_put s)) (is_dropped h k b)
-        (dropped p.part p.bytes p.weight (wrapped lines.0), drops (some h) lines.0 lines.1 (over k) ((bytes_eq-Decides p.bytes (32 ∷ [])).0 b) refl, draws_dropped p (page.wrapped (page.asked_put s)) (wrapped lines.0) turned)
-    wide k (inr b) =
-        let placed : PlacedTo p (wrapped lines.0) (page.placed p.bytes p.weight (page.wrapped (page.asked_put s))) = put_placed p (page.wrapped (page.asked_put s)) (wrapped lines.0) u l turned in
-        let other : p.bytes ≢ codes " " = λ e. let yes : bytes_eq p.bytes (32 ∷ []) ≡ true = (bytes_eq-Decides p.bytes (32 ∷ [])).1 e in let no : true ≡ false = sym yes ∙ b in cc in
-        move (page.placed p.bytes p.weight (page.wrapped (page.asked_put s))) (is_wrapped h k b)
-        (placed.0, places (wrapped lines.0) placed.1.0 (wraps (some h) lines.0 lines.1 (over k) other refl) placed.1.1 placed.1.2, placed.2)
+pushed_same : (indent : Option ℕ) (s : Sheet) → SameButMargins s (page.margin_pushed indent s)
+pushed_same indent s = grind arith
 
-    room : (page.is_too_wide (page.columns_of p.bytes p.weight) (page.asked_put s) ≡ true) ⊎ (page.is_too_wide (page.columns_of p.bytes p.weight) (page.asked_put s) ≡ false)
-        → RawTo s.width p st (page.raw_put p.bytes p.weight s)
-    room (inl k) = wide k (by_cases (bytes_eq p.bytes (32 ∷ [])))
-    room (inr k) =
-        let placed : PlacedTo p lines.0 (page.placed p.bytes p.weight (page.asked_put s)) = put_placed p (page.asked_put s) lines.0 u l lines.2 in
-        move (page.placed p.bytes p.weight (page.asked_put s)) (is_here h k)
-        (placed.0, places lines.0 placed.1.0 (stays (some h) lines.1 (under k)) placed.1.1 placed.1.2, placed.2)
+pub draws_opened : (b : Block) (adjacent : Bool) (s : Sheet) (st : State) → Draws s st → Draws (page.opened b adjacent s) (passed (Opens b) (page.margin_of (page.opened b adjacent s)) st)
+unfolding page.opened
+draws_opened b adjacent s st d = grind (arith, pushed_same, draws_marked, start_asked, start_body)
+
+pub draws_closed : (b : Block) (s : Sheet) (st : State) → Draws s st → Draws (page.closed b s) (passed (Closes b) (page.margin_of (page.closed b s)) st)
+unfolding page.closed
+draws_closed b s st d =
+    draws_marked (Closes b) b (record s { margins = take (length s.margins - 1) s.margins; asks = page.asked_by_end s.asks b; at_body = s.at_body && not (page.is_body b) }) st refl
+    d.bytes d.column d.fits (ap (λ (a : Asked). page.asked_by_end a b) d.asked ∙ end_asked st.asked b) (ap (λ (p : Bool). p && not (page.is_body b)) d.body ∙ end_body st.pending b) d.legible
+
+-- ---- the stack, newest first
+
+get_last : (xs : List ℕ) (m : ℕ) → slice_get (xs ++ m ∷ []) (length xs) ≡ Some m
+get_last [] m = refl
+get_last (x ∷ xs) m = get_last xs m
+
+turned : (m : ℕ) (ms : List ℕ) → reverse (m ∷ ms) ≡ reverse ms ++ m ∷ []
+turned m ms = reverse-append (m ∷ []) ms
+
+length_turned : (m : ℕ) (ms : List ℕ) → length (reverse (m ∷ ms)) - 1 ≡ length (reverse ms)
+length_turned m ms = let a : length (reverse (m ∷ ms)) ≡ length (m ∷ ms) = length-reverse (m ∷ ms) in let b : length (reverse ms) ≡ length ms = length-reverse ms in omega arith
+
+pub top_innermost : (s : Sheet) (stack : List ℕ) → s.margins ≡ reverse stack → page.innermost s ≡ top stack
+top_innermost s stack e = grind (arith, length_turned, turned, get_last)
+
+take_front : (xs : List ℕ) (m : ℕ) → take (length xs) (xs ++ m ∷ []) ≡ xs
+take_front [] m = refl
+take_front (x ∷ xs) m = ap (λ ys. x ∷ ys) (take_front xs m)
+
+pub popped_margins : (margins stack : List ℕ) → margins ≡ reverse stack → take (length margins - 1) margins ≡ reverse (popped stack)
+popped_margins margins stack e = grind (arith, length_turned, turned, take_front)
+
+pub pushed_margins : (margins stack : List ℕ) (m : ℕ) → margins ≡ reverse stack → margins ++ m ∷ [] ≡ reverse (m ∷ stack)
+pushed_margins margins stack m e = ap (λ (xs : List ℕ). xs ++ m ∷ []) e ∙ sym (turned m stack)

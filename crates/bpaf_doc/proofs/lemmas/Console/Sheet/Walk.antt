@@ -1,8 +1,8 @@
 -- The exact page goes over a document as its marks are counted: the stack of margins, the count of inline blocks that hide, and
 -- what is remembered of empty Block pairs.
-use Rattle.std.specs.Prelude.{◌≡◌, ℕ, suc, ◌+◌, ◌-◌, ◌*◌, ◌^◌, ◌<◌, ◌≤◌, ⊤, Bool, true, false, not, ◌&&◌, ◌==◌, List, [], ◌∷◌, ◌++◌, length, take, drop, reverse, refl, min, if◌then◌else◌, slice_get, Some, nat_le}
+use Rattle.std.specs.Prelude.{◌≡◌, ℕ, suc, ◌+◌, ◌-◌, ◌*◌, ◌^◌, ◌<◌, ◌≤◌, ⊤, Bool, true, false, not, ◌&&◌, ◌==◌, List, [], ◌∷◌, ◌++◌, length, take, drop, reverse, refl, min, if◌then◌else◌, slice_get, Some}
 use Rattle.std.specs.Str.{bytes_eq}
-use Rattle.std.proofs.Common.{sym, ap, arith, inl, inr, ◌∙◌, append_assoc, length-append, subst}
+use Rattle.std.proofs.Common.{sym, ap, arith, inl, inr, ◌∙◌, append_assoc, length-append}
 use Rattle.std.proofs.lemmas.List.{length-reverse}
 use Rattle.std.proofs.lemmas.Bool.Decides.{nat_tests}
 use Rattle.bpaf_doc.specs.declared.console.pairs.Pairs.{Pairs}
@@ -12,18 +12,18 @@ use Rattle.bpaf_doc.specs.declared.buffer.Style.{Style}
 use Rattle.bpaf_doc.specs.Buffer.Parts.{Part, Text, Start, End}
 use Rattle.bpaf_doc.specs.Splitter.Chunks.{Chunk, Raw, Paragraph, LineBreak, columns, chunks_of}
 use Rattle.bpaf_doc.specs.Shown.{is_hidden, shown_chunks, through_paragraph}
-use Rattle.bpaf_doc.specs.Console.Margin.{margin, is_skipped, skips_pair, is_section4_start, tab_stop, Shift, Indent, Outdent, Level, part_shift, indent}
+use Rattle.bpaf_doc.specs.Console.Margin.{margin, is_skipped, skips_pair, is_section4_start, tab_stop, Shift, Indent, Level, part_shift, indent}
 use Rattle.bpaf_doc.specs.Console.Steps.Hiding.{hidden_after}
 use Rattle.bpaf_doc.specs.Console.Steps.Page as page
 use Rattle.bpaf_doc.specs.Console.Steps.Page.{Sheet, blank_sheet}
 use Rattle.bpaf_doc.specs.Console.Steps.Text as whole
 use Rattle.bpaf_doc.specs.Console.Steps.Pairs.{KnowsPairs}
 use Rattle.bpaf_doc.proofs.lemmas.Console.Hiding.{Counts, Counts-nil, Counts-more, is_hidden-Counts}
+use Rattle.bpaf_doc.proofs.lemmas.Console.Layout.Back.{by_test}
 use Rattle.bpaf_doc.proofs.lemmas.Console.Margins.{top, stack_at, stack_at-none, stack_at-more, shifted, shift_at, shift_at-skipped, shift_at-shown, shift_at-text, margin-le, margin-indent, tab_stop-le, indent-le}
-use Rattle.bpaf_doc.proofs.lemmas.Console.Pairs.{KnowsPairs-more}
+use Rattle.bpaf_doc.proofs.lemmas.Console.Pairs.{KnowsPairs-more, knows_none, knows_start, skips_is}
 use Rattle.bpaf_doc.proofs.lemmas.Console.Tabs.{widest_from, tab_stop-walk}
-use Rattle.bpaf_doc.proofs.lemmas.Console.Sheet.Pairs.{knows_none, knows_start, skips_is}
-use Rattle.bpaf_doc.proofs.lemmas.Console.Sheet.Marks.{top_innermost, popped_margins, pushed_margins}
+use Rattle.bpaf_doc.proofs.lemmas.Console.Sheet.Grows.{top_innermost, popped_margins, pushed_margins}
 
 -- ---- what a chunk keeps of the sheet
 
@@ -36,8 +36,7 @@ pub same_frame : (s : Sheet) → Frame s s
 same_frame s = record { width = refl; tab_stop = refl; margins = refl }
 
 pub frame_if : (b : Bool) (s x y : Sheet) → Frame s x → Frame s y → Frame s (if b then x else y)
-frame_if true s x y a b = a
-frame_if false s x y a b = b
+frame_if b s x y a h = grind arith
 
 pub frame_then : (s t u : Sheet) → Frame s t → Frame t u → Frame s u
 frame_then s t u a b = record { width = b.width ∙ a.width; tab_stop = b.tab_stop ∙ a.tab_stop; margins = b.margins ∙ a.margins }
@@ -49,17 +48,10 @@ asked_keeps s =
     record { width = line.width; tab_stop = line.tab_stop; margins = line.margins } line
 
 room_frame : (n : ℕ) (s : Sheet) → Frame s (page.room_made n s)
-room_frame n s =
-    let asked : Frame s (page.asked_put s) = asked_keeps s in
-    frame_if (length s.out == 0) s s (if page.is_too_wide n (page.asked_put s) then page.wrapped (page.asked_put s) else page.asked_put s) (same_frame s)
-    (frame_if (page.is_too_wide n (page.asked_put s)) s (page.wrapped (page.asked_put s)) (page.asked_put s) record { width = asked.width; tab_stop = asked.tab_stop; margins = asked.margins } asked)
+room_frame n s = grind (arith, asked_keeps, frame_if, same_frame)
 
 placed_frame : (bytes : List ℕ) (weight : ℕ) (s : Sheet) → Frame s (page.placed bytes weight s)
-placed_frame bytes weight s =
-    let pads : Frame s (page.padded s) =
-    frame_if (s.at_body && nat_le 28 (page.blanks_put (page.margin_of s - s.column) s).column) s (page.blanks_put (2 - (page.margin_of s - s.column)) (page.blanks_put (page.margin_of s - s.column) s))
-    (page.blanks_put (page.margin_of s - s.column) s) record { width = refl; tab_stop = refl; margins = refl } record { width = refl; tab_stop = refl; margins = refl } in
-    record { width = pads.width; tab_stop = pads.tab_stop; margins = pads.margins }
+placed_frame bytes weight s = grind (arith, frame_if)
 
 pub raw_frame : (bytes : List ℕ) (weight : ℕ) (s : Sheet) → Frame s (page.raw_put bytes weight s)
 unfolding page.raw_put
@@ -71,13 +63,7 @@ raw_frame bytes weight s =
 
 pub text_frame : (full : Bool) (chunks : List Chunk) (s : Sheet) → Frame s (page.text_put full chunks s)
 text_frame full [] s = same_frame s
-text_frame full (Raw bytes weight ∷ chunks) s = frame_then s (page.raw_put bytes weight s) (page.text_put full chunks (page.raw_put bytes weight s)) (raw_frame bytes weight s) (text_frame full chunks (page.raw_put bytes weight s))
-text_frame full (LineBreak ∷ chunks) s = let rest : Frame (page.newline_put s) (page.text_put full chunks (page.newline_put s)) = text_frame full chunks (page.newline_put s) in
-    record { width = rest.width; tab_stop = rest.tab_stop; margins = rest.margins }
-text_frame full (Paragraph ∷ chunks) s = at full (text_frame full chunks (page.newline_put s)) where
-  at : (b : Bool) → Frame (page.newline_put s) (page.text_put full chunks (page.newline_put s)) → Frame s (if b then page.text_put full chunks (page.newline_put s) else page.newline_put s)
-  at true rest = record { width = rest.width; tab_stop = rest.tab_stop; margins = rest.margins }
-  at false rest = record { width = refl; tab_stop = refl; margins = refl }
+text_frame full (x ∷ chunks) s = grind (arith, text_frame full chunks, frame_then, raw_frame)
 
 -- ---- the chunks of a text that are written
 
@@ -90,16 +76,13 @@ written_of full (Paragraph ∷ chunks) = Paragraph ∷ (if full then written_of 
 
 pub written_all : (chunks : List Chunk) → written_of true chunks ≡ chunks
 written_all [] = refl
-written_all (Raw bytes weight ∷ chunks) = ap (λ cs. Raw bytes weight ∷ cs) (written_all chunks)
-written_all (LineBreak ∷ chunks) = ap (λ cs. LineBreak ∷ cs) (written_all chunks)
-written_all (Paragraph ∷ chunks) = ap (λ cs. Paragraph ∷ cs) (written_all chunks)
+written_all (x ∷ chunks) = grind (arith, written_all chunks)
 
 take_next : (k : ℕ) (x : Chunk) (xs : List Chunk) → take (1 + k + 1) (x ∷ xs) ≡ x ∷ take (k + 1) xs
 take_next k x xs = let e : 1 + k + 1 ≡ suc (k + 1) = omega arith in rw e refl
 
 pub written_brief : (chunks : List Chunk) → written_of false chunks ≡ through_paragraph chunks
-written_brief (Raw bytes weight ∷ chunks) = ap (λ cs. Raw bytes weight ∷ cs) (written_brief chunks) ∙ sym (take_next _ (Raw bytes weight) chunks)
-written_brief (LineBreak ∷ chunks) = ap (λ cs. LineBreak ∷ cs) (written_brief chunks) ∙ sym (take_next _ LineBreak chunks)
+written_brief (x ∷ chunks) = grind (arith, written_brief chunks, take_next)
 written_brief _ = refl
 
 -- ---- what is hidden
@@ -118,8 +101,7 @@ IsLow [] = ⊤
 IsLow (m ∷ ms) = (m ≤ 30 * length (m ∷ ms)) × IsLow ms
 
 pub low_top : (stack : List ℕ) → IsLow stack → top stack ≤ 30 * length stack
-low_top [] low = omega arith
-low_top (m ∷ ms) low = low.0
+low_top stack low = grind arith
 
 -- so few margins fit a usize, and the margin in force is the top
 pub few_fits : (s : Sheet) (stack : List ℕ) → s.margins ≡ reverse stack → IsLow stack → page.HasFewMargins s → top stack ≤ 18446744073709551615
@@ -129,10 +111,7 @@ pub level_top : (s : Sheet) (stack : List ℕ) → s.margins ≡ reverse stack �
 level_top s stack margins fits = let is : page.innermost s ≡ top stack = top_innermost s stack margins in omega arith
 
 low_shifted : (shift : Shift) (stack : List ℕ) → indent shift ≤ 30 → IsLow stack → IsLow (shifted shift stack)
-low_shifted (Indent n) stack most low = (let old : top stack ≤ 30 * length stack = low_top stack low in omega arith, low)
-low_shifted Outdent [] most low = tt
-low_shifted Outdent (m ∷ ms) most low = low.1
-low_shifted Level stack most low = low
+low_shifted shift stack most low = grind (arith, low_top)
 
 -- ---- the parts
 
@@ -150,13 +129,11 @@ get_front (x ∷ before) rest part = get_front before rest part
 
 pub opened_keeps : (b : Block) (adjacent : Bool) (s : Sheet) → ((page.opened b adjacent s).width ≡ s.width) × ((page.opened b adjacent s).tab_stop ≡ s.tab_stop)
 unfolding page.opened
-opened_keeps blocks.Header adjacent s = (refl, refl)
-opened_keeps _ adjacent s = (refl, refl)
+opened_keeps b adjacent s = grind arith
 
 pub closed_keeps : (b : Block) (s : Sheet) → ((page.closed b s).width ≡ s.width) × ((page.closed b s).tab_stop ≡ s.tab_stop) × ((page.closed b s).margins ≡ take (length s.margins - 1) s.margins)
 unfolding page.closed
-closed_keeps blocks.Header s = (refl, refl, refl)
-closed_keeps _ s = (refl, refl, refl)
+closed_keeps b s = grind arith
 
 module _ (full : Bool) (document : List Part) where
   -- some parts are done, and others follow
@@ -194,16 +171,7 @@ module _ (full : Bool) (document : List Part) where
 
     walk_on : (next : Pairs) (t : Sheet) → KnowsPairs document (index + 1) next → t.tab_stop ≡ s.tab_stop → t.margins ≡ reverse (shifted (shift_at document index part) (stack_at document index))
         → Walk (index + 1) (before ++ part ∷ []) rest next (hidden_after full hidden part) t
-    walk_on next t knows tab margins = record {
-      split = next_split;
-      count = next_count;
-      tab = tab ∙ w.tab;
-      margins = margins ∙ ap (λ (ms : List ℕ). reverse ms) (sym stack_next);
-      low = subst IsLow (sym stack_next) (low_shifted (shift_at document index part) (stack_at document index) (indent-le document index part) w.low);
-      knows = knows;
-      counts = λ f. subst (λ (b : Bool). Counts (hidden_after b hidden part) (before ++ part ∷ [])) (sym f) (Counts-more hidden before part (w.counts f));
-      open_all = none_hidden full hidden part w.open_all;
-    }
+    walk_on next t knows tab margins = grind (arith, next_split, next_count, stack_next, low_shifted, indent-le, Counts-more, none_hidden)
 
     -- the margins stay
     walk_still : (next : Pairs) (t : Sheet) → KnowsPairs document (index + 1) next → t.tab_stop ≡ s.tab_stop → t.margins ≡ s.margins → shift_at document index part ≡ Level
@@ -232,12 +200,7 @@ module _ (full : Bool) (document : List Part) where
     shown_is h = grind (arith, written_all, hiding_is, written_brief)
 
     pub hidden_is : (hidden == 0) ≡ false → shown_chunks full (take index document) bytes ≡ []
-    hidden_is h = both full refl where
-      both : (b : Bool) → full ≡ b → shown_chunks full (take index document) bytes ≡ []
-      both true t = absurd (let zero_hidden : (hidden == 0) ≡ true = is_zero hidden (w.open_all t) in let no : true ≡ false = sym zero_hidden ∙ h in cc)
-      both false f =
-          let shown : is_hidden (take index document) ≡ true = hiding_is f ∙ ap not h in
-          ap (λ (c : Bool). shown_chunks c (take index document) bytes) f ∙ ap (λ (c : Bool). if c then [] else through_paragraph (chunks_of bytes)) shown
+    hidden_is h = grind (arith, is_zero, hiding_is)
 
   -- what the start of a block does to the stack
   opened_margins : (index : ℕ) (b : Block) (adjacent : Bool) (s : Sheet) (stack : List ℕ) → s.margins ≡ reverse stack → s.tab_stop ≡ tab_stop document
@@ -246,10 +209,7 @@ module _ (full : Bool) (document : List Part) where
   unfolding page.opened
   opened_margins index b adjacent s stack m t a fits = at b a fits where
     pushed : (n : ℕ) → top stack + n ≤ 2 ^ 128 - 1 → s.margins ++ min (page.innermost s + n) (2 ^ 128 - 1) ∷ [] ≡ reverse ((top stack + n) ∷ stack)
-    pushed n l =
-        let is : page.innermost s ≡ top stack = top_innermost s stack m in
-        let sum : min (page.innermost s + n) (2 ^ 128 - 1) ≡ top stack + n = omega arith in
-        ap (λ (k : ℕ). s.margins ++ k ∷ []) sum ∙ pushed_margins s.margins stack (top stack + n) m
+    pushed n l = grind (arith, top_innermost, pushed_margins)
 
     body : page.saturated (s.tab_stop + 2) ≡ tab_stop document + 2
     body = let most : tab_stop document ≤ 28 = tab_stop-le document in omega arith
@@ -321,16 +281,7 @@ module _ (full : Bool) (document : List Part) where
         same_walk (_ ∷ parts) widest in_term term = same_walk parts widest in_term term
 
   pub walk_begins : length document < 2 ^ 64 → (width : ℕ) → Walk 0 [] document whole.no_pairs 0 (blank_sheet width (whole.tab_stop_from 0 false 0 document))
-  walk_begins is_small width = record {
-    split = refl;
-    count = refl;
-    tab = tab_is;
-    margins = ap (λ (ms : List ℕ). reverse ms) (sym (stack_at-none document));
-    low = tt;
-    knows = knows_none document is_small;
-    counts = λ f. Counts-nil;
-    open_all = λ t. refl;
-  }
+  walk_begins is_small width = grind (arith, tab_is, stack_at-none, knows_none, Counts-nil)
 
   -- any part
   pub walk_part : length document < 2 ^ 64 → (index : ℕ) (before rest : List Part) (part : Part) (pairs : Pairs) (hidden : ℕ) (s : Sheet) → Walk index before (part ∷ rest) pairs hidden s
@@ -339,12 +290,10 @@ module _ (full : Bool) (document : List Part) where
       walk_text index before rest bytes style pairs hidden s w (whole.part_put full document index pairs hidden (Text bytes style) s)
       (frame_if (hidden == 0) s (page.text_put full (chunks_of bytes) s) s (text_frame full (chunks_of bytes) s) (same_frame s))
   walk_part is_small index before rest (Start b) pairs hidden s w =
-      at (whole.skips (whole.pairs_at document index b pairs) index b) (start_skips is_small index before rest b pairs hidden s w) where
-        at : (c : Bool) → c ≡ is_skipped document index
-            → Walk (index + 1) (before ++ Start b ∷ []) rest (whole.pairs_at document index b pairs) (hidden_after full hidden (Start b)) (if c then s else page.opened b (whole.is_adjacent b (whole.pairs_at document index b pairs)) s)
-        at true e = walk_start_skipped is_small index before rest b pairs hidden s w (sym e)
-        at false e = walk_start is_small index before rest b pairs hidden s w (sym e)
-  walk_part is_small index before rest (End b) pairs hidden s w = at (whole.skips pairs index b) (end_skips is_small index before rest b pairs hidden s w) where
-    at : (c : Bool) → c ≡ is_skipped document index → Walk (index + 1) (before ++ End b ∷ []) rest pairs (hidden_after full hidden (End b)) (if c then s else page.closed b s)
-    at true e = walk_end_skipped is_small index before rest b pairs hidden s w (sym e)
-    at false e = walk_end is_small index before rest b pairs hidden s w (sym e)
+      by_test (Walk (index + 1) (before ++ Start b ∷ []) rest (whole.pairs_at document index b pairs) (hidden_after full hidden (Start b))) (whole.skips (whole.pairs_at document index b pairs) index b) _ _
+      (λ e. walk_start_skipped is_small index before rest b pairs hidden s w (sym (start_skips is_small index before rest b pairs hidden s w) ∙ e))
+      (λ e. walk_start is_small index before rest b pairs hidden s w (sym (start_skips is_small index before rest b pairs hidden s w) ∙ e))
+  walk_part is_small index before rest (End b) pairs hidden s w =
+      by_test (Walk (index + 1) (before ++ End b ∷ []) rest pairs (hidden_after full hidden (End b))) (whole.skips pairs index b) s (page.closed b s)
+      (λ e. walk_end_skipped is_small index before rest b pairs hidden s w (sym (end_skips is_small index before rest b pairs hidden s w) ∙ e))
+      (λ e. walk_end is_small index before rest b pairs hidden s w (sym (end_skips is_small index before rest b pairs hidden s w) ∙ e))

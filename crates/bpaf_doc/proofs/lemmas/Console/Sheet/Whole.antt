@@ -1,8 +1,8 @@
 -- The exact console text is a layout of its document.
-use Rattle.std.specs.Prelude.{◌≡◌, ◌≢◌, ℕ, suc, ◌+◌, ◌-◌, ◌^◌, ◌<◌, ◌≤◌, ⊤, Bool, true, false, ◌==◌, List, [], ◌∷◌, ◌++◌, length, take, map, flat_map, All, codes, refl, if◌then◌else◌, ◌⊎◌, IsUtf8, slice_get, IfOk, Result, Ok, Err, String, string_bytes, unwrap_or, Some}
+use Rattle.std.specs.Prelude.{◌≡◌, ◌≢◌, ℕ, suc, ◌+◌, ◌-◌, ◌^◌, ◌<◌, ◌≤◌, ⊤, Bool, true, false, ◌==◌, List, [], ◌∷◌, ◌++◌, length, take, map, flat_map, All, codes, refl, if◌then◌else◌, IsUtf8, slice_get, IfOk, Result, String, string_bytes, unwrap_or, Some}
 use Rattle.std.specs.List.{enumerate_from}
 use Rattle.std.specs.Str.{chars}
-use Rattle.std.proofs.Common.{sym, subst, ap, arith, inl, inr, ◌∙◌, append_assoc}
+use Rattle.std.proofs.Common.{sym, subst, ap, arith, inr, ◌∙◌, append_assoc}
 use Rattle.std.proofs.lemmas.List.{append-nil}
 use Rattle.std.proofs.lemmas.List.Elements.{All-get_or}
 use Rattle.std.proofs.lemmas.Option.{get_or_from_slice_get, slice_get_within}
@@ -11,7 +11,6 @@ use Rattle.bpaf_doc.proofs.lemmas.Splitter.Pieces.{word_line}
 use Rattle.unicode_width.specs.Width.{str_width, step, past_emoji}
 use Rattle.bpaf_doc.specs.declared.console.pairs.Pairs.{Pairs}
 use Rattle.bpaf_doc.specs.declared.buffer.Block.{Block}
-use Rattle.bpaf_doc.specs.declared.buffer.Block.TheVariants as blocks
 use Rattle.bpaf_doc.specs.declared.buffer.Style.{Style}
 use Rattle.bpaf_doc.specs.Buffer.Parts.{Part, Text, Start, End, ink, part_bytes, HasUtf8Texts}
 use Rattle.bpaf_doc.specs.Splitter.Chunks.{Chunk, Raw, Paragraph, LineBreak, IsLine, IsWord, IsOrdinary, has_some, columns, chunks_of, code_weight, fence_weight, Spells, Plain, nothing, code_line, fence, before_code, paragraph, line_break, newline, blank, word, opening, later, closing, closing_paragraph, Form}
@@ -26,14 +25,13 @@ use Rattle.bpaf_doc.specs.Console.Steps.Text as whole
 use Rattle.bpaf_doc.specs.Console.Steps.Text.{console_text}
 use Rattle.bpaf_doc.proofs.lemmas.Splitter.Facts.{text_chunks}
 use Rattle.bpaf_doc.proofs.lemmas.Splitter.Spelling.{spells_in}
-use Rattle.bpaf_doc.proofs.lemmas.Console.Layout.State.{State, Piece, piece, Next, raw, break, mark, placing, breaking, passing, Places, places, drops, Fits, Suits, raw_suits, paragraph_suits, line_break_suits, open_suits, close_suits, Written, nothing, more, blank_page, broken, passed, chunk_next, IsShallow, Ends, as_is, with_newline}
-use Rattle.bpaf_doc.proofs.lemmas.Console.Layout.Back.{by_cases}
+use Rattle.bpaf_doc.proofs.lemmas.Console.Layout.State.{State, Piece, piece, Next, raw, break, mark, placing, breaking, passing, Places, Fits, Suits, raw_suits, paragraph_suits, line_break_suits, open_suits, close_suits, Written, nothing, more, blank_page, broken, passed, chunk_next, IsShallow, Ends, as_is, with_newline}
+use Rattle.bpaf_doc.proofs.lemmas.Console.Layout.Back.{by_test}
 use Rattle.bpaf_doc.proofs.lemmas.Console.Layout.Blank.{text_back, text_back_cons}
 use Rattle.bpaf_doc.proofs.lemmas.Console.Layout.Text.{next_event}
 use Rattle.bpaf_doc.proofs.lemmas.Console.Layout.Whole.{EachNext, layout_of_page}
 use Rattle.bpaf_doc.proofs.lemmas.Console.Margins.{top, stack_at, shifted, shift_at, shift_at-shown, top-margin, margin-le-greatest, margin-level, margin-end}
-use Rattle.bpaf_doc.proofs.lemmas.Console.Sheet.Grows.{columns_is, Draws, raw_placed, RawTo}
-use Rattle.bpaf_doc.proofs.lemmas.Console.Sheet.Marks.{draws_opened, draws_closed, top_innermost}
+use Rattle.bpaf_doc.proofs.lemmas.Console.Sheet.Grows.{columns_is, Draws, raw_placed, RawTo, draws_opened, draws_closed, top_innermost}
 use Rattle.bpaf_doc.proofs.lemmas.Console.Sheet.Walk.{Frame, same_frame, raw_frame, text_frame, written_of, Walk, few_fits, level_top, opened_keeps, closed_keeps, here, there, within, stack_next, text_level, walk_text, shown_is, hidden_is, start_skips, walk_start_skipped, walk_start, end_skips, walk_end_skipped, walk_end, walk_begins}
 
 -- ---- what is known of the chunks of a text
@@ -65,8 +63,7 @@ fence_good : (line : List ℕ) → IsLine line → IsGood (Raw line fence_weight
 fence_good line l = (l, λ small. absurd (omega arith), λ o. absurd (let no : false ≡ true = o in cc), λ o. absurd (let no : false ≡ true = o in cc))
 
 some_of : (bytes : List ℕ) → bytes ≢ [] → has_some bytes ≡ true
-some_of [] h = absurd (h refl)
-some_of (b ∷ bytes) h = refl
+some_of bytes h = grind arith
 
 word_good : (bytes : List ℕ) → IsWord bytes → IsGood (Raw bytes (columns bytes))
 word_good bytes w = (word_line bytes w.1, λ l. refl, λ o. refl, λ o. some_of bytes w.0)
@@ -100,8 +97,7 @@ abbrev pub Any : State → Next → Type 0
 Any st next = ⊤
 
 place_latest : {width : ℕ} {st after : State} (p : Piece) → Places width st p after → (after.latest ≡ p.part) × (after.marked ≡ false)
-place_latest p (places base n b d a) = (ap (λ (x : State). x.latest) a, ap (λ (x : State). x.marked) a)
-place_latest p (drops t mid l w b a) = (ap (λ (x : State). x.latest) a, ap (λ (x : State). x.marked) a)
+place_latest p h = grind arith
 
 pub margin_kept : (s t : Sheet) → Frame s t → page.margin_of t ≡ page.margin_of s
 margin_kept s t f = ap (λ (ms : List ℕ). page.saturated (unwrap_or (slice_get ms (length ms - 1)) 0)) f.margins
@@ -207,8 +203,7 @@ map_append [] ys = refl
 map_append (x ∷ xs) ys = ap (λ es. next_event x ∷ es) (map_append xs ys)
 
 shows_chunk : (k : ℕ) (chunk : Chunk) → next_event (chunk_next k chunk) ≡ Shows k chunk
-shows_chunk k (Raw bytes weight) = refl
-shows_chunk k _ = refl
+shows_chunk k chunk = grind arith
 
 shows_chunks : (k : ℕ) (chunks : List Chunk) → map next_event (map (chunk_next k) chunks) ≡ map (λ chunk. Shows k chunk) chunks
 shows_chunks k [] = refl
@@ -220,9 +215,7 @@ shallow_append deepest (x ∷ xs) ys a b = (a.0, shallow_append deepest xs ys a.
 
 shallow_chunks : (deepest k : ℕ) (chunks : List Chunk) → EachNext (IsShallow deepest) (map (chunk_next k) chunks)
 shallow_chunks deepest k [] = tt
-shallow_chunks deepest k (Raw bytes weight ∷ chunks) = (tt, shallow_chunks deepest k chunks)
-shallow_chunks deepest k (Paragraph ∷ chunks) = (tt, shallow_chunks deepest k chunks)
-shallow_chunks deepest k (LineBreak ∷ chunks) = (tt, shallow_chunks deepest k chunks)
+shallow_chunks deepest k (x ∷ chunks) = grind (arith, shallow_chunks deepest k chunks)
 
 module _ (full : Bool) (document : List Part) (width : ℕ) (is_small : length document < 2 ^ 64) (utf8 : (k : ℕ) (bytes : List ℕ) (style : Style) → slice_get document k ≡ Some (Text bytes style) → IsUtf8 bytes) where
   -- some parts are done, and others follow
@@ -245,10 +238,7 @@ module _ (full : Bool) (document : List Part) (width : ℕ) (is_small : length d
         → Going (index + 1) (before ++ part ∷ []) rest next (hidden_after full hidden part) s
     quiet_step next walk none = record {
       walk = walk;
-      fits =
-          let old : page.innermost s ≡ top (stack_at document index) = top_innermost s (stack_at document index) g.walk.margins in
-          let new : page.innermost s ≡ top (stack_at document (index + 1)) = top_innermost s (stack_at document (index + 1)) walk.margins in
-          let most : top (stack_at document index) ≤ 18446744073709551615 = g.fits in omega arith;
+      fits = grind (arith, top_innermost);
       nexts = g.nexts;
       later = g.later;
       order = let a : g.later.st.latest ≤ index = g.order in omega arith;
@@ -267,14 +257,15 @@ module _ (full : Bool) (document : List Part) (width : ℕ) (is_small : length d
     -- a mark is written
     mark_step : (next : Pairs) (event : Event) (t : Sheet) → Walk full document (index + 1) (before ++ part ∷ []) rest next (hidden_after full hidden part) t → page.HasFewMargins t
         → part_events full document index part ≡ event ∷ [] → Draws t (passed event (page.margin_of t) g.later.st) → t.width ≡ s.width
-        → Suits (margin document) g.later.st (mark event (page.margin_of t)) → Going (index + 1) (before ++ part ∷ []) rest next (hidden_after full hidden part) t
+        → (page.margin_of t ≡ margin document index → g.later.st.margin ≡ top (stack_at document index) → Suits (margin document) g.later.st (mark event (page.margin_of t)))
+        → Going (index + 1) (before ++ part ∷ []) rest next (hidden_after full hidden part) t
     mark_step next event t walk few one draws wide suits = record {
       walk = walk;
       fits = few_fits t (stack_at document (index + 1)) walk.margins walk.low few;
       nexts = g.nexts ++ mark event (page.margin_of t) ∷ [];
       later = record {
         st = passed event (page.margin_of t) g.later.st;
-        written = more g.nexts g.later.st (mark event (page.margin_of t)) refl g.later.written suits tt (passing event (page.margin_of t) refl refl);
+        written = more g.nexts g.later.st (mark event (page.margin_of t)) refl g.later.written (suits (level_is next t walk few) st_margin) tt (passing event (page.margin_of t) refl refl);
         draws = draws;
         wide = wide ∙ g.later.wide;
       };
@@ -291,137 +282,90 @@ module _ (full : Bool) (document : List Part) (width : ℕ) (is_small : length d
   text_step : (index : ℕ) (before rest : List Part) (bytes : List ℕ) (style : Style) (pairs : Pairs) (hidden : ℕ) (s : Sheet)
       → Going index before (Text bytes style ∷ rest) pairs hidden s
       → Going (index + 1) (before ++ Text bytes style ∷ []) rest pairs (hidden_after full hidden (Text bytes style)) (whole.part_put full document index pairs hidden (Text bytes style) s)
-  text_step index before rest bytes style pairs hidden s g = at (by_cases (hidden == 0)) where
-    w : Walk full document index before (Text bytes style ∷ rest) pairs hidden s
-    w = g.walk
+  text_step index before rest bytes style pairs hidden s g =
+      by_test (Going (index + 1) (before ++ Text bytes style ∷ []) rest pairs (hidden_after full hidden (Text bytes style))) (hidden == 0) _ _ shown
+      (λ h. quiet_step index before rest (Text bytes style) pairs hidden s g pairs (walk_text full document index before rest bytes style pairs hidden s g.walk s (same_frame s))
+      (ap (λ cs. map (λ chunk. Shows index chunk) cs) (hidden_is full document index before rest bytes style pairs hidden s g.walk h))) where
+        level : shift_at document index (Text bytes style) ≡ Level
+        level = text_level full document index before rest bytes style pairs hidden s g.walk
 
-    level : shift_at document index (Text bytes style) ≡ Level
-    level = text_level full document index before rest bytes style pairs hidden s w
+        place : slice_get document index ≡ Some (Text bytes style)
+        place = there full document index before rest (Text bytes style) pairs hidden s g.walk
 
-    place : slice_get document index ≡ Some (Text bytes style)
-    place = there full document index before rest (Text bytes style) pairs hidden s w
-
-    can_write : CanWrite (margin document) index g.later.st
-    can_write = record {
-      margin_is = st_margin index before rest (Text bytes style) pairs hidden s g
-          ∙ sym (margin-level document index (Text bytes style) rest (here full document index before rest (Text bytes style) pairs hidden s w) level);
-      order = g.order;
-      moved = g.moved;
-    }
-
-    shown : (hidden == 0) ≡ true → Going (index + 1) (before ++ Text bytes style ∷ []) rest pairs (hidden_after full hidden (Text bytes style)) (page.text_put full (chunks_of bytes) s)
-    shown h =
-        let t : AfterText document width index (g.nexts ++ map (chunk_next index) (written_of full (chunks_of bytes))) (page.text_put full (chunks_of bytes) s) =
-        text_steps document width index full (chunks_of bytes) g.nexts s (g.later, can_write) (each_of_all IsText (chunks_of bytes) (text_chunks bytes (utf8 index bytes style place))) (text_good bytes) in
-        let frame : Frame s (page.text_put full (chunks_of bytes) s) = text_frame full (chunks_of bytes) s in
-        let stack : stack_at document (index + 1) ≡ stack_at document index =
-        stack_next full document index before rest (Text bytes style) pairs hidden s w ∙ ap (λ x. shifted x (stack_at document index)) level in
-        record {
-          walk = walk_text full document index before rest bytes style pairs hidden s w (page.text_put full (chunks_of bytes) s) frame;
-          fits = subst (λ ms. top ms ≤ 18446744073709551615) (sym stack) g.fits;
-          nexts = g.nexts ++ map (chunk_next index) (written_of full (chunks_of bytes));
-          later = t.0;
-          order = let a : t.0.st.latest ≤ index = t.1.order in omega arith;
-          moved = λ m. let a : t.0.st.latest ≤ index = t.1.order in omega arith;
-          events = map_append g.nexts (map (chunk_next index) (written_of full (chunks_of bytes)))
-              ∙ ap (λ es. es ++ map next_event (map (chunk_next index) (written_of full (chunks_of bytes)))) g.events
-              ∙ ap (λ es. events_from full document 0 before ++ es)
-              (shows_chunks index (written_of full (chunks_of bytes)) ∙ ap (λ cs. map (λ chunk. Shows index chunk) cs) (sym (shown_is full document index before rest bytes style pairs hidden s w h)))
-              ∙ sym (next_events index before rest (Text bytes style) pairs hidden s g (map (λ chunk. Shows index chunk) (shown_chunks full (take index document) bytes)) refl);
-          shallow = shallow_append (greatest_margin document) g.nexts (map (chunk_next index) (written_of full (chunks_of bytes))) g.shallow (shallow_chunks (greatest_margin document) index (written_of full (chunks_of bytes)));
+        can_write : CanWrite (margin document) index g.later.st
+        can_write = record {
+          margin_is = st_margin index before rest (Text bytes style) pairs hidden s g
+              ∙ sym (margin-level document index (Text bytes style) rest (here full document index before rest (Text bytes style) pairs hidden s g.walk) level);
+          order = g.order;
+          moved = g.moved;
         }
 
-    at : ((hidden == 0) ≡ true) ⊎ ((hidden == 0) ≡ false) → Going (index + 1) (before ++ Text bytes style ∷ []) rest pairs (hidden_after full hidden (Text bytes style)) (whole.part_put full document index pairs hidden (Text bytes style) s)
-    at (inl h) =
-        let same : whole.part_put full document index pairs hidden (Text bytes style) s ≡ page.text_put full (chunks_of bytes) s = rw h refl in
-        subst (λ (t : Sheet). Going (index + 1) (before ++ Text bytes style ∷ []) rest pairs (hidden_after full hidden (Text bytes style)) t) (sym same) (shown h)
-    at (inr h) =
-        let same : whole.part_put full document index pairs hidden (Text bytes style) s ≡ s = rw h refl in
-        subst (λ (t : Sheet). Going (index + 1) (before ++ Text bytes style ∷ []) rest pairs (hidden_after full hidden (Text bytes style)) t) (sym same)
-        (quiet_step index before rest (Text bytes style) pairs hidden s g pairs (walk_text full document index before rest bytes style pairs hidden s w s (same_frame s))
-        (ap (λ cs. map (λ chunk. Shows index chunk) cs) (hidden_is full document index before rest bytes style pairs hidden s w h)))
+        shown : (hidden == 0) ≡ true → Going (index + 1) (before ++ Text bytes style ∷ []) rest pairs (hidden_after full hidden (Text bytes style)) (page.text_put full (chunks_of bytes) s)
+        shown h =
+            let t : AfterText document width index (g.nexts ++ map (chunk_next index) (written_of full (chunks_of bytes))) (page.text_put full (chunks_of bytes) s) =
+            text_steps document width index full (chunks_of bytes) g.nexts s (g.later, can_write) (each_of_all IsText (chunks_of bytes) (text_chunks bytes (utf8 index bytes style place))) (text_good bytes) in
+            let frame : Frame s (page.text_put full (chunks_of bytes) s) = text_frame full (chunks_of bytes) s in
+            let stack : stack_at document (index + 1) ≡ stack_at document index =
+            stack_next full document index before rest (Text bytes style) pairs hidden s g.walk ∙ ap (λ x. shifted x (stack_at document index)) level in
+            record {
+              walk = walk_text full document index before rest bytes style pairs hidden s g.walk (page.text_put full (chunks_of bytes) s) frame;
+              fits = subst (λ ms. top ms ≤ 18446744073709551615) (sym stack) g.fits;
+              nexts = g.nexts ++ map (chunk_next index) (written_of full (chunks_of bytes));
+              later = t.0;
+              order = let a : t.0.st.latest ≤ index = t.1.order in omega arith;
+              moved = λ m. let a : t.0.st.latest ≤ index = t.1.order in omega arith;
+              events = map_append g.nexts (map (chunk_next index) (written_of full (chunks_of bytes)))
+                  ∙ ap (λ es. es ++ map next_event (map (chunk_next index) (written_of full (chunks_of bytes)))) g.events
+                  ∙ ap (λ es. events_from full document 0 before ++ es)
+                  (shows_chunks index (written_of full (chunks_of bytes)) ∙ ap (λ cs. map (λ chunk. Shows index chunk) cs) (sym (shown_is full document index before rest bytes style pairs hidden s g.walk h)))
+                  ∙ sym (next_events index before rest (Text bytes style) pairs hidden s g (map (λ chunk. Shows index chunk) (shown_chunks full (take index document) bytes)) refl);
+              shallow = shallow_append (greatest_margin document) g.nexts (map (chunk_next index) (written_of full (chunks_of bytes))) g.shallow (shallow_chunks (greatest_margin document) index (written_of full (chunks_of bytes)));
+            }
 
   inline_level : (index : ℕ) (b : Block) → is_inline_block b ≡ true → part_shift document index (Start b) ≡ Level
-  inline_level index blocks.InlineBlock h = refl
-  inline_level index _ h = grind arith
+  inline_level index b h = grind arith
 
   start_step : (index : ℕ) (before rest : List Part) (b : Block) (pairs : Pairs) (hidden : ℕ) (s : Sheet)
       → whole.LeavesFew (whole.pairs_at document index b pairs) index (Start b) (whole.part_put full document index pairs hidden (Start b) s)
       → Going index before (Start b ∷ rest) pairs hidden s
       → Going (index + 1) (before ++ Start b ∷ []) rest (whole.pairs_at document index b pairs) (hidden_after full hidden (Start b)) (whole.part_put full document index pairs hidden (Start b) s)
-  start_step index before rest b pairs hidden s few g = at (by_cases (whole.skips (whole.pairs_at document index b pairs) index b)) where
-    w : Walk full document index before (Start b ∷ rest) pairs hidden s
-    w = g.walk
+  start_step index before rest b pairs hidden s few g =
+      by_test (λ (t : Sheet). (whole.skips (whole.pairs_at document index b pairs) index b ≡ false → page.HasFewMargins t) → Going (index + 1) (before ++ Start b ∷ []) rest (whole.pairs_at document index b pairs) (hidden_after full hidden (Start b)) t)
+      (whole.skips (whole.pairs_at document index b pairs) index b) _ _ (λ h few. let skipped : is_skipped document index ≡ true = sym skips_here ∙ h in
+      quiet_step index before rest (Start b) pairs hidden s g (whole.pairs_at document index b pairs) (walk_start_skipped full document is_small index before rest b pairs hidden s g.walk skipped) (rw skipped refl))
+      (λ h few. shown (sym skips_here ∙ h) (few h)) few where
+        skips_here : whole.skips (whole.pairs_at document index b pairs) index b ≡ is_skipped document index
+        skips_here = start_skips full document is_small index before rest b pairs hidden s g.walk
 
-    next : Pairs
-    next = whole.pairs_at document index b pairs
-
-    skips_here : whole.skips (whole.pairs_at document index b pairs) index b ≡ is_skipped document index
-    skips_here = start_skips full document is_small index before rest b pairs hidden s w
-
-    shown : is_skipped document index ≡ false → page.HasFewMargins (page.opened b (whole.is_adjacent b (whole.pairs_at document index b pairs)) s)
-        → Going (index + 1) (before ++ Start b ∷ []) rest (whole.pairs_at document index b pairs) (hidden_after full hidden (Start b)) (page.opened b (whole.is_adjacent b (whole.pairs_at document index b pairs)) s)
-    shown e few =
-        let walk : Walk full document (index + 1) (before ++ Start b ∷ []) rest (whole.pairs_at document index b pairs) (hidden_after full hidden (Start b)) (page.opened b (whole.is_adjacent b (whole.pairs_at document index b pairs)) s) =
-        walk_start full document is_small index before rest b pairs hidden s w e in
-        let level : page.margin_of (page.opened b (whole.is_adjacent b (whole.pairs_at document index b pairs)) s) ≡ margin document index =
-        level_is index before rest (Start b) pairs hidden s g (whole.pairs_at document index b pairs) (page.opened b (whole.is_adjacent b (whole.pairs_at document index b pairs)) s) walk few in
-        let inline : is_inline_block b ≡ true → page.margin_of (page.opened b (whole.is_adjacent b (whole.pairs_at document index b pairs)) s) ≤ g.later.st.margin = λ h.
-        (let same : margin document index ≡ top (stack_at document index) =
-        margin-level document index (Start b) rest (here full document index before rest (Start b) pairs hidden s w) (shift_at-shown document index (Start b) e ∙ inline_level index b h) in
-        let old : g.later.st.margin ≡ top (stack_at document index) = st_margin index before rest (Start b) pairs hidden s g in omega arith) in
-        mark_step index before rest (Start b) pairs hidden s g (whole.pairs_at document index b pairs) (Opens b) (page.opened b (whole.is_adjacent b (whole.pairs_at document index b pairs)) s) walk few (rw e refl)
-        (draws_opened b (whole.is_adjacent b (whole.pairs_at document index b pairs)) s g.later.st g.later.draws)
-        (opened_keeps b (whole.is_adjacent b (whole.pairs_at document index b pairs)) s).0
-        (open_suits b (page.margin_of (page.opened b (whole.is_adjacent b (whole.pairs_at document index b pairs)) s)) refl inline (omega arith))
-
-    at : (whole.skips (whole.pairs_at document index b pairs) index b ≡ true) ⊎ (whole.skips (whole.pairs_at document index b pairs) index b ≡ false)
-        → Going (index + 1) (before ++ Start b ∷ []) rest (whole.pairs_at document index b pairs) (hidden_after full hidden (Start b)) (whole.part_put full document index pairs hidden (Start b) s)
-    at (inl h) =
-        let skipped : is_skipped document index ≡ true = sym skips_here ∙ h in
-        let same : whole.part_put full document index pairs hidden (Start b) s ≡ s = rw h refl in
-        subst (λ (t : Sheet). Going (index + 1) (before ++ Start b ∷ []) rest (whole.pairs_at document index b pairs) (hidden_after full hidden (Start b)) t) (sym same)
-        (quiet_step index before rest (Start b) pairs hidden s g (whole.pairs_at document index b pairs) (walk_start_skipped full document is_small index before rest b pairs hidden s w skipped) (rw skipped refl))
-    at (inr h) =
-        let skipped : is_skipped document index ≡ false = sym skips_here ∙ h in
-        let same : whole.part_put full document index pairs hidden (Start b) s ≡ page.opened b (whole.is_adjacent b (whole.pairs_at document index b pairs)) s =
-        rw h refl in
-        subst (λ (t : Sheet). Going (index + 1) (before ++ Start b ∷ []) rest (whole.pairs_at document index b pairs) (hidden_after full hidden (Start b)) t) (sym same)
-        (shown skipped (subst (λ (t : Sheet). page.HasFewMargins t) same (few h)))
+        shown : is_skipped document index ≡ false → page.HasFewMargins (page.opened b (whole.is_adjacent b (whole.pairs_at document index b pairs)) s)
+            → Going (index + 1) (before ++ Start b ∷ []) rest (whole.pairs_at document index b pairs) (hidden_after full hidden (Start b)) (page.opened b (whole.is_adjacent b (whole.pairs_at document index b pairs)) s)
+        shown e few =
+            mark_step index before rest (Start b) pairs hidden s g (whole.pairs_at document index b pairs) (Opens b) (page.opened b (whole.is_adjacent b (whole.pairs_at document index b pairs)) s)
+            (walk_start full document is_small index before rest b pairs hidden s g.walk e) few (rw e refl)
+            (draws_opened b (whole.is_adjacent b (whole.pairs_at document index b pairs)) s g.later.st g.later.draws)
+            (opened_keeps b (whole.is_adjacent b (whole.pairs_at document index b pairs)) s).0
+            (λ level old. open_suits b (page.margin_of (page.opened b (whole.is_adjacent b (whole.pairs_at document index b pairs)) s)) refl
+            (λ h. let same : margin document index ≡ top (stack_at document index) =
+            margin-level document index (Start b) rest (here full document index before rest (Start b) pairs hidden s g.walk) (shift_at-shown document index (Start b) e ∙ inline_level index b h) in omega arith) (omega arith))
 
   end_step : (index : ℕ) (before rest : List Part) (b : Block) (pairs : Pairs) (hidden : ℕ) (s : Sheet)
       → whole.LeavesFew pairs index (End b) (whole.part_put full document index pairs hidden (End b) s)
       → Going index before (End b ∷ rest) pairs hidden s
       → Going (index + 1) (before ++ End b ∷ []) rest pairs (hidden_after full hidden (End b)) (whole.part_put full document index pairs hidden (End b) s)
-  end_step index before rest b pairs hidden s few g = at (by_cases (whole.skips pairs index b)) where
-    w : Walk full document index before (End b ∷ rest) pairs hidden s
-    w = g.walk
+  end_step index before rest b pairs hidden s few g =
+      by_test (λ (t : Sheet). (whole.skips pairs index b ≡ false → page.HasFewMargins t) → Going (index + 1) (before ++ End b ∷ []) rest pairs (hidden_after full hidden (End b)) t) (whole.skips pairs index b) _ _
+      (λ h few. let skipped : is_skipped document index ≡ true = sym skips_here ∙ h in
+      quiet_step index before rest (End b) pairs hidden s g pairs (walk_end_skipped full document is_small index before rest b pairs hidden s g.walk skipped) (rw skipped refl))
+      (λ h few. shown (sym skips_here ∙ h) (few h)) few where
+        skips_here : whole.skips pairs index b ≡ is_skipped document index
+        skips_here = end_skips full document is_small index before rest b pairs hidden s g.walk
 
-    skips_here : whole.skips pairs index b ≡ is_skipped document index
-    skips_here = end_skips full document is_small index before rest b pairs hidden s w
-
-    shown : is_skipped document index ≡ false → page.HasFewMargins (page.closed b s) → Going (index + 1) (before ++ End b ∷ []) rest pairs (hidden_after full hidden (End b)) (page.closed b s)
-    shown e few =
-        let walk : Walk full document (index + 1) (before ++ End b ∷ []) rest pairs (hidden_after full hidden (End b)) (page.closed b s) = walk_end full document is_small index before rest b pairs hidden s w e in
-        let level : page.margin_of (page.closed b s) ≡ margin document index = level_is index before rest (End b) pairs hidden s g pairs (page.closed b s) walk few in
-        let less : margin document index ≤ top (stack_at document index) = margin-end document index b rest (here full document index before rest (End b) pairs hidden s w) in
-        let old : g.later.st.margin ≡ top (stack_at document index) = st_margin index before rest (End b) pairs hidden s g in
-        mark_step index before rest (End b) pairs hidden s g pairs (Closes b) (page.closed b s) walk few (rw e refl)
-        (draws_closed b s g.later.st g.later.draws) (closed_keeps b s).0
-        (close_suits b (page.margin_of (page.closed b s)) refl (omega arith) (omega arith))
-
-    at : (whole.skips pairs index b ≡ true) ⊎ (whole.skips pairs index b ≡ false)
-        → Going (index + 1) (before ++ End b ∷ []) rest pairs (hidden_after full hidden (End b)) (whole.part_put full document index pairs hidden (End b) s)
-    at (inl h) =
-        let skipped : is_skipped document index ≡ true = sym skips_here ∙ h in
-        let same : whole.part_put full document index pairs hidden (End b) s ≡ s = rw h refl in
-        subst (λ (t : Sheet). Going (index + 1) (before ++ End b ∷ []) rest pairs (hidden_after full hidden (End b)) t) (sym same)
-        (quiet_step index before rest (End b) pairs hidden s g pairs (walk_end_skipped full document is_small index before rest b pairs hidden s w skipped) (rw skipped refl))
-    at (inr h) =
-        let skipped : is_skipped document index ≡ false = sym skips_here ∙ h in
-        let same : whole.part_put full document index pairs hidden (End b) s ≡ page.closed b s = rw h refl in
-        subst (λ (t : Sheet). Going (index + 1) (before ++ End b ∷ []) rest pairs (hidden_after full hidden (End b)) t) (sym same)
-        (shown skipped (subst (λ (t : Sheet). page.HasFewMargins t) same (few h)))
+        shown : is_skipped document index ≡ false → page.HasFewMargins (page.closed b s) → Going (index + 1) (before ++ End b ∷ []) rest pairs (hidden_after full hidden (End b)) (page.closed b s)
+        shown e few =
+            let less : margin document index ≤ top (stack_at document index) = margin-end document index b rest (here full document index before rest (End b) pairs hidden s g.walk) in
+            mark_step index before rest (End b) pairs hidden s g pairs (Closes b) (page.closed b s) (walk_end full document is_small index before rest b pairs hidden s g.walk e) few (rw e refl)
+            (draws_closed b s g.later.st g.later.draws) (closed_keeps b s).0
+            (λ level old. close_suits b (page.margin_of (page.closed b s)) refl (omega arith) (omega arith))
 
   -- all is done
   pub record Done (s : Sheet) : Type 0 where
@@ -432,14 +376,9 @@ module _ (full : Bool) (document : List Part) (width : ℕ) (is_small : length d
 
   going_on : (parts : List Part) (index : ℕ) (before : List Part) (pairs : Pairs) (hidden : ℕ) (s : Sheet) → whole.KeepsFew full document index pairs hidden parts s
       → Going index before parts pairs hidden s → Done (whole.parts_put full document index pairs hidden parts s)
-  going_on [] index before pairs hidden s few g = record {
-    nexts = g.nexts;
-    later = g.later;
-    events = g.events ∙ ap (λ ps. events_from full document 0 ps) (sym (g.walk.split ∙ append-nil before));
-    shallow = g.shallow;
-  }
+  going_on [] index before pairs hidden s few g = grind (arith, append-nil)
   going_on (Text bytes style ∷ parts) index before pairs hidden s few g =
-      going_on parts (index + 1) (before ++ Text bytes style ∷ []) pairs (hidden_after full hidden (Text bytes style)) (whole.part_put full document index pairs hidden (Text bytes style) s) few.1 (text_step index before parts bytes style pairs hidden s g)
+      grind (arith, going_on parts (index + 1) (before ++ Text bytes style ∷ []) pairs, text_step)
   going_on (Start b ∷ parts) index before pairs hidden s few g =
       going_on parts (index + 1) (before ++ Start b ∷ []) (whole.pairs_at document index b pairs) (hidden_after full hidden (Start b)) (whole.part_put full document index pairs hidden (Start b) s) few.1 (start_step index before parts b pairs hidden s few.0 g)
   going_on (End b ∷ parts) index before pairs hidden s few g =
@@ -467,27 +406,15 @@ module _ (full : Bool) (document : List Part) (width : ℕ) (is_small : length d
 
   -- the text of the page is that of its stretches, with a last newline where one is asked for
   pub console_layout : whole.HasFewThroughout full width document → ink (console_text full width document) ≡ console_ink full document → IsLayout document full width (console_text full width document)
-  console_layout few same = at (by_cases (page.asks_break (whole.whole_page full width document).asks)) where
-    ended_page : Done (whole.whole_page full width document)
-    ended_page = done few
+  console_layout few same =
+      by_test (λ text. ink text ≡ console_ink full document → IsLayout document full width text) (page.asks_break (whole.whole_page full width document).asks) _ _
+      (λ h. layout (Gap 10 ∷ ended_page.later.st.back) (with_newline refl) (ap (λ bs. bs ++ 10 ∷ []) ended_page.later.draws.bytes ∙ sym (text_back_cons (Gap 10) ended_page.later.st.back)))
+      (λ h. layout ended_page.later.st.back (as_is refl) ended_page.later.draws.bytes) same where
+        ended_page : Done (whole.whole_page full width document)
+        ended_page = done few
 
-    bytes : (whole.whole_page full width document).out ≡ text_back ended_page.later.st.back
-    bytes = ended_page.later.draws.bytes
-
-    layout : (final : List Stretch) → Ends ended_page.later.st final → console_text full width document ≡ text_back final → IsLayout document full width (console_text full width document)
-    layout final ends text =
-        subst (λ t. IsLayout document full width t) (sym text)
-        (layout_of_page document full width ended_page.nexts ended_page.later.st final ended_page.later.written ended_page.events ended_page.shallow ends (ap ink (sym text) ∙ same))
-
-    ended : page.asks_break (whole.whole_page full width document).asks ≡ true → console_text full width document ≡ (whole.whole_page full width document).out ++ 10 ∷ []
-    ended h = grind arith
-
-    open_end : page.asks_break (whole.whole_page full width document).asks ≡ false → console_text full width document ≡ (whole.whole_page full width document).out
-    open_end h = grind arith
-
-    at : (page.asks_break (whole.whole_page full width document).asks ≡ true) ⊎ (page.asks_break (whole.whole_page full width document).asks ≡ false) → IsLayout document full width (console_text full width document)
-    at (inl h) = layout (Gap 10 ∷ ended_page.later.st.back) (with_newline refl) (ended h ∙ ap (λ bs. bs ++ 10 ∷ []) bytes ∙ sym (text_back_cons (Gap 10) ended_page.later.st.back))
-    at (inr h) = layout ended_page.later.st.back (as_is refl) (open_end h ∙ bytes)
+        layout : (final : List Stretch) {text : List ℕ} → Ends ended_page.later.st final → text ≡ text_back final → ink text ≡ console_ink full document → IsLayout document full width text
+        layout final ends is same = grind (arith, layout_of_page, ended_page)
 
 pub text_is_utf8 : (document : List Part) → HasUtf8Texts document → (k : ℕ) (bytes : List ℕ) (style : Style) → slice_get document k ≡ Some (Text bytes style) → IsUtf8 bytes
 text_is_utf8 document all k bytes style at =
@@ -500,7 +427,4 @@ pub IfOk-layout : {Z E : Type 0} (full : Bool) (width : ℕ) (document : List Pa
     → (r : Result (String Z) E) → IfOk r (λ text. string_bytes text ≡ console_text full width document)
     → IfOk r (λ text. whole.HasFewThroughout full width document) → IfOk r (λ text. ink (string_bytes text) ≡ console_ink full document)
     → IfOk r (λ text. IsLayout document full width (string_bytes text))
-IfOk-layout full width document small utf8 (Err error) same few inked = tt
-IfOk-layout full width document small utf8 (Ok text) same few inked =
-    subst (λ t. IsLayout document full width t) (sym same)
-    (console_layout full document width small (text_is_utf8 document utf8) few (ap ink (sym same) ∙ inked))
+IfOk-layout full width document small utf8 r same few inked = grind (arith, console_layout, text_is_utf8)

@@ -1,25 +1,16 @@
 -- A run that is written at once is its words written one after another.
-use Rattle.std.proofs.Common.{◌+◌, ◌<◌, ◌≤◌, ◌++◌, ◌^◌, string_bytes, ap, ap₂, ◌∙◌, arith, rules}
-use Rattle.bpaf_doc.specs.Buffer.Parts.{ink}
+use Rattle.std.proofs.Common.{◌+◌, ◌<◌, ◌≤◌, ◌++◌, ◌^◌, ap, ap₂, ◌∙◌, arith, rules}
 use Rattle.bpaf_doc.specs.Splitter.Steps.Runs.{letters}
 use Rattle.bpaf_doc.specs.Console.Steps.Ink.{shown_ink}
 use Rattle.bpaf_doc.specs.Console.Steps.Page.{sheet_of, text_put}
 use Rattle.bpaf_doc.proofs.lemmas.Console.Ink.{ink-push_str}
-use Rattle.bpaf_doc.proofs.lemmas.Console.Runs.{run_put, run_ink, run_hides}
+use Rattle.bpaf_doc.proofs.lemmas.Console.Runs.{run_put, run_ink}
 use Rattle.bpaf_doc.proofs.console.page.Page.put_run.Goals as goal
-
-pub returns-in_err-push_str-clause-hides : goal.returns-in_err-push_str-clause-hides
-returns-in_err-push_str-clause-hides g c = λ full. run_hides c.in-Some.run'.now full c.args.chunks.now c.take_fitting.new.self c.in-Some.ensures.chunks c.in-Some.ensures.line
-
-pub returns-in_ok-push_str-clause-hides : goal.returns-in_ok-push_str-clause-hides
-returns-in_ok-push_str-clause-hides g c = λ full. run_hides c.in-Some.run'.now full c.args.chunks.now c.take_fitting.new.self c.in-Some.ensures.chunks c.in-Some.ensures.line
 
 pub returns-in_ok-push_str-clause-ink : goal.returns-in_ok-push_str-clause-ink
 returns-in_ok-push_str-clause-ink g c = λ full.
-    let run = c.in-Some.run'.now in
-    let before = ink (string_bytes c.args.self.now.out) in
-    ap (λ i. i ++ shown_ink full c.take_fitting.new.self) (ink-push_str c.args.self.now.out (string_bytes c.push_str.new.self) run c.in_ok-push_str.ensures.bytes)
-    ∙ run_ink before run full c.args.chunks.now c.take_fitting.new.self c.in-Some.ensures.chunks c.in-Some.ensures.line c.in-Some.ensures.text
+    ap (λ i. i ++ shown_ink full c.take_fitting.new.self) (ink-push_str c.args.self.now.out _ _ c.in_ok-push_str.ensures.bytes)
+    ∙ run_ink _ _ full _ _ c.in-Some.ensures.chunks c.in-Some.ensures.line c.in-Some.ensures.text
 
 pub returns-in_ok-push_str-clause-page : goal.returns-in_ok-push_str-clause-page
 returns-in_ok-push_str-clause-page g c = λ full.
