@@ -2,10 +2,10 @@
 use Rattle.std.proofs.Common.{◌≡◌, ℕ, ◌+◌, Bool, true, false, List, [], ◌∷◌, ◌++◌, refl, sym, ap, ◌∙◌, subst, arith}
 use Rattle.std.specs.Prelude.{if◌then◌else◌, flat_map, count_by, Option, Some, None}
 use Rattle.bpaf_doc.specs.Buffer.Parts.{Part}
-use Rattle.bpaf_meta.specs.Content.{Tree, and_of, or_of, optional, required, adjacent, item, many, subsection, suffix, skip, custom_usage, strict, Trees, no_trees, tree, Leaf, any, positional, command, flag, argument}
+use Rattle.bpaf_meta.specs.Content.{Tree, and_of, or_of, optional, required, adjacent, item, many, subsection, suffix, skip, custom_usage, strict, Trees, no_trees, tree, Leaf, positional}
 use Rattle.std.proofs.lemmas.List.Sums.{sum_by-append, sum_by-cons}
 use Rattle.bpaf_items.specs.declared.meta_help.entry.HiTy.{HiTy}
-use Rattle.bpaf_items.specs.Listing.ItemList.{Entry, listed, note, group_start, group_end, adjacent_start, adjacent_stop, front_type, item_entries, adjacent_entries, group_entries, noted_entries, entries_with_type, entries_of, entries_of_parts, item_list, IsItemList}
+use Rattle.bpaf_items.specs.Listing.ItemList.{Entry, note, group_start, group_end, adjacent_start, adjacent_stop, front_type, item_entries, adjacent_entries, group_entries, noted_entries, entries_with_type, entries_of, entries_of_parts, item_list, IsItemList}
 use Rattle.bpaf_items.specs.Listing.Falls.{is_mark, is_adjacent_start, is_adjacent_stop}
 
 -- nothing; an entry that is no mark; an adjacent block; a group, where groups are allowed; two joined
@@ -17,12 +17,8 @@ pub data Blocks : (groups : Bool) → List Entry → Type 0 where
   joined : {g : Bool} {es : List Entry} (front back : List Entry) → es ≡ front ++ back → Blocks g front → Blocks g back → Blocks g es
 
 item_blocks : (g : Bool) (l : Leaf) → Blocks g (item_entries l)
-item_blocks g (any m a h) = plain _ refl refl
 item_blocks g (positional m None) = none refl
-item_blocks g (positional m (Some h)) = plain _ refl refl
-item_blocks g (command n c h t i) = plain _ refl refl
-item_blocks g (flag n s e h) = plain _ refl refl
-item_blocks g (argument n s m e h) = plain _ refl refl
+item_blocks g l = plain _ refl refl
 
 adjacent_blocks : (g : Bool) (o : Option HiTy) (t : Tree) (es : List Entry) → Blocks g es → Blocks g (adjacent_entries o t es)
 adjacent_blocks g None t es b = none refl
@@ -82,12 +78,9 @@ pub count-cons : (p : Entry → Bool) (e : Entry) (es : List Entry) → count_by
 count-cons p e es = sum_by-cons (λ x. if p x then 1 else 0) e es
 
 plain_even : (e : Entry) → is_mark e ≡ false → starts_in (e ∷ []) ≡ stops_in (e ∷ [])
-plain_even (listed l) h = refl
-plain_even (note d k) h = refl
-plain_even (group_start d k) h = refl
-plain_even (group_end k) h = refl
 plain_even (adjacent_start t k) h = cc
 plain_even (adjacent_stop k) h = cc
+plain_even e h = refl
 
 pub even : {g : Bool} {es : List Entry} → Blocks g es → starts_in es ≡ stops_in es
 even (none is) = rw is refl

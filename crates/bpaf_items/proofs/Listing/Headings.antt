@@ -3,10 +3,10 @@ use Rattle.std.proofs.Common.{◌≡◌, ℕ, Bool, true, false, not, ◌&&◌, 
 use Rattle.std.specs.Prelude.{if◌then◌else◌, filter, count_by, Option, Some, None}
 use Rattle.std.specs.List.{last_or}
 use Rattle.bpaf_items.specs.declared.meta_help.entry.HiTy.{HiTy}
-use Rattle.bpaf_items.specs.Listing.ItemList.{Entry, listed, note, group_start, group_end, adjacent_start, adjacent_stop}
+use Rattle.bpaf_items.specs.Listing.ItemList.{Entry, group_start, adjacent_start}
 use Rattle.bpaf_items.specs.Listing.Falls.{same_type, Placed, placed, placed_after, is_group_start, is_adjacent_in_group, is_group_mark, is_adjacent_mark, is_mark, is_in_group, is_group_open, lacks_help, type_of, last_that, outside_groups, group, heading, nowhere, heading_after, group_destination, heading_destination, destination, is_heading, is_given_after, is_given}
 use Rattle.bpaf_items.specs.Listing.ListLaws.{HeadingsAgree}
-use Rattle.bpaf_items.proofs.Listing.Placing.{outside_groups-push}
+use Rattle.bpaf_items.proofs.Listing.Placing.{entry, two_kept, outside_groups-push}
 
 -- outside groups each mark is an adjacent one
 marks_alike : (ps : List Placed) → filter is_mark (map (λ p. p.1) (filter (λ p. not (is_in_group p)) ps)) ≡ filter is_adjacent_mark (map (λ p. p.1) (filter (λ p. not (is_in_group p)) ps))
@@ -35,16 +35,12 @@ last_passes p es e is = last_passes_from p None es e (λ f none. cc) is
 
 -- after an adjacent mark, or after none
 after_mark : (o : Option Entry) (k : HiTy) (e : Entry) → ((f : Entry) → o ≡ Some f → is_adjacent_mark f ≡ true) → is_heading k (heading_after o e) ≡ is_given_after o k e
-after_mark None k e h = refl
 after_mark (Some (adjacent_start t j)) k e h = by (lacks_help e) where
   by : (b : Bool) → is_heading k (if b then nowhere else heading j) ≡ (not b && same_type j k)
   by true = refl
   by false = refl
-after_mark (Some (adjacent_stop j)) k e h = refl
 after_mark (Some (group_start d j)) k e h = let no : is_adjacent_mark (group_start d j) ≡ true = h (group_start d j) refl in cc
-after_mark (Some (group_end j)) k e h = refl
-after_mark (Some (listed l)) k e h = refl
-after_mark (Some (note d j)) k e h = refl
+after_mark o k e h = refl
 
 falls_as_given : (before : List Entry) (k : HiTy) (e : Entry) → is_heading k (heading_destination (before, e)) ≡ is_given k (outside_groups before, e)
 falls_as_given before k e = by (is_mark e) where
@@ -59,16 +55,13 @@ falls_as_given before k e = by (is_mark e) where
   by false = after_mark (last_that is_adjacent_mark front) k e (λ f is. last_passes is_adjacent_mark front f is) ∙ ap (λ o. is_given_after o k e) (sym alike)
 
 -- no entry of a group falls under a heading
-group_no_heading : (k : HiTy) (p : Placed) → is_heading k (group_destination p) ≡ false
+pub group_no_heading : (k : HiTy) (p : Placed) → is_heading k (group_destination p) ≡ false
 group_no_heading k p = by (lacks_help p.1 && is_adjacent_in_group p.0) (count_by is_group_start (p.0 ++ p.1 ∷ [])) where
   by : (b : Bool) (n : ℕ) → is_heading k (if b then nowhere else group n) ≡ false
   by true n = refl
   by false n = refl
 
 module _ (k : HiTy) where
-  abbrev entry : Placed → Entry
-  entry p = p.1
-
   abbrev falls : Placed → Bool
   falls p = is_heading k (destination p)
 
@@ -88,12 +81,7 @@ module _ (k : HiTy) where
       let others : map entry (filter falls (placed_after (before ++ e ∷ []) es)) ≡ map entry (filter (is_given k) (placed_after (outside_groups before ++ e ∷ []) (map entry (filter outside (placed_after (before ++ e ∷ []) es)))))
       = rest ∙ ap (λ b. map entry (filter (is_given k) (placed_after b (map entry (filter outside (placed_after (before ++ e ∷ []) es)))))) more in
       let outer : map entry (filter outside (placed_after before (e ∷ es))) ≡ e ∷ map entry (filter outside (placed_after (before ++ e ∷ []) es)) = rw h refl in
-      one _ _ (falls (before, e)) (is_given k (outside_groups before, e)) agree others ∙ ap (λ xs. map entry (filter (is_given k) (placed_after (outside_groups before) xs))) (sym outer) where
-        one : (P Q : List Placed) (b c : Bool) → b ≡ c → map entry P ≡ map entry Q → map entry (if b then (before, e) ∷ P else P) ≡ map entry (if c then (outside_groups before, e) ∷ Q else Q)
-        one P Q true true same others = ap (λ xs. e ∷ xs) others
-        one P Q false false same others = others
-        one P Q true false same others = cc
-        one P Q false true same others = cc
+      two_kept (falls (before, e)) (is_given k (outside_groups before, e)) e before (outside_groups before) _ _ agree others ∙ ap (λ xs. map entry (filter (is_given k) (placed_after (outside_groups before) xs))) (sym outer)
 
   headings_after : (before es : List Entry) → map entry (filter falls (placed_after before es)) ≡ map entry (filter (is_given k) (placed_after (outside_groups before) (map entry (filter outside (placed_after before es)))))
   headings_after before [] = refl

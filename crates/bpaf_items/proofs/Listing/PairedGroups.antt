@@ -1,17 +1,17 @@
 -- The groups of an item list, one after another, and what falls under each.
-use Rattle.std.proofs.Common.{◌≡◌, ℕ, ◌+◌, ◌<◌, ◌≤◌, ◌==◌, Bool, true, false, not, ◌&&◌, ◌||◌, ◌⊎◌, inl, inr, List, [], ◌∷◌, ◌++◌, map, refl, sym, ap, ◌∙◌, subst, append_assoc, append-nil, arith}
-use Rattle.std.specs.Prelude.{if◌then◌else◌, filter, count_by, All, Option, Some, None}
+use Rattle.std.proofs.Common.{◌≡◌, ℕ, ◌+◌, ◌≤◌, ◌==◌, Bool, true, false, not, ◌&&◌, ◌||◌, ◌⊎◌, inl, inr, List, [], ◌∷◌, ◌++◌, map, refl, sym, ap, ◌∙◌, subst, append_assoc, append-nil, arith}
+use Rattle.std.specs.Prelude.{if◌then◌else◌, filter, count_by, All, Option, Some}
 use Rattle.std.specs.List.{list_any}
-use Rattle.std.proofs.lemmas.Bool.{eqb-true}
-use Rattle.std.proofs.lemmas.List.{map-append}
-use Rattle.std.proofs.lemmas.List.Elements.{filter-append, All-nil, All-cons, All-head, All-tail}
+use Rattle.std.proofs.Math.Bool.{and-false}
+use Rattle.std.proofs.lemmas.Bool.{eqb-true, ne_eqb, or_parts}
+use Rattle.std.proofs.lemmas.List.Elements.{All-nil, All-cons, All-head, All-tail, All-map, All-filter}
 use Rattle.std.proofs.lemmas.List.Folds.{list_any-append}
 use Rattle.bpaf_doc.specs.Buffer.Parts.{Part}
 use Rattle.bpaf_items.specs.declared.meta_help.entry.HiTy.{HiTy}
-use Rattle.bpaf_items.specs.Listing.ItemList.{Entry, listed, note, group_start, group_end, adjacent_start, adjacent_stop}
+use Rattle.bpaf_items.specs.Listing.ItemList.{Entry, group_start, group_end, adjacent_start, adjacent_stop}
 use Rattle.bpaf_items.specs.Listing.Falls.{Placed, placed_after, group, heading, nowhere, lacks_help, type_of, is_mark, is_group_mark, is_group_start, is_group_end, is_adjacent_mark, is_group_open, is_in_group, is_adjacent_in_group, last_that, outside_groups, heading_after, destination, is_group}
 use Rattle.bpaf_items.specs.Listing.Groups.{HasPairedGroups, empty, outer, whole, stays}
-use Rattle.bpaf_items.proofs.Listing.Placing.{placed_after-append}
+use Rattle.bpaf_items.proofs.Listing.Placing.{entry, chosen-append, two_kept}
 use Rattle.bpaf_items.proofs.Listing.Blocks.{Blocks, none, plain, block, grouped, joined}
 use Rattle.bpaf_items.proofs.Listing.Pushes.{count-push, open-push}
 
@@ -20,12 +20,8 @@ paired-append fs (empty is) h = rw is h
 paired-append fs (outer e rest is no_mark p) h = rw is (outer e (rest ++ fs) refl no_mark (paired-append fs p h))
 paired-append fs (whole d j k inner rest is clear p) h = rw is (whole d j k inner (rest ++ fs) (ap (λ xs. group_start d j ∷ xs) (append_assoc inner (group_end k ∷ rest) fs)) clear (paired-append fs p h))
 
-pub first_of_two : (a b : Bool) → (a || b) ≡ false → a ≡ false
-first_of_two true b h = cc
-first_of_two false b h = refl
-
 no_group_mark : (e : Entry) → is_mark e ≡ false → is_group_mark e ≡ false
-no_group_mark e h = first_of_two (is_group_mark e) (is_adjacent_mark e) h
+no_group_mark e h = (or_parts (is_group_mark e) (is_adjacent_mark e) h).0
 
 -- where groups are not allowed, there is no mark of one
 unmarked : {g : Bool} {es : List Entry} → Blocks g es → g ≡ false → list_any is_group_mark es ≡ false
@@ -44,9 +40,6 @@ blocks_paired (joined front back is b c) f = rw is (paired-append back (blocks_p
 
 -- ---- what falls under a group
 
-abbrev pub entry : Placed → Entry
-entry p = p.1
-
 abbrev pub in_number : ℕ → Placed → Bool
 in_number n p = is_group n (destination p)
 
@@ -54,22 +47,14 @@ abbrev pub members_after : List Entry → List Entry → ℕ → List Entry
 members_after before es n = map entry (filter (in_number n) (placed_after before es))
 
 pub members_after-append : (before es fs : List Entry) (n : ℕ) → members_after before (es ++ fs) n ≡ members_after before es n ++ members_after (before ++ es) fs n
-members_after-append before es fs n =
-    ap (λ ps. map entry (filter (in_number n) ps)) (placed_after-append before es fs)
-    ∙ ap (map entry) (filter-append (in_number n) (placed_after before es) (placed_after (before ++ es) fs))
-    ∙ map-append entry (filter (in_number n) (placed_after before es)) (filter (in_number n) (placed_after (before ++ es) fs))
+members_after-append before es fs n = chosen-append (in_number n) before es fs
 
 heading_no_group : (n : ℕ) (o : Option Entry) (e : Entry) → is_group n (heading_after o e) ≡ false
-heading_no_group n None e = refl
 heading_no_group n (Some (adjacent_start t k)) e = by (lacks_help e) where
   by : (b : Bool) → is_group n (if b then nowhere else heading k) ≡ false
   by true = refl
   by false = refl
-heading_no_group n (Some (adjacent_stop k)) e = refl
-heading_no_group n (Some (group_start d k)) e = refl
-heading_no_group n (Some (group_end k)) e = refl
-heading_no_group n (Some (listed l)) e = refl
-heading_no_group n (Some (note d k)) e = refl
+heading_no_group n o e = refl
 
 pub outside_no_group : (n : ℕ) (p : Placed) → is_in_group p ≡ false → in_number n p ≡ false
 outside_no_group n p h = rw h (by (is_mark p.1)) where
@@ -90,7 +75,7 @@ pub closed_outside : (before : List Entry) (e : Entry) → is_group_mark e ≡ f
 closed_outside before e h o = rw (h, o) refl
 
 pub not_start : (e : Entry) → is_group_mark e ≡ false → is_group_start e ≡ false
-not_start e h = first_of_two (is_group_start e) (is_group_end e) h
+not_start e h = (or_parts (is_group_start e) (is_group_end e) h).0
 
 pub count_same : (before : List Entry) (e : Entry) → is_group_mark e ≡ false → count_by is_group_start (before ++ e ∷ []) ≡ count_by is_group_start before
 count_same before e h = let c : count_by is_group_start (before ++ e ∷ []) ≡ count_by is_group_start before + 0 = count-push is_group_start before e ∙ ap (λ b. count_by is_group_start before + (if b then 1 else 0)) (not_start e h) in omega arith
@@ -98,41 +83,31 @@ count_same before e h = let c : count_by is_group_start (before ++ e ∷ []) ≡
 pub open_same : (before : List Entry) (e : Entry) → is_group_mark e ≡ false → is_group_open (before ++ e ∷ []) ≡ is_group_open before
 open_same before e h = open-push before e ∙ ap (λ b. if b then is_group_start e else is_group_open before) h
 
-pub second_of_two : (a b : Bool) → (a || b) ≡ false → b ≡ false
-second_of_two true b h = cc
-second_of_two false b h = h
-
 pub open_through : (before es : List Entry) → list_any is_group_mark es ≡ false → is_group_open (before ++ es) ≡ is_group_open before
 open_through before [] h = ap is_group_open (append-nil before)
 open_through before (e ∷ es) h =
     ap is_group_open (sym (append_assoc before (e ∷ []) es))
-    ∙ open_through (before ++ e ∷ []) es (second_of_two (is_group_mark e) (list_any is_group_mark es) h)
-    ∙ open_same before e (first_of_two (is_group_mark e) (list_any is_group_mark es) h)
+    ∙ open_through (before ++ e ∷ []) es (or_parts (is_group_mark e) (list_any is_group_mark es) h).1
+    ∙ open_same before e (or_parts (is_group_mark e) (list_any is_group_mark es) h).0
 
 pub count_through : (before es : List Entry) → list_any is_group_mark es ≡ false → count_by is_group_start (before ++ es) ≡ count_by is_group_start before
 count_through before [] h = ap (count_by is_group_start) (append-nil before)
 count_through before (e ∷ es) h =
     ap (count_by is_group_start) (sym (append_assoc before (e ∷ []) es))
-    ∙ count_through (before ++ e ∷ []) es (second_of_two (is_group_mark e) (list_any is_group_mark es) h)
-    ∙ count_same before e (first_of_two (is_group_mark e) (list_any is_group_mark es) h)
+    ∙ count_through (before ++ e ∷ []) es (or_parts (is_group_mark e) (list_any is_group_mark es) h).1
+    ∙ count_same before e (or_parts (is_group_mark e) (list_any is_group_mark es) h).0
 
 -- what stays of the entries in a group
 abbrev pub kept_after : List Entry → List Entry → Bool → List Entry
 kept_after before es c = map entry (filter (λ p. stays p && c) (placed_after before es))
 
-pub one_kept : (a b : Bool) (p : Placed) (ps qs : List Placed) → a ≡ b → map entry ps ≡ map entry qs → map entry (if a then p ∷ ps else ps) ≡ map entry (if b then p ∷ qs else qs)
-one_kept true true p ps qs same rest = ap (λ xs. p.1 ∷ xs) rest
-one_kept false false p ps qs same rest = rest
-one_kept true false p ps qs same rest = cc
-one_kept false true p ps qs same rest = cc
-
 -- in an open group
 members_inside : (before es : List Entry) (n m : ℕ) → list_any is_group_mark es ≡ false → is_group_open before ≡ true → count_by is_group_start before ≡ m → members_after before es n ≡ kept_after before es (n == m)
 members_inside before [] n m h o c = refl
 members_inside before (e ∷ es) n m h o c =
-    let clear : is_group_mark e ≡ false = first_of_two (is_group_mark e) (list_any is_group_mark es) h in
-    one_kept (in_number n (before, e)) (stays (before, e) && (n == m)) (before, e) _ _ (inside_number n m (before, e) (open_inside before e clear o) (count_same before e clear ∙ c))
-    (members_inside (before ++ e ∷ []) es n m (second_of_two (is_group_mark e) (list_any is_group_mark es) h) (open_same before e clear ∙ o) (count_same before e clear ∙ c))
+    let clear : is_group_mark e ≡ false = (or_parts (is_group_mark e) (list_any is_group_mark es) h).0 in
+    two_kept (in_number n (before, e)) (stays (before, e) && (n == m)) e before before _ _ (inside_number n m (before, e) (open_inside before e clear o) (count_same before e clear ∙ c))
+    (members_inside (before ++ e ∷ []) es n m (or_parts (is_group_mark e) (list_any is_group_mark es) h).1 (open_same before e clear ∙ o) (count_same before e clear ∙ c))
 
 -- a whole group after entries that leave none open
 module _ (before : List Entry) (d : List Part) (j k : HiTy) (inner : List Entry) (clear : list_any is_group_mark inner ≡ false) where
@@ -187,10 +162,7 @@ module _ (before : List Entry) (d : List Part) (j k : HiTy) (inner : List Entry)
 
   kept_none : (b es : List Entry) → kept_after b es false ≡ []
   kept_none b [] = refl
-  kept_none b (e ∷ es) = by (stays (b, e)) (kept_none (b ++ e ∷ []) es) where
-    by : (s : Bool) → kept_after (b ++ e ∷ []) es false ≡ [] → map entry (if s && false then (b, e) ∷ filter (λ p. stays p && false) (placed_after (b ++ e ∷ []) es) else filter (λ p. stays p && false) (placed_after (b ++ e ∷ []) es)) ≡ []
-    by true h = h
-    by false h = h
+  kept_none b (e ∷ es) = rw (and-false (stays (b, e))) (kept_none (b ++ e ∷ []) es)
 
   pub group_of_own : (n : ℕ) → (n == number) ≡ true → group_of n ≡ group_start d j ∷ (kept_after opened inner true ++ group_end k ∷ [])
   unfolding group_of
@@ -200,12 +172,6 @@ module _ (before : List Entry) (d : List Part) (j k : HiTy) (inner : List Entry)
   unfolding group_of
   group_of_other n h = rw (h, kept_none opened inner) refl
 
-pub less_apart : (a b : ℕ) → a < b → (a == b) ≡ false
-less_apart a b h = by (a == b) refl where
-  by : (t : Bool) → (a == b) ≡ t → t ≡ false
-  by true e = let same : a ≡ b = eqb-true a b e in absurd (omega arith)
-  by false e = refl
-
 -- groups that come later have later numbers
 pub later_none : {es : List Entry} → HasPairedGroups es → (before : List Entry) (n : ℕ) → is_group_open before ≡ false → n ≤ count_by is_group_start before → members_after before es n ≡ []
 later_none (empty is) before n o l = rw is refl
@@ -214,7 +180,7 @@ later_none (outer e rest is clear p) before n o l =
     let more : n ≤ count_by is_group_start (before ++ e ∷ []) = let c : count_by is_group_start (before ++ e ∷ []) ≡ count_by is_group_start before = count_same before e clear in omega arith in
     rw (is, skipped) (later_none p (before ++ e ∷ []) n (open_same before e clear ∙ o) more)
 later_none (whole d j k inner rest is clear p) before n o l =
-    let other : (n == number before d j k inner clear) ≡ false = less_apart n (count_by is_group_start before + 1) (omega arith) in
+    let other : (n == number before d j k inner clear) ≡ false = ne_eqb n (count_by is_group_start before + 1) (λ e. omega arith) in
     let more : n ≤ count_by is_group_start ((opened before d j k inner clear ++ inner) ++ group_end k ∷ []) = let c : count_by is_group_start ((opened before d j k inner clear ++ inner) ++ group_end k ∷ []) ≡ count_by is_group_start before + 1 = number_inner before d j k inner clear in omega arith in
     rw is (members_of_group before d j k inner clear rest n ∙ ap (λ xs. xs ++ members_after ((opened before d j k inner clear ++ inner) ++ group_end k ∷ []) rest n) (group_of_other before d j k inner clear n other)
     ∙ later_none p ((opened before d j k inner clear ++ inner) ++ group_end k ∷ []) n (closed_after before d j k inner clear) more)
@@ -239,14 +205,13 @@ module _ (P : Entry → Type 0) where
   all_front [] fs h = All-nil P
   all_front (e ∷ es) fs h = All-cons P e es (All-head P e (es ++ fs) h) (all_front es fs (All-tail P e (es ++ fs) h))
 
-  one_all : (b : Bool) (p : Placed) (ps : List Placed) → P p.1 → All P (map entry ps) → All P (map entry (if b then p ∷ ps else ps))
-  one_all true p ps h rest = All-cons P p.1 (map entry ps) h rest
-  one_all false p ps h rest = rest
+  placed_all : (before es : List Entry) → All P es → All (λ p. P p.1) (placed_after before es)
+  placed_all before [] h = All-nil (λ p. P p.1)
+  placed_all before (e ∷ es) h = All-cons (λ p. P p.1) (before, e) _ (All-head P e es h) (placed_all (before ++ e ∷ []) es (All-tail P e es h))
 
   -- a part of the places of some entries
   pub part_all : (q : Placed → Bool) (before es : List Entry) → All P es → All P (map entry (filter q (placed_after before es)))
-  part_all q before [] h = h
-  part_all q before (e ∷ es) h = one_all (q (before, e)) (before, e) (filter q (placed_after (before ++ e ∷ []) es)) (All-head P e es h) (part_all q (before ++ e ∷ []) es (All-tail P e es h))
+  part_all q before es h = All-map P entry _ (All-filter q (λ p. P p.1) _ (placed_all before es h))
 
 one_clear : (b : Bool) (p : Placed) (ps : List Placed) → is_group_mark p.1 ≡ false → list_any is_group_mark (map entry ps) ≡ false → list_any is_group_mark (map entry (if b then p ∷ ps else ps)) ≡ false
 one_clear true p ps h rest = rw (h, rest) refl
@@ -255,8 +220,8 @@ one_clear false p ps h rest = rest
 pub part_clear : (q : Placed → Bool) (before es : List Entry) → list_any is_group_mark es ≡ false → list_any is_group_mark (map entry (filter q (placed_after before es))) ≡ false
 part_clear q before [] h = refl
 part_clear q before (e ∷ es) h =
-    one_clear (q (before, e)) (before, e) (filter q (placed_after (before ++ e ∷ []) es)) (first_of_two (is_group_mark e) (list_any is_group_mark es) h)
-    (part_clear q (before ++ e ∷ []) es (second_of_two (is_group_mark e) (list_any is_group_mark es) h))
+    one_clear (q (before, e)) (before, e) (filter q (placed_after (before ++ e ∷ []) es)) (or_parts (is_group_mark e) (list_any is_group_mark es) h).0
+    (part_clear q (before ++ e ∷ []) es (or_parts (is_group_mark e) (list_any is_group_mark es) h).1)
 
 pub group_whole : (P : Entry → Type 0) {es : List Entry} → HasPairedGroups es → All P es → (before : List Entry) (n : ℕ) → is_group_open before ≡ false → (members_after before es n ≡ []) ⊎ IsWholeGroup P (members_after before es n)
 group_whole P (empty is) h before n o = inl (rw is refl)

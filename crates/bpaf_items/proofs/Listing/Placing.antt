@@ -24,17 +24,25 @@ pub placed_entries : (before es : List Entry) → map (λ p. p.1) (placed_after 
 placed_entries before [] = refl
 placed_entries before (e ∷ es) = ap (λ fs. e ∷ fs) (placed_entries (before ++ e ∷ []) es)
 
+-- the entries of the places that pass a test
+abbrev pub entry : Placed → Entry
+entry p = p.1
+
+pub chosen-append : (q : Placed → Bool) (before es fs : List Entry) → map entry (filter q (placed_after before (es ++ fs))) ≡ map entry (filter q (placed_after before es)) ++ map entry (filter q (placed_after (before ++ es) fs))
+chosen-append q before es fs = rw (placed_after-append, filter-append, map-append) refl
+
+-- at two places that both pass, or both fail
+pub two_kept : (a b : Bool) (e : Entry) (before other : List Entry) (ps qs : List Placed) → a ≡ b → map entry ps ≡ map entry qs → map entry (if a then (before, e) ∷ ps else ps) ≡ map entry (if b then (other, e) ∷ qs else qs)
+two_kept true true e before other ps qs same rest = ap (λ xs. e ∷ xs) rest
+two_kept false false e before other ps qs same rest = rest
+two_kept a b e before other ps qs same rest = cc
+
 pub kept_map : (b : Bool) (p : Placed) → map (λ q. q.1) (if b then p ∷ [] else []) ≡ (if b then p.1 ∷ [] else [])
 kept_map true p = refl
 kept_map false p = refl
 
 pub outside_groups-append : (es fs : List Entry) → outside_groups (es ++ fs) ≡ outside_groups es ++ map (λ p. p.1) (filter (λ p. not (is_in_group p)) (placed_after es fs))
-outside_groups-append es fs =
-    let entry : Placed → Entry = λ p. p.1 in
-    let outside : Placed → Bool = λ p. not (is_in_group p) in
-    ap (λ ps. map entry (filter outside ps)) (placed-append es fs)
-    ∙ ap (map entry) (filter-append outside (placed es) (placed_after es fs))
-    ∙ map-append entry (filter outside (placed es)) (filter outside (placed_after es fs))
+outside_groups-append es fs = chosen-append (λ p. not (is_in_group p)) [] es fs
 
 pub outside_groups-push : (es : List Entry) (e : Entry) → outside_groups (es ++ e ∷ []) ≡ outside_groups es ++ (if not (is_in_group (es, e)) then e ∷ [] else [])
 outside_groups-push es e = outside_groups-append es (e ∷ []) ∙ ap (λ xs. outside_groups es ++ xs) (kept_map (not (is_in_group (es, e))) (es, e))

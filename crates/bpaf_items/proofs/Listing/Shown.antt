@@ -2,33 +2,24 @@
 use Rattle.std.proofs.Common.{◌≡◌, ℕ, ◌+◌, ◌≤◌, Bool, true, false, ◌||◌, List, [], ◌∷◌, ◌++◌, map, length, get_or, refl, sym, ap, ◌∙◌, subst, arith}
 use Rattle.std.specs.Prelude.{if◌then◌else◌, filter, take, count_by, Contains}
 use Rattle.std.specs.List.{list_any}
-use Rattle.std.proofs.lemmas.List.{map-append}
-use Rattle.std.proofs.lemmas.List.Elements.{filter-append}
+use Rattle.std.proofs.Math.Bool.{or-false, or-true}
 use Rattle.std.proofs.lemmas.List.Folds.{list_any-append}
 use Rattle.std.proofs.lemmas.List.Sums.{sum_by-cons, get_or-le-sum_by}
 use Rattle.bpaf_meta.specs.Content.{Leaf}
-use Rattle.bpaf_items.specs.Listing.ItemList.{Entry, listed, note, group_start, group_end, adjacent_start, adjacent_stop}
+use Rattle.bpaf_items.specs.Listing.ItemList.{Entry, listed}
 use Rattle.bpaf_items.specs.Listing.Keys.{key_of, same_key, keys_equiv}
 use Rattle.bpaf_items.specs.Listing.Falls.{Placed, placed, placed_after, has_key_of, is_shown, shown_places, shown_entries}
 use Rattle.bpaf_items.specs.Listing.ListLaws.{KeyOnce}
-use Rattle.bpaf_items.proofs.Listing.Placing.{placed-push, placed_entries, kept_map}
+use Rattle.bpaf_items.proofs.Listing.Placing.{chosen-append, placed_entries, kept_map}
 
 -- a list with one more entry shows what it showed, and then that entry where it is shown
 pub shown-push : (es : List Entry) (e : Entry) → shown_entries (es ++ e ∷ []) ≡ shown_entries es ++ (if is_shown (es, e) then e ∷ [] else [])
-shown-push es e =
-    let entry : Placed → Entry = λ q. q.1 in
-    let last : List Placed = if is_shown (es, e) then (es, e) ∷ [] else [] in
-    let split : filter is_shown (placed (es ++ e ∷ [])) ≡ filter is_shown (placed es) ++ last = ap (filter is_shown) (placed-push es e) ∙ filter-append is_shown (placed es) ((es, e) ∷ []) in
-    ap (map entry) split ∙ map-append entry (filter is_shown (placed es)) last ∙ ap (λ x. shown_entries es ++ x) (kept_map (is_shown (es, e)) (es, e))
+shown-push es e = chosen-append is_shown [] es (e ∷ []) ∙ ap (λ x. shown_entries es ++ x) (kept_map (is_shown (es, e)) (es, e))
 
 -- two items with one key: what has the key of one has that of the other
 alike : (l m : Leaf) → same_key (key_of l) (key_of m) ≡ true → (e : Entry) → has_key_of l e ≡ has_key_of m e
 alike l m h (listed k) = keys_equiv.congr (key_of l) (key_of m) (key_of k) h
-alike l m h (note d k) = refl
-alike l m h (group_start d k) = refl
-alike l m h (group_end k) = refl
-alike l m h (adjacent_start t k) = refl
-alike l m h (adjacent_stop k) = refl
+alike l m h e = refl
 
 any_alike : (l m : Leaf) → same_key (key_of l) (key_of m) ≡ true → (es : List Entry) → list_any (has_key_of l) es ≡ list_any (has_key_of m) es
 any_alike l m h [] = refl
@@ -45,14 +36,6 @@ module _ (l : Leaf) where
   seen-push : (before : List Entry) (e : Entry) → list_any has (before ++ e ∷ []) ≡ (list_any has before || (has e || false))
   seen-push before e = list_any-append has before (e ∷ [])
 
-  or_not : (b : Bool) → (b || (false || false)) ≡ b
-  or_not true = refl
-  or_not false = refl
-
-  or_true : (b : Bool) → (b || (true || false)) ≡ true
-  or_true true = refl
-  or_true false = refl
-
   -- an entry without the key
   passed : (b : Bool) (p : Placed) (ps : List Placed) → at p ≡ false → filter at (if b then p ∷ ps else ps) ≡ filter at ps
   passed true p ps h = rw h refl
@@ -61,20 +44,12 @@ module _ (l : Leaf) where
   -- an item with the key is not shown where the key was seen
   hidden : (before : List Entry) (e : Entry) → list_any has before ≡ true → has e ≡ true → is_shown (before, e) ≡ false
   hidden before (listed m) h y = let old : list_any (has_key_of m) before ≡ true = sym (any_alike l m y before) ∙ h in rw old refl
-  hidden before (note d k) h y = cc
-  hidden before (group_start d k) h y = cc
-  hidden before (group_end k) h y = cc
-  hidden before (adjacent_start t k) h y = cc
-  hidden before (adjacent_stop k) h y = cc
+  hidden before e h y = cc
 
   -- and is shown where it was not
   new : (before : List Entry) (e : Entry) → list_any has before ≡ false → has e ≡ true → is_shown (before, e) ≡ true
   new before (listed m) h y = let fresh : list_any (has_key_of m) before ≡ false = sym (any_alike l m y before) ∙ h in rw fresh refl
-  new before (note d k) h y = cc
-  new before (group_start d k) h y = cc
-  new before (group_end k) h y = cc
-  new before (adjacent_start t k) h y = cc
-  new before (adjacent_stop k) h y = cc
+  new before e h y = cc
 
   later_step : (before es : List Entry) (e : Entry) (b : Bool) → has e ≡ b → list_any has before ≡ true → filter at (filter is_shown (placed_after (before ++ e ∷ []) es)) ≡ [] → filter at (filter is_shown (placed_after before (e ∷ es))) ≡ []
   later_step before es e false n h later = passed (is_shown (before, e)) (before, e) (filter is_shown (placed_after (before ++ e ∷ []) es)) n ∙ later
@@ -89,12 +64,12 @@ module _ (l : Leaf) where
       → (list_any has (before ++ e ∷ []) ≡ false → filter at (filter is_shown (placed_after (before ++ e ∷ []) es)) ≡ take 1 (filter at (placed_after (before ++ e ∷ []) es)))
       → filter at (filter is_shown (placed_after before (e ∷ es))) ≡ take 1 (filter at (placed_after before (e ∷ es)))
   first_step before es e false n h f =
-      let still : list_any has (before ++ e ∷ []) ≡ false = seen-push before e ∙ ap (λ b. list_any has before || (b || false)) n ∙ or_not (list_any has before) ∙ h in
+      let still : list_any has (before ++ e ∷ []) ≡ false = seen-push before e ∙ ap (λ b. list_any has before || (b || false)) n ∙ or-false (list_any has before) ∙ h in
       passed (is_shown (before, e)) (before, e) (filter is_shown (placed_after (before ++ e ∷ []) es)) n
       ∙ f still
       ∙ ap (take 1) (sym (passed true (before, e) (placed_after (before ++ e ∷ []) es) n))
   first_step before es e true y h f =
-      let seen : list_any has (before ++ e ∷ []) ≡ true = seen-push before e ∙ ap (λ b. list_any has before || (b || false)) y ∙ or_true (list_any has before) in
+      let seen : list_any has (before ++ e ∷ []) ≡ true = seen-push before e ∙ ap (λ b. list_any has before || (b || false)) y ∙ or-true (list_any has before) in
       let shown : is_shown (before, e) ≡ true = new before e h y in
       rw (shown, y) (ap (λ ps. (before, e) ∷ ps) (none_later (before ++ e ∷ []) es seen))
 

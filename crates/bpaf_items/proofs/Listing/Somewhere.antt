@@ -1,13 +1,13 @@
 -- In an item list what has help, or stands in no adjacent block, falls under a group or a heading.
-use Rattle.std.proofs.Common.{◌≡◌, ◌≢◌, ℕ, ◌+◌, ◌<◌, ◌≤◌, Bool, true, false, not, ◌&&◌, ◌||◌, ◌⊎◌, inl, inr, List, [], ◌∷◌, ◌++◌, refl, sym, ap, ◌∙◌, subst, append_assoc, append-nil, arith}
-use Rattle.std.specs.Prelude.{if◌then◌else◌, IsTrue, All, count_by, nat_lt, Option, Some, None}
+use Rattle.std.proofs.Common.{◌≡◌, ◌≢◌, ℕ, ◌+◌, ◌<◌, ◌≤◌, Bool, true, false, not, ◌&&◌, ◌⊎◌, inl, inr, List, [], ◌∷◌, ◌++◌, refl, sym, ap, ◌∙◌, subst, append_assoc, append-nil, arith}
+use Rattle.std.specs.Prelude.{if◌then◌else◌, IsTrue, All, count_by, Option, Some}
 use Rattle.std.specs.Option.{option_map_or}
-use Rattle.std.proofs.lemmas.Bool.{le-ltb}
+use Rattle.std.proofs.lemmas.Bool.{le-ltb, or_parts, false_from_ne_true}
 use Rattle.std.proofs.lemmas.List.Elements.{All-nil, All-cons, All-append, All-same}
 use Rattle.bpaf_doc.specs.Buffer.Parts.{Part}
 use Rattle.bpaf_meta.specs.Content.{Tree}
 use Rattle.bpaf_items.specs.declared.meta_help.entry.HiTy.{HiTy}
-use Rattle.bpaf_items.specs.Listing.ItemList.{Entry, listed, note, group_start, group_end, adjacent_start, adjacent_stop}
+use Rattle.bpaf_items.specs.Listing.ItemList.{Entry, group_start, group_end, adjacent_start, adjacent_stop}
 use Rattle.bpaf_items.specs.Listing.Falls.{Placed, placed_after, Destination, group, heading, nowhere, lacks_help, type_of, is_mark, is_group_mark, is_group_start, is_group_end, is_adjacent_start, is_adjacent_stop, is_adjacent_mark, is_group_open, is_in_group, is_adjacent_in_group, last_that, outside_groups, heading_after, group_destination, heading_destination, destination}
 use Rattle.bpaf_items.specs.Listing.ListLaws.{IsInNoAdjacentBlock, FallsSomewhere}
 use Rattle.bpaf_items.proofs.Listing.Placing.{placed_after-append}
@@ -24,9 +24,8 @@ group_falls : (p : Placed) → lacks_help p.1 ≡ false → group_destination p 
 group_falls p h e = let kept : group (count_by is_group_start (p.0 ++ p.1 ∷ [])) ≡ nowhere = rw h at e in cc
 
 heading_after_falls : (mark : Option Entry) (e : Entry) → lacks_help e ≡ false → heading_after mark e ≢ nowhere
-heading_after_falls None e h = λ x. cc
 heading_after_falls (Some (adjacent_start t k)) e h = λ x. let kept : heading k ≡ nowhere = rw h at x in cc
-heading_after_falls (Some m) e h = λ x. cc
+heading_after_falls mark e h = λ x. cc
 
 pub help_falls : (p : Placed) → lacks_help p.1 ≡ false → destination p ≢ nowhere
 help_falls p h =
@@ -40,13 +39,10 @@ record Fits (before : List Entry) : Type 0 where
   pub since : since_start is_adjacent_start before + stops_in before ≤ since_start is_adjacent_stop before + starts_in before
   pub outer : is_group_open before ≡ false → is_block_open before ≡ true → stops_in before < starts_in before
 
-not_lt : (m n : ℕ) → m ≤ n → nat_lt n m ≡ false
-not_lt m n h = le-ltb n m h
-
 alone_in_group : (p : Placed) → Fits p.0 → IsInNoAdjacentBlock p → group_destination p ≢ nowhere
 alone_in_group p f h =
     let few : since_start is_adjacent_start p.0 ≤ since_start is_adjacent_stop p.0 = let s : since_start is_adjacent_start p.0 + stops_in p.0 ≤ since_start is_adjacent_stop p.0 + starts_in p.0 = f.since in omega arith in
-    let closed : is_adjacent_in_group p.0 ≡ false = not_lt (since_start is_adjacent_start p.0) (since_start is_adjacent_stop p.0) few in
+    let closed : is_adjacent_in_group p.0 ≡ false = le-ltb (since_start is_adjacent_stop p.0) (since_start is_adjacent_start p.0) few in
     by (lacks_help p.1) (is_adjacent_in_group p.0) closed (count_by is_group_start (p.0 ++ p.1 ∷ [])) where
       by : (a b : Bool) → b ≡ false → (n : ℕ) → (if a && b then nowhere else group n) ≢ nowhere
       by true true h n = cc
@@ -54,28 +50,16 @@ alone_in_group p f h =
       by false b h n = λ x. cc
 
 alone_after : (o : Option Entry) (e : Entry) → option_map_or is_adjacent_start o false ≡ false → heading_after o e ≢ nowhere
-alone_after None e h = λ x. cc
 alone_after (Some (adjacent_start t k)) e h = cc
-alone_after (Some (adjacent_stop k)) e h = λ x. cc
-alone_after (Some (group_start d k)) e h = λ x. cc
-alone_after (Some (group_end k)) e h = λ x. cc
-alone_after (Some (listed l)) e h = λ x. cc
-alone_after (Some (note d k)) e h = λ x. cc
-
-neither : (a b : Bool) → (a || b) ≡ false → b ≡ false
-neither true b h = cc
-neither false b h = h
+alone_after o e h = λ x. cc
 
 alone_outside : (p : Placed) → Fits p.0 → IsInNoAdjacentBlock p → is_in_group p ≡ false → heading_destination p ≢ nowhere
 alone_outside p f h out =
-    let closed : is_group_open p.0 ≡ false = neither (is_group_mark p.1) (is_group_open p.0) out in
+    let closed : is_group_open p.0 ≡ false = (or_parts (is_group_mark p.1) (is_group_open p.0) out).1 in
     let outer : is_block_open p.0 ≡ true → stops_in p.0 < starts_in p.0 = f.outer closed in
     let even_now : starts_in p.0 ≤ stops_in p.0 = h in
     choice_falls (is_mark p.1) (heading (type_of p.1)) (heading_after (last_that is_adjacent_mark (outside_groups p.0)) p.1) (λ m x. cc)
-    (λ m. alone_after (last_that is_adjacent_mark (outside_groups p.0)) p.1 (by (is_block_open p.0) (λ x. let l : stops_in p.0 < starts_in p.0 = outer x in omega arith))) where
-      by : (b : Bool) → (b ≡ true → ⊥) → b ≡ false
-      by true f = absurd (f refl)
-      by false f = refl
+    (λ m. alone_after (last_that is_adjacent_mark (outside_groups p.0)) p.1 (false_from_ne_true (is_block_open p.0) (λ x. let l : stops_in p.0 < starts_in p.0 = outer x in omega arith)))
 
 abbrev Falls : Placed → Type 0
 Falls p = IsTrue (not (lacks_help p.1)) ⊎ IsInNoAdjacentBlock p → destination p ≢ nowhere
@@ -106,10 +90,6 @@ one_falls before e f = All-cons Falls (before, e) [] (falls_at (before, e) f) (A
 join_falls : (before es fs : List Entry) → All Falls (placed_after before es) → All Falls (placed_after (before ++ es) fs) → All Falls (placed_after before (es ++ fs))
 join_falls before es fs f h = All-same Falls (placed_after before (es ++ fs)) (placed_after before es ++ placed_after (before ++ es) fs) (placed_after-append before es fs) (All-append Falls (placed_after before es) (placed_after (before ++ es) fs) f h)
 
-first_of_two : (a b : Bool) → (a || b) ≡ false → a ≡ false
-first_of_two true b h = cc
-first_of_two false b h = refl
-
 -- what is known before an entry that is no group mark is known after it
 after_entry : (g : Bool) (before : List Entry) (e : Entry) → is_group_mark e ≡ false → Stands g before
     → (starts stops : ℕ) → (if is_adjacent_start e then 1 else 0) ≡ starts → (if is_adjacent_stop e then 1 else 0) ≡ stops
@@ -117,7 +97,7 @@ after_entry : (g : Bool) (before : List Entry) (e : Entry) → is_group_mark e �
     → (is_group_open before ≡ false → is_block_open (before ++ e ∷ []) ≡ true → stops_in before + stops < starts_in before + starts)
     → Stands g (before ++ e ∷ [])
 after_entry g before e h s starts stops is_starts is_stops deep outer =
-    let not_start : is_group_start e ≡ false = first_of_two (is_group_start e) (is_group_end e) h in
+    let not_start : is_group_start e ≡ false = (or_parts (is_group_start e) (is_group_end e) h).0 in
     let a : starts_in (before ++ e ∷ []) ≡ starts_in before + starts = count-push is_adjacent_start before e ∙ ap (λ n. starts_in before + n) is_starts in
     let z : stops_in (before ++ e ∷ []) ≡ stops_in before + stops = count-push is_adjacent_stop before e ∙ ap (λ n. stops_in before + n) is_stops in
     let since_a : since_start is_adjacent_start (before ++ e ∷ []) ≡ since_start is_adjacent_start before + starts
@@ -149,22 +129,18 @@ after_stop g before k s less =
     after_entry g before (adjacent_stop k) refl s 0 1 refl refl (omega arith)
     (λ o b. let shut : is_block_open (before ++ adjacent_stop k ∷ []) ≡ false = block_open-push before (adjacent_stop k) (in_group_here before (adjacent_stop k) refl ∙ o) in cc)
 
-after_plain : (g : Bool) (before : List Entry) (e : Entry) → is_mark e ≡ false → Stands g before → Stands g (before ++ e ∷ [])
-after_plain g before (listed l) h s =
-    let deep : stops_in before ≤ starts_in before = s.deep in
-    after_entry g before (listed l) refl s 0 0 refl refl (omega arith)
-    (λ o b. let less : stops_in before < starts_in before = s.fits.outer o (sym (block_open-push before (listed l) (in_group_here before (listed l) refl ∙ o)) ∙ b) in omega arith)
-after_plain g before (note d k) h s =
-    let deep : stops_in before ≤ starts_in before = s.deep in
-    after_entry g before (note d k) refl s 0 0 refl refl (omega arith)
-    (λ o b. let less : stops_in before < starts_in before = s.fits.outer o (sym (block_open-push before (note d k) (in_group_here before (note d k) refl ∙ o)) ∙ b) in omega arith)
-after_plain g before (group_start d k) h s = cc
-after_plain g before (group_end k) h s = cc
-after_plain g before (adjacent_start t k) h s = cc
-after_plain g before (adjacent_stop k) h s = cc
-
 no_group_mark : (e : Entry) → is_mark e ≡ false → is_group_mark e ≡ false
-no_group_mark e h = first_of_two (is_group_mark e) (is_adjacent_mark e) h
+no_group_mark e h = (or_parts (is_group_mark e) (is_adjacent_mark e) h).0
+
+after_plain : (g : Bool) (before : List Entry) (e : Entry) → is_mark e ≡ false → Stands g before → Stands g (before ++ e ∷ [])
+after_plain g before e h s =
+    let deep : stops_in before ≤ starts_in before = s.deep in
+    let unmarked : is_adjacent_mark e ≡ false = (or_parts (is_group_mark e) (is_adjacent_mark e) h).1 in
+    let neither = or_parts (is_adjacent_start e) (is_adjacent_stop e) unmarked in
+    let still : is_group_open before ≡ false → is_block_open (before ++ e ∷ []) ≡ is_block_open before
+    = λ o. block_open-push before e (in_group_here before e (no_group_mark e h) ∙ o) ∙ ap (λ b. if b then is_adjacent_start e else is_block_open before) unmarked in
+    after_entry g before e (no_group_mark e h) s 0 0 (ap (λ b. if b then 1 else 0) neither.0) (ap (λ b. if b then 1 else 0) neither.1) (omega arith)
+    (λ o b. let less : stops_in before < starts_in before = s.fits.outer o (sym (still o) ∙ b) in omega arith)
 
 -- one after the other
 go_on : (g : Bool) (before es fs : List Entry) → Goes g before es → Goes g (before ++ es) fs → Goes g before (es ++ fs)

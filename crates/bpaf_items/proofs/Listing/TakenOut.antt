@@ -1,38 +1,32 @@
 -- Groups are taken out of a list one after another.
-use Rattle.std.proofs.Common.{◌≡◌, ℕ, ◌+◌, ◌<◌, ◌≤◌, ◌==◌, Bool, true, false, not, ◌&&◌, ◌||◌, ◌⊎◌, inl, inr, List, [], ◌∷◌, ◌++◌, length, map, refl, sym, ap, ◌∙◌, append_assoc, append-nil, arith}
+use Rattle.std.proofs.Common.{◌≡◌, ℕ, ◌+◌, ◌≤◌, ◌==◌, Bool, true, false, not, ◌&&◌, ◌||◌, ◌⊎◌, inl, inr, List, [], ◌∷◌, ◌++◌, length, map, refl, sym, ap, ◌∙◌, append_assoc, append-nil, add-one, arith}
 use Rattle.std.specs.Prelude.{if◌then◌else◌, filter, count_by, nat_lt, Some, None}
 use Rattle.std.specs.List.{list_any, position, position_or_len, after_last}
-use Rattle.std.proofs.lemmas.Bool.{eqb-true, lt-ltb, le-ltb}
-use Rattle.std.proofs.lemmas.Cmp.{nat_eq_equiv}
-use Rattle.std.proofs.lemmas.List.{length-append, map-append}
-use Rattle.std.proofs.lemmas.List.Elements.{filter-append}
+use Rattle.std.proofs.Math.Bool.{and-true}
+use Rattle.std.proofs.Math.Dec.{eqb-suc-suc}
+use Rattle.std.proofs.lemmas.Bool.{ne_eqb, lt-ltb, le-ltb, or_parts}
+use Rattle.std.proofs.lemmas.List.{length-append}
 use Rattle.std.proofs.lemmas.List.Folds.{list_any-append}
 use Rattle.bpaf_doc.specs.Buffer.Parts.{Part}
 use Rattle.bpaf_items.specs.declared.meta_help.entry.HiTy.{HiTy}
 use Rattle.bpaf_items.specs.Listing.ItemList.{Entry, group_start, group_end}
-use Rattle.bpaf_items.specs.Listing.Falls.{Placed, placed_after, is_group_start, is_group_end, is_group_mark, is_adjacent_start, is_adjacent_stop, is_group_open, is_in_group, is_adjacent_in_group, lacks_help, group_members, outside_groups}
+use Rattle.bpaf_items.specs.Listing.Falls.{placed_after, is_group_start, is_group_end, is_group_mark, is_adjacent_start, is_adjacent_stop, is_group_open, is_in_group, is_adjacent_in_group, lacks_help, group_members, outside_groups}
 use Rattle.bpaf_items.specs.Listing.Groups.{find_group, both_places, HasNoGroupMark, HasPairedGroups, empty, outer, whole, stays, kept_entries, HasFirstGroup, HasNoGroup, GroupsAreTakenOut}
-use Rattle.bpaf_items.proofs.Listing.Placing.{placed_after-append}
+use Rattle.bpaf_items.proofs.Listing.Placing.{entry, chosen-append, two_kept}
 use Rattle.bpaf_items.proofs.Listing.Blocks.{item_list_blocks, count-append, count-cons}
 use Rattle.bpaf_items.proofs.Listing.Pushes.{open-push, after_last-push}
-use Rattle.bpaf_items.proofs.Listing.PairedGroups.{entry, in_number, members_after, members_after-append, outside_no_group, first_of_two, second_of_two, closed_outside, open_inside, open_same, not_start, count_same, open_through, count_through, kept_after, opened, number, number_inner, group_of, group_of_own, group_of_other, members_of_group, closed_after, later_none, blocks_paired}
+use Rattle.bpaf_items.proofs.Listing.PairedGroups.{in_number, members_after, members_after-append, outside_no_group, closed_outside, open_inside, open_same, not_start, count_same, open_through, count_through, kept_after, opened, number, number_inner, group_of, group_of_own, group_of_other, members_of_group, closed_after, later_none, blocks_paired}
 
 -- ---- outside groups nothing falls under one
 
 none_outside : (before es : List Entry) (n : ℕ) → HasNoGroupMark es → is_group_open before ≡ false → members_after before es n ≡ []
 none_outside before [] n h o = refl
 none_outside before (e ∷ es) n h o =
-    let clear : is_group_mark e ≡ false = first_of_two (is_group_mark e) (list_any is_group_mark es) h in
+    let clear : is_group_mark e ≡ false = (or_parts (is_group_mark e) (list_any is_group_mark es) h).0 in
     let skipped : in_number n (before, e) ≡ false = outside_no_group n (before, e) (closed_outside before e clear o) in
-    rw skipped (none_outside (before ++ e ∷ []) es n (second_of_two (is_group_mark e) (list_any is_group_mark es) h) (open_same before e clear ∙ o))
+    rw skipped (none_outside (before ++ e ∷ []) es n (or_parts (is_group_mark e) (list_any is_group_mark es) h).1 (open_same before e clear ∙ o))
 
 -- ---- the same entries in another place
-
-two_kept : (a b : Bool) (e : Entry) (before other : List Entry) (ps qs : List Placed) → a ≡ b → map entry ps ≡ map entry qs → map entry (if a then (before, e) ∷ ps else ps) ≡ map entry (if b then (other, e) ∷ qs else qs)
-two_kept true true e before other ps qs same rest = ap (λ xs. e ∷ xs) rest
-two_kept false false e before other ps qs same rest = rest
-two_kept true false e before other ps qs same rest = cc
-two_kept false true e before other ps qs same rest = cc
 
 -- what stays in a group depends on what stands since its start
 pub kept_alike : (before other es : List Entry) (c : Bool) → after_last is_group_start before ≡ after_last is_group_start other → kept_after before es c ≡ kept_after other es c
@@ -43,21 +37,12 @@ kept_alike before other (e ∷ es) c same =
     let alike : is_adjacent_in_group before ≡ is_adjacent_in_group other = ap (λ xs. nat_lt (count_by is_adjacent_stop xs) (count_by is_adjacent_start xs)) same in
     two_kept (stays (before, e) && c) (stays (other, e) && c) e before other _ _ (ap (λ b. not (lacks_help e && b) && c) alike) (kept_alike (before ++ e ∷ []) (other ++ e ∷ []) es c next)
 
-true_and : (b : Bool) → (b && true) ≡ b
-true_and true = refl
-true_and false = refl
-
 pub kept_true : (before es : List Entry) → kept_after before es true ≡ map entry (filter stays (placed_after before es))
 kept_true before [] = refl
-kept_true before (e ∷ es) = two_kept (stays (before, e) && true) (stays (before, e)) e before before _ _ (true_and (stays (before, e))) (kept_true (before ++ e ∷ []) es)
+kept_true before (e ∷ es) = two_kept (stays (before, e) && true) (stays (before, e)) e before before _ _ (and-true (stays (before, e))) (kept_true (before ++ e ∷ []) es)
 
 next_alike : (a b c : ℕ) → c ≡ b + 1 → (a + 1 == c) ≡ (a == b)
-next_alike a b c is = by (a + 1 == c) (a == b) refl refl where
-  by : (x y : Bool) → (a + 1 == c) ≡ x → (a == b) ≡ y → x ≡ y
-  by true true h k = refl
-  by false false h k = refl
-  by true false h k = let e : a + 1 ≡ c = eqb-true (a + 1) c h in let f : a ≡ b = omega arith in let g : (a == b) ≡ true = ap (λ n. a == n) (sym f) ∙ nat_eq_equiv.refl a in cc
-  by false true h k = let f : a ≡ b = eqb-true a b k in let e : a + 1 ≡ c = omega arith in let g : (a + 1 == c) ≡ true = ap (λ n. a + 1 == n) (sym e) ∙ nat_eq_equiv.refl (a + 1) in cc
+next_alike a b c is = rw (is, add-one, add-one) (eqb-suc-suc a b)
 
 -- the numbers go down by one where a group before is left out
 pub shifted : {es : List Entry} → HasPairedGroups es → (before other : List Entry) (n : ℕ) → is_group_open before ≡ false → is_group_open other ≡ false → count_by is_group_start before ≡ count_by is_group_start other + 1
@@ -98,29 +83,27 @@ outside_alike before other (e ∷ es) same =
 outside_none : (before es : List Entry) → HasNoGroupMark es → is_group_open before ≡ true → outside_after before es ≡ []
 outside_none before [] h o = refl
 outside_none before (e ∷ es) h o =
-    let clear : is_group_mark e ≡ false = first_of_two (is_group_mark e) (list_any is_group_mark es) h in
+    let clear : is_group_mark e ≡ false = (or_parts (is_group_mark e) (list_any is_group_mark es) h).0 in
     let within : is_in_group (before, e) ≡ true = open_inside before e clear o in
-    rw within (outside_none (before ++ e ∷ []) es (second_of_two (is_group_mark e) (list_any is_group_mark es) h) (open_same before e clear ∙ o))
+    rw within (outside_none (before ++ e ∷ []) es (or_parts (is_group_mark e) (list_any is_group_mark es) h).1 (open_same before e clear ∙ o))
 
 outside_all : (before es : List Entry) → HasNoGroupMark es → is_group_open before ≡ false → outside_after before es ≡ es
 outside_all before [] h o = refl
 outside_all before (e ∷ es) h o =
-    let clear : is_group_mark e ≡ false = first_of_two (is_group_mark e) (list_any is_group_mark es) h in
+    let clear : is_group_mark e ≡ false = (or_parts (is_group_mark e) (list_any is_group_mark es) h).0 in
     let without : is_in_group (before, e) ≡ false = closed_outside before e clear o in
-    rw without (ap (λ xs. e ∷ xs) (outside_all (before ++ e ∷ []) es (second_of_two (is_group_mark e) (list_any is_group_mark es) h) (open_same before e clear ∙ o)))
+    rw without (ap (λ xs. e ∷ xs) (outside_all (before ++ e ∷ []) es (or_parts (is_group_mark e) (list_any is_group_mark es) h).1 (open_same before e clear ∙ o)))
 
 outside_after-append : (before es fs : List Entry) → outside_after before (es ++ fs) ≡ outside_after before es ++ outside_after (before ++ es) fs
-outside_after-append before es fs =
-    let out : Placed → Bool = λ p. not (is_in_group p) in
-    ap (λ ps. map entry (filter out ps)) (placed_after-append before es fs) ∙ ap (map entry) (filter-append out (placed_after before es) (placed_after (before ++ es) fs)) ∙ map-append entry (filter out (placed_after before es)) (filter out (placed_after (before ++ es) fs))
+outside_after-append before es fs = chosen-append (λ p. not (is_in_group p)) before es fs
 
 -- ---- places
 
 at_or_len : (p : Entry → Bool) (front : List Entry) (e : Entry) (back : List Entry) → list_any p front ≡ false → p e ≡ true → position_or_len p (front ++ e ∷ back) ≡ length front
 at_or_len p [] e back h y = rw y refl
 at_or_len p (f ∷ front) e back h y =
-    let n : p f ≡ false = first_of_two (p f) (list_any p front) h in
-    let rest : position_or_len p (front ++ e ∷ back) ≡ length front = at_or_len p front e back (second_of_two (p f) (list_any p front) h) y in
+    let n : p f ≡ false = (or_parts (p f) (list_any p front) h).0 in
+    let rest : position_or_len p (front ++ e ∷ back) ≡ length front = at_or_len p front e back (or_parts (p f) (list_any p front) h).1 y in
     rw n (omega arith)
 
 place_at : (p : Entry → Bool) (front : List Entry) (e : Entry) (back : List Entry) → list_any p front ≡ false → p e ≡ true → position p (front ++ e ∷ back) ≡ Some (length front)
@@ -132,8 +115,8 @@ place_at p front e back h y =
 past_len : (p : Entry → Bool) (es : List Entry) → list_any p es ≡ false → position_or_len p es ≡ length es
 past_len p [] h = refl
 past_len p (e ∷ es) h =
-    let n : p e ≡ false = first_of_two (p e) (list_any p es) h in
-    let rest : position_or_len p es ≡ length es = past_len p es (second_of_two (p e) (list_any p es) h) in
+    let n : p e ≡ false = (or_parts (p e) (list_any p es) h).0 in
+    let rest : position_or_len p es ≡ length es = past_len p es (or_parts (p e) (list_any p es) h).1 in
     rw n (omega arith)
 
 no_place : (p : Entry → Bool) (es : List Entry) → list_any p es ≡ false → position p es ≡ None
@@ -142,14 +125,14 @@ no_place p es h = ap (λ n. if nat_lt n (length es) then Some n else None) (past
 no_starts : (es : List Entry) → HasNoGroupMark es → list_any is_group_start es ≡ false
 no_starts [] h = refl
 no_starts (e ∷ es) h =
-    let n : is_group_start e ≡ false = not_start e (first_of_two (is_group_mark e) (list_any is_group_mark es) h) in
-    rw n (no_starts es (second_of_two (is_group_mark e) (list_any is_group_mark es) h))
+    let n : is_group_start e ≡ false = not_start e (or_parts (is_group_mark e) (list_any is_group_mark es) h).0 in
+    rw n (no_starts es (or_parts (is_group_mark e) (list_any is_group_mark es) h).1)
 
 no_ends : (es : List Entry) → HasNoGroupMark es → list_any is_group_end es ≡ false
 no_ends [] h = refl
 no_ends (e ∷ es) h =
-    let n : is_group_end e ≡ false = second_of_two (is_group_start e) (is_group_end e) (first_of_two (is_group_mark e) (list_any is_group_mark es) h) in
-    rw n (no_ends es (second_of_two (is_group_mark e) (list_any is_group_mark es) h))
+    let n : is_group_end e ≡ false = (or_parts (is_group_start e) (is_group_end e) (or_parts (is_group_mark e) (list_any is_group_mark es) h).0).1 in
+    rw n (no_ends es (or_parts (is_group_mark e) (list_any is_group_mark es) h).1)
 
 -- ---- the first group
 
@@ -175,7 +158,7 @@ split (whole d j k inner rest is clear p) = inr (record { front = []; title = d;
 
 front_paired : (front : List Entry) {back : List Entry} → HasNoGroupMark front → HasPairedGroups back → HasPairedGroups (front ++ back)
 front_paired [] h p = p
-front_paired (e ∷ front) {back} h p = outer e (front ++ back) refl (first_of_two (is_group_mark e) (list_any is_group_mark front) h) (front_paired front (second_of_two (is_group_mark e) (list_any is_group_mark front) h) p)
+front_paired (e ∷ front) {back} h p = outer e (front ++ back) refl (or_parts (is_group_mark e) (list_any is_group_mark front) h).0 (front_paired front (or_parts (is_group_mark e) (list_any is_group_mark front) h).1 p)
 
 none_taken : (es : List Entry) → HasNoGroupMark es → HasNoGroup es
 none_taken es h = record {
@@ -214,14 +197,9 @@ module _ (front : List Entry) (d : List Part) (j k : HiTy) (inner back : List En
   other_members n =
       let c : count_by is_group_start after ≡ count_by is_group_start front + 1 = number_inner front d j k inner clear in
       let two : n + 2 ≡ (n + 1) + 1 = omega arith in
-      let other : (n + 2 == number front d j k inner clear) ≡ false = apart (n + 2) (count_by is_group_start front + 1) (let z : count_by is_group_start front ≡ 0 = none_front in omega arith) in
+      let other : (n + 2 == number front d j k inner clear) ≡ false = let z : count_by is_group_start front ≡ 0 = none_front in ne_eqb (n + 2) (count_by is_group_start front + 1) (λ e. omega arith) in
       members_all (n + 2) ∙ ap (λ xs. xs ++ members_after after back (n + 2)) (group_of_other front d j k inner clear (n + 2) other) ∙ ap (members_after after back) two ∙ shifted paired after front (n + 1) (closed_after front d j k inner clear) closed_front c
-      ∙ sym (members_after-append [] front back (n + 1) ∙ ap (λ xs. xs ++ members_after front back (n + 1)) (none_outside [] front (n + 1) clear_front refl)) where
-        apart : (a b : ℕ) → b < a → (a == b) ≡ false
-        apart a b h = by (a == b) refl where
-          by : (t : Bool) → (a == b) ≡ t → t ≡ false
-          by true e = let same : a ≡ b = eqb-true a b e in absurd (omega arith)
-          by false e = refl
+      ∙ sym (members_after-append [] front back (n + 1) ∙ ap (λ xs. xs ++ members_after front back (n + 1)) (none_outside [] front (n + 1) clear_front refl))
 
   pub outside_all_but : outside_groups all ≡ outside_groups (front ++ back)
   outside_all_but =

@@ -5,7 +5,6 @@ use Rattle.std.specs.Borrow.{Bor}
 use Rattle.std.specs.List.{position, range_with_len}
 use Rattle.std.proofs.Math.Seq.{take-append_seam, drop-append_seam}
 use Rattle.std.proofs.lemmas.List.{map-append, length-append, take-map, drop-map}
-use Rattle.std.proofs.lemmas.List.Elements.{filter-append}
 use Rattle.bpaf_doc.specs.Buffer.Parts.{Part}
 use Rattle.bpaf_doc.specs.declared.buffer.Block.TheVariants as block
 use Rattle.bpaf_doc.specs.Buffer.Writes.{Write, end, with_writes}
@@ -14,17 +13,17 @@ use Rattle.bpaf_items.specs.declared.meta_help.entry.HiTy.{HiTy}
 use Rattle.bpaf_items.specs.declared.meta_help.entry.HiTy.TheVariants as ty
 use Rattle.bpaf_items.specs.Listing.ItemList.{Entry, group_start, group_end}
 use Rattle.bpaf_items.specs.declared.meta_help.entry.HelpItem.{HelpItem}
-use Rattle.bpaf_items.specs.Listing.Falls.{Placed, placed_after, is_group_start, is_group_end, is_group_mark, is_adjacent_start, is_adjacent_stop, is_in_group, lacks_help, group_members, heading_members, items_of_type, outside_groups}
+use Rattle.bpaf_items.specs.Listing.Falls.{placed_after, is_group_start, is_group_end, is_group_mark, is_adjacent_start, is_adjacent_stop, is_in_group, lacks_help, group_members, heading_members, items_of_type, outside_groups}
 use Rattle.bpaf_items.specs.Listing.Groups.{both_places, HasNoGroupMark, HasPairedGroups, empty, outer, whole, stays, kept_entries}
 use Rattle.bpaf_items.specs.Page.EnvTexts.{Texts}
 use Rattle.bpaf_items.specs.Page.HelpPage.{groups_writes, heading_writes, list_writes}
 use Rattle.bpaf_items.specs.Page.Steps.Groups.{group_lists, group_len, heading_end, headings, len_through, Takes, title_front}
 use Rattle.bpaf_items.specs.View.{entry_at, entry_of}
-use Rattle.bpaf_items.proofs.Listing.Placing.{placed_after-append, placed-push, kept_map}
+use Rattle.bpaf_items.proofs.Listing.Placing.{entry, chosen-append, kept_map}
 use Rattle.bpaf_items.proofs.Listing.Blocks.{count-cons}
 use Rattle.bpaf_items.proofs.Listing.Headings.{headings_agree}
 use Rattle.bpaf_items.proofs.Listing.Pushes.{after_last-push, since_start, since_start-push}
-use Rattle.bpaf_items.proofs.Listing.PairedGroups.{entry, in_number, members_after, outside_no_group, closed_outside, open_same, not_start, count_same}
+use Rattle.bpaf_items.proofs.Listing.PairedGroups.{in_number, members_after, outside_no_group, closed_outside, open_same, not_start, count_same}
 use Rattle.bpaf_items.proofs.Listing.TakenOut.{kept_alike, kept_true, shifted, outside_alike, first_members, other_members, outside_all_but, one_fewer, both_at}
 
 -- ---- a list of numbers
@@ -33,14 +32,12 @@ same_for_each : (f g : ℕ → List Write) → ((n : ℕ) → f n ≡ g n) → (
 same_for_each f g h [] = refl
 same_for_each f g h (n ∷ ns) = ap (λ ws. ws ++ flat_map f ns) (h n) ∙ ap (λ ws. g n ++ ws) (same_for_each f g h ns)
 
-next_number : (a : ℕ) → (a + 2) + 1 ≡ (a + 1) + 2
-next_number a = omega arith
-
 numbered_on : (f g : ℕ → List Write) → ((n : ℕ) → f (n + 2) ≡ g (n + 1)) → (a c : ℕ) → flat_map f (range_with_len (a + 2) c) ≡ flat_map g (range_with_len (a + 1) c)
 numbered_on f g h a zero = refl
 numbered_on f g h a (suc c) =
+    let next : (a + 2) + 1 ≡ (a + 1) + 2 = omega arith in
     ap (λ ws. ws ++ flat_map f (range_with_len ((a + 2) + 1) c)) (h a)
-    ∙ ap (λ b. g (a + 1) ++ flat_map f (range_with_len b c)) (next_number a)
+    ∙ ap (λ b. g (a + 1) ++ flat_map f (range_with_len b c)) next
     ∙ ap (λ ws. g (a + 1) ++ ws) (numbered_on f g h (a + 1) c)
 
 -- ---- an entry outside groups
@@ -142,13 +139,7 @@ module _ (d : List Part) (j k : HiTy) (inner rest : List Entry) (clear : HasNoGr
       ∙ kept_true [] inner
 
   kept_marked : kept_entries marked ≡ group_start d j ∷ (kept_entries inner ++ group_end k ∷ [])
-  kept_marked =
-      let opened : List Entry = group_start d j ∷ [] in
-      ap (λ xs. group_start d j ∷ xs)
-      (ap (λ ps. map entry (filter stays ps)) (placed_after-append opened inner (group_end k ∷ []))
-      ∙ ap (map entry) (filter-append stays (placed_after opened inner) (placed_after (opened ++ inner) (group_end k ∷ [])))
-      ∙ map-append entry (filter stays (placed_after opened inner)) (filter stays (placed_after (opened ++ inner) (group_end k ∷ [])))
-      ∙ ap (λ xs. xs ++ group_end k ∷ []) kept_rest)
+  kept_marked = ap (λ xs. group_start d j ∷ xs) (chosen-append stays (group_start d j ∷ []) inner (group_end k ∷ []) ∙ ap (λ xs. xs ++ group_end k ∷ []) kept_rest)
 
   split : listing ≡ marked ++ rest
   split = ap (λ xs. group_start d j ∷ xs) (sym (append_assoc inner (group_end k ∷ []) rest))
@@ -223,12 +214,7 @@ takes_group included texts all e es before now outside paired same h written =
 -- ---- what stays in a group
 
 pub kept-push : (es : List Entry) (e : Entry) → kept_entries (es ++ e ∷ []) ≡ kept_entries es ++ (if stays (es, e) then e ∷ [] else [])
-kept-push es e =
-    let last : List Placed = if stays (es, e) then (es, e) ∷ [] else [] in
-    ap (λ ps. map entry (filter stays ps)) (placed-push es e)
-    ∙ ap (map entry) (filter-append stays (placed_after [] es) ((es, e) ∷ []))
-    ∙ map-append entry (filter stays (placed_after [] es)) last
-    ∙ ap (λ xs. kept_entries es ++ xs) (kept_map (stays (es, e)) (es, e))
+kept-push es e = chosen-append stays [] es (e ∷ []) ∙ ap (λ xs. kept_entries es ++ xs) (kept_map (stays (es, e)) (es, e))
 
 pub few : (b c : Bool) (n m i : ℕ) → m ≡ (if b then 0 else n + (if c then 1 else 0)) → n ≤ i → m ≤ i + 1
 few true c n m i is h = rw is (omega arith)

@@ -1,10 +1,10 @@
 -- Pages of well-nested texts are well nested.
-use Rattle.std.proofs.Common.{◌≡◌, ℕ, Bool, true, false, ◌&&◌, ◌||◌, ◌⊎◌, inl, inr, List, [], ◌∷◌, ◌++◌, map, refl, sym, ap, ◌∙◌, subst, append_assoc, append-nil}
+use Rattle.std.proofs.Common.{◌≡◌, ℕ, Bool, true, false, ◌⊎◌, inl, inr, List, [], ◌∷◌, ◌++◌, map, refl, sym, ap, ◌∙◌, subst, append_assoc, append-nil}
 use Rattle.std.specs.Prelude.{if◌then◌else◌, filter, flat_map, count_by, All, codes, Option, Some, None}
+use Rattle.std.proofs.lemmas.Bool.{or_parts}
 use Rattle.std.specs.List.{list_any, range_with_len}
 use Rattle.std.proofs.lemmas.Grind.{flat_map-append}
-use Rattle.std.proofs.lemmas.List.{map-append}
-use Rattle.std.proofs.lemmas.List.Elements.{filter-append, All-nil, All-cons, All-append, All-push, All-head, All-tail}
+use Rattle.std.proofs.lemmas.List.Elements.{All-nil, All-cons, All-append, All-push, All-head, All-tail}
 use Rattle.bpaf_doc.specs.declared.buffer.Style.{Style}
 use Rattle.bpaf_doc.specs.declared.buffer.Style.TheVariants as style
 use Rattle.bpaf_doc.specs.declared.buffer.Block.{Block}
@@ -12,7 +12,7 @@ use Rattle.bpaf_doc.specs.declared.buffer.Block.TheVariants as block
 use Rattle.bpaf_doc.specs.Buffer.Parts.{Part, IsWellNested, nothing}
 use Rattle.bpaf_doc.specs.Buffer.Writes.{Write, text, start, end, with_write, with_writes, document_of, doc_writes, em_doc_writes, path_writes, inside}
 use Rattle.bpaf_doc.proofs.lemmas.Buffer.Nesting.{IsWellNested-with_text, IsWellNested-in_block, IsWellNested-inside, IsWellNested-em_doc, IsWellNested-path}
-use Rattle.bpaf_meta.specs.Content.{Name, short, long, both, Tree, and_of, or_of, optional, required, adjacent, item, many, subsection, suffix, skip, custom_usage, strict, Trees, no_trees, tree, Leaf, any, positional, command, flag, argument, Head, head}
+use Rattle.bpaf_meta.specs.Content.{Name, both, Tree, and_of, or_of, optional, required, adjacent, item, many, subsection, suffix, skip, custom_usage, strict, Trees, no_trees, tree, Leaf, any, positional, command, flag, argument, Head, head}
 use Rattle.bpaf_meta.specs.Usage.Nested.{HasNestedDoc, HasNestedDocs, EachHasNestedDocs}
 use Rattle.bpaf_meta.specs.Usage.Writes.{metavar_writes, usage_writes}
 use Rattle.bpaf_meta.specs.Meta.Normal.{normalized}
@@ -21,13 +21,14 @@ use Rattle.bpaf_meta.proofs.lemmas.Usage.Nested.{normalized_nested, metavar_keep
 use Rattle.bpaf_items.specs.declared.meta_help.entry.HiTy.{HiTy}
 use Rattle.bpaf_items.specs.declared.meta_help.entry.HiTy.TheVariants as ty
 use Rattle.bpaf_items.specs.Listing.ItemList.{Entry, listed, note, group_start, group_end, adjacent_start, adjacent_stop, front_type, item_entries, adjacent_entries, group_entries, noted_entries, entries_with_type, entries_of, entries_of_parts, item_list, IsItemList}
-use Rattle.bpaf_items.specs.Listing.Falls.{Placed, placed_after, is_group_mark, is_group_start, lacks_help, is_adjacent_in_group, group, nowhere, destination, is_heading, is_shown, shown_entries, group_members, heading_members}
+use Rattle.bpaf_items.specs.Listing.Falls.{Placed, placed_after, is_group_mark, is_group_start, destination, is_heading, is_shown, shown_entries, group_members, heading_members}
 use Rattle.bpaf_items.specs.Page.EnvTexts.{Texts}
 use Rattle.bpaf_items.specs.Page.EntryWrites.{term, help_writes, names_writes, command_writes, env_body, env_term, env_writes, flag_env_text, argument_env_text, listed_writes, entry_writes}
 use Rattle.bpaf_items.specs.Page.HelpPage.{list_writes, heading_writes, groups_writes, doc_within, usage_line_writes, help_page_writes}
 use Rattle.bpaf_items.specs.Page.NestedTexts.{IsNestedText, HasNestedText, HasNestedTexts, EachHasNestedTexts, HasNestedHead, HasNestedEntry, KeepsNested, ItemListsAreNested, GroupsAreNested, HelpPagesAreNested}
-use Rattle.bpaf_items.proofs.Listing.Placing.{placed_after-append}
+use Rattle.bpaf_items.proofs.Listing.Placing.{entry, chosen-append}
 use Rattle.bpaf_items.proofs.Listing.Blocks.{item_list_blocks}
+use Rattle.bpaf_items.proofs.Listing.Headings.{group_no_heading}
 use Rattle.bpaf_items.proofs.Listing.PairedGroups.{blocks_paired, IsWholeGroup, group_whole, part_all, part_clear}
 
 -- ---- what keeps a document well nested
@@ -73,10 +74,7 @@ each_keeps P f k (x ∷ xs) h = both_keep (k x (All-head P x xs h)) (each_keeps 
 
 help_nested : (l : Leaf) → HasNestedText l → HasNestedDoc l
 help_nested (any m a h) k = k.0
-help_nested (positional m h) k = tt
-help_nested (command n c h t i) k = tt
-help_nested (flag n s e h) k = tt
-help_nested (argument n s m e h) k = tt
+help_nested l k = tt
 
 mutual
   pub docs_nested : (t : Tree) → HasNestedTexts t → HasNestedDocs t
@@ -107,12 +105,8 @@ more_nested : (es : List Entry) (e : Entry) → Nested es → HasNestedEntry e �
 more_nested es e h k = All-push HasNestedEntry es e h k
 
 item_nested : (l : Leaf) → HasNestedText l → Nested (item_entries l)
-item_nested (any m a h) k = one_nested _ k
 item_nested (positional m None) k = All-nil HasNestedEntry
-item_nested (positional m (Some h)) k = one_nested _ k
-item_nested (command n c h t i) k = one_nested _ k
-item_nested (flag n s e h) k = one_nested _ k
-item_nested (argument n s m e h) k = one_nested _ k
+item_nested l k = one_nested _ k
 
 adjacent_nested : (o : Option HiTy) (t : Tree) (es : List Entry) → HasNestedDocs t → Nested es → Nested (adjacent_entries o t es)
 adjacent_nested None t es h k = All-nil HasNestedEntry
@@ -160,9 +154,8 @@ help_keeps None k = nothing_keeps
 help_keeps (Some d) k = inside_keeps block.ItemBody (doc_keeps d k)
 
 names_keep : (n : Name) → Keeps (names_writes n)
-names_keep (short c) = text_then _ _ nothing_keeps
-names_keep (long n) = text_then _ _ nothing_keeps
 names_keep (both c n) = text_then _ _ (text_then _ _ (text_then _ _ nothing_keeps))
+names_keep n = text_then _ _ nothing_keeps
 
 command_keeps : (n : List ℕ) (c : Option ℕ) → Keeps (command_writes n c)
 command_keeps n None = text_then _ _ nothing_keeps
@@ -194,40 +187,23 @@ listed_keeps included texts (argument n s m e h) k = both_keep (with_help h (bot
 entry_keeps : (included : Bool) (texts : Texts) (e : Entry) → is_group_mark e ≡ false → HasNestedEntry e → Keeps (entry_writes included texts e)
 entry_keeps included texts (listed l) n k = listed_keeps included texts l k
 entry_keeps included texts (note d j) n k = both_keep (inside_keeps block.ItemTerm nothing_keeps) (inside_keeps block.ItemBody (doc_keeps d k))
-entry_keeps included texts (group_start d j) n k = cc
-entry_keeps included texts (group_end j) n k = cc
 entry_keeps included texts (adjacent_start t j) n k = inside_keeps block.Section4 (usage_keeps t k)
 entry_keeps included texts (adjacent_stop j) n k = inside_keeps block.Block nothing_keeps
-
-first_of_two : (a b : Bool) → (a || b) ≡ false → a ≡ false
-first_of_two true b h = cc
-first_of_two false b h = refl
-
-second_of_two : (a b : Bool) → (a || b) ≡ false → b ≡ false
-second_of_two true b h = cc
-second_of_two false b h = h
+entry_keeps included texts e n k = cc
 
 entries_keep : (included : Bool) (texts : Texts) (es : List Entry) → list_any is_group_mark es ≡ false → Nested es → Keeps (flat_map (entry_writes included texts) es)
 entries_keep included texts [] n h = nothing_keeps
 entries_keep included texts (e ∷ es) n h =
-    both_keep (entry_keeps included texts e (first_of_two (is_group_mark e) (list_any is_group_mark es) n) (All-head HasNestedEntry e es h))
-    (entries_keep included texts es (second_of_two (is_group_mark e) (list_any is_group_mark es) n) (All-tail HasNestedEntry e es h))
+    both_keep (entry_keeps included texts e (or_parts (is_group_mark e) (list_any is_group_mark es) n).0 (All-head HasNestedEntry e es h))
+    (entries_keep included texts es (or_parts (is_group_mark e) (list_any is_group_mark es) n).1 (All-tail HasNestedEntry e es h))
 
 list_keeps : (included : Bool) (texts : Texts) (es : List Entry) → list_any is_group_mark es ≡ false → Nested es → Keeps (list_writes included texts es)
 list_keeps included texts es n h = entries_keep included texts (shown_entries es) (part_clear is_shown [] es n) (part_all HasNestedEntry is_shown [] es h)
 
 -- ---- groups
 
-abbrev entry : Placed → Entry
-entry p = p.1
-
 shown_group : (d : List Part) (j k : HiTy) (inner : List Entry) → shown_entries (group_start d j ∷ (inner ++ group_end k ∷ [])) ≡ group_start d j ∷ (map entry (filter is_shown (placed_after (group_start d j ∷ []) inner)) ++ group_end k ∷ [])
-shown_group d j k inner =
-    let opened : List Entry = group_start d j ∷ [] in
-    ap (λ xs. group_start d j ∷ xs)
-    (ap (λ ps. map entry (filter is_shown ps)) (placed_after-append opened inner (group_end k ∷ []))
-    ∙ ap (map entry) (filter-append is_shown (placed_after opened inner) (placed_after (opened ++ inner) (group_end k ∷ [])))
-    ∙ map-append entry (filter is_shown (placed_after opened inner)) (filter is_shown (placed_after (opened ++ inner) (group_end k ∷ []))))
+shown_group d j k inner = ap (λ xs. group_start d j ∷ xs) (chosen-append is_shown (group_start d j ∷ []) inner (group_end k ∷ []))
 
 group_writes_are : (included : Bool) (texts : Texts) (d : List Part) (j k : HiTy) (es : List Entry)
     → flat_map (entry_writes included texts) (group_start d j ∷ (es ++ group_end k ∷ []))
@@ -257,17 +233,10 @@ group_keeps included texts es is h n = by (group_members es n) (group_whole HasN
   by ms (inl e) = rw e nothing_keeps
   by ms (inr w) = whole_keeps included texts ms w
 
-numbers_keep : (f : ℕ → List Write) → ((n : ℕ) → Keeps (f n)) → (ns : List ℕ) → Keeps (flat_map f ns)
-numbers_keep f k [] = nothing_keeps
-numbers_keep f k (n ∷ ns) = both_keep (k n) (numbers_keep f k ns)
-
 -- ---- headings
 
 mark_no_heading : (k : HiTy) (p : Placed) → is_group_mark p.1 ≡ true → is_heading k (destination p) ≡ false
-mark_no_heading k p h = rw h (by (lacks_help p.1 && is_adjacent_in_group p.0) (count_by is_group_start (p.0 ++ p.1 ∷ []))) where
-  by : (b : Bool) (n : ℕ) → is_heading k (if b then nowhere else group n) ≡ false
-  by true n = refl
-  by false n = refl
+mark_no_heading k p h = rw h (group_no_heading k p)
 
 -- no group mark falls under a heading
 clear_step : (k : HiTy) (b : Bool) (p : Placed) (ps : List Placed) → is_group_mark p.1 ≡ b → list_any is_group_mark (map entry ps) ≡ false → list_any is_group_mark (map entry (if is_heading k (destination p) then p ∷ ps else ps)) ≡ false
@@ -292,7 +261,7 @@ heading_keeps included texts title es k h = titled_keeps included texts title (h
 groups_keep : (included : Bool) (texts : Texts) (es : List Entry) → IsItemList es → Nested es → Keeps (groups_writes included texts es)
 groups_keep included texts es is h =
     both_keep (both_keep (both_keep
-    (numbers_keep (λ n. list_writes included texts (group_members es n)) (group_keeps included texts es is h) (range_with_len 1 (count_by is_group_start es)))
+    (each_keeps (λ n. Unit {0}) (λ n. list_writes included texts (group_members es n)) (λ n one. group_keeps included texts es is h n) (range_with_len 1 (count_by is_group_start es)) (λ i n l. tt))
     (heading_keeps included texts (codes "Available positional items:") es ty.Positional h))
     (heading_keeps included texts (codes "Available options:") es ty.Flag h))
     (heading_keeps included texts (codes "Available commands:") es ty.Command h)

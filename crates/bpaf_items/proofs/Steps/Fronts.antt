@@ -1,11 +1,11 @@
 -- A list that grows begins with what it was.
 use Rattle.std.proofs.Common.{◌≡◌, List, [], ◌++◌, ap, sym, ◌∙◌, append_assoc, append-nil}
 use Rattle.std.specs.Prelude.{if◌then◌else◌, ◌∷◌, Some, None, refl}
-use Rattle.std.specs.Prelude.{Result, Ok, Err, OnOk, flat_map}
+use Rattle.std.specs.Prelude.{flat_map}
 use Rattle.std.specs.Prelude.{Option}
 use Rattle.std.specs.Option.{option_or}
 use Rattle.std.proofs.lemmas.Grind.{flat_map-append}
-use Rattle.bpaf_meta.specs.Content.{Tree, Leaf, any, positional, command, flag, argument}
+use Rattle.bpaf_meta.specs.Content.{Tree, Leaf, positional}
 use Rattle.bpaf_items.specs.declared.meta_help.entry.HiTy.{HiTy}
 use Rattle.bpaf_items.specs.Listing.ItemList.{Entry, entry_of_item, item_entries, item_list, IsItemList}
 use Rattle.bpaf_items.specs.Steps.Given.{is_listed}
@@ -22,20 +22,12 @@ pub append_turn : {X : Type 0} (now after first second all rest : List X) → af
 append_turn now after first second all rest e h k = ap (λ ws. ws ++ second) e ∙ append_assoc now first second ∙ ap (λ ws. now ++ ws) (sym h) ∙ k
 
 pub listed_entries : (l : Leaf) → item_entries l ≡ (if is_listed l then entry_of_item l ∷ [] else [])
-listed_entries (any m a h) = refl
 listed_entries (positional m None) = refl
-listed_entries (positional m (Some h)) = refl
-listed_entries (command n c h t i) = refl
-listed_entries (flag n s e h) = refl
-listed_entries (argument n s m e h) = refl
+listed_entries l = refl
 
 -- one more tree
 pub IsItemList-append : (es : List Entry) (t : Tree) → IsItemList es → IsItemList (es ++ item_list t)
 IsItemList-append es t (ts, e) = (ts ++ t ∷ [], ap (λ fs. fs ++ item_list t) e ∙ ap (λ fs. flat_map item_list ts ++ fs) (sym (append-nil (item_list t))) ∙ sym (flat_map-append item_list ts (t ∷ [])))
-
-pub OnOk-map : {X E : Type 0} {P Q : Type 0} (r : Result X E) → (P → Q) → OnOk r P → OnOk r Q
-OnOk-map (Ok x) f p = f p
-OnOk-map (Err e) f p = p
 
 -- a choice of two that gives nothing
 pub none_first : (o p : Option HiTy) → option_or o p ≡ None → o ≡ None

@@ -6,7 +6,7 @@ use Rattle.std.proofs.lemmas.List.{drop_more, length-map}
 use Rattle.bpaf_items.specs.declared.meta_help.entry.HiTy.{HiTy}
 use Rattle.bpaf_items.specs.declared.meta_help.given.State.{State}
 use Rattle.bpaf_items.specs.declared.meta_help.given.State.TheVariants.{Outside}
-use Rattle.bpaf_items.specs.Listing.ItemList.{Entry, listed, note, group_start, group_end, adjacent_start, adjacent_stop}
+use Rattle.bpaf_items.specs.Listing.ItemList.{Entry, listed}
 use Rattle.bpaf_items.specs.Listing.Falls.{Placed, same_type, type_of, is_mark, last_that, placed_after, is_given_after, is_given, items_of_type}
 use Rattle.bpaf_items.specs.Steps.Given.{state_after, is_given_within, is_given_in, given_from}
 use Rattle.bpaf_items.proofs.Listing.Pushes.{last_that-push}
@@ -18,20 +18,11 @@ state_of (Some e) = state_after Outside e
 
 state_push : (m : Option Entry) (e : Entry) → state_after (state_of m) e ≡ state_of (if is_mark e then Some e else m)
 state_push m (listed l) = refl
-state_push m (note d k) = refl
-state_push m (group_start d k) = refl
-state_push m (group_end k) = refl
-state_push m (adjacent_start t k) = refl
-state_push m (adjacent_stop k) = refl
+state_push m e = refl
 
 within_alike : (m : Option Entry) (k : HiTy) (e : Entry) → is_given_within (state_of m) k e ≡ is_given_after m k e
-within_alike None k e = refl
 within_alike (Some (listed l)) k e = refl
-within_alike (Some (note d j)) k e = refl
-within_alike (Some (group_start d j)) k e = refl
-within_alike (Some (group_end j)) k e = refl
-within_alike (Some (adjacent_start t j)) k e = refl
-within_alike (Some (adjacent_stop j)) k e = refl
+within_alike m k e = refl
 
 given_alike : (m : Option Entry) (k : HiTy) (e : Entry) → is_given_in (state_of m) k e ≡ (if is_mark e then same_type (type_of e) k else is_given_after m k e)
 given_alike m k e = ap (λ b. if is_mark e then same_type (type_of e) k else b) (within_alike m k e)

@@ -1,9 +1,10 @@
 -- A block's first mark, which stands in its place before its type is known; and a tree without a front type, which lists nothing.
-use Rattle.std.proofs.Common.{◌≡◌, ℕ, zero, suc, ◌-◌, ◌<◌, Bool, true, false, List, [], ◌∷◌, ◌++◌, map, take, length, refl, sym, ap, ◌∙◌, append_assoc, append-nil, arith}
+use Rattle.std.proofs.Common.{◌≡◌, ℕ, zero, suc, ◌-◌, ◌<◌, Bool, true, false, List, [], ◌∷◌, ◌++◌, map, take, drop, length, refl, sym, ap, ◌∙◌, append_assoc, append-nil, arith}
 use Rattle.std.specs.Prelude.{slice_set, slice_index_or, Option, Some, None}
 use Rattle.std.specs.List.{swap_remove}
 use Rattle.std.specs.Option.{option_or}
-use Rattle.std.proofs.lemmas.List.{append_cancel_left, map-append, length-append}
+use Rattle.std.proofs.Math.Seq.{take-append_seam, set-append_seam, get_or-append_seam}
+use Rattle.std.proofs.lemmas.List.{append_cancel_left, length-set, set-append_left, take-append-drop, map-append, length-append}
 use Rattle.bpaf_doc.specs.Buffer.Parts.{Part}
 use Rattle.bpaf_meta.specs.Content.{Tree, and_of, or_of, optional, required, adjacent, item, many, subsection, suffix, skip, custom_usage, strict, Trees, no_trees, tree}
 use Rattle.bpaf_items.specs.declared.meta_help.entry.HiTy.{HiTy}
@@ -48,47 +49,26 @@ pub option_or-assoc : (o p q : Option HiTy) → option_or (option_or o p) q ≡ 
 option_or-assoc None p q = refl
 option_or-assoc (Some k) p q = refl
 
-pub option_or-none : (o : Option HiTy) → option_or o None ≡ o
-option_or-none None = refl
-option_or-none (Some k) = refl
-
 -- a turn of the loop over the parts
 pub type_turn : (front own later rest all joined : Option HiTy) → joined ≡ option_or front own → rest ≡ option_or own later → option_or front rest ≡ all → option_or joined later ≡ all
 type_turn front own later rest all joined e h k = ap (λ o. option_or o later) e ∙ option_or-assoc front own later ∙ ap (option_or front) (sym h) ∙ k
 
 module _ {X : Type 0} where
   set_kept : (xs ys : List X) (p q : X) → slice_set ((xs ++ p ∷ []) ++ ys) (length xs) q ≡ xs ++ q ∷ ys
-  set_kept [] ys p q = refl
-  set_kept (x ∷ xs) ys p q = ap (λ zs. x ∷ zs) (set_kept xs ys p q)
-
-  take_whole : (xs ys : List X) → take (length xs) (xs ++ ys) ≡ xs
-  take_whole [] ys = refl
-  take_whole (x ∷ xs) ys = ap (λ zs. x ∷ zs) (take_whole xs ys)
+  set_kept xs ys p q = ap (λ zs. slice_set zs (length xs) q) (append_assoc xs (p ∷ []) ys) ∙ set-append_seam xs p ys q
 
   take_kept : (xs ys : List X) (p : X) → take (length xs) ((xs ++ p ∷ []) ++ ys) ≡ xs
-  take_kept [] ys p = refl
-  take_kept (x ∷ xs) ys p = ap (λ zs. x ∷ zs) (take_kept xs ys p)
-
-  last_of : (xs : List X) (q d : X) → slice_index_or (xs ++ q ∷ []) (length xs) d ≡ q
-  last_of [] q d = refl
-  last_of (x ∷ xs) q d = last_of xs q d
-
-  set_before : (xs ys : List X) (at : ℕ) (q : X) → at < length xs → slice_set (xs ++ ys) at q ≡ slice_set xs at q ++ ys
-  set_before [] ys at q h = absurd (omega arith)
-  set_before (x ∷ xs) ys zero q h = refl
-  set_before (x ∷ xs) ys (suc n) q h = ap (λ zs. x ∷ zs) (set_before xs ys n q (omega arith))
+  take_kept xs ys p = ap (take (length xs)) (append_assoc xs (p ∷ []) ys) ∙ take-append_seam xs (p ∷ ys)
 
   take_set : (xs ys : List X) (at : ℕ) (q : X) → take (length xs) (slice_set xs at q ++ ys) ≡ slice_set xs at q
-  take_set [] ys at q = refl
-  take_set (x ∷ xs) ys zero q = ap (λ zs. q ∷ zs) (take_whole xs ys)
-  take_set (x ∷ xs) ys (suc n) q = ap (λ zs. x ∷ zs) (take_set xs ys n q)
+  take_set xs ys at q = ap (λ n. take n (slice_set xs at q ++ ys)) (sym (length-set xs at q)) ∙ take-append_seam (slice_set xs at q) ys
 
   -- the entry that was put last takes the place
   pub moved_last : (xs one two : List X) (at : ℕ) (q d : X) → at < length xs → one ≡ xs ++ q ∷ [] → two ≡ swap_remove one at d → two ≡ slice_set xs at q
   moved_last xs one two at q d h e moved =
       let count : length one - 1 ≡ length xs = ap (λ ys. length ys - 1) e ∙ omega (arith, length-append xs (q ∷ [])) in
-      let last : slice_index_or one (length xs) d ≡ q = ap (λ ys. slice_index_or ys (length xs) d) e ∙ last_of xs q d in
-      let put : slice_set one at q ≡ slice_set xs at q ++ q ∷ [] = ap (λ ys. slice_set ys at q) e ∙ set_before xs (q ∷ []) at q h in
+      let last : slice_index_or one (length xs) d ≡ q = ap (λ ys. slice_index_or ys (length xs) d) e ∙ get_or-append_seam xs q [] d in
+      let put : slice_set one at q ≡ slice_set xs at q ++ q ∷ [] = ap (λ ys. slice_set ys at q) e ∙ set-append_left xs (q ∷ []) at q h in
       moved ∙ ap (λ n. take n (slice_set one at (slice_index_or one n d))) count ∙ ap (λ x. take (length xs) (slice_set one at x)) last ∙ ap (take (length xs)) put ∙ take_set xs (q ∷ []) at q
 
   set_front : (xs : List X) (at : ℕ) (q : X) → at < length xs → IsFront (take at xs) (slice_set xs at q)
@@ -97,9 +77,7 @@ module _ {X : Type 0} where
   set_front (x ∷ xs) (suc n) q h = let f = set_front xs n q (omega arith) in (f.0, ap (λ zs. x ∷ zs) f.1)
 
   pub take_front : (xs : List X) (at : ℕ) → at < length xs → IsFront (take at xs) xs
-  take_front [] at h = absurd (omega arith)
-  take_front (x ∷ xs) zero h = (x ∷ xs, refl)
-  take_front (x ∷ xs) (suc n) h = let f = take_front xs n (omega arith) in (f.0, ap (λ zs. x ∷ zs) f.1)
+  take_front xs at h = (drop at xs, sym (take-append-drop at xs))
 
   pub moved_front : (xs two after : List X) (at : ℕ) (q : X) → at < length xs → two ≡ slice_set xs at q → IsFront two after → IsFront (take at xs) after
   moved_front xs two after at q h e f = front_then (take at xs) (slice_set xs at q) after (set_front xs at q h) (f.0, f.1 ∙ ap (λ ys. ys ++ f.0) e)

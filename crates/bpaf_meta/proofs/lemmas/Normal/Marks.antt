@@ -1,20 +1,18 @@
 -- No `--` comes about in the normal form, and none is lost.
-use Rattle.std.proofs.Common.{◌≡◌, Bool, true, false, ◌⊎◌, inl, inr, refl}
-use Rattle.std.specs.Prelude.{if◌then◌else◌, IsTrue}
+use Rattle.std.proofs.Common.{Bool, true, false, ◌⊎◌, inl, inr, refl}
+use Rattle.std.specs.Prelude.{IsTrue}
 use Rattle.bpaf_meta.specs.Content.{Tree, and_of, or_of, optional, required, adjacent, item, many, subsection, suffix, skip, custom_usage, strict, Trees, no_trees, tree}
-use Rattle.bpaf_meta.specs.Meta.Normal.{State, pull, push, strip, shown_trees, and_form, or_form, is_command_tree, without_commands, with_first_command, optional_many_form, optional_form, required_form, many_form, guarded, state_after, strict_state, state_out, normal_form, and_parts, or_parts, or_state, outer_form, strict_if_push, normalized}
+use Rattle.bpaf_meta.specs.Meta.Normal.{State, pull, push, strip, shown_trees, or_form, with_first_command, optional_form, required_form, many_form, guarded, state_after, strict_state, state_out, normal_form, and_parts, or_parts, or_state, outer_form, strict_if_push, normalized}
 use Rattle.bpaf_meta.specs.Meta.Shape.{HasStrict, SomeHasStrict, HasCustomUsage, SomeHasCustomUsage, KeepsStrict}
 use Rattle.bpaf_meta.proofs.lemmas.Normal.Plain.{and_form_strict, or_form_strict, shown_strict, first_strict, optional_strict, required_strict, many_strict, usage_strict, outer_strict}
 
 abbrev IsPush : State → Type 0
-IsPush pull = ⊥
 IsPush push = Unit {0}
-IsPush strip = ⊥
+IsPush s = ⊥
 
 abbrev IsStrip : State → Type 0
-IsStrip pull = ⊥
-IsStrip push = ⊥
 IsStrip strip = Unit {0}
+IsStrip s = ⊥
 
 -- none comes about
 
@@ -45,11 +43,8 @@ asked s (custom_usage t d) k x = asked s t k x
 asked s (strict t) k x = tt
 
 guarded_comes : (r g : State) (n : Tree) → HasStrict (guarded r g n) → HasStrict n ⊎ IsPush g
-guarded_comes pull pull n x = inl x
 guarded_comes pull push n x = inr tt
-guarded_comes pull strip n x = inl x
-guarded_comes push g n x = inl x
-guarded_comes strip g n x = inl x
+guarded_comes r g n x = inl x
 
 part_comes : (r g : State) (t n : Tree) (vs ts : Trees) → (HasStrict n → HasStrict t) → (IsPush g → HasStrict t) → (SomeHasStrict vs → SomeHasStrict ts) → SomeHasStrict (tree (guarded r g n) vs) → SomeHasStrict (tree t ts)
 part_comes r g t n vs ts f p fs (inl x) = elim (guarded_comes r g n x) [ inl y ↦ inl (f y) | inr y ↦ inl (p y) ]
@@ -57,13 +52,13 @@ part_comes r g t n vs ts f p fs (inr x) = inr (fs x)
 
 mutual
   comes : (u : Bool) (s : State) (t : Tree) → ¬ IsPush s → HasStrict (normal_form u s t) → HasStrict t
-  comes u s (and_of ts) k x = and_comes u s ts k (shown_strict (and_parts u s ts) (and_form_strict (shown_trees (and_parts u s ts)) x))
-  comes u s (or_of ts) k x = or_comes u s s ts k (shown_strict (or_parts u s s ts) (first_strict (shown_trees (or_parts u s s ts)) (or_form_strict (with_first_command (shown_trees (or_parts u s s ts))) x)))
-  comes u s (optional t) k x = comes u s t k (optional_strict (normal_form u s t) x)
-  comes u s (required t) k x = comes u s t k (required_strict (normal_form u s t) x)
+  comes u s (and_of ts) k x = and_comes u s ts k ((shown_strict (and_parts u s ts)).0 ((and_form_strict (shown_trees (and_parts u s ts))).0 x))
+  comes u s (or_of ts) k x = or_comes u s s ts k ((shown_strict (or_parts u s s ts)).0 ((first_strict (shown_trees (or_parts u s s ts))).0 ((or_form_strict (with_first_command (shown_trees (or_parts u s s ts)))).0 x)))
+  comes u s (optional t) k x = comes u s t k ((optional_strict (normal_form u s t)).0 x)
+  comes u s (required t) k x = comes u s t k ((required_strict (normal_form u s t)).0 x)
   comes u s (adjacent t) k x = comes u s t k x
   comes u s (item l) k x = x
-  comes u s (many t) k x = comes u s t k (many_strict (normal_form u s t) x)
+  comes u s (many t) k x = comes u s t k ((many_strict (normal_form u s t)).0 x)
   comes u s (subsection t d) k x = comes u s t k x
   comes u s (suffix t d) k x = comes u s t k x
   comes u s skip k x = x
@@ -78,79 +73,6 @@ mutual
   or_comes u s f no_trees k x = x
   or_comes u s f (tree t ts) k x = part_comes f (state_out s t) t (normal_form u s t) (or_parts u s (state_after f (state_out s t)) ts) ts (comes u s t k) (asked s t k) (or_comes u s (state_after f (state_out s t)) ts k) x
 
--- none is lost: the forms keep it
-
-and_form_keeps : (ts : Trees) → SomeHasStrict ts → HasStrict (and_form ts)
-and_form_keeps no_trees x = x
-and_form_keeps (tree t no_trees) (inl x) = x
-and_form_keeps (tree t no_trees) (inr x) = absurd x
-and_form_keeps (tree t (tree v ts)) x = x
-
-or_form_keeps : (ts : Trees) → SomeHasStrict ts → HasStrict (or_form ts)
-or_form_keeps no_trees x = x
-or_form_keeps (tree t no_trees) (inl x) = x
-or_form_keeps (tree t no_trees) (inr x) = absurd x
-or_form_keeps (tree t (tree v ts)) x = x
-
-tail_keeps : (t : Tree) (ns ts : Trees) → (SomeHasStrict ns → SomeHasStrict ts) → SomeHasStrict (tree t ns) → SomeHasStrict (tree t ts)
-tail_keeps t ns ts f (inl x) = inl x
-tail_keeps t ns ts f (inr x) = inr (f x)
-
-shown_keeps : (ts : Trees) → SomeHasStrict ts → SomeHasStrict (shown_trees ts)
-shown_keeps no_trees x = x
-shown_keeps (tree skip ts) (inl x) = absurd x
-shown_keeps (tree skip ts) (inr x) = shown_keeps ts x
-shown_keeps (tree t ts) x = tail_keeps t ts (shown_trees ts) (shown_keeps ts) x
-
--- a command holds none
-command_holds_none : (t : Tree) → is_command_tree t ≡ true → ¬ HasStrict t
-command_holds_none (item l) e x = x
-command_holds_none (subsection t d) e x = command_holds_none t e x
-command_holds_none t e x = cc
-
-without_by : (b : Bool) (t : Tree) (ns ts : Trees) → is_command_tree t ≡ b → (SomeHasStrict ts → SomeHasStrict ns) → SomeHasStrict (tree t ts) → SomeHasStrict (if b then ns else tree t ns)
-without_by true t ns ts e f (inl x) = absurd (command_holds_none t e x)
-without_by true t ns ts e f (inr x) = f x
-without_by false t ns ts e f (inl x) = inl x
-without_by false t ns ts e f (inr x) = inr (f x)
-
-without_keeps : (ts : Trees) → SomeHasStrict ts → SomeHasStrict (without_commands ts)
-without_keeps no_trees x = x
-without_keeps (tree t ts) x = without_by (is_command_tree t) t (without_commands ts) ts refl (without_keeps ts) x
-
-choice_keeps : (b : Bool) (ts ns vs : Trees) → (SomeHasStrict ts → SomeHasStrict ns) → (SomeHasStrict ts → SomeHasStrict vs) → SomeHasStrict ts → SomeHasStrict (if b then ns else vs)
-choice_keeps true ts ns vs f g x = f x
-choice_keeps false ts ns vs f g x = g x
-
-first_keeps : (ts : Trees) → SomeHasStrict ts → SomeHasStrict (with_first_command ts)
-first_keeps no_trees x = x
-first_keeps (tree t ts) (inl x) = inl x
-first_keeps (tree t ts) (inr x) = inr (choice_keeps (is_command_tree t) ts (without_commands ts) (with_first_command ts) (without_keeps ts) (first_keeps ts) x)
-
-optional_many_keeps : (t : Tree) → HasStrict t → HasStrict (optional_many_form t)
-optional_many_keeps (required t) x = x
-optional_many_keeps t x = x
-
-optional_keeps : (t : Tree) → HasStrict t → HasStrict (optional_form t)
-optional_keeps skip x = x
-optional_keeps (many t) x = optional_many_keeps t x
-optional_keeps t x = x
-
-required_keeps : (t : Tree) → HasStrict t → HasStrict (required_form t)
-required_keeps (and_of ts) x = x
-required_keeps (or_of ts) x = x
-required_keeps t x = x
-
-many_keeps : (t : Tree) → HasStrict t → HasStrict (many_form t)
-many_keeps skip x = x
-many_keeps t x = x
-
-outer_keeps : (t : Tree) → HasStrict t → HasStrict (outer_form t)
-outer_keeps (required (or_of ts)) x = x
-outer_keeps (required t) x = x
-outer_keeps (or_of ts) x = x
-outer_keeps t x = x
-
 -- none is lost: what the tree has is in the normal form or asked for, and what is shown already is in the normal form
 record Stays (Given Normal : Type 0) (out : State) : Type 0 where
   form : Given → Normal ⊎ IsPush out
@@ -163,9 +85,8 @@ inside_stays H N M g f k = record {
 }
 
 strict_stays : (H N : Type 0) (g : State) → Stays H N g → Stays (Unit {0}) N (strict_state g)
-strict_stays H N pull k = record { form = λ x. inr tt; shown = λ x. absurd x }
-strict_stays H N push k = record { form = λ x. inr tt; shown = λ x. absurd x }
 strict_stays H N strip k = record { form = λ x. inl (k.shown tt); shown = λ x. k.shown tt }
+strict_stays H N s k = record { form = λ x. inr tt; shown = λ x. absurd x }
 
 and_step : (u : Bool) (t n : Tree) (ts : Trees) (g : State) → Stays (HasStrict t) (HasStrict n) g → (SomeHasStrict ts → SomeHasStrict (and_parts u pull ts)) → SomeHasStrict (tree t ts) → SomeHasStrict (tree (guarded pull g n) (and_parts u (state_after pull g) ts))
 and_step u t n ts pull k f (inl x) = elim (k.form x) [ inl y ↦ inl y | inr y ↦ absurd y ]
@@ -187,17 +108,17 @@ or_step u t n ts strip k f = record { form = λ x. inl (inl (k.shown tt)); shown
 mutual
   stays : (u : Bool) (t : Tree) → (IsTrue u → ¬ HasCustomUsage t) → Stays (HasStrict t) (HasStrict (normal_form u pull t)) (state_out pull t)
   stays u (and_of ts) h = record {
-    form = λ x. inl (and_form_keeps (shown_trees (and_parts u pull ts)) (shown_keeps (and_parts u pull ts) (and_stays u ts h x)));
+    form = λ x. inl ((and_form_strict (shown_trees (and_parts u pull ts))).1 ((shown_strict (and_parts u pull ts)).1 (and_stays u ts h x)));
     shown = λ x. absurd x;
   }
   stays u (or_of ts) h =
       let ns : Trees = or_parts u pull pull ts in
-      inside_stays (SomeHasStrict ts) (SomeHasStrict ns) (HasStrict (or_form (with_first_command (shown_trees ns)))) (or_state pull pull ts) (λ x. or_form_keeps (with_first_command (shown_trees ns)) (first_keeps (shown_trees ns) (shown_keeps ns x))) (or_stays u ts h)
-  stays u (optional t) h = inside_stays (HasStrict t) (HasStrict (normal_form u pull t)) (HasStrict (optional_form (normal_form u pull t))) (state_out pull t) (optional_keeps (normal_form u pull t)) (stays u t h)
-  stays u (required t) h = inside_stays (HasStrict t) (HasStrict (normal_form u pull t)) (HasStrict (required_form (normal_form u pull t))) (state_out pull t) (required_keeps (normal_form u pull t)) (stays u t h)
+      inside_stays (SomeHasStrict ts) (SomeHasStrict ns) (HasStrict (or_form (with_first_command (shown_trees ns)))) (or_state pull pull ts) (λ x. (or_form_strict (with_first_command (shown_trees ns))).1 ((first_strict (shown_trees ns)).1 ((shown_strict ns).1 x))) (or_stays u ts h)
+  stays u (optional t) h = inside_stays (HasStrict t) (HasStrict (normal_form u pull t)) (HasStrict (optional_form (normal_form u pull t))) (state_out pull t) (optional_strict (normal_form u pull t)).1 (stays u t h)
+  stays u (required t) h = inside_stays (HasStrict t) (HasStrict (normal_form u pull t)) (HasStrict (required_form (normal_form u pull t))) (state_out pull t) (required_strict (normal_form u pull t)).1 (stays u t h)
   stays u (adjacent t) h = stays u t h
   stays u (item l) h = record { form = λ x. absurd x; shown = λ x. absurd x }
-  stays u (many t) h = inside_stays (HasStrict t) (HasStrict (normal_form u pull t)) (HasStrict (many_form (normal_form u pull t))) (state_out pull t) (many_keeps (normal_form u pull t)) (stays u t h)
+  stays u (many t) h = inside_stays (HasStrict t) (HasStrict (normal_form u pull t)) (HasStrict (many_form (normal_form u pull t))) (state_out pull t) (many_strict (normal_form u pull t)).1 (stays u t h)
   stays u (subsection t d) h = stays u t h
   stays u (suffix t d) h = stays u t h
   stays u skip h = record { form = λ x. absurd x; shown = λ x. absurd x }
@@ -216,23 +137,20 @@ mutual
 -- the last step
 
 outer_comes : (s : State) (t n : Tree) → (HasStrict n → HasStrict t) → (IsPush s → HasStrict t) → HasStrict (strict_if_push s n) → HasStrict t
-outer_comes pull t n f p x = f x
 outer_comes push t n f p x = p tt
-outer_comes strip t n f p x = f x
+outer_comes s t n f p x = f x
 
 last_keeps : (s : State) (n : Tree) → HasStrict n ⊎ IsPush s → HasStrict (strict_if_push s n)
-last_keeps pull n (inl x) = x
-last_keeps pull n (inr x) = absurd x
 last_keeps push n x = tt
-last_keeps strip n (inl x) = x
-last_keeps strip n (inr x) = absurd x
+last_keeps s n (inl x) = x
+last_keeps s n (inr x) = absurd x
 
 given_stays : (s : State) (t n : Tree) → (HasStrict t → HasStrict n ⊎ IsPush s) → HasStrict t → HasStrict (strict_if_push s (outer_form n))
-given_stays s t n f x = last_keeps s (outer_form n) (elim (f x) [ inl y ↦ inl (outer_keeps n y) | inr y ↦ inr y ])
+given_stays s t n f x = last_keeps s (outer_form n) (elim (f x) [ inl y ↦ inl ((outer_strict n).1 y) | inr y ↦ inr y ])
 
 -- no `--` comes about; none is lost outside usage, and in usage without a CustomUsage
 pub normalized_strict : (u : Bool) (t : Tree) → KeepsStrict u t (normalized u t)
 normalized_strict u t = record {
-  none_added = outer_comes (state_out pull t) t (outer_form (normal_form u pull t)) (λ x. comes u pull t (λ y. y) (outer_strict (normal_form u pull t) x)) (asked pull t (λ y. y));
+  none_added = outer_comes (state_out pull t) t (outer_form (normal_form u pull t)) (λ x. comes u pull t (λ y. y) ((outer_strict (normal_form u pull t)).0 x)) (asked pull t (λ y. y));
   none_lost = λ h. given_stays (state_out pull t) t (normal_form u pull t) (stays u t h).form;
 }

@@ -1,14 +1,32 @@
 -- Lists of parts, as the loops of `normalized` make them.
 use Rattle.std.proofs.Common.{◌≡◌, ◌<◌, List, [], ◌∷◌, ◌++◌, length, Bool, true, false, ◌&&◌, refl, ap, ◌∙◌, arith}
-use Rattle.std.specs.Prelude.{◌||◌}
+use Rattle.std.specs.Prelude.{◌||◌, if◌then◌else◌}
 use Rattle.bpaf_meta.specs.Content.{Tree, skip, and_of, or_of, required, Trees, no_trees, tree}
 use Rattle.bpaf_meta.specs.View.{tree_of, trees_of}
 use Rattle.bpaf_meta.specs.declared.meta.Meta.{Meta}
 use Rattle.bpaf_meta.specs.declared.meta.form.Form.{Form}
-use Rattle.bpaf_meta.specs.Meta.Normal.{shown_trees, and_form, or_form, is_command_tree}
+use Rattle.bpaf_meta.specs.Meta.Normal.{shown_trees, and_form, or_form, is_command_tree, without_commands, with_first_command}
 use Rattle.bpaf_meta.specs.Meta.Alternatives.{trees_then, choice_form}
 use Rattle.bpaf_meta.specs.Meta.Steps.Forms.{form_of, forms_of}
 use Rattle.bpaf_meta.specs.Meta.Steps.Passes.{is_skip_tree, with_shown, after_commands, sees_command}
+
+-- what holds of each part holds of those that are left
+module _ (P : Tree → Type 0) (Q : Trees → Type 0) (part : (t : Tree) (ts : Trees) → Q (tree t ts) → P t × Q ts) (join : (t : Tree) (ts : Trees) → P t × Q ts → Q (tree t ts)) where
+  one_of : (b : Bool) (ts vs : Trees) → Q ts → Q vs → Q (if b then ts else vs)
+  one_of true ts vs h k = h
+  one_of false ts vs h k = k
+
+  without_each : (ts : Trees) → Q ts → Q (without_commands ts)
+  without_each no_trees h = h
+  without_each (tree t ts) h =
+      let r = part t ts h in
+      one_of (is_command_tree t) (without_commands ts) (tree t (without_commands ts)) (without_each ts r.1) (join t (without_commands ts) (r.0, without_each ts r.1))
+
+  pub first_each : (ts : Trees) → Q ts → Q (with_first_command ts)
+  first_each no_trees h = h
+  first_each (tree t ts) h =
+      let r = part t ts h in
+      join t (if is_command_tree t then without_commands ts else with_first_command ts) (r.0, one_of (is_command_tree t) (without_commands ts) (with_first_command ts) (without_each ts r.1) (first_each ts r.1))
 
 pub trees_then_none : (ts : Trees) → trees_then ts no_trees ≡ ts
 trees_then_none no_trees = refl
@@ -35,9 +53,8 @@ with_shown_other ts t e = rw e refl
 
 alone_by : (seen b : Bool) (t : Tree) → is_command_tree t ≡ b → (b && seen) ≡ true → after_commands seen (tree t no_trees) ≡ no_trees
 alone_by true true t e h = rw e refl
-alone_by true false t e h = cc
 alone_by false true t e h = cc
-alone_by false false t e h = cc
+alone_by seen false t e h = cc
 
 kept_by : (seen b : Bool) (t : Tree) → is_command_tree t ≡ b → (b && seen) ≡ false → after_commands seen (tree t no_trees) ≡ tree t no_trees
 kept_by true true t e h = cc

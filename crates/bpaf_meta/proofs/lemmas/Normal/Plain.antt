@@ -1,12 +1,13 @@
 -- Trees without Strict: their normal form has none, is Skip exactly where they are hidden, and is its own normal form.
-use Rattle.std.proofs.Common.{◌≡◌, ◌↔◌, Bool, true, false, ◌&&◌, List, [], ◌∷◌, inl, inr, refl, sym, ap, ◌∙◌, subst}
+use Rattle.std.proofs.Common.{◌≡◌, ◌↔◌, ◌⊎◌, Bool, true, false, List, [], ◌∷◌, inl, inr, refl, sym, ap, ◌∙◌, subst}
 use Rattle.std.specs.Prelude.{if◌then◌else◌}
+use Rattle.std.proofs.lemmas.Bool.{and_parts as conjuncts}
 use Rattle.bpaf_doc.specs.Buffer.Parts.{Part}
 use Rattle.bpaf_meta.specs.Content.{Tree, and_of, or_of, optional, required, adjacent, item, many, subsection, suffix, skip, custom_usage, strict, Trees, no_trees, tree}
 use Rattle.bpaf_meta.specs.Meta.Normal.{State, pull, push, strip, shown_trees, and_form, or_form, is_command_tree, without_commands, with_first_command, optional_many_form, optional_form, required_form, many_form, custom_usage_form, guarded, state_after, state_out, normal_form, and_parts, or_parts, or_state, outer_form, normalized}
 use Rattle.bpaf_meta.specs.Meta.Sequences.{is_hidden, are_hidden}
 use Rattle.bpaf_meta.specs.Meta.Shape.{HasStrict, SomeHasStrict}
-use Rattle.bpaf_meta.proofs.lemmas.Normal.Keeps.{normalized_hidden}
+use Rattle.bpaf_meta.proofs.lemmas.Normal.Keeps.{normalized_shows}
 
 -- the state stays
 
@@ -63,54 +64,71 @@ or_parts_plain u s (tree t ts) h =
 
 -- no Strict comes about
 
-pub and_form_strict : (ts : Trees) → HasStrict (and_form ts) → SomeHasStrict ts
-and_form_strict no_trees x = x
-and_form_strict (tree t no_trees) x = inl x
-and_form_strict (tree t (tree v ts)) x = x
+-- both ways: what holds of one holds of the other
+pub itself : {P : Type 0} → P ↔ P
+itself = ((λ x. x), (λ x. x))
 
-pub or_form_strict : (ts : Trees) → HasStrict (or_form ts) → SomeHasStrict ts
-or_form_strict no_trees x = x
-or_form_strict (tree t no_trees) x = inl x
-or_form_strict (tree t (tree v ts)) x = x
+alone_strict : {P : Type 0} → P ↔ (P ⊎ ⊥)
+alone_strict = ((λ x. inl x), (λ x. elim x [ inl y ↦ y | inr y ↦ absurd y ]))
 
-some_tail : (t : Tree) (ns ts : Trees) → (SomeHasStrict ns → SomeHasStrict ts) → SomeHasStrict (tree t ns) → SomeHasStrict (tree t ts)
-some_tail t ns ts f (inl x) = inl x
-some_tail t ns ts f (inr x) = inr (f x)
+pub and_form_strict : (ts : Trees) → HasStrict (and_form ts) ↔ SomeHasStrict ts
+and_form_strict (tree t no_trees) = alone_strict
+and_form_strict no_trees = itself
+and_form_strict (tree t (tree v ts)) = itself
 
-pub shown_strict : (ts : Trees) → SomeHasStrict (shown_trees ts) → SomeHasStrict ts
-shown_strict no_trees x = x
-shown_strict (tree skip ts) x = inr (shown_strict ts x)
-shown_strict (tree t ts) x = some_tail t (shown_trees ts) ts (shown_strict ts) x
+pub or_form_strict : (ts : Trees) → HasStrict (or_form ts) ↔ SomeHasStrict ts
+or_form_strict (tree t no_trees) = alone_strict
+or_form_strict no_trees = itself
+or_form_strict (tree t (tree v ts)) = itself
 
-pub choice_strict : (b : Bool) (ts vs ws : Trees) → (SomeHasStrict ts → SomeHasStrict ws) → (SomeHasStrict vs → SomeHasStrict ws) → SomeHasStrict (if b then ts else vs) → SomeHasStrict ws
-choice_strict true ts vs ws f g x = f x
-choice_strict false ts vs ws f g x = g x
+some_tail : {P Q R : Type 0} → Q ↔ R → (P ⊎ Q) ↔ (P ⊎ R)
+some_tail f = (
+  (λ x. elim x [ inl y ↦ inl y | inr y ↦ inr (f.0 y) ]),
+  (λ x. elim x [ inl y ↦ inl y | inr y ↦ inr (f.1 y) ]),
+)
 
-pub without_strict : (ts : Trees) → SomeHasStrict (without_commands ts) → SomeHasStrict ts
-without_strict no_trees x = x
-without_strict (tree t ts) x = choice_strict (is_command_tree t) (without_commands ts) (tree t (without_commands ts)) (tree t ts) (λ y. inr (without_strict ts y)) (some_tail t (without_commands ts) ts (without_strict ts)) x
+pub shown_strict : (ts : Trees) → SomeHasStrict (shown_trees ts) ↔ SomeHasStrict ts
+shown_strict no_trees = itself
+shown_strict (tree skip ts) = let f = shown_strict ts in ((λ x. inr (f.0 x)), (λ x. elim x [ inl y ↦ absurd y | inr y ↦ f.1 y ]))
+shown_strict (tree t ts) = some_tail (shown_strict ts)
 
-pub first_strict : (ts : Trees) → SomeHasStrict (with_first_command ts) → SomeHasStrict ts
-first_strict no_trees x = x
-first_strict (tree t ts) x = some_tail t (if is_command_tree t then without_commands ts else with_first_command ts) ts (choice_strict (is_command_tree t) (without_commands ts) (with_first_command ts) ts (without_strict ts) (first_strict ts)) x
+-- a command holds none
+command_holds_none : (t : Tree) → is_command_tree t ≡ true → ¬ HasStrict t
+command_holds_none (item l) e x = x
+command_holds_none (subsection t d) e x = command_holds_none t e x
+command_holds_none t e x = cc
 
-pub optional_many_strict : (t : Tree) → HasStrict (optional_many_form t) → HasStrict t
-optional_many_strict (required t) x = x
-optional_many_strict t x = x
+without_by : (b : Bool) (t : Tree) (ns ts : Trees) → is_command_tree t ≡ b → SomeHasStrict ns ↔ SomeHasStrict ts → SomeHasStrict (if b then ns else tree t ns) ↔ SomeHasStrict (tree t ts)
+without_by true t ns ts e f = ((λ x. inr (f.0 x)), (λ x. elim x [ inl y ↦ absurd (command_holds_none t e y) | inr y ↦ f.1 y ]))
+without_by false t ns ts e f = some_tail f
 
-pub optional_strict : (t : Tree) → HasStrict (optional_form t) → HasStrict t
-optional_strict skip x = x
-optional_strict (many t) x = optional_many_strict t x
-optional_strict t x = x
+without_strict : (ts : Trees) → SomeHasStrict (without_commands ts) ↔ SomeHasStrict ts
+without_strict no_trees = itself
+without_strict (tree t ts) = without_by (is_command_tree t) t (without_commands ts) ts refl (without_strict ts)
 
-pub required_strict : (t : Tree) → HasStrict (required_form t) → HasStrict t
-required_strict (and_of ts) x = x
-required_strict (or_of ts) x = x
-required_strict t x = x
+first_by : (b : Bool) (ns vs ts : Trees) → SomeHasStrict ns ↔ SomeHasStrict ts → SomeHasStrict vs ↔ SomeHasStrict ts → SomeHasStrict (if b then ns else vs) ↔ SomeHasStrict ts
+first_by true ns vs ts f g = f
+first_by false ns vs ts f g = g
 
-pub many_strict : (t : Tree) → HasStrict (many_form t) → HasStrict t
-many_strict skip x = x
-many_strict t x = x
+pub first_strict : (ts : Trees) → SomeHasStrict (with_first_command ts) ↔ SomeHasStrict ts
+first_strict no_trees = itself
+first_strict (tree t ts) = some_tail (first_by (is_command_tree t) (without_commands ts) (with_first_command ts) ts (without_strict ts) (first_strict ts))
+
+optional_many_strict : (t : Tree) → HasStrict (optional_many_form t) ↔ HasStrict t
+optional_many_strict (required t) = itself
+optional_many_strict t = itself
+
+pub optional_strict : (t : Tree) → HasStrict (optional_form t) ↔ HasStrict t
+optional_strict (many t) = optional_many_strict t
+optional_strict t = itself
+
+pub required_strict : (t : Tree) → HasStrict (required_form t) ↔ HasStrict t
+required_strict skip = itself
+required_strict t = itself
+
+pub many_strict : (t : Tree) → HasStrict (many_form t) ↔ HasStrict t
+many_strict skip = itself
+many_strict t = itself
 
 pub usage_strict : (u : Bool) (t : Tree) (d : List Part) → HasStrict (custom_usage_form u t d) → HasStrict t
 usage_strict true t [] x = absurd x
@@ -120,17 +138,17 @@ usage_strict false t d x = x
 mutual
   pub no_strict : (u : Bool) (s : State) (t : Tree) → ¬ HasStrict t → ¬ HasStrict (normal_form u s t)
   no_strict u s (and_of ts) h x =
-      let y : SomeHasStrict (and_parts u s ts) = shown_strict (and_parts u s ts) (and_form_strict (shown_trees (and_parts u s ts)) x) in
+      let y = (shown_strict (and_parts u s ts)).0 ((and_form_strict (shown_trees (and_parts u s ts))).0 x) in
       none_strict u s ts h (subst SomeHasStrict (and_parts_plain u s ts h) y)
   no_strict u s (or_of ts) h x =
       let ns : Trees = or_parts u s s ts in
-      let y : SomeHasStrict ns = shown_strict ns (first_strict (shown_trees ns) (or_form_strict (with_first_command (shown_trees ns)) x)) in
+      let y = (shown_strict ns).0 ((first_strict (shown_trees ns)).0 ((or_form_strict (with_first_command (shown_trees ns))).0 x)) in
       none_strict u s ts h (subst SomeHasStrict (or_parts_plain u s ts h) y)
-  no_strict u s (optional t) h x = no_strict u s t h (optional_strict (normal_form u s t) x)
-  no_strict u s (required t) h x = no_strict u s t h (required_strict (normal_form u s t) x)
+  no_strict u s (optional t) h x = no_strict u s t h ((optional_strict (normal_form u s t)).0 x)
+  no_strict u s (required t) h x = no_strict u s t h ((required_strict (normal_form u s t)).0 x)
   no_strict u s (adjacent t) h x = no_strict u s t h x
   no_strict u s (item l) h x = x
-  no_strict u s (many t) h x = no_strict u s t h (many_strict (normal_form u s t) x)
+  no_strict u s (many t) h x = no_strict u s t h ((many_strict (normal_form u s t)).0 x)
   no_strict u s (subsection t d) h x = no_strict u s t h x
   no_strict u s (suffix t d) h x = no_strict u s t h x
   no_strict u s skip h x = x
@@ -142,11 +160,9 @@ mutual
   none_strict u s (tree t ts) h (inl x) = no_strict u s t (λ y. h (inl y)) x
   none_strict u s (tree t ts) h (inr x) = none_strict u s ts (λ y. h (inr y)) x
 
-pub outer_strict : (t : Tree) → HasStrict (outer_form t) → HasStrict t
-outer_strict (required (or_of ts)) x = x
-outer_strict (required t) x = x
-outer_strict (or_of ts) x = x
-outer_strict t x = x
+pub outer_strict : (t : Tree) → HasStrict (outer_form t) ↔ HasStrict t
+outer_strict (required (or_of ts)) = itself
+outer_strict t = itself
 
 -- without Strict the last step does nothing
 pub normalized_plain : (u : Bool) (t : Tree) → ¬ HasStrict t → normalized u t ≡ outer_form (normal_form u pull t)
@@ -154,14 +170,9 @@ normalized_plain u t h = let kept : state_out pull t ≡ pull = state_kept pull 
 
 -- from a tree without Strict there is no Strict
 pub normalized_no_strict : (u : Bool) (t : Tree) → ¬ HasStrict t → ¬ HasStrict (normalized u t)
-normalized_no_strict u t h x = no_strict u pull t h (outer_strict (normal_form u pull t) (subst HasStrict (normalized_plain u t h) x))
+normalized_no_strict u t h x = no_strict u pull t h ((outer_strict (normal_form u pull t)).0 (subst HasStrict (normalized_plain u t h) x))
 
 -- hidden is Skip
-
-both_true : (b c : Bool) → (b && c) ≡ true → (b ≡ true) × (c ≡ true)
-both_true true true e = (refl, refl)
-both_true true false e = cc
-both_true false c e = cc
 
 usage_skip : (u : Bool) (t n : Tree) (d : List Part) → is_hidden u (custom_usage t d) ≡ true → (is_hidden u t ≡ true → n ≡ skip) → custom_usage_form u n d ≡ skip
 usage_skip true t n [] e f = refl
@@ -186,7 +197,7 @@ mutual
   parts_skip : (u : Bool) (s : State) (ts : Trees) → ¬ SomeHasStrict ts → are_hidden u ts ≡ true → shown_trees (plain_parts u s ts) ≡ no_trees
   parts_skip u s no_trees h e = refl
   parts_skip u s (tree t ts) h e =
-      let es = both_true (is_hidden u t) (are_hidden u ts) e in
+      let es = conjuncts (is_hidden u t) (are_hidden u ts) e in
       let first : normal_form u s t ≡ skip = normal_skip u s t (λ x. h (inl x)) es.0 in
       let rest : shown_trees (plain_parts u s ts) ≡ no_trees = parts_skip u s ts (λ x. h (inr x)) es.1 in
       rw first rest
@@ -194,6 +205,6 @@ mutual
 -- without Strict the normal form is Skip exactly where the tree is hidden
 pub normalized_skip : (u : Bool) (t : Tree) → ¬ HasStrict t → (normalized u t ≡ skip) ↔ (is_hidden u t ≡ true)
 normalized_skip u t h = (
-  (λ e. sym (normalized_hidden u t) ∙ ap (is_hidden u) e),
+  (λ e. sym (normalized_shows u t).hidden ∙ ap (is_hidden u) e),
   (λ e. normalized_plain u t h ∙ ap outer_form (normal_skip u pull t h e)),
 )

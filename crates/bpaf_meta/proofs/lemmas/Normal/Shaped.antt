@@ -1,10 +1,10 @@
 -- The normal form has the usage shape.
 use Rattle.std.proofs.Common.{Bool, true, false, List, [], ◌∷◌, refl}
-use Rattle.std.specs.Prelude.{if◌then◌else◌}
 use Rattle.bpaf_doc.specs.Buffer.Parts.{Part}
-use Rattle.bpaf_meta.specs.Content.{Name, short, long, both, Tree, and_of, or_of, optional, required, adjacent, item, many, subsection, suffix, skip, custom_usage, strict, Trees, no_trees, tree, Leaf, any, positional, command, flag, argument}
-use Rattle.bpaf_meta.specs.Meta.Normal.{State, pull, push, shown_trees, and_form, or_form, is_command_tree, without_commands, with_first_command, optional_many_form, optional_form, required_form, many_form, custom_usage_form, name_form, item_form, guarded as guarded_part, state_after, state_out, normal_form, and_parts, or_parts, outer_form, strict_if_push, normalized}
+use Rattle.bpaf_meta.specs.Content.{Name, both, Tree, and_of, or_of, optional, required, adjacent, item, many, subsection, suffix, skip, custom_usage, strict, Trees, no_trees, tree, Leaf, flag, argument}
+use Rattle.bpaf_meta.specs.Meta.Normal.{State, pull, push, shown_trees, and_form, or_form, with_first_command, optional_many_form, optional_form, required_form, many_form, custom_usage_form, name_form, item_form, guarded as guarded_part, state_after, state_out, normal_form, and_parts, or_parts, outer_form, strict_if_push, normalized}
 use Rattle.bpaf_meta.specs.Meta.Shape.{whole, guarded, among, IsOneName, HasOneName, HasShapeAt, EachHasShape, HasUsageShape}
+use Rattle.bpaf_meta.proofs.lemmas.Normal.Parts.{first_each}
 
 -- each part has the shape of what may stand in a Strict: a Skip may, a bare Or may not
 abbrev EachIsForm : Bool → Trees → Type 0
@@ -33,17 +33,8 @@ or_form_shape u no_trees h = tt
 or_form_shape u (tree t no_trees) h = among_guarded u t h.0
 or_form_shape u (tree t (tree v ts)) h = (tt, (tt, tt, h))
 
-choice_shape : (u b : Bool) (ts vs : Trees) → EachHasShape u ts → EachHasShape u vs → EachHasShape u (if b then ts else vs)
-choice_shape u true ts vs h k = h
-choice_shape u false ts vs h k = k
-
-without_shape : (u : Bool) (ts : Trees) → EachHasShape u ts → EachHasShape u (without_commands ts)
-without_shape u no_trees h = tt
-without_shape u (tree t ts) h = choice_shape u (is_command_tree t) (without_commands ts) (tree t (without_commands ts)) (without_shape u ts h.1) (h.0, without_shape u ts h.1)
-
 first_shape : (u : Bool) (ts : Trees) → EachHasShape u ts → EachHasShape u (with_first_command ts)
-first_shape u no_trees h = tt
-first_shape u (tree t ts) h = (h.0, choice_shape u (is_command_tree t) (without_commands ts) (with_first_command ts) (without_shape u ts h.1) (first_shape u ts h.1))
+first_shape u = first_each (HasShapeAt u among) (EachHasShape u) (λ t ts h. h) (λ t ts h. h)
 
 optional_many_shape : (u : Bool) (t : Tree) → HasShapeAt u among t → HasShapeAt u guarded (optional_many_form t)
 optional_many_shape u (required t) h = h.1
@@ -74,19 +65,14 @@ usage_shape true n (p ∷ d) h = (refl, h)
 usage_shape false n d h = h
 
 name_shape : (u : Bool) (n : Name) → IsOneName (name_form u n)
-name_shape true (short c) = tt
-name_shape true (long n) = tt
 name_shape true (both c n) = tt
-name_shape false (short c) = tt
-name_shape false (long n) = tt
 name_shape false (both c n) = tt
+name_shape u n = tt
 
 item_shape : (u : Bool) (l : Leaf) → HasOneName (item_form u l)
-item_shape u (any m a h) = tt
-item_shape u (positional m h) = tt
-item_shape u (command n c h t i) = tt
 item_shape u (flag n s e h) = name_shape u n
 item_shape u (argument n s m e h) = name_shape u n
+item_shape u l = tt
 
 part_shape : (u : Bool) (r g : State) (n : Tree) → HasShapeAt u guarded n → HasShapeAt u guarded (guarded_part r g n)
 part_shape u pull push n h = h

@@ -2,10 +2,11 @@
 use Rattle.std.proofs.Common.{◌≡◌, Bool, true, false, List, [], ◌∷◌, inl, inr, refl, sym, ap, ◌∙◌, subst}
 use Rattle.std.specs.Prelude.{if◌then◌else◌, ⊤}
 use Rattle.bpaf_doc.specs.Buffer.Parts.{Part}
-use Rattle.bpaf_meta.specs.Content.{Tree, and_of, or_of, optional, required, adjacent, item, many, subsection, suffix, skip, custom_usage, strict, Trees, no_trees, tree, Leaf, any, positional, command, flag, argument}
+use Rattle.bpaf_meta.specs.Content.{Tree, and_of, or_of, optional, required, adjacent, item, many, subsection, suffix, skip, custom_usage, strict, Trees, no_trees, tree, Leaf, flag, argument}
 use Rattle.bpaf_meta.specs.Meta.Normal.{State, pull, shown_trees, and_form, or_form, is_command_tree, without_commands, with_first_command, optional_many_form, optional_form, required_form, many_form, custom_usage_form, item_form, normal_form, and_parts, or_parts, outer_form, normalized}
 use Rattle.bpaf_meta.specs.Meta.Shape.{HasStrict, SomeHasStrict}
 use Rattle.bpaf_meta.proofs.lemmas.Normal.Keeps.{name_form_twice}
+use Rattle.bpaf_meta.proofs.lemmas.Normal.Parts.{first_each}
 use Rattle.bpaf_meta.proofs.lemmas.Normal.Plain.{plain_parts, and_parts_plain, or_parts_plain, no_strict, normalized_plain, normalized_no_strict}
 
 -- its normal form is the tree itself
@@ -37,17 +38,8 @@ kept_no_strict u s (tree t ts) h (inr x) = kept_no_strict u s ts h.1 x
 
 -- commands left out stay out
 
-choice_stays : (u : Bool) (s : State) (b : Bool) (ts vs : Trees) → EachStays u s ts → EachStays u s vs → EachStays u s (if b then ts else vs)
-choice_stays u s true ts vs h k = h
-choice_stays u s false ts vs h k = k
-
-without_stays : (u : Bool) (s : State) (ts : Trees) → EachStays u s ts → EachStays u s (without_commands ts)
-without_stays u s no_trees h = h
-without_stays u s (tree t ts) h = choice_stays u s (is_command_tree t) (without_commands ts) (tree t (without_commands ts)) (without_stays u s ts h.1) (h.0, without_stays u s ts h.1)
-
 first_stays : (u : Bool) (s : State) (ts : Trees) → EachStays u s ts → EachStays u s (with_first_command ts)
-first_stays u s no_trees h = h
-first_stays u s (tree t ts) h = (h.0, choice_stays u s (is_command_tree t) (without_commands ts) (with_first_command ts) (without_stays u s ts h.1) (first_stays u s ts h.1))
+first_stays u s = first_each (λ t. Stays u s t × IsShown t × (¬ HasStrict t)) (EachStays u s) (λ t ts h. h) (λ t ts h. h)
 
 without_step : (t : Tree) (ts : Trees) (b : Bool) → is_command_tree t ≡ b → without_commands (without_commands ts) ≡ without_commands ts → without_commands (if b then without_commands ts else tree t (without_commands ts)) ≡ (if b then without_commands ts else tree t (without_commands ts))
 without_step t ts true e h = h
@@ -86,13 +78,11 @@ or_form_stays u s (tree t (tree v ts)) h e =
     ap (λ ws. required_form (or_form ws)) kept
 
 optional-required_form : (t : Tree) → optional_form (required_form t) ≡ optional_form t
-optional-required_form (and_of ts) = refl
-optional-required_form (or_of ts) = refl
+optional-required_form skip = refl
 optional-required_form t = refl
 
 outer-required_form : (t : Tree) → outer_form (required_form t) ≡ outer_form t
-outer-required_form (and_of ts) = refl
-outer-required_form (or_of ts) = refl
+outer-required_form skip = refl
 outer-required_form t = refl
 
 inner_of_many : Tree → Tree
@@ -139,11 +129,9 @@ usage_stays true s t (p ∷ d) e = ap (λ n. custom_usage n (p ∷ d)) e
 usage_stays false s t d e = e
 
 item_stays : (u : Bool) (l : Leaf) → item_form u (item_form u l) ≡ item_form u l
-item_stays u (any m a h) = refl
-item_stays u (positional m h) = refl
-item_stays u (command n c h t i) = refl
 item_stays u (flag n s e h) = ap (λ m. flag m s e h) (name_form_twice u n)
 item_stays u (argument n s m e h) = ap (λ v. argument v s m e h) (name_form_twice u n)
+item_stays u l = refl
 
 part_stays : (u : Bool) (s : State) (n : Tree) (ns : Trees) → Stays u s n → (¬ HasStrict n) → EachStays u s (shown_trees ns) → EachStays u s (shown_trees (tree n ns))
 part_stays u s skip ns e h k = k

@@ -1,17 +1,18 @@
 -- What a usage line writes into a well-nested document leaves it well nested.
-use Rattle.std.proofs.Common.{◌≡◌, ℕ, Bool, true, false, List, [], ◌∷◌, ◌++◌, sym, refl, ap, ◌∙◌, append_assoc, append-nil, subst}
+use Rattle.std.proofs.Common.{ℕ, Bool, true, false, List, [], ◌∷◌, ◌++◌, sym, refl, subst}
 use Rattle.std.specs.Prelude.{flat_map, if◌then◌else◌, chars}
 use Rattle.std.specs.List.{list_all}
 use Rattle.bpaf_doc.specs.declared.buffer.Style.{Style}
 use Rattle.bpaf_doc.specs.declared.buffer.Block.{Block}
 use Rattle.bpaf_doc.specs.declared.buffer.Block.TheVariants.{Mono, InlineBlock}
-use Rattle.bpaf_doc.specs.Buffer.Parts.{Part, Start, End, IsWellNested, nothing}
-use Rattle.bpaf_doc.specs.Buffer.Writes.{Write, text, start, end, parts, plain, literal, with_text, with_write, with_writes, doc_writes, inside}
-use Rattle.bpaf_doc.proofs.lemmas.Buffer.Nesting.{with_text-append, IsWellNested-with_text, IsWellNested-in_block}
-use Rattle.bpaf_meta.specs.Content.{Name, short, long, both, Tree, and_of, or_of, optional, required, adjacent, item, many, subsection, suffix, skip, custom_usage, strict, Trees, no_trees, tree, Leaf, any, positional, command, flag, argument}
-use Rattle.bpaf_meta.specs.Meta.Normal.{State, pull, push, shown_trees, and_form, or_form, is_command_tree, without_commands, with_first_command, optional_many_form, optional_form, required_form, many_form, custom_usage_form, item_form, guarded, state_after, state_out, normal_form, and_parts, or_parts, outer_form, strict_if_push, normalized}
+use Rattle.bpaf_doc.specs.Buffer.Parts.{Part, IsWellNested, nothing}
+use Rattle.bpaf_doc.specs.Buffer.Writes.{Write, text, plain, literal, with_writes, doc_writes, inside}
+use Rattle.bpaf_doc.proofs.lemmas.Buffer.Nesting.{IsWellNested-with_text, IsWellNested-in_block, IsWellNested-inside}
+use Rattle.bpaf_meta.specs.Content.{Name, short, Tree, and_of, or_of, optional, required, adjacent, item, many, subsection, suffix, skip, custom_usage, strict, Trees, no_trees, tree, Leaf, any, positional, command, flag, argument}
+use Rattle.bpaf_meta.specs.Meta.Normal.{State, pull, push, shown_trees, and_form, or_form, with_first_command, optional_many_form, optional_form, required_form, many_form, custom_usage_form, item_form, guarded, state_after, state_out, normal_form, and_parts, or_parts, outer_form, strict_if_push, normalized}
 use Rattle.bpaf_meta.specs.Usage.Nested.{HasNestedDoc, HasNestedDocs, EachHasNestedDocs}
 use Rattle.bpaf_meta.specs.Usage.Writes.{is_bare_character, metavar_writes, name_writes, item_writes, separated, tree_writes, part_writes}
+use Rattle.bpaf_meta.proofs.lemmas.Normal.Parts.{first_each}
 use Rattle.bpaf_meta.proofs.lemmas.Usage.Written.{with_writes-append}
 
 -- the normal form writes no other documents
@@ -31,17 +32,8 @@ shown_nested no_trees h = tt
 shown_nested (tree skip ts) h = shown_nested ts h.1
 shown_nested (tree t ts) h = (h.0, shown_nested ts h.1)
 
-choice_nested : (b : Bool) (ts vs : Trees) → EachHasNestedDocs ts → EachHasNestedDocs vs → EachHasNestedDocs (if b then ts else vs)
-choice_nested true ts vs h k = h
-choice_nested false ts vs h k = k
-
-without_nested : (ts : Trees) → EachHasNestedDocs ts → EachHasNestedDocs (without_commands ts)
-without_nested no_trees h = tt
-without_nested (tree t ts) h = choice_nested (is_command_tree t) (without_commands ts) (tree t (without_commands ts)) (without_nested ts h.1) (h.0, without_nested ts h.1)
-
 first_nested : (ts : Trees) → EachHasNestedDocs ts → EachHasNestedDocs (with_first_command ts)
-first_nested no_trees h = tt
-first_nested (tree t ts) h = (h.0, choice_nested (is_command_tree t) (without_commands ts) (with_first_command ts) (without_nested ts h.1) (first_nested ts h.1))
+first_nested = first_each HasNestedDocs EachHasNestedDocs (λ t ts h. h) (λ t ts h. h)
 
 optional_many_nested : (t : Tree) → HasNestedDocs t → HasNestedDocs (optional_many_form t)
 optional_many_nested (required t) h = h
@@ -67,10 +59,7 @@ usage_nested false t d h k = h
 
 item_form_nested : (u : Bool) (l : Leaf) → HasNestedDoc l → HasNestedDoc (item_form u l)
 item_form_nested u (any m a h) k = k
-item_form_nested u (positional m h) k = tt
-item_form_nested u (command n c h t i) k = tt
-item_form_nested u (flag n s e h) k = tt
-item_form_nested u (argument n s m e h) k = tt
+item_form_nested u l k = tt
 
 guarded_nested : (r g : State) (t : Tree) → HasNestedDocs t → HasNestedDocs (guarded r g t)
 guarded_nested pull push t h = h
@@ -101,8 +90,6 @@ mutual
 
 outer_nested : (t : Tree) → HasNestedDocs t → HasNestedDocs (outer_form t)
 outer_nested (required (or_of ts)) h = h
-outer_nested (required t) h = h
-outer_nested (or_of ts) h = h
 outer_nested t h = h
 
 last_nested : (s : State) (t : Tree) → HasNestedDocs t → HasNestedDocs (strict_if_push s t)
@@ -134,8 +121,7 @@ metavar_keeps name = metavar_by (list_all is_bare_character (chars name)) name _
 
 pub name_keeps : (n : Name) → KeepNested (name_writes n)
 name_keeps (short c) = text_keeps _ _
-name_keeps (long n) = text_keeps _ _
-name_keeps (both c n) = text_keeps _ _
+name_keeps n = text_keeps _ _
 
 pub item_keeps : (l : Leaf) → HasNestedDoc l → KeepNested (item_writes l)
 item_keeps (any m a h) k = doc_keeps m k
@@ -178,28 +164,8 @@ mutual
   parts_keep no_trees h = tt
   parts_keep (tree t ts) h = (tree_keeps t h.0, parts_keep ts h.1)
 
--- what is written after a start stands behind it, as if it were written into a new document
-
-text_behind : (ps : List Part) (b : Block) (qs : List Part) (bytes : List ℕ) (style : Style) → with_text ((ps ++ Start b ∷ []) ++ qs) bytes style ≡ (ps ++ Start b ∷ []) ++ with_text qs bytes style
-text_behind ps b [] bytes style = ap (λ rs. with_text rs bytes style) (append-nil (ps ++ Start b ∷ [])) ∙ with_text-append ps (Start b) [] bytes style ∙ sym (append_assoc ps (Start b ∷ []) (with_text [] bytes style))
-text_behind ps b (q ∷ qs) bytes style = with_text-append (ps ++ Start b ∷ []) q qs bytes style
-
-write_behind : (ps : List Part) (b : Block) (qs : List Part) (w : Write) → with_write ((ps ++ Start b ∷ []) ++ qs) w ≡ (ps ++ Start b ∷ []) ++ with_write qs w
-write_behind ps b qs (text bytes style) = text_behind ps b qs bytes style
-write_behind ps b qs (start m) = append_assoc (ps ++ Start b ∷ []) qs (Start m ∷ [])
-write_behind ps b qs (end m) = append_assoc (ps ++ Start b ∷ []) qs (End m ∷ [])
-write_behind ps b qs (parts rs) = append_assoc (ps ++ Start b ∷ []) qs rs
-
-writes_behind : (ps : List Part) (b : Block) (qs : List Part) (ws : List Write) → with_writes ((ps ++ Start b ∷ []) ++ qs) ws ≡ (ps ++ Start b ∷ []) ++ with_writes qs ws
-writes_behind ps b qs [] = refl
-writes_behind ps b qs (w ∷ ws) = ap (λ rs. with_writes rs ws) (write_behind ps b qs w) ∙ writes_behind ps b (with_write qs w) ws
-
 inside_keeps : (b : Block) (ws : List Write) → KeepNested ws → KeepNested (inside b ws)
-inside_keeps b ws f ps h =
-    let opened : List Part = ps ++ Start b ∷ [] in
-    let behind : with_writes opened ws ≡ opened ++ with_writes [] ws = ap (λ rs. with_writes rs ws) (sym (append-nil opened)) ∙ writes_behind ps b [] ws in
-    let whole : with_writes ps (inside b ws) ≡ (opened ++ with_writes [] ws) ++ End b ∷ [] = with_writes-append opened ws (end b ∷ []) ∙ ap (λ rs. rs ++ End b ∷ []) behind in
-    subst IsWellNested (sym whole) (IsWellNested-in_block b ps (with_writes [] ws) h (f [] (nothing refl)))
+inside_keeps b ws f ps h = IsWellNested-inside b ps ws h (f [] (nothing refl))
 
 pub form_keeps : (t : Tree) → HasNestedDocs t → KeepNested (inside Mono (tree_writes t))
 form_keeps t h = inside_keeps Mono (tree_writes t) (tree_keeps t h)

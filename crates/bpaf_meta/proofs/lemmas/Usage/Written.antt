@@ -34,10 +34,7 @@ IsFilled (p ∷ ps) = Unit {0}
 
 same_as_itself : (s : Style) → same_style s s ≡ true
 same_as_itself style.Text = refl
-same_as_itself style.Emphasis = refl
-same_as_itself style.Literal = refl
-same_as_itself style.Metavar = refl
-same_as_itself style.Invalid = refl
+same_as_itself s = refl
 
 alone_twice : (a b : List ℕ) (s : Style) → part_then_text (Text a s) b s ≡ Text (a ++ b) s ∷ []
 alone_twice a b s = rw (same_as_itself s) refl
@@ -57,8 +54,7 @@ filled_by false c b k s = tt
 
 filled_part : (p : Part) (b : List ℕ) (s : Style) → IsFilled (part_then_text p b s)
 filled_part (Text c k) b s = filled_by (same_style k s) c b k s
-filled_part (Start m) b s = tt
-filled_part (End m) b s = tt
+filled_part p b s = tt
 
 filled : (q : Part) (qs : List Part) (b : List ℕ) (s : Style) → IsFilled (with_text (q ∷ qs) b s)
 filled q [] b s = filled_part q b s

@@ -7,11 +7,12 @@ use Rattle.bpaf_meta.specs.declared.item.Item.{the_lemmas}
 use Rattle.bpaf_meta.specs.View.{tree_of, trees_of}
 use Rattle.bpaf_meta.specs.declared.meta.Meta.{Meta}
 use Rattle.bpaf_meta.specs.declared.meta.Meta.TheVariants.{Optional, Required, Many, CustomUsage, Strict}
+use Rattle.bpaf_meta.proofs.lemmas.Usage.Written.{OnOk-map}
 use Rattle.bpaf_items.specs.declared.meta_help.entry.HiTy.TheVariants as ty
 use Rattle.bpaf_items.specs.declared.meta_help.entry.HelpItem.TheVariants as entry
 use Rattle.bpaf_items.specs.Listing.ItemList.{front_type, first_front_type, adjacent_entries, group_entries, entries_of, entries_of_parts}
 use Rattle.bpaf_items.specs.View.{entry_of}
-use Rattle.bpaf_items.proofs.Steps.Fronts.{front_whole, front_then, append_turn, OnOk-map}
+use Rattle.bpaf_items.proofs.Steps.Fronts.{front_whole, front_then, append_turn}
 use Rattle.bpaf_items.proofs.Steps.Kept.{type_turn, ungrouped, unnoted, away_front, closed_front, closed_entries}
 use Rattle.bpaf_items.proofs.meta_help.walk.+append.Goals as goal
 
@@ -124,6 +125,3 @@ append-returns-in-Optional-clause-ty g t c =
     subst (λ own. IfOk c.append.result (λ front. front ≡ own))
     (ap (λ m. front_type (tree_of m)) c.deref-in-Optional.ensures ∙ tree_around c.args.meta.now c.in-Optional.inner c.in-Optional.is front_type (λ t. refl) (λ t. refl) (λ t. refl) (λ t d. refl) (λ t. refl))
     c.append.ensures.ty
-
-pub append-returns-in-Optional-clause-front : goal.append-returns-in-Optional-clause-front
-append-returns-in-Optional-clause-front g t c = c.append.ensures.front

@@ -1,6 +1,7 @@
 use Rattle.std.proofs.Common.{◌≡◌, ◌<◌, length, rules}
 use Rattle.std.specs.Prelude.{slice_set}
-use Rattle.bpaf_items.proofs.Steps.Fronts.{OnOk-map, front_then}
+use Rattle.bpaf_meta.proofs.lemmas.Usage.Written.{OnOk-map}
+use Rattle.bpaf_items.proofs.Steps.Fronts.{front_then}
 use Rattle.bpaf_items.proofs.Steps.Kept.{moved_last, moved_front, take_front, with_last}
 use Rattle.bpaf_items.proofs.meta_help.walk.close.Goals as goal
 

@@ -1,6 +1,5 @@
-use Rattle.std.proofs.Common.{◌≡◌, ◌+◌, rules, map, take, take_all, ap, ◌∙◌, sym, subst}
+use Rattle.std.proofs.Common.{◌+◌, rules, map, take, sym, subst}
 use Rattle.bpaf_meta.proofs.lemmas.Usage.Written.{Grows-then, Grows-by}
-use Rattle.bpaf_doc.specs.Buffer.Writes.{with_writes}
 use Rattle.bpaf_items.specs.Page.EnvTexts.{texts_in}
 use Rattle.bpaf_items.specs.Page.HelpPage.{list_writes}
 use Rattle.bpaf_items.specs.Page.Steps.Repeats.{Remembers}
@@ -26,9 +25,3 @@ loop-entry-preserved g c =
       written = list_next c.args.self.now.include_env (texts_in c.args.self.now.texts.now) (map entry_at (take i es)) (map entry_at (take (i + 1) es)) e c.args.doc.now c.loop-entry.doc c.put_next.new.doc more c.loop-entry.invariant.written done.0;
       remembers = subst (Remembers c.put_next.new.repeats.keys.keys c.put_next.new.repeats.shown) (sym more) done.1;
     }
-
-pub returns : goal.returns
-returns g c =
-    let all : map entry_at (take c.loop-entry.entry-index c.args.entries.now) ≡ map entry_at c.args.entries.now = ap (map entry_at) (take_all c.loop-entry.entry-index c.args.entries.now (search rules)) in
-    let e = c.loop-entry.invariant.written ∙ ap (λ es. with_writes c.args.doc.now (list_writes c.args.self.now.include_env (texts_in c.args.self.now.texts.now) es)) all in
-    (Grows-by _ _ (list_writes c.args.self.now.include_env (texts_in c.args.self.now.texts.now) (map entry_at c.args.entries.now)) e, e)
