@@ -1,24 +1,22 @@
 -- What the running ends give: the parts, their texts, and what is added behind them.
 use Rattle.std.proofs.Common.{◌≡◌, ℕ, zero, suc, ◌+◌, ◌-◌, ◌^◌, ◌<◌, ◌≤◌, Bool, true, false, List, [], ◌∷◌, ◌++◌, All, map, length, get_or, take, drop, sym, refl, ap, ◌∙◌, arith, length-append, length-drop, take_all, append_assoc, append-nil, take-append-drop, subst, add-zero}
 use Rattle.std.proofs.Math.Seq.{take-add}
-use Rattle.std.proofs.lemmas.List.{drop-drop, drop_all}
 use Rattle.std.specs.Prelude.{if◌then◌else◌, Option, Some, None, option_to_list}
 use Rattle.std.specs.Iterator.{YieldsFirstBy}
 use Rattle.std.specs.List.{slice_get}
 use Rattle.std.specs.Option.{option_map}
 use Rattle.std.specs.Str.{IsUtf8}
-use Rattle.std.proofs.lemmas.List.{take-append-le, drop-append-le}
+use Rattle.std.proofs.lemmas.List.{take-append-le, drop-append-le, drop-drop, drop_all}
 use Rattle.std.proofs.lemmas.List.Elements.{All-nil, All-cons}
 use Rattle.std.proofs.lemmas.Str.{IsUtf8-append, IsUtf8-nil}
 use Rattle.bpaf_doc.specs.declared.buffer.Style.{Style}
 use Rattle.bpaf_doc.specs.declared.buffer.Kind.{Kind}
-use Rattle.bpaf_doc.specs.declared.buffer.Kind.TheVariants as kind
 use Rattle.bpaf_doc.specs.declared.buffer.PartEnd.{PartEnd}
 use Rattle.bpaf_doc.specs.Buffer.Steps.Ends.{AreEnds, CanMove, IsEnd, MayTake, end_before, end_then_text, is_text_of, moved, part_with, parts_from, text_end, with_last_end, with_text_end}
 use Rattle.bpaf_doc.specs.declared.buffer.Part as handed
 use Rattle.bpaf_doc.specs.Buffer.View.{part_of}
-use Rattle.bpaf_doc.specs.Buffer.Parts.{Part, Text, Start, End, HasUtf8Texts, document_bytes, part_bytes}
-use Rattle.bpaf_doc.specs.Buffer.Writes.{part_then_text, same_style, with_text}
+use Rattle.bpaf_doc.specs.Buffer.Parts.{Part, Text, HasUtf8Texts, document_bytes, part_bytes}
+use Rattle.bpaf_doc.specs.Buffer.Writes.{part_then_text, with_text}
 
 pub length-parts_from : (start : ℕ) (es : List PartEnd) (rest : List ℕ) → length (parts_from start es rest) ≡ length es
 length-parts_from start [] rest = refl
@@ -31,17 +29,12 @@ left_over start e rest is = omega (arith, length-drop (e.end - start) rest, is.n
 -- ---- the texts
 
 taken_bytes : (k : Kind) (n : ℕ) (rest : List ℕ) → MayTake k n → part_bytes (part_with k (take n rest)) ≡ take n rest
-taken_bytes (kind.Text style) n rest may = refl
-taken_bytes _ n rest may = rw may refl
+taken_bytes k n rest h = grind arith
 
 -- the texts joined are the payload
 pub document_bytes-parts_from : (start : ℕ) (es : List PartEnd) (rest : List ℕ) → AreEnds start es rest → document_bytes (parts_from start es rest) ≡ rest
 document_bytes-parts_from start [] rest are = sym are
-document_bytes-parts_from start (e ∷ es) rest are =
-    let n = e.end - start in
-    ap (λ bytes. bytes ++ document_bytes (parts_from e.end es (drop n rest))) (taken_bytes e.kind n rest are.0.taken)
-    ∙ ap (λ bytes. take n rest ++ bytes) (document_bytes-parts_from e.end es (drop n rest) are.1)
-    ∙ take-append-drop n rest
+document_bytes-parts_from start (e ∷ es) rest are = grind (arith, document_bytes-parts_from e.end es (drop (e.end - start) rest), taken_bytes, take-append-drop)
 
 pub HasUtf8Texts-parts_from : (start : ℕ) (es : List PartEnd) (rest : List ℕ) → AreEnds start es rest → HasUtf8Texts (parts_from start es rest)
 HasUtf8Texts-parts_from start [] rest are = All-nil (λ part. IsUtf8 (part_bytes part))
@@ -64,29 +57,12 @@ pub parts_from-append : (start : ℕ) (es fs : List PartEnd) (rest more : List �
     → parts_from start (es ++ fs) (rest ++ more) ≡ parts_from start es rest ++ parts_from (start + length rest) fs more
 parts_from-append start [] fs [] more are = rw add-zero refl
 parts_from-append start [] fs (x ∷ rest) more are = cc
-parts_from-append start (e ∷ es) fs rest more are =
-    let n = e.end - start in
-    rw (take-append-le n rest more are.0.within, drop-append-le n rest more are.0.within)
-    (ap (λ ps. part_with e.kind (take n rest) ∷ ps)
-    (parts_from-append e.end es fs (drop n rest) more are.1
-    ∙ ap (λ s. parts_from e.end es (drop n rest) ++ parts_from s fs more) (left_over start e rest are.0)))
-
-is_end_more : (start : ℕ) (e : PartEnd) (rest more : List ℕ) → IsEnd start e rest → IsEnd start e (rest ++ more)
-is_end_more start e rest more is = record {
-  not_below = is.not_below;
-  within = omega (arith, length-append rest more, is.within);
-  utf8 = rw (take-append-le (e.end - start) rest more is.within) is.utf8;
-  taken = is.taken;
-}
+parts_from-append start (e ∷ es) fs rest more are = grind (arith, parts_from-append e.end es fs (drop (e.end - start) rest) more, take-append-le, drop-append-le, left_over)
 
 pub AreEnds-append : (start : ℕ) (es fs : List PartEnd) (rest more : List ℕ) → AreEnds start es rest → AreEnds (start + length rest) fs more → AreEnds start (es ++ fs) (rest ++ more)
 AreEnds-append start [] fs [] more are also = rw add-zero at also
 AreEnds-append start [] fs (x ∷ rest) more are also = cc
-AreEnds-append start (e ∷ es) fs rest more are also =
-    let n = e.end - start in (
-      is_end_more start e rest more are.0,
-      rw (drop-append-le n rest more are.0.within) (AreEnds-append e.end es fs (drop n rest) more are.1 (subst (λ s. AreEnds s fs more) (sym (left_over start e rest are.0)) also)),
-    )
+AreEnds-append start (e ∷ es) fs rest more are also = grind (arith, AreEnds-append e.end es fs (drop (e.end - start) rest) more, length-append, take-append-le, drop-append-le, left_over)
 
 -- ---- a part without bytes
 
@@ -94,18 +70,7 @@ take_none : (n : ℕ) → take n (let none : List ℕ = [] in none) ≡ []
 take_none n = take_all n [] (omega arith)
 
 empty_is_end : (k : Kind) (end : ℕ) → MayTake k 0 → IsEnd end (record { kind = k; end = end }) []
-empty_is_end k end may =
-    let none : end - end ≡ 0 = omega arith in
-    record {
-      not_below = omega arith;
-      within = omega arith;
-      utf8 = rw none IsUtf8-nil;
-      taken = rw none may;
-    }
-
-may_take_none : (k : Kind) → MayTake k 0
-may_take_none (kind.Text style) = tt
-may_take_none _ = refl
+empty_is_end k end may = grind arith
 
 module _ (start : ℕ) (es : List PartEnd) (rest : List ℕ) (k : Kind) where
   -- behind the other ends
@@ -121,7 +86,7 @@ module _ (start : ℕ) (es : List PartEnd) (rest : List ℕ) (k : Kind) where
   pub AreEnds-push_empty : AreEnds start es rest → AreEnds start (es ++ empty_end ∷ []) rest
   AreEnds-push_empty are =
       subst (λ bytes. AreEnds start (es ++ empty_end ∷ []) bytes) (append-nil rest)
-      (AreEnds-append start es (empty_end ∷ []) rest [] are (empty_is_end k (start + length rest) (may_take_none k), drop_none (start + length rest - (start + length rest)))) where
+      (AreEnds-append start es (empty_end ∷ []) rest [] are (empty_is_end k (start + length rest) (grind arith), drop_none (start + length rest - (start + length rest)))) where
         drop_none : (n : ℕ) → drop n (let none : List ℕ = [] in none) ≡ []
         drop_none n = drop_all n [] (omega arith)
 
@@ -131,30 +96,15 @@ module _ (from to : ℕ) where
   pub parts_from-moved : (start : ℕ) (es : List PartEnd) (rest : List ℕ) → from ≤ start → AreEnds start es rest
       → parts_from (start - from + to) (map (moved from to) es) rest ≡ parts_from start es rest
   parts_from-moved start [] rest le are = refl
-  parts_from-moved start (e ∷ es) rest le are =
-      let n = e.end - start in
-      let width : e.end - from + to - (start - from + to) ≡ e.end - start = omega (arith, are.0.not_below) in
-      rw width (ap (λ ps. part_with e.kind (take n rest) ∷ ps) (parts_from-moved e.end es (drop n rest) (omega (arith, are.0.not_below)) are.1))
+  parts_from-moved start (e ∷ es) rest le are = grind (arith, parts_from-moved e.end es (drop (e.end - start) rest))
 
   pub AreEnds-moved : (start : ℕ) (es : List PartEnd) (rest : List ℕ) → from ≤ start → AreEnds start es rest → AreEnds (start - from + to) (map (moved from to) es) rest
   AreEnds-moved start [] rest le are = are
-  AreEnds-moved start (e ∷ es) rest le are =
-      let width : e.end - from + to - (start - from + to) ≡ e.end - start = omega (arith, are.0.not_below) in (
-        record {
-          not_below = omega (arith, are.0.not_below);
-          within = omega (arith, width, are.0.within);
-          utf8 = rw width are.0.utf8;
-          taken = rw width are.0.taken;
-        },
-        rw width (AreEnds-moved e.end es (drop (e.end - start) rest) (omega (arith, are.0.not_below)) are.1),
-      )
+  AreEnds-moved start (e ∷ es) rest le are = grind (arith, AreEnds-moved e.end es (drop (e.end - start) rest))
 
   pub CanMove-AreEnds : (start : ℕ) (es : List PartEnd) (rest : List ℕ) → from ≤ start → AreEnds start es rest → start - from + length rest + to < 2 ^ 64 → All (CanMove from to) es
   CanMove-AreEnds start [] rest le are fits = All-nil (CanMove from to)
-  CanMove-AreEnds start (e ∷ es) rest le are fits =
-      let left = left_over start e rest are.0 in
-      All-cons (CanMove from to) e es (omega (arith, are.0.not_below), omega (arith, are.0.not_below, are.0.within))
-      (CanMove-AreEnds e.end es (drop (e.end - start) rest) (omega (arith, are.0.not_below)) are.1 (omega (arith, left, are.0.not_below)))
+  CanMove-AreEnds start (e ∷ es) rest le are fits = grind (arith, CanMove-AreEnds e.end es (drop (e.end - start) rest), left_over)
 
 -- ---- a text behind the others
 
@@ -184,15 +134,7 @@ module _ (style : Style) (text : List ℕ) where
   text_alone start end is = ap (λ bytes. Text bytes style ∷ []) (take_all (end - start) text (omega arith))
 
   pub alone_are : IsUtf8 text → (start end : ℕ) → end ≡ start + length text → AreEnds start (text_end style end ∷ []) text
-  alone_are utf8 start end is = (
-    record {
-      not_below = omega arith;
-      within = omega arith;
-      utf8 = rw (take_all (end - start) text (omega arith)) utf8;
-      taken = tt;
-    },
-    drop_all (end - start) text (omega arith),
-  )
+  alone_are utf8 start end is = grind (arith, take_all, drop_all)
 
   -- after a part that is the whole of the rest
   module _ (start end last : ℕ) (rest : List ℕ) (is : end ≡ start + (length rest + length text)) where
@@ -226,19 +168,11 @@ module _ (style : Style) (text : List ℕ) where
     -- after a last part
     text_after : (k : Kind) → AreEnds start (record { kind = k; end = last } ∷ []) rest
         → parts_from start (end_then_text (record { kind = k; end = last }) style end) (rest ++ text) ≡ part_then_text (part_with k (take (last - start) rest)) text style
-    text_after (kind.Text other) are = joined_parts (same_style other style) other are
-    text_after (kind.Start b) are =
-        parts_from-append start (record { kind = kind.Start b; end = last } ∷ []) (text_end style end ∷ []) rest text are
-        ∙ ap (λ ps. Start b ∷ ps) (text_alone (start + length rest) end (omega arith))
-    text_after (kind.End b) are =
-        parts_from-append start (record { kind = kind.End b; end = last } ∷ []) (text_end style end ∷ []) rest text are
-        ∙ ap (λ ps. End b ∷ ps) (text_alone (start + length rest) end (omega arith))
+    text_after k h1 = grind (arith, joined_parts, parts_from-append, text_alone)
 
     after_are : IsUtf8 text → (k : Kind) → AreEnds start (record { kind = k; end = last } ∷ []) rest
         → AreEnds start (end_then_text (record { kind = k; end = last }) style end) (rest ++ text)
-    after_are utf8 (kind.Text other) are = joined_are utf8 (same_style other style) other are
-    after_are utf8 (kind.Start b) are = AreEnds-append start (record { kind = kind.Start b; end = last } ∷ []) (text_end style end ∷ []) rest text are (alone_are utf8 (start + length rest) end (omega arith))
-    after_are utf8 (kind.End b) are = AreEnds-append start (record { kind = kind.End b; end = last } ∷ []) (text_end style end ∷ []) rest text are (alone_are utf8 (start + length rest) end (omega arith))
+    after_are h1 k h2 = grind (arith, joined_are, alone_are)
 
   pub parts_from-with_text_end : (start end : ℕ) (es : List PartEnd) (rest : List ℕ) → end ≡ start + (length rest + length text) → AreEnds start es rest
       → parts_from start (with_text_end es style end) (rest ++ text) ≡ with_text (parts_from start es rest) text style
@@ -252,21 +186,14 @@ module _ (style : Style) (text : List ℕ) where
   AreEnds-with_text_end utf8 start end [] [] is are = alone_are utf8 start end (omega arith)
   AreEnds-with_text_end utf8 start end [] (x ∷ rest) is are = cc
   AreEnds-with_text_end utf8 start end (e ∷ []) rest is are = after_are start end e.end rest is utf8 e.kind are
-  AreEnds-with_text_end utf8 start end (e ∷ f ∷ es) rest is are =
-      let n = e.end - start in (
-        is_end_more start e rest text are.0,
-        rw (drop-append-le n rest text are.0.within) (AreEnds-with_text_end utf8 e.end end (f ∷ es) (drop n rest) (omega (arith, left_over start e rest are.0)) are.1),
-      )
+  AreEnds-with_text_end utf8 start end (e ∷ f ∷ es) rest is are = grind (arith, AreEnds-with_text_end utf8 e.end end (f ∷ es) (drop (e.end - start) rest), length-append, take-append-le, drop-append-le, left_over)
 
 -- ---- the parts behind a place
 
 pub end_before-bounds : (start : ℕ) (es : List PartEnd) (rest : List ℕ) (i : ℕ) → AreEnds start es rest → (start ≤ end_before start es i) × (end_before start es i ≤ start + length rest)
 end_before-bounds start es rest zero are = (omega arith, omega arith)
 end_before-bounds start [] rest (suc i) are = (omega arith, omega arith)
-end_before-bounds start (e ∷ es) rest (suc i) are =
-    let n = e.end - start in
-    let behind : (e.end ≤ end_before e.end es i) × (end_before e.end es i ≤ e.end + length (drop n rest)) = end_before-bounds e.end es (drop n rest) i are.1 in
-    (omega (arith, are.0.not_below, behind.0), omega (arith, left_over start e rest are.0, behind.1))
+end_before-bounds start (e ∷ es) rest (suc i) are = grind (arith, end_before-bounds e.end es (drop (e.end - start) rest) i, left_over)
 
 -- the bytes before it are a text
 pub IsUtf8-before : (start : ℕ) (es : List PartEnd) (rest : List ℕ) (i : ℕ) → AreEnds start es rest → IsUtf8 (take (end_before start es i - start) rest)

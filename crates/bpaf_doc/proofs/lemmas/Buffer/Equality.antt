@@ -1,11 +1,9 @@
 -- Equal documents have the same parts.
-use Rattle.std.proofs.Common.{arith, ◌≡◌, Bool, true, List, [], ◌∷◌, refl, ap, subst, nat_eq}
+use Rattle.std.proofs.Common.{arith, ◌≡◌, Bool, true, List, [], ◌∷◌, refl, subst}
 use Rattle.std.specs.Cmp.Lexicographic.{pointwise}
 use Rattle.std.proofs.lemmas.Bool.{eqb-true, and_parts}
-use denote.Enum.Bare.{tag_one}
-use Rattle.bpaf_doc.specs.contracts.buffer.Block as block
 use Rattle.bpaf_doc.specs.Buffer.Equality.{IsEqualityOfParts, documents_equiv, same_document, same_part}
-use Rattle.bpaf_doc.specs.Buffer.Parts.{Part, Text, Start, End}
+use Rattle.bpaf_doc.specs.Buffer.Parts.{Part}
 
 pointwise_is : {X : Type 0} (same : X → X → Bool) → ((x y : X) → same x y ≡ true → x ≡ y) → (xs ys : List X) → pointwise same xs ys ≡ true → xs ≡ ys
 pointwise_is same tells [] [] h = refl
@@ -14,10 +12,7 @@ pointwise_is same tells (x ∷ xs) [] h = cc
 pointwise_is same tells (x ∷ xs) (y ∷ ys) h = grind (arith, pointwise_is same tells xs ys, and_parts)
 
 same_part_is : (p q : Part) → same_part p q ≡ true → p ≡ q
-same_part_is (Text b s) (Text c r) h = grind (arith, and_parts, pointwise_is, nat_eq, eqb-true)
-same_part_is (Start b) (Start c) h = ap Start (tag_one block.the_type tt b c (eqb-true _ _ h))
-same_part_is (End b) (End c) h = ap End (tag_one block.the_type tt b c (eqb-true _ _ h))
-same_part_is _ _ h = cc
+same_part_is p q h = grind (arith, and_parts, pointwise_is, eqb-true)
 
 pub equality_of_parts : IsEqualityOfParts
 equality_of_parts ps qs = (λ h. pointwise_is same_part same_part_is ps qs h, λ e. subst (λ rs. same_document ps rs ≡ true) e (documents_equiv.refl ps))

@@ -44,18 +44,9 @@ IsWellNested-in_block b ps inner nested also =
 
 -- a start joins no text, so what is written behind it does not depend on what stands before
 module _ (ps : List Part) (b : Block) where
-  with_text-behind_start : (qs : List Part) (bytes : List ℕ) (style : Style) → with_text ((ps ++ Start b ∷ []) ++ qs) bytes style ≡ (ps ++ Start b ∷ []) ++ with_text qs bytes style
-  with_text-behind_start [] bytes style = grind (arith, append-nil, with_text-append, append_assoc)
-  with_text-behind_start (q ∷ qs) bytes style = with_text-append (ps ++ Start b ∷ []) q qs bytes style
-
   with_writes-behind_start : (qs : List Part) (ws : List Write) → with_writes ((ps ++ Start b ∷ []) ++ qs) ws ≡ (ps ++ Start b ∷ []) ++ with_writes qs ws
   with_writes-behind_start qs [] = refl
-  with_writes-behind_start qs (w ∷ ws) = ap (λ rs. with_writes rs ws) (one w) ∙ with_writes-behind_start (with_write qs w) ws where
-    one : (w : Write) → with_write ((ps ++ Start b ∷ []) ++ qs) w ≡ (ps ++ Start b ∷ []) ++ with_write qs w
-    one (write.text bytes style) = with_text-behind_start qs bytes style
-    one (write.start c) = append_assoc (ps ++ Start b ∷ []) qs (Start c ∷ [])
-    one (write.end c) = append_assoc (ps ++ Start b ∷ []) qs (End c ∷ [])
-    one (write.parts rs) = append_assoc (ps ++ Start b ∷ []) qs rs
+  with_writes-behind_start qs (w ∷ ws) = grind (arith, with_writes-behind_start (with_write qs w) ws, append-nil, with_text-append, append_assoc)
 
   -- the start, the document that was written between, the end
   pub with_writes-inside : (ws : List Write) → with_writes ps (inside b ws) ≡ ((ps ++ Start b ∷ []) ++ document_of ws) ++ End b ∷ []

@@ -1,6 +1,5 @@
 -- What was written is taken off again.
-use Rattle.std.proofs.Common.{◌≡◌, ℕ, ◌+◌, ◌-◌, ◌≤◌, Bool, true, false, List, [], ◌∷◌, ◌++◌, length, take, drop, sym, refl, ap, ◌∙◌, arith, rules, length-append, length-drop, length-take, append_assoc, append-nil, subst}
-use Rattle.std.specs.Prelude.{if◌then◌else◌}
+use Rattle.std.proofs.Common.{◌≡◌, ℕ, ◌+◌, ◌-◌, ◌≤◌, true, List, [], ◌∷◌, ◌++◌, length, take, drop, sym, refl, ap, ◌∙◌, arith, rules, length-append, length-drop, length-take, append_assoc, append-nil, subst}
 use Rattle.std.specs.Str.{IsUtf8}
 use Rattle.std.proofs.lemmas.List.{drop-take, drop_all, length-take-le, take-take, take_at}
 use Rattle.std.proofs.lemmas.List.Elements.{All-head, All-tail}
@@ -31,8 +30,7 @@ Extends (p ∷ p' ∷ ps) (q ∷ qs) = (q ≡ p) × Extends (p' ∷ ps) qs
 
 IsLonger-refl : (p : Part) → IsLonger p p
 unfolding IsLonger
-IsLonger-refl (Text bytes style) = ([], ap (λ b. Text b style) (sym (append-nil bytes)))
-IsLonger-refl _ = refl
+IsLonger-refl p = grind (arith, append-nil)
 
 Extends-refl : (ps : List Part) → Extends ps ps
 Extends-refl [] = tt
@@ -51,21 +49,10 @@ same_style-is a b same = same_true the_type (search rules) a b same
 -- a longer part stays longer as a text joins it
 longer_still : (p : Part) (before bytes : List ℕ) (style : Style) → IsLonger p (Text before style) → IsLonger p (Text (before ++ bytes) style)
 unfolding IsLonger
-longer_still (Text had kind) before bytes style (more, is) =
-    let b : before ≡ had ++ more = cc in
-    let s : style ≡ kind = cc in
-    (more ++ bytes, rw (b, s) (ap (λ t. Text t kind) (append_assoc had more bytes)))
-longer_still (Start b) before bytes style is = cc
-longer_still (End b) before bytes style is = cc
-
-Extends-joined : (p : Part) (b : Bool) (before : List ℕ) (kind : Style) (bytes : List ℕ) (style : Style) → same_style kind style ≡ b → IsLonger p (Text before kind)
-    → Extends (p ∷ []) (if b then Text (before ++ bytes) style ∷ [] else Text before kind ∷ Text bytes style ∷ [])
-Extends-joined p true before kind bytes style same is = rw (← same_style-is kind style same) (longer_still p before bytes kind is)
-Extends-joined p false before kind bytes style same is = is
+longer_still p before bytes style h = grind (arith, append_assoc)
 
 Extends-part_then_text : (p q : Part) (bytes : List ℕ) (style : Style) → IsLonger p q → Extends (p ∷ []) (part_then_text q bytes style)
-Extends-part_then_text p (Text before kind) bytes style is = Extends-joined p (same_style kind style) before kind bytes style refl is
-Extends-part_then_text p _ bytes style is = is
+Extends-part_then_text p q bytes style h1 = grind (arith, same_style-is, longer_still)
 
 Extends-with_text : (ps qs : List Part) (bytes : List ℕ) (style : Style) → Extends ps qs → Extends ps (with_text qs bytes style)
 Extends-with_text [] qs bytes style h = tt
@@ -96,8 +83,7 @@ module _ (k : Kind) (n : ℕ) (rest : List ℕ) where
   IsCutBack p = (length (part_bytes p) ≤ n) × (part_with k (take (length (part_bytes p)) rest) ≡ p) × (take (length (part_bytes p)) rest ≡ part_bytes p) × MayTake k (length (part_bytes p))
 
 text_kind : (k : Kind) (n : ℕ) (rest bytes : List ℕ) (style : Style) → part_with k (take n rest) ≡ Text bytes style → (k ≡ kind.Text style) × (take n rest ≡ bytes)
-text_kind (kind.Text other) n rest bytes style is = (let e : other ≡ style = cc in ap (λ s. kind.Text s) e, cc)
-text_kind _ n rest bytes style is = cc
+text_kind k n rest bytes style h = grind arith
 
 front_is : (n : ℕ) (rest bytes more : List ℕ) → take n rest ≡ bytes ++ more → (length bytes ≤ n) × (take (length bytes) rest ≡ bytes)
 front_is n rest bytes more is =
@@ -114,11 +100,6 @@ cut_back (kind.Start c) n rest (Start b) is = (omega arith, is, refl, refl)
 cut_back (kind.End c) n rest (End b) is = (omega arith, is, refl, refl)
 cut_back _ n rest _ is = cc
 
--- the bytes of a part that is as it was
-same_bytes : (k : Kind) (n : ℕ) (rest : List ℕ) (p : Part) → MayTake k n → n ≤ length rest → part_with k (take n rest) ≡ p → length (part_bytes p) ≡ n
-same_bytes (kind.Text style) n rest p may le is = ap (λ q. length (part_bytes q)) (sym is) ∙ length-take-le n rest le
-same_bytes _ n rest p may le is = ap (λ q. length (part_bytes q)) (sym is) ∙ sym may
-
 -- the ends and the payload cut back to a document, of which `last` is the end
 pub record IsCut (start last : ℕ) (es : List PartEnd) (rest : List ℕ) (ps : List Part) : Type 0 where
   pub within : last - start ≤ length rest
@@ -128,31 +109,14 @@ pub record IsCut (start last : ℕ) (es : List PartEnd) (rest : List ℕ) (ps : 
 cut_last : (start last : ℕ) (e : PartEnd) (es : List PartEnd) (rest : List ℕ) (p : Part) → last ≡ start + length (document_bytes (p ∷ []))
     → IsEnd start e rest → IsUtf8 (part_bytes p) → IsCutBack e.kind (e.end - start) rest p → IsCut start last (e ∷ es) rest (p ∷ [])
 unfolding IsCutBack
-cut_last start last e es rest p at is utf8 cut =
-    let m = length (part_bytes p) in
-    let width : last - start ≡ m = omega (arith, at, length-append (part_bytes p) []) in
-    let again : take m (take m rest) ≡ take m rest = take-take m m rest (omega arith) in
-    let count : length (take m rest) ≡ m = length-take-le m rest (omega (arith, cut.0, is.within)) in
-    record {
-      within = omega (arith, width, cut.0, is.within);
-      shows = rw (width, again) (ap (λ q. q ∷ []) cut.1);
-      are = rw width (
-        record {
-          not_below = omega (arith, at);
-          within = omega (arith, width, count);
-          utf8 = rw (width, again, cut.2) utf8;
-          taken = rw width cut.3;
-        },
-        drop_all m (take m rest) (omega (arith, count)),
-      );
-    }
+cut_last start last e es rest p at is utf8 cut = grind (arith, length-append, take-take, length-take-le, drop_all)
 
 cut_next : (start last : ℕ) (e f : PartEnd) (es : List PartEnd) (rest : List ℕ) (p q : Part) (ps : List Part) → last ≡ start + length (document_bytes (p ∷ q ∷ ps))
     → IsEnd start e rest → part_with e.kind (take (e.end - start) rest) ≡ p → IsCut e.end last (f ∷ es) (drop (e.end - start) rest) (q ∷ ps) → IsCut start last (e ∷ f ∷ es) rest (p ∷ q ∷ ps)
 cut_next start last e f es rest p q ps at is shown cut =
     let n = e.end - start in
     let back = last - e.end in
-    let bytes : length (part_bytes p) ≡ n = same_bytes e.kind n rest p is.taken is.within shown in
+    let bytes : length (part_bytes p) ≡ n = grind (arith, length-take-le) in
     let width : last - start ≡ n + back = omega (arith, at, bytes, is.not_below, length-append (part_bytes p) (document_bytes (q ∷ ps))) in
     let left : length (drop n rest) ≡ length rest - n = length-drop n rest in
     let front : take n (take (n + back) rest) ≡ take n rest = take-take n (n + back) rest (omega arith) in
@@ -173,16 +137,14 @@ cut_next start last e f es rest p q ps at is shown cut =
 
 cut_all : (ps : List Part) (start last : ℕ) (es : List PartEnd) (rest : List ℕ) → last ≡ start + length (document_bytes ps)
     → AreEnds start es rest → HasUtf8Texts ps → Extends ps (parts_from start es rest) → IsCut start last es rest ps
-cut_all [] start last es rest at are utf8 h =
-    let width : last - start ≡ 0 = omega (arith, at) in
-    record { within = omega (arith, width); shows = refl; are = rw width refl }
+cut_all [] start last es rest at are utf8 h = grind arith
 cut_all (p ∷ ps) start last [] rest at are utf8 h = absurd h
 cut_all (p ∷ []) start last (e ∷ es) rest at are utf8 h =
     cut_last start last e es rest p at are.0 (All-head (λ part. IsUtf8 (part_bytes part)) p [] utf8) (cut_back e.kind (e.end - start) rest p h)
 cut_all (p ∷ q ∷ ps) start last (e ∷ []) rest at are utf8 h = absurd h.1
 cut_all (p ∷ q ∷ ps) start last (e ∷ f ∷ es) rest at are utf8 h =
     let n = e.end - start in
-    let bytes : length (part_bytes p) ≡ n = same_bytes e.kind n rest p are.0.taken are.0.within h.0 in
+    let bytes : length (part_bytes p) ≡ n = grind (arith, length-take-le) in
     cut_next start last e f es rest p q ps at are.0 h.0
     (cut_all (q ∷ ps) e.end last (f ∷ es) (drop n rest) (omega (arith, at, bytes, are.0.not_below, length-append (part_bytes p) (document_bytes (q ∷ ps)))) are.1
     (All-tail (λ part. IsUtf8 (part_bytes part)) p (q ∷ ps) utf8) h.1)

@@ -1,220 +1,125 @@
 -- A break stands where a page has to have one, and nothing stands between words.
 use Rattle.std.proofs.Common.{◌≡◌, ℕ, Bool, true, false, List, [], ◌∷◌, ◌++◌, refl, sym, ap, ◌∙◌, arith}
-use Rattle.std.specs.Prelude.{not, ◌&&◌, if◌then◌else◌, IsTrue}
+use Rattle.std.specs.Prelude.{not, ◌&&◌, ◌||◌, if◌then◌else◌, IsTrue, filter}
 use Rattle.std.specs.List.{list_any}
 use Rattle.std.specs.Char.{is_not_whitespace}
-use Rattle.std.specs.Prelude.{filter}
 use Rattle.std.proofs.lemmas.Str.{chars-nil}
-use Rattle.std.proofs.lemmas.Bool.{false≢true}
-use Rattle.bpaf_doc.specs.declared.buffer.Style.TheVariants as styles
+use Rattle.std.proofs.lemmas.Bool.{false≢true, and_parts, and_from}
+use Rattle.std.proofs.Math.Bool.{and-false}
 use Rattle.bpaf_doc.specs.declared.buffer.Block.TheVariants as blocks
 use Rattle.bpaf_doc.specs.Splitter.Chunks.{Raw, Paragraph, LineBreak, is_inked, is_raw, has_some}
-use Rattle.bpaf_doc.specs.Html.Fragments.{Fragment, TextStart, Shown, TextEnd, Hidden, Start, End, shows}
+use Rattle.bpaf_doc.specs.Html.Fragments.{Fragment, Shown, Start, End, shows}
 use Rattle.bpaf_doc.specs.Html.Page.{HtmlSnippet, Break, Of, fragments_in, asks_break, is_break}
-use Rattle.bpaf_doc.specs.Html.Steps.Page.{Written, page_after, first_or_false, is_empty, start_tag, end_tag}
-use Rattle.bpaf_doc.proofs.lemmas.Html.Cut.{snippets_of, cut_from}
-use Rattle.bpaf_doc.proofs.lemmas.Lists.Passing.{state_after, passes, passes_back, passes_both, passes_first, passes_rest}
+use Rattle.bpaf_doc.specs.Html.Steps.Page.{Written, page_after, is_empty}
+use Rattle.bpaf_doc.proofs.lemmas.Lists.Splits.{implies}
+use Rattle.bpaf_doc.proofs.lemmas.Html.Cut.{snippets_of, cut_from, fragments-append, step-fragments, cut-fragments}
 
--- ---- breaks
+-- ---- what follows a Raw
 
--- since the last break no ink came; ink and nothing that asks for a break; ink and then something that asks
-data Since : Type 0 where
-  Clear : Since
-  Inked : Since
-  Asked : Since
+abbrev begins_raw : List Fragment → Bool
+begins_raw [] = false
+begins_raw (f ∷ fs) = shows is_raw f
 
-abbrev may_come : Since → HtmlSnippet → Bool
-may_come Asked (Of f) = not (shows is_inked f)
-may_come _ _ = true
+-- nothing stands before a Raw that is the next fragment
+abbrev touches : List HtmlSnippet → Bool
+touches (Of f ∷ ss) = true
+touches ss = not (begins_raw (fragments_in ss))
 
-abbrev since_next : Since → HtmlSnippet → Since
-since_next q Break = Clear
-since_next Clear (Of f) = if shows is_inked f then Inked else Clear
-since_next Inked (Of f) = if asks_break f then Asked else Inked
-since_next Asked (Of f) = Asked
-since_next q _ = q
+abbrev begins_break : List HtmlSnippet → Bool
+begins_break (Break ∷ ss) = true
+begins_break _ = false
 
-abbrev well_broken : Since → List HtmlSnippet → Bool
-well_broken = passes may_come since_next
+-- up to the first break, nothing asks for one but what stands right before it
+abbrev breaks_soon : List HtmlSnippet → Bool
+breaks_soon [] = true
+breaks_soon (Break ∷ ss) = true
+breaks_soon (Of f ∷ ss) = if asks_break f then begins_break ss else breaks_soon ss
+breaks_soon (_ ∷ ss) = breaks_soon ss
 
--- ink asks for no break
-inked_asks : (f : Fragment) → shows is_inked f ≡ true → asks_break f ≡ false
-inked_asks (Shown style (Raw bytes weight)) h = refl
-inked_asks _ h = absurd (false≢true h)
+abbrev is_followed : Fragment → List HtmlSnippet → Bool
+is_followed f rest = (not (shows is_raw f) || touches rest) && (not (shows is_inked f) || breaks_soon rest)
 
--- after something that asked, a break comes before ink does
-asked_breaks : (between after : List HtmlSnippet) (b : Fragment) → well_broken Asked (between ++ Of b ∷ after) ≡ true → shows is_inked b ≡ true → list_any is_break between ≡ true
-asked_breaks [] after b h i = absurd (false≢true (sym (ap not i) ∙ passes_first may_come since_next Asked (Of b) after h))
-asked_breaks (Break ∷ between) after b h i = refl
-asked_breaks (Of f ∷ between) after b h i = asked_breaks between after b (passes_rest may_come since_next Asked (Of f) (between ++ Of b ∷ after) h) i
-asked_breaks (_ ∷ between) after b h i = asked_breaks between after b h i
+abbrev all_followed : List HtmlSnippet → Bool
+all_followed [] = true
+all_followed (Of f ∷ ss) = is_followed f ss && all_followed ss
+all_followed (_ ∷ ss) = all_followed ss
 
-inked_breaks : (between after : List HtmlSnippet) (b : Fragment) → well_broken Inked (between ++ Of b ∷ after) ≡ true → shows is_inked b ≡ true
-    → list_any asks_break (fragments_in between) ≡ true → list_any is_break between ≡ true
-inked_breaks [] after b h i a = absurd (false≢true a)
-inked_breaks (Break ∷ between) after b h i a = refl
-inked_breaks (Of f ∷ between) after b h i a = grind (arith, asked_breaks between after b, inked_breaks between after b)
-inked_breaks (_ ∷ between) after b h i a = inked_breaks between after b h i a
+followed_back : (xs ys : List HtmlSnippet) → all_followed (xs ++ ys) ≡ true → all_followed ys ≡ true
+followed_back [] ys h = h
+followed_back (s ∷ xs) ys h = grind (arith, followed_back xs ys, and_parts)
 
-from_ink : (q : Since) (between after : List HtmlSnippet) (a b : Fragment) → well_broken q (Of a ∷ (between ++ Of b ∷ after)) ≡ true → shows is_inked a ≡ true → shows is_inked b ≡ true
-    → list_any asks_break (fragments_in between) ≡ true → list_any is_break between ≡ true
-from_ink Clear between after a b h i j k = inked_breaks between after b (ap (λ t. well_broken (if t then Inked else Clear) (between ++ Of b ∷ after)) (sym i) ∙ h) j k
-from_ink Inked between after a b h i j k = inked_breaks between after b (ap (λ t. well_broken (if t then Asked else Inked) (between ++ Of b ∷ after)) (sym (inked_asks a i)) ∙ h) j k
-from_ink Asked between after a b h i j k = absurd (false≢true (sym (ap not i) ∙ passes_first may_come since_next Asked (Of a) (between ++ Of b ∷ after) h))
+-- ---- a page
 
-broken_between : (cut before between after : List HtmlSnippet) (a b : Fragment) → well_broken Clear cut ≡ true → cut ≡ before ++ Of a ∷ (between ++ Of b ∷ after)
-    → IsTrue (shows is_inked a) → IsTrue (shows is_inked b) → IsTrue (list_any asks_break (fragments_in between)) → IsTrue (list_any is_break between)
-broken_between cut before between after a b h e i j k =
-    from_ink (state_after may_come since_next Clear before) between after a b
-    (passes_back may_come since_next Clear before (Of a ∷ (between ++ Of b ∷ after)) (ap (well_broken Clear) (sym e) ∙ h)) i j k
+abbrev asks : Fragment → Bool
+asks f = shows is_raw f || shows is_inked f
 
--- between fragments nothing waits for a break, and a page that ends in one has no ink after it
-abbrev at_rest : Since → Bool → Bool
-at_rest Clear fresh = true
-at_rest Inked fresh = not fresh
-at_rest Asked fresh = false
+quiet_followed : (ss rest : List HtmlSnippet) → list_any asks (fragments_in ss) ≡ false → all_followed rest ≡ true → all_followed (ss ++ rest) ≡ true
+quiet_followed [] rest e h = h
+quiet_followed (s ∷ ss) rest e h = grind (arith, quiet_followed ss rest)
 
--- what a fragment's snippets leave
-abbrev Rests : Since → Written → Fragment → Type 0
-Rests q p f = (well_broken q (snippets_of p f) ≡ true) × (at_rest (state_after may_come since_next q (snippets_of p f)) (page_after p f).fresh ≡ true)
+other_touches : (ss : List HtmlSnippet) (f : Fragment) (fs : List Fragment) → fragments_in ss ≡ f ∷ fs → shows is_raw f ≡ false → touches ss ≡ true
+other_touches ss f fs h1 h2 = grind arith
 
-not_fresh : (x y : Bool) → not x ≡ true → not (x && y) ≡ true
-not_fresh x y h = grind arith
+cut_touches : (p : Written) (fs : List Fragment) → touches (cut_from p fs) ≡ true
+cut_touches p [] = refl
+cut_touches p (Shown style (Raw bytes weight) ∷ fs) = refl
+cut_touches p (f ∷ fs) = other_touches (cut_from p (f ∷ fs)) f fs (cut-fragments p (f ∷ fs)) refl
+
+quiet_soon : (ss rest : List HtmlSnippet) → list_any asks_break (fragments_in ss) ≡ false → breaks_soon rest ≡ true → breaks_soon (ss ++ rest) ≡ true
+quiet_soon [] rest e h = h
+quiet_soon (s ∷ ss) rest e h = grind (arith, quiet_soon ss rest)
+
+-- what comes after something else than a break
+cut_soon : (p : Written) (fs : List Fragment) → p.fresh ≡ false → breaks_soon (cut_from p fs) ≡ true
+cut_soon p [] h = refl
+cut_soon p (Shown style Paragraph ∷ fs) h = refl
+cut_soon p (Shown style LineBreak ∷ fs) h = refl
+cut_soon p (Start blocks.Header ∷ fs) h = rw h refl
+cut_soon p (End blocks.Header ∷ fs) h = rw h refl
+cut_soon p (f ∷ fs) h = quiet_soon (snippets_of p f) (cut_from (page_after p f) fs) (ap (list_any asks_break) (step-fragments p f)) (cut_soon (page_after p f) fs (grind arith))
 
 no_ink_in_nothing : (weight : ℕ) → is_inked (Raw [] weight) ≡ false
 no_ink_in_nothing weight = ap (λ cs. has_some (filter is_not_whitespace cs)) chars-nil
 
-inked_is_text : (bytes : List ℕ) (weight : ℕ) (fresh : Bool) → is_inked (Raw bytes weight) ≡ true → not (fresh && is_empty bytes) ≡ true
+inked_is_text : (bytes : List ℕ) (weight : ℕ) (fresh : Bool) → is_inked (Raw bytes weight) ≡ true → (fresh && is_empty bytes) ≡ false
 inked_is_text [] weight fresh h = absurd (false≢true (sym (no_ink_in_nothing weight) ∙ h))
-inked_is_text (b ∷ bs) weight true h = refl
-inked_is_text (b ∷ bs) weight false h = refl
+inked_is_text (b ∷ bs) weight fresh h = and-false fresh
 
-rests_clear : (p : Written) (f : Fragment) → Rests Clear p f
-rests_clear p (TextStart styles.Text) = (refl, refl)
-rests_clear p (TextStart styles.Emphasis) = (refl, refl)
-rests_clear p (TextStart styles.Literal) = (refl, refl)
-rests_clear p (TextStart styles.Metavar) = (refl, refl)
-rests_clear p (TextStart styles.Invalid) = (refl, refl)
-rests_clear p (Shown style (Raw bytes weight)) = (
-  refl,
-  (elim (is_inked (Raw bytes weight)) as (λ t. is_inked (Raw bytes weight) ≡ t → at_rest (if t then Inked else Clear) (p.fresh && is_empty bytes) ≡ true) [
-    | true ↦ λ e. inked_is_text bytes weight p.fresh e
-    | false ↦ λ e. refl
-  ]) refl,
-)
-rests_clear p (Shown style Paragraph) = (refl, refl)
-rests_clear p (Shown style LineBreak) = (refl, refl)
-rests_clear p (TextEnd styles.Text) = (refl, refl)
-rests_clear p (Start blocks.Header) = (grind arith, grind arith)
-rests_clear p (Start blocks.ItemBody) = (grind arith, grind arith)
-rests_clear p (End blocks.Header) = (grind arith, grind arith)
-rests_clear p (End blocks.ItemBody) = (grind arith, grind arith)
-rests_clear p _ = (refl, refl)
+implied : (a b : Bool) → (a ≡ true → b ≡ true) → (not a || b) ≡ true
+implied a b i = grind arith
 
-rests_inked : (p : Written) (f : Fragment) → not p.fresh ≡ true → Rests Inked p f
-rests_inked p (TextStart styles.Text) h = (refl, not_fresh p.fresh true h)
-rests_inked p (Shown style (Raw bytes weight)) h = (refl, not_fresh p.fresh (is_empty bytes) h)
-rests_inked p (Shown style Paragraph) h = (refl, refl)
-rests_inked p (Shown style LineBreak) h = (refl, refl)
-rests_inked p (TextEnd styles.Text) h = (refl, not_fresh p.fresh true h)
-rests_inked p Hidden h = (refl, h)
-rests_inked p (Start blocks.Header) h = (grind arith, grind arith)
-rests_inked p (Start blocks.ItemBody) h = (grind arith, grind arith)
-rests_inked p (Start b) h = (refl, not_fresh p.fresh (is_empty (start_tag b p.in_list)) h)
-rests_inked p (End blocks.Header) h = (grind arith, grind arith)
-rests_inked p (End blocks.ItemBody) h = (grind arith, grind arith)
-rests_inked p (End b) h = (refl, not_fresh p.fresh (is_empty (end_tag b (first_or_false p.outer))) h)
-rests_inked p _ h = (refl, not_fresh p.fresh false h)
+cut_followed : (p : Written) (fs : List Fragment) → all_followed (cut_from p fs) ≡ true
+cut_followed p [] = refl
+cut_followed p (Shown style (Raw bytes weight) ∷ fs) =
+    let next : Written = page_after p (Shown style (Raw bytes weight)) in
+    and_from _ _ (and_from _ _ (cut_touches next fs) (implied _ _ (λ i. cut_soon next fs (inked_is_text bytes weight p.fresh i)))) (cut_followed next fs)
+cut_followed p (f ∷ fs) = quiet_followed (snippets_of p f) (cut_from (page_after p f) fs) (ap (list_any asks) (step-fragments p f)) (cut_followed (page_after p f) fs)
 
-rests : (q : Since) (p : Written) (f : Fragment) → at_rest q p.fresh ≡ true → Rests q p f
-rests Clear p f h = rests_clear p f
-rests Inked p f h = rests_inked p f h
-rests Asked p f h = absurd (false≢true h)
+-- what follows a fragment of a page
+followed_at : (p : Written) (fs : List Fragment) (before rest : List HtmlSnippet) (a : Fragment) → cut_from p fs ≡ before ++ Of a ∷ rest → is_followed a rest ≡ true
+followed_at p fs before rest a e = (and_parts _ _ (followed_back before (Of a ∷ rest) (ap all_followed (sym e) ∙ cut_followed p fs))).0
 
-cut_broken : (q : Since) (p : Written) (fs : List Fragment) → at_rest q p.fresh ≡ true → well_broken q (cut_from p fs) ≡ true
-cut_broken q p [] h = refl
-cut_broken q p (f ∷ fs) h =
-    let here : Rests q p f = rests q p f h in
-    passes_both may_come since_next q (snippets_of p f) (cut_from (page_after p f) fs) here.0
-    (cut_broken (state_after may_come since_next q (snippets_of p f)) (page_after p f) fs here.1)
+-- ---- the laws
+
+begins_inside : (between after : List HtmlSnippet) (b : Fragment) → begins_break (between ++ Of b ∷ after) ≡ true → list_any is_break between ≡ true
+begins_inside (Break ∷ between) after b h = refl
+begins_inside _ after b h = absurd (false≢true h)
+
+break_between : (between after : List HtmlSnippet) (b : Fragment) → breaks_soon (between ++ Of b ∷ after) ≡ true → list_any asks_break (fragments_in between) ≡ true → list_any is_break between ≡ true
+break_between [] after b h any = absurd (false≢true any)
+break_between (s ∷ between) after b h any = grind (arith, break_between between after b, begins_inside)
 
 -- between inked chunks with something between them that asks for a break, there is one
 pub breaks_of : (p : Written) (fs : List Fragment) (before between after : List HtmlSnippet) (a b : Fragment) → cut_from p fs ≡ before ++ Of a ∷ (between ++ Of b ∷ after)
     → IsTrue (shows is_inked a) → IsTrue (shows is_inked b) → IsTrue (list_any asks_break (fragments_in between)) → IsTrue (list_any is_break between)
-breaks_of p fs before between after a b = broken_between (cut_from p fs) before between after a b (cut_broken Clear p fs refl)
+breaks_of p fs before between after a b e i j any = break_between between after b (implies _ _ (and_parts _ _ (followed_at p fs before (between ++ Of b ∷ after) a e)).1 i) any
 
--- ---- touching
-
--- no Raw just before; a Raw; a Raw with something that is no fragment after it
-data Beside : Type 0 where
-  Loose : Beside
-  Joined : Beside
-  Apart : Beside
-
-abbrev may_follow : Beside → HtmlSnippet → Bool
-may_follow Apart (Of f) = not (shows is_raw f)
-may_follow _ _ = true
-
-abbrev unjoined : Beside → Beside
-unjoined Loose = Loose
-unjoined Joined = Apart
-unjoined Apart = Apart
-
-abbrev beside_next : Beside → HtmlSnippet → Beside
-beside_next q (Of f) = if shows is_raw f then Joined else Loose
-beside_next q _ = unjoined q
-
-abbrev well_joined : Beside → List HtmlSnippet → Bool
-well_joined = passes may_follow beside_next
-
-apart_ends : (between after : List HtmlSnippet) (b : Fragment) → well_joined Apart (between ++ Of b ∷ after) ≡ true → shows is_raw b ≡ true → fragments_in between ≡ [] → ⊥
-apart_ends [] after b h r none = false≢true (sym (ap not r) ∙ passes_first may_follow beside_next Apart (Of b) after h)
-apart_ends (Of f ∷ between) after b h r none = cc
-apart_ends (_ ∷ between) after b h r none = apart_ends between after b h r none
-
-joined_touch : (between after : List HtmlSnippet) (b : Fragment) → well_joined Joined (between ++ Of b ∷ after) ≡ true → shows is_raw b ≡ true → fragments_in between ≡ [] → between ≡ []
-joined_touch [] after b h r none = refl
-joined_touch (Of f ∷ between) after b h r none = cc
-joined_touch (_ ∷ between) after b h r none = absurd (apart_ends between after b h r none)
-
-touching_between : (cut before between after : List HtmlSnippet) (a b : Fragment) → well_joined Loose cut ≡ true → cut ≡ before ++ Of a ∷ (between ++ Of b ∷ after)
-    → IsTrue (shows is_raw a) → IsTrue (shows is_raw b) → fragments_in between ≡ [] → between ≡ []
-touching_between cut before between after a b h e i j none =
-    let back : well_joined (state_after may_follow beside_next Loose before) (Of a ∷ (between ++ Of b ∷ after)) ≡ true
-    = passes_back may_follow beside_next Loose before (Of a ∷ (between ++ Of b ∷ after)) (ap (well_joined Loose) (sym e) ∙ h) in
-    let rest : well_joined (if shows is_raw a then Joined else Loose) (between ++ Of b ∷ after) ≡ true
-    = passes_rest may_follow beside_next (state_after may_follow beside_next Loose before) (Of a) (between ++ Of b ∷ after) back in
-    joined_touch between after b (ap (λ t. well_joined (if t then Joined else Loose) (between ++ Of b ∷ after)) (sym i) ∙ rest) j none
-
--- between fragments nothing stands apart from a Raw
-abbrev settled : Beside → Bool
-settled Apart = false
-settled _ = true
-
-abbrev Settles : Beside → Written → Fragment → Type 0
-Settles q p f = (well_joined q (snippets_of p f) ≡ true) × (settled (state_after may_follow beside_next q (snippets_of p f)) ≡ true)
-
-settles : (q : Beside) (p : Written) (f : Fragment) → settled q ≡ true → Settles q p f
-settles Apart p f h = absurd (false≢true h)
-settles q p (TextStart styles.Text) h = (refl, refl)
-settles q p (Shown style (Raw bytes weight)) h = (refl, refl)
-settles q p (Shown style Paragraph) h = (refl, refl)
-settles q p (Shown style LineBreak) h = (refl, refl)
-settles q p (TextEnd styles.Text) h = (refl, refl)
-settles q p (Start blocks.Header) h = (grind arith, grind arith)
-settles q p (Start blocks.ItemBody) h = (grind arith, grind arith)
-settles q p (End blocks.Header) h = (grind arith, grind arith)
-settles q p (End blocks.ItemBody) h = (grind arith, grind arith)
-settles q p _ h = (refl, refl)
-
-cut_joined : (q : Beside) (p : Written) (fs : List Fragment) → settled q ≡ true → well_joined q (cut_from p fs) ≡ true
-cut_joined q p [] h = refl
-cut_joined q p (f ∷ fs) h =
-    let here : Settles q p f = settles q p f h in
-    passes_both may_follow beside_next q (snippets_of p f) (cut_from (page_after p f) fs) here.0
-    (cut_joined (state_after may_follow beside_next q (snippets_of p f)) (page_after p f) fs here.1)
+touching_between : (between after : List HtmlSnippet) (b : Fragment) → touches (between ++ Of b ∷ after) ≡ true → shows is_raw b ≡ true → fragments_in between ≡ [] → between ≡ []
+touching_between [] after b h o none = refl
+touching_between (Of f ∷ between) after b h o none = cc
+touching_between (_ ∷ between) after b h o none = grind (arith, fragments-append)
 
 -- Raws that follow one another in a text touch
 pub touching_of : (p : Written) (fs : List Fragment) (before between after : List HtmlSnippet) (a b : Fragment) → cut_from p fs ≡ before ++ Of a ∷ (between ++ Of b ∷ after)
     → IsTrue (shows is_raw a) → IsTrue (shows is_raw b) → fragments_in between ≡ [] → between ≡ []
-touching_of p fs before between after a b = touching_between (cut_from p fs) before between after a b (cut_joined Loose p fs refl)
+touching_of p fs before between after a b e i j none = touching_between between after b (implies _ _ (and_parts _ _ (followed_at p fs before (between ++ Of b ∷ after) a e)).0 i) j none

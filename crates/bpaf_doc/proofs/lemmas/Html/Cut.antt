@@ -1,14 +1,13 @@
 -- The snippets that make up a page.
-use Rattle.std.proofs.Common.{◌≡◌, ℕ, Bool, List, [], ◌∷◌, ◌++◌, map, refl, sym, ap, ◌∙◌, append_assoc, append-nil, arith}
-use Rattle.std.specs.Prelude.{flat_map, filter, reverse, codes, if◌then◌else◌}
+use Rattle.std.proofs.Common.{◌≡◌, ℕ, Bool, List, [], ◌∷◌, ◌++◌, map, refl, sym, append_assoc, append-nil, arith}
+use Rattle.std.specs.Prelude.{flat_map, filter, reverse, if◌then◌else◌}
 use Rattle.std.proofs.lemmas.List.Concat.{flat_map-append}
 use Rattle.std.proofs.lemmas.List.Elements.{filter-append}
-use Rattle.bpaf_doc.specs.declared.buffer.Style.TheVariants as styles
 use Rattle.bpaf_doc.specs.declared.buffer.Block.{Block}
 use Rattle.bpaf_doc.specs.declared.buffer.Block.TheVariants as blocks
 use Rattle.bpaf_doc.specs.Splitter.Chunks.{Raw, Paragraph, LineBreak}
 use Rattle.bpaf_doc.specs.Html.Fragments.{Fragment, TextStart, Shown, TextEnd, Hidden, Start, End}
-use Rattle.bpaf_doc.specs.Html.Page.{HtmlSnippet, Open, Close, Break, Newline, Of, snippet_text, fragment_text, fragments_in, style_elements, block_elements, is_style_tag_or_fragment, styled_snippets}
+use Rattle.bpaf_doc.specs.Html.Page.{HtmlSnippet, Open, Close, Break, Newline, Of, snippet_text, fragments_in, style_elements, block_elements, is_style_tag_or_fragment, styled_snippets}
 use Rattle.bpaf_doc.specs.Html.Steps.Page.{Written, page_after, page_after_all, first_or_false, is_header}
 
 -- a break before a mark of a header
@@ -53,67 +52,34 @@ spelled snippets = flat_map snippet_text snippets
 -- ---- they spell its bytes
 
 start-spelled : (p : Written) (b : Block) → (page_after p (Start b)).bytes ≡ p.bytes ++ spelled (start_snippets p.fresh p.in_list b)
-start-spelled p blocks.Header = grind (arith, append_assoc p.bytes (codes "<br>\n") (codes "# "))
-start-spelled p blocks.ItemBody = grind arith
-start-spelled p _ = refl
+start-spelled p b = grind (arith, append_assoc)
 
 end-spelled : (p : Written) (b : Block) → (page_after p (End b)).bytes ≡ p.bytes ++ spelled (end_snippets p.fresh (first_or_false p.outer) b)
-end-spelled p blocks.Header = grind (arith, append-nil (p.bytes ++ codes "<br>\n"))
-end-spelled p blocks.ItemBody = grind arith
-end-spelled p _ = refl
+end-spelled p b = grind (arith, append-nil)
 
 step-spelled : (p : Written) (f : Fragment) → (page_after p f).bytes ≡ p.bytes ++ spelled (snippets_of p f)
-step-spelled p (TextStart styles.Text) = refl
-step-spelled p (Shown style (Raw bytes weight)) = ap (λ x. p.bytes ++ x) (sym (append-nil (fragment_text (Shown style (Raw bytes weight)))))
-step-spelled p (Shown style Paragraph) = refl
-step-spelled p (Shown style LineBreak) = refl
-step-spelled p (TextEnd styles.Text) = refl
-step-spelled p Hidden = sym (append-nil p.bytes)
-step-spelled p (Start b) = start-spelled p b
-step-spelled p (End b) = end-spelled p b
-step-spelled p _ = refl
+step-spelled p f = grind (arith, append-nil, start-spelled, end-spelled)
 
 pub page-spelled : (p : Written) (fs : List Fragment) → (page_after_all p fs).bytes ≡ p.bytes ++ spelled (cut_from p fs)
 page-spelled p [] = sym (append-nil p.bytes)
-page-spelled p (f ∷ fs) =
-    page-spelled (page_after p f) fs
-    ∙ ap (λ x. x ++ spelled (cut_from (page_after p f) fs)) (step-spelled p f)
-    ∙ append_assoc p.bytes (spelled (snippets_of p f)) (spelled (cut_from (page_after p f) fs))
-    ∙ ap (λ x. p.bytes ++ x) (sym (flat_map-append snippet_text (snippets_of p f) (cut_from (page_after p f) fs)))
+page-spelled p (f ∷ fs) = grind (arith, page-spelled (page_after p f) fs, step-spelled, append_assoc, flat_map-append)
 
 -- ---- what of them stays under a test
 
 pub fragments-append : (xs ys : List HtmlSnippet) → fragments_in (xs ++ ys) ≡ fragments_in xs ++ fragments_in ys
 fragments-append [] ys = refl
-fragments-append (Of f ∷ xs) ys = ap (λ fs. f ∷ fs) (fragments-append xs ys)
-fragments-append (_ ∷ xs) ys = fragments-append xs ys
+fragments-append (s ∷ xs) ys = grind (arith, fragments-append xs ys)
 
-step-fragments : (p : Written) (f : Fragment) → fragments_in (snippets_of p f) ≡ f ∷ []
-step-fragments p (TextStart styles.Text) = refl
-step-fragments p (TextEnd styles.Text) = refl
-step-fragments p (Shown style Paragraph) = refl
-step-fragments p (Start blocks.Header) = grind arith
-step-fragments p (End blocks.Header) = grind arith
-step-fragments p _ = grind arith
+pub step-fragments : (p : Written) (f : Fragment) → fragments_in (snippets_of p f) ≡ f ∷ []
+step-fragments p f = grind arith
 
 pub cut-fragments : (p : Written) (fs : List Fragment) → fragments_in (cut_from p fs) ≡ fs
 cut-fragments p [] = refl
-cut-fragments p (f ∷ fs) =
-    fragments-append (snippets_of p f) (cut_from (page_after p f) fs)
-    ∙ ap (λ x. x ++ fragments_in (cut_from (page_after p f) fs)) (step-fragments p f)
-    ∙ ap (λ x. f ∷ x) (cut-fragments (page_after p f) fs)
+cut-fragments p (f ∷ fs) = grind (arith, cut-fragments (page_after p f) fs, fragments-append, step-fragments)
 
 step-styles : (p : Written) (f : Fragment) → filter is_style_tag_or_fragment (snippets_of p f) ≡ styled_snippets f
-step-styles p (TextStart styles.Text) = refl
-step-styles p (TextEnd styles.Text) = refl
-step-styles p (Shown style Paragraph) = refl
-step-styles p (Start blocks.Header) = grind arith
-step-styles p (End blocks.Header) = grind arith
-step-styles p _ = grind arith
+step-styles p f = grind arith
 
 pub cut-styles : (p : Written) (fs : List Fragment) → filter is_style_tag_or_fragment (cut_from p fs) ≡ flat_map styled_snippets fs
 cut-styles p [] = refl
-cut-styles p (f ∷ fs) =
-    filter-append is_style_tag_or_fragment (snippets_of p f) (cut_from (page_after p f) fs)
-    ∙ ap (λ x. x ++ filter is_style_tag_or_fragment (cut_from (page_after p f) fs)) (step-styles p f)
-    ∙ ap (λ x. styled_snippets f ++ x) (cut-styles (page_after p f) fs)
+cut-styles p (f ∷ fs) = grind (arith, cut-styles (page_after p f) fs, filter-append, step-styles)

@@ -11,10 +11,10 @@ use Rattle.bpaf_doc.specs.declared.buffer.Style.{Style}
 use Rattle.bpaf_doc.specs.declared.buffer.Style.TheVariants as styles
 use Rattle.bpaf_doc.specs.declared.buffer.Block.{Block}
 use Rattle.bpaf_doc.specs.declared.buffer.Block.TheVariants as blocks
-use Rattle.bpaf_doc.specs.Splitter.Chunks.{Chunk, Raw}
+use Rattle.bpaf_doc.specs.Splitter.Chunks.{Chunk}
 use Rattle.bpaf_doc.specs.Html.Fragments.{Fragment, TextStart, Shown, TextEnd, Hidden, Start, End}
 use Rattle.bpaf_doc.specs.Html.Page.{HtmlSnippet, Element, Tt, B, I, Div, IndentedDiv, Dt, Dd, Li, Dl, P, Open, Close, Of, snippet_text, escaped_character, is_no_angle, opening_tag, closing_tag, IsWellNestedHtml, nothing as no_html, characters, line_break, enclosed as html_enclosed, joined as html_joined, block_elements, is_block_tag_or_fragment, HasBlockTags, nothing as no_tags, fragment as one_fragment, enclosed as tags_enclosed, joined as tags_joined}
-use Rattle.bpaf_doc.specs.Html.Steps.Page.{Written, page_after, page_after_all, first_or_false, without_first, with_heading, closed}
+use Rattle.bpaf_doc.specs.Html.Steps.Page.{Written, page_after, page_after_all, first_or_false, with_heading}
 use Rattle.bpaf_doc.proofs.lemmas.Html.Cut.{spelled, snippets_of, cut_from, start_snippets, end_snippets}
 use Rattle.bpaf_doc.proofs.lemmas.Html.Fragments.Nests.{Nests, nothing, text, hidden, enclosed, joined}
 
@@ -26,28 +26,29 @@ page-append p (f ∷ fs) back = page-append (page_after p f) fs back
 
 pub cut-append : (p : Written) (front back : List Fragment) → cut_from p (front ++ back) ≡ cut_from p front ++ cut_from (page_after_all p front) back
 cut-append p [] back = refl
-cut-append p (f ∷ fs) back =
-    ap (λ x. snippets_of p f ++ x) (cut-append (page_after p f) fs back)
-    ∙ sym (append_assoc (snippets_of p f) (cut_from (page_after p f) fs) (cut_from (page_after_all (page_after p f) fs) back))
+cut-append p (f ∷ fs) back = grind (arith, cut-append (page_after p f) fs back, append_assoc)
 
 pub spelled-append : (xs ys : List HtmlSnippet) → spelled (xs ++ ys) ≡ spelled xs ++ spelled ys
 spelled-append xs ys = flat_map-append snippet_text xs ys
+
+-- fragments between two others
+cut_around : (p : Written) (f g : Fragment) (inner : List Fragment)
+    → cut_from p (f ∷ (inner ++ g ∷ [])) ≡ snippets_of p f ++ (cut_from (page_after p f) inner ++ snippets_of (page_after_all (page_after p f) inner) g)
+cut_around p f g inner = grind (arith, cut-append, append-nil)
 
 -- the blocks that are open are the same on both pages
 abbrev SameBlocks : Written → Written → Type 0
 SameBlocks p q = (q.in_list ≡ p.in_list) × (q.outer ≡ p.outer)
 
 chunk_blocks : (p : Written) (style : Style) (chunk : Chunk) → SameBlocks p (page_after p (Shown style chunk))
-chunk_blocks p style (Raw bytes weight) = (refl, refl)
-chunk_blocks p style _ = (refl, refl)
+chunk_blocks p style chunk = grind arith
 
 then_blocks : (p q r : Written) → SameBlocks p q → SameBlocks q r → SameBlocks p r
 then_blocks p q r h k = (k.0 ∙ h.0, k.1 ∙ h.1)
 
 chunks_blocks : (p : Written) (style : Style) (chunks : List Chunk) → SameBlocks p (page_after_all p (map (Shown style) chunks))
 chunks_blocks p style [] = (refl, refl)
-chunks_blocks p style (c ∷ cs) =
-    then_blocks p (page_after p (Shown style c)) (page_after_all (page_after p (Shown style c)) (map (Shown style) cs)) (chunk_blocks p style c) (chunks_blocks (page_after p (Shown style c)) style cs)
+chunks_blocks p style (c ∷ cs) = grind (arith, chunks_blocks (page_after p (Shown style c)) style cs, then_blocks, chunk_blocks)
 
 heading_blocks : (p : Written) (b : Block) → SameBlocks p (with_heading p b)
 heading_blocks p b = (grind arith, grind arith)
@@ -57,31 +58,14 @@ start_outer p b = let same : SameBlocks p (with_heading p b) = heading_blocks p 
 
 -- a block that ends gives the blocks back that were open before it
 enclosed_blocks : (p q : Written) (b : Block) → SameBlocks (page_after p (Start b)) q → SameBlocks p (page_after q (End b))
-enclosed_blocks p q b h =
-    let same : SameBlocks (closed q) (with_heading (closed q) b) = heading_blocks (closed q) b in
-    let outer : q.outer ≡ p.in_list ∷ p.outer = h.1 ∙ start_outer p b in
-    (same.0 ∙ ap first_or_false outer, same.1 ∙ ap without_first outer)
+enclosed_blocks p q b h = grind (arith, heading_blocks, start_outer)
 
 nests_blocks : {fs : List Fragment} → Nests fs → (p : Written) → SameBlocks p (page_after_all p fs)
 nests_blocks (nothing e) p = subst (λ x. SameBlocks p (page_after_all p x)) (sym e) (refl, refl)
-nests_blocks (text style chunks e) p =
-    subst (λ x. SameBlocks p (page_after_all p x)) (sym e)
-    (let first : Written = page_after p (TextStart style) in
-    let whole : page_after_all first (map (Shown style) chunks ++ TextEnd style ∷ []) ≡ page_after (page_after_all first (map (Shown style) chunks)) (TextEnd style) = page-append first (map (Shown style) chunks) (TextEnd style ∷ []) in
-    let same : SameBlocks first (page_after_all first (map (Shown style) chunks)) = chunks_blocks first style chunks in
-    (ap (λ q. q.in_list) whole ∙ same.0, ap (λ q. q.outer) whole ∙ same.1))
+nests_blocks (text style chunks e) p = grind (arith, page-append, chunks_blocks)
 nests_blocks (hidden e) p = subst (λ x. SameBlocks p (page_after_all p x)) (sym e) (refl, refl)
-nests_blocks (enclosed b inner e h) p =
-    subst (λ x. SameBlocks p (page_after_all p x)) (sym e)
-    (let first : Written = page_after p (Start b) in
-    let whole : page_after_all first (inner ++ End b ∷ []) ≡ page_after (page_after_all first inner) (End b) = page-append first inner (End b ∷ []) in
-    let same : SameBlocks p (page_after (page_after_all first inner) (End b)) = enclosed_blocks p (page_after_all first inner) b (nests_blocks h first) in
-    (ap (λ q. q.in_list) whole ∙ same.0, ap (λ q. q.outer) whole ∙ same.1))
-nests_blocks (joined front back e h k) p =
-    subst (λ x. SameBlocks p (page_after_all p x)) (sym e)
-    (let whole : page_after_all p (front ++ back) ≡ page_after_all (page_after_all p front) back = page-append p front back in
-    let same : SameBlocks p (page_after_all (page_after_all p front) back) = then_blocks p (page_after_all p front) (page_after_all (page_after_all p front) back) (nests_blocks h p) (nests_blocks k (page_after_all p front)) in
-    (ap (λ q. q.in_list) whole ∙ same.0, ap (λ q. q.outer) whole ∙ same.1))
+nests_blocks (enclosed b inner e h) p = grind (arith, nests_blocks h (page_after p (Start b)), page-append, enclosed_blocks)
+nests_blocks (joined front back e h k) p = grind (arith, nests_blocks h p, nests_blocks k (page_after_all p front), page-append, then_blocks)
 
 -- ---- the tags of blocks
 
@@ -91,31 +75,24 @@ tags_of snippets = filter is_block_tag_or_fragment snippets
 tags-append : (xs ys : List HtmlSnippet) → tags_of (xs ++ ys) ≡ tags_of xs ++ tags_of ys
 tags-append xs ys = filter-append is_block_tag_or_fragment xs ys
 
+around_tags : (p : Written) (f g : Fragment) (inner : List Fragment)
+    → tags_of (cut_from p (f ∷ (inner ++ g ∷ []))) ≡ tags_of (snippets_of p f) ++ (tags_of (cut_from (page_after p f) inner) ++ tags_of (snippets_of (page_after_all (page_after p f) inner) g))
+around_tags p f g inner = ap tags_of (cut_around p f g inner) ∙ simp tags-append
+
 text_start_tags : (p : Written) (style : Style) → tags_of (snippets_of p (TextStart style)) ≡ Of (TextStart style) ∷ []
-text_start_tags p styles.Text = refl
-text_start_tags p _ = refl
+text_start_tags p style = grind arith
 
 text_end_tags : (p : Written) (style : Style) → tags_of (snippets_of p (TextEnd style)) ≡ Of (TextEnd style) ∷ []
-text_end_tags p styles.Text = refl
-text_end_tags p _ = refl
+text_end_tags p style = grind arith
 
 chunk_tags : (p : Written) (style : Style) (chunk : Chunk) → tags_of (snippets_of p (Shown style chunk)) ≡ Of (Shown style chunk) ∷ []
-chunk_tags p style (Raw bytes weight) = refl
-chunk_tags p style _ = refl
+chunk_tags p style chunk = grind arith
 
 start_tags : (fresh in_list : Bool) (b : Block) → tags_of (start_snippets fresh in_list b) ≡ Of (Start b) ∷ map Open (block_elements in_list b)
-start_tags true in_list blocks.Header = refl
-start_tags false in_list blocks.Header = refl
-start_tags fresh true blocks.ItemBody = refl
-start_tags fresh false blocks.ItemBody = refl
-start_tags fresh in_list _ = refl
+start_tags fresh in_list b = grind arith
 
 end_tags : (fresh in_list : Bool) (b : Block) → tags_of (end_snippets fresh in_list b) ≡ map Close (block_elements in_list b) ++ Of (End b) ∷ []
-end_tags true in_list blocks.Header = refl
-end_tags false in_list blocks.Header = refl
-end_tags fresh true blocks.ItemBody = refl
-end_tags fresh false blocks.ItemBody = refl
-end_tags fresh in_list _ = refl
+end_tags fresh in_list b = grind arith
 
 chunks_tags : (in_list : Bool) (p : Written) (style : Style) (chunks : List Chunk) → HasBlockTags in_list (map (Shown style) chunks) (tags_of (cut_from p (map (Shown style) chunks)))
 chunks_tags in_list p style [] = no_tags refl refl
@@ -131,17 +108,13 @@ text_tags : (in_list : Bool) (p : Written) (style : Style) (chunks : List Chunk)
 text_tags in_list p style chunks =
     let shown : List Fragment = map (Shown style) chunks in
     let first : Written = page_after p (TextStart style) in
-    let last : Written = page_after_all first shown in
-    let tail : tags_of (cut_from first (shown ++ TextEnd style ∷ [])) ≡ tags_of (cut_from first shown) ++ Of (TextEnd style) ∷ []
-    = ap tags_of (cut-append first shown (TextEnd style ∷ [])) ∙ tags-append (cut_from first shown) (snippets_of last (TextEnd style) ++ [])
-    ∙ ap (λ x. tags_of (cut_from first shown) ++ tags_of x) (append-nil (snippets_of last (TextEnd style)))
-    ∙ ap (λ x. tags_of (cut_from first shown) ++ x) (text_end_tags last style) in
-    tags_joined (TextStart style ∷ []) (shown ++ TextEnd style ∷ []) (Of (TextStart style) ∷ []) (tags_of (cut_from first shown) ++ Of (TextEnd style) ∷ []) refl
-    (tags-append (snippets_of p (TextStart style)) (cut_from first (shown ++ TextEnd style ∷ []))
-    ∙ ap (λ x. x ++ tags_of (cut_from first (shown ++ TextEnd style ∷ []))) (text_start_tags p style)
-    ∙ ap (λ x. Of (TextStart style) ∷ x) tail)
+    let held : List HtmlSnippet = tags_of (cut_from first shown) in
+    let whole : tags_of (cut_from p (TextStart style ∷ (shown ++ TextEnd style ∷ []))) ≡ Of (TextStart style) ∷ (held ++ Of (TextEnd style) ∷ [])
+    = around_tags p (TextStart style) (TextEnd style) shown ∙ ap (λ x. x ++ (held ++ tags_of (snippets_of (page_after_all first shown) (TextEnd style)))) (text_start_tags p style)
+    ∙ ap (λ x. Of (TextStart style) ∷ (held ++ x)) (text_end_tags (page_after_all first shown) style) in
+    tags_joined (TextStart style ∷ []) (shown ++ TextEnd style ∷ []) (Of (TextStart style) ∷ []) (held ++ Of (TextEnd style) ∷ []) refl whole
     (one_fragment (TextStart style) refl refl refl)
-    (tags_joined shown (TextEnd style ∷ []) (tags_of (cut_from first shown)) (Of (TextEnd style) ∷ []) refl refl (chunks_tags in_list first style chunks) (one_fragment (TextEnd style) refl refl refl))
+    (tags_joined shown (TextEnd style ∷ []) held (Of (TextEnd style) ∷ []) refl refl (chunks_tags in_list first style chunks) (one_fragment (TextEnd style) refl refl refl))
 
 pub nests_tags : {fs : List Fragment} → Nests fs → (p : Written) → HasBlockTags p.in_list fs (tags_of (cut_from p fs))
 nests_tags (nothing e) p = no_tags e (ap (λ x. tags_of (cut_from p x)) e)
@@ -157,16 +130,10 @@ nests_tags (enclosed b inner e h) p =
     let closes : List HtmlSnippet = map Close (block_elements p.in_list b) in
     let ending : tags_of (snippets_of last (End b)) ≡ closes ++ Of (End b) ∷ []
     = end_tags last.fresh (first_or_false last.outer) b ∙ ap (λ l. map Close (block_elements l b) ++ Of (End b) ∷ []) back in
-    let tail : tags_of (cut_from first (inner ++ End b ∷ [])) ≡ held ++ (closes ++ Of (End b) ∷ [])
-    = ap tags_of (cut-append first inner (End b ∷ [])) ∙ tags-append (cut_from first inner) (snippets_of last (End b) ++ [])
-    ∙ ap (λ x. held ++ tags_of x) (append-nil (snippets_of last (End b)))
-    ∙ ap (λ x. held ++ x) ending in
     let whole : tags_of (cut_from p (Start b ∷ (inner ++ End b ∷ []))) ≡ Of (Start b) ∷ (opens ++ (held ++ (closes ++ Of (End b) ∷ [])))
-    = tags-append (snippets_of p (Start b)) (cut_from first (inner ++ End b ∷ []))
-    ∙ ap (λ x. x ++ tags_of (cut_from first (inner ++ End b ∷ []))) (start_tags p.fresh p.in_list b)
-    ∙ ap (λ x. Of (Start b) ∷ (opens ++ x)) tail in
+    = around_tags p (Start b) (End b) inner ∙ ap (λ x. x ++ (held ++ tags_of (snippets_of last (End b)))) (start_tags p.fresh p.in_list b) ∙ ap (λ x. Of (Start b) ∷ (opens ++ (held ++ x))) ending in
     let flat : opens ++ (held ++ (closes ++ Of (End b) ∷ [])) ≡ opens ++ held ++ closes ++ Of (End b) ∷ []
-    = sym (append_assoc (opens ++ held) closes (Of (End b) ∷ []) ∙ append_assoc opens held (closes ++ Of (End b) ∷ [])) in
+    = simp append_assoc in
     tags_enclosed b inner held e (ap (λ x. tags_of (cut_from p x)) e ∙ whole ∙ ap (λ x. Of (Start b) ∷ x) flat) (nests_tags h first)
 nests_tags (joined front back e h k) p =
     let next : Written = page_after_all p front in
@@ -180,12 +147,9 @@ nests_tags (joined front back e h k) p =
 as_characters : (bytes : List ℕ) → list_all is_no_angle bytes ≡ true → IsWellNestedHtml bytes
 as_characters bytes h = characters (AllPass-from_list_all is_no_angle bytes h)
 
-escaped_plain : (b : ℕ) → list_all is_no_angle (escaped_character b) ≡ true
-escaped_plain b = grind arith
-
 words_plain : (bytes : List ℕ) → list_all is_no_angle (flat_map escaped_character bytes) ≡ true
 words_plain [] = refl
-words_plain (b ∷ bs) = list_all-append is_no_angle (escaped_character b) (flat_map escaped_character bs) ∙ and_from _ _ (escaped_plain b) (words_plain bs)
+words_plain (b ∷ bs) = list_all-append is_no_angle (escaped_character b) (flat_map escaped_character bs) ∙ and_from _ _ (grind arith) (words_plain bs)
 
 newline_html : IsWellNestedHtml (codes "\n")
 newline_html = as_characters (codes "\n") refl
@@ -193,16 +157,12 @@ newline_html = as_characters (codes "\n") refl
 break_html : IsWellNestedHtml (codes "<br>\n")
 break_html = html_joined (codes "<br>") (codes "\n") refl (line_break refl) newline_html
 
-chunk_html : (p : Written) (style : Style) (chunk : Chunk) → IsWellNestedHtml (spelled (snippets_of p (Shown style chunk)))
-chunk_html p style (Raw bytes weight) = subst IsWellNestedHtml (sym (append-nil (flat_map escaped_character bytes))) (as_characters (flat_map escaped_character bytes) (words_plain bytes))
-chunk_html p style _ = break_html
-
 chunks_html : (p : Written) (style : Style) (chunks : List Chunk) → IsWellNestedHtml (spelled (cut_from p (map (Shown style) chunks)))
 chunks_html p style [] = no_html refl
 chunks_html p style (c ∷ cs) =
     html_joined (spelled (snippets_of p (Shown style c))) (spelled (cut_from (page_after p (Shown style c)) (map (Shown style) cs)))
     (spelled-append (snippets_of p (Shown style c)) (cut_from (page_after p (Shown style c)) (map (Shown style) cs)))
-    (chunk_html p style c) (chunks_html (page_after p (Shown style c)) style cs)
+    (grind (arith, append-nil, as_characters, words_plain, break_html)) (chunks_html (page_after p (Shown style c)) style cs)
 
 -- a text in its style's tags
 styled_html : (p q : Written) (style : Style) (inner : List ℕ) → IsWellNestedHtml inner → IsWellNestedHtml (spelled (snippets_of p (TextStart style)) ++ (inner ++ spelled (snippets_of q (TextEnd style))))
@@ -242,16 +202,17 @@ block_html fresh then_fresh in_list blocks.DefinitionList inner h = element_line
 block_html fresh then_fresh in_list blocks.Block inner h = html_enclosed P inner refl h
 block_html fresh then_fresh in_list _ inner h = subst IsWellNestedHtml (sym (append-nil inner)) h
 
+around_spelled : (p : Written) (f g : Fragment) (inner : List Fragment)
+    → spelled (cut_from p (f ∷ (inner ++ g ∷ []))) ≡ spelled (snippets_of p f) ++ (spelled (cut_from (page_after p f) inner) ++ spelled (snippets_of (page_after_all (page_after p f) inner) g))
+around_spelled p f g inner = ap spelled (cut_around p f g inner) ∙ simp spelled-append
+
 pub nests_html : {fs : List Fragment} → Nests fs → (p : Written) → IsWellNestedHtml (spelled (cut_from p fs))
 nests_html (nothing e) p = no_html (ap (λ x. spelled (cut_from p x)) e)
 nests_html (text style chunks e) p =
     let shown : List Fragment = map (Shown style) chunks in
     let first : Written = page_after p (TextStart style) in
     let last : Written = page_after_all first shown in
-    let whole : spelled (cut_from p (TextStart style ∷ (shown ++ TextEnd style ∷ []))) ≡ spelled (snippets_of p (TextStart style)) ++ (spelled (cut_from first shown) ++ spelled (snippets_of last (TextEnd style)))
-    = spelled-append (snippets_of p (TextStart style)) (cut_from first (shown ++ TextEnd style ∷ []))
-    ∙ ap (λ x. spelled (snippets_of p (TextStart style)) ++ spelled x) (cut-append first shown (TextEnd style ∷ []) ∙ ap (λ x. cut_from first shown ++ x) (append-nil (snippets_of last (TextEnd style))))
-    ∙ ap (λ x. spelled (snippets_of p (TextStart style)) ++ x) (spelled-append (cut_from first shown) (snippets_of last (TextEnd style))) in
+    let whole = around_spelled p (TextStart style) (TextEnd style) shown in
     subst IsWellNestedHtml (sym (ap (λ x. spelled (cut_from p x)) e ∙ whole)) (styled_html p last style (spelled (cut_from first shown)) (chunks_html first style chunks))
 nests_html (hidden e) p = no_html (ap (λ x. spelled (cut_from p x)) e)
 nests_html (enclosed b inner e h) p =
@@ -259,11 +220,7 @@ nests_html (enclosed b inner e h) p =
     let last : Written = page_after_all first inner in
     let same : SameBlocks first last = nests_blocks h first in
     let back : first_or_false last.outer ≡ p.in_list = ap first_or_false (same.1 ∙ start_outer p b) in
-    let whole : spelled (cut_from p (Start b ∷ (inner ++ End b ∷ []))) ≡ spelled (snippets_of p (Start b)) ++ (spelled (cut_from first inner) ++ spelled (end_snippets last.fresh p.in_list b))
-    = spelled-append (snippets_of p (Start b)) (cut_from first (inner ++ End b ∷ []))
-    ∙ ap (λ x. spelled (snippets_of p (Start b)) ++ spelled x) (cut-append first inner (End b ∷ []) ∙ ap (λ x. cut_from first inner ++ x) (append-nil (snippets_of last (End b))))
-    ∙ ap (λ x. spelled (snippets_of p (Start b)) ++ x) (spelled-append (cut_from first inner) (snippets_of last (End b)))
-    ∙ ap (λ l. spelled (snippets_of p (Start b)) ++ (spelled (cut_from first inner) ++ spelled (end_snippets last.fresh l b))) back in
+    let whole = around_spelled p (Start b) (End b) inner ∙ ap (λ l. spelled (snippets_of p (Start b)) ++ (spelled (cut_from first inner) ++ spelled (end_snippets last.fresh l b))) back in
     subst IsWellNestedHtml (sym (ap (λ x. spelled (cut_from p x)) e ∙ whole)) (block_html p.fresh last.fresh p.in_list b (spelled (cut_from first inner)) (nests_html h first))
 nests_html (joined front back e h k) p =
     html_joined (spelled (cut_from p front)) (spelled (cut_from (page_after_all p front) back))

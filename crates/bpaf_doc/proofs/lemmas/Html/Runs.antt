@@ -1,5 +1,5 @@
 -- A run that is written at once is its chunks written one after another.
-use Rattle.std.proofs.Common.{arith, ◌≡◌, List, ℕ, [], ◌++◌, map, sym, ap, ap₂, ◌∙◌, append_assoc, append-nil}
+use Rattle.std.proofs.Common.{arith, ◌≡◌, List, ℕ, [], map, sym, ap, ap₂, ◌∙◌, append_assoc, append-nil}
 use Rattle.std.proofs.lemmas.List.Concat.{flat_map-append}
 use Rattle.std.proofs.Math.Bool.{and-true}
 use Rattle.bpaf_doc.specs.declared.buffer.Style.{Style}
@@ -11,12 +11,9 @@ use Rattle.bpaf_doc.proofs.lemmas.Splitter.Runs.{AreWords, no_words, a_word, wor
 words_nothing : (p : Written) → with_words p [] ≡ p
 words_nothing p = ap₂ (λ x y. record p { bytes = x; fresh = y }) (append-nil p.bytes) (and-true p.fresh)
 
-words_on : (p : Written) (a b : List ℕ) → with_words (with_words p a) b ≡ with_words p (a ++ b)
-words_on p a b = grind (arith, ap₂, append_assoc, flat_map-append)
-
 words_page : {chunks : List Chunk} {text : List ℕ} → AreWords chunks text → (p : Written) (style : Style) → page_after_all p (map (Shown style) chunks) ≡ with_words p text
 words_page (no_words ec et) p style = ap (λ cs. page_after_all p (map (Shown style) cs)) ec ∙ sym (ap (with_words p) et ∙ words_nothing p)
-words_page (a_word bytes rest others ec et w) p style = grind (arith, words_page w, words_on)
+words_page (a_word bytes rest others ec et w) p style = grind (arith, words_page w, ap₂, append_assoc, flat_map-append)
 
 -- the page after the chunks of a run
 pub run_page : (p : Written) (style : Style) (run : List ℕ) → IsLine run → page_after_all p (map (Shown style) (chunks_of run)) ≡ with_words p run

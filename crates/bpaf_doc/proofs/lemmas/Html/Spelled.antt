@@ -1,11 +1,11 @@
 -- A text in another spelling: a run that stays as it is, a character that doesn't, and the rest.
-use Rattle.std.specs.Prelude.{◌≡◌, ◌≢◌, ℕ, suc, ◌<◌, ◌≤◌, Bool, true, false, List, ◌⊎◌, [], ◌∷◌, ◌++◌, refl, length, take, drop, flat_map, Option, Some, None, MatchOption}
+use Rattle.std.specs.Prelude.{◌≡◌, ◌≢◌, ℕ, suc, ◌<◌, ◌≤◌, Bool, true, false, List, [], ◌∷◌, ◌++◌, refl, length, take, drop, flat_map, Option, Some, None, MatchOption}
 use Rattle.std.proofs.Common.{sym, ap, ap₂, subst, ⊎_elim, inl, inr, ◌∙◌, arith, get_or, append_assoc, length-take, lit<}
 use Rattle.std.specs.Str.{IsUtf8, IsCharBoundary}
 use Rattle.std.proofs.lemmas.Bool.{cases_lt}
 use Rattle.std.proofs.lemmas.Bool.Decides.{nat_tests}
 use Rattle.std.proofs.lemmas.Str.{IsCharBoundary-after_ascii}
-use Rattle.memchr.specs.Find.{Nowhere, NoneBefore, Passes, IsFirstByte, is_byte2}
+use Rattle.memchr.specs.Find.{NoneBefore, Passes, IsFirstByte, is_byte2}
 use Rattle.bpaf_doc.specs.declared.html.Language.{Language}
 use Rattle.bpaf_doc.specs.declared.html.Language.TheVariants as language
 use Rattle.bpaf_doc.specs.Html.Steps.View.{spelling_of, IsPlain, IsFirstSpelled}
@@ -21,31 +21,6 @@ plain_run f test same (b ∷ bytes) none =
       refused : (t : Bool) → ¬ t ≡ true → t ≡ false
       refused t f = grind arith
 
--- a search for the two characters that a language writes in another way
-abbrev AreMarks : Language → ℕ → ℕ → Type 0
-AreMarks language a b = (c : ℕ) → is_byte2 a b c ≡ false → spelling_of language c ≡ c ∷ []
-
-html_marks : AreMarks language.Html 60 62
-html_marks c e = grind (arith, nat_tests)
-
-markdown_marks : AreMarks language.Markdown 91 93
-markdown_marks c e = grind (arith, nat_tests)
-
-no_marks : (language : Language) (a b : ℕ) (text : List ℕ) → AreMarks language a b → Nowhere (Passes (is_byte2 a b) text) 0 (length text) → IsPlain language text
-no_marks language a b text marks none = plain_run (spelling_of language) (is_byte2 a b) marks text (λ k l. none k (omega arith) l)
-
-before_mark : (language : Language) (a b : ℕ) (text : List ℕ) (at : ℕ) → AreMarks language a b → NoneBefore (Passes (is_byte2 a b) text) 0 (length text) at → IsPlain language (take at text)
-before_mark language a b text at marks first =
-    plain_run (spelling_of language) (is_byte2 a b) marks (take at text) (λ k l passes. first.before k (omega arith) (below k l) (subst (λ c. is_byte2 a b c ≡ true) (get_or-take at text k 0 (below k l)) passes)) where
-      below : (k : ℕ) → k < length (take at text) → k < at
-      below k l = omega (arith, l, length-take at text)
-
-html_two : (c : ℕ) → is_byte2 60 62 c ≡ true → (c ≡ 60) ⊎ (c ≡ 62)
-html_two c e = grind (arith, nat_tests)
-
-markdown_two : (c : ℕ) → is_byte2 91 93 c ≡ true → (c ≡ 91) ⊎ (c ≡ 93)
-markdown_two c e = grind (arith, nat_tests)
-
 -- a character that is written in another way
 abbrev IsSpelled : Language → ℕ → Type 0
 IsSpelled language c = (c < 128) × (spelling_of language c ≢ c ∷ [])
@@ -53,39 +28,41 @@ IsSpelled language c = (c < 128) × (spelling_of language c ≢ c ∷ [])
 longer : (xs ys : List ℕ) → length ys < length xs → xs ≢ ys
 longer xs ys l same = omega (arith, l, ap (λ zs. length zs) same)
 
-html_mark : (c : ℕ) → is_byte2 60 62 c ≡ true → IsSpelled language.Html c
-html_mark c e = ⊎_elim (λ is. subst (λ x. IsSpelled language.Html x) (sym is) first) (λ is. subst (λ x. IsSpelled language.Html x) (sym is) second) (html_two c e) where
-  first : IsSpelled language.Html 60
-  first = (lit< tt, longer _ _ (lit< tt))
+-- the two characters that a language writes in another way
+record AreMarks (language : Language) (a b : ℕ) : Type 0 where
+  plain : (c : ℕ) → is_byte2 a b c ≡ false → spelling_of language c ≡ c ∷ []
+  first : IsSpelled language a
+  second : IsSpelled language b
 
-  second : IsSpelled language.Html 62
-  second = (lit< tt, longer _ _ (lit< tt))
+html_marks : AreMarks language.Html 60 62
+html_marks = record { plain = λ c e. grind (arith, nat_tests); first = (lit< tt, longer _ _ (lit< tt)); second = (lit< tt, longer _ _ (lit< tt)) }
 
-markdown_mark : (c : ℕ) → is_byte2 91 93 c ≡ true → IsSpelled language.Markdown c
-markdown_mark c e = ⊎_elim (λ is. subst (λ x. IsSpelled language.Markdown x) (sym is) first) (λ is. subst (λ x. IsSpelled language.Markdown x) (sym is) second) (markdown_two c e) where
-  first : IsSpelled language.Markdown 91
-  first = (lit< tt, longer _ _ (lit< tt))
-
-  second : IsSpelled language.Markdown 93
-  second = (lit< tt, longer _ _ (lit< tt))
-
-first_html : (text : List ℕ) (at : ℕ) → NoneBefore (Passes (is_byte2 60 62) text) 0 (length text) at → Passes (is_byte2 60 62) text at → IsFirstSpelled language.Html text at
-first_html text at first passes = let mark = html_mark (get_or text at 0) passes in (first.high, before_mark language.Html 60 62 text at html_marks first, mark.0, mark.1)
-
-first_markdown : (text : List ℕ) (at : ℕ) → NoneBefore (Passes (is_byte2 91 93) text) 0 (length text) at → Passes (is_byte2 91 93) text at → IsFirstSpelled language.Markdown text at
-first_markdown text at first passes = let mark = markdown_mark (get_or text at 0) passes in (first.high, before_mark language.Markdown 91 93 text at markdown_marks first, mark.0, mark.1)
+markdown_marks : AreMarks language.Markdown 91 93
+markdown_marks = record { plain = λ c e. grind (arith, nat_tests); first = (lit< tt, longer _ _ (lit< tt)); second = (lit< tt, longer _ _ (lit< tt)) }
 
 -- what a search for a language's two characters finds
 abbrev pub FindsSpelled : Language → List ℕ → Option ℕ → Type 0
 FindsSpelled language text r = MatchOption r (IsPlain language text) (λ at. IsFirstSpelled language text at)
 
+module _ (language : Language) (a b : ℕ) (marks : AreMarks language a b) (text : List ℕ) where
+  before_mark : (at : ℕ) → NoneBefore (Passes (is_byte2 a b) text) 0 (length text) at → IsPlain language (take at text)
+  before_mark at first =
+      plain_run (spelling_of language) (is_byte2 a b) marks.plain (take at text) (λ k l passes. first.before k (omega arith) (below k l) (subst (λ c. is_byte2 a b c ≡ true) (get_or-take at text k 0 (below k l)) passes)) where
+        below : (k : ℕ) → k < length (take at text) → k < at
+        below k l = omega (arith, l, length-take at text)
+
+  mark : (c : ℕ) → is_byte2 a b c ≡ true → IsSpelled language c
+  mark c e = ⊎_elim (λ is. subst (λ x. IsSpelled language x) (sym is) marks.first) (λ is. subst (λ x. IsSpelled language x) (sym is) marks.second) (grind (arith, nat_tests))
+
+  finds : (r : Option ℕ) → IsFirstByte (is_byte2 a b) text r → FindsSpelled language text r
+  finds None none = plain_run (spelling_of language) (is_byte2 a b) marks.plain text (λ k l. none k (omega arith) l)
+  finds (Some at) found = let is = mark (get_or text at 0) found.1 in (found.0.high, before_mark at found.0, is.0, is.1)
+
 pub finds_html : (text : List ℕ) (r : Option ℕ) → IsFirstByte (is_byte2 60 62) text r → FindsSpelled language.Html text r
-finds_html text None none = no_marks language.Html 60 62 text html_marks none
-finds_html text (Some at) found = first_html text at found.0 found.1
+finds_html text r first = finds language.Html 60 62 html_marks text r first
 
 pub finds_markdown : (text : List ℕ) (r : Option ℕ) → IsFirstByte (is_byte2 91 93) text r → FindsSpelled language.Markdown text r
-finds_markdown text None none = no_marks language.Markdown 91 93 text markdown_marks none
-finds_markdown text (Some at) found = first_markdown text at found.0 found.1
+finds_markdown text r first = finds language.Markdown 91 93 markdown_marks text r first
 
 -- a run that stays as it is and a block behind it are written, and the rest is not yet
 pub block_on : (f : ℕ → List ℕ) (all text block after out longer last : List ℕ) (at : ℕ) → flat_map f (take at text) ≡ take at text → drop at text ≡ block ++ after

@@ -1,5 +1,5 @@
 -- A text in another spelling is a text.
-use Rattle.std.specs.Prelude.{◌≡◌, ℕ, ◌<◌, ◌≤◌, ◌==◌, ◌||◌, Bool, true, false, List, [], ◌∷◌, if◌then◌else◌, refl, flat_map, IsUtf8, IsAscii, codes}
+use Rattle.std.specs.Prelude.{◌≡◌, ℕ, ◌<◌, ◌≤◌, ◌==◌, ◌||◌, Bool, true, false, List, [], ◌∷◌, if◌then◌else◌, refl, flat_map, IsUtf8, IsAscii}
 use Rattle.std.specs.Char.{IsScalar}
 use Rattle.std.proofs.Common.{inl, inr, arith}
 use Rattle.std.proofs.lemmas.List.{append-nil}
@@ -20,25 +20,15 @@ two_ascii a b h k = IsAscii-cons a (b ∷ []) h (IsAscii-cons b [] k IsAscii-nil
 four_ascii : (a b c d : ℕ) → a < 128 → b < 128 → c < 128 → d < 128 → IsAscii (a ∷ b ∷ c ∷ d ∷ [])
 four_ascii a b c d h k l m = IsAscii-cons a (b ∷ c ∷ d ∷ []) h (IsAscii-cons b (c ∷ d ∷ []) k (two_ascii c d l m))
 
-low_html : (b : ℕ) → b < 128 → IsAscii (spelling_of language.Html b)
-low_html b h = by (b == 60) (b == 62)
-  where
-    by : (x y : Bool) → IsAscii (if x then codes "&lt;" else if y then codes "&gt;" else b ∷ [])
-    by true y = four_ascii 38 108 116 59 (omega arith) (omega arith) (omega arith) (omega arith)
-    by false true = four_ascii 38 103 116 59 (omega arith) (omega arith) (omega arith) (omega arith)
-    by false false = IsAscii-cons b [] h IsAscii-nil
-
 low_markdown : (b : ℕ) → b < 128 → IsAscii (spelling_of language.Markdown b)
 low_markdown b h = elim (b == 91 || b == 93) as (λ (x : Bool). IsAscii (if x then 92 ∷ b ∷ [] else b ∷ [])) [ true ↦ two_ascii 92 b (omega arith) h | false ↦ IsAscii-cons b [] h IsAscii-nil ]
 
 low : (l : Language) (b : ℕ) → b < 128 → IsAscii (spelling_of l b)
-low language.Html = low_html
-low language.Markdown = low_markdown
+low l b h = grind (arith, four_ascii, low_markdown)
 
 -- and no other byte is spelled in another way
 high : (l : Language) (b : ℕ) → 128 ≤ b → spelling_of l b ≡ b ∷ []
-high language.Html b h = rw (ne_eqb b 60 (omega arith), ne_eqb b 62 (omega arith)) refl
-high language.Markdown b h = rw (ne_eqb b 91 (omega arith), ne_eqb b 93 (omega arith)) refl
+high l b h = grind (arith, ne_eqb)
 
 high_bytes : (l : Language) (bytes : List ℕ) → High bytes → flat_map (spelling_of l) bytes ≡ bytes
 high_bytes l [] h = refl

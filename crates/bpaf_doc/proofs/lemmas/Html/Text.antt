@@ -3,10 +3,8 @@ use Rattle.std.proofs.Common.{arith, ◌≡◌, ℕ, true, false, List, [], ◌�
 use Rattle.std.specs.Prelude.{◌==◌, flat_map, filter}
 use Rattle.std.specs.List.{list_all}
 use Rattle.std.proofs.lemmas.Bool.{and_parts}
-use Rattle.bpaf_doc.specs.declared.buffer.Block.TheVariants as blocks
-use Rattle.bpaf_doc.specs.Splitter.Chunks.{Raw, Paragraph, LineBreak, is_line_byte}
-use Rattle.bpaf_doc.specs.Html.Fragments.{Fragment, Shown, Start}
-use Rattle.bpaf_doc.specs.Html.Page.{erased, escaped_character, fragment_text, HtmlSnippet, Open, Close, Of, Tt, fragments_in}
+use Rattle.bpaf_doc.specs.Splitter.Chunks.{is_line_byte}
+use Rattle.bpaf_doc.specs.Html.Page.{erased, escaped_character, fragment_text, HtmlSnippet, fragments_in}
 use Rattle.bpaf_doc.proofs.lemmas.Html.Fragments.Lines.{fragment_is_line}
 use Rattle.bpaf_doc.proofs.lemmas.Html.Cut.{spelled}
 
@@ -24,17 +22,6 @@ plain_words : (bytes rest : List ℕ) → list_all is_line_byte bytes ≡ true �
 plain_words [] rest h = refl
 plain_words (b ∷ bs) rest h = grind (arith, plain_words bs rest, and_parts, append_assoc, plain_character)
 
-plain_fragment : (f : Fragment) (rest : List ℕ) → fragment_is_line f ≡ true → plain (fragment_text f ++ rest) ≡ fragment_text f ++ plain rest
-plain_fragment (Shown style (Raw bytes weight)) rest h = plain_words bytes rest h
-plain_fragment (Shown style Paragraph) rest h = refl
-plain_fragment (Shown style LineBreak) rest h = refl
-plain_fragment (Start blocks.Header) rest h = refl
-plain_fragment (Start _) rest h = refl
-plain_fragment _ rest h = refl
-
 pub plain_spelled : (snippets : List HtmlSnippet) → list_all fragment_is_line (fragments_in snippets) ≡ true → plain (spelled snippets) ≡ flat_map fragment_text (fragments_in snippets)
 plain_spelled [] h = refl
-plain_spelled (Open Tt ∷ snippets) h = plain_spelled snippets h
-plain_spelled (Close Tt ∷ snippets) h = plain_spelled snippets h
-plain_spelled (Of f ∷ snippets) h = grind (arith, plain_spelled snippets, and_parts, plain_fragment)
-plain_spelled (_ ∷ snippets) h = plain_spelled snippets h
+plain_spelled (s ∷ snippets) h = grind (arith, plain_spelled snippets, and_parts, plain_words)

@@ -28,12 +28,9 @@ module _ {A : Type 0} (opens closes : A → Bool) (apart : (x : A) → closes x 
   none_within : (more : ℕ) → is_within more [] ≡ true
   none_within more = grind (arith, nat_tests)
 
-  one_within : (more less : ℕ) (x : A) (front : List A) → one_if (closes x) + less ≡ one_if (opens x) + more → is_within more (x ∷ front) ≡ is_within less front
-  one_within more less x front e = grind (arith, count_by-cons, nat_tests)
-
   -- what one more in front does to the test
   step : (more less : ℕ) (x : A) (xs : List A) → one_if (closes x) + less ≡ one_if (opens x) + more → stays_by more (x ∷ xs) ≡ stays_by less xs
-  step more less x xs e = grind (arith, none_within, list_all-map, list_all-ext, one_within)
+  step more less x xs e = grind (arith, none_within, list_all-map, list_all-ext, count_by-cons, nat_tests)
 
   none_left : (x : A) (xs : List A) → closes x ≡ true → opens x ≡ false → stays_by 0 (x ∷ xs) ≡ false
   none_left x xs c o = rw (none_within 0, at xs) refl where

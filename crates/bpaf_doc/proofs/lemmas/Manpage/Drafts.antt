@@ -1,22 +1,21 @@
 -- What the writer of a page keeps is what looking back over the marks gives, so the page that comes out is the page as a function of the document; and where the
 -- page takes a document, a reader reads the document's events.
-use Rattle.std.specs.Prelude.{◌≡◌, ℕ, Bool, true, false, List, [], ◌∷◌, ◌++◌, ◌||◌, Option, Some, None, find, flat_map, if◌then◌else◌, refl}
+use Rattle.std.specs.Prelude.{◌≡◌, ℕ, Bool, true, false, List, [], ◌∷◌, ◌++◌, ◌||◌, Some, None, find, flat_map, if◌then◌else◌, refl}
 use Rattle.std.specs.Str.{str_to_ascii_uppercase}
-use Rattle.std.proofs.Common.{ap, ◌∙◌, sym, subst, append_assoc, arith}
+use Rattle.std.proofs.Common.{ap, ◌∙◌, sym, append_assoc, arith}
 use Rattle.std.proofs.lemmas.List.{append-nil, reverse-append}
 use Rattle.std.proofs.lemmas.List.Concat.{flat_map-append}
 use Rattle.bpaf_roff.specs.Pieces.{Piece}
-use Rattle.bpaf_roff.specs.Roff.{Script, RoffText, text_of, with_written, rendering, text_pieces}
+use Rattle.bpaf_roff.specs.Roff.{Script, RoffText, text_of, with_written, text_pieces}
 use Rattle.bpaf_roff.specs.declared.escape.Apostrophes.TheVariants.{Handle}
 use Rattle.bpaf_roff.specs.declared.escape.Escape.{Escape}
 use Rattle.bpaf_roff.proofs.lemmas.Written.{written_on}
 use Rattle.bpaf_doc.specs.Buffer.Parts.{Part, Text, Start, End}
-use Rattle.bpaf_doc.specs.Manpage.Events.{places, font_of, is_start, last_is_start, is_section, is_section_mark, is_term_mark, captured_texts}
+use Rattle.bpaf_doc.specs.Manpage.Events.{font_of, is_start, last_is_start, is_section, is_section_mark, is_term_mark, captured_texts}
 use Rattle.bpaf_doc.specs.Manpage.Page.{TakesDocument, IsPageOf}
-use Rattle.bpaf_doc.specs.Manpage.Exact.{start_pieces, end_pieces, style_pieces, start_or, strips_newlines, part_pieces, document_pieces, roff_page}
-use Rattle.bpaf_doc.specs.Manpage.Steps.Draft.{ControlCall, TextCall, pieces_of, control_calls, start_name, heading_name, style_name, Draft, draft_on, after_text, after_start, after_section, after_block, after_end, after_part, after_parts, strips_after_start, strips_after_end}
+use Rattle.bpaf_doc.specs.Manpage.Exact.{start_pieces, style_pieces, start_or, strips_newlines, part_pieces, document_pieces, roff_page}
+use Rattle.bpaf_doc.specs.Manpage.Steps.Draft.{ControlCall, TextCall, pieces_of, control_calls, start_name, heading_name, style_name, Draft, draft_on, after_text, after_start, after_section, after_block, after_end, after_part, after_parts, strips_after_start}
 use Rattle.bpaf_doc.specs.declared.buffer.Style.{Style}
-use Rattle.bpaf_doc.specs.declared.buffer.Style.TheVariants as style
 use Rattle.bpaf_doc.specs.declared.buffer.Block.{Block}
 use Rattle.bpaf_doc.specs.declared.buffer.Block.TheVariants as block
 use Rattle.bpaf_doc.proofs.lemmas.Manpage.LookingBack.{last_is_start-append, captured_texts-append, places-append}
@@ -25,24 +24,10 @@ use Rattle.bpaf_doc.proofs.lemmas.Manpage.PageRead.{end_calls, place_calls, page
 -- ---- the pieces of the calls
 
 start_same : (b : Block) → flat_map pieces_of (control_calls (start_name b)) ≡ start_pieces b
-start_same block.ItemTerm = refl
-start_same block.Block = refl
-start_same block.Meta = refl
-start_same _ = refl
-
-end_same : (before : List Part) (b : Block) → flat_map pieces_of (end_calls before b (heading_name b)) ≡ end_pieces before b
-end_same before block.Header = refl
-end_same before block.Section2 = refl
-end_same before block.Section3 = refl
-end_same before block.Section4 = refl
-end_same before block.ItemTerm = refl
-end_same before block.ItemBody = refl
-end_same before block.Meta = refl
-end_same before _ = refl
+start_same b = grind arith
 
 text_same : (how : Style) (strip : Bool) (bytes : List ℕ) → flat_map pieces_of (control_calls (style_name how) ++ TextCall strip (font_of how) bytes ∷ []) ≡ style_pieces how ++ text_pieces strip ((font_of how, bytes) ∷ [])
-text_same style.Text strip bytes = refl
-text_same _ strip bytes = refl
+text_same how strip bytes = grind arith
 
 -- ---- one part more
 
@@ -53,19 +38,16 @@ record Holds (page : List (Piece Escape)) (by_page : Bool) (done : List Part) (d
   captures : draft.captures ≡ last_is_start is_section_mark done
   heading : draft.heading ≡ captured_texts done
 
-document_pieces-append : (by_page : Bool) (done : List Part) (part : Part) → document_pieces by_page (done ++ part ∷ []) ≡ document_pieces by_page done ++ part_pieces by_page (done, part)
-document_pieces-append by_page done part = grind (arith, places-append, flat_map-append, append-nil)
-
 -- no piece more
 none_more : (page : List (Piece Escape)) (by_page : Bool) (done : List Part) (part : Part) → [] ≡ part_pieces by_page (done, part) → page ++ document_pieces by_page done ≡ page ++ document_pieces by_page (done ++ part ∷ [])
-none_more page by_page done part same = ap (λ t. page ++ t) (sym (append-nil (document_pieces by_page done)) ∙ ap (λ t. document_pieces by_page done ++ t) same ∙ sym (document_pieces-append by_page done part))
+none_more page by_page done part same = ap (λ t. page ++ t) (sym (append-nil (document_pieces by_page done)) ∙ ap (λ t. document_pieces by_page done ++ t) same ∙ sym (grind (arith, places-append, flat_map-append, append-nil)))
 
 -- the pieces of one part more
 one_more : (page : List (Piece Escape)) (text : RoffText) (by_page : Bool) (done : List Part) (part : Part) (more : List (Piece Escape)) → text ≡ text_of Handle (page ++ document_pieces by_page done) → more ≡ part_pieces by_page (done, part)
     → with_written text more ≡ text_of Handle (page ++ document_pieces by_page (done ++ part ∷ []))
 one_more page text by_page done part more e same =
     ap (λ t. with_written t more) e ∙ written_on Handle (page ++ document_pieces by_page done) more
-    ∙ ap (text_of Handle) (append_assoc page (document_pieces by_page done) more ∙ ap (λ t. page ++ t) (ap (λ t. document_pieces by_page done ++ t) same ∙ sym (document_pieces-append by_page done part)))
+    ∙ ap (text_of Handle) (append_assoc page (document_pieces by_page done) more ∙ ap (λ t. page ++ t) (ap (λ t. document_pieces by_page done ++ t) same ∙ sym (grind (arith, places-append, flat_map-append, append-nil))))
 
 -- the last mark of a term, after one more part
 strips-append : (by_page : Bool) (before : List Part) (part : Part) → strips_newlines by_page (before ++ part ∷ []) ≡ (if is_term_mark part then is_start (Some part) else strips_newlines by_page before)
@@ -74,14 +56,7 @@ strips-append by_page before part = ap (λ parts. start_or by_page (find is_term
 -- a text, by whether it is captured
 text_by : (captures : Bool) (page : List (Piece Escape)) (by_page : Bool) (done : List Part) (so_far : RoffText) (strips : Bool) (heading text : List ℕ) (how : Style) → Holds page by_page done (record { page = so_far; strips = strips; heading = heading; captures = captures })
     → Holds page by_page (done ++ Text text how ∷ []) (after_text (record { page = so_far; strips = strips; heading = heading; captures = captures }) text how)
-text_by true page by_page done so_far strips heading text how h =
-    let captured = sym h.captures in
-    record {
-      text = h.text ∙ ap (text_of Handle) (none_more page by_page done (Text text how) (rw captured refl));
-      strips = h.strips ∙ sym (strips-append by_page done (Text text how));
-      captures = h.captures ∙ sym (last_is_start-append is_section_mark done (Text text how));
-      heading = ap (λ before. before ++ text) h.heading ∙ ap (λ x. captured_texts done ++ (if x then text else [])) h.captures ∙ sym (captured_texts-append done (Text text how));
-    }
+text_by true page by_page done so_far strips heading text how h = grind (arith, none_more, strips-append, last_is_start-append, captured_texts-append)
 text_by false page by_page done so_far strips heading text how h =
     let written = sym h.captures in
     record {
@@ -95,8 +70,7 @@ or_choice : (x y : Bool) → (x || y) ≡ (if y then true else x)
 or_choice x y = grind arith
 
 strips_at_start : (b : Block) (strips : Bool) → strips_after_start b strips ≡ (if is_term_mark (Start b) then true else strips)
-strips_at_start block.ItemTerm strips = refl
-strips_at_start _ strips = refl
+strips_at_start b strips = grind arith
 
 start_holds : (page : List (Piece Escape)) (by_page : Bool) (done : List Part) (draft : Draft) (b : Block) → Holds page by_page done draft → Holds page by_page (done ++ Start b ∷ []) (after_start draft b)
 start_holds page by_page done draft b h = record {
@@ -106,18 +80,13 @@ start_holds page by_page done draft b h = record {
   heading = h.heading ∙ sym (append-nil (captured_texts done)) ∙ sym (captured_texts-append done (Start b));
 }
 
-strips_at_end : (b : Block) (strips : Bool) → strips_after_end b strips ≡ (if is_term_mark (End b) then false else strips)
-strips_at_end block.ItemTerm strips = refl
-strips_at_end block.ItemBody strips = refl
-strips_at_end _ strips = refl
-
 -- the end of a section writes its heading
 section_holds : (page : List (Piece Escape)) (by_page : Bool) (done : List Part) (draft : Draft) (b : Block) (name : List ℕ) → heading_name b ≡ Some name → is_section b ≡ true → is_term_mark (End b) ≡ false
     → Holds page by_page done draft → Holds page by_page (done ++ End b ∷ []) (after_section draft name)
 section_holds page by_page done draft b name named section term h = record {
   text = one_more page draft.page by_page done (End b) (flat_map pieces_of (ControlCall name (str_to_ascii_uppercase draft.heading ∷ []) ∷ [])) h.text
       (ap (λ text. flat_map pieces_of (ControlCall name (str_to_ascii_uppercase text ∷ []) ∷ [])) h.heading
-      ∙ ap (λ found. flat_map pieces_of (end_calls done b found)) (sym named) ∙ end_same done b);
+      ∙ ap (λ found. flat_map pieces_of (end_calls done b found)) (sym named) ∙ (grind arith));
   strips = h.strips ∙ sym (strips-append by_page done (End b) ∙ ap (λ x. if x then false else strips_newlines by_page done) term);
   captures = sym (last_is_start-append is_section_mark done (End b) ∙ ap (λ x. if x then false else last_is_start is_section_mark done) section);
   heading = sym (captured_texts-append done (End b) ∙ ap (λ x. if x then [] else captured_texts done ++ []) section);
@@ -127,8 +96,8 @@ section_holds page by_page done draft b name named section term h = record {
 block_holds : (page : List (Piece Escape)) (by_page : Bool) (done : List Part) (draft : Draft) (b : Block) → heading_name b ≡ None → is_section b ≡ false → Holds page by_page done draft
     → Holds page by_page (done ++ End b ∷ []) (after_block draft b)
 block_holds page by_page done draft b unnamed inner h = record {
-  text = one_more page draft.page by_page done (End b) _ h.text (ap (λ found. flat_map pieces_of (end_calls done b found)) (sym unnamed) ∙ end_same done b);
-  strips = strips_at_end b draft.strips ∙ ap (λ x. if is_term_mark (End b) then false else x) h.strips ∙ sym (strips-append by_page done (End b));
+  text = one_more page draft.page by_page done (End b) _ h.text (ap (λ found. flat_map pieces_of (end_calls done b found)) (sym unnamed) ∙ (grind arith));
+  strips = (grind arith) ∙ ap (λ x. if is_term_mark (End b) then false else x) h.strips ∙ sym (strips-append by_page done (End b));
   captures = h.captures ∙ sym (last_is_start-append is_section_mark done (End b) ∙ ap (λ x. if x then false else last_is_start is_section_mark done) inner);
   heading = h.heading ∙ sym (captured_texts-append done (End b) ∙ ap (λ x. if x then [] else captured_texts done ++ []) inner ∙ append-nil (captured_texts done));
 }
@@ -163,14 +132,8 @@ exact_page page begun written document text begins on e =
 
 -- ---- a page that keeps newlines
 
-kept_strips : (earlier : Option Part) → start_or false earlier ≡ is_start earlier
-kept_strips None = refl
-kept_strips (Some mark) = refl
-
 kept_part : (place : List Part × Part) → part_pieces false place ≡ flat_map pieces_of (place_calls place)
-kept_part (before, Text bytes how) = grind (arith, kept_strips, text_same)
-kept_part (before, Start b) = sym (start_same b)
-kept_part (before, End b) = sym (end_same before b)
+kept_part place = grind (arith, text_same, start_same)
 
 kept_parts : (ps : List (List Part × Part)) → flat_map (part_pieces false) ps ≡ flat_map pieces_of (flat_map place_calls ps)
 kept_parts [] = refl
@@ -178,6 +141,4 @@ kept_parts (place ∷ ps) = grind (arith, kept_parts ps, kept_part, flat_map-app
 
 -- A page that takes a document is, with the document on it, read as the document's events.
 pub taken_page : (page : Script) (document : List Part) (text : List ℕ) → TakesDocument page → text ≡ roff_page page document → IsPageOf page document text
-taken_page page document text takes e =
-    subst (IsPageOf page document) (sym (e ∙ ap (λ strip. rendering Handle (page.pieces ++ document_pieces strip document)) takes.keeps_newlines
-    ∙ ap (λ pieces. rendering Handle (page.pieces ++ pieces)) (kept_parts (places [] document)))) (page_read page takes document)
+taken_page page document text takes e = grind (arith, kept_parts, page_read)

@@ -6,7 +6,6 @@ use Rattle.std.proofs.lemmas.Bool.{ne_eqb}
 use Rattle.bpaf_roff.specs.Escaping.{newline}
 use Rattle.bpaf_roff.specs.Roff.{font_escape, restore_font}
 use Rattle.bpaf_roff.specs.declared.roff.Font.{Font}
-use Rattle.bpaf_roff.specs.declared.roff.Font.TheVariants.{Roman, Bold, Italic}
 use Rattle.bpaf_doc.specs.Manpage.Reader.{Event, Control, Span, LineEnd, IsName, IsArgument, AreArguments, StartsNoControl, IsSpanText, Place, AtLineStart, WithinLine, Reads}
 use Rattle.bpaf_doc.proofs.lemmas.Manpage.Program.{State, Start, Within, Name, Argument, Inside, AfterNewline, next, ended, with_event, read_from}
 
@@ -35,8 +34,7 @@ arguments_read (AreArguments.argument a w r more et ew nw ha h) events name rest
 
 -- before no control a newline makes no difference
 guarded_read : (text : List ℕ) → StartsNoControl text → (events : List Event) (font : Font) (front rest : List ℕ) → read_from events (AfterNewline font front) ((text ++ restore_font) ++ rest) ≡ read_from events (Inside font front) ((text ++ restore_font) ++ rest)
-guarded_read [] h events font front rest = refl
-guarded_read (b ∷ text) h events font front rest = grind (arith, ne_eqb)
+guarded_read text h1 events font front rest = grind (arith, ne_eqb)
 
 span_read : {text content : List ℕ} → IsSpanText text content → (events : List Event) (font : Font) (front rest : List ℕ) → read_from events (Inside font front) ((text ++ restore_font) ++ rest) ≡ read_from (events ++ Span font (front ++ content) ∷ []) Within rest
 span_read (IsSpanText.end et ec) events font front rest = rw (et, ec, append-nil front) refl
@@ -51,21 +49,12 @@ abbrev start_of : Place → State
 start_of AtLineStart = Start
 start_of WithinLine = Within
 
--- the escape of a font leads into its span, wherever it stands
-font_read : (place : Place) (font : Font) (events : List Event) (text : List ℕ) → read_from events (start_of place) (font_escape font ++ text) ≡ read_from events (Inside font []) text
-font_read AtLineStart Roman events text = refl
-font_read AtLineStart Bold events text = refl
-font_read AtLineStart Italic events text = refl
-font_read WithinLine Roman events text = refl
-font_read WithinLine Bold events text = refl
-font_read WithinLine Italic events text = refl
-
 -- what a text is read as, the program reads it as
 pub read_from-Reads : {place : Place} {text : List ℕ} {events : List Event} → Reads place text events → (front : List Event) → read_from front (start_of place) text ≡ Some (front ++ events)
 read_from-Reads {place = AtLineStart} (Reads.end et ee) front = rw (et, ee, append-nil front) refl
 read_from-Reads {place = WithinLine} (Reads.end et ee) front = rw (et, ee, append-nil front) refl
 read_from-Reads (Reads.control name arguments rest words more ep et ee hn ha r) front = rw (ep, et, ee, append_assoc name arguments (newline ∷ rest)) (name_read name hn front [] (arguments ++ newline ∷ rest) ∙ arguments_read ha front name rest ∙ read_from-Reads r (front ++ Control name words ∷ []) ∙ ap Some (append_assoc front (Control name words ∷ []) more))
-read_from-Reads {place = place} (Reads.span font inner content rest more et ee h r) front = rw (et, ee) (ap (read_from front (start_of place)) (ap (λ t. t ++ rest) (append_assoc (font_escape font) inner restore_font) ∙ append_assoc (font_escape font) (inner ++ restore_font) rest) ∙ font_read place font front ((inner ++ restore_font) ++ rest) ∙ span_read h front font [] rest ∙ read_from-Reads r (front ++ Span font content ∷ []) ∙ ap Some (append_assoc front (Span font content ∷ []) more))
+read_from-Reads {place = place} (Reads.span font inner content rest more et ee h r) front = rw (et, ee) (ap (read_from front (start_of place)) (ap (λ t. t ++ rest) (append_assoc (font_escape font) inner restore_font) ∙ append_assoc (font_escape font) (inner ++ restore_font) rest) ∙ (grind arith) ∙ span_read h front font [] rest ∙ read_from-Reads r (front ++ Span font content ∷ []) ∙ ap Some (append_assoc front (Span font content ∷ []) more))
 read_from-Reads (Reads.line_end rest more ep et ee r) front = rw (ep, et, ee) (read_from-Reads r (front ++ LineEnd ∷ []) ∙ ap Some (append_assoc front (LineEnd ∷ []) more))
 
 -- A text is read as at most one list of events.

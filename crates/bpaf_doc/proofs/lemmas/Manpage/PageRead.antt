@@ -1,5 +1,5 @@
 -- The calls of a roff that show a document are read as its events.
-use Rattle.std.specs.Prelude.{◌≡◌, ◌≢◌, ℕ, Bool, true, false, List, [], ◌∷◌, ◌++◌, Option, Some, None, map, flat_map, codes, if◌then◌else◌, Result, IfOk, refl}
+use Rattle.std.specs.Prelude.{◌≡◌, ◌≢◌, ℕ, true, List, [], ◌∷◌, ◌++◌, Option, Some, None, map, flat_map, codes, if◌then◌else◌, Result, IfOk, refl}
 use Rattle.std.specs.List.{AllByRecursion}
 use Rattle.std.specs.Str.{str_to_ascii_uppercase}
 use Rattle.std.proofs.lemmas.Result.{IfOk-weaker}
@@ -9,12 +9,10 @@ use Rattle.bpaf_roff.specs.Roff.{Script, control_pieces, preamble, rendering}
 use Rattle.bpaf_roff.specs.declared.escape.Apostrophes.TheVariants.{Handle}
 use Rattle.bpaf_doc.specs.Buffer.Parts.{Part, Text, Start, End}
 use Rattle.bpaf_doc.specs.Manpage.Reader.{Control, IsName, Reads, AtLineStart}
-use Rattle.bpaf_doc.specs.Manpage.Events.{Step, start_steps, end_steps, places, place_steps, page_steps, page_events, events_of_steps, captured_texts, word_of, last_is_start, is_section_mark, is_term_mark, font_of}
+use Rattle.bpaf_doc.specs.Manpage.Events.{Step, places, place_steps, page_steps, page_events, events_of_steps, captured_texts, word_of, last_is_start, is_section_mark, is_term_mark, font_of}
 use Rattle.bpaf_doc.specs.Manpage.Page.{TakesDocument, IsPageOf, IsManualPageOf, title_page}
 use Rattle.bpaf_doc.specs.declared.buffer.Style.{Style}
-use Rattle.bpaf_doc.specs.declared.buffer.Style.TheVariants as style
 use Rattle.bpaf_doc.specs.declared.buffer.Block.{Block}
-use Rattle.bpaf_doc.specs.declared.buffer.Block.TheVariants as block
 use Rattle.bpaf_doc.specs.Manpage.Steps.Draft.{Call, ControlCall, TextCall, pieces_of, control_calls, start_name, end_name, heading_name, style_name, break_calls}
 use Rattle.bpaf_doc.proofs.lemmas.Manpage.ReadBack.{IsCall, step_of, calls_read, signs-append, control_written, control_read, control_ends}
 use Rattle.bpaf_roff.proofs.lemmas.EscapedText.{text_after-append}
@@ -33,18 +31,8 @@ place_calls (before, End b) = end_calls before b (heading_name b)
 text_steps : (before : List Part) (bytes : List ℕ) (how : Style) → map step_of (place_calls (before, Text bytes how)) ≡ place_steps (before, Text bytes how)
 text_steps before bytes how = grind arith
 
-steps_of_start : (b : Block) → map step_of (control_calls (start_name b)) ≡ start_steps b
-steps_of_start block.ItemTerm = refl
-steps_of_start _ = refl
-
-steps_of_end : (before : List Part) (b : Block) → map step_of (end_calls before b (heading_name b)) ≡ end_steps before b
-steps_of_end before block.Header = refl
-steps_of_end before _ = refl
-
 steps_of_calls : (place : List Part × Part) → map step_of (place_calls place) ≡ place_steps place
-steps_of_calls (before, Text bytes how) = text_steps before bytes how
-steps_of_calls (before, Start b) = steps_of_start b
-steps_of_calls (before, End b) = steps_of_end before b
+steps_of_calls place = grind (arith, text_steps)
 
 map-append : (cs ds : List Call) → map step_of (cs ++ ds) ≡ map step_of cs ++ map step_of ds
 map-append [] ds = refl
@@ -66,38 +54,9 @@ AreCalls-append (c ∷ cs) ds h k = (h.0, AreCalls-append cs ds h.1 k)
 two_letters : (b c : ℕ) → b ≢ 32 → b ≢ 10 → c ≢ 32 → c ≢ 10 → IsName (b ∷ c ∷ [])
 two_letters b c b32 b10 c32 c10 = ((b32, b10), ((c32, c10), tt))
 
-are_start_calls : (b : Block) → AllByRecursion IsCall (control_calls (start_name b))
-are_start_calls block.ItemTerm = (two_letters 84 80 (omega arith) (omega arith) (omega arith) (omega arith), tt)
-are_start_calls block.Block = (two_letters 80 80 (omega arith) (omega arith) (omega arith) (omega arith), tt)
-are_start_calls block.Meta = (two_letters 110 102 (omega arith) (omega arith) (omega arith) (omega arith), tt)
-are_start_calls _ = tt
-
-are_end_calls : (before : List Part) (b : Block) → AllByRecursion IsCall (end_calls before b (heading_name b))
-are_end_calls before block.Header = (two_letters 83 72 (omega arith) (omega arith) (omega arith) (omega arith), tt)
-are_end_calls before block.Section2 = (two_letters 83 83 (omega arith) (omega arith) (omega arith) (omega arith), tt)
-are_end_calls before block.Section3 = (two_letters 83 83 (omega arith) (omega arith) (omega arith) (omega arith), tt)
-are_end_calls before block.Section4 = (two_letters 83 83 (omega arith) (omega arith) (omega arith) (omega arith), tt)
-are_end_calls before block.ItemTerm = (tt, tt)
-are_end_calls before block.ItemBody = (two_letters 80 80 (omega arith) (omega arith) (omega arith) (omega arith), tt)
-are_end_calls before block.Meta = (two_letters 102 105 (omega arith) (omega arith) (omega arith) (omega arith), tt)
-are_end_calls before _ = tt
-
-are_style_calls : (how : Style) → AllByRecursion IsCall (control_calls (style_name how))
-are_style_calls style.Emphasis = (two_letters 83 83 (omega arith) (omega arith) (omega arith) (omega arith), tt)
-are_style_calls _ = tt
-
-are_place_calls : (place : List Part × Part) → AllByRecursion IsCall (place_calls place)
-are_place_calls (before, Text bytes how) = by (last_is_start is_section_mark before) refl
-  where
-    by : (x : Bool) → last_is_start is_section_mark before ≡ x → AllByRecursion IsCall (place_calls (before, Text bytes how))
-    by true e = rw e tt
-    by false e = rw e (AreCalls-append (control_calls (style_name how)) (TextCall (last_is_start is_term_mark before) (font_of how) bytes ∷ []) (are_style_calls how) (tt, tt))
-are_place_calls (before, Start b) = are_start_calls b
-are_place_calls (before, End b) = are_end_calls before b
-
 are_calls : (ps : List (List Part × Part)) → AllByRecursion IsCall (flat_map place_calls ps)
 are_calls [] = tt
-are_calls (place ∷ ps) = AreCalls-append (place_calls place) (flat_map place_calls ps) (are_place_calls place) (are_calls ps)
+are_calls (place ∷ ps) = AreCalls-append (place_calls place) (flat_map place_calls ps) (grind (arith, two_letters)) (are_calls ps)
 
 -- A page that takes a document, with the pieces of the document's calls after its own, is rendered to the page of the document.
 pub page_read : (page : Script) → TakesDocument page → (document : List Part) → IsPageOf page document (rendering Handle (page.pieces ++ flat_map pieces_of (page_calls document)))

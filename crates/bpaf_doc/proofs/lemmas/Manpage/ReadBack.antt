@@ -1,10 +1,11 @@
 -- What the calls of a roff write is read as their events.
-use Rattle.std.specs.Prelude.{◌≡◌, ◌≢◌, ℕ, Bool, true, false, List, [], ◌∷◌, ◌++◌, ◌==◌, map, flat_map, codes, if◌then◌else◌, refl}
-use Rattle.std.specs.List.{AllByRecursion}
+use Rattle.std.specs.Prelude.{◌≡◌, ◌≢◌, ℕ, Bool, true, false, not, List, [], ◌∷◌, ◌++◌, ◌==◌, map, flat_map, codes, if◌then◌else◌, refl}
+use Rattle.std.specs.List.{AllByRecursion, list_all}
+use Rattle.std.proofs.lemmas.List.Folds.{list_all-append}
 use Rattle.std.proofs.Common.{inl, inr, ap, ◌∙◌, sym, subst, append_assoc, arith}
 use Rattle.std.proofs.lemmas.List.{append-nil}
-use Rattle.std.proofs.lemmas.Bool.{ne_eqb}
-use Rattle.std.proofs.lemmas.Bool.Decides.{eqb_tells}
+use Rattle.std.proofs.lemmas.Bool.{ne_eqb, and_from, and_parts, not-true}
+use Rattle.std.proofs.lemmas.Bool.Decides.{eqb_tells, nat_tests}
 use Rattle.bpaf_roff.specs.Pieces.{Piece}
 use Rattle.bpaf_roff.proofs.lemmas.EscapedText.{text_after-append}
 use Rattle.bpaf_roff.specs.Escaping.{newline, blank, dot, newline_as_blank, is_line_start, spaces_text, byte_text, Break, Byte, signs, signs_of, sign_text, text_after}
@@ -138,37 +139,27 @@ arguments_read (a ∷ arguments) = AreArguments.argument _ _ _ _ refl refl (word
 
 -- no newline is in the bytes
 abbrev HasNoNewline : List ℕ → Type 0
-HasNoNewline t = AllByRecursion (λ b. (b == 10) ≡ false) t
+HasNoNewline t = list_all (λ b. not (b == 10)) t ≡ true
 
 HasNoNewline-append : (s t : List ℕ) → HasNoNewline s → HasNoNewline t → HasNoNewline (s ++ t)
-HasNoNewline-append [] t h k = k
-HasNoNewline-append (b ∷ s) t h k = (h.0, HasNoNewline-append s t h.1 k)
+HasNoNewline-append s t h k = list_all-append (λ b. not (b == 10)) s t ∙ and_from _ _ h k
 
 -- bytes without a newline leave the text within a line
 line_goes_on : (t before : List ℕ) (b : ℕ) → (b == 10) ≡ false → HasNoNewline t → is_line_start (before ++ b ∷ t) ≡ false
 line_goes_on [] before b h k = is_line_start-last before b ∙ h
-line_goes_on (c ∷ t) before b h k = let e : before ++ b ∷ (c ∷ t) ≡ (before ++ b ∷ []) ++ (c ∷ t) = sym (append_assoc before (b ∷ []) (c ∷ t)) in rw e (line_goes_on t (before ++ b ∷ []) c k.0 k.1)
-
-spaces_in_line : (b : ℕ) → Kind b → HasNoNewline (spaces_text b)
-spaces_in_line b newline_byte = (refl, (refl, tt))
-spaces_in_line b blank_byte = (refl, (refl, tt))
-spaces_in_line b apostrophe_byte = (refl, tt)
-spaces_in_line b dash_byte = (refl, tt)
-spaces_in_line b dot_byte = (refl, tt)
-spaces_in_line b backslash_byte = (refl, (refl, tt))
-spaces_in_line b (other e10 e32 e39 e45 e46 e92 n10 n32 n39 n45 n46 n92) = rw (e32, e10, e92) (e10, tt)
+line_goes_on (c ∷ t) before b h k = grind (arith, line_goes_on t (before ++ b ∷ []) c, and_parts, append_assoc, not-true)
 
 argument_in_line : (t : List ℕ) → HasNoNewline (flat_map spaces_text t)
-argument_in_line [] = tt
-argument_in_line (b ∷ t) = HasNoNewline-append (spaces_text b) (flat_map spaces_text t) (spaces_in_line b (kind_of b)) (argument_in_line t)
+argument_in_line [] = refl
+argument_in_line (b ∷ t) = HasNoNewline-append (spaces_text b) (flat_map spaces_text t) (grind (arith, nat_tests)) (argument_in_line t)
 
 arguments_in_line : (arguments : List (List ℕ)) → HasNoNewline (arguments_text arguments)
-arguments_in_line [] = tt
-arguments_in_line (a ∷ arguments) = (refl, HasNoNewline-append (flat_map spaces_text (argument_word a)) (arguments_text arguments) (argument_in_line (argument_word a)) (arguments_in_line arguments))
+arguments_in_line [] = refl
+arguments_in_line (a ∷ arguments) = HasNoNewline-append (flat_map spaces_text (argument_word a)) (arguments_text arguments) (argument_in_line (argument_word a)) (arguments_in_line arguments)
 
 name_in_line : (name : List ℕ) → IsName name → HasNoNewline name
-name_in_line [] h = tt
-name_in_line (b ∷ name) h = (ne_eqb b 10 h.0.1, name_in_line name h.1)
+name_in_line [] h = refl
+name_in_line (b ∷ name) h = and_from _ _ (ap not (ne_eqb b 10 h.0.1)) (name_in_line name h.1)
 
 -- a newline, unless at a line start
 abbrev pub line_break : List ℕ → List ℕ
@@ -231,8 +222,7 @@ pub control_read : (name : List ℕ) (arguments : List (List ℕ)) (before : Lis
 control_read name arguments before x e h steps t r = rw (append_assoc (line_break before) (dot ∷ ((name ++ arguments_text arguments) ++ newline ∷ [])) t) (by x (broken before _ (Control name (map word_of arguments) ∷ events_of_steps steps) x e (Reads.control name (arguments_text arguments) t (map word_of arguments) (events_of_steps steps) refl (ap (λ ys. dot ∷ ys) (append_assoc (name ++ arguments_text arguments) (newline ∷ []) t)) refl h (arguments_read arguments) r)))
   where
     by : {u : List ℕ} (y : Bool) → Reads (place_at y) u (newline_event y ++ (Control name (map word_of arguments) ∷ events_of_steps steps)) → Reads (place_at y) u (due y (step_of (ControlCall name arguments) ∷ steps) ++ events_of_steps (step_of (ControlCall name arguments) ∷ steps))
-    by true r = r
-    by false r = r
+    by y h = grind arith
 
 pub control_ends : (name : List ℕ) (arguments : List (List ℕ)) (before : List ℕ) → is_line_start (before ++ (line_break before ++ dot ∷ ((name ++ arguments_text arguments) ++ newline ∷ []))) ≡ true
 control_ends name arguments before = let e : before ++ (line_break before ++ dot ∷ ((name ++ arguments_text arguments) ++ newline ∷ [])) ≡ (before ++ (line_break before ++ dot ∷ (name ++ arguments_text arguments))) ++ newline ∷ [] = simp append_assoc in rw e (is_line_start-last (before ++ (line_break before ++ dot ∷ (name ++ arguments_text arguments))) newline)
@@ -250,14 +240,10 @@ break_read : (before : List ℕ) (x : Bool) → is_line_start before ≡ x → (
 break_read before true e steps t r = broken before t (events_of_steps steps) true e r
 break_read before false e steps t r = broken before t (events_of_steps steps) false e r
 
-break_ends : (before : List ℕ) (x : Bool) → is_line_start before ≡ x → is_line_start (before ++ line_break before) ≡ true
-break_ends before true e = rw e (rw (append-nil before) e)
-break_ends before false e = rw e (is_line_start-last before newline)
-
 -- The text that calls write after other text is read as what they say.
 pub calls_read : (calls : List Call) → AllByRecursion IsCall calls → (before : List ℕ) (x : Bool) → is_line_start before ≡ x → Reads (place_at x) (text_after Handle before (signs (flat_map pieces_of calls))) (due x (map step_of calls) ++ events_of_steps (map step_of calls))
 calls_read [] ok before true e = Reads.end refl refl
 calls_read [] ok before false e = Reads.end refl refl
 calls_read (ControlCall name arguments ∷ calls) ok before x e = rw (first_written (ControlCall name arguments) calls before, control_written name arguments before ok.0) (control_read name arguments before x e ok.0 (map step_of calls) _ (calls_read calls ok.1 (before ++ (line_break before ++ dot ∷ ((name ++ arguments_text arguments) ++ newline ∷ []))) true (control_ends name arguments before)))
 calls_read (TextCall strip font t ∷ calls) ok before x e = let written = text_written strip font t before in rw (first_written (TextCall strip font t) calls before, written.2) (text_read font written.0 (said strip t) x written.1 (map step_of calls) _ (calls_read calls ok.1 (before ++ ((font_escape font ++ written.0) ++ restore_font)) false (text_ends (font_escape font ++ written.0) before)))
-calls_read (BreakCall ∷ calls) ok before x e = rw (first_written BreakCall calls before, append-nil (line_break before)) (break_read before x e (map step_of calls) _ (calls_read calls ok.1 (before ++ line_break before) true (break_ends before x e)))
+calls_read (BreakCall ∷ calls) ok before x e = rw (first_written BreakCall calls before, append-nil (line_break before)) (break_read before x e (map step_of calls) _ (calls_read calls ok.1 (before ++ line_break before) true (grind (arith, append-nil, is_line_start-last))))

@@ -3,7 +3,6 @@ use Rattle.std.proofs.Common.{◌≡◌, ℕ, Bool, true, false, List, [], ◌�
 use Rattle.std.specs.Prelude.{not, ◌&&◌, ◌==◌, flat_map, reverse, codes, if◌then◌else◌}
 use Rattle.std.proofs.Math.Bool.{and-true, and-false}
 use Rattle.bpaf_doc.specs.declared.buffer.Style.{Style}
-use Rattle.bpaf_doc.specs.declared.buffer.Style.TheVariants as styles
 use Rattle.bpaf_doc.specs.declared.buffer.Block.{Block}
 use Rattle.bpaf_doc.specs.declared.buffer.Block.TheVariants as blocks
 use Rattle.bpaf_doc.specs.Splitter.Chunks.{Raw, Paragraph, LineBreak, code_weight, fence_weight, is_ordinary}
@@ -48,11 +47,7 @@ raw_marked is_fence is_code p bytes = if is_fence then with_line (with_new_line 
 pub by_weight : (weight : ℕ) (P : Bool → Bool → Type 0) → ((weight == fence_weight) ≡ true → (c : Bool) → P true c)
     → ((weight == fence_weight) ≡ false → (weight == code_weight) ≡ true → P false true) → ((weight == fence_weight) ≡ false → (weight == code_weight) ≡ false → P false false)
     → P (weight == fence_weight) (weight == code_weight)
-by_weight weight P if_fence if_code if_words = at (weight == fence_weight) (weight == code_weight) refl refl where
-  at : (t c : Bool) → (weight == fence_weight) ≡ t → (weight == code_weight) ≡ c → P t c
-  at true c e h = if_fence e c
-  at false true e h = if_code e h
-  at false false e h = if_words e h
+by_weight weight P if_fence if_code if_words = grind arith
 
 abbrev pub raw_snippets : Marked → Style → List ℕ → ℕ → List MarkdownSnippet
 raw_snippets p style bytes weight = raw_cut (weight == fence_weight) (weight == code_weight) p (Shown style (Raw bytes weight))
@@ -164,24 +159,11 @@ flags_next s f = own_flags (item_flags s (is_term_end f)) f
 pub item-flags : (p : Marked) (empty : Bool) → flags (with_item p empty) ≡ item_flags (flags p) empty
 item-flags p empty = grind arith
 
-close_code-flags : (p : Marked) (fence : List ℕ) → flags (close_code p fence) ≡ flags p
-close_code-flags p fence = grind arith
-
-raw-flags : (p : Marked) (bytes : List ℕ) (weight : ℕ) → flags (with_raw p bytes weight) ≡ flags p
-raw-flags p bytes weight = grind arith
-
 start-flags : (p : Marked) (b : Block) → flags (own_after p (Start b)) ≡ own_flags (flags p) (Start b)
-start-flags p blocks.Header = grind arith
-start-flags p _ = grind arith
+start-flags p b = grind arith
 
 own-flags : (p : Marked) (f : Fragment) → flags (own_after p f) ≡ own_flags (flags p) f
-own-flags p (Shown style (Raw bytes weight)) = raw-flags p bytes weight
-own-flags p (Shown style Paragraph) = refl
-own-flags p (Shown style LineBreak) = refl
-own-flags p (TextEnd style) = close_code-flags p (codes "  ```\n")
-own-flags p (Start b) = start-flags p b
-own-flags p (End blocks.ItemBody) = refl
-own-flags p _ = refl
+own-flags p f = grind (arith, start-flags)
 
 pub step-flags : (p : Marked) (f : Fragment) → flags (marked_after p f) ≡ flags_next (flags p) f
 step-flags p f = own-flags (with_item p (is_term_end f)) f ∙ ap (λ s. own_flags s f) (item-flags p (is_term_end f))
@@ -198,15 +180,8 @@ item-code p empty = grind arith
 pub close-code : (p : Marked) (fence : List ℕ) → (close_code p fence).in_code ≡ false
 close-code p fence = grind arith
 
-own-code : (p : Marked) (f : Fragment) → (own_after p f).in_code ≡ code_next p.in_code f
-own-code p (Shown style (Raw bytes weight)) = grind arith
-own-code p (TextEnd style) = grind arith
-own-code p (Start blocks.ItemBody) = grind arith
-own-code p (End blocks.ItemBody) = grind arith
-own-code p _ = grind arith
-
 pub step-code : (p : Marked) (f : Fragment) → (marked_after p f).in_code ≡ code_next p.in_code f
-step-code p f = own-code (with_item p (is_term_end f)) f ∙ ap (λ c. code_next c f) (item-code p (is_term_end f))
+step-code p f = (grind arith) ∙ ap (λ c. code_next c f) (item-code p (is_term_end f))
 
 -- ---- its bytes
 
@@ -233,10 +208,6 @@ others_are_ordinary bytes weight e h = ap (λ t. not t && not (weight == fence_w
 pub new_line-spelled : (before : List Fragment) (p : Marked) → (with_new_line p).bytes ≡ p.bytes ++ spelled before (new_line_snippets p.bytes)
 new_line-spelled before p = grind (arith, append-nil p.bytes)
 
--- marks before a fragment are spelled alike wherever they stand
-line-spelled : (before : List Fragment) (f : Fragment) (bytes text : List ℕ) → fragment_text before f ≡ text → ((bytes ++ codes "  ") ++ text) ++ codes "\n" ≡ bytes ++ spelled before (line_snippets f)
-line-spelled before f bytes text e = grind (arith, append_assoc)
-
 pub marks_then : (before : List Fragment) (marks rest : List MarkdownSnippet) → fragments_in marks ≡ [] → spelled before (marks ++ rest) ≡ spelled before marks ++ spelled before rest
 marks_then before marks rest e = spelled-append before marks rest ∙ ap (λ fs. spelled before marks ++ spelled (before ++ fs) rest) e ∙ ap (λ fs. spelled before marks ++ spelled fs rest) (append-nil before)
 
@@ -248,9 +219,6 @@ open_marks in_code = grind arith
 
 pub close_marks : (in_code : Bool) → fragments_in (close_snippets in_code) ≡ []
 close_marks in_code = grind arith
-
-end_code_marks : (in_code : Bool) → fragments_in (end_code_snippets in_code) ≡ []
-end_code_marks in_code = grind arith
 
 pub open-spelled : (before : List Fragment) (p : Marked) → (open_code p).bytes ≡ p.bytes ++ spelled before (open_snippets p.in_code)
 open-spelled before p = grind (arith, append-nil p.bytes)
@@ -280,51 +248,22 @@ raw-spelled before p style bytes weight mono =
       -- a line after what was put before it
       line_put : (put_before : List ℕ) (marks : List MarkdownSnippet) → put_before ≡ p.bytes ++ spelled before marks → fragments_in marks ≡ [] → is_ordinary (Raw bytes weight) ≡ false
           → ((put_before ++ codes "  ") ++ bytes) ++ codes "\n" ≡ p.bytes ++ spelled before (marks ++ line_snippets f)
-      line_put put_before marks e none whole = grind (arith, line-spelled, f, whole_text, append_assoc, marks_then)
-
-blank_line_marks : (bytes : List ℕ) → fragments_in (blank_line_snippets bytes) ≡ []
-blank_line_marks bytes = grind arith
+      line_put put_before marks e none whole = grind (arith, f, whole_text, append_assoc, marks_then)
 
 blank_line-spelled : (before : List Fragment) (p : Marked) → (with_blank_line p).bytes ≡ p.bytes ++ spelled before (blank_line_snippets p.bytes)
 blank_line-spelled before p = grind (arith, append-nil p.bytes)
-
-body_dash_marks : (p : Marked) → fragments_in (body_dash p) ≡ []
-body_dash_marks p = grind arith
 
 body_dash-spelled : (before : List Fragment) (p : Marked) → body_bytes p ≡ p.bytes ++ spelled before (body_dash p)
 body_dash-spelled before p = grind (arith, append-nil p.bytes)
 
 start-spelled : (before : List Fragment) (p : Marked) (b : Block) → (own_after p (Start b)).bytes ≡ p.bytes ++ spelled before (start_snippets p b)
-start-spelled before p blocks.Header = grind (arith, blank_line-spelled, append_assoc, marks_then, blank_line_marks)
-start-spelled before p blocks.Section3 = refl
-start-spelled before p blocks.Section4 = new_line-spelled (before ++ Start blocks.Section4 ∷ []) p
-start-spelled before p blocks.ItemTerm = new_line-spelled (before ++ Start blocks.ItemTerm ∷ []) p
-start-spelled before p blocks.ItemBody = grind (arith, new_line-spelled, append_assoc, body_dash-spelled, marks_then, new_line_marks, body_dash_marks)
-start-spelled before p blocks.Block = refl
-start-spelled before p _ = sym (append-nil p.bytes)
+start-spelled before p b = grind (arith, blank_line-spelled, append_assoc, marks_then, new_line-spelled, body_dash-spelled, new_line_marks, append-nil)
 
 end-spelled : (before : List Fragment) (p : Marked) (b : Block) → (own_after p (End b)).bytes ≡ p.bytes ++ spelled before (end_snippets p b)
-end-spelled before p blocks.ItemBody = grind arith
-end-spelled before p blocks.ItemTerm = sym (append-nil p.bytes)
-end-spelled before p blocks.InlineBlock = sym (append-nil p.bytes)
-end-spelled before p blocks.TermRef = sym (append-nil p.bytes)
-end-spelled before p blocks.Meta = sym (append-nil p.bytes)
-end-spelled before p blocks.Mono = sym (append-nil p.bytes)
-end-spelled before p _ = refl
-
-text_end-spelled : (before : List Fragment) (p : Marked) (style : Style) → (own_after p (TextEnd style)).bytes ≡ p.bytes ++ spelled before (own_snippets p (TextEnd style))
-text_end-spelled before p style = grind (arith, end_code-spelled, append_assoc, marks_then, end_code_marks)
+end-spelled before p b = grind (arith, append-nil)
 
 own-spelled : (before : List Fragment) (p : Marked) (f : Fragment) → SameMono before p → (own_after p f).bytes ≡ p.bytes ++ spelled before (own_snippets p f)
-own-spelled before p (TextStart styles.Text) mono = refl
-own-spelled before p (Shown style (Raw bytes weight)) mono = raw-spelled before p style bytes weight mono
-own-spelled before p (Shown style Paragraph) mono = grind arith
-own-spelled before p (Shown style LineBreak) mono = refl
-own-spelled before p (TextEnd style) mono = text_end-spelled before p style
-own-spelled before p Hidden mono = sym (append-nil p.bytes)
-own-spelled before p (Start b) mono = start-spelled before p b
-own-spelled before p (End b) mono = end-spelled before p b
-own-spelled before p (TextStart _) mono = refl
+own-spelled before p f h = grind (arith, raw-spelled, end_code-spelled, append_assoc, marks_then, append-nil, start-spelled, end-spelled)
 
 pub item-spelled : (before : List Fragment) (p : Marked) (empty : Bool) → (with_item p empty).bytes ≡ p.bytes ++ spelled before (item_snippets p.pending empty)
 item-spelled before p empty = grind (arith, append-nil p.bytes)

@@ -1,15 +1,12 @@
 -- The text that the code writes, one fragment after another, is the text as a function of the document, and this meets the laws.
 use Rattle.std.proofs.Common.{◌≡◌, ℕ, ◌^◌, ◌<◌, Bool, true, false, List, [], ◌∷◌, ◌++◌, length, refl, sym, ap, ◌∙◌, append_assoc, append-nil, nat_lt, arith}
-use Rattle.std.specs.Prelude.{filter, reverse, flat_map, if◌then◌else◌, codes}
+use Rattle.std.specs.Prelude.{filter, flat_map, if◌then◌else◌, codes}
 use Rattle.std.specs.List.{list_any}
 use Rattle.std.proofs.lemmas.List.{reverse-append}
-use Rattle.bpaf_doc.specs.declared.buffer.Style.{Style}
-use Rattle.bpaf_doc.specs.declared.buffer.Block.TheVariants as blocks
 use Rattle.bpaf_doc.specs.Buffer.Parts.{Part}
-use Rattle.bpaf_doc.specs.Splitter.Chunks.{Raw, Paragraph, LineBreak}
-use Rattle.bpaf_doc.specs.Html.Fragments.{Fragment, TextStart, Shown, TextEnd, Start, End, shown_fragments}
+use Rattle.bpaf_doc.specs.Html.Fragments.{Fragment, shown_fragments}
 use Rattle.bpaf_doc.specs.Markdown.Page.{IsMarkdownOf, escaped_character, is_header_start, is_in_list, is_in_mono, is_item_start, is_after_empty_item}
-use Rattle.bpaf_doc.specs.Markdown.Exact.{new_line, blank_line, indented_line, decides_code, begins_with_code_line, is_in_code, opening_fence, closing_fence, last_fence, words_markdown, raw_markdown, item_mark, body_mark, closing_marks, fragment_markdown, markdown_after, markdown_page}
+use Rattle.bpaf_doc.specs.Markdown.Exact.{new_line, blank_line, indented_line, decides_code, begins_with_code_line, is_in_code, opening_fence, closing_fence, words_markdown, raw_markdown, item_mark, fragment_markdown, markdown_after, markdown_page}
 use Rattle.bpaf_doc.specs.Markdown.Steps.Page.{Marked, blank_text, with_new_line, with_blank_line, with_item, open_code, close_code, with_raw, own_after, is_term_end, marked_after, marked_after_all}
 use Rattle.bpaf_doc.proofs.lemmas.Markdown.Cut.{raw_marked, by_weight, flags, item-flags, step-flags, code_next, item-code, step-code}
 use Rattle.bpaf_doc.proofs.lemmas.Markdown.Mind.{Agrees, Room, begins_is, after_empty_is, agrees_after, rooms_next, same_mono}
@@ -17,15 +14,8 @@ use Rattle.bpaf_doc.proofs.lemmas.Markdown.Meets.{room_for, at_start, markdown_m
 
 -- ---- whether a code block is open
 
-raw_decides : (style : Style) (bytes : List ℕ) (weight : ℕ) (back : List Fragment) → begins_with_code_line (filter decides_code (Shown style (Raw bytes weight) ∷ back)) ≡ code_next (begins_with_code_line (filter decides_code back)) (Shown style (Raw bytes weight))
-raw_decides style bytes weight back = grind arith
-
-code_decides : (f : Fragment) (back : List Fragment) → begins_with_code_line (filter decides_code (f ∷ back)) ≡ code_next (begins_with_code_line (filter decides_code back)) f
-code_decides (Shown style (Raw bytes weight)) back = raw_decides style bytes weight back
-code_decides _ back = refl
-
 code_push : (before : List Fragment) (f : Fragment) → is_in_code (before ++ f ∷ []) ≡ code_next (is_in_code before) f
-code_push before f = ap (λ fs. begins_with_code_line (filter decides_code fs)) (reverse-append before (f ∷ [])) ∙ code_decides f (reverse before)
+code_push before f = ap (λ fs. begins_with_code_line (filter decides_code fs)) (reverse-append before (f ∷ [])) ∙ (grind arith)
 
 -- ---- what is kept in mind is what looking back says
 
@@ -34,14 +24,6 @@ record Looks (before : List Fragment) (p : Marked) : Type 0 where
   in_list : p.in_list ≡ is_in_list before
   mono : nat_lt p.ends p.starts ≡ is_in_mono before
   code : p.in_code ≡ is_in_code before
-
-looks : (before : List Fragment) (p : Marked) (f : Fragment) → Agrees before (flags p) → p.in_code ≡ is_in_code before → Looks before (with_item p (is_term_end f))
-looks before p f h code = record {
-  headed = ap (λ s. s.headed) (item-flags p (is_term_end f)) ∙ sym h.headed;
-  in_list = ap (λ s. s.in_list) (item-flags p (is_term_end f)) ∙ sym h.in_list;
-  mono = ap (λ s. nat_lt s.ends s.starts) (item-flags p (is_term_end f)) ∙ sym (same_mono before p h);
-  code = item-code p (is_term_end f) ∙ code;
-}
 
 -- at the start of a body
 empty_looks : (before : List Fragment) (p : Marked) → Agrees before (flags p) → (with_item p false).empty_item ≡ is_after_empty_item before
@@ -77,34 +59,13 @@ raw_put before p bytes weight h =
     (λ e k. ap (λ b. (close_code p (codes "\n  ```\n")).bytes ++ (if b then flat_map escaped_character bytes else bytes)) h.mono
     ∙ both p.bytes (closing_fence before) (words_markdown before bytes) (close_code p (codes "\n  ```\n")).bytes (close_put before p (codes "\n  ```\n") h.code))
 
-body_put : (before : List Fragment) (p : Marked) → Looks before p → p.empty_item ≡ is_after_empty_item before → (own_after p (Start blocks.ItemBody)).bytes ≡ p.bytes ++ (body_mark before ++ (new_line (p.bytes ++ body_mark before) ++ codes "  "))
-body_put before p h empty = grind (arith, new_line_put, append_assoc, append-nil)
-
 paragraph_text : (in_list : Bool) → (if in_list then codes "\n\n  " else codes "\n\n") ≡ codes "\n\n" ++ (if in_list then codes "  " else [])
 paragraph_text in_list = grind arith
 
 -- a fragment that begins no item
 own_put : (before : List Fragment) (p : Marked) (f : Fragment) (fs : List Fragment) → Looks before p → is_item_start f ≡ false → (is_term_end f ≡ false → p.empty_item ≡ is_after_empty_item before)
     → (own_after p f).bytes ≡ p.bytes ++ fragment_markdown p.bytes before f fs
-own_put before p (TextStart style) fs h none empty = refl
-own_put before p (Shown style (Raw bytes weight)) fs h none empty = raw_put before p bytes weight h
-own_put before p (Shown style Paragraph) fs h none empty = ap (λ x. p.bytes ++ x) (paragraph_text p.in_list ∙ ap (λ b. codes "\n\n" ++ (if b then codes "  " else [])) h.in_list)
-own_put before p (Shown style LineBreak) fs h none empty = refl
-own_put before p (TextEnd style) fs h none empty = both p.bytes (last_fence before) (closing_marks style) (close_code p (codes "  ```\n")).bytes (close_put before p (codes "  ```\n") h.code)
-own_put before p (Start blocks.Header) fs h none empty = grind (arith, both, blank_line_put)
-own_put before p (Start blocks.Section3) fs h none empty = refl
-own_put before p (Start blocks.Section4) fs h none empty = absurd cc
-own_put before p (Start blocks.ItemTerm) fs h none empty = absurd cc
-own_put before p (Start blocks.ItemBody) fs h none empty = body_put before p h (empty refl)
-own_put before p (Start blocks.Block) fs h none empty = refl
-own_put before p (End blocks.Header) fs h none empty = refl
-own_put before p (End blocks.Section2) fs h none empty = refl
-own_put before p (End blocks.Section3) fs h none empty = refl
-own_put before p (End blocks.Section4) fs h none empty = refl
-own_put before p (End blocks.ItemBody) fs h none empty = ap (λ b. p.bytes ++ (if b then codes "\n" else [])) h.in_list
-own_put before p (End blocks.DefinitionList) fs h none empty = refl
-own_put before p (End blocks.Block) fs h none empty = refl
-own_put before p _ fs h none empty = sym (append-nil p.bytes)
+own_put before p f fs h1 h2 h3 = grind (arith, raw_put, paragraph_text, both, close_put, blank_line_put, new_line_put, append_assoc, append-nil)
 
 -- ---- the dash that waits for the next fragment
 
@@ -135,7 +96,7 @@ texts_same : (before : List Fragment) (p : Marked) (fs : List Fragment) → Agre
 texts_same before p [] h code room = last_item_put p
 texts_same before p (f ∷ fs) h code room =
     texts_same (before ++ f ∷ []) (marked_after p f) fs (agrees_after before p f fs h room) (step-code p f ∙ ap (λ c. code_next c f) code ∙ sym (code_push before f)) (rooms_next before f fs room)
-    ∙ ap (λ text. markdown_after text (before ++ f ∷ []) fs) (step_put before p f fs (looks before p f h code) (empty f) ∙ ap (λ text. text ++ fragment_markdown text before f fs) (item_put p f fs))
+    ∙ ap (λ text. markdown_after text (before ++ f ∷ []) fs) (step_put before p f fs (grind (arith, item-flags, same_mono, item-code)) (empty f) ∙ ap (λ text. text ++ fragment_markdown text before f fs) (item_put p f fs))
   where
     empty : (f : Fragment) → is_term_end f ≡ false → (with_item p (is_term_end f)).empty_item ≡ is_after_empty_item before
     empty f e = ap (λ b. (with_item p b).empty_item) e ∙ empty_looks before p h

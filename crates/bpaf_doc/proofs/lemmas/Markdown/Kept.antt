@@ -1,11 +1,9 @@
 -- What stays of the snippets under a test.
-use Rattle.std.proofs.Common.{◌≡◌, Bool, false, List, [], ◌∷◌, ◌++◌, map, refl, ap, ◌∙◌, arith}
+use Rattle.std.proofs.Common.{◌≡◌, Bool, false, List, [], ◌∷◌, ◌++◌, map, arith}
 use Rattle.std.specs.Prelude.{filter, flat_map, if◌then◌else◌}
 use Rattle.std.proofs.lemmas.List.Elements.{filter-append}
-use Rattle.bpaf_doc.specs.declared.buffer.Style.TheVariants as styles
 use Rattle.bpaf_doc.specs.declared.buffer.Block.TheVariants as blocks
-use Rattle.bpaf_doc.specs.Splitter.Chunks.{Paragraph}
-use Rattle.bpaf_doc.specs.Html.Fragments.{Fragment, TextStart, Shown, TextEnd, Start, End}
+use Rattle.bpaf_doc.specs.Html.Fragments.{Fragment, Start}
 use Rattle.bpaf_doc.specs.Markdown.Page.{Mark, Heading, SecondHeading, ThirdHeading, Dash, LongDash, Put, Of, fragments_in, styled_snippets, is_style_mark_or_fragment, is_heading_or_fragment}
 use Rattle.bpaf_doc.specs.Markdown.Steps.Page.{Marked, with_item, is_term_end, marked_after}
 use Rattle.bpaf_doc.proofs.lemmas.Markdown.Cut.{item_snippets, own_snippets, snippets_of, cut_from, fragments-append, item_marks}
@@ -18,31 +16,7 @@ own_heading p (Start blocks.ItemBody) = if p.in_list then (if p.empty_item then 
 own_heading p f = []
 
 pub own-fragments : (p : Marked) (f : Fragment) → fragments_in (own_snippets p f) ≡ f ∷ []
-own-fragments p (TextStart styles.Text) = refl
-own-fragments p (TextEnd styles.Text) = grind arith
-own-fragments p (Shown style Paragraph) = grind arith
-own-fragments p (Start blocks.Header) = grind arith
-own-fragments p (End blocks.ItemBody) = grind arith
-own-fragments p _ = grind arith
-
-own-styles : (p : Marked) (f : Fragment) → filter is_style_mark_or_fragment (own_snippets p f) ≡ styled_snippets f
-own-styles p (TextStart styles.Text) = refl
-own-styles p (TextEnd styles.Text) = grind arith
-own-styles p (Shown style Paragraph) = grind arith
-own-styles p (Start blocks.Header) = grind arith
-own-styles p (End blocks.ItemBody) = grind arith
-own-styles p _ = grind arith
-
-own-headings : (p : Marked) (f : Fragment) → filter is_heading_or_fragment (own_snippets p f) ≡ Of f ∷ map Put (own_heading p f)
-own-headings p (TextStart styles.Text) = refl
-own-headings p (TextEnd styles.Text) = grind arith
-own-headings p (Shown style Paragraph) = grind arith
-own-headings p (Start blocks.Header) = grind arith
-own-headings p (End blocks.ItemBody) = grind arith
-own-headings p _ = grind arith
-
-item-styles : (pending empty : Bool) → filter is_style_mark_or_fragment (item_snippets pending empty) ≡ []
-item-styles pending empty = grind arith
+own-fragments p f = grind arith
 
 -- the mark of an item that waited for it
 abbrev pub item_heading : Bool → Bool → List Mark
@@ -56,21 +30,15 @@ step-fragments p f = grind (arith, fragments-append, item_marks, own-fragments)
 
 pub cut-fragments : (p : Marked) (fs : List Fragment) → fragments_in (cut_from p fs) ≡ fs
 cut-fragments p [] = item_marks p.pending false
-cut-fragments p (f ∷ fs) =
-    fragments-append (snippets_of p f) (cut_from (marked_after p f) fs)
-    ∙ ap (λ x. x ++ fragments_in (cut_from (marked_after p f) fs)) (step-fragments p f)
-    ∙ ap (λ x. f ∷ x) (cut-fragments (marked_after p f) fs)
+cut-fragments p (f ∷ fs) = grind (arith, cut-fragments (marked_after p f) fs, fragments-append, step-fragments)
 
 step-styles : (p : Marked) (f : Fragment) → filter is_style_mark_or_fragment (snippets_of p f) ≡ styled_snippets f
-step-styles p f = grind (arith, filter-append, item-styles, own-styles)
+step-styles p f = grind (arith, filter-append)
 
 pub cut-styles : (p : Marked) (fs : List Fragment) → filter is_style_mark_or_fragment (cut_from p fs) ≡ flat_map styled_snippets fs
-cut-styles p [] = item-styles p.pending false
-cut-styles p (f ∷ fs) =
-    filter-append is_style_mark_or_fragment (snippets_of p f) (cut_from (marked_after p f) fs)
-    ∙ ap (λ x. x ++ filter is_style_mark_or_fragment (cut_from (marked_after p f) fs)) (step-styles p f)
-    ∙ ap (λ x. styled_snippets f ++ x) (cut-styles (marked_after p f) fs)
+cut-styles p [] = grind arith
+cut-styles p (f ∷ fs) = grind (arith, cut-styles (marked_after p f) fs, filter-append, step-styles)
 
 pub step-headings : (p : Marked) (f : Fragment)
     → filter is_heading_or_fragment (snippets_of p f) ≡ map Put (item_heading p.pending (is_term_end f)) ++ Of f ∷ map Put (own_heading (with_item p (is_term_end f)) f)
-step-headings p f = grind (arith, filter-append, item-headings, own-headings)
+step-headings p f = grind (arith, filter-append, item-headings)

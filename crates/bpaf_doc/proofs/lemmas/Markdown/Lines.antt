@@ -1,20 +1,19 @@
 -- A whole line of a markdown text stands alone on its line.
-use Rattle.std.proofs.Common.{◌≡◌, ℕ, ◌+◌, ◌-◌, Bool, true, false, cond, List, [], ◌∷◌, ◌++◌, length, take, drop, refl, sym, ap, ◌∙◌, subst, arith, append_assoc, append-nil, length-append}
-use Rattle.std.specs.Prelude.{◌&&◌, ◌||◌, ◌==◌, if◌then◌else◌, IsTrue, codes, nat_eq}
+use Rattle.std.proofs.Common.{rules, ◌≡◌, ℕ, ◌+◌, ◌-◌, Bool, true, false, cond, List, [], ◌∷◌, ◌++◌, length, take, drop, refl, sym, ap, ◌∙◌, subst, arith, append_assoc, append-nil, length-append}
+use Rattle.std.specs.Prelude.{not, ◌&&◌, ◌||◌, ◌==◌, if◌then◌else◌, IsTrue, codes}
 use Rattle.std.specs.List.{list_all, after_last, suffix_len, prefix_len}
-use lib.Pointwise.{pointwise}
 use Rattle.std.proofs.lemmas.List.{reverse-append, drop-append-le, drop_all, take-append-drop}
 use Rattle.std.proofs.lemmas.List.Sums.{AllPass-from_list_all, list_all-from_AllPass}
 use Rattle.std.proofs.lemmas.List.Folds.{list_all-append}
 use Rattle.std.proofs.lemmas.Bool.{false≢true, and_parts, eqb-true}
 use Rattle.bpaf_doc.specs.declared.buffer.Style.{Style}
 use Rattle.bpaf_doc.specs.Splitter.Chunks.{Chunk, Raw, Paragraph, LineBreak, fence_weight, is_whole_line}
-use Rattle.bpaf_doc.specs.Html.Fragments.{Fragment, TextStart, Shown, TextEnd, Hidden, Start, End, shows}
+use Rattle.bpaf_doc.specs.Html.Fragments.{Fragment, TextStart, Shown, TextEnd, shows}
 use Rattle.bpaf_doc.specs.Markdown.Page.{mark_text, MarkdownSnippet, Put, Of, fragments_in, fragment_text, EndsInBlankLine, is_item_start}
 use Rattle.bpaf_doc.specs.Markdown.Steps.Page.{Marked, put, starts_line, with_new_line, open_code, with_line, with_words, with_raw, with_chunk, marked_after}
+use Rattle.bpaf_doc.proofs.lemmas.Lists.Passing.{passes}
 use Rattle.bpaf_doc.proofs.lemmas.Markdown.Cut.{raw_cut, raw_marked, by_weight, spelled, own_snippets, snippets_of, cut_from, item_snippets, open_snippets, close_snippets, line_snippets, new_line_snippets, flags, step-flags, step-code, item_marks, step-spelled, new_line-spelled, open-spelled, new_line_marks, open_marks, close-code}
 use Rattle.bpaf_doc.proofs.lemmas.Markdown.Kept.{step-fragments}
-use Rattle.bpaf_doc.proofs.lemmas.Markdown.Breaks.{first_or, without_first}
 use Rattle.bpaf_doc.proofs.lemmas.Markdown.Mind.{Agrees, Room, agrees_after, rooms_next, same_mono}
 
 -- ---- texts that end in a line of blanks
@@ -45,16 +44,11 @@ two_blanks text h = subst EndsInBlankLine (append_assoc text (32 ∷ []) (32 ∷
 nothing_blank : EndsInBlankLine []
 nothing_blank = AllPass-from_list_all (λ c. c == 32) [] refl
 
-one_newline : (d : List ℕ) → pointwise nat_eq (10 ∷ []) d ≡ true → d ≡ 10 ∷ []
-one_newline [] h = absurd (false≢true h)
-one_newline (x ∷ []) h = ap (λ n. n ∷ []) (sym (eqb-true 10 x (and_parts (nat_eq 10 x) true h).0))
-one_newline (x ∷ y ∷ d) h = absurd (false≢true (and_parts (nat_eq 10 x) false h).1)
-
 line_is_blank : (bytes : List ℕ) → starts_line bytes ≡ true → EndsInBlankLine bytes
 line_is_blank [] h = nothing_blank
 line_is_blank (b ∷ bs) h =
     let n : ℕ = length (b ∷ bs) - 1 in
-    let last : drop n (b ∷ bs) ≡ 10 ∷ [] = one_newline (drop n (b ∷ bs)) h in
+    let last : drop n (b ∷ bs) ≡ 10 ∷ [] = grind (arith, false≢true, eqb-true, and_parts) in
     subst EndsInBlankLine (ap (λ x. take n (b ∷ bs) ++ x) (sym last) ∙ take-append-drop n (b ∷ bs)) (blank_newline (take n (b ∷ bs)))
 
 new_line_blank : (p : Marked) → EndsInBlankLine (with_new_line p).bytes
@@ -78,14 +72,8 @@ LinesStand before text (Of f ∷ ss) = (shows is_whole_line f ≡ true → EndsI
 
 lines_both : (before : List Fragment) (text : List ℕ) (xs ys : List MarkdownSnippet) → LinesStand before text xs → LinesStand (before ++ fragments_in xs) (text ++ spelled before xs) ys → LinesStand before text (xs ++ ys)
 lines_both before text [] ys h k = subst (λ fs. LinesStand fs text ys) (append-nil before) (subst (λ t. LinesStand (before ++ []) t ys) (append-nil text) k)
-lines_both before text (Put mark ∷ xs) ys h k =
-    lines_both before (text ++ mark_text mark) xs ys h (subst (λ t. LinesStand (before ++ fragments_in xs) t ys) (sym (append_assoc text (mark_text mark) (spelled before xs))) k)
-lines_both before text (Of f ∷ xs) ys h k = (
-  h.0,
-  lines_both (before ++ f ∷ []) (text ++ fragment_text before f) xs ys h.1
-      (subst (λ fs. LinesStand fs ((text ++ fragment_text before f) ++ spelled (before ++ f ∷ []) xs) ys) (sym (append_assoc before (f ∷ []) (fragments_in xs)))
-      (subst (λ t. LinesStand (before ++ f ∷ fragments_in xs) t ys) (sym (append_assoc text (fragment_text before f) (spelled (before ++ f ∷ []) xs))) k)),
-)
+lines_both before text (Put mark ∷ xs) ys h k = grind (arith, lines_both before (text ++ mark_text mark) xs ys, append_assoc)
+lines_both before text (Of f ∷ xs) ys h k = grind (arith, lines_both (before ++ f ∷ []) (text ++ fragment_text before f) xs ys, append_assoc)
 
 lines_at : (before : List Fragment) (text : List ℕ) (xs after : List MarkdownSnippet) (a : Fragment) → LinesStand before text (xs ++ Of a ∷ after) → shows is_whole_line a ≡ true → EndsInBlankLine (text ++ spelled before xs)
 lines_at before text [] after a h whole = subst EndsInBlankLine (sym (append-nil text)) (h.0 whole)
@@ -97,13 +85,18 @@ marks_stand before text [] none = tt
 marks_stand before text (Put mark ∷ ss) none = marks_stand before (text ++ mark_text mark) ss none
 marks_stand before text (Of f ∷ ss) none = cc
 
+abbrev without_first : List Fragment → List Fragment
+without_first [] = []
+without_first (f ∷ fs) = fs
+
+abbrev first_or : Fragment → List Fragment → Fragment
+first_or d [] = d
+first_or d (f ∷ fs) = f
+
 other_stands : (before : List Fragment) (text : List ℕ) (ss : List MarkdownSnippet) (f : Fragment) → fragments_in ss ≡ f ∷ [] → shows is_whole_line f ≡ false → LinesStand before text ss
 other_stands before text [] f e o = tt
 other_stands before text (Put mark ∷ ss) f e o = other_stands before (text ++ mark_text mark) ss f e o
-other_stands before text (Of g ∷ ss) f e o = (
-  λ whole. absurd (false≢true (sym (ap (shows is_whole_line) (ap (first_or f) e) ∙ o) ∙ whole)),
-  marks_stand (before ++ g ∷ []) (text ++ fragment_text before g) ss (ap without_first e),
-)
+other_stands before text (Of g ∷ ss) f e o = grind (arith, false≢true, marks_stand)
 
 -- a line after a text that ends in blanks
 line_stands : (before : List Fragment) (text : List ℕ) (f : Fragment) → EndsInBlankLine text → LinesStand before text (line_snippets f)
@@ -118,21 +111,22 @@ raw_stands before p style bytes weight h =
     (λ e k. other_stands before p.bytes (close_snippets p.in_code ++ Of f ∷ []) f (grind arith) (ap (λ c. c || (weight == fence_weight)) k ∙ e))
   where
     after_marks : (marks : List MarkdownSnippet) → fragments_in marks ≡ [] → EndsInBlankLine (p.bytes ++ spelled before marks) → LinesStand before p.bytes (marks ++ line_snippets (Shown style (Raw bytes weight)))
-    after_marks marks none k =
-        lines_both before p.bytes marks (line_snippets (Shown style (Raw bytes weight))) (marks_stand before p.bytes marks none)
-        (line_stands (before ++ fragments_in marks) (p.bytes ++ spelled before marks) (Shown style (Raw bytes weight)) k)
+    after_marks marks none k = search (rules, lines_both, marks_stand, line_stands)
 
 -- ---- texts of a document: where chunks stand between a start and an end
 
+abbrev may_come : Bool → Fragment → Bool
+may_come in_text (Shown style chunk) = in_text
+may_come in_text (TextEnd style) = in_text
+may_come in_text f = not in_text
+
+abbrev form_next : Bool → Fragment → Bool
+form_next in_text (TextStart style) = true
+form_next in_text (TextEnd style) = false
+form_next in_text f = in_text
+
 abbrev pub well_formed : Bool → List Fragment → Bool
-well_formed in_text [] = true
-well_formed false (TextStart style ∷ fs) = well_formed true fs
-well_formed true (Shown style chunk ∷ fs) = well_formed true fs
-well_formed true (TextEnd style ∷ fs) = well_formed false fs
-well_formed false (Hidden ∷ fs) = well_formed false fs
-well_formed false (Start b ∷ fs) = well_formed false fs
-well_formed false (End b ∷ fs) = well_formed false fs
-well_formed _ _ = false
+well_formed = passes may_come form_next
 
 -- outside of texts no code block is open; inside no item waits, and an open block's last line is blank
 abbrev Keeps : Bool → Marked → Type 0
@@ -164,55 +158,26 @@ chunk_step p style chunk e = ap (λ b. with_chunk (if b then record p { bytes = 
 pending_after : (p : Marked) (f : Fragment) → is_item_start f ≡ false → (marked_after p f).pending ≡ false
 pending_after p f e = ap (λ s. s.pending) (step-flags p f) ∙ ap (λ b. if b then true else false) e
 
-chunk_stands : (before : List Fragment) (p : Marked) (style : Style) (chunk : Chunk) → Keeps true p → LinesStand before p.bytes (snippets_of p (Shown style chunk))
-chunk_stands before p style (Raw bytes weight) keeps =
-    subst (λ ss. LinesStand before p.bytes ss) (ap (λ b. item_snippets b false ++ own_snippets (if b then record p { bytes = p.bytes ++ codes "- "; pending = false; empty_item = false } else p) (Shown style (Raw bytes weight))) (sym keeps.0))
-    (raw_stands before p style bytes weight keeps.1)
-chunk_stands before p style Paragraph keeps = other_stands before p.bytes (snippets_of p (Shown style Paragraph)) (Shown style Paragraph) (step-fragments p (Shown style Paragraph)) refl
-chunk_stands before p style LineBreak keeps = other_stands before p.bytes (snippets_of p (Shown style LineBreak)) (Shown style LineBreak) (step-fragments p (Shown style LineBreak)) refl
-
 chunk_next : (p : Marked) (style : Style) (chunk : Chunk) → Keeps true p → Keeps true (marked_after p (Shown style chunk))
 chunk_next p style chunk keeps = (
   pending_after p (Shown style chunk) refl,
   subst (λ q. q.in_code ≡ true → EndsInBlankLine q.bytes) (sym (chunk_step p style chunk keeps.0)) (chunk_keeps p chunk),
 )
 
--- a step that leaves whole lines out
-other_step : (before : List Fragment) (p : Marked) (f : Fragment) → shows is_whole_line f ≡ false → LinesStand before p.bytes (snippets_of p f)
-other_step before p f o = other_stands before p.bytes (snippets_of p f) f (step-fragments p f) o
+step_stands : (t : Bool) (before : List Fragment) (p : Marked) (f : Fragment) → may_come t f ≡ true → Keeps t p → LinesStand before p.bytes (snippets_of p f)
+step_stands t before p f h1 h2 = grind (arith, raw_stands, false≢true, other_stands, step-fragments)
 
-go_on : (t : Bool) (before : List Fragment) (p : Marked) (f : Fragment) (fs : List Fragment) → LinesStand before p.bytes (snippets_of p f) → Agrees before (flags p)
-    → LinesStand (before ++ f ∷ []) (marked_after p f).bytes (cut_from (marked_after p f) fs) → LinesStand before p.bytes (snippets_of p f ++ cut_from (marked_after p f) fs)
-go_on t before p f fs here agrees later =
-    lines_both before p.bytes (snippets_of p f) (cut_from (marked_after p f) fs) here
-    (subst (λ gs. LinesStand (before ++ gs) (p.bytes ++ spelled before (snippets_of p f)) (cut_from (marked_after p f) fs)) (sym (step-fragments p f))
-    (subst (λ text. LinesStand (before ++ f ∷ []) text (cut_from (marked_after p f) fs)) (step-spelled before p f (same_mono before p agrees)) later))
+step_keeps : (t : Bool) (p : Marked) (f : Fragment) → may_come t f ≡ true → Keeps t p → Keeps (form_next t f) (marked_after p f)
+step_keeps true p (Shown style chunk) may keeps = chunk_next p style chunk keeps
+step_keeps t p (TextEnd style) may keeps = step-code p (TextEnd style)
+step_keeps false p (Shown style chunk) may keeps = absurd (false≢true may)
+step_keeps false p (TextStart style) may keeps = (pending_after p (TextStart style) refl, never (marked_after p (TextStart style)).in_code (step-code p (TextStart style) ∙ keeps))
+step_keeps false p f may keeps = step-code p f ∙ keeps
+step_keeps true p f may keeps = absurd (false≢true may)
 
 lines_stand : (t : Bool) (before : List Fragment) (p : Marked) (fs : List Fragment) → well_formed t fs ≡ true → Keeps t p → Agrees before (flags p) → Room before fs → LinesStand before p.bytes (cut_from p fs)
 lines_stand t before p [] form keeps agrees room = marks_stand before p.bytes (item_snippets p.pending false) (item_marks p.pending false)
-lines_stand false before p (TextStart style ∷ fs) form keeps agrees room =
-    go_on false before p (TextStart style) fs (other_step before p (TextStart style) refl) agrees
-    (lines_stand true (before ++ TextStart style ∷ []) (marked_after p (TextStart style)) fs form
-    (pending_after p (TextStart style) refl, never (marked_after p (TextStart style)).in_code (step-code p (TextStart style) ∙ keeps))
-    (agrees_after before p (TextStart style) fs agrees room) (rooms_next before (TextStart style) fs room))
-lines_stand true before p (Shown style chunk ∷ fs) form keeps agrees room =
-    go_on true before p (Shown style chunk) fs (chunk_stands before p style chunk keeps) agrees
-    (lines_stand true (before ++ Shown style chunk ∷ []) (marked_after p (Shown style chunk)) fs form (chunk_next p style chunk keeps)
-    (agrees_after before p (Shown style chunk) fs agrees room) (rooms_next before (Shown style chunk) fs room))
-lines_stand true before p (TextEnd style ∷ fs) form keeps agrees room =
-    go_on true before p (TextEnd style) fs (other_step before p (TextEnd style) refl) agrees
-    (lines_stand false (before ++ TextEnd style ∷ []) (marked_after p (TextEnd style)) fs form (step-code p (TextEnd style))
-    (agrees_after before p (TextEnd style) fs agrees room) (rooms_next before (TextEnd style) fs room))
-lines_stand false before p (Hidden ∷ fs) form keeps agrees room =
-    go_on false before p Hidden fs (other_step before p Hidden refl) agrees
-    (lines_stand false (before ++ Hidden ∷ []) (marked_after p Hidden) fs form (step-code p Hidden ∙ keeps) (agrees_after before p Hidden fs agrees room) (rooms_next before Hidden fs room))
-lines_stand false before p (Start b ∷ fs) form keeps agrees room =
-    go_on false before p (Start b) fs (other_step before p (Start b) refl) agrees
-    (lines_stand false (before ++ Start b ∷ []) (marked_after p (Start b)) fs form (step-code p (Start b) ∙ keeps) (agrees_after before p (Start b) fs agrees room) (rooms_next before (Start b) fs room))
-lines_stand false before p (End b ∷ fs) form keeps agrees room =
-    go_on false before p (End b) fs (other_step before p (End b) refl) agrees
-    (lines_stand false (before ++ End b ∷ []) (marked_after p (End b)) fs form (step-code p (End b) ∙ keeps) (agrees_after before p (End b) fs agrees room) (rooms_next before (End b) fs room))
-lines_stand _ before p _ form keeps agrees room = absurd (false≢true form)
+lines_stand t before p (f ∷ fs) form keeps agrees room = grind (arith, lines_stand (form_next t f) (before ++ f ∷ []) (marked_after p f) fs, and_parts, lines_both, step_stands, step-fragments, step-spelled, same_mono, step_keeps, agrees_after, rooms_next)
 
 -- the text before a whole line ends in a line of blanks
 pub blank_before : (p : Marked) (fs : List Fragment) → well_formed false fs ≡ true → p.in_code ≡ false → Agrees [] (flags p) → Room [] fs

@@ -28,8 +28,7 @@ text_form full style chunks fs = ap (well_formed true) (append_assoc (map (Shown
 
 walk_form : (full : Bool) (depth : ℕ) (parts : List Part) → well_formed false (walk full depth parts) ≡ true
 walk_form full depth [] = refl
-walk_form full zero (Text bytes style ∷ parts) =
-    text_form full style (chunks_of bytes) (walk full (depth_after full (Text bytes style) zero) parts) ∙ walk_form full (depth_after full (Text bytes style) zero) parts
+walk_form full zero (Text bytes style ∷ parts) = grind (arith, walk_form full (depth_after full (Text bytes style) zero) parts, text_form)
 walk_form full (suc depth) (Text bytes style ∷ parts) = walk_form full (suc depth) parts
 walk_form full depth (PartStart b ∷ parts) = walk_form full (depth_after full (PartStart b) depth) parts
 walk_form full depth (PartEnd b ∷ parts) = walk_form full (depth_after full (PartEnd b) depth) parts
@@ -53,8 +52,7 @@ part_count p c full (PartEnd b) depth = omega (arith, count_by-cons p (End b) []
 
 walk_count : (p : Fragment → Bool) → Counts p → (full : Bool) (depth : ℕ) (parts : List Part) → count_by p (walk full depth parts) ≤ length parts
 walk_count p c full depth [] = omega arith
-walk_count p c full depth (part ∷ parts) =
-    omega (arith, count_by-append p (part_walk full part depth) (walk full (depth_after full part depth) parts), part_count p c full part depth, walk_count p c full (depth_after full part depth) parts)
+walk_count p c full depth (part ∷ parts) = grind (arith, walk_count p c full (depth_after full part depth) parts, count_by-append, part_count)
 
 mono_starts : Counts is_mono_start
 mono_starts = (λ style. refl, λ style chunk. refl, λ style. refl, refl)

@@ -5,8 +5,7 @@ use Rattle.std.specs.List.{list_any, after_last, suffix_len, prefix_len}
 use Rattle.std.proofs.lemmas.List.{reverse-append, drop-append-le, drop_all, map-append}
 use Rattle.std.proofs.lemmas.List.Folds.{list_any-append}
 use Rattle.std.proofs.lemmas.List.Elements.{filter-append}
-use Rattle.bpaf_doc.specs.declared.buffer.Block.TheVariants as blocks
-use Rattle.bpaf_doc.specs.Html.Fragments.{Fragment, Start, End}
+use Rattle.bpaf_doc.specs.Html.Fragments.{Fragment}
 use Rattle.bpaf_doc.specs.Markdown.Page.{Mark, MarkdownSnippet, Put, Of, is_mono_start, is_mono_end, is_header_start, is_item_start, begins_with_term_end, is_in_list, is_after_empty_item, headings_of, headed_snippets, flat_map_places_from, is_heading_or_fragment}
 use Rattle.bpaf_doc.specs.Markdown.Steps.Page.{Marked, with_item, is_term_end, marked_after, marked_after_all, one_more}
 use Rattle.bpaf_doc.proofs.lemmas.Lists.Counting.{one_if, count_by-cons, count_by-push}
@@ -21,10 +20,6 @@ any-push p fs f = list_any-append p fs (f ∷ []) ∙ grind arith
 suffix-push : (q : Fragment → Bool) (fs : List Fragment) (f : Fragment) → suffix_len q (fs ++ f ∷ []) ≡ cond (q f) (1 + suffix_len q fs) 0
 suffix-push q fs f = ap (λ xs. prefix_len q xs) (reverse-append fs (f ∷ []))
 
--- what stands after the last that passes
-after_last-at : (p : Fragment → Bool) (fs : List Fragment) (f : Fragment) → p f ≡ true → after_last p (fs ++ f ∷ []) ≡ []
-after_last-at p fs f e = grind (arith, suffix-push, drop_all)
-
 after_last-past : (p : Fragment → Bool) (fs : List Fragment) (f : Fragment) → p f ≡ false → after_last p (fs ++ f ∷ []) ≡ after_last p fs ++ f ∷ []
 after_last-past p fs f e = grind (arith, suffix-push, length-append, drop-append-le)
 
@@ -37,19 +32,16 @@ pub data Item : List Fragment → Bool → Bool → Type 0 where
   past : {before : List Fragment} {pending empty : Bool} (g : Fragment) (rest : List Fragment) → list_any is_item_start before ≡ true → after_last is_item_start before ≡ g ∷ rest → pending ≡ false → empty ≡ is_term_end g → Item before pending empty
 
 pub begins_is : (g : Fragment) (rest : List Fragment) → begins_with_term_end (g ∷ rest) ≡ is_term_end g
-begins_is (End blocks.ItemTerm) rest = refl
-begins_is _ rest = refl
+begins_is g rest = grind arith
 
 pub after_empty_is : {before : List Fragment} {pending empty : Bool} → Item before pending empty → is_after_empty_item before ≡ (if pending then false else empty)
-after_empty_is {before} {pending} {empty} (none any p e) = grind arith
-after_empty_is {before} {pending} {empty} (waiting any last p) = grind arith
-after_empty_is {before} {pending} {empty} (past g rest any last p e) = grind (arith, begins_is)
+after_empty_is h = grind (arith, begins_is)
 
 item_next : {before : List Fragment} {pending empty : Bool} (f : Fragment) → Item before pending empty
     → Item (before ++ f ∷ []) (if is_item_start f then true else false) (if is_item_start f then false else (if pending then is_term_end f else empty))
 item_next {before} {pending} {empty} f item =
     (elim (is_item_start f) as (λ b. is_item_start f ≡ b → Item (before ++ f ∷ []) (if b then true else false) (if b then false else (if pending then is_term_end f else empty))) [
-      | true ↦ λ e. waiting (any-push is_item_start before f ∙ ap (λ b. if b then true else list_any is_item_start before) e) (after_last-at is_item_start before f e) refl
+      | true ↦ λ e. waiting (any-push is_item_start before f ∙ ap (λ b. if b then true else list_any is_item_start before) e) (grind (arith, suffix-push, drop_all)) refl
       | false ↦ λ e. stays e item
     ]) refl
   where
@@ -120,9 +112,7 @@ all-spelled before p (f ∷ fs) h room =
 
 heading_is : (before : List Fragment) (p : Marked) (f : Fragment) (fs : List Fragment) → Agrees before (flags p)
     → own_heading (with_item p (is_term_end f)) f ++ item_heading (flags_next (flags p) f).pending (begins_with_term_end fs) ≡ headings_of before f fs
-heading_is before p (Start blocks.Header) fs h = grind (arith, item-flags)
-heading_is before p (Start blocks.ItemBody) fs h = grind (arith, append-nil, item-flags, after_empty_is)
-heading_is before p _ fs h = refl
+heading_is before p f fs h = grind (arith, item-flags, append-nil, after_empty_is)
 
 pub all-headings : (before : List Fragment) (p : Marked) (fs : List Fragment) → Agrees before (flags p) → Room before fs
     → filter is_heading_or_fragment (cut_from p fs) ≡ map Put (item_heading p.pending (begins_with_term_end fs)) ++ flat_map_places_from headed_snippets before fs

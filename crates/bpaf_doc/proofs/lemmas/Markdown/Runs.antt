@@ -1,5 +1,5 @@
 -- A run that is written at once is its chunks written one after another.
-use Rattle.std.proofs.Common.{◌≡◌, ◌+◌, ◌<◌, ◌≤◌, Bool, true, false, List, ℕ, [], ◌∷◌, ◌++◌, length, map, refl, sym, ap, ◌∙◌, append_assoc, append-nil, arith, length-append, nat_lt}
+use Rattle.std.proofs.Common.{◌≡◌, ◌+◌, ◌<◌, ◌≤◌, false, List, ℕ, [], ◌∷◌, ◌++◌, length, map, refl, sym, ap, ◌∙◌, append_assoc, append-nil, arith, length-append, nat_lt}
 use Rattle.std.specs.Prelude.{flat_map, if◌then◌else◌, codes}
 use Rattle.std.proofs.lemmas.List.Concat.{flat_map-append}
 use Rattle.std.proofs.lemmas.Bool.{ne_eqb}
@@ -23,9 +23,6 @@ marked-append p (f ∷ fs) back = marked-append (marked_after p f) fs back
 -- how words are spelled where there are so many Mono ends and starts
 abbrev spelled : ℕ → ℕ → List ℕ → List ℕ
 spelled ends starts text = if nat_lt ends starts then flat_map escaped_character text else text
-
-spelled_nothing : (ends starts : ℕ) → spelled ends starts [] ≡ []
-spelled_nothing ends starts = grind arith
 
 spelled_on : (ends starts : ℕ) (a b : List ℕ) → spelled ends starts a ++ spelled ends starts b ≡ spelled ends starts (a ++ b)
 spelled_on ends starts a b = grind (arith, flat_map-append)
@@ -54,30 +51,13 @@ raw_words p bytes weight few = grind (arith, ne_eqb)
 -- what follows words
 words_more : {chunks : List Chunk} {text : List ℕ} → AreWords chunks text → length text ≤ 300_000 → (p : Marked) (style : Style) → IsSettled p
     → marked_after_all p (map (Shown style) chunks) ≡ put p (spelled p.ends p.starts text)
-words_more (no_words ec et) le p style s = grind (arith, spelled_nothing, append-nil)
-words_more {chunks} {text} (a_word bytes rest others ec et w) le p style s =
-    let sizes : length text ≡ length bytes + length rest = ap length et ∙ length-append bytes rest in
-    let few : columns bytes < 1_000_000 = columns_few bytes (omega (arith, sizes, le)) in
-    let first : marked_after p (Shown style (Raw bytes (columns bytes))) ≡ put p (spelled p.ends p.starts bytes)
-    = ap (λ q. with_raw q bytes (columns bytes)) (no_item p s.0) ∙ raw_words p bytes (columns bytes) few ∙ words_settled p bytes s in
-    ap (λ cs. marked_after_all p (map (Shown style) cs)) ec
-    ∙ ap (λ q. marked_after_all q (map (Shown style) others)) first
-    ∙ words_more w (omega (arith, sizes, le)) (put p (spelled p.ends p.starts bytes)) style s
-    ∙ put_on p (spelled p.ends p.starts bytes) (spelled p.ends p.starts rest)
-    ∙ ap (put p) (spelled_on p.ends p.starts bytes rest ∙ ap (spelled p.ends p.starts) (sym et))
+words_more (no_words ec et) le p style s = grind (arith, append-nil)
+words_more {chunks} {text} (a_word bytes rest others ec et w) le p style s = grind (arith, words_more w (omega (arith, (ap length et ∙ length-append bytes rest), le)) (put p (spelled p.ends p.starts bytes)) style, length-append, columns_few, no_item, raw_words, words_settled, put_on, spelled_on)
 
 -- ---- words where something may wait
 
 closed_settled : (p : Marked) → p.pending ≡ false → IsSettled (close_code p (codes "\n  ```\n")) × (nat_lt (close_code p (codes "\n  ```\n")).ends (close_code p (codes "\n  ```\n")).starts ≡ nat_lt p.ends p.starts)
-closed_settled p e = by p.in_code refl where
-  by : (b : Bool) → p.in_code ≡ b
-      → IsSettled (if b then record p { bytes = p.bytes ++ codes "\n  ```\n"; in_code = false } else p)
-      × (nat_lt (if b then record p { bytes = p.bytes ++ codes "\n  ```\n"; in_code = false } else p).ends (if b then record p { bytes = p.bytes ++ codes "\n  ```\n"; in_code = false } else p).starts ≡ nat_lt p.ends p.starts)
-  by true f = ((e, refl), refl)
-  by false f = ((e, f), refl)
-
-item_settled : (p : Marked) → (with_item p false).pending ≡ false
-item_settled p = grind arith
+closed_settled p e = grind arith
 
 -- the text after the chunks of a run
 pub run_marked : (p : Marked) (style : Style) (run : List ℕ) → IsRun run → marked_after_all p (map (Shown style) (chunks_of run)) ≡ with_words (with_item p false) run
@@ -89,7 +69,7 @@ run_marked p style run is = at (words_of_line run is.line) where
       let t = close_code q (codes "\n  ```\n") in
       let sizes : length run ≡ length bytes + length rest = ap length et ∙ length-append bytes rest in
       let few : columns bytes < 1_000_000 = columns_few bytes (omega (arith, sizes, is.short)) in
-      let same = closed_settled q (item_settled p) in
+      let same = closed_settled q (grind arith) in
       let first : marked_after p (Shown style (Raw bytes (columns bytes))) ≡ put t (spelled t.ends t.starts bytes)
       = raw_words q bytes (columns bytes) few ∙ ap (λ b. put t (if b then flat_map escaped_character bytes else bytes)) (sym same.1) in
       ap (λ cs. marked_after_all p (map (Shown style) cs)) ec

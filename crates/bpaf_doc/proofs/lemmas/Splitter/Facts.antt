@@ -1,5 +1,5 @@
 -- What holds of the chunks of each text.
-use Rattle.std.specs.Prelude.{◌≡◌, ℕ, ◌+◌, List, [], ◌∷◌, ◌++◌, refl, length, drop, slice_range}
+use Rattle.std.specs.Prelude.{◌≡◌, ℕ, List, [], ◌∷◌, ◌++◌, refl, length, slice_range}
 use Rattle.std.specs.List.{All, flat_map}
 use Rattle.std.specs.Str.{IsUtf8}
 use Rattle.std.proofs.Common.{sym, ◌∙◌, ap, subst, inl, inr, arith, append_assoc}
@@ -61,28 +61,11 @@ middle a b c = grind (arith, length-append, drop_at, take_at)
 -- a chunk that stands after a gap
 place_after : (text front gap there back : List ℕ) (chunk : Chunk) → text ≡ (front ++ gap) ++ (there ++ back) → IsGap gap → StandsFor chunk there
     → IsPlace text (length front) chunk (length (front ++ gap)) (length ((front ++ gap) ++ there))
-place_after text front gap there back chunk e g t =
-    let starts : length (front ++ gap) ≡ length front + length gap = length-append front gap in
-    let ends : length ((front ++ gap) ++ there) ≡ length (front ++ gap) + length there = length-append (front ++ gap) there in
-    let whole : length text ≡ length (front ++ gap) + (length there + length back) = ap length e ∙ length-append (front ++ gap) (there ++ back) ∙ ap (λ n. length (front ++ gap) + n) (length-append there back) in
-    let before : slice_range text (length front) (length (front ++ gap)) ≡ gap =
-    ap (λ t. slice_range t (length front) (length (front ++ gap))) (e ∙ append_assoc front gap (there ++ back)) ∙ middle front gap (there ++ back) in
-    let here : slice_range text (length (front ++ gap)) (length ((front ++ gap) ++ there)) ≡ there =
-    ap (λ t. slice_range t (length (front ++ gap)) (length ((front ++ gap) ++ there))) e ∙ middle (front ++ gap) there back in
-    record {
-      after = omega (arith, starts);
-      forward = omega (arith, ends);
-      within = omega (arith, ends, whole);
-      gap = subst (λ t. IsGap t) (sym before) g;
-      stands = subst (λ t. StandsFor chunk t) (sym here) t;
-    }
+place_after text front gap there back chunk e g t = grind (arith, length-append, append_assoc, middle)
 
 in_order_of_pieces : {chunks : List Chunk} {rest : List ℕ} → Pieces chunks rest → (text front pending : List ℕ) → text ≡ front ++ (pending ++ rest) → IsGap pending
     → StandInOrder text (length front) chunks
-in_order_of_pieces {rest = rest} (none ec et) text front pending e g =
-    let left : drop (length front) text ≡ pending =
-    ap (λ t. drop (length front) t) e ∙ drop_at front (pending ++ rest) (length front) refl ∙ ap (λ t. pending ++ t) et ∙ append-nil pending in
-    subst (λ cs. StandInOrder text (length front) cs) (sym ec) (subst (λ t. IsGap t) (sym left) g)
+in_order_of_pieces {rest = rest} (none ec et) text front pending e g = grind (arith, drop_at, append-nil)
 in_order_of_pieces (piece gap there after rest chunk others ec et g h t l w s) text front pending e p =
     let whole : text ≡ (front ++ (pending ++ gap)) ++ (there ++ (after ++ rest)) =
     e ∙ ap (λ t. front ++ (pending ++ t)) et ∙ simp append_assoc in

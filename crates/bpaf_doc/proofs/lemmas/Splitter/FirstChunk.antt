@@ -2,7 +2,7 @@
 use Rattle.std.specs.Prelude.{◌≡◌, ◌≢◌, ℕ, Bool, true, false, ◌==◌, IsTrue, List, [], ◌∷◌, ◌++◌, codes, refl, length, MatchBool, None}
 use Rattle.std.specs.Str.Pattern.{StripsPrefix, HasPrefixMatch, FindsTextPrefix}
 use Rattle.std.specs.List.{list_all}
-use Rattle.std.proofs.Common.{sym, ◌∙◌, ap, subst, inl, inr, arith}
+use Rattle.std.proofs.Common.{sym, ◌∙◌, ap, subst, arith}
 use Rattle.std.proofs.lemmas.Str.Pattern.{starts_text}
 use Rattle.std.proofs.lemmas.Bool.Decides.{nat_tests}
 use Rattle.bpaf_doc.specs.Splitter.Chunks.{Chunk, Raw, Paragraph, LineBreak, Form, Plain, Opening, Later, Spells, code_line, fence, before_code, paragraph, line_break, newline, blank, word, opening, later, closing, closing_paragraph, chunks_of, chunks_in, chunks_within, columns, code_weight, fence_weight, is_word_byte, starts, IsLine, IsLineEnd, IsWordEnd, IsPastNewline}
@@ -75,10 +75,7 @@ blank_first text rest left e s = first_is (blank rest left refl e (spelt rest le
 
 -- a text that begins with neither a newline nor a blank has a word in front
 word_some : (bytes rest : List ℕ) → bytes ++ rest ≢ [] → ((back : List ℕ) → bytes ++ rest ≢ 10 ∷ back) → ((back : List ℕ) → bytes ++ rest ≢ 32 ∷ back) → IsWordEnd rest → bytes ≢ []
-word_some (b ∷ bytes) rest some f g r none = cc
-word_some [] [] some f g r none = some refl
-word_some [] (b ∷ rest) some f g (inl e) none = f rest (ap (λ c. c ∷ rest) e)
-word_some [] (b ∷ rest) some f g (inr e) none = g rest (ap (λ c. c ∷ rest) e)
+word_some bytes rest h1 h2 h3 h4 = grind arith
 
 pub word_first : (text bytes rest : List ℕ) (weight : ℕ) (left : List Chunk) → text ≢ [] → ((back : List ℕ) → text ≢ 10 ∷ back) → ((back : List ℕ) → text ≢ 32 ∷ back)
     → text ≡ bytes ++ rest → IsTrue (list_all is_word_byte bytes) → IsWordEnd rest → weight ≡ columns bytes → left ≡ chunks_of rest

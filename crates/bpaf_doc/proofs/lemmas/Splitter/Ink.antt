@@ -17,13 +17,11 @@ gap_is b e = grind (arith, nat_tests)
 
 newline_chars : (rest : List ℕ) → chars (10 ∷ rest) ≡ 10 ∷ chars rest
 unfolding chars
-newline_chars [] = refl
-newline_chars (b ∷ rest) = refl
+newline_chars rest = grind arith
 
 blank_chars : (rest : List ℕ) → chars (32 ∷ rest) ≡ 32 ∷ chars rest
 unfolding chars
-blank_chars [] = refl
-blank_chars (b ∷ rest) = refl
+blank_chars rest = grind arith
 
 pub ink-nil : ink [] ≡ []
 ink-nil = ap (λ cs. filter is_not_whitespace cs) chars-nil

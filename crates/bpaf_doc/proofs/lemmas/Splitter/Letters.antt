@@ -29,30 +29,18 @@ abbrev all_narrow : ℕ → ℕ → Bool
 all_narrow zero first = true
 all_narrow (suc n) first = is_narrow first && all_narrow n (first + 1)
 
--- the letters from U+00C0 up to U+023F, by their first bytes
-narrow-c3 : all_narrow 64 0x0C0 ≡ true
+-- the letters from U+00C0 up to U+023F, some at a time
+narrow_low : all_narrow 128 0x0C0 ≡ true
 unfolding unicode_width
-narrow-c3 = refl
+narrow_low = refl
 
-narrow-c4 : all_narrow 64 0x100 ≡ true
+narrow_middle : all_narrow 128 0x140 ≡ true
 unfolding unicode_width
-narrow-c4 = refl
+narrow_middle = refl
 
-narrow-c5 : all_narrow 64 0x140 ≡ true
+narrow_high : all_narrow 128 0x1C0 ≡ true
 unfolding unicode_width
-narrow-c5 = refl
-
-narrow-c6 : all_narrow 64 0x180 ≡ true
-unfolding unicode_width
-narrow-c6 = refl
-
-narrow-c7 : all_narrow 64 0x1C0 ≡ true
-unfolding unicode_width
-narrow-c7 = refl
-
-narrow-c8 : all_narrow 64 0x200 ≡ true
-unfolding unicode_width
-narrow-c8 = refl
+narrow_high = refl
 
 narrow_at : (n first k : ℕ) → all_narrow n first ≡ true → k < n → is_narrow (first + k) ≡ true
 narrow_at zero first k h l = absurd (omega (arith, l))
@@ -63,24 +51,16 @@ narrow_at (suc n) first (suc k) h l =
     let e : first + 1 + k ≡ first + suc k = omega arith in
     ap is_narrow (sym e) ∙ narrow_at n (first + 1) k (and_parts (is_narrow first) (all_narrow n (first + 1)) h).1 (omega (arith, l))
 
-narrow_in : (first c : ℕ) → all_narrow 64 first ≡ true → first ≤ c → c < first + 64 → is_narrow c ≡ true
+narrow_in : (first c : ℕ) → all_narrow 128 first ≡ true → first ≤ c → c < first + 128 → is_narrow c ≡ true
 narrow_in first c h low high =
     let e : first + (c - first) ≡ c = omega (arith, low) in
-    ap is_narrow (sym e) ∙ narrow_at 64 first (c - first) h (omega (arith, low, high))
+    ap is_narrow (sym e) ∙ narrow_at 128 first (c - first) h (omega (arith, low, high))
 
 letter_narrow : (c : ℕ) → 192 ≤ c → c < 576 → is_narrow c ≡ true
-letter_narrow c low high = c3 (cases_lt c 0x100) where
-  c7 : (c < 0x200) ⊎ (0x200 ≤ c) → 0x1C0 ≤ c → is_narrow c ≡ true
-  c7 (inl l) from = narrow_in 0x1C0 c narrow-c7 from (omega (arith, l))
-  c7 (inr m) from = narrow_in 0x200 c narrow-c8 m (omega (arith, high))
-
-  c5 : (c < 0x180) ⊎ (0x180 ≤ c) → 0x140 ≤ c → is_narrow c ≡ true
-  c5 (inl l) from = narrow_in 0x140 c narrow-c5 from (omega (arith, l))
-  c5 (inr m) from = elim (cases_lt c 0x1C0) [ inl l ↦ narrow_in 0x180 c narrow-c6 m (omega (arith, l)) | inr m ↦ c7 (cases_lt c 0x200) m ]
-
-  c3 : (c < 0x100) ⊎ (0x100 ≤ c) → is_narrow c ≡ true
-  c3 (inl l) = narrow_in 0x0C0 c narrow-c3 low (omega (arith, l))
-  c3 (inr m) = elim (cases_lt c 0x140) [ inl l ↦ narrow_in 0x100 c narrow-c4 m (omega (arith, l)) | inr m ↦ c5 (cases_lt c 0x180) m ]
+letter_narrow c low high = elim (cases_lt c 0x140) [
+  | inl l ↦ narrow_in 0x0C0 c narrow_low low l
+  | inr m ↦ elim (cases_lt c 0x1C0) [ inl l ↦ narrow_in 0x140 c narrow_middle m l | inr m ↦ narrow_in 0x1C0 c narrow_high m high ]
+]
 
 ascii_narrow : (c : ℕ) → is_in_range 0x20 0x7E c ≡ true → is_narrow c ≡ true
 unfolding char_width
@@ -104,15 +84,8 @@ encode_four : (c : ℕ) → 65536 ≤ c → encode c ≡ (240 + c / 262144) ∷ 
 unfolding encode
 encode_four c low = grind (arith, le-ltb)
 
--- a lettered first byte
-lettered_ascii : (b : ℕ) → b < 128 → is_lettered b ≡ true → is_in_range 0x20 0x7E b ≡ true
-lettered_ascii b small h = grind (arith, nat_tests)
-
 lettered_first : (b : ℕ) → 0xC0 ≤ b → is_lettered b ≡ true → (0xC3 ≤ b) × (b ≤ 0xC8)
 lettered_first b low h = (grind (arith, nat_tests), grind (arith, nat_tests))
-
-begins_first : (b : ℕ) → 0xC0 ≤ b → begins b ≡ true
-begins_first b low = grind (arith, nat_tests)
 
 begins_ascii : (b : ℕ) → b < 128 → begins b ≡ true
 begins_ascii b small = grind (arith, nat_tests)
@@ -129,33 +102,12 @@ first_of : (b : ℕ) (rest : List ℕ) (bytes : List ℕ) → bytes ≡ b ∷ re
 first_of b rest bytes e h = (and_parts (is_lettered b) (list_all is_lettered rest) (ap (list_all is_lettered) (sym e) ∙ h)).0
 
 letter_is : (c : ℕ) → list_all is_lettered (encode c) ≡ true → IsLetter c
-letter_is c h = one_byte (cases_lt c 128) where
+letter_is c h = (grind (arith, encode_one, ascii_narrow, nat_tests, encode, begins_ascii, two_bytes, cases_lt)) where
   four_bytes : (c < 65536) ⊎ (65536 ≤ c) → 2048 ≤ c → IsLetter c
-  four_bytes (inl high) low =
-      let first = first_of (224 + c / 4096) ((128 + c / 64 % 64) ∷ (128 + c % 64) ∷ []) (encode c) (encode_three c low high) h in
-      absurd (omega (arith, (lettered_first (224 + c / 4096) (omega arith) first).1))
-  four_bytes (inr high) low =
-      let first = first_of (240 + c / 262144) ((128 + c / 4096 % 64) ∷ (128 + c / 64 % 64) ∷ (128 + c % 64) ∷ []) (encode c) (encode_four c high) h in
-      absurd (omega (arith, (lettered_first (240 + c / 262144) (omega arith) first).1))
+  four_bytes h1 h2 = grind (arith, encode, encode_three, lettered_first, encode_four)
 
   two_bytes : (c < 2048) ⊎ (2048 ≤ c) → 128 ≤ c → IsLetter c
-  two_bytes (inl high) low =
-      let is = encode_two c low high in
-      let first = lettered_first (192 + c / 64) (omega arith) (first_of (192 + c / 64) ((128 + c % 64) ∷ []) (encode c) is h) in
-      record {
-        narrow = letter_narrow c (omega (arith, first.0)) (omega (arith, first.1));
-        one = ap letters is ∙ rw (begins_first (192 + c / 64) (omega arith), begins_not (128 + c % 64) (omega arith) (omega arith)) refl;
-      }
-  two_bytes (inr low) above = four_bytes (cases_lt c 65536) low
-
-  one_byte : (c < 128) ⊎ (128 ≤ c) → IsLetter c
-  one_byte (inl small) =
-      let is = encode_one c small in
-      record {
-        narrow = ascii_narrow c (lettered_ascii c small (first_of c [] (encode c) is h));
-        one = ap letters is ∙ rw (begins_ascii c small) refl;
-      }
-  one_byte (inr low) = two_bytes (cases_lt c 2048) low
+  two_bytes h1 h2 = grind (arith, encode_two, lettered_first, encode, letter_narrow, nat_tests, begins_not, four_bytes, cases_lt)
 
 -- ---- a text of such characters
 

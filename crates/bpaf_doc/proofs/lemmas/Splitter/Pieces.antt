@@ -1,5 +1,5 @@
 -- A text as its chunks cut it: what each chunk stands for, with gaps before and after it.
-use Rattle.std.specs.Prelude.{◌≡◌, ℕ, ◌<◌, not, ◌==◌, IsTrue, ◌⊎◌, List, [], ◌∷◌, ◌++◌, codes, refl, length}
+use Rattle.std.specs.Prelude.{◌≡◌, ℕ, ◌<◌, IsTrue, ◌⊎◌, List, [], ◌∷◌, ◌++◌, codes, refl, length}
 use Rattle.std.specs.Char.{IsScalar}
 use Rattle.std.specs.Str.{IsUtf8}
 use Rattle.std.specs.List.{list_all}
@@ -7,10 +7,10 @@ use Rattle.std.proofs.Common.{sym, ◌∙◌, ap, subst, inl, inr, arith, lit<, 
 use Rattle.std.proofs.lemmas.List.{append-nil, get_or_at, take_at, drop_at, length-append}
 use Rattle.std.proofs.lemmas.Str.{IsUtf8-nil, IsUtf8-append, IsUtf8-encode, encode_ascii, IsUtf8-take, IsUtf8-drop, IsCharBoundary-before_ascii, IsCharBoundary-after_ascii}
 use Rattle.bpaf_doc.specs.Buffer.Parts.{ink}
-use Rattle.bpaf_doc.specs.Splitter.Chunks.{Chunk, Raw, Paragraph, LineBreak, Form, Spells, nothing, code_line, fence, before_code, paragraph, line_break, newline, blank, word, opening, later, closing, closing_paragraph, chunk_ink, is_line_byte, is_word_byte, IsLine, IsLineEnd, IsWordEnd, IsPastNewline}
+use Rattle.bpaf_doc.specs.Splitter.Chunks.{Chunk, Raw, Paragraph, LineBreak, Form, Spells, nothing, code_line, fence, before_code, paragraph, line_break, newline, blank, word, opening, later, closing, closing_paragraph, chunk_ink, is_word_byte, IsLine, IsLineEnd, IsPastNewline}
 use Rattle.bpaf_doc.specs.Splitter.Promises.{IsGap, IsOneLine, StandsFor, is_gap_byte}
 use Rattle.bpaf_doc.proofs.lemmas.Splitter.Ink.{gap_is, gap_ink}
-use Rattle.bpaf_doc.proofs.lemmas.Splitter.Spelling.{and_left, and_right, past_is, starts_front}
+use Rattle.bpaf_doc.proofs.lemmas.Splitter.Spelling.{and_left, and_right, starts_front}
 
 -- ---- UTF-8 at a cut
 
@@ -22,15 +22,6 @@ utf8_after b rest small u = IsUtf8-drop (b ∷ rest) 1 u (IsCharBoundary-after_a
 abbrev pub IsEnd : List ℕ → Type 0
 IsEnd [] = Unit {0}
 IsEnd (b ∷ rest) = b < 128
-
-end_of_line : (rest : List ℕ) → IsLineEnd rest → IsEnd rest
-end_of_line [] e = tt
-end_of_line (b ∷ rest) e = omega (arith, e)
-
-end_of_word : (rest : List ℕ) → IsWordEnd rest → IsEnd rest
-end_of_word [] e = tt
-end_of_word (b ∷ rest) (inl e) = omega (arith, e)
-end_of_word (b ∷ rest) (inr e) = omega (arith, e)
 
 -- a front that ends there, and the rest
 pub utf8_cut : (front rest : List ℕ) → IsEnd rest → IsUtf8 (front ++ rest) → IsUtf8 front × IsUtf8 rest
@@ -47,11 +38,7 @@ utf8_cut front (b ∷ rest) e u =
 
 -- a chunk has the ink of what it stands for
 pub stands_ink : (chunk : Chunk) (there : List ℕ) → StandsFor chunk there → chunk_ink chunk ≡ ink there
-stands_ink (Raw bytes weight) there (inl e) = ap ink (sym e)
-stands_ink (Raw bytes weight) there (inr h) = ap ink h.1 ∙ gap_ink (codes " ") refl ∙ sym (ap ink h.0 ∙ gap_ink (codes "\n") refl)
-stands_ink Paragraph there (inl e) = sym (ap ink e ∙ gap_ink (codes "\n\n") refl)
-stands_ink Paragraph there (inr e) = sym (ap ink e ∙ gap_ink (codes "\n") refl)
-stands_ink LineBreak there e = sym (ap ink e ∙ gap_ink (codes "\n ") refl)
+stands_ink chunk there h = grind (arith, gap_ink)
 
 -- an ASCII character by itself
 utf8_alone : (b : ℕ) → b < 128 → IsScalar b → IsUtf8 (b ∷ [])
@@ -65,12 +52,10 @@ utf8_gap (b ∷ gap) rest g u =
     let more : IsUtf8 gap × IsUtf8 rest = utf8_gap gap rest (and_right (is_gap_byte b) (list_all is_gap_byte gap) g) (utf8_after b (gap ++ rest) (ascii b is) u) in
     (IsUtf8-append (b ∷ []) gap (alone b is) more.0, more.1) where
       ascii : (b : ℕ) → (b ≡ 10) ⊎ (b ≡ 32) → b < 128
-      ascii b (inl e) = omega (arith, e)
-      ascii b (inr e) = omega (arith, e)
+      ascii b h = grind arith
 
       alone : (b : ℕ) → (b ≡ 10) ⊎ (b ≡ 32) → IsUtf8 (b ∷ [])
-      alone b (inl e) = rw e (utf8_alone 10 (lit< tt) refl)
-      alone b (inr e) = rw e (utf8_alone 32 (lit< tt) refl)
+      alone b h = grind (arith, utf8_alone, lit<)
 
 pub IsUtf8-blank : IsUtf8 (codes " ")
 IsUtf8-blank = utf8_alone 32 (lit< tt) refl
@@ -86,10 +71,7 @@ pub data Pieces : List Chunk → List ℕ → Type 0 where
 -- a word is in one line
 pub word_line : (bytes : List ℕ) → IsTrue (list_all is_word_byte bytes) → IsLine bytes
 word_line [] w = refl
-word_line (b ∷ bytes) w =
-    let here : IsTrue (is_line_byte b) = and_left (is_line_byte b) (not (b == 32)) (and_left (is_word_byte b) (list_all is_word_byte bytes) w) in
-    let after : IsLine bytes = word_line bytes (and_right (is_word_byte b) (list_all is_word_byte bytes) w) in
-    rw here after
+word_line (b ∷ bytes) w = grind (arith, word_line bytes, and_left, and_right)
 
 -- a newline that a line of a fence takes with it
 newline_taken : (rest next : List ℕ) → IsPastNewline rest next → (after : List ℕ) × (rest ≡ after ++ next) × IsGap after × (IsUtf8 rest → IsUtf8 next)
@@ -102,7 +84,7 @@ fence_line {chunks} {text} line rest next weight others ec et l p s = at (newlin
   at : (after : List ℕ) × (rest ≡ after ++ next) × IsGap after × (IsUtf8 rest → IsUtf8 next) → Pieces chunks text
   at (after, e, g, u) =
       piece [] line after next (Raw line weight) others ec (et ∙ ap (λ t. line ++ t) e) refl g (inl refl) l
-      (λ v. let w = utf8_cut line rest (end_of_line rest (past_is rest next p).0) (subst (λ t. IsUtf8 t) et v) in (w.0, u w.1)) s
+      (λ v. let w = utf8_cut line rest (grind arith) (subst (λ t. IsUtf8 t) et v) in (w.0, u w.1)) s
 
 -- a chunk that stands for an ASCII text, and no gap
 ascii_piece : {chunks : List Chunk} {text : List ℕ} (there rest : List ℕ) (chunk : Chunk) (others : List Chunk) → chunks ≡ chunk ∷ others → text ≡ there ++ rest
@@ -114,7 +96,7 @@ pub pieces : {form : Form} {chunks : List Chunk} {text : List ℕ} → Spells fo
 pieces (nothing ec et) = none ec et
 pieces (code_line line rest others ec et l r s) =
     piece (codes "\n    ") line [] rest (Raw line _) others ec et refl refl (inl refl) l
-    (λ u. utf8_cut line rest (end_of_line rest r) (utf8_gap (codes "\n    ") (line ++ rest) refl (subst (λ t. IsUtf8 t) et u)).1) (pieces s)
+    (λ u. utf8_cut line rest (grind arith) (utf8_gap (codes "\n    ") (line ++ rest) refl (subst (λ t. IsUtf8 t) et u)).1) (pieces s)
 pieces (fence rest others ec et t s) = ascii_piece (codes "\n\n") rest Paragraph others ec et refl (inl refl) tt (pieces s)
 pieces (before_code rest others ec et t s) = ascii_piece (codes "\n") rest Paragraph others ec et refl (inr refl) tt (pieces s)
 pieces (paragraph rest others ec et f g s) = ascii_piece (codes "\n\n") rest Paragraph others ec et refl (inl refl) tt (pieces s)
@@ -123,12 +105,12 @@ pieces (newline rest others ec et f g s) = ascii_piece (codes "\n") rest (Raw (c
 pieces (blank rest others ec et s) = ascii_piece (codes " ") rest (Raw (codes " ") 1) others ec et refl (inl refl) refl (pieces s)
 pieces (word bytes rest others ec et w r s) =
     piece [] bytes [] rest (Raw bytes _) others ec et refl refl (inl refl) (word_line bytes w.1)
-    (λ u. utf8_cut bytes rest (end_of_word rest r) (subst (λ t. IsUtf8 t) et u)) (pieces s)
+    (λ u. utf8_cut bytes rest (grind arith) (subst (λ t. IsUtf8 t) et u)) (pieces s)
 pieces (opening line rest next others ec et some l p s) = fence_line line rest next _ others ec et l p (pieces s)
 pieces (later line rest next others ec et some l f p s) = fence_line line rest next _ others ec et l p (pieces s)
 pieces (closing line rest next others ec et l t f p s) = fence_line line rest next _ others ec et l p (pieces s)
 pieces (closing_paragraph line rest others ec et l t f s) =
     piece [] line [] rest (Raw line _) others ec et refl refl (inl refl) l
-    (λ u. utf8_cut line rest (end_of_line rest two) (subst (λ t. IsUtf8 t) et u)) (pieces s) where
+    (λ u. utf8_cut line rest (grind arith) (subst (λ t. IsUtf8 t) et u)) (pieces s) where
       two : IsLineEnd rest
       two = subst (λ t. IsLineEnd t) (sym (starts_front (codes "\n\n") rest f)) refl

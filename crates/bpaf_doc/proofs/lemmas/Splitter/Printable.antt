@@ -18,9 +18,6 @@ use Rattle.bpaf_doc.specs.Splitter.Chunks.{columns, is_word_byte}
 word_one : (b : ℕ) → is_ascii_graphic b ≡ true → is_word_byte b ≡ true
 word_one b h = grind (arith, nat_tests)
 
-column_one : (b : ℕ) → is_ascii_graphic b ≡ true → is_in_range 0x20 0x7E b ≡ true
-column_one b h = grind (arith, nat_tests)
-
 small_one : (b : ℕ) → is_ascii_graphic b ≡ true → b < 128
 small_one b h = grind (arith, nat_tests)
 
@@ -38,7 +35,7 @@ pub printable_word : (bytes : List ℕ) → list_all is_ascii_graphic bytes ≡ 
 printable_word bytes h = each is_ascii_graphic is_word_byte bytes word_one h
 
 pub printable_columns : (bytes : List ℕ) → list_all is_ascii_graphic bytes ≡ true → length bytes ≡ columns bytes
-printable_columns bytes h = grind (arith, chars-IsAscii, ascii, str_width-printable, each, column_one)
+printable_columns bytes h = grind (arith, chars-IsAscii, ascii, str_width-printable, each, nat_tests)
 
 pub printable_cut : (text : List ℕ) (n : ℕ) → IsUtf8 text → n ≤ length text → list_all is_ascii_graphic (take n text) ≡ true → IsCharBoundary text n
 printable_cut text n u l h = IsCharBoundary-from_take text n u l (IsUtf8-from_ascii (take n text) (ascii (take n text) h))

@@ -6,8 +6,8 @@ use Rattle.std.proofs.lemmas.List.{take-take, drop_all, get_or-take}
 use Rattle.memchr.specs.Find.{Nowhere, NoneBefore, NoneAfter, Passes, IsLastByte, is_byte}
 use Rattle.std.proofs.lemmas.List.Folds.{list_all-append}
 use Rattle.std.proofs.lemmas.Bool.Decides.{nat_tests}
-use Rattle.bpaf_doc.specs.Splitter.Chunks.{Chunk, Raw, Form, Plain, Spells, nothing, code_line, fence, before_code, paragraph, line_break, newline, blank, word, opening, later, closing, closing_paragraph, chunks_of, columns, is_line_byte, IsLine, IsLineEnd, IsWordEnd}
-use Rattle.bpaf_doc.specs.Splitter.Steps.Runs.{IsRun, IsRunEnd}
+use Rattle.bpaf_doc.specs.Splitter.Chunks.{Chunk, Raw, Form, Plain, Spells, nothing, code_line, fence, before_code, paragraph, line_break, newline, blank, word, chunks_of, columns, is_line_byte, IsLine, IsLineEnd, IsWordEnd}
+use Rattle.bpaf_doc.specs.Splitter.Steps.Runs.{IsRunEnd}
 use Rattle.bpaf_doc.proofs.lemmas.Splitter.Cuts.{is_newline, line_from_no_newline, line_before_newline}
 use Rattle.bpaf_doc.proofs.lemmas.Splitter.Printable.{line_columns_are}
 use Rattle.bpaf_doc.proofs.lemmas.Splitter.Spelling.{and_left, and_right, spells_its_chunks, only_its_chunks}
@@ -16,10 +16,6 @@ use Rattle.bpaf_doc.proofs.lemmas.Splitter.Spelling.{and_left, and_right, spells
 
 no_newline_first : (text rest : List ℕ) → text ≡ 10 ∷ rest → IsLine text → ⊥
 no_newline_first text rest e l = let h : IsTrue (list_all is_line_byte (10 ∷ rest)) = subst (λ t. IsTrue (list_all is_line_byte t)) e l in cc
-
-line_back : (text front rest : List ℕ) → text ≡ front ++ rest → IsLine text → IsLine rest
-line_back text front rest e l =
-    and_right (list_all is_line_byte front) (list_all is_line_byte rest) (sym (list_all-append is_line_byte front rest) ∙ ap (list_all is_line_byte) (sym e) ∙ l)
 
 -- ---- the chunks of a line
 
@@ -32,8 +28,12 @@ pub data AreWords : List Chunk → List ℕ → Type 0 where
 blank_columns : 1 ≡ columns (codes " ")
 blank_columns = line_columns_are (codes " ") refl
 
-words_in : {form : Form} {chunks : List Chunk} {text : List ℕ} → Spells form chunks text → form ≡ Plain → IsLine text → AreWords chunks text
-words_in (nothing ec et) p l = no_words ec et
+-- a text behind them adds its own
+abbrev Joins : List Chunk → List ℕ → Type 0
+Joins chunks text = (after : List Chunk) (back : List ℕ) → IsWordEnd back → Spells Plain after back → Spells Plain (chunks ++ after) (text ++ back)
+
+words_in : {form : Form} {chunks : List Chunk} {text : List ℕ} → Spells form chunks text → form ≡ Plain → IsLine text → AreWords chunks text × Joins chunks text
+words_in (nothing ec et) p l = (no_words ec et, λ after back w s. rw (ec, et) s)
 words_in {text = text} (code_line line rest others ec et il ir s) p l = absurd (no_newline_first text (codes "    " ++ (line ++ rest)) et l)
 words_in {text = text} (fence rest others ec et t s) p l = absurd (no_newline_first text (codes "\n" ++ rest) et l)
 words_in {text = text} (before_code rest others ec et t s) p l = absurd (no_newline_first text rest et l)
@@ -41,47 +41,25 @@ words_in {text = text} (paragraph rest others ec et f g s) p l = absurd (no_newl
 words_in {text = text} (line_break rest others ec et f s) p l = absurd (no_newline_first text (codes " " ++ rest) et l)
 words_in {text = text} (newline rest others ec et f g s) p l = absurd (no_newline_first text rest et l)
 words_in {text = text} (blank rest others ec et s) p l =
-    a_word (codes " ") rest others (ec ∙ ap (λ n. Raw (codes " ") n ∷ others) blank_columns) et (words_in s refl (line_back text (codes " ") rest et l))
-words_in {text = text} (word bytes rest others ec et w r s) p l = a_word bytes rest others ec et (words_in s refl (line_back text bytes rest et l))
-words_in (opening line rest next others ec et some il q s) p l = absurd cc
-words_in (later line rest next others ec et some il f q s) p l = absurd cc
-words_in (closing line rest next others ec et il t f q s) p l = absurd cc
-words_in (closing_paragraph line rest others ec et il t f s) p l = absurd cc
+    let more : AreWords others rest × Joins others rest = words_in s refl (grind (arith, and_right, list_all-append)) in (
+      a_word (codes " ") rest others (ec ∙ ap (λ n. Raw (codes " ") n ∷ others) blank_columns) et more.0,
+      λ after back w t. blank (rest ++ back) (others ++ after) (ap (λ cs. cs ++ after) ec) (ap (λ x. x ++ back) et) (more.1 after back w t),
+    )
+words_in {text = text} (word bytes rest others ec et some r s) p l =
+    let more : AreWords others rest × Joins others rest = words_in s refl (grind (arith, and_right, list_all-append)) in (
+      a_word bytes rest others ec et more.0,
+      λ after back w t. word bytes (rest ++ back) (others ++ after) (ap (λ cs. cs ++ after) ec) (ap (λ x. x ++ back) et ∙ append_assoc bytes rest back) some (grind arith) (more.1 after back w t),
+    )
+words_in _ p l = absurd cc
 
 -- the chunks of a line are its words and blanks
 pub words_of_line : (line : List ℕ) → IsLine line → AreWords (chunks_of line) line
-words_of_line line l = words_in (spells_its_chunks line) refl l
-
--- ---- a text that begins with a line up to the end of a word
-
-word_end_later : (front rest : List ℕ) → IsWordEnd front → IsWordEnd rest → IsWordEnd (front ++ rest)
-word_end_later [] rest e w = w
-word_end_later (b ∷ front) rest e w = e
-
-join : {form : Form} {chunks : List Chunk} {text : List ℕ} → Spells form chunks text → form ≡ Plain → IsLine text
-    → (after : List Chunk) (back : List ℕ) → IsWordEnd back → Spells Plain after back → Spells Plain (chunks ++ after) (text ++ back)
-join {text = text} (nothing ec et) p l after back w s =
-    subst (λ cs. Spells Plain (cs ++ after) (text ++ back)) (sym ec) (subst (λ t. Spells Plain after (t ++ back)) (sym et) s)
-join {text = text} (code_line line rest others ec et il ir s) p l after back w t = absurd (no_newline_first text (codes "    " ++ (line ++ rest)) et l)
-join {text = text} (fence rest others ec et f s) p l after back w t = absurd (no_newline_first text (codes "\n" ++ rest) et l)
-join {text = text} (before_code rest others ec et f s) p l after back w t = absurd (no_newline_first text rest et l)
-join {text = text} (paragraph rest others ec et f g s) p l after back w t = absurd (no_newline_first text (codes "\n" ++ rest) et l)
-join {text = text} (line_break rest others ec et f s) p l after back w t = absurd (no_newline_first text (codes " " ++ rest) et l)
-join {text = text} (newline rest others ec et f g s) p l after back w t = absurd (no_newline_first text rest et l)
-join {text = text} (blank rest others ec et s) p l after back w t =
-    blank (rest ++ back) (others ++ after) (ap (λ cs. cs ++ after) ec) (ap (λ x. x ++ back) et) (join s refl (line_back text (codes " ") rest et l) after back w t)
-join {text = text} (word bytes rest others ec et some r s) p l after back w t =
-    word bytes (rest ++ back) (others ++ after) (ap (λ cs. cs ++ after) ec) (ap (λ x. x ++ back) et ∙ append_assoc bytes rest back) some (word_end_later rest back r w)
-    (join s refl (line_back text bytes rest et l) after back w t)
-join (opening line rest next others ec et some il q s) p l after back w t = absurd cc
-join (later line rest next others ec et some il f q s) p l after back w t = absurd cc
-join (closing line rest next others ec et il f g q s) p l after back w t = absurd cc
-join (closing_paragraph line rest others ec et il f g s) p l after back w t = absurd cc
+words_of_line line l = (words_in (spells_its_chunks line) refl l).0
 
 -- the chunks of a run come first
 pub run_first : (text run back : List ℕ) → text ≡ run ++ back → IsLine run → IsWordEnd back → chunks_of text ≡ chunks_of run ++ chunks_of back
 run_first text run back e l w =
-    ap chunks_of e ∙ sym (only_its_chunks (chunks_of run ++ chunks_of back) (run ++ back) (join (spells_its_chunks run) refl l (chunks_of back) back w (spells_its_chunks back)))
+    ap chunks_of e ∙ sym (only_its_chunks (chunks_of run ++ chunks_of back) (run ++ back) ((words_in (spells_its_chunks run) refl l).1 (chunks_of back) back w (spells_its_chunks back)))
 
 -- ---- where a run ends
 
@@ -98,8 +76,7 @@ blank_ends text i lt e = subst (λ t. IsWordEnd t) (sym (drop-cons text i 0 lt))
 
 -- and so does the end of a line
 pub line_ends : (rest : List ℕ) → IsLineEnd rest → IsWordEnd rest
-line_ends [] e = tt
-line_ends (b ∷ rest) e = inl e
+line_ends rest h = grind arith
 
 is_blank : (b : ℕ) → is_byte 32 b ≡ true → b ≡ 32
 is_blank b e = grind (arith, nat_tests)
@@ -138,13 +115,7 @@ module _ (text window : List ℕ) (n : ℕ) (le : n ≤ length text) (is : windo
   blank_run k none last passes = ended_at k 32 last.high (is_blank (get_or window k 0) passes) (inr refl) (line_front k (line_from_no_newline window none))
 
   pub whole_run : length text ≤ n → Nowhere (Passes (is_byte 10) window) 0 (length window) → IsRunEnd text (length text)
-  whole_run all none =
-      let whole : window ≡ text = is ∙ take_all n text all in
-      record {
-        within = omega arith;
-        line = subst (λ t. IsLine t) (whole ∙ sym (take_all (length text) text (omega arith))) (line_from_no_newline window none);
-        word_end = subst (λ t. IsWordEnd t) (sym (drop_all (length text) text (omega arith))) tt;
-      }
+  whole_run all none = grind (arith, take_all, line_from_no_newline, drop_all)
 
 -- what a search for the last blank finds, or the start
 pub last_blank_run : (text window : List ℕ) (n : ℕ) (r : Option ℕ) → n ≤ length text → window ≡ take n text → Nowhere (Passes (is_byte 10) window) 0 (length window) → IsLastByte (is_byte 32) window r
@@ -152,18 +123,6 @@ pub last_blank_run : (text window : List ℕ) (n : ℕ) (r : Option ℕ) → n �
 last_blank_run text window n None le is none last some = absurd (omega (arith, some))
 last_blank_run text window n (Some k) le is none last some = blank_run text window n le is k none last.0 last.1
 
--- a run that was cut off
-pub run_taken : (text run : List ℕ) (end : ℕ) → run ≡ take end text → ¬ (end ≡ 0) → (0 < end → IsRunEnd text end) → end ≤ 300_000 → IsRun run
-run_taken text run end is some ends short =
-    let at : IsRunEnd text end = ends (omega (arith, some)) in
-    let len : length run ≡ end = ap length is ∙ length-take end text ∙ omega (arith, at.within) in
-    record {
-      some = λ none. some (sym len ∙ ap length none);
-      line = subst (λ t. IsLine t) (sym is) at.line;
-      short = omega (arith, len, short);
-    }
-
 -- a text that is not empty has some
 pub words_some : {chunks : List Chunk} {text : List ℕ} → AreWords chunks text → text ≢ [] → 0 < length chunks
-words_some (no_words ec et) some = absurd (some et)
-words_some (a_word bytes rest others ec et w) some = omega (arith, ap length ec)
+words_some h1 h2 = grind arith

@@ -1,4 +1,4 @@
-use Rattle.std.proofs.Common.{sym, ◌∙◌, subst, ◌≡◌, true}
+use Rattle.std.proofs.Common.{rules, sym, subst, ◌≡◌, true}
 use Rattle.std.specs.List.{list_all}
 use Rattle.std.specs.Char.{is_ascii_graphic}
 use Rattle.bpaf_doc.proofs.lemmas.Splitter.Printable.{printable_word, printable_columns, printable_cut}
@@ -12,6 +12,4 @@ returns-then-is_word_end-clause-word c =
     printable_word c.split_at.result.0.now (subst (λ bytes. list_all is_ascii_graphic bytes ≡ true) (sym c.split_at.ensures.front) c.printable_len-printable.ensures.printable)
 
 pub returns-then-is_word_end-clause-columns : goal.returns-then-is_word_end-clause-columns
-returns-then-is_word_end-clause-columns c =
-    sym c.split_at.ensures.front_len
-    ∙ printable_columns c.split_at.result.0.now (subst (λ bytes. list_all is_ascii_graphic bytes ≡ true) (sym c.split_at.ensures.front) c.printable_len-printable.ensures.printable)
+returns-then-is_word_end-clause-columns c = search (rules, printable_columns)

@@ -1,5 +1,4 @@
-use Rattle.std.proofs.Common.{◌<◌, sym, subst, arith}
-use Rattle.bpaf_doc.specs.Splitter.Steps.Runs.{IsRunEnd}
+use Rattle.std.proofs.Common.{arith}
 use Rattle.bpaf_doc.proofs.lemmas.Splitter.Runs.{newline_run, whole_run, last_blank_run}
 use Rattle.bpaf_doc.proofs.splitter.first_line_end.Goals as goal
 
@@ -12,6 +11,4 @@ returns-then-bytes-longest-clause-run c = λ _.
     whole_run c.args.bytes.now c.split_at.result.0.now c.min.result (omega (arith, c.min.ensures)) c.split_at.ensures.front (omega (arith, c.min.ensures, c.if-bytes-longest.true)) c.in_default.ensures
 
 pub returns-clause-run : goal.returns-clause-run
-returns-clause-run c =
-    subst (λ n. 0 < n → IsRunEnd c.args.bytes.now n) (sym c.unwrap_or.ensures)
-    (last_blank_run c.args.bytes.now c.split_at.result.0.now c.min.result c.memrchr.result (omega (arith, c.min.ensures)) c.split_at.ensures.front c.in_default.ensures c.memrchr.ensures)
+returns-clause-run c = grind (arith, last_blank_run)

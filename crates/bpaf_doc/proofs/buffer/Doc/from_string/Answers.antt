@@ -1,7 +1,7 @@
 use Rattle.std.proofs.Common.{◌≡◌, ◌+◌, [], length, refl, string_bytes, arith}
 use Rattle.std.proofs.lemmas.Str.{IsUtf8-string_bytes}
 use Rattle.bpaf_doc.specs.declared.buffer.Style.TheVariants as style
-use Rattle.bpaf_doc.proofs.lemmas.Buffer.Ends.{AreEnds-with_text_end, parts_from-with_text_end}
+use Rattle.bpaf_doc.proofs.lemmas.Buffer.Ends.{AreEnds-with_text_end}
 use Rattle.bpaf_doc.proofs.buffer.Doc.from_string.Goals as goal
 
 pub invariant_of-result : goal.invariant_of-result
@@ -9,9 +9,3 @@ invariant_of-result g c =
     let text = string_bytes c.args.text in
     let at_end : c.len.result ≡ 0 + (0 + length text) = omega (arith, c.len.ensures) in
     rw (c.in_ok-push.ensures.items, c.new-ends.ensures.items) (AreEnds-with_text_end style.Text text (IsUtf8-string_bytes c.args.text) 0 c.len.result [] [] at_end refl)
-
-pub returns : goal.returns
-returns g c =
-    let text = string_bytes c.args.text in
-    let at_end : c.len.result ≡ 0 + (0 + length text) = omega (arith, c.len.ensures) in
-    rw (c.in_ok-push.ensures.items, c.new-ends.ensures.items) (parts_from-with_text_end style.Text text 0 c.len.result [] [] at_end refl)

@@ -6,8 +6,8 @@ use Rattle.bpaf_doc.specs.Buffer.View.{part_of}
 use Rattle.bpaf_doc.specs.Shown.{console_ink}
 use Rattle.bpaf_doc.specs.Console.Steps.Page.{sheet_of, blank_sheet, HasFewMargins}
 use Rattle.bpaf_doc.specs.Console.Steps.Text.{whole_page, pairs_at, start_put, end_put, tab_stop_from, LeavesFew, HasFewThroughout}
-use Rattle.bpaf_doc.proofs.lemmas.Console.Ink.{IsLeft, IsLeft-all, IsLeft-more, IsLeft-none, IsLeft-shown, IsLeft-hidden, IfOk-ink}
-use Rattle.bpaf_doc.proofs.lemmas.Console.Pages.{IsPageLeft-all, IsPageLeft-more, IsPageLeft-none, IsPageLeft-few, skipped-few, text-shown, text-hidden, hidden-shown, hidden-still, start-shown, start-skipped, end-shown, end-skipped, skips-mark_bytes}
+use Rattle.bpaf_doc.proofs.lemmas.Console.Ink.{IsLeft, IsLeft-all, IsLeft-more, IsLeft-shown, IsLeft-hidden}
+use Rattle.bpaf_doc.proofs.lemmas.Console.Pages.{IsPageLeft-all, IsPageLeft-more, skipped-few, text-shown, text-hidden, hidden-shown, hidden-still, start-shown, start-skipped, end-shown, end-skipped, skips-mark_bytes}
 use Rattle.bpaf_doc.proofs.buffer.Doc.lay_out.Goals.{else-hidden-eq0-via-then-hidden-eq0+in_ok-put_text-in-Text+else-branch, else-hidden-eq0-via-else-hidden-eq0, then-not-skips+in_ok-open-in-Start, else-not-skips, then-not-skips-2+in_ok-close-in-End, else-not-skips-2}
 use Rattle.bpaf_doc.proofs.buffer.Doc.lay_out.Goals as goal
 
@@ -25,23 +25,6 @@ loop-index-init g c =
           (ap enumerate_count c.into_iter-index-iterator.ensures.into_iter_gives ∙ c.enumerate-index-items.ensures.count) c.new-pairs.ensures (sym all)
           (c.new-page.ensures ∙ ap (blank_sheet c.args.width) (c.tab_stop.ensures ∙ ap (tab_stop_from 0 false 0) c.parts.ensures.parts));
     }
-
-pub loop-index-preserved-then-branch : goal.loop-index-preserved-then-branch
-loop-index-preserved-then-branch g c = record {
-  ink_left =
-      subst (λ n. IsLeft c.args.full c.len-count.result n (string_bytes c.put_text.new.self.out) (console_ink c.args.full c.args.self.now) (enumerate_source c.next.new.self))
-      (ap (λ b. if b then 1 else 0) (sym c.in_ok-put_text-in-Text.ensures.hides ∙ c.if-branch.true))
-      (IsLeft-shown c.args.full c.len-count.result c.loop-index.hidden (string_bytes c.loop-index.page.out) (string_bytes c.put_text.new.self.out)
-      (console_ink c.args.full c.args.self.now) c.in-Text.text.now c.in-Text.field-1 (enumerate_source c.loop-index.index-iterator) (enumerate_source c.next.new.self)
-      c.loop-index.invariant.ink_left (c.in-Some.ensures.steps.0 ∙ ap (λ p. part_of p ∷ enumerate_source c.next.new.self) c.in-Text.is)
-      c.if-hidden-eq0.true c.in_ok-put_text-in-Text.ensures.ink);
-  page_left =
-      IsPageLeft-more c.args.full c.args.self.now (whole_page c.args.full c.args.width c.args.self.now) (HasFewThroughout c.args.full c.args.width c.args.self.now) (enumerate_count c.loop-index.index-iterator) (enumerate_count c.next.new.self) c.loop-index.pairs c.loop-index.pairs c.loop-index.hidden 1 (Text c.in-Text.text.now c.in-Text.field-1) (enumerate_source c.loop-index.index-iterator) (enumerate_source c.next.new.self) (sheet_of c.loop-index.page) (sheet_of c.put_text.new.self)
-      c.loop-index.invariant.page_left (c.in-Some.ensures.steps.0 ∙ ap (λ p. part_of p ∷ enumerate_source c.next.new.self) c.in-Text.is) c.in-Some.ensures.steps.2
-      refl
-      (ap (λ b. if b then 1 else 0) (sym c.if-branch.true) ∙ hidden-shown c.args.full c.loop-index.hidden c.in-Text.text.now c.in-Text.field-1 c.in_ok-put_text-in-Text.field-0 c.if-hidden-eq0.true c.in_ok-put_text-in-Text.ensures.hides)
-      (text-shown c.args.full c.args.self.now (enumerate_count c.loop-index.index-iterator) c.loop-index.pairs c.loop-index.hidden c.in-Text.text.now c.in-Text.field-1 (sheet_of c.loop-index.page) (sheet_of c.put_text.new.self) c.if-hidden-eq0.true c.in_ok-put_text-in-Text.ensures.page) tt;
-}
 
 pub loop-index-preserved-else-hidden-eq0 : goal.loop-index-preserved-else-hidden-eq0
 loop-index-preserved-else-hidden-eq0 g c = record {
@@ -145,18 +128,3 @@ loop-index-preserved g c = record {
         | else-not-skips-2 w ↦ skipped-few c.loop-index.pairs c.in-Some.index c.in-End.block (sheet_of c.if-not-skips-2.page) w.if-not-skips-2.ensures
       ]));
 }
-
-pub returns-clause-text : goal.returns-clause-text
-returns-clause-text g c =
-    IsPageLeft-none c.finish.result c.args.full c.args.self.now (whole_page c.args.full c.args.width c.args.self.now) (HasFewThroughout c.args.full c.args.width c.args.self.now) (enumerate_count c.loop-index.index-iterator) c.loop-index.pairs c.loop-index.hidden (enumerate_source c.loop-index.index-iterator) (sheet_of c.loop-index.page) c.loop-index.invariant.page_left c.in-None.ensures.steps.0.0 c.finish.ensures.text
-
-pub returns-clause-ink : goal.returns-clause-ink
-returns-clause-ink g c =
-    IfOk-ink c.finish.result (ink (string_bytes c.loop-index.page.out)) (console_ink c.args.full c.args.self.now)
-    (IsLeft-none c.args.full c.len-count.result c.loop-index.hidden (string_bytes c.loop-index.page.out) (console_ink c.args.full c.args.self.now)
-    (enumerate_source c.loop-index.index-iterator) c.loop-index.invariant.ink_left c.in-None.ensures.steps.0.0)
-    c.finish.ensures.ink
-
-pub returns-clause-few : goal.returns-clause-few
-returns-clause-few g c =
-    IsPageLeft-few c.finish.result c.args.full c.args.self.now (whole_page c.args.full c.args.width c.args.self.now) (HasFewThroughout c.args.full c.args.width c.args.self.now) (enumerate_count c.loop-index.index-iterator) c.loop-index.pairs c.loop-index.hidden (enumerate_source c.loop-index.index-iterator) (sheet_of c.loop-index.page) c.loop-index.invariant.page_left c.in-None.ensures.steps.0.0

@@ -7,6 +7,4 @@ pub returns-clause-utf8 : goal.returns-clause-utf8
 returns-clause-utf8 g c = subst HasUtf8Texts c.self.view_is (HasUtf8Texts-parts_from 0 c.self.inside.ends.items (string_bytes c.self.inside.payload) c.self.invariant)
 
 pub returns-clause-bound : goal.returns-clause-bound
-returns-clause-bound g c =
-    let doc = c.self.inside in
-    rw (← c.self.view_is) (omega (arith, length-parts_from 0 doc.ends.items (string_bytes doc.payload), doc.ends.ok.0, doc.ends.small))
+returns-clause-bound g c = grind (arith, length-parts_from)

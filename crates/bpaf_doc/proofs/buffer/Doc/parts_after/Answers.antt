@@ -10,9 +10,7 @@ within : (es : List PartEnd) (bytes : List ℕ) (count : ℕ) → count ≤ leng
 within es bytes count le = omega (arith, le, length-parts_from 0 es bytes)
 
 pub start_of-start-requires : goal.start_of-start-requires
-start_of-start-requires g c =
-    let doc = c.self.inside in
-    rw c.as_slice.ensures.value (within doc.ends.items (string_bytes doc.payload) c.args.count (rw c.self.view_is c.requires))
+start_of-start-requires g c = grind (arith, within)
 
 pub split_at-requires : goal.split_at-requires
 split_at-requires g c =
@@ -25,9 +23,7 @@ split_at-requires g c =
     (rw whole at (IsUtf8-before 0 doc.ends.items bytes c.args.count c.self.invariant)))
 
 pub split_at-requires-2 : goal.split_at-requires-2
-split_at-requires-2 g c =
-    let doc = c.self.inside in
-    rw c.as_slice-2.ensures.value (within doc.ends.items (string_bytes doc.payload) c.args.count (rw c.self.view_is c.requires))
+split_at-requires-2 g c = grind (arith, within)
 
 pub invariant_of-result : goal.invariant_of-result
 invariant_of-result g c =

@@ -1,5 +1,5 @@
-use Rattle.std.proofs.Common.{◌≡◌, ◌+◌, ◌-◌, ◌++◌, map, length, string_bytes, arith, ap, length-append, ◌∙◌, subst}
-use Rattle.bpaf_doc.specs.Buffer.Steps.Ends.{AreEnds, moved, parts_from}
+use Rattle.std.proofs.Common.{◌≡◌, ◌+◌, ◌-◌, map, length, string_bytes, arith, ap, length-append, subst}
+use Rattle.bpaf_doc.specs.Buffer.Steps.Ends.{AreEnds, moved}
 use Rattle.bpaf_doc.proofs.lemmas.Buffer.Ends.{AreEnds-append, AreEnds-moved, CanMove-AreEnds, parts_from-append, parts_from-moved}
 use Rattle.bpaf_doc.proofs.buffer.Doc.push_parts.Goals as goal
 
@@ -23,12 +23,4 @@ invariant_of-self-2 g c =
     (AreEnds-append 0 doc.ends.items (map (moved parts.start c.len-start.result) parts.ends.now) bytes parts.text.now c.self.invariant also)
 
 pub returns-clause-ok : goal.returns-clause-ok
-returns-clause-ok g c =
-    let doc = c.self.inside in
-    let parts = c.parts.inside in
-    let bytes = string_bytes doc.payload in
-    let at_end : parts.start - parts.start + c.len-start.result ≡ 0 + length bytes = omega (arith, c.len-start.ensures) in
-    let also = subst (λ start. parts_from start (map (moved parts.start c.len-start.result) parts.ends.now) parts.text.now ≡ parts_from parts.start parts.ends.now parts.text.now) at_end
-    (parts_from-moved parts.start c.len-start.result parts.start parts.ends.now parts.text.now (omega arith) c.parts.invariant) in
-    rw (c.push_moved.ensures, c.reserve.ensures.items, c.in_ok-push_str.ensures.bytes, ← c.self.view_is, ← c.parts.view_is)
-    (parts_from-append 0 doc.ends.items (map (moved parts.start c.len-start.result) parts.ends.now) bytes parts.text.now c.self.invariant ∙ ap (λ ps. parts_from 0 doc.ends.items bytes ++ ps) also)
+returns-clause-ok g c = grind (arith, parts_from-moved, parts_from-append)

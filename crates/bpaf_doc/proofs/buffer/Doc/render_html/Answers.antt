@@ -1,10 +1,9 @@
 -- The page after all fragments, with the style sheet behind it, is the page as a function of the document, and so it has the laws.
-use Rattle.std.proofs.Common.{◌≡◌, [], ◌++◌, sym, ◌∙◌, ap, subst}
+use Rattle.std.proofs.Common.{rules, ◌≡◌, [], ◌++◌, sym, ◌∙◌, ap, subst}
 use Rattle.bpaf_doc.specs.Html.Fragments.{shown_fragments}
 use Rattle.bpaf_doc.specs.Html.Page.{IsHtmlPageOf, IsHtmlTextPageOf}
 use Rattle.bpaf_doc.specs.Html.Exact.{html_after}
 use Rattle.bpaf_doc.specs.Html.Steps.Page.{page_after_all}
-use Rattle.bpaf_doc.specs.Html.Steps.View.{fragments_in}
 use Rattle.bpaf_doc.proofs.lemmas.Html.Nests.{page-append}
 use Rattle.bpaf_doc.proofs.lemmas.Html.Exact.{page_exact, page_laws, page_words}
 use Rattle.bpaf_doc.proofs.buffer.Doc.render_html.Goals as goal
@@ -22,10 +21,4 @@ pub returns-clause-text : goal.returns-clause-text
 returns-clause-text g c = subst (λ answer. IsHtmlTextPageOf c.args.self.now c.args.full c.args.include_css answer) (sym (returns-clause-exact g c)) (page_words c.args.self.now c.args.full c.args.include_css)
 
 pub loop-taken-preserved : goal.loop-taken-preserved
-loop-taken-preserved g c =
-    let p = c.loop-taken.page in
-    let fs = fragments_in c.in-Some.taken in
-    ap (λ q. page_after_all q c.next.new.self) c.in_ok-take.ensures
-    ∙ sym (page-append p fs c.next.new.self)
-    ∙ ap (page_after_all p) (sym c.in-Some.ensures.steps.1)
-    ∙ c.loop-taken.invariant
+loop-taken-preserved g c = search (rules, page-append)

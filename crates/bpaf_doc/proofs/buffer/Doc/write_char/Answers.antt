@@ -14,13 +14,7 @@ invariant_of-self-2 g c =
     rw (c.push_text.ensures, c.reserve.ensures.items, written) (AreEnds-with_text_end c.args.style text (IsUtf8-encode c.args.character c.ranges.character.0) 0 c.len.result doc.ends.items bytes at_end c.self.invariant)
 
 pub returns-clause-ok : goal.returns-clause-ok
-returns-clause-ok g c =
-    let doc = c.self.inside in
-    let bytes = string_bytes doc.payload in
-    let text = (encode_utf8 c.args.character) in
-    let written = c.in_ok-push.ensures.bytes in
-    let at_end : c.len.result ≡ 0 + (length bytes + length text) = omega (arith, c.len.ensures, ap length written, length-append bytes text) in
-    rw (c.push_text.ensures, c.reserve.ensures.items, written, ← c.self.view_is) (parts_from-with_text_end c.args.style text 0 c.len.result doc.ends.items bytes at_end c.self.invariant)
+returns-clause-ok g c = grind (arith, encode_utf8, length-append, parts_from-with_text_end)
 
 pub returns-clause-nested : goal.returns-clause-nested
 returns-clause-nested g c = λ nested. rw (returns-clause-ok g c) (IsWellNested-with_text (encode_utf8 c.args.character) c.args.style nested)

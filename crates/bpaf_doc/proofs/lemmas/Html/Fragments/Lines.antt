@@ -1,12 +1,12 @@
 -- No chunk of a text has a newline in it, so no fragment of a document has.
-use Rattle.std.proofs.Common.{arith, ◌≡◌, ℕ, zero, suc, Bool, true, false, List, [], ◌∷◌, take, refl, ap, ◌∙◌}
-use Rattle.std.specs.List.{list_all, position_or_len}
+use Rattle.std.proofs.Common.{arith, ◌≡◌, ℕ, zero, suc, Bool, true, List, [], ◌∷◌, take, refl, ap, ◌∙◌}
+use Rattle.std.specs.List.{list_all}
 use Rattle.std.proofs.lemmas.List.Folds.{list_all-append, list_all-map}
 use Rattle.std.proofs.lemmas.Bool.{and_parts, and_from}
-use Rattle.bpaf_doc.specs.Buffer.Parts.{Part, Text, Start as PartStart, End as PartEnd}
-use Rattle.bpaf_doc.specs.Splitter.Chunks.{Chunk, Raw, Paragraph, LineBreak, is_line_byte, is_word_byte, is_paragraph, Form, Spells, nothing, code_line, fence, before_code, paragraph, line_break, newline, blank, word, opening, later, closing, closing_paragraph, chunks_of}
+use Rattle.bpaf_doc.specs.Buffer.Parts.{Part}
+use Rattle.bpaf_doc.specs.Splitter.Chunks.{Chunk, Raw, Paragraph, LineBreak, is_line_byte, is_word_byte, Form, Spells, nothing, code_line, fence, before_code, paragraph, line_break, newline, blank, word, opening, later, closing, closing_paragraph, chunks_of}
 use Rattle.bpaf_doc.specs.Html.Fragments.{Fragment, Shown}
-use Rattle.bpaf_doc.specs.Html.Steps.Walk.{visible, part_walk, walk, depth_after}
+use Rattle.bpaf_doc.specs.Html.Steps.Walk.{walk, depth_after}
 use Rattle.bpaf_doc.proofs.lemmas.Splitter.Spelling.{spells_its_chunks}
 
 -- no newline in it
@@ -49,19 +49,7 @@ list_all-take p zero xs h = refl
 list_all-take p (suc n) [] h = refl
 list_all-take p (suc n) (x ∷ xs) h = grind (arith, list_all-take p n xs, and_parts, and_from)
 
-visible_lines : (full : Bool) (chunks : List Chunk) → list_all chunk_is_line chunks ≡ true → list_all chunk_is_line (visible full chunks) ≡ true
-visible_lines true chunks h = h
-visible_lines false chunks h = list_all-take chunk_is_line (position_or_len is_paragraph chunks) chunks h
-
-part_lines : (full : Bool) (part : Part) (depth : ℕ) → list_all fragment_is_line (part_walk full part depth) ≡ true
-part_lines full (Text bytes style) zero = grind (arith, list_all-append, list_all-map, visible_lines, lines_of)
-part_lines full (Text bytes style) (suc depth) = refl
-part_lines full (PartStart b) depth = refl
-part_lines full (PartEnd b) depth = refl
-
 -- no fragment of a document has a newline in it
 pub walk_lines : (full : Bool) (depth : ℕ) (parts : List Part) → list_all fragment_is_line (walk full depth parts) ≡ true
 walk_lines full depth [] = refl
-walk_lines full depth (part ∷ parts) =
-    list_all-append fragment_is_line (part_walk full part depth) (walk full (depth_after full part depth) parts)
-    ∙ and_from _ _ (part_lines full part depth) (walk_lines full (depth_after full part depth) parts)
+walk_lines full depth (part ∷ parts) = grind (arith, walk_lines full (depth_after full part depth) parts, list_all-append, and_from, list_all-map, list_all-take, lines_of)

@@ -1,5 +1,5 @@
 -- The fragments of a well-nested document are well nested.
-use Rattle.std.proofs.Common.{◌≡◌, ℕ, zero, suc, Bool, List, [], ◌∷◌, ◌++◌, map, refl, sym, ap, ◌∙◌, append_assoc, append-nil, subst}
+use Rattle.std.proofs.Common.{rules, ◌≡◌, ℕ, zero, suc, Bool, List, [], ◌∷◌, ◌++◌, map, refl, sym, ap, ◌∙◌, append_assoc, append-nil, subst}
 use Rattle.bpaf_doc.specs.declared.buffer.Style.{Style}
 use Rattle.bpaf_doc.specs.declared.buffer.Block.{Block}
 use Rattle.bpaf_doc.specs.Buffer.Parts.{Part, Text, Start as PartStart, End as PartEnd, IsWellNested, nothing as no_part, text as one_text, enclosed as part_enclosed, joined as part_joined}
@@ -18,9 +18,7 @@ pub data Nests : List Fragment → Type 0 where
 
 pub walk-append : (full : Bool) (depth : ℕ) (front back : List Part) → walk full depth (front ++ back) ≡ walk full depth front ++ walk full (depth_after_all full depth front) back
 walk-append full depth [] back = refl
-walk-append full depth (part ∷ parts) back =
-    ap (λ x. part_walk full part depth ++ x) (walk-append full (depth_after full part depth) parts back)
-    ∙ sym (append_assoc (part_walk full part depth) (walk full (depth_after full part depth) parts) (walk full (depth_after_all full (depth_after full part depth) parts) back))
+walk-append full depth (part ∷ parts) back = search (rules, walk-append full (depth_after full part depth) parts back, append_assoc)
 
 text_nests : (full : Bool) (depth : ℕ) (bytes : List ℕ) (style : Style) → Nests (walk full depth (Text bytes style ∷ []))
 text_nests full zero bytes style = text style (visible full (chunks_of bytes)) (append-nil (part_walk full (Text bytes style) zero))

@@ -1,21 +1,18 @@
 -- The walk over the parts gives the fragments of the document.
-use Rattle.std.proofs.Common.{◌≡◌, ℕ, zero, suc, ◌+◌, Bool, true, false, cond, List, [], ◌∷◌, ◌++◌, length, take, map, refl, sym, ap, ◌∙◌, arith, append_assoc, append-nil, subst, inl, inr}
-use Rattle.std.specs.Prelude.{◌<◌, ◌-◌, ◌==◌, not, ◌||◌, ◌⊎◌, flat_map, if◌then◌else◌}
+use Rattle.std.proofs.Common.{◌≡◌, ℕ, zero, suc, ◌+◌, Bool, true, false, cond, List, [], ◌∷◌, ◌++◌, length, take, map, refl, sym, ap, ◌∙◌, arith, append_assoc, append-nil, subst, inr}
+use Rattle.std.specs.Prelude.{◌<◌, ◌==◌, not, ◌⊎◌, flat_map, if◌then◌else◌}
 use Rattle.bpaf_doc.specs.declared.buffer.Style.{Style}
-use Rattle.std.specs.List.{enumerate_from, list_any, before_first, position_or_len}
+use Rattle.std.specs.List.{enumerate_from, before_first, position_or_len}
 use Rattle.std.proofs.lemmas.List.{take_at, length_push, length-append, length-map}
 use Rattle.std.proofs.lemmas.Bool.{false≢true}
-use Rattle.bpaf_doc.specs.declared.buffer.Block.{Block}
-use Rattle.bpaf_doc.specs.declared.buffer.Block.TheVariants as blocks
-use Rattle.bpaf_doc.specs.Buffer.Parts.{Part, Text, Start as PartStart, End as PartEnd}
+use Rattle.bpaf_doc.specs.Buffer.Parts.{Part, Text}
 use Rattle.bpaf_doc.specs.Splitter.Chunks.{Chunk, Raw, IsLine, chunks_of, columns, is_paragraph}
 use Rattle.bpaf_doc.specs.Splitter.Steps.Runs.{IsRun}
 use Rattle.bpaf_doc.proofs.lemmas.Splitter.Runs.{AreWords, no_words, a_word, words_of_line, words_some}
 use Rattle.bpaf_doc.specs.Shown.{is_hidden, through_paragraph}
-use Rattle.bpaf_doc.specs.Html.Fragments.{Fragment, Shown, TextEnd, part_fragments, shown_fragments}
-use Rattle.bpaf_doc.specs.Console.Steps.Hiding as hiding
+use Rattle.bpaf_doc.specs.Html.Fragments.{Fragment, Shown, part_fragments, shown_fragments}
 use Rattle.bpaf_doc.proofs.lemmas.Console.Hiding.{not_zero, Counts, Counts-nil, Counts-more, is_hidden-Counts}
-use Rattle.bpaf_doc.specs.Html.Steps.Walk.{is_inline, depth_after, depth_after_text, visible, text_rest, part_walk, walk}
+use Rattle.bpaf_doc.specs.Html.Steps.Walk.{depth_after, depth_after_text, visible, text_rest, part_walk, walk}
 
 -- what f gives at each part of a document from what stands before it and it
 abbrev pub along : {X : Type 0} → (List Part → Part → List X) → List Part → List Part → List X
@@ -38,32 +35,19 @@ depth-push full depth (p ∷ ps) part = depth-push full (depth_after full p dept
 
 -- ---- the depth is the console's count of inline blocks that have to end
 
-same_inline : (b : Block) → hiding.is_inline b ≡ is_inline b
-same_inline blocks.InlineBlock = refl
-same_inline _ = refl
-
-same_depth : (part : Part) (depth : ℕ) → hiding.hidden_after false depth part ≡ depth_after false part depth
-same_depth (Text bytes style) (suc n) = rw (not_zero n) refl
-same_depth (PartStart b) (suc n) = rw (not_zero n, same_inline b) (grind arith)
-same_depth (PartEnd b) zero = grind arith
-same_depth (PartEnd b) (suc n) = rw (same_inline b) (elim (is_inline b) as (λ (i : Bool). (if i then suc n - 1 else suc n) ≡ (if i then n else suc n)) [ true ↦ omega arith | false ↦ refl ])
-same_depth _ zero = refl
-
 depth_counts : (depth : ℕ) (done parts : List Part) → Counts depth done → Counts (depth_after_all false depth parts) (done ++ parts)
 depth_counts depth done [] counts = subst (Counts depth) (sym (append-nil done)) counts
 depth_counts depth done (part ∷ parts) counts =
     subst (Counts (depth_after_all false depth (part ∷ parts))) (append_assoc done (part ∷ []) parts)
     (depth_counts (depth_after false part depth) (done ++ part ∷ []) parts
-    (subst (λ (n : ℕ). Counts n (done ++ part ∷ [])) (same_depth part depth) (Counts-more depth done part counts)))
+    (subst (λ (n : ℕ). Counts n (done ++ part ∷ [])) (grind (arith, not_zero)) (Counts-more depth done part counts)))
 
 depth_hides : (parts : List Part) → is_hidden parts ≡ not (depth_after_all false 0 parts == 0)
 depth_hides parts = is_hidden-Counts (depth_after_all false 0 parts) parts (depth_counts 0 [] parts Counts-nil)
 
 full_depth : (parts : List Part) → depth_after_all true zero parts ≡ zero
 full_depth [] = refl
-full_depth (Text bytes style ∷ parts) = full_depth parts
-full_depth (PartStart b ∷ parts) = full_depth parts
-full_depth (PartEnd b ∷ parts) = full_depth parts
+full_depth (s ∷ parts) = grind (arith, full_depth parts)
 
 -- ---- the walk
 
@@ -109,11 +93,7 @@ IsVisible full chunk = (full ≡ true) ⊎ (is_paragraph chunk ≡ false)
 
 text_more : (full : Bool) (style : Style) (chunk : Chunk) (chunks : List Chunk) (parts : List Part) → IsVisible full chunk
     → text_rest full style (chunk ∷ chunks) ++ walk full (depth_after_text full (chunk ∷ chunks)) parts ≡ Shown style chunk ∷ (text_rest full style chunks ++ walk full (depth_after_text full chunks) parts)
-text_more true style chunk chunks parts h = refl
-text_more false style chunk chunks parts (inl h) = absurd (false≢true h)
-text_more false style chunk chunks parts (inr h) =
-    ap (λ xs. (map (Shown style) xs ++ TextEnd style ∷ []) ++ walk false (depth_after_text false (chunk ∷ chunks)) parts) (before_first-skip is_paragraph chunk chunks h)
-    ∙ ap (λ b. Shown style chunk ∷ (text_rest false style chunks ++ walk false (if (b || list_any is_paragraph chunks) then 1 else 0) parts)) h
+text_more full style chunk chunks parts h = grind (arith, false≢true, before_first-skip)
 
 pub left_more : (now : List Fragment) (full in_text : Bool) (style : Style) (chunk : Chunk) (chunks rest : List Chunk) (depth : ℕ) (parts : List Part)
     → left_of full in_text style chunks depth parts ≡ now → in_text ≡ true → chunks ≡ chunk ∷ rest → IsVisible full chunk → now ≡ Shown style chunk ∷ left_of full in_text style rest depth parts
@@ -124,9 +104,7 @@ left_more now full in_text style chunk chunks rest depth parts view begun e visi
 run_more : {chunks : List Chunk} {text : List ℕ} → AreWords chunks text → (full : Bool) (style : Style) (rest : List Chunk) (parts : List Part)
     → text_rest full style (chunks ++ rest) ++ walk full (depth_after_text full (chunks ++ rest)) parts
     ≡ map (Shown style) chunks ++ (text_rest full style rest ++ walk full (depth_after_text full rest) parts)
-run_more {chunks} (no_words ec et) full style rest parts =
-    ap (λ cs. text_rest full style (cs ++ rest) ++ walk full (depth_after_text full (cs ++ rest)) parts) ec
-    ∙ sym (ap (λ cs. map (Shown style) cs ++ (text_rest full style rest ++ walk full (depth_after_text full rest) parts)) ec)
+run_more {chunks} (no_words ec et) full style rest parts = grind arith
 run_more {chunks} (a_word bytes others_text others ec et w) full style rest parts =
     ap (λ cs. text_rest full style (cs ++ rest) ++ walk full (depth_after_text full (cs ++ rest)) parts) ec
     ∙ text_more full style (Raw bytes (columns bytes)) (others ++ rest) parts (inr refl)

@@ -1,15 +1,11 @@
 -- A run stands for the first chunks of what is left of its text, and a code line is the first one.
-use Rattle.std.proofs.Common.{refl, sym, inr, ◌∙◌}
+use Rattle.std.proofs.Common.{rules, refl, sym, inr, ◌∙◌}
 use Rattle.bpaf_doc.specs.Splitter.Chunks.{Raw, code_weight}
 use Rattle.bpaf_doc.proofs.lemmas.Html.Fragments.Walking.{left_of, left_more, left_run, fewer_left}
 use Rattle.bpaf_doc.proofs.html.fragments.FragmentsIterator.next.Goals as goal
 
 pub returns-in-Some-clause-steps : goal.returns-in-Some-clause-steps
-returns-in-Some-clause-steps c =
-    let f = c.self.inside in (
-      c.in-Some.ensures.run,
-      left_run c.args.self.now f.full f.in_text f.style c.in-Some.run'.now f.chunks c.take_line.new.self f.depth f.parts c.self.view_is c.if-self.true c.in-Some.ensures.chunks c.in-Some.ensures.run.line,
-    )
+returns-in-Some-clause-steps c = search (rules, left_run)
 
 pub returns-in-Some-clause-goes : goal.returns-in-Some-clause-goes
 returns-in-Some-clause-goes c =
