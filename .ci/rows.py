@@ -40,10 +40,11 @@ def requests():
 
 
 def equations(crate):
-    """The comments between equations, with how many equations each has. Among those of documents stand lemmas that refuse an answer; of these the refusals count."""
+    """The comments between equations, with how many equations each has: a `refl` proves each. Among those of documents stand lemmas that refuse an answer; of these the refusals count."""
     for file in sorted((CRATES / crate / "proofs").rglob("*.antt")):
         text = file.read_text(encoding="utf-8")
-        computed = set(re.findall(r"(?m)^(\w+) = refl$", text)) | set(re.findall(r"(?m)^(\w+_refused) : ", text))
+        computed = {name: proof.count("refl") for name, proof in re.findall(r"(?m)^(\w+) = (refl|\((?:refl, )+refl\))$", text)}
+        refused = set(re.findall(r"(?m)^(\w+_refused) : ", text))
         words, count, beside = [], 0, False
         for line in text.splitlines() + ["-- "]:
             is_remark = line.startswith("-- ")
@@ -53,8 +54,8 @@ def equations(crate):
                 words, count = [], 0
             if is_remark:
                 words.append(line[3:].strip("- "))
-            elif (name := re.match(r"(\w+) : ", line)) and (file.parent.name != "Doc" or name[1] in computed):
-                count += 1
+            elif (name := re.match(r"(\w+) : ", line)) and (file.parent.name != "Doc" or name[1] in computed or name[1] in refused):
+                count += computed.get(name[1], 1)
             beside = is_remark
 
 

@@ -1,5 +1,5 @@
 -- The definitions at small trees.
-use Rattle.std.specs.Prelude.{◌≡◌, true, false, List, [], ◌∷◌, refl, codes, Some, None}
+use Rattle.std.specs.Prelude.{◌≡◌, true, false, List, [], ◌∷◌, refl, codes, None}
 use Rattle.std.specs.Str.{chars}
 use Rattle.unicode.specs.Binary.{is_uppercase}
 use Rattle.ucd_table.specs.Rows.{in_ranges}
@@ -9,7 +9,7 @@ use Rattle.bpaf_doc.specs.declared.buffer.Style.TheVariants as style
 use Rattle.bpaf_doc.specs.declared.buffer.Block.TheVariants as block
 use Rattle.bpaf_doc.specs.Buffer.Parts.{Part, Text, Start, End}
 use Rattle.bpaf_doc.specs.Buffer.Writes.{document_of, em_doc_writes}
-use Rattle.bpaf_meta.specs.Content.{short, both, Tree, and_of, or_of, optional, required, adjacent, item, many, subsection, skip, custom_usage, strict, Trees, no_trees, tree, positional, command, flag, argument, Head, head}
+use Rattle.bpaf_meta.specs.Content.{short, both, Tree, and_of, or_of, optional, required, adjacent, item, many, skip, custom_usage, strict, Trees, no_trees, tree, positional, command, flag, argument, Head, head}
 use Rattle.bpaf_meta.specs.Meta.Normal.{normalized}
 use Rattle.bpaf_meta.specs.Meta.Alternatives.{either_form}
 use Rattle.bpaf_meta.specs.Meta.Shorts.{flag_shorts, argument_shorts}
@@ -57,88 +57,49 @@ usage t = document_of (usage_writes true t)
 
 -- normal forms: a choice that may be repeated or left out, and its usage line
 row_1 : normalized true (optional (many (required (or_of (two a b))))) ≡ many (optional (or_of (two a b)))
-row_1 = refl
-
-row_1_usage : usage (optional (many (required (or_of (two a b))))) ≡ Start block.Mono ∷ Text (codes "[") style.Text ∷ Text (codes "-a") style.Literal ∷ Text (codes " | ") style.Text ∷ Text (codes "-b") style.Literal ∷ Text (codes "]...") style.Text ∷ End block.Mono ∷ []
+    × usage (optional (many (required (or_of (two a b))))) ≡ Start block.Mono ∷ Text (codes "[") style.Text ∷ Text (codes "-a") style.Literal ∷ Text (codes " | ") style.Text ∷ Text (codes "-b") style.Literal ∷ Text (codes "]...") style.Text ∷ End block.Mono ∷ []
 unfolding encode
-row_1_usage = refl
+row_1 = (refl, refl)
 
 -- normal forms: `--` goes out of an optional part, one command stands for several, and an empty usage of its own hides what is inside
 row_2 : normalized true (and_of (two v (optional (strict FILE)))) ≡ and_of (two v (strict (optional FILE)))
-row_2 = refl
-
-row_2_second : normalized true (optional (and_of (tree (strict FILE) no_trees))) ≡ optional (strict FILE)
-row_2_second = refl
-
-row_2_third : normalized true (or_of (two x y)) ≡ x
-row_2_third = refl
-
-row_2_fourth : usage (custom_usage a []) ≡ Start block.Mono ∷ End block.Mono ∷ []
-row_2_fourth = refl
-
-row_2_first : usage (and_of (two v (optional (strict FILE)))) ≡ Start block.Mono ∷ Text (codes "-v") style.Literal ∷ Text (codes " ") style.Text ∷ Text (codes "--") style.Literal ∷ Text (codes " [") style.Text ∷ Text (codes "FILE") style.Metavar ∷ Text (codes "]") style.Text ∷ End block.Mono ∷ []
+    × normalized true (optional (and_of (tree (strict FILE) no_trees))) ≡ optional (strict FILE)
+    × normalized true (or_of (two x y)) ≡ x
+    × usage (custom_usage a []) ≡ Start block.Mono ∷ End block.Mono ∷ []
+    × usage (and_of (two v (optional (strict FILE)))) ≡ Start block.Mono ∷ Text (codes "-v") style.Literal ∷ Text (codes " ") style.Text ∷ Text (codes "--") style.Literal ∷ Text (codes " [") style.Text ∷ Text (codes "FILE") style.Metavar ∷ Text (codes "]") style.Text ∷ End block.Mono ∷ []
 unfolding is_uppercase chars in_ranges uppercase_ranges encode
-row_2_first = refl
+row_2 = (refl, refl, refl, refl, refl)
 
 -- normal forms: the brackets of a choice and of a sequence; an argument's name for usage and otherwise
 row_3 : normalized true (or_of (two a b)) ≡ required (or_of (two a b))
-row_3 = refl
-
-row_3_second : normalized true (required (and_of (two a b))) ≡ and_of (two a b)
-row_3_second = refl
-
-row_3_third : normalized true (and_of (two a (required (and_of (two b c))))) ≡ and_of (two a (required (and_of (two b c))))
-row_3_third = refl
-
-row_3_fourth : usage (item (argument (both 115 (codes "speed")) [] (codes "file") None None)) ≡ Start block.Mono ∷ Text (codes "-s") style.Literal ∷ Text (codes "=") style.Text ∷ Text (codes "<file>") style.Metavar ∷ End block.Mono ∷ []
+    × normalized true (required (and_of (two a b))) ≡ and_of (two a b)
+    × normalized true (and_of (two a (required (and_of (two b c))))) ≡ and_of (two a (required (and_of (two b c))))
+    × usage (item (argument (both 115 (codes "speed")) [] (codes "file") None None)) ≡ Start block.Mono ∷ Text (codes "-s") style.Literal ∷ Text (codes "=") style.Text ∷ Text (codes "<file>") style.Metavar ∷ End block.Mono ∷ []
+    × document_of (usage_writes false (item (argument (both 115 (codes "speed")) [] (codes "file") None None))) ≡ Start block.Mono ∷ Text (codes "--speed") style.Literal ∷ Text (codes "=") style.Text ∷ Text (codes "<file>") style.Metavar ∷ End block.Mono ∷ []
 unfolding is_uppercase chars in_ranges uppercase_ranges encode
-row_3_fourth = refl
-
-row_3_fifth : document_of (usage_writes false (item (argument (both 115 (codes "speed")) [] (codes "file") None None))) ≡ Start block.Mono ∷ Text (codes "--speed") style.Literal ∷ Text (codes "=") style.Text ∷ Text (codes "<file>") style.Metavar ∷ End block.Mono ∷ []
-unfolding is_uppercase chars in_ranges uppercase_ranges encode
-row_3_fifth = refl
+row_3 = (refl, refl, refl, refl, refl)
 
 -- normal forms: two strict parts, `--` before nothing, and brackets in one another
 row_4 : normalized true (and_of (two (strict P) (strict Q))) ≡ and_of (two (strict P) Q)
-row_4 = refl
-
-row_4_second : normalized true (and_of (two a (strict skip))) ≡ and_of (two a (strict skip))
-row_4_second = refl
-
-row_4_third : normalized true (optional (many a)) ≡ optional (many a)
-row_4_third = refl
-
-row_4_fourth : normalized true (or_of (tree (optional a) (two x y))) ≡ required (or_of (two (optional a) x))
-row_4_fourth = refl
-
-row_4_fifth : normalized true (many (optional (required (and_of (two a b))))) ≡ many (optional (and_of (two a b)))
-row_4_fifth = refl
+    × normalized true (and_of (two a (strict skip))) ≡ and_of (two a (strict skip))
+    × normalized true (optional (many a)) ≡ optional (many a)
+    × normalized true (or_of (tree (optional a) (two x y))) ≡ required (or_of (two (optional a) x))
+    × normalized true (many (optional (required (and_of (two a b))))) ≡ many (optional (and_of (two a b)))
+row_4 = (refl, refl, refl, refl, refl)
 
 -- normal forms: what comes to nothing
 row_5 : normalized true (optional (many (required skip))) ≡ skip
-row_5 = refl
-
-row_5_second : normalized false (and_of no_trees) ≡ skip
-row_5_second = refl
-
-row_5_third : normalized false (or_of (two (and_of no_trees) skip)) ≡ skip
-row_5_third = refl
+    × normalized false (and_of no_trees) ≡ skip
+    × normalized false (or_of (two (and_of no_trees) skip)) ≡ skip
+row_5 = (refl, refl, refl)
 
 -- misplaced items of sequences, choices and adjacent blocks
 row_9 : misplaced_items (and_of (two FILE v)) ≡ (1, flag (short 118) [] None None) ∷ []
-row_9 = refl
-
-row_9_second : misplaced_items (and_of (two (or_of (two a P)) b)) ≡ (2, flag (short 98) [] None None) ∷ []
-row_9_second = refl
-
-row_9_third : misplaced_items (and_of (two (or_of no_trees) b)) ≡ []
-row_9_third = refl
-
-row_9_fourth : misplaced_items (and_of (two (adjacent (and_of (two x P))) b)) ≡ (2, flag (short 98) [] None None) ∷ []
-row_9_fourth = refl
-
-row_9_fifth : misplaced_items (and_of (two (adjacent (and_of (two a P))) b)) ≡ []
-row_9_fifth = refl
+    × misplaced_items (and_of (two (or_of (two a P)) b)) ≡ (2, flag (short 98) [] None None) ∷ []
+    × misplaced_items (and_of (two (or_of no_trees) b)) ≡ []
+    × misplaced_items (and_of (two (adjacent (and_of (two x P))) b)) ≡ (2, flag (short 98) [] None None) ∷ []
+    × misplaced_items (and_of (two (adjacent (and_of (two a P))) b)) ≡ []
+row_9 = (refl, refl, refl, refl, refl)
 
 -- an equal item stands first in its line and is not misplaced there
 twice : misplaced_items (and_of (tree v (tree P (two b v)))) ≡ (2, flag (short 98) [] None None) ∷ (3, flag (short 118) [] None None) ∷ []
@@ -150,10 +111,8 @@ title = refl
 
 -- nothing is reached in an Adjacent without first item
 unreached : misplaced_items (adjacent (or_of (tree (item (command (codes "x") None None (and_of (two P a)) nothing)) no_trees))) ≡ []
-unreached = refl
-
-reached : misplaced_items (optional (or_of (tree (item (command (codes "x") None None (and_of (two P a)) nothing)) no_trees))) ≡ (2, flag (short 97) [] None None) ∷ []
-reached = refl
+    × misplaced_items (optional (or_of (tree (item (command (codes "x") None None (and_of (two P a)) nothing)) no_trees))) ≡ (2, flag (short 97) [] None None) ∷ []
+unreached = (refl, refl)
 
 -- the shape of a normal form, and that a bare Or has none
 shaped : HasUsageShape true (required (or_of (two a b)))
@@ -168,29 +127,17 @@ sequence = ([], _, refl, inl refl, (_, [], refl, again (_ ∷ []) (_ ∷ []) ref
 
 -- in usage a CustomUsage takes a `--` with it; outside it stays
 lost : normalized true (custom_usage (strict a) (Text (codes "own") style.Text ∷ [])) ≡ strict (custom_usage a (Text (codes "own") style.Text ∷ []))
-lost = refl
-
-gone : normalized true (and_of (two b (custom_usage (or_of (two (strict a) c)) []))) ≡ b
-gone = refl
-
-stays : normalized false (and_of (two b (custom_usage (or_of (two (strict a) c)) []))) ≡ and_of (two b (required (or_of (two (strict a) c))))
-stays = refl
-
--- alternatives, and short names
-row_6 : either_form skip a ≡ a
-row_6 = refl
-
-row_6_second : either_form (or_of (tree a no_trees)) b ≡ or_of (two a b)
-row_6_second = refl
-
-row_6_third : either_form skip skip ≡ skip
-row_6_third = refl
+    × normalized true (and_of (two b (custom_usage (or_of (two (strict a) c)) []))) ≡ b
+    × normalized false (and_of (two b (custom_usage (or_of (two (strict a) c)) []))) ≡ and_of (two b (required (or_of (two (strict a) c))))
+lost = (refl, refl, refl)
 
 abbrev mixed : Tree
 mixed = and_of (tree (item (flag (short 97) (97 ∷ []) None None)) (two (strict (item (flag (short 98) (98 ∷ []) None None))) (item (command (codes "x") None None (item (argument (short 115) (115 ∷ []) (codes "N") None None)) nothing))))
 
-row_7 : flag_shorts mixed ≡ 97 ∷ []
-row_7 = refl
-
-row_7_second : argument_shorts mixed ≡ 115 ∷ []
-row_7_second = refl
+-- alternatives, and short names
+row_6 : either_form skip a ≡ a
+    × either_form (or_of (tree a no_trees)) b ≡ or_of (two a b)
+    × either_form skip skip ≡ skip
+    × flag_shorts mixed ≡ 97 ∷ []
+    × argument_shorts mixed ≡ 115 ∷ []
+row_6 = (refl, refl, refl, refl, refl)

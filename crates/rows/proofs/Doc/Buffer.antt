@@ -6,15 +6,11 @@ use Rattle.bpaf_doc.specs.Buffer.FirstLine.{first_line_of}
 use Rattle.bpaf_doc.specs.Buffer.Parts.{Text, Start, End}
 use Rattle.bpaf_doc.specs.Buffer.Writes.{doc_writes, document_of, em_doc_writes, literal, path_writes, plain, with_text, with_writes}
 
-empty_text : with_text [] [] style.Text ≡ Text [] style.Text ∷ []
-empty_text = refl
-
-joined : document_of (plain (codes "a") ∷ plain (codes "b") ∷ literal (codes "c") ∷ []) ≡ Text (codes "ab") style.Text ∷ Text (codes "c") style.Literal ∷ []
-joined = refl
-
-nested : with_writes (Text (codes "ab") style.Text ∷ []) (doc_writes (Text (codes "c") style.Text ∷ []))
+joined_texts : with_text [] [] style.Text ≡ Text [] style.Text ∷ []
+    × document_of (plain (codes "a") ∷ plain (codes "b") ∷ literal (codes "c") ∷ []) ≡ Text (codes "ab") style.Text ∷ Text (codes "c") style.Literal ∷ []
+    × with_writes (Text (codes "ab") style.Text ∷ []) (doc_writes (Text (codes "c") style.Text ∷ []))
     ≡ Text (codes "ab") style.Text ∷ Start block.InlineBlock ∷ Text (codes "c") style.Text ∷ End block.InlineBlock ∷ []
-nested = refl
+joined_texts = (refl, refl, refl)
 
 -- a first plain text without a newline is a title, and the other parts stay
 title : document_of (em_doc_writes (Text (codes "Title") style.Text ∷ Text (codes "x") style.Literal ∷ []))
@@ -28,17 +24,11 @@ section : document_of (em_doc_writes (Text (codes "Title\n") style.Text ∷ Text
 section = refl
 
 -- a first text of another style is no title
-no_title : document_of (em_doc_writes (Text (codes "x") style.Literal ∷ Text (codes "y") style.Text ∷ []))
+first_texts : document_of (em_doc_writes (Text (codes "x") style.Literal ∷ Text (codes "y") style.Text ∷ []))
     ≡ Start block.InlineBlock ∷ Text (codes "x") style.Literal ∷ Text (codes "y") style.Text ∷ End block.InlineBlock ∷ []
-no_title = refl
-
-first_line : first_line_of (Text (codes "one\ntwo") style.Text ∷ Text (codes "z") style.Literal ∷ []) ≡ Some (Text (codes "one") style.Text ∷ [])
-first_line = refl
-
-line_before_mark : first_line_of (Text (codes "one") style.Text ∷ Text (codes "z") style.Literal ∷ Start block.Block ∷ [])
+    × first_line_of (Text (codes "one\ntwo") style.Text ∷ Text (codes "z") style.Literal ∷ []) ≡ Some (Text (codes "one") style.Text ∷ [])
+    × first_line_of (Text (codes "one") style.Text ∷ Text (codes "z") style.Literal ∷ Start block.Block ∷ [])
     ≡ Some (Text (codes "one") style.Text ∷ Text (codes "z") style.Literal ∷ [])
-line_before_mark = refl
-
-path : with_writes (Text (codes "my ") style.Literal ∷ []) (path_writes (codes "git" ∷ codes "add" ∷ []))
+    × with_writes (Text (codes "my ") style.Literal ∷ []) (path_writes (codes "git" ∷ codes "add" ∷ []))
     ≡ Text (codes "my git") style.Literal ∷ Text (codes " ") style.Text ∷ Text (codes "add") style.Literal ∷ Text (codes " ") style.Text ∷ []
-path = refl
+first_texts = (refl, refl, refl, refl)

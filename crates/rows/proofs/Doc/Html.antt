@@ -18,41 +18,16 @@ two_paragraphs = Start InlineBlock ∷ Words (codes "a\n\nb") Text ∷ End Inlin
 abbrev header : List Part
 header = Start Header ∷ Words (codes "X") Text ∷ End Header ∷ []
 
-erased_usage : erased (codes "<b>Usage: </b><tt><b>my_program</b></tt>") ≡ codes "Usage: my_program"
-erased_usage = refl
-
-erased_break : filter is_line_byte (erased (codes "a<br>\nbc")) ≡ codes "abc"
-erased_break = refl
-
-erased_div : erased (codes "<b>Title</b><div style='padding-left: 0.5em'>body</div>") ≡ codes "Titlebody"
-erased_div = refl
-
-erased_open : erased (codes "a<b") ≡ codes "a"
-erased_open = refl
-
-erased_header : filter is_line_byte (erased (codes "# X<br>\n")) ≡ codes "# X"
-erased_header = refl
-
-text_usage : html_text usage true ≡ codes "Usage: my_program"
+texts : erased (codes "<b>Usage: </b><tt><b>my_program</b></tt>") ≡ codes "Usage: my_program"
+    × filter is_line_byte (erased (codes "a<br>\nbc")) ≡ codes "abc"
+    × erased (codes "<b>Title</b><div style='padding-left: 0.5em'>body</div>") ≡ codes "Titlebody"
+    × erased (codes "a<b") ≡ codes "a"
+    × filter is_line_byte (erased (codes "# X<br>\n")) ≡ codes "# X"
+    × html_text usage true ≡ codes "Usage: my_program"
+    × html_text (Words (codes "a<b") Text ∷ []) true ≡ codes "a&lt;b"
+    × html_text (Words (codes "<script>&</script>") Text ∷ []) true ≡ codes "&lt;script&gt;&&lt;/script&gt;"
+    × html_text two_paragraphs true ≡ codes "abc"
+    × html_text two_paragraphs false ≡ codes "ac"
+    × html_text header true ≡ codes "# X"
 unfolding chunks_of chunks_in chunks_within chars str_width step past_emoji
-text_usage = refl
-
-text_angle : html_text (Words (codes "a<b") Text ∷ []) true ≡ codes "a&lt;b"
-unfolding chunks_of chunks_in chunks_within chars str_width step past_emoji
-text_angle = refl
-
-text_script : html_text (Words (codes "<script>&</script>") Text ∷ []) true ≡ codes "&lt;script&gt;&&lt;/script&gt;"
-unfolding chunks_of chunks_in chunks_within chars str_width step past_emoji
-text_script = refl
-
-text_full : html_text two_paragraphs true ≡ codes "abc"
-unfolding chunks_of chunks_in chunks_within chars str_width step past_emoji
-text_full = refl
-
-text_brief : html_text two_paragraphs false ≡ codes "ac"
-unfolding chunks_of chunks_in chunks_within chars str_width step past_emoji
-text_brief = refl
-
-text_header : html_text header true ≡ codes "# X"
-unfolding chunks_of chunks_in chunks_within chars str_width step past_emoji
-text_header = refl
+texts = (refl, refl, refl, refl, refl, refl, refl, refl, refl, refl, refl)

@@ -81,19 +81,6 @@ Back state text more b = Next (next state b) text more → Next state (b ∷ tex
 test : (P : ℕ → Type 0) (b k : ℕ) → P k → ((b == k) ≡ false → b ≢ k → P b) → P b
 test P b k same others = elim (eqb_tells b k) [ inl e ↦ subst P (sym e.1) same | inr n ↦ others n.0 n.1 ]
 
-back_start : (b : ℕ) (t : List ℕ) (more : List Event) → Back Start t more b
-unfolding Next
-back_start b t more = test (Back Start t more) b 46 (λ h. Reads.control h.tail h.arguments h.rest h.words h.more refl (ap (λ ys. dot ∷ ys) (h.joined ∙ sym (append_assoc h.tail h.arguments (newline ∷ h.rest)))) h.first h.named h.are h.reads) (λ e46 n46. test (Back Start t more) b 92 (λ h. h AtLineStart) (λ e92 n92. λ h. absurd (rw (e46, e92) at h)))
-
-back_within : (b : ℕ) (t : List ℕ) (more : List Event) → Back Within t more b
-unfolding Next
-back_within b t more = test (Back (Within) t more) b 10 (λ h. Reads.line_end t more refl refl refl h) (λ e10 n10. test (Back (Within) t more) b 92 (λ h. h WithinLine) (λ e92 n92. λ h. absurd (rw (e10, e92) at h)))
-
--- one more byte of a name
-back_name : (front : List ℕ) (b : ℕ) (t : List ℕ) (more : List Event) → Back (Name front) t more b
-unfolding Next
-back_name front b t more = test (Back (Name front) t more) b 32 (λ h. record { tail = []; arguments = blank ∷ (h.tail ++ h.arguments); rest = h.rest; words = h.read_word ∷ h.more_words; more = h.more; joined = ap (λ ys. blank ∷ ys) (h.joined ∙ sym (append_assoc h.tail h.arguments (newline ∷ h.rest))); named = tt; are = AreArguments.argument h.tail h.read_word h.arguments h.more_words refl refl h.some h.argument h.are; reads = h.reads; first = h.first ∙ ap (λ n. Control n (h.read_word ∷ h.more_words) ∷ h.more) (sym (append-nil front)) }) (λ e32 n32. test (Back (Name front) t more) b 10 (λ h. record { tail = []; arguments = []; rest = t; words = []; more = more; joined = refl; named = tt; are = AreArguments.end refl refl; reads = h; first = ap (λ n. Control n [] ∷ more) (sym (append-nil front)) }) (λ e10 n10. rw (e32, e10) (λ h. record { tail = b ∷ h.tail; arguments = h.arguments; rest = h.rest; words = h.words; more = h.more; joined = ap (λ ys. b ∷ ys) h.joined; named = ((n32, n10), h.named); are = h.are; reads = h.reads; first = h.first ∙ ap (λ n. Control n h.words ∷ h.more) (append_assoc front (b ∷ []) h.tail) })))
-
 -- an argument with one more byte, however it is spelled
 longer : (name : List ℕ) (words : List (List ℕ)) (word : List ℕ) (b : ℕ) (spelled t : List ℕ) (more : List Event) → ((r m : List ℕ) → IsArgument r m → IsArgument (spelled ++ r) (b ∷ m)) → RestOfArgument name words (word ++ b ∷ []) t more → RestOfArgument name words word (spelled ++ t) more
 longer name words word b spelled t more unit h = record { tail = spelled ++ h.tail; read_word = b ∷ h.read_word; arguments = h.arguments; rest = h.rest; more_words = h.more_words; more = h.more; joined = ap (λ ys. spelled ++ ys) h.joined ∙ sym (append_assoc spelled h.tail (h.arguments ++ newline ∷ h.rest)); argument = unit h.tail h.read_word h.argument; some = λ e. h.some (append_assoc word (b ∷ []) h.read_word ∙ e); are = h.are; reads = h.reads; first = h.first ∙ ap (λ w. Control name ((words ++ w ∷ []) ++ h.more_words) ∷ h.more) (append_assoc word (b ∷ []) h.read_word) }
@@ -107,22 +94,6 @@ back_line_over : (name : List ℕ) (words : List (List ℕ)) (word t : List ℕ)
 unfolding Next
 back_line_over name words [] t more h = absurd h
 back_line_over name words (c ∷ word) t more h = record { tail = []; read_word = []; arguments = []; rest = t; more_words = []; more = more; joined = refl; argument = IsArgument.end refl refl; some = λ e. cc; are = AreArguments.end refl refl; reads = h; first = ap (λ ws. Control name ws ∷ more) (ap (λ w. words ++ (c ∷ w) ∷ []) (sym (append-nil word)) ∙ sym (append-nil (words ++ ((c ∷ word) ++ []) ∷ []))) }
-
-back_argument : (name : List ℕ) (words : List (List ℕ)) (word : List ℕ) (b : ℕ) (t : List ℕ) (more : List Event) → Back (Argument name words word) t more b
-unfolding Next
-back_argument name words word b t more = test (Back (Argument name words word) t more) b 92 (λ h. h) (λ e92 n92. test (Back (Argument name words word) t more) b 32 (back_blank name words word t more) (λ e32 n32. test (Back (Argument name words word) t more) b 10 (back_line_over name words word t more) (λ e10 n10. rw (e92, e32, e10) (longer name words word b (b ∷ []) t more (λ r m. IsArgument.plain b r m refl refl n92 n32 n10)))))
-
-back_argument_escape : (name : List ℕ) (words : List (List ℕ)) (word : List ℕ) (b : ℕ) (t : List ℕ) (more : List Event) → Back (ArgumentEscape name words word) t more b
-unfolding Next
-back_argument_escape name words word b t more = test (Back (ArgumentEscape name words word) t more) b 92 (longer name words word 92 (codes "\\\\") t more (λ r m. IsArgument.escaped_backslash r m refl refl)) (λ e92 n92. test (Back (ArgumentEscape name words word) t more) b 32 (longer name words word 32 (codes "\\ ") t more (λ r m. IsArgument.escaped_blank r m refl refl)) (λ e32 n32. λ h. absurd (rw (e92, e32) at h)))
-
-back_font_escape : (b : ℕ) (t : List ℕ) (more : List Event) → Back FontEscape t more b
-unfolding Next
-back_font_escape b t more = test (Back (FontEscape) t more) b 102 (λ h. h) (λ e102 n102. λ h. absurd (rw e102 at h))
-
-back_font_letter : (b : ℕ) (t : List ℕ) (more : List Event) → Back FontLetter t more b
-unfolding Next
-back_font_letter b t more = test (Back (FontLetter) t more) b 82 (λ h place. Reads.span Roman h.inner h.content h.rest h.more (ap (λ ys. 92 ∷ 102 ∷ 82 ∷ ys) h.joined) h.first h.is h.reads) (λ e82 n82. test (Back (FontLetter) t more) b 66 (λ h place. Reads.span Bold h.inner h.content h.rest h.more (ap (λ ys. 92 ∷ 102 ∷ 66 ∷ ys) h.joined) h.first h.is h.reads) (λ e66 n66. test (Back (FontLetter) t more) b 73 (λ h place. Reads.span Italic h.inner h.content h.rest h.more (ap (λ ys. 92 ∷ 102 ∷ 73 ∷ ys) h.joined) h.first h.is h.reads) (λ e73 n73. λ h. absurd (rw (e82, e66, e73) at h))))
 
 -- a span with one more byte, however it is spelled
 more_inside : (font : Font) (front : List ℕ) (b : ℕ) (spelled t : List ℕ) (more : List Event) → ((r m : List ℕ) → IsSpanText r m → IsSpanText (spelled ++ r) (b ∷ m)) → RestOfSpan font (front ++ b ∷ []) t more → RestOfSpan font front (spelled ++ t) more
@@ -139,48 +110,24 @@ guarded_by b t (c ∷ inner) rest e n46 n39 = let same : b ≡ c = cc in ((λ x.
 same_next : (font : Font) (front : List ℕ) (b : ℕ) → (b == 46) ≡ false → (b == 39) ≡ false → next (AfterNewline font front) b ≡ next (Inside font front) b
 same_next font front b e46 e39 = rw (e46, e39) refl
 
-back_after_newline : (font : Font) (front : List ℕ) (b : ℕ) (t : List ℕ) (more : List Event) → Back (AfterNewline font front) t more b
-unfolding Next
-back_after_newline font front b t more = test (Back (AfterNewline font front) t more) b 46 (λ h. absurd h) (λ e46 n46. test (Back (AfterNewline font front) t more) b 39 (λ h. absurd h) (λ e39 n39. (λ h. let span = back_inside font front b t more (subst (λ state. Next state t more) (same_next font front b e46 e39) h) in record { span = span; guarded = guarded_by b t span.inner span.rest span.joined n46 n39 })))
-
-back_inside_escape : (font : Font) (front : List ℕ) (b : ℕ) (t : List ℕ) (more : List Event) → Back (InsideEscape font front) t more b
-unfolding Next
-back_inside_escape font front b t more = test (Back (InsideEscape font front) t more) b 92 (more_inside font front 92 (codes "\\\\") t more (λ r m. IsSpanText.escaped_backslash r m refl refl)) (λ e92 n92. test (Back (InsideEscape font front) t more) b 45 (more_inside font front 45 (codes "\\-") t more (λ r m. IsSpanText.escaped_dash r m refl refl)) (λ e45 n45. test (Back (InsideEscape font front) t more) b 38 (λ h. record { inner = 92 ∷ 38 ∷ h.inner; content = h.content; rest = h.rest; more = h.more; joined = ap (λ ys. 92 ∷ 38 ∷ ys) h.joined; is = IsSpanText.empty h.inner refl h.is; reads = h.reads; first = h.first }) (λ e38 n38. test (Back (InsideEscape font front) t more) b 42 (λ h. h) (λ e42 n42. test (Back (InsideEscape font front) t more) b 102 (λ h. h) (λ e102 n102. λ h. absurd (rw (e92, e45, e38, e42, e102) at h))))))
-
-back_restore_letter : (font : Font) (front : List ℕ) (b : ℕ) (t : List ℕ) (more : List Event) → Back (RestoreLetter font front) t more b
-unfolding Next
-back_restore_letter font front b t more = test (Back (RestoreLetter font front) t more) b 80 (λ h. record { inner = []; content = []; rest = t; more = more; joined = refl; is = IsSpanText.end refl refl; reads = h; first = ap (λ w. Span font w ∷ more) (sym (append-nil front)) }) (λ e80 n80. λ h. absurd (rw e80 at h))
-
-back_star : (font : Font) (front : List ℕ) (b : ℕ) (t : List ℕ) (more : List Event) → Back (Star font front) t more b
-unfolding Next
-back_star font front b t more = test (Back (Star font front) t more) b 40 (λ h. h) (λ e40 n40. λ h. absurd (rw e40 at h))
-
-back_bracket : (font : Font) (front : List ℕ) (b : ℕ) (t : List ℕ) (more : List Event) → Back (Bracket font front) t more b
-unfolding Next
-back_bracket font front b t more = test (Back (Bracket font front) t more) b 65 (λ h. h) (λ e65 n65. λ h. absurd (rw e65 at h))
-
-back_letter_a : (font : Font) (front : List ℕ) (b : ℕ) (t : List ℕ) (more : List Event) → Back (LetterA font front) t more b
-unfolding Next
-back_letter_a font front b t more = test (Back (LetterA font front) t more) b 113 (more_inside font front 39 (codes "\\*(Aq") t more (λ r m. IsSpanText.escaped_apostrophe r m refl refl)) (λ e113 n113. λ h. absurd (rw e113 at h))
-
 -- from what comes after a byte to what comes with it, in each state
 back : (state : State) (b : ℕ) (t : List ℕ) (more : List Event) → Back state t more b
 unfolding Next
-back Start = back_start
-back Within = back_within
-back (Name front) = back_name front
-back (Argument name words word) = back_argument name words word
-back (ArgumentEscape name words word) = back_argument_escape name words word
-back FontEscape = back_font_escape
-back FontLetter = back_font_letter
-back (Inside font front) = back_inside font front
-back (AfterNewline font front) = back_after_newline font front
-back (InsideEscape font front) = back_inside_escape font front
-back (RestoreLetter font front) = back_restore_letter font front
-back (Star font front) = back_star font front
-back (Bracket font front) = back_bracket font front
-back (LetterA font front) = back_letter_a font front
-back Refused = λ b t more h. absurd h
+back Start b t more = test (Back Start t more) b 46 (λ h. Reads.control h.tail h.arguments h.rest h.words h.more refl (ap (λ ys. dot ∷ ys) (h.joined ∙ sym (append_assoc h.tail h.arguments (newline ∷ h.rest)))) h.first h.named h.are h.reads) (λ e46 n46. test (Back Start t more) b 92 (λ h. h AtLineStart) (λ e92 n92. λ h. absurd (rw (e46, e92) at h)))
+back Within b t more = test (Back (Within) t more) b 10 (λ h. Reads.line_end t more refl refl refl h) (λ e10 n10. test (Back (Within) t more) b 92 (λ h. h WithinLine) (λ e92 n92. λ h. absurd (rw (e10, e92) at h)))
+back (Name front) b t more = test (Back (Name front) t more) b 32 (λ h. record { tail = []; arguments = blank ∷ (h.tail ++ h.arguments); rest = h.rest; words = h.read_word ∷ h.more_words; more = h.more; joined = ap (λ ys. blank ∷ ys) (h.joined ∙ sym (append_assoc h.tail h.arguments (newline ∷ h.rest))); named = tt; are = AreArguments.argument h.tail h.read_word h.arguments h.more_words refl refl h.some h.argument h.are; reads = h.reads; first = h.first ∙ ap (λ n. Control n (h.read_word ∷ h.more_words) ∷ h.more) (sym (append-nil front)) }) (λ e32 n32. test (Back (Name front) t more) b 10 (λ h. record { tail = []; arguments = []; rest = t; words = []; more = more; joined = refl; named = tt; are = AreArguments.end refl refl; reads = h; first = ap (λ n. Control n [] ∷ more) (sym (append-nil front)) }) (λ e10 n10. rw (e32, e10) (λ h. record { tail = b ∷ h.tail; arguments = h.arguments; rest = h.rest; words = h.words; more = h.more; joined = ap (λ ys. b ∷ ys) h.joined; named = ((n32, n10), h.named); are = h.are; reads = h.reads; first = h.first ∙ ap (λ n. Control n h.words ∷ h.more) (append_assoc front (b ∷ []) h.tail) })))
+back (Argument name words word) b t more = test (Back (Argument name words word) t more) b 92 (λ h. h) (λ e92 n92. test (Back (Argument name words word) t more) b 32 (back_blank name words word t more) (λ e32 n32. test (Back (Argument name words word) t more) b 10 (back_line_over name words word t more) (λ e10 n10. rw (e92, e32, e10) (longer name words word b (b ∷ []) t more (λ r m. IsArgument.plain b r m refl refl n92 n32 n10)))))
+back (ArgumentEscape name words word) b t more = test (Back (ArgumentEscape name words word) t more) b 92 (longer name words word 92 (codes "\\\\") t more (λ r m. IsArgument.escaped_backslash r m refl refl)) (λ e92 n92. test (Back (ArgumentEscape name words word) t more) b 32 (longer name words word 32 (codes "\\ ") t more (λ r m. IsArgument.escaped_blank r m refl refl)) (λ e32 n32. λ h. absurd (rw (e92, e32) at h)))
+back FontEscape b t more = test (Back (FontEscape) t more) b 102 (λ h. h) (λ e102 n102. λ h. absurd (rw e102 at h))
+back FontLetter b t more = test (Back (FontLetter) t more) b 82 (λ h place. Reads.span Roman h.inner h.content h.rest h.more (ap (λ ys. 92 ∷ 102 ∷ 82 ∷ ys) h.joined) h.first h.is h.reads) (λ e82 n82. test (Back (FontLetter) t more) b 66 (λ h place. Reads.span Bold h.inner h.content h.rest h.more (ap (λ ys. 92 ∷ 102 ∷ 66 ∷ ys) h.joined) h.first h.is h.reads) (λ e66 n66. test (Back (FontLetter) t more) b 73 (λ h place. Reads.span Italic h.inner h.content h.rest h.more (ap (λ ys. 92 ∷ 102 ∷ 73 ∷ ys) h.joined) h.first h.is h.reads) (λ e73 n73. λ h. absurd (rw (e82, e66, e73) at h))))
+back (Inside font front) b t more = back_inside font front b t more
+back (AfterNewline font front) b t more = test (Back (AfterNewline font front) t more) b 46 (λ h. absurd h) (λ e46 n46. test (Back (AfterNewline font front) t more) b 39 (λ h. absurd h) (λ e39 n39. (λ h. let span = back_inside font front b t more (subst (λ state. Next state t more) (same_next font front b e46 e39) h) in record { span = span; guarded = guarded_by b t span.inner span.rest span.joined n46 n39 })))
+back (InsideEscape font front) b t more = test (Back (InsideEscape font front) t more) b 92 (more_inside font front 92 (codes "\\\\") t more (λ r m. IsSpanText.escaped_backslash r m refl refl)) (λ e92 n92. test (Back (InsideEscape font front) t more) b 45 (more_inside font front 45 (codes "\\-") t more (λ r m. IsSpanText.escaped_dash r m refl refl)) (λ e45 n45. test (Back (InsideEscape font front) t more) b 38 (λ h. record { inner = 92 ∷ 38 ∷ h.inner; content = h.content; rest = h.rest; more = h.more; joined = ap (λ ys. 92 ∷ 38 ∷ ys) h.joined; is = IsSpanText.empty h.inner refl h.is; reads = h.reads; first = h.first }) (λ e38 n38. test (Back (InsideEscape font front) t more) b 42 (λ h. h) (λ e42 n42. test (Back (InsideEscape font front) t more) b 102 (λ h. h) (λ e102 n102. λ h. absurd (rw (e92, e45, e38, e42, e102) at h))))))
+back (RestoreLetter font front) b t more = test (Back (RestoreLetter font front) t more) b 80 (λ h. record { inner = []; content = []; rest = t; more = more; joined = refl; is = IsSpanText.end refl refl; reads = h; first = ap (λ w. Span font w ∷ more) (sym (append-nil front)) }) (λ e80 n80. λ h. absurd (rw e80 at h))
+back (Star font front) b t more = test (Back (Star font front) t more) b 40 (λ h. h) (λ e40 n40. λ h. absurd (rw e40 at h))
+back (Bracket font front) b t more = test (Back (Bracket font front) t more) b 65 (λ h. h) (λ e65 n65. λ h. absurd (rw e65 at h))
+back (LetterA font front) b t more = test (Back (LetterA font front) t more) b 113 (more_inside font front 39 (codes "\\*(Aq") t more (λ r m. IsSpanText.escaped_apostrophe r m refl refl)) (λ e113 n113. λ h. absurd (rw e113 at h))
+back Refused b t more = λ h. absurd h
 
 ended_events : (events : List Event) (o : Option Event) (more : List Event) → with_event events o ++ more ≡ events ++ (event_list o ++ more)
 ended_events events None more = refl

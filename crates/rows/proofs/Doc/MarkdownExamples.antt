@@ -14,7 +14,7 @@ use Rattle.bpaf_doc.specs.declared.buffer.Block.TheVariants.{Header, Section3, I
 use Rattle.bpaf_doc.specs.Buffer.Parts.{Part, Text as Words, Start as PartStart, End as PartEnd}
 use Rattle.bpaf_doc.specs.Splitter.Chunks.{Raw, Paragraph, LineBreak, is_raw, is_ordinary, is_code_line, is_whole_line, is_paragraph, is_line_break, chunks_of, chunks_in, chunks_within}
 use Rattle.bpaf_doc.specs.Html.Fragments.{Fragment, TextStart, Shown, TextEnd, Start, End, shows, shown_fragments}
-use Rattle.bpaf_doc.specs.Markdown.Page.{IsMarkdownOf, MarkdownSnippet, Put, Of, Mark, mark_text, is_style_mark, Italic, Bold, Tick, TextFence, Fence, Heading, SecondHeading, ThirdHeading, Dash, LongDash, Blank, Newline, fragments_in, flat_map_places, snippet_text, is_heading_or_fragment, headed_snippets, is_style_mark_or_fragment, styled_snippets, text_after, closed_fences, opened_fences, is_text_fence, is_text_end, is_newline}
+use Rattle.bpaf_doc.specs.Markdown.Page.{IsMarkdownOf, MarkdownSnippet, Put, Of, Mark, mark_text, is_style_mark, Italic, Bold, Tick, TextFence, Heading, SecondHeading, ThirdHeading, Dash, LongDash, Blank, Newline, fragments_in, flat_map_places, snippet_text, is_heading_or_fragment, headed_snippets, is_style_mark_or_fragment, styled_snippets, text_after, closed_fences, opened_fences, is_text_fence, is_text_end, is_newline}
 use Rattle.bpaf_doc.proofs.lemmas.Lists.Splits.{each_one, each_one-at, each_two, each_two-at, implies, is_nil, nil_from}
 
 abbrev fragment_passes : (Fragment → Bool) → MarkdownSnippet → Bool
@@ -49,35 +49,15 @@ is_alone before t after = list_all (λ c. c == 32) (after_last (λ c. c == 10) (
 abbrev touches : List MarkdownSnippet → Bool
 touches between = not (is_nil (fragments_in between)) || is_nil between
 
-abbrev begins_with_newline : List MarkdownSnippet → Bool
-begins_with_newline [] = false
-begins_with_newline (t ∷ ts) = is_newline t
-
 abbrev has_two_newlines : List MarkdownSnippet → Bool
 has_two_newlines [] = false
-has_two_newlines (t ∷ ts) = (is_newline t && begins_with_newline ts) || has_two_newlines ts
-
-newline_snippet : (t : MarkdownSnippet) → is_newline t ≡ true → t ≡ Put Newline
-newline_snippet (Put Newline) h = refl
-newline_snippet t h = absurd (false≢true h)
-
-begins_from : (ts : List MarkdownSnippet) → begins_with_newline ts ≡ true → (back : List MarkdownSnippet) × (ts ≡ Put Newline ∷ back)
-begins_from [] h = absurd (false≢true h)
-begins_from (t ∷ ts) h = (ts, ap (λ x. x ∷ ts) (newline_snippet t h))
-
-two_newlines_step : (b : Bool) (t : MarkdownSnippet) (ts : List MarkdownSnippet) → (is_newline t && begins_with_newline ts) ≡ b → (b || has_two_newlines ts) ≡ true
-    → (has_two_newlines ts ≡ true → (front back : List MarkdownSnippet) × (ts ≡ front ++ Put Newline ∷ Put Newline ∷ back)) → (front back : List MarkdownSnippet) × (t ∷ ts ≡ front ++ Put Newline ∷ Put Newline ∷ back)
-two_newlines_step true t ts e g more =
-    let parts : (is_newline t ≡ true) × (begins_with_newline ts ≡ true) = and_parts (is_newline t) (begins_with_newline ts) e in
-    let rest : (back : List MarkdownSnippet) × (ts ≡ Put Newline ∷ back) = begins_from ts parts.1 in
-    ([], rest.0, ap (λ x. x ∷ ts) (newline_snippet t parts.0) ∙ ap (λ x. Put Newline ∷ x) rest.1)
-two_newlines_step false t ts e g more =
-    let found : (front back : List MarkdownSnippet) × (ts ≡ front ++ Put Newline ∷ Put Newline ∷ back) = more g in
-    (t ∷ found.0, found.1, ap (λ x. t ∷ x) found.2)
+has_two_newlines (Put Newline ∷ Put Newline ∷ ts) = true
+has_two_newlines (t ∷ ts) = has_two_newlines ts
 
 two_newlines_from : (ts : List MarkdownSnippet) → has_two_newlines ts ≡ true → (front back : List MarkdownSnippet) × (ts ≡ front ++ Put Newline ∷ Put Newline ∷ back)
-two_newlines_from [] h = absurd (false≢true h)
-two_newlines_from (t ∷ ts) h = two_newlines_step (is_newline t && begins_with_newline ts) t ts refl h (two_newlines_from ts)
+two_newlines_from [] h = absurd cc
+two_newlines_from (Put Newline ∷ Put Newline ∷ ts) h = ([], ts, refl)
+two_newlines_from (t ∷ ts) h = let found = two_newlines_from ts h in (t ∷ found.0, found.1, ap (λ x. t ∷ x) found.2)
 
 abbrev separates : List MarkdownSnippet → Bool
 separates between = not (list_any (shows is_paragraph) (fragments_in between)) || has_two_newlines between
@@ -89,12 +69,12 @@ abbrev is_ordinary_or_end : Fragment → Bool
 is_ordinary_or_end a = shows is_ordinary a || is_text_end a
 
 -- a cut that passes a test for each field
-from_tests : (document : List Part) (full : Bool) (answer : List ℕ) (cut : List MarkdownSnippet) → answer ≡ flat_map_places snippet_text cut → fragments_in cut ≡ shown_fragments full document
+from_tests : {document : List Part} {full : Bool} {answer : List ℕ} (cut : List MarkdownSnippet) → answer ≡ flat_map_places snippet_text cut → fragments_in cut ≡ shown_fragments full document
     → filter is_heading_or_fragment cut ≡ flat_map_places headed_snippets (shown_fragments full document)
     → filter is_style_mark_or_fragment cut ≡ flat_map styled_snippets (shown_fragments full document)
     → each_fragment (shows is_code_line) is_fenced cut ≡ true → each_fragment is_ordinary_or_end is_unfenced cut ≡ true → each_fragment (shows is_whole_line) is_alone cut ≡ true
     → each_pair (shows is_ordinary) touches cut ≡ true → each_pair (shows is_raw) separates cut ≡ true → each_pair (shows is_raw) breaks_line cut ≡ true → IsMarkdownOf document full answer
-from_tests document full answer cut spelling fragments headings styles fenced unfenced lines touching paragraphs line_breaks = record {
+from_tests cut spelling fragments headings styles fenced unfenced lines touching paragraphs line_breaks = record {
   cut = cut;
   spelling = spelling;
   fragments = fragments;
@@ -117,52 +97,39 @@ from_tests document full answer cut spelling fragments headings styles fenced un
 abbrev paragraphs_document : List Part
 paragraphs_document = PartStart InlineBlock ∷ Words (codes "a\n\nb") Text ∷ PartEnd InlineBlock ∷ Words (codes "c") Text ∷ []
 
-abbrev paragraphs_cut : List MarkdownSnippet
-paragraphs_cut = Of (Start InlineBlock) ∷ Of (TextStart Text) ∷ Of (Shown Text (Raw (codes "a") 1)) ∷ Of (Shown Text Paragraph) ∷ Put Newline ∷ Put Newline ∷ Of (Shown Text (Raw (codes "b") 1)) ∷ Of (TextEnd Text) ∷ Of (End InlineBlock) ∷ Of (TextStart Text) ∷ Of (Shown Text (Raw (codes "c") 1)) ∷ Of (TextEnd Text) ∷ []
-
 paragraphs_meets : IsMarkdownOf paragraphs_document true (codes "a\n\nbc")
 unfolding chunks_of chunks_in chunks_within chars str_width step past_emoji
-paragraphs_meets = from_tests paragraphs_document true (codes "a\n\nbc") paragraphs_cut refl refl refl refl refl refl refl refl refl refl
+paragraphs_meets = from_tests (Of (Start InlineBlock) ∷ Of (TextStart Text) ∷ Of (Shown Text (Raw (codes "a") 1)) ∷ Of (Shown Text Paragraph) ∷ Put Newline ∷ Put Newline ∷ Of (Shown Text (Raw (codes "b") 1)) ∷ Of (TextEnd Text) ∷ Of (End InlineBlock) ∷ Of (TextStart Text) ∷ Of (Shown Text (Raw (codes "c") 1)) ∷ Of (TextEnd Text) ∷ [])
+    refl refl refl refl refl refl refl refl refl refl
 
-abbrev brief_document : List Part
-brief_document = PartStart InlineBlock ∷ Words (codes "a\n\nb") Text ∷ PartEnd InlineBlock ∷ Words (codes "c") Text ∷ []
-
-abbrev brief_cut : List MarkdownSnippet
-brief_cut = Of (Start InlineBlock) ∷ Of (TextStart Text) ∷ Of (Shown Text (Raw (codes "a") 1)) ∷ Of (TextEnd Text) ∷ Of (End InlineBlock) ∷ Of (TextStart Text) ∷ Of (Shown Text (Raw (codes "c") 1)) ∷ Of (TextEnd Text) ∷ []
-
-brief_meets : IsMarkdownOf brief_document false (codes "ac")
+brief_meets : IsMarkdownOf paragraphs_document false (codes "ac")
 unfolding chunks_of chunks_in chunks_within chars str_width step past_emoji
-brief_meets = from_tests brief_document false (codes "ac") brief_cut refl refl refl refl refl refl refl refl refl refl
+brief_meets = from_tests (Of (Start InlineBlock) ∷ Of (TextStart Text) ∷ Of (Shown Text (Raw (codes "a") 1)) ∷ Of (TextEnd Text) ∷ Of (End InlineBlock) ∷ Of (TextStart Text) ∷ Of (Shown Text (Raw (codes "c") 1)) ∷ Of (TextEnd Text) ∷ [])
+    refl refl refl refl refl refl refl refl refl refl
 
 abbrev title_document : List Part
 title_document = PartStart InlineBlock ∷ Words (codes "Title") Emphasis ∷ PartStart Section3 ∷ Words (codes "body") Text ∷ PartEnd Section3 ∷ PartEnd InlineBlock ∷ []
 
-abbrev title_cut : List MarkdownSnippet
-title_cut = Of (Start InlineBlock) ∷ Of (TextStart Emphasis) ∷ Put Bold ∷ Of (Shown Emphasis (Raw (codes "Title") 5)) ∷ Put Bold ∷ Of (TextEnd Emphasis) ∷ Of (Start Section3) ∷ Put ThirdHeading ∷ Of (TextStart Text) ∷ Of (Shown Text (Raw (codes "body") 4)) ∷ Of (TextEnd Text) ∷ Of (End Section3) ∷ Put Newline ∷ Of (End InlineBlock) ∷ []
-
 title_meets : IsMarkdownOf title_document true (codes "**Title**### body\n")
 unfolding chunks_of chunks_in chunks_within chars str_width step past_emoji
-title_meets = from_tests title_document true (codes "**Title**### body\n") title_cut refl refl refl refl refl refl refl refl refl refl
+title_meets = from_tests (Of (Start InlineBlock) ∷ Of (TextStart Emphasis) ∷ Put Bold ∷ Of (Shown Emphasis (Raw (codes "Title") 5)) ∷ Put Bold ∷ Of (TextEnd Emphasis) ∷ Of (Start Section3) ∷ Put ThirdHeading ∷ Of (TextStart Text) ∷ Of (Shown Text (Raw (codes "body") 4)) ∷ Of (TextEnd Text) ∷ Of (End Section3) ∷ Put Newline ∷ Of (End InlineBlock) ∷ [])
+    refl refl refl refl refl refl refl refl refl refl
 
 abbrev list_document : List Part
 list_document = PartStart Header ∷ Words (codes "Top") Text ∷ PartEnd Header ∷ PartStart DefinitionList ∷ PartStart ItemTerm ∷ Words (codes "--a") Literal ∷ PartEnd ItemTerm ∷ PartStart ItemBody ∷ Words (codes "one two\n b") Text ∷ PartEnd ItemBody ∷ PartStart ItemTerm ∷ PartEnd ItemTerm ∷ PartStart ItemBody ∷ Words (codes "x") Text ∷ PartEnd ItemBody ∷ PartEnd DefinitionList ∷ PartStart Header ∷ Words (codes "Y") Text ∷ PartEnd Header ∷ []
 
-abbrev list_cut : List MarkdownSnippet
-list_cut = Of (Start Header) ∷ Put Heading ∷ Of (TextStart Text) ∷ Of (Shown Text (Raw (codes "Top") 3)) ∷ Of (TextEnd Text) ∷ Of (End Header) ∷ Put Newline ∷ Of (Start DefinitionList) ∷ Of (Start ItemTerm) ∷ Put Dash ∷ Of (TextStart Literal) ∷ Put Bold ∷ Put Tick ∷ Of (Shown Literal (Raw (codes "--a") 3)) ∷ Put Tick ∷ Put Bold ∷ Of (TextEnd Literal) ∷ Of (End ItemTerm) ∷ Of (Start ItemBody) ∷ Put LongDash ∷ Put Newline ∷ Put Blank ∷ Put Blank ∷ Of (TextStart Text) ∷ Of (Shown Text (Raw (codes "one") 3)) ∷ Of (Shown Text (Raw (codes " ") 1)) ∷ Of (Shown Text (Raw (codes "two") 3)) ∷ Of (Shown Text LineBreak) ∷ Put Newline ∷ Of (Shown Text (Raw (codes "b") 1)) ∷ Of (TextEnd Text) ∷ Of (End ItemBody) ∷ Put Newline ∷ Of (Start ItemTerm) ∷ Put Blank ∷ Put Blank ∷ Of (End ItemTerm) ∷ Of (Start ItemBody) ∷ Put Blank ∷ Put Newline ∷ Put Blank ∷ Put Blank ∷ Of (TextStart Text) ∷ Of (Shown Text (Raw (codes "x") 1)) ∷ Of (TextEnd Text) ∷ Of (End ItemBody) ∷ Put Newline ∷ Of (End DefinitionList) ∷ Put Newline ∷ Of (Start Header) ∷ Put SecondHeading ∷ Of (TextStart Text) ∷ Of (Shown Text (Raw (codes "Y") 1)) ∷ Of (TextEnd Text) ∷ Of (End Header) ∷ Put Newline ∷ []
-
 list_meets : IsMarkdownOf list_document true (codes "# Top\n- **`--a`** &mdash; \n  one two\nb\n   \n  x\n\n## Y\n")
 unfolding chunks_of chunks_in chunks_within chars str_width step past_emoji
-list_meets = from_tests list_document true (codes "# Top\n- **`--a`** &mdash; \n  one two\nb\n   \n  x\n\n## Y\n") list_cut refl refl refl refl refl refl refl refl refl refl
+list_meets = from_tests (Of (Start Header) ∷ Put Heading ∷ Of (TextStart Text) ∷ Of (Shown Text (Raw (codes "Top") 3)) ∷ Of (TextEnd Text) ∷ Of (End Header) ∷ Put Newline ∷ Of (Start DefinitionList) ∷ Of (Start ItemTerm) ∷ Put Dash ∷ Of (TextStart Literal) ∷ Put Bold ∷ Put Tick ∷ Of (Shown Literal (Raw (codes "--a") 3)) ∷ Put Tick ∷ Put Bold ∷ Of (TextEnd Literal) ∷ Of (End ItemTerm) ∷ Of (Start ItemBody) ∷ Put LongDash ∷ Put Newline ∷ Put Blank ∷ Put Blank ∷ Of (TextStart Text) ∷ Of (Shown Text (Raw (codes "one") 3)) ∷ Of (Shown Text (Raw (codes " ") 1)) ∷ Of (Shown Text (Raw (codes "two") 3)) ∷ Of (Shown Text LineBreak) ∷ Put Newline ∷ Of (Shown Text (Raw (codes "b") 1)) ∷ Of (TextEnd Text) ∷ Of (End ItemBody) ∷ Put Newline ∷ Of (Start ItemTerm) ∷ Put Blank ∷ Put Blank ∷ Of (End ItemTerm) ∷ Of (Start ItemBody) ∷ Put Blank ∷ Put Newline ∷ Put Blank ∷ Put Blank ∷ Of (TextStart Text) ∷ Of (Shown Text (Raw (codes "x") 1)) ∷ Of (TextEnd Text) ∷ Of (End ItemBody) ∷ Put Newline ∷ Of (End DefinitionList) ∷ Put Newline ∷ Of (Start Header) ∷ Put SecondHeading ∷ Of (TextStart Text) ∷ Of (Shown Text (Raw (codes "Y") 1)) ∷ Of (TextEnd Text) ∷ Of (End Header) ∷ Put Newline ∷ [])
+    refl refl refl refl refl refl refl refl refl refl
 
 abbrev mono_document : List Part
 mono_document = PartStart Mono ∷ Words (codes "[a] ") Text ∷ Words (codes "X") Metavar ∷ PartEnd Mono ∷ Words (codes "[b]") Text ∷ []
 
-abbrev mono_cut : List MarkdownSnippet
-mono_cut = Of (Start Mono) ∷ Of (TextStart Text) ∷ Of (Shown Text (Raw (codes "[a]") 3)) ∷ Of (Shown Text (Raw (codes " ") 1)) ∷ Of (TextEnd Text) ∷ Of (TextStart Metavar) ∷ Put Italic ∷ Put Tick ∷ Of (Shown Metavar (Raw (codes "X") 1)) ∷ Put Tick ∷ Put Italic ∷ Of (TextEnd Metavar) ∷ Of (End Mono) ∷ Of (TextStart Text) ∷ Of (Shown Text (Raw (codes "[b]") 3)) ∷ Of (TextEnd Text) ∷ []
-
 mono_meets : IsMarkdownOf mono_document true (codes "\\[a\\] _`X`_[b]")
 unfolding chunks_of chunks_in chunks_within chars str_width step past_emoji
-mono_meets = from_tests mono_document true (codes "\\[a\\] _`X`_[b]") mono_cut refl refl refl refl refl refl refl refl refl refl
+mono_meets = from_tests (Of (Start Mono) ∷ Of (TextStart Text) ∷ Of (Shown Text (Raw (codes "[a]") 3)) ∷ Of (Shown Text (Raw (codes " ") 1)) ∷ Of (TextEnd Text) ∷ Of (TextStart Metavar) ∷ Put Italic ∷ Put Tick ∷ Of (Shown Metavar (Raw (codes "X") 1)) ∷ Put Tick ∷ Put Italic ∷ Of (TextEnd Metavar) ∷ Of (End Mono) ∷ Of (TextStart Text) ∷ Of (Shown Text (Raw (codes "[b]") 3)) ∷ Of (TextEnd Text) ∷ [])
+    refl refl refl refl refl refl refl refl refl refl
 
 -- wrong answers
 
@@ -175,17 +142,7 @@ styled ts = filter is_style_mark_or_fragment ts
 
 mark_not_empty : (mark : Mark) → 1 ≤ length (mark_text mark)
 mark_not_empty Italic = omega arith
-mark_not_empty Bold = omega arith
-mark_not_empty Tick = omega arith
-mark_not_empty TextFence = omega arith
-mark_not_empty Fence = omega arith
-mark_not_empty Heading = omega arith
-mark_not_empty SecondHeading = omega arith
-mark_not_empty ThirdHeading = omega arith
-mark_not_empty Dash = omega arith
-mark_not_empty LongDash = omega arith
-mark_not_empty Blank = omega arith
-mark_not_empty Newline = omega arith
+mark_not_empty mark = omega arith
 
 -- an answer without its style marks is too short
 marks-le : (seen ts : List MarkdownSnippet) → length (filter is_put (styled ts)) ≤ length (text_after seen ts)
@@ -232,8 +189,8 @@ rest_of (p ∷ ps) = ps
 -- a cut at a fragment of the document
 cut_at : (ts : List MarkdownSnippet) (front rest : List Fragment) (p : Fragment) → fragments_in ts ≡ front ++ p ∷ rest
     → (before after : List MarkdownSnippet) × (ts ≡ before ++ Of p ∷ after) × (fragments_in before ≡ front) × (fragments_in after ≡ rest)
-cut_at [] [] rest p e = absurd (false≢true (sym (ap is_nil e)))
-cut_at [] (f ∷ fs) rest p e = absurd (false≢true (sym (ap is_nil e)))
+cut_at [] [] rest p e = absurd cc
+cut_at [] (f ∷ fs) rest p e = absurd cc
 cut_at (Put mark ∷ ts) front rest p e =
     let found : (before after : List MarkdownSnippet) × (ts ≡ before ++ Of p ∷ after) × (fragments_in before ≡ front) × (fragments_in after ≡ rest) = cut_at ts front rest p e in
     (Put mark ∷ found.0, found.1, ap (λ x. Put mark ∷ x) found.2, found.3, found.4)

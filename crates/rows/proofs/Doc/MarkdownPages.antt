@@ -28,70 +28,32 @@ block b inner = Start b ∷ (inner ++ End b ∷ [])
 abbrev a : List Part
 a = Words (codes "a") Text ∷ []
 
-nothing : ShowsFull [] (codes "")
-nothing = refl
-
 abbrev two_paragraphs : List Part
 two_paragraphs = block InlineBlock (Words (codes "a\n\nb") Text ∷ []) ++ Words (codes "c") Text ∷ []
 
-brief : ShowsBrief two_paragraphs (codes "ac")
+first_texts : ShowsFull [] (codes "")
+    × ShowsBrief two_paragraphs (codes "ac")
+    × ShowsFull two_paragraphs (codes "a\n\nbc")
 unfolding computed
-brief = refl
-
-full : ShowsFull two_paragraphs (codes "a\n\nbc")
-unfolding computed
-full = refl
+first_texts = (refl, refl, refl)
 
 -- marks of a hidden header are shown
-brief_header : ShowsBrief (Words (codes "a\n\nb") Text ∷ Words (codes "c") Literal ∷ block Header (Words (codes "e") Text ∷ [])) (codes "a\n\n# \n")
-unfolding computed
-brief_header = refl
-
-usage : ShowsFull (Words (codes "Usage: ") Emphasis ∷ Words (codes "my_program") Literal ∷ Words (codes "FILE") Metavar ∷ Words (codes " and ") Text ∷ Words (codes "x") Invalid ∷ [])
+blocks : ShowsBrief (Words (codes "a\n\nb") Text ∷ Words (codes "c") Literal ∷ block Header (Words (codes "e") Text ∷ [])) (codes "a\n\n# \n")
+    × ShowsFull (Words (codes "Usage: ") Emphasis ∷ Words (codes "my_program") Literal ∷ Words (codes "FILE") Metavar ∷ Words (codes " and ") Text ∷ Words (codes "x") Invalid ∷ [])
     (codes "**Usage: ****`my_program`**_`FILE`_ and **x**")
-unfolding computed
-usage = refl
-
-title : ShowsFull (block InlineBlock (Words (codes "Title") Emphasis ∷ block Section3 (Words (codes "body") Text ∷ []))) (codes "**Title**### body\n")
-unfolding computed
-title = refl
-
-meta : ShowsFull (block Meta a) (codes "a")
-unfolding computed
-meta = refl
-
-term_ref : ShowsFull (block TermRef a) (codes "a")
-unfolding computed
-term_ref = refl
-
-section2 : ShowsFull (block Section2 a) (codes "a\n")
-unfolding computed
-section2 = refl
-
-section4 : ShowsFull (block Section4 a) (codes "- a\n")
-unfolding computed
-section4 = refl
-
-term : ShowsFull (block ItemTerm a) (codes "- a")
-unfolding computed
-term = refl
-
-body : ShowsFull (block ItemBody a) (codes "  a")
-unfolding computed
-body = refl
-
-list : ShowsFull (block DefinitionList a) (codes "a\n")
-unfolding computed
-list = refl
-
-paragraph : ShowsFull (block Plain a) (codes "\na\n")
-unfolding computed
-paragraph = refl
-
-headers : ShowsFull (block Header (Words (codes "X") Text ∷ []) ++ block Header (Words (codes "Y") Text ∷ []) ++ Words (codes "z\n z") Text ∷ block Header [])
+    × ShowsFull (block InlineBlock (Words (codes "Title") Emphasis ∷ block Section3 (Words (codes "body") Text ∷ []))) (codes "**Title**### body\n")
+    × ShowsFull (block Meta a) (codes "a")
+    × ShowsFull (block TermRef a) (codes "a")
+    × ShowsFull (block Section2 a) (codes "a\n")
+    × ShowsFull (block Section4 a) (codes "- a\n")
+    × ShowsFull (block ItemTerm a) (codes "- a")
+    × ShowsFull (block ItemBody a) (codes "  a")
+    × ShowsFull (block DefinitionList a) (codes "a\n")
+    × ShowsFull (block Plain a) (codes "\na\n")
+    × ShowsFull (block Header (Words (codes "X") Text ∷ []) ++ block Header (Words (codes "Y") Text ∷ []) ++ Words (codes "z\n z") Text ∷ block Header [])
     (codes "# X\n\n\n## Y\nz\nz\n\n## \n")
 unfolding computed
-headers = refl
+blocks = (refl, refl, refl, refl, refl, refl, refl, refl, refl, refl, refl, refl)
 
 -- a body in a list, one in that body, an empty item, and a body behind the list
 abbrev items : List Part
@@ -103,46 +65,26 @@ unfolding computed
 bodies = refl
 
 -- brackets inside Mono, also where its marks are not balanced
-mono : ShowsFull (Words (codes "[a]") Text ∷ block Mono (Words (codes "[e]x") Text ∷ []) ++ Words (codes "[b]") Text ∷ []) (codes "[a]\\[e\\]x[b]")
+brackets : ShowsFull (Words (codes "[a]") Text ∷ block Mono (Words (codes "[e]x") Text ∷ []) ++ Words (codes "[b]") Text ∷ []) (codes "[a]\\[e\\]x[b]")
+    × ShowsFull (End Mono ∷ Start Mono ∷ Words (codes "[a]") Text ∷ Start Mono ∷ Words (codes "[b]") Text ∷ []) (codes "[a]\\[b\\]")
+    × ShowsFull (Words (codes "<script>&</script>") Text ∷ []) (codes "<script>&</script>")
 unfolding computed
-mono = refl
-
-unbalanced : ShowsFull (End Mono ∷ Start Mono ∷ Words (codes "[a]") Text ∷ Start Mono ∷ Words (codes "[b]") Text ∷ []) (codes "[a]\\[b\\]")
-unfolding computed
-unbalanced = refl
-
-script : ShowsFull (Words (codes "<script>&</script>") Text ∷ []) (codes "<script>&</script>")
-unfolding computed
-script = refl
+brackets = (refl, refl, refl)
 
 -- marks by themselves
-block_end : ShowsFull (End Plain ∷ []) (codes "\n")
-block_end = refl
-
-body_start : ShowsFull (Start ItemBody ∷ []) (codes "  ")
-body_start = refl
-
-section_ends : ShowsFull (End Section2 ∷ End Section2 ∷ []) (codes "\n\n")
-section_ends = refl
-
-term_start : ShowsFull (Start ItemTerm ∷ []) (codes "- ")
-term_start = refl
-
-empty_item : ShowsFull (Start Section4 ∷ End ItemTerm ∷ []) (codes "  ")
-empty_item = refl
+marks : ShowsFull (End Plain ∷ []) (codes "\n")
+    × ShowsFull (Start ItemBody ∷ []) (codes "  ")
+    × ShowsFull (End Section2 ∷ End Section2 ∷ []) (codes "\n\n")
+    × ShowsFull (Start ItemTerm ∷ []) (codes "- ")
+    × ShowsFull (Start Section4 ∷ End ItemTerm ∷ []) (codes "  ")
+marks = (refl, refl, refl, refl, refl)
 
 -- code in fences, and lines of a fence
-code : ShowsFull (Words (codes "x\n\n    c\n    d\ny") Text ∷ []) (codes "x\n\n\n\n  ```text\n  c\n  d\n\n  ```\n y")
+code_lines : ShowsFull (Words (codes "x\n\n    c\n    d\ny") Text ∷ []) (codes "x\n\n\n\n  ```text\n  c\n  d\n\n  ```\n y")
+    × ShowsFull (Words (codes "\n    c") Text ∷ []) (codes "\n\n  ```text\n  c\n  ```\n")
+    × ShowsFull (Words (codes "x\n\n```a\nb\n```\n\ny") Text ∷ []) (codes "x\n\n  ```a\n  b\n  ```\n\n\ny")
 unfolding computed
-code = refl
-
-last_code : ShowsFull (Words (codes "\n    c") Text ∷ []) (codes "\n\n  ```text\n  c\n  ```\n")
-unfolding computed
-last_code = refl
-
-fence : ShowsFull (Words (codes "x\n\n```a\nb\n```\n\ny") Text ∷ []) (codes "x\n\n  ```a\n  b\n  ```\n\n\ny")
-unfolding computed
-fence = refl
+code_lines = (refl, refl, refl)
 
 -- a word of the weight of a code line
 wide_word : markdown_after [] [] (TextStart Text ∷ Shown Text (Raw (codes "aaa") code_weight) ∷ TextEnd Text ∷ []) ≡ codes "\n\n  ```text\n  aaa\n  ```\n"

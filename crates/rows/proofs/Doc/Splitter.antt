@@ -12,22 +12,16 @@ unfolding chunks_of chunks_in chunks_within chars str_width step past_emoji
 computed = 0
 
 -- chunks of words, paragraphs and code
-row_1 : chunks_of (codes "a\n\n    a\n    b\n\ndf\n\n    c\n    d\n")
+words_and_code : chunks_of (codes "a\n\n    a\n    b\n\ndf\n\n    c\n    d\n")
     ≡ Raw (codes "a") 1 ∷ Paragraph ∷ Raw (codes "a") 1000000 ∷ Raw (codes "b") 1000000 ∷ Paragraph ∷ Raw (codes "df") 2
     ∷ Paragraph ∷ Raw (codes "c") 1000000 ∷ Raw (codes "d") 1000000 ∷ Raw (codes " ") 1 ∷ []
-unfolding computed
-row_1 = refl
-
-row_2 : chunks_of (codes "a\n\n```text\na\nb\n```\n\ndf\n\n```\nc\nd\n```\n")
+    × chunks_of (codes "a\n\n```text\na\nb\n```\n\ndf\n\n```\nc\nd\n```\n")
     ≡ Raw (codes "a") 1 ∷ Paragraph ∷ Raw (codes "```text") 1000001 ∷ Raw (codes "a") 1000001 ∷ Raw (codes "b") 1000001 ∷ Raw (codes "```") 1000001
     ∷ Paragraph ∷ Raw (codes "df") 2
     ∷ Paragraph ∷ Raw (codes "```") 1000001 ∷ Raw (codes "c") 1000001 ∷ Raw (codes "d") 1000001 ∷ Raw (codes "```") 1000001 ∷ []
+    × chunks_of (codes "hello\n world\n") ≡ Raw (codes "hello") 5 ∷ LineBreak ∷ Raw (codes "world") 5 ∷ Raw (codes " ") 1 ∷ []
 unfolding computed
-row_2 = refl
-
-plain_lines : chunks_of (codes "hello\n world\n") ≡ Raw (codes "hello") 5 ∷ LineBreak ∷ Raw (codes "world") 5 ∷ Raw (codes " ") 1 ∷ []
-unfolding computed
-plain_lines = refl
+words_and_code = (refl, refl, refl)
 
 -- U+2764 U+FE0F is one word
 heart : chunks_of (226 ∷ 157 ∷ 164 ∷ 239 ∷ 184 ∷ 143 ∷ []) ≡ Raw (226 ∷ 157 ∷ 164 ∷ 239 ∷ 184 ∷ 143 ∷ []) (columns (226 ∷ 157 ∷ 164 ∷ 239 ∷ 184 ∷ 143 ∷ [])) ∷ []
@@ -35,17 +29,11 @@ unfolding computed
 heart = refl
 
 -- an empty line of code, and an unclosed fence with an empty line
-empty_code : chunks_of (codes "\n    ") ≡ Raw [] 1000000 ∷ []
+empty_lines : chunks_of (codes "\n    ") ≡ Raw [] 1000000 ∷ []
+    × chunks_of (codes "\n\n```\n\na") ≡ Paragraph ∷ Raw (codes "```") 1000001 ∷ Raw [] 1000001 ∷ Raw (codes "a") 1000001 ∷ []
+    × chunks_of (codes "a\n\n\nb\n\n\n\nc") ≡ Raw (codes "a") 1 ∷ Paragraph ∷ Raw (codes " ") 1 ∷ Raw (codes "b") 1 ∷ Paragraph ∷ Paragraph ∷ Raw (codes "c") 1 ∷ []
 unfolding computed
-empty_code = refl
-
-open_fence : chunks_of (codes "\n\n```\n\na") ≡ Paragraph ∷ Raw (codes "```") 1000001 ∷ Raw [] 1000001 ∷ Raw (codes "a") 1000001 ∷ []
-unfolding computed
-open_fence = refl
-
-three_newlines : chunks_of (codes "a\n\n\nb\n\n\n\nc") ≡ Raw (codes "a") 1 ∷ Paragraph ∷ Raw (codes " ") 1 ∷ Raw (codes "b") 1 ∷ Paragraph ∷ Paragraph ∷ Raw (codes "c") 1 ∷ []
-unfolding computed
-three_newlines = refl
+empty_lines = (refl, refl, refl)
 
 -- ---- what is refused
 

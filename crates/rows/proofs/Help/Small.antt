@@ -44,14 +44,10 @@ run = command (codes "X") None (Some h) skip nothing
 abbrev titled : Tree
 titled = subsection (and_of (tree (item x) (tree (item run) no_trees))) h
 
-shown_once : shown_entries (group_members (item_list titled) 1) ≡ group_start h ty.Positional ∷ listed x ∷ group_end ty.Positional ∷ []
-shown_once = refl
-
-group_places : find_group (item_list (and_of (tree (item b) (tree titled no_trees)))) ≡ Some (1, 4)
-group_places = refl
-
-no_group : find_group (item_list (item b)) ≡ None
-no_group = refl
+groups_shown : shown_entries (group_members (item_list titled) 1) ≡ group_start h ty.Positional ∷ listed x ∷ group_end ty.Positional ∷ []
+    × find_group (item_list (and_of (tree (item b) (tree titled no_trees)))) ≡ Some (1, 4)
+    × find_group (item_list (item b)) ≡ None
+groups_shown = (refl, refl, refl)
 
 -- a flag that differs in the environment name alone is not shown again
 abbrev again : Leaf
@@ -72,14 +68,10 @@ left_out : heading_members (item_list (adjacent grouped)) ty.Flag ≡ adjacent_s
 left_out = refl
 
 -- by class, then by name, then no help before help
-class_first : key_cmp (word_key (codes "b") None) (flag_key (short 97) None) ≡ order.Less
-class_first = refl
-
-short_first : key_cmp (flag_key (long (codes "a")) None) (flag_key (short 98) (Some h)) ≡ order.Greater
-short_first = refl
-
-no_help_first : key_cmp (argument_key (both 97 (codes "a")) (codes "N") None) (argument_key (both 97 (codes "a")) (codes "N") (Some h)) ≡ order.Less
-no_help_first = refl
+key_order : key_cmp (word_key (codes "b") None) (flag_key (short 97) None) ≡ order.Less
+    × key_cmp (flag_key (long (codes "a")) None) (flag_key (short 98) (Some h)) ≡ order.Greater
+    × key_cmp (argument_key (both 97 (codes "a")) (codes "N") None) (argument_key (both 97 (codes "a")) (codes "N") (Some h)) ≡ order.Less
+key_order = (refl, refl, refl)
 
 -- nothing is reached in an Adjacent without first item, so only the check of the command's own chapter finds the flag
 abbrev hidden : Tree
@@ -113,22 +105,16 @@ sample_page =
     ∷ Start block.ItemBody ∷ Start block.InlineBlock ∷ Text (codes "Talk more") style.Text ∷ End block.InlineBlock ∷ End block.ItemBody
     ∷ End block.DefinitionList ∷ End block.Block ∷ []
 
-help_page : document_of (help_page_writes (codes "app" ∷ []) told sample skip false no_texts) ≡ sample_page
-unfolding encode
-help_page = refl
-
-collected_page : document_of (collected_writes (codes "app") sample told) ≡ Start block.Header ∷ Text (codes "app") style.Text ∷ End block.Header ∷ Start block.InlineBlock ∷ (sample_page ++ End block.InlineBlock ∷ [])
-unfolding encode
-collected_page = refl
-
-manual_page : page_events (document_of (manual_writes (codes "app") sample told)) ≡
+three_pages : document_of (help_page_writes (codes "app" ∷ []) told sample skip false no_texts) ≡ sample_page
+    × document_of (collected_writes (codes "app") sample told) ≡ Start block.Header ∷ Text (codes "app") style.Text ∷ End block.Header ∷ Start block.InlineBlock ∷ (sample_page ++ End block.InlineBlock ∷ [])
+    × page_events (document_of (manual_writes (codes "app") sample told)) ≡
     Control (codes "SH") (codes "NAME" ∷ []) ∷ Span font.Roman (codes "app - ") ∷ Span font.Roman (codes "Prints things") ∷ LineEnd
     ∷ Control (codes "SH") (codes "SYNOPSIS" ∷ []) ∷ Span font.Bold (codes "app") ∷ Span font.Roman (codes " ") ∷ Span font.Bold (codes "-v") ∷ LineEnd
     ∷ Control (codes "PP") [] ∷ Control (codes "SS") (codes "AVAILABLE OPTIONS:" ∷ [])
     ∷ Control (codes "TP") [] ∷ Span font.Bold (codes "-v") ∷ Span font.Roman (codes ", ") ∷ Span font.Bold (codes "--verbose") ∷ LineEnd
     ∷ Span font.Roman (codes "Talk more") ∷ LineEnd ∷ Control (codes "PP") [] ∷ []
 unfolding encode
-manual_page = refl
+three_pages = (refl, refl, refl)
 
 -- a line of a command summary
 summary : summary_line (record { path = codes "app" ∷ codes "A b" ∷ []; info = nothing; content = skip }) ≡ start block.ItemBody ∷ plain (codes "* [`app A b`" ++ 0xe2 ∷ 0x86 ∷ 0xb4 ∷ codes "](#app-a-b)") ∷ end block.ItemBody ∷ []
@@ -140,24 +126,15 @@ summary = refl
 abbrev set : Texts
 set = texts_with no_texts (codes "V") (codes "\"7\"")
 
-env_not_set : entry_writes true no_texts (listed again) ≡ start block.ItemTerm ∷ literal (codes "-b") ∷ end block.ItemTerm ∷ start block.ItemBody ∷ plain (codes "[env:V: not set]") ∷ end block.ItemBody ∷ []
-unfolding encode
-env_not_set = refl
-
-env_set : entry_writes true set (listed again) ≡ start block.ItemTerm ∷ literal (codes "-b") ∷ end block.ItemTerm ∷ start block.ItemBody ∷ plain (codes "[env:V: set]") ∷ end block.ItemBody ∷ []
-unfolding encode
-env_set = refl
-
-env_after_help : entry_writes false set (listed (flag (long (codes "x")) [] (Some (codes "V")) (Some h))) ≡
+env_texts : entry_writes true no_texts (listed again) ≡ start block.ItemTerm ∷ literal (codes "-b") ∷ end block.ItemTerm ∷ start block.ItemBody ∷ plain (codes "[env:V: not set]") ∷ end block.ItemBody ∷ []
+    × entry_writes true set (listed again) ≡ start block.ItemTerm ∷ literal (codes "-b") ∷ end block.ItemTerm ∷ start block.ItemBody ∷ plain (codes "[env:V: set]") ∷ end block.ItemBody ∷ []
+    × entry_writes false set (listed (flag (long (codes "x")) [] (Some (codes "V")) (Some h))) ≡
     start block.ItemTerm ∷ literal (codes "    --x") ∷ end block.ItemTerm ∷ start block.ItemBody ∷ start block.InlineBlock ∷ parts h ∷ end block.InlineBlock ∷ end block.ItemBody
     ∷ start block.ItemTerm ∷ end block.ItemTerm ∷ start block.ItemBody ∷ plain (codes "Uses environment variable ") ∷ literal (codes "V") ∷ end block.ItemBody ∷ []
-env_after_help = refl
-
-env_value : argument_env_text (codes "V") (set (codes "V")) ≡ codes "[env:V = \"7\"]"
-env_value = refl
-
-env_no_value : argument_env_text (codes "V") (no_texts (codes "V")) ≡ codes "[env:V: N/A]"
-env_no_value = refl
+    × argument_env_text (codes "V") (set (codes "V")) ≡ codes "[env:V = \"7\"]"
+    × argument_env_text (codes "V") (no_texts (codes "V")) ≡ codes "[env:V: N/A]"
+unfolding encode
+env_texts = (refl, refl, refl, refl, refl)
 
 -- ---- an application with one command
 
