@@ -55,13 +55,11 @@ IsUtf8-AreEnds start (e ∷ es) rest are =
 
 pub parts_from-append : (start : ℕ) (es fs : List PartEnd) (rest more : List ℕ) → AreEnds start es rest
     → parts_from start (es ++ fs) (rest ++ more) ≡ parts_from start es rest ++ parts_from (start + length rest) fs more
-parts_from-append start [] fs [] more are = rw add-zero refl
-parts_from-append start [] fs (x ∷ rest) more are = cc
+parts_from-append start [] fs s more are = grind (arith, add-zero)
 parts_from-append start (e ∷ es) fs rest more are = grind (arith, parts_from-append e.end es fs (drop (e.end - start) rest) more, take-append-le, drop-append-le, left_over)
 
 pub AreEnds-append : (start : ℕ) (es fs : List PartEnd) (rest more : List ℕ) → AreEnds start es rest → AreEnds (start + length rest) fs more → AreEnds start (es ++ fs) (rest ++ more)
-AreEnds-append start [] fs [] more are also = rw add-zero at also
-AreEnds-append start [] fs (x ∷ rest) more are also = cc
+AreEnds-append start [] fs s more are also = grind (arith, add-zero)
 AreEnds-append start (e ∷ es) fs rest more are also = grind (arith, AreEnds-append e.end es fs (drop (e.end - start) rest) more, length-append, take-append-le, drop-append-le, left_over)
 
 -- ---- a part without bytes
@@ -176,8 +174,7 @@ module _ (style : Style) (text : List ℕ) where
 
   pub parts_from-with_text_end : (start end : ℕ) (es : List PartEnd) (rest : List ℕ) → end ≡ start + (length rest + length text) → AreEnds start es rest
       → parts_from start (with_text_end es style end) (rest ++ text) ≡ with_text (parts_from start es rest) text style
-  parts_from-with_text_end start end [] [] is are = text_alone start end (omega arith)
-  parts_from-with_text_end start end [] (x ∷ rest) is are = cc
+  parts_from-with_text_end start end [] s is are = grind (arith, text_alone)
   parts_from-with_text_end start end (e ∷ []) rest is are = text_after start end e.end rest is e.kind are
   parts_from-with_text_end start end (e ∷ f ∷ es) rest is are = grind (arith, parts_from-with_text_end e.end end (f ∷ es), take-append-le, drop-append-le, left_over)
 
@@ -238,8 +235,7 @@ end_before-read start (e ∷ es) (suc i) d lt = end_before-read e.end es i d (om
 pub slice_get-next : (s t ps : List Part) (r : Option handed.Part) (i : ℕ) → s ≡ drop i ps → i < length ps → YieldsFirstBy part_of (λ left. left) s r t
     → option_map part_of r ≡ slice_get ps i
 slice_get-next s t [] r i is lt yields = absurd (omega (arith, lt))
-slice_get-next s t (p ∷ ps) None zero is lt yields = absurd (let e : [] ≡ p ∷ ps = sym yields.0 ∙ is in cc)
-slice_get-next s t (p ∷ ps) (Some x) zero is lt yields = let e : part_of x ∷ t ≡ p ∷ ps = sym yields ∙ is in cc
+slice_get-next s t (p ∷ ps) w zero is lt yields = grind arith
 slice_get-next s t (p ∷ ps) r (suc i) is lt yields = slice_get-next s t ps r i is (omega (arith, lt)) yields
 
 -- ---- the last end moved

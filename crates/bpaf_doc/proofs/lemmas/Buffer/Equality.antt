@@ -1,13 +1,12 @@
 -- Equal documents have the same parts.
-use Rattle.std.proofs.Common.{arith, ◌≡◌, Bool, true, List, [], ◌∷◌, refl, subst}
+use Rattle.std.proofs.Common.{arith, ◌≡◌, Bool, true, List, [], ◌∷◌, subst}
 use Rattle.std.specs.Cmp.Lexicographic.{pointwise}
 use Rattle.std.proofs.lemmas.Bool.{eqb-true, and_parts}
 use Rattle.bpaf_doc.specs.Buffer.Equality.{IsEqualityOfParts, documents_equiv, same_document, same_part}
 use Rattle.bpaf_doc.specs.Buffer.Parts.{Part}
 
 pointwise_is : {X : Type 0} (same : X → X → Bool) → ((x y : X) → same x y ≡ true → x ≡ y) → (xs ys : List X) → pointwise same xs ys ≡ true → xs ≡ ys
-pointwise_is same tells [] [] h = refl
-pointwise_is same tells [] (y ∷ ys) h = cc
+pointwise_is same tells [] s h = grind arith
 pointwise_is same tells (x ∷ xs) [] h = cc
 pointwise_is same tells (x ∷ xs) (y ∷ ys) h = grind (arith, pointwise_is same tells xs ys, and_parts)
 

@@ -1,5 +1,5 @@
 -- A document that grows by one write after another.
-use Rattle.std.proofs.Common.{◌≡◌, List, ◌++◌, sym, ap, subst, ◌∙◌, Result, Ok, Err}
+use Rattle.std.proofs.Common.{arith, ◌≡◌, List, ◌++◌, sym, ap, ◌∙◌, Result}
 use Rattle.std.specs.Prelude.{OnErr, OnOk}
 use Rattle.std.proofs.lemmas.List.Sums.{fold-append}
 use Rattle.bpaf_doc.specs.Buffer.Growth.{Grows, IsCheckpointOf, Reached, RollsBack}
@@ -8,8 +8,7 @@ use Rattle.bpaf_doc.specs.Buffer.Writes.{Write, with_write, with_writes}
 
 -- what holds anyway holds on an error
 pub on_err : {T E P : Type 0} (r : Result T E) → P → OnErr r P
-on_err (Ok x) p = tt
-on_err (Err e) p = p
+on_err s p = grind arith
 
 pub Grows-more : (ps qs rs : List Part) (ws : List Write) → Grows ps qs → rs ≡ with_writes qs ws → Grows ps rs
 Grows-more ps qs rs ws (vs, is) also = (vs ++ ws, also ∙ ap (λ xs. with_writes xs ws) is ∙ sym (fold-append with_write ps vs ws))
@@ -20,5 +19,4 @@ Grows-grown ps qs rs grown (ws, is) = Grows-more ps qs rs ws grown is
 -- a settled write leaves a well-nested document, if it does so where it is not undone
 pub settled_nested : {T E : Type 0} (r : Result T E) {before after new : List Part} (written : List Part) {at : Reached} → OnOk r (written ≡ new) → OnErr r (Grows before written)
     → IsCheckpointOf before at → OnOk r (after ≡ written) → OnErr r (RollsBack at written after) → IsWellNested before → IsWellNested new → IsWellNested after
-settled_nested (Ok x) written is grows at kept back nested also = subst IsWellNested (sym (kept ∙ is)) also
-settled_nested (Err e) written is grows at kept back nested also = subst IsWellNested (sym (back _ at grows)) nested
+settled_nested s written is grows at kept back nested also = grind arith

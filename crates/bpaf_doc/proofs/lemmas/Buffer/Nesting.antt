@@ -1,5 +1,5 @@
 -- What is written into a well-nested document leaves it well nested.
-use Rattle.std.proofs.Common.{arith, ◌≡◌, ℕ, Bool, true, false, List, [], ◌∷◌, ◌++◌, map, sym, refl, ap, ◌∙◌, append_assoc, append-nil, subst}
+use Rattle.std.proofs.Common.{rules, arith, ◌≡◌, ℕ, Bool, true, false, List, [], ◌∷◌, ◌++◌, map, sym, refl, ap, ◌∙◌, append_assoc, append-nil, subst}
 use Rattle.std.specs.Prelude.{if◌then◌else◌}
 use Rattle.std.specs.Borrow.{Bor}
 use Rattle.std.specs.List.{list_any, before_first, after_first}
@@ -37,8 +37,7 @@ IsWellNested-with_text bytes style (joined front (q ∷ qs) is nested also) =
 
 -- parts in a block, as they are written: its start, what it holds, its end
 pub IsWellNested-in_block : (b : Block) (ps inner : List Part) → IsWellNested ps → IsWellNested inner → IsWellNested (((ps ++ Start b ∷ []) ++ inner) ++ End b ∷ [])
-IsWellNested-in_block b ps inner nested also =
-    joined ps (Start b ∷ (inner ++ End b ∷ [])) (append_assoc (ps ++ Start b ∷ []) inner (End b ∷ []) ∙ append_assoc ps (Start b ∷ []) (inner ++ End b ∷ [])) nested (enclosed b inner refl also)
+IsWellNested-in_block b ps inner nested also = search (rules, joined, append_assoc, enclosed)
 
 -- ---- writes between the marks of a block
 

@@ -96,9 +96,7 @@ cut_back k n rest (Text bytes style) (more, is) =
     let t = text_kind k n rest (bytes ++ more) style is in
     let front = front_is n rest bytes more t.1 in
     (front.0, rw (t.0, front.1) refl, front.1, rw t.0 tt)
-cut_back (kind.Start c) n rest (Start b) is = (omega arith, is, refl, refl)
-cut_back (kind.End c) n rest (End b) is = (omega arith, is, refl, refl)
-cut_back _ n rest _ is = cc
+cut_back s n rest t is = grind arith
 
 -- the ends and the payload cut back to a document, of which `last` is the end
 pub record IsCut (start last : ℕ) (es : List PartEnd) (rest : List ℕ) (ps : List Part) : Type 0 where

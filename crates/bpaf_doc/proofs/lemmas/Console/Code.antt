@@ -1,7 +1,7 @@
 -- A code line that comes to a line past the width.
-use Rattle.std.specs.Prelude.{◌≡◌, ℕ, ◌<◌, ◌==◌, false, List, [], ◌∷◌, length}
+use Rattle.std.specs.Prelude.{◌≡◌, ℕ, ◌<◌, false, List, [], ◌∷◌, length}
 use Rattle.std.specs.Str.{bytes_eq}
-use Rattle.std.proofs.Common.{sym, ap, ap₂, arith, ◌∙◌}
+use Rattle.std.proofs.Common.{sym, ap, arith, ◌∙◌}
 use Rattle.std.proofs.lemmas.Bool.{lt-ltb}
 use Rattle.std.proofs.lemmas.Bool.Decides.{nat_tests}
 use Rattle.std.proofs.lemmas.List.{length-append}
@@ -13,19 +13,15 @@ module _ (width tab_stop : ℕ) (margins : List ℕ) where
   abbrev at : List ℕ → ℕ → Sheet
   at out column = page_at width tab_stop margins out column
 
-  some_out : (out : List ℕ) → 0 < length out → (length out == 0) ≡ false
-  some_out out h = grind (arith, nat_tests)
-
   put : (out line : List ℕ) (column : ℕ) → 0 < length out → width < column → width < 1000000 → bytes_eq line (32 ∷ []) ≡ false
       → raw_put line 1000000 (at out column) ≡ code_put line (at out column)
   unfolding raw_put
-  put out line column some past narrow other = grind (arith, lt-ltb, and-false, some_out)
+  put out line column some past narrow other = grind (arith, lt-ltb, and-false, nat_tests)
 
 -- it goes to a line of its own, unless it is a blank alone
 pub code_put_is : (s : Sheet) → IsPastLine s → (line : List ℕ) → bytes_eq line (32 ∷ []) ≡ false → raw_put line 1000000 s ≡ code_put line s
 code_put_is s is line other =
-    let there : s ≡ page_at s.width s.tab_stop s.margins s.out s.column
-    = ap₂ (λ a b. record s { asks = a; at_body = b }) is.nothing_asked is.no_body in
+    let there : s ≡ page_at s.width s.tab_stop s.margins s.out s.column = grind arith in
     ap (raw_put line 1000000) there ∙ put s.width s.tab_stop s.margins s.out line s.column is.some is.past is.narrow other ∙ ap (code_put line) (sym there)
 
 -- behind which the next one does

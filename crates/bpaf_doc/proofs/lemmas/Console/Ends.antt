@@ -1,7 +1,7 @@
 -- A text that ends in a printable ASCII character has no White_Space at its end.
 use Rattle.std.specs.Prelude.{◌≡◌, ℕ, ◌<◌, true, false, List, [], ◌∷◌, ◌++◌, refl, filter, IsUtf8}
 use Rattle.std.specs.Char.{is_ascii_graphic, is_whitespace, is_not_whitespace}
-use Rattle.std.specs.Str.{IsAscii, chars, trim_end}
+use Rattle.std.specs.Str.{chars, trim_end}
 use Rattle.std.proofs.Common.{sym, ap, subst, arith, ◌∙◌}
 use Rattle.std.proofs.lemmas.Bool.Decides.{nat_tests}
 use Rattle.std.proofs.lemmas.Str.{chars-IsAscii, encodes-chars, IsUtf8-from_ascii, IsUtf8-string_bytes}
@@ -17,15 +17,12 @@ small b h = grind (arith, nat_tests)
 dark : (b : ℕ) → is_ascii_graphic b ≡ true → is_whitespace b ≡ false
 dark b h = grind (arith, nat_tests)
 
-one_ascii : (b : ℕ) → b < 128 → IsAscii (b ∷ [])
-one_ascii b h e = grind arith
-
 one_char : (b : ℕ) → is_ascii_graphic b ≡ true → chars (b ∷ []) ≡ b ∷ []
-one_char b h = chars-IsAscii (b ∷ []) (one_ascii b (small b h))
+one_char b h = chars-IsAscii (b ∷ []) (grind arith)
 
 trim_one : (b : ℕ) → is_ascii_graphic b ≡ true → trim_end (b ∷ []) ≡ b ∷ []
 unfolding trim_end
-trim_one b h = grind (arith, dark, one_char, encodes-chars, IsUtf8-from_ascii, one_ascii, small)
+trim_one b h = grind (arith, dark, one_char, encodes-chars, IsUtf8-from_ascii, small)
 
 one_ink : (b : ℕ) → is_ascii_graphic b ≡ true → has_some (ink (b ∷ [])) ≡ true
 one_ink b h = ap (λ cs. has_some (filter is_not_whitespace cs)) (one_char b h) ∙ rw (dark b h) refl

@@ -31,10 +31,6 @@ stays_hidden (suc more) parts = nat_le (ended parts) more
 or_assoc : (a b c : Bool) → (a || (b || c)) ≡ ((a || b) || c)
 or_assoc a b c = grind arith
 
--- what holds anyway
-absorbed : (a b c : Bool) → (c ≡ true → a ≡ true) → (a || (b && c)) ≡ a
-absorbed a b c h = grind arith
-
 pub not_zero : (more : ℕ) → (suc more == 0) ≡ false
 not_zero more = grind (arith, nat_tests)
 
@@ -42,7 +38,7 @@ abbrev IsKept : ℕ → Part → List Part → Type 0
 IsKept hidden part parts = (stays_hidden hidden (part ∷ parts) || (breaks_off part && stays_open is_inline_start is_inline_end parts)) ≡ stays_hidden (hidden_after false hidden part) parts
 
 kept : (hidden : ℕ) (part : Part) (parts : List Part) → IsKept hidden part parts
-kept hidden part parts = grind (arith, open_is, not_zero, absorbed, nat_tests, start_is, or-false, end_is)
+kept hidden part parts = grind (arith, open_is, not_zero, nat_tests, start_is, or-false, end_is)
 
 -- ---- the count after a front
 

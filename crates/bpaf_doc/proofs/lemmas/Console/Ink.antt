@@ -51,8 +51,7 @@ pub ink-trim : (text kept : List ℕ) → IsUtf8 text → IsUtf8 kept → IsTrim
 ink-trim text kept u v (n, same, blank, ends, len, within) =
     let front : IsUtf8 (take n text) = subst (λ xs. IsUtf8 xs) same v in
     let back : IsUtf8 (drop n text) = IsUtf8-drop text n u (IsCharBoundary-from_take text n u within front) in
-    let none : ink (drop n text) ≡ [] =
-    ap (filter is_not_whitespace) (sym (chars_from_encodes blank.0 (drop n text) back blank.1)) ∙ none_left blank.0 blank.2 in
+    let none : ink (drop n text) ≡ [] = grind (arith, chars_from_encodes, none_left) in
     ap ink same ∙ sym (ink-more (take n text) (drop n text) front none) ∙ ap ink (take-append-drop n text)
 
 -- ---- the ink of the chunks that are shown
@@ -93,15 +92,12 @@ brief_from document before [] hidden same counts = refl
 brief_from document before (part ∷ parts) hidden same counts =
     grind (arith, brief_from document (before ++ part ∷ []) parts, both, take_front, shown_at, length-append, append_assoc, Counts-more)
 
-full_stays : (part : Part) → hidden_after true 0 part ≡ 0
-full_stays part = grind arith
-
 full_at : (before : List Part) (part : Part) → shown_part_ink true before part ≡ ink_at true 0 part
 full_at before part = grind (arith, shown_ink-full)
 
 full_from : (document parts : List Part) (k : ℕ) → flat_map (λ (k, part). shown_part_ink true (take k document) part) (enumerate_from k parts) ≡ ink_from true 0 parts
 full_from document [] k = refl
-full_from document (part ∷ parts) k = grind (arith, full_from document parts (k + 1), both, full_at, full_stays)
+full_from document (part ∷ parts) k = grind (arith, full_from document parts (k + 1), both, full_at)
 
 -- from the start on it is the console ink
 pub ink_from-console_ink : (full : Bool) (document : List Part) → ink_from full 0 document ≡ console_ink full document
@@ -127,19 +123,16 @@ ink-nil = ap (filter is_not_whitespace) chars-nil
 
 -- ---- a loop over the parts
 
-hidden_after-le : (full : Bool) (hidden : ℕ) (part : Part) → hidden_after full hidden part ≤ hidden + 1
-hidden_after-le full hidden part = grind arith
-
 -- At this count of hidden blocks, out and the parts that are left have all the ink, and the count stays in range.
 pub record IsLeft (full : Bool) (count hidden : ℕ) (out all : List ℕ) (parts : List Part) : Type 0 where
   pub same_ink : ink out ++ ink_from full hidden parts ≡ all
   pub in_range : hidden + length parts ≤ count
 
 -- one part is written
-pub IsLeft-more : (full : Bool) (count hidden next : ℕ) (out new all : List ℕ) (part : Part) (parts rest : List Part)
+pub IsLeft-more : {full : Bool} {count hidden next : ℕ} {out new all : List ℕ} {part : Part} {parts rest : List Part}
     → IsLeft full count hidden out all parts → parts ≡ part ∷ rest → next ≡ hidden_after full hidden part
     → ink new ≡ ink out ++ ink_at full hidden part → IsLeft full count next new all rest
-IsLeft-more full count hidden next out new all part parts rest left first counted wrote = grind (arith, both, append_assoc, hidden_after-le)
+IsLeft-more left first counted wrote = grind (arith, both, append_assoc)
 
 -- the whole document is left
 pub IsLeft-all : (full : Bool) (count : ℕ) (document : List Part) → length document ≡ count → IsLeft full count 0 [] (console_ink full document) document
@@ -150,16 +143,15 @@ pub IsLeft-none : (full : Bool) (count hidden : ℕ) (out all : List ℕ) (parts
 IsLeft-none full count hidden out all parts left none = grind (arith, append-nil)
 
 -- a text that is shown, with and without a Paragraph that hides what follows, and one that is hidden
-pub IsLeft-shown : (full : Bool) (count hidden : ℕ) (out new all bytes : List ℕ) (style : Style) (parts rest : List Part)
+pub IsLeft-shown : {full : Bool} {count hidden : ℕ} {out new all bytes : List ℕ} {style : Style} {parts rest : List Part}
     → IsLeft full count hidden out all parts → parts ≡ Text bytes style ∷ rest → hidden ≡ 0
     → ink new ≡ ink out ++ shown_ink full (chunks_of bytes) → IsLeft full count (if hides full (chunks_of bytes) then 1 else 0) new all rest
-IsLeft-shown full count hidden out new all bytes style parts rest left first none wrote =
-    IsLeft-more full count 0 (if hides full (chunks_of bytes) then 1 else 0) out new all (Text bytes style) parts rest
-    (subst (λ n. IsLeft full count n out all parts) none left) first refl wrote
+IsLeft-shown {full = full} {count = count} {out = out} {all = all} {parts = parts} left first none wrote =
+    IsLeft-more (subst (λ n. IsLeft full count n out all parts) none left) first refl wrote
 
-pub IsLeft-hidden : (full : Bool) (count hidden : ℕ) (out all bytes : List ℕ) (style : Style) (parts rest : List Part)
+pub IsLeft-hidden : {full : Bool} {count hidden : ℕ} {out all bytes : List ℕ} {style : Style} {parts rest : List Part}
     → IsLeft full count hidden out all parts → parts ≡ Text bytes style ∷ rest → hidden ≢ 0 → IsLeft full count hidden out all rest
-IsLeft-hidden full count hidden out all bytes style parts rest left first some = grind (arith, nat_tests, IsLeft-more, append-nil)
+IsLeft-hidden left first some = grind (arith, nat_tests, IsLeft-more, append-nil)
 
 -- an Ok text with this ink has that ink
 pub IfOk-ink : {Z E : Type 0} (r : Result (String Z) E) (this that : List ℕ) → this ≡ that

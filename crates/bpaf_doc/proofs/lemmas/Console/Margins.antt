@@ -51,16 +51,13 @@ open_is ss = grind (arith, stays_open_is)
 
 -- ---- the top of the stack
 
-top_is : (stack : List ℕ) → top stack ≡ get_or stack 0 0
-top_is stack = grind arith
-
 popped_at : (stack : List ℕ) (k : ℕ) → get_or (popped stack) k 0 ≡ get_or stack (suc k) 0
 popped_at stack k = grind arith
 
 -- Entry by entry: where shifts take k entries away, the top is the entry below these and the indents in force since.
 top_after : (ss : List Shift) (stack : List ℕ) → top (stack_after ss stack) ≡ get_or stack (taken ss) 0 + indents_in_force ss
-top_after [] stack = top_is stack ∙ sym (add-zero (get_or stack 0 0))
-top_after (x ∷ ss) stack = grind (arith, top_after ss, open_is, top_is, nat_tests, popped_at, add-one)
+top_after [] stack = (grind arith) ∙ sym (add-zero (get_or stack 0 0))
+top_after (x ∷ ss) stack = grind (arith, top_after ss, open_is, nat_tests, popped_at, add-one)
 
 -- from an empty stack on it is the sum of the indents in force
 pub top-stack_after : (ss : List Shift) → top (stack_after ss []) ≡ indents_in_force ss
@@ -82,8 +79,7 @@ stack_after-append (s ∷ ss) ts stack = stack_after-append ss ts (shifted s sta
 -- the first j + 1 of what the numbered parts give
 take_next : {A : Type 0} (f : ℕ × Part → A) (j k : ℕ) (parts : List Part) (part : Part) (rest : List Part) → drop j parts ≡ part ∷ rest
     → take (suc j) (map f (enumerate_from k parts)) ≡ take j (map f (enumerate_from k parts)) ++ f (k + j, part) ∷ []
-take_next f zero k [] part rest e = absurd cc
-take_next f zero k (p ∷ ps) part rest e = grind (arith, add-zero)
+take_next f zero k s part rest e = grind (arith, add-zero)
 take_next f (suc j) k [] part rest e = absurd cc
 take_next f (suc j) k (p ∷ ps) part rest e = grind (arith, take_next f j (k + 1) ps part rest e)
 
@@ -110,9 +106,6 @@ falls_after (Outdent ∷ ss) [] h = falls_after ss [] h
 falls_after (Outdent ∷ ss) (m ∷ ms) h = falls_after ss ms h.1
 falls_after (Level ∷ ss) stack h = falls_after ss stack h
 
-popped_le : (stack : List ℕ) → Falls stack → top (popped stack) ≤ top stack
-popped_le stack h = grind arith
-
 -- the stack after the part at place j by that before it
 module _ (document : List Part) (j : ℕ) (part : Part) (rest : List Part) (here : drop j document ≡ part ∷ rest) where
   margin_here : margin document j ≡ top (shifted (shift_at document j part) (stack_at document j))
@@ -127,7 +120,7 @@ module _ (document : List Part) (j : ℕ) (part : Part) (rest : List Part) (here
 
   -- and does not grow at a block end
   pub margin-outdent : shift_at document j part ≡ Outdent → margin document j ≤ top (stack_at document j)
-  margin-outdent e = grind (arith, margin_here, popped_le, falls_after)
+  margin-outdent e = grind (arith, margin_here, falls_after)
 
 -- which shift a part has
 pub shift_at-skipped : (document : List Part) (j : ℕ) (part : Part) → is_skipped document j ≡ true → shift_at document j part ≡ Level
@@ -152,11 +145,8 @@ greatest_le most (n ∷ ns) a l = grind (arith, greatest_le most ns, nat_tests)
 pub tab_stop-le : (document : List Part) → tab_stop document ≤ 28
 tab_stop-le document = let l : greatest (filter (λ n. nat_le n 24) (term_lengths document)) ≤ 24 = greatest_le 24 (term_lengths document) 0 (omega arith) in omega arith
 
-part_indent-le : (document : List Part) (j : ℕ) (part : Part) → indent (part_shift document j part) ≤ 30
-part_indent-le document j part = grind (arith, tab_stop-le)
-
 pub indent-le : (document : List Part) (j : ℕ) (part : Part) → indent (shift_at document j part) ≤ 30
-indent-le document j part = grind (arith, part_indent-le)
+indent-le document j part = grind (arith, tab_stop-le)
 
 in_force-le : (document : List Part) (j k : ℕ) (parts : List Part) → indents_in_force (take j (map (λ (i, part). shift_at document i part) (enumerate_from k parts))) ≤ 30 * j
 in_force-le document zero k parts = omega arith

@@ -25,11 +25,11 @@ pub IsPageLeft-all : (full : Bool) (width : ℕ) (document : List Part) (index :
 IsPageLeft-all full width document index pairs parts page counted known all blank = grind arith
 
 -- one part is written
-pub IsPageLeft-more : (full : Bool) (document : List Part) (whole : Sheet) (few : Type 0) (index more : ℕ) (pairs next : Pairs) (hidden after : ℕ) (part : Part) (parts rest : List Part) (page new : Sheet)
+pub IsPageLeft-more : {full : Bool} {document : List Part} {whole : Sheet} {few : Type 0} {index more : ℕ} {pairs next : Pairs} {hidden after : ℕ} {part : Part} {parts rest : List Part} {page new : Sheet}
     → IsPageLeft full document whole few index pairs hidden parts page → parts ≡ part ∷ rest → more ≡ index + 1
     → next ≡ pairs_after document index pairs part → after ≡ hidden_after full hidden part → new ≡ part_put full document index pairs hidden part page
     → LeavesFew next index part new → IsPageLeft full document whole few more next after rest new
-IsPageLeft-more full document whole few index more pairs next hidden after part parts rest page new left first counted known still wrote leaves = grind arith
+IsPageLeft-more left first counted known still wrote leaves = grind arith
 
 -- a mark that is passed over says nothing of margins
 pub skipped-few : (pairs : Pairs) (index : ℕ) (b : Block) (page : Sheet) → true ≡ skips pairs index b → skips pairs index b ≡ false → HasFewMargins page

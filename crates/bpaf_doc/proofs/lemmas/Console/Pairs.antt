@@ -14,7 +14,6 @@ use Rattle.bpaf_doc.specs.declared.console.pairs.Pairs.{Pairs}
 use Rattle.bpaf_doc.specs.Buffer.Parts.{Part, Start, End}
 use Rattle.bpaf_doc.specs.Console.Margin.{is_section4_start, is_section4_end, has_empty_block, after_section4, skips_pair, is_skipped}
 use Rattle.bpaf_doc.specs.Console.Steps.Pairs.{SkipsAt, HasMarkAt, KnowsPairs}
-use Rattle.bpaf_doc.specs.Console.Margin as margin
 use Rattle.bpaf_doc.specs.Console.Steps.Text as whole
 use Rattle.bpaf_doc.proofs.lemmas.Console.Layout.Back.{by_test}
 
@@ -50,10 +49,7 @@ position-drop p (suc m) (x ∷ xs) l = at (p x) l (λ l. position-drop p m xs l)
 -- what stands at the first place that passes
 position_passes : {A : Type 0} (p : A → Bool) (xs : List A) (x : A) → slice_get xs (position_or_len p xs) ≡ Some x → p x ≡ true
 position_passes p [] x e = absurd cc
-position_passes p (y ∷ ys) x e = at (p y) refl e (λ e. position_passes p ys x e) where
-  at : (b : Bool) → p y ≡ b → slice_get (y ∷ ys) (cond (not b) (1 + position_or_len p ys) 0) ≡ Some x → (slice_get ys (position_or_len p ys) ≡ Some x → p x ≡ true) → p x ≡ true
-  at true h e more = let same : y ≡ x = cc in ap p (sym same) ∙ h
-  at false h e more = grind arith
+position_passes p (y ∷ ys) x e = grind (arith, position_passes p ys x)
 
 -- two places before the same end
 after_section4-shared : (document : List Part) (i j : ℕ) → i ≤ j → j + 1 < after_section4 document i → after_section4 document j ≡ after_section4 document i
@@ -77,10 +73,6 @@ end_there document i j part e here =
 
 -- ---- the pair after it
 
--- two places are an empty Block
-empty_block-at : (parts : List Part) → has_empty_block parts ≡ true → (slice_get parts 0 ≡ Some (Start blocks.Block)) × (slice_get parts 1 ≡ Some (End blocks.Block))
-empty_block-at parts h = grind arith
-
 empty_block-from : (parts : List Part) → slice_get parts 0 ≡ Some (Start blocks.Block) → slice_get parts 1 ≡ Some (End blocks.Block) → has_empty_block parts ≡ true
 empty_block-from parts h i = grind arith
 
@@ -90,13 +82,13 @@ pair_there : (document : List Part) (i : ℕ) → skips_pair document i ≡ true
 pair_there document i h = at (after_section4 document i) h where
   at : (k : ℕ) → has_empty_block (drop k document) ≡ true → (slice_get document k ≡ Some (Start blocks.Block)) × (slice_get document (k + 1) ≡ Some (End blocks.Block))
   at k h =
-      let both : (slice_get (drop k document) 0 ≡ Some (Start blocks.Block)) × (slice_get (drop k document) 1 ≡ Some (End blocks.Block)) = empty_block-at (drop k document) h in
+      let both : (slice_get (drop k document) 0 ≡ Some (Start blocks.Block)) × (slice_get (drop k document) 1 ≡ Some (End blocks.Block)) = grind arith in
       (ap (λ n. slice_get document n) (sym (add-zero k)) ∙ sym (slice_get-drop k 0 document) ∙ both.0, sym (slice_get-drop k 1 document) ∙ both.1)
 
 -- the two tests of the code
 pub empty_block-is : (document : List Part) (k : ℕ) (first second : Bool) → (IsTrue first ↔ slice_get document k ≡ Some (Start blocks.Block))
     → (IsTrue second ↔ slice_get document (k + 1) ≡ Some (End blocks.Block)) → (first && second) ≡ has_empty_block (drop k document)
-empty_block-is document k first second f s = grind (arith, same_tests, empty_block-from, slice_get-drop, add-zero, and_parts, empty_block-at, and_from)
+empty_block-is document k first second f s = grind (arith, same_tests, empty_block-from, slice_get-drop, add-zero, and_parts, and_from)
 
 -- ---- a place that is skipped, by the start that skips it
 
@@ -138,9 +130,6 @@ skipped_from document k i (here, pair) h = any_from (skips document k) document 
 
 -- ---- from part to part
 
-after_section4-later : (document : List Part) (i : ℕ) → i + 2 ≤ after_section4 document i
-after_section4-later document i = omega arith
-
 module _ (document : List Part) where
   pub KnowsPairs-none : (pairs : Pairs) → pairs.end ≡ 0 → pairs.has_pair ≡ false → KnowsPairs document 0 pairs
   KnowsPairs-none pairs e h = grind (arith, both_ways)
@@ -154,14 +143,11 @@ module _ (document : List Part) where
     shared : (i : ℕ) × (i < index) × (after_section4 document i ≡ pairs.end + 1) × (pairs.has_pair ≡ skips_pair document i)
     shared = knows.ahead before
 
-    same_end : after_section4 document index ≡ pairs.end + 1
-    same_end = grind (arith, shared, after_section4-shared)
-
     pub shared_answer : pairs.has_pair ≡ skips_pair document index
-    shared_answer = grind (arith, shared, same_end)
+    shared_answer = grind (arith, shared, after_section4-shared)
 
     pub KnowsPairs-shared : KnowsPairs document (index + 1) pairs
-    KnowsPairs-shared = grind (arith, same_end, shared_answer)
+    KnowsPairs-shared = grind (arith, shared, after_section4-shared, shared_answer)
 
   -- a start that looks for its end
   pub KnowsPairs-found : (index : ℕ) (pairs next : Pairs) → slice_get document index ≡ Some (Start blocks.Section4) → KnowsPairs document index pairs → pairs.end ≤ index
@@ -188,14 +174,12 @@ module _ (document : List Part) where
     behind a l no_end no_first no_second = grind arith
 
     at : (i : ℕ) → SkipsAt document i → (i < index) ⊎ (i ≡ index) → ((after_section4 document i ≡ next.end + 1) × (next.has_pair ≡ true)) ⊎ (after_section4 document i + 2 < index + 1)
-    at i skips (inl less) = grind (arith, behind, not_end, not_first, not_second)
-    at i skips (inr same) = inl (ap (after_section4 document) same ∙ sym e, h ∙ ap (λ k. skips_pair document k) (sym same) ∙ skips.1)
+    at i h1 h2 = grind (arith, behind, not_end, not_first, not_second)
 
   -- ---- what it tells of a mark
 
   is_block : (index i : ℕ) (block : Block) → skips_pair document i ≡ true → (index ≡ after_section4 document i) ⊎ (index ≡ after_section4 document i + 1) → HasMarkAt document index block → block ≡ blocks.Block
-  is_block index i block pair (inl e) (inl m) = let same : Some (Start block) ≡ Some (Start blocks.Block) = sym m ∙ ap (λ k. slice_get document k) e ∙ (pair_there document i pair).0 in cc
-  is_block index i block pair (inl e) (inr m) = let same : Some (End block) ≡ Some (Start blocks.Block) = sym m ∙ ap (λ k. slice_get document k) e ∙ (pair_there document i pair).0 in absurd cc
+  is_block index i block pair (inl e) s = grind (arith, pair_there)
   is_block index i block pair (inr e) (inl m) = let same : Some (Start block) ≡ Some (End blocks.Block) = sym m ∙ ap (λ k. slice_get document k) e ∙ (pair_there document i pair).1 in absurd cc
   is_block index i block pair (inr e) (inr m) = let same : Some (End block) ≡ Some (End blocks.Block) = sym m ∙ ap (λ k. slice_get document k) e ∙ (pair_there document i pair).1 in cc
 
@@ -206,7 +190,7 @@ module _ (document : List Part) where
     at : ((i : ℕ) × SkipsAt document i × ((index ≡ after_section4 document i) ⊎ (index ≡ after_section4 document i + 1)))
         → (pairs.has_pair ≡ true) × (block ≡ blocks.Block) × (pairs.end < index) × (index ≤ pairs.end + 2)
     at (i, skips, place) =
-        let later : i + 2 ≤ after_section4 document i = after_section4-later document i in
+        let later : i + 2 ≤ after_section4 document i = omega arith in
         let near : i < index + 1 = grind arith in
         let is : block ≡ blocks.Block = is_block index i block skips.1 place mark in
         elim (knows.earlier i near skips) [ inl g ↦ (g.1, is, grind arith, grind arith) | inr g ↦ absurd (grind arith) ]
@@ -231,19 +215,12 @@ module _ (document : List Part) (index : ℕ) (pairs : Pairs) (block : Block) (k
 
 -- ---- what the page remembers of them, step by step
 
--- the first Section4 end, by the test on parts
-end_test : (part : Part) → whole.is_section4_end (Some part) ≡ margin.is_section4_end part
-end_test part = grind arith
-
 same_position : (p q : Part → Bool) → ((x : Part) → p x ≡ q x) → (xs : List Part) → position_or_len p xs ≡ position_or_len q xs
 same_position p q same [] = refl
 same_position p q same (x ∷ xs) = rw (same x, same_position p q same xs) refl
 
 section4_end_is : (document : List Part) (index : ℕ) → whole.section4_end document index + 1 ≡ after_section4 document index
-section4_end_is document index = grind (arith, same_position, end_test)
-
-block_start : (part : Option Part) → IsTrue (whole.is_block_start part) ↔ (part ≡ Some (Start blocks.Block))
-block_start part = grind arith
+section4_end_is document index = grind (arith, same_position)
 
 block_end : (part : Option Part) → IsTrue (whole.is_block_end part) ↔ (part ≡ Some (End blocks.Block))
 block_end part = grind arith
@@ -252,7 +229,7 @@ empty_block_is : (document : List Part) (index : ℕ) → length document < 2 ^ 
 empty_block_is document index small =
     empty_block-is document (index + 1) (whole.is_block_start (slice_get document (min (index + 1) 18446744073709551615))) (whole.is_block_end (slice_get document (min (index + 2) 18446744073709551615)))
     (subst (λ (o : Option Part). IsTrue (whole.is_block_start (slice_get document (min (index + 1) 18446744073709551615))) ↔ o ≡ Some (Start blocks.Block)) (slice_get-saturates document (index + 1) small)
-    (block_start (slice_get document (min (index + 1) 18446744073709551615))))
+    (grind arith))
     (subst (λ (o : Option Part). IsTrue (whole.is_block_end (slice_get document (min (index + 2) 18446744073709551615))) ↔ o ≡ Some (End blocks.Block))
     (slice_get-saturates document (index + 2) small ∙ ap (λ (k : ℕ). slice_get document k) (omega arith)) (block_end (slice_get document (min (index + 2) 18446744073709551615))))
 

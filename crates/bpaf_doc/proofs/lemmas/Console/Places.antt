@@ -10,8 +10,7 @@ abbrev pub first_end : List Part → ℕ
 first_end parts = position_or_len (λ part. is_section4_end (Some part)) parts
 
 pub first_end-here : (parts : List Part) (at : ℕ) → is_section4_end (slice_get parts at) ≡ true → first_end (drop at parts) ≡ 0
-first_end-here [] zero e = refl
-first_end-here [] (suc at) e = refl
+first_end-here [] s e = grind arith
 first_end-here (p ∷ parts) zero e = rw e refl
 first_end-here (p ∷ parts) (suc at) e = first_end-here parts at e
 

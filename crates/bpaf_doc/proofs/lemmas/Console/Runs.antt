@@ -14,7 +14,7 @@ use Rattle.bpaf_doc.specs.Splitter.Promises.{IsText}
 use Rattle.bpaf_doc.specs.Splitter.Steps.Runs.{IsLettered, is_lettered, letters}
 use Rattle.bpaf_doc.specs.Console.Steps.Hiding.{hides}
 use Rattle.bpaf_doc.specs.Console.Steps.Ink.{shown_ink}
-use Rattle.bpaf_doc.specs.Console.Steps.Page.{Sheet, IsWithinLine, saturated, margin_of, is_too_wide, wraps, room_made, placed, columns_of, raw_put, text_put}
+use Rattle.bpaf_doc.specs.Console.Steps.Page.{Sheet, IsWithinLine, saturated, margin_of, is_too_wide, wraps, room_made, columns_of, raw_put, text_put}
 use Rattle.bpaf_doc.proofs.lemmas.Splitter.Facts.{ink_of_chunks, text_chunks}
 use Rattle.bpaf_doc.proofs.lemmas.Splitter.Letters.{letters-append, lettered_columns}
 use Rattle.bpaf_doc.proofs.lemmas.Splitter.Runs.{AreWords, no_words, a_word, words_of_line}
@@ -39,17 +39,13 @@ module _ (width tab_stop : ℕ) (margins : List ℕ) (small : width ≤ 18446744
   pub no_room : (out : List ℕ) (column n : ℕ) → column + n ≤ width → room_made n (at out column) ≡ at out column
   no_room out column n h = grind (arith, fits)
 
-  word_placed : (out raw : List ℕ) (column weight : ℕ) → margin_of (at out column) ≤ column → column + weight ≤ width
-      → placed raw weight (at out column) ≡ at (out ++ raw) (column + weight)
-  word_placed out raw column weight level h = grind (arith, append-nil)
-
   weighs : (raw : List ℕ) (weight : ℕ) → weight ≡ columns raw → columns_of raw weight ≡ weight
   weighs raw weight e = elim (nat_lt weight 1000000) as (λ (b : Bool). (if b then weight else columns raw) ≡ weight) [ true ↦ refl | false ↦ sym e ]
 
   word_put : (out raw : List ℕ) (column weight : ℕ) → weight ≡ columns raw → margin_of (at out column) ≤ column → column + weight ≤ width
       → raw_put raw weight (at out column) ≡ at (out ++ raw) (column + weight)
   unfolding raw_put
-  word_put out raw column weight e level h = grind (arith, weighs, no_break, no_room, word_placed)
+  word_put out raw column weight e level h = grind (arith, weighs, no_break, no_room, append-nil)
 
   words_put : {chunks : List Chunk} {text : List ℕ} → AreWords chunks text → All IsText chunks → IsLettered text → (out : List ℕ) (column : ℕ) → margin_of (at out column) ≤ column → column + letters text ≤ width
       → (full : Bool) (rest : List Chunk) → text_put full (chunks ++ rest) (at out column) ≡ text_put full rest (at (out ++ text) (column + letters text))

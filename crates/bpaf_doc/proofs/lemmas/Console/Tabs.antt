@@ -44,11 +44,8 @@ first_columns-cons part parts = ap (λ ps. sum_by text_columns ps) (take_while-c
   at true = refl
   at false = sum_by-cons text_columns part (before_first is_term_end parts)
 
-first_columns-one : (part : Part) → first_columns (part ∷ []) ≡ text_columns part
-first_columns-one part = grind (arith, zero-add)
-
 first_columns-push : (parts : List Part) (part : Part) → first_columns (parts ++ part ∷ []) ≡ first_columns parts + (if list_any is_term_end parts then 0 else text_columns part)
-first_columns-push [] part = first_columns-one part ∙ sym (zero-add (text_columns part))
+first_columns-push [] part = (grind (arith, zero-add)) ∙ sym (zero-add (text_columns part))
 first_columns-push (p ∷ ps) part = grind (arith, first_columns-push ps part, first_columns-cons)
 
 -- a term has started and not ended

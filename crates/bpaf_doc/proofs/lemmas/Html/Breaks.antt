@@ -62,8 +62,7 @@ other_touches ss f fs h1 h2 = grind arith
 
 cut_touches : (p : Written) (fs : List Fragment) → touches (cut_from p fs) ≡ true
 cut_touches p [] = refl
-cut_touches p (Shown style (Raw bytes weight) ∷ fs) = refl
-cut_touches p (f ∷ fs) = other_touches (cut_from p (f ∷ fs)) f fs (cut-fragments p (f ∷ fs)) refl
+cut_touches p (f ∷ fs) = grind (arith, other_touches, cut-fragments)
 
 quiet_soon : (ss rest : List HtmlSnippet) → list_any asks_break (fragments_in ss) ≡ false → breaks_soon rest ≡ true → breaks_soon (ss ++ rest) ≡ true
 quiet_soon [] rest e h = h
@@ -116,8 +115,7 @@ breaks_of p fs before between after a b e i j any = break_between between after 
 
 touching_between : (between after : List HtmlSnippet) (b : Fragment) → touches (between ++ Of b ∷ after) ≡ true → shows is_raw b ≡ true → fragments_in between ≡ [] → between ≡ []
 touching_between [] after b h o none = refl
-touching_between (Of f ∷ between) after b h o none = cc
-touching_between (_ ∷ between) after b h o none = grind (arith, fragments-append)
+touching_between (s ∷ between) after b h o none = grind (arith, fragments-append)
 
 -- Raws that follow one another in a text touch
 pub touching_of : (p : Written) (fs : List Fragment) (before between after : List HtmlSnippet) (a b : Fragment) → cut_from p fs ≡ before ++ Of a ∷ (between ++ Of b ∷ after)

@@ -132,12 +132,9 @@ exact_page page begun written document text begins on e =
 
 -- ---- a page that keeps newlines
 
-kept_part : (place : List Part × Part) → part_pieces false place ≡ flat_map pieces_of (place_calls place)
-kept_part place = grind (arith, text_same, start_same)
-
 kept_parts : (ps : List (List Part × Part)) → flat_map (part_pieces false) ps ≡ flat_map pieces_of (flat_map place_calls ps)
 kept_parts [] = refl
-kept_parts (place ∷ ps) = grind (arith, kept_parts ps, kept_part, flat_map-append)
+kept_parts (place ∷ ps) = grind (arith, kept_parts ps, text_same, start_same, flat_map-append)
 
 -- A page that takes a document is, with the document on it, read as the document's events.
 pub taken_page : (page : Script) (document : List Part) (text : List ℕ) → TakesDocument page → text ≡ roff_page page document → IsPageOf page document text

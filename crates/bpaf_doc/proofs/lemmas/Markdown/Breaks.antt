@@ -1,10 +1,9 @@
 -- Nothing stands between the words of a markdown text, and breaks stand where they were asked for.
-use Rattle.std.proofs.Common.{◌≡◌, ℕ, Bool, true, false, List, [], ◌∷◌, ◌++◌, refl, sym, ap, ◌∙◌, inl, inr, append_assoc, append-nil, arith}
+use Rattle.std.proofs.Common.{◌≡◌, Bool, true, false, List, [], ◌∷◌, ◌++◌, refl, sym, ap, ◌∙◌, inl, inr, append_assoc, append-nil, arith}
 use Rattle.std.specs.Prelude.{not, ◌&&◌, ◌||◌, IsTrue}
 use Rattle.std.specs.List.{list_any}
 use Rattle.std.proofs.lemmas.Bool.{false≢true, and_parts, and_from, not-true, or_right, cases_Bool}
 use Rattle.bpaf_doc.proofs.lemmas.Lists.Splits.{implies}
-use Rattle.bpaf_doc.specs.declared.buffer.Style.{Style}
 use Rattle.bpaf_doc.specs.Splitter.Chunks.{Raw, is_ordinary, is_whole_line, is_paragraph, is_line_break}
 use Rattle.bpaf_doc.specs.Html.Fragments.{Fragment, Shown, shows}
 use Rattle.bpaf_doc.specs.Markdown.Page.{Newline, MarkdownSnippet, Put, Of, fragments_in, is_newline}
@@ -55,15 +54,11 @@ asks_nothing f = not (shows is_paragraph f) && (not (shows is_line_break f || sh
 
 quiet_followed : (ss rest : List MarkdownSnippet) (f : Fragment) → fragments_in ss ≡ f ∷ [] → asks_nothing f ≡ true → all_followed rest ≡ true → all_followed (ss ++ rest) ≡ true
 quiet_followed [] rest f e a h = h
-quiet_followed (Put mark ∷ ss) rest f e a h = quiet_followed ss rest f e a h
-quiet_followed (Of g ∷ ss) rest f e a h = grind (arith, and_parts, and_from, marks_followed)
-
-raw_followed : (p : Marked) (style : Style) (bytes : List ℕ) (weight : ℕ) (rest : List MarkdownSnippet) → (is_ordinary (Raw bytes weight) ≡ true → touches rest ≡ true) → all_followed rest ≡ true
-    → all_followed (own_snippets p (Shown style (Raw bytes weight)) ++ rest) ≡ true
-raw_followed p style bytes weight rest o h = grind (arith, by_weight, new_line_marks, and_from, fence_is_whole, open_marks, code_is_whole, close_marks, append_assoc, marks_followed)
+quiet_followed (s ∷ ss) rest f e a h = grind (arith, quiet_followed ss rest f, and_parts, and_from, marks_followed)
 
 own_followed : (p : Marked) (f : Fragment) (rest : List MarkdownSnippet) → (shows is_ordinary f ≡ true → touches rest ≡ true) → all_followed rest ≡ true → all_followed (own_snippets p f ++ rest) ≡ true
-own_followed p f rest h1 h2 = grind (arith, raw_followed, quiet_followed, own-fragments)
+own_followed p f rest h1 h2 = grind (arith, by_weight, new_line_marks, and_from, fence_is_whole, open_marks,
+    code_is_whole, close_marks, append_assoc, marks_followed, quiet_followed, own-fragments)
 
 -- what comes where no item waits and no code block is open
 other_touches : (ss : List MarkdownSnippet) (f : Fragment) (fs : List Fragment) → fragments_in ss ≡ f ∷ fs → shows is_ordinary f ≡ false → touches ss ≡ true
@@ -87,8 +82,7 @@ followed_at p fs before rest a e = and_parts (is_followed a rest) (all_followed 
 
 touching_between : (between after : List MarkdownSnippet) (b : Fragment) → touches (between ++ Of b ∷ after) ≡ true → shows is_ordinary b ≡ true → fragments_in between ≡ [] → between ≡ []
 touching_between [] after b h o none = refl
-touching_between (Put mark ∷ between) after b h o none = grind (arith, fragments-append)
-touching_between (Of f ∷ between) after b h o none = cc
+touching_between (s ∷ between) after b h o none = grind (arith, fragments-append)
 
 -- ordinary Raws that follow one another in a text touch
 pub touching_of : (p : Marked) (fs : List Fragment) (before between after : List MarkdownSnippet) (a b : Fragment) → cut_from p fs ≡ before ++ Of a ∷ (between ++ Of b ∷ after)

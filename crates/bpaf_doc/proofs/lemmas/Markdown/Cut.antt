@@ -159,11 +159,8 @@ flags_next s f = own_flags (item_flags s (is_term_end f)) f
 pub item-flags : (p : Marked) (empty : Bool) → flags (with_item p empty) ≡ item_flags (flags p) empty
 item-flags p empty = grind arith
 
-start-flags : (p : Marked) (b : Block) → flags (own_after p (Start b)) ≡ own_flags (flags p) (Start b)
-start-flags p b = grind arith
-
 own-flags : (p : Marked) (f : Fragment) → flags (own_after p f) ≡ own_flags (flags p) f
-own-flags p f = grind (arith, start-flags)
+own-flags p f = grind arith
 
 pub step-flags : (p : Marked) (f : Fragment) → flags (marked_after p f) ≡ flags_next (flags p) f
 step-flags p f = own-flags (with_item p (is_term_end f)) f ∙ ap (λ s. own_flags s f) (item-flags p (is_term_end f))

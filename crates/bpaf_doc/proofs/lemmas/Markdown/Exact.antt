@@ -59,13 +59,10 @@ raw_put before p bytes weight h =
     (λ e k. ap (λ b. (close_code p (codes "\n  ```\n")).bytes ++ (if b then flat_map escaped_character bytes else bytes)) h.mono
     ∙ both p.bytes (closing_fence before) (words_markdown before bytes) (close_code p (codes "\n  ```\n")).bytes (close_put before p (codes "\n  ```\n") h.code))
 
-paragraph_text : (in_list : Bool) → (if in_list then codes "\n\n  " else codes "\n\n") ≡ codes "\n\n" ++ (if in_list then codes "  " else [])
-paragraph_text in_list = grind arith
-
 -- a fragment that begins no item
 own_put : (before : List Fragment) (p : Marked) (f : Fragment) (fs : List Fragment) → Looks before p → is_item_start f ≡ false → (is_term_end f ≡ false → p.empty_item ≡ is_after_empty_item before)
     → (own_after p f).bytes ≡ p.bytes ++ fragment_markdown p.bytes before f fs
-own_put before p f fs h1 h2 h3 = grind (arith, raw_put, paragraph_text, both, close_put, blank_line_put, new_line_put, append_assoc, append-nil)
+own_put before p f fs h1 h2 h3 = grind (arith, raw_put, both, close_put, blank_line_put, new_line_put, append_assoc, append-nil)
 
 -- ---- the dash that waits for the next fragment
 

@@ -4,7 +4,7 @@ use Rattle.std.specs.Prelude.{count_by, IsTrue, codes}
 use Rattle.bpaf_doc.specs.declared.buffer.Style.{Style}
 use Rattle.bpaf_doc.specs.Buffer.Parts.{Part, Text, Start as PartStart, End as PartEnd}
 use Rattle.bpaf_doc.specs.Splitter.Chunks.{Chunk, chunks_of, starts}
-use Rattle.bpaf_doc.specs.Html.Fragments.{Fragment, TextStart, Shown, TextEnd, Hidden, Start, End, shown_fragments}
+use Rattle.bpaf_doc.specs.Html.Fragments.{Fragment, TextStart, Shown, TextEnd, Hidden, shown_fragments}
 use Rattle.bpaf_doc.specs.Markdown.Page.{IsMarkdownOf, MarkdownSnippet, Put, Of, Newline, text_after, EndsInBlankLine, is_mono_start, is_mono_end}
 use Rattle.bpaf_doc.specs.Html.Steps.Walk.{visible, text_rest, part_walk, walk, depth_after}
 use Rattle.bpaf_doc.specs.Markdown.Steps.Page.{blank_text, with_item, marked_after_all}
@@ -46,9 +46,7 @@ text_count p c full style chunks = chunks_count p c style (visible full chunks) 
 
 part_count : (p : Fragment → Bool) → Counts p → (full : Bool) (part : Part) (depth : ℕ) → count_by p (part_walk full part depth) ≤ 1
 part_count p c full (Text bytes style) zero = omega (arith, count_by-cons p (TextStart style) (text_rest full style (chunks_of bytes)), ap one_if (c.0 style), text_count p c full style (chunks_of bytes))
-part_count p c full (Text bytes style) (suc depth) = omega (arith, count_by-cons p Hidden [], ap one_if c.3)
-part_count p c full (PartStart b) depth = omega (arith, count_by-cons p (Start b) [], one_at_most (p (Start b)))
-part_count p c full (PartEnd b) depth = omega (arith, count_by-cons p (End b) [], one_at_most (p (End b)))
+part_count p c full s depth = grind (arith, count_by-cons, one_at_most)
 
 walk_count : (p : Fragment → Bool) → Counts p → (full : Bool) (depth : ℕ) (parts : List Part) → count_by p (walk full depth parts) ≤ length parts
 walk_count p c full depth [] = omega arith

@@ -67,8 +67,7 @@ in_order_of_pieces : {chunks : List Chunk} {rest : List ℕ} → Pieces chunks r
     → StandInOrder text (length front) chunks
 in_order_of_pieces {rest = rest} (none ec et) text front pending e g = grind (arith, drop_at, append-nil)
 in_order_of_pieces (piece gap there after rest chunk others ec et g h t l w s) text front pending e p =
-    let whole : text ≡ (front ++ (pending ++ gap)) ++ (there ++ (after ++ rest)) =
-    e ∙ ap (λ t. front ++ (pending ++ t)) et ∙ simp append_assoc in
+    let whole : text ≡ (front ++ (pending ++ gap)) ++ (there ++ (after ++ rest)) = grind (arith, append_assoc) in
     let on : text ≡ ((front ++ (pending ++ gap)) ++ there) ++ (after ++ rest) = whole ∙ sym (append_assoc (front ++ (pending ++ gap)) there (after ++ rest)) in
     let place = place_after text front (pending ++ gap) there (after ++ rest) chunk whole (IsGap-append pending gap p g) t in
     let more = in_order_of_pieces s text ((front ++ (pending ++ gap)) ++ there) after on h in

@@ -87,9 +87,6 @@ encode_four c low = grind (arith, le-ltb)
 lettered_first : (b : ℕ) → 0xC0 ≤ b → is_lettered b ≡ true → (0xC3 ≤ b) × (b ≤ 0xC8)
 lettered_first b low h = (grind (arith, nat_tests), grind (arith, nat_tests))
 
-begins_ascii : (b : ℕ) → b < 128 → begins b ≡ true
-begins_ascii b small = grind (arith, nat_tests)
-
 begins_not : (b : ℕ) → 128 ≤ b → b < 192 → begins b ≡ false
 begins_not b low high = grind (arith, nat_tests)
 
@@ -102,12 +99,10 @@ first_of : (b : ℕ) (rest : List ℕ) (bytes : List ℕ) → bytes ≡ b ∷ re
 first_of b rest bytes e h = (and_parts (is_lettered b) (list_all is_lettered rest) (ap (list_all is_lettered) (sym e) ∙ h)).0
 
 letter_is : (c : ℕ) → list_all is_lettered (encode c) ≡ true → IsLetter c
-letter_is c h = (grind (arith, encode_one, ascii_narrow, nat_tests, encode, begins_ascii, two_bytes, cases_lt)) where
-  four_bytes : (c < 65536) ⊎ (65536 ≤ c) → 2048 ≤ c → IsLetter c
-  four_bytes h1 h2 = grind (arith, encode, encode_three, lettered_first, encode_four)
-
+letter_is c h = (grind (arith, encode_one, ascii_narrow, nat_tests, encode, two_bytes, cases_lt)) where
   two_bytes : (c < 2048) ⊎ (2048 ≤ c) → 128 ≤ c → IsLetter c
-  two_bytes h1 h2 = grind (arith, encode_two, lettered_first, encode, letter_narrow, nat_tests, begins_not, four_bytes, cases_lt)
+  two_bytes h1 h2 = grind (arith, encode_two, lettered_first, encode, letter_narrow, nat_tests, begins_not,
+      encode_three, encode_four, cases_lt)
 
 -- ---- a text of such characters
 

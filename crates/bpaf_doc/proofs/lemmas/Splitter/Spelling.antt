@@ -93,9 +93,6 @@ line_stops rest h = grind (arith, take_while_false, without_false)
 word_stops : (rest : List ℕ) → IsWordEnd rest → (take_while is_word_byte rest ≡ []) × (without_front is_word_byte rest ≡ rest)
 word_stops rest h = grind (arith, take_while_false, without_false)
 
-pub past_is : (rest next : List ℕ) → IsPastNewline rest next → IsLineEnd rest × (drop 1 rest ≡ next)
-past_is rest next h = grind arith
-
 next_len : (text line rest next : List ℕ) (n : ℕ) → text ≡ line ++ rest → IsPastNewline rest next → length text ≤ suc n → length next ≤ n
 next_len text line rest next n h1 h2 h3 = grind (arith, length-append)
 
@@ -146,9 +143,6 @@ joined : (n : ℕ) (form : Form) (line other_line next other_next : List ℕ) (o
     → Raw line fence_weight ∷ others ≡ Raw other_line fence_weight ∷ chunks_within n form other_next
 joined n form line other_line next other_next others a b c = grind arith
 
-word_parts : (b : ℕ) → is_word_byte b ≡ true → ((b == 10) ≡ false) × ((b == 32) ≡ false)
-word_parts b h = grind (arith, and_right)
-
 some_len : (bytes : List ℕ) → bytes ≢ [] → 0 < length bytes
 some_len [] e = absurd (e refl)
 some_len (b ∷ bytes) e = omega arith
@@ -172,7 +166,7 @@ word_is n (b ∷ bytes) rest others w r e =
     at (Raw (b ∷ bytes) (columns (b ∷ bytes)) ∷ others)
     (ap (λ l. Raw l (columns l) ∷ others) (sym front)
     ∙ ap (λ xs. Raw (take_while is_word_byte (b ∷ (bytes ++ rest))) (columns (take_while is_word_byte (b ∷ (bytes ++ rest)))) ∷ xs) (e ∙ ap (λ xs. chunks_within n Plain xs) (sym back)))
-    (word_parts b (and_left (is_word_byte b) (list_all is_word_byte bytes) w.1)) where
+    (grind (arith, and_right)) where
       at : (spelt : List Chunk)
           → spelt ≡ Raw (take_while is_word_byte (b ∷ (bytes ++ rest))) (columns (take_while is_word_byte (b ∷ (bytes ++ rest)))) ∷ chunks_within n Plain (without_front is_word_byte (b ∷ (bytes ++ rest)))
           → ((b == 10) ≡ false) × ((b == 32) ≡ false) → spelt ≡ chunks_within (suc n) Plain (b ∷ (bytes ++ rest))
@@ -200,11 +194,11 @@ unique {text = text} (word bytes rest others ec et w r s) zero h = absurd (empty
 unique {text = text} (word bytes rest others ec et w r s) (suc n) h =
     ec ∙ word_is n bytes rest others w r (unique s n (rest_len text bytes rest n et (some_len bytes w.0) h)) ∙ ap (λ t. chunks_within (suc n) Plain t) (sym et)
 unique {text = text} (opening line rest next others ec et some il p s) zero h = absurd (empty_len text h some)
-unique {text = text} (opening line rest next others ec et some il p s) (suc n) h = grind (arith, unique s n (next_len text line rest next n et p h), line_of, past_is, rest_of, next_len, opening_is)
+unique {text = text} (opening line rest next others ec et some il p s) (suc n) h = grind (arith, unique s n (next_len text line rest next n et p h), line_of, rest_of, next_len, opening_is)
 unique {text = text} (later line rest next others ec et some il t p s) zero h = absurd (empty_len text h some)
-unique {text = text} (later line rest next others ec et some il t p s) (suc n) h = grind (arith, unique s n (next_len text line rest next n et p h), line_of, past_is, rest_of, next_len, later_is, line_ticks)
+unique {text = text} (later line rest next others ec et some il t p s) (suc n) h = grind (arith, unique s n (next_len text line rest next n et p h), line_of, rest_of, next_len, later_is, line_ticks)
 unique {text = text} (closing line rest next others ec et il t f p s) zero h = absurd (empty_len text h (ticks_some text line rest et t))
-unique {text = text} (closing line rest next others ec et il t f p s) (suc n) h = grind (arith, unique s n (next_len text line rest next n et p h), line_of, past_is, rest_of, next_len, closing_is, ticks_some, text_ticks)
+unique {text = text} (closing line rest next others ec et il t f p s) (suc n) h = grind (arith, unique s n (next_len text line rest next n et p h), line_of, rest_of, next_len, closing_is, ticks_some, text_ticks)
 unique {text = text} (closing_paragraph line rest others ec et il t f s) zero h = absurd (empty_len text h (ticks_some text line rest et t))
 unique {text = text} (closing_paragraph line rest others ec et il t f s) (suc n) h =
     ec ∙ joined n Plain line (take_while is_line_byte text) rest (without_front is_line_byte text) others

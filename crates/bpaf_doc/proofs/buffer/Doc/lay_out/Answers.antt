@@ -1,11 +1,11 @@
 use Rattle.std.proofs.Common.{◌≡◌, ◌++◌, string_bytes, ap, ◌∙◌, sym, subst, ◌∷◌, if◌then◌else◌, refl, false}
 use Rattle.std.proofs.lemmas.List.{append-nil}
 use Rattle.std.specs.Iterator.Adapters.{enumerate_source, enumerate_count}
-use Rattle.bpaf_doc.specs.Buffer.Parts.{ink, Text, Start, End}
+use Rattle.bpaf_doc.specs.Buffer.Parts.{ink, Start, End}
 use Rattle.bpaf_doc.specs.Buffer.View.{part_of}
 use Rattle.bpaf_doc.specs.Shown.{console_ink}
 use Rattle.bpaf_doc.specs.Console.Steps.Page.{sheet_of, blank_sheet, HasFewMargins}
-use Rattle.bpaf_doc.specs.Console.Steps.Text.{whole_page, pairs_at, start_put, end_put, tab_stop_from, LeavesFew, HasFewThroughout}
+use Rattle.bpaf_doc.specs.Console.Steps.Text.{pairs_at, start_put, end_put, tab_stop_from, LeavesFew}
 use Rattle.bpaf_doc.proofs.lemmas.Console.Ink.{IsLeft, IsLeft-all, IsLeft-more, IsLeft-shown, IsLeft-hidden}
 use Rattle.bpaf_doc.proofs.lemmas.Console.Pages.{IsPageLeft-all, IsPageLeft-more, skipped-few, text-shown, text-hidden, hidden-shown, hidden-still, start-shown, start-skipped, end-shown, end-skipped, skips-mark_bytes}
 use Rattle.bpaf_doc.proofs.buffer.Doc.lay_out.Goals.{else-hidden-eq0-via-then-hidden-eq0+in_ok-put_text-in-Text+else-branch, else-hidden-eq0-via-else-hidden-eq0, then-not-skips+in_ok-open-in-Start, else-not-skips, then-not-skips-2+in_ok-close-in-End, else-not-skips-2}
@@ -35,29 +35,25 @@ loop-index-preserved-else-hidden-eq0 g c = record {
             (sym w.page-is)
             (subst (λ n. IsLeft c.args.full c.len-count.result n (string_bytes w.put_text.new.self.out) (console_ink c.args.full c.args.self.now) (enumerate_source c.next.new.self))
             (ap (λ b. if b then 1 else 0) (sym w.in_ok-put_text-in-Text.ensures.hides ∙ w.if-branch.false) ∙ sym w.if-hidden-eq0.true)
-            (IsLeft-shown c.args.full c.len-count.result c.loop-index.hidden (string_bytes c.loop-index.page.out) (string_bytes w.put_text.new.self.out)
-            (console_ink c.args.full c.args.self.now) c.in-Text.text.now c.in-Text.field-1 (enumerate_source c.loop-index.index-iterator) (enumerate_source c.next.new.self)
-            c.loop-index.invariant.ink_left (c.in-Some.ensures.steps.0 ∙ ap (λ p. part_of p ∷ enumerate_source c.next.new.self) c.in-Text.is)
+            (IsLeft-shown c.loop-index.invariant.ink_left
+            (c.in-Some.ensures.steps.0 ∙ ap (λ p. part_of p ∷ enumerate_source c.next.new.self) c.in-Text.is)
             w.if-hidden-eq0.true w.in_ok-put_text-in-Text.ensures.ink))
         | else-hidden-eq0-via-else-hidden-eq0 w ↦
             subst (λ p. IsLeft c.args.full c.len-count.result c.loop-index.hidden (string_bytes p.out) (console_ink c.args.full c.args.self.now) (enumerate_source c.next.new.self))
-            (sym w.page-is)
-            (IsLeft-hidden c.args.full c.len-count.result c.loop-index.hidden (string_bytes c.loop-index.page.out)
-            (console_ink c.args.full c.args.self.now) c.in-Text.text.now c.in-Text.field-1 (enumerate_source c.loop-index.index-iterator) (enumerate_source c.next.new.self)
-            c.loop-index.invariant.ink_left (c.in-Some.ensures.steps.0 ∙ ap (λ p. part_of p ∷ enumerate_source c.next.new.self) c.in-Text.is)
-            w.if-hidden-eq0.false)
+            (sym w.page-is) (IsLeft-hidden c.loop-index.invariant.ink_left
+            (c.in-Some.ensures.steps.0 ∙ ap (λ p. part_of p ∷ enumerate_source c.next.new.self) c.in-Text.is) w.if-hidden-eq0.false)
       ];
   page_left =
       elim c.else-hidden-eq0.branch [
         | else-hidden-eq0-via-then-hidden-eq0+in_ok-put_text-in-Text+else-branch w ↦
-            IsPageLeft-more c.args.full c.args.self.now (whole_page c.args.full c.args.width c.args.self.now) (HasFewThroughout c.args.full c.args.width c.args.self.now) (enumerate_count c.loop-index.index-iterator) (enumerate_count c.next.new.self) c.loop-index.pairs c.loop-index.pairs c.loop-index.hidden c.loop-index.hidden (Text c.in-Text.text.now c.in-Text.field-1) (enumerate_source c.loop-index.index-iterator) (enumerate_source c.next.new.self) (sheet_of c.loop-index.page) (sheet_of c.else-hidden-eq0.page)
-            c.loop-index.invariant.page_left (c.in-Some.ensures.steps.0 ∙ ap (λ p. part_of p ∷ enumerate_source c.next.new.self) c.in-Text.is) c.in-Some.ensures.steps.2
+            IsPageLeft-more c.loop-index.invariant.page_left
+            (c.in-Some.ensures.steps.0 ∙ ap (λ p. part_of p ∷ enumerate_source c.next.new.self) c.in-Text.is) c.in-Some.ensures.steps.2
             refl
             (w.if-hidden-eq0.true ∙ ap (λ b. if b then 1 else 0) (sym w.if-branch.false) ∙ hidden-shown c.args.full c.loop-index.hidden c.in-Text.text.now c.in-Text.field-1 w.in_ok-put_text-in-Text.field-0 w.if-hidden-eq0.true w.in_ok-put_text-in-Text.ensures.hides)
             (text-shown c.args.full c.args.self.now (enumerate_count c.loop-index.index-iterator) c.loop-index.pairs c.loop-index.hidden c.in-Text.text.now c.in-Text.field-1 (sheet_of c.loop-index.page) (sheet_of c.else-hidden-eq0.page) w.if-hidden-eq0.true (ap sheet_of w.page-is ∙ w.in_ok-put_text-in-Text.ensures.page)) tt
         | else-hidden-eq0-via-else-hidden-eq0 w ↦
-            IsPageLeft-more c.args.full c.args.self.now (whole_page c.args.full c.args.width c.args.self.now) (HasFewThroughout c.args.full c.args.width c.args.self.now) (enumerate_count c.loop-index.index-iterator) (enumerate_count c.next.new.self) c.loop-index.pairs c.loop-index.pairs c.loop-index.hidden c.loop-index.hidden (Text c.in-Text.text.now c.in-Text.field-1) (enumerate_source c.loop-index.index-iterator) (enumerate_source c.next.new.self) (sheet_of c.loop-index.page) (sheet_of c.else-hidden-eq0.page)
-            c.loop-index.invariant.page_left (c.in-Some.ensures.steps.0 ∙ ap (λ p. part_of p ∷ enumerate_source c.next.new.self) c.in-Text.is) c.in-Some.ensures.steps.2
+            IsPageLeft-more c.loop-index.invariant.page_left
+            (c.in-Some.ensures.steps.0 ∙ ap (λ p. part_of p ∷ enumerate_source c.next.new.self) c.in-Text.is) c.in-Some.ensures.steps.2
             refl
             (hidden-still c.args.full c.loop-index.hidden c.in-Text.text.now c.in-Text.field-1 w.if-hidden-eq0.false)
             (ap sheet_of w.page-is ∙ text-hidden c.args.full c.args.self.now (enumerate_count c.loop-index.index-iterator) c.loop-index.pairs c.loop-index.hidden c.in-Text.text.now c.in-Text.field-1 (sheet_of c.loop-index.page) w.if-hidden-eq0.false)
@@ -68,10 +64,8 @@ loop-index-preserved-else-hidden-eq0 g c = record {
 pub loop-index-preserved-in-Start : goal.loop-index-preserved-in-Start
 loop-index-preserved-in-Start g c = record {
   ink_left =
-      IsLeft-more c.args.full c.len-count.result c.loop-index.hidden c.hidden_from_start-hidden.result (string_bytes c.loop-index.page.out) (string_bytes c.if-not-skips.page.out)
-      (console_ink c.args.full c.args.self.now) (Start c.in-Start.block) (enumerate_source c.loop-index.index-iterator) (enumerate_source c.next.new.self)
-      c.loop-index.invariant.ink_left (c.in-Some.ensures.steps.0 ∙ ap (λ p. part_of p ∷ enumerate_source c.next.new.self) c.in-Start.is)
-      c.hidden_from_start-hidden.ensures
+      IsLeft-more c.loop-index.invariant.ink_left
+      (c.in-Some.ensures.steps.0 ∙ ap (λ p. part_of p ∷ enumerate_source c.next.new.self) c.in-Start.is) c.hidden_from_start-hidden.ensures
       (elim c.if-not-skips.branch [
         | then-not-skips+in_ok-open-in-Start w ↦ ap (λ p. ink (string_bytes p.out)) w.page-is ∙ w.in_ok-open-in-Start.ensures.ink
         | else-not-skips w ↦
@@ -79,8 +73,8 @@ loop-index-preserved-in-Start g c = record {
             ∙ ap (λ more. ink (string_bytes c.loop-index.page.out) ++ more) (sym (skips-mark_bytes c.is_before_pair-adjacent.new.self c.in-Some.index c.in-Start.block w.if-not-skips.ensures))
       ]);
   page_left =
-      IsPageLeft-more c.args.full c.args.self.now (whole_page c.args.full c.args.width c.args.self.now) (HasFewThroughout c.args.full c.args.width c.args.self.now) (enumerate_count c.loop-index.index-iterator) (enumerate_count c.next.new.self) c.loop-index.pairs c.is_before_pair-adjacent.new.self c.loop-index.hidden c.hidden_from_start-hidden.result (Start c.in-Start.block) (enumerate_source c.loop-index.index-iterator) (enumerate_source c.next.new.self) (sheet_of c.loop-index.page) (sheet_of c.if-not-skips.page)
-      c.loop-index.invariant.page_left (c.in-Some.ensures.steps.0 ∙ ap (λ p. part_of p ∷ enumerate_source c.next.new.self) c.in-Start.is) c.in-Some.ensures.steps.2
+      IsPageLeft-more c.loop-index.invariant.page_left
+      (c.in-Some.ensures.steps.0 ∙ ap (λ p. part_of p ∷ enumerate_source c.next.new.self) c.in-Start.is) c.in-Some.ensures.steps.2
       (c.is_before_pair-adjacent.ensures.pairs ∙ ap (λ i. pairs_at c.args.self.now i c.in-Start.block c.loop-index.pairs) c.in-Some.ensures.steps.1)
       c.hidden_from_start-hidden.ensures
       (elim c.if-not-skips.branch [
@@ -101,10 +95,8 @@ loop-index-preserved-in-Start g c = record {
 pub loop-index-preserved : goal.loop-index-preserved
 loop-index-preserved g c = record {
   ink_left =
-      IsLeft-more c.args.full c.len-count.result c.loop-index.hidden c.hidden_from_end-hidden.result (string_bytes c.loop-index.page.out) (string_bytes c.if-not-skips-2.page.out)
-      (console_ink c.args.full c.args.self.now) (End c.in-End.block) (enumerate_source c.loop-index.index-iterator) (enumerate_source c.next.new.self)
-      c.loop-index.invariant.ink_left (c.in-Some.ensures.steps.0 ∙ ap (λ p. part_of p ∷ enumerate_source c.next.new.self) c.in-End.is)
-      c.hidden_from_end-hidden.ensures
+      IsLeft-more c.loop-index.invariant.ink_left
+      (c.in-Some.ensures.steps.0 ∙ ap (λ p. part_of p ∷ enumerate_source c.next.new.self) c.in-End.is) c.hidden_from_end-hidden.ensures
       (elim c.if-not-skips-2.branch [
         | then-not-skips-2+in_ok-close-in-End w ↦ ap (λ p. ink (string_bytes p.out)) w.page-is ∙ w.in_ok-close-in-End.ensures.ink
         | else-not-skips-2 w ↦
@@ -112,10 +104,9 @@ loop-index-preserved g c = record {
             ∙ ap (λ more. ink (string_bytes c.loop-index.page.out) ++ more) (sym (skips-mark_bytes c.loop-index.pairs c.in-Some.index c.in-End.block w.if-not-skips-2.ensures))
       ]);
   page_left =
-      IsPageLeft-more c.args.full c.args.self.now (whole_page c.args.full c.args.width c.args.self.now) (HasFewThroughout c.args.full c.args.width c.args.self.now) (enumerate_count c.loop-index.index-iterator) (enumerate_count c.next.new.self) c.loop-index.pairs c.loop-index.pairs c.loop-index.hidden c.hidden_from_end-hidden.result (End c.in-End.block) (enumerate_source c.loop-index.index-iterator) (enumerate_source c.next.new.self) (sheet_of c.loop-index.page) (sheet_of c.if-not-skips-2.page)
-      c.loop-index.invariant.page_left (c.in-Some.ensures.steps.0 ∙ ap (λ p. part_of p ∷ enumerate_source c.next.new.self) c.in-End.is) c.in-Some.ensures.steps.2
-      refl
-      c.hidden_from_end-hidden.ensures
+      IsPageLeft-more c.loop-index.invariant.page_left
+      (c.in-Some.ensures.steps.0 ∙ ap (λ p. part_of p ∷ enumerate_source c.next.new.self) c.in-End.is) c.in-Some.ensures.steps.2
+      refl c.hidden_from_end-hidden.ensures
       (elim c.if-not-skips-2.branch [
         | then-not-skips-2+in_ok-close-in-End w ↦
             end-shown c.loop-index.pairs c.in-Some.index c.in-End.block (sheet_of c.loop-index.page) (sheet_of c.if-not-skips-2.page) w.if-not-skips-2.ensures (ap sheet_of w.page-is ∙ w.in_ok-close-in-End.ensures.page)

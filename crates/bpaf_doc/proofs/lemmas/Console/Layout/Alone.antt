@@ -1,8 +1,8 @@
 -- Behind a code or fence line a newline comes before the next place.
-use Rattle.std.specs.Prelude.{◌≡◌, ℕ, ◌<◌, ◌≤◌, true, false, ◌||◌, ◌==◌, List, [], ◌∷◌, ◌++◌, refl, ◌⊎◌}
+use Rattle.std.specs.Prelude.{◌≡◌, ℕ, ◌<◌, ◌≤◌, true, false, List, [], ◌∷◌, ◌++◌, refl, ◌⊎◌}
 use Rattle.std.proofs.Common.{sym, subst, ap, arith, inl, inr, ◌∙◌}
 use Rattle.std.proofs.lemmas.Bool.Decides.{nat_tests}
-use Rattle.bpaf_doc.specs.Splitter.Chunks.{is_whole_line, code_weight, fence_weight}
+use Rattle.bpaf_doc.specs.Splitter.Chunks.{is_whole_line}
 use Rattle.bpaf_doc.specs.Console.Layout.{Shows, Stretch, Gap, Placed, Passed, Place, chunk_at, is_placed}
 use Rattle.bpaf_doc.proofs.lemmas.Console.Layout.State.{State, Piece, Lines, Begins, first, stays, wraps, places, drops, Next, Grows, placing, breaking, passing, padded, trimmed, put}
 use Rattle.bpaf_doc.proofs.lemmas.Console.Layout.Back.{by_cases, EachPlace, each_grows, place_of, by_lines, same_padded}
@@ -10,9 +10,6 @@ use Rattle.bpaf_doc.proofs.lemmas.Console.Layout.Text.{IsStarting, has_place, or
 use Rattle.bpaf_doc.proofs.lemmas.Console.Layout.Split.{Cut, cut_cons, AfterGap, cut_gap, AfterPassed, cut_passed, AfterPads, cut_padded, has_newline}
 
 -- ---- helpers
-
-heavy_weight : (weight : ℕ) → ((weight == code_weight) || (weight == fence_weight)) ≡ true → 1_000_000 ≤ weight
-heavy_weight weight h = grind (arith, nat_tests)
 
 -- a page cut at a place has a place
 pub place_in : (m before : List Stretch) (e : Place) → has_place (m ++ Placed e ∷ before) ≡ true
@@ -57,7 +54,7 @@ alone_padded n r f h = λ m before e there whole.
     ap has_newline found.is ∙ same_padded has_newline (λ x. refl) n found.rest ∙ h found.rest before e found.there whole
 
 heavy_put : (p : Piece) (base : State) (n : ℕ) → AloneBefore (padded n base.back) (place_of p) → IsHeavy (put n p.part p.bytes p.weight base)
-heavy_put p base n alone = grind (arith, cut_cons, heavy_weight)
+heavy_put p base n alone = grind (arith, cut_cons, nat_tests)
 
 pub heavy_grows : {width : ℕ} {st after : State} {next : Next} → width < 1_000_000 → IsStarting st → Grows width st next after → IsHeavy st → IsHeavy after
 heavy_grows small start (placing p e (places base n b d a)) h = subst IsHeavy (sym a) (heavy_put p base n (alone_padded n base.back (place_of p) (alone_begins p base small start h b)))

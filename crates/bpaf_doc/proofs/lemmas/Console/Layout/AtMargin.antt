@@ -4,9 +4,9 @@ use Rattle.std.proofs.Common.{sym, subst, ap, arith, inl, inr, ◌∙◌}
 use Rattle.bpaf_doc.specs.declared.buffer.Block.{Block}
 use Rattle.bpaf_doc.specs.Splitter.Chunks.{Chunk, Raw, is_inked}
 use Rattle.bpaf_doc.specs.Shown.{is_term_ref, mark_bytes}
-use Rattle.bpaf_doc.specs.Console.Layout.{Event, Shows, Stretch, Gap, Placed, Passed, Place, chunk_at, event_bytes, is_raw_or_ref}
+use Rattle.bpaf_doc.specs.Console.Layout.{Event, Shows, Stretch, Gap, Placed, Passed, Place, chunk_at, is_raw_or_ref}
 use Rattle.bpaf_doc.specs.declared.console.page.Asked.TheVariants.{Nothing}
-use Rattle.bpaf_doc.proofs.lemmas.Console.Layout.State.{State, Piece, Lines, Pads, Begins, first, stays, wraps, places, drops, Next, raw, mark, Grows, placing, breaking, passing, padded, has_text, put, Suits}
+use Rattle.bpaf_doc.proofs.lemmas.Console.Layout.State.{State, Piece, Lines, Pads, Begins, first, stays, wraps, places, drops, Next, raw, mark, Grows, placing, breaking, passing, padded, put, Suits}
 use Rattle.bpaf_doc.proofs.lemmas.Console.Layout.Back.{by_cases, EachPlace, each_grows, place_of, fits_of, by_lines, same_padded, by_mark}
 use Rattle.bpaf_doc.proofs.lemmas.Console.Layout.Columns.{Fills, column_back, column_padded, Agrees}
 use Rattle.bpaf_doc.proofs.lemmas.Console.Layout.Text.{EachPassed, NoInk, ink_text, IsStarting, begins_column, begins_margin, or_false_right}
@@ -25,12 +25,9 @@ is_quiet (Passed event ∷ r) = not (is_raw_or_ref event) && is_quiet r
 no_backquote : (b : Block) → is_term_ref b ≡ false → length (mark_bytes b) ≡ 0
 no_backquote b h = rw h refl
 
-bare_event : (event : Event) → is_raw_or_ref event ≡ false → length (event_bytes event) ≡ 0
-bare_event event h = grind (arith, no_backquote)
-
 quiet_column : (r : List Stretch) → is_quiet r ≡ true → inked_line r ≡ false → pads_back r ≡ 0 → column_back r ≡ 0
 quiet_column [] q i p = refl
-quiet_column (x ∷ r) q i p = grind (arith, quiet_column r, bare_event, or_false_right)
+quiet_column (x ∷ r) q i p = grind (arith, quiet_column r, no_backquote, or_false_right)
 
 -- ---- one blank since the last ink
 
@@ -45,9 +42,6 @@ last_grows e h = grind (arith, cut_cons, cut_passed, cut_gap)
 abbrev pub IsAtStart : State → Type 0
 IsAtStart st = (m before : List Stretch) (e : Place) (k : ℕ) → Cut st.back m e before → is_inked (chunk_at e) ≡ true → events_back m ≡ Shows k (Raw (codes " ") 1) ∷ []
     → has_newline m ≡ true → column_back st.back ≡ 0
-
-no_place_first : (st : State) → EachPlace Fills st.back → EachPassed NoInk st.back → has_text st.back ≡ false → (m before : List Stretch) (e : Place) → Cut st.back m e before → is_inked (chunk_at e) ≡ true → ⊥
-no_place_first st f q none m before e there i = grind (arith, ink_at, ink_text)
 
 -- after what was asked for, directly after an inked chunk, nothing was written
 last_lines : {st mid : State} → IsLast st → Lines st mid → (m before : List Stretch) (e : Place) → Cut mid.back m e before → is_inked (chunk_at e) ≡ true → events_back m ≡ [] → m ≡ []
@@ -71,11 +65,8 @@ start_put {width} {st} p base n f q h b = λ m before e k there i blank line. at
       let some : has_newline found.rest ≡ true = sym same_line ∙ line in
       absurd (begins found.rest some none_found found.there bytes b) where
         begins : (rest : List Stretch) → has_newline rest ≡ true → events_back rest ≡ [] → Cut base.back rest e before → p.bytes ≡ codes " " → Begins width st p base → ⊥
-        begins rest some none there bytes (first t s) = no_place_first st f q t rest before e (subst (λ (x : State). Cut x.back rest e before) s there) i
-        begins rest some none there bytes (stays t l w) =
-            let nothing : rest ≡ [] = last_lines h l rest before e there i none in
-            let no : false ≡ true = sym (ap has_newline nothing) ∙ some in cc
-        begins rest some none there bytes (wraps t mid l w other s) = other bytes
+        begins rest some none there bytes (first t s) = grind (arith, ink_at, ink_text)
+        begins rest some none there bytes z = grind (arith, last_lines)
 
 not_shown : {margin_of : ℕ → ℕ} (st : State) (next : Next) (event : Event) (margin k : ℕ) (chunk : Chunk) → Suits margin_of st next → next ≡ mark event margin → event ≡ Shows k chunk → ⊥
 not_shown st next event margin k chunk suits e = by_mark (λ x m. x ≡ Shows k chunk → ⊥) suits e (λ b m l u h. cc) (λ b m l u h. cc)
@@ -106,9 +97,6 @@ module _ (margin_of : ℕ → ℕ) where
   abbrev pub IsExact : List Stretch → Place → Type 0
   IsExact r f = inked_line r ≡ false → (is_quiet r ≡ true) ⊎ AfterBlank r f.part → column_back r ≡ margin_of f.part
 
-  exact_pads : (n : ℕ) (base : State) (m : ℕ) → base.margin ≡ m → base.column ≡ 0 → Pads base n → n ≡ m
-  exact_pads n base m a c h = grind arith
-
   lines_start : {st mid : State} → IsAtStart st → Lines st mid → IsAtStart mid
   lines_start h l = by_lines IsAtStart l h (λ m before e k there i blank line. refl) (λ m before e k there i blank line. refl) (λ m before e k there i blank line. refl)
 
@@ -121,18 +109,17 @@ module _ (margin_of : ℕ → ℕ) where
         let back_zero : column_back base.back ≡ 0 = zero_at here_line kind in
         let column : base.column ≡ 0 = begins_column small f start agrees b ∙ back_zero in
         let in_force : base.margin ≡ margin_of p.part = (begins_margin b).0 ∙ (fits_of suits is).margin_is in
-        let pads : n ≡ margin_of p.part = exact_pads n base (margin_of p.part) in_force column d in
+        let pads : n ≡ margin_of p.part = grind arith in
         let total : column_back (padded n base.back) ≡ n + column_back base.back = column_padded n base.back in
         omega arith where
           after_blank : inked_line base.back ≡ false → (found : AfterBlank (padded n base.back) p.part) → AfterPads n base.back found.rest found.place found.before → Begins width st p base → column_back base.back ≡ 0
-          after_blank clear found cut_there (first t s) = grind (arith, no_place_first)
+          after_blank clear found cut_there (first t s) = grind (arith, ink_at, ink_text)
           after_blank clear found cut_there (stays t l w) = at (by_cases (has_newline cut_there.rest)) where
             blank : events_back cut_there.rest ≡ Shows p.part (Raw (codes " ") 1) ∷ []
             blank = sym (ap events_back cut_there.is ∙ same_padded events_back (λ x. refl) n cut_there.rest) ∙ found.blank
 
             at : (has_newline cut_there.rest ≡ true) ⊎ (has_newline cut_there.rest ≡ false) → column_back base.back ≡ 0
-            at (inl y) = lines_start h l cut_there.rest found.before found.place p.part cut_there.there found.inked blank y
-            at (inr y) = grind (arith, inked_since)
+            at h1 = grind (arith, lines_start, blank, inked_since)
           after_blank clear found cut_there (wraps t mid l w x s) = ap (λ (y : State). column_back y.back) s
 
           zero_at : inked_line base.back ≡ false → (is_quiet (padded n base.back) ≡ true) ⊎ AfterBlank (padded n base.back) p.part → column_back base.back ≡ 0

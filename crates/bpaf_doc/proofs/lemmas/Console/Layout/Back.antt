@@ -1,19 +1,17 @@
 -- Facts that hold of each place of a page, and what keeps them.
 use Rattle.std.specs.Prelude.{◌≡◌, ℕ, zero, suc, ◌+◌, ◌<◌, ◌≤◌, ⊤, Bool, true, false, List, [], ◌∷◌, ◌++◌, codes, refl, if◌then◌else◌}
-use Rattle.std.proofs.Common.{sym, subst, ◌∙◌, ◌⊎◌, inl, inr}
+use Rattle.std.proofs.Common.{arith, sym, subst, ◌∙◌, ◌⊎◌}
 use Rattle.bpaf_doc.specs.Splitter.Chunks.{Chunk, Paragraph, LineBreak, columns, is_inked, has_some}
 use Rattle.bpaf_doc.specs.declared.buffer.Block.{Block}
 use Rattle.bpaf_doc.specs.Console.Layout.{Event, Shows, Opens, Closes, is_inline_block, Stretch, Gap, Placed, Passed, Place, chunk_at, event_bytes}
-use Rattle.bpaf_doc.proofs.lemmas.Console.Layout.State.{State, Piece, Lines, none_asked, line_there, line_put, blank_there, second_put, both_put, Pads, Begins, first, stays, wraps, places, drops, Next, raw, break, mark, Grows, placing, breaking, passing, padded, trimmed, cut, Fits, Suits, raw_suits, paragraph_suits, line_break_suits, open_suits, close_suits, on_new_line, sat, put, dropped, wrapped, broken, passed}
+use Rattle.bpaf_doc.proofs.lemmas.Console.Layout.State.{State, Piece, Lines, Pads, Begins, places, drops, Next, raw, break, mark, Grows, placing, breaking, passing, padded, trimmed, cut, Fits, Suits, raw_suits, paragraph_suits, line_break_suits, open_suits, close_suits, on_new_line, sat, put, dropped, wrapped, broken, passed}
 
 pub by_cases : (b : Bool) → (b ≡ true) ⊎ (b ≡ false)
-by_cases true = inl refl
-by_cases false = inr refl
+by_cases s = grind arith
 
 -- P of what a test chooses
 pub by_test : {A : Type 0} (P : A → Type 0) (b : Bool) (x y : A) → (b ≡ true → P x) → (b ≡ false → P y) → P (if b then x else y)
-by_test P true x y holds fails = holds refl
-by_test P false x y holds fails = fails refl
+by_test P s x y holds fails = grind arith
 
 -- P of each place and what stands before it, newest first
 abbrev pub EachPlace : (List Stretch → Place → Type 0) → List Stretch → Type 0
@@ -24,8 +22,7 @@ EachPlace P (Placed f ∷ r) = P r f × EachPlace P r
 
 pub each_back : (P : List Stretch → Place → Type 0) (m r : List Stretch) → EachPlace P (m ++ r) → EachPlace P r
 each_back P [] r h = h
-each_back P (Placed g ∷ m) r h = each_back P m r h.1
-each_back P (_ ∷ m) r h = each_back P m r h
+each_back P (s ∷ m) r h = grind (arith, each_back P m r)
 
 abbrev pub KeepsCut : (List Stretch → Place → Type 0) → Type 0
 KeepsCut P = (r : List Stretch) (f : Place) → is_inked (chunk_at f) ≡ true → P r f → P r (cut f)
@@ -47,20 +44,12 @@ pub by_trimmed : (P : List Stretch → List Stretch → Type 0) → P [] [] → 
     → ((event : Event) (r t : List Stretch) → has_some (event_bytes event) ≡ false → P r t → P (Passed event ∷ r) (Passed event ∷ t))
     → (r : List Stretch) → P r (trimmed r)
 by_trimmed P none gap inked plain bytes bare [] = none
-by_trimmed P none gap inked plain bytes bare (Gap b ∷ r) = gap b r (trimmed r) (by_trimmed P none gap inked plain bytes bare r)
-by_trimmed P none gap inked plain bytes bare (Placed e ∷ r) =
-    by_test (P (Placed e ∷ r)) (is_inked (chunk_at e)) _ _ (inked e r) (λ i. plain e r (trimmed r) i (by_trimmed P none gap inked plain bytes bare r))
-by_trimmed P none gap inked plain bytes bare (Passed event ∷ r) =
-    by_test (P (Passed event ∷ r)) (has_some (event_bytes event)) _ _ (bytes event r) (λ i. bare event r (trimmed r) i (by_trimmed P none gap inked plain bytes bare r))
+by_trimmed P none gap inked plain bytes bare (s ∷ r) = grind (arith, by_trimmed P none gap inked plain bytes bare r,
+  by_test)
 
 -- Q of the page on which all is written that was asked for
 pub by_lines : (Q : State → Type 0) {st mid : State} → Lines st mid → Q st → Q (on_new_line st) → Q (record st { back = Gap 10 ∷ st.back }) → Q (on_new_line (on_new_line st)) → Q mid
-by_lines Q (none_asked a e) same line second both = subst Q (sym e) same
-by_lines Q (line_there a b e) same line second both = subst Q (sym e) same
-by_lines Q (line_put a e) same line second both = subst Q (sym e) line
-by_lines Q (blank_there a b e) same line second both = subst Q (sym e) same
-by_lines Q (second_put a b e) same line second both = subst Q (sym e) second
-by_lines Q (both_put a e) same line second both = subst Q (sym e) both
+by_lines Q s same line second both = grind arith
 
 -- P of its stretches, where one newline more keeps it
 pub lines_back : (P : List Stretch → Type 0) → ((r : List Stretch) → P r → P (Gap 10 ∷ r)) → {st mid : State} → Lines st mid → P st.back → P mid.back
@@ -69,9 +58,7 @@ lines_back P more {st} l h = by_lines (λ s. P s.back) l h (more st.back h) (mor
 -- and P of those before a chunk, where a new line keeps it
 pub begins_back : (P : List Stretch → Type 0) → ((r : List Stretch) → P r → P (Gap 10 ∷ r)) → ((r : List Stretch) → P r → P (Gap 10 ∷ trimmed r))
     → {width : ℕ} {st : State} {p : Piece} {base : State} → Begins width st p base → P st.back → P base.back
-begins_back P more wrap (first t e) h = subst (λ (s : State). P s.back) (sym e) h
-begins_back P more wrap (stays t l w) h = lines_back P more l h
-begins_back P more wrap (wraps t mid l w b e) h = subst (λ (s : State). P s.back) (sym e) (wrap mid.back (lines_back P more l h))
+begins_back P more wrap z h = grind (arith, lines_back)
 
 pub each_trimmed : (P : List Stretch → Place → Type 0) → KeepsCut P → (r : List Stretch) → EachPlace P r → EachPlace P (trimmed r)
 each_trimmed P keeps = by_trimmed (λ r t. EachPlace P r → EachPlace P t) (λ h. h) (λ b r t ih h. ih h) (λ e r i h. (keeps r e i h.0, h.1)) (λ e r t i ih h. ih h.1) (λ event r i h. h) (λ event r t i ih h. ih h)
@@ -132,9 +119,7 @@ pub by_break : {margin_of : ℕ → ℕ} {st : State} {next : Next} {k : ℕ} {c
     → ((j : ℕ) → st.latest ≤ j → (st.marked ≡ true → st.latest < j) → Q Paragraph j)
     → ((j : ℕ) → st.latest ≤ j → (st.marked ≡ true → st.latest < j) → Q LineBreak j) → Q chunk k
 by_break Q (raw_suits q f g) e paragraph line = absurd cc
-by_break {k = k} {chunk = chunk} Q (paragraph_suits j f l m) e paragraph line =
-    let same : Paragraph ≡ chunk = cc in let part : j ≡ k = cc in subst (λ (c : Chunk). Q c k) same (subst (Q Paragraph) part (paragraph j l m))
-by_break {k = k} {chunk = chunk} Q (line_break_suits j f l m) e paragraph line =
-    let same : LineBreak ≡ chunk = cc in let part : j ≡ k = cc in subst (λ (c : Chunk). Q c k) same (subst (Q LineBreak) part (line j l m))
+by_break {k = k} {chunk = chunk} Q (paragraph_suits j f l m) e paragraph line = grind arith
+by_break {k = k} {chunk = chunk} Q (line_break_suits j f l m) e paragraph line = grind arith
 by_break Q (open_suits b margin f l u) e paragraph line = absurd cc
 by_break Q (close_suits b margin f l u) e paragraph line = absurd cc

@@ -56,11 +56,8 @@ owes_ink (x ∷ r) h = grind (arith, owes_ink r, inked_line_ink)
 not_owed : (st : State) → IsAskedLine st → st.asked ≡ Nothing → owes_line st.back ≡ false
 not_owed st h a = elim (by_cases (owes_line st.back)) [ inl o ↦ let some : is_nothing st.asked ≡ false = h o in let none : is_nothing st.asked ≡ true = rw a refl in absurd cc | inr o ↦ o ]
 
-owes_lines : {st mid : State} → EachPlace Fills st.back → EachPassed NoInk st.back → IsAskedLine st → Lines st mid → owes_line mid.back ≡ false
-owes_lines f q h e = grind (arith, not_owed, ends_line_owes, blank_line_ends)
-
 owes_begins : {width : ℕ} {st : State} {p : Piece} {base : State} → EachPlace Fills st.back → EachPassed NoInk st.back → IsAskedLine st → Begins width st p base → owes_line base.back ≡ false
-owes_begins f q h e = grind (arith, ink_text, owes_ink, owes_lines)
+owes_begins f q h e = grind (arith, ink_text, owes_ink, not_owed, ends_line_owes, blank_line_ends)
 
 at_least_something : (a : Asked) → is_nothing (at_least_line a) ≡ false
 at_least_something a = grind arith
@@ -214,12 +211,10 @@ module _ (width : ℕ) where
       (λ event r t i ih. at event r t (by_cases (is_raw_event event)) ih) where
         owed : (event : Event) (r t : List Stretch) → Owes r t → ((asks_blank_line event && last_raw_inked t) ≡ true) ⊎ (owes_blank t ≡ true)
             → ((asks_blank_line event && last_raw_inked r) || owes_blank r) ≡ true
-        owed event r t ih (inl last) = grind (arith, and_parts)
-        owed event r t ih (inr owes) = or_true_right (asks_blank_line event && last_raw_inked r) (owes_blank r) (ih.1 owes)
+        owed event r t h1 h2 = grind (arith, and_parts, or_true_right)
 
         at : (event : Event) (r t : List Stretch) → (is_raw_event event ≡ true) ⊎ (is_raw_event event ≡ false) → Owes r t → Owes (Passed event ∷ r) (Passed event ∷ t)
-        at event r t (inl x) ih = rw x ((λ h. absurd cc), (λ h. absurd cc))
-        at event r t (inr x) ih = rw x (ih.0, λ h. owed event r t ih (or_cases (asks_blank_line event && last_raw_inked t) (owes_blank t) h))
+        at event r t h1 h2 = grind (arith, owed, or_cases)
 
   blank_begins : {st : State} {p : Piece} {base : State} → EachPlace Fills st.back → EachPassed NoInk st.back → IsAskedBlank st → IsFreshAtZero st
       → Begins width st p base → columns p.bytes ≤ width → (m before : List Stretch) (e : Place) → Cut base.back m e before → is_inked (chunk_at e) ≡ true

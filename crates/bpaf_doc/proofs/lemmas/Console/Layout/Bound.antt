@@ -1,5 +1,5 @@
 -- No line of a page passes the bound.
-use Rattle.std.specs.Prelude.{◌≡◌, ℕ, zero, suc, ◌+◌, ◌<◌, ◌≤◌, max, ⊤, true, false, List, [], ◌∷◌, length, refl, ◌⊎◌}
+use Rattle.std.specs.Prelude.{◌≡◌, ℕ, zero, suc, ◌+◌, ◌<◌, ◌≤◌, max, ⊤, true, false, List, [], ◌∷◌, length, refl}
 use Rattle.std.proofs.Common.{sym, subst, arith, ◌∙◌}
 use Rattle.std.proofs.lemmas.Bool.{cases_lt}
 use Rattle.bpaf_doc.specs.Splitter.Chunks.{columns, has_some}
@@ -68,19 +68,12 @@ module _ (width deepest most : ℕ) where
   abbrev pub bound : ℕ
   bound = deepest + 2 + max width most
 
-  within_begins : {st : State} {p : Piece} {base : State} → EachPassed IsBare st.back → Begins width st p base → EachFront (Within bound) st.back → EachFront (Within bound) base.back
-  within_begins q e h = grind (arith, within_lines, within_trimmed, bare_lines)
-
-  within_pads : (n : ℕ) (base : State) → base.margin ≤ deepest → base.column ≡ column_back base.back → Pads base n
-      → (n + column_back base.back ≤ deepest + 2) ⊎ (n + column_back base.back ≤ 2 + base.column)
-  within_pads n base m c h = grind (arith, cases_lt)
-
   within_first : (n : ℕ) (base : State) → base.margin ≤ deepest → column_back base.back ≡ 0 → Pads base n → n + column_back base.back ≤ deepest + 2
   within_first n base m c h = grind arith
 
   within_put : {st : State} (p : Piece) (base : State) (n : ℕ) → width < 1_000_000 → EachPlace Fills st.back → Agrees st → st.margin ≤ deepest → columns p.bytes ≤ most
       → Begins width st p base → Pads base n → columns p.bytes + (n + column_back base.back) ≤ bound
-  within_put p base n small f h m c e d = grind (arith, no_text_column, within_first, agrees_lines, lines_margin, within_pads)
+  within_put p base n small f h m c e d = grind (arith, no_text_column, within_first, agrees_lines, lines_margin, cases_lt)
 
   pub within_grows : {st after : State} {next : Next} → width < 1_000_000 → EachPlace Fills st.back → EachPassed IsBare st.back → Agrees st → st.margin ≤ deepest
       → WritesNone next → IsNarrow most next → Grows width st next after → EachFront (Within bound) st.back → EachFront (Within bound) after.back
@@ -90,6 +83,7 @@ module _ (width deepest most : ℕ) where
       (λ p base n e b d.
       let line : columns p.bytes + (n + column_back base.back) ≤ bound = within_put p base n small f agrees m (subst (λ (x : Next). IsNarrow most x) e narrow) b d in
       let pads : column_back (padded n base.back) ≡ n + column_back base.back = column_padded n base.back in
-      (omega arith, within_padded bound n base.back (omega arith) (within_begins q b h)))
+      (omega arith,
+          within_padded bound n base.back (omega arith) (grind (arith, within_lines, within_trimmed, bare_lines))))
       (λ p mid e l w b. (omega arith, (omega arith, within_trimmed bound mid.back (bare_lines l q) (within_lines bound l h)))) (λ k chunk e. (omega arith, (omega arith, h)))
       (λ event margin e. let none : length (event_bytes event) ≡ 0 = no_bytes (event_bytes event) (subst WritesNone e writes) in (omega arith, h))

@@ -1,8 +1,8 @@
 -- The column of a page as it grows, and whether something is written.
 use Rattle.std.specs.Prelude.{◌≡◌, ℕ, zero, suc, ◌+◌, ◌<◌, ◌≤◌, Bool, true, false, not, ◌&&◌, ◌||◌, ◌==◌, List, [], ◌∷◌, length, filter, chars, refl, if◌then◌else◌, ◌⊎◌}
-use Rattle.std.specs.Str.{trim_end, drop_trailing_whitespace, chars, encode_utf8_all}
+use Rattle.std.specs.Str.{trim_end, drop_trailing_whitespace, chars}
 use Rattle.std.specs.Char.{is_not_whitespace}
-use Rattle.std.proofs.Common.{sym, arith, inl, inr, ◌∙◌}
+use Rattle.std.proofs.Common.{rules, sym, arith, inl, inr, ◌∙◌}
 use Rattle.std.proofs.lemmas.Bool.{cases_lt}
 use Rattle.std.proofs.lemmas.Str.{length-le-encodes}
 use Rattle.std.proofs.lemmas.Bool.Decides.{nat_tests}
@@ -24,9 +24,7 @@ some_of_length xs h = grind arith
 
 pub inked_trim : (bytes : List ℕ) → has_some (ink bytes) ≡ true → has_some (trim_end bytes) ≡ true
 unfolding trim_end
-inked_trim bytes h =
-    let some : 0 < length (drop_trailing_whitespace (chars bytes)) = whole_trim (chars bytes) h in
-    some_of_length (encode_utf8_all (drop_trailing_whitespace (chars bytes))) (omega (arith, length-le-encodes (drop_trailing_whitespace (chars bytes))))
+inked_trim bytes h = search (rules, whole_trim, some_of_length, length-le-encodes)
 
 pub inked_some : (bytes : List ℕ) → has_some (ink bytes) ≡ true → has_some bytes ≡ true
 unfolding chars
@@ -65,21 +63,18 @@ no_columns : columns [] ≡ 0
 unfolding chars str_width
 no_columns = refl
 
-empty_columns : (bytes : List ℕ) → has_some bytes ≡ false → columns bytes ≡ 0
-empty_columns bytes h = grind (arith, no_columns)
-
 pub no_bytes : (xs : List ℕ) → has_some xs ≡ false → length xs ≡ 0
 no_bytes xs h = grind arith
 
 -- a page that ends in a newline is at column 0
 pub ends_line_column : (r : List Stretch) → EachPlace Fills r → ends_line r ≡ true → column_back r ≡ 0
 ends_line_column [] f h = refl
-ends_line_column (x ∷ r) f h = grind (arith, ends_line_column r, empty_columns, no_bytes)
+ends_line_column (x ∷ r) f h = grind (arith, ends_line_column r, no_columns, no_bytes)
 
 -- a page without text is at column 0
 pub no_text_column : (r : List Stretch) → EachPlace Fills r → has_text r ≡ false → column_back r ≡ 0
 no_text_column [] f h = refl
-no_text_column (x ∷ r) f h = grind (arith, no_text_column r, empty_columns, no_bytes)
+no_text_column (x ∷ r) f h = grind (arith, no_text_column r, no_columns, no_bytes)
 
 -- ---- the column that is kept
 

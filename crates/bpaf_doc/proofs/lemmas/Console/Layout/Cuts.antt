@@ -20,9 +20,6 @@ pub may_end_line : (r : List Stretch) → MayEnd false r → MayEnd true r
 may_end_line (x ∷ r) h = grind (arith, may_end_line r)
 may_end_line _ h = h
 
-same_false : (b : Bool) → (if b then false else false) ≡ false
-same_false b = grind arith
-
 may_end_trimmed : (r : List Stretch) (line : Bool) → EachPlace Fills r → MayEnd line r → MayEnd true (trimmed r)
 may_end_trimmed = by_trimmed (λ r t. (line : Bool) → EachPlace Fills r → MayEnd line r → MayEnd true t) (λ line f h. h) (λ b r t ih line f h. ih (b == 10) f h.1)
     (λ e r i line f h.
@@ -47,6 +44,6 @@ whole_begins f e h = grind (arith, whole_lines, whole_wrapped, each_lines)
 
 pub whole_grows : {width : ℕ} {st after : State} {next : Next} → EachPlace Fills st.back → Grows width st next after → IsWhole st → IsWhole after
 whole_grows {st = st} f g h = by_grows IsWhole g
-    (λ p base n e b d. (inl refl, subst (λ (x : Bool). MayEnd x (padded n base.back)) (sym (same_false (has_some p.bytes))) (by_padded (MayEnd false) (λ x y. (inl refl, y)) n base.back (whole_begins f b h))))
+    (λ p base n e b d. (inl refl, subst (λ (x : Bool). MayEnd x (padded n base.back)) (sym (grind arith)) (by_padded (MayEnd false) (λ x y. (inl refl, y)) n base.back (whole_begins f b h))))
     (λ p mid e l w b. whole_wrapped mid (each_lines Fills l f) (whole_lines l h)) (λ k chunk e. (inr refl, may_end_line st.back h))
-    (λ event margin e. subst (λ (x : Bool). MayEnd x st.back) (sym (same_false (has_some (event_bytes event)))) h)
+    (λ event margin e. subst (λ (x : Bool). MayEnd x st.back) (sym (grind arith)) h)

@@ -1,10 +1,10 @@
 -- Between neighbouring inked chunks of one line nothing is cut or left out, and within one text nothing is added.
-use Rattle.std.specs.Prelude.{◌≡◌, ◌≢◌, ℕ, zero, suc, ◌+◌, ◌<◌, ◌≤◌, ⊤, true, false, ◌||◌, List, [], ◌∷◌, refl, ◌⊎◌}
+use Rattle.std.specs.Prelude.{◌≡◌, ◌≢◌, ℕ, zero, suc, ◌<◌, ◌≤◌, ⊤, true, false, ◌||◌, List, [], ◌∷◌, refl, ◌⊎◌}
 use Rattle.std.specs.List.{list_any}
 use Rattle.std.proofs.Common.{sym, subst, arith, inl, inr, ◌∙◌}
 use Rattle.bpaf_doc.specs.Splitter.Chunks.{Chunk, Raw, is_inked}
 use Rattle.bpaf_doc.specs.Console.Layout.{Event, Shows, Stretch, Gap, Placed, Passed, Place, chunk_at, is_inked_stretch, is_inked_event, is_raw_event}
-use Rattle.bpaf_doc.proofs.lemmas.Console.Layout.State.{State, Piece, Lines, Pads, Begins, first, stays, wraps, places, drops, Next, raw, break, Grows, placing, breaking, passing, padded, trimmed, sat, put, passed, Suits}
+use Rattle.bpaf_doc.proofs.lemmas.Console.Layout.State.{State, Piece, Lines, Pads, Begins, first, stays, wraps, places, drops, Next, raw, break, Grows, placing, breaking, passing, padded, trimmed, put, passed, Suits}
 use Rattle.bpaf_doc.proofs.lemmas.Console.Layout.Back.{each_back, by_cases, EachPlace, each_grows, each_begins, each_trimmed, each_lines, place_of, fits_of, by_lines, by_padded, same_padded, by_mark, by_break, by_grows}
 use Rattle.bpaf_doc.proofs.lemmas.Console.Layout.Text.{or_false_right, begins_margin, lines_margin, no_ink_blank}
 use Rattle.bpaf_doc.proofs.lemmas.Console.Layout.Split.{Cut, FirstOrLater, here, later, cut_cons, AfterGap, cut_gap, AfterPassed, cut_passed, AfterPads, cut_padded, has_newline, inked_line, inked_since}
@@ -45,11 +45,8 @@ IsSmall st = st.margin ≤ 18446744073709551615
 pub small_grows : {width : ℕ} {margin_of : ℕ → ℕ} {st after : State} {next : Next} → Suits margin_of st next → Grows width st next after → IsSmall st → IsSmall after
 small_grows suits g h = grind (arith, by_grows, begins_margin, lines_margin, by_mark)
 
-settled_put : (n : ℕ) (p : Piece) (base : State) → IsSmall base → Pads base n → base.margin ≤ sat (base.column + n + p.weight)
-settled_put n p base small h = grind arith
-
 pub settled_grows : {width : ℕ} {st after : State} {next : Next} → IsSmall st → Grows width st next after → IsSettled st → IsSettled after
-settled_grows small g h = grind (arith, by_grows, settled_put, begins_margin)
+settled_grows small g h = grind (arith, by_grows, begins_margin)
 
 pub unsettled_grows : {width : ℕ} {st after : State} {next : Next} → Grows width st next after → IsUnsettled st → IsUnsettled after
 unsettled_grows g h = by_grows IsUnsettled g (λ p base n e b d o. absurd cc)
@@ -79,10 +76,6 @@ IsNeighbour r m e before = Cut r m e before × (is_inked (chunk_at e) ≡ true) 
 
 abbrev pub IsKeptSince : State → Type 0
 IsKeptSince st = (m before : List Stretch) (e : Place) → IsNeighbour st.back m e before → (e.shown ≡ e.bytes) × AllKept (e.part < st.latest) m
-
--- no blank is added where a chunk was placed last
-no_pads : (st : State) (n : ℕ) → IsSettled st → st.settled ≡ true → Pads st n → n ≡ 0
-no_pads st n h s e = grind arith
 
 -- blanks that are put stand between neighbours
 neighbour_padded : (n : ℕ) (r m : List Stretch) (e : Place) (before : List Stretch) → (there : IsNeighbour (padded n r) m e before) → IsNeighbour r (cut_padded n r m e before there.0).rest e before
@@ -114,11 +107,10 @@ kept_same st k n settled unsettled order h o moved d m before e there =
       earlier = (each_back (NotAfter st.latest) found.rest (Placed e ∷ before) (subst (λ x. EachPlace (NotAfter st.latest) x) found.there order)).0
 
       strict : (inked_line st.back ≡ false) ⊎ (st.marked ≡ true) → e.part < k
-      strict (inl i) = grind (arith, found, inked_since, near)
-      strict (inr t) = let l : st.latest < k = moved t in let p : e.part ≤ st.latest = earlier in omega arith
+      strict h1 = grind (arith, found, inked_since, near, earlier)
 
       at : (st.settled ≡ true) ⊎ (st.settled ≡ false) → (e.shown ≡ e.bytes) × AllKept (e.part < k) m
-      at (inl s) = grind (arith, no_pads, found, since, wider)
+      at (inl s) = grind (arith, found, since, wider)
       at (inr s) = (since.0, subst (λ x. AllKept (e.part < k) x) (sym found.is) (kept_padded n found.rest (strict (unsettled s)) wider))
 
 -- no neighbour stands before a newline

@@ -1,9 +1,9 @@
 -- Chunks fit the width, and blanks are added only up to the margin or after a wide term, and before a place.
 use Rattle.std.specs.Prelude.{◌≡◌, ℕ, zero, suc, ◌+◌, ◌<◌, ◌≤◌, ⊤, Bool, true, false, ◌&&◌, ◌||◌, ◌==◌, List, [], ◌∷◌, ◌++◌, reverse, refl, if◌then◌else◌, ◌⊎◌}
-use Rattle.std.proofs.Common.{sym, subst, ap, arith, inl, inr, ◌∙◌, append_assoc}
+use Rattle.std.proofs.Common.{rules, sym, subst, ap, arith, inl, inr, ◌∙◌, append_assoc}
 use Rattle.std.proofs.lemmas.List.{reverse-append}
-use Rattle.bpaf_doc.specs.Splitter.Chunks.{columns, has_some}
-use Rattle.bpaf_doc.specs.Console.Layout.{Event, Shows, Stretch, Gap, Placed, Passed, Place, event_bytes, is_newline, is_placed, is_gap, is_ref, holds_line, leads_to_place, opens_body}
+use Rattle.bpaf_doc.specs.Splitter.Chunks.{columns}
+use Rattle.bpaf_doc.specs.Console.Layout.{Event, Shows, Stretch, Gap, Placed, Passed, Place, is_newline, is_placed, is_gap, holds_line, leads_to_place, opens_body}
 use Rattle.bpaf_doc.proofs.lemmas.Console.Layout.State.{State, Piece, Lines, Pads, Begins, first, stays, wraps, Next, raw, Grows, padded, trimmed, has_text, Suits}
 use Rattle.bpaf_doc.proofs.lemmas.Console.Layout.Back.{by_cases, EachPlace, KeepsCut, each_grows, place_of, fits_of, by_lines, lines_back, begins_back, by_trimmed, by_padded, same_padded, by_grows}
 use Rattle.bpaf_doc.proofs.lemmas.Console.Layout.Columns.{Fills, column_back, column_padded, Agrees, any_in_line}
@@ -42,13 +42,10 @@ no_pads_grows g h = by_grows HasNoPads g (λ p base n e b d. refl) (λ p mid e l
 abbrev pub holds_back : List Stretch → Bool
 holds_back r = any_in_line holds_line r
 
-no_ref : (event : Event) → has_some (event_bytes event) ≡ false → is_ref event ≡ false
-no_ref event h = grind arith
-
 -- on a page without text and without places stands nothing
 no_text_holds : (r : List Stretch) → has_text r ≡ false → has_place r ≡ false → holds_back r ≡ false
 no_text_holds [] t p = refl
-no_text_holds (x ∷ r) t p = grind (arith, no_text_holds r, no_ref, or_false_left, or_false_right)
+no_text_holds (x ∷ r) t p = grind (arith, no_text_holds r, or_false_left, or_false_right)
 
 module _ (width : ℕ) where
   -- behind a place or a backquote, a chunk fits but for the blanks before it
@@ -67,8 +64,7 @@ module _ (width : ℕ) where
 
   pub fits_width_grows : {st after : State} {next : Next} → width < 1_000_000 → EachPlace Fills st.back → IsStarting st → Agrees st → HasNoPads st
       → Grows width st next after → EachPlace FitsBefore st.back → EachPlace FitsBefore after.back
-  fits_width_grows {st} {after} {next} small f start agrees none g h =
-      each_grows FitsBefore (λ r e i x. x) (λ p base n e b d. fits_place p base n small f start agrees none b) g h
+  fits_width_grows {st} {after} {next} small f start agrees none g h = search (rules, each_grows, fits_place)
 
 -- ---- added blanks stand before a place
 
@@ -110,9 +106,7 @@ leads_at place (x ∷ m) r rest h k =
     ap (λ xs. leads_to_place (xs ++ rest)) (reverse-append (x ∷ []) m) ∙ ap leads_to_place (append_assoc (reverse m) (x ∷ []) rest) ∙ at x h (λ flag. leads_at flag m r (x ∷ rest)) where
       at : (x : Stretch) → Leads place (x ∷ (m ++ Gap 32 ∷ r)) → ((flag : Bool) → Leads flag (m ++ Gap 32 ∷ r) → (flag ≡ true → leads_to_place (x ∷ rest) ≡ true) → leads_to_place (reverse m ++ x ∷ rest) ≡ true)
           → leads_to_place (reverse m ++ x ∷ rest) ≡ true
-      at (Gap b) h ih = grind arith
-      at (Placed e) h ih = ih true h (λ t. refl)
-      at (Passed event) h ih = ih false h (λ t. absurd cc)
+      at x h1 h2 = grind arith
 
 -- two blanks are pending only after the start of an ItemBody
 abbrev pub IsPending : State → Type 0

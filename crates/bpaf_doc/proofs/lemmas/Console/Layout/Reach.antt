@@ -60,9 +60,6 @@ pub record IsSound (width deepest : ℕ) (rule : Rule) : Type 0 where
 passes : (width end some most : ℕ) → (some ≤ most) ⊎ (width < most) → width < end + some → width < end + most
 passes width end some most h over = grind arith
 
-margin_reached : (n : ℕ) (base : State) → Pads base n → base.margin ≤ base.column + n
-margin_reached n base h = grind arith
-
 module _ (width : ℕ) (rule : Rule) where
   -- where all since e would end at most, if it stood in its line
   abbrev pub end_of : List Event → Place → List Stretch → ℕ
@@ -128,9 +125,6 @@ module _ (width : ℕ) (rule : Rule) where
     reach : InReach (end_of (events_back m) e before) base
     needed : has_newline m ≡ true → width < end_of (events_back m) e before + columns p.bytes
 
-  wrapped_in_reach : (mid : State) (end : ℕ) → InReach end mid → InReach end (wrapped mid)
-  wrapped_in_reach mid end r = grind arith
-
   ready_begins : {st : State} (p : Piece) (base : State) → IsStarting st → IsRoomy st → Begins width st p base → (m before : List Stretch) (e : Place)
       → Cut base.back m e before → IsRun m e
       → Ready p base m e before
@@ -139,10 +133,9 @@ module _ (width : ℕ) (rule : Rule) where
   ready_begins p base start h (wraps t mid l w b s) m before e there run =
       let gap : AfterGap 10 (trimmed mid.back) m e before = cut_gap 10 (trimmed mid.back) m e before (subst (λ (x : State). Cut x.back m e before) s there) in
       let same : events_back gap.rest ≡ events_back m = sym (ap events_back gap.is) in
-      let reach : InReach (end_of (events_back m) e before) mid =
-      subst (λ es. InReach (end_of es e before) mid) same (known_trimmed h l gap.rest before e gap.there (run_on m gap.rest e same run)) in
+      let reach : InReach (end_of (events_back m) e before) mid = grind (arith, known_trimmed, run_on) in
       record {
-        reach = subst (InReach (end_of (events_back m) e before)) (sym s) (wrapped_in_reach mid (end_of (events_back m) e before) reach);
+        reach = subst (InReach (end_of (events_back m) e before)) (sym s) (grind arith);
         needed = λ n. let column : mid.column ≤ end_of (events_back m) e before = reach.column in omega arith;
       }
 
@@ -159,10 +152,6 @@ module _ (width : ℕ) (rule : Rule) where
         needed = λ t. subst (λ es. width < end_of es e before + columns p.bytes) same (ready.needed (sym line ∙ t));
       }
 
-  -- the blanks before a chunk stay in reach
-  pads_in_reach : (n : ℕ) (base : State) (end : ℕ) → rule.has_chunks ≡ true → InReach end base → Pads base n → base.column + n ≤ end
-  pads_in_reach n base end c r h = grind arith
-
   no_room_grows : {st after : State} {next : Next} → IsStarting st → IsRoomy st → Grows width st next after → EachPlace HasNoRoom st.back
       → EachPlace HasNoRoom after.back
   no_room_grows {st} {after} {next} start h g all = each_grows HasNoRoom (λ r f i x. x) core g all where
@@ -175,7 +164,7 @@ module _ (width : ℕ) (rule : Rule) where
     known_put p base n small f start agrees weighed b d h = λ m before e there run. at m before e run (cut_cons (Placed (place_of p)) (padded n base.back) m e before there) where
       at : (m before : List Stretch) (e : Place) → IsRun m e → FirstOrLater (Placed (place_of p)) (padded n base.back) m e before
           → Known (put n p.part p.bytes p.weight base) m e before
-      at m before e run (here none is rest) = grind (arith, begins_column, column_padded, margin_reached)
+      at m before e run (here none is rest) = grind (arith, begins_column, column_padded)
       at m before e run (later rest is there) =
           let events : events_back m ≡ shown p ∷ events_back rest = ap events_back is in
           let parts : (rule.follows (shown p) ≡ true) × IsRun rest e = run_parts (shown p) m rest e events run in
@@ -183,7 +172,7 @@ module _ (width : ℕ) (rule : Rule) where
           let ready : Ready p base rest e before = ready_padded p base n start h b rest before e there parts.1 in
           let total : rule.taken (events_back m) ≡ rule.taken (shown p ∷ events_back rest) = ap rule.taken events in
           let more : rule.takes (shown p) + rule.taken (events_back rest) ≤ rule.taken (shown p ∷ events_back rest) = sound.more (shown p) (events_back rest) in
-          let a : base.column + n ≤ end_of (events_back rest) e before = pads_in_reach n base (end_of (events_back rest) e before) chunk.0 ready.reach d in
+          let a : base.column + n ≤ end_of (events_back rest) e before = grind arith in
           record {
             reach = record {
               column = omega arith;

@@ -1,10 +1,10 @@
 -- The rule of what asks for no newline: a line is broken between neighbouring inked chunks only where the second has no room in it.
 use Rattle.std.specs.Prelude.{◌≡◌, ℕ, ◌+◌, ◌<◌, ◌≤◌, ⊤, Bool, true, false, not, ◌&&◌, List, [], ◌∷◌, ◌++◌, refl, if◌then◌else◌, ◌⊎◌}
 use Rattle.std.specs.List.{list_any, list_all}
-use Rattle.std.proofs.Common.{sym, subst, arith, inl, inr, ◌∙◌}
+use Rattle.std.proofs.Common.{sym, subst, arith, ◌∙◌}
 use Rattle.bpaf_doc.specs.declared.buffer.Block.{Block}
 use Rattle.bpaf_doc.specs.Splitter.Chunks.{Chunk, is_inked}
-use Rattle.bpaf_doc.specs.Console.Layout.{Event, Shows, Opens, Closes, Stretch, Gap, Placed, Passed, Place, is_inked_event, is_inked_stretch, asks_newline, room_of}
+use Rattle.bpaf_doc.specs.Console.Layout.{Event, Shows, Opens, Closes, Stretch, Placed, Place, is_inked_event, is_inked_stretch, asks_newline, room_of}
 use Rattle.bpaf_doc.proofs.lemmas.Console.Layout.State.{State, Pads, Piece, Begins, Next, raw, break, mark, Grows, padded, Suits}
 use Rattle.bpaf_doc.proofs.lemmas.Console.Layout.Back.{EachPlace, each_grows, place_of, fits_of, same_padded, by_mark, by_break}
 use Rattle.bpaf_doc.proofs.lemmas.Console.Layout.Columns.{heavy}
@@ -43,10 +43,6 @@ ComesInOrder st = IsInOrder st (events_back st.back)
 pub in_order_blank : (st : State) → st.back ≡ [] → ComesInOrder st
 in_order_blank st e = subst (λ r. IsInOrder st (events_back r)) (sym e) (record { after = λ k l. tt; next = λ k l m. tt })
 
-in_order_chunk : (st after : State) (k : ℕ) (chunk : Chunk) → after.latest ≡ k → st.latest ≤ k → (st.marked ≡ true → st.latest < k) → ComesInOrder st
-    → IsInOrder after (Shows k chunk ∷ events_back st.back)
-in_order_chunk st after k chunk is order moved h = grind arith
-
 in_order_mark : (st after : State) (event : Event) → is_chunk event ≡ false → after.latest ≡ st.latest → after.marked ≡ true → ComesInOrder st
     → IsInOrder after (event ∷ events_back st.back)
 in_order_mark st after event c is marked h = grind arith
@@ -61,7 +57,7 @@ break_order st next k chunk suits e = by_break (λ c j. (st.latest ≤ j) × (st
 
 pub in_order_grows : {width : ℕ} {margin_of : ℕ → ℕ} {st after : State} {next : Next} → Suits margin_of st next → Grows width st next after
     → ComesInOrder st → ComesInOrder after
-in_order_grows {st = st} {after = after} {next = next} suits g h = grind (arith, events_grows, in_order_chunk, fits_of, break_order, in_order_mark, mark_chunk)
+in_order_grows {st = st} {after = after} {next = next} suits g h = grind (arith, events_grows, fits_of, break_order, in_order_mark, mark_chunk)
 
 -- what stands before a chunk is of texts up to its own
 abbrev pub IsAfterAll : List Stretch → Place → Type 0
@@ -76,13 +72,8 @@ after_all_grows {st = st} {next = next} suits h g all = each_grows IsAfterAll (�
 -- a chunk behind a mark is of a later text
 pub part_later : (strict : Bool) (k : ℕ) (m before : List Stretch) (e : Place) → Since strict k (events_back (m ++ Placed e ∷ before))
     → (strict ≡ true) ⊎ (list_all is_chunk (events_back m) ≡ false) → e.part < k
-part_later strict k [] before e h (inl t) = subst (λ (b : Bool). IsUpTo b e.part k) t h.0
-part_later strict k [] before e h (inr t) = absurd cc
-part_later strict k (Gap b ∷ m) before e h t = part_later strict k m before e h t
-part_later strict k (Placed g ∷ m) before e h t = part_later strict k m before e h.1 t
-part_later strict k (Passed (Shows j chunk) ∷ m) before e h t = part_later strict k m before e h.1 t
-part_later strict k (Passed (Opens b) ∷ m) before e h t = part_later true k m before e h (inl refl)
-part_later strict k (Passed (Closes b) ∷ m) before e h t = part_later true k m before e h (inl refl)
+part_later strict k [] before e h s = grind arith
+part_later strict k (s ∷ m) before e h t = grind (arith, part_later strict k m before e, part_later true k m before e)
 
 -- ---- the rule of what asks for no newline
 
@@ -97,9 +88,6 @@ allowance deepest es = if list_all is_chunk es then 0 else deepest
 abbrev pub idle : ℕ → Rule
 idle deepest = record { begins = is_inked; follows = is_idle; has_chunks = true; takes = room_of; taken = λ es. sum_of room_of es + allowance deepest es }
 
-allowance_more : (deepest : ℕ) (event : Event) (es : List Event) → allowance deepest es ≤ allowance deepest (event ∷ es)
-allowance_more deepest event es = grind arith
-
 idle_open : (b : Block) (deepest level margin : ℕ) → margin ≤ deepest → is_idle (Opens b) ≡ true → IsQuiet (idle deepest) level margin (Opens b)
 idle_open b deepest level margin deep h = grind arith
 
@@ -107,7 +95,7 @@ idle_close : (b : Block) (deepest level margin : ℕ) → margin ≤ level → i
 idle_close b deepest level margin low h = grind arith
 
 pub idle_sound : (width deepest : ℕ) → width < 1_000_000 → IsSound width deepest (idle deepest)
-idle_sound width deepest small = grind (arith, allowance_more, heavy, idle_open, idle_close)
+idle_sound width deepest small = grind (arith, heavy, idle_open, idle_close)
 
 -- without ink and without a newline asked for, all is idle
 pub idle_all : (m : List Stretch) → list_any is_inked_stretch m ≡ false → list_any asks_newline (events_back m) ≡ false

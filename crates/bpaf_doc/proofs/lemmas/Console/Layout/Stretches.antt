@@ -220,9 +220,6 @@ no_ink_nil : has_some (ink []) ≡ false
 unfolding chars
 no_ink_nil = refl
 
-shown_ink_same : (e : Place) → IsUtf8 e.bytes → (e.shown ≡ e.bytes) ⊎ (e.shown ≡ trim_end e.bytes) → is_inked (chunk_at e) ≡ false → has_some (ink e.shown) ≡ false
-shown_ink_same e u h i = grind (arith, plain_trim, no_ink_nil)
-
 shown_trim : (e : Place) → IsUtf8 e.bytes → (e.shown ≡ e.bytes) ⊎ (e.shown ≡ trim_end e.bytes) → trim_end e.shown ≡ trim_end e.bytes
 shown_trim e u h = grind (arith, trim_twice)
 
@@ -236,9 +233,7 @@ kept_ink (c ∷ cs) = at (by_cases (is_whitespace c)) (by_cases (length (drop_tr
   at : (is_whitespace c ≡ true) ⊎ (is_whitespace c ≡ false) → ((length (drop_trailing_whitespace cs) == 0) ≡ true) ⊎ ((length (drop_trailing_whitespace cs) == 0) ≡ false)
       → filter is_not_whitespace (drop_trailing_whitespace cs) ≡ filter is_not_whitespace cs
       → filter is_not_whitespace (drop_trailing_whitespace (c ∷ cs)) ≡ filter is_not_whitespace (c ∷ cs)
-  at (inl w) (inl n) ih = grind (arith, none_of)
-  at (inl w) (inr n) ih = rw (w, n) (rw w ih)
-  at (inr w) n ih = rw w (rw w (ap (λ xs. c ∷ xs) ih))
+  at h1 h2 h3 = grind (arith, none_of)
 
 pub trim_ink : (text : List ℕ) → IsUtf8 text → ink (trim_end text) ≡ ink text
 unfolding trim_end
@@ -250,7 +245,8 @@ shown_inked e u h i = grind (arith, trim_ink)
 pub trim_text : (r : List Stretch) → IsLegible r → trim_end (text_back r) ≡ text_back (trimmed r)
 trim_text [] h = plain_trim [] no_ink_nil
 trim_text (x ∷ r) h =
-    grind (arith, trim_text r, text_back_cons, trim_white, text_utf8, gap_plain, trim_some, shown_inked, shown_trim, shown_ink_same, bare_text, event_ink, event_trim)
+    grind (arith, trim_text r, text_back_cons, trim_white, text_utf8, gap_plain, trim_some, shown_inked, shown_trim,
+        plain_trim, no_ink_nil, bare_text, event_ink, event_trim)
 
 -- ---- what may be read stays so
 

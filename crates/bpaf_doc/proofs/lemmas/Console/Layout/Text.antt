@@ -72,13 +72,9 @@ or_true_right a b h = grind arith
 pub text_lines : {st mid : State} → Lines st mid → has_text st.back ≡ true → has_text mid.back ≡ true
 text_lines l h = lines_back (λ r. has_text r ≡ true) (λ r x. refl) l h
 
--- an empty chunk that is placed first is an empty line of code, which stands after some text
-empty_first : {margin_of : ℕ → ℕ} (st : State) (p : Piece) → Fits margin_of st p → IsClear st (raw p) → has_text st.back ≡ false → has_some p.bytes ≡ true
-empty_first st p fits clear none = grind (arith, fits.filled, clear)
-
 starting_put : {width : ℕ} {margin_of : ℕ → ℕ} (st : State) (p : Piece) (base : State) (n : ℕ)
     → Fits margin_of st p → IsClear st (raw p) → Begins width st p base → has_text (put n p.part p.bytes p.weight base).back ≡ true
-starting_put st p base n fits clear h = grind (arith, empty_first, or_true_right, by_padded, text_lines)
+starting_put st p base n fits clear h = grind (arith, fits.filled, clear, or_true_right, by_padded, text_lines)
 
 pub starting_grows : {width : ℕ} {margin_of : ℕ → ℕ} {st after : State} {next : Next}
     → Suits margin_of st next → IsClear st next → Grows width st next after → IsStarting st → IsStarting after

@@ -1,5 +1,5 @@
 -- A page newest first and the stretches in order: what the definitions say of the one, said of the other.
-use Rattle.std.specs.Prelude.{◌≡◌, ℕ, suc, ◌+◌, ◌-◌, ◌≤◌, Bool, true, false, not, ◌&&◌, ◌||◌, List, [], ◌∷◌, ◌++◌, length, take, drop, reverse, sum_by, count_by, All, refl, if◌then◌else◌, ◌⊎◌, cond}
+use Rattle.std.specs.Prelude.{◌≡◌, ℕ, ◌+◌, ◌-◌, ◌≤◌, Bool, true, false, not, ◌&&◌, ◌||◌, List, [], ◌∷◌, ◌++◌, length, take, drop, reverse, sum_by, count_by, All, refl, if◌then◌else◌, ◌⊎◌, cond}
 use Rattle.std.specs.List.{list_any, list_all, after_last, slice_split, prefix_len}
 use Rattle.std.proofs.Common.{sym, subst, ap, arith, inl, inr, ◌∙◌, append_assoc}
 use Rattle.std.proofs.lemmas.List.{reverse-append, reverse-reverse, length-reverse, append-nil, take-append-drop, length-drop}
@@ -22,19 +22,13 @@ reverse_cons x xs = reverse-append (x ∷ []) xs
 
 -- ---- tests over a turned list
 
-or_comm : (a b : Bool) → (a || (b || false)) ≡ (b || a)
-or_comm a b = grind arith
-
-and_comm : (a b : Bool) → (a && (b && true)) ≡ (b && a)
-and_comm a b = grind arith
-
 pub any_turned : {A : Type 0} (p : A → Bool) (xs : List A) → list_any p (reverse xs) ≡ list_any p xs
 any_turned p [] = refl
-any_turned p (x ∷ xs) = ap (λ ys. list_any p ys) (reverse_cons x xs) ∙ list_any-append p (reverse xs) (x ∷ []) ∙ ap (λ (b : Bool). b || (p x || false)) (any_turned p xs) ∙ or_comm (list_any p xs) (p x)
+any_turned p (x ∷ xs) = ap (λ ys. list_any p ys) (reverse_cons x xs) ∙ list_any-append p (reverse xs) (x ∷ []) ∙ ap (λ (b : Bool). b || (p x || false)) (any_turned p xs) ∙ (grind arith)
 
 pub all_turned : {A : Type 0} (p : A → Bool) (xs : List A) → list_all p (reverse xs) ≡ list_all p xs
 all_turned p [] = refl
-all_turned p (x ∷ xs) = ap (λ ys. list_all p ys) (reverse_cons x xs) ∙ list_all-append p (reverse xs) (x ∷ []) ∙ ap (λ (b : Bool). b && (p x && true)) (all_turned p xs) ∙ and_comm (list_all p xs) (p x)
+all_turned p (x ∷ xs) = ap (λ ys. list_all p ys) (reverse_cons x xs) ∙ list_all-append p (reverse xs) (x ∷ []) ∙ ap (λ (b : Bool). b && (p x && true)) (all_turned p xs) ∙ (grind arith)
 
 pub sum_turned : {A : Type 0} (f : A → ℕ) (xs : List A) → sum_by f (reverse xs) ≡ sum_by f xs
 sum_turned f [] = refl
@@ -61,10 +55,7 @@ since_take : (p : Stretch → Bool) (r : List Stretch) → take (prefix_len (λ 
 since_take p [] = refl
 since_take p (x ∷ r) = at (by_cases (p x)) (since_take p r) where
   at : (p x ≡ true) ⊎ (p x ≡ false) → take (prefix_len (λ x. not (p x)) r) r ≡ since p r → take (prefix_len (λ x. not (p x)) (x ∷ r)) (x ∷ r) ≡ since p (x ∷ r)
-  at (inl t) ih = rw t refl
-  at (inr t) ih = rw t (step (prefix_len (λ x. not (p x)) r) ih) where
-    step : (k : ℕ) → take k r ≡ since p r → take (1 + k) (x ∷ r) ≡ x ∷ since p r
-    step k e = let s : 1 + k ≡ suc k = omega arith in rw s (ap (λ ys. x ∷ ys) e)
+  at w ih = grind arith
 
 prefix_le : (p : Stretch → Bool) (r : List Stretch) → prefix_len p r ≤ length r
 prefix_le p [] = omega arith

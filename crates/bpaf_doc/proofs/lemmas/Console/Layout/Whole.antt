@@ -1,7 +1,7 @@
 -- A page that grows by the rules is a layout of its document.
 use Rattle.std.specs.Prelude.{◌≡◌, ◌≢◌, ℕ, suc, ◌+◌, ◌<◌, ◌≤◌, max, ⊤, Bool, true, false, not, ◌&&◌, ◌==◌, List, [], ◌∷◌, ◌++◌, take, reverse, map, fold, sum_by, All, codes, refl, if◌then◌else◌, ◌⊎◌, IsTrue}
 use Rattle.std.specs.List.{list_any, list_all, after_last}
-use Rattle.std.proofs.Common.{sym, subst, ap, arith, inl, inr, ◌∙◌, append_assoc}
+use Rattle.std.proofs.Common.{rules, sym, subst, ap, arith, inl, inr, ◌∙◌, append_assoc}
 use Rattle.std.proofs.lemmas.List.{reverse-append, reverse-reverse, append-nil}
 use Rattle.std.proofs.lemmas.List.Elements.{All-append, All-cons, All-nil}
 use Rattle.std.proofs.lemmas.List.Sums.{sum_by-cons}
@@ -13,7 +13,7 @@ use Rattle.bpaf_doc.specs.Buffer.Parts.{Part, ink}
 use Rattle.bpaf_doc.specs.Splitter.Chunks.{columns, is_inked, has_some, starts}
 use Rattle.bpaf_doc.specs.Shown.{console_ink}
 use Rattle.bpaf_doc.specs.Console.Margin.{margin, greatest_margin}
-use Rattle.bpaf_doc.specs.Console.Layout.{Event, Shows, Stretch, Gap, Placed, Passed, Place, AreApart, chunk_at, event_bytes, event_columns, stretch_columns, text_of, events_of, shown_events, is_newline, is_placed, holds_line, leads_to_place, is_inked_event, is_inked_stretch, is_empty_code, is_written, is_raw_event, is_ref, asks_newline, asks_blank_line, is_light, is_light_mark, opens_body, column, padding, line_before, stretch_lines, MayStand, BreaksWhereAsked, KeepsBlanks, IsKept, BeginsClear, IsFirstInLine, events_since_ink, is_raw_or_ref, FollowsBlank, KeepsMargin, WrapsOnlyIfNeeded, IsBounded, FitsWidth, PadsToMargin, StandsAlone, room_of, BreaksForRoom, HasBlankLine, widest, IsLayout}
+use Rattle.bpaf_doc.specs.Console.Layout.{Event, Shows, Stretch, Gap, Placed, Passed, Place, AreApart, chunk_at, event_bytes, event_columns, stretch_columns, text_of, events_of, shown_events, is_newline, is_placed, holds_line, leads_to_place, is_inked_stretch, is_empty_code, is_written, is_raw_event, is_ref, asks_newline, asks_blank_line, is_light, is_light_mark, opens_body, column, padding, line_before, stretch_lines, MayStand, BreaksWhereAsked, KeepsBlanks, IsKept, BeginsClear, IsFirstInLine, events_since_ink, is_raw_or_ref, FollowsBlank, KeepsMargin, WrapsOnlyIfNeeded, IsBounded, FitsWidth, PadsToMargin, StandsAlone, room_of, BreaksForRoom, HasBlankLine, widest, IsLayout}
 use Rattle.bpaf_doc.proofs.lemmas.Console.Layout.State.{State, has_text, IsShallow, Next, Grows, Suits, IsClear, blank_page, Written, nothing, more, Ends, as_is, with_newline}
 use Rattle.bpaf_doc.proofs.lemmas.Console.Layout.Back.{each_back, by_cases, EachPlace, by_grows}
 use Rattle.bpaf_doc.proofs.lemmas.Console.Layout.Columns.{Fills, fills_grows, Agrees, agrees_grows, column_back}
@@ -151,11 +151,8 @@ abbrev clear_front : List Event → Bool
 clear_front [] = true
 clear_front (x ∷ xs) = if is_written x then true else (not (is_empty_code x) && clear_front xs)
 
-empty_plain : (event : Event) → is_empty_code event ≡ true → is_written event ≡ true → ⊥
-empty_plain event e i = grind arith
-
 clear_snoc : (xs : List Event) (x : Event) → clear_front (xs ++ x ∷ []) ≡ true → (clear_front xs ≡ true) × (is_empty_code x ≡ true → list_any is_written xs ≡ true)
-clear_snoc [] x h = grind (arith, empty_plain)
+clear_snoc [] x h = grind arith
 clear_snoc (y ∷ xs) x h = grind (arith, clear_snoc xs x)
 
 clear_begins : (events : List Event) → BeginsClear events → clear_front events ≡ true
@@ -165,8 +162,7 @@ clear_begins (x ∷ xs) h = at (by_cases (is_written x)) (by_cases (is_empty_cod
   step k = let s : 1 + k ≡ suc k = omega arith in rw s refl
 
   at : (is_written x ≡ true) ⊎ (is_written x ≡ false) → (is_empty_code x ≡ true) ⊎ (is_empty_code x ≡ false) → (BeginsClear xs → clear_front xs ≡ true) → clear_front (x ∷ xs) ≡ true
-  at (inl i) e ih = rw i refl
-  at (inr i) e ih = grind (arith, step)
+  at h1 h2 h3 = grind (arith, step)
 
 clear_next : (before : State) (next : Next) → (is_empty_code (next_event next) ≡ true → has_text before.back ≡ true) → IsClear before next
 clear_next before next h = grind arith
@@ -236,13 +232,7 @@ breaks_blank : (width : ℕ) (rule : Rule) → BreaksBy width rule blank_page
 breaks_blank width rule = record { roomy = λ m before e h run. nothing_cut m before e h; no_room = tt }
 
 spacious_blank : (width deepest : ℕ) → Spacious width deepest blank_page
-spacious_blank width deepest = record {
-  in_order = in_order_blank blank_page refl;
-  after_all = tt;
-  by_light = breaks_blank width light;
-  by_marks = breaks_blank width light_marks;
-  by_idle = breaks_blank width (idle deepest);
-}
+spacious_blank width deepest = search (rules, in_order_blank, breaks_blank)
 
 module _ {width : ℕ} {margin_of : ℕ → ℕ} {clear : State → Next → Type 0} where
   written_spacious : {nexts : List Next} {st : State} (deepest : ℕ) → width < 1_000_000 → Written width margin_of clear nexts st → clear_front (map next_event nexts) ≡ true
@@ -267,12 +257,6 @@ module _ {width : ℕ} {margin_of : ℕ → ℕ} {clear : State → Next → Typ
 
 -- ---- the end of the page
 
-ends_places : (P : List Stretch → Place → Type 0) {st : State} {final : List Stretch} → Ends st final → EachPlace P st.back → EachPlace P final
-ends_places P e h = grind arith
-
-ends_passed : (Q : Event → Type 0) {st : State} {final : List Stretch} → Ends st final → EachPassed Q st.back → EachPassed Q final
-ends_passed Q e h = grind arith
-
 ends_events : {st : State} {final : List Stretch} → Ends st final → events_back final ≡ events_back st.back
 ends_events h = grind arith
 
@@ -287,30 +271,22 @@ record KnownEnd (m : List Stretch) (x : Stretch) (r : List Stretch) (rest : List
 known_end : (m : List Stretch) (line : Bool) (x : Stretch) (r : List Stretch) (rest : List ℕ) → (line ≡ true → starts rest (codes "\n") ≡ true) → MayEnd line (m ++ x ∷ r) → KnownEnd m x r rest
 known_end [] line x r rest a h = record { line = line; there = h; after = a }
 known_end (Gap b ∷ m) line x r rest a h = grind (arith, known_end m (b == 10) x r (b ∷ rest), text_back_cons, append_assoc, eqb-true)
-known_end (Placed e ∷ m) line x r rest a h =
-    let found : KnownEnd m x r (e.shown ++ rest) = known_end m (if has_some e.shown then false else line) x r (e.shown ++ rest) (further e.shown) h.1 in
-    record { line = found.line; there = found.there; after = λ t. subst (λ ys. starts ys (codes "\n") ≡ true) (sym (ap (λ ys. ys ++ rest) (text_back_cons (Placed e) m) ∙ append_assoc (text_back m) e.shown rest)) (found.after t) } where
-      further : (xs : List ℕ) → (if has_some xs then false else line) ≡ true → starts (xs ++ rest) (codes "\n") ≡ true
-      further [] t = a t
-      further (y ∷ xs) t = absurd cc
+known_end (Placed e ∷ m) line x r rest a h = search (rules,
+  known_end m (if has_some e.shown then false else line) x r (e.shown ++ rest), text_back_cons, append_assoc)
 known_end (Passed event ∷ m) line x r rest a h =
     let found : KnownEnd m x r (event_bytes event ++ rest) = known_end m (if has_some (event_bytes event) then false else line) x r (event_bytes event ++ rest) (further (event_bytes event)) h in
     record { line = found.line; there = found.there; after = λ t. subst (λ ys. starts ys (codes "\n") ≡ true) (sym (ap (λ ys. ys ++ rest) (text_back_cons (Passed event) m) ∙ append_assoc (text_back m) (event_bytes event) rest)) (found.after t) } where
       further : (xs : List ℕ) → (if has_some xs then false else line) ≡ true → starts (xs ++ rest) (codes "\n") ≡ true
-      further [] t = a t
-      further (y ∷ xs) t = absurd cc
+      further xs h1 = grind arith
 
 passed_back : (Q : Event → Type 0) (m r : List Stretch) → EachPassed Q (m ++ r) → EachPassed Q r
 passed_back Q [] r h = h
-passed_back Q (Passed f ∷ m) r h = passed_back Q m r h.1
-passed_back Q (_ ∷ m) r h = passed_back Q m r h
+passed_back Q (s ∷ m) r h = grind (arith, passed_back Q m r)
 
 may_stand : (m r : List Stretch) (x : Stretch) → MayEnd false (m ++ x ∷ r) → EachPassed NoInk (m ++ x ∷ r) → MayStand x (reverse m)
 may_stand m r x h q = at x (known_end m false x r [] (λ t. absurd cc) h) q where
   at : (x : Stretch) → KnownEnd m x r [] → EachPassed NoInk (m ++ x ∷ r) → MayStand x (reverse m)
-  at (Gap b) k q = k.there.0
-  at (Placed e) k q = elim k.there.0 [ inl whole ↦ inl whole | inr cut ↦ inr (cut.0, subst (λ ys. starts ys (codes "\n") ≡ true) (append-nil (text_back m)) (k.after cut.1)) ]
-  at (Passed event) k q = let none : is_inked_event event ≡ false = (passed_back NoInk m (Passed event ∷ r) q).0 in rw none refl
+  at x h1 h2 = grind (arith, append-nil, passed_back)
 
 -- ---- the laws
 
@@ -321,9 +297,7 @@ all_kept may_add (x ∷ m) h = subst (λ ys. All (IsKept may_add) ys) (sym (reve
   one y k rest = All-append (IsKept may_add) (reverse m) (y ∷ []) rest (All-cons (IsKept may_add) y [] k (All-nil (IsKept may_add)))
 
   at : (x : Stretch) → AllKept may_add (x ∷ m) → (AllKept may_add m → All (IsKept may_add) (reverse m)) → All (IsKept may_add) (reverse m ++ x ∷ [])
-  at (Gap b) h ih = one (Gap b) h.0 (ih h.1)
-  at (Placed e) h ih = one (Placed e) h.0 (ih h.1)
-  at (Passed event) h ih = let none : is_raw_event event ≡ false = h.0 in one (Passed event) (rw none refl) (ih h.1)
+  at x h1 h2 = grind (arith, one)
 
 -- a newline stands between an inked place and a place that owes none
 debt_paid : (m before : List Stretch) (e : Place) → EachPlace IsFreeOfDebt (m ++ Placed e ∷ before) → owes_line (m ++ Placed e ∷ before) ≡ false → is_inked (chunk_at e) ≡ true
@@ -347,10 +321,10 @@ module _ (width : ℕ) (document : List Part) (st : State) (final : List Stretch
   law_at : (P : List Stretch → Place → Type 0) → EachPlace P st.back → (before between after : List Stretch) (e f : Place) → stretches ≡ before ++ Placed e ∷ (between ++ Placed f ∷ after)
       → P (reverse between ++ Placed e ∷ reverse before) f
   law_at P h before between after e f s =
-      (each_back P (reverse after) (Placed f ∷ (reverse between ++ Placed e ∷ reverse before)) (subst (λ ys. EachPlace P ys) (apart_at before between after e f s) (ends_places P ends h))).0
+      (each_back P (reverse after) (Placed f ∷ (reverse between ++ Placed e ∷ reverse before)) (subst (λ ys. EachPlace P ys) (apart_at before between after e f s) (grind arith))).0
 
   one_at : (P : List Stretch → Place → Type 0) → EachPlace P st.back → (before after : List Stretch) (f : Place) → stretches ≡ before ++ Placed f ∷ after → P (reverse before) f
-  one_at P h before after f s = (each_back P (reverse after) (Placed f ∷ reverse before) (subst (λ ys. EachPlace P ys) (turned_at final before after (Placed f) s) (ends_places P ends h))).0
+  one_at P h before after f s = (each_back P (reverse after) (Placed f ∷ reverse before) (subst (λ ys. EachPlace P ys) (turned_at final before after (Placed f) s) (grind arith))).0
 
   events_any : (p : Event → Bool) (between : List Stretch) → list_any p (events_back (reverse between)) ≡ list_any p (events_of between)
   events_any p between = ap (λ es. list_any p es) (events_between between) ∙ any_turned p (events_of between)
@@ -361,7 +335,7 @@ module _ (width : ℕ) (document : List Part) (st : State) (final : List Stretch
   asked_law : BreaksWhereAsked width stretches
   asked_law = record {
     newline = λ before between e f h asks.
-        let whole : EachPlace IsFreeOfDebt final = ends_places IsFreeOfDebt ends base.debt in
+        let whole : EachPlace IsFreeOfDebt final = grind arith in
         let split : EachPlace IsFreeOfDebt (reverse h.after ++ Placed f ∷ (reverse between ++ Placed e ∷ reverse before)) = subst (λ ys. EachPlace IsFreeOfDebt ys) (apart_at before between h.after e f h.order) whole in
         sym (any_turned is_newline between) ∙ debt_paid (reverse between) (reverse before) e
         (each_back IsFreeOfDebt (reverse h.after) (Placed f ∷ (reverse between ++ Placed e ∷ reverse before)) split).1
@@ -379,16 +353,14 @@ module _ (width : ℕ) (document : List Part) (st : State) (final : List Stretch
       (found.0, subst (λ ys. All (IsKept (e.part ≢ f.part)) ys) (reverse-reverse between) (all_kept (e.part ≢ f.part) (reverse between) found.1))
 
   no_ink_final : EachPassed NoInk final
-  no_ink_final = ends_passed NoInk ends base.no_ink
-
-  whole_final : MayEnd false final
-  whole_final = grind (arith, base, may_end_line)
+  no_ink_final = grind arith
 
   stand_law : (before after : List Stretch) (x : Stretch) → stretches ≡ before ++ x ∷ after → MayStand x after
   stand_law before after x s =
       let split : final ≡ reverse after ++ x ∷ reverse before = turned_at final before after x s in
       subst (λ ys. MayStand x ys) (reverse-reverse after)
-      (may_stand (reverse after) (reverse before) x (subst (λ ys. MayEnd false ys) split whole_final) (subst (λ ys. EachPassed NoInk ys) split no_ink_final))
+      (may_stand (reverse after) (reverse before) x (subst (λ ys. MayEnd false ys) split (grind (arith, base,
+          may_end_line))) (subst (λ ys. EachPassed NoInk ys) split no_ink_final))
 
   module _ (clearly : Clearly width (margin document) st) where
     no_ink_front : (before after : List Stretch) (f : Place) → stretches ≡ before ++ Placed f ∷ after → EachPassed NoInk (reverse before)

@@ -1,5 +1,5 @@
 -- The page that the code writes is the page as a function of the document.
-use Rattle.std.specs.Prelude.{◌≡◌, ℕ, ◌+◌, ◌-◌, ◌^◌, ◌<◌, Option, Bool, true, false, not, ◌&&◌, ◌==◌, List, [], ◌∷◌, ◌++◌, length, refl, if◌then◌else◌, ◌⊎◌, nat_le, IfOk, Result, String, string_bytes, zero, suc, ◌≤◌, take, reverse, map, flat_map}
+use Rattle.std.specs.Prelude.{◌≡◌, ℕ, ◌+◌, ◌-◌, ◌^◌, ◌<◌, Option, Bool, true, false, not, ◌&&◌, ◌==◌, List, [], ◌∷◌, ◌++◌, length, refl, if◌then◌else◌, nat_le, IfOk, Result, String, string_bytes, zero, suc, ◌≤◌, take, reverse, map, flat_map}
 use Rattle.std.specs.List.{enumerate_from}
 use Rattle.std.specs.Str.{bytes_eq}
 use Rattle.std.proofs.Common.{sym, ap, arith, ◌∙◌, length-append}
@@ -21,7 +21,6 @@ use Rattle.bpaf_doc.specs.Console.Steps.Text as whole
 use Rattle.bpaf_doc.specs.Console.Steps.Text.{console_text}
 use Rattle.bpaf_doc.specs.Console.Exact as exact
 use Rattle.bpaf_doc.specs.Console.Exact.{Request, NoBreak, NewLine, BlankLine, PageSoFar, console_page}
-use Rattle.bpaf_doc.specs.Splitter.Promises.{IsGap}
 use Rattle.bpaf_doc.specs.Console.Layout.{Event, Shows, Opens, Closes, part_events, shown_events, Stretch, event_bytes, IsLayout}
 use Rattle.bpaf_doc.specs.Console.Steps.Hiding.{hidden_after}
 use Rattle.bpaf_doc.specs.Console.Laws.{IsExactPageLayout}
@@ -104,8 +103,7 @@ raw_is width level bytes weight s same_columns wide margin =
       wrapped_is = ap exact.wrapped (request_is s)
 
       turned : (b : Bool) (x y : PageSoFar) → (if not b then x else y) ≡ (if b then y else x)
-      turned true x y = refl
-      turned false x y = refl
+      turned b x y = grind arith
 
 -- ---- the chunks of a text
 
@@ -124,9 +122,6 @@ text_is full width level (Paragraph ∷ chunks) s good wide margin = grind (arit
 new_line_is : (a : Asked) → request_of (page.new_line_asked a) ≡ exact.at_least_new_line (request_of a)
 new_line_is a = grind arith
 
-start_request : (b : Block) (a : Asked) → request_of (page.asked_by_start a b) ≡ exact.request_at_start b (request_of a)
-start_request b a = grind (arith, new_line_is)
-
 end_request : (b : Block) (a : Asked) → request_of (page.asked_by_end a b) ≡ exact.request_at_end b (request_of a)
 end_request b a = grind arith
 
@@ -144,7 +139,7 @@ pushed_is indent s = grind arith
 
 start_is : (b : Block) (adjacent : Bool) (s : Sheet) → view (page.opened b adjacent s) ≡ exact.start_put b (view s)
 unfolding page.opened
-start_is b adjacent s = grind (arith, marked_is, pushed_is, start_request, body_same)
+start_is b adjacent s = grind (arith, marked_is, pushed_is, new_line_is, body_same)
 
 end_is : (b : Block) (s : Sheet) → view (page.closed b s) ≡ exact.end_put b (view s)
 unfolding page.closed
@@ -214,15 +209,12 @@ mark_ink b = elim (is_term_ref b) as (λ (c : Bool). ink (if c then 96 ∷ [] el
 passed_ink : (event : Event) → NoInk event → ink (event_bytes event) ≡ event_ink event
 passed_ink event none = grind (arith, ink-nil, some_none, mark_ink)
 
-gap_is_gap : (b : ℕ) → (b ≡ 32) ⊎ (b ≡ 10) → IsGap (b ∷ [])
-gap_is_gap b h = grind arith
-
 inks_cons : (x : Event) (xs : List Event) → flat_map event_ink (reverse (x ∷ xs)) ≡ flat_map event_ink (reverse xs) ++ event_ink x
 inks_cons x xs = grind (arith, reverse_cons, flat_map-append, append-nil)
 
 ink_back : (r : List Stretch) → IsLegible r → EachPassed NoInk r → ink (text_back r) ≡ flat_map event_ink (reverse (events_back r))
 ink_back [] legible none = ink-nil
-ink_back (x ∷ r) legible none = grind (arith, ink_back r, text_back_cons, ink_before_gap, text_utf8, gap_is_gap, ink-append, trim_ink, inks_cons, passed_ink)
+ink_back (x ∷ r) legible none = grind (arith, ink_back r, text_back_cons, ink_before_gap, text_utf8, ink-append, trim_ink, inks_cons, passed_ink)
 
 -- ---- the ink of what is shown
 

@@ -1,5 +1,5 @@
 -- Each step of the exact page is a step of the console's rules.
-use Rattle.std.specs.Prelude.{◌≡◌, ℕ, zero, suc, ◌+◌, ◌-◌, ◌<◌, ◌≤◌, Bool, true, false, not, ◌&&◌, ◌==◌, List, [], ◌∷◌, ◌++◌, length, take, replicate, refl, ◌⊎◌, IsUtf8, nat_eq, nat_lt, nat_le, if◌then◌else◌, ◌||◌, reverse, slice_get, Option, Some}
+use Rattle.std.specs.Prelude.{◌≡◌, ℕ, zero, suc, ◌+◌, ◌-◌, ◌<◌, ◌≤◌, Bool, true, false, not, ◌&&◌, ◌==◌, List, [], ◌∷◌, ◌++◌, length, take, replicate, refl, ◌⊎◌, IsUtf8, nat_eq, nat_lt, nat_le, if◌then◌else◌, reverse, slice_get, Option, Some}
 use Rattle.std.specs.List.{ends_with}
 use Rattle.std.specs.Str.{bytes_eq}
 use Rattle.std.proofs.Common.{sym, subst, ap, arith, inl, inr, ◌∙◌, append_assoc}
@@ -17,7 +17,7 @@ use Rattle.bpaf_doc.specs.Console.Steps.Page as page
 use Rattle.bpaf_doc.specs.Console.Steps.Page.{Sheet}
 use Rattle.bpaf_doc.specs.declared.buffer.Block.{Block}
 use Rattle.bpaf_doc.specs.Shown.{mark_bytes}
-use Rattle.bpaf_doc.proofs.lemmas.Console.Layout.State.{State, Piece, Lines, none_asked, line_there, line_put, blank_there, second_put, both_put, Begins, first, stays, wraps, Places, places, drops, Pads, to_margin, IsPut, sat, padded, put, wrapped, dropped, spaced, on_new_line, has_text, ends_line, ends_blank, IsLegible, passed, asked_after, pending_after, at_least_line}
+use Rattle.bpaf_doc.proofs.lemmas.Console.Layout.State.{State, Piece, Lines, none_asked, line_there, line_put, blank_there, second_put, both_put, Begins, first, stays, wraps, Places, places, drops, Pads, to_margin, IsPut, sat, padded, put, wrapped, dropped, spaced, on_new_line, has_text, ends_line, ends_blank, IsLegible, passed, asked_after, pending_after}
 use Rattle.bpaf_doc.proofs.lemmas.Console.Layout.Back.{by_cases, by_test, by_padded}
 use Rattle.bpaf_doc.proofs.lemmas.Console.Layout.Blank.{text_back, text_back_cons}
 use Rattle.bpaf_doc.proofs.lemmas.Console.Layout.Stretches.{no_text, some_text, text_ends_line, text_ends_blank, trim_text, legible_trimmed}
@@ -33,9 +33,6 @@ pub record Draws (s : Sheet) (st : State) : Type 0 where
   pub margin : page.margin_of s ≡ st.margin
   pub legible : IsLegible st.back
   pub fits : s.column ≤ 18446744073709551615
-
-pub draws_newline : (s : Sheet) (st : State) → Draws s st → Draws (page.newline_put s) (on_new_line st)
-draws_newline s st d = grind (arith, text_back_cons)
 
 draws_second : (s : Sheet) (st : State) → Draws s st → Draws (record s { out = s.out ++ 10 ∷ [] }) (record st { back = Gap 10 ∷ st.back })
 draws_second s st d = grind (arith, text_back_cons)
@@ -95,12 +92,12 @@ lines_put s st d = at s.asks d where
   at Nothing d = (st, none_asked (sym d.asked) refl, d)
   at NewLine d =
       by_test (λ x. LinesTo st (page.asked_blank_line_put x)) (not (ends_with nat_eq s.out (10 ∷ []))) _ _
-      (λ h. (on_new_line st, line_put (sym d.asked) refl, draws_newline (record s { asks = NewLine }) st d))
+      (λ h. (on_new_line st, line_put (sym d.asked) refl, grind (arith, text_back_cons)))
       (λ h. (st, line_there (sym d.asked) (draws_line (record s { asks = NewLine }) st d (not-false (ends_with nat_eq s.out (10 ∷ [])) h)) refl, d))
   at BlankLine d =
       by_test (λ x. LinesTo st (page.asked_blank_line_put x)) (not (ends_with nat_eq s.out (10 ∷ []))) _ _
       (λ h. by_test (LinesTo st) (not (ends_with nat_eq (s.out ++ 10 ∷ []) (10 ∷ 10 ∷ []))) _ _
-      (λ k. (on_new_line (on_new_line st), both_put (sym d.asked) refl, draws_second (page.newline_put (record s { asks = BlankLine })) (on_new_line st) (draws_newline (record s { asks = BlankLine }) st d)))
+      (λ k. (on_new_line (on_new_line st), both_put (sym d.asked) refl, draws_second (page.newline_put (record s { asks = BlankLine })) (on_new_line st) (grind (arith, text_back_cons))))
       (λ k. absurd (let one : ends_with nat_eq s.out (10 ∷ []) ≡ true = one_before s.out (not-false (ends_with nat_eq (s.out ++ 10 ∷ []) (10 ∷ 10 ∷ [])) k) in let no : true ≡ false = sym one ∙ not-true (ends_with nat_eq s.out (10 ∷ [])) h in cc)))
       (λ h. by_test (LinesTo st) (not (ends_with nat_eq s.out (10 ∷ 10 ∷ []))) _ _
       (λ k. (record st { back = Gap 10 ∷ st.back }, second_put (sym d.asked) (draws_line (record s { asks = BlankLine }) st d (not-false (ends_with nat_eq s.out (10 ∷ [])) h)) refl, draws_second (record s { asks = BlankLine }) st d))
@@ -112,17 +109,13 @@ padded_more : (a b : ℕ) (r : List Stretch) → padded a (padded b r) ≡ padde
 padded_more zero b r = let e : 0 + b ≡ b = omega arith in ap (λ (n : ℕ). padded n r) (sym e)
 padded_more (suc a) b r = let e : suc a + b ≡ suc (a + b) = omega arith in ap (λ xs. Gap 32 ∷ xs) (padded_more a b r) ∙ ap (λ (n : ℕ). padded n r) (sym e)
 
-spaced_more : (a b : ℕ) (st : State) → spaced a (spaced b st) ≡ spaced (a + b) st
-spaced_more a b st = grind (arith, padded_more)
-
 abbrev pub SpacesTo : State → Sheet → Type 0
 SpacesTo st t = (n : ℕ) × Pads st n × Draws t (spaced n st)
 
 spaces_put : (s : Sheet) (st : State) → Draws s st → SpacesTo st (page.padded s)
 spaces_put s st d = at (page.margin_of s - s.column) refl where
   pads : (m : ℕ) → m ≡ st.margin - st.column → (s.at_body && nat_le 28 (sat (s.column + m))) ≡ true → (m < 2) ⊎ (2 ≤ m) → Pads st (2 - m + m)
-  pads m is h (inl l) = grind (arith, nat_tests, and_parts)
-  pads m is h (inr l) = to_margin (omega arith)
+  pads m h1 h2 h3 = grind (arith, nat_tests, and_parts, to_margin)
 
   at : (m : ℕ) → m ≡ page.margin_of s - s.column → SpacesTo st (page.body_padded m (page.blanks_put m s))
   at m missing =
@@ -133,7 +126,7 @@ spaces_put s st d = at (page.margin_of s - s.column) refl where
       (λ h. (
         2 - m + m,
         pads m is h (cases_lt m 2),
-        subst (Draws (page.blanks_put (2 - m) (page.blanks_put m s))) (spaced_more (2 - m) m st)
+        subst (Draws (page.blanks_put (2 - m) (page.blanks_put m s))) (grind (arith, padded_more))
             (draws_spaced (2 - m) (page.blanks_put m s) (spaced m st) (draws_spaced m s st d)),
       ))
       (λ h. (m, to_margin is, draws_spaced m s st d))
@@ -220,17 +213,8 @@ raw_placed p s st u l weighed d =
 
 -- ---- the marks of a document, and the stack of margins
 
-same_asked : (a : Asked) → page.new_line_asked a ≡ at_least_line a
-same_asked a = grind arith
-
 start_asked : (a : Asked) (b : Block) → page.asked_by_start a b ≡ asked_after (Opens b) a
-start_asked a b = grind (arith, same_asked)
-
-end_asked : (a : Asked) (b : Block) → page.asked_by_end a b ≡ asked_after (Closes b) a
-end_asked a b = grind arith
-
-start_body : (p : Bool) (b : Block) → (p || page.is_body b) ≡ pending_after (Opens b) p
-start_body p b = grind (arith, or-true, or-false)
+start_asked a b = grind arith
 
 end_body : (p : Bool) (b : Block) → (p && not (page.is_body b)) ≡ pending_after (Closes b) p
 end_body p b = grind (arith, and-false, and-true)
@@ -254,13 +238,13 @@ pushed_same indent s = grind arith
 
 pub draws_opened : (b : Block) (adjacent : Bool) (s : Sheet) (st : State) → Draws s st → Draws (page.opened b adjacent s) (passed (Opens b) (page.margin_of (page.opened b adjacent s)) st)
 unfolding page.opened
-draws_opened b adjacent s st d = grind (arith, pushed_same, draws_marked, start_asked, start_body)
+draws_opened b adjacent s st d = grind (arith, pushed_same, draws_marked, start_asked, or-true, or-false)
 
 pub draws_closed : (b : Block) (s : Sheet) (st : State) → Draws s st → Draws (page.closed b s) (passed (Closes b) (page.margin_of (page.closed b s)) st)
 unfolding page.closed
 draws_closed b s st d =
     draws_marked (Closes b) b (record s { margins = take (length s.margins - 1) s.margins; asks = page.asked_by_end s.asks b; at_body = s.at_body && not (page.is_body b) }) st refl
-    d.bytes d.column d.fits (ap (λ (a : Asked). page.asked_by_end a b) d.asked ∙ end_asked st.asked b) (ap (λ (p : Bool). p && not (page.is_body b)) d.body ∙ end_body st.pending b) d.legible
+    d.bytes d.column d.fits (ap (λ (a : Asked). page.asked_by_end a b) d.asked ∙ (grind arith)) (ap (λ (p : Bool). p && not (page.is_body b)) d.body ∙ end_body st.pending b) d.legible
 
 -- ---- the stack, newest first
 

@@ -2,7 +2,7 @@
 -- what is remembered of empty Block pairs.
 use Rattle.std.specs.Prelude.{◌≡◌, ℕ, suc, ◌+◌, ◌-◌, ◌*◌, ◌^◌, ◌<◌, ◌≤◌, ⊤, Bool, true, false, not, ◌&&◌, ◌==◌, List, [], ◌∷◌, ◌++◌, length, take, drop, reverse, refl, min, if◌then◌else◌, slice_get, Some}
 use Rattle.std.specs.Str.{bytes_eq}
-use Rattle.std.proofs.Common.{sym, ap, arith, inl, inr, ◌∙◌, append_assoc, length-append}
+use Rattle.std.proofs.Common.{rules, sym, ap, arith, inl, inr, ◌∙◌, append_assoc, length-append}
 use Rattle.std.proofs.lemmas.List.{length-reverse}
 use Rattle.std.proofs.lemmas.Bool.Decides.{nat_tests}
 use Rattle.bpaf_doc.specs.declared.console.pairs.Pairs.{Pairs}
@@ -42,16 +42,10 @@ pub frame_then : (s t u : Sheet) → Frame s t → Frame t u → Frame s u
 frame_then s t u a b = record { width = b.width ∙ a.width; tab_stop = b.tab_stop ∙ a.tab_stop; margins = b.margins ∙ a.margins }
 
 pub asked_keeps : (s : Sheet) → Frame s (page.asked_put s)
-asked_keeps s =
-    let line : Frame s (page.asked_newline_put s) = frame_if (page.lacks_newline s) s (page.newline_put s) s record { width = refl; tab_stop = refl; margins = refl } (same_frame s) in
-    frame_if (page.lacks_blank_line (page.asked_newline_put s)) s (record (page.asked_newline_put s) { out = (page.asked_newline_put s).out ++ 10 ∷ [] }) (page.asked_newline_put s)
-    record { width = line.width; tab_stop = line.tab_stop; margins = line.margins } line
+asked_keeps s = search (rules, frame_if, same_frame)
 
 room_frame : (n : ℕ) (s : Sheet) → Frame s (page.room_made n s)
 room_frame n s = grind (arith, asked_keeps, frame_if, same_frame)
-
-placed_frame : (bytes : List ℕ) (weight : ℕ) (s : Sheet) → Frame s (page.placed bytes weight s)
-placed_frame bytes weight s = grind (arith, frame_if)
 
 pub raw_frame : (bytes : List ℕ) (weight : ℕ) (s : Sheet) → Frame s (page.raw_put bytes weight s)
 unfolding page.raw_put
@@ -59,7 +53,7 @@ raw_frame bytes weight s =
     frame_if (page.wraps (page.columns_of bytes weight) s && bytes_eq bytes (32 ∷ [])) s (page.room_made (page.columns_of bytes weight) s) (page.placed bytes weight (page.room_made (page.columns_of bytes weight) s))
     (room_frame (page.columns_of bytes weight) s)
     (frame_then s (page.room_made (page.columns_of bytes weight) s) (page.placed bytes weight (page.room_made (page.columns_of bytes weight) s)) (room_frame (page.columns_of bytes weight) s)
-    (placed_frame bytes weight (page.room_made (page.columns_of bytes weight) s)))
+    (grind (arith, frame_if)))
 
 pub text_frame : (full : Bool) (chunks : List Chunk) (s : Sheet) → Frame s (page.text_put full chunks s)
 text_frame full [] s = same_frame s
@@ -87,31 +81,21 @@ written_brief _ = refl
 
 -- ---- what is hidden
 
-is_zero : (n : ℕ) → n ≡ 0 → (n == 0) ≡ true
-is_zero n h = grind (arith, nat_tests)
-
--- in full nothing is hidden
-none_hidden : (full : Bool) (hidden : ℕ) (part : Part) → (full ≡ true → hidden ≡ 0) → full ≡ true → hidden_after full hidden part ≡ 0
-none_hidden full hidden part h t = grind arith
-
 -- ---- a stack is low: no entry is above 30 for each entry from it down
 
 abbrev pub IsLow : List ℕ → Type 0
 IsLow [] = ⊤
 IsLow (m ∷ ms) = (m ≤ 30 * length (m ∷ ms)) × IsLow ms
 
-pub low_top : (stack : List ℕ) → IsLow stack → top stack ≤ 30 * length stack
-low_top stack low = grind arith
-
 -- so few margins fit a usize, and the margin in force is the top
 pub few_fits : (s : Sheet) (stack : List ℕ) → s.margins ≡ reverse stack → IsLow stack → page.HasFewMargins s → top stack ≤ 18446744073709551615
-few_fits s stack margins low few = grind (arith, low_top, length-reverse)
+few_fits s stack margins low few = grind (arith, length-reverse)
 
 pub level_top : (s : Sheet) (stack : List ℕ) → s.margins ≡ reverse stack → top stack ≤ 18446744073709551615 → page.margin_of s ≡ top stack
 level_top s stack margins fits = let is : page.innermost s ≡ top stack = top_innermost s stack margins in omega arith
 
 low_shifted : (shift : Shift) (stack : List ℕ) → indent shift ≤ 30 → IsLow stack → IsLow (shifted shift stack)
-low_shifted shift stack most low = grind (arith, low_top)
+low_shifted shift stack most low = grind arith
 
 -- ---- the parts
 
@@ -171,7 +155,7 @@ module _ (full : Bool) (document : List Part) where
 
     walk_on : (next : Pairs) (t : Sheet) → KnowsPairs document (index + 1) next → t.tab_stop ≡ s.tab_stop → t.margins ≡ reverse (shifted (shift_at document index part) (stack_at document index))
         → Walk (index + 1) (before ++ part ∷ []) rest next (hidden_after full hidden part) t
-    walk_on next t knows tab margins = grind (arith, next_split, next_count, stack_next, low_shifted, indent-le, Counts-more, none_hidden)
+    walk_on next t knows tab margins = grind (arith, next_split, next_count, stack_next, low_shifted, indent-le, Counts-more)
 
     -- the margins stay
     walk_still : (next : Pairs) (t : Sheet) → KnowsPairs document (index + 1) next → t.tab_stop ≡ s.tab_stop → t.margins ≡ s.margins → shift_at document index part ≡ Level
@@ -200,7 +184,7 @@ module _ (full : Bool) (document : List Part) where
     shown_is h = grind (arith, written_all, hiding_is, written_brief)
 
     pub hidden_is : (hidden == 0) ≡ false → shown_chunks full (take index document) bytes ≡ []
-    hidden_is h = grind (arith, is_zero, hiding_is)
+    hidden_is h = grind (arith, nat_tests, hiding_is)
 
   -- what the start of a block does to the stack
   opened_margins : (index : ℕ) (b : Block) (adjacent : Bool) (s : Sheet) (stack : List ℕ) → s.margins ≡ reverse stack → s.tab_stop ≡ tab_stop document
@@ -216,14 +200,7 @@ module _ (full : Bool) (document : List Part) where
 
     at : (b : Block) → adjacent ≡ (is_section4_start (Start b) && skips_pair document index) → ((n : ℕ) → part_shift document index (Start b) ≡ Indent n → top stack + n ≤ 2 ^ 128 - 1)
         → (page.opened b adjacent s).margins ≡ reverse (shifted (part_shift document index (Start b)) stack)
-    at blocks.Header a f = pushed 0 (f 0 refl)
-    at blocks.Section2 a f = pushed 0 (f 0 refl)
-    at blocks.Section3 a f = pushed 2 (f 2 refl)
-    at blocks.Section4 a f = ap (λ (c : Bool). s.margins ++ min (page.innermost s + (if c then 4 else 2)) (2 ^ 128 - 1) ∷ []) a ∙ pushed (if skips_pair document index then 4 else 2) (f (if skips_pair document index then 4 else 2) refl)
-    at blocks.ItemTerm a f = pushed 4 (f 4 refl)
-    at blocks.ItemBody a f = ap (λ (k : ℕ). s.margins ++ min (page.innermost s + k) (2 ^ 128 - 1) ∷ []) body ∙ pushed (tab_stop document + 2) (f (tab_stop document + 2) refl)
-    at blocks.Block a f = pushed 0 (f 0 refl)
-    at _ a f = m
+    at b h1 h2 = grind (arith, pushed, body)
 
   -- a start
   module _ (is_small : length document < 2 ^ 64) (index : ℕ) (before rest : List Part) (b : Block) (pairs : Pairs) (hidden : ℕ) (s : Sheet) (w : Walk index before (Start b ∷ rest) pairs hidden s) where

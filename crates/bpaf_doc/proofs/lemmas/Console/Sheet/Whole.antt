@@ -1,5 +1,5 @@
 -- The exact console text is a layout of its document.
-use Rattle.std.specs.Prelude.{◌≡◌, ◌≢◌, ℕ, suc, ◌+◌, ◌-◌, ◌^◌, ◌<◌, ◌≤◌, ⊤, Bool, true, false, ◌==◌, List, [], ◌∷◌, ◌++◌, length, take, map, flat_map, All, codes, refl, if◌then◌else◌, IsUtf8, slice_get, IfOk, Result, String, string_bytes, unwrap_or, Some}
+use Rattle.std.specs.Prelude.{◌≡◌, ℕ, suc, ◌+◌, ◌-◌, ◌^◌, ◌<◌, ◌≤◌, ⊤, Bool, true, false, ◌==◌, List, [], ◌∷◌, ◌++◌, length, take, map, flat_map, All, codes, refl, if◌then◌else◌, IsUtf8, slice_get, IfOk, Result, String, string_bytes, unwrap_or, Some}
 use Rattle.std.specs.List.{enumerate_from}
 use Rattle.std.specs.Str.{chars}
 use Rattle.std.proofs.Common.{sym, subst, ap, arith, inr, ◌∙◌, append_assoc}
@@ -16,8 +16,8 @@ use Rattle.bpaf_doc.specs.Buffer.Parts.{Part, Text, Start, End, ink, part_bytes,
 use Rattle.bpaf_doc.specs.Splitter.Chunks.{Chunk, Raw, Paragraph, LineBreak, IsLine, IsWord, IsOrdinary, has_some, columns, chunks_of, code_weight, fence_weight, Spells, Plain, nothing, code_line, fence, before_code, paragraph, line_break, newline, blank, word, opening, later, closing, closing_paragraph, Form}
 use Rattle.bpaf_doc.specs.Splitter.Promises.{IsText}
 use Rattle.bpaf_doc.specs.Shown.{console_ink, shown_chunks}
-use Rattle.bpaf_doc.specs.Console.Margin.{margin, greatest_margin, is_skipped, Level, part_shift}
-use Rattle.bpaf_doc.specs.Console.Layout.{Event, Shows, Opens, Closes, part_events, shown_events, is_inline_block, IsLayout, Stretch, Gap, Passed}
+use Rattle.bpaf_doc.specs.Console.Margin.{margin, greatest_margin, is_skipped, Level}
+use Rattle.bpaf_doc.specs.Console.Layout.{Event, Shows, Opens, Closes, part_events, shown_events, IsLayout, Stretch, Gap, Passed}
 use Rattle.bpaf_doc.specs.Console.Steps.Hiding.{hidden_after}
 use Rattle.bpaf_doc.specs.Console.Steps.Page as page
 use Rattle.bpaf_doc.specs.Console.Steps.Page.{Sheet, blank_sheet}
@@ -25,7 +25,7 @@ use Rattle.bpaf_doc.specs.Console.Steps.Text as whole
 use Rattle.bpaf_doc.specs.Console.Steps.Text.{console_text}
 use Rattle.bpaf_doc.proofs.lemmas.Splitter.Facts.{text_chunks}
 use Rattle.bpaf_doc.proofs.lemmas.Splitter.Spelling.{spells_in}
-use Rattle.bpaf_doc.proofs.lemmas.Console.Layout.State.{State, Piece, piece, Next, raw, break, mark, placing, breaking, passing, Places, Fits, Suits, raw_suits, paragraph_suits, line_break_suits, open_suits, close_suits, Written, nothing, more, blank_page, broken, passed, chunk_next, IsShallow, Ends, as_is, with_newline}
+use Rattle.bpaf_doc.proofs.lemmas.Console.Layout.State.{State, piece, Next, raw, break, mark, placing, breaking, passing, Places, Fits, Suits, raw_suits, paragraph_suits, line_break_suits, open_suits, close_suits, Written, nothing, more, blank_page, broken, passed, chunk_next, IsShallow, Ends, as_is, with_newline}
 use Rattle.bpaf_doc.proofs.lemmas.Console.Layout.Back.{by_test}
 use Rattle.bpaf_doc.proofs.lemmas.Console.Layout.Blank.{text_back, text_back_cons}
 use Rattle.bpaf_doc.proofs.lemmas.Console.Layout.Text.{next_event}
@@ -62,11 +62,8 @@ code_good line l = (l, λ small. absurd (omega arith), λ o. absurd (let no : fa
 fence_good : (line : List ℕ) → IsLine line → IsGood (Raw line fence_weight)
 fence_good line l = (l, λ small. absurd (omega arith), λ o. absurd (let no : false ≡ true = o in cc), λ o. absurd (let no : false ≡ true = o in cc))
 
-some_of : (bytes : List ℕ) → bytes ≢ [] → has_some bytes ≡ true
-some_of bytes h = grind arith
-
 word_good : (bytes : List ℕ) → IsWord bytes → IsGood (Raw bytes (columns bytes))
-word_good bytes w = (word_line bytes w.1, λ l. refl, λ o. refl, λ o. some_of bytes w.0)
+word_good bytes w = (word_line bytes w.1, λ l. refl, λ o. refl, λ o. grind arith)
 
 good_chunks : {form : Form} {chunks : List Chunk} {text : List ℕ} → Spells form chunks text → Each IsGood chunks
 good_chunks (nothing e t) = subst (λ cs. Each IsGood cs) (sym e) tt
@@ -95,9 +92,6 @@ text_good text = good_chunks (spells_in Plain text)
 
 abbrev pub Any : State → Next → Type 0
 Any st next = ⊤
-
-place_latest : {width : ℕ} {st after : State} (p : Piece) → Places width st p after → (after.latest ≡ p.part) × (after.marked ≡ false)
-place_latest p h = grind arith
 
 pub margin_kept : (s t : Sheet) → Frame s t → page.margin_of t ≡ page.margin_of s
 margin_kept s t f = ap (λ (ms : List ℕ). page.saturated (unwrap_or (slice_get ms (length ms - 1)) 0)) f.margins
@@ -136,7 +130,7 @@ module _ (document : List Part) (width : ℕ) where
       let r : RawTo s.width (piece k bytes weight) l.0.st (page.raw_put bytes weight s) = raw_placed (piece k bytes weight) s l.0.st u good.0 good.1 l.0.draws in
       let frame : Frame s (page.raw_put bytes weight s) = raw_frame bytes weight s in
       let fits : Fits (margin document) l.0.st (piece k bytes weight) = record { margin_is = l.1.margin_is; order = l.1.order; moved = l.1.moved; weighed = good.2; filled = good.3 } in
-      let latest : (r.0.latest ≡ k) × (r.0.marked ≡ false) = place_latest (piece k bytes weight) r.1 in
+      let latest : (r.0.latest ≡ k) × (r.0.marked ≡ false) = grind arith in
       let is_last : r.0.latest ≡ k = latest.0 in (
         record {
           st = r.0;
@@ -194,20 +188,13 @@ enumerate_snoc : (k : ℕ) (xs : List Part) (x : Part) → enumerate_from k (xs 
 enumerate_snoc k [] x = let e : k ≡ k + 0 = omega arith in ap (λ (n : ℕ). (n, x) ∷ []) e
 enumerate_snoc k (y ∷ xs) x = grind (arith, enumerate_snoc (k + 1) xs x)
 
-events_snoc : (full : Bool) (document before : List Part) (part : Part) (index : ℕ) → length before ≡ index
-    → events_from full document 0 (before ++ part ∷ []) ≡ events_from full document 0 before ++ part_events full document index part
-events_snoc full document before part index e = grind (arith, enumerate_snoc, flat_map-append, append-nil)
-
 map_append : (xs ys : List Next) → map next_event (xs ++ ys) ≡ map next_event xs ++ map next_event ys
 map_append [] ys = refl
 map_append (x ∷ xs) ys = ap (λ es. next_event x ∷ es) (map_append xs ys)
 
-shows_chunk : (k : ℕ) (chunk : Chunk) → next_event (chunk_next k chunk) ≡ Shows k chunk
-shows_chunk k chunk = grind arith
-
 shows_chunks : (k : ℕ) (chunks : List Chunk) → map next_event (map (chunk_next k) chunks) ≡ map (λ chunk. Shows k chunk) chunks
 shows_chunks k [] = refl
-shows_chunks k (x ∷ xs) = ap (λ (e : Event). e ∷ map next_event (map (chunk_next k) xs)) (shows_chunk k x) ∙ ap (λ es. Shows k x ∷ es) (shows_chunks k xs)
+shows_chunks k (x ∷ xs) = ap (λ (e : Event). e ∷ map next_event (map (chunk_next k) xs)) (grind arith) ∙ ap (λ es. Shows k x ∷ es) (shows_chunks k xs)
 
 shallow_append : (deepest : ℕ) (xs ys : List Next) → EachNext (IsShallow deepest) xs → EachNext (IsShallow deepest) ys → EachNext (IsShallow deepest) (xs ++ ys)
 shallow_append deepest [] ys a b = b
@@ -231,7 +218,8 @@ module _ (full : Bool) (document : List Part) (width : ℕ) (is_small : length d
 
   module _ (index : ℕ) (before rest : List Part) (part : Part) (pairs : Pairs) (hidden : ℕ) (s : Sheet) (g : Going index before (part ∷ rest) pairs hidden s) where
     next_events : (added : List Event) → part_events full document index part ≡ added → events_from full document 0 (before ++ part ∷ []) ≡ events_from full document 0 before ++ added
-    next_events added e = events_snoc full document before part index g.walk.count ∙ ap (λ es. events_from full document 0 before ++ es) e
+    next_events added e = (grind (arith, enumerate_snoc, flat_map-append,
+        append-nil)) ∙ ap (λ es. events_from full document 0 before ++ es) e
 
     -- nothing is written of this part, and no margin moves
     quiet_step : (next : Pairs) → Walk full document (index + 1) (before ++ part ∷ []) rest next (hidden_after full hidden part) s → part_events full document index part ≡ []
@@ -247,10 +235,6 @@ module _ (full : Bool) (document : List Part) (width : ℕ) (is_small : length d
       shallow = g.shallow;
     }
 
-    -- the margin after a mark
-    level_is : (next : Pairs) (t : Sheet) → Walk full document (index + 1) (before ++ part ∷ []) rest next (hidden_after full hidden part) t → page.HasFewMargins t → page.margin_of t ≡ margin document index
-    level_is next t walk few = grind (arith, level_top, few_fits, top-margin)
-
     st_margin : g.later.st.margin ≡ top (stack_at document index)
     st_margin = sym g.later.draws.margin ∙ level_top s (stack_at document index) g.walk.margins g.fits
 
@@ -265,7 +249,8 @@ module _ (full : Bool) (document : List Part) (width : ℕ) (is_small : length d
       nexts = g.nexts ++ mark event (page.margin_of t) ∷ [];
       later = record {
         st = passed event (page.margin_of t) g.later.st;
-        written = more g.nexts g.later.st (mark event (page.margin_of t)) refl g.later.written (suits (level_is next t walk few) st_margin) tt (passing event (page.margin_of t) refl refl);
+        written = more g.nexts g.later.st (mark event (page.margin_of t)) refl g.later.written (suits (grind (arith,
+            level_top, few_fits, top-margin)) st_margin) tt (passing event (page.margin_of t) refl refl);
         draws = draws;
         wide = wide ∙ g.later.wide;
       };
@@ -273,7 +258,7 @@ module _ (full : Bool) (document : List Part) (width : ℕ) (is_small : length d
       moved = λ m. let a : g.later.st.latest ≤ index = g.order in omega arith;
       events = map_append g.nexts (mark event (page.margin_of t) ∷ []) ∙ ap (λ es. es ++ event ∷ []) g.events ∙ sym (next_events (event ∷ []) one);
       shallow = shallow_append (greatest_margin document) g.nexts (mark event (page.margin_of t) ∷ []) g.shallow
-          (let is : page.margin_of t ≡ margin document index = level_is next t walk few in
+          (let is : page.margin_of t ≡ margin document index = grind (arith, level_top, few_fits, top-margin) in
           let most : margin document index ≤ greatest_margin document = margin-le-greatest document index (within full document index before rest part pairs hidden s g.walk) in (omega arith, tt));
     }
 
@@ -322,9 +307,6 @@ module _ (full : Bool) (document : List Part) (width : ℕ) (is_small : length d
               shallow = shallow_append (greatest_margin document) g.nexts (map (chunk_next index) (written_of full (chunks_of bytes))) g.shallow (shallow_chunks (greatest_margin document) index (written_of full (chunks_of bytes)));
             }
 
-  inline_level : (index : ℕ) (b : Block) → is_inline_block b ≡ true → part_shift document index (Start b) ≡ Level
-  inline_level index b h = grind arith
-
   start_step : (index : ℕ) (before rest : List Part) (b : Block) (pairs : Pairs) (hidden : ℕ) (s : Sheet)
       → whole.LeavesFew (whole.pairs_at document index b pairs) index (Start b) (whole.part_put full document index pairs hidden (Start b) s)
       → Going index before (Start b ∷ rest) pairs hidden s
@@ -346,7 +328,7 @@ module _ (full : Bool) (document : List Part) (width : ℕ) (is_small : length d
             (opened_keeps b (whole.is_adjacent b (whole.pairs_at document index b pairs)) s).0
             (λ level old. open_suits b (page.margin_of (page.opened b (whole.is_adjacent b (whole.pairs_at document index b pairs)) s)) refl
             (λ h. let same : margin document index ≡ top (stack_at document index) =
-            margin-level document index (Start b) rest (here full document index before rest (Start b) pairs hidden s g.walk) (shift_at-shown document index (Start b) e ∙ inline_level index b h) in omega arith) (omega arith))
+            margin-level document index (Start b) rest (here full document index before rest (Start b) pairs hidden s g.walk) (shift_at-shown document index (Start b) e ∙ (grind arith)) in omega arith) (omega arith))
 
   end_step : (index : ℕ) (before rest : List Part) (b : Block) (pairs : Pairs) (hidden : ℕ) (s : Sheet)
       → whole.LeavesFew pairs index (End b) (whole.part_put full document index pairs hidden (End b) s)
