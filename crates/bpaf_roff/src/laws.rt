@@ -29,6 +29,7 @@ pub fn copies_are_equal<T: Clone + PartialEq>()
 {}
 
 /// Nothing on the right changes nothing.
+#[tactic(auto, using(crate::proofs::lemmas::Equality::right_equal))]
 pub fn nothing_on_the_right<T: Eq>()
     ensures same { (left : Labelled T) → sum_of left no_pieces ≡ left }
     ensures equal { (left : Labelled T)
@@ -37,6 +38,7 @@ pub fn nothing_on_the_right<T: Eq>()
 
 /// Nothing on the left changes no piece. It turns squashing off, so it gives back an equal value
 /// exactly where that is off.
+#[tactic(auto, using(crate::proofs::lemmas::Equality::left_equal))]
 pub fn nothing_on_the_left<T: Eq>()
     ensures pieces { (right : Labelled T) → (sum_of no_pieces right).pieces ≡ right.pieces }
     ensures same { (right : Labelled T) → (sum_of no_pieces right ≡ right)
@@ -67,6 +69,7 @@ pub fn equality_is_exact<T: PartialEq>()
 {}
 
 /// To put texts last in two goes is to put them last in one.
+#[tactic(auto, using(crate::proofs::lemmas::Sums::texts_follow))]
 pub fn texts_follow<T: PartialEq>()
     ensures { (m : Labelled T) (some more : List (T × List ℕ))
         → with_texts T.eq m (some ++ more) ≡ with_texts T.eq (with_texts T.eq m some) more }
@@ -88,6 +91,7 @@ pub fn roff_sums_join()
 
 /// What pieces are rendered to goes on with more pieces after them: these are escaped as after the
 /// bytes before.
+#[tactic(auto, using(crate::proofs::lemmas::EscapedText::renderings_go_on))]
 pub fn renderings_go_on()
     ensures { (apostrophes : Apostrophes) (pieces more : List (Piece Escape))
         → rendering apostrophes (pieces ++ more)
@@ -103,6 +107,7 @@ pub fn writers_go_on()
 {}
 
 /// Pieces of text are escaped to text.
+#[tactic(auto, using(crate::proofs::lemmas::EscapedText::pieces_text))]
 pub fn escaped_text_is_text()
     ensures { (apostrophes : Apostrophes) (pieces : List (Piece Escape))
         → AllByRecursion (λ p. IsUtf8 p.text) pieces → IsUtf8 (escaped apostrophes pieces) }

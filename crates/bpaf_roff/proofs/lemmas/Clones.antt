@@ -1,5 +1,5 @@
 -- What clones of labels leave of the places of the texts, and of the pieces that they show.
-use Rattle.std.specs.Prelude.{◌≡◌, ℕ, ◌+◌, ◌-◌, ◌<◌, suc, Bool, IsTrue, List, [], ◌∷◌, ◌++◌, take, drop, length, refl}
+use Rattle.std.specs.Prelude.{◌≡◌, ℕ, ◌+◌, ◌<◌, suc, Bool, IsTrue, List, [], ◌∷◌, ◌++◌, take, length, refl}
 use Rattle.std.proofs.Common.{ap, sym, ◌∙◌, append_assoc, append-nil, arith}
 use Rattle.std.proofs.lemmas.List.{map-append}
 use Rattle.std.proofs.lemmas.List.Elements.{AllZip-push, same_from_all_zip}
@@ -38,17 +38,13 @@ module _ {T : Type 0} (clones : T → T → Type 0) where
 
   -- the cuts are the same
   pub Cuts-clones : (ls ms : List (Label T)) (at : ℕ) (p : List ℕ) → AreClones clones ls ms → Cuts ls at p → Cuts ms at p
-  Cuts-clones [] [] at p all c = c
-  Cuts-clones [] (m ∷ ms) at p all c = elim all [ ]
-  Cuts-clones (l ∷ ls) [] at p all c = elim all [ ]
-  Cuts-clones (l ∷ ls) (m ∷ ms) at p all c = rw all.0.0 (c.0, c.1, c.2, Cuts-clones ls ms l.end (drop (l.end - at) p) all.1 c.3)
+  Cuts-clones [] ms at p all c = grind arith
+  Cuts-clones (l ∷ ls) ms at p all c = grind (arith, Cuts-clones ls)
 
   -- and the pieces are copies
   pub AreCopies-pieces : (ls ms : List (Label T)) (at : ℕ) (p : List ℕ) → AreClones clones ls ms → AreCopies clones (pieces_of ls at p) (pieces_of ms at p)
-  AreCopies-pieces [] [] at p all = tt
-  AreCopies-pieces [] (m ∷ ms) at p all = elim all [ ]
-  AreCopies-pieces (l ∷ ls) [] at p all = elim all [ ]
-  AreCopies-pieces (l ∷ ls) (m ∷ ms) at p all = rw all.0.0 ((refl, all.0.1), AreCopies-pieces ls ms l.end (drop (l.end - at) p) all.1)
+  AreCopies-pieces [] ms at p all = grind arith
+  AreCopies-pieces (l ∷ ls) ms at p all = grind (arith, AreCopies-pieces ls)
 
   -- where a clone is no other value, copies are what they are copies of
   AreCopies-same : ClonesAreSame clones → (ps qs : List (Piece T)) → AreCopies clones ps qs → qs ≡ ps
@@ -75,7 +71,5 @@ module _ {T : Type 0} (clones : T → T → Type 0) where
 
 -- copies are equal to what they are copies of, where clones are
 pub equal_copies : {T : Type 0} (clones : T → T → Type 0) (eq : T → T → Bool) → ((x y : T) → clones x y → IsTrue (eq x y)) → (ps qs : List (Piece T)) → AreCopies clones ps qs → AllZip (IsSamePiece eq) ps qs
-equal_copies clones eq equal [] [] all = tt
-equal_copies clones eq equal [] (q ∷ qs) all = elim all [ ]
-equal_copies clones eq equal (p ∷ ps) [] all = elim all [ ]
-equal_copies clones eq equal (p ∷ ps) (q ∷ qs) all = ((equal p.label q.label all.0.1, sym all.0.0), equal_copies clones eq equal ps qs all.1)
+equal_copies clones eq equal [] qs all = grind arith
+equal_copies clones eq equal (p ∷ ps) qs all = grind (arith, equal, equal_copies clones eq equal ps)

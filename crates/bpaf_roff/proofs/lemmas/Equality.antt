@@ -7,6 +7,7 @@ use Rattle.std.specs.Cmp.Lexicographic.{pointwise, bytes_decides}
 use Rattle.std.proofs.Common.{sym, ap, subst, ◌∙◌}
 use Rattle.bpaf_roff.specs.Pieces.{Piece, Labelled, no_pieces, sum_of}
 use Rattle.bpaf_roff.specs.Equality.{IsSamePiece, piece_eq, labelled_eq, labelled_equiv}
+use Rattle.std.proofs.lemmas.List.Elements.{same_from_all_zip}
 use Rattle.bpaf_roff.proofs.lemmas.Sums.{sum_of-none_right}
 
 both : (x y : Bool) → (x && y) ≡ true → (x ≡ true) × (y ≡ true)
@@ -53,10 +54,7 @@ module _ {L : Type 0} (eq : L → L → Bool) where
     own_piece p = ((exact p.label p.label).1 refl, refl)
 
     same_pieces : (ps rs : List (Piece L)) → AllZip (IsSamePiece eq) ps rs → ps ≡ rs
-    same_pieces [] [] h = refl
-    same_pieces [] (r ∷ rs) h = absurd h
-    same_pieces (p ∷ ps) [] h = absurd h
-    same_pieces (p ∷ ps) (r ∷ rs) h = ap (λ x. x ∷ ps) (same_piece p r h.0) ∙ ap (λ xs. r ∷ xs) (same_pieces ps rs h.1)
+    same_pieces ps rs h = sym (same_from_all_zip (IsSamePiece eq) ps rs h (λ p r s. sym (same_piece p r s)))
 
     own_pieces : (ps : List (Piece L)) → AllZip (IsSamePiece eq) ps ps
     own_pieces [] = tt

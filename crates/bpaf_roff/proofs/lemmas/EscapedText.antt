@@ -1,16 +1,15 @@
 -- What pieces of text are escaped to is text.
-use Rattle.std.specs.Prelude.{◌≡◌, ℕ, Bool, true, false, List, [], ◌∷◌, ◌++◌, ◌<◌, ◌≤◌, ◌==◌, map, IsUtf8, IsAscii, codes, zero, suc, ◌+◌, ◌/◌, ◌&&◌, ◌||◌, if◌then◌else◌, cond, refl}
+use Rattle.std.specs.Prelude.{◌≡◌, ℕ, Bool, true, false, List, [], ◌∷◌, ◌++◌, ◌<◌, ◌≤◌, map, IsUtf8, IsAscii, zero, suc, ◌&&◌, refl}
 use Rattle.std.specs.List.{AllByRecursion}
 use Rattle.std.specs.Char.{IsScalar}
-use Rattle.std.proofs.Common.{inl, inr, ap, sym, ◌∙◌, append_assoc, arith}
-use Rattle.std.proofs.lemmas.List.{append-nil}
+use Rattle.std.proofs.Common.{inl, inr, ap, append_assoc, arith}
+use Rattle.std.proofs.lemmas.List.{append-nil, map-append}
 use Rattle.std.proofs.lemmas.Bool.{ne_eqb, le-ltb, cases_lt}
-use lib.Utf8.{encode, encodes, scalar, scalars, next}
-use lib.Dec.{ltb}
+use lib.Utf8.{encode, encodes, scalar, scalars}
 use Rattle.std.proofs.lemmas.Str.{IsUtf8-append, IsUtf8-nil, IsUtf8-from_ascii, IsUtf8-encode, encode_ascii}
 use Rattle.bpaf_roff.specs.Pieces.{Piece}
-use Rattle.bpaf_roff.specs.Escaping.{is_line_start, is_control_sign, newline_as_blank, guard, special_text, spaces_text, apostrophe_text, byte_text, Sign, Break, Byte, breaks, signs, signs_of, sign_text, text_after, escaped}
-use Rattle.bpaf_roff.specs.Roff.{preamble_for, rendering}
+use Rattle.bpaf_roff.specs.Escaping.{newline_as_blank, guard, special_text, spaces_text, apostrophe_text, byte_text, Sign, Byte, breaks, signs, signs_of, sign_text, text_after, escaped}
+use Rattle.bpaf_roff.specs.Roff.{rendering}
 use Rattle.bpaf_roff.specs.declared.escape.Apostrophes.{Apostrophes}
 use Rattle.bpaf_roff.specs.declared.escape.Apostrophes.TheVariants.{Handle, DontHandle}
 use Rattle.bpaf_roff.specs.declared.escape.Escape.{Escape}
@@ -43,34 +42,16 @@ low_apostrophe Handle = (omega arith, (omega arith, (omega arith, (omega arith, 
 low_apostrophe DontHandle = (omega arith, tt)
 
 low_special : (q : Apostrophes) (b : ℕ) → b < 128 → Low (special_text q b)
-low_special q b h = by (b == 92 || b == 45) (b == 39)
-  where
-    by : (x y : Bool) → Low (if x then 92 ∷ b ∷ [] else if y then apostrophe_text q else b ∷ [])
-    by true y = (omega arith, (h, tt))
-    by false true = low_apostrophe q
-    by false false = (h, tt)
+low_special q b h = grind (arith, low_apostrophe)
 
 low_spaces : (b : ℕ) → b < 128 → Low (spaces_text b)
-low_spaces b h = by (b == 32 || b == 10) (b == 92)
-  where
-    by : (x y : Bool) → Low (if x then codes "\\ " else if y then codes "\\\\" else b ∷ [])
-    by true y = (omega arith, (omega arith, tt))
-    by false true = (omega arith, (omega arith, tt))
-    by false false = (h, tt)
+low_spaces b h = grind arith
 
 low_guard : (before : List ℕ) (b : ℕ) → Low (guard before b)
-low_guard before b = by (is_control_sign b && is_line_start before)
-  where
-    by : (x : Bool) → Low (if x then codes "\\&" else [])
-    by true = (omega arith, (omega arith, tt))
-    by false = tt
+low_guard before b = grind arith
 
 low_blank : (b : ℕ) → b < 128 → newline_as_blank b < 128
-low_blank b h = by (b == 10)
-  where
-    by : (x : Bool) → (if x then 32 else b) < 128
-    by true = omega arith
-    by false = h
+low_blank b h = grind arith
 
 low_byte : (q : Apostrophes) (before : List ℕ) (label : Escape) (b : ℕ) → b < 128 → Low (byte_text q before label b)
 low_byte q before UnescapedAtNewline b h = (h, tt)
@@ -92,20 +73,12 @@ high_text q label (b ∷ bytes) before h = rw (high_byte q before label b h.0) (
 
 pub high_encode : (c : ℕ) → 128 ≤ c → High (encode c)
 unfolding encode
-high_encode c h = rw (le-ltb c 128 h) (by (ltb c 2048) (ltb c 65536))
-  where
-    by : (y z : Bool) → High (cond y ((192 + c / 64) ∷ next c ∷ []) (cond z ((224 + c / 4096) ∷ next (c / 64) ∷ next c ∷ []) ((240 + c / 262144) ∷ next (c / 4096) ∷ next (c / 64) ∷ next c ∷ [])))
-    by true z = (omega arith, (omega arith, tt))
-    by false true = (omega arith, (omega arith, (omega arith, tt)))
-    by false false = (omega arith, (omega arith, (omega arith, (omega arith, tt))))
+high_encode c h = grind (arith, le-ltb)
 
 -- what a character is written as
 char_text : (q : Apostrophes) (label : Escape) (c : ℕ) → IsScalar c → (before : List ℕ) → IsUtf8 (text_after q before (map (Byte label) (encode c)))
 char_text q label c h before = elim (cases_lt c 128) [ inl low ↦ rw (encode_ascii c low, append-nil (byte_text q before label c)) (IsUtf8-from_ascii _ (Low-IsAscii _ (low_byte q before label c low))) | inr high ↦ rw (high_text q label (encode c) before (high_encode c high)) (IsUtf8-encode c h) ]
 
-map-append : (label : Escape) (s t : List ℕ) → map (Byte label) (s ++ t) ≡ map (Byte label) s ++ map (Byte label) t
-map-append label [] t = refl
-map-append label (b ∷ s) t = ap (λ ys. Byte label b ∷ ys) (map-append label s t)
 
 pub both : (x y : Bool) → (x && y) ≡ true → (x ≡ true) × (y ≡ true)
 both true y h = (refl, h)
@@ -113,18 +86,11 @@ both false y h = absurd cc
 
 chars_text : (q : Apostrophes) (label : Escape) (cs : List ℕ) → scalars cs ≡ true → (before : List ℕ) → IsUtf8 (text_after q before (map (Byte label) (encodes cs)))
 chars_text q label [] h before = IsUtf8-nil
-chars_text q label (c ∷ cs) h before = let parts = both (scalar c) (scalars cs) h in rw (map-append label (encode c) (encodes cs), text_after-append q before (map (Byte label) (encode c)) (map (Byte label) (encodes cs))) (IsUtf8-append (text_after q before (map (Byte label) (encode c))) _ (char_text q label c parts.0 before) (chars_text q label cs parts.1 (before ++ text_after q before (map (Byte label) (encode c)))))
+chars_text q label (c ∷ cs) h before = let parts = both (scalar c) (scalars cs) h in rw (map-append (Byte label) (encode c) (encodes cs), text_after-append q before (map (Byte label) (encode c)) (map (Byte label) (encodes cs))) (IsUtf8-append (text_after q before (map (Byte label) (encode c))) _ (char_text q label c parts.0 before) (chars_text q label cs parts.1 (before ++ text_after q before (map (Byte label) (encode c)))))
 
 break_text : (q : Apostrophes) (label : Escape) (before : List ℕ) → IsUtf8 (text_after q before (breaks label))
-break_text q label before = IsUtf8-from_ascii _ (Low-IsAscii _ (low label))
-  where
-    by : (x : Bool) → Low (if x then [] else 10 ∷ [])
-    by true = tt
-    by false = (omega arith, tt)
-
-    low : (l : Escape) → Low (text_after q before (breaks l))
-    low UnescapedAtNewline = Low-append (sign_text q before Break) [] (by (is_line_start before)) tt
-    low _ = tt
+break_text q UnescapedAtNewline before = IsUtf8-from_ascii _ (Low-IsAscii _ (grind arith))
+break_text q _ before = IsUtf8-nil
 
 pub piece_text : (q : Apostrophes) (piece : Piece Escape) (before : List ℕ) → IsUtf8 piece.text → IsUtf8 (text_after q before (signs_of piece))
 piece_text q piece before h = rw (text_after-append q before (breaks piece.label) (map (Byte piece.label) piece.text)) (IsUtf8-append _ _ (break_text q piece.label before) (rw (← h.1.1) (chars_text q piece.label h.0 h.1.0 (before ++ text_after q before (breaks piece.label)))))
@@ -139,7 +105,5 @@ signs-append [] qs = refl
 signs-append (p ∷ ps) qs = rw (signs-append ps qs, append_assoc (signs_of p)) refl
 
 -- more pieces are written after the bytes before
-pub rendering-append : (q : Apostrophes) (ps qs : List (Piece Escape)) → rendering q (ps ++ qs) ≡ rendering q ps ++ text_after q (escaped q ps) (signs qs)
-rendering-append q ps qs =
-    ap (λ t. preamble_for q ++ t) (ap (text_after q []) (signs-append ps qs) ∙ text_after-append q [] (signs ps) (signs qs))
-    ∙ sym (append_assoc (preamble_for q) (escaped q ps) (text_after q (escaped q ps) (signs qs)))
+pub renderings_go_on : (q : Apostrophes) (ps qs : List (Piece Escape)) → rendering q (ps ++ qs) ≡ rendering q ps ++ text_after q (escaped q ps) (signs qs)
+renderings_go_on q ps qs = grind (arith, signs-append, text_after-append, append_assoc)

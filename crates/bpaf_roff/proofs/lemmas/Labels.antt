@@ -54,36 +54,25 @@ module _ {T : Type 0} where
   -- every place is within the payload
   pub ends_fit : (by n : ℕ) (ls : List (Label T)) (at : ℕ) (p : List ℕ) → Cuts ls at p → by + (at + length p) < n → All (λ l. by + l.end < n) ls
   ends_fit by n [] at p c fits = All-nil (λ (l : Label T). by + l.end < n)
-  ends_fit by n (l ∷ ls) at p c fits =
-      All-cons (λ (m : Label T). by + m.end < n) l ls (omega (arith, c.0, c.1))
-      (ends_fit by n ls l.end (drop (l.end - at) p) c.3 (omega (arith, c.0, c.1, length-drop (l.end - at) p)))
+  ends_fit by n (l ∷ ls) at p c fits = grind (arith, All-cons, ends_fit by n ls l.end (drop (l.end - at) p) c.3, length-drop)
 
   -- two payloads, one after the other
   pub pieces_of-append : (ls ms : List (Label T)) (at next : ℕ) (p q : List ℕ) → Cuts ls at p → next ≡ at + length p → pieces_of (ls ++ ms) at (p ++ q) ≡ pieces_of ls at p ++ pieces_of ms next q
   pieces_of-append [] ms at next p q c e = let f : next ≡ at = omega (arith, ap length c) in rw (c, f) refl
-  pieces_of-append (l ∷ ls) ms at next p q c e =
-      rw (take-append-le (l.end - at) p q c.1, drop-append-le (l.end - at) p q c.1)
-      (ap (λ ps. record { label = l.label; text = take (l.end - at) p } ∷ ps) (pieces_of-append ls ms l.end next (drop (l.end - at) p) q c.3 (omega (arith, length-drop (l.end - at) p, c.0, c.1))))
+  pieces_of-append (l ∷ ls) ms at next p q c e = grind (arith, take-append-le, drop-append-le, length-drop, pieces_of-append ls ms l.end next (drop (l.end - at) p) q c.3)
 
   pub Cuts-append : (ls ms : List (Label T)) (at next : ℕ) (p q : List ℕ) → Cuts ls at p → next ≡ at + length p → Cuts ms next q → Cuts (ls ++ ms) at (p ++ q)
   Cuts-append [] ms at next p q c e d = let f : next ≡ at = omega (arith, ap length c) in rw c (rw f at d)
-  Cuts-append (l ∷ ls) ms at next p q c e d = (
-    c.0,
-    omega (arith, c.1, length-append p q),
-    rw (take-append-le (l.end - at) p q c.1) c.2,
-    rw (drop-append-le (l.end - at) p q c.1) (Cuts-append ls ms l.end next (drop (l.end - at) p) q c.3 (omega (arith, length-drop (l.end - at) p, c.0, c.1)) d),
-  )
+  Cuts-append (l ∷ ls) ms at next p q c e d = grind (arith, length-append, take-append-le, drop-append-le, length-drop, Cuts-append ls ms l.end next (drop (l.end - at) p) q c.3)
 
   -- and show the same pieces
   pub pieces_of-shifted : (by : ℕ) (ls : List (Label T)) (at : ℕ) (p : List ℕ) → pieces_of (shifted by ls) (by + at) p ≡ pieces_of ls at p
   pieces_of-shifted by [] at p = refl
-  pieces_of-shifted by (l ∷ ls) at p =
-      rw (moved by at l.end) (ap (λ ps. record { label = l.label; text = take (l.end - at) p } ∷ ps) (pieces_of-shifted by ls l.end (drop (l.end - at) p)))
+  pieces_of-shifted by (l ∷ ls) at p = grind (arith, moved, (pieces_of-shifted by ls l.end (drop (l.end - at) p)))
 
   pub Cuts-shifted : (by : ℕ) (ls : List (Label T)) (at : ℕ) (p : List ℕ) → Cuts ls at p → Cuts (shifted by ls) (by + at) p
   Cuts-shifted by [] at p c = c
-  Cuts-shifted by (l ∷ ls) at p c =
-      (omega (arith, c.0), rw (moved by at l.end) c.1, rw (moved by at l.end) c.2, rw (moved by at l.end) (Cuts-shifted by ls l.end (drop (l.end - at) p) c.3))
+  Cuts-shifted by (l ∷ ls) at p c = grind (arith, moved, (Cuts-shifted by ls l.end (drop (l.end - at) p) c.3))
 
   pub ending_at-push : (e : ℕ) (ls : List (Label T)) (l : Label T) → ending_at e (ls ++ l ∷ []) ≡ ls ++ record l { end = e } ∷ []
   ending_at-push e [] l = refl
@@ -94,8 +83,7 @@ module _ {T : Type 0} where
   pub ending_at-same : (ls : List (Label T)) (at : ℕ) (p : List ℕ) (e : ℕ) → Cuts ls at p → e ≡ at + length p → ending_at e ls ≡ ls
   ending_at-same [] at p e c is = refl
   ending_at-same (l ∷ []) at p e c is = let f : e ≡ l.end = omega (arith, none_left (l.end - at) p c.1 c.3, c.0) in rw f refl
-  ending_at-same (l ∷ m ∷ ls) at p e c is =
-      ap (λ xs. l ∷ xs) (ending_at-same (m ∷ ls) l.end (drop (l.end - at) p) e c.3 (omega (arith, length-drop (l.end - at) p, c.0, c.1)))
+  ending_at-same (l ∷ m ∷ ls) at p e c is = grind (arith, length-drop, ending_at-same (m ∷ ls) l.end (drop (l.end - at) p) e c.3)
 
 -- the front of a longer front
 take_front : {X : Type 0} (n m : ℕ) (p : List X) → n ≤ length p → take n (take (n + m) p) ≡ take n p
@@ -166,28 +154,21 @@ module _ {T : Type 0} (eq : T → T → Bool) (squash : Bool) (t : T) where
     rest_of at e p none is = rw none (take_all (e - at) w (omega (arith, ap length none)))
 
     followed_text : (at : ℕ) (p : List ℕ) (l : Label T) (e : ℕ) → Cuts (l ∷ []) at p → e ≡ at + length p + length w → take (e - at) (p ++ w) ≡ take (l.end - at) p ++ w
-    followed_text at p l e c is =
-        rw (take_all (l.end - at) p (omega (arith, none_left (l.end - at) p c.1 c.3))) (take_all (e - at) (p ++ w) (omega (arith, length-append p w)))
+    followed_text at p l e c is = grind (arith, take_all, none_left, length-append)
 
     pieces_followed : (b : Bool) (l : Label T) (at : ℕ) (p : List ℕ) (e : ℕ) → Cuts (l ∷ []) at p → e ≡ at + length p + length w
         → pieces_of (if b then record l { end = e } ∷ [] else l ∷ record { end = e; label = t } ∷ []) at (p ++ w)
         ≡ (if b then record { label = l.label; text = take (l.end - at) p ++ w } ∷ [] else record { label = l.label; text = take (l.end - at) p } ∷ record { label = t; text = w } ∷ [])
     pieces_followed true l at p e c is = ap (λ u. record { label = l.label; text = u } ∷ []) (followed_text at p l e c is)
-    pieces_followed false l at p e c is =
-        let all = none_left (l.end - at) p c.1 c.3 in
-        rw (take-append-le (l.end - at) p w c.1, drop-append-le (l.end - at) p w c.1, rest_of l.end e (drop (l.end - at) p) c.3 (omega (arith, all, c.0, ap length c.3))) refl
+    pieces_followed false l at p e c is = grind (arith, none_left, take-append-le, drop-append-le, rest_of)
 
     pub pieces_of-with_label : (ls : List (Label T)) (at : ℕ) (p : List ℕ) (e : ℕ) → Cuts ls at p → e ≡ at + length p + length w → pieces_of (with_label eq squash ls t e) at (p ++ w) ≡ pieces_after_push eq squash (pieces_of ls at p) t w
     pieces_of-with_label [] at p e c is = ap (λ u. record { label = t; text = u } ∷ []) (rest_of at e p c is)
     pieces_of-with_label (l ∷ []) at p e c is = pieces_followed (squash && eq l.label t) l at p e c is
-    pieces_of-with_label (l ∷ m ∷ ls) at p e c is =
-        rw (take-append-le (l.end - at) p w c.1, drop-append-le (l.end - at) p w c.1)
-        (ap (λ ps. record { label = l.label; text = take (l.end - at) p } ∷ ps) (pieces_of-with_label (m ∷ ls) l.end (drop (l.end - at) p) e c.3 (omega (arith, length-drop (l.end - at) p, c.0, c.1))))
+    pieces_of-with_label (l ∷ m ∷ ls) at p e c is = grind (arith, take-append-le, drop-append-le, length-drop, pieces_of-with_label (m ∷ ls) l.end (drop (l.end - at) p) e c.3)
 
     Cuts_alone : (at e : ℕ) (p : List ℕ) → IsUtf8 w → p ≡ [] → e ≡ at + length p + length w → Cuts (record { end = e; label = t } ∷ []) at (p ++ w)
-    Cuts_alone at e p u none is =
-        let n : length p ≡ 0 = ap length none in
-        (omega arith, omega (arith, length-append p w), rw (rest_of at e p none is) u, rw none (drop_all (e - at) w (omega arith)))
+    Cuts_alone at e p u none is = grind (arith, length-append, rest_of, drop_all)
 
     Cuts_followed : (b : Bool) (l : Label T) (at : ℕ) (p : List ℕ) (e : ℕ) → IsUtf8 w → Cuts (l ∷ []) at p → e ≡ at + length p + length w → Cuts (if b then record l { end = e } ∷ [] else l ∷ record { end = e; label = t } ∷ []) at (p ++ w)
     Cuts_followed true l at p e u c is =
@@ -202,46 +183,29 @@ module _ {T : Type 0} (eq : T → T → Bool) (squash : Bool) (t : T) where
     pub Cuts-with_label : IsUtf8 w → (ls : List (Label T)) (at : ℕ) (p : List ℕ) (e : ℕ) → Cuts ls at p → e ≡ at + length p + length w → Cuts (with_label eq squash ls t e) at (p ++ w)
     Cuts-with_label u [] at p e c is = Cuts_alone at e p u c is
     Cuts-with_label u (l ∷ []) at p e c is = Cuts_followed (squash && eq l.label t) l at p e u c is
-    Cuts-with_label u (l ∷ m ∷ ls) at p e c is = (
-      c.0,
-      omega (arith, c.1, length-append p w),
-      rw (take-append-le (l.end - at) p w c.1) c.2,
-      rw (drop-append-le (l.end - at) p w c.1) (Cuts-with_label u (m ∷ ls) l.end (drop (l.end - at) p) e c.3 (omega (arith, length-drop (l.end - at) p, c.0, c.1))),
-    )
+    Cuts-with_label u (l ∷ m ∷ ls) at p e c is = grind (arith, length-append, take-append-le, drop-append-le, length-drop, Cuts-with_label u (m ∷ ls) l.end (drop (l.end - at) p) e c.3)
 
     pub labelled-with_label : (ls : List (Label T)) (p : List ℕ) (e : ℕ) → Cuts ls 0 p → e ≡ length p + length w → labelled squash (pieces_of (with_label eq squash ls t e) 0 (p ++ w)) ≡ with_text eq (labelled squash (pieces_of ls 0 p)) t w
     labelled-with_label ls p e c is = ap (labelled squash) (pieces_of-with_label ls 0 p e c (omega arith))
 
 module _ {T : Type 0} (eq : T → T → Bool) (squash : Bool) (t : T) (end e : ℕ) where
   past : (l : Label T) (xs ys : List (Label T)) → ending_at e xs ≡ ending_at e ys → ending_at e (l ∷ xs) ≡ ending_at e (l ∷ ys)
-  past l [] [] h = refl
   past l [] (y ∷ []) h = cc
-  past l [] (y ∷ z ∷ ys) h = cc
   past l (x ∷ []) [] h = cc
-  past l (x ∷ z ∷ xs) [] h = cc
-  past l (x ∷ xs) (y ∷ ys) h = ap (λ r. l ∷ r) h
+  past l xs ys h = grind arith
 
-  followed_end : (b : Bool) (l : Label T) → ending_at e (take 1 (if b then record l { end = end } ∷ [] else l ∷ record { end = end; label = t } ∷ [])) ≡ record l { end = e } ∷ []
-  followed_end true l = refl
-  followed_end false l = refl
 
   -- a label put past the first k is cut off again
   pub ending_at-with_label : (k : ℕ) (ls : List (Label T)) → k ≤ length ls → ending_at e (take k (with_label eq squash ls t end)) ≡ ending_at e (take k ls)
   ending_at-with_label zero ls within = refl
   ending_at-with_label (suc k) [] within = absurd (omega (arith, within))
-  ending_at-with_label (suc zero) (l ∷ []) within = followed_end (squash && eq l.label t) l
-  ending_at-with_label (suc (suc k)) (l ∷ []) within = absurd (omega (arith, within))
+  ending_at-with_label (suc k) (l ∷ []) within = grind arith
   ending_at-with_label (suc zero) (l ∷ m ∷ ls) within = refl
-  ending_at-with_label (suc (suc k)) (l ∷ m ∷ ls) within =
-      past l (take (suc k) (with_label eq squash (m ∷ ls) t end)) (take (suc k) (m ∷ ls)) (ending_at-with_label (suc k) (m ∷ ls) (omega (arith, within)))
-
-  followed_length : (b : Bool) (l : Label T) → 1 ≤ length (if b then record l { end = end } ∷ [] else l ∷ record { end = end; label = t } ∷ [])
-  followed_length true l = omega arith
-  followed_length false l = omega arith
+  ending_at-with_label (suc (suc k)) (l ∷ m ∷ ls) within = grind (arith, past, ending_at-with_label (suc k) (m ∷ ls))
 
   pub length-with_label : (ls : List (Label T)) → length ls ≤ length (with_label eq squash ls t end)
   length-with_label [] = omega arith
-  length-with_label (l ∷ []) = followed_length (squash && eq l.label t) l
+  length-with_label (l ∷ []) = grind arith
   length-with_label (l ∷ m ∷ ls) = omega (arith, length-with_label (m ∷ ls))
 
 -- one text more

@@ -1,5 +1,5 @@
 -- What a byte with a mark is written as, and the marks of a front of some bytes.
-use Rattle.std.proofs.Common.{◌≡◌, ℕ, ◌+◌, ◌-◌, ◌<◌, ◌≤◌, ◌==◌, Bool, true, false, ◌&&◌, ◌||◌, List, [], ◌∷◌, ◌++◌, ◌⊎◌, inl, inr, ◌∙◌, map, take, length, get_or, ap, sym, subst, refl, arith, if◌then◌else◌}
+use Rattle.std.proofs.Common.{◌≡◌, ℕ, ◌+◌, ◌-◌, ◌<◌, ◌==◌, Bool, true, false, ◌&&◌, ◌||◌, List, [], ◌∷◌, ◌++◌, inl, inr, ◌∙◌, map, take, length, get_or, ap, sym, arith, if◌then◌else◌}
 use Rattle.std.specs.Prelude.{codes, slice_index, slice_set}
 use Rattle.std.proofs.lemmas.Bool.{cases_lt}
 use Rattle.std.proofs.lemmas.List.{take_more, get_or-set_same, get_or-set_other}
@@ -19,13 +19,7 @@ marked_special q before prev s h k = by (s == 39) (s == 46) (s == 92 || s == 45)
     by : (a d e l n : Bool) → (l ≡ true → n ≡ true) → (if a || (d && n) then 2 else 0) + (if e then 1 else 0) < 2
         → (if (d || a) && l then codes "\\&" else []) ++ (if e then 92 ∷ s ∷ [] else if a then apostrophe_text q else s ∷ [])
         ≡ (if ((if a || (d && n) then 2 else 0) + (if e then 1 else 0)) == 1 then 92 ∷ s ∷ [] else s ∷ [])
-    by true d e l n h k = absurd (omega (arith, k))
-    by false true e l true h k = absurd (omega (arith, k))
-    by false true e true false h k = let no = h refl in absurd cc
-    by false true true false false h k = refl
-    by false true false false false h k = refl
-    by false false true l n h k = refl
-    by false false false l n h k = refl
+    by a d e l n h k = grind arith
 
 -- a line starts only behind a newline
 line_behind : (q : Apostrophes) (label : Escape) → IsText label → (x : Bool) (bytes : List ℕ) (i j : ℕ) → i ≡ j + 1 → j < length bytes
@@ -59,10 +53,4 @@ marked_text q label is x bytes i m s lt (inr right) few shown same =
 -- one byte more is marked
 pub marks_more : (bytes marks : List ℕ) (i m : ℕ) → 0 < i → i < length marks → AreMarks bytes i marks → m ≡ mark (slice_index bytes (i - 1)) (slice_index bytes i)
     → AreMarks bytes (i + 1) (slice_set marks i m)
-marks_more bytes marks i m some lt all e j l = at (cases_lt j i)
-  where
-    at : (j < i) ⊎ (i ≤ j) → IsMark bytes j (slice_index (slice_set marks i m) j)
-    at (inl below) = subst (λ n. IsMark bytes j n) (sym (get_or-set_other marks i j m 0 (λ same. omega (arith, same, below)))) (all j below)
-    at (inr above) =
-        let same : j ≡ i = omega (arith, l, above) in
-        subst (λ k. IsMark bytes k (slice_index (slice_set marks i m) k)) (sym same) (inr (some, get_or-set_same marks i m 0 lt ∙ e))
+marks_more bytes marks i m some lt all e j l = grind (arith, cases_lt j i, get_or-set_same, get_or-set_other, all j)

@@ -1,5 +1,5 @@
 -- What pieces put last leave of a script.
-use Rattle.std.proofs.Common.{◌≡◌, Bool, false, List, ℕ, [], ◌∷◌, ◌++◌, ◌∙◌, length, take, map, ap, subst, refl, arith, append_assoc, take_all}
+use Rattle.std.proofs.Common.{◌≡◌, Bool, false, List, ℕ, [], ◌∷◌, ◌++◌, map, ap, refl, arith, append_assoc, take_all}
 use Rattle.std.proofs.lemmas.Iterator.{items_from_drains}
 use Rattle.std.proofs.lemmas.Iterator.Consumers.{YieldsList-from_first}
 use Rattle.std.specs.Borrow.{Bor}
@@ -28,14 +28,10 @@ pub with_pieces-with_pieces : (s : Script) (ps qs : List (Piece Escape)) → wit
 with_pieces-with_pieces s ps qs = ap (λ rs. record s { pieces = rs }) (append_assoc s.pieces ps qs)
 
 pub only_adds : (old new : Script) (more : List (Piece Escape)) → new ≡ with_pieces old more → OnlyAdds old new
-only_adds old new more is =
-    rw is (ap (λ ps. record old { pieces = ps }) (take-append-le (length old.pieces) old.pieces more (omega arith) ∙ take_all (length old.pieces) old.pieces (omega arith)))
+only_adds old new more is = grind (arith, take-append-le, take_all)
 
 pub only_adds_later : (old now new : Script) (more : List (Piece Escape)) → now ≡ with_pieces old more → OnlyAdds now new → OnlyAdds old new
-only_adds_later old now new more is later =
-    let front = subst (λ m. OnlyAdds m new) is later in
-    let ps : take (length old.pieces) new.pieces ≡ old.pieces = KeepsFront-later old.pieces more new.pieces (ap (λ s. s.pieces) front) in
-    ap (λ qs. record new { pieces = qs }) ps ∙ ap (λ b. record old { strip_newlines = b }) (ap (λ s. s.strip_newlines) front)
+only_adds_later old now new more is later = grind (arith, KeepsFront-later)
 
 -- one more in a sum
 pub scripts_sum-push : (s : Script) (others : List Script) (more : Script) → scripts_sum s (others ++ more ∷ []) ≡ script_sum (scripts_sum s others) more

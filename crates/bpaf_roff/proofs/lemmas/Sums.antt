@@ -20,6 +20,6 @@ pub script_sum_assoc : (a b c : Script) → script_sum (script_sum a b) c ≡ sc
 script_sum_assoc a b c = ap (λ ps. record c { pieces = ps }) (append_assoc a.pieces b.pieces c.pieces)
 
 -- texts put last in two goes
-pub with_texts-append : {L : Type 0} (eq : L → L → Bool) (m : Labelled L) (some more : List (L × List ℕ)) → with_texts eq m (some ++ more) ≡ with_texts eq (with_texts eq m some) more
-with_texts-append eq m [] more = refl
-with_texts-append eq m (x ∷ some) more = with_texts-append eq (with_text eq m x.0 x.1) some more
+pub texts_follow : {L : Type 0} (eq : L → L → Bool) (m : Labelled L) (some more : List (L × List ℕ)) → with_texts eq m (some ++ more) ≡ with_texts eq (with_texts eq m some) more
+texts_follow eq m [] more = refl
+texts_follow eq m (x ∷ some) more = texts_follow eq (with_text eq m x.0 x.1) some more

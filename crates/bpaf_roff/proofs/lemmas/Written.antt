@@ -11,7 +11,7 @@ use Rattle.bpaf_roff.specs.Steps.Output.{written}
 use Rattle.bpaf_roff.specs.declared.escape.Apostrophes.{Apostrophes}
 use Rattle.bpaf_roff.specs.declared.escape.Apostrophes.TheVariants.{Handle, DontHandle}
 use Rattle.bpaf_roff.specs.declared.escape.Escape.{Escape}
-use Rattle.bpaf_roff.proofs.lemmas.EscapedText.{text_after-append, piece_text, rendering-append}
+use Rattle.bpaf_roff.proofs.lemmas.EscapedText.{text_after-append, piece_text, renderings_go_on}
 use Rattle.bpaf_roff.proofs.lemmas.LineStarts.{text_after-push, text_after-written, is_line_start-after, signs-push}
 
 module _ (q : Apostrophes) (label : Escape) (before bytes : List ℕ) where
@@ -92,7 +92,7 @@ one_written q ps p =
     let so_far = rendering q ps in
     let x = is_line_start (escaped q ps) in
     ap text (ap (λ t. so_far ++ t) (text_after-written q (signs_of p) so_far x (after_preamble q (escaped q ps)) ∙ sym (text_after-written q (signs_of p) (escaped q ps) x refl)
-    ∙ ap (text_after q (escaped q ps)) (sym (append-nil (signs_of p)))) ∙ sym (rendering-append q ps (p ∷ [])))
+    ∙ ap (text_after q (escaped q ps)) (sym (append-nil (signs_of p)))) ∙ sym (renderings_go_on q ps (p ∷ [])))
 
 -- Pieces that are written behind the text of others come to the text of all.
 pub written_on : (q : Apostrophes) (ps more : List (Piece Escape)) → with_written (text_of q ps) more ≡ text_of q (ps ++ more)

@@ -258,6 +258,7 @@ fn put_at(
 
 /// Puts what a text becomes at the start of the room, and answers how many bytes these are.
 #[inline(always)]
+#[tactic(auto, using(crate::proofs::lemmas::Written::front_text_more))]
 pub fn fill(
     room: &mut [u8; ROOM],
     apostrophes: Apostrophes,
