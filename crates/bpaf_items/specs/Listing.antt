@@ -5,4 +5,3 @@ pub mod KeyInput
 pub mod Falls
 pub mod Groups
 pub mod ListLaws
-pub mod Stored

@@ -348,7 +348,8 @@ impl<'a, T, A: Allocator> IntoIterator for &'a FreeMonoid<T, A> {
 }
 
 impl<T: PartialEq, A: Allocator> PartialEq for FreeMonoid<T, A> {
-    ghost use Rattle.bpaf_roff.specs.Equality.{labelled_eq, labelled_per};
+    ghost use Rattle.bpaf_roff.specs.Equality.{labelled_eq};
+    ghost use Rattle.bpaf_roff.specs.Steps.Order.{labelled_per};
 
     ghost eq = { labelled_eq T.eq };
 
@@ -374,7 +375,7 @@ impl<T: PartialEq, A: Allocator> PartialEq for FreeMonoid<T, A> {
 }
 
 impl<T: Eq, A: Allocator> Eq for FreeMonoid<T, A> {
-    ghost use Rattle.bpaf_roff.specs.Equality.{labelled_equiv};
+    ghost use Rattle.bpaf_roff.specs.Steps.Order.{labelled_equiv};
 
     ghost laws = { labelled_equiv T.Eq.laws };
 }

@@ -5,7 +5,8 @@ use Rattle.std.specs.List.{list_any}
 use Rattle.std.proofs.lemmas.List.{map-append, take_more}
 use Rattle.std.proofs.lemmas.List.Folds.{list_any-append}
 use Rattle.bpaf_items.specs.declared.meta_help.key.ItemKey.{ItemKey}
-use Rattle.bpaf_items.specs.Listing.Keys.{keys_equiv, same_key}
+use Rattle.bpaf_items.specs.Listing.Keys.{same_key}
+use Rattle.bpaf_items.specs.Steps.KeyOrder.{keys_equiv}
 use Rattle.bpaf_items.specs.View.{key_in}
 use Rattle.description.specs.WebPages.Entries.{EntrySaid, each_once, entry_key, if_new, new_behind, same_entry}
 use Rattle.description.specs.WebPages.Steps.Once.{HasSeen}

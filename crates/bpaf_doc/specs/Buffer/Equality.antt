@@ -38,24 +38,6 @@ part_cmp = then_cmp (on kind_number nat_cmp) (then_cmp (on part_bytes (slice_cmp
 abbrev pub document_cmp : List Part → List Part → Ordering
 document_cmp = slice_cmp part_cmp
 
-pub documents_equiv : IsEquivalence same_document
-documents_equiv = lists_equiv (and_equiv (on_equiv kind_number nat_eq_equiv) (and_equiv (on_equiv part_bytes nat_list_eq_equiv) (on_equiv label_number nat_eq_equiv)))
-
-pub documents_total : IsTotalOrder document_cmp
-documents_total = lists_total (then_total (on_total kind_number nat_cmp_total) (then_total (on_total part_bytes nat_list_cmp_total) (on_total label_number nat_cmp_total)))
-
-part_tied : (x y : Part) → same_part x y ≡ eq_by_cmp part_cmp x y
-part_tied x y =
-    both_tied (kind_number x == kind_number y) (same_text (part_bytes x) (part_bytes y) && (label_number x == label_number y)) (nat_cmp (kind_number x) (kind_number y)) (then_cmp (on part_bytes (slice_cmp nat_cmp)) (on label_number nat_cmp) x y) (unsigned_ties (kind_number x) (kind_number y))
-    (both_tied (same_text (part_bytes x) (part_bytes y)) (label_number x == label_number y) (slice_cmp nat_cmp (part_bytes x) (part_bytes y)) (nat_cmp (label_number x) (label_number y)) (texts_ties (part_bytes x) (part_bytes y)) (unsigned_ties (label_number x) (label_number y)))
-
--- the order agrees with equality
-pub documents_tied : (ps qs : List Part) → same_document ps qs ≡ eq_by_cmp document_cmp ps qs
-documents_tied = lists_ties part_cmp part_tied
-
-pub documents_partial : IsPartialOrder same_document (as_partial_cmp document_cmp)
-documents_partial = partial_order_from_agreeing_total document_cmp documents_total (λ x y. refl) documents_tied
-
 -- two documents are equal exactly where they have the same parts
 abbrev pub IsEqualityOfParts : Type 0
 IsEqualityOfParts = (ps qs : List Part) → IsTrue (same_document ps qs) ↔ (ps ≡ qs)

@@ -23,7 +23,8 @@ fn is_same(left: &Part<'_>, right: &Part<'_>) -> bool
 
 impl<A: Allocator> PartialEq for Doc<A> {
     ghost use Rattle.std.specs.Cmp.{partial_equiv_from_equiv};
-    ghost use Rattle.bpaf_doc.specs.Buffer.Equality.{documents_equiv, same_document};
+    ghost use Rattle.bpaf_doc.specs.Buffer.Equality.{same_document};
+    ghost use Rattle.bpaf_doc.specs.Buffer.Steps.Order.{documents_equiv};
 
     ghost eq = { same_document };
 
@@ -46,7 +47,7 @@ impl<A: Allocator> PartialEq for Doc<A> {
 }
 
 impl<A: Allocator> Eq for Doc<A> {
-    ghost use Rattle.bpaf_doc.specs.Buffer.Equality.{documents_equiv};
+    ghost use Rattle.bpaf_doc.specs.Buffer.Steps.Order.{documents_equiv};
 
     ghost laws = { documents_equiv };
 }
@@ -73,7 +74,8 @@ fn part_order(left: &Part<'_>, right: &Part<'_>) -> Ordering
 
 impl<A: Allocator> PartialOrd for Doc<A> {
     ghost use Rattle.std.specs.Ordering.{as_partial_cmp};
-    ghost use Rattle.bpaf_doc.specs.Buffer.Equality.{document_cmp, documents_partial};
+    ghost use Rattle.bpaf_doc.specs.Buffer.Equality.{document_cmp};
+    ghost use Rattle.bpaf_doc.specs.Buffer.Steps.Order.{documents_partial};
 
     ghost partial_cmp = { as_partial_cmp document_cmp };
 
@@ -86,7 +88,8 @@ impl<A: Allocator> PartialOrd for Doc<A> {
 
 impl<A: Allocator> Ord for Doc<A> {
     ghost use Rattle.std.proofs.Common.{refl};
-    ghost use Rattle.bpaf_doc.specs.Buffer.Equality.{document_cmp, documents_tied, documents_total};
+    ghost use Rattle.bpaf_doc.specs.Buffer.Equality.{document_cmp};
+    ghost use Rattle.bpaf_doc.specs.Buffer.Steps.Order.{documents_tied, documents_total};
 
     ghost cmp = { document_cmp };
 

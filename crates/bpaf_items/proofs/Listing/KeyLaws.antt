@@ -10,7 +10,8 @@ use Rattle.bpaf_meta.specs.Content.{Name, short, long, both}
 use Rattle.bpaf_items.specs.declared.meta_help.entry.HiTy.{HiTy}
 use Rattle.bpaf_items.specs.declared.meta_help.entry.HiTy.TheVariants as ty
 use Rattle.bpaf_items.specs.contracts.meta_help.entry.HiTy as hity
-use Rattle.bpaf_items.specs.Listing.Keys.{Key, any_key, word_key, flag_key, argument_key, same_name, same_help, same_key, keys_equiv, keys_total, keys_tied, IsEqualityOfKeys, IsOrderOfKeys}
+use Rattle.bpaf_items.specs.Listing.Keys.{Key, any_key, word_key, flag_key, argument_key, same_name, same_help, same_key, IsEqualityOfKeys, IsOrderOfKeys}
+use Rattle.bpaf_items.specs.Steps.KeyOrder.{keys_equiv, keys_total, keys_tied}
 use Rattle.bpaf_items.specs.Listing.Falls.{same_type}
 use Rattle.bpaf_items.specs.Listing.ListLaws.{IsEqualityOfTypes}
 

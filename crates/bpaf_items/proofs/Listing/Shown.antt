@@ -7,7 +7,8 @@ use Rattle.std.proofs.lemmas.List.Folds.{list_any-append}
 use Rattle.std.proofs.lemmas.List.Sums.{sum_by-cons, get_or-le-sum_by}
 use Rattle.bpaf_meta.specs.Content.{Leaf}
 use Rattle.bpaf_items.specs.Listing.ItemList.{Entry, listed}
-use Rattle.bpaf_items.specs.Listing.Keys.{key_of, same_key, keys_equiv}
+use Rattle.bpaf_items.specs.Listing.Keys.{key_of, same_key}
+use Rattle.bpaf_items.specs.Steps.KeyOrder.{keys_equiv}
 use Rattle.bpaf_items.specs.Listing.Falls.{Placed, placed, placed_after, has_key_of, is_shown, shown_places, shown_entries}
 use Rattle.bpaf_items.specs.Listing.ListLaws.{KeyOnce}
 use Rattle.bpaf_items.proofs.Listing.Placing.{chosen-append, placed_entries, kept_map}

@@ -18,8 +18,9 @@ use Rattle.bpaf_doc.specs.Buffer.Writes.{with_writes}
 use Rattle.bpaf_meta.specs.Content.{Leaf}
 use Rattle.bpaf_meta.proofs.lemmas.Usage.Written.{with_writes-append}
 use Rattle.bpaf_items.specs.Listing.ItemList.{Entry, listed, note, group_start, group_end, adjacent_start, adjacent_stop}
-use Rattle.bpaf_items.specs.Listing.Keys.{Key, key_cmp, key_of, keys_equiv, keys_tied, entry_key, same_key}
-use Rattle.bpaf_items.specs.Listing.KeyInput.{key_fed}
+use Rattle.bpaf_items.specs.Listing.Keys.{Key, key_cmp, key_of, entry_key, same_key}
+use Rattle.bpaf_items.specs.Steps.KeyOrder.{keys_equiv, keys_tied}
+use Rattle.bpaf_items.specs.Steps.KeyFed.{key_fed}
 use Rattle.bpaf_items.specs.Listing.Falls.{Placed, placed, is_mark, has_key_of, is_mark_or_new, is_shown, shown_entries}
 use Rattle.bpaf_items.specs.Page.EnvTexts.{Texts}
 use Rattle.bpaf_items.specs.Page.EntryWrites.{entry_writes}

@@ -28,7 +28,7 @@ pub enum State {
 impl<'a, 's, A: Allocator> Model for HelpItemsIter<'a, 's, A> {
     ghost use Rattle.std.specs.Prelude.{List, drop, map};
     ghost use Rattle.bpaf_items.specs.Listing.ItemList.{Entry};
-    ghost use Rattle.bpaf_items.specs.Listing.Stored.{entries_code};
+    ghost use Rattle.bpaf_items.specs.Steps.Stored.{entries_code};
     ghost use Rattle.bpaf_items.specs.Steps.Given.{given_from};
     ghost use Rattle.bpaf_items.specs.View.{entry_of};
 

@@ -44,7 +44,8 @@ impl<'a, A: Allocator> Copy for ItemKey<'a, A> {}
 impl<'a, A: Allocator> PartialEq for ItemKey<'a, A> {
     ghost use Rattle.std.specs.Ordering.{on};
     ghost use Rattle.std.specs.Cmp.{on_equiv, partial_equiv_from_equiv};
-    ghost use Rattle.bpaf_items.specs.Listing.Keys.{keys_equiv, same_key};
+    ghost use Rattle.bpaf_items.specs.Listing.Keys.{same_key};
+    ghost use Rattle.bpaf_items.specs.Steps.KeyOrder.{keys_equiv};
     ghost use Rattle.bpaf_items.specs.View.{key_in};
 
     ghost eq = { on key_in same_key };
@@ -81,7 +82,7 @@ impl<'a, A: Allocator> PartialEq for ItemKey<'a, A> {
 
 impl<'a, A: Allocator> Eq for ItemKey<'a, A> {
     ghost use Rattle.std.specs.Cmp.{on_equiv};
-    ghost use Rattle.bpaf_items.specs.Listing.Keys.{keys_equiv};
+    ghost use Rattle.bpaf_items.specs.Steps.KeyOrder.{keys_equiv};
     ghost use Rattle.bpaf_items.specs.View.{key_in};
 
     ghost laws = { on_equiv key_in keys_equiv };
@@ -90,7 +91,8 @@ impl<'a, A: Allocator> Eq for ItemKey<'a, A> {
 impl<'a, A: Allocator> PartialOrd for ItemKey<'a, A> {
     ghost use Rattle.std.specs.Ordering.{as_partial_cmp, on};
     ghost use Rattle.std.specs.Cmp.{on_po};
-    ghost use Rattle.bpaf_items.specs.Listing.Keys.{key_cmp, keys_partial};
+    ghost use Rattle.bpaf_items.specs.Listing.Keys.{key_cmp};
+    ghost use Rattle.bpaf_items.specs.Steps.KeyOrder.{keys_partial};
     ghost use Rattle.bpaf_items.specs.View.{key_in};
 
     ghost partial_cmp = { as_partial_cmp (on key_in key_cmp) };
@@ -106,7 +108,8 @@ impl<'a, A: Allocator> Ord for ItemKey<'a, A> {
     ghost use Rattle.std.proofs.Common.{refl};
     ghost use Rattle.std.specs.Ordering.{on};
     ghost use Rattle.std.specs.Cmp.{on_total};
-    ghost use Rattle.bpaf_items.specs.Listing.Keys.{key_cmp, keys_tied, keys_total};
+    ghost use Rattle.bpaf_items.specs.Listing.Keys.{key_cmp};
+    ghost use Rattle.bpaf_items.specs.Steps.KeyOrder.{keys_tied, keys_total};
     ghost use Rattle.bpaf_items.specs.View.{key_in};
 
     ghost cmp = { on key_in key_cmp };
@@ -149,7 +152,8 @@ impl<'a, A: Allocator> Ord for ItemKey<'a, A> {
 }
 
 impl<'a, A: Allocator> Hash for ItemKey<'a, A> {
-    ghost use Rattle.bpaf_items.specs.Listing.KeyInput.{key_fed, key_input};
+    ghost use Rattle.bpaf_items.specs.Listing.KeyInput.{key_input};
+    ghost use Rattle.bpaf_items.specs.Steps.KeyFed.{key_fed};
     ghost use Rattle.bpaf_items.specs.View.{key_in};
 
     ghost hash_input = { λ key. key_input (key_in key) };

@@ -27,7 +27,7 @@ pub struct HelpItems<'a, A: Allocator = Global, L: Allocator = Global> {
 impl<'a, A: Allocator, L: Allocator> Model for HelpItems<'a, A, L> {
     ghost use Rattle.std.specs.Prelude.{List, map};
     ghost use Rattle.bpaf_items.specs.Listing.ItemList.{Entry, IsItemList};
-    ghost use Rattle.bpaf_items.specs.Listing.Stored.{entries_code};
+    ghost use Rattle.bpaf_items.specs.Steps.Stored.{entries_code};
     ghost use Rattle.bpaf_items.specs.View.{entry_of};
 
     ghost Value = { List Entry };

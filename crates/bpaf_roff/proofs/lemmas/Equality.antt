@@ -6,7 +6,8 @@ use Rattle.std.specs.Cmp.{IsEquivalence}
 use Rattle.std.specs.Cmp.Lexicographic.{pointwise, bytes_decides}
 use Rattle.std.proofs.Common.{sym, ap, subst, ◌∙◌}
 use Rattle.bpaf_roff.specs.Pieces.{Piece, Labelled, no_pieces, sum_of}
-use Rattle.bpaf_roff.specs.Equality.{IsSamePiece, piece_eq, labelled_eq, labelled_equiv}
+use Rattle.bpaf_roff.specs.Equality.{IsSamePiece, piece_eq, labelled_eq}
+use Rattle.bpaf_roff.specs.Steps.Order.{labelled_equiv}
 use Rattle.std.proofs.lemmas.List.Elements.{same_from_all_zip}
 use Rattle.bpaf_roff.proofs.lemmas.Sums.{sum_of-none_right}
 

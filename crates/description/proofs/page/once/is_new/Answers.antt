@@ -2,7 +2,8 @@ use Rattle.std.proofs.Common.{◌≡◌, Bool, ◌∙◌}
 use Rattle.std.specs.Ordering.{eq_by_cmp}
 use Rattle.std.specs.declared.cmp.Ordering.{Ordering}
 use Rattle.bpaf_items.specs.declared.meta_help.key.ItemKey.{ItemKey}
-use Rattle.bpaf_items.specs.Listing.Keys.{key_cmp, keys_tied, same_key}
+use Rattle.bpaf_items.specs.Listing.Keys.{key_cmp, same_key}
+use Rattle.bpaf_items.specs.Steps.KeyOrder.{keys_tied}
 use Rattle.bpaf_items.specs.View.{key_in}
 use Rattle.bpaf_items.proofs.Listing.KeyLaws.{equality_of_keys}
 use Rattle.description.specs.WebPages.View.{entry_said}

@@ -1,5 +1,6 @@
 use Rattle.std.proofs.Common.{ap, ◌∙◌}
-use Rattle.bpaf_items.specs.Listing.Keys.{keys_equiv, same_key}
+use Rattle.bpaf_items.specs.Listing.Keys.{same_key}
+use Rattle.bpaf_items.specs.Steps.KeyOrder.{keys_equiv}
 use Rattle.description.specs.WebPages.Entries.{entry_key}
 use Rattle.description.specs.WebPages.View.{entry_said}
 use Rattle.description.proofs.page.once.with_item.Goals as goal

@@ -1,0 +1,30 @@
+-- The laws of the equality and the order of documents, which their implementations cite.
+use Rattle.std.specs.Prelude.{◌≡◌, ℕ, ◌&&◌, ◌==◌, ◌↔◌, IsTrue, refl, Bool, List, nat_eq}
+use Rattle.std.specs.Ordering.{nat_cmp, on, then_cmp, eq_of_both, eq_by_cmp, as_partial_cmp}
+use Rattle.std.specs.Cmp.Lexicographic.{slice_cmp, pointwise, lists_ties, texts_ties}
+use Rattle.std.specs.Cmp.{IsEquivalence, IsTotalOrder, IsPartialOrder, partial_order_from_agreeing_total, unsigned_ties, both_tied}
+use Rattle.std.proofs.lemmas.Cmp.{lists_equiv, and_equiv, on_equiv, nat_eq_equiv, nat_list_eq_equiv, lists_total, then_total, on_total, nat_cmp_total, nat_list_cmp_total}
+use Rattle.std.specs.declared.cmp.Ordering.{Ordering}
+use denote.Enum.Declared.{tag_of}
+use Rattle.bpaf_doc.specs.contracts.buffer.Style as style
+use Rattle.bpaf_doc.specs.contracts.buffer.Block as block
+use Rattle.bpaf_doc.specs.Buffer.Parts.{Part, Text, Start, End, part_bytes}
+use Rattle.bpaf_doc.specs.Buffer.Equality.{kind_number, label_number, same_text, same_part, same_document, part_cmp, document_cmp}
+
+pub documents_equiv : IsEquivalence same_document
+documents_equiv = lists_equiv (and_equiv (on_equiv kind_number nat_eq_equiv) (and_equiv (on_equiv part_bytes nat_list_eq_equiv) (on_equiv label_number nat_eq_equiv)))
+
+pub documents_total : IsTotalOrder document_cmp
+documents_total = lists_total (then_total (on_total kind_number nat_cmp_total) (then_total (on_total part_bytes nat_list_cmp_total) (on_total label_number nat_cmp_total)))
+
+part_tied : (x y : Part) → same_part x y ≡ eq_by_cmp part_cmp x y
+part_tied x y =
+    both_tied (kind_number x == kind_number y) (same_text (part_bytes x) (part_bytes y) && (label_number x == label_number y)) (nat_cmp (kind_number x) (kind_number y)) (then_cmp (on part_bytes (slice_cmp nat_cmp)) (on label_number nat_cmp) x y) (unsigned_ties (kind_number x) (kind_number y))
+    (both_tied (same_text (part_bytes x) (part_bytes y)) (label_number x == label_number y) (slice_cmp nat_cmp (part_bytes x) (part_bytes y)) (nat_cmp (label_number x) (label_number y)) (texts_ties (part_bytes x) (part_bytes y)) (unsigned_ties (label_number x) (label_number y)))
+
+-- the order agrees with equality
+pub documents_tied : (ps qs : List Part) → same_document ps qs ≡ eq_by_cmp document_cmp ps qs
+documents_tied = lists_ties part_cmp part_tied
+
+pub documents_partial : IsPartialOrder same_document (as_partial_cmp document_cmp)
+documents_partial = partial_order_from_agreeing_total document_cmp documents_total (λ x y. refl) documents_tied
