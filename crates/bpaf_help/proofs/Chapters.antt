@@ -1,5 +1,5 @@
 -- The commands of an item list are those of the tree.
-use Rattle.std.proofs.Common.{◌≡◌, Bool, true, false, ℕ, List, [], ◌∷◌, ◌++◌, refl, sym, ap, ◌∙◌}
+use Rattle.std.proofs.Common.{◌≡◌, Bool, true, false, ℕ, List, [], ◌∷◌, ◌++◌, refl, sym, ◌∙◌, arith}
 use Rattle.std.specs.Prelude.{Option, Some, None, flat_map}
 use Rattle.std.proofs.lemmas.List.{append-nil}
 use Rattle.std.proofs.lemmas.Grind.{flat_map-append}
@@ -10,34 +10,9 @@ use Rattle.bpaf_items.specs.declared.meta_help.entry.HiTy.{HiTy}
 use Rattle.bpaf_items.specs.Listing.ItemList.{Entry, note, group_end, adjacent_stop, front_type, first_front_type, item_entries, adjacent_entries, group_entries, noted_entries, entries_with_type, entries_of, entries_of_parts}
 use Rattle.bpaf_help.specs.Chapters.{Chapter, command_chapters, part_chapters, item_chapters, entry_chapters, ChaptersAreListed}
 
-mutual
-  no_chapters : (path : List (List ℕ)) (t : Tree) → front_type t ≡ None → command_chapters path t ≡ []
-  no_chapters path (and_of ts) e = no_part_chapters path ts e
-  no_chapters path (or_of ts) e = no_part_chapters path ts e
-  no_chapters path (optional t) e = no_chapters path t e
-  no_chapters path (required t) e = no_chapters path t e
-  no_chapters path (adjacent t) e = no_chapters path t e
-  no_chapters path (item l) e = cc
-  no_chapters path (many t) e = no_chapters path t e
-  no_chapters path (subsection t d) e = no_chapters path t e
-  no_chapters path (suffix t d) e = no_chapters path t e
-  no_chapters path skip e = refl
-  no_chapters path (custom_usage t d) e = no_chapters path t e
-  no_chapters path (strict t) e = no_chapters path t e
-
-  no_part_chapters : (path : List (List ℕ)) (ts : Trees) → first_front_type ts ≡ None → part_chapters path ts ≡ []
-  no_part_chapters path no_trees e = refl
-  no_part_chapters path (tree t ts) e =
-      let front : command_chapters path t ≡ [] = no_chapters path t (none_first (front_type t) (first_front_type ts) e) in
-      let rest : part_chapters path ts ≡ [] = no_part_chapters path ts (none_second (front_type t) (first_front_type ts) e) in
-      rw (front, rest) refl
-
 -- the chapters of a list with one entry after it that is no command
 marked : (path : List (List ℕ)) (es : List Entry) (e : Entry) → entry_chapters path e ≡ [] → flat_map (entry_chapters path) (es ++ e ∷ []) ≡ flat_map (entry_chapters path) es
-marked path es e none =
-    let front : List Chapter = flat_map (entry_chapters path) es in
-    let rest : flat_map (entry_chapters path) (e ∷ []) ≡ [] = ap (λ x. x ++ []) none in
-    flat_map-append (entry_chapters path) es (e ∷ []) ∙ ap (λ x. front ++ x) rest ∙ append-nil front
+marked path es e none = grind (arith, flat_map-append, append-nil)
 
 item_list_chapters : (path : List (List ℕ)) (l : Leaf) → flat_map (entry_chapters path) (item_entries l) ≡ item_chapters path l
 item_list_chapters path (any m a h) = refl
@@ -63,25 +38,36 @@ typed_chapters : (path : List (List ℕ)) (o : Option HiTy) (es : List Entry) (s
 typed_chapters path None es ss f e = sym (f refl)
 typed_chapters path (Some k) es ss f e = e
 
-mutual
-  list_chapters : (path : List (List ℕ)) (g : Bool) (t : Tree) → flat_map (entry_chapters path) (entries_of g t) ≡ command_chapters path t
-  list_chapters path g (and_of ts) = parts_chapters path g ts
-  list_chapters path g (or_of ts) = parts_chapters path g ts
-  list_chapters path g (optional t) = list_chapters path g t
-  list_chapters path g (required t) = list_chapters path g t
-  list_chapters path g (adjacent t) = adjacent_chapters path (front_type t) t (entries_of g t) (command_chapters path t) (no_chapters path t) (list_chapters path g t)
-  list_chapters path g (item l) = item_list_chapters path l
-  list_chapters path g (many t) = list_chapters path g t
-  list_chapters path true (subsection t d) = group_chapters path (front_type t) d (entries_of false t) (command_chapters path t) (no_chapters path t) (list_chapters path false t)
-  list_chapters path false (subsection t d) = typed_chapters path (front_type t) (entries_of false t) (command_chapters path t) (no_chapters path t) (list_chapters path false t)
-  list_chapters path g (suffix t d) = noted_chapters path (front_type t) d (entries_of g t) (command_chapters path t) (no_chapters path t) (list_chapters path g t)
-  list_chapters path g skip = refl
-  list_chapters path g (custom_usage t d) = list_chapters path g t
-  list_chapters path g (strict t) = list_chapters path g t
+block_chapters : (path : List (List ℕ)) (g : Bool) (t : Tree) (d : List Part) → (front_type t ≡ None → command_chapters path t ≡ []) → flat_map (entry_chapters path) (entries_of false t) ≡ command_chapters path t
+    → flat_map (entry_chapters path) (entries_of g (subsection t d)) ≡ command_chapters path t
+block_chapters path true t d f e = group_chapters path (front_type t) d (entries_of false t) (command_chapters path t) f e
+block_chapters path false t d f e = typed_chapters path (front_type t) (entries_of false t) (command_chapters path t) f e
 
-  parts_chapters : (path : List (List ℕ)) (g : Bool) (ts : Trees) → flat_map (entry_chapters path) (entries_of_parts g ts) ≡ part_chapters path ts
-  parts_chapters path g no_trees = refl
-  parts_chapters path g (tree t ts) = flat_map-append (entry_chapters path) (entries_of g t) (entries_of_parts g ts) ∙ ap (λ x. x ++ flat_map (entry_chapters path) (entries_of_parts g ts)) (list_chapters path g t) ∙ ap (λ x. command_chapters path t ++ x) (parts_chapters path g ts)
+mutual
+  -- and there are none where no entry is a command
+  tree_chapters : (path : List (List ℕ)) (t : Tree) → (front_type t ≡ None → command_chapters path t ≡ []) × ((g : Bool) → flat_map (entry_chapters path) (entries_of g t) ≡ command_chapters path t)
+  tree_chapters path (and_of ts) = parts_chapters path ts
+  tree_chapters path (or_of ts) = parts_chapters path ts
+  tree_chapters path (optional t) = tree_chapters path t
+  tree_chapters path (required t) = tree_chapters path t
+  tree_chapters path (adjacent t) =
+      let h = tree_chapters path t in (h.0, λ g. adjacent_chapters path (front_type t) t (entries_of g t) (command_chapters path t) h.0 (h.1 g))
+  tree_chapters path (item l) = (λ e. cc, λ g. item_list_chapters path l)
+  tree_chapters path (many t) = tree_chapters path t
+  tree_chapters path (subsection t d) =
+      let h = tree_chapters path t in (h.0, λ g. block_chapters path g t d h.0 (h.1 false))
+  tree_chapters path (suffix t d) =
+      let h = tree_chapters path t in (h.0, λ g. noted_chapters path (front_type t) d (entries_of g t) (command_chapters path t) h.0 (h.1 g))
+  tree_chapters path skip = (λ e. refl, λ g. refl)
+  tree_chapters path (custom_usage t d) = tree_chapters path t
+  tree_chapters path (strict t) = tree_chapters path t
+
+  parts_chapters : (path : List (List ℕ)) (ts : Trees) → (first_front_type ts ≡ None → part_chapters path ts ≡ []) × ((g : Bool) → flat_map (entry_chapters path) (entries_of_parts g ts) ≡ part_chapters path ts)
+  parts_chapters path no_trees = (λ e. refl, λ g. refl)
+  parts_chapters path (tree t ts) = (
+    λ e. rw ((tree_chapters path t).0 (none_first (front_type t) (first_front_type ts) e), (parts_chapters path ts).0 (none_second (front_type t) (first_front_type ts) e)) refl,
+    λ g. rw (flat_map-append (entry_chapters path) (entries_of g t) (entries_of_parts g ts), (tree_chapters path t).1 g, (parts_chapters path ts).1 g) refl,
+  )
 
 pub chapters_are_listed : ChaptersAreListed
-chapters_are_listed path t = list_chapters path true t
+chapters_are_listed path t = (tree_chapters path t).1 true

@@ -1,8 +1,8 @@
 -- The steps of the code, one after another.
 use Rattle.std.proofs.Common.{◌≡◌, ◌≢◌, ℕ, ◌+◌, ◌<◌, ◌≤◌, Bool, false, suc, zero, List, [], ◌∷◌, ◌++◌, map, take, drop, length, refl, sym, ap, ◌∙◌, subst, inl, inr, append_assoc, append-nil, get_or, arith, Result, Ok, Err, rules}
-use Rattle.std.specs.Prelude.{flat_map, count_by, Option, Some, None, IfErr, IfOk, OnOk, unwrap_or, encode_utf8, codes}
+use Rattle.std.specs.Prelude.{flat_map, Option, Some, IfErr, IfOk, OnOk, unwrap_or, encode_utf8, codes}
 use Rattle.std.specs.Borrow.{Bor}
-use Rattle.std.specs.List.{join_with_byte, range_with_len}
+use Rattle.std.specs.List.{join_with_byte}
 use Rattle.std.specs.Bool.{nat_lt}
 use Rattle.std.specs.Result.{IsErrAnd}
 use Rattle.std.proofs.lemmas.Bool.{lt-ltb, ne_eqb, cases_eq}
@@ -16,15 +16,14 @@ use Rattle.bpaf_doc.specs.Manpage.Reader.{Control}
 use Rattle.bpaf_doc.specs.Manpage.Page.{TakesDocument, IsPageOf, IsManualPageOf, TitlePageTakesDocument, TitledPageIsManualPage, title_page}
 use Rattle.bpaf_doc.specs.Buffer.Writes.{Write, start, end, plain, inside, doc_writes, path_writes, with_writes, document_of}
 use Rattle.bpaf_doc.proofs.lemmas.Buffer.Nesting.{with_writes-inside}
-use Rattle.bpaf_meta.specs.Content.{Tree, any, positional, command, flag, argument, Head, head}
+use Rattle.bpaf_meta.specs.Content.{Tree, flag, argument, Head, head}
 use Rattle.bpaf_meta.specs.declared.item.Item.{the_lemmas}
 use Rattle.bpaf_meta.specs.declared.meta_help.Info.{Info}
 use Rattle.bpaf_meta.specs.View.{head_of, tree_of, text_of}
-use Rattle.bpaf_items.specs.declared.meta_help.entry.HiTy.TheVariants as ty
 use Rattle.bpaf_items.specs.declared.meta_help.error.HelpError.{HelpError}
 use Rattle.bpaf_items.specs.declared.meta_help.error.HelpError.TheVariants as error
-use Rattle.bpaf_items.specs.Listing.ItemList.{Entry, listed, note, group_start, group_end, adjacent_start, adjacent_stop, item_list}
-use Rattle.bpaf_items.specs.Listing.Falls.{shown_entries, group_members, heading_members, is_group_start}
+use Rattle.bpaf_items.specs.Listing.ItemList.{Entry, listed, item_list}
+use Rattle.bpaf_items.specs.Listing.Falls.{shown_entries}
 use Rattle.bpaf_items.specs.Page.EnvTexts.{Texts, no_texts}
 use Rattle.bpaf_items.specs.Page.EntryWrites.{entry_writes}
 use Rattle.bpaf_items.specs.Page.HelpPage.{list_writes, heading_writes, groups_writes, doc_within, help_page_writes, help_tree}
@@ -38,8 +37,7 @@ use Rattle.bpaf_help.specs.Steps.{manual_part, manual_front, manual_list, manual
 -- the next of some that are copied
 pub copied_next : {X Y Z : Type 0} (f : X → Z) (g : Y → Z) (old new : List X) (x : X) (ys : List Y) (i : ℕ) (y : Y) → i < length ys → y ≡ get_or ys i y → f x ≡ g y
     → new ≡ old ++ x ∷ [] → map f old ≡ map g (take i ys) → map f new ≡ map g (take (i + 1) ys)
-copied_next f g old new x ys i y within is same e h =
-    ap (map f) e ∙ map-append f old (x ∷ []) ∙ ap (λ zs. zs ++ f x ∷ []) h ∙ ap (λ z. map g (take i ys) ++ z ∷ []) same ∙ sym (map_next g ys i y within is)
+copied_next f g old new x ys i y within is same e h = grind (arith, map-append, map_next)
 
 -- names with a character between them are the first, and then each other behind the character
 pub joined_writes : {X : Type 0} (bytes : X → List ℕ) (c : ℕ) (x : X) (xs : List X) → join_with_byte c (map bytes (x ∷ xs)) ≡ bytes x ++ flat_map (λ y. c ∷ bytes y) xs
@@ -49,8 +47,7 @@ joined_writes bytes c x (y ∷ ys) = ap (λ bs. bytes x ++ c ∷ bs) (joined_wri
 -- so many of the others as were gone through, which are all
 pub joined_names : {X : Type 0} (bytes : X → List ℕ) (c : ℕ) (all : List X) (first : X) (others done : List X) (begun text : List ℕ)
     → all ≡ first ∷ others → done ≡ others → begun ≡ bytes first → text ≡ begun ++ flat_map (λ y. c ∷ bytes y) done → text ≡ join_with_byte c (map bytes all)
-joined_names bytes c all first others done begun text is whole b e =
-    e ∙ ap (λ x. x ++ flat_map (λ y. c ∷ bytes y) done) b ∙ ap (λ ys. bytes first ++ flat_map (λ y. c ∷ bytes y) ys) whole ∙ sym (joined_writes bytes c first others) ∙ ap (λ xs. join_with_byte c (map bytes xs)) (sym is)
+joined_names bytes c all first others done begun text is whole b e = grind (arith, joined_writes)
 
 no_blank : (bs : List ℕ) → ((k : ℕ) → k < length bs → get_or bs k 0 ≢ 32) → map dashed_byte bs ≡ bs
 no_blank [] p = refl
@@ -71,12 +68,7 @@ dashed_character c = elim (cases_eq c 32) [ inl e ↦ at e | inr ne ↦ other ne
 
 -- the next character of a text that is written with dashes
 pub dashed_step : (out more rest after whole : List ℕ) (c d : ℕ) → rest ≡ encode_utf8 c ++ after → d ≡ dashed_byte c → out ++ map dashed_byte rest ≡ whole → more ≡ out ++ encode_utf8 d → more ++ map dashed_byte after ≡ whole
-dashed_step out more rest after whole c d e f w m =
-    ap (λ x. x ++ map dashed_byte after) (m ∙ ap (λ x. out ++ encode_utf8 x) f ∙ ap (λ x. out ++ x) (sym (dashed_character c)))
-    ∙ append_assoc out (map dashed_byte (encode_utf8 c)) (map dashed_byte after)
-    ∙ ap (λ x. out ++ x) (sym (map-append dashed_byte (encode_utf8 c) after))
-    ∙ ap (λ x. out ++ map dashed_byte x) (sym e)
-    ∙ w
+dashed_step out more rest after whole c d e f w m = grind (arith, dashed_character, append_assoc, map-append)
 
 pub dashed_end : (out rest whole : List ℕ) → length rest ≡ 0 → out ++ map dashed_byte rest ≡ whole → out ≡ whole
 dashed_end out [] whole n w = sym (append-nil out) ∙ w
@@ -111,11 +103,7 @@ pub synopsis_put : {X T E : Type 0} (f : X → Chapter) (xs : List X) (r : Resul
     → d3 ≡ with_writes d2 (flat_map synopsis_line (map f xs))
     → OnOk r (d4 ≡ with_writes d3 (end block.Meta ∷ []))
     → OnOk r (d4 ≡ with_writes d0 (if_many (map f xs) (synopsis_writes (map f xs))))
-synopsis_put f xs (Ok x) d0 d1 d2 d3 d4 h e g k l =
-    let lines = flat_map synopsis_line (map f xs) in
-    let title : List Write = inside block.Block (inside block.Header (plain (codes "SYNOPSIS") ∷ [])) in
-    written_then d0 d1 d4 title (inside block.Meta lines) e (written_then d1 d3 d4 (start block.Meta ∷ lines) (end block.Meta ∷ []) (written_then d1 d2 d3 (start block.Meta ∷ []) lines g k) l)
-    ∙ ap (with_writes d0) (sym (many_writes f xs (synopsis_writes (map f xs)) h))
+synopsis_put f xs (Ok x) d0 d1 d2 d3 d4 h e g k l = grind (arith, written_then, many_writes)
 synopsis_put f xs (Err x) d0 d1 d2 d3 d4 h e g k l = tt
 
 -- a chapter of the manual page, by whether there are two or more
@@ -128,18 +116,9 @@ many_parts app (c ∷ d ∷ cs) = ap (λ b. flat_map (manual_part app b) (c ∷ 
 
 -- an entry shows no text then
 entry_alone : (t u : Texts) (e : Entry) → entry_writes false t e ≡ entry_writes false u e
-entry_alone t u (listed (any m a h)) = refl
-entry_alone t u (listed (positional m h)) = refl
-entry_alone t u (listed (command n c h m i)) = refl
-entry_alone t u (listed (flag n s None h)) = refl
 entry_alone t u (listed (flag n s (Some v) h)) = refl
-entry_alone t u (listed (argument n s m None h)) = refl
 entry_alone t u (listed (argument n s m (Some v) h)) = refl
-entry_alone t u (note d k) = refl
-entry_alone t u (group_start d k) = refl
-entry_alone t u (group_end k) = refl
-entry_alone t u (adjacent_start m k) = refl
-entry_alone t u (adjacent_stop k) = refl
+entry_alone t u e = refl
 
 list_alone : (t u : Texts) (es : List Entry) → list_writes false t es ≡ list_writes false u es
 list_alone t u es = flat_map_same (entry_writes false t) (entry_writes false u) (entry_alone t u) (shown_entries es)
@@ -149,13 +128,7 @@ heading_alone t u title [] = refl
 heading_alone t u title (e ∷ es) = rw (list_alone t u (e ∷ es)) refl
 
 pub groups_alone : (t u : Texts) (es : List Entry) → groups_writes false t es ≡ groups_writes false u es
-groups_alone t u es =
-    rw (
-      flat_map_same (λ n. list_writes false t (group_members es n)) (λ n. list_writes false u (group_members es n)) (λ n. list_alone t u (group_members es n)) (range_with_len 1 (count_by is_group_start es)),
-      heading_alone t u (codes "Available positional items:") (heading_members es ty.Positional),
-      heading_alone t u (codes "Available options:") (heading_members es ty.Flag),
-      heading_alone t u (codes "Available commands:") (heading_members es ty.Command),
-    ) refl
+groups_alone t u es = grind (arith, flat_map_same, list_alone, heading_alone)
 
 -- so the groups that were put behind a document
 pub groups_put : {T E : Type 0} (r : Result T E) (before now : List Part) (es fs : List Entry) (t : Texts) → es ≡ fs → OnOk r (now ≡ with_writes before (groups_writes false t es)) → OnOk r (now ≡ with_writes before (groups_writes false no_texts fs))
@@ -193,12 +166,7 @@ chapter_put (Err x) app many path t i d0 d1 d2 d3 d4 e f g h = tt
 
 pub manual_whole : (app : List ℕ) (t : Tree) (i : Head) (cs : List Chapter) (many : Bool) (first d1 d2 : List Part) → first ≡ [] → cs ≡ chapters_of (app ∷ []) i t → many ≡ nat_lt 1 (length cs)
     → d1 ≡ with_writes first (if_many cs (synopsis_writes cs)) → d2 ≡ with_writes d1 (flat_map (manual_part app many) cs) → d2 ≡ document_of (manual_writes app t i)
-manual_whole app t i cs many first d1 d2 none is m e f =
-    written_then first d1 d2 (if_many cs (synopsis_writes cs)) (flat_map (manual_part app many) cs) e f
-    ∙ ap (λ ps. with_writes ps (if_many cs (synopsis_writes cs) ++ flat_map (manual_part app many) cs)) none
-    ∙ ap (λ b. document_of (if_many cs (synopsis_writes cs) ++ flat_map (manual_part app b) cs)) m
-    ∙ ap (λ ws. document_of (if_many cs (synopsis_writes cs) ++ ws)) (many_parts app cs)
-    ∙ ap (λ xs. document_of (if_many xs (synopsis_writes xs) ++ flat_map (λ c. if_many xs (inside block.Header (path_writes c.path)) ++ manual_chapter app c.path c.content c.info) xs)) is
+manual_whole app t i cs many first d1 d2 none is m e f = grind (arith, written_then, many_parts)
 
 pub collected_whole : (app : List ℕ) (t : Tree) (i : Head) (cs : List Chapter) (first d1 d2 : List Part) → first ≡ [] → cs ≡ chapters_of (app ∷ []) i t
     → d1 ≡ with_writes first (if_many cs (summary_writes cs)) → d2 ≡ with_writes d1 (flat_map chapter_page cs) → d2 ≡ document_of (collected_writes app t i)
@@ -223,9 +191,7 @@ err_same P (Err y) e h p = subst P (sym h) p
 pub at_place : {X Y : Type 0} (f : X → Y) (xs : List X) (i : ℕ) (x : X) → i < length xs → x ≡ get_or xs i x → map f xs ≡ map f (take i xs) ++ f x ∷ map f (drop (i + 1) xs)
 at_place f [] i x within is = absurd (omega arith)
 at_place f (y ∷ ys) zero x within is = ap (λ z. f z ∷ map f ys) (sym is)
-at_place f (y ∷ ys) (suc i) x within is =
-    let e : suc i + 1 ≡ suc (i + 1) = omega arith in
-    rw e (ap (λ zs. f y ∷ zs) (at_place f ys i x (omega arith) is))
+at_place f (y ∷ ys) (suc i) x within is = grind (arith, at_place f ys i x (omega arith) is)
 
 -- the help page of a chapter
 own_writes : {A : Type 0} (path : List (List ℕ)) (i : Info A) (t : Tree) (texts : Texts)
@@ -247,8 +213,7 @@ page_put (Err x) path i t texts d0 d1 d2 d3 e f h = tt
 
 -- a given text, or another in its place
 pub given_text : (o : Option (Bor (List ℕ))) (d r : Bor (List ℕ)) → r ≡ unwrap_or o d → r.now ≡ unwrap_or (text_of o) d.now
-given_text None d r e = ap (λ t. t.now) e
-given_text (Some t) d r e = ap (λ t. t.now) e
+given_text o d r e = grind arith
 
 pub same_words : (a : List ℕ) {s t d e v w x y : List ℕ} → s ≡ t → d ≡ e → v ≡ w → x ≡ y → a ∷ s ∷ d ∷ v ∷ x ∷ [] ≡ a ∷ t ∷ e ∷ w ∷ y ∷ []
 same_words a p q r u = rw (p, q, r, u) refl

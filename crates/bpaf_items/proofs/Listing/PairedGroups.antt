@@ -1,5 +1,5 @@
 -- The groups of an item list, one after another, and what falls under each.
-use Rattle.std.proofs.Common.{◌≡◌, ℕ, ◌+◌, ◌≤◌, ◌==◌, Bool, true, false, not, ◌&&◌, ◌||◌, ◌⊎◌, inl, inr, List, [], ◌∷◌, ◌++◌, map, refl, sym, ap, ◌∙◌, subst, append_assoc, append-nil, arith}
+use Rattle.std.proofs.Common.{◌≡◌, ℕ, ◌+◌, ◌≤◌, ◌==◌, Bool, true, false, ◌&&◌, ◌||◌, ◌⊎◌, inl, inr, List, [], ◌∷◌, ◌++◌, map, refl, sym, ap, ◌∙◌, subst, append_assoc, append-nil, arith}
 use Rattle.std.specs.Prelude.{if◌then◌else◌, filter, count_by, All, Option, Some}
 use Rattle.std.specs.List.{list_any}
 use Rattle.std.proofs.Math.Bool.{and-false}
@@ -9,7 +9,7 @@ use Rattle.std.proofs.lemmas.List.Folds.{list_any-append}
 use Rattle.bpaf_doc.specs.Buffer.Parts.{Part}
 use Rattle.bpaf_items.specs.declared.meta_help.entry.HiTy.{HiTy}
 use Rattle.bpaf_items.specs.Listing.ItemList.{Entry, group_start, group_end, adjacent_start, adjacent_stop}
-use Rattle.bpaf_items.specs.Listing.Falls.{Placed, placed_after, group, heading, nowhere, lacks_help, type_of, is_mark, is_group_mark, is_group_start, is_group_end, is_adjacent_mark, is_group_open, is_in_group, is_adjacent_in_group, last_that, outside_groups, heading_after, destination, is_group}
+use Rattle.bpaf_items.specs.Listing.Falls.{Placed, placed_after, lacks_help, is_mark, is_group_mark, is_group_start, is_group_end, is_adjacent_mark, is_group_open, is_in_group, heading_after, destination, is_group}
 use Rattle.bpaf_items.specs.Listing.Groups.{HasPairedGroups, empty, outer, whole, stays}
 use Rattle.bpaf_items.proofs.Listing.Placing.{entry, chosen-append, two_kept}
 use Rattle.bpaf_items.proofs.Listing.Blocks.{Blocks, none, plain, block, grouped, joined}
@@ -50,23 +50,14 @@ pub members_after-append : (before es fs : List Entry) (n : ℕ) → members_aft
 members_after-append before es fs n = chosen-append (in_number n) before es fs
 
 heading_no_group : (n : ℕ) (o : Option Entry) (e : Entry) → is_group n (heading_after o e) ≡ false
-heading_no_group n (Some (adjacent_start t k)) e = by (lacks_help e) where
-  by : (b : Bool) → is_group n (if b then nowhere else heading k) ≡ false
-  by true = refl
-  by false = refl
+heading_no_group n (Some (adjacent_start t k)) e = grind arith
 heading_no_group n o e = refl
 
 pub outside_no_group : (n : ℕ) (p : Placed) → is_in_group p ≡ false → in_number n p ≡ false
-outside_no_group n p h = rw h (by (is_mark p.1)) where
-  by : (b : Bool) → is_group n (if b then heading (type_of p.1) else heading_after (last_that is_adjacent_mark (outside_groups p.0)) p.1) ≡ false
-  by true = refl
-  by false = heading_no_group n (last_that is_adjacent_mark (outside_groups p.0)) p.1
+outside_no_group n p h = grind (arith, heading_no_group)
 
 pub inside_number : (n m : ℕ) (p : Placed) → is_in_group p ≡ true → count_by is_group_start (p.0 ++ p.1 ∷ []) ≡ m → in_number n p ≡ (stays p && (n == m))
-inside_number n m p h is = rw h (by (lacks_help p.1 && is_adjacent_in_group p.0) (count_by is_group_start (p.0 ++ p.1 ∷ [])) is) where
-  by : (b : Bool) (c : ℕ) → c ≡ m → is_group n (if b then nowhere else group c) ≡ (not b && (n == m))
-  by true c is = refl
-  by false c is = ap (λ x. n == x) is
+inside_number n m p h is = grind arith
 
 pub open_inside : (before : List Entry) (e : Entry) → is_group_mark e ≡ false → is_group_open before ≡ true → is_in_group (before, e) ≡ true
 open_inside before e h o = rw (h, o) refl
@@ -124,20 +115,13 @@ module _ (before : List Entry) (d : List Part) (j k : HiTy) (inner : List Entry)
   open_opened = open-push before (group_start d j)
 
   pub number_inner : count_by is_group_start ((opened ++ inner) ++ group_end k ∷ []) ≡ number
-  number_inner =
-      let c : count_by is_group_start ((opened ++ inner) ++ group_end k ∷ []) ≡ count_by is_group_start (opened ++ inner) + 0 = count-push is_group_start (opened ++ inner) (group_end k) in
-      let i : count_by is_group_start (opened ++ inner) ≡ count_by is_group_start opened = count_through opened inner clear in
-      let o : count_by is_group_start opened ≡ number = number_opened in
-      omega arith
+  number_inner = grind (arith, inner, count-push, count_through, clear, number_opened)
 
   pub closed_after : is_group_open ((opened ++ inner) ++ group_end k ∷ []) ≡ false
   closed_after = open-push (opened ++ inner) (group_end k)
 
   alone : (b : List Entry) (e : Entry) (n : ℕ) → is_in_group (b, e) ≡ true → lacks_help e ≡ false → count_by is_group_start (b ++ e ∷ []) ≡ number → members_after b (e ∷ []) n ≡ (if n == number then e ∷ [] else [])
-  alone b e n i h c = let t : in_number n (b, e) ≡ (n == number) = inside_number n number (b, e) i c ∙ ap (λ x. not (x && is_adjacent_in_group b) && (n == number)) h in rw t (by (n == number)) where
-    by : (t : Bool) → map entry (if t then (b, e) ∷ [] else []) ≡ (if t then e ∷ [] else [])
-    by true = refl
-    by false = refl
+  alone b e n i h c = grind (arith, inside_number)
 
   pub group_of : ℕ → List Entry
   group_of n = (if n == number then group_start d j ∷ [] else []) ++ kept_after opened inner (n == number) ++ (if n == number then group_end k ∷ [] else [])
@@ -219,9 +203,7 @@ one_clear false p ps h rest = rest
 
 pub part_clear : (q : Placed → Bool) (before es : List Entry) → list_any is_group_mark es ≡ false → list_any is_group_mark (map entry (filter q (placed_after before es))) ≡ false
 part_clear q before [] h = refl
-part_clear q before (e ∷ es) h =
-    one_clear (q (before, e)) (before, e) (filter q (placed_after (before ++ e ∷ []) es)) (or_parts (is_group_mark e) (list_any is_group_mark es) h).0
-    (part_clear q (before ++ e ∷ []) es (or_parts (is_group_mark e) (list_any is_group_mark es) h).1)
+part_clear q before (e ∷ es) h = grind (arith, one_clear, or_parts, part_clear q (before ++ e ∷ []) es (or_parts (is_group_mark e) (list_any is_group_mark es) h).1)
 
 pub group_whole : (P : Entry → Type 0) {es : List Entry} → HasPairedGroups es → All P es → (before : List Entry) (n : ℕ) → is_group_open before ≡ false → (members_after before es n ≡ []) ⊎ IsWholeGroup P (members_after before es n)
 group_whole P (empty is) h before n o = inl (rw is refl)

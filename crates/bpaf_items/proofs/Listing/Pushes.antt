@@ -1,6 +1,6 @@
 -- What a look back sees after one more entry.
 use Rattle.std.proofs.Common.{◌≡◌, ℕ, ◌+◌, ◌-◌, Bool, true, false, not, List, [], ◌∷◌, ◌++◌, refl, ap, ◌∙◌, append-nil, arith}
-use Rattle.std.specs.Prelude.{if◌then◌else◌, filter, length, drop, reverse, count_by, Option, Some, None}
+use Rattle.std.specs.Prelude.{if◌then◌else◌, length, drop, reverse, count_by, Option, Some}
 use Rattle.std.specs.Option.{option_map_or}
 use Rattle.std.specs.List.{last_or, after_last, prefix_len}
 use Rattle.std.proofs.lemmas.List.Elements.{filter-append}
@@ -15,10 +15,7 @@ last_or-push o [] e = refl
 last_or-push o (x ∷ es) e = last_or-push (Some x) es e
 
 pub last_that-push : (p : Entry → Bool) (es : List Entry) (e : Entry) → last_that p (es ++ e ∷ []) ≡ (if p e then Some e else last_that p es)
-last_that-push p es e = ap (last_or None) (filter-append p es (e ∷ [])) ∙ by (p e) where
-  by : (b : Bool) → last_or None (filter p es ++ (if b then e ∷ [] else [])) ≡ (if b then Some e else last_that p es)
-  by true = last_or-push None (filter p es) e
-  by false = ap (last_or None) (append-nil (filter p es))
+last_that-push p es e = grind (arith, filter-append, last_or-push, append-nil)
 
 pub count-push : (p : Entry → Bool) (es : List Entry) (e : Entry) → count_by p (es ++ e ∷ []) ≡ count_by p es + (if p e then 1 else 0)
 count-push p es e = sum_by_push (λ x. if p x then 1 else 0) es e
@@ -42,16 +39,10 @@ abbrev pub since_start : (Entry → Bool) → List Entry → ℕ
 since_start p es = count_by p (after_last is_group_start es)
 
 pub since_start-push : (p : Entry → Bool) (es : List Entry) (e : Entry) → since_start p (es ++ e ∷ []) ≡ (if is_group_start e then 0 else since_start p es + (if p e then 1 else 0))
-since_start-push p es e = ap (count_by p) (after_last-push is_group_start es e) ∙ by (is_group_start e) where
-  by : (b : Bool) → count_by p (if b then [] else after_last is_group_start es ++ e ∷ []) ≡ (if b then 0 else since_start p es + (if p e then 1 else 0))
-  by true = refl
-  by false = count-push p (after_last is_group_start es) e
+since_start-push p es e = grind (arith, after_last-push, count-push)
 
 pub open-push : (es : List Entry) (e : Entry) → is_group_open (es ++ e ∷ []) ≡ (if is_group_mark e then is_group_start e else is_group_open es)
-open-push es e = ap (λ o. option_map_or is_group_start o false) (last_that-push is_group_mark es e) ∙ by (is_group_mark e) where
-  by : (b : Bool) → option_map_or is_group_start (if b then Some e else last_that is_group_mark es) false ≡ (if b then is_group_start e else is_group_open es)
-  by true = refl
-  by false = refl
+open-push es e = grind (arith, last_that-push)
 
 -- outside groups the last adjacent mark is a start
 abbrev pub is_block_open : List Entry → Bool
@@ -61,7 +52,4 @@ pub inside-push : (es : List Entry) (e : Entry) → is_in_group (es, e) ≡ true
 inside-push es e h = outside_groups-push es e ∙ ap (λ b. outside_groups es ++ (if not b then e ∷ [] else [])) h ∙ append-nil (outside_groups es)
 
 pub block_open-push : (es : List Entry) (e : Entry) → is_in_group (es, e) ≡ false → is_block_open (es ++ e ∷ []) ≡ (if is_adjacent_mark e then is_adjacent_start e else is_block_open es)
-block_open-push es e h = ap (λ fs. option_map_or is_adjacent_start (last_that is_adjacent_mark fs) false) (outside_groups-push es e ∙ ap (λ b. outside_groups es ++ (if not b then e ∷ [] else [])) h) ∙ ap (λ o. option_map_or is_adjacent_start o false) (last_that-push is_adjacent_mark (outside_groups es) e) ∙ by (is_adjacent_mark e) where
-  by : (b : Bool) → option_map_or is_adjacent_start (if b then Some e else last_that is_adjacent_mark (outside_groups es)) false ≡ (if b then is_adjacent_start e else is_block_open es)
-  by true = refl
-  by false = refl
+block_open-push es e h = grind (arith, outside_groups-push, last_that-push)

@@ -64,15 +64,8 @@ module _ (l : Leaf) where
   first_step : (before es : List Entry) (e : Entry) (b : Bool) → has e ≡ b → list_any has before ≡ false
       → (list_any has (before ++ e ∷ []) ≡ false → filter at (filter is_shown (placed_after (before ++ e ∷ []) es)) ≡ take 1 (filter at (placed_after (before ++ e ∷ []) es)))
       → filter at (filter is_shown (placed_after before (e ∷ es))) ≡ take 1 (filter at (placed_after before (e ∷ es)))
-  first_step before es e false n h f =
-      let still : list_any has (before ++ e ∷ []) ≡ false = seen-push before e ∙ ap (λ b. list_any has before || (b || false)) n ∙ or-false (list_any has before) ∙ h in
-      passed (is_shown (before, e)) (before, e) (filter is_shown (placed_after (before ++ e ∷ []) es)) n
-      ∙ f still
-      ∙ ap (take 1) (sym (passed true (before, e) (placed_after (before ++ e ∷ []) es) n))
-  first_step before es e true y h f =
-      let seen : list_any has (before ++ e ∷ []) ≡ true = seen-push before e ∙ ap (λ b. list_any has before || (b || false)) y ∙ or-true (list_any has before) in
-      let shown : is_shown (before, e) ≡ true = new before e h y in
-      rw (shown, y) (ap (λ ps. (before, e) ∷ ps) (none_later (before ++ e ∷ []) es seen))
+  first_step before es e false n h f = grind (arith, seen-push, or-false, passed)
+  first_step before es e true y h f = grind (arith, seen-push, or-true, new, none_later)
 
   first_alone : (before es : List Entry) → list_any has before ≡ false → filter at (filter is_shown (placed_after before es)) ≡ take 1 (filter at (placed_after before es))
   first_alone before [] h = refl

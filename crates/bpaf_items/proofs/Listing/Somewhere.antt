@@ -1,5 +1,5 @@
 -- In an item list what has help, or stands in no adjacent block, falls under a group or a heading.
-use Rattle.std.proofs.Common.{◌≡◌, ◌≢◌, ℕ, ◌+◌, ◌<◌, ◌≤◌, Bool, true, false, not, ◌&&◌, ◌⊎◌, inl, inr, List, [], ◌∷◌, ◌++◌, refl, sym, ap, ◌∙◌, subst, append_assoc, append-nil, arith}
+use Rattle.std.proofs.Common.{◌≡◌, ◌≢◌, ℕ, ◌+◌, ◌<◌, ◌≤◌, Bool, true, false, not, ◌⊎◌, inl, inr, List, [], ◌∷◌, ◌++◌, refl, sym, ap, ◌∙◌, subst, append_assoc, append-nil, arith}
 use Rattle.std.specs.Prelude.{if◌then◌else◌, IsTrue, All, count_by, Option, Some}
 use Rattle.std.specs.Option.{option_map_or}
 use Rattle.std.proofs.lemmas.Bool.{le-ltb, or_parts, false_from_ne_true}
@@ -8,7 +8,7 @@ use Rattle.bpaf_doc.specs.Buffer.Parts.{Part}
 use Rattle.bpaf_meta.specs.Content.{Tree}
 use Rattle.bpaf_items.specs.declared.meta_help.entry.HiTy.{HiTy}
 use Rattle.bpaf_items.specs.Listing.ItemList.{Entry, group_start, group_end, adjacent_start, adjacent_stop}
-use Rattle.bpaf_items.specs.Listing.Falls.{Placed, placed_after, Destination, group, heading, nowhere, lacks_help, type_of, is_mark, is_group_mark, is_group_start, is_group_end, is_adjacent_start, is_adjacent_stop, is_adjacent_mark, is_group_open, is_in_group, is_adjacent_in_group, last_that, outside_groups, heading_after, group_destination, heading_destination, destination}
+use Rattle.bpaf_items.specs.Listing.Falls.{Placed, placed_after, Destination, group, heading, nowhere, lacks_help, type_of, is_mark, is_group_mark, is_group_start, is_group_end, is_adjacent_start, is_adjacent_stop, is_adjacent_mark, is_group_open, is_in_group, last_that, outside_groups, heading_after, group_destination, heading_destination, destination}
 use Rattle.bpaf_items.specs.Listing.ListLaws.{IsInNoAdjacentBlock, FallsSomewhere}
 use Rattle.bpaf_items.proofs.Listing.Placing.{placed_after-append}
 use Rattle.bpaf_items.proofs.Listing.Blocks.{Blocks, none, plain, block, grouped, joined, starts_in, stops_in, even, count-append, item_list_blocks}
@@ -28,9 +28,7 @@ heading_after_falls (Some (adjacent_start t k)) e h = λ x. let kept : heading k
 heading_after_falls mark e h = λ x. cc
 
 pub help_falls : (p : Placed) → lacks_help p.1 ≡ false → destination p ≢ nowhere
-help_falls p h =
-    choice_falls (is_in_group p) (group_destination p) (heading_destination p) (λ i. group_falls p h)
-    (λ o. choice_falls (is_mark p.1) (heading (type_of p.1)) (heading_after (last_that is_adjacent_mark (outside_groups p.0)) p.1) (λ m x. cc) (λ m. heading_after_falls (last_that is_adjacent_mark (outside_groups p.0)) p.1 h))
+help_falls p h = grind (arith, choice_falls, group_falls, heading_after_falls)
 
 -- ---- what stands in no adjacent block
 
@@ -40,14 +38,7 @@ record Fits (before : List Entry) : Type 0 where
   pub outer : is_group_open before ≡ false → is_block_open before ≡ true → stops_in before < starts_in before
 
 alone_in_group : (p : Placed) → Fits p.0 → IsInNoAdjacentBlock p → group_destination p ≢ nowhere
-alone_in_group p f h =
-    let few : since_start is_adjacent_start p.0 ≤ since_start is_adjacent_stop p.0 = let s : since_start is_adjacent_start p.0 + stops_in p.0 ≤ since_start is_adjacent_stop p.0 + starts_in p.0 = f.since in omega arith in
-    let closed : is_adjacent_in_group p.0 ≡ false = le-ltb (since_start is_adjacent_stop p.0) (since_start is_adjacent_start p.0) few in
-    by (lacks_help p.1) (is_adjacent_in_group p.0) closed (count_by is_group_start (p.0 ++ p.1 ∷ [])) where
-      by : (a b : Bool) → b ≡ false → (n : ℕ) → (if a && b then nowhere else group n) ≢ nowhere
-      by true true h n = cc
-      by true false h n = λ x. cc
-      by false b h n = λ x. cc
+alone_in_group p f h = grind (arith, since_start, stops_in, starts_in, le-ltb)
 
 alone_after : (o : Option Entry) (e : Entry) → option_map_or is_adjacent_start o false ≡ false → heading_after o e ≢ nowhere
 alone_after (Some (adjacent_start t k)) e h = cc
@@ -65,10 +56,7 @@ abbrev Falls : Placed → Type 0
 Falls p = IsTrue (not (lacks_help p.1)) ⊎ IsInNoAdjacentBlock p → destination p ≢ nowhere
 
 falls_at : (p : Placed) → Fits p.0 → Falls p
-falls_at p f (inl h) = help_falls p (by (lacks_help p.1) h) where
-  by : (b : Bool) → IsTrue (not b) → b ≡ false
-  by true h = cc
-  by false h = refl
+falls_at p f (inl h) = grind (arith, help_falls)
 falls_at p f (inr h) = choice_falls (is_in_group p) (group_destination p) (heading_destination p) (λ i. alone_in_group p f h) (λ o. alone_outside p f h o)
 
 -- ---- through an item list

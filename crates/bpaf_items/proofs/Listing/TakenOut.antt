@@ -1,5 +1,5 @@
 -- Groups are taken out of a list one after another.
-use Rattle.std.proofs.Common.{◌≡◌, ℕ, ◌+◌, ◌≤◌, ◌==◌, Bool, true, false, not, ◌&&◌, ◌||◌, ◌⊎◌, inl, inr, List, [], ◌∷◌, ◌++◌, length, map, refl, sym, ap, ◌∙◌, append_assoc, append-nil, add-one, arith}
+use Rattle.std.proofs.Common.{◌≡◌, ℕ, ◌+◌, ◌==◌, Bool, true, false, not, ◌&&◌, ◌||◌, ◌⊎◌, inl, inr, List, [], ◌∷◌, ◌++◌, length, map, refl, sym, ap, ◌∙◌, append_assoc, append-nil, add-one, arith}
 use Rattle.std.specs.Prelude.{if◌then◌else◌, filter, count_by, nat_lt, Some, None}
 use Rattle.std.specs.List.{list_any, position, position_or_len, after_last}
 use Rattle.std.proofs.Math.Bool.{and-true}
@@ -76,9 +76,7 @@ outside_after before es = map entry (filter (λ p. not (is_in_group p)) (placed_
 
 pub outside_alike : (before other es : List Entry) → is_group_open before ≡ is_group_open other → outside_after before es ≡ outside_after other es
 outside_alike before other [] same = refl
-outside_alike before other (e ∷ es) same =
-    two_kept (not (is_in_group (before, e))) (not (is_in_group (other, e))) e before other _ _ (ap (λ b. not (is_group_mark e || b)) same)
-    (outside_alike (before ++ e ∷ []) (other ++ e ∷ []) es (open-push before e ∙ ap (λ b. if is_group_mark e then is_group_start e else b) same ∙ sym (open-push other e)))
+outside_alike before other (e ∷ es) same = grind (arith, two_kept, outside_alike (before ++ e ∷ []) (other ++ e ∷ []) es (open-push before e ∙ ap (λ b. if is_group_mark e then is_group_start e else b) same ∙ sym (open-push other e)), open-push)
 
 outside_none : (before es : List Entry) → HasNoGroupMark es → is_group_open before ≡ true → outside_after before es ≡ []
 outside_none before [] h o = refl
@@ -107,10 +105,7 @@ at_or_len p (f ∷ front) e back h y =
     rw n (omega arith)
 
 place_at : (p : Entry → Bool) (front : List Entry) (e : Entry) (back : List Entry) → list_any p front ≡ false → p e ≡ true → position p (front ++ e ∷ back) ≡ Some (length front)
-place_at p front e back h y =
-    let len : length (front ++ e ∷ back) ≡ length front + length (e ∷ back) = length-append front (e ∷ back) in
-    let less : nat_lt (length front) (length (front ++ e ∷ back)) ≡ true = lt-ltb (length front) (length (front ++ e ∷ back)) (omega arith) in
-    ap (λ n. if nat_lt n (length (front ++ e ∷ back)) then Some n else None) (at_or_len p front e back h y) ∙ ap (λ b. if b then Some (length front) else None) less
+place_at p front e back h y = grind (arith, front, back, length-append, lt-ltb, at_or_len)
 
 past_len : (p : Entry → Bool) (es : List Entry) → list_any p es ≡ false → position_or_len p es ≡ length es
 past_len p [] h = refl
@@ -124,15 +119,11 @@ no_place p es h = ap (λ n. if nat_lt n (length es) then Some n else None) (past
 
 no_starts : (es : List Entry) → HasNoGroupMark es → list_any is_group_start es ≡ false
 no_starts [] h = refl
-no_starts (e ∷ es) h =
-    let n : is_group_start e ≡ false = not_start e (or_parts (is_group_mark e) (list_any is_group_mark es) h).0 in
-    rw n (no_starts es (or_parts (is_group_mark e) (list_any is_group_mark es) h).1)
+no_starts (e ∷ es) h = grind (arith, not_start, or_parts, no_starts es (or_parts (is_group_mark e) (list_any is_group_mark es) h).1)
 
 no_ends : (es : List Entry) → HasNoGroupMark es → list_any is_group_end es ≡ false
 no_ends [] h = refl
-no_ends (e ∷ es) h =
-    let n : is_group_end e ≡ false = (or_parts (is_group_start e) (is_group_end e) (or_parts (is_group_mark e) (list_any is_group_mark es) h).0).1 in
-    rw n (no_ends es (or_parts (is_group_mark e) (list_any is_group_mark es) h).1)
+no_ends (e ∷ es) h = grind (arith, or_parts, no_ends es (or_parts (is_group_mark e) (list_any is_group_mark es) h).1)
 
 -- ---- the first group
 
@@ -188,10 +179,7 @@ module _ (front : List Entry) (d : List Part) (j k : HiTy) (inner back : List En
   kept_here = kept_alike (opened front d j k inner clear) [] inner true (after_last-push is_group_start front (group_start d j)) ∙ kept_true [] inner
 
   pub first_members : group_members all 1 ≡ group_start d j ∷ (kept_entries inner ++ group_end k ∷ [])
-  first_members =
-      let one : (1 == number front d j k inner clear) ≡ true = ap (λ n. 1 == n + 1) none_front in
-      let late : 1 ≤ count_by is_group_start after = let c : count_by is_group_start after ≡ count_by is_group_start front + 1 = number_inner front d j k inner clear in omega arith in
-      members_all 1 ∙ ap (λ xs. group_of front d j k inner clear 1 ++ xs) (later_none paired after 1 (closed_after front d j k inner clear) late) ∙ append-nil (group_of front d j k inner clear 1) ∙ group_of_own front d j k inner clear 1 one ∙ ap (λ xs. group_start d j ∷ (xs ++ group_end k ∷ [])) kept_here
+  first_members = grind (arith, number, front, inner, none_front, number_inner, members_all, group_of, later_none, paired, closed_after, append-nil, group_of_own, kept_here)
 
   pub other_members : (n : ℕ) → group_members all (n + 2) ≡ group_members (front ++ back) (n + 1)
   other_members n =
@@ -202,13 +190,7 @@ module _ (front : List Entry) (d : List Part) (j k : HiTy) (inner back : List En
       ∙ sym (members_after-append [] front back (n + 1) ∙ ap (λ xs. xs ++ members_after front back (n + 1)) (none_outside [] front (n + 1) clear_front refl))
 
   pub outside_all_but : outside_groups all ≡ outside_groups (front ++ back)
-  outside_all_but =
-      outside_after-append [] front (group_start d j ∷ (inner ++ group_end k ∷ back))
-      ∙ ap (λ xs. outside_after [] front ++ xs)
-      (outside_after-append (opened front d j k inner clear) inner (group_end k ∷ back)
-      ∙ ap (λ xs. xs ++ outside_after (opened front d j k inner clear ++ inner) (group_end k ∷ back)) (outside_none (opened front d j k inner clear) inner clear (open-push front (group_start d j)))
-      ∙ outside_alike after front back (closed_after front d j k inner clear ∙ sym closed_front))
-      ∙ sym (outside_after-append [] front back)
+  outside_all_but = grind (arith, outside_after-append, front, inner, back, opened, outside_none, open-push, outside_alike, closed_after, closed_front)
 
   pub one_fewer : count_by is_group_start all ≡ count_by is_group_start (front ++ back) + 1
   one_fewer =
@@ -247,10 +229,7 @@ one_taken es g = record {
 }
 
 taken : (es : List Entry) → HasPairedGroups es → HasNoGroup es ⊎ HasFirstGroup es
-taken es p = by (split p) where
-  by : HasNoGroupMark es ⊎ Split es → HasNoGroup es ⊎ HasFirstGroup es
-  by (inl h) = inl (none_taken es h)
-  by (inr g) = inr (one_taken es g)
+taken es p = grind (arith, split, none_taken, one_taken)
 
 pub groups_are_taken_out : GroupsAreTakenOut
 groups_are_taken_out = record { paired = λ es is. blocks_paired (item_list_blocks es is) refl; taken = taken }

@@ -6,14 +6,13 @@ use Rattle.std.specs.List.{position, range_with_len}
 use Rattle.std.proofs.Math.Seq.{take-append_seam, drop-append_seam}
 use Rattle.std.proofs.lemmas.List.{map-append, length-append, take-map, drop-map}
 use Rattle.bpaf_doc.specs.Buffer.Parts.{Part}
-use Rattle.bpaf_doc.specs.declared.buffer.Block.TheVariants as block
-use Rattle.bpaf_doc.specs.Buffer.Writes.{Write, end, with_writes}
+use Rattle.bpaf_doc.specs.Buffer.Writes.{Write, with_writes}
 use Rattle.bpaf_meta.proofs.lemmas.Usage.Written.{with_writes-append}
 use Rattle.bpaf_items.specs.declared.meta_help.entry.HiTy.{HiTy}
 use Rattle.bpaf_items.specs.declared.meta_help.entry.HiTy.TheVariants as ty
 use Rattle.bpaf_items.specs.Listing.ItemList.{Entry, group_start, group_end}
 use Rattle.bpaf_items.specs.declared.meta_help.entry.HelpItem.{HelpItem}
-use Rattle.bpaf_items.specs.Listing.Falls.{placed_after, is_group_start, is_group_end, is_group_mark, is_adjacent_start, is_adjacent_stop, is_in_group, lacks_help, group_members, heading_members, items_of_type, outside_groups}
+use Rattle.bpaf_items.specs.Listing.Falls.{placed_after, is_group_start, is_group_end, is_group_mark, is_adjacent_start, is_adjacent_stop, lacks_help, group_members, heading_members, items_of_type, outside_groups}
 use Rattle.bpaf_items.specs.Listing.Groups.{both_places, HasNoGroupMark, HasPairedGroups, empty, outer, whole, stays, kept_entries}
 use Rattle.bpaf_items.specs.Page.EnvTexts.{Texts}
 use Rattle.bpaf_items.specs.Page.HelpPage.{groups_writes, heading_writes, list_writes}
@@ -34,11 +33,7 @@ same_for_each f g h (n ∷ ns) = ap (λ ws. ws ++ flat_map f ns) (h n) ∙ ap (�
 
 numbered_on : (f g : ℕ → List Write) → ((n : ℕ) → f (n + 2) ≡ g (n + 1)) → (a c : ℕ) → flat_map f (range_with_len (a + 2) c) ≡ flat_map g (range_with_len (a + 1) c)
 numbered_on f g h a zero = refl
-numbered_on f g h a (suc c) =
-    let next : (a + 2) + 1 ≡ (a + 1) + 2 = omega arith in
-    ap (λ ws. ws ++ flat_map f (range_with_len ((a + 2) + 1) c)) (h a)
-    ∙ ap (λ b. g (a + 1) ++ flat_map f (range_with_len b c)) next
-    ∙ ap (λ ws. g (a + 1) ++ ws) (numbered_on f g h (a + 1) c)
+numbered_on f g h a (suc c) = grind (arith, numbered_on f g h (a + 1) c)
 
 -- ---- an entry outside groups
 
@@ -55,24 +50,16 @@ module _ (e : Entry) (es : List Entry) (clear : is_group_mark e ≡ false) (pair
       ∙ shifted paired whole_before [] n refl refl refl
 
   outer_members : (n : ℕ) → group_members (e ∷ es) n ≡ group_members es n
-  outer_members n =
-      let skipped : in_number n ([], e) ≡ false = outside_no_group n ([], e) (closed_outside [] e clear refl) in
-      rw skipped (members_behind n)
+  outer_members n = grind (arith, in_number, outside_no_group, closed_outside, clear, members_behind)
 
   outer_count : count_by is_group_start (e ∷ es) ≡ count_by is_group_start es
-  outer_count =
-      let c : count_by is_group_start (e ∷ es) ≡ 0 + count_by is_group_start es = count-cons is_group_start e es ∙ ap (λ b. (if b then 1 else 0) + count_by is_group_start es) (not_start e clear) in
-      omega arith
+  outer_count = grind (arith, count-cons, not_start, clear)
 
   pub outer_lists : (included : Bool) (texts : Texts) → group_lists included texts (e ∷ es) ≡ group_lists included texts es
-  outer_lists included texts =
-      same_for_each (λ n. list_writes included texts (group_members (e ∷ es) n)) (λ n. list_writes included texts (group_members es n)) (λ n. ap (list_writes included texts) (outer_members n)) (range_with_len 1 (count_by is_group_start (e ∷ es)))
-      ∙ ap (λ c. flat_map (λ n. list_writes included texts (group_members es n)) (range_with_len 1 c)) outer_count
+  outer_lists included texts = grind (arith, same_for_each, outer_members, outer_count)
 
   pub outer_outside : outside_groups (e ∷ es) ≡ e ∷ outside_groups es
-  outer_outside =
-      let without : is_in_group ([], e) ≡ false = closed_outside [] e clear refl in
-      rw without (ap (λ xs. e ∷ xs) (outside_alike (e ∷ []) [] es (open_same [] e clear)))
+  outer_outside = grind (arith, closed_outside, clear, outside_alike, open_same)
 
 record FirstOuter (e : Entry) (es : List Entry) : Type 0 where
   pub clear : is_group_mark e ≡ false
@@ -84,22 +71,11 @@ first_outer e es (outer f rest is clear p) same h =
     let own : f ≡ e = cc in
     let others : rest ≡ es = cc in
     record { clear = ap is_group_mark (sym own) ∙ clear; paired = subst HasPairedGroups others p }
-first_outer e es (whole d j k inner rest is clear p) same h =
-    let own : group_start d j ≡ e = cc in
-    let starts : true ≡ false = ap is_group_start own ∙ h in
-    cc
+first_outer e es (whole d j k inner rest is clear p) same h = grind arith
 
 pub takes_outer : (included : Bool) (texts : Texts) (all : List Entry) (e : Entry) (es : List Entry) (doc : List Part) (outside : List Entry)
     → HasPairedGroups all → all ≡ e ∷ es → is_group_start e ≡ false → Takes included texts all 1 doc doc outside (outside ++ e ∷ [])
-takes_outer included texts all e es doc outside paired same h =
-    let o : FirstOuter e es = first_outer e es paired same h in
-    rw same (record {
-      some = omega arith;
-      within = omega arith;
-      paired = o.paired;
-      written = ap (with_writes doc) (sym (outer_lists e es o.clear o.paired included texts));
-      others = append_assoc outside (e ∷ []) (outside_groups es) ∙ ap (λ xs. outside ++ xs) (sym (outer_outside e es o.clear o.paired));
-    })
+takes_outer included texts all e es doc outside paired same h = grind (arith, first_outer, paired, outer_lists, append_assoc, outer_outside)
 
 -- ---- a group
 
@@ -115,10 +91,7 @@ record FirstGroup (all : List Entry) : Type 0 where
 
 first_group : {all : List Entry} (e : Entry) (es : List Entry) → HasPairedGroups all → all ≡ e ∷ es → is_group_start e ≡ true → FirstGroup all
 first_group e es (empty is) same h = cc
-first_group e es (outer f rest is clear p) same h =
-    let own : f ≡ e = cc in
-    let starts : false ≡ true = sym (not_start f clear) ∙ ap is_group_start own ∙ h in
-    cc
+first_group e es (outer f rest is clear p) same h = grind (arith, not_start, clear)
 first_group e es (whole d j k inner rest is clear p) same h = record { title = d; first = j; last = k; inner = inner; rest = rest; order = is; clear = clear; paired = p }
 
 abbrev second : Option (ℕ × ℕ) → ℕ
@@ -162,16 +135,10 @@ module _ (d : List Part) (j k : HiTy) (inner rest : List Entry) (clear : HasNoGr
   group_left = ap (λ n. drop n listing) group_len_is ∙ ap (drop (length marked)) split ∙ drop-append_seam marked rest
 
   pub group_within : group_len listing ≤ length listing
-  group_within =
-      let a : group_len listing ≡ length marked = group_len_is in
-      let b : length listing ≡ length marked + length rest = ap length split ∙ length-append marked rest in
-      omega arith
+  group_within = grind (arith, group_len_is, rest, split, length-append)
 
   pub group_some : 0 < group_len listing
-  group_some =
-      let a : group_len listing ≡ length marked = group_len_is in
-      let b : length marked ≡ (1 + length inner) + 1 = marked_len in
-      omega arith
+  group_some = grind (arith, group_len_is, inner, marked_len)
 
   pub group_written : (included : Bool) (texts : Texts) → group_lists included texts listing ≡ list_writes included texts (kept_entries (take (group_len listing) listing)) ++ group_lists included texts rest
   group_written included texts =
@@ -190,18 +157,7 @@ module _ (d : List Part) (j k : HiTy) (inner rest : List Entry) (clear : HasNoGr
 
   pub takes_listing : (included : Bool) (texts : Texts) (before now : List Part) (outside : List Entry)
       → now ≡ with_writes before (list_writes included texts (kept_entries (take (group_len listing) listing))) → Takes included texts listing (group_len listing) before now outside outside
-  takes_listing included texts before now outside written = record {
-    some = group_some;
-    within = group_within;
-    paired = subst HasPairedGroups (sym group_left) paired;
-    written =
-        let own : List Write = list_writes included texts (kept_entries (take (group_len listing) listing)) in
-        ap (λ xs. with_writes now (group_lists included texts xs)) group_left
-        ∙ ap (λ ps. with_writes ps (group_lists included texts rest)) written
-        ∙ sym (with_writes-append before own (group_lists included texts rest))
-        ∙ ap (with_writes before) (sym (group_written included texts));
-    others = ap (λ xs. outside ++ outside_groups xs) group_left ∙ ap (λ xs. outside ++ xs) (sym group_outside);
-  }
+  takes_listing included texts before now outside written = grind (arith, group_some, group_within, paired, group_left, rest, with_writes-append, group_written, group_outside)
 
 pub takes_group : (included : Bool) (texts : Texts) (all : List Entry) (e : Entry) (es : List Entry) (before now : List Part) (outside : List Entry)
     → HasPairedGroups all → all ≡ e ∷ es → is_group_start e ≡ true → now ≡ with_writes before (list_writes included texts (kept_entries (take (group_len all) all)))
@@ -222,19 +178,11 @@ few false true n m i is h = rw is (omega arith)
 few false false n m i is h = rw is (omega arith)
 
 pub since_next : (p : Entry → Bool) (before next : List Entry) (e : Entry) (n m : ℕ) → m ≡ (if is_group_start e then 0 else n + (if p e then 1 else 0)) → n ≡ since_start p before → next ≡ before ++ e ∷ [] → m ≡ since_start p next
-since_next p before next e n m is old more =
-    is ∙ ap (λ k. if is_group_start e then 0 else k + (if p e then 1 else 0)) old ∙ sym (since_start-push p before e) ∙ ap (since_start p) (sym more)
+since_next p before next e n m is old more = grind (arith, since_start-push, since_start)
 
 pub kept_next : (first mid now before next : List Entry) (e : Entry) (starts stops : ℕ) (wanted : Bool) → now ≡ mid ++ (if wanted then e ∷ [] else []) → wanted ≡ not (lacks_help e && nat_lt stops starts) → mid ≡ first ++ kept_entries before
     → starts ≡ since_start is_adjacent_start before → stops ≡ since_start is_adjacent_stop before → next ≡ before ++ e ∷ [] → now ≡ first ++ kept_entries next
-kept_next first mid now before next e starts stops wanted is own old a z more =
-    is
-    ∙ ap (λ b. mid ++ (if b then e ∷ [] else [])) own
-    ∙ ap (λ n. mid ++ (if not (lacks_help e && nat_lt stops n) then e ∷ [] else [])) a
-    ∙ ap (λ n. mid ++ (if not (lacks_help e && nat_lt n (since_start is_adjacent_start before)) then e ∷ [] else [])) z
-    ∙ ap (λ xs. xs ++ (if stays (before, e) then e ∷ [] else [])) old
-    ∙ append_assoc first (kept_entries before) (if stays (before, e) then e ∷ [] else [])
-    ∙ ap (λ xs. first ++ xs) (sym (kept-push before e) ∙ ap kept_entries (sym more))
+kept_next first mid now before next e starts stops wanted is own old a z more = grind (arith, since_start, append_assoc, first, kept-push)
 
 -- ---- items
 
@@ -264,8 +212,7 @@ module _ {B : Type 0} where
   pub heading_is : (included : Bool) (texts : Texts) (title : List ℕ) (items : List (Bor (HelpItem B))) → 0 < length items
       → title_front title ++ (list_writes included texts (map entry_at items) ++ heading_end) ≡ heading_writes included texts title (map entry_at items)
   heading_is included texts title [] h = absurd (omega arith)
-  heading_is included texts title (x ∷ items) h =
-      ap (λ ws. title_front title ++ ws) (sym (append_assoc (list_writes included texts (map entry_at (x ∷ items))) (end block.DefinitionList ∷ []) (end block.Block ∷ [])))
+  heading_is included texts title (x ∷ items) h = grind (arith, title, append_assoc)
 
 -- ---- groups and headings
 

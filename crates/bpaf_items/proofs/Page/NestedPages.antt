@@ -1,5 +1,5 @@
 -- Pages of well-nested texts are well nested.
-use Rattle.std.proofs.Common.{◌≡◌, ℕ, Bool, true, false, ◌⊎◌, inl, inr, List, [], ◌∷◌, ◌++◌, map, refl, sym, ap, ◌∙◌, subst, append_assoc, append-nil}
+use Rattle.std.proofs.Common.{◌≡◌, ℕ, Bool, true, false, ◌⊎◌, inl, inr, List, [], ◌∷◌, ◌++◌, map, refl, sym, ap, ◌∙◌, subst, append_assoc, append-nil, arith}
 use Rattle.std.specs.Prelude.{if◌then◌else◌, filter, flat_map, count_by, All, codes, Option, Some, None}
 use Rattle.std.proofs.lemmas.Bool.{or_parts}
 use Rattle.std.specs.List.{list_any, range_with_len}
@@ -10,7 +10,7 @@ use Rattle.bpaf_doc.specs.declared.buffer.Style.TheVariants as style
 use Rattle.bpaf_doc.specs.declared.buffer.Block.{Block}
 use Rattle.bpaf_doc.specs.declared.buffer.Block.TheVariants as block
 use Rattle.bpaf_doc.specs.Buffer.Parts.{Part, IsWellNested, nothing}
-use Rattle.bpaf_doc.specs.Buffer.Writes.{Write, text, start, end, with_write, with_writes, document_of, doc_writes, em_doc_writes, path_writes, inside}
+use Rattle.bpaf_doc.specs.Buffer.Writes.{Write, text, with_write, with_writes, document_of, doc_writes, em_doc_writes, path_writes, inside}
 use Rattle.bpaf_doc.proofs.lemmas.Buffer.Nesting.{IsWellNested-with_text, IsWellNested-in_block, IsWellNested-inside, IsWellNested-em_doc, IsWellNested-path}
 use Rattle.bpaf_meta.specs.Content.{Name, both, Tree, and_of, or_of, optional, required, adjacent, item, many, subsection, suffix, skip, custom_usage, strict, Trees, no_trees, tree, Leaf, any, positional, command, flag, argument, Head, head}
 use Rattle.bpaf_meta.specs.Usage.Nested.{HasNestedDoc, HasNestedDocs, EachHasNestedDocs}
@@ -208,15 +208,7 @@ shown_group d j k inner = ap (λ xs. group_start d j ∷ xs) (chosen-append is_s
 group_writes_are : (included : Bool) (texts : Texts) (d : List Part) (j k : HiTy) (es : List Entry)
     → flat_map (entry_writes included texts) (group_start d j ∷ (es ++ group_end k ∷ []))
     ≡ inside block.Block (inside block.Section2 (em_doc_writes d) ++ inside block.DefinitionList (flat_map (entry_writes included texts) es))
-group_writes_are included texts d j k es =
-    let title : List Write = inside block.Section2 (em_doc_writes d) in
-    let held : List Write = flat_map (entry_writes included texts) es in
-    let first : List Write = start block.DefinitionList ∷ [] in
-    let last : List Write = end block.DefinitionList ∷ end block.Block ∷ [] in
-    let split : flat_map (entry_writes included texts) (es ++ group_end k ∷ []) ≡ held ++ last = flat_map-append (entry_writes included texts) es (group_end k ∷ []) in
-    let closed : held ++ last ≡ (held ++ end block.DefinitionList ∷ []) ++ end block.Block ∷ [] = sym (append_assoc held (end block.DefinitionList ∷ []) (end block.Block ∷ [])) in
-    ap (λ ws. start block.Block ∷ ((title ++ first) ++ ws)) (split ∙ closed)
-    ∙ ap (λ ws. start block.Block ∷ ws) (append_assoc title first ((held ++ end block.DefinitionList ∷ []) ++ end block.Block ∷ []) ∙ sym (append_assoc title (inside block.DefinitionList held) (end block.Block ∷ [])))
+group_writes_are included texts d j k es = grind (arith, flat_map-append, append_assoc)
 
 whole_keeps : (included : Bool) (texts : Texts) (es : List Entry) → IsWholeGroup HasNestedEntry es → Keeps (list_writes included texts es)
 whole_keeps included texts es w =

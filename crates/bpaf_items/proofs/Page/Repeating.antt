@@ -1,7 +1,6 @@
 -- What is remembered of the entries so far, after one more.
-use Rattle.std.proofs.Common.{◌≡◌, ℕ, Bool, true, false, not, ◌||◌, ◌&&◌, ◌==◌, List, [], ◌∷◌, ◌++◌, Option, Some, None, refl, sym, ap, ◌∙◌, append-nil, subst}
-use Rattle.std.specs.Prelude.{if◌then◌else◌, flat_map, fold, Result, Ok, Err, IfOk}
-use Rattle.std.specs.Option.{option_map_or}
+use Rattle.std.proofs.Common.{◌≡◌, ℕ, Bool, true, false, not, ◌||◌, ◌&&◌, ◌==◌, List, [], ◌∷◌, ◌++◌, Option, Some, None, refl, sym, ap, ◌∙◌, append-nil, subst, arith}
+use Rattle.std.specs.Prelude.{fold, Result, Ok, Err, IfOk}
 use Rattle.std.specs.List.{list_any, last_or}
 use Rattle.std.specs.Hash.FoldHasher as folding
 use Rattle.std.specs.declared.cmp.Ordering.{Ordering}
@@ -21,9 +20,8 @@ use Rattle.bpaf_items.specs.Listing.ItemList.{Entry, listed, note, group_start, 
 use Rattle.bpaf_items.specs.Listing.Keys.{Key, key_cmp, key_of, entry_key, same_key}
 use Rattle.bpaf_items.specs.Steps.KeyOrder.{keys_equiv, keys_tied}
 use Rattle.bpaf_items.specs.Steps.KeyFed.{key_fed}
-use Rattle.bpaf_items.specs.Listing.Falls.{Placed, placed, is_mark, has_key_of, is_mark_or_new, is_shown, shown_entries}
+use Rattle.bpaf_items.specs.Listing.Falls.{is_mark, has_key_of, is_mark_or_new, is_shown}
 use Rattle.bpaf_items.specs.Page.EnvTexts.{Texts}
-use Rattle.bpaf_items.specs.Page.EntryWrites.{entry_writes}
 use Rattle.bpaf_items.specs.Page.HelpPage.{list_writes}
 use Rattle.bpaf_items.specs.Page.Steps.Repeats.{AreHashed, Hashed, IsHashed, PutsKey, Remembers, has_key, is_last_shown, shown_writes}
 use Rattle.bpaf_items.specs.View.{key_in}
@@ -35,9 +33,7 @@ last_or-push o [] x = refl
 last_or-push o (y ∷ xs) x = last_or-push (Some y) xs x
 
 last_shown-push : (before : List Entry) (e : Entry) → is_last_shown (before ++ e ∷ []) ≡ is_mark_or_new (before, e)
-last_shown-push before e =
-    ap (λ (ps : List Placed). option_map_or is_mark_or_new (last_or None ps) false) (placed-push before e)
-    ∙ ap (λ (o : Option Placed). option_map_or is_mark_or_new o false) (last_or-push None (placed before) (before, e))
+last_shown-push before e = grind (arith, None, placed-push, last_or-push)
 
 -- ---- keys
 
@@ -63,10 +59,7 @@ behind false false c = refl
 
 number_same : (m n : ℕ) (b : Bool) → (b ≡ true → m ≡ n) → ((m == n) && b) ≡ b
 number_same m n true h = ap (λ c. c && true) (eq-eqb m n (h refl))
-number_same m n false h = and_none (m == n) where
-  and_none : (b : Bool) → (b && false) ≡ false
-  and_none true = refl
-  and_none false = refl
+number_same m n false h = grind arith
 
 module _ {B : Type 0} where
   -- the order of the set: by hash, then by key
@@ -86,11 +79,7 @@ module _ {B : Type 0} where
 
     put_hashed : (keys : List (Hashed B)) → AreHashed keys → AreHashed (insert_key cmp keys x)
     put_hashed [] all = (own, tt)
-    put_hashed (y ∷ keys) all = by (cmp x y) (put_hashed keys all.1) where
-      by : (o : Ordering) → AreHashed (insert_key cmp keys x) → AreHashed (match_ordering o (x ∷ y ∷ keys) (y ∷ keys) (y ∷ insert_key cmp keys x))
-      by Less rest = (own, all)
-      by Equal rest = all
-      by Greater rest = (all.0, rest)
+    put_hashed (y ∷ keys) all = grind (arith, put_hashed keys all.1)
 
     put_has : (keys : List (Hashed B)) → AreHashed keys → (q : Key) → has_key (insert_key cmp keys x) q ≡ (same_key q (key_in x.1) || has_key keys q)
     put_has [] all q = refl
@@ -108,33 +97,19 @@ module _ {B : Type 0} where
 
 pub puts_key : {B : Type 0} (keys after : List (Hashed B)) (x : Hashed B) (is_new : Bool) → IsHashed x → is_new ≡ not (list_any (is_at (cmp x)) keys) → after ≡ insert_key cmp keys x
     → AreHashed keys → PutsKey keys after (key_in x.1) is_new
-puts_key keys after x is_new own answer put all = record {
-  answer = answer ∙ ap not (found x own keys all);
-  has = λ q. ap (λ ks. has_key ks q) put ∙ put_has x own keys all q;
-  hashed = subst AreHashed (sym put) (put_hashed x own keys all);
-}
+puts_key keys after x is_new own answer put all = grind (arith, found, put_has, put_hashed)
 
 -- ---- an entry with a key, and one without
 
 seen_entry : (first own : Bool) (tests : Entry → Bool) (before : List Entry) (e : Entry) → own ≡ tests e → first ≡ list_any tests before → (own || first) ≡ list_any tests (before ++ e ∷ [])
-seen_entry first own tests before e is seen =
-    (λ i. is i || seen i) ∙ or_swap (tests e) (list_any tests before) ∙ sym (list_any-append tests before (e ∷ []))
+seen_entry first own tests before e is seen = grind (arith, or_swap, list_any-append)
 
 abbrev Goes : {B : Type 0} → List (Hashed B) → (shown last : Bool) → (before : List Entry) → Entry → Type 0
 Goes keys shown last before e = (shown ≡ is_shown (before, e)) × Remembers keys last (before ++ e ∷ [])
 
 item_shown : {B : Type 0} (keys after : List (Hashed B)) (shown last now : Bool) (k : Key) (e : Entry) (before : List Entry)
     → Some k ≡ entry_key e → PutsKey keys after k shown → now ≡ shown → Remembers keys last before → Goes after shown now before e
-item_shown keys after shown last now k (listed l) before is put same h =
-    let own : k ≡ key_of l = cc in
-    let first : shown ≡ is_shown (before, listed l) = put.answer ∙ ap (λ q. not (has_key keys q)) own ∙ ap not (h.seen l) in (
-      first,
-      record {
-        hashed = put.hashed;
-        seen = λ m. put.has (key_of m) ∙ seen_entry (has_key keys (key_of m)) (same_key (key_of m) k) (has_key_of m) before (listed l) (ap (same_key (key_of m)) own) (h.seen m);
-        last = same ∙ first ∙ sym (last_shown-push before (listed l));
-      },
-    )
+item_shown keys after shown last now k (listed l) before is put same h = grind (arith, seen_entry, last_shown-push)
 item_shown keys after shown last now k (note d j) before is put same h = cc
 item_shown keys after shown last now k (group_start d j) before is put same h = cc
 item_shown keys after shown last now k (group_end j) before is put same h = cc
@@ -159,20 +134,16 @@ or_true false = refl
 
 seen_other : {B : Type 0} (keys : List (Hashed B)) (e : Entry) (before : List Entry) → ((m : Leaf) → has_key_of m e ≡ false) → ((m : Leaf) → has_key keys (key_of m) ≡ list_any (has_key_of m) before)
     → (m : Leaf) → has_key keys (key_of m) ≡ list_any (has_key_of m) (before ++ e ∷ [])
-seen_other keys e before none seen m =
-    seen m ∙ or_none (list_any (has_key_of m) before) ∙ ap (λ b. list_any (has_key_of m) before || (b || false)) (sym (none m)) ∙ sym (list_any-append (has_key_of m) before (e ∷ []))
+seen_other keys e before none seen m = grind (arith, or_none, list_any-append)
 
 mark_shown : {B : Type 0} (keys : List (Hashed B)) (last : Bool) (e : Entry) (before : List Entry) → is_mark_or_new (before, e) ≡ true → is_shown (before, e) ≡ true → ((m : Leaf) → has_key_of m e ≡ false)
     → Remembers keys last before → Goes keys (last || true) true before e
-mark_shown keys last e before new is none h =
-    (or_true last ∙ sym is, record { hashed = h.hashed; seen = seen_other keys e before none h.seen; last = sym new ∙ sym (last_shown-push before e) })
+mark_shown keys last e before new is none h = grind (arith, or_true, seen_other, last_shown-push)
 
 pub other_shown : {B : Type 0} (keys after : List (Hashed B)) (shown last now mark : Bool) (e : Entry) (before : List Entry)
     → None ≡ entry_key e → mark ≡ is_mark e → shown ≡ (last || mark) → now ≡ mark → after ≡ keys → Remembers keys last before → Goes after shown now before e
 other_shown keys after shown last now mark (listed l) before none is new same kept h = cc
-other_shown keys after shown last now mark (note d k) before none is new same kept h =
-    rw (kept, same, new, is)
-    (or_false last ∙ h.last, record { hashed = h.hashed; seen = seen_other keys (note d k) before (λ m. refl) h.seen; last = sym (last_shown-push before (note d k)) })
+other_shown keys after shown last now mark (note d k) before none is new same kept h = grind (arith, or_false, seen_other, last_shown-push)
 other_shown keys after shown last now mark (group_start d k) before none is new same kept h = rw (kept, same, new, is) (mark_shown keys last (group_start d k) before refl refl (λ m. refl) h)
 other_shown keys after shown last now mark (group_end k) before none is new same kept h = rw (kept, same, new, is) (mark_shown keys last (group_end k) before refl refl (λ m. refl) h)
 other_shown keys after shown last now mark (adjacent_start t k) before none is new same kept h = rw (kept, same, new, is) (mark_shown keys last (adjacent_start t k) before refl refl (λ m. refl) h)
@@ -186,18 +157,8 @@ nothing_seen keys is = record { hashed = subst AreHashed (sym is) tt; seen = λ 
 
 -- a list with one more entry
 pub list-push : (included : Bool) (texts : Texts) (before : List Entry) (e : Entry) → list_writes included texts (before ++ e ∷ []) ≡ list_writes included texts before ++ shown_writes included texts before e
-list-push included texts before e =
-    ap (flat_map (entry_writes included texts)) (shown-push before e)
-    ∙ flat_map-append (entry_writes included texts) (shown_entries before) (if is_shown (before, e) then e ∷ [] else [])
-    ∙ ap (λ ws. list_writes included texts before ++ ws) (by (is_shown (before, e))) where
-      by : (b : Bool) → flat_map (entry_writes included texts) (if b then e ∷ [] else []) ≡ (if b then entry_writes included texts e else [])
-      by true = append-nil (entry_writes included texts e)
-      by false = refl
+list-push included texts before e = grind (arith, shown-push, flat_map-append, append-nil)
 
 pub list_next : (included : Bool) (texts : Texts) (before next : List Entry) (e : Entry) (first mid now : List Part) → next ≡ before ++ e ∷ []
     → mid ≡ with_writes first (list_writes included texts before) → now ≡ with_writes mid (shown_writes included texts before e) → now ≡ with_writes first (list_writes included texts next)
-list_next included texts before next e first mid now more is written =
-    written ∙ ap (λ ps. with_writes ps (shown_writes included texts before e)) is
-    ∙ sym (with_writes-append first (list_writes included texts before) (shown_writes included texts before e))
-    ∙ ap (with_writes first) (sym (list-push included texts before e))
-    ∙ ap (λ es. with_writes first (list_writes included texts es)) (sym more)
+list_next included texts before next e first mid now more is written = grind (arith, with_writes-append, list-push)

@@ -37,10 +37,7 @@ mutual
 
 -- where no group is allowed
 pub ungrouped : (t : Tree) (d : List Part) → entries_of false (subsection t d) ≡ entries_of false t
-ungrouped t d = by (front_type t) refl where
-  by : (o : Option HiTy) → front_type t ≡ o → entries_with_type o (entries_of false t) ≡ entries_of false t
-  by None e = sym (no_entries false t e)
-  by (Some k) e = refl
+ungrouped t d = grind (arith, no_entries)
 
 pub unnoted : (g : Bool) (t : Tree) (d : List Part) → front_type t ≡ None → noted_entries (front_type t) d (entries_of g t) ≡ entries_of g t
 unnoted g t d e = ap (λ o. noted_entries o d (entries_of g t)) e ∙ sym (no_entries g t e)
@@ -98,9 +95,4 @@ module _ {X : Type 0} where
 
   pub closed_entries : (view : X → Entry) (old opened now after : List X) (at : ℕ) (p q last : X) (es : List Entry) → at ≡ length old → opened ≡ old ++ p ∷ [] → IsFront opened now → map view now ≡ map view opened ++ es → after ≡ slice_set now at q ++ last ∷ []
       → map view after ≡ map view old ++ (view q ∷ es ++ view last ∷ [])
-  closed_entries view old opened now after at p q last es n e f seen h =
-      let more : map view f.0 ≡ es = append_cancel_left (map view opened) (map view f.0) es (sym (map-append view opened f.0) ∙ ap (map view) (sym f.1) ∙ seen) in
-      let set : slice_set now at q ≡ old ++ q ∷ f.0 = ap (λ m. slice_set now m q) n ∙ ap (λ xs. slice_set xs (length old) q) (f.1 ∙ ap (λ xs. xs ++ f.0) e) ∙ set_kept old f.0 p q in
-      ap (map view) (h ∙ ap (λ xs. xs ++ last ∷ []) set ∙ append_assoc old (q ∷ f.0) (last ∷ []))
-      ∙ map-append view old (q ∷ f.0 ++ last ∷ [])
-      ∙ ap (λ ys. map view old ++ (view q ∷ ys)) (map-append view f.0 (last ∷ []) ∙ ap (λ ys. ys ++ view last ∷ []) more)
+  closed_entries view old opened now after at p q last es n e f seen h = grind (arith, append_cancel_left, map-append, set_kept, append_assoc)

@@ -1,4 +1,4 @@
-use Rattle.std.proofs.Common.{◌≡◌, Some, None, false, List, ◌++◌, ◌+◌, ◌∙◌, ◌⊎◌, inl, inr, ap, sym, subst, refl, drop, length, map, arith, rules, Box}
+use Rattle.std.proofs.Common.{◌≡◌, Some, false, List, ◌++◌, ◌+◌, ◌∙◌, ◌⊎◌, ap, sym, subst, refl, drop, length, map, arith, rules, Box}
 use Rattle.std.specs.Prelude.{OnOk, IfOk}
 use Rattle.std.proofs.lemmas.List.{at_drop_more}
 use Rattle.bpaf_doc.specs.declared.buffer.Doc.{Doc}
@@ -98,20 +98,13 @@ append_group-returns-then-not-groups-clause-entries g t c =
     OnOk-map {P = map entry_of c.append.new.items.items ≡ old ++ entries_of false inner} c.append.result (λ e. e ∙ ap (λ es. old ++ es) (sym (ungrouped inner c.args.help.now) ∙ ap (λ b. entries_of b (subsection inner c.args.help.now)) (sym c.if-not-groups.true))) c.append.ensures.entries
 
 pub append_noted-returns-in_default-clause-entries : goal.append_noted-returns-in_default-clause-entries
-append_noted-returns-in_default-clause-entries g t c =
-    let inner = tree_of c.args.inner.now in
-    let none : front_type inner ≡ None = cc (c.in_ok-front.ensures.ty, c.in_default.is) in
-    c.in_ok-front.ensures.entries ∙ ap (λ es. map entry_of c.args.items.now.items ++ es) (sym (unnoted c.args.groups inner c.args.help.now none))
+append_noted-returns-in_default-clause-entries g t c = grind (arith, unnoted)
 
 -- a tree around another one, but for a block of its own
 tree_around : {A : Type 0} (m : Meta A) (inner : Box (Meta A) A) → (m ≡ Optional inner) ⊎ ((m ≡ Required inner) ⊎ ((m ≡ Many inner) ⊎ (((d : Box (Doc A) A) × (m ≡ CustomUsage inner d)) ⊎ (m ≡ Strict inner)))) → {X : Type 0} (f : Tree → X)
     → ((t : Tree) → f (optional t) ≡ f t) → ((t : Tree) → f (required t) ≡ f t) → ((t : Tree) → f (many t) ≡ f t) → ((t : Tree) (d : _) → f (custom_usage t d) ≡ f t) → ((t : Tree) → f (strict t) ≡ f t)
     → f (tree_of inner.value) ≡ f (tree_of m)
-tree_around m inner (inl e) f o r n c s = search (rules, the_lemmas, e, o)
-tree_around m inner (inr (inl e)) f o r n c s = search (rules, the_lemmas, e, r)
-tree_around m inner (inr (inr (inl e))) f o r n c s = search (rules, the_lemmas, e, n)
-tree_around m inner (inr (inr (inr (inl e)))) f o r n c s = search (rules, the_lemmas, e.1, c)
-tree_around m inner (inr (inr (inr (inr e)))) f o r n c s = search (rules, the_lemmas, e, s)
+tree_around m inner is f o r n c s = grind (arith, the_lemmas, is)
 
 pub append-returns-in-Optional-clause-entries : goal.append-returns-in-Optional-clause-entries
 append-returns-in-Optional-clause-entries g t c =

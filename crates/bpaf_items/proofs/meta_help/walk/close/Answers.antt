@@ -1,4 +1,4 @@
-use Rattle.std.proofs.Common.{◌≡◌, ◌<◌, length, rules}
+use Rattle.std.proofs.Common.{◌≡◌, ◌<◌, length, rules, arith}
 use Rattle.std.specs.Prelude.{slice_set}
 use Rattle.bpaf_meta.proofs.lemmas.Usage.Written.{OnOk-map}
 use Rattle.bpaf_items.proofs.Steps.Fronts.{front_then}
@@ -12,12 +12,7 @@ returns-in_err-push-clause-front g c =
     front_then _ old _ (take_front old c.args.at within) c.push.ensures.front
 
 pub returns-clause-items : goal.returns-clause-items
-returns-clause-items g c =
-    let old = c.args.items.now.items in
-    let within : c.args.at < length old = search rules in
-    let two = c.swap_remove-kept.new.self.items in
-    let moved : two ≡ slice_set old c.args.at c.args.first = moved_last old c.push.new.items.items two c.args.at c.args.first c.swap_remove-kept.result within c.in_ok-push.ensures.items c.swap_remove-kept.ensures.items in
-    OnOk-map c.push-2.result (with_last two (slice_set old c.args.at c.args.first) c.push-2.new.items.items c.args.last moved) c.push-2.ensures.items
+returns-clause-items g c = grind (arith, moved_last, OnOk-map, with_last)
 
 pub returns-clause-front : goal.returns-clause-front
 returns-clause-front g c =
