@@ -1,6 +1,8 @@
 //! Arenas with little room. An arena gives no room out twice, but for that of its last block: so with a little
 //! more room each time, one growth of a call after another is the first that is refused.
 use bumpalo::Bump;
+use bumpalo::collections::into_bump_slice;
+use std::alloc::Global;
 use std::process::Abort;
 
 /// How many bytes an arena has: more than a call of these tests takes beside what it is called on.
@@ -9,14 +11,15 @@ pub const BYTES: usize = 65536;
 /// How many bytes more an arena has left each time. Few growths are smaller.
 pub const STEP: usize = 8;
 
-pub fn roomy(rt: &(impl Abort + AllocGlobal)) -> Bump {
-    let arena = Bump::try_with_capacity(rt.alloc(), BYTES).expect(rt, "an arena");
+pub fn roomy(rt: &impl Abort, out: Global) -> Bump {
+    let arena = Bump::try_with_capacity(out, BYTES).expect(rt, "an arena");
     arena.set_allocation_limit(Some(0));
     arena
 }
 
-/// Takes all that an arena has left but so many bytes. Where none is left each growth is refused.
-pub fn taken<'a>(rt: &impl Abort, arena: &'a Bump, room: usize) -> Vec<u8, &'a Bump> {
+/// Takes all that an arena has left but so many bytes, for good. Where none is left each growth is refused.
+pub fn leave(rt: &impl Abort, arena: &Bump, room: usize) {
     let rest = arena.chunk_capacity().saturating_sub(room);
-    Vec::with_capacity(arena, rest).expect(rt, "the rest of an arena")
+    let taken: Vec<u8, &Bump> = Vec::with_capacity(arena, rest).expect(rt, "the rest of an arena");
+    into_bump_slice(taken);
 }

@@ -1,4 +1,5 @@
 //! Tests of documents and their pages.
 
 mod calls;
+mod pages;
 mod refusals;

@@ -3,10 +3,10 @@
 use crate::arenas::{leave, roomy};
 use crate::meta::calls::{Make, Write, is_made, read_is_shown, shorts_are_put, write_in};
 use crate::pages_calls::{PageCall, page_ended};
-use crate::trees::{info, path, tree};
+use crate::trees::{DESCRIBED, info, path, tree};
 use bpaf_doc::buffer::Doc;
 use bpaf_help::meta::Meta;
-use bpaf_help::meta_help::{EnvTexts, HelpItem, HelpItems, write_help, write_help_item_groups};
+use bpaf_help::meta_help::{EnvTexts, HelpItems, write_help, write_help_item_groups};
 use bumpalo::Bump;
 use std::alloc::{Allocator, Global};
 use std::fmt::Write as _;
@@ -26,6 +26,7 @@ pub enum Call {
     Write(Write),
     Make(Make),
     Shorts,
+    /// What takes no memory.
     Read,
     Page(PageCall),
 }
@@ -60,25 +61,13 @@ pub fn end_of(
     shown: &mut String,
 ) -> Ended {
     let arena = roomy(rt, out);
-    let ended = end_over(rt, &arena, room, text, call, shown);
-    drop(arena);
-    ended
-}
-
-fn end_over(
-    rt: &impl Abort,
-    arena: &Bump,
-    room: usize,
-    text: &str,
-    call: Call,
-    shown: &mut String,
-) -> Ended {
-    let tree = tree(rt, arena, text);
+    let tree = tree(rt, &arena, text);
     let ended = match call {
-        Call::Page(call) => page_ended(rt, arena, room, &tree, call, shown),
-        _ => Ended::of(is_done(rt, arena, room, &tree, call, shown)),
+        Call::Page(call) => page_ended(rt, &arena, room, &tree, call, shown),
+        _ => Ended::of(is_done(rt, &arena, room, &tree, call, shown)),
     };
     drop(tree);
+    drop(arena);
     ended
 }
 
@@ -92,14 +81,10 @@ fn is_done<'a>(
 ) -> bool {
     match call {
         Call::Append | Call::List => is_appended(rt, arena, room, tree, call, shown),
-        Call::Insert => is_inserted(rt, arena, room, EnvTexts::new(arena), "W", shown),
-        Call::Replace => is_inserted(rt, arena, room, begun_texts(rt, arena), "V", shown),
+        Call::Insert | Call::Replace => is_inserted(rt, arena, room, call, shown),
         Call::Make(call) => is_made(rt, arena, room, tree, call, shown),
         Call::Shorts => shorts_are_put(rt, arena, room, tree, shown),
-        Call::Read => {
-            leave(rt, arena, room);
-            read_is_shown(tree, shown)
-        }
+        Call::Read => read_is_shown(rt, arena, room, tree, shown),
         _ => doc_is_written(rt, arena, room, tree, call, shown),
     }
 }
@@ -130,13 +115,9 @@ fn is_appended<'a>(
         Call::Append => list.append_meta(tree).is_ok(),
         _ => true,
     };
-    show_items(rt, list.items(), shown);
+    write!(shown, "{:?}", list.items()).expect(rt, "a text");
     drop(list);
     is_done
-}
-
-fn show_items<A: Allocator>(rt: &impl Abort, items: &[HelpItem<'_, A>], shown: &mut String) {
-    write!(shown, "{items:?}").expect(rt, "a text");
 }
 
 // Texts in which one name has one.
@@ -150,22 +131,21 @@ fn is_inserted<'a>(
     rt: &impl Abort,
     arena: &'a Bump,
     room: usize,
-    mut texts: EnvTexts<&'a Bump>,
-    name: &str,
+    call: Call,
     shown: &mut String,
 ) -> bool {
+    let (mut texts, name) = match call {
+        Call::Insert => (EnvTexts::new(arena), "W"),
+        _ => (begun_texts(rt, arena), "V"),
+    };
     leave(rt, arena, room);
     let is_done = texts
         .insert(name, "a text of an environment variable")
         .is_ok();
-    show_texts(rt, &texts, shown);
-    drop(texts);
-    is_done
-}
-
-fn show_texts(rt: &impl Abort, texts: &EnvTexts<&Bump>, shown: &mut String) {
     let (first, second) = (texts.get("V"), texts.get("W"));
     write!(shown, "{texts:?} {first:?} {second:?}").expect(rt, "a text");
+    drop(texts);
+    is_done
 }
 
 // A call that writes into a document, which holds a text.
@@ -217,7 +197,7 @@ fn page_is_written<'a>(
     tree: &Meta<&'a Bump>,
     doc: &mut Doc<&'a Bump>,
 ) -> bool {
-    let info = info(rt, arena, "Prints things");
+    let info = info(rt, arena, DESCRIBED);
     let path = path(rt, arena);
     let texts = EnvTexts::new(arena);
     leave(rt, arena, room);

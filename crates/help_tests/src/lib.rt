@@ -18,8 +18,6 @@ mod meta;
 #[cfg(test)]
 mod pages_calls;
 #[cfg(test)]
-mod pages_rows;
-#[cfg(test)]
 mod refusals;
 #[cfg(test)]
 mod rows;

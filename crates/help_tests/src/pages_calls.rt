@@ -1,17 +1,18 @@
 //! The calls that make pages and sections, and may answer `AllocError`.
 use crate::arenas::leave;
 use crate::calls::Ended;
-use crate::trees::{info, path};
+use crate::trees::{DESCRIBED, info, make_path, path};
 use bpaf_doc::buffer::Doc;
 use bpaf_help::item::{Item, ShortLong};
 use bpaf_help::meta::Meta;
 use bpaf_help::meta_help::{EnvTexts, HelpError, Info, render_help};
 use bpaf_help::pages::{
-    DocSection, ManualTitle, Section, collect_html, extract_sections, render_html, render_markdown,
+    DocSection, ManualTitle, Section, collect_html, extract_sections, render_html, render_manpage,
+    render_markdown,
 };
 use bumpalo::Bump;
 use std::alloc::{AllocError, Allocator};
-use std::fmt::Write;
+use std::fmt::{Debug, Write};
 use std::process::Abort;
 
 #[derive(Clone, Copy)]
@@ -21,6 +22,8 @@ pub enum PageCall {
     Html,
     Markdown,
     Manual,
+    /// The same, by the words of a title line.
+    Titled,
     /// The sections behind themselves in a list.
     Sections,
     /// A copy of the last section.
@@ -42,25 +45,20 @@ pub fn page_ended<'a>(
     call: PageCall,
     shown: &mut String,
 ) -> Ended {
-    let info = info(rt, arena, "Prints things");
+    let info = info(rt, arena, DESCRIBED);
     let ended = match call {
         PageCall::Help => help_ended(rt, arena, room, tree, &info, shown),
-        PageCall::Collected => {
+        PageCall::Sections | PageCall::SectionsOnce | PageCall::Section | PageCall::LastSection => {
+            Ended::of(are_put(rt, arena, room, tree, &info, call, shown))
+        }
+        _ => {
             leave(rt, arena, room);
-            doc_ended(rt, collect_html(arena, "app", tree, &info), shown)
+            match call {
+                PageCall::Collected => ended(rt, collect_html(arena, "app", tree, &info), shown),
+                PageCall::Count => ended(rt, count(arena, tree, &info), shown),
+                _ => ended(rt, text_of(arena, tree, &info, call), shown),
+            }
         }
-        PageCall::Html | PageCall::Markdown | PageCall::Manual => {
-            leave(rt, arena, room);
-            text_ended(rt, text_of(arena, tree, &info, call), shown)
-        }
-        PageCall::Count => {
-            leave(rt, arena, room);
-            count_ended(rt, count(arena, tree, &info), shown)
-        }
-        PageCall::Sections | PageCall::SectionsOnce => {
-            Ended::of(sections_are_put(rt, arena, room, tree, &info, call, shown))
-        }
-        _ => Ended::of(section_is_copied(rt, arena, room, tree, &info, call, shown)),
     };
     drop(info);
     ended
@@ -78,67 +76,55 @@ fn help_ended<'a>(
     let texts = EnvTexts::new(arena);
     leave(rt, arena, room);
     let page = render_help(arena, &path, info, tree, tree, true, &texts);
-    let ended = doc_ended(rt, page, shown);
+    let ended = ended(rt, page, shown);
     drop(texts);
     drop(path);
     ended
 }
 
-fn doc_ended(
+// Shows what was made.
+fn ended<T: Debug + Drop>(
     rt: &impl Abort,
-    page: Result<Doc<&Bump>, HelpError<'_, &Bump>>,
+    made: Result<T, HelpError<'_, &Bump>>,
     shown: &mut String,
 ) -> Ended {
-    match page {
-        Ok(page) => {
-            write!(shown, "{page:?}").expect(rt, "a text");
-            drop(page);
+    match made {
+        Ok(made) => {
+            write!(shown, "{made:?}").expect(rt, "a text");
+            drop(made);
             Ended::Given
         }
-        Err(error) => ended_by(&error),
-    }
-}
-
-fn ended_by(error: &HelpError<'_, &Bump>) -> Ended {
-    match error {
-        HelpError::Misplaced(
-            Item::Flag {
-                name: ShortLong::Short(letter),
-                ..
-            },
+        Err(
+            HelpError::Misplaced(
+                Item::Flag {
+                    name: ShortLong::Short(letter),
+                    ..
+                },
+            ),
         ) => Ended::Misplaced(*letter),
-        _ => Ended::Refused,
+        Err(_) => Ended::Refused,
     }
 }
 
-fn text_of<'a, 'm>(
-    arena: &'a Bump,
-    tree: &'m Meta<&'a Bump>,
-    info: &'m Info<&'a Bump>,
+/// A page of an application as a text.
+pub fn text_of<'m, A: Allocator + Copy>(
+    alloc: A,
+    tree: &'m Meta<A>,
+    info: &'m Info<A>,
     call: PageCall,
-) -> Result<String<&'a Bump>, HelpError<'m, &'a Bump>> {
+) -> Result<String<A>, HelpError<'m, A>> {
     match call {
-        PageCall::Html => render_html(arena, "app", tree, info),
-        PageCall::Markdown => render_markdown(arena, "app", tree, info),
+        PageCall::Html => render_html(alloc, "app", tree, info),
+        PageCall::Markdown => render_markdown(alloc, "app", tree, info),
+        PageCall::Titled => {
+            let page = ManualTitle::new(Section::General).page(alloc, "app", tree, info)?;
+            Ok(page)
+        }
         _ => {
-            let text = ManualTitle::new(Section::General).page(arena, "app", tree, info)?;
-            Ok(text)
+            let section = Section::General;
+            let page = render_manpage(alloc, "app", section, None, None, None, tree, info)?;
+            Ok(page)
         }
-    }
-}
-
-fn text_ended(
-    rt: &impl Abort,
-    page: Result<String<&Bump>, HelpError<'_, &Bump>>,
-    shown: &mut String,
-) -> Ended {
-    match page {
-        Ok(page) => {
-            shown.push_str(page.as_str()).expect(rt, "a text");
-            drop(page);
-            Ended::Given
-        }
-        Err(error) => ended_by(&error),
     }
 }
 
@@ -146,21 +132,13 @@ fn count<'a, 'm>(
     arena: &'a Bump,
     tree: &'m Meta<&'a Bump>,
     info: &'m Info<&'a Bump>,
-) -> Result<usize, AllocError> {
-    let mut path = Vec::new(arena);
-    path.push(String::from_str(arena, "app")?)?;
+) -> Result<usize, HelpError<'m, &'a Bump>> {
+    let mut path = make_path(arena)?;
     let sections = gathered(arena, &mut path, tree, info)?;
-    Ok(sections.len())
-}
-
-fn count_ended(rt: &impl Abort, count: Result<usize, AllocError>, shown: &mut String) -> Ended {
-    match count {
-        Ok(count) => {
-            write!(shown, "{count}").expect(rt, "a text");
-            Ended::Given
-        }
-        Err(AllocError) => Ended::Refused,
-    }
+    let count = sections.len();
+    drop(sections);
+    drop(path);
+    Ok(count)
 }
 
 /// The sections of an application in a list of their own.
@@ -175,8 +153,8 @@ pub fn gathered<'m, A: Allocator, L: Allocator + Copy>(
     Ok(sections)
 }
 
-// Puts the sections behind themselves, or shows them as they stand.
-fn sections_are_put<'a>(
+// Puts the sections behind themselves, or copies the last one, or neither, and shows what stands then.
+fn are_put<'a>(
     rt: &impl Abort,
     arena: &'a Bump,
     room: usize,
@@ -190,9 +168,12 @@ fn sections_are_put<'a>(
     leave(rt, arena, room);
     let is_done = match call {
         PageCall::Sections => extract_sections(tree, info, &mut path, &mut sections).is_ok(),
-        _ => true,
+        PageCall::SectionsOnce => true,
+        _ => last_is_shown(rt, &sections, call, shown),
     };
-    show_sections(rt, &path, &sections, shown);
+    if let PageCall::Sections | PageCall::SectionsOnce = call {
+        show_sections(rt, &path, &sections, shown);
+    }
     drop(sections);
     drop(path);
     is_done
@@ -207,50 +188,24 @@ fn show_sections<A: Allocator, L: Allocator + Copy>(
     write!(shown, "{path:?} {sections:?}").expect(rt, "a text");
 }
 
-// Copies the last section, or shows it as it stands.
-fn section_is_copied<'a>(
+// Shows the last section, or a copy of it where one is asked for and made. Answers whether that is shown which is asked
+// for.
+fn last_is_shown<A: Allocator, L: Allocator + Copy>(
     rt: &impl Abort,
-    arena: &'a Bump,
-    room: usize,
-    tree: &Meta<&'a Bump>,
-    info: &Info<&'a Bump>,
+    sections: &[DocSection<'_, A, L>],
     call: PageCall,
     shown: &mut String,
 ) -> bool {
-    let mut path = path(rt, arena);
-    let sections = gathered(arena, &mut path, tree, info).expect(rt, "sections");
-    leave(rt, arena, room);
-    let is_done = match (sections.last(), call) {
-        (Some(section), PageCall::Section) => copy_is_shown(section, shown),
-        (Some(section), _) => section_is_shown(section, shown),
-        (None, _) => false,
+    let Some(section) = sections.last() else {
+        return false;
     };
-    drop(sections);
-    drop(path);
-    is_done
-}
-
-fn section_is_shown<A: Allocator, L: Allocator + Copy>(
-    section: &DocSection<'_, A, L>,
-    shown: &mut String,
-) -> bool {
-    write!(shown, "{section:?}").is_ok()
-}
-
-// Whether a copy was made, which is shown. The section itself is shown where it was not.
-fn copy_is_shown<A: Allocator, L: Allocator + Copy>(
-    section: &DocSection<'_, A, L>,
-    shown: &mut String,
-) -> bool {
-    match section.clone() {
-        Ok(copy) => {
-            let is_shown = section_is_shown(&copy, shown);
+    if let PageCall::Section = call {
+        if let Ok(copy) = section.clone() {
+            write!(shown, "{copy:?}").expect(rt, "a text");
             drop(copy);
-            is_shown
-        }
-        Err(AllocError) => {
-            let _ = section_is_shown(section, shown);
-            false
+            return true;
         }
     }
+    write!(shown, "{section:?}").expect(rt, "a text");
+    matches!(call, PageCall::LastSection)
 }

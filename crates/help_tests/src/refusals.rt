@@ -3,7 +3,9 @@
 //! ample memory.
 use crate::arenas::{BYTES, STEP};
 use crate::calls::{Call, Ended, end_of};
+use crate::meta::calls::{Make, Write};
 use crate::pages_calls::PageCall;
+use crate::rows::{Form, Row, is_made};
 use std::alloc::Global;
 use std::process::Abort;
 
@@ -13,32 +15,6 @@ pub fn given(rt: &impl Abort, out: Global, text: &str, call: Call) -> String {
     let ended = end_of(rt, out, BYTES, text, call, &mut shown);
     assert!(rt; ended == Ended::Given, "{text}");
     shown
-}
-
-/// The room in which a call succeeds. None where it is refused and what was lent is not as it stood before, and where
-/// the answer is not that of ample memory.
-pub fn needed(rt: &impl Abort, out: Global, text: &str, call: Call, before: &str) -> Option<usize> {
-    let given = given(rt, out, text, call);
-    let needed = room_for(rt, out, text, call, [before, &given]);
-    drop(given);
-    needed
-}
-
-fn room_for(
-    rt: &impl Abort,
-    out: Global,
-    text: &str,
-    call: Call,
-    wanted: [&str; 2],
-) -> Option<usize> {
-    for step in 0..BYTES / STEP {
-        match is_given(rt, out, step * STEP, text, call, wanted) {
-            Some(false) => {}
-            Some(true) => return Some(step * STEP),
-            None => return None,
-        }
-    }
-    None
 }
 
 // Whether the call succeeds in so much room. None where it does not show then what it should.
@@ -60,8 +36,22 @@ fn is_given(
     is_right
 }
 
-/// Whether a call succeeds as it should, and is refused where there is no room.
-pub fn takes_room(rt: &impl Abort, out: Global, text: &str, call: Call, before: &str) -> bool {
+// The room in which a call succeeds. None where it is refused and what was lent is not as it stood before, and where
+// the answer is not that of ample memory.
+fn needed(rt: &impl Abort, out: Global, text: &str, call: Call, before: &str) -> Option<usize> {
+    let given = given(rt, out, text, call);
+    for step in 0..BYTES / STEP {
+        match is_given(rt, out, step * STEP, text, call, [before, &given]) {
+            Some(false) => {}
+            Some(true) => return Some(step * STEP),
+            None => return None,
+        }
+    }
+    None
+}
+
+// Whether a call succeeds as it should, and is refused where there is no room.
+fn takes_room(rt: &impl Abort, out: Global, text: &str, call: Call, before: &str) -> bool {
     match needed(rt, out, text, call, before) {
         Some(room) => room > 0,
         None => false,
@@ -76,27 +66,124 @@ fn takes_room_behind(rt: &impl Abort, out: Global, text: &str, first: Call, call
     takes_room
 }
 
-// Two groups, an adjacent block, a note, and texts of environment variables.
-const SAMPLE: &str = "efA&&a%&xv&@~&XC&#&";
+const META: &str = "Sab|^+?&X$&aXR-&&";
 
-// A call, and what stands before it.
-const CALLS: &[(Call, &str)] = &[
-    (Call::Insert, "{} None None"),
-    (Call::Replace, r#"{"V": "7"} Some("7") None"#),
-    (Call::Groups, r#"{"V": "7"} [Text("before", Literal)]"#),
-    (Call::HelpPage, r#"[Text("before", Literal)]"#),
-    (Call::Page(PageCall::Help), ""),
+// Two groups, an adjacent block, a note, and texts of environment variables.
+const PARTS: &str = "efA&&a%&xv&@~&XC&#&";
+
+// A command below a command.
+const APPLICATION: &str = "vax1&0&";
+
+const BEFORE: &str = r#"[Text("before", Literal)]"#;
+
+// A tree, a call, and what stands before it.
+const CALLS: &[(&str, Call, &str)] = &[
+    (META, Call::Write(Write::Name), BEFORE),
+    (META, Call::Write(Write::Metavar), BEFORE),
+    (META, Call::Write(Write::Item), BEFORE),
+    (META, Call::Write(Write::Usage), BEFORE),
+    (META, Call::Write(Write::Outside), BEFORE),
+    (META, Call::Write(Write::Info), BEFORE),
+    (META, Call::Shorts, "['f'] ['g'] "),
+    (META, Call::Make(Make::Usage), ""),
+    (META, Call::Make(Make::Outside), ""),
+    (META, Call::Make(Make::Item), ""),
+    (META, Call::Make(Make::Required), ""),
+    (META, Call::Make(Make::Optional), ""),
+    (META, Call::Make(Make::Or), ""),
+    (PARTS, Call::Insert, "{} None None"),
+    (PARTS, Call::Replace, r#"{"V": "7"} Some("7") None"#),
+    (
+        PARTS,
+        Call::Groups,
+        r#"{"V": "7"} [Text("before", Literal)]"#,
+    ),
+    (PARTS, Call::HelpPage, BEFORE),
+    (PARTS, Call::Page(PageCall::Help), ""),
+    (APPLICATION, Call::Page(PageCall::Collected), ""),
+    (APPLICATION, Call::Page(PageCall::Html), ""),
+    (APPLICATION, Call::Page(PageCall::Markdown), ""),
+    (APPLICATION, Call::Page(PageCall::Manual), ""),
+    (APPLICATION, Call::Page(PageCall::Titled), ""),
 ];
 
 #[test]
 fn a_refused_call_leaves_what_it_was_lent(rt: HostRuntime) {
-    for &(call, before) in CALLS {
+    for &(text, call, before) in CALLS {
         assert!(rt;
-            takes_room(&rt, rt.alloc(), SAMPLE, call, before),
-            "{before}"
+            takes_room(&rt, rt.alloc(), text, call, before),
+            "{text} {before}"
         );
     }
-    assert!(rt; takes_room_behind(&rt, rt.alloc(), SAMPLE, Call::List, Call::Append));
+}
+
+// A tree, and a call behind one that shows what stands before it.
+const BEHIND: &[(&str, Call, Call)] = &[
+    (PARTS, Call::List, Call::Append),
+    (
+        APPLICATION,
+        Call::Page(PageCall::SectionsOnce),
+        Call::Page(PageCall::Sections),
+    ),
+    (
+        APPLICATION,
+        Call::Page(PageCall::LastSection),
+        Call::Page(PageCall::Section),
+    ),
+];
+
+// Whether a copy shows what is copied.
+fn shows_the_same(rt: &impl Abort, out: Global, text: &str, one: Call, other: Call) -> bool {
+    let one = given(rt, out, text, one);
+    let other = given(rt, out, text, other);
+    let is_same = one.as_str() == other.as_str();
+    drop(other);
+    drop(one);
+    is_same
+}
+
+#[test]
+fn a_refused_call_leaves_lists(rt: HostRuntime) {
+    for &(text, first, call) in BEHIND {
+        assert!(rt;
+            takes_room_behind(&rt, rt.alloc(), text, first, call),
+            "{text}"
+        );
+    }
+    let (_, section, copy) = BEHIND[2];
+    assert!(rt; shows_the_same(&rt, rt.alloc(), APPLICATION, section, copy));
+}
+
+// A tree of each variant and of each kind of item. `Skip` is the tree of help flags in what goes with a command.
+const FORMS: &str = "ab& ab| a? ab&^ ab&@ a S X Y aR a+ a# a~ a$ a-";
+
+// Whether a copy has every part, and is made once memory lasts.
+fn is_copied(rt: &impl Abort, out: Global, text: &str) -> bool {
+    let copy = Call::Make(Make::Copy);
+    let given = given(rt, out, text, copy);
+    let row: Row<'_> = (Form::Tree, text, "", given.as_str());
+    let is_same = is_made(rt, out, &row);
+    drop(given);
+    is_same && takes_room(rt, out, text, copy, "")
+}
+
+#[test]
+fn a_copy_of_each_form_is_made_once_memory_lasts(rt: HostRuntime) {
+    for text in FORMS.split(' ') {
+        assert!(rt; is_copied(&rt, rt.alloc(), text), "{text}");
+    }
+}
+
+const READ: &str = "Xa& aXR| aX&@b& XR#";
+
+#[test]
+fn what_takes_no_memory_is_never_refused(rt: HostRuntime) {
+    for text in READ.split(' ') {
+        assert!(rt;
+            needed(&rt, rt.alloc(), text, Call::Read, "") == Some(0),
+            "{text}"
+        );
+    }
 }
 
 // Whether a page ends so in so much room.
@@ -114,106 +201,32 @@ fn ends(
     ended == want
 }
 
-#[test]
-fn a_misplaced_item_is_found_before_memory_is_asked_for(rt: HostRuntime) {
-    let want = Ended::Misplaced('b');
-    assert!(rt; ends(&rt, rt.alloc(), 0, "Pb&", PageCall::Help, want));
-    assert!(rt; ends(&rt, rt.alloc(), BYTES, "Pb&", PageCall::Help, want));
-}
+// The room in which sections are gathered before a page is begun, as a page gathers them.
+const GATHERED: usize = usize::MAX;
 
-// A command below a command.
-const APPLICATION: &str = "vax1&0&";
-
-const PAGES: &[(Call, &str)] = &[
-    (Call::Page(PageCall::Collected), "collected"),
-    (Call::Page(PageCall::Html), "html"),
-    (Call::Page(PageCall::Markdown), "markdown"),
-    (Call::Page(PageCall::Manual), "manual"),
+// A room, a tree, a page, and how it ends.
+const ENDS: &[(usize, &str, PageCall, Ended)] = &[
+    // A misplaced item is found before memory is asked for.
+    (0, "Pb&", PageCall::Help, Ended::Misplaced('b')),
+    (BYTES, "Pb&", PageCall::Help, Ended::Misplaced('b')),
+    // The page of a command is checked with its own section.
+    (BYTES, "Pa&1B|@", PageCall::Help, Ended::Given),
+    // Each page is checked before it takes memory, but for that in which its sections are gathered.
+    (0, "Pb&", PageCall::Collected, Ended::Refused),
+    (GATHERED, "Pb&", PageCall::Collected, Ended::Misplaced('b')),
+    (GATHERED, "bP&", PageCall::Collected, Ended::Refused),
+    (BYTES, "Pb&", PageCall::Collected, Ended::Misplaced('b')),
+    (BYTES, "Pa&1B|@", PageCall::Collected, Ended::Misplaced('a')),
 ];
-
-// A call, behind one that shows what stands before it.
-const SECTIONS: &[(Call, Call, &str)] = &[
-    (
-        Call::Page(PageCall::SectionsOnce),
-        Call::Page(PageCall::Sections),
-        "sections",
-    ),
-    (
-        Call::Page(PageCall::LastSection),
-        Call::Page(PageCall::Section),
-        "a section",
-    ),
-];
-
-#[test]
-fn a_refused_page_leaves_what_it_was_lent(rt: HostRuntime) {
-    for &(call, name) in PAGES {
-        assert!(rt;
-            takes_room(&rt, rt.alloc(), APPLICATION, call, ""),
-            "{name}"
-        );
-    }
-    for &(first, call, name) in SECTIONS {
-        assert!(rt;
-            takes_room_behind(&rt, rt.alloc(), APPLICATION, first, call),
-            "{name}"
-        );
-    }
-}
-
-// How collected pages end in no room, in that which gathering their sections takes, and in ample room.
-const IN_NO_ROOM: &[(&str, Ended)] = &[("Pb&", Ended::Refused)];
-
-const WHEN_GATHERED: &[(&str, Ended)] = &[("Pb&", Ended::Misplaced('b')), ("bP&", Ended::Refused)];
-
-const IN_AMPLE_ROOM: &[(&str, Ended)] = &[
-    ("Pb&", Ended::Misplaced('b')),
-    ("Pa&1B|@", Ended::Misplaced('a')),
-];
-
-fn collected_ends(rt: &impl Abort, out: Global, room: usize, rows: &[(&str, Ended)]) -> bool {
-    for &(text, want) in rows {
-        if !ends(rt, out, room, text, PageCall::Collected, want) {
-            return false;
-        }
-    }
-    true
-}
 
 #[test]
 fn each_page_is_checked_before_it_takes_memory(rt: HostRuntime) {
     let gathered = needed(&rt, rt.alloc(), "Pb&", Call::Page(PageCall::Count), "").unwrap_or(0);
-    assert!(rt; collected_ends(&rt, rt.alloc(), 0, IN_NO_ROOM));
-    assert!(rt; collected_ends(&rt, rt.alloc(), gathered, WHEN_GATHERED));
-    assert!(rt; collected_ends(&rt, rt.alloc(), BYTES, IN_AMPLE_ROOM));
-}
-
-fn shows_the_same(rt: &impl Abort, out: Global, text: &str, one: Call, other: Call) -> bool {
-    let one = given(rt, out, text, one);
-    let other = given(rt, out, text, other);
-    let is_same = one.as_str() == other.as_str();
-    drop(other);
-    drop(one);
-    is_same
-}
-
-#[test]
-fn a_copy_of_a_section(rt: HostRuntime) {
-    let section = Call::Page(PageCall::LastSection);
-    let copy = Call::Page(PageCall::Section);
-    assert!(rt; shows_the_same(&rt, rt.alloc(), APPLICATION, section, copy));
-}
-
-#[test]
-fn the_page_of_a_command_is_checked_with_its_own_section(rt: HostRuntime) {
-    assert!(rt;
-        ends(
-            &rt,
-            rt.alloc(),
-            BYTES,
-            "Pa&1B|@",
-            PageCall::Help,
-            Ended::Given
-        )
-    );
+    for &(room, text, page, want) in ENDS {
+        let room = if room == GATHERED { gathered } else { room };
+        assert!(rt;
+            ends(&rt, rt.alloc(), room, text, page, want),
+            "{text} in {room}"
+        );
+    }
 }

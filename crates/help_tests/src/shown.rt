@@ -1,92 +1,78 @@
-//! What `Debug` shows of what is not derived, what errors say, and what an info without texts shows.
-use crate::calls::list_of;
-use crate::trees::tree;
+//! What `Debug` shows of texts of environment variables, what errors say, and title lines.
+use crate::trees::{BARE, info, tree};
 use bpaf_help::item::NoName;
 use bpaf_help::meta::Meta;
-use bpaf_help::meta_help::{EnvTexts, HelpError, Info};
-use bpaf_help::pages::render_markdown;
+use bpaf_help::meta_help::{EnvTexts, HelpError};
+use bpaf_help::pages::{ManualTitle, Section};
 use std::alloc::{AllocError, Global};
+use std::fmt::Write;
 use std::process::Abort;
 
-fn are_shown(rt: &impl Abort, out: Global, texts: &EnvTexts, want: &str) -> bool {
-    let shown = format!(in out; "{texts:?}").expect(rt, "a text");
-    let is_that = shown.as_str() == want;
-    drop(shown);
-    is_that
+// Texts without a name, and with two.
+fn env_texts(rt: &impl Abort, out: Global) -> String {
+    let mut shown = String::new(out);
+    let mut texts = EnvTexts::new(out);
+    write!(shown, "{texts:?} ").expect(rt, "a text");
+    texts.insert("B", "'x'").expect(rt, "a text");
+    texts.insert("A", "'y'").expect(rt, "a text");
+    write!(shown, "{texts:?}").expect(rt, "a text");
+    drop(texts);
+    shown
 }
 
 #[test]
 fn env_texts_show_what_they_hold(rt: HostRuntime) {
-    let mut texts = EnvTexts::new(rt.alloc());
-    assert!(rt; are_shown(&rt, rt.alloc(), &texts, "{}"));
-    texts.insert("B", "'x'").expect(&rt, "a text");
-    texts.insert("A", "'y'").expect(&rt, "a text");
-    let want = r#"{"A": "'y'", "B": "'x'"}"#;
-    assert!(rt; are_shown(&rt, rt.alloc(), &texts, want));
-    drop(texts);
-}
-
-fn entries_are(rt: &impl Abort, out: Global, want: &str) -> bool {
-    let tree = tree(rt, out, "X");
-    let list = list_of(rt, out, &tree);
-    let shown = format!(in out; "{list:?}").expect(rt, "a text");
-    drop(list);
-    drop(tree);
-    let is_that = shown.as_str() == want;
+    let shown = env_texts(&rt, rt.alloc());
+    assert!(rt; shown.as_str() == r#"{} {"A": "'y'", "B": "'x'"}"#);
     drop(shown);
-    is_that
 }
 
-#[test]
-fn lists_show_their_entries(rt: HostRuntime) {
-    let want = r#"[Positional { metavar: Metavar("X"), help: Some([Text("h", Text)]) }]"#;
-    assert!(rt; entries_are(&rt, rt.alloc(), want));
-}
-
-fn no_name_says(rt: &impl Abort, out: Global, want: &str) -> bool {
-    let said = format!(in out; "{NoName}").expect(rt, "a text");
-    let is_that = said.as_str() == want;
-    drop(said);
-    is_that
-}
-
-fn says(rt: &impl Abort, out: Global, error: HelpError<'_>, want: &str) -> bool {
-    let said = format!(in out; "{error}").expect(rt, "a text");
-    let is_that = said.as_str() == want;
-    drop(said);
-    is_that
-}
-
-fn misplaced_says(rt: &impl Abort, out: Global, want: &str) -> bool {
+fn errors(rt: &impl Abort, out: Global) -> String {
     let tree = tree(rt, out, "X");
-    let is_that = match tree.first_item() {
-        Some(item) => says(rt, out, HelpError::Misplaced(item), want),
-        None => false,
-    };
+    let item = tree.first_item().expect(rt, "an item");
+    let (refused, misplaced): (HelpError<'_>, HelpError<'_>) = (
+        HelpError::Memory(AllocError),
+        HelpError::Misplaced(item),
+    );
+    let said = format!(in out; "{NoName}, {refused}, {misplaced}");
     drop(tree);
-    is_that
+    said.expect(rt, "a text")
 }
 
 #[test]
 fn errors_say_what_is_wrong(rt: HostRuntime) {
-    assert!(rt; no_name_says(&rt, rt.alloc(), "no name"));
-    let refused = HelpError::Memory(AllocError);
-    assert!(rt; says(&rt, rt.alloc(), refused, "no memory"));
-    assert!(rt; misplaced_says(&rt, rt.alloc(), "misplaced item"));
+    let said = errors(&rt, rt.alloc());
+    assert!(rt; said.as_str() == "no name, no memory, misplaced item");
+    drop(said);
 }
 
-fn default_shows(rt: &impl Abort, out: Global, want: &str) -> bool {
-    let info: Info = Info::default();
-    let page = render_markdown(out, "app", &Meta::Skip, &info).ok();
+// What stands before and behind the words of a title line, in a manual page of nothing.
+const BEFORE: &str = ".ie \\n(.g .ds Aq \\(aq\n.el .ds Aq '\n.TH a\\ b\\\\ ";
+
+const BEHIND: &str = "\n.SH SYNOPSIS\n\\fBa b\\\\\\fP\\fR \\fP";
+
+fn titles(rt: &impl Abort, out: Global, words: ManualTitle<'_>, want: &str) -> bool {
+    let info = info(rt, out, BARE);
+    let page = words
+        .page(out, "a b\\", &Meta::Skip, &info)
+        .expect(rt, "a page");
     drop(info);
-    let page = page.expect(rt, "a page");
-    let is_that = page.as_str() == want;
+    let is_that = match page.as_str().strip_prefix(BEFORE) {
+        Some(rest) => rest.strip_suffix(BEHIND) == Some(want),
+        None => false,
+    };
     drop(page);
     is_that
 }
 
 #[test]
-fn an_info_without_texts_is_the_default(rt: HostRuntime) {
-    let want = "# app\n\n**Usage**: **`app`** \n";
-    assert!(rt; default_shows(&rt, rt.alloc(), want));
+fn a_title_line(rt: HostRuntime) {
+    let custom = ManualTitle::new(Section::Custom("3\"x"));
+    assert!(rt; titles(&rt, rt.alloc(), custom, "3\"x - - \"\""));
+    let titled = custom.vendor("").title("T\n");
+    assert!(rt; titles(&rt, rt.alloc(), titled, "3\"x - \"\" T\\ "));
+    let dated = custom.title("T").date("May 1").vendor("V 2");
+    assert!(rt; titles(&rt, rt.alloc(), dated, "3\"x May\\ 1 V\\ 2 T"));
+    let game = ManualTitle::new(Section::Game).date("D");
+    assert!(rt; titles(&rt, rt.alloc(), game, "6 D - \"\""));
 }

@@ -3,28 +3,24 @@ use bpaf_doc::buffer::Doc;
 use bpaf_help::item::{Item, ShortLong};
 use bpaf_help::meta::Meta;
 use bpaf_help::meta_help::{Info, Metavar};
-use std::alloc::Allocator;
+use std::alloc::{AllocError, Allocator};
 use std::process::Abort;
 
 /// The tree that a text spells over a stack of trees. `X` is a positional value with help, `C` a command of the
 /// same name and help, `P` a positional value without help, `A` and `S` an argument, `Y` an `Any`, `.` a `Skip`,
-/// and `B` and each small letter a flag. Each other sign takes trees off and puts one on: `&` an `And` of two, `|`
-/// an `Or` of two, and of the last one `?` Optional, `^` Required, `@` Adjacent, `+` Many, `-` Strict, `#` and `%`
-/// Subsection, `~` and `!` Suffix, `$` CustomUsage, and each digit and `R` a command. Where there is none to take
-/// off, it takes `Skip`.
+/// and `B`, each small letter and each letter that is not ASCII a flag. Each other sign takes trees off and puts one
+/// on: `&` an `And` of two, `|` an `Or` of two, and of the last one `?` Optional, `^` Required, `@` Adjacent, `+` Many,
+/// `-` Strict, `#` and `%` Subsection, `~` and `!` Suffix, `$` CustomUsage, and each digit and `R` a command. Where
+/// there is none to take off, it takes `Skip`.
 pub fn tree<A: Allocator + Copy>(rt: &impl Abort, alloc: A, text: &str) -> Meta<A> {
     let mut stack = Vec::new(alloc);
     for sign in text.chars() {
-        put(rt, alloc, &mut stack, sign);
+        let made = made(rt, alloc, &mut stack, sign);
+        stack.push(made).expect(rt, "a tree");
     }
     let tree = top(&mut stack);
     drop(stack);
     tree
-}
-
-fn put<A: Allocator + Copy>(rt: &impl Abort, alloc: A, stack: &mut Vec<Meta<A>, A>, sign: char) {
-    let made = made(rt, alloc, stack, sign);
-    stack.push(made).expect(rt, "a tree");
 }
 
 fn top<A: Allocator>(stack: &mut Vec<Meta<A>, A>) -> Meta<A> {
@@ -78,8 +74,15 @@ fn wrapped<A: Allocator>(rt: &impl Abort, alloc: A, inner: Meta<A>, sign: char) 
 }
 
 fn noted<A: Allocator + Copy>(rt: &impl Abort, alloc: A, inner: Meta<A>, sign: char) -> Meta<A> {
+    let note = match sign {
+        '#' => "G",
+        '%' => "Extra",
+        '~' => "S",
+        _ => "T",
+    };
+    let note = Doc::from_text(alloc, note).expect(rt, "a note");
+    let note = Box::new(alloc, note).expect(rt, "a note");
     let inner = Box::new(alloc, inner).expect(rt, "a tree");
-    let note = Box::new(alloc, doc(rt, alloc, note(sign))).expect(rt, "a note");
     match sign {
         '#' | '%' => Meta::Subsection(inner, note),
         '$' => Meta::CustomUsage(inner, note),
@@ -87,153 +90,122 @@ fn noted<A: Allocator + Copy>(rt: &impl Abort, alloc: A, inner: Meta<A>, sign: c
     }
 }
 
-fn note(sign: char) -> &'static str {
+// The name of a command, its short name and its help.
+fn command_words(sign: char) -> (&'static str, Option<char>, &'static str) {
     match sign {
-        '#' => "G",
-        '%' => "Extra",
-        '~' => "S",
-        _ => "T",
+        'R' => ("run", Some('r'), "a command"),
+        'C' => ("X", None, "h"),
+        '1' => ("put", None, ""),
+        '2' => ("get", None, ""),
+        '3' => ("list", None, ""),
+        '4' => ("show", None, ""),
+        '5' => ("find", None, ""),
+        '6' => ("drop", None, ""),
+        '7' => ("help", None, ""),
+        _ => ("run", None, ""),
     }
 }
 
 fn command<A: Allocator + Copy>(rt: &impl Abort, alloc: A, below: Meta<A>, sign: char) -> Meta<A> {
-    let (short, help) = command_words(sign);
-    let info = if sign == 'R' {
-        full_info(rt, alloc)
-    } else {
-        info(rt, alloc, "")
-    };
+    let (name, short, help) = command_words(sign);
+    let texts = if sign == 'R' { FULL } else { BARE };
     let command = Item::Command {
-        name: command_name(sign),
+        name,
         short,
         help: text_doc(rt, alloc, help),
         meta: Box::new(alloc, below).expect(rt, "a tree"),
-        info: Box::new(alloc, info).expect(rt, "an info"),
+        info: Box::new(alloc, info(rt, alloc, texts)).expect(rt, "an info"),
     };
     Meta::from_item(alloc, command).expect(rt, "a command")
 }
 
-fn command_name(sign: char) -> &'static str {
-    match sign {
-        'C' => "X",
-        '1' => "put",
-        '2' => "get",
-        '3' => "list",
-        '4' => "show",
-        '5' => "find",
-        '6' => "drop",
-        '7' => "help",
-        _ => "run",
-    }
-}
+/// A description, a header, a footer and a usage.
+pub type Texts<'a> = [&'a str; 4];
 
-// The short name of a command and its help.
-fn command_words(sign: char) -> (Option<char>, &'static str) {
-    match sign {
-        'R' => (Some('r'), "a command"),
-        'C' => (None, "h"),
-        _ => (None, ""),
-    }
-}
+// Each of them another.
+const FULL: Texts<'static> = ["what", "head", "foot", "use"];
 
-// Texts of a help page, each of them another.
-fn full_info<A: Allocator + Copy>(rt: &impl Abort, alloc: A) -> Info<A> {
+/// None of them.
+pub const BARE: Texts<'static> = ["", "", "", ""];
+
+/// A description alone.
+pub const DESCRIBED: Texts<'static> = ["Prints things", "", "", ""];
+
+/// What goes with a page: the texts that are not empty, and nothing else.
+pub fn info<A: Allocator + Copy>(
+    rt: &impl Abort,
+    alloc: A,
+    [descr, header, footer, usage]: Texts<'_>,
+) -> Info<A> {
     Info {
-        descr: text_doc(rt, alloc, "what"),
-        header: text_doc(rt, alloc, "head"),
-        footer: text_doc(rt, alloc, "foot"),
-        usage: text_doc(rt, alloc, "use"),
+        descr: text_doc(rt, alloc, descr),
+        header: text_doc(rt, alloc, header),
+        footer: text_doc(rt, alloc, footer),
+        usage: text_doc(rt, alloc, usage),
         help: Meta::Skip,
     }
 }
 
-/// What goes with a page: its description, and nothing else.
-pub fn info<A: Allocator + Copy>(rt: &impl Abort, alloc: A, description: &str) -> Info<A> {
-    Info {
-        descr: text_doc(rt, alloc, description),
-        header: None,
-        footer: None,
-        usage: None,
-        help: Meta::Skip,
-    }
-}
-
-fn leaf<A: Allocator + Copy>(rt: &impl Abort, alloc: A, sign: char) -> Meta<A> {
+/// The tree of one item.
+pub fn leaf<A: Allocator + Copy>(rt: &impl Abort, alloc: A, sign: char) -> Meta<A> {
     let item = match sign {
-        'X' => positional(rt, alloc, "X", "h"),
-        'P' => positional(rt, alloc, "P", ""),
-        'Y' => any(rt, alloc),
-        'A' | 'S' => argument(rt, alloc, sign),
-        _ => {
-            let (name, env, help) = flag_words(sign);
-            flag(rt, alloc, name, env, help)
-        }
+        'X' | 'P' => positional(rt, alloc, sign),
+        'Y' => Item::Any {
+            metavar: Doc::from_text(alloc, "rest").expect(rt, "a document"),
+            anywhere: false,
+            help: text_doc(rt, alloc, "all else"),
+        },
+        _ => named(rt, alloc, sign),
     };
     Meta::from_item(alloc, item).expect(rt, "an item")
 }
 
-fn positional<A: Allocator + Copy>(
-    rt: &impl Abort,
-    alloc: A,
-    name: &'static str,
-    help: &str,
-) -> Item<A> {
+fn positional<A: Allocator + Copy>(rt: &impl Abort, alloc: A, sign: char) -> Item<A> {
+    let (name, help) = if sign == 'X' { ("X", "h") } else { ("P", "") };
     Item::Positional {
         metavar: Metavar(name),
         help: text_doc(rt, alloc, help),
     }
 }
 
-fn any<A: Allocator + Copy>(rt: &impl Abort, alloc: A) -> Item<A> {
-    Item::Any {
-        metavar: doc(rt, alloc, "rest"),
-        anywhere: false,
-        help: text_doc(rt, alloc, "all else"),
-    }
-}
-
-fn argument<A: Allocator + Copy>(rt: &impl Abort, alloc: A, sign: char) -> Item<A> {
-    let (name, value, env, help) = if sign == 'A' {
-        (ShortLong::Long("n"), "N", "V", "N it")
-    } else {
-        let name = ShortLong::Both('s', "speed");
-        (name, "the number of units", "SPEED", "a number")
-    };
-    Item::Argument {
-        name,
-        shorts: shorts(rt, alloc, name),
-        metavar: Metavar(value),
-        env: Some(env),
-        help: text_doc(rt, alloc, help),
-    }
-}
-
-// The names of a flag, its environment variable and its help.
-fn flag_words(sign: char) -> (ShortLong, Option<&'static str>, &'static str) {
+// The names of a flag or an argument, its environment variable and its help.
+fn words(sign: char) -> (ShortLong, Option<&'static str>, &'static str) {
     match sign {
+        'A' => (ShortLong::Long("n"), Some("V"), "N it"),
+        'S' => (ShortLong::Both('s', "speed"), Some("SPEED"), "a number"),
         'a' => (ShortLong::Short('a'), None, "A"),
         'B' => (ShortLong::Short('b'), None, "B"),
         'e' => (ShortLong::Short('e'), Some("V"), "E"),
         'f' => (ShortLong::Short('e'), Some("W"), "E"),
         'x' => (ShortLong::Long("x"), None, "X it"),
         'v' => (ShortLong::Both('v', "verbose"), None, "Talk more"),
-        _ => (ShortLong::Short(sign), None, ""),
+        _ if sign.is_ascii() => (ShortLong::Short(sign), None, ""),
+        _ => (ShortLong::Short(sign), None, "h"),
     }
 }
 
-/// A flag with a help text, where the text is not empty.
-pub fn flag<A: Allocator + Copy>(
-    rt: &impl Abort,
-    alloc: A,
-    name: ShortLong,
-    env: Option<&'static str>,
-    help: &str,
-) -> Item<A> {
-    Item::Flag {
-        name,
-        shorts: shorts(rt, alloc, name),
-        env,
-        help: text_doc(rt, alloc, help),
+fn named<A: Allocator + Copy>(rt: &impl Abort, alloc: A, sign: char) -> Item<A> {
+    let (name, env, help) = words(sign);
+    let shorts = shorts(rt, alloc, name);
+    let help = text_doc(rt, alloc, help);
+    match sign {
+        'A' | 'S' => Item::Argument {
+            name,
+            shorts,
+            metavar: Metavar(if sign == 'A' {
+                "N"
+            } else {
+                "the number of units"
+            }),
+            env,
+            help,
+        },
+        _ => Item::Flag {
+            name,
+            shorts,
+            env,
+            help,
+        },
     }
 }
 
@@ -247,23 +219,23 @@ fn shorts<A: Allocator>(rt: &impl Abort, alloc: A, name: ShortLong) -> Vec<char,
     }
 }
 
-fn doc<A: Allocator + Copy>(rt: &impl Abort, alloc: A, text: &str) -> Doc<A> {
-    Doc::from_text(alloc, text).expect(rt, "a document")
-}
-
 // No document of an empty text.
 fn text_doc<A: Allocator + Copy>(rt: &impl Abort, alloc: A, text: &str) -> Option<Doc<A>> {
     if text.is_empty() {
         None
     } else {
-        Some(doc(rt, alloc, text))
+        Some(Doc::from_text(alloc, text).expect(rt, "a document"))
     }
 }
 
-/// A path of the application's name.
-pub fn path<L: Allocator + Copy>(rt: &impl Abort, alloc: L) -> Vec<String<L>, L> {
-    let app = String::from_str(alloc, "app").expect(rt, "a name");
+/// A path of the application's name. `AllocError` says that an allocation failed.
+pub fn make_path<L: Allocator + Copy>(alloc: L) -> Result<Vec<String<L>, L>, AllocError> {
     let mut path = Vec::new(alloc);
-    path.push(app).expect(rt, "a path");
-    path
+    path.push(String::from_str(alloc, "app")?)?;
+    Ok(path)
+}
+
+/// The same, with ample memory.
+pub fn path<L: Allocator + Copy>(rt: &impl Abort, alloc: L) -> Vec<String<L>, L> {
+    make_path(alloc).expect(rt, "a path")
 }

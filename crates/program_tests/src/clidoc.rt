@@ -3,7 +3,5 @@
 pub mod ends;
 mod faults;
 mod folders;
-mod long_pages;
 pub mod pages;
-mod programs;
 mod words;

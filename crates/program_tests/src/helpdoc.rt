@@ -1,5 +1,4 @@
-//! Tests of `helpdoc_engine`.
+//! Runs of `helpdoc_engine`.
 
 pub mod ends;
-mod pages;
-mod programs;
+pub mod pages;

@@ -3,9 +3,10 @@
 //! and what a whole run says.
 //!
 //! They stand apart from what they test, since a crate with tests is proved twice. A table is a reference to its
-//! rows: an array by value is made anew where it is gone over, and the proof has steps for each row. A row is
-//! judged in a function of its own, which takes the memory that it needs, so that a test holds nothing but the row
-//! while it asserts.
+//! rows: an array by value is made anew where it is gone over, and the proof has steps for each row. Rows that are
+//! texts alone are one text, which a test cuts as it goes: the proof has no steps for them. A row is judged in a
+//! function of its own, which takes the memory that it needs, so that a test holds nothing but the row while it
+//! asserts.
 #![tactic(auto)]
 
 #[cfg(test)]
@@ -17,8 +18,16 @@ mod frames;
 #[cfg(test)]
 mod helpdoc;
 #[cfg(test)]
+mod long_pages;
+#[cfg(test)]
+mod pages;
+#[cfg(test)]
 mod programs;
+#[cfg(test)]
+mod runs;
 #[cfg(test)]
 mod stand_ins;
 #[cfg(test)]
 mod streams;
+#[cfg(test)]
+mod told;

@@ -70,28 +70,6 @@ fn passes_each_once(bytes: &[u8], room: &mut [u8], draws: &mut Draws) -> bool {
     reads_each_once(bytes, room, &reads[..4]) && writes_each_once(bytes, &writes[..4])
 }
 
-// Whether each call on so many bytes is passed on.
-fn passes_on(global: Global, size: usize, draws: &mut Draws) -> Result<bool, AllocError> {
-    let letters = letters(global, size)?;
-    let bytes = front(&letters, size).as_bytes();
-    let mut room = vec![in global; 0u8; size]?;
-    for _ in 0..SCRIPTS {
-        if !passes_each_once(bytes, &mut room, draws) {
-            return Ok(false);
-        }
-    }
-    Ok(true)
-}
-
-#[test]
-fn each_call_is_passed_on_once(rt: HostRuntime) {
-    let mut draws = Draws::new(1);
-    for &size in &SIZES {
-        let passes_on = passes_on(rt.alloc(), size, &mut draws);
-        assert!(rt; passes_on.unwrap_or(false), "{size}");
-    }
-}
-
 // What reading all of it answers, but for the bytes, which should be a beginning of these.
 fn read(
     global: Global,
@@ -127,34 +105,35 @@ fn moves_all(global: Global, bytes: &[u8], draws: &mut Draws) -> bool {
     reads_all(global, bytes, Script::of(&reads)) && writes_all(bytes, Script::of(&writes))
 }
 
-// Whether all of so many bytes is read, and all is written, whatever the scripts are.
-fn moves(global: Global, size: usize, draws: &mut Draws) -> Result<bool, AllocError> {
+// Whether each call on so many bytes is passed on, and all of them are read and written, whatever the scripts are, and
+// as all but one byte, and then that one.
+fn moves(global: Global, size: usize, draws: &mut [Draws; 2]) -> Result<bool, AllocError> {
     let letters = letters(global, size)?;
     let bytes = front(&letters, size).as_bytes();
+    let mut room = vec![in global; 0u8; size]?;
     for _ in 0..SCRIPTS {
-        if !moves_all(global, bytes, draws) {
+        if !passes_each_once(bytes, &mut room, &mut draws[0])
+            || !moves_all(global, bytes, &mut draws[1])
+        {
             return Ok(false);
         }
     }
-    Ok(reads_all(global, bytes, Script::WHOLE) && writes_all(bytes, Script::WHOLE))
-}
-
-// Whether many bytes are read at once, and written as all but one byte, and then that one.
-fn moves_many(global: Global) -> Result<bool, AllocError> {
-    let letters = letters(global, LARGE)?;
-    let bytes = front(&letters, LARGE).as_bytes();
-    let all_but_one = Script::of(&[Answer::Moves(LARGE - 1)]);
-    Ok(reads_all(global, bytes, Script::WHOLE) && writes_all(bytes, all_but_one))
+    let all_but_one = [Answer::Moves(size.saturating_sub(1))];
+    Ok(
+        reads_all(global, bytes, Script::WHOLE)
+            && writes_all(bytes, Script::WHOLE)
+            && writes_all(bytes, Script::of(&all_but_one)),
+    )
 }
 
 #[test]
-fn all_is_read_and_written(rt: HostRuntime) {
-    let mut draws = Draws::new(2);
+fn each_call_is_passed_on_once(rt: HostRuntime) {
+    let mut draws = [Draws::new(1), Draws::new(2)];
     for &size in &SIZES {
         let moves = moves(rt.alloc(), size, &mut draws);
         assert!(rt; moves.unwrap_or(false), "{size}");
     }
-    assert!(rt; moves_many(rt.alloc()).unwrap_or(false));
+    assert!(rt; moves(rt.alloc(), LARGE, &mut draws).unwrap_or(false));
 }
 
 // Whether writing answers this error of the writer, with all that it says.
@@ -185,17 +164,4 @@ fn each_error_is_handed_out(rt: HostRuntime) {
         assert!(rt; comes_out(rt.alloc(), kind), "{kind:?}");
     }
     assert!(rt; says_none_is_taken());
-}
-
-fn are_told() -> bool {
-    says(
-        &ReadError::Failed(ErrorKind::TimedOut.into()),
-        "read failed: timed out",
-    ) && says(&ReadError::NotUtf8, "input is not UTF-8")
-        && says(&ReadError::Refused(AllocError), "no memory")
-}
-
-#[test]
-fn a_failed_reading_is_told(rt: HostRuntime) {
-    assert!(rt; are_told());
 }

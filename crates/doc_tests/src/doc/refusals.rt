@@ -1,15 +1,15 @@
 //! Each growth refused in turn: a call is made over an arena with room for nothing, then for a little more each
 //! time, until it succeeds. Each refusal leaves what was lent as it was, and the answer at the end is that of
 //! ample memory.
-use crate::arenas::{BYTES, STEP, roomy, taken};
-use crate::doc::calls::word;
+use crate::arenas::{BYTES, STEP, leave, roomy};
+use crate::doc::pages::{Page, text_of};
 use bpaf_doc::buffer::{Block, Doc, Style, Token};
-use bpaf_roff::roff::Roff;
-use std::alloc::{AllocError, Allocator};
+use bumpalo::Bump;
+use std::alloc::{AllocError, Allocator, Global};
 use std::fmt::Write;
 use std::process::Abort;
 
-#[derive(Clone, Copy, Debug)]
+#[derive(Clone, Copy)]
 enum Call {
     Joined,
     Apart,
@@ -29,43 +29,36 @@ enum Call {
     Pairs,
     Copy,
     FirstLine,
-    Console,
-    Monochrome,
-    Html,
-    FullHtml,
-    StyledHtml,
-    Markdown,
-    Roff,
-    OwnedRoff,
+    Page(Page),
 }
 
-const CALLS: [Call; 26] = [
-    Call::Joined,
-    Call::Apart,
-    Call::Character,
-    Call::Plain,
-    Call::Literal,
-    Call::Emphasis,
-    Call::Invalid,
-    Call::Mark,
-    Call::Nested,
-    Call::Title,
-    Call::Line,
-    Call::Path,
-    Call::Room,
-    Call::Text,
-    Call::Owned,
-    Call::Pairs,
-    Call::Copy,
-    Call::FirstLine,
-    Call::Console,
-    Call::Monochrome,
-    Call::Html,
-    Call::FullHtml,
-    Call::StyledHtml,
-    Call::Markdown,
-    Call::Roff,
-    Call::OwnedRoff,
+const CALLS: &[(Call, &str)] = &[
+    (Call::Joined, "joined"),
+    (Call::Apart, "apart"),
+    (Call::Character, "a character"),
+    (Call::Plain, "plain"),
+    (Call::Literal, "literal"),
+    (Call::Emphasis, "emphasis"),
+    (Call::Invalid, "invalid"),
+    (Call::Mark, "a mark"),
+    (Call::Nested, "nested"),
+    (Call::Title, "a title"),
+    (Call::Line, "a line"),
+    (Call::Path, "a path"),
+    (Call::Room, "room"),
+    (Call::Text, "a text"),
+    (Call::Owned, "an owned text"),
+    (Call::Pairs, "pairs"),
+    (Call::Copy, "a copy"),
+    (Call::FirstLine, "the first line"),
+    (Call::Page(Page::Console), "console"),
+    (Call::Page(Page::Monochrome), "monochrome"),
+    (Call::Page(Page::BriefHtml), "HTML in brief"),
+    (Call::Page(Page::FullHtml), "HTML in full"),
+    (Call::Page(Page::StyledHtml), "HTML with styles"),
+    (Call::Page(Page::Markdown), "Markdown"),
+    (Call::Page(Page::Roff), "a roff"),
+    (Call::Page(Page::OwnedRoff), "a roff of its own"),
 ];
 
 // What the calls are lent. The long text is longer than what a list of ends takes as it grows: so there is a room in
@@ -78,29 +71,27 @@ struct Lent {
     path: Vec<String>,
 }
 
-fn make_lent(rt: &(impl Abort + AllocGlobal)) -> Lent {
-    let long = word(rt, 600);
+fn make_lent(rt: &impl Abort, out: Global) -> Lent {
+    let long = "a".repeat(out, 600).expect(rt, "a text");
     Lent {
-        title: titled(rt, "title", &long),
-        line: titled(rt, "line\n", &long),
-        path: make_path(rt, &long),
+        title: titled(rt, out, "title", &long),
+        line: titled(rt, out, "line\n", &long),
+        path: make_path(rt, out, &long),
         long,
     }
 }
 
-fn titled(rt: &(impl Abort + AllocGlobal), title: &str, text: &str) -> Doc {
-    Doc::from_pairs(rt.alloc(), &[(title, Style::Text), (text, Style::Literal)]).expect(
-        rt,
-        "a document",
-    )
+fn titled(rt: &impl Abort, out: Global, title: &str, text: &str) -> Doc {
+    let pairs = &[(title, Style::Text), (text, Style::Literal)];
+    Doc::from_pairs(out, pairs).expect(rt, "a document")
 }
 
-fn make_path(rt: &(impl Abort + AllocGlobal), name: &str) -> Vec<String> {
-    let mut path = Vec::new(rt.alloc());
-    for name in ["program", name] {
-        let name = String::from_str(rt.alloc(), name).expect(rt, "a name");
-        path.push(name).expect(rt, "a path");
-    }
+fn make_path(rt: &impl Abort, out: Global, name: &str) -> Vec<String> {
+    let program = String::from_str(out, "program").expect(rt, "a name");
+    let name = String::from_str(out, name).expect(rt, "a name");
+    let mut path = Vec::new(out);
+    path.push(program).expect(rt, "a path");
+    path.push(name).expect(rt, "a path");
     path
 }
 
@@ -111,23 +102,26 @@ fn is_as_lent(given: &Lent, copy: &Lent) -> bool {
         && given.path == copy.path
 }
 
+const STARTS: &[Block] = &[
+    Block::Section2,
+    Block::Section3,
+    Block::Section4,
+    Block::DefinitionList,
+    Block::ItemTerm,
+    Block::ItemBody,
+];
+
 // Sixteen parts, so that one more makes the list of their ends grow. The last one is a literal text.
 fn begun<A: Allocator + Copy>(rt: &impl Abort, alloc: A, first: &str) -> Doc<A> {
     let mut doc = Doc::from_text(alloc, first).expect(rt, "a document");
-    for block in [
-        Block::Section2,
-        Block::Section3,
-        Block::Section4,
-        Block::DefinitionList,
-        Block::ItemTerm,
-        Block::ItemBody,
-    ] {
+    for &block in STARTS {
         doc.token(Token::BlockStart(block)).expect(rt, "a mark");
         doc.emphasis("one two").expect(rt, "a text");
     }
-    for block in [Block::ItemTerm, Block::Section2] {
-        doc.token(Token::BlockEnd(block)).expect(rt, "a mark");
-    }
+    doc.token(Token::BlockEnd(Block::ItemTerm))
+        .expect(rt, "a mark");
+    doc.token(Token::BlockEnd(Block::Section2))
+        .expect(rt, "a mark");
     doc.literal("three").expect(rt, "a text");
     doc
 }
@@ -154,7 +148,7 @@ fn apply<A: Allocator + Copy>(
         Call::Path => doc.write_path(lent.path.as_slice()),
         Call::Room => doc.reserve(8, lent.long.len()),
         _ => {
-            *doc = made(alloc, doc, call, lent)?;
+            *doc = made(alloc, doc, call, &lent.long)?;
             Ok(())
         }
     }
@@ -164,118 +158,135 @@ fn made<A: Allocator + Copy>(
     alloc: A,
     doc: &Doc<A>,
     call: Call,
-    lent: &Lent,
+    long: &str,
 ) -> Result<Doc<A>, AllocError> {
     match call {
-        Call::Text => Doc::from_text(alloc, &lent.long),
-        Call::Owned => Doc::from_string(String::from_str(alloc, &lent.long)?),
-        Call::Pairs => Doc::from_pairs(
-            alloc,
-            &[("one", Style::Text), (&lent.long, Style::Literal)],
-        ),
-        Call::Copy => doc.clone(),
+        Call::Text => Doc::from_text(alloc, long),
+        Call::Owned => Doc::from_string(String::from_str(alloc, long)?),
+        Call::Pairs => Doc::from_pairs(alloc, &[("one", Style::Text), (long, Style::Literal)]),
         Call::FirstLine => doc.first_line()?.ok_or(AllocError),
-        _ => Doc::from_string(page(alloc, doc, call)?),
+        Call::Page(form) => Doc::from_string(text_of(alloc, doc, form)?),
+        _ => doc.clone(),
     }
 }
 
-fn page<A: Allocator + Copy>(alloc: A, doc: &Doc<A>, call: Call) -> Result<String<A>, AllocError> {
-    match call {
-        Call::Console => doc.render_console(alloc, true, 2),
-        Call::Monochrome => doc.monochrome(alloc, true),
-        Call::Html => doc.render_html(alloc, false, true),
-        Call::FullHtml => doc.full_html(alloc),
-        Call::StyledHtml => doc.styled_html(alloc),
-        Call::Markdown => doc.render_markdown(alloc, true),
-        Call::Roff => doc.render_roff(Roff::new(alloc)),
-        _ => doc.clone()?.into_roff(Roff::new(alloc)),
-    }
-}
-
-fn same<A: Allocator, B: Allocator>(left: &Doc<A>, right: &Doc<B>) -> bool {
-    left.parts().eq(right.parts())
-}
-
-// What stands after the call with so many bytes, and whether it was refused.
+// Whether a call over an arena with so many free bytes is refused. None where it leaves something else than it should.
 fn is_refused(
-    rt: &(impl Abort + AllocGlobal),
+    rt: &impl Abort,
+    arena: &Bump,
     room: usize,
     call: Call,
-    given: &Lent,
-    wanted: &[Doc; 2],
-) -> bool {
-    let arena = roomy(rt);
-    let mut doc = begun(rt, &arena, &given.long);
-    let _taken = taken(rt, &arena, room);
-    let refused = apply(&arena, &mut doc, call, given).is_err();
-    let [before, after] = wanted;
-    let wanted = if refused { before } else { after };
-    assert!(rt; same(&doc, wanted), "{call:?} in {room}");
-    refused
+    lent: &Lent,
+    [before, after]: [&Doc; 2],
+) -> Option<bool> {
+    let mut doc = begun(rt, arena, &lent.long);
+    leave(rt, arena, room);
+    let is_refused = apply(arena, &mut doc, call, lent).is_err();
+    let wanted = if is_refused { before } else { after };
+    let is_right = doc.parts().eq(wanted.parts());
+    drop(doc);
+    is_right.then_some(is_refused)
 }
 
-// Answers the room in which the call succeeds.
-fn needed(rt: &(impl Abort + AllocGlobal), call: Call, given: &Lent, copy: &Lent) -> usize {
-    let before = begun(rt, rt.alloc(), &given.long);
-    let mut after = begun(rt, rt.alloc(), &given.long);
-    apply(rt.alloc(), &mut after, call, given).expect(rt, "ample memory");
-    let wanted = [before, after];
+// Whether a call is refused in no room, and done in more, and leaves what it should.
+fn is_done_with_more(
+    rt: &impl Abort,
+    out: Global,
+    call: Call,
+    [given, copy]: [&Lent; 2],
+    wanted: [&Doc; 2],
+) -> bool {
     for step in 0..BYTES / STEP {
-        let room = step.saturating_mul(STEP);
-        let refused = is_refused(rt, room, call, given, &wanted);
-        assert!(rt; is_as_lent(given, copy), "{call:?} in {room}");
-        if !refused {
-            return room;
+        let arena = roomy(rt, out);
+        let is_refused = is_refused(rt, &arena, step * STEP, call, given, wanted);
+        drop(arena);
+        if is_refused != Some(true) || !is_as_lent(given, copy) {
+            return is_refused == Some(false) && step > 0 && is_as_lent(given, copy);
         }
     }
-    panic!(rt; "never made: {call:?}")
+    false
+}
+
+fn takes_room(rt: &impl Abort, out: Global, call: Call, lent: [&Lent; 2]) -> bool {
+    let before = begun(rt, out, &lent[0].long);
+    let mut after = begun(rt, out, &lent[0].long);
+    apply(out, &mut after, call, lent[0]).expect(rt, "ample memory");
+    let takes_room = is_done_with_more(rt, out, call, lent, [&before, &after]);
+    drop(after);
+    drop(before);
+    takes_room
 }
 
 #[test]
 fn a_refused_call_changes_nothing(rt: HostRuntime) {
-    let given = make_lent(&rt);
-    let copy = make_lent(&rt);
-    for call in CALLS {
-        assert!(rt; needed(&rt, call, &given, &copy) > 0, "{call:?}");
+    let given = make_lent(&rt, rt.alloc());
+    let copy = make_lent(&rt, rt.alloc());
+    for &(call, name) in CALLS {
+        assert!(rt;
+            takes_room(&rt, rt.alloc(), call, [&given, &copy]),
+            "{name}"
+        );
     }
+    drop(copy);
+    drop(given);
 }
 
-// What is shown of a document with so many bytes left beside it; nothing where that is refused.
-fn shown(rt: &(impl Abort + AllocGlobal), room: usize, text: &str) -> String {
-    let arena = roomy(rt);
-    let doc = Doc::from_text(&arena, text).expect(rt, "a document");
-    let _taken = taken(rt, &arena, room);
-    let mut out = String::new(rt.alloc());
-    let outcome = write!(out, "{doc}");
-    assert!(rt; outcome.is_err() == out.is_empty());
-    out
+// Whether a document is shown with so many bytes left beside it. None where it shows something else than its text, or
+// than nothing where that is refused.
+fn is_shown(rt: &impl Abort, out: Global, arena: &Bump, room: usize, text: &str) -> Option<bool> {
+    let doc = Doc::from_text(arena, text).expect(rt, "a document");
+    leave(rt, arena, room);
+    let mut shown = String::new(out);
+    let is_shown = write!(shown, "{doc}").is_ok();
+    drop(doc);
+    let is_right = shown.as_str() == if is_shown { text } else { "" };
+    drop(shown);
+    is_right.then_some(is_shown)
+}
+
+fn is_shown_with_more(rt: &impl Abort, out: Global, text: &str) -> bool {
+    for step in 0..BYTES / STEP {
+        let arena = roomy(rt, out);
+        let is_shown = is_shown(rt, out, &arena, step * STEP, text);
+        drop(arena);
+        if is_shown != Some(false) {
+            return is_shown == Some(true) && step > 0;
+        }
+    }
+    false
 }
 
 // The text is made in the document's own memory, and nothing is written where that is refused.
 #[test]
 fn a_refused_growth_is_an_error_of_display(rt: HostRuntime) {
-    let long = word(&rt, 600);
-    assert!(rt; shown(&rt, 0, &long).is_empty());
-    for step in 1..BYTES / STEP {
-        let room = step.saturating_mul(STEP);
-        if shown(&rt, room, &long) == long {
-            return;
-        }
-    }
-    panic!(rt; "never shown")
+    let long = "a".repeat(rt.alloc(), 600).expect(&rt, "a text");
+    assert!(rt; is_shown_with_more(&rt, rt.alloc(), &long));
+    drop(long);
+}
+
+fn write_three(doc: &mut Doc<&Bump>, long: &str) -> Result<(), AllocError> {
+    doc.literal(long)?;
+    doc.text("b")?;
+    doc.literal("c")
+}
+
+// Whether three texts of 600 bytes have room in an arena that has no more than a document asked for.
+fn has_room(rt: &impl Abort, arena: &Bump, long: &str) -> bool {
+    let mut doc = Doc::new(arena);
+    doc.reserve(3, 600).expect(rt, "what is asked for");
+    leave(rt, arena, 0);
+    let is_full = Doc::from_text(arena, "a").is_err();
+    write_three(&mut doc, long).expect(rt, "its parts");
+    let (length, bytes) = (doc.len(), doc.text_len());
+    drop(doc);
+    is_full && length == 3 && bytes == 600
 }
 
 #[test]
 fn memory_that_was_asked_for_is_there(rt: HostRuntime) {
-    let long = word(&rt, 598);
-    let arena = roomy(&rt);
-    let mut doc = Doc::new(&arena);
-    doc.reserve(3, 600).expect(&rt, "what is asked for");
-    let _taken = taken(&rt, &arena, 0);
-    assert!(rt; Doc::from_text(&arena, "a").is_err());
-    doc.literal(&long).expect(&rt, "a text");
-    doc.text("b").expect(&rt, "a text");
-    doc.literal("c").expect(&rt, "a text");
-    assert!(rt; doc.len() == 3);
-    assert!(rt; doc.text_len() == 600);
+    let long = "a".repeat(rt.alloc(), 598).expect(&rt, "a text");
+    let arena = roomy(&rt, rt.alloc());
+    assert!(rt; has_room(&rt, &arena, &long));
+    drop(arena);
+    drop(long);
 }

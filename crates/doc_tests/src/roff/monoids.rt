@@ -1,15 +1,17 @@
 //! The calls of a monoid over a small arena.
-use crate::arenas::taken;
-use crate::roff::refusals::{LONG, Outcome};
+use crate::arenas::leave;
+use crate::roff::refusals::LONG;
 use bpaf_roff::monoid::FreeMonoid;
 use bumpalo::Bump;
-use std::alloc::{AllocError, Allocator};
+use std::alloc::{AllocError, Allocator, Global};
 use std::fmt::Write;
 use std::process::Abort;
 
 /// A call of a monoid.
-#[derive(Clone, Copy, Debug)]
+#[derive(Clone, Copy)]
 pub enum MonoidCall {
+    /// What stands before the others.
+    Nothing,
     AppendStr,
     AppendChar,
     PushStr,
@@ -20,7 +22,7 @@ pub enum MonoidCall {
     Clone,
 }
 
-const TEXTS: [(char, &str); 4] = [('a', "x"), ('a', LONG), ('b', ""), ('b', LONG)];
+const TEXTS: &[(char, &str)] = &[('a', "x"), ('a', LONG), ('b', ""), ('b', LONG)];
 
 // Pieces under one label, of which nothing was joined, and then with `squash` on.
 fn start<A: Allocator + Copy>(rt: &impl Abort, alloc: A, pieces: usize) -> FreeMonoid<char, A> {
@@ -32,33 +34,12 @@ fn start<A: Allocator + Copy>(rt: &impl Abort, alloc: A, pieces: usize) -> FreeM
     monoid
 }
 
-/// Each piece as a blank, its label, a colon and its text.
-pub fn shown<A: Allocator>(
-    rt: &(impl Abort + AllocGlobal),
-    monoid: &FreeMonoid<char, A>,
-) -> String {
-    let mut out = String::new(rt.alloc());
+/// Each piece as a blank, its label, a colon and its text, and then a bar and the setting.
+pub fn show<A: Allocator>(rt: &impl Abort, monoid: &FreeMonoid<char, A>, shown: &mut String) {
     for (label, text) in monoid {
-        write!(out, " {label}:{text}").expect(rt, "a text");
+        write!(shown, " {label}:{text}").expect(rt, "a text");
     }
-    out
-}
-
-fn outcome<A: Allocator>(
-    rt: &(impl Abort + AllocGlobal),
-    done: bool,
-    monoid: &FreeMonoid<char, A>,
-) -> Outcome {
-    Outcome {
-        done,
-        setting: monoid.squash,
-        shown: shown(rt, monoid),
-    }
-}
-
-/// What stands before the call.
-pub fn monoid_before(rt: &(impl Abort + AllocGlobal), pieces: usize) -> Outcome {
-    outcome(rt, false, &start(rt, rt.alloc(), pieces))
+    write!(shown, "|{}", monoid.squash).expect(rt, "a text");
 }
 
 // Whether the call was done.
@@ -73,35 +54,58 @@ fn changes<A: Allocator>(
         MonoidCall::PushStr => monoid.push_str('b', LONG).is_ok(),
         MonoidCall::Push => monoid.push('a', 'é').is_ok(),
         MonoidCall::Extend => monoid.extend(TEXTS.iter().copied()).is_ok(),
-        MonoidCall::AddAssign | MonoidCall::Add | MonoidCall::Clone => {
-            monoid.add_assign(other).is_ok()
-        }
+        MonoidCall::AddAssign => monoid.add_assign(other).is_ok(),
+        _ => true,
     }
 }
 
-/// What stands after the call, which has so many bytes.
-pub fn attempt_on_monoid(
-    rt: &(impl Abort + AllocGlobal),
+// Whether a monoid was made, which is shown.
+fn is_made(
+    rt: &impl Abort,
+    made: Result<FreeMonoid<char, &Bump>, AllocError>,
+    shown: &mut String,
+) -> bool {
+    match made {
+        Ok(monoid) => {
+            show(rt, &monoid, shown);
+            drop(monoid);
+            true
+        }
+        Err(AllocError) => false,
+    }
+}
+
+// Whether a copy was made, which is shown. The monoid itself is shown where it was not.
+fn is_copied(rt: &impl Abort, monoid: &FreeMonoid<char, &Bump>, shown: &mut String) -> bool {
+    let is_made = is_made(rt, monoid.clone(), shown);
+    if !is_made {
+        show(rt, monoid, shown);
+    }
+    is_made
+}
+
+/// Whether a call, which has so many bytes, was done. What stands then is shown, but where a sum is refused.
+pub fn is_done(
+    rt: &impl Abort,
+    out: Global,
     arena: &Bump,
     room: usize,
     call: MonoidCall,
     pieces: usize,
-) -> Outcome {
-    let other = start(rt, rt.alloc(), 2);
+    shown: &mut String,
+) -> bool {
+    let other = start(rt, out, 2);
     let mut monoid = start(rt, arena, pieces);
-    let _taken = taken(rt, arena, room);
-    match call {
-        MonoidCall::Add => match monoid.add(&other) {
-            Ok(sum) => outcome(rt, true, &sum),
-            Err(AllocError) => monoid_before(rt, pieces),
-        },
-        MonoidCall::Clone => match monoid.clone() {
-            Ok(copy) => outcome(rt, true, &copy),
-            Err(AllocError) => outcome(rt, false, &monoid),
-        },
+    leave(rt, arena, room);
+    let is_done = match call {
+        MonoidCall::Add => is_made(rt, monoid.add(&other), shown),
+        MonoidCall::Clone => is_copied(rt, &monoid, shown),
         _ => {
-            let done = changes(&mut monoid, call, &other);
-            outcome(rt, done, &monoid)
+            let is_done = changes(&mut monoid, call, &other);
+            show(rt, &monoid, shown);
+            is_done
         }
-    }
+    };
+    drop(other);
+    is_done
 }

@@ -1,13 +1,14 @@
 //! Each growth refused in turn: a call is made over an arena with room for nothing, then for a little more each
 //! time, until it succeeds. Each refusal leaves what was lent as it was, and at the end stands what the call has
 //! to add.
-use crate::arenas::{BYTES, STEP, roomy, taken};
-use crate::roff::monoids::{MonoidCall, attempt_on_monoid, monoid_before};
-use crate::roff::roffs::{RoffCall, attempt_on_roff, roff_before};
+use crate::arenas::{BYTES, STEP, leave, roomy};
+use crate::roff::monoids::{self, MonoidCall};
+use crate::roff::roffs::{self, RoffCall};
 use bpaf_roff::escape::bytes::escape;
 use bpaf_roff::escape::{Apostrophes, Escape};
 use bumpalo::Bump;
-use std::alloc::{AllocError, Allocator};
+use std::alloc::Global;
+use std::fmt::Write;
 use std::process::Abort;
 
 /// A text that no spare room holds.
@@ -17,209 +18,215 @@ pub const LONG: &str = "long enough to grow";
 pub const MANY: &str =
     "long enough to grow, in two blocks of a piece: the first of them is put down, then goes-";
 
-#[derive(Clone, Copy, Debug)]
+#[derive(Clone, Copy)]
 enum Call {
     OnMonoid(MonoidCall),
     OnRoff(RoffCall),
     Escape,
+    /// What stands before `Escape`.
+    Nothing,
 }
 
-/// What stands before or after a call.
-#[derive(Drop)]
-pub struct Outcome {
-    /// Whether the call was done.
-    pub done: bool,
-    /// The setting: whether to squash, or to strip newlines.
-    pub setting: bool,
-    pub shown: String,
-}
-
-const PIECES: [(Escape, &str); 5] = [
-    (Escape::Special, "'long enough to grow-'"),
-    (Escape::SpecialNoNewline, "\n.\\"),
-    (Escape::UnescapedAtNewline, "."),
-    (Escape::Spaces, "a b\\\n"),
-    (Escape::Unescaped, "\n"),
+const LABELS: &[Escape] = &[
+    Escape::Special,
+    Escape::SpecialNoNewline,
+    Escape::UnescapedAtNewline,
+    Escape::Spaces,
+    Escape::Unescaped,
 ];
 
-// Each call, the setting after it, and what it adds behind what stands there.
-const ROWS: [(Call, bool, &str); 28] = [
+const TEXTS: &[&str] = &["'long enough to grow-'", "\n.\\", ".", "a b\\\n", "\n"];
+
+// A call, and what it adds behind what stands there, with a bar and the setting after it.
+type Row = (Call, &'static str);
+
+const ROWS: &[Row] = &[
     (
         Call::Escape,
-        false,
-        "\\&\\*(Aqlong enough to grow\\-\\*(Aq .\\\\\n.a\\ b\\\\\\ \n",
+        "\\&\\*(Aqlong enough to grow\\-\\*(Aq .\\\\\n.a\\ b\\\\\\ \n|false",
     ),
     (
         Call::OnMonoid(MonoidCall::AppendStr),
-        true,
-        "long enough to grow",
+        "long enough to grow|true",
     ),
-    (Call::OnMonoid(MonoidCall::AppendChar), true, " b:é"),
+    (Call::OnMonoid(MonoidCall::AppendChar), " b:é|true"),
     (
         Call::OnMonoid(MonoidCall::PushStr),
-        true,
-        " b:long enough to grow",
+        " b:long enough to grow|true",
     ),
-    (Call::OnMonoid(MonoidCall::Push), true, "é"),
+    (Call::OnMonoid(MonoidCall::Push), "é|true"),
     (
         Call::OnMonoid(MonoidCall::Extend),
-        true,
-        "xlong enough to grow b:long enough to grow",
+        "xlong enough to grow b:long enough to grow|true",
     ),
-    (
-        Call::OnMonoid(MonoidCall::AddAssign),
-        true,
-        " a:text a:text",
-    ),
-    (Call::OnMonoid(MonoidCall::Add), true, " a:text a:text"),
-    (Call::OnMonoid(MonoidCall::Clone), true, ""),
+    (Call::OnMonoid(MonoidCall::AddAssign), " a:text a:text|true"),
+    (Call::OnMonoid(MonoidCall::Add), " a:text a:text|true"),
+    (Call::OnMonoid(MonoidCall::Clone), "|true"),
     (
         Call::OnRoff(RoffCall::AppendControl),
-        false,
-        "\n.long enough to grow a\\ b long\\ enough\\ to\\ grow \"\"\n",
+        "\n.long enough to grow a\\ b long\\ enough\\ to\\ grow \"\"\n|false",
     ),
     (
         Call::OnRoff(RoffCall::AppendControl0),
-        false,
-        "\n.long enough to grow\n",
+        "\n.long enough to grow\n|false",
     ),
-    (Call::OnRoff(RoffCall::AppendLinebreak), false, "\n"),
+    (Call::OnRoff(RoffCall::AppendLinebreak), "\n|false"),
     (
         Call::OnRoff(RoffCall::AppendEscape),
-        false,
-        "long enough to grow",
+        "long enough to grow|false",
     ),
     (
         Call::OnRoff(RoffCall::AppendPlaintext),
-        false,
-        "long enough to grow",
+        "long enough to grow|false",
     ),
     (
         Call::OnRoff(RoffCall::AppendText),
-        false,
-        "\\fBlong enough to grow\\-\\fR\\fP",
+        "\\fBlong enough to grow\\-\\fR\\fP|false",
     ),
     (
         Call::OnRoff(RoffCall::Control),
-        false,
-        "\n.long enough to grow a\\ b long\\ enough\\ to\\ grow \"\"\n",
+        "\n.long enough to grow a\\ b long\\ enough\\ to\\ grow \"\"\n|false",
     ),
     (
         Call::OnRoff(RoffCall::Control0),
-        false,
-        "\n.long enough to grow\n",
+        "\n.long enough to grow\n|false",
     ),
-    (Call::OnRoff(RoffCall::RoffLinebreak), false, "\n"),
-    (Call::OnRoff(RoffCall::Escape), false, "long enough to grow"),
+    (Call::OnRoff(RoffCall::RoffLinebreak), "\n|false"),
+    (Call::OnRoff(RoffCall::Escape), "long enough to grow|false"),
     (
         Call::OnRoff(RoffCall::Plaintext),
-        false,
-        "long enough to grow",
+        "long enough to grow|false",
     ),
     (
         Call::OnRoff(RoffCall::Text),
-        false,
-        "\\fBlong enough to grow\\-\\fR\\fP",
+        "\\fBlong enough to grow\\-\\fR\\fP|false",
     ),
-    (Call::OnRoff(RoffCall::AddAssign), true, "text"),
-    (Call::OnRoff(RoffCall::Add), true, "text"),
-    (Call::OnRoff(RoffCall::Extend), true, "texttext"),
-    (Call::OnRoff(RoffCall::Clone), false, ""),
-    (Call::OnRoff(RoffCall::Render), false, ""),
-    (Call::OnRoff(RoffCall::Begin), false, ""),
+    (Call::OnRoff(RoffCall::AddAssign), "text|true"),
+    (Call::OnRoff(RoffCall::Add), "text|true"),
+    (Call::OnRoff(RoffCall::Extend), "texttext|true"),
+    (Call::OnRoff(RoffCall::Clone), "|false"),
+    (Call::OnRoff(RoffCall::Render), "|false"),
+    (Call::OnRoff(RoffCall::Begin), "|false"),
     (
         Call::OnRoff(RoffCall::Put),
-        false,
-        "long enough to grow, in two blocks of a piece: the first of them is put down, then goes\\-",
+        "long enough to grow, in two blocks of a piece: the first of them is put down, then goes\\-|false",
     ),
 ];
 
-fn escaped<A: Allocator>(out: &mut Vec<u8, A>) -> Result<(), AllocError> {
-    escape(
-        PIECES.iter().map(|(label, text)| (label, *text)),
-        out,
-        Apostrophes::Handle,
-    )
+fn escaped(bytes: &mut Vec<u8, &Bump>) -> bool {
+    let pieces = LABELS.iter().zip(TEXTS.iter().copied());
+    escape(pieces, bytes, Apostrophes::Handle).is_ok()
 }
 
-fn bytes_before<A: Allocator>(rt: &impl Abort, alloc: A, count: usize) -> Vec<u8, A> {
-    let mut out = Vec::new(alloc);
-    for _ in 0..count {
-        out.push(b'z').expect(rt, "a byte");
-    }
-    out
-}
-
-fn escape_outcome(rt: &(impl Abort + AllocGlobal), done: bool, bytes: &[u8]) -> Outcome {
-    Outcome {
-        done,
-        setting: false,
-        shown: String::from_utf8_lossy(rt.alloc(), bytes).expect(rt, "a text"),
-    }
-}
-
-fn attempt_to_escape(
-    rt: &(impl Abort + AllocGlobal),
+fn is_escaped(
+    rt: &impl Abort,
+    out: Global,
     arena: &Bump,
     room: usize,
+    call: Call,
     count: usize,
-) -> Outcome {
-    let mut out = bytes_before(rt, arena, count);
-    let _taken = taken(rt, arena, room);
-    let done = escaped(&mut out).is_ok();
-    escape_outcome(rt, done, &out)
+    shown: &mut String,
+) -> bool {
+    let mut bytes = [b'z'].repeat(arena, count).expect(rt, "bytes");
+    leave(rt, arena, room);
+    let is_done = match call {
+        Call::Escape => escaped(&mut bytes),
+        _ => true,
+    };
+    let text = String::from_utf8_lossy(out, &bytes).expect(rt, "a text");
+    drop(bytes);
+    write!(shown, "{text}|false").expect(rt, "a text");
+    drop(text);
+    is_done
 }
 
-fn before(rt: &(impl Abort + AllocGlobal), call: Call, pieces: usize) -> Outcome {
-    match call {
-        Call::OnMonoid(_) => monoid_before(rt, pieces),
-        Call::OnRoff(_) => roff_before(rt, pieces),
-        Call::Escape => escape_outcome(rt, false, &bytes_before(rt, rt.alloc(), pieces)),
-    }
-}
-
-fn attempt(rt: &(impl Abort + AllocGlobal), room: usize, call: Call, pieces: usize) -> Outcome {
-    let arena = roomy(rt);
-    match call {
-        Call::OnMonoid(call) => attempt_on_monoid(rt, &arena, room, call, pieces),
-        Call::OnRoff(call) => attempt_on_roff(rt, &arena, room, call, pieces),
-        Call::Escape => attempt_to_escape(rt, &arena, room, pieces),
-    }
-}
-
-// Answers the room in which the call succeeds.
-fn needed(
-    rt: &(impl Abort + AllocGlobal),
-    (call, setting, added): (Call, bool, &str),
+// Whether a call over an arena with so many free bytes is done. What stands then is shown.
+fn is_done(
+    rt: &impl Abort,
+    out: Global,
+    room: usize,
+    call: Call,
     pieces: usize,
-) -> usize {
-    let before = before(rt, call, pieces);
-    for step in 0..BYTES / STEP {
-        let room = step.saturating_mul(STEP);
-        let after = attempt(rt, room, call, pieces);
-        if after.done {
-            let more = after.shown.as_str().strip_prefix(before.shown.as_str());
-            assert!(rt;
-                more == Some(added) && after.setting == setting,
-                "{call:?} in {room}"
-            );
-            return room;
-        }
-        assert!(rt;
-            after.shown == before.shown && after.setting == before.setting,
-            "{call:?} in {room}"
-        );
+    shown: &mut String,
+) -> bool {
+    let arena = roomy(rt, out);
+    let is_done = match call {
+        Call::OnMonoid(call) => monoids::is_done(rt, out, &arena, room, call, pieces, shown),
+        Call::OnRoff(call) => roffs::is_done(rt, out, &arena, room, call, pieces, shown),
+        _ => is_escaped(rt, out, &arena, room, call, pieces, shown),
+    };
+    drop(arena);
+    is_done
+}
+
+// What stands before a call.
+fn before(rt: &impl Abort, out: Global, call: Call, pieces: usize) -> String {
+    let nothing = match call {
+        Call::OnMonoid(_) => Call::OnMonoid(MonoidCall::Nothing),
+        Call::OnRoff(_) => Call::OnRoff(RoffCall::Nothing),
+        _ => Call::Nothing,
+    };
+    let mut shown = String::new(out);
+    is_done(rt, out, 0, nothing, pieces, &mut shown);
+    shown
+}
+
+// Whether a call is done in so much room. None where something else stands then than should: behind the text before it
+// what it adds, or all that stood before. Of a sum that is refused nothing stands.
+fn is_done_as_wanted(
+    rt: &impl Abort,
+    out: Global,
+    room: usize,
+    &(call, added): &Row,
+    pieces: usize,
+    before: &str,
+) -> Option<bool> {
+    let mut shown = String::new(out);
+    let is_done = is_done(rt, out, room, call, pieces, &mut shown);
+    let is_right = if is_done {
+        is_added(before, &shown, added)
+    } else {
+        shown.is_empty() || shown.as_str() == before
+    };
+    drop(shown);
+    is_right.then_some(is_done)
+}
+
+fn is_added(before: &str, after: &str, added: &str) -> bool {
+    match before.split_once('|') {
+        Some((text, _)) => after.strip_prefix(text) == Some(added),
+        None => false,
     }
-    panic!(rt; "never done: {call:?}")
+}
+
+// The room in which a call succeeds. None where something else stands behind it than should.
+fn needed(rt: &impl Abort, out: Global, row: &Row, pieces: usize) -> Option<usize> {
+    let before = before(rt, out, row.0, pieces);
+    for step in 0..BYTES / STEP {
+        match is_done_as_wanted(rt, out, step * STEP, row, pieces, &before) {
+            Some(false) => {}
+            Some(true) => return Some(step * STEP),
+            None => return None,
+        }
+    }
+    None
+}
+
+// Whether a call is done as it should, and is refused in no room for some number of pieces.
+fn takes_room(rt: &impl Abort, out: Global, row: &Row) -> bool {
+    let mut most = 0usize;
+    for pieces in 1..6usize {
+        let Some(room) = needed(rt, out, row, pieces) else {
+            return false;
+        };
+        most = most.max(room);
+    }
+    most > 0
 }
 
 #[test]
 fn a_refused_growth_changes_nothing(rt: HostRuntime) {
     for row in ROWS {
-        let mut room = 0usize;
-        for pieces in 1..6usize {
-            room = room.max(needed(&rt, row, pieces));
-        }
-        assert!(rt; room > 0, "{:?}", row.0);
+        assert!(rt; takes_room(&rt, rt.alloc(), row), "{}", row.1);
     }
 }

@@ -33,11 +33,6 @@ pub enum Make {
     Or,
 }
 
-/// A tree of each variant and of each kind of item. `Skip` is the tree of help flags in what goes with a command.
-pub const FORMS: &[&str] = &[
-    "ab&", "ab|", "a?", "ab&^", "ab&@", "a", "S", "X", "Y", "aR", "a+", "a#", "a~", "a$", "a-",
-];
-
 /// Makes a call that writes into a document.
 pub fn write_in<'a>(
     doc: &mut Doc<&'a Bump>,
@@ -113,27 +108,24 @@ pub fn shorts_are_put<'a>(
     let mut args = Vec::from_slice(arena, &['g']).expect(rt, "a list");
     leave(rt, arena, room);
     let is_done = tree.collect_shorts(&mut flags, &mut args).is_ok();
-    show_letters(rt, &flags, shown);
-    show_letters(rt, &args, shown);
+    write!(shown, "{flags:?} {args:?} ").expect(rt, "a text");
     drop(args);
     drop(flags);
     is_done
 }
 
-fn show_letters(rt: &impl Abort, letters: &[char], shown: &mut String) {
-    write!(shown, "{letters:?} ").expect(rt, "a text");
-}
-
-/// Shows what the calls that take no memory say of a tree.
-pub fn read_is_shown<A: Allocator + Copy>(tree: &Meta<A>, shown: &mut String) -> bool {
+/// Shows what the calls that take no memory say of a tree, with so many free bytes.
+pub fn read_is_shown(
+    rt: &impl Abort,
+    arena: &Bump,
+    room: usize,
+    tree: &Meta<&Bump>,
+    shown: &mut String,
+) -> bool {
+    leave(rt, arena, room);
     let check = tree.positional_invariant_check();
-    let is_command = tree.is_command();
-    let is_shown = write!(shown, "{check:?} {is_command} ").is_ok();
-    is_shown && first_is_shown(tree, shown)
-}
-
-fn first_is_shown<A: Allocator + Copy>(tree: &Meta<A>, shown: &mut String) -> bool {
     let first = tree.first_item();
     let is_pos = first.map(Item::is_pos);
-    write!(shown, "{first:?} {is_pos:?}").is_ok()
+    let is_command = tree.is_command();
+    write!(shown, "{check:?} {is_command} {first:?} {is_pos:?}").is_ok()
 }

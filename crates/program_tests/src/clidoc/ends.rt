@@ -1,8 +1,6 @@
-//! Runs over ends that fail or answer by a script, and growths that are refused.
-use crate::clidoc::pages::{Form, INPUT, PAGES, page_of};
-use crate::engines::{
-    AMPLE, Asked, moves_bytes, refuses_until_ample, says_failed_reads, says_failed_writes,
-};
+//! Runs over ends that fail or answer by a script, and judgements of a description.
+use crate::clidoc::pages::{Form, INPUT, page_of};
+use crate::engines::AMPLE;
 use crate::stand_ins::runs::{Ending, Ends};
 use crate::stand_ins::scripts::Script;
 use clidoc_engine::engine::{check_description, run_description};
@@ -39,44 +37,6 @@ pub fn description_ran(
     }
 }
 
-#[test]
-fn moves_a_byte_at_a_time(rt: HostRuntime) {
-    for &(form, word, page) in PAGES {
-        let asked = Asked::Clidoc(form);
-        assert!(rt; moves_bytes(rt.alloc(), asked, INPUT, page), "{word}");
-    }
-}
-
-#[test]
-fn a_failed_read_is_said(rt: HostRuntime) {
-    for &(form, word, page) in PAGES {
-        let asked = Asked::Clidoc(form);
-        assert!(rt; says_failed_reads(rt.alloc(), asked, INPUT, page), "{word}");
-    }
-}
-
-#[test]
-fn a_failed_write_is_said(rt: HostRuntime) {
-    for &(form, word, page) in PAGES {
-        let asked = Asked::Clidoc(form);
-        assert!(rt;
-            says_failed_writes(rt.alloc(), asked, INPUT, page),
-            "{word}"
-        );
-    }
-}
-
-#[test]
-fn a_refused_growth_writes_nothing(rt: HostRuntime) {
-    for &(form, word, page) in PAGES {
-        let asked = Asked::Clidoc(form);
-        assert!(rt;
-            refuses_until_ample(rt.alloc(), asked, INPUT, page),
-            "{word}"
-        );
-    }
-}
-
 // How a judgement of the description ends, on so much memory. None where its reader tells otherwise.
 fn judged(global: Global, budget: usize, input: &[u8], reads: Script<'_>) -> Option<Ending> {
     let Ok(heap) = LocalHeap::new(global, budget) else {
@@ -100,16 +60,6 @@ const JUDGEMENTS: &[(&[u8], Script<'static>, Ending)] = &[
     (INPUT, Script::FOURTH_FAILS, Ending::ReadFailed),
 ];
 
-#[test]
-fn judges_a_description(rt: HostRuntime) {
-    for &(input, reads, ending) in JUDGEMENTS {
-        assert!(rt;
-            judged(rt.alloc(), AMPLE, input, reads) == Some(ending),
-            "{input:?}"
-        );
-    }
-}
-
 // Whether each budget refuses the first growth that does not fit it; the budgets rise until one suffices, and the first
 // is too small.
 fn judges_when_ample(global: Global) -> bool {
@@ -123,6 +73,10 @@ fn judges_when_ample(global: Global) -> bool {
 }
 
 #[test]
-fn a_refused_growth_ends_a_judgement(rt: HostRuntime) {
+fn a_description_is_judged_when_memory_lasts(rt: HostRuntime) {
+    for &(input, reads, ending) in JUDGEMENTS {
+        let judged = judged(rt.alloc(), AMPLE, input, reads);
+        assert!(rt; judged == Some(ending), "{input:?}");
+    }
     assert!(rt; judges_when_ample(rt.alloc()));
 }

@@ -1,115 +1,181 @@
 //! What is said of bad input.
-use crate::clidoc::long_pages::push_between;
-use crate::clidoc::programs::answers;
+use crate::long_pages::push_between;
+use crate::programs::answers;
 use crate::stand_ins::scripts::front;
 use std::alloc::{AllocError, Global};
 
-const ON_FULL: &[&str] = &["clidoc", "full"];
+// What is said, and on the next lines the input of which it is said. Between rows stands a line of signs.
+//
+// A place counts characters, and not bytes. Of several faults the first is told: unknown keys by their bytes, then the
+// keys in their order, then what is taken, then the tables inside.
+const ROWS: &str = "clidoc: line 2, column 1: duplicate key
+name = 'app'
+name = 'b'
 
-const ON_USAGE: &[&str] = &["clidoc", "usage"];
+----
+clidoc: line 2, column 9: invalid value, expected a string, number, boolean, date-time, array or inline table
+name = 'app'
+about = x
 
-// An input, and the line that is said of it.
-const ROWS: &[(&[u8], &str)] = &[
-    // No text, and no TOML.
-    (b"name = 'app\xff'\n", "clidoc: input is not UTF-8\n"),
-    (
-        b"name = 'app'\nname = 'b'\n",
-        "clidoc: line 2, column 1: duplicate key\n",
-    ),
-    (
-        b"name = 'app'\nabout = x\n",
-        "clidoc: line 2, column 9: invalid value, expected a string, number, boolean, date-time, array or inline table\n",
-    ),
-    // The place counts characters, and not bytes.
-    (
-        b"\xef\xbb\xbfname = 'app'\nabout = '\xc3\xa9\xe6\x97\xa5\xf0\x9f\x98\x80' x\n",
-        "clidoc: line 2, column 15: unexpected key or value, expected newline, `#`\n",
-    ),
-    // No description.
-    (b"", "clidoc: description: name is missing\n"),
-    (b"[name]\n", "clidoc: description: name is no text\n"),
-    (b"name = ''\n", "clidoc: description: name is empty\n"),
-    (
-        b"name = 'app'\nlnog = 1\n",
-        "clidoc: description: no key lnog is known here\n",
-    ),
-    (
-        b"name = 'app'\n\"a\\nb\" = 1\n",
-        "clidoc: description: no key \"a\\nb\" is known here\n",
-    ),
-    (
-        b"name = 'app'\n[[positional]]\n",
-        "clidoc: positional 1: value is missing\n",
-    ),
-    (
-        b"name = 'app'\n[[option]]\nshort = 'vv'\n",
-        "clidoc: option 1: short is not one character\n",
-    ),
-    (
-        b"name = 'app'\n[[option]]\nshort = '-'\n",
-        "clidoc: option 1: short begins with -\n",
-    ),
-    (
-        b"name = 'app'\n[[option]]\nlong = 'v'\nhelp = 1\n",
-        "clidoc: option 1: help is no text\n",
-    ),
-    (
-        b"name = 'app'\n[[option]]\nlong = 'v'\n[[option]]\nlong = 'v'\n",
-        "clidoc: description: --v is taken\n",
-    ),
-    // A name of a choice, of a group, and of a command.
-    (
-        b"name = 'app'\n[[option]]\nlong = 'v'\n[[choice]]\n[[choice.option]]\nlong = 'v'\n",
-        "clidoc: description: --v is taken\n",
-    ),
-    (
-        b"name = 'app'\n[[option]]\nshort = 'v'\n[[group]]\ntitle = 'G'\n[[group.option]]\nshort = 'v'\n",
-        "clidoc: description: -v is taken\n",
-    ),
-    (
-        b"name = 'app'\n[[command]]\nname = 'a'\n[[group]]\ntitle = 'G'\n[[group.command]]\nname = 'a'\n",
-        "clidoc: description: command a is taken\n",
-    ),
-    (
-        b"name = 'app'\n[[command]]\nname = 'a'\n[[command]]\nname = 'b'\n[[command.option]]\nlnog = 1\n",
-        "clidoc: command 2, option 1: no key lnog is known here; is it long?\n",
-    ),
-    // Of several faults the first: unknown keys by their bytes, then the keys in their order, then what is taken,
-    // then the tables inside.
-    (
-        b"b = 1\na = 1\n[[option]]\n",
-        "clidoc: description: no key a is known here\n",
-    ),
-    (
-        b"name = 'app'\nabout = 1\n[[option]]\n",
-        "clidoc: description: about is no text\n",
-    ),
-    (b"about = 1\n", "clidoc: description: name is missing\n"),
-    (
-        b"name = 'app'\nabout = 1\n[[option]]\nlong = 'v'\n[[option]]\nlong = 'v'\n",
-        "clidoc: description: about is no text\n",
-    ),
-    (
-        b"name = 'app'\n[[option]]\nlong = 'v'\nlnog = 1\n[[option]]\nlong = 'v'\n",
-        "clidoc: description: --v is taken\n",
-    ),
-    (
-        b"name = 'app'\n[[command]]\nlnog = 1\n[[option]]\nlnog = 1\n",
-        "clidoc: option 1: no key lnog is known here; is it long?\n",
-    ),
-    (
-        b"name = 'app'\n[[option]]\nshort = 'vv'\n[[option]]\nlnog = 1\n",
-        "clidoc: option 1: short is not one character\n",
-    ),
-];
+----
+clidoc: line 2, column 15: unexpected key or value, expected newline, `#`
+\u{feff}name = 'app'
+about = 'é日😀' x
+
+----
+clidoc: description: name is missing
+
+----
+clidoc: description: name is no text
+[name]
+
+----
+clidoc: description: name is empty
+name = ''
+
+----
+clidoc: description: no key lnog is known here
+name = 'app'
+lnog = 1
+
+----
+clidoc: description: no key \"a\\nb\" is known here
+name = 'app'
+\"a\\nb\" = 1
+
+----
+clidoc: positional 1: value is missing
+name = 'app'
+[[positional]]
+
+----
+clidoc: option 1: short is not one character
+name = 'app'
+[[option]]
+short = 'vv'
+
+----
+clidoc: option 1: short begins with -
+name = 'app'
+[[option]]
+short = '-'
+
+----
+clidoc: option 1: help is no text
+name = 'app'
+[[option]]
+long = 'v'
+help = 1
+
+----
+clidoc: description: --v is taken
+name = 'app'
+[[option]]
+long = 'v'
+[[option]]
+long = 'v'
+
+----
+clidoc: description: --v is taken
+name = 'app'
+[[option]]
+long = 'v'
+[[choice]]
+[[choice.option]]
+long = 'v'
+
+----
+clidoc: description: -v is taken
+name = 'app'
+[[option]]
+short = 'v'
+[[group]]
+title = 'G'
+[[group.option]]
+short = 'v'
+
+----
+clidoc: description: command a is taken
+name = 'app'
+[[command]]
+name = 'a'
+[[group]]
+title = 'G'
+[[group.command]]
+name = 'a'
+
+----
+clidoc: command 2, option 1: no key lnog is known here; is it long?
+name = 'app'
+[[command]]
+name = 'a'
+[[command]]
+name = 'b'
+[[command.option]]
+lnog = 1
+
+----
+clidoc: description: no key a is known here
+b = 1
+a = 1
+[[option]]
+
+----
+clidoc: description: about is no text
+name = 'app'
+about = 1
+[[option]]
+
+----
+clidoc: description: name is missing
+about = 1
+
+----
+clidoc: description: about is no text
+name = 'app'
+about = 1
+[[option]]
+long = 'v'
+[[option]]
+long = 'v'
+
+----
+clidoc: description: --v is taken
+name = 'app'
+[[option]]
+long = 'v'
+lnog = 1
+[[option]]
+long = 'v'
+
+----
+clidoc: option 1: no key lnog is known here; is it long?
+name = 'app'
+[[command]]
+lnog = 1
+[[option]]
+lnog = 1
+
+----
+clidoc: option 1: short is not one character
+name = 'app'
+[[option]]
+short = 'vv'
+[[option]]
+lnog = 1
+";
+
+fn is_said(global: Global, row: &str) -> bool {
+    match row.split_once('\n') {
+        Some((line, input)) => answers(global, "clidoc|full", input.as_bytes(), 1, (b"", line)),
+        None => false,
+    }
+}
 
 #[test]
 fn says_what_is_wrong(rt: HostRuntime) {
-    for &(input, line) in ROWS {
-        assert!(rt;
-            answers(rt.alloc(), ON_FULL, input, 1, (b"", line)),
-            "{line}"
-        );
+    for row in ROWS.split("\n----\n") {
+        assert!(rt; is_said(rt.alloc(), row), "{row}");
     }
 }
 
@@ -132,11 +198,11 @@ fn nested_answer(
     printed: (&[u8], &str),
 ) -> Result<bool, AllocError> {
     let input = nested(global, depth)?;
-    Ok(answers(global, ON_USAGE, input.as_bytes(), status, printed))
+    Ok(answers(global, "clidoc|usage", input.as_bytes(), status, printed))
 }
 
 const TOO_DEEP: &str =
-    "clidoc: line 162, column 3: cannot recurse further; max recursion depth met\n";
+    "clidoc: line 162, column 3: cannot recurse further; max recursion depth met";
 
 #[test]
 fn commands_stand_in_one_another(rt: HostRuntime) {

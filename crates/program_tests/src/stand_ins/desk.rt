@@ -23,7 +23,7 @@ const GARBLE: u8 = 0xFF;
 #[derive(Drop)]
 pub struct Desk<'a> {
     global: Global,
-    words: &'a [&'a str],
+    pub words: &'a str,
     garbles_words: bool,
     input: ScriptedReader<'a>,
     output: Cell<ScriptedWriter<'a>>,
@@ -32,9 +32,9 @@ pub struct Desk<'a> {
 }
 
 impl<'a> Desk<'a> {
-    /// The words begin with the program's name. Standard input and standard output are these ends, and this line, which
-    /// ends with a newline, should be written on standard error.
-    pub fn new(global: Global, words: &'a [&'a str], ends: Ends<'a>, line: &'a str) -> Desk<'a> {
+    /// The words, which have bars between them, begin with the program's name. Standard input and standard output are
+    /// these ends, and this line should be written on standard error.
+    pub fn new(global: Global, words: &'a str, ends: Ends<'a>, line: &'a str) -> Desk<'a> {
         Desk {
             global,
             words,
@@ -74,7 +74,7 @@ impl<'a> Desk<'a> {
 
 impl Env for Desk<'_> {
     fn arg(&self, i: usize, buf: &mut [u8]) -> Result<usize, FillError> {
-        let Some(word) = self.words.get(i) else {
+        let Some(word) = self.words.split('|').nth(i) else {
             return Err(FillError::NotPresent);
         };
         let bytes = word.as_bytes();
@@ -203,7 +203,7 @@ impl Eprint for Desk<'_> {
 
     fn eprintln<D: Display + Drop>(&self, value: D) -> io::Result<()> {
         let mut said = self.said.get();
-        let written = writeln!(said, "{value}");
+        let written = write!(said, "{value}");
         self.said.set(said);
         Ok(written?)
     }

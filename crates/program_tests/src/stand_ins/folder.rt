@@ -7,37 +7,26 @@ use std::fs::{Metadata, OpenFile, OpenOptions};
 use std::io;
 use std::io::{ErrorKind, Read, Seek, SeekFrom, Write};
 
-/// A call on a folder, or on a file that was created there.
-#[derive(Clone, Copy, PartialEq, Eq)]
-pub enum Call<'a> {
-    Create(&'a str),
-    /// All of these bytes at once.
-    Write(&'a [u8]),
-    Rename(&'a str, &'a str),
-    Remove(&'a str),
-}
-
-/// A folder of this name, on which these calls should come.
+/// A folder of this name, on which these calls should come: `create PATH`, `write BYTES` of all bytes at once,
+/// `rename PATH PATH` and `remove PATH`.
 #[derive(Drop)]
 pub struct Folder {
     name: &'static str,
-    calls: &'static [Call<'static>],
-    fails_at: Option<usize>,
+    calls: &'static [&'static str],
+    fails_at: usize,
+    remove: &'static str,
     count: Cell<usize>,
     fit: Cell<bool>,
 }
 
 impl Folder {
-    /// The call of this number, counted from 0, fails.
-    pub fn new(
-        name: &'static str,
-        calls: &'static [Call<'static>],
-        fails_at: Option<usize>,
-    ) -> Folder {
+    /// The call of this number, counted from 0, fails, if there are so many. Behind it this one comes alone.
+    pub fn new(calls: &'static [&'static str], fails_at: usize, remove: &'static str) -> Folder {
         Folder {
-            name,
+            name: "out",
             calls,
             fails_at,
+            remove,
             count: Cell::new(0),
             fit: Cell::new(true),
         }
@@ -45,7 +34,13 @@ impl Folder {
 
     /// Whether the calls came, and no other.
     pub fn is_done(&self) -> bool {
-        self.fit.get() && self.count.get() == self.calls.len()
+        let whole = self.calls.len();
+        let count = if self.fails_at < whole {
+            self.fails_at.saturating_add(2)
+        } else {
+            whole
+        };
+        self.fit.get() && self.count.get() == count
     }
 
     /// Whether no call came.
@@ -53,13 +48,23 @@ impl Folder {
         self.count.get() == 0
     }
 
-    fn call(&self, call: Call<'_>) -> io::Result<()> {
+    // The call that should come now, or nothing.
+    fn next(&self) -> &'static str {
         let index = self.count.get();
         self.count.set(index.saturating_add(1));
-        if self.calls.get(index) != Some(&call) {
+        if index > self.fails_at {
+            self.remove
+        } else {
+            self.calls.get(index).copied().unwrap_or("")
+        }
+    }
+
+    fn call(&self, verb: &str, path: &str, rest: &[u8]) -> io::Result<()> {
+        let fails = self.count.get() == self.fails_at;
+        if !is_call(self.next(), verb, path, rest) {
             self.fit.set(false);
         }
-        if self.fails_at == Some(index) {
+        if fails {
             return Err(io::Error::from(ErrorKind::StorageFull));
         }
         Ok(())
@@ -73,11 +78,22 @@ impl Folder {
     }
 
     pub fn rename(&self, from: &str, to: &str) -> io::Result<()> {
-        self.call(Call::Rename(from, to))
+        self.call("rename ", from, to.as_bytes())
     }
 
     pub fn remove_file(&self, path: &str) -> io::Result<()> {
-        self.call(Call::Remove(path))
+        self.call("remove ", path, b"")
+    }
+}
+
+// Whether a call is told so. Blanks stand between its parts, and no page begins with one.
+fn is_call(told: &str, verb: &str, path: &str, rest: &[u8]) -> bool {
+    let Some(told) = told.strip_prefix(verb) else {
+        return false;
+    };
+    match told.strip_prefix(path) {
+        Some(left) => left.trim_start().as_bytes() == rest,
+        None => false,
     }
 }
 
@@ -93,7 +109,7 @@ impl<'a> FolderFile<'a> {
         if !how.asks_create() {
             return unsupported();
         }
-        folder.call(Call::Create(path))?;
+        folder.call("create ", path, b"")?;
         Ok(FolderFile { folder })
     }
 }
@@ -112,7 +128,7 @@ impl Read for FolderFile<'_> {
 
 impl Write for FolderFile<'_> {
     fn write(&mut self, buf: &[u8]) -> io::Result<usize> {
-        self.folder.call(Call::Write(buf))?;
+        self.folder.call("write ", "", buf)?;
         Ok(buf.len())
     }
 

@@ -1,6 +1,0 @@
-use Rattle.std.proofs.Common.{[], ◌∷◌, codes}
-use Rattle.bpaf_doc.specs.Buffer.Writes.{plain}
-use Rattle.doc_tests.proofs.doc.calls.a_document_rolls_back.Goals as goal
-
-pub roll_back-requires : goal.roll_back-requires
-roll_back-requires g c = (_, c.checkpoint-before.ensures, (plain (codes "b") ∷ [], c.in_ok-text.ensures.ok))

@@ -1,0 +1,170 @@
+//! Each page of the programs: in memory, by a whole run, through ends that move a byte at a time or fail, and with each
+//! growth refused in turn.
+
+use crate::engines::{
+    Asked, moves_bytes, refuses_until_ample, says_failed_reads, says_failed_writes,
+};
+use crate::programs::answers;
+use crate::{clidoc, helpdoc};
+use helpdoc_engine::words::{Choice, Form};
+use std::alloc::Global;
+
+// What an engine is asked for, by which words, on what, and the page.
+type Row = (Asked, &'static str, &'static [u8], &'static [u8]);
+
+const HELPDOC: &[Row] = &[
+    (
+        Asked::Helpdoc(Choice::Text(Form::Full)),
+        "helpdoc|text|full",
+        helpdoc::pages::INPUT,
+        helpdoc::pages::PAGE,
+    ),
+    (
+        Asked::Helpdoc(Choice::Text(Form::Brief)),
+        "helpdoc|text|brief",
+        helpdoc::pages::INPUT,
+        helpdoc::pages::PAGE,
+    ),
+    (
+        Asked::Helpdoc(Choice::Text(Form::Html)),
+        "helpdoc|text|html",
+        helpdoc::pages::INPUT,
+        b"hello<br>\nworld ",
+    ),
+    (
+        Asked::Helpdoc(Choice::Text(Form::Markdown)),
+        "helpdoc|text|markdown",
+        helpdoc::pages::INPUT,
+        helpdoc::pages::PAGE,
+    ),
+    (
+        Asked::Helpdoc(Choice::Text(Form::Man)),
+        "helpdoc|text|man",
+        helpdoc::pages::INPUT,
+        b".ie \\n(.g .ds Aq \\(aq\n.el .ds Aq '\n.TH helpdoc 1 - - \"\"\n\\fRhello\n world\n\\fP",
+    ),
+    (
+        Asked::Helpdoc(Choice::Sample(Form::Full)),
+        "helpdoc|sample|full",
+        helpdoc::pages::INPUT,
+        helpdoc::pages::SAMPLE,
+    ),
+    (
+        Asked::Helpdoc(Choice::Sample(Form::Brief)),
+        "helpdoc|sample|brief",
+        helpdoc::pages::INPUT,
+        helpdoc::pages::SAMPLE,
+    ),
+    (
+        Asked::Helpdoc(Choice::Sample(Form::Html)),
+        "helpdoc|sample|html",
+        helpdoc::pages::INPUT,
+        b"# app<br>\n<p>Prints things</p><p><b>Usage</b>: <tt><b>app</b></tt> <tt><b>-v</b></tt></p><p><div>\n<b>Available options:</b></div><dl><dt><tt><b>-v</b></tt>, <tt><b>--verbose</b></tt></dt>\n<dd>Talk more</dd>\n</dl>\n</p>",
+    ),
+    (
+        Asked::Helpdoc(Choice::Sample(Form::Markdown)),
+        "helpdoc|sample|markdown",
+        helpdoc::pages::INPUT,
+        b"# app\n\nPrints things\n\n**Usage**: **`app`** **`-v`**\n\n**Available options:**\n- **`-v`**, **`--verbose`** &mdash; \n  Talk more\n\n\n",
+    ),
+    (
+        Asked::Helpdoc(Choice::Sample(Form::Man)),
+        "helpdoc|sample|man",
+        helpdoc::pages::INPUT,
+        b".ie \\n(.g .ds Aq \\(aq\n.el .ds Aq '\n.TH app 1 - - \"\"\n.SH NAME\n\\fRapp \\- \\fP\\fRPrints things\\fP\n.SH SYNOPSIS\n\\fBapp\\fP\\fR \\fP\\fB\\-v\\fP\n.PP\n.SS AVAILABLE\\ OPTIONS:\n.TP\n\\fB\\-v\\fP\\fR, \\fP\\fB\\-\\-verbose\\fP\n\\fRTalk more\\fP\n.PP\n",
+    ),
+];
+
+const CLIDOC: &[Row] = &[
+    (
+        Asked::Clidoc(clidoc::pages::Form::Usage),
+        "clidoc|usage",
+        clidoc::pages::INPUT,
+        b"app -v\n",
+    ),
+    (
+        Asked::Clidoc(clidoc::pages::Form::Full),
+        "clidoc|full",
+        clidoc::pages::INPUT,
+        clidoc::pages::HELP,
+    ),
+    (
+        Asked::Clidoc(clidoc::pages::Form::Brief),
+        "clidoc|brief",
+        clidoc::pages::INPUT,
+        clidoc::pages::HELP,
+    ),
+    (
+        Asked::Clidoc(clidoc::pages::Form::Html),
+        "clidoc|html",
+        clidoc::pages::INPUT,
+        b"# app<br>\n<p>Prints things</p><p><b>Usage</b>: <tt><b>app</b></tt> <tt><b>-v</b></tt></p><p><div>\n<b>Available options:</b></div><dl><dt><tt><b>-v</b></tt>, <tt><b>--verbose</b></tt></dt>\n<dd>Talk more</dd>\n</dl>\n</p>",
+    ),
+    (
+        Asked::Clidoc(clidoc::pages::Form::Web),
+        "clidoc|page",
+        clidoc::pages::INPUT,
+        b"<!DOCTYPE html><html lang=\"en\"><head><meta charset=\"utf-8\"><meta name=\"viewport\" content=\"width=device-width\"><title>app</title><style>body{font:1rem/1.5 sans-serif;max-width:50rem;margin:0 auto;padding:1rem;color:#1b1b1b;background:#fff;overflow-wrap:anywhere}a{color:#0645ad}pre{white-space:pre-wrap;padding:.5rem;background:#f2f2f2}dt{margin-top:.5rem}dt a{text-decoration:none}dt a:hover{text-decoration:underline}dd{margin-left:2rem}dd p{margin:.25rem 0}@media(prefers-color-scheme:dark){body{color:#e6e6e6;background:#161616}a{color:#8ab4f8}pre{background:#262626}}@media print{body{max-width:none;color:#000;background:#fff}a{color:#000}nav{display:none}pre{background:none}}</style></head><body><header><h1>app</h1><p>Prints things</p></header><main><section id=\"app\"><h2>app</h2><pre>\n<code><strong>app</strong> <strong>-v</strong></code></pre><h3>Available options</h3><dl><dt id=\"app::verbose\"><a href=\"#app::verbose\"><code>-v</code>, <code>--verbose</code></a></dt><dd><p>Talk more</p></dd></dl></section></main></body></html>",
+    ),
+    (
+        Asked::Clidoc(clidoc::pages::Form::Markdown),
+        "clidoc|markdown",
+        clidoc::pages::INPUT,
+        b"# app\n\nPrints things\n\n**Usage**: **`app`** **`-v`**\n\n**Available options:**\n- **`-v`**, **`--verbose`** &mdash; \n  Talk more\n\n\n",
+    ),
+    (
+        Asked::Clidoc(clidoc::pages::Form::Man),
+        "clidoc|man",
+        clidoc::pages::INPUT,
+        b".ie \\n(.g .ds Aq \\(aq\n.el .ds Aq '\n.TH app 1 - - \"\"\n.SH NAME\n\\fRapp \\- \\fP\\fRPrints things\\fP\n.SH SYNOPSIS\n\\fBapp\\fP\\fR \\fP\\fB\\-v\\fP\n.PP\n.SS AVAILABLE\\ OPTIONS:\n.TP\n\\fB\\-v\\fP\\fR, \\fP\\fB\\-\\-verbose\\fP\n\\fRTalk more\\fP\n.PP\n",
+    ),
+];
+
+// Whether the page stands in memory.
+fn is_page(global: Global, asked: Asked, input: &[u8], page: &[u8]) -> bool {
+    match asked {
+        Asked::Helpdoc(choice) => helpdoc::pages::has_page(global, choice, input, page),
+        Asked::Clidoc(form) => clidoc::pages::has_page(global, form, input, page),
+    }
+}
+
+// Whether each failed read is said. The sample reads nothing.
+fn says_reads(global: Global, asked: Asked, input: &[u8], page: &[u8]) -> bool {
+    matches!(asked, Asked::Helpdoc(Choice::Sample(_)))
+        || says_failed_reads(global, asked, input, page)
+}
+
+// What does not hold of a page, if anything.
+fn fault(global: Global, &(asked, words, input, page): &Row) -> &'static str {
+    if !is_page(global, asked, input, page) {
+        "it is another page"
+    } else if !answers(global, words, input, 0, (page, "")) {
+        "words choose another page"
+    } else if !moves_bytes(global, asked, input, page) {
+        "it moves by bytes otherwise"
+    } else if !says_reads(global, asked, input, page) {
+        "a failed read is not said"
+    } else if !says_failed_writes(global, asked, input, page) {
+        "a failed write is not said"
+    } else if !refuses_until_ample(global, asked, input, page) {
+        "a refused growth is not said"
+    } else {
+        ""
+    }
+}
+
+#[test]
+fn pages_of_helpdoc_are_written_or_faults_are_said(rt: HostRuntime) {
+    for row in HELPDOC {
+        let fault = fault(rt.alloc(), row);
+        assert!(rt; fault.is_empty(), "{}: {fault}", row.1);
+    }
+}
+
+#[test]
+fn pages_of_clidoc_are_written_or_faults_are_said(rt: HostRuntime) {
+    for row in CLIDOC {
+        let fault = fault(rt.alloc(), row);
+        assert!(rt; fault.is_empty(), "{}: {fault}", row.1);
+    }
+}

@@ -1,0 +1,522 @@
+//! Whole runs of the programs: the status, and what stands on the streams.
+use crate::clidoc::pages::{HELP, INPUT};
+use crate::helpdoc::pages::{self, PAGE, SAMPLE};
+use crate::programs::{answers, ends_with, refuses_until_ample};
+use crate::stand_ins::desk::Desk;
+use crate::stand_ins::runs::Ends;
+use crate::stand_ins::scripts::Script;
+use std::alloc::Global;
+
+// Wrong words with bars between them, and on the next line what says so. Behind each row stands an empty line.
+const WRONG: &str = "clidoc
+clidoc [--command=NAME]... [--width=COLUMNS] [--into=FOLDER] FORM [FILE]
+
+clidoc|--width=3
+clidoc: no form; forms are usage, full, brief, html, page, markdown, man, check and all
+
+clidoc|--|full
+clidoc: no form; forms are usage, full, brief, html, page, markdown, man, check and all
+
+clidoc|
+clidoc: no form ; forms are usage, full, brief, html, page, markdown, man, check and all
+
+clidoc|\u{1b}[2J
+clidoc: no form \"\\u{1b}[2J\"; forms are usage, full, brief, html, page, markdown, man, check and all
+
+clidoc|Full
+clidoc: no form Full; is it full?
+
+clidoc|xml
+clidoc: no form xml; forms are usage, full, brief, html, page, markdown, man, check and all
+
+clidoc|full|a|b
+clidoc: one word too many: b
+
+clidoc|full|a|--|b
+clidoc: one word too many: b
+
+clidoc|--wdth|3|full
+clidoc: no option --wdth; is it --width?
+
+clidoc|full|--widht=80
+clidoc: no option --widht=80; is it --width?
+
+clidoc|full|-x
+clidoc: no option -x; options are --command, --width, --into, --help and --version
+
+clidoc|full|--width|0
+clidoc: no number of columns: 0
+
+clidoc|full|--width=+80
+clidoc: no number of columns: +80
+
+clidoc|--width=1|full|--width=2
+clidoc: --width stands twice
+
+clidoc|full|--command
+clidoc: no value behind --command
+
+clidoc|man|--width=3|--command=x
+clidoc: --width is no option of man
+
+clidoc|html|--command=x
+clidoc: --command is no option of html
+
+clidoc|check|--width|3
+clidoc: --width is no option of check
+
+clidoc|full|--help
+clidoc: other words stand beside --help
+
+clidoc|all
+clidoc: all goes with --into FOLDER
+
+clidoc|--into=a|all|--into|b
+clidoc: --into stands twice
+
+clidoc|all|--into=a|--width=3
+clidoc: --width is no option of all
+
+clidoc|check|--into=a
+clidoc: --into is no option of check
+
+clidoc|--into=a|full
+clidoc: --into is no option of full";
+
+// Whether a run on wrong words says what is wrong.
+fn is_wrong(global: Global, row: &str) -> bool {
+    match row.split_once('\n') {
+        Some((words, line)) => answers(global, words, INPUT, 2, (b"", line)),
+        None => false,
+    }
+}
+
+#[test]
+fn wrong_words_have_a_status(rt: HostRuntime) {
+    for row in WRONG.split("\n\n") {
+        assert!(rt; is_wrong(rt.alloc(), row), "{row}");
+    }
+}
+
+// A description with commands, whose lines end with carriage returns too.
+const NESTED: &[u8] =
+    b"name = 'app'\r\nabout = \"\"\"\r\nOne\r\n\r\nTwo\"\"\"\r\n[[command]]\r\nname = 'remote'\r\nshort = 'r'\r\n[[command.command]]\r\nname = 'add'\r\nabout = 'Adds one'\r\n";
+
+// Words, on the next lines the page, and then a line of signs. Behind an empty page stands what is said.
+const RIGHT: &str = "clidoc|--width=100|full|-
+One
+Two
+
+Usage: app COMMAND ...
+
+Available commands:
+    remote, r
+
+====
+
+----
+clidoc|usage|--width|12
+app COMMAND
+...
+
+====
+
+----
+clidoc|usage|--width|18446744073709551615
+app COMMAND ...
+
+====
+
+----
+clidoc|usage|--command|remote
+app remote COMMAND ...
+
+====
+
+----
+clidoc|--command=r|--command|add|full
+Adds one
+
+Usage: app remote add\u{20}
+
+====
+
+----
+clidoc|man|--command=r|--command=add
+.ie \\n(.g .ds Aq \\(aq
+.el .ds Aq '
+.TH app-remote-add 1 - - \"\"
+.SH NAME
+\\fRapp\\-remote\\-add \\- \\fP\\fRAdds one\\fP
+.SH SYNOPSIS
+\\fBapp\\fP\\fR \\fP\\fBremote\\fP\\fR \\fP\\fBadd\\fP\\fR \\fP
+.SH SEE\\ ALSO
+\\fBapp\\-remote\\fP\\fR(1)\\fP
+====
+
+----
+clidoc|check
+
+====
+
+----
+clidoc|--version
+clidoc 0.9.28
+
+====
+
+----
+clidoc|-V
+clidoc 0.9.28
+
+====
+
+----
+clidoc|usage|--command=r|--command=push
+
+====
+clidoc: no command push in app remote
+----
+clidoc|--command|add|man
+
+====
+clidoc: no command add in app
+----
+clidoc|full|nowhere.toml
+
+====
+clidoc: can't open nowhere.toml
+----
+clidoc|check|--|-\u{7}
+
+====
+clidoc: can't open \"-\\u{7}\"";
+
+// Whether a run on words writes the page, or says the line and fails.
+fn is_right(global: Global, row: &str) -> bool {
+    let Some((words, answer)) = row.split_once('\n') else {
+        return false;
+    };
+    match answer.split_once("\n====\n") {
+        Some((page, line)) => {
+            let status = u8::from(!line.is_empty());
+            answers(global, words, NESTED, status, (page.as_bytes(), line))
+        }
+        None => false,
+    }
+}
+
+#[test]
+fn does_what_is_chosen(rt: HostRuntime) {
+    for row in RIGHT.split("\n----\n") {
+        assert!(rt; is_right(rt.alloc(), row), "{row}");
+    }
+}
+
+// Words and an input, the status, what is written, and the line on standard error.
+type Row = (&'static str, &'static [u8], u8, &'static [u8], &'static str);
+
+const ROWS: &[Row] = &[
+    (
+        "helpdoc|text|full",
+        b"\xff",
+        1,
+        b"",
+        "helpdoc: input is not UTF-8",
+    ),
+    (
+        "helpdoc|text|full",
+        b"hello \xff",
+        1,
+        b"",
+        "helpdoc: input is not UTF-8",
+    ),
+    (
+        "helpdoc|text|full",
+        b"\xe2\x82",
+        1,
+        b"",
+        "helpdoc: input is not UTF-8",
+    ),
+    ("helpdoc|text|full", b"", 0, b"", ""),
+    ("helpdoc|sample|full", b"\xff", 0, SAMPLE, ""),
+    ("helpdoc|text|brief", b"", 0, b"", ""),
+    ("helpdoc|text|html", b"", 0, b"", ""),
+    ("helpdoc|text|markdown", b"", 0, b"", ""),
+    (
+        "helpdoc|text|man",
+        b"",
+        0,
+        b".ie \\n(.g .ds Aq \\(aq\n.el .ds Aq '\n.TH helpdoc 1 - - \"\"\n\\fR\\fP",
+        "",
+    ),
+    ("helpdoc|text|brief", b"shown\n\nmore", 0, b"shown\n", ""),
+    (
+        "clidoc|full",
+        b"name = 'app\xff'\n",
+        1,
+        b"",
+        "clidoc: input is not UTF-8",
+    ),
+];
+
+// As `WRONG`, of the other program.
+const WRONG_OF_HELPDOC: &str = "helpdoc
+helpdoc: expected text or sample, then full, brief, html, markdown or man
+
+helpdoc|text
+helpdoc: expected text or sample, then full, brief, html, markdown or man
+
+helpdoc|sample
+helpdoc: expected text or sample, then full, brief, html, markdown or man
+
+helpdoc|full
+helpdoc: expected text or sample, then full, brief, html, markdown or man
+
+helpdoc|sample|Full
+helpdoc: expected text or sample, then full, brief, html, markdown or man
+
+helpdoc|samples|full
+helpdoc: expected text or sample, then full, brief, html, markdown or man
+
+helpdoc|sample|full|full
+helpdoc: expected text or sample, then full, brief, html, markdown or man";
+
+#[test]
+fn answers_a_status(rt: HostRuntime) {
+    for &(words, input, status, page, line) in ROWS {
+        assert!(rt;
+            answers(rt.alloc(), words, input, status, (page, line)),
+            "{words} {line}"
+        );
+    }
+    for row in WRONG_OF_HELPDOC.split("\n\n") {
+        assert!(rt; is_wrong(rt.alloc(), row), "{row}");
+    }
+}
+
+const NEVER: Script<'static> = Script::BYTES;
+
+const FIRST: Script<'static> = Script::FIRST_FAILS;
+
+const FOURTH: Script<'static> = Script::FOURTH_FAILS;
+
+// Words and an input, how the reader and the writer answer, the status, how much of the page is written, and the line.
+type Faulty = (
+    &'static str,
+    &'static [u8],
+    Script<'static>,
+    Script<'static>,
+    u8,
+    usize,
+    &'static str,
+);
+
+const FAULTY: &[Faulty] = &[
+    (
+        "helpdoc|text",
+        b"\xff",
+        FIRST,
+        FIRST,
+        2,
+        0,
+        "helpdoc: expected text or sample, then full, brief, html, markdown or man",
+    ),
+    (
+        "helpdoc|text|full",
+        pages::INPUT,
+        FIRST,
+        NEVER,
+        1,
+        0,
+        "helpdoc: read failed",
+    ),
+    (
+        "helpdoc|text|full",
+        pages::INPUT,
+        FOURTH,
+        NEVER,
+        1,
+        0,
+        "helpdoc: read failed",
+    ),
+    (
+        "helpdoc|text|full",
+        b"\xff\xff\xff",
+        FOURTH,
+        FIRST,
+        1,
+        0,
+        "helpdoc: read failed",
+    ),
+    (
+        "helpdoc|text|full",
+        b"\xff",
+        NEVER,
+        FIRST,
+        1,
+        0,
+        "helpdoc: input is not UTF-8",
+    ),
+    (
+        "helpdoc|text|full",
+        pages::INPUT,
+        NEVER,
+        FIRST,
+        1,
+        0,
+        "helpdoc: write failed",
+    ),
+    (
+        "helpdoc|text|full",
+        pages::INPUT,
+        NEVER,
+        FOURTH,
+        1,
+        3,
+        "helpdoc: write failed",
+    ),
+    (
+        "helpdoc|sample|full",
+        pages::INPUT,
+        FIRST,
+        NEVER,
+        0,
+        SAMPLE.len(),
+        "",
+    ),
+    (
+        "helpdoc|sample|full",
+        pages::INPUT,
+        FIRST,
+        FOURTH,
+        1,
+        3,
+        "helpdoc: write failed",
+    ),
+    (
+        "clidoc",
+        b"\xff",
+        FIRST,
+        FIRST,
+        2,
+        0,
+        "clidoc [--command=NAME]... [--width=COLUMNS] [--into=FOLDER] FORM [FILE]",
+    ),
+    (
+        "clidoc|full",
+        INPUT,
+        FIRST,
+        NEVER,
+        1,
+        0,
+        "clidoc: read failed",
+    ),
+    (
+        "clidoc|full",
+        INPUT,
+        FOURTH,
+        NEVER,
+        1,
+        0,
+        "clidoc: read failed",
+    ),
+    (
+        "clidoc|full",
+        b"= \xff",
+        FOURTH,
+        FIRST,
+        1,
+        0,
+        "clidoc: read failed",
+    ),
+    (
+        "clidoc|full",
+        b"= \xff",
+        NEVER,
+        FIRST,
+        1,
+        0,
+        "clidoc: input is not UTF-8",
+    ),
+    (
+        "clidoc|full",
+        b"lnog = 1\nlnog = 1\n",
+        NEVER,
+        FIRST,
+        1,
+        0,
+        "clidoc: line 2, column 1: duplicate key",
+    ),
+    (
+        "clidoc|full",
+        b"",
+        NEVER,
+        FIRST,
+        1,
+        0,
+        "clidoc: description: name is missing",
+    ),
+    (
+        "clidoc|full",
+        INPUT,
+        NEVER,
+        FIRST,
+        1,
+        0,
+        "clidoc: write failed",
+    ),
+    (
+        "clidoc|full",
+        INPUT,
+        NEVER,
+        FOURTH,
+        1,
+        3,
+        "clidoc: write failed",
+    ),
+];
+
+// The page of these words.
+fn page_of(words: &str) -> &'static [u8] {
+    match words {
+        "helpdoc|text|full" => PAGE,
+        "helpdoc|sample|full" => SAMPLE,
+        _ => HELP,
+    }
+}
+
+fn tells(global: Global, row: &Faulty) -> bool {
+    let &(words, input, reads, writes, status, count, line) = row;
+    let ends = Ends::new(input, page_of(words));
+    let desk = Desk::new(global, words, ends.reading(reads).writing(writes), line);
+    ends_with(global, &desk, status, count, status > 0)
+}
+
+// Where the words cannot be read, nothing else is looked at.
+fn tells_garbled_words<'a>(global: Global, words: &'a str, line: &'a str) -> bool {
+    let ends = Ends::new(INPUT, HELP).reading(FIRST).writing(FIRST);
+    let desk = Desk::new(global, words, ends, line).garbled();
+    ends_with(global, &desk, 1, 0, true)
+}
+
+// Of several faults the first is told: words, then reads, then the text, its TOML, its description, then writes.
+#[test]
+fn tells_the_first_fault(rt: HostRuntime) {
+    for row in FAULTY {
+        assert!(rt; tells(rt.alloc(), row), "{} {} {}", row.0, row.6, row.5);
+    }
+    assert!(rt; tells_garbled_words(rt.alloc(), "helpdoc|text|full", "helpdoc: no memory"));
+    assert!(rt; tells_garbled_words(rt.alloc(), "clidoc|full", "clidoc: no memory"));
+}
+
+#[test]
+fn a_refused_growth_is_said(rt: HostRuntime) {
+    let ends = Ends::new(pages::INPUT, PAGE);
+    let line = "helpdoc: no memory";
+    assert!(rt; refuses_until_ample(rt.alloc(), "helpdoc|text|full", ends, line));
+    let ends = Ends::new(pages::INPUT, SAMPLE);
+    assert!(rt; refuses_until_ample(rt.alloc(), "helpdoc|sample|full", ends, line));
+    let ends = Ends::new(INPUT, HELP);
+    assert!(rt; refuses_until_ample(rt.alloc(), "clidoc|full", ends, "clidoc: no memory"));
+}
