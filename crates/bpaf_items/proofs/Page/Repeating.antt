@@ -1,17 +1,23 @@
 -- What is remembered of the entries so far, after one more.
-use Rattle.std.proofs.Common.{◌≡◌, ℕ, Bool, true, false, not, ◌||◌, ◌&&◌, ◌==◌, List, [], ◌∷◌, ◌++◌, Option, Some, None, refl, sym, ap, ◌∙◌, append-nil, subst, arith}
-use Rattle.std.specs.Prelude.{fold, Result, Ok, Err, IfOk}
-use Rattle.std.specs.List.{list_any, last_or}
+use Rattle.std.proofs.Common.{◌≡◌, ℕ, Bool, true, false, not, ◌||◌, ◌&&◌, ◌==◌, List, [], ◌∷◌, ◌++◌, Option, Some, None, refl, sym, ap, ◌∙◌, append-nil, subst, arith, cond, drop, get_or, length, map, suc, take, ◌+◌, ◌<◌, ◌≤◌}
+use Rattle.std.specs.Prelude.{if◌then◌else◌, flat_map, fold, nat_eq, Result, Ok, Err, IfOk}
+use Rattle.std.specs.Option.{option_map_or}
+use Rattle.std.specs.List.{AllByRecursion, IsDistinct, dedup, dedup_from, list_any, last_or}
+use Rattle.std.specs.List.Sorted.{IsPermutation, IsSorted, IsStrictlySortedBy}
 use Rattle.std.specs.Hash.FoldHasher as folding
 use Rattle.std.specs.declared.cmp.Ordering.{Ordering}
 use Rattle.std.specs.declared.cmp.Ordering.TheVariants.{Less, Equal, Greater}
 use Rattle.std.specs.Ordering.{is_eq, match_ordering, nat_cmp, ordering_then}
-use Rattle.std.specs.Cmp.{both_tied, unsigned_ties}
+use Rattle.std.specs.Cmp.{both_tied, nat_cmp_total, nat_eq_equiv, unsigned_ties}
 use Rattle.std.specs.BTreeMap.{is_at}
 use Rattle.std.specs.BTreeSet.{insert_key}
 use Rattle.std.proofs.lemmas.Bool.{eq-eqb}
 use Rattle.std.proofs.lemmas.Grind.{flat_map-append}
+use Rattle.std.proofs.lemmas.List.{drop_more, map-append, take-append-drop}
 use Rattle.std.proofs.lemmas.List.Folds.{list_any-append}
+use Rattle.std.proofs.lemmas.List.Kept.{IsStrictlySortedBy-dedup}
+use Rattle.std.proofs.lemmas.List.Sorted.{IsPermutation-sym}
+use Rattle.std.proofs.lemmas.Map.Keys.{IsDistinct-IsPermutation, IsDistinct-from_sorted, IsDistinct-head, IsDistinct-tail}
 use Rattle.bpaf_doc.specs.Buffer.Parts.{Part}
 use Rattle.bpaf_doc.specs.Buffer.Writes.{with_writes}
 use Rattle.bpaf_meta.specs.Content.{Leaf}
@@ -23,7 +29,7 @@ use Rattle.bpaf_items.specs.Steps.KeyFed.{key_fed}
 use Rattle.bpaf_items.specs.Listing.Falls.{is_mark, has_key_of, is_mark_or_new, is_shown}
 use Rattle.bpaf_items.specs.Page.EnvTexts.{Texts}
 use Rattle.bpaf_items.specs.Page.HelpPage.{list_writes}
-use Rattle.bpaf_items.specs.Page.Steps.Repeats.{AreHashed, Hashed, IsHashed, PutsKey, Remembers, has_key, is_last_shown, shown_writes}
+use Rattle.bpaf_items.specs.Page.Steps.Repeats.{AreApart, AreHashed, Hashed, IsHashed, PutsKey, Remembers, entry_hash, has_key, is_last_shown, key_hash, shown_writes}
 use Rattle.bpaf_items.specs.View.{key_in}
 use Rattle.bpaf_items.proofs.Listing.Placing.{placed-push}
 use Rattle.bpaf_items.proofs.Listing.Shown.{shown-push}
@@ -104,25 +110,94 @@ puts_key keys after x is_new own answer put all = grind (arith, found, put_has, 
 seen_entry : (first own : Bool) (tests : Entry → Bool) (before : List Entry) (e : Entry) → own ≡ tests e → first ≡ list_any tests before → (own || first) ≡ list_any tests (before ++ e ∷ [])
 seen_entry first own tests before e is seen = grind (arith, or_swap, list_any-append)
 
-abbrev Goes : {B : Type 0} → List (Hashed B) → (shown last : Bool) → (before : List Entry) → Entry → Type 0
-Goes keys shown last before e = (shown ≡ is_shown (before, e)) × Remembers keys last (before ++ e ∷ [])
+-- a number that stands among distinct ones is none of those before it
+at_middle : (P : ℕ → Type 0) (xs ys : List ℕ) (h : ℕ) → AllByRecursion P (xs ++ h ∷ ys) → P h
+at_middle P [] ys h all = all.0
+at_middle P (x ∷ xs) ys h all = at_middle P xs ys h all.1
 
-item_shown : {B : Type 0} (keys after : List (Hashed B)) (shown last now : Bool) (k : Key) (e : Entry) (before : List Entry)
-    → Some k ≡ entry_key e → PutsKey keys after k shown → now ≡ shown → Remembers keys last before → Goes after shown now before e
-item_shown keys after shown last now k (listed l) before is put same h = grind (arith, seen_entry, last_shown-push)
-item_shown keys after shown last now k (note d j) before is put same h = cc
-item_shown keys after shown last now k (group_start d j) before is put same h = cc
-item_shown keys after shown last now k (group_end j) before is put same h = cc
-item_shown keys after shown last now k (adjacent_start t j) before is put same h = cc
-item_shown keys after shown last now k (adjacent_stop j) before is put same h = cc
+new_number : (xs ys : List ℕ) (h : ℕ) → IsDistinct nat_eq (xs ++ h ∷ ys) → list_any (nat_eq h) xs ≡ false
+new_number [] ys h d = refl
+new_number (x ∷ xs) ys h d =
+    rw (nat_eq_equiv.symm h x ∙ at_middle (λ y. nat_eq x y ≡ false) xs ys h (IsDistinct-head nat_eq x (xs ++ h ∷ ys) d))
+    (new_number xs ys h (IsDistinct-tail nat_eq x (xs ++ h ∷ ys) d))
 
-pub item_goes : {B E : Type 0} (r : Result Bool E) (keys after : List (Hashed B)) (last now : Bool) (k : Key) (e : Entry) (before : List Entry)
-    → Some k ≡ entry_key e → (AreHashed keys → IfOk r (λ shown. PutsKey keys after k shown × (now ≡ shown)))
-    → Remembers keys last before → IfOk r (λ shown. Goes after shown now before e)
-item_goes {B = B} {E = E} r keys after last now k e before is puts h = by r (puts h.hashed) where
-  by : (r : Result Bool E) → IfOk r (λ shown. PutsKey keys after k shown × (now ≡ shown)) → IfOk r (λ shown. Goes after shown now before e)
-  by (Ok shown) f = item_shown keys after shown last now k e before is f.0 f.1 h
-  by (Err x) f = tt
+-- keys with two hashes differ
+two_keys : (k l : Key) → nat_eq (key_hash k) (key_hash l) ≡ false → same_key k l ≡ false
+two_keys k l h = by (same_key k l) refl where
+  by : (b : Bool) → same_key k l ≡ b → b ≡ false
+  by true e = let one : key_hash k ≡ key_hash l = ap (λ fed. folding.finish (fold folding.write folding.initial fed)) (key_fed k l e) in cc (eq-eqb (key_hash k) (key_hash l) one, h)
+  by false e = refl
+
+either_false : (a b : Bool) → (a || b) ≡ false → (a ≡ false) × (b ≡ false)
+either_false false false h = (refl, refl)
+either_false true b h = cc
+either_false false true h = cc
+
+keys_apart : (l : Leaf) (es : List Entry) → list_any (nat_eq (key_hash (key_of l))) (flat_map entry_hash es) ≡ false → list_any (has_key_of l) es ≡ false
+keys_apart l [] h = refl
+keys_apart l (listed m ∷ es) h =
+    let (other, rest) = either_false (nat_eq (key_hash (key_of l)) (key_hash (key_of m))) (list_any (nat_eq (key_hash (key_of l))) (flat_map entry_hash es)) h in
+    rw (two_keys (key_of l) (key_of m) other) (keys_apart l es rest)
+keys_apart l (note d j ∷ es) h = keys_apart l es h
+keys_apart l (group_start d j ∷ es) h = keys_apart l es h
+keys_apart l (group_end j ∷ es) h = keys_apart l es h
+keys_apart l (adjacent_start t j ∷ es) h = keys_apart l es h
+keys_apart l (adjacent_stop j ∷ es) h = keys_apart l es h
+
+new_among : (all before rest : List Entry) (l : Leaf) → all ≡ before ++ listed l ∷ rest → AreApart all → list_any (has_key_of l) before ≡ false
+new_among all before rest l is apart =
+    keys_apart l before
+    (new_number (flat_map entry_hash before) (flat_map entry_hash rest) (key_hash (key_of l))
+    (subst (IsDistinct nat_eq) (ap (flat_map entry_hash) is ∙ flat_map-append entry_hash before (listed l ∷ rest)) apart))
+
+abbrev Goes : {B : Type 0} → List Entry → Bool → List (Hashed B) → (shown last : Bool) → (before : List Entry) → Entry → Type 0
+Goes all apart keys shown last before e = (shown ≡ is_shown (before, e)) × Remembers all apart keys last (before ++ e ∷ [])
+
+item_apart : {B : Type 0} (all rest : List Entry) (keys after : List (Hashed B)) (shown last now : Bool) (k : Key) (e : Entry) (before : List Entry) → Some k ≡ entry_key e → all ≡ before ++ e ∷ rest
+    → shown ≡ true → now ≡ true → after ≡ keys → Remembers all true keys last before → Goes all true after shown now before e
+item_apart all rest keys after shown last now k (listed l) before is split told set same h =
+    let new : is_shown (before, listed l) ≡ true = ap not (new_among all before rest l split (h.apart refl)) in (
+      told ∙ sym new,
+      record {
+        apart = h.apart;
+        hashed = subst AreHashed (sym same) h.hashed;
+        seen = λ no m. cc;
+        last = set ∙ sym new ∙ sym (last_shown-push before (listed l));
+      },
+    )
+item_apart all rest keys after shown last now k (note d j) before is split told set same h = cc
+item_apart all rest keys after shown last now k (group_start d j) before is split told set same h = cc
+item_apart all rest keys after shown last now k (group_end j) before is split told set same h = cc
+item_apart all rest keys after shown last now k (adjacent_start t j) before is split told set same h = cc
+item_apart all rest keys after shown last now k (adjacent_stop j) before is split told set same h = cc
+
+item_shown : {B : Type 0} (all : List Entry) (keys after : List (Hashed B)) (shown last now : Bool) (k : Key) (e : Entry) (before : List Entry)
+    → Some k ≡ entry_key e → PutsKey keys after k shown → now ≡ shown → Remembers all false keys last before → Goes all false after shown now before e
+item_shown all keys after shown last now k (listed l) before is put same h =
+    let own : k ≡ key_of l = cc in
+    let first : shown ≡ is_shown (before, listed l) = put.answer ∙ ap (λ q. not (has_key keys q)) own ∙ ap not (h.seen refl l) in (
+      first,
+      record {
+        apart = λ h. cc;
+        hashed = put.hashed;
+        seen = λ no m. put.has (key_of m) ∙ seen_entry (has_key keys (key_of m)) (same_key (key_of m) k) (has_key_of m) before (listed l) (ap (same_key (key_of m)) own) (h.seen no m);
+        last = same ∙ first ∙ sym (last_shown-push before (listed l));
+      },
+    )
+item_shown all keys after shown last now k (note d j) before is put same h = cc
+item_shown all keys after shown last now k (group_start d j) before is put same h = cc
+item_shown all keys after shown last now k (group_end j) before is put same h = cc
+item_shown all keys after shown last now k (adjacent_start t j) before is put same h = cc
+item_shown all keys after shown last now k (adjacent_stop j) before is put same h = cc
+
+pub item_goes : {B E : Type 0} (r : Result Bool E) (all rest : List Entry) (apart : Bool) (keys after : List (Hashed B)) (last now : Bool) (k : Key) (e : Entry) (before : List Entry)
+    → Some k ≡ entry_key e → all ≡ before ++ e ∷ rest
+    → (apart ≡ true → IfOk r (λ shown. (shown ≡ true) × (now ≡ true) × (after ≡ keys)))
+    → (apart ≡ false → AreHashed keys → IfOk r (λ shown. PutsKey keys after k shown × (now ≡ shown)))
+    → Remembers all apart keys last before → IfOk r (λ shown. Goes all apart after shown now before e)
+item_goes (Ok shown) all rest true keys after last now k e before is split free puts h = let f = free refl in item_apart all rest keys after shown last now k e before is split f.0 f.1 f.2 h
+item_goes (Ok shown) all rest false keys after last now k e before is split free puts h = let f = puts refl h.hashed in item_shown all keys after shown last now k e before is f.0 f.1 h
+item_goes (Err x) all rest apart keys after last now k e before is split free puts h = tt
 
 or_false : (b : Bool) → (b || false) ≡ b
 or_false true = refl
@@ -136,24 +211,70 @@ seen_other : {B : Type 0} (keys : List (Hashed B)) (e : Entry) (before : List En
     → (m : Leaf) → has_key keys (key_of m) ≡ list_any (has_key_of m) (before ++ e ∷ [])
 seen_other keys e before none seen m = grind (arith, or_none, list_any-append)
 
-mark_shown : {B : Type 0} (keys : List (Hashed B)) (last : Bool) (e : Entry) (before : List Entry) → is_mark_or_new (before, e) ≡ true → is_shown (before, e) ≡ true → ((m : Leaf) → has_key_of m e ≡ false)
-    → Remembers keys last before → Goes keys (last || true) true before e
-mark_shown keys last e before new is none h = grind (arith, or_true, seen_other, last_shown-push)
+module _ {B : Type 0} (all : List Entry) (apart : Bool) where
+  mark_shown : (keys : List (Hashed B)) (last : Bool) (e : Entry) (before : List Entry) → is_mark_or_new (before, e) ≡ true → is_shown (before, e) ≡ true → ((m : Leaf) → has_key_of m e ≡ false)
+      → Remembers all apart keys last before → Goes all apart keys (last || true) true before e
+  mark_shown keys last e before new is none h = (
+    or_true last ∙ sym is,
+    record { apart = h.apart; hashed = h.hashed; seen = λ no. seen_other keys e before none (h.seen no); last = sym new ∙ sym (last_shown-push before e) },
+  )
 
-pub other_shown : {B : Type 0} (keys after : List (Hashed B)) (shown last now mark : Bool) (e : Entry) (before : List Entry)
-    → None ≡ entry_key e → mark ≡ is_mark e → shown ≡ (last || mark) → now ≡ mark → after ≡ keys → Remembers keys last before → Goes after shown now before e
-other_shown keys after shown last now mark (listed l) before none is new same kept h = cc
-other_shown keys after shown last now mark (note d k) before none is new same kept h = grind (arith, or_false, seen_other, last_shown-push)
-other_shown keys after shown last now mark (group_start d k) before none is new same kept h = rw (kept, same, new, is) (mark_shown keys last (group_start d k) before refl refl (λ m. refl) h)
-other_shown keys after shown last now mark (group_end k) before none is new same kept h = rw (kept, same, new, is) (mark_shown keys last (group_end k) before refl refl (λ m. refl) h)
-other_shown keys after shown last now mark (adjacent_start t k) before none is new same kept h = rw (kept, same, new, is) (mark_shown keys last (adjacent_start t k) before refl refl (λ m. refl) h)
-other_shown keys after shown last now mark (adjacent_stop k) before none is new same kept h = rw (kept, same, new, is) (mark_shown keys last (adjacent_stop k) before refl refl (λ m. refl) h)
+  pub other_shown : (keys after : List (Hashed B)) (shown last now mark : Bool) (e : Entry) (before : List Entry)
+      → None ≡ entry_key e → mark ≡ is_mark e → shown ≡ (last || mark) → now ≡ mark → after ≡ keys → Remembers all apart keys last before → Goes all apart after shown now before e
+  other_shown keys after shown last now mark (listed l) before none is new same kept h = cc
+  other_shown keys after shown last now mark (note d k) before none is new same kept h =
+      rw (kept, same, new, is) (
+        or_false last ∙ h.last,
+        record { apart = h.apart; hashed = h.hashed; seen = λ no. seen_other keys (note d k) before (λ m. refl) (h.seen no); last = sym (last_shown-push before (note d k)) },
+      )
+  other_shown keys after shown last now mark (group_start d k) before none is new same kept h = rw (kept, same, new, is) (mark_shown keys last (group_start d k) before refl refl (λ m. refl) h)
+  other_shown keys after shown last now mark (group_end k) before none is new same kept h = rw (kept, same, new, is) (mark_shown keys last (group_end k) before refl refl (λ m. refl) h)
+  other_shown keys after shown last now mark (adjacent_start t k) before none is new same kept h = rw (kept, same, new, is) (mark_shown keys last (adjacent_start t k) before refl refl (λ m. refl) h)
+  other_shown keys after shown last now mark (adjacent_stop k) before none is new same kept h = rw (kept, same, new, is) (mark_shown keys last (adjacent_stop k) before refl refl (λ m. refl) h)
 
--- at the start of a list
-pub nothing_seen : {B : Type 0} (keys : List (Hashed B)) → keys ≡ [] → Remembers keys false []
-nothing_seen keys is = record { hashed = subst AreHashed (sym is) tt; seen = λ l. ap (λ ks. has_key ks (key_of l)) is; last = refl }
+  -- at the start of a list
+  pub nothing_seen : (apart ≡ true → AreApart all) → (keys : List (Hashed B)) → keys ≡ [] → Remembers all apart keys false []
+  nothing_seen is_apart keys is = record { apart = is_apart; hashed = subst AreHashed (sym is) tt; seen = λ no l. ap (λ ks. has_key ks (key_of l)) is; last = refl }
+
+-- ---- numbers that differ
+
+dedup_within : (k : ℕ) (xs : List ℕ) → length (dedup_from nat_eq k xs) ≤ suc (length xs)
+dedup_within k [] = omega arith
+dedup_within k (x ∷ xs) = by (nat_eq x k) (dedup_within k xs) (dedup_within x xs) where
+  by : (b : Bool) → length (dedup_from nat_eq k xs) ≤ suc (length xs) → length (dedup_from nat_eq x xs) ≤ suc (length xs) → length (cond b (dedup_from nat_eq k xs) (k ∷ dedup_from nat_eq x xs)) ≤ suc (suc (length xs))
+  by true h i = omega (arith, h)
+  by false h i = omega (arith, i)
+
+dedup_whole : (k : ℕ) (xs : List ℕ) → length (dedup_from nat_eq k xs) ≡ suc (length xs) → dedup_from nat_eq k xs ≡ k ∷ xs
+dedup_whole k [] h = refl
+dedup_whole k (x ∷ xs) h = by (nat_eq x k) h (dedup_within k xs) (dedup_whole x xs) where
+  by : (b : Bool) → length (cond b (dedup_from nat_eq k xs) (k ∷ dedup_from nat_eq x xs)) ≡ suc (suc (length xs)) → length (dedup_from nat_eq k xs) ≤ suc (length xs)
+      → (length (dedup_from nat_eq x xs) ≡ suc (length xs) → dedup_from nat_eq x xs ≡ x ∷ xs) → cond b (dedup_from nat_eq k xs) (k ∷ dedup_from nat_eq x xs) ≡ k ∷ x ∷ xs
+  by true e short rest = absurd (omega (arith, e, short))
+  by false e short rest = ap (λ ys. k ∷ ys) (rest (omega (arith, e)))
+
+all_kept : (xs : List ℕ) → length (dedup nat_eq xs) ≡ length xs → dedup nat_eq xs ≡ xs
+all_kept [] h = refl
+all_kept (x ∷ xs) h = dedup_whole x xs h
+
+-- numbers of which none is left out once they are sorted
+pub distinct_sorted : (xs sorted : List ℕ) → IsPermutation xs sorted → IsSorted nat_cmp sorted → length (dedup nat_eq sorted) ≡ length sorted → IsDistinct nat_eq xs
+distinct_sorted xs sorted moved rises whole =
+    let ascend : IsStrictlySortedBy nat_cmp sorted = subst (IsStrictlySortedBy nat_cmp) (all_kept sorted whole) (IsStrictlySortedBy-dedup nat_cmp_total unsigned_ties sorted rises) in
+    let apart : IsDistinct nat_eq sorted = subst (λ (eq : ℕ → ℕ → Bool). IsDistinct eq sorted) (λ i x y. sym (unsigned_ties x y) i) (IsDistinct-from_sorted nat_cmp sorted ascend) in
+    IsDistinct-IsPermutation nat_eq nat_eq_equiv.symm sorted xs (IsPermutation-sym xs sorted moved) apart
+
+-- the hashes of one entry more
+pub hashes_more : (es next : List Entry) (e : Entry) → next ≡ es ++ e ∷ [] → flat_map entry_hash next ≡ flat_map entry_hash es ++ entry_hash e
+hashes_more es next e is = ap (flat_map entry_hash) is ∙ flat_map-append entry_hash es (e ∷ []) ∙ ap (λ hs. flat_map entry_hash es ++ hs) (append-nil (entry_hash e))
 
 -- ---- lists
+
+-- what stands round an element
+pub map_around : {X Y : Type 0} (f : X → Y) (xs : List X) (i : ℕ) (x d : X) → x ≡ get_or xs i d → i < length xs → map f xs ≡ map f (take i xs) ++ f x ∷ map f (drop (i + 1) xs)
+map_around f xs i x d at below =
+    ap (map f) (sym (take-append-drop i xs) ∙ ap (λ ys. take i xs ++ ys) (drop_more xs i d below)) ∙ map-append f (take i xs) (get_or xs i d ∷ drop (i + 1) xs)
+    ∙ ap (λ y. map f (take i xs) ++ f y ∷ map f (drop (i + 1) xs)) (sym at)
 
 -- a list with one more entry
 pub list-push : (included : Bool) (texts : Texts) (before : List Entry) (e : Entry) → list_writes included texts (before ++ e ∷ []) ≡ list_writes included texts before ++ shown_writes included texts before e

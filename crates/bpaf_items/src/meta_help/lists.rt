@@ -27,7 +27,7 @@ impl<'t, C: Allocator, L: Allocator + Copy> Writer<'t, C, L> {
             (list_writes self.now.include_env (texts_in self.now.texts.now) (map entry_at entries.now)) }
     {
         reserve_for(doc, entries)?;
-        let mut repeats: Repeats<'s, B, L> = Repeats::new(self.alloc);
+        let mut repeats: Repeats<'s, B, L> = Repeats::new(self.alloc, entries)?;
         for entry in entries {
             self.put_next(doc, &mut repeats, *entry)?;
         }
@@ -41,10 +41,11 @@ impl<'t, C: Allocator, L: Allocator + Copy> Writer<'t, C, L> {
         entry: &'s HelpItem<'a, B>,
     ) -> Result<(), AllocError>
         ensures grows { Grows doc.old doc.new }
-        ensures next { (before : List Entry) → Remembers repeats.old.keys.keys repeats.old.shown before → OnOk result (
+        ensures next { (all before rest : List Entry) → all ≡ before ++ entry_of entry.now ∷ rest
+            → Remembers all repeats.old.are_apart repeats.old.keys.keys repeats.old.shown before → OnOk result (
             (doc.new ≡ with_writes doc.old
             (shown_writes self.now.include_env (texts_in self.now.texts.now) before (entry_of entry.now)))
-            × Remembers repeats.new.keys.keys repeats.new.shown (before ++ entry_of entry.now ∷ [])) }
+            × Remembers all repeats.new.are_apart repeats.new.keys.keys repeats.new.shown (before ++ entry_of entry.now ∷ [])) }
     {
         if !repeats.shows(entry)? {
             return Ok(());

@@ -1,12 +1,12 @@
 -- What is remembered of the entries of a list so far, and what the next one writes.
-use Rattle.std.specs.Prelude.{◌≡◌, ℕ, Bool, false, not, ◌||◌, if◌then◌else◌, fold, List, [], None}
+use Rattle.std.specs.Prelude.{◌≡◌, ℕ, Bool, true, false, not, ◌||◌, if◌then◌else◌, flat_map, fold, nat_eq, List, [], ◌∷◌, Option, Some, None}
 use Rattle.std.specs.Hash.FoldHasher as folding
 use Rattle.std.specs.Option.{option_map_or}
-use Rattle.std.specs.List.{AllByRecursion, list_any, last_or}
+use Rattle.std.specs.List.{AllByRecursion, IsDistinct, list_any, last_or}
 use Rattle.bpaf_doc.specs.Buffer.Writes.{Write}
 use Rattle.bpaf_meta.specs.Content.{Leaf}
 use Rattle.bpaf_items.specs.declared.meta_help.key.ItemKey.{ItemKey}
-use Rattle.bpaf_items.specs.Listing.ItemList.{Entry}
+use Rattle.bpaf_items.specs.Listing.ItemList.{Entry, listed}
 use Rattle.bpaf_items.specs.Listing.Keys.{Key, key_of, same_key}
 use Rattle.bpaf_items.specs.Listing.KeyInput.{key_input}
 use Rattle.bpaf_items.specs.Listing.Falls.{placed, has_key_of, is_mark_or_new, is_shown}
@@ -45,10 +45,20 @@ pub record PutsKey {B : Type 0} (keys after : List (Hashed B)) (key : Key) (is_n
 abbrev pub is_last_shown : List Entry → Bool
 is_last_shown before = option_map_or is_mark_or_new (last_or None (placed before)) false
 
--- the keys are those of the items before, and the mark says whether a note would be shown now
-pub record Remembers {B : Type 0} (keys : List (Hashed B)) (shown : Bool) (before : List Entry) : Type 0 where
+-- the hash of an entry that is an item
+abbrev pub entry_hash : Entry → List ℕ
+entry_hash (listed l) = key_hash (key_of l) ∷ []
+entry_hash e = []
+
+-- no two items have one hash
+abbrev pub AreApart : List Entry → Type 0
+AreApart es = IsDistinct nat_eq (flat_map entry_hash es)
+
+-- of all these entries: their items are apart, or the keys are those of the items before; the mark says whether a note would be shown now
+pub record Remembers {B : Type 0} (all : List Entry) (are_apart : Bool) (keys : List (Hashed B)) (shown : Bool) (before : List Entry) : Type 0 where
+  pub apart : are_apart ≡ true → AreApart all
   pub hashed : AreHashed keys
-  pub seen : (l : Leaf) → has_key keys (key_of l) ≡ list_any (has_key_of l) before
+  pub seen : are_apart ≡ false → (l : Leaf) → has_key keys (key_of l) ≡ list_any (has_key_of l) before
   pub last : shown ≡ is_last_shown before
 
 -- what an entry writes after those before it

@@ -10,5 +10,5 @@ abbrev pub invariant-loop-entry : goal.invariant-loop-entry
 invariant-loop-entry g l = record {
   in_range : l.entry-index ≤ length l.entries;
   written : l.doc ≡ with_writes l.fn.doc (list_writes l.self.include_env (texts_in l.self.texts.now) (map entry_at (take l.entry-index l.entries)));
-  remembers : Remembers l.repeats.keys.keys l.repeats.shown (map entry_at (take l.entry-index l.entries));
+  remembers : Remembers (map entry_at l.entries) l.repeats.are_apart l.repeats.keys.keys l.repeats.shown (map entry_at (take l.entry-index l.entries));
 }
