@@ -1,7 +1,6 @@
 -- What is remembered of the entries so far, after one more.
 use Rattle.std.proofs.Common.{◌≡◌, ℕ, Bool, true, false, not, ◌||◌, ◌&&◌, ◌==◌, List, [], ◌∷◌, ◌++◌, Option, Some, None, refl, sym, ap, ◌∙◌, append-nil, subst, arith, cond, drop, get_or, length, map, suc, take, ◌+◌, ◌<◌, ◌≤◌}
-use Rattle.std.specs.Prelude.{if◌then◌else◌, flat_map, fold, nat_eq, Result, Ok, Err, IfOk}
-use Rattle.std.specs.Option.{option_map_or}
+use Rattle.std.specs.Prelude.{flat_map, fold, nat_eq, Result, Ok, Err, IfOk}
 use Rattle.std.specs.List.{AllByRecursion, IsDistinct, dedup, dedup_from, list_any, last_or}
 use Rattle.std.specs.List.Sorted.{IsPermutation, IsSorted, IsStrictlySortedBy}
 use Rattle.std.specs.Hash.FoldHasher as folding

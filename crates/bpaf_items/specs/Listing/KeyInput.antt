@@ -1,14 +1,9 @@
 -- What a key feeds a hasher: its texts, of documents the texts without the marks.
-use Rattle.std.specs.Prelude.{◌≡◌, ℕ, ◌&&◌, true, false, refl, List, [], ◌∷◌, ◌++◌, Option, Some, None, flat_map, nat_eq}
+use Rattle.std.specs.Prelude.{ℕ, List, [], ◌∷◌, ◌++◌, Option, Some, None, flat_map}
 use Rattle.std.specs.Hash as fed
-use Rattle.std.specs.Cmp.{first_so, second_so, unsigned_Decides}
-use Rattle.std.specs.Cmp.Lexicographic.{bytes_decides}
-use mathlib.Core.Bool.{true≢false}
-use mathlib.Core.Path.{ap, sym}
-use Rattle.bpaf_doc.specs.Buffer.Equality.{same_document, same_part, same_text}
 use Rattle.bpaf_doc.specs.Buffer.Parts.{Part, Text, Start, End}
 use Rattle.bpaf_meta.specs.Content.{Name, short, long, both}
-use Rattle.bpaf_items.specs.Listing.Keys.{Key, any_key, word_key, flag_key, argument_key, same_help, same_key, same_name}
+use Rattle.bpaf_items.specs.Listing.Keys.{Key, any_key, word_key, flag_key, argument_key}
 
 abbrev pub part_input : Part → List (List ℕ)
 part_input (Text bytes s) = bytes ∷ []

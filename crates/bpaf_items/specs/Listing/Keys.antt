@@ -1,14 +1,12 @@
 -- By what a list tells two items apart, and which of two keys comes first.
-use Rattle.std.specs.Prelude.{◌≡◌, ℕ, Bool, List, [], Option, Some, None, IsTrue, ◌↔◌, nat_eq, refl}
+use Rattle.std.specs.Prelude.{◌≡◌, ℕ, Bool, List, [], Option, Some, None, IsTrue, ◌↔◌, nat_eq}
 use Rattle.std.specs.Option.{option_eq, option_cmp}
-use Rattle.std.specs.Ordering.{nat_cmp, on, then_cmp, eq_of_both, eq_by_cmp, as_partial_cmp}
-use Rattle.std.specs.Cmp.Lexicographic.{slice_cmp, texts_ties, options_equiv, options_total}
-use Rattle.std.specs.Cmp.{IsEquivalence, IsTotalOrder, IsPartialOrder, partial_order_from_agreeing_total, unsigned_ties, both_tied}
-use Rattle.std.proofs.lemmas.Cmp.{and_equiv, on_equiv, nat_eq_equiv, nat_list_eq_equiv, then_total, on_total, nat_cmp_total, nat_list_cmp_total}
+use Rattle.std.specs.Ordering.{nat_cmp, on, then_cmp, eq_of_both, eq_by_cmp}
+use Rattle.std.specs.Cmp.Lexicographic.{slice_cmp}
+use Rattle.std.specs.Cmp.{IsTotalOrder}
 use Rattle.std.specs.declared.cmp.Ordering.{Ordering}
 use Rattle.bpaf_doc.specs.Buffer.Parts.{Part}
 use Rattle.bpaf_doc.specs.Buffer.Equality.{same_text, same_document, document_cmp}
-use Rattle.bpaf_doc.specs.Buffer.Steps.Order.{documents_equiv, documents_total, documents_tied}
 use Rattle.bpaf_meta.specs.Content.{Name, short, long, both, Leaf, any, positional, command, flag, argument}
 use Rattle.bpaf_items.specs.Listing.ItemList.{Entry, listed}
 

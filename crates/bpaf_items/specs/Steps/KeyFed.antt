@@ -1,5 +1,5 @@
 -- Equal keys feed a hasher the same.
-use Rattle.std.specs.Prelude.{◌≡◌, ℕ, ◌&&◌, true, false, refl, List, [], ◌∷◌, ◌++◌, Option, Some, None, flat_map, nat_eq}
+use Rattle.std.specs.Prelude.{◌≡◌, ℕ, ◌&&◌, true, false, refl, List, [], ◌∷◌, ◌++◌, Option, Some, None, nat_eq}
 use Rattle.std.specs.Hash as fed
 use Rattle.std.specs.Cmp.{first_so, second_so, unsigned_Decides}
 use Rattle.std.specs.Cmp.Lexicographic.{bytes_decides}

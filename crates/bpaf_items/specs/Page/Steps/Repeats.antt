@@ -1,5 +1,5 @@
 -- What is remembered of the entries of a list so far, and what the next one writes.
-use Rattle.std.specs.Prelude.{◌≡◌, ℕ, Bool, true, false, not, ◌||◌, if◌then◌else◌, flat_map, fold, nat_eq, List, [], ◌∷◌, Option, Some, None}
+use Rattle.std.specs.Prelude.{◌≡◌, ℕ, Bool, true, false, not, ◌||◌, if◌then◌else◌, flat_map, fold, nat_eq, List, [], ◌∷◌, None}
 use Rattle.std.specs.Hash.FoldHasher as folding
 use Rattle.std.specs.Option.{option_map_or}
 use Rattle.std.specs.List.{AllByRecursion, IsDistinct, list_any, last_or}

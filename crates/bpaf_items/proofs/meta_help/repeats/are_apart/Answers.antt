@@ -3,7 +3,7 @@ use Rattle.std.specs.Prelude.{flat_map, nat_eq}
 use Rattle.std.specs.List.{IsDistinct, dedup}
 use Rattle.std.proofs.lemmas.Bool.{eqb-true}
 use Rattle.std.proofs.lemmas.List.Filters.{dedup_is}
-use Rattle.bpaf_items.specs.Page.Steps.Repeats.{AreApart, entry_hash}
+use Rattle.bpaf_items.specs.Page.Steps.Repeats.{entry_hash}
 use Rattle.bpaf_items.specs.View.{entry_at}
 use Rattle.bpaf_items.proofs.Page.Repeating.{distinct_sorted}
 use Rattle.bpaf_items.proofs.meta_help.repeats.are_apart.Goals as goal
