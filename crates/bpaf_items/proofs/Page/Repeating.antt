@@ -91,6 +91,7 @@ module _ {B : Type 0} where
     put_has (y ∷ keys) all q = by (cmp x y) refl (put_has keys all.1 q) where
       test : Hashed B → Bool
       test z = same_key q (key_in z.1)
+
       by : (o : Ordering) → cmp x y ≡ o → has_key (insert_key cmp keys x) q ≡ (same_key q (key_in x.1) || has_key keys q)
           → has_key (match_ordering o (x ∷ y ∷ keys) (y ∷ keys) (y ∷ insert_key cmp keys x)) q ≡ (test x || (test y || has_key keys q))
       by Less e rest = refl

@@ -23,7 +23,10 @@ pub struct Repeats<'s, B: Allocator, L: Allocator> {
 
 impl<'s, B: Allocator, L: Allocator + Copy> Repeats<'s, B, L> {
     /// Nothing is remembered. `shows` is to be asked for these entries in turn.
-    pub fn new<'a>(alloc: L, entries: &[&'s HelpItem<'a, B>]) -> Result<Repeats<'s, B, L>, AllocError>
+    pub fn new<'a>(
+        alloc: L,
+        entries: &[&'s HelpItem<'a, B>],
+    ) -> Result<Repeats<'s, B, L>, AllocError>
         ensures { IfOk result (λ repeats.
             Remembers (map entry_at entries.now) repeats.are_apart repeats.keys.keys repeats.shown []) }
     {

@@ -79,7 +79,6 @@ high_encode c h = grind (arith, le-ltb)
 char_text : (q : Apostrophes) (label : Escape) (c : ℕ) → IsScalar c → (before : List ℕ) → IsUtf8 (text_after q before (map (Byte label) (encode c)))
 char_text q label c h before = elim (cases_lt c 128) [ inl low ↦ rw (encode_ascii c low, append-nil (byte_text q before label c)) (IsUtf8-from_ascii _ (Low-IsAscii _ (low_byte q before label c low))) | inr high ↦ rw (high_text q label (encode c) before (high_encode c high)) (IsUtf8-encode c h) ]
 
-
 pub both : (x y : Bool) → (x && y) ≡ true → (x ≡ true) × (y ≡ true)
 both true y h = (refl, h)
 both false y h = absurd cc

@@ -194,7 +194,6 @@ module _ {T : Type 0} (eq : T → T → Bool) (squash : Bool) (t : T) (end e : �
   past l (x ∷ []) [] h = cc
   past l xs ys h = grind arith
 
-
   -- a label put past the first k is cut off again
   pub ending_at-with_label : (k : ℕ) (ls : List (Label T)) → k ≤ length ls → ending_at e (take k (with_label eq squash ls t end)) ≡ ending_at e (take k ls)
   ending_at-with_label zero ls within = refl

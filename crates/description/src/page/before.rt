@@ -51,10 +51,7 @@ impl<'d, 'a, A: Allocator, B: Allocator + Copy> Before<'d, 'a, A, B> {
     }
 }
 
-fn count_in<B: Allocator>(
-    counts: &BTreeMap<String<B>, usize, B>,
-    word: &str,
-) -> usize
+fn count_in<B: Allocator>(counts: &BTreeMap<String<B>, usize, B>, word: &str) -> usize
     ensures { result ≡ count_of counts.now word.now }
 {
     match counts.get(word) {

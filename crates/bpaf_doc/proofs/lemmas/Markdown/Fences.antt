@@ -41,8 +41,15 @@ fences_counted q [] h = omega arith
 fences_counted true (Put TextFence ∷ ss) h = absurd (false≢true (passes_first may_stand fence_next true (Put TextFence) ss h))
 fences_counted false (Put TextFence ∷ ss) h = omega (arith, opened-cons (Put TextFence) ss, closed-cons (Put TextFence) ss, fences_counted true ss h)
 fences_counted true (Put Fence ∷ ss) h = omega (arith, opened-cons (Put Fence) ss, closed-cons (Put Fence) ss, fences_counted false ss h)
-fences_counted q (s ∷ ss) h = grind (arith, fences_counted q ss, false≢true, passes_first, opened-cons, closed-cons,
-  passes_rest)
+fences_counted q (s ∷ ss) h = grind (
+  arith,
+  fences_counted q ss,
+  false≢true,
+  passes_first,
+  opened-cons,
+  closed-cons,
+  passes_rest,
+)
 
 -- ---- the steps
 

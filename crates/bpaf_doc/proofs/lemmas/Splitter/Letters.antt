@@ -101,8 +101,18 @@ first_of b rest bytes e h = (and_parts (is_lettered b) (list_all is_lettered res
 letter_is : (c : ℕ) → list_all is_lettered (encode c) ≡ true → IsLetter c
 letter_is c h = (grind (arith, encode_one, ascii_narrow, nat_tests, encode, two_bytes, cases_lt)) where
   two_bytes : (c < 2048) ⊎ (2048 ≤ c) → 128 ≤ c → IsLetter c
-  two_bytes h1 h2 = grind (arith, encode_two, lettered_first, encode, letter_narrow, nat_tests, begins_not,
-      encode_three, encode_four, cases_lt)
+  two_bytes h1 h2 = grind (
+    arith,
+    encode_two,
+    lettered_first,
+    encode,
+    letter_narrow,
+    nat_tests,
+    begins_not,
+    encode_three,
+    encode_four,
+    cases_lt,
+  )
 
 -- ---- a text of such characters
 

@@ -76,8 +76,8 @@ joined_marks : (fronts backs : List Line) (m p : Bool) → Marks fronts m → Ma
 joined_marks fronts backs m p f b = record {
   some = (f.some.0 ++ b.some.0, in_joined f.some.0 b.some.0 fronts backs f.some.1 b.some.1, list_any-append at_positional f.some.0 b.some.0 ∙ ap (λ c. c || has_positional b.some.0) f.some.2 ∙ ap (λ c. m || c) b.some.2);
   each = λ line a h.
-    let j = among_joined line fronts backs a in
-    or_up (has_positional j.0) (has_positional j.1) m p (f.each j.0 j.2) (b.each j.1 j.3) (sym (list_any-append at_positional j.0 j.1) ∙ ap has_positional j.4 ∙ h);
+      let j = among_joined line fronts backs a in
+      or_up (has_positional j.0) (has_positional j.1) m p (f.each j.0 j.2) (b.each j.1 j.3) (sym (list_any-append at_positional j.0 j.1) ∙ ap has_positional j.4 ∙ h);
 }
 
 not_empty_line : (line : Line) → line ≡ [] → has_positional line ≡ true → ⊥
@@ -117,27 +117,28 @@ at_least_late a (l ∷ lines) = refl
 joined_late : (a m p : Bool) (fronts backs : List Line) → Marks fronts m → Marks backs p → Same (flat_map (late_after a) (joined_lines fronts backs)) (flat_map (late_after a) fronts ++ flat_map (late_after (a || m)) backs)
 joined_late a m p fronts backs f b x =
     let left = flat_map (late_after a) fronts in
-    let right = flat_map (late_after (a || m)) backs in
-    ((λ h.
-      let r = among_flat (late_after a) x (joined_lines fronts backs) h in
-      let j = among_joined r.0 fronts backs r.1 in
-      let marked = a || has_positional j.0 in
-      let both : Among x (late_after a j.0 ++ late_after marked j.1) = subst (Among x) (late-append a j.0 j.1) (subst (λ l. Among x (late_after a l)) (sym j.4) r.2) in
-      elim (among_cases x (late_after a j.0) (late_after marked j.1) both) [
-        | inl k ↦ among_left x left right (in_flat (late_after a) j.0 x fronts j.2 k)
-        | inr k ↦ among_right x left right (in_flat (late_after (a || m)) j.1 x backs j.3 (late_more marked (a || m) x j.1 (or_up a (has_positional j.0) a m (λ e. e) (f.each j.0 j.2)) k))
+    let right = flat_map (late_after (a || m)) backs in (
+      (λ h.
+          let r = among_flat (late_after a) x (joined_lines fronts backs) h in
+          let j = among_joined r.0 fronts backs r.1 in
+          let marked = a || has_positional j.0 in
+          let both : Among x (late_after a j.0 ++ late_after marked j.1) = subst (Among x) (late-append a j.0 j.1) (subst (λ l. Among x (late_after a l)) (sym j.4) r.2) in
+          elim (among_cases x (late_after a j.0) (late_after marked j.1) both) [
+            | inl k ↦ among_left x left right (in_flat (late_after a) j.0 x fronts j.2 k)
+            | inr k ↦ among_right x left right (in_flat (late_after (a || m)) j.1 x backs j.3 (late_more marked (a || m) x j.1 (or_up a (has_positional j.0) a m (λ e. e) (f.each j.0 j.2)) k))
+          ]),
+      (λ h. elim (among_cases x left right h) [
+        | inl k ↦
+            let r = among_flat (late_after a) x fronts k in
+            let line = b.some.0 in
+            in_flat (late_after a) (r.0 ++ line) x (joined_lines fronts backs) (in_joined r.0 line fronts backs r.1 b.some.1) (subst (Among x) (sym (late-append a r.0 line)) (among_left x (late_after a r.0) (late_after (a || has_positional r.0) line) r.2))
+        | inr k ↦
+            let r = among_flat (late_after (a || m)) x backs k in
+            let line = f.some.0 in
+            let later : Among x (late_after (a || has_positional line) r.0) = subst (λ c. Among x (late_after (a || c) r.0)) (sym f.some.2) r.2 in
+            in_flat (late_after a) (line ++ r.0) x (joined_lines fronts backs) (in_joined line r.0 fronts backs f.some.1 r.1) (subst (Among x) (sym (late-append a line r.0)) (among_right x (late_after a line) (late_after (a || has_positional line) r.0) later))
       ]),
-    (λ h. elim (among_cases x left right h) [
-      | inl k ↦
-        let r = among_flat (late_after a) x fronts k in
-        let line = b.some.0 in
-        in_flat (late_after a) (r.0 ++ line) x (joined_lines fronts backs) (in_joined r.0 line fronts backs r.1 b.some.1) (subst (Among x) (sym (late-append a r.0 line)) (among_left x (late_after a r.0) (late_after (a || has_positional r.0) line) r.2))
-      | inr k ↦
-        let r = among_flat (late_after (a || m)) x backs k in
-        let line = f.some.0 in
-        let later : Among x (late_after (a || has_positional line) r.0) = subst (λ c. Among x (late_after (a || c) r.0)) (sym f.some.2) r.2 in
-        in_flat (late_after a) (line ++ r.0) x (joined_lines fronts backs) (in_joined line r.0 fronts backs f.some.1 r.1) (subst (Among x) (sym (late-append a line r.0)) (among_right x (late_after a line) (late_after (a || has_positional line) r.0) later))
-    ]))
+    )
 
 crossed : (x : Numbered) (ws xs ys zs : List Numbered) → Among x ((ws ++ xs) ++ (ys ++ zs)) → Among x ((ws ++ ys) ++ (xs ++ zs))
 crossed x ws xs ys zs h = elim (among_cases x (ws ++ xs) (ys ++ zs) h) [
@@ -152,7 +153,7 @@ late_then whole first rest scopes others f x =
     let later = flat_map late_in others in
     rw (flat_map-append late_in scopes others) (
       (λ h. crossed x first rest inside later (elim (among_cases x whole (inside ++ later) h) [ inl k ↦ among_left x (first ++ rest) (inside ++ later) ((f x).0 k) | inr k ↦ among_right x (first ++ rest) (inside ++ later) k ])),
-      (λ h. elim (among_cases x (first ++ rest) (inside ++ later) (crossed x first inside rest later h)) [ inl k ↦ among_left x whole (inside ++ later) ((f x).1 k) | inr k ↦ among_right x whole (inside ++ later) k ])
+      (λ h. elim (among_cases x (first ++ rest) (inside ++ later) (crossed x first inside rest later h)) [ inl k ↦ among_left x whole (inside ++ later) ((f x).1 k) | inr k ↦ among_right x whole (inside ++ later) k ]),
     )
 
 -- the check of k items numbered from n on finds the late items of the lines and scopes
@@ -204,8 +205,8 @@ branch_agrees n k j l lines others scopes more c d e f g =
       marks = either_marks f.mark g.mark lines others f.marks g.marks;
       numbers = λ a. from_then n k j l _ _ _ e (late a) (f.numbers a) (g.numbers a);
       finds = λ a seen h.
-        let p = a || f.mark in
-        finds_same _ _ _ _ (then_check (c a) (λ b. d a (seen || b))) (late a) (seen_or a seen f.mark g.mark h) (finds_then n k j _ _ p _ (c a) (λ b. d a (seen || b)) (f.numbers a) (g.numbers a) (f.finds a) (g.finds a (seen || p) (λ q. or_left seen p (h q))));
+          let p = a || f.mark in
+          finds_same _ _ _ _ (then_check (c a) (λ b. d a (seen || b))) (late a) (seen_or a seen f.mark g.mark h) (finds_then n k j _ _ p _ (c a) (λ b. d a (seen || b)) (f.numbers a) (g.numbers a) (f.finds a) (g.finds a (seen || p) (λ q. or_left seen p (h q))));
     }
 
 branches_agree : (n k : ℕ) (lines : List Line) (scopes : List Scope) (c : Bool → Bool → Check) → BranchesAgree n k lines scopes c → Agrees n k (at_least_empty lines) scopes (λ a. c a a)

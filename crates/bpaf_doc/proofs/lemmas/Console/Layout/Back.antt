@@ -44,8 +44,11 @@ pub by_trimmed : (P : List Stretch → List Stretch → Type 0) → P [] [] → 
     → ((event : Event) (r t : List Stretch) → has_some (event_bytes event) ≡ false → P r t → P (Passed event ∷ r) (Passed event ∷ t))
     → (r : List Stretch) → P r (trimmed r)
 by_trimmed P none gap inked plain bytes bare [] = none
-by_trimmed P none gap inked plain bytes bare (s ∷ r) = grind (arith, by_trimmed P none gap inked plain bytes bare r,
-  by_test)
+by_trimmed P none gap inked plain bytes bare (s ∷ r) = grind (
+  arith,
+  by_trimmed P none gap inked plain bytes bare r,
+  by_test,
+)
 
 -- Q of the page on which all is written that was asked for
 pub by_lines : (Q : State → Type 0) {st mid : State} → Lines st mid → Q st → Q (on_new_line st) → Q (record st { back = Gap 10 ∷ st.back }) → Q (on_new_line (on_new_line st)) → Q mid

@@ -82,8 +82,9 @@ module _ (width deepest most : ℕ) where
       by_grows (λ s. EachFront (Within bound) s.back) g
       (λ p base n e b d.
       let line : columns p.bytes + (n + column_back base.back) ≤ bound = within_put p base n small f agrees m (subst (λ (x : Next). IsNarrow most x) e narrow) b d in
-      let pads : column_back (padded n base.back) ≡ n + column_back base.back = column_padded n base.back in
-      (omega arith,
-          within_padded bound n base.back (omega arith) (grind (arith, within_lines, within_trimmed, bare_lines))))
+      let pads : column_back (padded n base.back) ≡ n + column_back base.back = column_padded n base.back in (
+        omega arith,
+        within_padded bound n base.back (omega arith) (grind (arith, within_lines, within_trimmed, bare_lines)),
+      ))
       (λ p mid e l w b. (omega arith, (omega arith, within_trimmed bound mid.back (bare_lines l q) (within_lines bound l h)))) (λ k chunk e. (omega arith, (omega arith, h)))
       (λ event margin e. let none : length (event_bytes event) ≡ 0 = no_bytes (event_bytes event) (subst WritesNone e writes) in (omega arith, h))

@@ -271,8 +271,12 @@ record KnownEnd (m : List Stretch) (x : Stretch) (r : List Stretch) (rest : List
 known_end : (m : List Stretch) (line : Bool) (x : Stretch) (r : List Stretch) (rest : List ℕ) → (line ≡ true → starts rest (codes "\n") ≡ true) → MayEnd line (m ++ x ∷ r) → KnownEnd m x r rest
 known_end [] line x r rest a h = record { line = line; there = h; after = a }
 known_end (Gap b ∷ m) line x r rest a h = grind (arith, known_end m (b == 10) x r (b ∷ rest), text_back_cons, append_assoc, eqb-true)
-known_end (Placed e ∷ m) line x r rest a h = search (rules,
-  known_end m (if has_some e.shown then false else line) x r (e.shown ++ rest), text_back_cons, append_assoc)
+known_end (Placed e ∷ m) line x r rest a h = search (
+  rules,
+  known_end m (if has_some e.shown then false else line) x r (e.shown ++ rest),
+  text_back_cons,
+  append_assoc,
+)
 known_end (Passed event ∷ m) line x r rest a h =
     let found : KnownEnd m x r (event_bytes event ++ rest) = known_end m (if has_some (event_bytes event) then false else line) x r (event_bytes event ++ rest) (further (event_bytes event)) h in
     record { line = found.line; there = found.there; after = λ t. subst (λ ys. starts ys (codes "\n") ≡ true) (sym (ap (λ ys. ys ++ rest) (text_back_cons (Passed event) m) ∙ append_assoc (text_back m) (event_bytes event) rest)) (found.after t) } where
@@ -359,8 +363,11 @@ module _ (width : ℕ) (document : List Part) (st : State) (final : List Stretch
   stand_law before after x s =
       let split : final ≡ reverse after ++ x ∷ reverse before = turned_at final before after x s in
       subst (λ ys. MayStand x ys) (reverse-reverse after)
-      (may_stand (reverse after) (reverse before) x (subst (λ ys. MayEnd false ys) split (grind (arith, base,
-          may_end_line))) (subst (λ ys. EachPassed NoInk ys) split no_ink_final))
+      (may_stand (reverse after) (reverse before) x (subst (λ ys. MayEnd false ys) split (grind (
+        arith,
+        base,
+        may_end_line,
+      ))) (subst (λ ys. EachPassed NoInk ys) split no_ink_final))
 
   module _ (clearly : Clearly width (margin document) st) where
     no_ink_front : (before after : List Stretch) (f : Place) → stretches ≡ before ++ Placed f ∷ after → EachPassed NoInk (reverse before)

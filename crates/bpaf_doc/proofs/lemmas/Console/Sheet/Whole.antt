@@ -218,8 +218,12 @@ module _ (full : Bool) (document : List Part) (width : ℕ) (is_small : length d
 
   module _ (index : ℕ) (before rest : List Part) (part : Part) (pairs : Pairs) (hidden : ℕ) (s : Sheet) (g : Going index before (part ∷ rest) pairs hidden s) where
     next_events : (added : List Event) → part_events full document index part ≡ added → events_from full document 0 (before ++ part ∷ []) ≡ events_from full document 0 before ++ added
-    next_events added e = (grind (arith, enumerate_snoc, flat_map-append,
-        append-nil)) ∙ ap (λ es. events_from full document 0 before ++ es) e
+    next_events added e = (grind (
+      arith,
+      enumerate_snoc,
+      flat_map-append,
+      append-nil,
+    )) ∙ ap (λ es. events_from full document 0 before ++ es) e
 
     -- nothing is written of this part, and no margin moves
     quiet_step : (next : Pairs) → Walk full document (index + 1) (before ++ part ∷ []) rest next (hidden_after full hidden part) s → part_events full document index part ≡ []
@@ -249,8 +253,12 @@ module _ (full : Bool) (document : List Part) (width : ℕ) (is_small : length d
       nexts = g.nexts ++ mark event (page.margin_of t) ∷ [];
       later = record {
         st = passed event (page.margin_of t) g.later.st;
-        written = more g.nexts g.later.st (mark event (page.margin_of t)) refl g.later.written (suits (grind (arith,
-            level_top, few_fits, top-margin)) st_margin) tt (passing event (page.margin_of t) refl refl);
+        written = more g.nexts g.later.st (mark event (page.margin_of t)) refl g.later.written (suits (grind (
+          arith,
+          level_top,
+          few_fits,
+          top-margin,
+        )) st_margin) tt (passing event (page.margin_of t) refl refl);
         draws = draws;
         wide = wide ∙ g.later.wide;
       };
