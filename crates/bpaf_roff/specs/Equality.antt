@@ -2,9 +2,7 @@
 use Rattle.std.specs.Prelude.{◌≡◌, IsTrue, Bool, nat_eq}
 use Rattle.std.specs.Bool.{beq}
 use Rattle.std.specs.Ordering.{on, eq_of_both}
-use Rattle.std.specs.Cmp.{IsPartialEquivalence, IsEquivalence, partial_equiv_from_equiv, on_per, and_per, bool_eq_equiv}
-use Rattle.std.specs.Cmp.Lexicographic.{pointwise, lists_per}
-use Rattle.std.proofs.lemmas.Cmp.{on_equiv, and_equiv, lists_equiv, nat_list_eq_equiv}
+use Rattle.std.specs.Cmp.Lexicographic.{pointwise}
 use Rattle.bpaf_roff.specs.Pieces.{Piece, Labelled}
 
 module _ {L : Type 0} where

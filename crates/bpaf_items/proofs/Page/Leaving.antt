@@ -1,9 +1,9 @@
 -- What calls that write leave, one after another.
 use Rattle.std.specs.Prelude.{◌≡◌, ℕ, ◌+◌, ◌<◌, length, List, [], ◌∷◌, ◌++◌, flat_map, map, take, Result, Ok, Err, OnOk, OnErr, refl}
 use Rattle.std.specs.Borrow.{Bor}
-use Rattle.std.proofs.Common.{ap, sym, ◌∙◌, append-nil, get_or}
+use Rattle.std.proofs.Common.{ap, sym, ◌∙◌, append-nil, drop, get_or}
 use Rattle.std.proofs.lemmas.Grind.{flat_map-append}
-use Rattle.std.proofs.lemmas.List.{map-append, take_more}
+use Rattle.std.proofs.lemmas.List.{drop_more, map-append, take-append-drop, take_more}
 use Rattle.bpaf_doc.specs.declared.buffer.Style.{Style}
 use Rattle.bpaf_doc.specs.Buffer.Parts.{Part}
 use Rattle.bpaf_doc.specs.Buffer.Writes.{Write, text, with_text, with_writes}
@@ -13,6 +13,12 @@ use Rattle.bpaf_items.specs.Page.Steps.Pieces.{Leaves, joined, piece_writes, pie
 
 pub map_next : {X Y : Type 0} (f : X → Y) (xs : List X) (i : ℕ) (x : X) → i < length xs → x ≡ get_or xs i x → map f (take (i + 1) xs) ≡ map f (take i xs) ++ f x ∷ []
 map_next f xs i x within is = ap (map f) (take_more xs i x within) ∙ map-append f (take i xs) (get_or xs i x ∷ []) ∙ ap (λ y. map f (take i xs) ++ f y ∷ []) (sym is)
+
+-- what stands round an element
+pub map_around : {X Y : Type 0} (f : X → Y) (xs : List X) (i : ℕ) (x d : X) → x ≡ get_or xs i d → i < length xs → map f xs ≡ map f (take i xs) ++ f x ∷ map f (drop (i + 1) xs)
+map_around f xs i x d at below =
+    ap (map f) (sym (take-append-drop i xs) ∙ ap (λ ys. take i xs ++ ys) (drop_more xs i d below)) ∙ map-append f (take i xs) (get_or xs i d ∷ drop (i + 1) xs)
+    ∙ ap (λ y. map f (take i xs) ++ f y ∷ map f (drop (i + 1) xs)) (sym at)
 
 pub flat_map_next : {X Y : Type 0} (f : X → List Y) (xs : List X) (i : ℕ) (d : X) → i < length xs → flat_map f (take (i + 1) xs) ≡ flat_map f (take i xs) ++ f (get_or xs i d)
 flat_map_next f xs i d within =

@@ -12,7 +12,7 @@ use Rattle.std.specs.BTreeMap.{is_at}
 use Rattle.std.specs.BTreeSet.{insert_key}
 use Rattle.std.proofs.lemmas.Bool.{eq-eqb}
 use Rattle.std.proofs.lemmas.Grind.{flat_map-append}
-use Rattle.std.proofs.lemmas.List.{drop_more, map-append, take-append-drop}
+use Rattle.std.proofs.lemmas.List.{map-append}
 use Rattle.std.proofs.lemmas.List.Folds.{list_any-append}
 use Rattle.std.proofs.lemmas.List.Kept.{IsStrictlySortedBy-dedup}
 use Rattle.std.proofs.lemmas.List.Sorted.{IsPermutation-sym}
@@ -269,12 +269,6 @@ pub hashes_more : (es next : List Entry) (e : Entry) → next ≡ es ++ e ∷ []
 hashes_more es next e is = ap (flat_map entry_hash) is ∙ flat_map-append entry_hash es (e ∷ []) ∙ ap (λ hs. flat_map entry_hash es ++ hs) (append-nil (entry_hash e))
 
 -- ---- lists
-
--- what stands round an element
-pub map_around : {X Y : Type 0} (f : X → Y) (xs : List X) (i : ℕ) (x d : X) → x ≡ get_or xs i d → i < length xs → map f xs ≡ map f (take i xs) ++ f x ∷ map f (drop (i + 1) xs)
-map_around f xs i x d at below =
-    ap (map f) (sym (take-append-drop i xs) ∙ ap (λ ys. take i xs ++ ys) (drop_more xs i d below)) ∙ map-append f (take i xs) (get_or xs i d ∷ drop (i + 1) xs)
-    ∙ ap (λ y. map f (take i xs) ++ f y ∷ map f (drop (i + 1) xs)) (sym at)
 
 -- a list with one more entry
 pub list-push : (included : Bool) (texts : Texts) (before : List Entry) (e : Entry) → list_writes included texts (before ++ e ∷ []) ≡ list_writes included texts before ++ shown_writes included texts before e

@@ -1,8 +1,8 @@
 //! Which entries of a list are shown: each key once, and a note below what is shown.
-ghost use Rattle.std.specs.Prelude.{◌≡◌, ◌||◌, ◌++◌, ◌∷◌, [], IfOk, IsTrue, List, false, flat_map, map};
+ghost use Rattle.std.specs.Prelude.{◌≡◌, ◌||◌, ◌++◌, ◌∷◌, [], IfOk, IsTrue, List, false, map};
 ghost use Rattle.bpaf_items.specs.Listing.ItemList.{Entry};
 ghost use Rattle.bpaf_items.specs.Listing.Falls.{is_shown};
-ghost use Rattle.bpaf_items.specs.Page.Steps.Repeats.{AreApart, AreHashed, PutsKey, Remembers, entry_hash, key_hash};
+ghost use Rattle.bpaf_items.specs.Page.Steps.Repeats.{AreApart, AreHashed, PutsKey, Remembers, key_hash};
 ghost use Rattle.bpaf_items.specs.View.{entry_at, entry_of, key_in};
 
 use crate::meta_help::entry::HelpItem;
@@ -11,7 +11,7 @@ use std::alloc::{AllocError, Allocator};
 use std::collections::BTreeSet;
 use std::hash::{FoldHasher, Hash, Hasher};
 
-/// What is remembered of the entries of one group or heading: the keys of its items, unless these have as many hashes, and
+/// What is remembered of the entries of one group or heading: the keys of its items, unless each item has a hash of its own, and
 /// whether a note would be shown now. Each key stands behind its hash, so that most are told apart by a number. Where
 /// hashes collide, the keys are in order still, and none is compared with all others.
 #[derive(Drop)]

@@ -1,12 +1,10 @@
 -- The laws of the equality of monoids, which its implementation cites.
-use Rattle.std.specs.Prelude.{◌≡◌, IsTrue, Bool, nat_eq}
-use Rattle.std.specs.Bool.{beq}
-use Rattle.std.specs.Ordering.{on, eq_of_both}
+use Rattle.std.specs.Prelude.{Bool}
 use Rattle.std.specs.Cmp.{IsPartialEquivalence, IsEquivalence, partial_equiv_from_equiv, on_per, and_per, bool_eq_equiv}
-use Rattle.std.specs.Cmp.Lexicographic.{pointwise, lists_per}
+use Rattle.std.specs.Cmp.Lexicographic.{lists_per}
 use Rattle.std.proofs.lemmas.Cmp.{on_equiv, and_equiv, lists_equiv, nat_list_eq_equiv}
 use Rattle.bpaf_roff.specs.Pieces.{Piece, Labelled}
-use Rattle.bpaf_roff.specs.Equality.{piece_eq, labelled_eq}
+use Rattle.bpaf_roff.specs.Equality.{labelled_eq}
 
 module _ {L : Type 0} where
   pub labelled_per : {eq : L → L → Bool} → IsPartialEquivalence eq → IsPartialEquivalence (labelled_eq eq)

@@ -4,8 +4,8 @@ use Rattle.bpaf_items.specs.Page.EnvTexts.{texts_in}
 use Rattle.bpaf_items.specs.Page.HelpPage.{list_writes}
 use Rattle.bpaf_items.specs.Page.Steps.Repeats.{Remembers}
 use Rattle.bpaf_items.specs.View.{entry_at}
-use Rattle.bpaf_items.proofs.Page.Leaving.{map_next}
-use Rattle.bpaf_items.proofs.Page.Repeating.{list_next, map_around}
+use Rattle.bpaf_items.proofs.Page.Leaving.{map_around, map_next}
+use Rattle.bpaf_items.proofs.Page.Repeating.{list_next}
 use Rattle.bpaf_items.proofs.meta_help.writes.Writer.put_list.Goals as goal
 
 pub returns-in_err-put_next : goal.returns-in_err-put_next
