@@ -1,5 +1,4 @@
 -- Lemmas about any lists.
 pub mod Counting
 pub mod Passing
-pub mod Splits
 pub mod Opening

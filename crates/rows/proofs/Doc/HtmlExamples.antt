@@ -1,147 +1,56 @@
--- Small answers that meet `IsHtmlOf`, and wrong ones that do not.
+-- Small answers that meet `IsHtmlOf`, as they are the pages that the rules make, and wrong ones that do not.
 use Rattle.std.proofs.Common.{◌≡◌, ℕ, ◌≤◌, Bool, true, false, List, [], ◌∷◌, ◌++◌, length, refl, sym, ◌∙◌, ap, arith, length-append, take, drop, cond, subst, append_assoc}
-use Rattle.std.proofs.lemmas.Bool.{false≢true, and_parts, not-true, eqb-false}
+use Rattle.std.proofs.lemmas.Bool.{false≢true, eqb-false}
 use Rattle.std.proofs.Math.Bool.{or-true}
-use Rattle.std.proofs.lemmas.List.Sums.{AllPass-from_list_all}
-use Rattle.std.specs.Prelude.{slice_index, not, ◌||◌, codes, map, flat_map, filter}
-use Rattle.std.specs.List.{list_any, list_all}
+use Rattle.std.specs.Prelude.{slice_index, not, ◌||◌, codes, flat_map, filter}
 use Rattle.std.specs.Str.{chars}
 use Rattle.unicode_width.specs.Width.{str_width, step, past_emoji}
 use Rattle.bpaf_doc.specs.declared.buffer.Style.TheVariants.{Text, Emphasis, Literal}
 use Rattle.bpaf_doc.specs.declared.buffer.Block.TheVariants.{InlineBlock, DefinitionList, ItemTerm, ItemBody}
-use Rattle.bpaf_doc.specs.Buffer.Parts.{Part, Text as Words, Start as PartStart, End as PartEnd}
-use Rattle.bpaf_doc.specs.Splitter.Chunks.{Raw, Paragraph, is_inked, is_line_byte, is_raw, starts, chunks_of, chunks_in, chunks_within}
-use Rattle.bpaf_doc.specs.Html.Fragments.{Fragment, TextStart, Shown, TextEnd, Start, End, shows, shown_fragments}
-use Rattle.bpaf_doc.specs.Html.Page.{IsHtmlOf, erased, html_text, IsWellNestedHtml, characters, line_break, enclosed, joined, Tt, B, Dl, Dt, Li, HtmlSnippet, Open, Close, Break, Newline, Of, fragments_in, asks_break, is_break, is_no_angle, HasBlockTags, nothing as no_fragment, fragment, joined as joined_fragments, enclosed as enclosed_fragments, is_mark, snippet_text, is_style_tag_or_fragment, is_block_tag_or_fragment, styled_snippets}
-use Rattle.bpaf_doc.proofs.lemmas.Lists.Splits.{each_two, each_two-at, implies, is_nil, nil_from}
-
-abbrev fragment_passes : (Fragment → Bool) → HtmlSnippet → Bool
-fragment_passes p (Of a) = p a
-fragment_passes p _ = false
-
--- tests by which `breaks` and `touching` hold of a cut
-abbrev breaks_where_asked : List HtmlSnippet → Bool
-breaks_where_asked between = not (list_any asks_break (fragments_in between)) || list_any is_break between
-
-abbrev touches : List HtmlSnippet → Bool
-touches between = not (is_nil (fragments_in between)) || is_nil between
-
--- fragments without marks have no tags of blocks
-no_marks : (in_list : Bool) (ps : List Fragment) → list_all (λ p. not (is_mark p)) ps ≡ true → HasBlockTags in_list ps (map Of ps)
-no_marks in_list [] h = no_fragment refl refl
-no_marks in_list (p ∷ ps) h =
-    let parts : (not (is_mark p) ≡ true) × (list_all (λ q. not (is_mark q)) ps ≡ true) = and_parts (not (is_mark p)) (list_all (λ q. not (is_mark q)) ps) h
-    in joined_fragments (p ∷ []) ps (Of p ∷ []) (map Of ps) refl refl (fragment p (not-true (is_mark p) parts.0) refl refl) (no_marks in_list ps parts.1)
-
-text_of : (t : List ℕ) → list_all is_no_angle t ≡ true → IsWellNestedHtml t
-text_of t h = characters (AllPass-from_list_all is_no_angle t h)
-
--- a cut that passes a test for each field
-from_tests : {document : List Part} {full : Bool} {answer : List ℕ} (cut : List HtmlSnippet) → IsWellNestedHtml answer → filter is_line_byte (erased answer) ≡ html_text document full
-    → answer ≡ flat_map snippet_text cut → fragments_in cut ≡ shown_fragments full document → each_two (fragment_passes (shows is_inked)) breaks_where_asked cut ≡ true
-    → each_two (fragment_passes (shows is_raw)) touches cut ≡ true → HasBlockTags false (shown_fragments full document) (filter is_block_tag_or_fragment cut)
-    → filter is_style_tag_or_fragment cut ≡ flat_map styled_snippets (shown_fragments full document) → IsHtmlOf document full answer
-from_tests cut nested text spelling fragments breaks touching tags styles = record {
-  nested = nested;
-  text = text;
-  cut = cut;
-  spelling = spelling;
-  fragments = fragments;
-  breaks = λ before between after a b e p q asked.
-      implies (list_any asks_break (fragments_in between)) (list_any is_break between) (each_two-at (fragment_passes (shows is_inked)) breaks_where_asked cut breaks before between after (Of a) (Of b) e p q) asked;
-  touching = λ before between after a b e p q none.
-      nil_from between (implies (is_nil (fragments_in between)) (is_nil between) (each_two-at (fragment_passes (shows is_raw)) touches cut touching before between after (Of a) (Of b) e p q) (ap is_nil none));
-  tags = tags;
-  styles = styles;
-}
+use Rattle.bpaf_doc.specs.Buffer.Parts.{Part, Text as Words, Start as PartStart, End as PartEnd, IsWellNested, text, enclosed, joined}
+use Rattle.bpaf_doc.specs.Splitter.Chunks.{Raw, Paragraph, starts, chunks_of, chunks_in, chunks_within}
+use Rattle.bpaf_doc.specs.Html.Fragments.{Fragment, TextStart, Shown, TextEnd, shown_fragments}
+use Rattle.bpaf_doc.specs.Html.Page.{IsHtmlOf, enclosed, joined, HtmlSnippet, Of, fragments_in, fragment, snippet_text, is_style_tag_or_fragment, styled_snippets}
+use Rattle.bpaf_doc.proofs.lemmas.Html.Meets.{page_meets}
 
 -- two styled texts
 
 abbrev usage : List Part
 usage = Words (codes "Usage: ") Emphasis ∷ Words (codes "my_program") Literal ∷ []
 
-abbrev usage_cut : List HtmlSnippet
-usage_cut = Of (TextStart Emphasis) ∷ Open B ∷ Of (Shown Emphasis (Raw (codes "Usage:") 6)) ∷ Of (Shown Emphasis (Raw (codes " ") 1)) ∷ Close B ∷ Of (TextEnd Emphasis)
-    ∷ Of (TextStart Literal) ∷ Open Tt ∷ Open B ∷ Of (Shown Literal (Raw (codes "my_program") 10)) ∷ Close B ∷ Close Tt ∷ Of (TextEnd Literal) ∷ []
-
 usage_meets : IsHtmlOf usage true (codes "<b>Usage: </b><tt><b>my_program</b></tt>")
 unfolding chunks_of chunks_in chunks_within chars str_width step past_emoji
-usage_meets = from_tests usage_cut
-    (joined (codes "<b>Usage: </b>") (codes "<tt><b>my_program</b></tt>") refl
-    (enclosed B (codes "Usage: ") refl (text_of (codes "Usage: ") refl))
-    (enclosed Tt (codes "<b>my_program</b>") refl (enclosed B (codes "my_program") refl (text_of (codes "my_program") refl))))
-    refl refl refl refl refl
-    (no_marks false (shown_fragments true usage) refl)
-    refl
+usage_meets = page_meets usage true _ (joined (take 1 usage) (drop 1 usage) refl (text (codes "Usage: ") Emphasis refl) (text (codes "my_program") Literal refl)) refl
 
 -- two paragraphs in an inline block, then a text; in full and in brief
 
 abbrev two_paragraphs : List Part
 two_paragraphs = PartStart InlineBlock ∷ Words (codes "a\n\nb") Text ∷ PartEnd InlineBlock ∷ Words (codes "c") Text ∷ []
 
-abbrev full_cut : List HtmlSnippet
-full_cut = Of (Start InlineBlock) ∷ Of (TextStart Text) ∷ Of (Shown Text (Raw (codes "a") 1)) ∷ Of (Shown Text Paragraph) ∷ Break ∷ Newline ∷ Of (Shown Text (Raw (codes "b") 1)) ∷ Of (TextEnd Text)
-    ∷ Of (End InlineBlock) ∷ Of (TextStart Text) ∷ Of (Shown Text (Raw (codes "c") 1)) ∷ Of (TextEnd Text) ∷ []
+two_paragraphs_nested : IsWellNested two_paragraphs
+two_paragraphs_nested = joined (take 3 two_paragraphs) (drop 3 two_paragraphs) refl (enclosed InlineBlock (take 1 (drop 1 two_paragraphs)) refl (text (codes "a\n\nb") Text refl)) (text (codes "c") Text refl)
 
 full_meets : IsHtmlOf two_paragraphs true (codes "a<br>\nbc")
 unfolding chunks_of chunks_in chunks_within chars str_width step past_emoji
-full_meets = from_tests full_cut
-    (joined (codes "a") (codes "<br>\nbc") refl (text_of (codes "a") refl) (joined (codes "<br>") (codes "\nbc") refl (line_break refl) (text_of (codes "\nbc") refl)))
-    refl refl refl refl refl
-    (joined_fragments (take 7 (shown_fragments true two_paragraphs)) (drop 7 (shown_fragments true two_paragraphs)) (take 7 (filter is_block_tag_or_fragment full_cut)) (drop 7 (filter is_block_tag_or_fragment full_cut)) refl refl
-    (enclosed_fragments InlineBlock (take 5 (drop 1 (shown_fragments true two_paragraphs))) (take 5 (drop 1 (filter is_block_tag_or_fragment full_cut))) refl refl (no_marks false (take 5 (drop 1 (shown_fragments true two_paragraphs))) refl))
-    (no_marks false (drop 7 (shown_fragments true two_paragraphs)) refl))
-    refl
-
-abbrev brief_cut : List HtmlSnippet
-brief_cut = Of (Start InlineBlock) ∷ Of (TextStart Text) ∷ Of (Shown Text (Raw (codes "a") 1)) ∷ Of (TextEnd Text) ∷ Of (End InlineBlock)
-    ∷ Of (TextStart Text) ∷ Of (Shown Text (Raw (codes "c") 1)) ∷ Of (TextEnd Text) ∷ []
+full_meets = page_meets two_paragraphs true _ two_paragraphs_nested refl
 
 brief_meets : IsHtmlOf two_paragraphs false (codes "ac")
 unfolding chunks_of chunks_in chunks_within chars str_width step past_emoji
-brief_meets = from_tests brief_cut
-    (text_of (codes "ac") refl)
-    refl refl refl refl refl
-    (joined_fragments (take 5 brief_fragments) (drop 5 brief_fragments) (take 5 brief_cut) (drop 5 brief_cut) refl refl
-    (enclosed_fragments InlineBlock (take 3 (drop 1 brief_fragments)) (take 3 (drop 1 brief_cut)) refl refl (no_marks false (take 3 (drop 1 brief_fragments)) refl))
-    (no_marks false (drop 5 brief_fragments) refl))
-    refl
-  where
-    brief_fragments : List Fragment
-    brief_fragments = shown_fragments false two_paragraphs
+brief_meets = page_meets two_paragraphs false _ two_paragraphs_nested refl
 
 -- a list with a term and a body, and a body alone
 
 abbrev list_document : List Part
 list_document = PartStart DefinitionList ∷ PartStart ItemTerm ∷ Words (codes "--a") Literal ∷ PartEnd ItemTerm ∷ PartEnd DefinitionList ∷ PartStart ItemBody ∷ Words (codes "x") Text ∷ PartEnd ItemBody ∷ []
 
-abbrev list_cut : List HtmlSnippet
-list_cut = Of (Start DefinitionList) ∷ Open Dl ∷ Of (Start ItemTerm) ∷ Open Dt ∷ Of (TextStart Literal) ∷ Open Tt ∷ Open B ∷ Of (Shown Literal (Raw (codes "--a") 3)) ∷ Close B ∷ Close Tt ∷ Of (TextEnd Literal)
-    ∷ Close Dt ∷ Of (End ItemTerm) ∷ Newline ∷ Close Dl ∷ Of (End DefinitionList) ∷ Newline
-    ∷ Of (Start ItemBody) ∷ Open Li ∷ Of (TextStart Text) ∷ Of (Shown Text (Raw (codes "x") 1)) ∷ Of (TextEnd Text) ∷ Close Li ∷ Of (End ItemBody) ∷ Newline ∷ []
+list_nested : IsWellNested list_document
+list_nested = joined (take 5 list_document) (drop 5 list_document) refl
+    (enclosed DefinitionList (take 3 (drop 1 list_document)) refl (enclosed ItemTerm (take 1 (drop 2 list_document)) refl (text (codes "--a") Literal refl)))
+    (enclosed ItemBody (take 1 (drop 6 list_document)) refl (text (codes "x") Text refl))
 
 list_meets : IsHtmlOf list_document true (codes "<dl><dt><tt><b>--a</b></tt></dt>\n</dl>\n<li>x</li>\n")
 unfolding chunks_of chunks_in chunks_within chars str_width step past_emoji
-list_meets = from_tests list_cut
-    (joined (codes "<dl><dt><tt><b>--a</b></tt></dt>\n</dl>") (codes "\n<li>x</li>\n") refl
-    (enclosed Dl (codes "<dt><tt><b>--a</b></tt></dt>\n") refl
-    (joined (codes "<dt><tt><b>--a</b></tt></dt>") (codes "\n") refl
-    (enclosed Dt (codes "<tt><b>--a</b></tt>") refl (enclosed Tt (codes "<b>--a</b>") refl (enclosed B (codes "--a") refl (text_of (codes "--a") refl))))
-    (text_of (codes "\n") refl)))
-    (joined (codes "\n") (codes "<li>x</li>\n") refl (text_of (codes "\n") refl)
-    (joined (codes "<li>x</li>") (codes "\n") refl (enclosed Li (codes "x") refl (text_of (codes "x") refl)) (text_of (codes "\n") refl))))
-    refl refl refl refl refl
-    (joined_fragments (take 7 ps) (drop 7 ps) (take 11 kept) (drop 11 kept) refl refl
-    (enclosed_fragments DefinitionList (take 5 (drop 1 ps)) (take 7 (drop 2 kept)) refl refl
-    (enclosed_fragments ItemTerm (take 3 (drop 2 ps)) (take 3 (drop 4 kept)) refl refl (no_marks false (take 3 (drop 2 ps)) refl)))
-    (enclosed_fragments ItemBody (take 3 (drop 8 ps)) (take 3 (drop 13 kept)) refl refl (no_marks false (take 3 (drop 8 ps)) refl)))
-    refl
-  where
-    ps : List Fragment
-    ps = shown_fragments true list_document
-
-    kept : List HtmlSnippet
-    kept = filter is_block_tag_or_fragment list_cut
+list_meets = page_meets list_document true _ list_nested refl
 
 -- an answer as long as its style tags and fragments has no other snippets
 

@@ -1,135 +1,53 @@
--- Small answers that meet `IsMarkdownOf`, and wrong ones that do not.
+-- Small answers that meet `IsMarkdownOf`, as they are the texts that the rules make, and wrong ones that do not.
 use Rattle.std.proofs.Common.{◌≡◌, ℕ, ◌*◌, ◌<◌, Bool, true, false, List, [], ◌∷◌, ◌++◌, refl, sym, ◌∙◌, ap, subst, cond, ◌≤◌, length, take, drop, arith, length-append}
-use Rattle.std.proofs.lemmas.Bool.{false≢true, and_parts, ltb-true, eqb-true}
+use Rattle.std.proofs.lemmas.Bool.{false≢true}
 use Rattle.std.proofs.Math.Bool.{or-true}
 use Rattle.std.proofs.lemmas.List.Folds.{list_any-append}
 use Rattle.std.proofs.lemmas.List.Elements.{filter-append}
-use Rattle.std.proofs.lemmas.List.Sums.{AllPass-from_list_all, length-filter}
-use Rattle.std.specs.Prelude.{◌==◌, not, ◌&&◌, ◌||◌, codes, filter, flat_map, nat_lt, nat_eq}
-use Rattle.std.specs.List.{list_any, list_all, after_last, starts_with}
+use Rattle.std.proofs.lemmas.List.Sums.{length-filter}
+use Rattle.std.specs.Prelude.{◌==◌, not, ◌||◌, codes, filter, flat_map}
+use Rattle.std.specs.List.{list_any}
 use Rattle.std.specs.Str.{chars}
 use Rattle.unicode_width.specs.Width.{str_width, step, past_emoji}
 use Rattle.bpaf_doc.specs.declared.buffer.Style.TheVariants.{Text, Emphasis, Literal, Metavar}
 use Rattle.bpaf_doc.specs.declared.buffer.Block.TheVariants.{Header, Section3, ItemTerm, ItemBody, DefinitionList, InlineBlock, Mono}
 use Rattle.bpaf_doc.specs.Buffer.Parts.{Part, Text as Words, Start as PartStart, End as PartEnd}
-use Rattle.bpaf_doc.specs.Splitter.Chunks.{Raw, Paragraph, LineBreak, is_raw, is_ordinary, is_code_line, is_whole_line, is_paragraph, is_line_break, chunks_of, chunks_in, chunks_within}
-use Rattle.bpaf_doc.specs.Html.Fragments.{Fragment, TextStart, Shown, TextEnd, Start, End, shows, shown_fragments}
-use Rattle.bpaf_doc.specs.Markdown.Page.{IsMarkdownOf, MarkdownSnippet, Put, Of, Mark, mark_text, is_style_mark, Italic, Bold, Tick, TextFence, Heading, SecondHeading, ThirdHeading, Dash, LongDash, Blank, Newline, fragments_in, flat_map_places, snippet_text, is_heading_or_fragment, headed_snippets, is_style_mark_or_fragment, styled_snippets, text_after, closed_fences, opened_fences, is_text_fence, is_text_end, is_newline}
-use Rattle.bpaf_doc.proofs.lemmas.Lists.Splits.{each_one, each_one-at, each_two, each_two-at, implies, is_nil, nil_from}
-
-abbrev fragment_passes : (Fragment → Bool) → MarkdownSnippet → Bool
-fragment_passes p (Of a) = p a
-fragment_passes p (Put mark) = false
-
--- g at each fragment that passes p
-abbrev each_fragment : (Fragment → Bool) → (List MarkdownSnippet → MarkdownSnippet → List MarkdownSnippet → Bool) → List MarkdownSnippet → Bool
-each_fragment p g cut = each_one (fragment_passes p) g cut
-
-each_fragment-at : (p : Fragment → Bool) (g : List MarkdownSnippet → MarkdownSnippet → List MarkdownSnippet → Bool) (cut : List MarkdownSnippet) → each_fragment p g cut ≡ true
-    → (before after : List MarkdownSnippet) (a : Fragment) → cut ≡ before ++ Of a ∷ after → p a ≡ true → g before (Of a) after ≡ true
-each_fragment-at p g cut h before after a e = each_one-at (fragment_passes p) g cut h before after (Of a) e
-
--- g of what stands between each two fragments that pass p
-abbrev each_pair : (Fragment → Bool) → (List MarkdownSnippet → Bool) → List MarkdownSnippet → Bool
-each_pair p g cut = each_two (fragment_passes p) g cut
-
-each_pair-at : (p : Fragment → Bool) (g : List MarkdownSnippet → Bool) (cut : List MarkdownSnippet) → each_pair p g cut ≡ true
-    → (before between after : List MarkdownSnippet) (a b : Fragment) → cut ≡ before ++ Of a ∷ (between ++ Of b ∷ after) → p a ≡ true → p b ≡ true → g between ≡ true
-each_pair-at p g cut h before between after a b e first second = each_two-at (fragment_passes p) g cut h before between after (Of a) (Of b) e first second
-
-abbrev is_fenced : List MarkdownSnippet → MarkdownSnippet → List MarkdownSnippet → Bool
-is_fenced before t after = nat_lt (closed_fences before) (opened_fences before)
-
-abbrev is_unfenced : List MarkdownSnippet → MarkdownSnippet → List MarkdownSnippet → Bool
-is_unfenced before t after = nat_eq (closed_fences before) (opened_fences before)
-
-abbrev is_alone : List MarkdownSnippet → MarkdownSnippet → List MarkdownSnippet → Bool
-is_alone before t after = list_all (λ c. c == 32) (after_last (λ c. c == 10) (text_after [] before)) && starts_with nat_eq (text_after (before ++ t ∷ []) after) (codes "\n")
-
-abbrev touches : List MarkdownSnippet → Bool
-touches between = not (is_nil (fragments_in between)) || is_nil between
-
-abbrev has_two_newlines : List MarkdownSnippet → Bool
-has_two_newlines [] = false
-has_two_newlines (Put Newline ∷ Put Newline ∷ ts) = true
-has_two_newlines (t ∷ ts) = has_two_newlines ts
-
-two_newlines_from : (ts : List MarkdownSnippet) → has_two_newlines ts ≡ true → (front back : List MarkdownSnippet) × (ts ≡ front ++ Put Newline ∷ Put Newline ∷ back)
-two_newlines_from [] h = absurd cc
-two_newlines_from (Put Newline ∷ Put Newline ∷ ts) h = ([], ts, refl)
-two_newlines_from (t ∷ ts) h = let found = two_newlines_from ts h in (t ∷ found.0, found.1, ap (λ x. t ∷ x) found.2)
-
-abbrev separates : List MarkdownSnippet → Bool
-separates between = not (list_any (shows is_paragraph) (fragments_in between)) || has_two_newlines between
-
-abbrev breaks_line : List MarkdownSnippet → Bool
-breaks_line between = not (list_any (shows is_line_break) (fragments_in between)) || list_any is_newline between
-
-abbrev is_ordinary_or_end : Fragment → Bool
-is_ordinary_or_end a = shows is_ordinary a || is_text_end a
-
--- a cut that passes a test for each field
-from_tests : {document : List Part} {full : Bool} {answer : List ℕ} (cut : List MarkdownSnippet) → answer ≡ flat_map_places snippet_text cut → fragments_in cut ≡ shown_fragments full document
-    → filter is_heading_or_fragment cut ≡ flat_map_places headed_snippets (shown_fragments full document)
-    → filter is_style_mark_or_fragment cut ≡ flat_map styled_snippets (shown_fragments full document)
-    → each_fragment (shows is_code_line) is_fenced cut ≡ true → each_fragment is_ordinary_or_end is_unfenced cut ≡ true → each_fragment (shows is_whole_line) is_alone cut ≡ true
-    → each_pair (shows is_ordinary) touches cut ≡ true → each_pair (shows is_raw) separates cut ≡ true → each_pair (shows is_raw) breaks_line cut ≡ true → IsMarkdownOf document full answer
-from_tests cut spelling fragments headings styles fenced unfenced lines touching paragraphs line_breaks = record {
-  cut = cut;
-  spelling = spelling;
-  fragments = fragments;
-  headings = headings;
-  styles = styles;
-  fenced = λ before after a e p. ltb-true (closed_fences before) (opened_fences before) (each_fragment-at (shows is_code_line) is_fenced cut fenced before after a e p);
-  unfenced = λ before after a e p. eqb-true (closed_fences before) (opened_fences before) (each_fragment-at is_ordinary_or_end is_unfenced cut unfenced before after a e p);
-  lines = λ before after a e p.
-      let both : (list_all (λ c. c == 32) (after_last (λ c. c == 10) (text_after [] before)) ≡ true) × (starts_with nat_eq (text_after (before ++ Of a ∷ []) after) (codes "\n") ≡ true)
-      = and_parts (list_all (λ c. c == 32) (after_last (λ c. c == 10) (text_after [] before))) (starts_with nat_eq (text_after (before ++ Of a ∷ []) after) (codes "\n")) (each_fragment-at (shows is_whole_line) is_alone cut lines before after a e p)
-      in (AllPass-from_list_all (λ c. c == 32) (after_last (λ c. c == 10) (text_after [] before)) both.0, both.1);
-  touching = λ before between after a b e p q none.
-      nil_from between (implies (is_nil (fragments_in between)) (is_nil between) (each_pair-at (shows is_ordinary) touches cut touching before between after a b e p q) (ap is_nil none));
-  paragraphs = λ before between after a b e p q asked.
-      two_newlines_from between (implies (list_any (shows is_paragraph) (fragments_in between)) (has_two_newlines between) (each_pair-at (shows is_raw) separates cut paragraphs before between after a b e p q) asked);
-  line_breaks = λ before between after a b e p q asked.
-      implies (list_any (shows is_line_break) (fragments_in between)) (list_any is_newline between) (each_pair-at (shows is_raw) breaks_line cut line_breaks before between after a b e p q) asked;
-}
+use Rattle.bpaf_doc.specs.Splitter.Chunks.{Raw, Paragraph, is_paragraph, chunks_of, chunks_in, chunks_within}
+use Rattle.bpaf_doc.specs.Html.Fragments.{Fragment, TextStart, Shown, TextEnd, shows, shown_fragments}
+use Rattle.bpaf_doc.specs.Markdown.Page.{IsMarkdownOf, MarkdownSnippet, Put, Of, Mark, mark_text, is_style_mark, Italic, TextFence, Newline, fragments_in, flat_map_places, snippet_text, is_style_mark_or_fragment, styled_snippets, text_after, closed_fences, opened_fences, is_text_fence, is_newline}
+use Rattle.bpaf_doc.proofs.lemmas.Markdown.Meets.{markdown_meets}
 
 abbrev paragraphs_document : List Part
 paragraphs_document = PartStart InlineBlock ∷ Words (codes "a\n\nb") Text ∷ PartEnd InlineBlock ∷ Words (codes "c") Text ∷ []
 
 paragraphs_meets : IsMarkdownOf paragraphs_document true (codes "a\n\nbc")
 unfolding chunks_of chunks_in chunks_within chars str_width step past_emoji
-paragraphs_meets = from_tests (Of (Start InlineBlock) ∷ Of (TextStart Text) ∷ Of (Shown Text (Raw (codes "a") 1)) ∷ Of (Shown Text Paragraph) ∷ Put Newline ∷ Put Newline ∷ Of (Shown Text (Raw (codes "b") 1)) ∷ Of (TextEnd Text) ∷ Of (End InlineBlock) ∷ Of (TextStart Text) ∷ Of (Shown Text (Raw (codes "c") 1)) ∷ Of (TextEnd Text) ∷ [])
-    refl refl refl refl refl refl refl refl refl refl
+paragraphs_meets = markdown_meets paragraphs_document true _ (omega arith) refl
 
 brief_meets : IsMarkdownOf paragraphs_document false (codes "ac")
 unfolding chunks_of chunks_in chunks_within chars str_width step past_emoji
-brief_meets = from_tests (Of (Start InlineBlock) ∷ Of (TextStart Text) ∷ Of (Shown Text (Raw (codes "a") 1)) ∷ Of (TextEnd Text) ∷ Of (End InlineBlock) ∷ Of (TextStart Text) ∷ Of (Shown Text (Raw (codes "c") 1)) ∷ Of (TextEnd Text) ∷ [])
-    refl refl refl refl refl refl refl refl refl refl
+brief_meets = markdown_meets paragraphs_document false _ (omega arith) refl
 
 abbrev title_document : List Part
 title_document = PartStart InlineBlock ∷ Words (codes "Title") Emphasis ∷ PartStart Section3 ∷ Words (codes "body") Text ∷ PartEnd Section3 ∷ PartEnd InlineBlock ∷ []
 
 title_meets : IsMarkdownOf title_document true (codes "**Title**### body\n")
 unfolding chunks_of chunks_in chunks_within chars str_width step past_emoji
-title_meets = from_tests (Of (Start InlineBlock) ∷ Of (TextStart Emphasis) ∷ Put Bold ∷ Of (Shown Emphasis (Raw (codes "Title") 5)) ∷ Put Bold ∷ Of (TextEnd Emphasis) ∷ Of (Start Section3) ∷ Put ThirdHeading ∷ Of (TextStart Text) ∷ Of (Shown Text (Raw (codes "body") 4)) ∷ Of (TextEnd Text) ∷ Of (End Section3) ∷ Put Newline ∷ Of (End InlineBlock) ∷ [])
-    refl refl refl refl refl refl refl refl refl refl
+title_meets = markdown_meets title_document true _ (omega arith) refl
 
 abbrev list_document : List Part
 list_document = PartStart Header ∷ Words (codes "Top") Text ∷ PartEnd Header ∷ PartStart DefinitionList ∷ PartStart ItemTerm ∷ Words (codes "--a") Literal ∷ PartEnd ItemTerm ∷ PartStart ItemBody ∷ Words (codes "one two\n b") Text ∷ PartEnd ItemBody ∷ PartStart ItemTerm ∷ PartEnd ItemTerm ∷ PartStart ItemBody ∷ Words (codes "x") Text ∷ PartEnd ItemBody ∷ PartEnd DefinitionList ∷ PartStart Header ∷ Words (codes "Y") Text ∷ PartEnd Header ∷ []
 
 list_meets : IsMarkdownOf list_document true (codes "# Top\n- **`--a`** &mdash; \n  one two\nb\n   \n  x\n\n## Y\n")
 unfolding chunks_of chunks_in chunks_within chars str_width step past_emoji
-list_meets = from_tests (Of (Start Header) ∷ Put Heading ∷ Of (TextStart Text) ∷ Of (Shown Text (Raw (codes "Top") 3)) ∷ Of (TextEnd Text) ∷ Of (End Header) ∷ Put Newline ∷ Of (Start DefinitionList) ∷ Of (Start ItemTerm) ∷ Put Dash ∷ Of (TextStart Literal) ∷ Put Bold ∷ Put Tick ∷ Of (Shown Literal (Raw (codes "--a") 3)) ∷ Put Tick ∷ Put Bold ∷ Of (TextEnd Literal) ∷ Of (End ItemTerm) ∷ Of (Start ItemBody) ∷ Put LongDash ∷ Put Newline ∷ Put Blank ∷ Put Blank ∷ Of (TextStart Text) ∷ Of (Shown Text (Raw (codes "one") 3)) ∷ Of (Shown Text (Raw (codes " ") 1)) ∷ Of (Shown Text (Raw (codes "two") 3)) ∷ Of (Shown Text LineBreak) ∷ Put Newline ∷ Of (Shown Text (Raw (codes "b") 1)) ∷ Of (TextEnd Text) ∷ Of (End ItemBody) ∷ Put Newline ∷ Of (Start ItemTerm) ∷ Put Blank ∷ Put Blank ∷ Of (End ItemTerm) ∷ Of (Start ItemBody) ∷ Put Blank ∷ Put Newline ∷ Put Blank ∷ Put Blank ∷ Of (TextStart Text) ∷ Of (Shown Text (Raw (codes "x") 1)) ∷ Of (TextEnd Text) ∷ Of (End ItemBody) ∷ Put Newline ∷ Of (End DefinitionList) ∷ Put Newline ∷ Of (Start Header) ∷ Put SecondHeading ∷ Of (TextStart Text) ∷ Of (Shown Text (Raw (codes "Y") 1)) ∷ Of (TextEnd Text) ∷ Of (End Header) ∷ Put Newline ∷ [])
-    refl refl refl refl refl refl refl refl refl refl
+list_meets = markdown_meets list_document true _ (omega arith) refl
 
 abbrev mono_document : List Part
 mono_document = PartStart Mono ∷ Words (codes "[a] ") Text ∷ Words (codes "X") Metavar ∷ PartEnd Mono ∷ Words (codes "[b]") Text ∷ []
 
 mono_meets : IsMarkdownOf mono_document true (codes "\\[a\\] _`X`_[b]")
 unfolding chunks_of chunks_in chunks_within chars str_width step past_emoji
-mono_meets = from_tests (Of (Start Mono) ∷ Of (TextStart Text) ∷ Of (Shown Text (Raw (codes "[a]") 3)) ∷ Of (Shown Text (Raw (codes " ") 1)) ∷ Of (TextEnd Text) ∷ Of (TextStart Metavar) ∷ Put Italic ∷ Put Tick ∷ Of (Shown Metavar (Raw (codes "X") 1)) ∷ Put Tick ∷ Put Italic ∷ Of (TextEnd Metavar) ∷ Of (End Mono) ∷ Of (TextStart Text) ∷ Of (Shown Text (Raw (codes "[b]") 3)) ∷ Of (TextEnd Text) ∷ [])
-    refl refl refl refl refl refl refl refl refl refl
+mono_meets = markdown_meets mono_document true _ (omega arith) refl
 
 -- wrong answers
 

@@ -11,7 +11,7 @@ use Rattle.bpaf_doc.specs.Splitter.Chunks.{Raw, Paragraph, LineBreak, is_inked, 
 use Rattle.bpaf_doc.specs.Html.Fragments.{Fragment, Shown, Start, End, shows}
 use Rattle.bpaf_doc.specs.Html.Page.{HtmlSnippet, Break, Of, fragments_in, asks_break, is_break}
 use Rattle.bpaf_doc.specs.Html.Steps.Page.{Written, page_after, is_empty}
-use Rattle.bpaf_doc.proofs.lemmas.Lists.Splits.{implies}
+use Rattle.bpaf_doc.proofs.lemmas.Lists.Passing.{implies}
 use Rattle.bpaf_doc.proofs.lemmas.Html.Cut.{snippets_of, cut_from, fragments-append, step-fragments, cut-fragments}
 
 -- ---- what follows a Raw

@@ -3,7 +3,7 @@ use Rattle.std.proofs.Common.{◌≡◌, Bool, true, false, List, [], ◌∷◌,
 use Rattle.std.specs.Prelude.{not, ◌&&◌, ◌||◌, IsTrue}
 use Rattle.std.specs.List.{list_any}
 use Rattle.std.proofs.lemmas.Bool.{false≢true, and_parts, and_from, not-true, or_right, cases_Bool}
-use Rattle.bpaf_doc.proofs.lemmas.Lists.Splits.{implies}
+use Rattle.bpaf_doc.proofs.lemmas.Lists.Passing.{implies}
 use Rattle.bpaf_doc.specs.Splitter.Chunks.{Raw, is_ordinary, is_whole_line, is_paragraph, is_line_break}
 use Rattle.bpaf_doc.specs.Html.Fragments.{Fragment, Shown, shows}
 use Rattle.bpaf_doc.specs.Markdown.Page.{Newline, MarkdownSnippet, Put, Of, fragments_in, is_newline}
