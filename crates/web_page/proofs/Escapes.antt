@@ -15,8 +15,7 @@ abbrev pub IsPlain : Bool → ℕ → Type 0
 IsPlain v b = (b ≢ 38) × (b ≢ 60) × (b ≢ 62) × ((v ≡ true) → b ≢ 34)
 
 no_quote : (v : Bool) (b : ℕ) → ((v ≡ true) → b ≢ 34) → (v && (b == 34)) ≡ false
-no_quote true b h = ne_eqb b 34 (h refl)
-no_quote false b h = refl
+no_quote v b h2 = grind (arith, ne_eqb)
 
 pub plain_byte : (v : Bool) (b : ℕ) → IsPlain v b → escaped_byte v b ≡ b ∷ []
 plain_byte v b p = rw (ne_eqb b 38 p.0, ne_eqb b 60 p.1, ne_eqb b 62 p.2, no_quote v b p.3) refl
@@ -89,10 +88,7 @@ extends_tried first old new more false h e = (h.0, e ∙ h.1)
 
 -- a text may be cut where an earlier one ended
 pub cut_at_end : (old new : List ℕ) (n : ℕ) → IsUtf8 old → IsUtf8 new → n ≡ length old → Extends old new → IsCharBoundary new n
-cut_at_end old new n u v e h =
-    let within : n ≤ length new = omega (arith, ap length h.1, length-append old h.0) in
-    let front : take n new ≡ old = ap (λ k. take k new) e ∙ ap (take (length old)) h.1 ∙ take-append_seam old h.0 in
-    IsCharBoundary-from_take new n v within (rw front u)
+cut_at_end old new n u v e h = grind (arith, length-append, take-append_seam, IsCharBoundary-from_take)
 
 -- and comes to it again
 pub cut_back : (old new : List ℕ) (n : ℕ) → n ≡ length old → Extends old new → take n new ≡ old

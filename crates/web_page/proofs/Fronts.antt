@@ -1,6 +1,6 @@
 -- A new page.
-use Rattle.std.proofs.Common.{◌≡◌, ◌<◌, ℕ, Bool, true, false, not, ◌&&◌, suc, zero, List, [], ◌∷◌, length, refl, ap, ◌∙◌, reverse, arith, Ok}
-use Rattle.std.specs.Prelude.{Option, Some, None, ◌==◌}
+use Rattle.std.proofs.Common.{◌≡◌, ◌<◌, ℕ, Bool, true, false, not, ◌&&◌, suc, List, [], ◌∷◌, refl, ap, reverse, arith, Ok}
+use Rattle.std.specs.Prelude.{Option, None}
 use Rattle.std.specs.List.{list_any, list_all}
 use Rattle.std.specs.Str.{IsUtf8, IsAscii}
 use Rattle.std.proofs.lemmas.Bool.{and_parts, and_from}
@@ -20,12 +20,10 @@ use Rattle.web_page.specs.declared.errors.PageError.TheVariants as errors
 use Rattle.web_page.specs.declared.writer.Open.{Open}
 
 pub no_fault : (fault : Option PageError) → checked fault ≡ Ok tt → fault ≡ None
-no_fault None e = refl
-no_fault (Some fault) e = cc
+no_fault fault h1 = grind arith
 
 holds : (b : Bool) (fault : PageError) (next : Option PageError) → unless b fault next ≡ None → (b ≡ true) × (next ≡ None)
-holds true fault next e = (refl, e)
-holds false fault next e = cc
+holds b fault next h3 = grind arith
 
 small : (b : ℕ) → is_language_byte b ≡ true → b < 128
 small b h = grind (arith, nat_tests)
@@ -34,24 +32,18 @@ written : (b : ℕ) → is_language_byte b ≡ true → is_written b ≡ true
 written b h = let s : b < 128 = small b h in grind (arith, nat_tests)
 
 ascii : (bytes : List ℕ) → list_all is_language_byte bytes ≡ true → IsAscii bytes
-ascii [] h i = omega arith
-ascii (b ∷ bytes) h zero = small b (and_parts (is_language_byte b) (list_all is_language_byte bytes) h).0
 ascii (b ∷ bytes) h (suc i) = ascii bytes (and_parts (is_language_byte b) (list_all is_language_byte bytes) h).1 i
+ascii x h y = grind (arith, small, and_parts)
 
 all_written : (bytes : List ℕ) → list_all is_language_byte bytes ≡ true → list_all is_written bytes ≡ true
 all_written [] h = refl
-all_written (b ∷ bytes) h =
-    let p = and_parts (is_language_byte b) (list_all is_language_byte bytes) h in
-    and_from (is_written b) (list_all is_written bytes) (written b p.0) (all_written bytes p.1)
+all_written (b ∷ bytes) h = grind (arith, all_written bytes, and_parts, and_from, written)
 
 language_written : (bytes : List ℕ) → is_language bytes ≡ true → are_written bytes ≡ true
-language_written bytes h =
-    let p = and_parts (not (length bytes == 0)) (list_all is_language_byte bytes) h in
-    ap (list_all is_written) (chars-IsAscii bytes (ascii bytes p.1)) ∙ all_written bytes p.1
+language_written bytes h = grind (arith, and_parts, chars-IsAscii, ascii, all_written)
 
 not_so : (b : Bool) → not b ≡ true → b ≡ false
-not_so true h = cc
-not_so false h = refl
+not_so b h1 = grind arith
 
 pub new_one : (language title style bytes : List ℕ) (here : Open) (outer : List Open) → IsUtf8 language → IsUtf8 title → IsUtf8 style → page_fault language title style ≡ None → bytes ≡ page_front language title style
     → here ≡ record { tag = Body; before = None; has_ink = false; in_link = false } → outer ≡ [] → Outcome bytes here (reverse outer) (new_page language title style)

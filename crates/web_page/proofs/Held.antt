@@ -1,12 +1,12 @@
 -- What each call keeps of an open page.
-use Rattle.std.proofs.Common.{◌≡◌, ℕ, Bool, true, false, not, ◌&&◌, ◌||◌, List, [], ◌∷◌, ◌++◌, refl, sym, ap, ◌∙◌, subst}
+use Rattle.std.proofs.Common.{◌≡◌, ℕ, Bool, true, false, not, ◌&&◌, ◌||◌, List, [], ◌∷◌, ◌++◌, refl, sym, ap, ◌∙◌, subst, arith}
 use Rattle.std.specs.Prelude.{Option, Some, None, codes, unwrap_or}
 use Rattle.std.specs.List.{list_any, list_all}
 use Rattle.std.specs.Str.{IsUtf8, chars}
 use Rattle.std.proofs.lemmas.Bool.{and_parts, and_from}
 use Rattle.std.proofs.lemmas.Str.{IsUtf8-append}
 use Rattle.web_page.specs.Tree.{Attribute, Nodes, none, element, is_tag}
-use Rattle.web_page.specs.Reader.{Draft, Frame, Reading, Content, are_attributes, are_kept, begin, is_kept, is_permitted, is_void, joined, no_draft, reading, reading_of, takes_elements, with_element, with_start}
+use Rattle.web_page.specs.Reader.{Draft, Frame, Reading, Content, are_attributes, begin, is_kept, is_permitted, is_void, joined, no_draft, reading, reading_of, takes_elements, with_element, with_start}
 use Rattle.web_page.specs.Models.{ReadsAs, are_fit, are_in_order, fits_attributes, fits_model, has_ink, is_ink, is_language, last_child, may_end, may_hold, wants_ink}
 use Rattle.web_page.specs.Calls.{are_written, has_end_sign, has_ink_in, is_in_link, is_inside_body, is_link, may_end_in, may_stand_in, new_page, whole_page, with_end, with_end_in, with_text, with_words}
 use Rattle.web_page.specs.Exact.{end_text, escaped, page_end, page_front, start_text}
@@ -18,9 +18,8 @@ use Rattle.web_page.proofs.Settles.{settles}
 use Rattle.web_page.proofs.Texts.{IsClean, is_ascii_byte, clean-append, clean-ascii, clean-escaped, kept_text}
 use Rattle.web_page.specs.declared.elements.Child.{Child}
 use Rattle.web_page.specs.declared.elements.Child.TheVariants.{Words, Inner}
-use Rattle.web_page.specs.declared.elements.Element.TheVariants.{Header, Nav, Main, Section, Heading, P, Pre, Ul, Li, Dl, Dt, Dd, Code, Strong, Em, Var}
 use Rattle.web_page.specs.declared.elements.Tag.{Tag}
-use Rattle.web_page.specs.declared.elements.Tag.TheVariants.{Html, Head, Meta, Title, Style, Body, Br, A, Of}
+use Rattle.web_page.specs.declared.elements.Tag.TheVariants.{Html, Title, Style, Body, Br, A}
 use Rattle.web_page.specs.declared.writer.Open.{Open}
 
 -- ---- what is written reads on
@@ -44,35 +43,18 @@ abbrev pub stands : Open → Child → Bool
 stands here child = may_hold here.tag here.before child && not (here.in_link && is_link child)
 
 stands_in : (here : Open) (frame : Frame) (frames : List Frame) (nodes : Nodes) (child : Child) → Describes here frame frames nodes → stands here child ≡ may_stand_in (frame ∷ frames) nodes child
-stands_in here frame frames nodes child d =
-    ap (λ tag. may_hold tag here.before child && not (here.in_link && is_link child)) d.tag
-    ∙ ap (λ before. may_hold frame.tag before child && not (here.in_link && is_link child)) d.before
-    ∙ ap (λ linked. may_hold frame.tag (last_child None nodes) child && not (linked && is_link child)) d.in_link
+stands_in here frame frames nodes child d = grind arith
 
 pub stands_is : (here : Open) (outers : List Open) (frames : List Frame) (nodes : Nodes) (child : Child) → AreOpen here outers frames nodes → stands here child ≡ may_stand_in frames nodes child
-stands_is here outers [] nodes child a = absurd a
-stands_is here [] (frame ∷ frames) nodes child a = stands_in here frame frames nodes child a.0
-stands_is here (outer ∷ outers) (frame ∷ frames) nodes child a = stands_in here frame frames nodes child a.0
+stands_is here outers frames nodes child h5 = grind (arith, stands_in)
 
 -- ---- a text
 
 described_text : (here : Open) (frame : Frame) (frames : List Frame) (nodes : Nodes) (bytes : List ℕ) → may_stand_in (frame ∷ frames) nodes Words ≡ true → list_all is_kept bytes ≡ true → Describes here frame frames nodes → Describes (behind_text here bytes) frame frames (with_words nodes bytes)
-described_text here frame frames nodes [] may kept d = d
-described_text here frame frames nodes (b ∷ bytes) may kept d = record {
-  tag = d.tag;
-  before = sym (last_child-with_words None nodes b bytes);
-  ink = ap (λ x. x || list_any is_ink (b ∷ bytes)) d.ink ∙ sym (has_ink-with_words nodes (b ∷ bytes));
-  in_link = d.in_link;
-  ordered = are_in_order-with_words frame.tag None nodes (b ∷ bytes) (and_parts (may_hold frame.tag (last_child None nodes) Words) (not (is_in_link (frame ∷ frames) && false)) may).0 d.ordered;
-  fit = are_fit-with_words (is_in_link (frame ∷ frames)) nodes (b ∷ bytes) ∙ d.fit;
-  kept = are_kept-with_words nodes (b ∷ bytes) kept d.kept;
-  attributes = d.attributes;
-}
+described_text here frame frames nodes bytes h5 h6 h7 = grind (arith, last_child-with_words, has_ink-with_words, are_in_order-with_words, and_parts, are_fit-with_words, are_kept-with_words)
 
 text_inside : (here : Open) (outers : List Open) (frames : List Frame) (nodes : Nodes) (bytes : List ℕ) → may_stand_in frames nodes Words ≡ true → list_all is_kept bytes ≡ true → AreOpen here outers frames nodes → AreOpen (behind_text here bytes) outers frames (with_words nodes bytes)
-text_inside here outers [] nodes bytes may kept a = a
-text_inside here [] (frame ∷ frames) nodes bytes may kept a = (described_text here frame frames nodes bytes may kept a.0, a.1)
-text_inside here (outer ∷ outers) (frame ∷ frames) nodes bytes may kept a = (described_text here frame frames nodes bytes may kept a.0, a.1, a.2)
+text_inside here outers frames nodes bytes h5 h6 h7 = grind (arith, described_text)
 
 pub text_held : (bytes : List ℕ) (here : Open) (outers : List Open) (words : List ℕ) (o : IsOngoing bytes here outers) → IsUtf8 bytes → IsUtf8 words → are_written words ≡ true → stands here Words ≡ true
     → (p : IsOngoing (bytes ++ escaped false words) (behind_text here words) outers) × (p.draft ≡ with_text o.draft words)
@@ -89,67 +71,25 @@ text_held bytes here outers words o u v w may = (
 -- ---- an element in an element
 
 or_nothing : (a : Bool) → a ≡ (a || false)
-or_nothing true = refl
-or_nothing false = refl
+or_nothing a = grind arith
 
 -- with one more element, which is as its model has it
 with_inner : (here : Open) (frame : Frame) (frames : List Frame) (nodes : Nodes) (tag : Tag) (given : List Attribute) (content : Nodes) (ink : Bool)
     → may_stand_in (frame ∷ frames) nodes (Inner tag) ≡ true → fits_model tag given content ≡ true → are_fit (is_tag A tag || is_in_link (frame ∷ frames)) content ≡ true → ink ≡ has_ink content
     → Describes here frame frames nodes → Describes (behind_child here tag ink) frame frames (joined nodes (element tag given content none))
-with_inner here frame frames nodes tag given content ink may model fit inked d =
-    let linked : Bool = is_in_link (frame ∷ frames) in
-    let parts = and_parts (may_hold frame.tag (last_child None nodes) (Inner tag)) (not (linked && is_tag A tag)) may in
-    record {
-      tag = d.tag;
-      before = sym (last_child-joined None nodes (element tag given content none));
-      ink = ap (λ x. x || ink) d.ink ∙ ap (λ x. has_ink nodes || x) (inked ∙ or_nothing (has_ink content)) ∙ sym (has_ink-joined nodes (element tag given content none));
-      in_link = d.in_link;
-      ordered = are_in_order-joined frame.tag None nodes (element tag given content none) ∙ and_from (are_in_order frame.tag None nodes) (may_hold frame.tag (last_child None nodes) (Inner tag) && true) d.ordered (and_from (may_hold frame.tag (last_child None nodes) (Inner tag)) true parts.0 refl);
-      fit = are_fit-joined linked nodes (element tag given content none)
-          ∙ and_from (are_fit linked nodes) (fits_model tag given content && not (linked && is_tag A tag) && are_fit (is_tag A tag || linked) content && true) d.fit
-          (and_from (fits_model tag given content && not (linked && is_tag A tag) && are_fit (is_tag A tag || linked) content) true
-          (and_from (fits_model tag given content && not (linked && is_tag A tag)) (are_fit (is_tag A tag || linked) content) (and_from (fits_model tag given content) (not (linked && is_tag A tag)) model parts.1) fit) refl);
-      kept = are_kept-joined nodes (element tag given content none) ∙ and_from (are_kept nodes) true d.kept refl;
-      attributes = d.attributes;
-    }
+with_inner here frame frames nodes tag given content ink may model fit inked d = grind (arith, and_parts, last_child-joined, or_nothing, has_ink-joined, are_in_order-joined, and_from, are_fit-joined, are_kept-joined)
 
 -- ---- a break
 
 break_inside : (here : Open) (outers : List Open) (frames : List Frame) (nodes : Nodes) → may_stand_in frames nodes (Inner Br) ≡ true → AreOpen here outers frames nodes → AreOpen (behind_child here Br false) outers frames (joined nodes (element Br [] none none))
-break_inside here outers [] nodes may a = a
-break_inside here [] (frame ∷ frames) nodes may a = (with_inner here frame frames nodes Br [] none false may refl refl refl a.0, a.1)
-break_inside here (outer ∷ outers) (frame ∷ frames) nodes may a = (with_inner here frame frames nodes Br [] none false may refl refl refl a.0, a.1, a.2)
+break_inside here outers frames nodes h4 h5 = grind (arith, with_inner)
 
 -- what holds an element takes elements
 holder_takes : (tag : Tag) (before : Option Child) (inner : Tag) → may_hold tag before (Inner inner) ≡ true → not (is_tag Title tag || is_tag Style tag) ≡ true
-holder_takes Html before inner h = refl
-holder_takes Head before inner h = refl
-holder_takes Meta before inner h = refl
-holder_takes Title before inner h = cc
-holder_takes Style before inner h = cc
-holder_takes Body before inner h = refl
-holder_takes Br before inner h = refl
-holder_takes A before inner h = refl
-holder_takes (Of Header) before inner h = refl
-holder_takes (Of Nav) before inner h = refl
-holder_takes (Of Main) before inner h = refl
-holder_takes (Of Section) before inner h = refl
-holder_takes (Of (Heading level)) before inner h = refl
-holder_takes (Of P) before inner h = refl
-holder_takes (Of Pre) before inner h = refl
-holder_takes (Of Ul) before inner h = refl
-holder_takes (Of Li) before inner h = refl
-holder_takes (Of Dl) before inner h = refl
-holder_takes (Of Dt) before inner h = refl
-holder_takes (Of Dd) before inner h = refl
-holder_takes (Of Code) before inner h = refl
-holder_takes (Of Strong) before inner h = refl
-holder_takes (Of Em) before inner h = refl
-holder_takes (Of Var) before inner h = refl
+holder_takes tag before inner h3 = grind arith
 
 takes : (frames : List Frame) (nodes : Nodes) (tag : Tag) → may_stand_in frames nodes (Inner tag) ≡ true → takes_elements frames ≡ true
-takes [] nodes tag may = refl
-takes (frame ∷ frames) nodes tag may = holder_takes frame.tag (last_child None nodes) tag (and_parts (may_hold frame.tag (last_child None nodes) (Inner tag)) (not (is_in_link (frame ∷ frames) && is_tag A tag)) may).0
+takes frames nodes tag h3 = grind (arith, holder_takes, and_parts)
 
 pub break_held : (bytes : List ℕ) (here : Open) (outers : List Open) (o : IsOngoing bytes here outers) → IsUtf8 bytes → stands here (Inner Br) ≡ true
     → (p : IsOngoing (bytes ++ codes "<br>") (behind_child here Br false) outers) × (p.draft ≡ with_element o.draft Br [] none)
@@ -168,22 +108,11 @@ break_held bytes here outers o u stood =
 
 described_start : (here : Open) (frame : Frame) (frames : List Frame) (nodes : Nodes) (tag : Tag) (given : List Attribute) → fits_attributes tag given ≡ true → Describes here frame frames nodes
     → Describes (opened here tag) (record { tag = tag; attributes = given; before = nodes }) (frame ∷ frames) none
-described_start here frame frames nodes tag given fits d = record {
-  tag = refl;
-  before = refl;
-  ink = refl;
-  in_link = ap (λ linked. is_tag A tag || linked) d.in_link;
-  ordered = refl;
-  fit = refl;
-  kept = refl;
-  attributes = fits;
-}
+described_start here frame frames nodes tag given fits d = grind arith
 
 start_inside : (here : Open) (outers : List Open) (frames : List Frame) (nodes : Nodes) (tag : Tag) (given : List Attribute) → fits_attributes tag given ≡ true → may_stand_in frames nodes (Inner tag) ≡ true → AreOpen here outers frames nodes
     → AreOpen (opened here tag) (here ∷ outers) (record { tag = tag; attributes = given; before = nodes } ∷ frames) none
-start_inside here outers [] nodes tag given fits may a = absurd a
-start_inside here [] (frame ∷ frames) nodes tag given fits may a = (described_start here frame frames nodes tag given fits a.0, may, a)
-start_inside here (outer ∷ outers) (frame ∷ frames) nodes tag given fits may a = (described_start here frame frames nodes tag given fits a.0, may, a)
+start_inside here outers frames nodes tag given h6 h7 h8 = grind (arith, described_start)
 
 -- an element with its attributes that can be started anywhere where it may stand
 pub record IsStart (tag : Tag) (given : List Attribute) : Type 0 where
@@ -217,14 +146,10 @@ inked_in : (here : Open) (frame : Frame) (frames : List Frame) (nodes : Nodes) �
 inked_in here frame frames nodes d = ap (λ tag. not (wants_ink tag) || here.has_ink) d.tag ∙ ap (λ ink. not (wants_ink frame.tag) || ink) d.ink
 
 pub ends_is : (here : Open) (outers : List Open) (frames : List Frame) (nodes : Nodes) → AreOpen here outers frames nodes → ends here ≡ may_end_in frames nodes
-ends_is here outers [] nodes a = absurd a
-ends_is here [] (frame ∷ frames) nodes a = ends_in here frame frames nodes a.0
-ends_is here (outer ∷ outers) (frame ∷ frames) nodes a = ends_in here frame frames nodes a.0
+ends_is here outers frames nodes h4 = grind (arith, ends_in)
 
 pub inked_is : (here : Open) (outers : List Open) (frames : List Frame) (nodes : Nodes) → AreOpen here outers frames nodes → inked here ≡ has_ink_in frames nodes
-inked_is here outers [] nodes a = absurd a
-inked_is here [] (frame ∷ frames) nodes a = inked_in here frame frames nodes a.0
-inked_is here (outer ∷ outers) (frame ∷ frames) nodes a = inked_in here frame frames nodes a.0
+inked_is here outers frames nodes h4 = grind (arith, inked_in)
 
 -- whether there is an element in the body that is open
 abbrev pub is_around : List Open → Bool
@@ -241,34 +166,15 @@ two here (outer ∷ outers) (frame ∷ []) nodes a = absurd (none_open a.2) wher
 two here (outer ∷ outers) (frame ∷ second ∷ frames) nodes a = (frame, second, frames, refl)
 
 pub around_is : (here : Open) (outers : List Open) (frames : List Frame) (nodes : Nodes) → AreOpen here outers frames nodes → is_around outers ≡ is_inside_body frames
-around_is here outers [] nodes a = absurd a
-around_is here [] (frame ∷ frames) nodes a = sym (ap is_inside_body a.1.is)
-around_is here (outer ∷ outers) (frame ∷ frames) nodes a = let around = two outer outers frames frame.before a.2 in sym (ap (λ x. is_inside_body (frame ∷ x)) around.3)
+around_is here outers frames nodes h4 = grind arith
 
 model_from : (here : Open) (frame : Frame) (frames : List Frame) (nodes : Nodes) → Describes here frame frames nodes → ends here ≡ true → inked here ≡ true → fits_model frame.tag frame.attributes nodes ≡ true
-model_from here frame frames nodes d may ink =
-    and_from (fits_attributes frame.tag frame.attributes && are_in_order frame.tag None nodes && may_end frame.tag (last_child None nodes)) (not (wants_ink frame.tag) || has_ink nodes)
-    (and_from (fits_attributes frame.tag frame.attributes && are_in_order frame.tag None nodes) (may_end frame.tag (last_child None nodes)) (and_from (fits_attributes frame.tag frame.attributes) (are_in_order frame.tag None nodes) d.attributes d.ordered) (sym (ends_in here frame frames nodes d) ∙ may))
-    (sym (inked_in here frame frames nodes d) ∙ ink)
+model_from here frame frames nodes d may ink = grind (arith, and_from, ends_in, inked_in)
 
 -- behind the end of an element that is as its model has it
 end_inside : (here outer : Open) (outers : List Open) (frame : Frame) (frames : List Frame) (nodes : Nodes) → ends here ≡ true → inked here ≡ true → AreOpen here (outer ∷ outers) (frame ∷ frames) nodes
     → AreOpen (behind_child outer here.tag here.has_ink) outers frames (joined frame.before (element frame.tag frame.attributes nodes none))
-end_inside here outer outers frame [] nodes may ink a = absurd (none_open a.2) where
-  none_open : AreOpen outer outers [] frame.before → ⊥
-  none_open b = elim outers as (λ o. AreOpen outer o [] frame.before → ⊥) [ [] ↦ λ x. x | o ∷ os ↦ λ x. x ] b
-end_inside here outer [] frame (around ∷ frames) nodes may ink a = (inner around frames a.0 a.1 a.2.0, a.2.1) where
-  inner : (around : Frame) (frames : List Frame) → Describes here frame (around ∷ frames) nodes → may_stand_in (around ∷ frames) frame.before (Inner frame.tag) ≡ true → Describes outer around frames frame.before
-      → Describes (behind_child outer here.tag here.has_ink) around frames (joined frame.before (element frame.tag frame.attributes nodes none))
-  inner around frames d stood e =
-      subst (λ tag. Describes (behind_child outer tag here.has_ink) around frames (joined frame.before (element frame.tag frame.attributes nodes none))) (sym d.tag)
-      (with_inner outer around frames frame.before frame.tag frame.attributes nodes here.has_ink stood (model_from here frame (around ∷ frames) nodes d may ink) d.fit d.ink e)
-end_inside here outer (next ∷ outers) frame (around ∷ frames) nodes may ink a = (inner around frames a.0 a.1 a.2.0, a.2.1, a.2.2) where
-  inner : (around : Frame) (frames : List Frame) → Describes here frame (around ∷ frames) nodes → may_stand_in (around ∷ frames) frame.before (Inner frame.tag) ≡ true → Describes outer around frames frame.before
-      → Describes (behind_child outer here.tag here.has_ink) around frames (joined frame.before (element frame.tag frame.attributes nodes none))
-  inner around frames d stood e =
-      subst (λ tag. Describes (behind_child outer tag here.has_ink) around frames (joined frame.before (element frame.tag frame.attributes nodes none))) (sym d.tag)
-      (with_inner outer around frames frame.before frame.tag frame.attributes nodes here.has_ink stood (model_from here frame (around ∷ frames) nodes d may ink) d.fit d.ink e)
+end_inside here outer outers frame frames nodes h6 h7 h8 = grind (arith, with_inner, model_from)
 
 clean_end : (tag : Tag) → IsClean (end_text tag)
 clean_end tag = clean-ascii (end_text tag) (each_tag (λ other. list_all is_ascii_byte (end_text other)) refl tag)

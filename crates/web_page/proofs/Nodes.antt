@@ -1,33 +1,28 @@
 -- What more nodes, or a byte more of text, change in what is asked of nodes.
-use Rattle.std.proofs.Common.{◌≡◌, ℕ, Bool, true, false, not, ◌&&◌, ◌||◌, List, [], ◌∷◌, ◌++◌, refl, sym, ap, ◌∙◌}
+use Rattle.std.proofs.Common.{◌≡◌, ℕ, Bool, true, false, ◌&&◌, ◌||◌, List, [], ◌∷◌, ◌++◌, refl, sym, ap, ◌∙◌, arith}
 use Rattle.std.specs.Prelude.{Option, Some}
 use Rattle.std.specs.List.{list_any, list_all}
 use Rattle.std.proofs.lemmas.Bool.{and_parts, and_from}
 use Rattle.std.proofs.lemmas.List.Folds.{list_any-append, list_all-append}
-use Rattle.web_page.specs.Tree.{Nodes, none, text, element, is_tag}
+use Rattle.web_page.specs.Tree.{Nodes, none, text, element}
 use Rattle.web_page.specs.Reader.{are_kept, is_kept, joined, with_byte}
-use Rattle.web_page.specs.Models.{are_fit, are_in_order, fits_model, has_ink, is_ink, last_child, may_hold}
+use Rattle.web_page.specs.Models.{are_fit, are_in_order, has_ink, is_ink, last_child, may_hold}
 use Rattle.web_page.specs.Calls.{with_words}
 use Rattle.web_page.specs.declared.elements.Child.{Child}
 use Rattle.web_page.specs.declared.elements.Child.TheVariants.{Words, Inner}
 use Rattle.web_page.specs.declared.elements.Tag.{Tag}
-use Rattle.web_page.specs.declared.elements.Tag.TheVariants.{A}
 
 and_assoc : (a b c : Bool) → (a && b && c) ≡ (a && (b && c))
-and_assoc true b c = refl
-and_assoc false b c = refl
+and_assoc a b c = grind arith
 
 or_assoc : (a b c : Bool) → (a || b || c) ≡ (a || (b || c))
-or_assoc true b c = refl
-or_assoc false b c = refl
+or_assoc a b c = grind arith
 
 or_false : (a : Bool) → (a || false) ≡ a
-or_false true = refl
-or_false false = refl
+or_false a = grind arith
 
 or_swap : (a : Bool) → ((a || false) || false) ≡ (false || a)
-or_swap true = refl
-or_swap false = refl
+or_swap a = grind arith
 
 -- ---- nodes behind nodes
 
@@ -38,10 +33,8 @@ last_child-joined before (element tag given content rest) more = last_child-join
 
 pub are_in_order-joined : (tag : Tag) (before : Option Child) (nodes more : Nodes) → are_in_order tag before (joined nodes more) ≡ (are_in_order tag before nodes && are_in_order tag (last_child before nodes) more)
 are_in_order-joined tag before none more = refl
-are_in_order-joined tag before (text bytes rest) more =
-    ap (λ x. may_hold tag before Words && x) (are_in_order-joined tag (Some Words) rest more) ∙ sym (and_assoc (may_hold tag before Words) (are_in_order tag (Some Words) rest) (are_in_order tag (last_child (Some Words) rest) more))
-are_in_order-joined tag before (element inner given content rest) more =
-    ap (λ x. may_hold tag before (Inner inner) && x) (are_in_order-joined tag (Some (Inner inner)) rest more) ∙ sym (and_assoc (may_hold tag before (Inner inner)) (are_in_order tag (Some (Inner inner)) rest) (are_in_order tag (last_child (Some (Inner inner)) rest) more))
+are_in_order-joined tag before (text bytes rest) more = grind (arith, are_in_order-joined tag (Some Words) rest more, and_assoc)
+are_in_order-joined tag before (element inner given content rest) more = grind (arith, are_in_order-joined tag (Some (Inner inner)) rest more, and_assoc)
 
 pub has_ink-joined : (nodes more : Nodes) → has_ink (joined nodes more) ≡ (has_ink nodes || has_ink more)
 has_ink-joined none more = refl
@@ -56,18 +49,15 @@ are_kept-joined (element tag given content rest) more = are_kept-joined rest mor
 pub are_fit-joined : (in_link : Bool) (nodes more : Nodes) → are_fit in_link (joined nodes more) ≡ (are_fit in_link nodes && are_fit in_link more)
 are_fit-joined in_link none more = refl
 are_fit-joined in_link (text bytes rest) more = are_fit-joined in_link rest more
-are_fit-joined in_link (element tag given content rest) more =
-    ap (λ x. fits_model tag given content && not (in_link && is_tag A tag) && are_fit (is_tag A tag || in_link) content && x) (are_fit-joined in_link rest more)
-    ∙ sym (and_assoc (fits_model tag given content && not (in_link && is_tag A tag) && are_fit (is_tag A tag || in_link) content) (are_fit in_link rest) (are_fit in_link more))
+are_fit-joined in_link (element tag given content rest) more = grind (arith, are_fit-joined in_link rest more, and_assoc)
 
 -- ---- a byte of text behind nodes
 
 last_child-with_byte : (before : Option Child) (nodes : Nodes) (b : ℕ) → last_child before (with_byte nodes b) ≡ Some Words
-last_child-with_byte before none b = refl
-last_child-with_byte before (text bytes none) b = refl
 last_child-with_byte before (text bytes (text more rest)) b = last_child-with_byte (Some Words) (text more rest) b
 last_child-with_byte before (text bytes (element tag given content rest)) b = last_child-with_byte (Some Words) (element tag given content rest) b
 last_child-with_byte before (element tag given content rest) b = last_child-with_byte (Some (Inner tag)) rest b
+last_child-with_byte before x b = grind arith
 
 -- whether text may come behind the nodes: a last text takes it
 abbrev takes_after : Tag → Option Child → Nodes → Bool
@@ -77,9 +67,7 @@ takes_after tag before (text bytes rest) = takes_after tag (Some Words) rest
 takes_after tag before (element inner given content rest) = takes_after tag (Some (Inner inner)) rest
 
 takes_behind_text : (tag : Tag) (before : Option Child) (bytes : List ℕ) (nodes : Nodes) → takes_after tag (Some Words) nodes ≡ true → takes_after tag before (text bytes nodes) ≡ true
-takes_behind_text tag before bytes none h = refl
-takes_behind_text tag before bytes (text more rest) h = h
-takes_behind_text tag before bytes (element inner given content rest) h = h
+takes_behind_text tag before bytes nodes h4 = grind arith
 
 takes_from_may : (tag : Tag) (before : Option Child) (nodes : Nodes) → may_hold tag (last_child before nodes) Words ≡ true → takes_after tag before nodes ≡ true
 takes_from_may tag before none h = h
@@ -87,55 +75,37 @@ takes_from_may tag before (text bytes rest) h = takes_behind_text tag before byt
 takes_from_may tag before (element inner given content rest) h = takes_from_may tag (Some (Inner inner)) rest h
 
 takes_after-with_byte : (tag : Tag) (before : Option Child) (nodes : Nodes) (b : ℕ) → takes_after tag before (with_byte nodes b) ≡ true
-takes_after-with_byte tag before none b = refl
-takes_after-with_byte tag before (text bytes none) b = refl
 takes_after-with_byte tag before (text bytes (text more rest)) b = takes_behind_text tag before bytes (with_byte (text more rest) b) (takes_after-with_byte tag (Some Words) (text more rest) b)
 takes_after-with_byte tag before (text bytes (element inner given content rest)) b = takes_after-with_byte tag (Some Words) (element inner given content rest) b
 takes_after-with_byte tag before (element inner given content rest) b = takes_after-with_byte tag (Some (Inner inner)) rest b
+takes_after-with_byte tag before x b = grind arith
 
 are_in_order-with_byte : (tag : Tag) (before : Option Child) (nodes : Nodes) (b : ℕ) → takes_after tag before nodes ≡ true → are_in_order tag before nodes ≡ true → are_in_order tag before (with_byte nodes b) ≡ true
-are_in_order-with_byte tag before none b t h = and_from (may_hold tag before Words) true t refl
-are_in_order-with_byte tag before (text bytes none) b t h = h
-are_in_order-with_byte tag before (text bytes (text more rest)) b t h =
-    let p = and_parts (may_hold tag before Words) (are_in_order tag (Some Words) (text more rest)) h in
-    and_from (may_hold tag before Words) (are_in_order tag (Some Words) (with_byte (text more rest) b)) p.0 (are_in_order-with_byte tag (Some Words) (text more rest) b t p.1)
-are_in_order-with_byte tag before (text bytes (element inner given content rest)) b t h =
-    let p = and_parts (may_hold tag before Words) (are_in_order tag (Some Words) (element inner given content rest)) h in
-    and_from (may_hold tag before Words) (are_in_order tag (Some Words) (with_byte (element inner given content rest) b)) p.0 (are_in_order-with_byte tag (Some Words) (element inner given content rest) b t p.1)
-are_in_order-with_byte tag before (element inner given content rest) b t h =
-    let p = and_parts (may_hold tag before (Inner inner)) (are_in_order tag (Some (Inner inner)) rest) h in
-    and_from (may_hold tag before (Inner inner)) (are_in_order tag (Some (Inner inner)) (with_byte rest b)) p.0 (are_in_order-with_byte tag (Some (Inner inner)) rest b t p.1)
+are_in_order-with_byte tag before (text bytes (text more rest)) b t h = grind (arith, are_in_order-with_byte tag (Some Words) (text more rest) b t, and_parts, and_from)
+are_in_order-with_byte tag before (text bytes (element inner given content rest)) b t h = grind (arith, are_in_order-with_byte tag (Some Words) (element inner given content rest) b t, and_parts, and_from)
+are_in_order-with_byte tag before (element inner given content rest) b t h = grind (arith, are_in_order-with_byte tag (Some (Inner inner)) rest b t, and_parts, and_from)
+are_in_order-with_byte tag before x b t h = grind (arith, and_from)
 
 one_more : (p : ℕ → Bool) (bytes : List ℕ) (b : ℕ) → list_any p (bytes ++ b ∷ []) ≡ (list_any p bytes || p b)
 one_more p bytes b = list_any-append p bytes (b ∷ []) ∙ ap (λ x. list_any p bytes || x) (or_false (p b))
 
 has_ink-with_byte : (nodes : Nodes) (b : ℕ) → has_ink (with_byte nodes b) ≡ (has_ink nodes || is_ink b)
-has_ink-with_byte none b = or_swap (is_ink b)
-has_ink-with_byte (text bytes none) b = or_false (list_any is_ink (bytes ++ b ∷ [])) ∙ one_more is_ink bytes b ∙ ap (λ x. x || is_ink b) (sym (or_false (list_any is_ink bytes)))
 has_ink-with_byte (text bytes (text more rest)) b = ap (λ x. list_any is_ink bytes || x) (has_ink-with_byte (text more rest) b) ∙ sym (or_assoc (list_any is_ink bytes) (has_ink (text more rest)) (is_ink b))
 has_ink-with_byte (text bytes (element tag given content rest)) b = ap (λ x. list_any is_ink bytes || x) (has_ink-with_byte (element tag given content rest) b) ∙ sym (or_assoc (list_any is_ink bytes) (has_ink (element tag given content rest)) (is_ink b))
 has_ink-with_byte (element tag given content rest) b = ap (λ x. has_ink content || x) (has_ink-with_byte rest b) ∙ sym (or_assoc (has_ink content) (has_ink rest) (is_ink b))
+has_ink-with_byte x b = grind (arith, or_swap, or_false, one_more)
 
 are_kept-with_byte : (nodes : Nodes) (b : ℕ) → is_kept b ≡ true → are_kept nodes ≡ true → are_kept (with_byte nodes b) ≡ true
-are_kept-with_byte none b k h = and_from (is_kept b && true) true (and_from (is_kept b) true k refl) refl
-are_kept-with_byte (text bytes none) b k h =
-    let p = and_parts (list_all is_kept bytes) true h in
-    and_from (list_all is_kept (bytes ++ b ∷ [])) true (list_all-append is_kept bytes (b ∷ []) ∙ and_from (list_all is_kept bytes) (is_kept b && true) p.0 (and_from (is_kept b) true k refl)) refl
-are_kept-with_byte (text bytes (text more rest)) b k h =
-    let p = and_parts (list_all is_kept bytes) (are_kept (text more rest)) h in
-    and_from (list_all is_kept bytes) (are_kept (with_byte (text more rest) b)) p.0 (are_kept-with_byte (text more rest) b k p.1)
-are_kept-with_byte (text bytes (element tag given content rest)) b k h =
-    let p = and_parts (list_all is_kept bytes) (are_kept (element tag given content rest)) h in
-    and_from (list_all is_kept bytes) (are_kept (with_byte (element tag given content rest) b)) p.0 (are_kept-with_byte (element tag given content rest) b k p.1)
+are_kept-with_byte (text bytes (text more rest)) b k h = grind (arith, are_kept-with_byte (text more rest) b k, and_parts, and_from)
+are_kept-with_byte (text bytes (element tag given content rest)) b k h = grind (arith, are_kept-with_byte (element tag given content rest) b k, and_parts, and_from)
 are_kept-with_byte (element tag given content rest) b k h = are_kept-with_byte rest b k h
+are_kept-with_byte x b k h = grind (arith, and_from, and_parts, list_all-append)
 
 are_fit-with_byte : (in_link : Bool) (nodes : Nodes) (b : ℕ) → are_fit in_link (with_byte nodes b) ≡ are_fit in_link nodes
-are_fit-with_byte in_link none b = refl
-are_fit-with_byte in_link (text bytes none) b = refl
 are_fit-with_byte in_link (text bytes (text more rest)) b = are_fit-with_byte in_link (text more rest) b
 are_fit-with_byte in_link (text bytes (element tag given content rest)) b = are_fit-with_byte in_link (element tag given content rest) b
-are_fit-with_byte in_link (element tag given content rest) b =
-    ap (λ x. fits_model tag given content && not (in_link && is_tag A tag) && are_fit (is_tag A tag || in_link) content && x) (are_fit-with_byte in_link rest b)
+are_fit-with_byte in_link (element tag given content rest) b = grind (arith, are_fit-with_byte in_link rest b)
+are_fit-with_byte in_link x b = grind arith
 
 -- ---- text behind nodes
 
@@ -156,9 +126,7 @@ has_ink-with_words nodes (b ∷ bytes) = has_ink-with_words (with_byte nodes b) 
 
 pub are_kept-with_words : (nodes : Nodes) (bytes : List ℕ) → list_all is_kept bytes ≡ true → are_kept nodes ≡ true → are_kept (with_words nodes bytes) ≡ true
 are_kept-with_words nodes [] k h = h
-are_kept-with_words nodes (b ∷ bytes) k h =
-    let p = and_parts (is_kept b) (list_all is_kept bytes) k in
-    are_kept-with_words (with_byte nodes b) bytes p.1 (are_kept-with_byte nodes b p.0 h)
+are_kept-with_words nodes (b ∷ bytes) k h = grind (arith, are_kept-with_words (with_byte nodes b) bytes, and_parts, are_kept-with_byte)
 
 pub are_fit-with_words : (in_link : Bool) (nodes : Nodes) (bytes : List ℕ) → are_fit in_link (with_words nodes bytes) ≡ are_fit in_link nodes
 are_fit-with_words in_link nodes [] = refl

@@ -1,16 +1,15 @@
 -- What each call leaves, by what its parts left; and with which fault it fails.
 use Rattle.std.proofs.Common.{◌≡◌, length, ℕ, true, false, not, List, [], ◌∷◌, ◌++◌, refl, sym, ap, ◌∙◌, subst, reverse, arith, Result, Err}
 use Rattle.std.specs.Prelude.{None, codes, ◌==◌}
-use Rattle.std.specs.List.{list_all}
-use Rattle.std.specs.Str.{IsUtf8, chars}
+use Rattle.std.specs.Str.{IsUtf8}
 use Rattle.std.proofs.lemmas.Bool.{and_right, ne_eqb}
 use Rattle.std.proofs.lemmas.List.{reverse-append}
 use Rattle.web_page.specs.Tree.{Attribute, none}
-use Rattle.web_page.specs.Reader.{Draft, is_permitted, reading_of, with_element, with_start}
+use Rattle.web_page.specs.Reader.{Draft, with_element, with_start}
 use Rattle.web_page.specs.Models.{ReadsAs}
 use Rattle.web_page.specs.Calls.{FailsOnlyBy, are_written, child_fault, end_fault, finish_fault, has_ink_in, is_inside_body, may_end_in, may_stand, text_fault, whole_page, with_end, with_text}
 use Rattle.web_page.specs.Exact.{end_text, escaped, page_end, start_text}
-use Rattle.web_page.specs.Steps.Open.{AreOpen, IsOngoing, attributes_of, behind_child, behind_text, draft_of, ends, inked, may_give, opened}
+use Rattle.web_page.specs.Steps.Open.{IsOngoing, attributes_of, behind_child, behind_text, draft_of, ends, inked, may_give, opened}
 use Rattle.web_page.proofs.Held.{around_is, break_held, draft_is, end_held, ends_is, inked_is, is_around, stands, stands_is, start_held, text_held, whole_held}
 use Rattle.web_page.proofs.Starts.{start_is}
 use Rattle.web_page.specs.declared.elements.Child.{Child}
@@ -28,17 +27,7 @@ pub record Outcome (bytes : List ℕ) (here : Open) (outers : List Open) (draft 
   pub is : draft_of bytes ≡ draft
 
 pub outcome : (bytes bytes' : List ℕ) (here here' : Open) (outers outers' : List Open) (draft : Draft) (o : IsOngoing bytes here outers) → o.draft ≡ draft → bytes' ≡ bytes → here' ≡ here → outers' ≡ outers → Outcome bytes' here' outers' draft
-outcome bytes bytes' here here' outers outers' draft o d b h os =
-    let reads = ap reading_of b ∙ o.reads in
-    record {
-      ongoing = record {
-        draft = o.draft;
-        reads = reads;
-        permitted = ap (λ x. list_all is_permitted (chars x)) b ∙ o.permitted;
-        are_open = subst (λ x. AreOpen x outers' o.draft.open_elements o.draft.nodes) (sym h) (subst (λ x. AreOpen here x o.draft.open_elements o.draft.nodes) (sym os) o.are_open);
-      };
-      is = draft_is bytes' o.draft reads ∙ d;
-    }
+outcome bytes bytes' here here' outers outers' draft o d b h os = grind (arith, draft_is)
 
 -- what is seen of a page is what it reads as
 seen : (bytes : List ℕ) (here : Open) (outers : List Open) (now : Draft) (o : IsOngoing bytes here outers) → draft_of bytes ≡ now → o.draft ≡ now

@@ -1,12 +1,12 @@
 -- The front and the end of a page.
-use Rattle.std.proofs.Common.{◌≡◌, ℕ, true, false, List, [], ◌∷◌, ◌++◌, refl, ◌∙◌}
+use Rattle.std.proofs.Common.{◌≡◌, ℕ, true, false, List, [], ◌∷◌, ◌++◌, refl, ◌∙◌, arith}
 use Rattle.std.specs.Prelude.{Some, None, codes}
 use Rattle.std.specs.List.{list_any, list_all}
 use Rattle.std.specs.Str.{IsUtf8, chars}
 use Rattle.std.proofs.lemmas.Str.{is_utf8-from_IsUtf8}
 use Rattle.web_page.specs.Tree.{Attribute, Nodes, none, element}
 use Rattle.web_page.specs.Reader.{Draft, Frame, Opening, Reading, Content, Raw, RawSign, Value, are_kept, begin, is_kept, is_permitted, no_draft, read, reading, reading_of, settled}
-use Rattle.web_page.specs.Models.{IsPage, are_fit, are_in_order, has_ink, is_ink, is_language, last_child, may_end}
+use Rattle.web_page.specs.Models.{IsPage, are_fit, are_in_order, is_ink, is_language, last_child, may_end}
 use Rattle.web_page.specs.Calls.{are_written, attribute, has_end_sign, head_content, new_page, text_element, whole_page, with_end_in, with_words}
 use Rattle.web_page.specs.Exact.{end_text, escaped, page_end, page_front}
 use Rattle.web_page.proofs.Nodes.{are_fit-with_words, are_in_order-with_words, are_kept-with_words, has_ink-with_words}
@@ -123,14 +123,4 @@ is_whole_text bytes language title style nodes utf8 permitted reads = rw (is_utf
 
 pub is_page : (language title style : List ℕ) (nodes : Nodes) → is_language language ≡ true → list_any is_ink title ≡ true
     → are_in_order Body None nodes ≡ true → are_fit false nodes ≡ true → may_end Body (last_child None nodes) ≡ true → IsPage (whole_page (body_draft language title style nodes))
-is_page language title style nodes is has ordered fit ends = record {
-  whole = refl;
-  encoded = refl;
-  fit =
-      let title_ordered = title_in_order title in
-      let title_fit : are_fit false (with_words none title) ≡ true = are_fit-with_words false none title in
-      let title_ink : has_ink (with_words none title) ≡ true = has_ink-with_words none title ∙ has in
-      let style_ordered = style_in_order style in
-      let style_fit : are_fit false (with_words none style) ≡ true = are_fit-with_words false none style in
-      rw (is, title_ordered, title_fit, title_ink, style_ordered, style_fit, ordered, fit, ends) refl;
-}
+is_page language title style nodes is has ordered fit ends = grind (arith, title_in_order, are_fit-with_words, has_ink-with_words, style_in_order)

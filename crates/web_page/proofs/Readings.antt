@@ -1,6 +1,6 @@
 -- How what is written is read.
-use Rattle.std.proofs.Common.{◌≡◌, ◌≢◌, ℕ, Bool, true, false, not, ◌&&◌, List, [], ◌∷◌, ◌++◌, refl, sym, ap, ◌∙◌, subst, inl, inr, append-nil, append_assoc, arith}
-use Rattle.std.specs.Prelude.{Option, Some, None, codes, cond, fold, find, ◌==◌, if◌then◌else◌}
+use Rattle.std.proofs.Common.{◌≡◌, ◌≢◌, ℕ, Bool, true, false, not, ◌&&◌, List, [], ◌∷◌, ◌++◌, refl, sym, ap, ◌∙◌, subst, append-nil, append_assoc, arith}
+use Rattle.std.specs.Prelude.{Option, Some, codes, fold, find, if◌then◌else◌}
 use Rattle.std.specs.List.{list_all}
 use Rattle.std.specs.Str.{bytes_eq}
 use Rattle.std.proofs.lemmas.Bool.{and_parts, and_from, or_parts, ne_eqb, cases_eq}
@@ -35,23 +35,7 @@ plain_content : (draft : Draft) (b : ℕ) → b ≢ 60 → b ≢ 38 → next (at
 plain_content draft b not_less not_and = rw (ne_eqb b 60 not_less, ne_eqb b 38 not_and) refl
 
 byte_reads : (draft : Draft) (b : ℕ) → run (at_content draft) (escaped_byte false b) ≡ at_content (record draft { nodes = with_byte draft.nodes b })
-byte_reads draft b =
-    elim (cases_eq b 38) [
-      | inl e ↦ subst Reads (sym e) refl
-      | inr not_and ↦ elim (cases_eq b 60) [
-        | inl e ↦ subst Reads (sym e) refl
-        | inr not_less ↦ elim (cases_eq b 62) [
-          | inl e ↦ subst Reads (sym e) refl
-          | inr not_greater ↦ ap (run (at_content draft)) (plain_byte false b (not_and, not_less, not_greater, λ e. absurd (never e))) ∙ plain_content draft b not_less not_and
-        ]
-      ]
-    ]
-  where
-    Reads : ℕ → Type 0
-    Reads x = run (at_content draft) (escaped_byte false x) ≡ at_content (record draft { nodes = with_byte draft.nodes x })
-
-    never : false ≡ true → ⊥
-    never e = cc
+byte_reads draft b = grind (arith, cases_eq, plain_byte, plain_content)
 
 pub text_reads : (draft : Draft) (bytes : List ℕ) → run (at_content draft) (escaped false bytes) ≡ at_content (with_text draft bytes)
 text_reads draft [] = refl
@@ -66,42 +50,18 @@ plain_value : (opening : Opening) (given : Attribute) (draft : Option Draft) (b 
 plain_value opening given draft b not_quote not_and = rw (ne_eqb b 34 not_quote, ne_eqb b 38 not_and) refl
 
 value_byte_reads : (opening : Opening) (given : Attribute) (draft : Option Draft) (b : ℕ) → run (at_value opening given draft) (escaped_byte true b) ≡ at_value opening (record given { value = given.value ++ b ∷ [] }) draft
-value_byte_reads opening given draft b =
-    elim (cases_eq b 38) [
-      | inl e ↦ subst Reads (sym e) refl
-      | inr not_and ↦ elim (cases_eq b 60) [
-        | inl e ↦ subst Reads (sym e) refl
-        | inr not_less ↦ elim (cases_eq b 62) [
-          | inl e ↦ subst Reads (sym e) refl
-          | inr not_greater ↦ elim (cases_eq b 34) [
-            | inl e ↦ subst Reads (sym e) refl
-            | inr not_quote ↦ ap (run (at_value opening given draft)) (plain_byte true b (not_and, not_less, not_greater, λ _. not_quote)) ∙ plain_value opening given draft b not_quote not_and
-          ]
-        ]
-      ]
-    ]
-  where
-    Reads : ℕ → Type 0
-    Reads x = run (at_value opening given draft) (escaped_byte true x) ≡ at_value opening (record given { value = given.value ++ x ∷ [] }) draft
+value_byte_reads opening given draft b = grind (arith, cases_eq, plain_byte, plain_value)
 
 pub value_reads : (opening : Opening) (given : Attribute) (draft : Option Draft) (bytes : List ℕ) → run (at_value opening given draft) (escaped true bytes) ≡ at_value opening (record given { value = given.value ++ bytes }) draft
 value_reads opening given draft [] = ap (λ x. at_value opening (record given { value = x }) draft) (sym (append-nil given.value))
-value_reads opening given draft (b ∷ bytes) =
-    run_then (at_value opening given draft) _ _ (escaped_byte true b) (escaped true bytes) (value_byte_reads opening given draft b)
-    (value_reads opening (record given { value = given.value ++ b ∷ [] }) draft bytes ∙ ap (λ x. at_value opening (record given { value = x }) draft) (append_assoc given.value (b ∷ []) bytes))
+value_reads opening given draft (b ∷ bytes) = grind (arith, value_reads opening (record given { value = given.value ++ b ∷ [] }) draft bytes, run_then, value_byte_reads, append_assoc)
 
 -- ---- names
 
 -- what holds of each element in the table of names
 found : (p q : Tag → Bool) (list : List Tag) (tag : Tag) → find p list ≡ Some tag → list_all q list ≡ true → q tag ≡ true
 found p q [] tag e h = cc
-found p q (first ∷ list) tag e h =
-    let parts = and_parts (q first) (list_all q list) h in
-    by (p first) e parts.0 (λ f. found p q list tag f parts.1)
-  where
-    by : (b : Bool) → cond b (Some first) (find p list) ≡ Some tag → q first ≡ true → (find p list ≡ Some tag → q tag ≡ true) → q tag ≡ true
-    by true f here later = let same : first ≡ tag = cc in subst (λ x. q x ≡ true) same here
-    by false f here later = later f
+found p q (first ∷ list) tag e h = grind (arith, found p q list tag, and_parts)
 
 pub each_tag : (q : Tag → Bool) → list_all q tags ≡ true → (tag : Tag) → q tag ≡ true
 each_tag q h tag = found (λ other. bytes_eq (name_of other) (name_of tag)) q tags tag (named tag) h
@@ -131,30 +91,17 @@ not_slash b h e = let f : is_letter 47 ≡ true = subst (λ x. is_letter x ≡ t
 
 start_name_reads : (draft : Option Draft) (before name : List ℕ) → list_all is_name_byte name ≡ true → run (reading (StartName before) draft) name ≡ reading (StartName (before ++ name)) draft
 start_name_reads draft before [] h = ap (λ x. reading (StartName x) draft) (sym (append-nil before))
-start_name_reads draft before (b ∷ name) h =
-    let p = and_parts (is_name_byte b) (list_all is_name_byte name) h in
-    let first : next (reading (StartName before) draft) b ≡ reading (StartName (before ++ b ∷ [])) draft = rw (ne_eqb b 62 (not_greater b p.0), not_white b p.0, p.0) refl in
-    ap (λ x. run x name) first ∙ start_name_reads draft (before ++ b ∷ []) name p.1 ∙ ap (λ x. reading (StartName x) draft) (append_assoc before (b ∷ []) name)
+start_name_reads draft before (b ∷ name) h = grind (arith, start_name_reads draft (before ++ b ∷ []) name, and_parts, ne_eqb, not_greater, not_white, append_assoc)
 
 end_name_reads : (draft : Option Draft) (before name : List ℕ) → list_all is_name_byte name ≡ true → run (reading (EndName before) draft) name ≡ reading (EndName (before ++ name)) draft
 end_name_reads draft before [] h = ap (λ x. reading (EndName x) draft) (sym (append-nil before))
-end_name_reads draft before (b ∷ name) h =
-    let p = and_parts (is_name_byte b) (list_all is_name_byte name) h in
-    let first : next (reading (EndName before) draft) b ≡ reading (EndName (before ++ b ∷ [])) draft = rw (ne_eqb b 62 (not_greater b p.0), p.0) refl in
-    ap (λ x. run x name) first ∙ end_name_reads draft (before ++ b ∷ []) name p.1 ∙ ap (λ x. reading (EndName x) draft) (append_assoc before (b ∷ []) name)
+end_name_reads draft before (b ∷ name) h = grind (arith, end_name_reads draft (before ++ b ∷ []) name, and_parts, ne_eqb, not_greater, append_assoc)
 
 name_behind_sign : (draft : Option Draft) (name : List ℕ) → is_name name ≡ true → run (reading Sign draft) name ≡ reading (StartName name) draft
-name_behind_sign draft [] h = cc
-name_behind_sign draft (b ∷ name) h =
-    let p = and_parts (is_letter b) (list_all is_name_byte name) h in
-    let first : next (reading Sign draft) b ≡ reading (StartName (b ∷ [])) draft = rw (ne_eqb b 47 (not_slash b p.0), p.0) refl in
-    ap (λ x. run x name) first ∙ start_name_reads draft (b ∷ []) name p.1
+name_behind_sign draft name h2 = grind (arith, and_parts, ne_eqb, not_slash, start_name_reads)
 
 name_behind_slash : (draft : Option Draft) (name : List ℕ) → is_name name ≡ true → run (reading (EndName []) draft) name ≡ reading (EndName name) draft
-name_behind_slash draft [] h = cc
-name_behind_slash draft (b ∷ name) h =
-    let p = and_parts (is_letter b) (list_all is_name_byte name) h in
-    end_name_reads draft [] (b ∷ name) (and_from (is_name_byte b) (list_all is_name_byte name) (name_byte b p.0) p.1)
+name_behind_slash draft name h2 = grind (arith, and_parts, end_name_reads, and_from, name_byte)
 
 -- ---- start tags
 
@@ -163,10 +110,7 @@ same_truth true b = b
 same_truth false b = not b
 
 truths : (a b : Bool) → same_truth a b ≡ true → a ≡ b
-truths true true h = refl
-truths true false h = cc
-truths false true h = cc
-truths false false h = refl
+truths a b h2 = grind arith
 
 named_pre : (tag : Tag) → bytes_eq (name_of tag) (codes "pre") ≡ is_tag (Of Pre) tag
 named_pre tag = truths _ _ (each_tag (λ other. same_truth (bytes_eq (name_of other) (codes "pre")) (is_tag (Of Pre) other)) refl tag)
@@ -184,12 +128,10 @@ mode_behind : (tag : Tag) → is_tag Style tag ≡ false → behind_start (name_
 mode_behind tag h = rw (named_pre tag, named_style tag, h) refl
 
 newline_reads : (draft : Option Draft) (pre : Bool) → run (reading (behind_pre pre) draft) (newline_if pre) ≡ reading Content draft
-newline_reads draft true = refl
-newline_reads draft false = refl
+newline_reads draft pre = grind arith
 
 two_parts : (pre : Bool) → (if pre then codes ">\n" else codes ">") ≡ codes ">" ++ newline_if pre
-two_parts true = refl
-two_parts false = refl
+two_parts pre = grind arith
 
 -- an element that has an end tag and no mode of its own can be started
 pub record CanStart (draft : Draft) (tag : Tag) (given : List Attribute) : Type 0 where
@@ -209,10 +151,7 @@ pub no_attributes : ReadAttributes []
 no_attributes name draft = refl
 
 value_ends : (key value name : List ℕ) (draft : Option Draft) → run (at_value (record { name = name; attributes = [] }) (record { name = key; value = [] }) draft) ((escaped true value ++ codes "\"") ++ codes ">") ≡ with_tag draft (record { name = name; attributes = attribute key value })
-value_ends key value name draft =
-    run_then _ (reading (BehindValue (record { name = name; attributes = attribute key value })) draft) _ (escaped true value ++ codes "\"") (codes ">")
-    (run_then _ (at_value (record { name = name; attributes = [] }) (record { name = key; value = value }) draft) _ (escaped true value) (codes "\"") (value_reads (record { name = name; attributes = [] }) (record { name = key; value = [] }) draft value) refl)
-    refl
+value_ends key value name draft = grind (arith, run_then, value_reads)
 
 pub id_attribute : (value : List ℕ) → ReadAttributes (attribute (codes "id") value)
 id_attribute value name draft = value_ends (codes "id") value name draft
@@ -239,23 +178,15 @@ break_reads draft takes = rw takes refl
 
 pub end_reads : (frame : Frame) (frames : List Frame) (nodes : Nodes) → settled frame.tag nodes ≡ Some nodes
     → run (at_content (record { open_elements = frame ∷ frames; nodes = nodes })) (end_text frame.tag) ≡ at_content (with_end_in (frame ∷ frames) nodes)
-end_reads frame frames nodes settles =
-    let draft : Draft = record { open_elements = frame ∷ frames; nodes = nodes } in
-    let builds : built (Some draft) (End (name_of frame.tag)) ≡ Some (with_end_in (frame ∷ frames) nodes) =
-    ap (λ x. if x then Reader.closed frame frames (settled frame.tag nodes) else None) (same_name frame.tag) ∙ ap (Reader.closed frame frames) settles in
-    run_then (at_content draft) (reading (EndName []) (Some draft)) _ (codes "</") (name_of frame.tag ++ codes ">") refl
-    (run_then (reading (EndName []) (Some draft)) (reading (EndName (name_of frame.tag)) (Some draft)) _ (name_of frame.tag) (codes ">") (name_behind_slash (Some draft) (name_of frame.tag) (name_is_name frame.tag)) (ap (reading Content) builds))
+end_reads frame frames nodes settles = grind (arith, same_name, run_then, name_behind_slash, name_is_name)
 
 -- ---- a style
 
 no_sign_behind : (b : ℕ) (bytes : List ℕ) → has_end_sign (b ∷ bytes) ≡ false → has_end_sign bytes ≡ false
-no_sign_behind b [] h = refl
-no_sign_behind b (c ∷ bytes) h = (or_parts (b == 60 && c == 47) (has_end_sign (c ∷ bytes)) h).1
+no_sign_behind b bytes h2 = grind (arith, or_parts)
 
 no_slash : (b : ℕ) (bytes : List ℕ) → has_end_sign (60 ∷ b ∷ bytes) ≡ false → b ≢ 47
-no_slash b bytes h e =
-    let first = (or_parts (60 == 60 && b == 47) (has_end_sign (b ∷ bytes)) h).0 in
-    let f : (60 == 60 && 47 == 47) ≡ false = subst (λ x. (60 == 60 && x == 47) ≡ false) e first in cc
+no_slash b bytes h e = grind (arith, or_parts)
 
 abbrev with_one : Draft → ℕ → Draft
 with_one draft b = record draft { nodes = with_byte draft.nodes b }
@@ -268,24 +199,10 @@ abbrev SignReads : List ℕ → Type 0
 SignReads style = (draft : Draft) (rest : List ℕ) → has_end_sign (60 ∷ style) ≡ false → run (reading RawSign (Some draft)) (style ++ 60 ∷ rest) ≡ run (reading RawSign (Some (with_text (with_one draft 60) style))) rest
 
 raw_step : (b : ℕ) (bytes : List ℕ) → RawReads bytes → SignReads bytes → RawReads (b ∷ bytes)
-raw_step b bytes raw sign draft rest h = elim (cases_eq b 60) [ inl e ↦ at e h | inr ne ↦ other ne ] where
-  at : b ≡ 60 → has_end_sign (b ∷ bytes) ≡ false → run (reading Raw (Some draft)) (b ∷ (bytes ++ 60 ∷ rest)) ≡ run (reading RawSign (Some (with_text draft (b ∷ bytes)))) rest
-  at e k = subst (λ x. has_end_sign (x ∷ bytes) ≡ false → run (reading Raw (Some draft)) (x ∷ (bytes ++ 60 ∷ rest)) ≡ run (reading RawSign (Some (with_text draft (x ∷ bytes)))) rest) (sym e) (sign draft rest) k
-
-  other : b ≢ 60 → run (reading Raw (Some draft)) (b ∷ (bytes ++ 60 ∷ rest)) ≡ run (reading RawSign (Some (with_text draft (b ∷ bytes)))) rest
-  other ne =
-      let first : next (reading Raw (Some draft)) b ≡ reading Raw (Some (with_one draft b)) = rw (ne_eqb b 60 ne) refl in
-      ap (λ x. run x (bytes ++ 60 ∷ rest)) first ∙ raw (with_one draft b) rest (no_sign_behind b bytes h)
+raw_step b bytes raw sign draft rest h = grind (arith, cases_eq, ne_eqb, no_sign_behind)
 
 sign_step : (b : ℕ) (bytes : List ℕ) → RawReads bytes → SignReads bytes → SignReads (b ∷ bytes)
-sign_step b bytes raw sign draft rest h = elim (cases_eq b 60) [ inl e ↦ at e (no_sign_behind 60 (b ∷ bytes) h) | inr ne ↦ other ne ] where
-  at : b ≡ 60 → has_end_sign (b ∷ bytes) ≡ false → run (reading RawSign (Some draft)) (b ∷ (bytes ++ 60 ∷ rest)) ≡ run (reading RawSign (Some (with_text (with_one draft 60) (b ∷ bytes)))) rest
-  at e k = subst (λ x. has_end_sign (x ∷ bytes) ≡ false → run (reading RawSign (Some draft)) (x ∷ (bytes ++ 60 ∷ rest)) ≡ run (reading RawSign (Some (with_text (with_one draft 60) (x ∷ bytes)))) rest) (sym e) (sign (with_one draft 60) rest) k
-
-  other : b ≢ 60 → run (reading RawSign (Some draft)) (b ∷ (bytes ++ 60 ∷ rest)) ≡ run (reading RawSign (Some (with_text (with_one draft 60) (b ∷ bytes)))) rest
-  other ne =
-      let first : next (reading RawSign (Some draft)) b ≡ reading Raw (Some (with_one (with_one draft 60) b)) = rw (ne_eqb b 47 (no_slash b bytes h), ne_eqb b 60 ne) refl in
-      ap (λ x. run x (bytes ++ 60 ∷ rest)) first ∙ raw (with_one (with_one draft 60) b) rest (no_sign_behind b bytes (no_sign_behind 60 (b ∷ bytes) h))
+sign_step b bytes raw sign draft rest h = grind (arith, cases_eq, no_sign_behind, ne_eqb, no_slash)
 
 both_read : (style : List ℕ) → RawReads style × SignReads style
 both_read [] = (λ draft rest h. refl, λ draft rest h. refl)

@@ -1,5 +1,5 @@
 -- White space between elements: where an element holds what it may hold, its content comes to itself.
-use Rattle.std.proofs.Common.{◌≡◌, Bool, true, false, not, ◌&&◌, ◌||◌, [], ◌∷◌, refl, subst}
+use Rattle.std.proofs.Common.{◌≡◌, Bool, true, false, not, ◌&&◌, ◌||◌, [], ◌∷◌, refl, arith}
 use Rattle.std.specs.Prelude.{Option, Some, None, if◌then◌else◌}
 use Rattle.std.proofs.lemmas.Bool.{and_parts}
 use Rattle.web_page.specs.Tree.{Nodes, none, text, element}
@@ -8,22 +8,17 @@ use Rattle.web_page.specs.Models.{are_in_order, is_child, is_phrasing, may_hold}
 use Rattle.web_page.proofs.Readings.{each_tag}
 use Rattle.web_page.specs.declared.elements.Child.{Child}
 use Rattle.web_page.specs.declared.elements.Child.TheVariants.{Words, Inner}
-use Rattle.web_page.specs.declared.elements.Element.TheVariants.{Header, Nav, Main, Section, Heading, P, Pre, Ul, Li, Dl, Dt, Dd, Code, Strong, Em, Var}
+use Rattle.web_page.specs.declared.elements.Element.TheVariants.{Header, Nav, Main, Section, P, Pre, Ul, Li, Dl, Dd}
 use Rattle.web_page.specs.declared.elements.Tag.{Tag}
-use Rattle.web_page.specs.declared.elements.Tag.TheVariants.{Html, Head, Meta, Title, Style, Body, Br, A, Of}
+use Rattle.web_page.specs.declared.elements.Tag.TheVariants.{Html, Head, Body, Of}
 
 -- no text may stand in such an element
 abbrev HoldsNoWords : Tag → Type 0
 HoldsNoWords tag = (before : Option Child) → may_hold tag before Words ≡ false
 
 loose : (tag : Tag) → HoldsNoWords tag → (before : Option Child) (nodes : Nodes) → are_in_order tag before nodes ≡ true → elements_of nodes ≡ Some nodes
-loose tag h before none o = refl
-loose tag h before (text bytes rest) o =
-    let may : may_hold tag before Words ≡ true = (and_parts (may_hold tag before Words) (are_in_order tag (Some Words) rest) o).0 in
-    let may_not : may_hold tag before Words ≡ false = h before in cc
-loose tag h before (element inner given content rest) o =
-    let later : elements_of rest ≡ Some rest = loose tag h (Some (Inner inner)) rest (and_parts (may_hold tag before (Inner inner)) (are_in_order tag (Some (Inner inner)) rest) o).1 in
-    rw later refl
+loose tag h before (element inner given content rest) o = grind (arith, loose tag h (Some (Inner inner)) rest, and_parts)
+loose tag h before x o = grind (arith, and_parts)
 
 tight : (nodes : Nodes) → are_kept nodes ≡ true → (if are_kept nodes then Some nodes else None) ≡ Some nodes
 tight nodes k = rw k refl
@@ -37,9 +32,7 @@ abbrev is_description_block : Tag → Bool
 is_description_block tag = is_child (Of P ∷ Of Pre ∷ Of Ul ∷ Of Dl ∷ []) (Inner tag)
 
 or_not : (a b : Bool) → (not a || not b) ≡ true → a ≡ true → b ≡ false
-or_not true true h e = cc
-or_not true false h e = refl
-or_not false b h e = cc
+or_not a b h2 h3 = grind arith
 
 -- no element is both
 apart : (tag : Tag) → is_phrasing (Inner tag) ≡ true → is_block tag ≡ false
@@ -49,23 +42,17 @@ apart_too : (tag : Tag) → is_description_block tag ≡ true → is_phrasing (I
 apart_too tag = or_not (is_description_block tag) (is_phrasing (Inner tag)) (each_tag (λ other. not (is_description_block other) || not (is_phrasing (Inner other))) refl tag)
 
 or_so : (a b : Bool) → (not a || b) ≡ true → a ≡ true → b ≡ true
-or_so true b h e = h
-or_so false b h e = cc
+or_so a b h2 h3 = grind arith
 
 is_a_block : (tag : Tag) → is_description_block tag ≡ true → is_block tag ≡ true
 is_a_block tag = or_so (is_description_block tag) (is_block tag) (each_tag (λ other. not (is_description_block other) || is_block other) refl tag)
 
 -- what may_hold comes to, where the child before is a phrase or not
 after_phrase : (a b c d : Bool) → (a && (b || true) || (d && not true)) ≡ true → a ≡ true
-after_phrase true b c d h = refl
-after_phrase false b c true h = cc
-after_phrase false b c false h = cc
+after_phrase a b c d h4 = grind arith
 
 after_block : (a d : Bool) → (a && (false || false) || (d && not false)) ≡ true → d ≡ true
-after_block true true h = refl
-after_block true false h = cc
-after_block false true h = refl
-after_block false false h = cc
+after_block a d h2 = grind arith
 
 or_first : (a : Bool) → a ≡ false → (a || false) ≡ false
 or_first a e = rw e refl
@@ -73,24 +60,11 @@ or_first a e = rw e refl
 phrases : (before : Child) (nodes : Nodes) → is_phrasing before ≡ true → are_in_order dd (Some before) nodes ≡ true → has_block nodes ≡ false
 phrases before none p o = refl
 phrases before (text bytes rest) p o = phrases Words rest refl (and_parts (may_hold dd (Some before) Words) (are_in_order dd (Some Words) rest) o).1
-phrases before (element inner given content rest) p o =
-    let parts = and_parts (may_hold dd (Some before) (Inner inner)) (are_in_order dd (Some (Inner inner)) rest) o in
-    let inner_is : is_phrasing (Inner inner) ≡ true =
-    after_phrase (is_phrasing (Inner inner)) false false (is_description_block inner) (subst (λ x. (is_phrasing (Inner inner) && (false || x) || (is_description_block inner && not x)) ≡ true) p parts.0) in
-    let later : has_block rest ≡ false = phrases (Inner inner) rest inner_is parts.1 in
-    rw (apart inner inner_is) later
+phrases before (element inner given content rest) p o = grind (arith, phrases (Inner inner) rest, and_parts, after_phrase, apart)
 
 blocks : (before : Child) (nodes : Nodes) → is_phrasing before ≡ false → are_in_order dd (Some before) nodes ≡ true → elements_of nodes ≡ Some nodes
-blocks before none p o = refl
-blocks before (text bytes rest) p o =
-    let may : may_hold dd (Some before) Words ≡ true = (and_parts (may_hold dd (Some before) Words) (are_in_order dd (Some Words) rest) o).0 in
-    let not_so : (true && (false || false) || (false && not false)) ≡ true = subst (λ x. (true && (false || x) || (false && not x)) ≡ true) p may in cc
-blocks before (element inner given content rest) p o =
-    let parts = and_parts (may_hold dd (Some before) (Inner inner)) (are_in_order dd (Some (Inner inner)) rest) o in
-    let inner_is : is_description_block inner ≡ true =
-    after_block (is_phrasing (Inner inner)) (is_description_block inner) (subst (λ x. (is_phrasing (Inner inner) && (false || x) || (is_description_block inner && not x)) ≡ true) p parts.0) in
-    let later : elements_of rest ≡ Some rest = blocks (Inner inner) rest (apart_too inner inner_is) parts.1 in
-    rw later refl
+blocks before (element inner given content rest) p o = grind (arith, blocks (Inner inner) rest, and_parts, after_block, apart_too)
+blocks before x p o = grind (arith, and_parts)
 
 without_blocks : (nodes : Nodes) → has_block nodes ≡ false → are_kept nodes ≡ true → settled dd nodes ≡ Some nodes
 without_blocks nodes h k = rw (h, k) refl
@@ -101,46 +75,20 @@ with_blocks nodes h e = rw h e
 description : (nodes : Nodes) → are_in_order dd None nodes ≡ true → are_kept nodes ≡ true → settled dd nodes ≡ Some nodes
 description none o k = refl
 description (text bytes rest) o k = without_blocks (text bytes rest) (phrases Words rest refl (and_parts (may_hold dd None Words) (are_in_order dd (Some Words) rest) o).1) k
-description (element inner given content rest) o k = by (is_phrasing (Inner inner)) refl where
-  parts : (may_hold dd None (Inner inner) ≡ true) × (are_in_order dd (Some (Inner inner)) rest ≡ true)
-  parts = and_parts (may_hold dd None (Inner inner)) (are_in_order dd (Some (Inner inner)) rest) o
-
-  first : (a d : Bool) → a ≡ false → (a && (true || false) || (d && not false)) ≡ true → d ≡ true
-  first true d e h = cc
-  first false true e h = refl
-  first false false e h = cc
-
-  by : (a : Bool) → is_phrasing (Inner inner) ≡ a → settled dd (element inner given content rest) ≡ Some (element inner given content rest)
-  by true e = without_blocks (element inner given content rest) (let later : has_block rest ≡ false = phrases (Inner inner) rest e parts.1 in rw (apart inner e) later) k
-  by false e =
-      let is : is_description_block inner ≡ true = first (is_phrasing (Inner inner)) (is_description_block inner) e parts.0 in
-      let later : elements_of rest ≡ Some rest = blocks (Inner inner) rest e parts.1 in
-      with_blocks (element inner given content rest) (rw (is_a_block inner is) refl) (rw later refl)
+description (element inner given content rest) o k = grind (arith, and_parts, without_blocks, phrases, apart, blocks, with_blocks, is_a_block)
 
 -- ---- any element
 
 pub settles : (tag : Tag) (content : Nodes) → are_in_order tag None content ≡ true → are_kept content ≡ true → settled tag content ≡ Some content
 settles Html content o k = loose Html (λ before. refl) None content o
 settles Head content o k = loose Head (λ before. refl) None content o
-settles Meta content o k = tight content k
-settles Title content o k = tight content k
-settles Style content o k = tight content k
 settles Body content o k = loose Body (λ before. refl) None content o
-settles Br content o k = tight content k
-settles A content o k = tight content k
 settles (Of Header) content o k = loose (Of Header) (λ before. refl) None content o
 settles (Of Nav) content o k = loose (Of Nav) (λ before. refl) None content o
 settles (Of Main) content o k = loose (Of Main) (λ before. refl) None content o
 settles (Of Section) content o k = loose (Of Section) (λ before. refl) None content o
-settles (Of (Heading level)) content o k = tight content k
-settles (Of P) content o k = tight content k
-settles (Of Pre) content o k = tight content k
 settles (Of Ul) content o k = loose (Of Ul) (λ before. refl) None content o
 settles (Of Li) content o k = loose (Of Li) (λ before. refl) None content o
 settles (Of Dl) content o k = loose (Of Dl) (λ before. refl) None content o
-settles (Of Dt) content o k = tight content k
 settles (Of Dd) content o k = description content o k
-settles (Of Code) content o k = tight content k
-settles (Of Strong) content o k = tight content k
-settles (Of Em) content o k = tight content k
-settles (Of Var) content o k = tight content k
+settles x content o k = tight content k

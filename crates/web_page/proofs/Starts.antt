@@ -1,5 +1,5 @@
 -- Start tags with or without an attribute.
-use Rattle.std.proofs.Common.{◌≡◌, ℕ, Bool, true, false, not, ◌&&◌, ◌||◌, List, [], ◌++◌, refl, ◌∙◌}
+use Rattle.std.proofs.Common.{◌≡◌, ℕ, Bool, true, false, not, ◌&&◌, ◌||◌, List, [], ◌++◌, refl, ◌∙◌, arith}
 use Rattle.std.specs.Prelude.{codes}
 use Rattle.std.specs.List.{list_all}
 use Rattle.std.specs.Str.{IsUtf8}
@@ -21,13 +21,10 @@ use Rattle.web_page.specs.declared.output.Key.{Key}
 use Rattle.web_page.specs.declared.output.Key.TheVariants.{Nothing, Id, Target, Place}
 
 or_not : (a b : Bool) → (not a || not b) ≡ true → a ≡ true → b ≡ false
-or_not true true h e = cc
-or_not true false h e = refl
-or_not false b h e = cc
+or_not a b h2 h3 = grind arith
 
 or_so : (a b : Bool) → (not a || b) ≡ true → a ≡ true → b ≡ true
-or_so true b h e = h
-or_so false b h e = cc
+or_so a b h2 h3 = grind arith
 
 not_void : (tag : Tag) → is_inner tag ≡ true → is_void tag ≡ false
 not_void tag = or_not (is_inner tag) (is_void tag) (each_tag (λ other. not (is_inner other) || not (is_void other)) refl tag)

@@ -1,5 +1,5 @@
 -- What texts come to.
-use Rattle.std.proofs.Common.{◌≡◌, ℕ, List, [], ◌∷◌, ◌++◌, refl, sym, ap, ◌∙◌, append-nil, append_assoc}
+use Rattle.std.proofs.Common.{◌≡◌, ℕ, List, [], ◌∷◌, ◌++◌, sym, ap, ◌∙◌, append-nil, append_assoc, arith}
 use Rattle.std.proofs.lemmas.List.Sums.{fold-append}
 use Rattle.web_page.specs.Tree.{Attribute, Nodes, element, none, text}
 use Rattle.web_page.specs.Reader.{Draft, joined, with_byte}
@@ -18,23 +18,20 @@ at_front b bytes = on_text (b ∷ []) bytes
 
 -- a byte behind nodes whose last is an element, or a text behind one
 byte_behind : (nodes content : Nodes) (tag : Tag) (given : List Attribute) (b : ℕ) → with_byte (joined nodes (element tag given content none)) b ≡ joined nodes (element tag given content (text (b ∷ []) none))
-byte_behind none content tag given b = refl
-byte_behind (text bytes none) content tag given b = refl
 byte_behind (text bytes (text more rest)) content tag given b = ap (text bytes) (byte_behind (text more rest) content tag given b)
 byte_behind (text bytes (element inner others within rest)) content tag given b = ap (text bytes) (byte_behind (element inner others within rest) content tag given b)
 byte_behind (element inner others within rest) content tag given b = ap (element inner others within) (byte_behind rest content tag given b)
+byte_behind x content tag given b = grind arith
 
 next_behind : (nodes content : Nodes) (tag : Tag) (given : List Attribute) (before : List ℕ) (b : ℕ) → with_byte (joined nodes (element tag given content (text before none))) b ≡ joined nodes (element tag given content (text (before ++ b ∷ []) none))
-next_behind none content tag given before b = refl
-next_behind (text bytes none) content tag given before b = refl
 next_behind (text bytes (text more rest)) content tag given before b = ap (text bytes) (next_behind (text more rest) content tag given before b)
 next_behind (text bytes (element inner others within rest)) content tag given before b = ap (text bytes) (next_behind (element inner others within rest) content tag given before b)
 next_behind (element inner others within rest) content tag given before b = ap (element inner others within) (next_behind rest content tag given before b)
+next_behind x content tag given before b = grind arith
 
 more_behind : (nodes content : Nodes) (tag : Tag) (given : List Attribute) (before bytes : List ℕ) → with_words (joined nodes (element tag given content (text before none))) bytes ≡ joined nodes (element tag given content (text (before ++ bytes) none))
 more_behind nodes content tag given before [] = ap (λ x. joined nodes (element tag given content (text x none))) (sym (append-nil before))
-more_behind nodes content tag given before (b ∷ bytes) =
-    ap (λ x. with_words x bytes) (next_behind nodes content tag given before b) ∙ more_behind nodes content tag given (before ++ b ∷ []) bytes ∙ ap (λ x. joined nodes (element tag given content (text x none))) (append_assoc before (b ∷ []) bytes)
+more_behind nodes content tag given before (b ∷ bytes) = grind (arith, more_behind nodes content tag given (before ++ b ∷ []) bytes, next_behind, append_assoc)
 
 pub behind : (nodes content : Nodes) (tag : Tag) (given : List Attribute) (b : ℕ) (bytes : List ℕ) → with_words (joined nodes (element tag given content none)) (b ∷ bytes) ≡ joined nodes (element tag given content (text (b ∷ bytes) none))
 behind nodes content tag given b bytes = ap (λ x. with_words x bytes) (byte_behind nodes content tag given b) ∙ more_behind nodes content tag given (b ∷ []) bytes

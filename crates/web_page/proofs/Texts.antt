@@ -1,5 +1,5 @@
 -- Texts that hold nothing but characters that may be written.
-use Rattle.std.proofs.Common.{◌≡◌, ◌≢◌, ℕ, ◌<◌, Bool, true, false, ◌&&◌, suc, zero, List, [], ◌∷◌, ◌++◌, length, refl, sym, ap, ◌∙◌, subst, inl, inr, append-nil, get_or, arith}
+use Rattle.std.proofs.Common.{◌≡◌, ◌≢◌, ℕ, ◌<◌, Bool, true, false, ◌&&◌, suc, List, [], ◌∷◌, ◌++◌, length, refl, sym, ap, ◌∙◌, subst, inl, inr, append-nil, get_or, arith}
 use Rattle.std.specs.Prelude.{encode_utf8, encode_utf8_all, codes, nat_lt}
 use Rattle.std.specs.List.{list_all}
 use Rattle.std.specs.Str.{IsUtf8, IsAscii, chars}
@@ -21,10 +21,7 @@ pub record IsClean (bytes : List ℕ) : Type 0 where
   pub permitted : list_all is_permitted (chars bytes) ≡ true
 
 pub clean-append : (a b : List ℕ) → IsClean a → IsClean b → IsClean (a ++ b)
-clean-append a b p q = record {
-  utf8 = IsUtf8-append a b p.utf8 q.utf8;
-  permitted = ap (list_all is_permitted) (chars-append a b p.utf8) ∙ list_all-append is_permitted (chars a) (chars b) ∙ and_from (list_all is_permitted (chars a)) (list_all is_permitted (chars b)) p.permitted q.permitted;
-}
+clean-append a b p q = grind (arith, IsUtf8-append, chars-append, list_all-append, and_from)
 
 pub clean-nil : IsClean []
 clean-nil = record { utf8 = IsUtf8-nil; permitted = ap (list_all is_permitted) chars-nil }
@@ -34,23 +31,15 @@ abbrev pub is_ascii_byte : ℕ → Bool
 is_ascii_byte b = nat_lt b 128 && is_permitted b
 
 ascii : (bytes : List ℕ) → list_all is_ascii_byte bytes ≡ true → IsAscii bytes
-ascii [] h i = omega arith
-ascii (b ∷ bytes) h zero =
-    let small = (and_parts (nat_lt b 128) (is_permitted b) (and_parts (is_ascii_byte b) (list_all is_ascii_byte bytes) h).0).0 in
-    grind (arith, nat_tests)
 ascii (b ∷ bytes) h (suc i) = ascii bytes (and_parts (is_ascii_byte b) (list_all is_ascii_byte bytes) h).1 i
+ascii x h y = grind (arith, and_parts, nat_tests)
 
 all_permitted : (bytes : List ℕ) → list_all is_ascii_byte bytes ≡ true → list_all is_permitted bytes ≡ true
 all_permitted [] h = refl
-all_permitted (b ∷ bytes) h =
-    let p = and_parts (is_ascii_byte b) (list_all is_ascii_byte bytes) h in
-    and_from (is_permitted b) (list_all is_permitted bytes) (and_parts (nat_lt b 128) (is_permitted b) p.0).1 (all_permitted bytes p.1)
+all_permitted (b ∷ bytes) h = grind (arith, all_permitted bytes, and_parts, and_from)
 
 pub clean-ascii : (bytes : List ℕ) → list_all is_ascii_byte bytes ≡ true → IsClean bytes
-clean-ascii bytes h = record {
-  utf8 = IsUtf8-from_ascii bytes (ascii bytes h);
-  permitted = ap (list_all is_permitted) (chars-IsAscii bytes (ascii bytes h)) ∙ all_permitted bytes h;
-}
+clean-ascii bytes h = grind (arith, IsUtf8-from_ascii, ascii, chars-IsAscii, all_permitted)
 
 -- ---- characters that may be written
 
@@ -124,21 +113,11 @@ written_characters bytes u w = ap (list_all is_written) (sym (ap chars (sym u.1.
 -- a text of characters of one byte each
 ascii_of : (bytes : List ℕ) → list_all is_written_byte bytes ≡ true → list_all is_ascii_byte bytes ≡ true
 ascii_of [] h = refl
-ascii_of (b ∷ bytes) h =
-    let p = and_parts (is_written_byte b) (list_all is_written_byte bytes) h in
-    and_from (is_ascii_byte b) (list_all is_ascii_byte bytes) (ascii_one b p.0) (ascii_of bytes p.1)
-  where
-    ascii_one : (b : ℕ) → is_written_byte b ≡ true → is_ascii_byte b ≡ true
-    ascii_one b h = grind (arith, nat_tests)
+ascii_of (b ∷ bytes) h = grind (arith, ascii_of bytes, and_parts, and_from, nat_tests)
 
 characters_of : (bytes : List ℕ) → list_all is_written_byte bytes ≡ true → list_all is_written bytes ≡ true
 characters_of [] h = refl
-characters_of (b ∷ bytes) h =
-    let p = and_parts (is_written_byte b) (list_all is_written_byte bytes) h in
-    and_from (is_written b) (list_all is_written bytes) (written_one b p.0) (characters_of bytes p.1)
-  where
-    written_one : (b : ℕ) → is_written_byte b ≡ true → is_written b ≡ true
-    written_one b h = grind (arith, nat_tests)
+characters_of (b ∷ bytes) h = grind (arith, characters_of bytes, and_parts, and_from, nat_tests)
 
 pub written_bytes : (bytes : List ℕ) → list_all is_written_byte bytes ≡ true → are_written bytes ≡ true
 written_bytes bytes h = ap (list_all is_written) (chars-IsAscii bytes (ascii bytes (ascii_of bytes h))) ∙ characters_of bytes h
@@ -163,9 +142,7 @@ kept_text bytes u w = subst (λ x. list_all is_kept x ≡ true) u.1.1 (kept_char
 -- a text that is written as it is
 plain_characters : (cs : List ℕ) → list_all is_written cs ≡ true → list_all is_permitted cs ≡ true
 plain_characters [] w = refl
-plain_characters (c ∷ cs) w =
-    let q = and_parts (is_written c) (list_all is_written cs) w in
-    and_from (is_permitted c) (list_all is_permitted cs) (permitted c q.0) (plain_characters cs q.1)
+plain_characters (c ∷ cs) w = grind (arith, plain_characters cs, and_parts, and_from, permitted)
 
 pub clean-plain : (bytes : List ℕ) → IsUtf8 bytes → are_written bytes ≡ true → IsClean bytes
 clean-plain bytes u w = record { utf8 = u; permitted = plain_characters (chars bytes) w }

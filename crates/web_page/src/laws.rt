@@ -8,6 +8,7 @@ ghost use Rattle.web_page.specs.Calls.{with_text, with_words};
 ghost use Rattle.web_page.specs.declared.elements.Tag.{Tag};
 
 /// A text that is added in two parts is one text, and an empty one is none.
+#[tactic(auto, using(crate::proofs::TextLaws::parts))]
 pub fn texts_join()
     ensures joined { (draft : Draft) (first second : List ℕ)
         → with_text (with_text draft first) second ≡ with_text draft (first ++ second) }
@@ -15,6 +16,7 @@ pub fn texts_join()
 {}
 
 /// A text is letter for letter a node of its own, at the front or behind an element, and goes on a text that is last.
+#[tactic(auto, using(crate::proofs::TextLaws::at_front, crate::proofs::TextLaws::behind, crate::proofs::TextLaws::on_text))]
 pub fn texts_stay()
     ensures first { (b : ℕ) (bytes : List ℕ) → with_words none (b ∷ bytes) ≡ text (b ∷ bytes) none }
     ensures behind_element { (nodes content : Nodes) (tag : Tag) (given : List Attribute) (b : ℕ) (bytes : List ℕ)
