@@ -1,31 +1,42 @@
--- The documents that an item or a tree writes are well nested.
-use Rattle.std.specs.Prelude.{⊤}
-use Rattle.bpaf_doc.specs.Buffer.Parts.{IsWellNested}
+-- What holds of the documents that an item or a tree writes, as that they are well nested.
+use Rattle.std.specs.Prelude.{⊤, List}
+use Rattle.bpaf_doc.specs.Buffer.Parts.{Part, IsWellNested}
 use Rattle.bpaf_meta.specs.Content.{Tree, and_of, or_of, optional, required, adjacent, item, many, subsection, suffix, skip, custom_usage, strict, Trees, no_trees, tree, Leaf, any, positional, command, flag, argument}
 
-abbrev pub HasNestedDoc : Leaf → Type 0
-HasNestedDoc (any m a h) = IsWellNested m
-HasNestedDoc (positional m h) = ⊤
-HasNestedDoc (command n c h t i) = ⊤
-HasNestedDoc (flag n s e h) = ⊤
-HasNestedDoc (argument n s m e h) = ⊤
+-- the metavar of an Any
+abbrev pub HoldsDoc : (D : List Part → Type 0) → Leaf → Type 0
+HoldsDoc D (any m a h) = D m
+HoldsDoc D (positional m h) = ⊤
+HoldsDoc D (command n c h t i) = ⊤
+HoldsDoc D (flag n s e h) = ⊤
+HoldsDoc D (argument n s m e h) = ⊤
 
 -- the metavars of each Any and the documents of each CustomUsage, commands' own trees aside
 abbrev mutual
-  pub HasNestedDocs : Tree → Type 0
-  HasNestedDocs (and_of ts) = EachHasNestedDocs ts
-  HasNestedDocs (or_of ts) = EachHasNestedDocs ts
-  HasNestedDocs (optional t) = HasNestedDocs t
-  HasNestedDocs (required t) = HasNestedDocs t
-  HasNestedDocs (adjacent t) = HasNestedDocs t
-  HasNestedDocs (item l) = HasNestedDoc l
-  HasNestedDocs (many t) = HasNestedDocs t
-  HasNestedDocs (subsection t d) = HasNestedDocs t
-  HasNestedDocs (suffix t d) = HasNestedDocs t
-  HasNestedDocs skip = ⊤
-  HasNestedDocs (custom_usage t d) = IsWellNested d × HasNestedDocs t
-  HasNestedDocs (strict t) = HasNestedDocs t
+  pub HoldsDocs : (D : List Part → Type 0) → Tree → Type 0
+  HoldsDocs D (and_of ts) = EachHoldsDocs D ts
+  HoldsDocs D (or_of ts) = EachHoldsDocs D ts
+  HoldsDocs D (optional t) = HoldsDocs D t
+  HoldsDocs D (required t) = HoldsDocs D t
+  HoldsDocs D (adjacent t) = HoldsDocs D t
+  HoldsDocs D (item l) = HoldsDoc D l
+  HoldsDocs D (many t) = HoldsDocs D t
+  HoldsDocs D (subsection t d) = HoldsDocs D t
+  HoldsDocs D (suffix t d) = HoldsDocs D t
+  HoldsDocs D skip = ⊤
+  HoldsDocs D (custom_usage t d) = D d × HoldsDocs D t
+  HoldsDocs D (strict t) = HoldsDocs D t
 
-  pub EachHasNestedDocs : Trees → Type 0
-  EachHasNestedDocs no_trees = ⊤
-  EachHasNestedDocs (tree t ts) = HasNestedDocs t × EachHasNestedDocs ts
+  pub EachHoldsDocs : (D : List Part → Type 0) → Trees → Type 0
+  EachHoldsDocs D no_trees = ⊤
+  EachHoldsDocs D (tree t ts) = HoldsDocs D t × EachHoldsDocs D ts
+
+-- they are well nested
+abbrev pub HasNestedDoc : Leaf → Type 0
+HasNestedDoc l = HoldsDoc IsWellNested l
+
+abbrev pub HasNestedDocs : Tree → Type 0
+HasNestedDocs t = HoldsDocs IsWellNested t
+
+abbrev pub EachHasNestedDocs : Trees → Type 0
+EachHasNestedDocs ts = EachHoldsDocs IsWellNested ts

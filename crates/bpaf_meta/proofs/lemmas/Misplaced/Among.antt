@@ -1,5 +1,5 @@
 -- Elements of lists, by recursion.
-use Rattle.std.proofs.Common.{◌≡◌, Bool, true, false, List, [], ◌∷◌, ◌++◌, ◌⊎◌, inl, inr, refl, sym, ap, subst, map}
+use Rattle.std.proofs.Common.{◌≡◌, Bool, List, [], ◌∷◌, ◌++◌, ◌⊎◌, inl, inr, refl, sym, ap, subst, map, arith}
 use Rattle.std.specs.Prelude.{filter, flat_map, Contains, All}
 use Rattle.std.proofs.lemmas.List.Elements.{Contains-push, Contains-append_left, Contains-append_right, All-nil, All-cons}
 
@@ -44,8 +44,7 @@ in_flat f x y (z ∷ xs) (inl e) b = among_left y (f z) (flat_map f xs) (subst (
 in_flat f x y (z ∷ xs) (inr a) b = among_right y (f z) (flat_map f xs) (in_flat f x y xs a b)
 
 pub in_filter : {X : Type 0} (p : X → Bool) (b : Bool) (x y : X) (xs : List X) → p y ≡ b → Among x (filter p xs) → Among x (filter p (y ∷ xs))
-in_filter p true x y xs e a = rw e (inr a)
-in_filter p false x y xs e a = rw e a
+in_filter p b x y xs h5 h6 = grind arith
 
 pub none_among : {X : Type 0} (xs : List X) → ((x : X) → ¬ Among x xs) → xs ≡ []
 none_among [] f = refl

@@ -1,5 +1,5 @@
 -- What the positional check finds: the first of some faults, each with its number.
-use Rattle.std.proofs.Common.{◌≡◌, ℕ, ◌+◌, ◌<◌, ◌≤◌, Bool, List, ◌++◌, inl, inr, refl, sym, ◌∙◌, subst, arith}
+use Rattle.std.proofs.Common.{◌≡◌, ℕ, ◌+◌, ◌<◌, ◌≤◌, Bool, List, ◌++◌, inl, inr, refl, sym, subst, arith}
 use Rattle.std.specs.Prelude.{◌↔◌}
 use Rattle.bpaf_meta.specs.Meta.Misplaced.{Numbered}
 use Rattle.bpaf_meta.specs.Meta.Steps.Walk.{Check, fine, wrong, then_check}
@@ -25,8 +25,7 @@ Finds xs m (fine b) = (b ≡ m) × ((x : Numbered) → ¬ Among x xs)
 Finds xs m (wrong l) = (k : ℕ) × Among (k, l) xs × ((x : Numbered) → Among x xs → k ≤ x.0)
 
 pub finds_same : (xs ys : List Numbered) (m p : Bool) (c : Check) → Same ys xs → m ≡ p → Finds xs m c → Finds ys p c
-finds_same xs ys m p (fine b) f e r = (r.0 ∙ e, λ x a. r.1 x ((f x).0 a))
-finds_same xs ys m p (wrong l) f e r = (r.0, (f (r.0, l)).1 r.1, λ x a. r.2 x ((f x).0 a))
+finds_same xs ys m p c h5 h6 h7 = grind arith
 
 -- one after the other, where the numbers of the second are greater
 pub finds_then : (n k j : ℕ) (xs ys : List Numbered) (p m : Bool) (c : Check) (f : Bool → Check) → AreFrom n k xs → AreFrom (n + k) j ys → Finds xs p c → Finds ys m (f p) → Finds (xs ++ ys) m (then_check c f)
@@ -39,5 +38,4 @@ finds_then n k j xs ys p m (wrong l) f below above r s =
 
 -- a tree of its own goes without the mark
 pub finds_within : (xs : List Numbered) (m a : Bool) (c : Check) → Finds xs m c → Finds xs a (then_check c (λ b. fine a))
-finds_within xs m a (fine b) r = (refl, r.1)
-finds_within xs m a (wrong l) r = r
+finds_within xs m a c h4 = grind arith

@@ -23,10 +23,7 @@ pub after_first-later : (p : Numbered → Bool) (x : Numbered) (xs : Line) → p
 after_first-later p x xs e = let step : (1 + position_or_len p xs) + 1 ≡ suc (position_or_len p xs + 1) = omega arith in rw (e, step) refl
 
 late_step : (x : Numbered) (front back : Line) (b : Bool) → is_positional x.1 ≡ b → late_items (front ++ back) ≡ late_items front ++ late_after (list_any at_positional front) back → late_items (x ∷ front ++ back) ≡ late_items (x ∷ front) ++ late_after (b || list_any at_positional front) back
-late_step x front back true e h =
-    let all : late_items (x ∷ front ++ back) ≡ filter is_named (front ++ back) = ap (filter is_named) (after_first-here at_positional x (front ++ back) e) in
-    let one : late_items (x ∷ front) ≡ filter is_named front = ap (filter is_named) (after_first-here at_positional x front e) in
-    rw (all, one) (filter-append is_named front back)
+late_step x front back true e h = grind (arith, after_first-here, filter-append)
 late_step x front back false e h =
     let all : late_items (x ∷ front ++ back) ≡ late_items (front ++ back) = ap (filter is_named) (after_first-later at_positional x (front ++ back) e) in
     let one : late_items (x ∷ front) ≡ late_items front = ap (filter is_named) (after_first-later at_positional x front e) in
@@ -38,5 +35,4 @@ late_first (x ∷ front) back = late_step x front back (is_positional x.1) refl 
 
 -- what is late in two lines joined: what is late in the first, and in the second after the mark that the first leaves
 pub late-append : (mark : Bool) (front back : Line) → late_after mark (front ++ back) ≡ late_after mark front ++ late_after (mark || list_any at_positional front) back
-late-append true front back = filter-append is_named front back
-late-append false front back = late_first front back
+late-append mark front back = grind (arith, filter-append, late_first)

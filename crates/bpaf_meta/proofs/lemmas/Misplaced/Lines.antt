@@ -29,34 +29,25 @@ in_joined : (front back : Line) (fronts backs : List Line) → Among front front
 in_joined front back fronts backs a b = in_flat (λ (f : Line). map (λ k. f ++ k) backs) front (front ++ back) fronts a (in_map (λ (k : Line). front ++ k) back backs b)
 
 in_at_least : (line : Line) (lines : List Line) → Among line lines → Among line (at_least_empty lines)
-in_at_least line [] a = absurd a
-in_at_least line (l ∷ lines) a = a
+in_at_least line lines h2 = grind arith
 
 among_at_least : (line : Line) (lines : List Line) → Among line (at_least_empty lines) → Among line lines ⊎ (line ≡ [])
-among_at_least line [] (inl e) = inr (sym e)
-among_at_least line [] (inr a) = absurd a
-among_at_least line (l ∷ lines) a = inl a
+among_at_least line lines h2 = grind arith
 
 -- what is late after no mark is late after one
 late_step : (b : Bool) (y x : Numbered) (line : Line) → is_positional y.1 ≡ b → (Among x (late_items line) → Among x (filter is_named line)) → Among x (late_items (y ∷ line)) → Among x (filter is_named (y ∷ line))
-late_step true y x line e f a = in_filter is_named (not (is_positional y.1)) x y line refl (subst (λ ys. Among x (filter is_named ys)) (after_first-here at_positional y line e) a)
-late_step false y x line e f a = in_filter is_named (not (is_positional y.1)) x y line refl (f (subst (λ ys. Among x (filter is_named ys)) (after_first-later at_positional y line e) a))
+late_step b y x line h4 h5 h6 = grind (arith, in_filter, after_first-here, after_first-later)
 
 late_is_named : (x : Numbered) (line : Line) → Among x (late_items line) → Among x (filter is_named line)
 late_is_named x [] a = a
 late_is_named x (y ∷ line) a = late_step (is_positional y.1) y x line refl (late_is_named x line) a
 
 late_more : (a b : Bool) (x : Numbered) (line : Line) → (a ≡ true → b ≡ true) → Among x (late_after a line) → Among x (late_after b line)
-late_more true true x line h f = f
-late_more true false x line h f = let differ : false ≡ true = h refl in cc
-late_more false true x line h f = late_is_named x line f
-late_more false false x line h f = f
+late_more a b x line h4 h5 = grind (arith, late_is_named)
 
 -- a line alone
 alone_late : (n : ℕ) (l : Leaf) (a p : Bool) → is_positional l ≡ p → late_after a ((n, l) ∷ []) ≡ (if a && not p then (n, l) ∷ [] else [])
-alone_late n l true p e = rw e refl
-alone_late n l false true e = ap (filter is_named) (after_first-here at_positional (n, l) [] e)
-alone_late n l false false e = ap (filter is_named) (after_first-later at_positional (n, l) [] e)
+alone_late n l a p h4 = grind (arith, after_first-here, after_first-later)
 
 -- what lines mark: one of them as much as all do
 record Marks (lines : List Line) (mark : Bool) : Type 0 where
@@ -64,10 +55,7 @@ record Marks (lines : List Line) (mark : Bool) : Type 0 where
   each : (line : Line) → Among line lines → has_positional line ≡ true → mark ≡ true
 
 line_marks : (line : Line) (m : Bool) → has_positional line ≡ m → Marks (line ∷ []) m
-line_marks line m e = record {
-  some = (line, inl refl, e);
-  each = λ l a h. elim a [ inl q ↦ sym e ∙ ap has_positional q ∙ h | inr b ↦ absurd b ];
-}
+line_marks line m e = grind arith
 
 or_up : (a b c d : Bool) → (a ≡ true → c ≡ true) → (b ≡ true → d ≡ true) → (a || b) ≡ true → (c || d) ≡ true
 or_up a b c d f g e = elim (or_cases a b e) [ inl h ↦ or_left c d (f h) | inr h ↦ or_right c d (g h) ]
@@ -109,9 +97,7 @@ abbrev faults : List Line → List Scope → Bool → List Numbered
 faults lines scopes a = flat_map (late_after a) lines ++ flat_map late_in scopes
 
 at_least_late : (a : Bool) (lines : List Line) → flat_map (late_after a) (at_least_empty lines) ≡ flat_map (late_after a) lines
-at_least_late true [] = refl
-at_least_late false [] = refl
-at_least_late a (l ∷ lines) = refl
+at_least_late a lines = grind arith
 
 -- what is late in two lines joined is late in one of them
 joined_late : (a m p : Bool) (fronts backs : List Line) → Marks fronts m → Marks backs p → Same (flat_map (late_after a) (joined_lines fronts backs)) (flat_map (late_after a) fronts ++ flat_map (late_after (a || m)) backs)
@@ -171,16 +157,10 @@ record BranchesAgree (n k : ℕ) (lines : List Line) (scopes : List Scope) (chec
   finds : (a seen : Bool) → (a ≡ true → seen ≡ true) → Finds (faults lines scopes a) (seen || mark) (check a seen)
 
 no_late : (a : Bool) (x : Numbered) → ¬ Among x (faults ([] ∷ []) [] a)
-no_late true x h = h
-no_late false x h = h
+no_late a x h2 = grind arith
 
 nothing_agrees : (n k : ℕ) → Agrees n k ([] ∷ []) [] fine
-nothing_agrees n k = record {
-  mark = false;
-  marks = line_marks [] false refl;
-  numbers = λ a x h. absurd (no_late a x h);
-  finds = λ a. (sym (or-false a), no_late a);
-}
+nothing_agrees n k = grind (arith, line_marks, no_late, or-false)
 
 joined_agree : (n k j l : ℕ) (fronts backs : List Line) (scopes others : List Scope) (c d : Bool → Check) → l ≡ k + j → Agrees n k fronts scopes c → Agrees (n + k) j backs others d → Agrees n l (joined_lines fronts backs) (scopes ++ others) (λ a. then_check (c a) d)
 joined_agree n k j l fronts backs scopes others c d e f g =
@@ -193,9 +173,7 @@ joined_agree n k j l fronts backs scopes others c d e f g =
     }
 
 seen_or : (a seen m r : Bool) → (a ≡ true → seen ≡ true) → ((seen || (a || m)) || r) ≡ (seen || (m || r))
-seen_or a true m r h = refl
-seen_or true false m r h = let no : false ≡ true = h refl in cc
-seen_or false false m r h = refl
+seen_or a seen m r h4 = grind arith
 
 branch_agrees : (n k j l : ℕ) (lines others : List Line) (scopes more : List Scope) (c : Bool → Check) (d : Bool → Bool → Check) → l ≡ k + j → Agrees n k lines scopes c → BranchesAgree (n + k) j others more d → BranchesAgree n l (lines ++ others) (scopes ++ more) (λ a seen. then_check (c a) (λ b. d a (seen || b)))
 branch_agrees n k j l lines others scopes more c d e f g =
@@ -249,8 +227,7 @@ alone_finds true n l m = (n, inl refl, λ x h. elim h [ inl e ↦ let is : n ≡
 alone_finds false n l m = (refl, λ x h. h)
 
 alone_numbers : (c : Bool) (n : ℕ) (l : Leaf) → AreFrom n 1 (((if c then (n, l) ∷ [] else []) ++ []) ++ [])
-alone_numbers true n l x h = elim h [ inl e ↦ let is : n ≡ x.0 = ap (λ y. y.0) e in (omega arith, omega arith) | inr none ↦ absurd none ]
-alone_numbers false n l x h = absurd h
+alone_numbers c n l h3 h4 = grind arith
 
 alone_agrees : (n : ℕ) (l : Leaf) → Agrees n 1 (((n, l) ∷ []) ∷ []) [] (λ a. if a && not (is_positional l) then wrong l else fine (a || is_positional l))
 alone_agrees n l =
@@ -263,8 +240,7 @@ alone_agrees n l =
     }
 
 item_check : (c q : Bool) (l : Leaf) (w : Check) → then_check (if c then wrong l else fine q) (λ r. then_check w (λ b. fine r)) ≡ (if c then wrong l else then_check w (λ b. fine q))
-item_check true q l w = refl
-item_check false q l w = refl
+item_check c q l w = grind arith
 
 item_agrees : (n : ℕ) (l : Leaf) (scopes : List Scope) (w : Check) → Agrees (n + 1) (length (items_within l)) ([] ∷ []) scopes (λ a. then_check w (λ b. fine a)) → Agrees n (length (l ∷ items_within l)) (((n, l) ∷ []) ∷ []) scopes (λ a. if a && not (is_positional l) then wrong l else then_check w (λ b. fine (a || is_positional l)))
 item_agrees n l scopes w f =

@@ -1,10 +1,10 @@
 -- The normal form of a tree shows what the tree shows.
-use Rattle.std.proofs.Common.{◌≡◌, Bool, true, false, ◌&&◌, List, [], ◌∷◌, ◌++◌, inl, inr, refl, sym, ap, ◌∙◌, subst}
+use Rattle.std.proofs.Common.{◌≡◌, Bool, true, false, ◌&&◌, List, [], ◌∷◌, ◌++◌, inl, inr, refl, sym, ap, ◌∙◌, subst, arith}
 use Rattle.std.proofs.lemmas.List.{append-nil}
 use Rattle.std.specs.Prelude.{if◌then◌else◌}
 use Rattle.bpaf_doc.specs.Buffer.Parts.{Part}
-use Rattle.bpaf_meta.specs.Content.{Name, both, Tree, and_of, or_of, optional, required, adjacent, item, many, subsection, suffix, skip, custom_usage, strict, Trees, no_trees, tree, Leaf, command, flag, argument}
-use Rattle.bpaf_meta.specs.Meta.Normal.{State, pull, push, shown_trees, and_form, or_form, is_command_tree, without_commands, with_first_command, optional_many_form, optional_form, required_form, many_form, custom_usage_form, name_form, item_form, guarded, state_after, state_out, normal_form, and_parts, or_parts, outer_form, strict_if_push, normalized}
+use Rattle.bpaf_meta.specs.Content.{Name, Tree, and_of, or_of, optional, required, adjacent, item, many, subsection, suffix, skip, custom_usage, strict, Trees, no_trees, tree, Leaf}
+use Rattle.bpaf_meta.specs.Meta.Normal.{State, pull, shown_trees, and_form, or_form, is_command_tree, without_commands, with_first_command, optional_many_form, optional_form, required_form, many_form, custom_usage_form, name_form, item_form, guarded, state_after, state_out, normal_form, and_parts, or_parts, outer_form, strict_if_push, normalized}
 use Rattle.bpaf_meta.specs.Meta.Sequences.{Symbol, the_command, symbol_of, Language, NoSequence, Only, Maybe, Either, Joined, Repeated, once, again, choice, is_hidden, are_hidden, Shows, ShowsEach, ShowsOne, Same, ShowsSame}
 
 -- languages
@@ -19,22 +19,13 @@ back : (P Q : Language) → Same P Q → Same Q P
 back P Q f w = ((f w).1, (f w).0)
 
 maybe_keeps : (P Q : Language) → Same P Q → Same (Maybe P) (Maybe Q)
-maybe_keeps P Q f w = (
-  (λ m. elim m [ inl e ↦ inl e | inr p ↦ inr ((f w).0 p) ]),
-  (λ m. elim m [ inl e ↦ inl e | inr q ↦ inr ((f w).1 q) ]),
-)
+maybe_keeps P Q f w = grind arith
 
 either_keeps : (P Q P' Q' : Language) → Same P P' → Same Q Q' → Same (Either P Q) (Either P' Q')
-either_keeps P Q P' Q' f g w = (
-  (λ m. elim m [ inl p ↦ inl ((f w).0 p) | inr q ↦ inr ((g w).0 q) ]),
-  (λ m. elim m [ inl p ↦ inl ((f w).1 p) | inr q ↦ inr ((g w).1 q) ]),
-)
+either_keeps P Q P' Q' f g w = grind arith
 
 joined_keeps : (P Q P' Q' : Language) → Same P P' → Same Q Q' → Same (Joined P Q) (Joined P' Q')
-joined_keeps P Q P' Q' f g w = (
-  (λ j. (j.0, j.1, j.2, (f j.0).0 j.3, (g j.1).0 j.4)),
-  (λ j. (j.0, j.1, j.2, (f j.0).1 j.3, (g j.1).1 j.4)),
-)
+joined_keeps P Q P' Q' f g w = grind arith
 
 repeated_to : (P Q : Language) → ((w : List Symbol) → P w → Q w) → (w : List Symbol) → Repeated P w → Repeated Q w
 repeated_to P Q f w (once p) = once (f w p)
@@ -44,10 +35,7 @@ repeated_keeps : (P Q : Language) → Same P Q → Same (Repeated P) (Repeated Q
 repeated_keeps P Q f w = (repeated_to P Q (λ v. (f v).0) w, repeated_to Q P (λ v. (f v).1) w)
 
 joined_nothing : (P : Language) → Same (Joined P (Only [])) P
-joined_nothing P w = (
-  (λ j. subst P (sym (j.2 ∙ ap (λ b. j.0 ++ b) j.4 ∙ append-nil j.0)) j.3),
-  (λ p. (w, [], sym (append-nil w), p, refl)),
-)
+joined_nothing P w = grind (arith, append-nil)
 
 maybe_joined : (P : Language) (w a b : List Symbol) → w ≡ a ++ b → Maybe P a → Maybe (Repeated P) b → Maybe (Repeated P) w
 maybe_joined P w a b e (inl x) (inl y) = inl (rw (e, x, y))
@@ -80,8 +68,7 @@ choice_keeps true false P Q P' Q' e f g = cc
 choice_keeps false true P Q P' Q' e f g = cc
 
 choice_false : (b : Bool) (P Q : Language) → b ≡ false → Same (choice b P Q) Q
-choice_false true P Q e = cc
-choice_false false P Q e = same Q
+choice_false b P Q h3 = grind (arith, same)
 
 -- whether something is hidden and what it shows, as for something else; and so for the parts of an And or an Or
 abbrev pub Alike : (h : Bool) (P : Language) (k : Bool) (Q : Language) → Type 0
@@ -118,13 +105,10 @@ and_form_alike u (tree t no_trees) = alone_each (is_hidden u t) (Shows u t)
 and_form_alike u (tree t (tree v ts)) = itself
 
 alone_one : (b : Bool) (P : Language) → Alike b P (b && true) (choice b NoSequence (Either P NoSequence))
-alone_one true P = (refl, λ e. cc)
-alone_one false P = (refl, λ e. back _ _ (either_none P))
+alone_one b P = grind (arith, back, either_none)
 
 or_form_alike : (u : Bool) (ts : Trees) → Alike (is_hidden u (or_form ts)) (Shows u (or_form ts)) (are_hidden u ts) (ShowsOne u ts)
-or_form_alike u no_trees = (refl, λ e. cc)
-or_form_alike u (tree t no_trees) = alone_one (is_hidden u t) (Shows u t)
-or_form_alike u (tree t (tree v ts)) = itself
+or_form_alike u ts = grind (arith, alone_one, itself)
 
 shown_alike : (u : Bool) (ts : Trees) → PartsAlike u (shown_trees ts) ts
 shown_alike u no_trees = (refl, same _, same _)
@@ -132,15 +116,13 @@ shown_alike u (tree skip ts) = shown_alike u ts
 shown_alike u (tree t ts) = part_alike u t t (shown_trees ts) ts itself (shown_alike u ts)
 
 command_not_hidden : (u : Bool) (t : Tree) → is_command_tree t ≡ true → is_hidden u t ≡ false
-command_not_hidden u (item l) e = refl
 command_not_hidden u (subsection t d) e = command_not_hidden u t e
-command_not_hidden u t e = cc
+command_not_hidden u x e = grind arith
 
 -- a command shows its one symbol
 command_shows : (u : Bool) (t : Tree) → is_command_tree t ≡ true → Same (Shows u t) (Only (the_command ∷ []))
-command_shows u (item (command n c h t i)) e = same (Only (the_command ∷ []))
 command_shows u (subsection t d) e = command_shows u t e
-command_shows u t e = cc
+command_shows u x e = grind (arith, same)
 
 -- the sequence of one command, or one of Q
 abbrev CommandOr : Language → Language
@@ -150,26 +132,17 @@ command_or_keeps : (P Q : Language) → Same P Q → Same (CommandOr P) (Command
 command_or_keeps P Q f = either_keeps (Only (the_command ∷ [])) P (Only (the_command ∷ [])) Q (same (Only (the_command ∷ []))) f
 
 command_or_absorbs : (C B : Language) → Same C (Only (the_command ∷ [])) → Same (CommandOr B) (CommandOr (Either C B))
-command_or_absorbs C B f w = (
-  (λ m. elim m [ inl e ↦ inl e | inr b ↦ inr (inr b) ]),
-  (λ m. elim m [ inl e ↦ inl e | inr n ↦ elim n [ inl c ↦ inl ((f w).0 c) | inr b ↦ inr b ] ]),
-)
+command_or_absorbs C B f w = grind arith
 
 either_under : (P A B : Language) (w : List Symbol) → (CommandOr A w → CommandOr B w) → CommandOr (Either P A) w → CommandOr (Either P B) w
-either_under P A B w f (inl e) = inl e
-either_under P A B w f (inr (inl p)) = inr (inl p)
-either_under P A B w f (inr (inr a)) = let m : CommandOr B w = f (inr a) in elim m [ inl e ↦ inl e | inr b ↦ inr (inr b) ]
+either_under P A B w h4 h5 = grind arith
 
 command_or_choice : (h : Bool) (P A B : Language) → Same (CommandOr A) (CommandOr B) → Same (CommandOr (choice h A (Either P A))) (CommandOr (choice h B (Either P B)))
 command_or_choice true P A B f = f
 command_or_choice false P A B f = λ w. (either_under P A B w (f w).0, either_under P B A w (f w).1)
 
 without_step : (u : Bool) (t : Tree) (ts : Trees) (b : Bool) → is_command_tree t ≡ b → Same (CommandOr (ShowsOne u (without_commands ts))) (CommandOr (ShowsOne u ts)) → Same (CommandOr (ShowsOne u (if b then without_commands ts else tree t (without_commands ts)))) (CommandOr (ShowsOne u (tree t ts)))
-without_step u t ts true e f =
-    let shown : is_hidden u t ≡ false = command_not_hidden u t e in
-    let one : Language = ShowsOne u ts in
-    let chosen : Same (choice (is_hidden u t) one (Either (Shows u t) one)) (Either (Shows u t) one) = choice_false (is_hidden u t) one (Either (Shows u t) one) shown in
-    then_same _ _ _ f (then_same _ _ _ (command_or_absorbs (Shows u t) one (command_shows u t e)) (command_or_keeps (Either (Shows u t) one) (ShowsOne u (tree t ts)) (back _ _ chosen)))
+without_step u t ts true e f = grind (arith, command_not_hidden, choice_false, then_same, command_or_absorbs, command_shows, command_or_keeps, back)
 without_step u t ts false e f = command_or_choice (is_hidden u t) (Shows u t) (ShowsOne u (without_commands ts)) (ShowsOne u ts) f
 
 without_one : (u : Bool) (ts : Trees) → Same (CommandOr (ShowsOne u (without_commands ts))) (CommandOr (ShowsOne u ts))
@@ -178,16 +151,7 @@ without_one u (tree t ts) = without_step u t ts (is_command_tree t) refl (withou
 
 -- the first of the parts is a command: then the others show no more with the other commands than without
 first_step : (u : Bool) (t : Tree) (ts : Trees) (b : Bool) → is_command_tree t ≡ b → (are_hidden u (with_first_command ts) ≡ are_hidden u ts) × Same (ShowsOne u (with_first_command ts)) (ShowsOne u ts) → (are_hidden u (tree t (if b then without_commands ts else with_first_command ts)) ≡ are_hidden u (tree t ts)) × Same (ShowsOne u (tree t (if b then without_commands ts else with_first_command ts))) (ShowsOne u (tree t ts))
-first_step u t ts true e f =
-    let shown : is_hidden u t ≡ false = command_not_hidden u t e in
-    let one : Language = ShowsOne u ts in
-    let few : Language = ShowsOne u (without_commands ts) in
-    let symbol : Language = Only (the_command ∷ []) in
-    let at : Same (Shows u t) symbol = command_shows u t e in
-    let front : Same (Either (Shows u t) few) (CommandOr few) = either_keeps (Shows u t) few symbol few at (same few) in
-    let rear : Same (Either (Shows u t) one) (CommandOr one) = either_keeps (Shows u t) one symbol one at (same one) in
-    (rw shown refl, then_same _ _ _ (choice_false (is_hidden u t) few (Either (Shows u t) few) shown) (then_same _ _ _ front (then_same _ _ _ (without_one u ts) (then_same _ _ _ (back _ _ rear) (back _ _ (choice_false (is_hidden u t) one (Either (Shows u t) one) shown))))))
-first_step u t ts false e f = (rw f.0 refl, choice_keeps (is_hidden u t) (is_hidden u t) _ _ _ _ refl f.1 (λ h. either_keeps _ _ _ _ (same (Shows u t)) f.1))
+first_step u t ts b h4 h5 = grind (arith, command_not_hidden, command_shows, either_keeps, same, then_same, choice_false, without_one, back, choice_keeps)
 
 first_alike : (u : Bool) (ts : Trees) → (are_hidden u (with_first_command ts) ≡ are_hidden u ts) × Same (ShowsOne u (with_first_command ts)) (ShowsOne u ts)
 first_alike u no_trees = (refl, same NoSequence)
@@ -204,31 +168,23 @@ optional_alike u (many t) = optional_many_alike u t
 optional_alike u t = itself
 
 required_alike : (u : Bool) (t : Tree) → TreesAlike u (required_form t) t
-required_alike u skip = itself
-required_alike u t = itself
+required_alike u t = grind (arith, itself)
 
 many_alike : (u : Bool) (t : Tree) → Alike (is_hidden u (many_form t)) (Shows u (many_form t)) (is_hidden u t) (Repeated (Shows u t))
 many_alike u skip = (refl, λ e. cc)
 many_alike u t = itself
 
 usage_alike : (u : Bool) (t n : Tree) (d : List Part) → TreesAlike u n t → TreesAlike u (custom_usage_form u n d) (custom_usage t d)
-usage_alike true t n [] f = (refl, λ e. cc)
-usage_alike true t n (p ∷ d) f = itself
-usage_alike false t n d f = f
+usage_alike u t n d h4 = grind (arith, itself)
 
 guarded_alike : (u : Bool) (r g : State) (n t : Tree) → TreesAlike u n t → TreesAlike u (guarded r g n) t
-guarded_alike u pull push n t f = f
-guarded_alike u r g n t f = f
+guarded_alike u r g n t h5 = grind arith
 
 pub name_form_twice : (u : Bool) (n : Name) → name_form u (name_form u n) ≡ name_form u n
-name_form_twice true (both c n) = refl
-name_form_twice false (both c n) = refl
-name_form_twice u n = refl
+name_form_twice u n = grind arith
 
 symbol-item_form : (u : Bool) (l : Leaf) → symbol_of u (item_form u l) ≡ symbol_of u l
-symbol-item_form u (flag n s e h) = rw (name_form_twice u n) refl
-symbol-item_form u (argument n s m e h) = rw (name_form_twice u n) refl
-symbol-item_form u l = refl
+symbol-item_form u l = grind (arith, name_form_twice)
 
 item_shows : (u : Bool) (l : Leaf) → Same (Shows u (item (item_form u l))) (Shows u (item l))
 item_shows u l = let e : symbol_of u (item_form u l) ≡ symbol_of u l = symbol-item_form u l in rw e (same (Only (symbol_of u l ∷ [])))
@@ -270,12 +226,10 @@ mutual
       part_alike u (guarded f g (normal_form u s t)) t (or_parts u s (state_after f g) ts) ts (guarded_alike u f g (normal_form u s t) t (normal_alike u s t)) (or_parts_alike u s (state_after f (state_out s t)) ts)
 
 outer_alike : (u : Bool) (t v : Tree) → TreesAlike u t v → TreesAlike u (outer_form t) v
-outer_alike u (required (or_of ts)) v f = f
-outer_alike u t v f = f
+outer_alike u t v h3 = grind arith
 
 strict_alike : (u : Bool) (s : State) (t v : Tree) → TreesAlike u t v → TreesAlike u (strict_if_push s t) v
-strict_alike u push t v f = f
-strict_alike u s t v f = f
+strict_alike u s t v h4 = grind arith
 
 -- the normal form shows what the tree shows
 pub normalized_shows : (u : Bool) (t : Tree) → ShowsSame u (normalized u t) t

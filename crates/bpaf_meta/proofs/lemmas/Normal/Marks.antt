@@ -1,5 +1,5 @@
 -- No `--` comes about in the normal form, and none is lost.
-use Rattle.std.proofs.Common.{Bool, true, false, ◌⊎◌, inl, inr, refl}
+use Rattle.std.proofs.Common.{Bool, true, false, ◌⊎◌, inl, inr, refl, arith}
 use Rattle.std.specs.Prelude.{IsTrue}
 use Rattle.bpaf_meta.specs.Content.{Tree, and_of, or_of, optional, required, adjacent, item, many, subsection, suffix, skip, custom_usage, strict, Trees, no_trees, tree}
 use Rattle.bpaf_meta.specs.Meta.Normal.{State, pull, push, strip, shown_trees, or_form, with_first_command, optional_form, required_form, many_form, guarded, state_after, strict_state, state_out, normal_form, and_parts, or_parts, or_state, outer_form, strict_if_push, normalized}
@@ -17,11 +17,7 @@ IsStrip s = ⊥
 -- none comes about
 
 not_push_after : (r g : State) → ¬ IsPush r → ¬ IsPush (state_after r g)
-not_push_after pull pull k = k
-not_push_after pull push k = λ x. x
-not_push_after pull strip k = λ x. x
-not_push_after push g k = absurd (k tt)
-not_push_after strip g k = λ x. x
+not_push_after r g h2 = grind arith
 
 or_state_pushes : (s f : State) (ts : Trees) → ¬ IsPush f → ¬ IsPush (or_state s f ts)
 or_state_pushes s f no_trees k = k
@@ -29,26 +25,20 @@ or_state_pushes s f (tree t ts) k = or_state_pushes s (state_after f (state_out 
 
 -- a `--` that is asked for stands in the tree
 asked : (s : State) (t : Tree) → ¬ IsPush s → IsPush (state_out s t) → HasStrict t
-asked s (and_of ts) k x = absurd (k x)
-asked s (or_of ts) k x = absurd (or_state_pushes s s ts k x)
 asked s (optional t) k x = asked s t k x
 asked s (required t) k x = asked s t k x
 asked s (adjacent t) k x = asked s t k x
-asked s (item l) k x = absurd (k x)
 asked s (many t) k x = asked s t k x
 asked s (subsection t d) k x = asked s t k x
 asked s (suffix t d) k x = asked s t k x
-asked s skip k x = absurd (k x)
 asked s (custom_usage t d) k x = asked s t k x
-asked s (strict t) k x = tt
+asked s y k x = grind (arith, or_state_pushes)
 
 guarded_comes : (r g : State) (n : Tree) → HasStrict (guarded r g n) → HasStrict n ⊎ IsPush g
-guarded_comes pull push n x = inr tt
-guarded_comes r g n x = inl x
+guarded_comes r g n h3 = grind arith
 
 part_comes : (r g : State) (t n : Tree) (vs ts : Trees) → (HasStrict n → HasStrict t) → (IsPush g → HasStrict t) → (SomeHasStrict vs → SomeHasStrict ts) → SomeHasStrict (tree (guarded r g n) vs) → SomeHasStrict (tree t ts)
-part_comes r g t n vs ts f p fs (inl x) = elim (guarded_comes r g n x) [ inl y ↦ inl (f y) | inr y ↦ inl (p y) ]
-part_comes r g t n vs ts f p fs (inr x) = inr (fs x)
+part_comes r g t n vs ts h6 h7 h8 h9 = grind (arith, guarded_comes)
 
 mutual
   comes : (u : Bool) (s : State) (t : Tree) → ¬ IsPush s → HasStrict (normal_form u s t) → HasStrict t
@@ -79,31 +69,16 @@ record Stays (Given Normal : Type 0) (out : State) : Type 0 where
   shown : IsStrip out → Normal
 
 inside_stays : (H N M : Type 0) (g : State) → (N → M) → Stays H N g → Stays H M g
-inside_stays H N M g f k = record {
-  form = λ x. elim (k.form x) [ inl n ↦ inl (f n) | inr p ↦ inr p ];
-  shown = λ x. f (k.shown x);
-}
+inside_stays H N M g f k = grind arith
 
 strict_stays : (H N : Type 0) (g : State) → Stays H N g → Stays (Unit {0}) N (strict_state g)
-strict_stays H N strip k = record { form = λ x. inl (k.shown tt); shown = λ x. k.shown tt }
-strict_stays H N s k = record { form = λ x. inr tt; shown = λ x. absurd x }
+strict_stays H N g h3 = grind arith
 
 and_step : (u : Bool) (t n : Tree) (ts : Trees) (g : State) → Stays (HasStrict t) (HasStrict n) g → (SomeHasStrict ts → SomeHasStrict (and_parts u pull ts)) → SomeHasStrict (tree t ts) → SomeHasStrict (tree (guarded pull g n) (and_parts u (state_after pull g) ts))
-and_step u t n ts pull k f (inl x) = elim (k.form x) [ inl y ↦ inl y | inr y ↦ absurd y ]
-and_step u t n ts pull k f (inr x) = inr (f x)
-and_step u t n ts push k f x = inl tt
-and_step u t n ts strip k f x = inl (k.shown tt)
+and_step u t n ts g h5 h6 h7 = grind arith
 
 or_step : (u : Bool) (t n : Tree) (ts : Trees) (g : State) → Stays (HasStrict t) (HasStrict n) g → Stays (SomeHasStrict ts) (SomeHasStrict (or_parts u pull pull ts)) (or_state pull pull ts) → Stays (SomeHasStrict (tree t ts)) (SomeHasStrict (tree (guarded pull g n) (or_parts u pull (state_after pull g) ts))) (or_state pull (state_after pull g) ts)
-or_step u t n ts pull k f = record {
-  form = λ x. elim x [
-    | inl y ↦ elim (k.form y) [ inl z ↦ inl (inl z) | inr z ↦ absurd z ]
-    | inr y ↦ elim (f.form y) [ inl z ↦ inl (inr z) | inr z ↦ inr z ]
-  ];
-  shown = λ x. inr (f.shown x);
-}
-or_step u t n ts push k f = record { form = λ x. inl (inl tt); shown = λ x. inl tt }
-or_step u t n ts strip k f = record { form = λ x. inl (inl (k.shown tt)); shown = λ x. inl (k.shown tt) }
+or_step u t n ts g h5 h6 = grind arith
 
 mutual
   stays : (u : Bool) (t : Tree) → (IsTrue u → ¬ HasCustomUsage t) → Stays (HasStrict t) (HasStrict (normal_form u pull t)) (state_out pull t)
@@ -137,13 +112,10 @@ mutual
 -- the last step
 
 outer_comes : (s : State) (t n : Tree) → (HasStrict n → HasStrict t) → (IsPush s → HasStrict t) → HasStrict (strict_if_push s n) → HasStrict t
-outer_comes push t n f p x = p tt
-outer_comes s t n f p x = f x
+outer_comes s t n h3 h4 h5 = grind arith
 
 last_keeps : (s : State) (n : Tree) → HasStrict n ⊎ IsPush s → HasStrict (strict_if_push s n)
-last_keeps push n x = tt
-last_keeps s n (inl x) = x
-last_keeps s n (inr x) = absurd x
+last_keeps s n h2 = grind arith
 
 given_stays : (s : State) (t n : Tree) → (HasStrict t → HasStrict n ⊎ IsPush s) → HasStrict t → HasStrict (strict_if_push s (outer_form n))
 given_stays s t n f x = last_keeps s (outer_form n) (elim (f x) [ inl y ↦ inl ((outer_strict n).1 y) | inr y ↦ inr y ])

@@ -1,7 +1,7 @@
 -- Lists of parts, as the loops of `normalized` make them.
 use Rattle.std.proofs.Common.{◌≡◌, ◌<◌, List, [], ◌∷◌, ◌++◌, length, Bool, true, false, ◌&&◌, refl, ap, ◌∙◌, arith}
 use Rattle.std.specs.Prelude.{◌||◌, if◌then◌else◌}
-use Rattle.bpaf_meta.specs.Content.{Tree, skip, and_of, or_of, required, Trees, no_trees, tree}
+use Rattle.bpaf_meta.specs.Content.{Tree, and_of, or_of, required, Trees, no_trees, tree}
 use Rattle.bpaf_meta.specs.View.{tree_of, trees_of}
 use Rattle.bpaf_meta.specs.declared.meta.Meta.{Meta}
 use Rattle.bpaf_meta.specs.declared.meta.form.Form.{Form}
@@ -13,20 +13,15 @@ use Rattle.bpaf_meta.specs.Meta.Steps.Passes.{is_skip_tree, with_shown, after_co
 -- what holds of each part holds of those that are left
 module _ (P : Tree → Type 0) (Q : Trees → Type 0) (part : (t : Tree) (ts : Trees) → Q (tree t ts) → P t × Q ts) (join : (t : Tree) (ts : Trees) → P t × Q ts → Q (tree t ts)) where
   one_of : (b : Bool) (ts vs : Trees) → Q ts → Q vs → Q (if b then ts else vs)
-  one_of true ts vs h k = h
-  one_of false ts vs h k = k
+  one_of b ts vs h3 h4 = grind arith
 
   without_each : (ts : Trees) → Q ts → Q (without_commands ts)
   without_each no_trees h = h
-  without_each (tree t ts) h =
-      let r = part t ts h in
-      one_of (is_command_tree t) (without_commands ts) (tree t (without_commands ts)) (without_each ts r.1) (join t (without_commands ts) (r.0, without_each ts r.1))
+  without_each (tree t ts) h = grind (arith, without_each ts, one_of)
 
   pub first_each : (ts : Trees) → Q ts → Q (with_first_command ts)
   first_each no_trees h = h
-  first_each (tree t ts) h =
-      let r = part t ts h in
-      join t (if is_command_tree t then without_commands ts else with_first_command ts) (r.0, one_of (is_command_tree t) (without_commands ts) (with_first_command ts) (without_each ts r.1) (first_each ts r.1))
+  first_each (tree t ts) h = grind (arith, first_each ts, one_of, without_each)
 
 pub trees_then_none : (ts : Trees) → trees_then ts no_trees ≡ ts
 trees_then_none no_trees = refl
@@ -52,51 +47,37 @@ pub with_shown_other : (ts : Trees) (t : Tree) → is_skip_tree t ≡ false → 
 with_shown_other ts t e = rw e refl
 
 alone_by : (seen b : Bool) (t : Tree) → is_command_tree t ≡ b → (b && seen) ≡ true → after_commands seen (tree t no_trees) ≡ no_trees
-alone_by true true t e h = rw e refl
-alone_by false true t e h = cc
-alone_by seen false t e h = cc
+alone_by seen b t h3 h4 = grind arith
 
 kept_by : (seen b : Bool) (t : Tree) → is_command_tree t ≡ b → (b && seen) ≡ false → after_commands seen (tree t no_trees) ≡ tree t no_trees
-kept_by true true t e h = cc
-kept_by true false t e h = rw e refl
-kept_by false true t e h = rw e refl
-kept_by false false t e h = rw e refl
+kept_by seen b t h3 h4 = grind arith
 
 pub after_none : (seen : Bool) → after_commands seen no_trees ≡ no_trees
-after_none true = refl
-after_none false = refl
+after_none seen = grind arith
 
 -- `keep_alternative`
 pub after_repeated : (seen : Bool) (t : Tree) → (is_command_tree t && seen) ≡ true → after_commands seen (with_shown t) ≡ no_trees
-after_repeated seen skip e = after_none seen
-after_repeated seen t e = alone_by seen (is_command_tree t) t refl e
+after_repeated seen t h2 = grind (arith, after_none, alone_by)
 
 pub after_kept : (seen : Bool) (t : Tree) → (is_command_tree t && seen) ≡ false → after_commands seen (with_shown t) ≡ with_shown t
-after_kept seen skip e = after_none seen
-after_kept seen t e = kept_by seen (is_command_tree t) t refl e
+after_kept seen t h2 = grind (arith, after_none, kept_by)
 
 -- a turn of the loop over an And
 and_alone : (t : Tree) (us : Trees) → trees_then (with_shown t) (shown_trees us) ≡ shown_trees (tree t us)
-and_alone skip us = refl
-and_alone t us = refl
+and_alone t us = grind arith
 
 pub and_turn : (ts : Trees) (t : Tree) (us : Trees) → trees_then (trees_then ts (with_shown t)) (shown_trees us) ≡ trees_then ts (shown_trees (tree t us))
 and_turn ts t us = trees_then_then ts (with_shown t) (shown_trees us) ∙ ap (trees_then ts) (and_alone t us)
 
 -- a turn of the loop over an Or
 by_command : (seen b : Bool) (t : Tree) (us : Trees) → is_command_tree t ≡ b → trees_then (after_commands seen (tree t no_trees)) (after_commands (seen || b) us) ≡ after_commands seen (tree t us)
-by_command true true t us e = rw e refl
-by_command true false t us e = rw e refl
-by_command false true t us e = rw e refl
-by_command false false t us e = rw e refl
+by_command seen b t us h4 = grind arith
 
 or_skip : (seen : Bool) (us : Trees) → trees_then (after_commands seen no_trees) (after_commands (seen || false) us) ≡ after_commands seen us
-or_skip true us = refl
-or_skip false us = refl
+or_skip seen us = grind arith
 
 or_alone : (seen : Bool) (t : Tree) (us : Trees) → trees_then (after_commands seen (with_shown t)) (after_commands (sees_command seen t) (shown_trees us)) ≡ after_commands seen (shown_trees (tree t us))
-or_alone seen skip us = or_skip seen (shown_trees us)
-or_alone seen t us = by_command seen (is_command_tree t) t (shown_trees us) refl
+or_alone seen t us = grind (arith, or_skip, by_command)
 
 pub or_turn : (seen : Bool) (ts : Trees) (t : Tree) (us : Trees) → trees_then (trees_then ts (after_commands seen (with_shown t))) (after_commands (sees_command seen t) (shown_trees us)) ≡ trees_then ts (after_commands seen (shown_trees (tree t us)))
 or_turn seen ts t us = trees_then_then ts (after_commands seen (with_shown t)) (after_commands (sees_command seen t) (shown_trees us)) ∙ ap (trees_then ts) (or_alone seen t us)

@@ -1,10 +1,10 @@
 -- Trees without Strict: their normal form has none, is Skip exactly where they are hidden, and is its own normal form.
-use Rattle.std.proofs.Common.{◌≡◌, ◌↔◌, ◌⊎◌, Bool, true, false, List, [], ◌∷◌, inl, inr, refl, sym, ap, ◌∙◌, subst}
+use Rattle.std.proofs.Common.{◌≡◌, ◌↔◌, ◌⊎◌, Bool, true, List, inl, inr, refl, sym, ap, ◌∙◌, subst, arith}
 use Rattle.std.specs.Prelude.{if◌then◌else◌}
 use Rattle.std.proofs.lemmas.Bool.{and_parts as conjuncts}
 use Rattle.bpaf_doc.specs.Buffer.Parts.{Part}
 use Rattle.bpaf_meta.specs.Content.{Tree, and_of, or_of, optional, required, adjacent, item, many, subsection, suffix, skip, custom_usage, strict, Trees, no_trees, tree}
-use Rattle.bpaf_meta.specs.Meta.Normal.{State, pull, push, strip, shown_trees, and_form, or_form, is_command_tree, without_commands, with_first_command, optional_many_form, optional_form, required_form, many_form, custom_usage_form, guarded, state_after, state_out, normal_form, and_parts, or_parts, or_state, outer_form, normalized}
+use Rattle.bpaf_meta.specs.Meta.Normal.{State, pull, shown_trees, and_form, or_form, is_command_tree, without_commands, with_first_command, optional_many_form, optional_form, required_form, many_form, custom_usage_form, guarded, state_after, state_out, normal_form, and_parts, or_parts, or_state, outer_form, normalized}
 use Rattle.bpaf_meta.specs.Meta.Sequences.{is_hidden, are_hidden}
 use Rattle.bpaf_meta.specs.Meta.Shape.{HasStrict, SomeHasStrict}
 use Rattle.bpaf_meta.proofs.lemmas.Normal.Keeps.{normalized_shows}
@@ -12,14 +12,10 @@ use Rattle.bpaf_meta.proofs.lemmas.Normal.Keeps.{normalized_shows}
 -- the state stays
 
 state_after_same : (s : State) → state_after s s ≡ s
-state_after_same pull = refl
-state_after_same push = refl
-state_after_same strip = refl
+state_after_same s = grind arith
 
 guarded_same : (s : State) (t : Tree) → guarded s s t ≡ t
-guarded_same pull t = refl
-guarded_same push t = refl
-guarded_same strip t = refl
+guarded_same s t = grind arith
 
 mutual
   state_kept : (s : State) (t : Tree) → ¬ HasStrict t → state_out s t ≡ s
@@ -57,10 +53,7 @@ and_parts_plain u s (tree t ts) h =
 
 pub or_parts_plain : (u : Bool) (s : State) (ts : Trees) → ¬ SomeHasStrict ts → or_parts u s s ts ≡ plain_parts u s ts
 or_parts_plain u s no_trees h = refl
-or_parts_plain u s (tree t ts) h =
-    let kept : state_out s t ≡ s = state_kept s t (λ x. h (inl x)) in
-    let rest : or_parts u s s ts ≡ plain_parts u s ts = or_parts_plain u s ts (λ x. h (inr x)) in
-    rw (kept, state_after_same s, guarded_same s (normal_form u s t), rest) refl
+or_parts_plain u s (tree t ts) h = grind (arith, or_parts_plain u s ts, state_kept, state_after_same, guarded_same)
 
 -- no Strict comes about
 
@@ -72,68 +65,51 @@ alone_strict : {P : Type 0} → P ↔ (P ⊎ ⊥)
 alone_strict = ((λ x. inl x), (λ x. elim x [ inl y ↦ y | inr y ↦ absurd y ]))
 
 pub and_form_strict : (ts : Trees) → HasStrict (and_form ts) ↔ SomeHasStrict ts
-and_form_strict (tree t no_trees) = alone_strict
-and_form_strict no_trees = itself
-and_form_strict (tree t (tree v ts)) = itself
+and_form_strict ts = grind (arith, alone_strict, itself)
 
 pub or_form_strict : (ts : Trees) → HasStrict (or_form ts) ↔ SomeHasStrict ts
-or_form_strict (tree t no_trees) = alone_strict
-or_form_strict no_trees = itself
-or_form_strict (tree t (tree v ts)) = itself
+or_form_strict ts = grind (arith, alone_strict, itself)
 
 some_tail : {P Q R : Type 0} → Q ↔ R → (P ⊎ Q) ↔ (P ⊎ R)
-some_tail f = (
-  (λ x. elim x [ inl y ↦ inl y | inr y ↦ inr (f.0 y) ]),
-  (λ x. elim x [ inl y ↦ inl y | inr y ↦ inr (f.1 y) ]),
-)
+some_tail f = grind arith
 
 pub shown_strict : (ts : Trees) → SomeHasStrict (shown_trees ts) ↔ SomeHasStrict ts
 shown_strict no_trees = itself
-shown_strict (tree skip ts) = let f = shown_strict ts in ((λ x. inr (f.0 x)), (λ x. elim x [ inl y ↦ absurd y | inr y ↦ f.1 y ]))
-shown_strict (tree t ts) = some_tail (shown_strict ts)
+shown_strict (tree x ts) = grind (arith, shown_strict ts, some_tail)
 
 -- a command holds none
 command_holds_none : (t : Tree) → is_command_tree t ≡ true → ¬ HasStrict t
-command_holds_none (item l) e x = x
 command_holds_none (subsection t d) e x = command_holds_none t e x
-command_holds_none t e x = cc
+command_holds_none y e x = grind arith
 
 without_by : (b : Bool) (t : Tree) (ns ts : Trees) → is_command_tree t ≡ b → SomeHasStrict ns ↔ SomeHasStrict ts → SomeHasStrict (if b then ns else tree t ns) ↔ SomeHasStrict (tree t ts)
-without_by true t ns ts e f = ((λ x. inr (f.0 x)), (λ x. elim x [ inl y ↦ absurd (command_holds_none t e y) | inr y ↦ f.1 y ]))
-without_by false t ns ts e f = some_tail f
+without_by b t ns ts h4 h5 = grind (arith, command_holds_none, some_tail)
 
 without_strict : (ts : Trees) → SomeHasStrict (without_commands ts) ↔ SomeHasStrict ts
 without_strict no_trees = itself
 without_strict (tree t ts) = without_by (is_command_tree t) t (without_commands ts) ts refl (without_strict ts)
 
 first_by : (b : Bool) (ns vs ts : Trees) → SomeHasStrict ns ↔ SomeHasStrict ts → SomeHasStrict vs ↔ SomeHasStrict ts → SomeHasStrict (if b then ns else vs) ↔ SomeHasStrict ts
-first_by true ns vs ts f g = f
-first_by false ns vs ts f g = g
+first_by b ns vs ts h4 h5 = grind arith
 
 pub first_strict : (ts : Trees) → SomeHasStrict (with_first_command ts) ↔ SomeHasStrict ts
 first_strict no_trees = itself
 first_strict (tree t ts) = some_tail (first_by (is_command_tree t) (without_commands ts) (with_first_command ts) ts (without_strict ts) (first_strict ts))
 
 optional_many_strict : (t : Tree) → HasStrict (optional_many_form t) ↔ HasStrict t
-optional_many_strict (required t) = itself
-optional_many_strict t = itself
+optional_many_strict t = grind (arith, itself)
 
 pub optional_strict : (t : Tree) → HasStrict (optional_form t) ↔ HasStrict t
-optional_strict (many t) = optional_many_strict t
-optional_strict t = itself
+optional_strict t = grind (arith, optional_many_strict, itself)
 
 pub required_strict : (t : Tree) → HasStrict (required_form t) ↔ HasStrict t
-required_strict skip = itself
-required_strict t = itself
+required_strict t = grind (arith, itself)
 
 pub many_strict : (t : Tree) → HasStrict (many_form t) ↔ HasStrict t
-many_strict skip = itself
-many_strict t = itself
+many_strict t = grind (arith, itself)
 
 pub usage_strict : (u : Bool) (t : Tree) (d : List Part) → HasStrict (custom_usage_form u t d) → HasStrict t
-usage_strict true t [] x = absurd x
-usage_strict true t (p ∷ d) x = x
-usage_strict false t d x = x
+usage_strict u t d h3 = grind arith
 
 mutual
   pub no_strict : (u : Bool) (s : State) (t : Tree) → ¬ HasStrict t → ¬ HasStrict (normal_form u s t)
@@ -161,8 +137,7 @@ mutual
   none_strict u s (tree t ts) h (inr x) = none_strict u s ts (λ y. h (inr y)) x
 
 pub outer_strict : (t : Tree) → HasStrict (outer_form t) ↔ HasStrict t
-outer_strict (required (or_of ts)) = itself
-outer_strict t = itself
+outer_strict t = grind (arith, itself)
 
 -- without Strict the last step does nothing
 pub normalized_plain : (u : Bool) (t : Tree) → ¬ HasStrict t → normalized u t ≡ outer_form (normal_form u pull t)
@@ -175,9 +150,7 @@ normalized_no_strict u t h x = no_strict u pull t h ((outer_strict (normal_form 
 -- hidden is Skip
 
 usage_skip : (u : Bool) (t n : Tree) (d : List Part) → is_hidden u (custom_usage t d) ≡ true → (is_hidden u t ≡ true → n ≡ skip) → custom_usage_form u n d ≡ skip
-usage_skip true t n [] e f = refl
-usage_skip true t n (p ∷ d) e f = cc
-usage_skip false t n d e f = f e
+usage_skip u t n d h4 h5 = grind arith
 
 mutual
   normal_skip : (u : Bool) (s : State) (t : Tree) → ¬ HasStrict t → is_hidden u t ≡ true → normal_form u s t ≡ skip

@@ -1,8 +1,8 @@
 -- The normal form has the usage shape.
-use Rattle.std.proofs.Common.{Bool, true, false, List, [], ◌∷◌, refl}
+use Rattle.std.proofs.Common.{Bool, List, arith}
 use Rattle.bpaf_doc.specs.Buffer.Parts.{Part}
-use Rattle.bpaf_meta.specs.Content.{Name, both, Tree, and_of, or_of, optional, required, adjacent, item, many, subsection, suffix, skip, custom_usage, strict, Trees, no_trees, tree, Leaf, flag, argument}
-use Rattle.bpaf_meta.specs.Meta.Normal.{State, pull, push, shown_trees, and_form, or_form, with_first_command, optional_many_form, optional_form, required_form, many_form, custom_usage_form, name_form, item_form, guarded as guarded_part, state_after, state_out, normal_form, and_parts, or_parts, outer_form, strict_if_push, normalized}
+use Rattle.bpaf_meta.specs.Content.{Name, Tree, and_of, or_of, optional, required, adjacent, item, many, subsection, suffix, skip, custom_usage, strict, Trees, no_trees, tree, Leaf}
+use Rattle.bpaf_meta.specs.Meta.Normal.{State, pull, shown_trees, and_form, or_form, with_first_command, optional_many_form, optional_form, required_form, many_form, custom_usage_form, name_form, item_form, guarded as guarded_part, state_after, state_out, normal_form, and_parts, or_parts, outer_form, strict_if_push, normalized}
 use Rattle.bpaf_meta.specs.Meta.Shape.{whole, guarded, among, IsOneName, HasOneName, HasShapeAt, EachHasShape, HasUsageShape}
 use Rattle.bpaf_meta.proofs.lemmas.Normal.Parts.{first_each}
 
@@ -29,54 +29,34 @@ and_form_shape u (tree t no_trees) h = among_guarded u t h.0
 and_form_shape u (tree t (tree v ts)) h = (tt, h)
 
 or_form_shape : (u : Bool) (ts : Trees) → EachHasShape u ts → HasShapeAt u guarded (or_form ts)
-or_form_shape u no_trees h = tt
-or_form_shape u (tree t no_trees) h = among_guarded u t h.0
-or_form_shape u (tree t (tree v ts)) h = (tt, (tt, tt, h))
+or_form_shape u ts h2 = grind (arith, among_guarded)
 
 first_shape : (u : Bool) (ts : Trees) → EachHasShape u ts → EachHasShape u (with_first_command ts)
 first_shape u = first_each (HasShapeAt u among) (EachHasShape u) (λ t ts h. h) (λ t ts h. h)
 
 optional_many_shape : (u : Bool) (t : Tree) → HasShapeAt u among t → HasShapeAt u guarded (optional_many_form t)
-optional_many_shape u (required t) h = h.1
-optional_many_shape u t h = h
+optional_many_shape u t h2 = grind arith
 
 optional_shape : (u : Bool) (t : Tree) → HasShapeAt u guarded t → HasShapeAt u guarded (optional_form t)
-optional_shape u skip h = tt
-optional_shape u (required t) h = h.1
-optional_shape u (optional t) h = h
-optional_shape u (many t) h = optional_many_shape u t h
-optional_shape u (or_of ts) h = absurd h.0
-optional_shape u t h = h
+optional_shape u t h2 = grind (arith, optional_many_shape)
 
 required_shape : (u : Bool) (t : Tree) → HasShapeAt u guarded t → HasShapeAt u guarded (required_form t)
-required_shape u skip h = tt
-required_shape u (and_of ts) h = (tt, h)
-required_shape u (or_of ts) h = absurd h.0
-required_shape u t h = h
+required_shape u t h2 = grind arith
 
 many_shape : (u : Bool) (t : Tree) → HasShapeAt u guarded t → HasShapeAt u guarded (many_form t)
-many_shape u skip h = tt
-many_shape u (or_of ts) h = absurd h.0
-many_shape u t h = h
+many_shape u t h2 = grind arith
 
 usage_shape : (u : Bool) (n : Tree) (d : List Part) → HasShapeAt u guarded n → HasShapeAt u guarded (custom_usage_form u n d)
-usage_shape true n [] h = tt
-usage_shape true n (p ∷ d) h = (refl, h)
-usage_shape false n d h = h
+usage_shape u n d h3 = grind arith
 
 name_shape : (u : Bool) (n : Name) → IsOneName (name_form u n)
-name_shape true (both c n) = tt
-name_shape false (both c n) = tt
-name_shape u n = tt
+name_shape u n = grind arith
 
 item_shape : (u : Bool) (l : Leaf) → HasOneName (item_form u l)
-item_shape u (flag n s e h) = name_shape u n
-item_shape u (argument n s m e h) = name_shape u n
-item_shape u l = tt
+item_shape u l = grind (arith, name_shape)
 
 part_shape : (u : Bool) (r g : State) (n : Tree) → HasShapeAt u guarded n → HasShapeAt u guarded (guarded_part r g n)
-part_shape u pull push n h = h
-part_shape u r g n h = h
+part_shape u r g n h4 = grind arith
 
 mutual
   normal_shape : (u : Bool) (s : State) (t : Tree) → HasShapeAt u guarded (normal_form u s t)
@@ -102,19 +82,14 @@ mutual
   or_parts_shape u s f (tree t ts) = (part_shape u f (state_out s t) (normal_form u s t) (normal_shape u s t), or_parts_shape u s (state_after f (state_out s t)) ts)
 
 outer_shape : (u : Bool) (t : Tree) → HasShapeAt u guarded t → HasShapeAt u guarded (outer_form t)
-outer_shape u (required (and_of ts)) h = h.1
-outer_shape u (required (or_of ts)) h = h
-outer_shape u (required t) h = absurd h.0
-outer_shape u (or_of ts) h = absurd h.0
-outer_shape u t h = h
+outer_shape u t h2 = grind arith
 
 guarded_whole : (u : Bool) (t : Tree) → HasShapeAt u guarded t → HasShapeAt u whole t
 guarded_whole u (or_of ts) h = absurd h.0
 guarded_whole u t h = h
 
 strict_shape : (u : Bool) (s : State) (t : Tree) → HasShapeAt u guarded t → HasShapeAt u guarded (strict_if_push s t)
-strict_shape u push t h = h
-strict_shape u s t h = h
+strict_shape u s t h3 = grind arith
 
 -- the normal form has the usage shape
 pub normalized_shape : (u : Bool) (t : Tree) → HasUsageShape u (normalized u t)

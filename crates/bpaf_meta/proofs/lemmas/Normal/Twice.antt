@@ -1,8 +1,8 @@
 -- Without Strict the normal form is its own normal form.
-use Rattle.std.proofs.Common.{◌≡◌, Bool, true, false, List, [], ◌∷◌, inl, inr, refl, sym, ap, ◌∙◌, subst}
+use Rattle.std.proofs.Common.{◌≡◌, Bool, List, inl, inr, refl, sym, ap, ◌∙◌, subst, arith}
 use Rattle.std.specs.Prelude.{if◌then◌else◌, ⊤}
 use Rattle.bpaf_doc.specs.Buffer.Parts.{Part}
-use Rattle.bpaf_meta.specs.Content.{Tree, and_of, or_of, optional, required, adjacent, item, many, subsection, suffix, skip, custom_usage, strict, Trees, no_trees, tree, Leaf, flag, argument}
+use Rattle.bpaf_meta.specs.Content.{Tree, and_of, or_of, optional, required, adjacent, item, many, subsection, suffix, skip, custom_usage, strict, Trees, no_trees, tree, Leaf}
 use Rattle.bpaf_meta.specs.Meta.Normal.{State, pull, shown_trees, and_form, or_form, is_command_tree, without_commands, with_first_command, optional_many_form, optional_form, required_form, many_form, custom_usage_form, item_form, normal_form, and_parts, or_parts, outer_form, normalized}
 use Rattle.bpaf_meta.specs.Meta.Shape.{HasStrict, SomeHasStrict}
 use Rattle.bpaf_meta.proofs.lemmas.Normal.Keeps.{name_form_twice}
@@ -42,16 +42,14 @@ first_stays : (u : Bool) (s : State) (ts : Trees) → EachStays u s ts → EachS
 first_stays u s = first_each (λ t. Stays u s t × IsShown t × (¬ HasStrict t)) (EachStays u s) (λ t ts h. h) (λ t ts h. h)
 
 without_step : (t : Tree) (ts : Trees) (b : Bool) → is_command_tree t ≡ b → without_commands (without_commands ts) ≡ without_commands ts → without_commands (if b then without_commands ts else tree t (without_commands ts)) ≡ (if b then without_commands ts else tree t (without_commands ts))
-without_step t ts true e h = h
-without_step t ts false e h = rw (e, h) refl
+without_step t ts b h3 h4 = grind arith
 
 without_twice : (ts : Trees) → without_commands (without_commands ts) ≡ without_commands ts
 without_twice no_trees = refl
 without_twice (tree t ts) = without_step t ts (is_command_tree t) refl (without_twice ts)
 
 first_step : (t : Tree) (ts : Trees) (b : Bool) → is_command_tree t ≡ b → with_first_command (with_first_command ts) ≡ with_first_command ts → with_first_command (tree t (if b then without_commands ts else with_first_command ts)) ≡ tree t (if b then without_commands ts else with_first_command ts)
-first_step t ts true e h = rw (e, without_twice ts) refl
-first_step t ts false e h = rw (e, h) refl
+first_step t ts b h3 h4 = grind (arith, without_twice)
 
 first_twice : (ts : Trees) → with_first_command (with_first_command ts) ≡ with_first_command ts
 first_twice no_trees = refl
@@ -78,12 +76,10 @@ or_form_stays u s (tree t (tree v ts)) h e =
     ap (λ ws. required_form (or_form ws)) kept
 
 optional-required_form : (t : Tree) → optional_form (required_form t) ≡ optional_form t
-optional-required_form skip = refl
-optional-required_form t = refl
+optional-required_form t = grind arith
 
 outer-required_form : (t : Tree) → outer_form (required_form t) ≡ outer_form t
-outer-required_form skip = refl
-outer-required_form t = refl
+outer-required_form t = grind arith
 
 inner_of_many : Tree → Tree
 inner_of_many (many t) = t
@@ -91,52 +87,32 @@ inner_of_many t = skip
 
 inner-many_form : (t : Tree) → inner_of_many (many_form t) ≡ t
 unfolding inner_of_many
-inner-many_form skip = refl
-inner-many_form t = refl
+inner-many_form t = grind arith
 
 inner-many : (t v : Tree) → many_form t ≡ many v → t ≡ v
 unfolding inner_of_many
 inner-many t v e = sym (inner-many_form t) ∙ ap inner_of_many e
 
 optional_many_stays : (u : Bool) (s : State) (t : Tree) → Stays u s (many t) → Stays u s (optional_many_form t)
-optional_many_stays u s (required t) e =
-    let n : Tree = normal_form u s t in
-    let is : required_form n ≡ required t = inner-many (required_form n) (required t) e in
-    let opt : optional_form n ≡ optional t = sym (optional-required_form n) ∙ ap optional_form is in
-    ap many_form opt
-optional_many_stays u s t e = ap optional_form e
+optional_many_stays u s t h3 = grind (arith, inner-many, optional-required_form)
 
 optional_stays : (u : Bool) (s : State) (t : Tree) → Stays u s t → Stays u s (optional_form t)
-optional_stays u s skip e = refl
-optional_stays u s (required t) e = sym (optional-required_form (normal_form u s t)) ∙ ap optional_form e
-optional_stays u s (optional t) e = e
-optional_stays u s (many t) e = optional_many_stays u s t e
-optional_stays u s t e = ap optional_form e
+optional_stays u s t h3 = grind (arith, optional-required_form, optional_many_stays)
 
 required_stays : (u : Bool) (s : State) (t : Tree) → Stays u s t → Stays u s (required_form t)
-required_stays u s skip e = refl
-required_stays u s (and_of ts) e = ap required_form e
-required_stays u s (or_of ts) e = ap required_form e
-required_stays u s t e = e
+required_stays u s t h3 = grind arith
 
 many_stays : (u : Bool) (s : State) (t : Tree) → Stays u s t → Stays u s (many_form t)
-many_stays u s skip e = refl
-many_stays u s t e = ap many_form e
+many_stays u s t h3 = grind arith
 
 usage_stays : (u : Bool) (s : State) (t : Tree) (d : List Part) → Stays u s t → Stays u s (custom_usage_form u t d)
-usage_stays true s t [] e = refl
-usage_stays true s t (p ∷ d) e = ap (λ n. custom_usage n (p ∷ d)) e
-usage_stays false s t d e = e
+usage_stays u s t d h4 = grind arith
 
 item_stays : (u : Bool) (l : Leaf) → item_form u (item_form u l) ≡ item_form u l
-item_stays u (flag n s e h) = ap (λ m. flag m s e h) (name_form_twice u n)
-item_stays u (argument n s m e h) = ap (λ v. argument v s m e h) (name_form_twice u n)
-item_stays u l = refl
+item_stays u l = grind (arith, name_form_twice)
 
 part_stays : (u : Bool) (s : State) (n : Tree) (ns : Trees) → Stays u s n → (¬ HasStrict n) → EachStays u s (shown_trees ns) → EachStays u s (shown_trees (tree n ns))
-part_stays u s skip ns e h k = k
-part_stays u s (strict n) ns e h k = absurd (h tt)
-part_stays u s n ns e h k = ((e, tt, h), k)
+part_stays u s n ns h4 h5 h6 = grind arith
 
 mutual
   normal_stays : (u : Bool) (s : State) (t : Tree) → (¬ HasStrict t) → Stays u s (normal_form u s t)
@@ -164,10 +140,7 @@ mutual
   parts_stay u s (tree t ts) h = part_stays u s (normal_form u s t) (plain_parts u s ts) (normal_stays u s t (λ x. h (inl x))) (no_strict u s t (λ x. h (inl x))) (parts_stay u s ts (λ x. h (inr x)))
 
 outer_stays : (u : Bool) (s : State) (t : Tree) → Stays u s t → outer_form (normal_form u s (outer_form t)) ≡ outer_form t
-outer_stays u s (required (or_of ts)) e = ap outer_form e
-outer_stays u s (required t) e = sym (outer-required_form (normal_form u s t)) ∙ ap outer_form e
-outer_stays u s (or_of ts) e = ap (λ n. outer_form (required_form n)) e
-outer_stays u s t e = ap outer_form e
+outer_stays u s t h3 = grind (arith, outer-required_form)
 
 -- without Strict, normalising twice is normalising once
 pub normalized_twice : (u : Bool) (t : Tree) → (¬ HasStrict t) → normalized u (normalized u t) ≡ normalized u t

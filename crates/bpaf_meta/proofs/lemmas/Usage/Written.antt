@@ -1,9 +1,8 @@
 -- What several writes in a row leave in a document.
-use Rattle.std.proofs.Common.{◌≡◌, ℕ, Bool, true, false, List, [], ◌∷◌, ◌++◌, sym, refl, ap, ◌∙◌, append_assoc, Result, Ok, Err}
+use Rattle.std.proofs.Common.{◌≡◌, ℕ, Bool, true, false, List, [], ◌∷◌, ◌++◌, sym, refl, ap, ◌∙◌, append_assoc, Result, arith}
 use Rattle.std.specs.Prelude.{OnOk, OnErr, flat_map, if◌then◌else◌}
 use Rattle.std.proofs.lemmas.List.Sums.{fold-append}
 use Rattle.bpaf_doc.specs.declared.buffer.Style.{Style}
-use Rattle.bpaf_doc.specs.declared.buffer.Style.TheVariants as style
 use Rattle.bpaf_doc.specs.Buffer.Growth.{Grows}
 use Rattle.bpaf_doc.specs.Buffer.Parts.{Part, Text, Start, End}
 use Rattle.bpaf_doc.specs.Buffer.Writes.{Write, same_style, part_then_text, plain, with_text, with_write, with_writes}
@@ -13,16 +12,14 @@ pub with_writes-append : (ps : List Part) (vs ws : List Write) → with_writes p
 with_writes-append ps vs ws = fold-append with_write ps vs ws
 
 pub OnOk-map : {T E P Q : Type 0} (r : Result T E) → (P → Q) → OnOk r P → OnOk r Q
-OnOk-map (Ok x) f p = f p
-OnOk-map (Err e) f p = tt
+OnOk-map r h1 h2 = grind arith
 
 -- a growth after a growth; what a call that writes leaves
 pub Grows-then : (ps qs rs : List Part) → Grows ps qs → Grows qs rs → Grows ps rs
 Grows-then ps qs rs f g = (f.0 ++ g.0, g.1 ∙ ap (λ xs. with_writes xs g.0) f.1 ∙ sym (with_writes-append ps f.0 g.0))
 
 pub Grows-call : {T E : Type 0} (r : Result T E) (ps qs : List Part) (ws : List Write) → OnOk r (qs ≡ with_writes ps ws) → OnErr r (qs ≡ ps) → Grows ps qs
-Grows-call (Ok x) ps qs ws ok err = (ws, ok)
-Grows-call (Err e) ps qs ws ok err = ([], err)
+Grows-call r ps qs ws h4 h5 = grind arith
 
 pub Grows-by : (ps qs : List Part) (ws : List Write) → qs ≡ with_writes ps ws → Grows ps qs
 Grows-by ps qs ws e = (ws, e)
@@ -33,15 +30,13 @@ IsFilled [] = ⊥
 IsFilled (p ∷ ps) = Unit {0}
 
 same_as_itself : (s : Style) → same_style s s ≡ true
-same_as_itself style.Text = refl
-same_as_itself s = refl
+same_as_itself s = grind arith
 
 alone_twice : (a b : List ℕ) (s : Style) → part_then_text (Text a s) b s ≡ Text (a ++ b) s ∷ []
 alone_twice a b s = rw (same_as_itself s) refl
 
 text_twice : (v : Bool) (c a b : List ℕ) (k s : Style) → same_style k s ≡ v → with_text (part_then_text (Text c k) a s) b s ≡ part_then_text (Text c k) (a ++ b) s
-text_twice true c a b k s e = rw (e, same_as_itself s) (ap (λ bytes. Text bytes s ∷ []) (append_assoc c a b))
-text_twice false c a b k s e = rw e (ap (λ ps. Text c k ∷ ps) (alone_twice a b s))
+text_twice v c a b k s h6 = grind (arith, same_as_itself, append_assoc, alone_twice)
 
 part_twice : (p : Part) (a b : List ℕ) (s : Style) → with_text (part_then_text p a s) b s ≡ part_then_text p (a ++ b) s
 part_twice (Text c k) a b s = text_twice (same_style k s) c a b k s refl
@@ -49,20 +44,16 @@ part_twice (Start m) a b s = ap (λ ps. Start m ∷ ps) (alone_twice a b s)
 part_twice (End m) a b s = ap (λ ps. End m ∷ ps) (alone_twice a b s)
 
 filled_by : (v : Bool) (c b : List ℕ) (k s : Style) → IsFilled (if v then Text (c ++ b) s ∷ [] else Text c k ∷ Text b s ∷ [])
-filled_by true c b k s = tt
-filled_by false c b k s = tt
+filled_by v c b k s = grind arith
 
 filled_part : (p : Part) (b : List ℕ) (s : Style) → IsFilled (part_then_text p b s)
-filled_part (Text c k) b s = filled_by (same_style k s) c b k s
-filled_part p b s = tt
+filled_part p b s = grind (arith, filled_by)
 
 filled : (q : Part) (qs : List Part) (b : List ℕ) (s : Style) → IsFilled (with_text (q ∷ qs) b s)
-filled q [] b s = filled_part q b s
-filled q (r ∷ qs) b s = tt
+filled q qs b s = grind (arith, filled_part)
 
 past_part : (p : Part) (qs : List Part) (b : List ℕ) (s : Style) → IsFilled qs → with_text (p ∷ qs) b s ≡ p ∷ with_text qs b s
-past_part p [] b s f = absurd f
-past_part p (q ∷ qs) b s f = refl
+past_part p qs b s h4 = grind arith
 
 pub with_text_twice : (ps : List Part) (a b : List ℕ) (s : Style) → with_text (with_text ps a s) b s ≡ with_text ps (a ++ b) s
 with_text_twice [] a b s = alone_twice a b s
@@ -75,12 +66,8 @@ rest_of_line true bytes wss = separated bytes wss
 rest_of_line false bytes wss = flat_map (λ ws. plain bytes ∷ ws) wss
 
 line_turn : (is_first : Bool) (bytes : List ℕ) (ws : List Write) (wss : List (List Write)) → rest_of_line is_first bytes (ws ∷ wss) ≡ (if is_first then [] else plain bytes ∷ []) ++ (ws ++ rest_of_line false bytes wss)
-line_turn true bytes ws wss = refl
-line_turn false bytes ws wss = refl
+line_turn is_first bytes ws wss = grind arith
 
 -- a turn of the loop over a line
 pub written_turn : (is_first : Bool) (bytes : List ℕ) (ws : List Write) (wss all : List (List Write)) (start before between after : List Part) → between ≡ with_writes before (if is_first then [] else plain bytes ∷ []) → after ≡ with_writes between ws → with_writes before (rest_of_line is_first bytes (ws ∷ wss)) ≡ with_writes start (rest_of_line true bytes all) → with_writes after (rest_of_line false bytes wss) ≡ with_writes start (rest_of_line true bytes all)
-written_turn is_first bytes ws wss all start before between after e f h =
-    let opening : List Write = if is_first then [] else plain bytes ∷ [] in
-    let later : List Write = rest_of_line false bytes wss in
-    ap (λ qs. with_writes qs later) f ∙ sym (with_writes-append between ws later) ∙ ap (λ qs. with_writes qs (ws ++ later)) e ∙ sym (with_writes-append before opening (ws ++ later)) ∙ ap (with_writes before) (sym (line_turn is_first bytes ws wss)) ∙ h
+written_turn is_first bytes ws wss all start before between after e f h = grind (arith, with_writes-append, line_turn)

@@ -1,4 +1,4 @@
-use Rattle.std.proofs.Common.{◌≡◌, ◌↔◌, Bool, true, Result, Ok, Err, IfOk, sym, subst}
+use Rattle.std.proofs.Common.{◌≡◌, ◌↔◌, Bool, true, Result, IfOk, arith}
 use Rattle.std.specs.declared.alloc.AllocError.{AllocError}
 use Rattle.bpaf_meta.specs.Content.{Tree, skip}
 use Rattle.bpaf_meta.specs.View.{tree_of}
@@ -15,8 +15,7 @@ use Rattle.bpaf_meta.proofs.meta.Meta.normalized.Goals as goal
 
 -- what holds of the tree of the table holds of the answer
 of_table : {A : Type 0} (u : Bool) (t : Tree) (r : Result (Meta A) AllocError) (P : Tree → Type 0) → P (normalized u t) → IfOk r (λ m. tree_of m ≡ normalized u t) → IfOk r (λ m. P (tree_of m))
-of_table u t (Ok m) P p e = subst P (sym e) p
-of_table u t (Err x) P p e = tt
+of_table u t r P h4 h5 = grind arith
 
 pub returns-clause-shape : goal.returns-clause-shape
 returns-clause-shape g c = of_table c.args.for_usage (tree_of c.args.self.now) c.form_of_table.result (HasUsageShape c.args.for_usage) (normalized_shape c.args.for_usage (tree_of c.args.self.now)) c.form_of_table.ensures
