@@ -1,5 +1,5 @@
 -- Lists in which nothing stands twice.
-use Rattle.std.proofs.Common.{◌≡◌, ℕ, true, not, List, [], ◌∷◌, ◌++◌, bytes_eq, flat_map, refl, sym, ap, ◌∙◌, subst, inl, inr, ⊎_elim}
+use Rattle.std.proofs.Common.{◌≡◌, ℕ, true, not, List, [], ◌∷◌, ◌++◌, bytes_eq, flat_map, refl, sym, ap, ◌∙◌, subst, inl, inr, ⊎_elim, arith}
 use Rattle.std.specs.List.{list_any}
 use Rattle.std.proofs.lemmas.Bool.{and_from, and_parts, cases_Bool, false≢true, not-true, or_cases, or_left, or_right, true≢false}
 use Rattle.std.proofs.lemmas.Slice.Eq.{bytes_eq-Decides}
@@ -37,9 +37,7 @@ distinct_swap xs ys h = distinct_append ys xs (distinct_right xs ys h) (distinct
 
 pub distinct_flat : {X Y : Type 0} (f g : X → List Y) → ((x : X) → Within (g x) (f x)) → ((x : X) → Distinct (g x)) → (xs : List X) → Distinct (flat_map f xs) → Distinct (flat_map g xs)
 distinct_flat f g part own [] h = tt
-distinct_flat f g part own (x ∷ xs) h =
-    distinct_append (g x) (flat_map g xs) (own x) (distinct_flat f g part own xs (distinct_right (f x) (flat_map f xs) h))
-    (λ y a b. distinct_apart (f x) (flat_map f xs) h y (part x y a) (within_flat f g part xs y b))
+distinct_flat f g part own (x ∷ xs) h = grind (arith, distinct_flat f g part own xs, distinct_append, distinct_right, distinct_apart, within_flat)
 
 -- ---- as a test
 

@@ -1,8 +1,8 @@
 -- The texts that a heading of a manual page captures: where each of a document is read once, so is each argument of a control among the events of the document.
-use Rattle.std.proofs.Common.{◌≡◌, ℕ, ◌+◌, ◌-◌, append_assoc, drop, length, Bool, true, false, List, [], ◌∷◌, ◌++◌, map, flat_map, refl, ap, ◌∙◌, arith, append-nil, Option, Some, None, option_and_then}
-use Rattle.std.specs.Prelude.{◌&&◌, not, if◌then◌else◌, find, fold, reverse}
+use Rattle.std.proofs.Common.{◌≡◌, ℕ, append_assoc, Bool, true, false, List, [], ◌∷◌, ◌++◌, map, flat_map, refl, ap, ◌∙◌, arith, append-nil, Option, Some, None, option_and_then}
+use Rattle.std.specs.Prelude.{◌&&◌, if◌then◌else◌, find, fold, reverse}
 use Rattle.std.specs.Char.{to_ascii_uppercase}
-use Rattle.std.specs.List.{after_last, list_all, prefix_len}
+use Rattle.std.specs.List.{after_last, list_all}
 use Rattle.std.proofs.lemmas.Bool.{and_parts, and_from}
 use Rattle.std.proofs.lemmas.Bool.Decides.{nat_tests}
 use Rattle.std.proofs.lemmas.Grind.{flat_map-append}
@@ -18,7 +18,7 @@ use Rattle.bpaf_doc.specs.Buffer.Writes as write
 use Rattle.bpaf_doc.specs.Buffer.Writes.{Write, same_style, with_text, with_write, with_writes, document_of, doc_writes, path_writes, inside}
 use Rattle.bpaf_doc.specs.Manpage.Events as page
 use Rattle.bpaf_doc.specs.Manpage.Events.{Step, captured_text, captured_texts, is_section_end, is_start, emphasis_steps, end_steps, events_of_steps, font_of, heading, is_section, is_section_mark, last_is_start, line_ends, page_events, page_steps, place_steps, places, span_text, start_steps, starts_line, step_events}
-use Rattle.bpaf_doc.specs.Manpage.Reader.{Control, Span, LineEnd}
+use Rattle.bpaf_doc.specs.Manpage.Reader.{Span, LineEnd}
 use Rattle.description.specs.Described.Texts.{is_read_once}
 use Rattle.description.specs.ReadOnce.{has_words_read_once, is_word_read_once}
 use Rattle.description.proofs.Each.{Each}
@@ -67,31 +67,17 @@ pub record Captured (ws : List Write) : Type 0 where
 -- ---- a text that joins another is captured as the two are
 
 joined : (o : Option Bool) (xs ys : List ℕ) → option_and_then (behind_text (xs ++ ys)) o ≡ option_and_then (behind_text ys) (option_and_then (behind_text xs) o)
-joined None xs ys = refl
-joined (Some false) xs ys = refl
-joined (Some true) xs ys = ap (λ b. if b then Some true else None) (list_all-append is_read_once xs ys) ∙ by (list_all is_read_once xs) where
-  by : (b : Bool) → (if b && list_all is_read_once ys then Some true else None) ≡ option_and_then (behind_text ys) (if b then Some true else None)
-  by true = refl
-  by false = refl
+joined o xs ys = grind (arith, list_all-append)
 
 text_last : (o : Option Bool) (p : Part) (bytes : List ℕ) (how : Style) → fold then_part o (with_text (p ∷ []) bytes how) ≡ option_and_then (behind_text bytes) (then_part o p)
-text_last o (Text before kind) bytes how = by (same_style kind how) where
-  by : (b : Bool) → fold then_part o (if b then Text (before ++ bytes) how ∷ [] else Text before kind ∷ Text bytes how ∷ []) ≡ option_and_then (behind_text bytes) (option_and_then (behind_text before) o)
-  by true = joined o before bytes
-  by false = refl
-text_last o (Start b) bytes how = refl
-text_last o (End b) bytes how = refl
+text_last o p bytes how = grind (arith, joined)
 
 text_written : (o : Option Bool) (ps : List Part) (bytes : List ℕ) (how : Style) → fold then_part o (with_text ps bytes how) ≡ option_and_then (behind_text bytes) (fold then_part o ps)
-text_written o [] bytes how = refl
-text_written o (p ∷ []) bytes how = text_last o p bytes how
 text_written o (p ∷ q ∷ ps) bytes how = text_written (then_part o p) (q ∷ ps) bytes how
+text_written o x bytes how = grind (arith, text_last)
 
 one_written : (o : Option Bool) (ps : List Part) (w : Write) → fold then_part o (with_write ps w) ≡ then_write (fold then_part o ps) w
-one_written o ps (write.text bytes how) = text_written o ps bytes how
-one_written o ps (write.start b) = fold-append then_part o ps (Start b ∷ [])
-one_written o ps (write.end b) = fold-append then_part o ps (End b ∷ [])
-one_written o ps (write.parts qs) = fold-append then_part o ps qs
+one_written o ps w = grind (arith, text_written, fold-append)
 
 all_written : (o : Option Bool) (ps : List Part) (ws : List Write) → fold then_part o (with_writes ps ws) ≡ fold then_write (fold then_part o ps) ws
 all_written o ps [] = refl
@@ -120,18 +106,14 @@ doc_clear d k = record { outside = ap (λ o. option_and_then (behind_end block.I
 
 -- documents of texts
 alone_clear : (ws : List Write) → Each IsText ws → Clear ws
-alone_clear [] h = nothing_clear
 alone_clear (write.text bytes how ∷ ws) h = text_then bytes how (alone_clear ws h.1)
-alone_clear (write.start b ∷ ws) h = absurd h.0
-alone_clear (write.end b ∷ ws) h = absurd h.0
-alone_clear (write.parts ps ∷ ws) h = absurd h.0
+alone_clear x h = grind (arith, nothing_clear)
 
 pub texts_clear : (d : List Part) → HoldsTexts d → IsClear d
 texts_clear = of_texts IsClear (λ ws f. written_clear (alone_clear ws f.each))
 
 pub there_clear : (o : Option (List Part)) → Gives HoldsTexts o → Gives IsClear o
-there_clear None h = tt
-there_clear (Some d) h = texts_clear d h
+there_clear o h1 = grind (arith, texts_clear)
 
 pub path_clear : (path : List (List ℕ)) → Clear (path_writes path)
 path_clear [] = nothing_clear
@@ -139,15 +121,11 @@ path_clear (name ∷ path) = record { outside = (path_clear path).outside }
 
 -- between the marks of a block that is no section
 pub inside_clear : (b : Block) → is_section b ≡ false → {ws : List Write} → Clear ws → Clear (inside b ws)
-inside_clear b free {ws} f = record {
-  outside = ap (λ x. fold then_write (Some (if x then true else false)) (ws ++ write.end b ∷ [])) free ∙ fold-append then_write (Some false) ws (write.end b ∷ []) ∙ ap (λ o. then_write o (write.end b)) f.outside ∙ ap (λ x. Some (if x then false else false)) free;
-}
+inside_clear b free {ws} f = grind (arith, fold-append)
 
 -- of a section, with texts that are read once
 pub section_clear : (b : Block) → is_section b ≡ true → {ws : List Write} → Captured ws → Clear (inside b ws)
-section_clear b is {ws} f = record {
-  outside = ap (λ x. fold then_write (Some (if x then true else false)) (ws ++ write.end b ∷ [])) is ∙ fold-append then_write (Some true) ws (write.end b ∷ []) ∙ ap (λ o. then_write o (write.end b)) f.within ∙ ap (λ x. Some (if x then false else true)) is;
-}
+section_clear b is {ws} f = grind (arith, fold-append)
 
 pub nothing_captured : Captured []
 nothing_captured = record { within = refl }
@@ -162,8 +140,7 @@ path_captured (name ∷ path) h = text_captured name style.Literal h.0 (text_cap
 -- ---- looking back from a place, after one more part
 
 start_or : (x : Bool) (o n : Option Part) → is_start (if x then o else n) ≡ (if x then is_start o else is_start n)
-start_or true o n = refl
-start_or false o n = refl
+start_or x o n = grind arith
 
 last_is_start-append : (marks : Part → Bool) (before : List Part) (p : Part) → last_is_start marks (before ++ p ∷ []) ≡ (if marks p then is_start (Some p) else last_is_start marks before)
 last_is_start-append marks before p = ap (λ ps. is_start (find marks ps)) (reverse-append before (p ∷ [])) ∙ start_or (marks p) (Some p) (find marks (reverse before))
@@ -173,24 +150,13 @@ places-append done [] p = rw (append-nil done) refl
 places-append done (q ∷ before) p = rw (places-append (done ++ q ∷ []) before p, append_assoc done (q ∷ []) before) refl
 
 after_last-append : {X : Type 0} (ends : X → Bool) (xs : List X) (x : X) → after_last ends (xs ++ x ∷ []) ≡ (if ends x then [] else after_last ends xs ++ x ∷ [])
-after_last-append {X = X} ends xs x = ap (λ ys. drop (length (xs ++ x ∷ []) - prefix_len fails ys) (xs ++ x ∷ [])) (reverse-append xs (x ∷ [])) ∙ by (ends x) refl where
-  fails : X → Bool
-  fails y = not (ends y)
-
-  by : (t : Bool) → ends x ≡ t → drop (length (xs ++ x ∷ []) - prefix_len fails (x ∷ reverse xs)) (xs ++ x ∷ []) ≡ (if ends x then [] else after_last ends xs ++ x ∷ [])
-  by true e = rw e (drop_all _ (xs ++ x ∷ []) (omega arith))
-  by false e = rw e (ap (λ n. drop n (xs ++ x ∷ [])) fewer ∙ drop-append-le (length xs - prefix_len fails (reverse xs)) xs (x ∷ []) (omega arith)) where
-    fewer : length (xs ++ x ∷ []) - (1 + prefix_len fails (reverse xs)) ≡ length xs - prefix_len fails (reverse xs)
-    fewer = omega (arith, length-append xs (x ∷ []))
+after_last-append {X = X} ends xs x = grind (arith, reverse-append, drop_all, drop-append-le, length-append)
 
 abbrev ends : List Part × Part → Bool
 ends place = is_section_end place.1
 
 captured_texts-append : (before : List Part) (p : Part) → captured_texts (before ++ p ∷ []) ≡ (if is_section_end p then [] else captured_texts before ++ captured_text (before, p))
-captured_texts-append before p = ap (λ ps. flat_map captured_text (after_last ends ps)) (places-append [] before p) ∙ ap (flat_map captured_text) (after_last-append ends (places [] before) (before, p)) ∙ by (is_section_end p) where
-  by : (x : Bool) → flat_map captured_text (if x then [] else after_last ends (places [] before) ++ (before, p) ∷ []) ≡ (if x then [] else captured_texts before ++ captured_text (before, p))
-  by true = refl
-  by false = flat_map-append captured_text (after_last ends (places [] before)) ((before, p) ∷ []) ∙ ap (λ t. captured_texts before ++ t) (append-nil (captured_text (before, p)))
+captured_texts-append before p = grind (arith, places-append, after_last-append, flat_map-append, append-nil)
 
 -- ---- places
 
@@ -200,28 +166,13 @@ record Fits (before : List Part) (captures : Bool) : Type 0 where
   once : Once (captured_texts before)
 
 text_fits : (before : List Part) (bytes : List ℕ) (how : Style) (captures : Bool) → Fits before captures → Gives (Fits (before ++ Text bytes how ∷ [])) (behind_text bytes captures)
-text_fits before bytes how captures h = by (list_all is_read_once (if captures then bytes else [])) refl where
-  by : (b : Bool) → list_all is_read_once (if captures then bytes else []) ≡ b → Gives (Fits (before ++ Text bytes how ∷ [])) (if b then Some captures else None)
-  by true once = record {
-    marked = last_is_start-append is_section_mark before (Text bytes how) ∙ h.marked;
-    once = ap (list_all is_read_once) (captured_texts-append before (Text bytes how) ∙ ap (λ x. captured_texts before ++ (if x then bytes else [])) h.marked) ∙ once_append (captured_texts before) (if captures then bytes else []) h.once once;
-  }
-  by false once = tt
+text_fits before bytes how captures h = grind (arith, last_is_start-append, captured_texts-append, once_append)
 
 start_fits : (before : List Part) (b : Block) (captures : Bool) → Fits before captures → Gives (Fits (before ++ Start b ∷ [])) (behind_start b captures)
-start_fits before b captures h = record {
-  marked = last_is_start-append is_section_mark before (Start b) ∙ ap (λ x. if is_section b then true else x) h.marked;
-  once = ap (list_all is_read_once) (captured_texts-append before (Start b) ∙ append-nil (captured_texts before)) ∙ h.once;
-}
+start_fits before b captures h = grind (arith, last_is_start-append, captured_texts-append, append-nil)
 
 end_fits : (before : List Part) (b : Block) (captures : Bool) → Fits before captures → Gives (Fits (before ++ End b ∷ [])) (behind_end b captures)
-end_fits before b captures h = record {
-  marked = last_is_start-append is_section_mark before (End b) ∙ ap (λ x. if is_section b then false else x) h.marked;
-  once = ap (list_all is_read_once) (captured_texts-append before (End b)) ∙ by (is_section b);
-} where
-  by : (x : Bool) → Once (if x then [] else captured_texts before ++ [])
-  by true = refl
-  by false = ap (list_all is_read_once) (append-nil (captured_texts before)) ∙ h.once
+end_fits before b captures h = grind (arith, last_is_start-append, captured_texts-append, append-nil)
 
 next_fits : (before : List Part) (p : Part) (captures : Bool) → Fits before captures → Gives (Fits (before ++ p ∷ [])) (behind_part p captures)
 next_fits before (Text bytes how) captures h = text_fits before bytes how captures h
@@ -244,30 +195,16 @@ heading_once : (before : List Part) → Once (captured_texts before) → is_word
 heading_once before h = word_once (map to_ascii_uppercase (captured_texts before)) (once_map to_ascii_uppercase capital (captured_texts before) h)
 
 text_once : (captured : Bool) (how : Style) (bytes : List ℕ) → list_all step_once (if captured then [] else emphasis_steps how ++ page.Gives (Span (font_of how) bytes) ∷ []) ≡ true
-text_once true how bytes = refl
-text_once false style.Emphasis bytes = refl
-text_once false how bytes = refl
+text_once captured how bytes = grind arith
 
 start_once : (b : Block) → list_all step_once (start_steps b) ≡ true
-start_once block.ItemTerm = refl
-start_once block.Block = refl
-start_once block.Meta = refl
-start_once b = refl
+start_once b = grind arith
 
 end_once : (before : List Part) (b : Block) → is_word_read_once (heading before) ≡ true → list_all step_once (end_steps before b) ≡ true
-end_once before block.Header h = ap (λ x. (x && true) && true) h
-end_once before block.Section2 h = ap (λ x. (x && true) && true) h
-end_once before block.Section3 h = ap (λ x. (x && true) && true) h
-end_once before block.Section4 h = ap (λ x. (x && true) && true) h
-end_once before block.ItemTerm h = refl
-end_once before block.ItemBody h = refl
-end_once before block.Meta h = refl
-end_once before b h = refl
+end_once before b h2 = grind arith
 
 place_once : (before : List Part) (p : Part) → Once (captured_texts before) → list_all step_once (place_steps (before, p)) ≡ true
-place_once before (Text bytes how) h = text_once (last_is_start is_section_mark before) how (span_text before bytes)
-place_once before (Start b) h = start_once b
-place_once before (End b) h = end_once before b (heading_once before h)
+place_once before p h2 = grind (arith, text_once, start_once, end_once, heading_once)
 
 lost : (ps : List Part) → fold then_part None ps ≡ Some false → ⊥
 lost [] e = cc
@@ -276,23 +213,18 @@ lost (p ∷ ps) e = lost ps e
 steps_once : (o : Option Bool) (before ps : List Part) → Gives (Fits before) o → fold then_part o ps ≡ Some false → list_all step_once (flat_map place_steps (places before ps)) ≡ true
 steps_once o before [] h e = refl
 steps_once None before (p ∷ ps) h e = absurd (lost ps e)
-steps_once (Some captures) before (p ∷ ps) h e =
-    all_append step_once (place_steps (before, p)) (flat_map place_steps (places (before ++ p ∷ []) ps)) (place_once before p h.once)
-    (steps_once (behind_part p captures) (before ++ p ∷ []) ps (next_fits before p captures h) e)
+steps_once (Some captures) before (p ∷ ps) h e = grind (arith, steps_once (behind_part p captures) (before ++ p ∷ []) ps (next_fits before p captures h) e, all_append, place_once, next_fits)
 
 own_once : (step : Step) → step_once step ≡ true → list_all has_words_read_once (step_events step) ≡ true
 own_once (page.Gives event) h = ap (λ x. x && true) h
 own_once page.Stop h = refl
 
 end_there : (b : Bool) → list_all has_words_read_once (if b then LineEnd ∷ [] else []) ≡ true
-end_there true = refl
-end_there false = refl
+end_there b = grind arith
 
 ends_once : (step : Step) (later : List Step) → list_all has_words_read_once (line_ends step later) ≡ true
 ends_once (page.Gives (Span font text)) later = end_there (starts_line later)
-ends_once (page.Gives (Control name words)) later = refl
-ends_once (page.Gives LineEnd) later = refl
-ends_once page.Stop later = refl
+ends_once x later = refl
 
 events_once : (steps : List Step) → list_all step_once steps ≡ true → list_all has_words_read_once (events_of_steps steps) ≡ true
 events_once [] h = refl

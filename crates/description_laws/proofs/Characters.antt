@@ -1,7 +1,7 @@
 -- The characters of each kind of text are those of a text of lines.
 use Rattle.std.proofs.Common.{◌≡◌, ◌==◌, ℕ, zero, suc, ◌+◌, ◌<◌, ◌≤◌, ◌/◌, ◌%◌, List, [], ◌∷◌, ◌++◌, Bool, true, false, refl, ap, ◌∙◌, arith, chars}
-use Rattle.std.specs.Prelude.{codes, ◌&&◌, ◌||◌, not, nat_lt, if◌then◌else◌, flat_map}
-use Rattle.std.specs.Char.{is_ascii_alphanumeric, is_whitespace}
+use Rattle.std.specs.Prelude.{codes, ◌||◌, not, nat_lt, if◌then◌else◌, flat_map}
+use Rattle.std.specs.Char.{is_whitespace}
 use Rattle.std.specs.Int.{is_in_range}
 use Rattle.std.specs.List.{list_all}
 use Rattle.std.specs.Fmt.{digits, digits_onto, digit_glyph}
@@ -12,7 +12,7 @@ use Rattle.std.proofs.lemmas.List.Folds.{list_all-append}
 use Rattle.std.proofs.lemmas.Str.{chars-IsAscii}
 use Rattle.toml_datetime.specs.Text.{two_wide, date_text}
 use Rattle.toml_datetime.specs.declared.datetime.Date.{Date}
-use Rattle.description.specs.Described.Texts.{has_ink, begins, begins_a_section, is_body, is_dash, is_empty_text, is_text, is_value, is_title, is_heading, is_section, is_name, is_long, is_program_name, is_command_name, is_line_character, is_name_character, is_read_once, is_short, is_text_character, is_line, is_language_tag}
+use Rattle.description.specs.Described.Texts.{has_ink, begins, is_body, is_dash, is_empty_text, is_text, is_value, is_title, is_heading, is_section, is_name, is_long, is_program_name, is_command_name, is_line_character, is_name_character, is_read_once, is_short, is_text_character, is_line, is_language_tag}
 use Rattle.web_page.specs.Models.{is_language}
 use Rattle.description.proofs.Each.{Each}
 
@@ -70,17 +70,13 @@ pub heading_plain : (text : List ℕ) → is_heading text ≡ true → PlainText
 heading_plain text h = let both = and_parts (is_title text) (has_ink text) h in title_plain text both.0
 
 pub section_plain : (text : List ℕ) → is_section text ≡ true → PlainText text
-section_plain text h =
-    let both = and_parts (list_all is_line_character (chars text)) (list_all is_ascii_alphanumeric text && begins begins_a_section text) h in
-    weaker is_line_character is_text_character line (chars text) both.0
+section_plain text h = grind (arith, and_parts, weaker, line)
 
 pub language_plain : (text : List ℕ) → is_language_tag text ≡ true → PlainText text
 language_plain text h = let both = and_parts (list_all is_line_character (chars text)) (is_language text) h in weaker is_line_character is_text_character line (chars text) both.0
 
 english : IsAscii (codes "en")
-english zero = omega arith
-english (suc zero) = omega arith
-english (suc (suc i)) = omega arith
+english h0 = grind arith
 
 pub english_plain : PlainText (codes "en")
 english_plain = ap (list_all is_text_character) (chars-IsAscii (codes "en") english)
@@ -119,15 +115,11 @@ glyph : (n : ℕ) → n < 10 → is_date_byte (digit_glyph false n) ≡ true
 glyph n h = grind (arith, nat_tests)
 
 either : (b : Bool) (xs ys : List ℕ) → Dates xs → Dates ys → Dates (if b then xs else ys)
-either true xs ys p q = p
-either false xs ys p q = q
+either b xs ys h3 h4 = grind arith
 
 onto : (k n : ℕ) (acc : List ℕ) → Dates acc → Dates (digits_onto k 10 false n acc)
 onto zero n acc h = h
-onto (suc k) n acc h =
-    let next = digit_glyph false (n % 10) ∷ acc in
-    let more : Dates next = dates_cons (digit_glyph false (n % 10)) acc (glyph (n % 10) (omega arith)) h in
-    either (n / 10 == 0) next (digits_onto k 10 false (n / 10) next) more (onto k (n / 10) next more)
+onto (suc k) n acc h = grind (arith, onto k (n / 10), dates_cons, glyph, either)
 
 two : (n : ℕ) → Dates (two_wide n)
 unfolding two_wide digits
@@ -145,9 +137,8 @@ date_bytes d =
     dates_append (two_wide (d.year / 100)) (two_wide (d.year % 100) ++ (45 ∷ (two_wide d.month ++ 45 ∷ two_wide d.day))) (two (d.year / 100)) year
 
 ascii : (bs : List ℕ) → Dates bs → IsAscii bs
-ascii [] h i = omega arith
-ascii (b ∷ bs) h zero = let both = and_parts (is_date_byte b) (list_all is_date_byte bs) h in grind (arith, nat_tests)
 ascii (b ∷ bs) h (suc i) = let both = and_parts (is_date_byte b) (list_all is_date_byte bs) h in ascii bs both.1 i
+ascii x h y = grind (arith, and_parts, nat_tests)
 
 date_byte : (c : ℕ) → is_date_byte c ≡ true → PlainCharacter c
 date_byte c h = low c (grind (arith, nat_tests)) (grind (arith, nat_tests))

@@ -1,18 +1,18 @@
 -- The documents of manual pages capture no text that is not read once, where those that they are made of capture none.
-use Rattle.std.proofs.Common.{ℕ, Bool, true, false, cond, List, [], ◌∷◌, ◌++◌, map, flat_map, refl, codes, Option, Some, None}
+use Rattle.std.proofs.Common.{ℕ, Bool, true, false, cond, List, [], ◌∷◌, ◌++◌, map, flat_map, refl, codes, Option, arith}
 use Rattle.std.specs.Prelude.{count_by, filter}
 use Rattle.std.specs.List.{range_with_len}
 use Rattle.bpaf_doc.specs.declared.buffer.Style.TheVariants as style
 use Rattle.bpaf_doc.specs.declared.buffer.Block.TheVariants as block
 use Rattle.bpaf_doc.specs.Buffer.Parts.{Part}
-use Rattle.bpaf_doc.specs.Buffer.Writes.{Write, inside, path_writes, start}
-use Rattle.bpaf_meta.specs.Content.{Name, short, long, both, Tree, and_of, or_of, optional, required, adjacent, item, many, subsection, suffix, skip, custom_usage, strict, Trees, no_trees, tree, Leaf, any, positional, command, flag, argument, Head, head}
+use Rattle.bpaf_doc.specs.Buffer.Writes.{Write, inside, path_writes}
+use Rattle.bpaf_meta.specs.Content.{Name, Tree, and_of, or_of, optional, required, adjacent, item, many, subsection, suffix, skip, custom_usage, strict, Trees, no_trees, tree, Leaf, Head, head}
 use Rattle.bpaf_items.specs.declared.meta_help.entry.HiTy.{HiTy}
 use Rattle.bpaf_items.specs.declared.meta_help.entry.HiTy.TheVariants as ty
 use Rattle.bpaf_items.specs.Listing.ItemList.{Entry, listed, note, group_start, group_end, adjacent_start, adjacent_stop, entries_of, entries_of_parts, entries_with_type, front_type, group_entries, item_entries, item_list, noted_entries}
 use Rattle.bpaf_items.specs.Listing.Falls.{Placed, destination, group_members, heading_members, is_group, is_group_start, is_heading, is_shown, placed_after, shown_entries}
 use Rattle.bpaf_items.specs.Page.EnvTexts.{no_texts}
-use Rattle.bpaf_items.specs.Page.EntryWrites.{command_writes, entry_writes, env_writes, flag_env_text, argument_env_text, help_writes, listed_writes, names_writes, term}
+use Rattle.bpaf_items.specs.Page.EntryWrites.{command_writes, entry_writes, env_writes, help_writes, listed_writes, names_writes, term}
 use Rattle.bpaf_items.specs.Page.HelpPage.{doc_within, groups_writes, heading_writes, list_writes}
 use Rattle.bpaf_help.specs.Chapters.{Chapter, chapters_of, if_many, manual_chapter, manual_name, manual_writes, synopsis_line}
 use Rattle.description_laws.proofs.Captured.{Clear, IsClear, both_clear, doc_clear, each_clear, inside_clear, nothing_captured, nothing_clear, path_captured, path_clear, section_clear, text_captured, text_then}
@@ -35,24 +35,16 @@ abbrev AreClear : List Entry → Type 0
 AreClear es = Each HasClearEntry es
 
 item_clear : (l : Leaf) → HasClearText l → AreClear (item_entries l)
-item_clear (any m a h) k = (k, tt)
-item_clear (positional m None) k = tt
-item_clear (positional m (Some h)) k = (k, tt)
-item_clear (command n c h t i) k = (k, tt)
-item_clear (flag n s e h) k = (k, tt)
-item_clear (argument n s m e h) k = (k, tt)
+item_clear l h1 = grind arith
 
 group_clear : (o : Option HiTy) (d : List Part) (es : List Entry) → IsClearTitle d → AreClear es → AreClear (group_entries o d es)
-group_clear None d es h k = tt
-group_clear (Some j) d es h k = (h, each_append HasClearEntry es (group_end j ∷ []) k (tt, tt))
+group_clear o d es h3 h4 = grind (arith, each_append)
 
 noted_clear : (o : Option HiTy) (d : List Part) (es : List Entry) → IsClear d → AreClear es → AreClear (noted_entries o d es)
-noted_clear None d es h k = tt
-noted_clear (Some j) d es h k = each_append HasClearEntry es (note d j ∷ []) k (h, tt)
+noted_clear o d es h3 h4 = grind (arith, each_append)
 
 typed_clear : (o : Option HiTy) (es : List Entry) → AreClear es → AreClear (entries_with_type o es)
-typed_clear None es k = tt
-typed_clear (Some j) es k = k
+typed_clear o es h2 = grind arith
 
 mutual
   tree_clear : (g : Bool) (t : Tree) → HasClearTexts t → AreClear (entries_of g t)
@@ -79,8 +71,7 @@ abbrev entry : Placed → Entry
 entry p = p.1
 
 one_kept : (b : Bool) (p : Placed) (ps : List Placed) → HasClearEntry p.1 → AreClear (map entry ps) → AreClear (map entry (cond b (p ∷ ps) ps))
-one_kept true p ps h k = (h, k)
-one_kept false p ps h k = k
+one_kept b p ps h3 h4 = grind arith
 
 kept_clear : (q : Placed → Bool) (before es : List Entry) → AreClear es → AreClear (map entry (filter q (placed_after before es)))
 kept_clear q before [] h = tt
@@ -89,42 +80,25 @@ kept_clear q before (e ∷ es) h = one_kept (q (before, e)) (before, e) (filter 
 -- ---- what an entry writes
 
 help_clear : (h : Option (List Part)) → Gives IsClear h → Clear (help_writes h)
-help_clear None k = nothing_clear
-help_clear (Some d) k = inside_clear block.ItemBody refl (doc_clear d k)
+help_clear h h1 = grind (arith, nothing_clear, inside_clear, doc_clear)
 
 names_clear : (n : Name) → Clear (names_writes n)
-names_clear (short c) = record { outside = refl }
-names_clear (long n) = record { outside = refl }
-names_clear (both c n) = record { outside = refl }
+names_clear n = grind arith
 
 command_clear : (n : List ℕ) (c : Option ℕ) → Clear (command_writes n c)
-command_clear n None = record { outside = refl }
-command_clear n (Some c) = record { outside = refl }
+command_clear n c = grind arith
 
 env_clear : (f : List ℕ → List ℕ) (h : Option (List Part)) (e : Option (List ℕ)) → Clear (env_writes false f h e)
-env_clear f h None = nothing_clear
-env_clear f None (Some n) = record { outside = refl }
-env_clear f (Some d) (Some n) = record { outside = refl }
+env_clear f h e = grind (arith, nothing_clear)
 
 with_help : (h : Option (List Part)) → Gives IsClear h → {ws : List Write} → Clear ws → Clear (term ws ++ help_writes h)
 with_help h k f = both_clear (inside_clear block.ItemTerm refl f) (help_clear h k)
 
 listed_clear : (l : Leaf) → HasClearText l → Clear (listed_writes false no_texts l)
-listed_clear (any m a h) k = with_help h k.1 (doc_clear m k.0)
-listed_clear (positional m h) k = with_help h k (metavar_clear m)
-listed_clear (command n c h t i) k = with_help h k (command_clear n c)
-listed_clear (flag n s e h) k = both_clear (with_help h k (names_clear n)) (env_clear (λ v. flag_env_text v (no_texts v)) h e)
-listed_clear (argument n s m e h) k = both_clear (with_help h k (both_clear (names_clear n) (text_then (codes "=") style.Text (metavar_clear m)))) (env_clear (λ v. argument_env_text v (no_texts v)) h e)
+listed_clear l h1 = grind (arith, with_help, doc_clear, metavar_clear, command_clear, both_clear, names_clear, env_clear, text_then)
 
 entry_clear : (e : Entry) → HasClearEntry e → Clear (entry_writes false no_texts e)
-entry_clear (listed l) k = listed_clear l k
-entry_clear (note d j) k = both_clear (inside_clear block.ItemTerm refl nothing_clear) (inside_clear block.ItemBody refl (doc_clear d k))
-entry_clear (group_start d j) k =
-    let list : Clear (start block.DefinitionList ∷ []) = record { outside = refl } in
-    record { outside = (both_clear k list).outside }
-entry_clear (group_end j) k = record { outside = refl }
-entry_clear (adjacent_start t j) k = absurd k
-entry_clear (adjacent_stop j) k = record { outside = refl }
+entry_clear e h1 = grind (arith, listed_clear, both_clear, inside_clear, nothing_clear, doc_clear)
 
 -- ---- groups and headings
 
@@ -136,10 +110,7 @@ numbers_clear es h [] = nothing_clear
 numbers_clear es h (n ∷ ns) = both_clear (list_clear (group_members es n) (kept_clear (λ p. is_group n (destination p)) [] es h)) (numbers_clear es h ns)
 
 titled_clear : (title : List ℕ) → Once title → (es : List Entry) → AreClear es → Clear (heading_writes false no_texts title es)
-titled_clear title once [] h = nothing_clear
-titled_clear title once (e ∷ es) h =
-    inside_clear block.Block refl
-    (both_clear (section_clear block.Section2 refl (text_captured title style.Emphasis once nothing_captured)) (inside_clear block.DefinitionList refl (list_clear (e ∷ es) h)))
+titled_clear title h1 h2 h3 = grind (arith, nothing_clear, inside_clear, both_clear, section_clear, text_captured, nothing_captured, list_clear)
 
 heading_clear : (title : List ℕ) → Once title → (es : List Entry) (k : HiTy) → AreClear es → Clear (heading_writes false no_texts title (heading_members es k))
 heading_clear title once es k h = titled_clear title once (heading_members es k) (kept_clear (λ p. is_heading k (destination p)) [] es h)
@@ -158,12 +129,10 @@ lists_clear t help h k = groups_clear (item_list t ++ item_list help) (each_appe
 -- ---- the page of all chapters
 
 pub within_clear : (d : Option (List Part)) → Gives IsClear d → Clear (doc_within block.Block d)
-within_clear None h = nothing_clear
-within_clear (Some d) h = inside_clear block.Block refl (doc_clear d h)
+within_clear d h1 = grind (arith, nothing_clear, inside_clear, doc_clear)
 
 pub name_clear : (name : List ℕ) (d : Option (List Part)) → Gives IsClear d → Clear (manual_name name d)
-name_clear name None h = nothing_clear
-name_clear name (Some d) h = both_clear (section_clear block.Header refl (text_captured (codes "NAME") style.Text refl nothing_captured)) (text_then name style.Text (text_then (codes " - ") style.Text (doc_clear d h)))
+name_clear name d h2 = grind (arith, nothing_clear, both_clear, section_clear, text_captured, nothing_captured, text_then, doc_clear)
 
 abbrev pub HasClearHead : Head → Type 0
 HasClearHead (head descr header footer usage help) = Gives IsClear descr × Gives IsClear header × Gives IsClear footer × HasClearTexts help
@@ -172,23 +141,13 @@ abbrev pub IsClearChapter : Chapter → Type 0
 IsClearChapter c = Each Once c.path × HasClearHead c.info × HasClearTexts c.content
 
 many_clear : (cs : List Chapter) {ws : List Write} → Clear ws → Clear (if_many cs ws)
-many_clear [] f = nothing_clear
-many_clear (c ∷ []) f = nothing_clear
-many_clear (c ∷ d ∷ cs) f = f
+many_clear cs h1 = grind (arith, nothing_clear)
 
 synopsis_clear : (c : Chapter) → IsClearChapter c → Clear (synopsis_line c)
 synopsis_clear c h = both_clear (both_clear (path_clear c.path) (usage_clear c.content h.2)) (text_then (10 ∷ []) style.Text nothing_clear)
 
 chapter_clear : (app : List ℕ) (path : List (List ℕ)) (t : Tree) (i : Head) → HasClearHead i → HasClearTexts t → Clear (manual_chapter app path t i)
-chapter_clear app path t (head descr header footer usage help) h k =
-    both_clear (both_clear (both_clear (both_clear (both_clear (both_clear
-    (name_clear app descr h.0)
-    (section_clear block.Header refl (text_captured (codes "SYNOPSIS") style.Text refl nothing_captured)))
-    (path_clear path))
-    (usage_clear t k))
-    (within_clear header h.1))
-    (lists_clear t help k h.3))
-    (within_clear footer h.2)
+chapter_clear app path t (head descr header footer usage help) h k = grind (arith, both_clear, name_clear, section_clear, text_captured, nothing_captured, path_clear, usage_clear, within_clear, lists_clear)
 
 pub manual_clear : (app : List ℕ) (t : Tree) (i : Head) → Each IsClearChapter (chapters_of (app ∷ []) i t) → Clear (manual_writes app t i)
 manual_clear app t i h =

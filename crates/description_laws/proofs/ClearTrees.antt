@@ -1,9 +1,8 @@
 -- The texts of a description capture none that is not read once: the documents of its texts hold no marks, and its titles are read once.
-use Rattle.std.proofs.Common.{ℕ, ◌+◌, Bool, true, false, List, [], ◌∷◌, ◌++◌, drop, take, flat_map, refl, sym, subst, Option}
+use Rattle.std.proofs.Common.{ℕ, ◌+◌, Bool, true, false, List, [], ◌∷◌, ◌++◌, drop, take, flat_map, refl, sym, subst, Option, arith}
 use Rattle.std.specs.Prelude.{if◌then◌else◌}
 use Rattle.std.specs.List.{after_first, before_first, list_any, position_or_len}
 use Rattle.std.proofs.lemmas.List.{take-append-drop}
-use Rattle.bpaf_doc.specs.declared.buffer.Style.TheVariants as style
 use Rattle.bpaf_doc.specs.declared.buffer.Block.TheVariants as block
 use Rattle.bpaf_doc.specs.Buffer.Writes as write
 use Rattle.bpaf_doc.specs.Buffer.Writes.{emphasis, inside, plain}
@@ -44,17 +43,14 @@ title_clear title once =
     by false front back h k = record { outside = rw once refl }
 
 topic_title_clear : (is_header : Bool) (title : List ℕ) → Once title → Clear (topic_title is_header title)
-topic_title_clear true title once = section_clear block.Header refl (text_captured title style.Text once nothing_captured)
-topic_title_clear false title once = inside_clear block.Block refl (section_clear block.Section2 refl (text_captured title style.Emphasis once nothing_captured))
+topic_title_clear is_header title h2 = grind (arith, section_clear, text_captured, nothing_captured, inside_clear)
 
 topic_clear : (is_header : Bool) (t : TopicSaid) → OnceTopic t → Clear (topic_writes is_header t)
 topic_clear is_header t once = both_clear (topic_title_clear is_header t.title once) (inside_clear block.Block refl (doc_clear (topic_document t.text) (texts_clear (topic_document t.text) (topic_holds t.text))))
 
 pub topics_clear : (is_header : Bool) (ts : List TopicSaid) → Once (flat_map (λ topic. topic.title) ts) → Clear (flat_map (topic_writes is_header) ts)
 topics_clear is_header [] h = nothing_clear
-topics_clear is_header (t ∷ ts) h =
-    let both = once_parts t.title (flat_map (λ topic. topic.title) ts) h in
-    both_clear (topic_clear is_header t both.0) (topics_clear is_header ts both.1)
+topics_clear is_header (t ∷ ts) h = grind (arith, topics_clear is_header ts, once_parts, both_clear, topic_clear)
 
 footer_clear : (is_header : Bool) (ts : List TopicSaid) (footer : Option (List ℕ)) → Once (flat_map (λ topic. topic.title) ts) → Gives IsClear (topics_footer is_header ts footer)
 footer_clear is_header [] footer h = said_clear footer

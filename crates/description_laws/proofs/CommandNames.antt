@@ -1,24 +1,23 @@
 -- Of a description that a TOML text gives, no two commands of a level have one name, and no name that leads to a level is empty.
-use Rattle.std.proofs.Common.{◌≡◌, ℕ, ◌<◌, ◌^◌, Bool, true, false, not, ◌&&◌, Ordering, Less, Equal, Greater, nat_cmp, List, [], ◌∷◌, ◌++◌, codes, flat_map, if◌then◌else◌, length, Option, Some, None, option_and_then, option_to_list, refl, sym, ap, ap₂, ◌∙◌, subst, inl, inr, append-nil}
-use Rattle.std.specs.Cmp.Lexicographic.{slice_cmp}
+use Rattle.std.proofs.Common.{◌≡◌, ℕ, ◌<◌, ◌^◌, true, false, not, ◌&&◌, List, [], ◌∷◌, ◌++◌, codes, flat_map, length, Option, None, option_and_then, option_to_list, refl, sym, ap, ap₂, ◌∙◌, subst, append-nil, arith}
 use Rattle.std.specs.List.{list_all}
-use Rattle.std.specs.Ordering.{match_ordering}
 use Rattle.std.specs.Prelude.{chars}
 use Rattle.std.proofs.lemmas.Bool.{and_parts, false≢true}
 use Rattle.std.proofs.lemmas.Grind.{flat_map-append}
-use Rattle.toml.specs.Data.{Data, string, integer, float, boolean, datetime, array, table, Items, no_items, item, Members, no_members, member, as_str, as_table, get_member}
-use Rattle.description_parts.specs.Content.{GroupsSaid, GroupSaid, CommandsSaid, commands, groups, CommandSaid}
+use Rattle.toml.specs.Data.{Data, Members, as_str, get_member}
+use Rattle.description_parts.specs.Content.{GroupsSaid, GroupSaid, CommandsSaid, CommandSaid}
 use Rattle.description.specs.Content.{DescriptionSaid}
-use Rattle.description.specs.Described.{as_command, as_commands, as_group, as_groups, choice_from, command_head, command_keys, command_of, CommandHead, commands_at, described, description_head, description_keys, description_of, DescriptionHead, each_command, each_group, group_head, group_of, GroupHead, groups_at, help_option_keys, level_of, lists_from, option_from, option_keys, Outline, outline_from, positional_from, texts_from, title_words, topic_from}
-use Rattle.description.specs.Described.Taken.{are_distinct, command_words, distinct, has_distinct_names, level_commands, level_options, option_names, tables_in, tables_of, tables_under, text_under, texts_under}
-use Rattle.description.specs.Described.Texts.{as_command_name, as_language, as_program_name, as_text, begins, if_passes, is_command_name, is_dash, is_empty_text, is_long, is_name, is_name_character, is_program_name, is_read_once}
-use Rattle.description.specs.Described.Values.{as_short, each_table, flag_at, has_only, optional_at, required_at, tables_at, value_or, words_at}
+use Rattle.description.specs.Described.{choice_from, command_head, command_keys, command_of, CommandHead, commands_at, described, description_head, description_of, DescriptionHead, group_head, group_of, GroupHead, groups_at, help_option_keys, level_of, option_from, option_keys, Outline, outline_from, positional_from, topic_from}
+use Rattle.description.specs.Described.Taken.{are_distinct, command_words, distinct, has_distinct_names, level_commands, level_options, option_names, tables_under, text_under, texts_under}
+use Rattle.description.specs.Described.Texts.{as_command_name, as_text, if_passes, is_command_name, is_empty_text, is_name, is_name_character, is_program_name, is_read_once}
+use Rattle.description.specs.Described.Values.{as_short, each_table, flag_at, has_only, optional_at, required_at, value_or, words_at}
 use Rattle.description.specs.WebPages.Laws.{IdsAreDistinct}
 use Rattle.description.specs.All.{all_from}
 use Rattle.description.specs.Subjects.{application}
 use Rattle.description_laws.proofs.Among.{Within}
 use Rattle.description_laws.proofs.Apart.{Distinct, distinct_flat, distinct_swap, distinct_test, test_distinct}
 use Rattle.description.proofs.Gives.{Gives, Whatever, given, gives_if, gives_map, gives_required, gives_text, gives_then, gives_whatever}
+use Rattle.description_laws.proofs.Readers.{Holding, commands_hold, groups_hold}
 use Rattle.description_laws.proofs.WebIdForms.{HasBytes}
 use Rattle.description_laws.proofs.WebOwnIds.{CommandTells, CommandsTell, GroupTells, GroupsTell, TellsApart, commands_names, group_names, groups_names, ids_of, name_in, own_ids}
 use Rattle.description_laws.proofs.WebTargets.{ids_on_page}
@@ -26,17 +25,13 @@ use Rattle.description_laws.proofs.WebTargets.{ids_on_page}
 -- ---- names have bytes
 
 has_bytes : (text : List ℕ) → not (is_empty_text text) ≡ true → HasBytes text
-has_bytes [] h = absurd (false≢true h)
-has_bytes (b ∷ bs) h = tt
+has_bytes text h1 = grind (arith, false≢true)
 
 name_bytes : (text : List ℕ) → is_name text ≡ true → HasBytes text
 name_bytes text h = let both = and_parts (list_all is_name_character (chars text)) (not (is_empty_text text)) h in has_bytes text both.1
 
 command_bytes : (text : List ℕ) → is_command_name text ≡ true → HasBytes text
-command_bytes text h =
-    let both = and_parts (is_long text) (list_all is_read_once text) h in
-    let long = and_parts (is_name text) (not (begins is_dash text)) both.0 in
-    name_bytes text long.0
+command_bytes text h = grind (arith, and_parts, name_bytes)
 
 program_bytes : (text : List ℕ) → is_program_name text ≡ true → HasBytes text
 program_bytes text h = let both = and_parts (is_name text) (list_all is_read_once text) h in name_bytes text both.0
@@ -55,13 +50,10 @@ flat_twice f g [] = refl
 flat_twice f g (x ∷ xs) = flat_map-append g (f x) (flat_map f xs) ∙ ap (λ zs. flat_map g (f x) ++ zs) (flat_twice f g xs)
 
 first_kept : (o : Option (List ℕ)) (xs ys : List (List ℕ)) → Within (option_to_list o) (distinct ((option_to_list o ++ xs) ++ ys))
-first_kept None xs ys x a = absurd a
-first_kept (Some text) xs ys x (inl e) = inl e
-first_kept (Some text) xs ys x (inr a) = absurd a
+first_kept o xs ys h3 h4 = grind arith
 
 one_alone : (o : Option (List ℕ)) → Distinct (option_to_list o)
-one_alone None = tt
-one_alone (Some text) = (λ a. a, tt)
+one_alone o = grind arith
 
 -- the names of all commands of a level, those of its groups first
 names_distinct : (ms : Members) → has_distinct_names ms ≡ true → Distinct (flat_map names_under (tables_under (codes "group") ms) ++ names_under ms)
@@ -80,28 +72,14 @@ names_distinct ms h =
 
 -- where a text passes as a name it is that name
 name_passes : (o : Option (List ℕ)) → Gives (λ name. HasBytes name × (option_to_list o ≡ name ∷ [])) (option_and_then (if_passes is_command_name) o)
-name_passes None = tt
-name_passes (Some text) = by (is_command_name text) refl where
-  by : (b : Bool) → is_command_name text ≡ b → Gives (λ name. HasBytes name × (text ∷ [] ≡ name ∷ [])) (if b then Some text else None)
-  by true h = (command_bytes text h, refl)
-  by false h = tt
+name_passes o = grind (arith, command_bytes)
 
 name_there : (o : Option Data) → Gives (λ name. HasBytes name × (option_to_list (option_and_then as_str o) ≡ name ∷ [])) (value_or None as_command_name o)
-name_there None = tt
-name_there (Some d) = name_passes (as_str d)
+name_there o = grind (arith, name_passes)
 
 outline_there : (ms : Members) → Gives (λ (o : Outline). has_distinct_names ms ≡ true) (outline_from ms)
 unfolding outline_from
-outline_there ms =
-    gives_then Whatever Told (texts_from ms) _ (gives_whatever (texts_from ms)) (λ texts u.
-    gives_then Whatever Told (flag_at true (codes "command_required") ms) _ (gives_whatever (flag_at true (codes "command_required") ms)) (λ required v.
-    gives_then Whatever Told (lists_from ms) _ (gives_whatever (lists_from ms)) (λ lists w. by (has_distinct_names ms) refl (record { texts = texts; command_required = required; lists = lists })))) where
-      Told : Outline → Type 0
-      Told o = has_distinct_names ms ≡ true
-
-      by : (b : Bool) → has_distinct_names ms ≡ b → (o : Outline) → Gives Told (if b then Some o else None)
-      by true h o = h
-      by false h o = tt
+outline_there ms = grind (arith, gives_then, gives_whatever)
 
 record CommandTold (ms : Members) (c : CommandHead) : Type 0 where
   bytes : HasBytes c.names.name
@@ -135,11 +113,7 @@ GroupOf tables g = GroupTells g × (group_names g ≡ flat_map names_under table
 
 group_there : (ms : Members) (inner : Option CommandsSaid) (g : GroupHead) → Gives (CommandsOf (tables_under (codes "command") ms)) inner → Gives (GroupOf (ms ∷ [])) (group_of inner g)
 unfolding group_of
-group_there ms inner g i =
-    gives_then Whatever (GroupOf (ms ∷ [])) (each_table (option_from option_keys) g.lists.options) _ (gives_whatever (each_table (option_from option_keys) g.lists.options)) (λ os u.
-    gives_then Whatever (GroupOf (ms ∷ [])) (each_table choice_from g.lists.choices) _ (gives_whatever (each_table choice_from g.lists.choices)) (λ cs v.
-    gives_then Whatever (GroupOf (ms ∷ [])) (each_table positional_from g.lists.positionals) _ (gives_whatever (each_table positional_from g.lists.positionals)) (λ ps w.
-    gives_map (CommandsOf (tables_under (codes "command") ms)) (GroupOf (ms ∷ [])) inner _ i (λ ns h. (h.0, h.1 ∙ sym (append-nil (names_under ms)))))))
+group_there ms inner g i = grind (arith, gives_then, gives_whatever, gives_map, append-nil)
 
 level_there : (ms : Members) (inner_groups : Option GroupsSaid) (inner_commands : Option CommandsSaid) (o : Outline) → Gives (GroupsOf (tables_under (codes "group") ms)) inner_groups → Gives (CommandsOf (tables_under (codes "command") ms)) inner_commands
     → has_distinct_names ms ≡ true → Gives TellsApart (level_of inner_groups inner_commands o)
@@ -155,77 +129,17 @@ level_there ms inner_groups inner_commands o ig ic d =
 
 command_there : (ms : Members) (inner_groups : Option GroupsSaid) (inner_commands : Option CommandsSaid) (c : CommandHead) → Gives (GroupsOf (tables_under (codes "group") ms)) inner_groups → Gives (CommandsOf (tables_under (codes "command") ms)) inner_commands
     → CommandTold ms c → Gives (CommandOf (ms ∷ [])) (command_of inner_groups inner_commands c)
-command_there ms inner_groups inner_commands c ig ic h =
-    gives_map TellsApart (CommandOf (ms ∷ [])) (level_of inner_groups inner_commands c.outline) _ (level_there ms inner_groups inner_commands c.outline ig ic h.distinct) (λ l p. ((h.bytes, p), sym (append-nil (own_name ms) ∙ h.name)))
+command_there ms inner_groups inner_commands c ig ic h = grind (arith, gives_map, level_there, append-nil)
 
-by_order : {X : Type 0} (P : List Members → X → Type 0) (o : Ordering) (there : Option Data) (d : Data) (here rest : Option X) → Gives (P (tables_of (Some d))) here → Gives (P (tables_of there)) rest
-    → Gives (P (tables_of (match_ordering o there (Some d) there))) (match_ordering o rest here rest)
-by_order P Less there d here rest h r = r
-by_order P Equal there d here rest h r = h
-by_order P Greater there d here rest h r = r
-
-mutual
-  commands_at_tell : (key : List ℕ) (ms : Members) → Gives (CommandsOf (tables_under key ms)) (commands_at key ms)
-  commands_at_tell key no_members = (tt, refl)
-  commands_at_tell key (member k d ms) = by_order CommandsOf (slice_cmp nat_cmp key k) (get_member key ms) d (as_commands d) (commands_at key ms) (as_commands_tell d) (commands_at_tell key ms)
-
-  as_commands_tell : (d : Data) → Gives (CommandsOf (tables_of (Some d))) (as_commands d)
-  as_commands_tell (array ds) = each_command_tell ds
-  as_commands_tell (string s) = tt
-  as_commands_tell (integer z) = tt
-  as_commands_tell (float x) = tt
-  as_commands_tell (boolean b) = tt
-  as_commands_tell (datetime dt) = tt
-  as_commands_tell (table ms) = tt
-
-  each_command_tell : (ds : Items) → Gives (CommandsOf (tables_in ds)) (each_command ds)
-  each_command_tell no_items = (tt, refl)
-  each_command_tell (item d ds) =
-      gives_then (CommandOf (option_to_list (as_table d))) (CommandsOf (tables_in (item d ds))) (as_command d) _ (as_command_tell d) (λ c h.
-      gives_map (CommandsOf (tables_in ds)) (CommandsOf (tables_in (item d ds))) (each_command ds) (commands c) (each_command_tell ds) (λ cs k.
-      ((h.0, k.0), ap₂ (λ xs ys. xs ++ ys) h.1 k.1 ∙ sym (flat_map-append own_name (option_to_list (as_table d)) (tables_in ds)))))
-
-  as_command_tell : (d : Data) → Gives (CommandOf (option_to_list (as_table d))) (as_command d)
-  as_command_tell (table ms) =
-      gives_then (CommandTold ms) (CommandOf (ms ∷ [])) (command_head ms) (command_of (groups_at (codes "group") ms) (commands_at (codes "command") ms)) (command_head_there ms)
-      (λ c h. command_there ms (groups_at (codes "group") ms) (commands_at (codes "command") ms) c (groups_at_tell (codes "group") ms) (commands_at_tell (codes "command") ms) h)
-  as_command_tell (string s) = tt
-  as_command_tell (integer z) = tt
-  as_command_tell (float x) = tt
-  as_command_tell (boolean b) = tt
-  as_command_tell (datetime dt) = tt
-  as_command_tell (array ds) = tt
-
-  groups_at_tell : (key : List ℕ) (ms : Members) → Gives (GroupsOf (tables_under key ms)) (groups_at key ms)
-  groups_at_tell key no_members = (tt, refl)
-  groups_at_tell key (member k d ms) = by_order GroupsOf (slice_cmp nat_cmp key k) (get_member key ms) d (as_groups d) (groups_at key ms) (as_groups_tell d) (groups_at_tell key ms)
-
-  as_groups_tell : (d : Data) → Gives (GroupsOf (tables_of (Some d))) (as_groups d)
-  as_groups_tell (array ds) = each_group_tell ds
-  as_groups_tell (string s) = tt
-  as_groups_tell (integer z) = tt
-  as_groups_tell (float x) = tt
-  as_groups_tell (boolean b) = tt
-  as_groups_tell (datetime dt) = tt
-  as_groups_tell (table ms) = tt
-
-  each_group_tell : (ds : Items) → Gives (GroupsOf (tables_in ds)) (each_group ds)
-  each_group_tell no_items = (tt, refl)
-  each_group_tell (item d ds) =
-      gives_then (GroupOf (option_to_list (as_table d))) (GroupsOf (tables_in (item d ds))) (as_group d) _ (as_group_tell d) (λ g h.
-      gives_map (GroupsOf (tables_in ds)) (GroupsOf (tables_in (item d ds))) (each_group ds) (groups g) (each_group_tell ds) (λ gs k.
-      ((h.0, k.0), ap₂ (λ xs ys. xs ++ ys) h.1 k.1 ∙ sym (flat_map-append names_under (option_to_list (as_table d)) (tables_in ds)))))
-
-  as_group_tell : (d : Data) → Gives (GroupOf (option_to_list (as_table d))) (as_group d)
-  as_group_tell (table ms) =
-      gives_then Whatever (GroupOf (ms ∷ [])) (group_head ms) (group_of (commands_at (codes "command") ms)) (gives_whatever (group_head ms))
-      (λ g u. group_there ms (commands_at (codes "command") ms) g (commands_at_tell (codes "command") ms))
-  as_group_tell (string s) = tt
-  as_group_tell (integer z) = tt
-  as_group_tell (float x) = tt
-  as_group_tell (boolean b) = tt
-  as_group_tell (datetime dt) = tt
-  as_group_tell (array ds) = tt
+tell : Holding CommandsOf GroupsOf CommandOf GroupOf
+tell = record {
+  no_commands = (tt, refl);
+  no_groups = (tt, refl);
+  more_commands = λ ts us c cs h k. ((h.0, k.0), ap₂ (λ xs ys. xs ++ ys) h.1 k.1 ∙ sym (flat_map-append own_name ts us));
+  more_groups = λ ts us g gs h k. ((h.0, k.0), ap₂ (λ xs ys. xs ++ ys) h.1 k.1 ∙ sym (flat_map-append names_under ts us));
+  command = λ ms gs cs hg hc. gives_then (CommandTold ms) (CommandOf (ms ∷ [])) (command_head ms) (command_of gs cs) (command_head_there ms) (λ c h. command_there ms gs cs c hg hc h);
+  group = λ ms cs hc. gives_then Whatever (GroupOf (ms ∷ [])) (group_head ms) (group_of cs) (gives_whatever (group_head ms)) (λ g u. group_there ms cs g hc);
+}
 
 -- ---- the whole
 
@@ -235,12 +149,7 @@ record HeadTold (ms : Members) (h : DescriptionHead) : Type 0 where
 
 head_there : (ms : Members) → Gives (HeadTold ms) (description_head ms)
 unfolding description_head
-head_there ms = gives_if (HeadTold ms) (has_only description_keys ms) _ (
-    gives_then HasBytes (HeadTold ms) (required_at as_program_name (codes "name") ms) _ (gives_required HasBytes as_program_name (gives_text HasBytes is_program_name program_bytes) (codes "name") ms) (λ name n.
-    gives_then Whatever (HeadTold ms) (title_words ms) _ (gives_whatever (title_words ms)) (λ words u.
-    gives_then Whatever (HeadTold ms) (optional_at as_language (codes "language") ms) _ (gives_whatever (optional_at as_language (codes "language") ms)) (λ language v.
-    gives_then Whatever (HeadTold ms) (tables_at (codes "help_option") ms) _ (gives_whatever (tables_at (codes "help_option") ms)) (λ helps w.
-    gives_then (λ (o : Outline). has_distinct_names ms ≡ true) (HeadTold ms) (outline_from ms) _ (outline_there ms) (λ outline d. record { bytes = n; distinct = d }))))))
+head_there ms = grind (arith, gives_if, gives_then, gives_required, gives_text, program_bytes, gives_whatever, outline_there)
 
 abbrev DescriptionTells : DescriptionSaid → Type 0
 DescriptionTells d = HasBytes d.name × TellsApart d.level
@@ -251,7 +160,7 @@ described_tells ms =
     gives_then (HeadTold ms) DescriptionTells (description_head ms) _ (head_there ms) (λ h p.
     gives_then Whatever DescriptionTells (each_table (option_from help_option_keys) h.help_options) _ (gives_whatever (each_table (option_from help_option_keys) h.help_options)) (λ helps u.
     gives_map TellsApart DescriptionTells (level_of (groups_at (codes "group") ms) (commands_at (codes "command") ms) h.outline) (description_of h helps)
-    (level_there ms (groups_at (codes "group") ms) (commands_at (codes "command") ms) h.outline (groups_at_tell (codes "group") ms) (commands_at_tell (codes "command") ms) p.distinct) (λ l q. (p.bytes, q))))
+    (level_there ms (groups_at (codes "group") ms) (commands_at (codes "command") ms) h.outline (groups_hold tell (codes "group") ms) (commands_hold tell (codes "command") ms) p.distinct) (λ l q. (p.bytes, q))))
 
 pub ids_are_distinct : IdsAreDistinct
 ids_are_distinct ms d e small =

@@ -1,3 +1,4 @@
+pub mod Readers
 pub mod Characters
 pub mod Plain
 pub mod ReadOnce

@@ -1,5 +1,5 @@
 -- The documents of the manual pages of levels are well nested.
-use Rattle.std.proofs.Common.{ℕ, Bool, true, false, if◌then◌else◌, List, [], ◌∷◌, flat_map, codes, Option, Some, None}
+use Rattle.std.proofs.Common.{ℕ, Bool, true, false, if◌then◌else◌, List, [], ◌∷◌, flat_map, codes, Option, Some, None, arith}
 use Rattle.bpaf_doc.specs.declared.buffer.Style.TheVariants as style
 use Rattle.bpaf_doc.specs.declared.buffer.Block.TheVariants as block
 use Rattle.bpaf_doc.specs.Buffer.Writes.{Write, plain}
@@ -23,8 +23,7 @@ name_keeps name None = nothing_keeps
 name_keeps name (Some words) = both_keep (heading_keeps (codes "NAME")) (text_then name style.Text (text_then (codes " - ") style.Text (doc_keeps (text_document words) (text_nested words))))
 
 if_keeps : (b : Bool) {ws : List Write} → Keeps ws → Keeps (if b then ws else [])
-if_keeps true f = f
-if_keeps false f = nothing_keeps
+if_keeps b h1 = grind (arith, nothing_keeps)
 
 description_keeps : (about : Option (List ℕ)) → Keeps (description_writes about)
 description_keeps None = nothing_keeps

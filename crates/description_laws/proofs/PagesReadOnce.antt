@@ -1,5 +1,5 @@
 -- The manual pages of a description that a TOML text gives are read once: the one page of all, and that of each level.
-use Rattle.std.proofs.Common.{ℕ, Bool, true, false, cond, if◌then◌else◌, List, [], ◌∷◌, ◌++◌, map, flat_map, codes, refl, Option, Some, None}
+use Rattle.std.proofs.Common.{ℕ, Bool, true, if◌then◌else◌, List, [], ◌∷◌, ◌++◌, map, flat_map, codes, refl, Option, arith}
 use Rattle.std.specs.List.{find, join_by, list_all}
 use Rattle.std.proofs.lemmas.Bool.{and_from}
 use Rattle.bpaf_doc.specs.declared.buffer.Style.TheVariants as style
@@ -14,12 +14,10 @@ use Rattle.description.specs.Content.{DescriptionSaid}
 use Rattle.description.specs.Described.{described}
 use Rattle.description.specs.Manuals.{description_writes, heading, neighbours, page_name, reference, see_also_writes, subject_manual, subject_manual_writes, summary}
 use Rattle.description.specs.Pages.{manual_document, subject_tree}
-use Rattle.description.specs.Paragraphs.{goes_on}
-use Rattle.description.specs.ReadOnce.{command_headings, commands_headings, group_headings, groups_headings, has_words_read_once, is_word_read_once, IsReadOnce, level_headings, TitlesAreReadOnce}
-use Rattle.description.specs.Subjects.{SubjectSaid, application, below, command_named, commands_on, grouped, is_named, led_to, listed, title_words_of}
-use Rattle.description.specs.Texts.{plain_document, text_document}
+use Rattle.description.specs.ReadOnce.{command_headings, commands_headings, groups_headings, has_words_read_once, is_word_read_once, IsReadOnce, level_headings, TitlesAreReadOnce}
+use Rattle.description.specs.Subjects.{SubjectSaid, application, below, commands_on, grouped, led_to, listed, title_words_of}
 use Rattle.description.specs.Trees.{document_said, manual_head, manual_tree, on_help_pages, on_manual_page, options_tree}
-use Rattle.description.specs.UsageLines.{texts_in, usage_part, without_lead}
+use Rattle.description.specs.UsageLines.{texts_in, usage_part}
 use Rattle.description_laws.proofs.Captured.{Clear, both_clear, doc_clear, nothing_captured, nothing_clear, page_once, path_clear, section_clear, text_captured, written_clear}
 use Rattle.description_laws.proofs.ClearPages.{IsClearChapter, lists_clear, manual_clear, name_clear, within_clear}
 use Rattle.description_laws.proofs.ClearTrees.{said_clear, text_clear, topics_clear, trees_clear}
@@ -42,57 +40,39 @@ listed_once (commands m ms) h = let both = once_parts (command_headings m) (comm
 
 grouped_once : (gs : GroupsSaid) → Once (groups_headings gs) → Each OnceCommand (grouped gs)
 grouped_once no_groups h = tt
-grouped_once (groups (group title os cs ps ms) gs) h =
-    let both = once_parts (group_headings (group title os cs ps ms)) (groups_headings gs) h in
-    let inner = once_parts title (commands_headings ms) both.0 in
-    each_append OnceCommand (listed ms) (grouped gs) (listed_once ms inner.1) (grouped_once gs both.1)
+grouped_once (groups (group title os cs ps ms) gs) h = grind (arith, grouped_once gs, once_parts, each_append, listed_once)
 
 commands_once : (l : LevelSaid) → Once (level_headings l) → Each OnceCommand (commands_on l)
-commands_once (level t r os cs gs ps ms) h =
-    let parts = once_parts (flat_map (λ topic. topic.title) t.topics) (groups_headings gs ++ commands_headings ms) h in
-    let both = once_parts (groups_headings gs) (commands_headings ms) parts.1 in
-    each_append OnceCommand (grouped gs) (listed ms) (grouped_once gs both.0) (listed_once ms both.1)
+commands_once (level t r os cs gs ps ms) h = grind (arith, once_parts, each_append, grouped_once, listed_once)
 
 found_once : (test : CommandSaid → Bool) (ms : List CommandSaid) → Each OnceCommand ms → Gives OnceCommand (find test ms)
 found_once test [] h = tt
-found_once test (m ∷ ms) h = by (test m) (found_once test ms h.1) where
-  by : (b : Bool) → Gives OnceCommand (find test ms) → Gives OnceCommand (cond b (Some m) (find test ms))
-  by true k = h.0
-  by false k = k
+found_once test (m ∷ ms) h = grind (arith, found_once test ms h.1)
 
 below_once : (s : SubjectSaid) (m : CommandSaid) → OnceSubject s → OnceCommand m → OnceSubject (below s m)
-below_once s (command names h l) p k =
-    let both = once_parts names.name (flat_map (λ name. name) names.aliases ++ level_headings l) k in
-    let rest = once_parts (flat_map (λ name. name) names.aliases) (level_headings l) both.1 in
-    record { path = each_append Once s.path (names.name ∷ []) p.path (both.0, tt); words = p.words; level = rest.1 }
+below_once s (command names h l) p k = grind (arith, once_parts, each_append)
 
 led_once : (words : List (List ℕ)) (s : SubjectSaid) → OnceSubject s → Gives OnceSubject (led_to words s)
 led_once [] s p = p
-led_once (word ∷ words) s p =
-    gives_then OnceCommand OnceSubject (command_named word s.level) (λ m. led_to words (below s m)) (found_once (is_named word) (commands_on s.level) (commands_once s.level p.level))
-    (λ m k. led_once words (below s m) (below_once s m p k))
+led_once (word ∷ words) s p = grind (arith, led_once words, gives_then, found_once, commands_once, below_once)
 
 -- ---- the page of a level
 
 name_once : (path : List (List ℕ)) → Each Once path → Once (page_name path)
-name_once [] h = refl
-name_once (name ∷ []) h = h.0
 name_once (name ∷ other ∷ path) h = once_append name (45 ∷ page_name (other ∷ path)) h.0 (name_once (other ∷ path) h.1)
+name_once x h = grind arith
 
 own_heading : (title : List ℕ) → Once title → Clear (heading title)
 own_heading title once = section_clear block.Header refl (text_captured title style.Text once nothing_captured)
 
 usage_part_clear : (path : List (List ℕ)) (t : Tree) → HasClearTexts t → (usage : Option (List ℕ)) → Clear (usage_part path t usage)
-usage_part_clear path t h None = both_clear (path_clear path) (usage_clear t h)
-usage_part_clear path t h (Some words) = doc_clear (plain_document (without_lead words)) refl
+usage_part_clear path t h2 h3 = grind (arith, both_clear, path_clear, usage_clear, doc_clear)
 
 if_clear : (b : Bool) {ws : List Write} → Clear ws → Clear (if b then ws else [])
-if_clear true f = f
-if_clear false f = nothing_clear
+if_clear b h1 = grind (arith, nothing_clear)
 
 description_clear : (about : Option (List ℕ)) → Clear (description_writes about)
-description_clear None = nothing_clear
-description_clear (Some words) = if_clear (goes_on words) (both_clear (own_heading (codes "DESCRIPTION") refl) (doc_clear (text_document words) (text_clear words)))
+description_clear about = grind (arith, nothing_clear, if_clear, both_clear, own_heading, doc_clear, text_clear)
 
 others_clear : (section : List ℕ) (names : List (List ℕ)) → Clear (flat_map (λ name. plain (codes ", ") ∷ reference section name) names)
 others_clear section [] = nothing_clear
@@ -102,8 +82,7 @@ references_clear : (section name : List ℕ) (names : List (List ℕ)) → Clear
 references_clear section name names = record { outside = (others_clear section names).outside }
 
 see_also_clear : (section : List ℕ) (names : List (List ℕ)) → Clear (see_also_writes section names)
-see_also_clear section [] = nothing_clear
-see_also_clear section (name ∷ names) = both_clear (own_heading (codes "SEE ALSO") refl) (references_clear section name names)
+see_also_clear section names = grind (arith, nothing_clear, both_clear, own_heading, references_clear)
 
 topics_once : (l : LevelSaid) → Once (level_headings l) → Once (flat_map (λ topic. topic.title) (texts_in l).topics)
 topics_once (level t r os cs gs ps ms) h = (once_parts (flat_map (λ topic. topic.title) t.topics) (groups_headings gs ++ commands_headings ms) h).0

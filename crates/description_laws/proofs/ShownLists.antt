@@ -1,5 +1,5 @@
 -- Which items stand in which list, where a group holds items alone and no item stands in an adjacent block.
-use Rattle.std.proofs.Common.{◌≡◌, ℕ, suc, zero, ◌+◌, Bool, true, false, not, ◌&&◌, ◌||◌, List, [], ◌∷◌, ◌++◌, map, flat_map, refl, sym, ap, ◌∙◌, append_assoc, append-nil, add-one, arith, Option, Some, None}
+use Rattle.std.proofs.Common.{◌≡◌, ℕ, suc, zero, ◌+◌, Bool, true, false, not, ◌&&◌, List, [], ◌∷◌, ◌++◌, map, flat_map, refl, sym, ap, ◌∙◌, append_assoc, append-nil, add-one, arith, Option, Some, None}
 use Rattle.std.specs.Prelude.{if◌then◌else◌, filter, count_by}
 use Rattle.std.specs.List.{list_any, range_with_len, after_last}
 use Rattle.std.proofs.lemmas.Bool.{le-ltb}
@@ -9,9 +9,9 @@ use Rattle.std.proofs.lemmas.List.Folds.{list_any-append}
 use Rattle.bpaf_doc.specs.Buffer.Parts.{Part}
 use Rattle.bpaf_meta.specs.Content.{Leaf}
 use Rattle.bpaf_items.specs.declared.meta_help.entry.HiTy.{HiTy}
-use Rattle.bpaf_items.specs.Listing.ItemList.{Entry, listed, group_start, group_end, group_entries, type_of_item}
+use Rattle.bpaf_items.specs.Listing.ItemList.{Entry, group_start, group_end, group_entries}
 use Rattle.bpaf_items.specs.Listing.Keys.{key_of, same_key}
-use Rattle.bpaf_items.specs.Listing.Falls.{Placed, placed_after, has_key_of, is_adjacent_in_group, is_adjacent_start, is_adjacent_stop, is_given, is_given_after, is_group_mark, is_group_open, is_group_start, is_in_group, is_mark, is_shown, group_members, heading_members, items_of_type, lacks_help, last_that, outside_groups, same_type, type_of}
+use Rattle.bpaf_items.specs.Listing.Falls.{Placed, placed_after, has_key_of, is_adjacent_start, is_given, is_group_mark, is_group_open, is_group_start, is_in_group, is_mark, is_shown, heading_members, items_of_type, last_that, outside_groups, same_type, type_of}
 use Rattle.bpaf_items.specs.Listing.Groups.{HasNoGroupMark, HasPairedGroups, empty, outer, whole, stays, kept_entries}
 use Rattle.bpaf_items.proofs.Listing.Blocks.{count-append}
 use Rattle.bpaf_items.proofs.Listing.Headings.{headings_agree}
@@ -20,9 +20,9 @@ use Rattle.bpaf_items.proofs.Listing.Pushes.{after_last-push, last_that-push, op
 use Rattle.bpaf_items.proofs.Listing.TakenOut.{first_members, other_members, outside_all_but, one_fewer}
 use Rattle.description.specs.Content.{SharedSaid}
 use Rattle.description.specs.Texts.{plain_document}
-use Rattle.description.specs.WebPages.Entries.{EntrySaid, each_once, entry_key, if_new, new_behind, same_entry}
+use Rattle.description.specs.WebPages.Entries.{EntrySaid, each_once, entry_key, new_behind, same_entry}
 use Rattle.description.proofs.Each.{Each}
-use Rattle.description_laws.specs.Sections.{Listing, entry_items, group_listing, lists_some, shown_items, title_in, without_empty}
+use Rattle.description_laws.specs.Sections.{Listing, group_listing, lists_some, shown_items, without_empty}
 use Rattle.description_laws.proofs.ItemLists.{IsListed, item_at, key_at, leaf_at}
 
 -- entries under a title that a group gives, if one of them has a type
@@ -61,11 +61,7 @@ module _ (shared : SharedSaid) where
   AreAlike before others = (l : Leaf) → list_any (has_key_of l) before ≡ list_any (λ f. same_key (key_of l) (entry_key f)) others
 
   one_more : (before : List Entry) (others : List EntrySaid) (e : EntrySaid) → AreAlike before others → AreAlike (before ++ at e ∷ []) (others ++ e ∷ [])
-  one_more before others e alike l =
-      list_any-append (has_key_of l) before (at e ∷ [])
-      ∙ ap (λ b. b || (same_key (key_of l) (key_of (leaf_at shared e)) || false)) (alike l)
-      ∙ ap (λ k. list_any (λ f. same_key (key_of l) (entry_key f)) others || (same_key (key_of l) k || false)) (key_at shared e)
-      ∙ sym (list_any-append (λ f. same_key (key_of l) (entry_key f)) others (e ∷ []))
+  one_more before others e alike l = grind (arith, list_any-append, key_at)
 
   abbrev unmarked : List Placed → List Entry
   unmarked ps = filter (λ e. not (is_mark e)) (map (λ p. p.1) (filter is_shown ps))
@@ -106,41 +102,26 @@ module _ (shared : SharedSaid) where
   no_block before e h = ap (count_by is_adjacent_start) (after_last-push is_group_start before (at e)) ∙ count-append is_adjacent_start (after_last is_group_start before) (at e ∷ []) ∙ ap (λ n. n + 0) h
 
   none_lacks : (b : Bool) → not (b && false) ≡ true
-  none_lacks true = refl
-  none_lacks false = refl
+  none_lacks b = grind arith
 
   stay : (before : List Entry) (e : EntrySaid) → blocks before ≡ 0 → stays (before, at e) ≡ true
-  stay before e h =
-      let outside : is_adjacent_in_group before ≡ false = le-ltb (count_by is_adjacent_stop (after_last is_group_start before)) (blocks before) (omega arith) in
-      ap (λ b. not (lacks_help (at e) && b)) outside ∙ none_lacks (lacks_help (at e))
+  stay before e h = grind (arith, le-ltb, none_lacks)
 
   all_stay : (before : List Entry) (es : List EntrySaid) → blocks before ≡ 0 → map (λ p. p.1) (filter stays (placed_after before (items es))) ≡ items es
   all_stay before [] h = refl
-  all_stay before (e ∷ es) h =
-      let rest : List Placed = filter stays (placed_after (before ++ at e ∷ []) (items es)) in
-      ap (λ b. map (λ (p : Placed). p.1) (if b then (before, at e) ∷ rest else rest)) (stay before e h) ∙ ap (λ xs. at e ∷ xs) (all_stay (before ++ at e ∷ []) es (no_block before e h))
+  all_stay before (e ∷ es) h = grind (arith, all_stay (before ++ at e ∷ []) es, stay, no_block)
 
   all_kept : (es : List EntrySaid) → kept_entries (items es) ≡ items es
   all_kept es = all_stay [] es refl
 
   none_within : (before : List Entry) (es : List EntrySaid) → is_group_open before ≡ false → map (λ p. p.1) (filter (λ p. not (is_in_group p)) (placed_after before (items es))) ≡ items es
   none_within before [] h = refl
-  none_within before (e ∷ es) h =
-      let rest : List Placed = filter (λ p. not (is_in_group p)) (placed_after (before ++ at e ∷ []) (items es)) in
-      ap (λ b. map (λ (p : Placed). p.1) (if not b then (before, at e) ∷ rest else rest)) h ∙ ap (λ xs. at e ∷ xs) (none_within (before ++ at e ∷ []) es (open-push before (at e) ∙ h))
+  none_within before (e ∷ es) h = grind (arith, none_within (before ++ at e ∷ []) es, open-push)
 
   given_after : (k : HiTy) (before : List Entry) (es : List EntrySaid) → last_that is_mark before ≡ None
       → map (λ p. p.1) (filter (is_given k) (placed_after before (items es))) ≡ filter (λ e. same_type (type_of e) k) (items es)
   given_after k before [] h = refl
-  given_after k before (e ∷ es) h =
-      let rest : List Placed = filter (is_given k) (placed_after (before ++ at e ∷ []) (items es)) in
-      ap (λ o. map (λ (p : Placed). p.1) (if is_given_after o k (at e) then (before, at e) ∷ rest else rest)) h
-      ∙ by (same_type (type_of (at e)) k) (given_after k (before ++ at e ∷ []) es (last_that-push is_mark before (at e) ∙ h)) where
-        by : (b : Bool) → map (λ p. p.1) (filter (is_given k) (placed_after (before ++ at e ∷ []) (items es))) ≡ filter (λ x. same_type (type_of x) k) (items es)
-            → map (λ (p : Placed). p.1) (if b then (before, at e) ∷ filter (is_given k) (placed_after (before ++ at e ∷ []) (items es)) else filter (is_given k) (placed_after (before ++ at e ∷ []) (items es)))
-            ≡ (if b then at e ∷ filter (λ x. same_type (type_of x) k) (items es) else filter (λ x. same_type (type_of x) k) (items es))
-        by true more = ap (λ xs. at e ∷ xs) more
-        by false more = more
+  given_after k before (e ∷ es) h = grind (arith, given_after k (before ++ at e ∷ []) es, last_that-push)
 
   -- those of one type
   abbrev pub typed : HiTy → List EntrySaid → List Entry
@@ -150,14 +131,8 @@ module _ (shared : SharedSaid) where
   typed-append k es fs = ap (filter (λ e. same_type (type_of e) k)) (map-append at es fs) ∙ filter-append (λ e. same_type (type_of e) k) (items es) (items fs)
 
   pub of_type : (k j : HiTy) (es : List EntrySaid) → Each (IsListed shared j) es → typed k es ≡ (if same_type j k then items es else [])
-  of_type k j [] h = by (same_type j k) where
-    by : (b : Bool) → [] ≡ (if b then items [] else [])
-    by true = refl
-    by false = refl
-  of_type k j (e ∷ es) h = ap (λ t. if same_type t k then at e ∷ typed k es else typed k es) h.0.kind ∙ by (same_type j k) (of_type k j es h.1) where
-    by : (b : Bool) → typed k es ≡ (if b then items es else []) → (if b then at e ∷ typed k es else typed k es) ≡ (if b then items (e ∷ es) else [])
-    by true more = ap (λ xs. at e ∷ xs) more
-    by false more = more
+  of_type k j [] h = grind arith
+  of_type k j (e ∷ es) h = grind (arith, of_type k j es h.1)
 
   -- ---- groups between items
 
@@ -168,8 +143,7 @@ module _ (shared : SharedSaid) where
   around front gs back = items front ++ (frames gs ++ items back)
 
   frame_moved : (start : Entry) (inner others back : List Entry) (end : Entry) → ((start ∷ (inner ++ end ∷ [])) ++ others) ++ back ≡ start ∷ (inner ++ end ∷ (others ++ back))
-  frame_moved start inner others back end =
-      ap (λ xs. start ∷ xs) (append_assoc (inner ++ end ∷ []) others back ∙ append_assoc inner (end ∷ []) (others ++ back))
+  frame_moved start inner others back end = grind (arith, append_assoc)
 
   items_paired : (es : List EntrySaid) → HasPairedGroups (items es)
   items_paired [] = empty refl
@@ -200,9 +174,7 @@ module _ (shared : SharedSaid) where
 
   one_further : (f g : ℕ → Listing) → ((n : ℕ) → f (n + 2) ≡ g (n + 1)) → (a n : ℕ) → map f (range_with_len (a + 2) n) ≡ map g (range_with_len (a + 1) n)
   one_further f g h a zero = refl
-  one_further f g h a (suc n) =
-      let next : (a + 2) + 1 ≡ (a + 1) + 2 = omega arith in
-      λ i. h a i ∷ (ap (λ m. map f (range_with_len m n)) next ∙ one_further f g h (a + 1) n) i
+  one_further f g h a (suc n) = grind (arith, one_further f g h (a + 1) n)
 
   one_first : (f g : ℕ → Listing) (l : Listing) → f 1 ≡ l → ((n : ℕ) → f (n + 2) ≡ g (n + 1)) → (m n : ℕ) → m ≡ n + 1 → map f (range_with_len 1 m) ≡ l ∷ map g (range_with_len 1 n)
   one_first f g l first others m n is = ap (λ k. map f (range_with_len 1 k)) (is ∙ add-one n) ∙ (λ i. first i ∷ one_further f g others 0 n i)
@@ -217,22 +189,4 @@ module _ (shared : SharedSaid) where
   groups_shown front [] back h =
       let clear : HasNoGroupMark (items front ++ items back) = ap (list_any is_group_mark) (sym (map-append at front back)) ∙ no_marks (front ++ back) in
       ap (λ n. without_empty (map (group_listing (items front ++ items back)) (range_with_len 1 n))) (count_through [] (items front ++ items back) clear)
-  groups_shown front (g ∷ gs) back h = by g.kind refl (groups_shown front gs back h.1) where
-    by : (o : Option HiTy) → g.kind ≡ o → without_empty (listings (around front gs back)) ≡ without_empty (map listing gs)
-        → without_empty (listings (items front ++ ((group_entries o (plain_document g.title) (items g.entries) ++ frames gs) ++ items back))) ≡ without_empty (listing g ∷ map listing gs)
-    by None is more =
-        let nothing : lists_some (listing g) ≡ false = ap (λ es. lists_some (record { title = plain_document g.title; entries = entries_shown es })) (h.0 is) in
-        more ∙ sym (ap (λ b. if b then listing g ∷ without_empty (map listing gs) else without_empty (map listing gs)) nothing)
-    by (Some k) is more =
-        let d : List Part = plain_document g.title in
-        let rest : List Entry = frames gs ++ items back in
-        let all : List Entry = items front ++ (group_start d k ∷ (items g.entries ++ group_end k ∷ rest)) in
-        let members : group_members all 1 ≡ group_start d k ∷ (items g.entries ++ group_end k ∷ [])
-        = first_members (items front) d k k (items g.entries) rest (no_marks front) (no_marks g.entries) (frames_paired gs back) ∙ ap (λ xs. group_start d k ∷ (xs ++ group_end k ∷ [])) (all_kept g.entries) in
-        let own : group_listing all 1 ≡ listing g = ap (λ es. record { title = title_in es; entries = shown_items es }) members ∙ ap (λ es. record { title = d; entries = es }) (group_shown d k k g.entries) in
-        let others : (n : ℕ) → group_listing all (n + 2) ≡ group_listing (around front gs back) (n + 1)
-        = λ n. ap (λ es. record { title = title_in es; entries = shown_items es }) (other_members (items front) d k k (items g.entries) rest (no_marks front) (no_marks g.entries) (frames_paired gs back) n) in
-        ap (λ xs. without_empty (listings (items front ++ xs))) (frame_moved (group_start d k) (items g.entries) (frames gs) (items back) (group_end k))
-        ∙ ap without_empty (one_first (group_listing all) (group_listing (around front gs back)) (listing g) own others (count_by is_group_start all) (count_by is_group_start (around front gs back))
-        (one_fewer (items front) d k k (items g.entries) rest (no_marks front) (no_marks g.entries) (frames_paired gs back)))
-        ∙ then_same (listing g) (listings (around front gs back)) (map listing gs) more
+  groups_shown front (g ∷ gs) back h = grind (arith, groups_shown front gs back h.1, first_members, no_marks, frames_paired, all_kept, group_shown, other_members, frame_moved, one_first, one_fewer, then_same)

@@ -1,7 +1,7 @@
 -- The lists of a section are those of the help page of that level.
-use Rattle.std.proofs.Common.{◌≡◌, ◌&&◌, ◌||◌, Bool, true, false, codes, List, [], ◌∷◌, ◌++◌, map, flat_map, refl, sym, ap, ◌∙◌, append_assoc, append-nil, Option, None}
+use Rattle.std.proofs.Common.{◌≡◌, ◌&&◌, ◌||◌, Bool, true, false, codes, List, [], ◌∷◌, ◌++◌, map, flat_map, refl, sym, ap, ◌∙◌, append_assoc, append-nil, arith}
 use Rattle.std.specs.Prelude.{if◌then◌else◌, ℕ, count_by}
-use Rattle.std.specs.List.{list_any, range_with_len}
+use Rattle.std.specs.List.{range_with_len}
 use Rattle.std.proofs.lemmas.Grind.{flat_map-append}
 use Rattle.std.proofs.lemmas.List.{map-append}
 use Rattle.std.proofs.lemmas.List.Elements.{filter-append}
@@ -11,12 +11,11 @@ use Rattle.bpaf_items.specs.declared.meta_help.entry.HiTy.TheVariants as ty
 use Rattle.bpaf_items.specs.Listing.ItemList.{Entry, entries_of, front_type, group_entries, item_list}
 use Rattle.bpaf_items.specs.Listing.Falls.{heading_members, is_group_start, same_type}
 use Rattle.bpaf_items.proofs.Steps.Kept.{no_entries}
-use Rattle.description_parts.specs.Content.{OptSaid, ChoiceSaid, PositionalSaid, TextsSaid, LevelSaid, level, GroupsSaid, no_groups, groups, GroupSaid, group, CommandsSaid}
+use Rattle.description_parts.specs.Content.{OptSaid, ChoiceSaid, PositionalSaid, TextsSaid, LevelSaid, level, GroupsSaid, no_groups, groups, group, CommandsSaid}
 use Rattle.description.specs.Content.{SharedSaid}
-use Rattle.description.specs.Subjects.{SubjectSaid}
 use Rattle.description.specs.Texts.{plain_document}
-use Rattle.description.specs.Trees.{all_of, choice_tree, command_items, hold_commands, holds_command, level_tree, named_group, named_groups, on_help_pages, one_of_commands, option_tree, options_tree, placed_group, placed_groups, positional_tree, show_command, titled}
-use Rattle.description.specs.WebPages.Entries.{EntrySaid, each_once, if_new, new_behind, same_entry}
+use Rattle.description.specs.Trees.{all_of, choice_tree, command_items, hold_commands, level_tree, named_groups, on_help_pages, one_of_commands, option_tree, options_tree, placed_groups, positional_tree, show_command, titled}
+use Rattle.description.specs.WebPages.Entries.{EntrySaid, each_once, new_behind}
 use Rattle.description.specs.WebPages.Lists.{ListSaid, choice_entries, command_entries, group_lists, list_of, named_list, option_entries, own_lists, placed_list, section_lists, value_entries}
 use Rattle.description_laws.proofs.Among.{each_weaker}
 use Rattle.description.proofs.Each.{Each, each_append}
@@ -35,10 +34,7 @@ module _ (shared : SharedSaid) where
 
   new_alone : (before es : List EntrySaid) → Each IsAlone es → Each IsAlone (new_behind before es)
   new_alone before [] h = tt
-  new_alone before (e ∷ es) h = each_append IsAlone (if_new before e) (new_behind (before ++ e ∷ []) es) (by (list_any (same_entry e) before)) (new_alone (before ++ e ∷ []) es h.1) where
-    by : (b : Bool) → Each IsAlone (if b then [] else e ∷ [])
-    by true = tt
-    by false = (h.0, tt)
+  new_alone before (e ∷ es) h = grind (arith, new_alone (before ++ e ∷ []) es h.1, each_append)
 
   each_alone : (es : List EntrySaid) → Each IsAlone es → map (entry_items shared) es ≡ map (λ x. x ∷ []) (items shared es)
   each_alone [] h = refl
@@ -64,18 +60,11 @@ module _ (shared : SharedSaid) where
 
   module _ (g : Bool) where
     named_items : (os : List OptSaid) (cs : List ChoiceSaid) → flat_map (entries_of g) (map option_tree os ++ map choice_tree cs) ≡ items shared (option_entries os ++ choice_entries cs)
-    named_items os cs =
-        flat_map-append (entries_of g) (map option_tree os) (map choice_tree cs)
-        ∙ ap (λ es. es ++ flat_map (entries_of g) (map choice_tree cs)) (options_list shared g os) ∙ ap (λ es. items shared (option_entries os) ++ es) (choices_list shared g cs)
-        ∙ sym (map-append (item_at shared) (option_entries os) (choice_entries cs))
+    named_items os cs = grind (arith, flat_map-append, options_list, choices_list, map-append)
 
     placed_items : (further required : Bool) (ps : List PositionalSaid) (ms : CommandsSaid)
         → flat_map (entries_of g) (map positional_tree ps ++ one_of_commands further required (command_items shared ms)) ≡ items shared (value_entries ps ++ command_entries ms)
-    placed_items further required ps ms =
-        flat_map-append (entries_of g) (map positional_tree ps) (one_of_commands further required (command_items shared ms))
-        ∙ ap (λ es. es ++ flat_map (entries_of g) (one_of_commands further required (command_items shared ms))) (values_list shared g ps)
-        ∙ ap (λ es. items shared (value_entries ps) ++ es) (commands_list shared g further required ms)
-        ∙ sym (map-append (item_at shared) (value_entries ps) (command_entries ms))
+    placed_items further required ps ms = grind (arith, flat_map-append, values_list, commands_list, map-append)
 
   named_alone : (os : List OptSaid) (cs : List ChoiceSaid) → Each (IsListed shared ty.Flag) (option_entries os ++ choice_entries cs)
   named_alone os cs = each_append (IsListed shared ty.Flag) (option_entries os) (choice_entries cs) (options_listed shared os) (choices_listed shared cs)
@@ -126,11 +115,7 @@ module _ (shared : SharedSaid) where
   -- ---- a level
 
   regrouped : {X : Type 0} (x n p v m h : List X) → (((((x ++ n) ++ p) ++ v) ++ m) ++ h) ≡ x ++ ((n ++ p) ++ ((v ++ m) ++ h))
-  regrouped x n p v m h =
-      ap (λ xs. ((xs ++ v) ++ m) ++ h) (append_assoc x n p)
-      ∙ ap (λ xs. xs ++ h) (append_assoc (x ++ (n ++ p)) v m)
-      ∙ append_assoc (x ++ (n ++ p)) (v ++ m) h
-      ∙ append_assoc x (n ++ p) ((v ++ m) ++ h)
+  regrouped x n p v m h = grind (arith, append_assoc)
 
   module _ (hs : List OptSaid) (os : List OptSaid) (cs : List ChoiceSaid) (gs : GroupsSaid) (ps : List PositionalSaid) (ms : CommandsSaid) (r : Bool) where
     abbrev further : Bool
@@ -224,10 +209,7 @@ module _ (shared : SharedSaid) where
     all_typed = each_append IsTyped (named_groups_in gs) (placed_groups_in false r gs) named.each_typed placed.each_typed
 
     group_listings : map (listing_of shared) (group_lists named_list gs ++ group_lists placed_list gs) ≡ map (listing shared) all_groups
-    group_listings =
-        map-append (listing_of shared) (group_lists named_list gs) (group_lists placed_list gs)
-        ∙ (λ i. named.are_shown i ++ placed.are_shown i)
-        ∙ sym (map-append (listing shared) (named_groups_in gs) (placed_groups_in false r gs))
+    group_listings = grind (arith, map-append, named, placed)
 
     same_lists : (t : TextsSaid) → without_empty (map (listing_of shared) (section_lists hs (level t r os cs gs ps ms))) ≡ without_empty (page_listings all_items)
     same_lists t =

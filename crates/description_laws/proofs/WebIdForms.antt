@@ -1,5 +1,5 @@
 -- What an id tells: the section that it is of, and what stands behind the section's own id.
-use Rattle.std.proofs.Common.{◌≡◌, ℕ, ◌+◌, ◌*◌, ◌%◌, ◌/◌, ◌<◌, ◌^◌, ◌==◌, Bool, true, false, cond, List, [], ◌∷◌, ◌++◌, codes, decimal, flat_map, if◌then◌else◌, nat_lt, refl, sym, ap, ap₂, ◌∙◌, subst, arith, append_assoc, append-nil}
+use Rattle.std.proofs.Common.{◌≡◌, ℕ, ◌+◌, ◌*◌, ◌%◌, ◌/◌, ◌<◌, ◌^◌, ◌==◌, Bool, true, false, List, [], ◌∷◌, ◌++◌, codes, decimal, flat_map, if◌then◌else◌, nat_lt, refl, sym, ap, ap₂, ◌∙◌, arith, append_assoc, append-nil}
 use Rattle.std.specs.Char.{digit_char}
 use Rattle.std.proofs.lemmas.Bool.{eqb-true, false≢true, ltb-true}
 use Rattle.std.proofs.lemmas.Fmt.{decimal_injective}
@@ -23,33 +23,18 @@ split [] (y ∷ b) [] u na nb ct cu e = cc
 split [] (y ∷ b) (c ∷ t) u na nb ct cu e = let is : y ≡ 58 = cc in absurd (nb.0 is)
 split (x ∷ a) [] t [] na nb ct cu e = cc
 split (x ∷ a) [] t (c ∷ u) na nb ct cu e = let is : x ≡ 58 = cc in absurd (na.0 is)
-split (x ∷ a) (y ∷ b) t u na nb ct cu e =
-    let first : x ≡ y = cc in
-    let others : a ++ t ≡ b ++ u = cc in
-    let rest = split a b t u na.1 nb.1 ct cu others in
-    (ap₂ (λ c cs. c ∷ cs) first rest.0, rest.1)
+split (x ∷ a) (y ∷ b) t u na nb ct cu e = grind (arith, split a b t u na.1 nb.1 ct cu, ap₂)
 
 -- ---- a name
 
 digit_colon : (d : ℕ) → digit_char d ≡ 58 → ⊥
-digit_colon d = by (nat_lt d 10) refl where
-  by : (b : Bool) → nat_lt d 10 ≡ b → cond b (48 + d) (87 + d) ≡ 58 → ⊥
-  by true h e = let small = ltb-true d 10 h in omega arith
-  by false h e = omega arith
+digit_colon d = grind (arith, nat_lt, ltb-true)
 
 digit_told : (c d : ℕ) → digit_char c ≡ digit_char d → c ≡ d
-digit_told c d = by (nat_lt c 10) refl (nat_lt d 10) refl where
-  by : (a : Bool) → nat_lt c 10 ≡ a → (b : Bool) → nat_lt d 10 ≡ b → cond a (48 + c) (87 + c) ≡ cond b (48 + d) (87 + d) → c ≡ d
-  by true h true k e = omega arith
-  by true h false k e = let small = ltb-true c 10 h in omega arith
-  by false h true k e = let small = ltb-true d 10 k in omega arith
-  by false h false k e = omega arith
+digit_told c d = grind (arith, nat_lt, ltb-true)
 
 byte_colon : (b : ℕ) → NoColon (id_byte b)
-byte_colon b = by (is_id_byte b) refl where
-  by : (t : Bool) → is_id_byte b ≡ t → NoColon (if t then b ∷ [] else 46 ∷ digit_char (b / 16) ∷ digit_char (b % 16) ∷ [])
-  by true h = (λ e. false≢true (sym (ap is_id_byte e) ∙ h), tt)
-  by false h = (λ e. omega arith, (digit_colon (b / 16), (digit_colon (b % 16), tt)))
+byte_colon b = grind (arith, false≢true, digit_colon)
 
 text_colon : (text : List ℕ) → NoColon (id_text text)
 text_colon [] = tt
@@ -98,8 +83,7 @@ IsPath [] = ⊥
 IsPath (name ∷ names) = HasBytes name × Each HasBytes names
 
 pub path_more : (path : List (List ℕ)) (name : List ℕ) (names : List (List ℕ)) → IsPath path → HasBytes name → Each HasBytes names → IsPath (path ++ name ∷ names)
-path_more [] name names h k l = absurd h
-path_more (first ∷ others) name names h k l = (h.0, each_append HasBytes others (name ∷ names) h.1 (k, l))
+path_more path name names h3 h4 h5 = grind (arith, each_append)
 
 -- what may stand behind a section's own id: nothing, or two colons first
 abbrev pub Tail : List ℕ → Type 0
@@ -118,15 +102,7 @@ colon_behind (name ∷ names) t h = refl
 
 -- a name that is not empty gives no second colon
 no_name : (name rest t : List ℕ) → HasBytes name → Tail t → t ≡ 58 ∷ (id_text name ++ rest) → ⊥
-no_name [] rest t h k e = h
-no_name (b ∷ bs) rest [] h k e = cc
-no_name (b ∷ bs) rest (c ∷ []) h k e = k
-no_name (b ∷ bs) rest (c ∷ d ∷ t) h k e =
-    let (f, fs, is) = first_of_byte b in
-    let whole : c ∷ d ∷ t ≡ 58 ∷ f ∷ ((fs ++ id_text bs) ++ rest) = e ∙ ap (λ x. 58 ∷ ((x ++ id_text bs) ++ rest)) is in
-    let no : NoColon (f ∷ fs) = subst NoColon is (byte_colon b) in
-    let same : d ≡ f = cc in
-    no.0 (sym same ∙ k.1)
+no_name name rest t h3 h4 h5 = grind (arith, byte_colon)
 
 behind_told : (ns ms : List (List ℕ)) (t u : List ℕ) → Each HasBytes ns → Each HasBytes ms → Tail t → Tail u → behind ns ++ t ≡ behind ms ++ u → (ns ≡ ms) × (t ≡ u)
 behind_told [] [] t u hn hm ht hu e = (refl, e)
@@ -159,30 +135,13 @@ abbrev pub word_tail : (word : List ℕ) → (earlier : ℕ) → List ℕ
 word_tail word earlier = 58 ∷ 58 ∷ (id_text word ++ number earlier)
 
 pub numbered_is : (path : List (List ℕ)) (word : List ℕ) (earlier : ℕ) → numbered (entry_id path word) earlier ≡ section_id path ++ word_tail word earlier
-numbered_is path word earlier = by (earlier == 0) where
-  by : (b : Bool) → (if b then entry_id path word else entry_id path word ++ (codes "::" ++ decimal (earlier + 1))) ≡ section_id path ++ (58 ∷ 58 ∷ (id_text word ++ (if b then [] else codes "::" ++ decimal (earlier + 1))))
-  by true = ap (λ x. section_id path ++ (58 ∷ 58 ∷ x)) (sym (append-nil (id_text word)))
-  by false = append_assoc (section_id path) (58 ∷ 58 ∷ id_text word) (codes "::" ++ decimal (earlier + 1))
+numbered_is path word earlier = grind (arith, decimal, append-nil, append_assoc)
 
 colon_number : (k : ℕ) → Colon (number k)
-colon_number k = by (k == 0) where
-  by : (b : Bool) → Colon (if b then [] else codes "::" ++ decimal (k + 1))
-  by true = tt
-  by false = refl
+colon_number k = grind (arith, decimal)
 
 number_told : (j k : ℕ) → j + 1 < 2 ^ 64 → k + 1 < 2 ^ 64 → number j ≡ number k → j ≡ k
-number_told j k hj hk = by (j == 0) refl (k == 0) refl where
-  by : (a : Bool) → (j == 0) ≡ a → (b : Bool) → (k == 0) ≡ b → (if a then [] else codes "::" ++ decimal (j + 1)) ≡ (if b then [] else codes "::" ++ decimal (k + 1)) → j ≡ k
-  by true h true l e = eqb-true j 0 h ∙ sym (eqb-true k 0 l)
-  by true h false l e = cc
-  by false h true l e = cc
-  by false h false l e =
-      let digits : decimal (j + 1) ≡ decimal (k + 1) = cc in
-      let same = decimal_injective (j + 1) (k + 1) hj hk digits in
-      omega arith
+number_told j k hj hk = grind (arith, decimal, eqb-true, decimal_injective)
 
 pub tail_told : (v w : List ℕ) (j k : ℕ) → j + 1 < 2 ^ 64 → k + 1 < 2 ^ 64 → word_tail v j ≡ word_tail w k → (v ≡ w) × (j ≡ k)
-tail_told v w j k hj hk e =
-    let inner : id_text v ++ number j ≡ id_text w ++ number k = cc in
-    let parts = split (id_text v) (id_text w) (number j) (number k) (text_colon v) (text_colon w) (colon_number j) (colon_number k) inner in
-    (text_told v w parts.0, number_told j k hj hk parts.1)
+tail_told v w j k hj hk e = grind (arith, split, text_colon, colon_number, text_told, number_told)

@@ -1,5 +1,5 @@
 -- The ids of a page are distinct, where no name that leads to a section is empty and no two commands of a level have one name.
-use Rattle.std.proofs.Common.{◌≡◌, ℕ, suc, ◌+◌, ◌<◌, ◌≤◌, ◌^◌, Bool, true, false, cond, not, List, [], ◌∷◌, ◌++◌, bytes_eq, count_by, flat_map, if◌then◌else◌, length, refl, sym, ap, ◌∙◌, subst, inl, arith, append_assoc, append-nil, length-append}
+use Rattle.std.proofs.Common.{◌≡◌, ℕ, suc, ◌+◌, ◌<◌, ◌≤◌, ◌^◌, Bool, true, cond, not, List, [], ◌∷◌, ◌++◌, bytes_eq, count_by, flat_map, if◌then◌else◌, length, refl, sym, ap, ◌∙◌, subst, inl, arith, append_assoc, append-nil, length-append}
 use Rattle.std.proofs.lemmas.Grind.{flat_map-append, fold-append}
 use Rattle.std.proofs.lemmas.Slice.Eq.{bytes_eq-Decides}
 use Rattle.description_parts.specs.Content.{LevelSaid, level, GroupsSaid, no_groups, groups, GroupSaid, group, CommandsSaid, no_commands, commands, CommandSaid, command}
@@ -59,8 +59,7 @@ cancel [] b c e = e
 cancel (x ∷ a) b c e = let inner : a ++ b ≡ a ++ c = cc in cancel a b c inner
 
 at_most_one : (b : Bool) → cond b 1 0 ≤ 1
-at_most_one true = omega arith
-at_most_one false = omega arith
+at_most_one b = grind arith
 
 count_more : (p : EntrySaid → Bool) (before : List EntrySaid) (e : EntrySaid) → count_by p (before ++ e ∷ []) ≡ count_by p before + cond (p e) 1 0
 count_more p before e = fold-append (λ n x. n + cond (p x) 1 0) 0 before (e ∷ [])
@@ -75,28 +74,13 @@ record IsEntryId (path : List (List ℕ)) (before : List EntrySaid) (many : ℕ)
 
 module _ (path : List (List ℕ)) (before : List EntrySaid) where
   first_is : (word : List ℕ) (many : ℕ) → IsEntryId path before (suc many) (id_behind path before word)
-  first_is word many = record {
-    word = word;
-    earlier = count_by (has_word word) before;
-    is = numbered_is path word (count_by (has_word word) before);
-    from = omega arith;
-    to = omega arith;
-  }
+  first_is word many = grind (arith, count_by, numbered_is)
 
   later_is : (e : EntrySaid) (many : ℕ) (id : List ℕ) → IsEntryId path (before ++ e ∷ []) many id → IsEntryId path before (suc many) id
-  later_is e many id h =
-      let more = count_more (has_word h.word) before e in
-      let one = at_most_one (has_word h.word e) in
-      let from : count_by (has_word h.word) (before ++ e ∷ []) ≤ h.earlier = h.from in
-      let to : h.earlier < count_by (has_word h.word) (before ++ e ∷ []) + many = h.to in
-      record { word = h.word; earlier = h.earlier; is = h.is; from = omega arith; to = omega arith }
+  later_is e many id h = grind (arith, count_more, at_most_one, count_by)
 
   unnamed_is : (m : CommandSaid) (many : ℕ) (id : List ℕ) → IsEntryId path (before ++ a_command m ∷ []) many id → IsEntryId path before many id
-  unnamed_is m many id h =
-      let more : count_by (has_word h.word) (before ++ a_command m ∷ []) ≡ count_by (has_word h.word) before + 0 = count_more (has_word h.word) before (a_command m) in
-      let from : count_by (has_word h.word) (before ++ a_command m ∷ []) ≤ h.earlier = h.from in
-      let to : h.earlier < count_by (has_word h.word) (before ++ a_command m ∷ []) + many = h.to in
-      record { word = h.word; earlier = h.earlier; is = h.is; from = omega arith; to = omega arith }
+  unnamed_is m many id h = grind (arith, count_by, count_more)
 
 abbrev AreEntryIds : (path : List (List ℕ)) (before es : List EntrySaid) → Type 0
 AreEntryIds path before es = Each (IsEntryId path before (length (entries_ids path before es))) (entries_ids path before es)
@@ -109,9 +93,7 @@ entries_are path before (an_option o ∷ es) =
 entries_are path before (a_value v ∷ es) =
     let rest : List (List ℕ) = entries_ids path (before ++ a_value v ∷ []) es in
     (first_is path before (shown_value v.value) (length rest), each_weaker (IsEntryId path (before ++ a_value v ∷ []) (length rest)) (IsEntryId path before (suc (length rest))) (later_is path before (a_value v) (length rest)) rest (entries_are path (before ++ a_value v ∷ []) es))
-entries_are path before (a_command m ∷ es) =
-    let rest : List (List ℕ) = entries_ids path (before ++ a_command m ∷ []) es in
-    each_weaker (IsEntryId path (before ++ a_command m ∷ []) (length rest)) (IsEntryId path before (length rest)) (unnamed_is path before m (length rest)) rest (entries_are path (before ++ a_command m ∷ []) es)
+entries_are path before (a_command m ∷ es) = grind (arith, entries_are path (before ++ a_command m ∷ []) es, each_weaker, unnamed_is)
 
 -- fewer than a number can be written for
 abbrev AreFew : (before : List EntrySaid) (many : ℕ) → Type 0
@@ -133,10 +115,7 @@ few_commands before m many few word =
 -- none behind an entry has its id
 module _ (path : List (List ℕ)) (before : List EntrySaid) (e : EntrySaid) (es : List EntrySaid) (word : List ℕ) (of_word : has_word word e ≡ true) (few : AreFew before (suc (length (entries_ids path (before ++ e ∷ []) es)))) where
   no_same : (other : List ℕ) (earlier : ℕ) → count_by (has_word other) (before ++ e ∷ []) ≤ earlier → word ≡ other → count_by (has_word word) before ≡ earlier → ⊥
-  no_same other earlier from same e1 =
-      let more : count_by (has_word word) (before ++ e ∷ []) ≡ count_by (has_word word) before + 1 = count_more (has_word word) before e ∙ ap (λ b. count_by (has_word word) before + cond b 1 0) of_word in
-      let own : count_by (has_word word) (before ++ e ∷ []) ≤ earlier = subst (λ w. count_by (has_word w) (before ++ e ∷ []) ≤ earlier) (sym same) from in
-      omega arith
+  no_same other earlier from same e1 = grind (arith, count_by, count_more)
 
   not_behind : Among (entries_ids path (before ++ e ∷ []) es) (id_behind path before word) → ⊥
   not_behind a =
@@ -224,8 +203,7 @@ told_none : (path names : List (List ℕ)) → Told path names []
 told_none path names = record { below = tt; distinct = λ small. tt }
 
 told_if : (path names : List (List ℕ)) (b : Bool) (ss : List SubjectSaid) → Told path names ss → Told path names (if b then ss else [])
-told_if path names true ss h = h
-told_if path names false ss h = told_none path names
+told_if path names b ss h4 = grind (arith, told_none)
 
 -- both parts of a list are few
 parts_small : {X : Type 0} (xs ys : List X) (n : ℕ) → length (xs ++ ys) < n → (length xs < n) × (length ys < n)
@@ -233,11 +211,7 @@ parts_small xs ys n h = let all = length-append xs ys in let left : length xs < 
 
 module _ (path : List (List ℕ)) (is_path : IsPath path) where
   same_names : (ns ms : List (List ℕ)) (id : List ℕ) (h : IsBelow path ns id) (k : IsBelow path ms id) → h.name ≡ k.name
-  same_names ns ms id h k =
-      let parts = id_told (path ++ h.name ∷ h.further) (path ++ k.name ∷ k.further) h.has.tail k.has.tail (path_more path h.name h.further is_path h.bytes h.others) (path_more path k.name k.further is_path k.bytes k.others)
-      h.has.is_tail k.has.is_tail (sym h.has.is ∙ k.has.is) in
-      let names : h.name ∷ h.further ≡ k.name ∷ k.further = cancel path (h.name ∷ h.further) (k.name ∷ k.further) parts.0 in
-      cc
+  same_names ns ms id h k = grind (arith, id_told, path_more, cancel)
 
   told_two : (ns ms : List (List ℕ)) (xs ys : List SubjectSaid) → Distinct (ns ++ ms) → Told path ns xs → Told path ms ys → Told path (ns ++ ms) (xs ++ ys)
   told_two ns ms xs ys apart h k = record {

@@ -1,28 +1,25 @@
 -- The ids that the parts of a page give to elements, and the ids that their links lead to. Each part ends the elements that it starts.
-use Rattle.std.proofs.Common.{◌≡◌, ℕ, Bool, true, false, List, [], ◌∷◌, ◌++◌, codes, flat_map, fold, if◌then◌else◌, map, Option, Some, None, refl, sym, ap, ◌∙◌, subst, append_assoc, append-nil}
+use Rattle.std.proofs.Common.{◌≡◌, ℕ, Bool, true, false, List, [], ◌∷◌, ◌++◌, codes, flat_map, fold, if◌then◌else◌, map, Option, Some, None, refl, sym, ap, ◌∙◌, subst, append_assoc, append-nil, arith}
 use Rattle.std.proofs.lemmas.Grind.{flat_map-append, fold-append}
 use Rattle.std.proofs.lemmas.List.{map-append}
 use Rattle.bpaf_doc.specs.declared.buffer.Style.{Style}
-use Rattle.bpaf_doc.specs.declared.buffer.Style.TheVariants as style
-use Rattle.bpaf_doc.specs.Buffer.Parts.{Part, Text, Start, End}
-use Rattle.bpaf_doc.specs.Buffer.Writes as writes
+use Rattle.bpaf_doc.specs.Buffer.Parts.{Part}
 use Rattle.bpaf_doc.specs.Buffer.Writes.{Write, document_of}
-use Rattle.bpaf_meta.specs.Content.{Name, short, long, both}
+use Rattle.bpaf_meta.specs.Content.{Name}
 use Rattle.web_page.specs.Tree.{Attribute}
 use Rattle.web_page.specs.Calls.{attribute}
 use Rattle.web_page.specs.declared.elements.Element.{Element}
-use Rattle.web_page.specs.declared.elements.Element.TheVariants.{Code, Dd, Dl, Dt, Heading, P, Pre, Section, Strong, Var}
+use Rattle.web_page.specs.declared.elements.Element.TheVariants.{Code, Dd, Dl, Dt, Heading, P, Pre, Section, Strong}
 use Rattle.web_page.specs.declared.elements.Level.TheVariants.{Two, Three}
 use Rattle.web_page.specs.declared.elements.Tag.{Tag}
 use Rattle.web_page.specs.declared.elements.Tag.TheVariants.{A, Of}
 use Rattle.description_parts.specs.Content.{SpellingSaid, named, syntax, TopicSaid, command}
-use Rattle.description.specs.Chunks.{lines_of}
 use Rattle.description.specs.Pages.{subject_tree}
 use Rattle.description.specs.Subjects.{SubjectSaid}
 use Rattle.description.specs.Syntax.{bare_syntax}
 use Rattle.description.specs.Texts.{parted, pieces}
 use Rattle.description.specs.UsageLines.{texts_in, usage_part}
-use Rattle.description.specs.WebPages.Entries.{EntrySaid, an_option, a_value, a_command, by_names, by_syntax, entry_events, env_events, given_note, given_value, id_behind, initial_events, is_bare, name_events, note_events, option_word, other_names, said_events, shown_value, spelling_events, term_events, term_with_id, value_events, value_notes}
+use Rattle.description.specs.WebPages.Entries.{EntrySaid, an_option, a_value, a_command, by_names, by_syntax, entry_events, env_events, given_note, given_value, id_behind, initial_events, name_events, note_events, option_word, other_names, said_events, shown_value, spelling_events, term_events, term_with_id, value_events, value_notes}
 use Rattle.description.specs.WebPages.Events.{Event, start, words, end, document_events, inside, inside_with_id, link, shown_part, shown_text, text_in}
 use Rattle.description.specs.WebPages.Ids.{section_id}
 use Rattle.description.specs.WebPages.Laws.{values_named}
@@ -30,7 +27,7 @@ use Rattle.description.specs.WebPages.Lists.{ListSaid, entries_events, entries_o
 use Rattle.description.specs.WebPages.Sections.{application_section, body_events, command_section, heading_events, topic_events, usage_events}
 use Rattle.description.specs.WebPages.Texts.{Run, Shown, gap, prose, literal_line, code_line, closing, code_seam, given_text, line_behind, line_events, line_after, lines_behind, paragraph_seam, piece_events, run_of, shown_line, styled, text_events}
 use Rattle.description.specs.WebPages.Texts as run
-use Rattle.description_laws.proofs.WebTree.{AreBalanced, given_in, opened, outer}
+use Rattle.description_laws.proofs.WebTree.{AreBalanced, given_in, opened}
 
 -- ---- parts
 
@@ -51,23 +48,14 @@ pub nothing : Quiet []
 nothing = record { balanced = λ tags. refl; ids = refl; targets = refl }
 
 pub two : {i t j u : List (List ℕ)} (es fs : List Event) → Carries i t es → Carries j u fs → Carries (i ++ j) (t ++ u) (es ++ fs)
-two {i} {t} {j} {u} es fs p q = record {
-  balanced = λ tags. fold-append opened tags es fs ∙ ap (λ ts. fold opened ts fs) (p.balanced tags) ∙ q.balanced tags;
-  ids = flat_map-append _ es fs ∙ ap (λ vs. vs ++ given_in (codes "id") fs) p.ids ∙ ap (λ vs. i ++ vs) q.ids;
-  targets = flat_map-append _ es fs ∙ ap (λ vs. vs ++ given_in (codes "href") fs) p.targets ∙ ap (λ vs. map target t ++ vs) q.targets ∙ sym (map-append target t u);
-}
+two {i} {t} {j} {u} es fs p q = grind (arith, fold-append, flat_map-append, map-append)
 
 pub same : {i t j u : List (List ℕ)} {es : List Event} → i ≡ j → t ≡ u → Carries i t es → Carries j u es
 same {es = es} e f p = record { balanced = p.balanced; ids = p.ids ∙ e; targets = p.targets ∙ ap (map target) f }
 
 pub around : {i t : List (List ℕ)} (tag : Tag) (given : List Attribute) (j u : List (List ℕ)) (content : List Event) → values_named (codes "id") given ≡ j → values_named (codes "href") given ≡ map target u
     → Carries i t content → Carries (j ++ i) (u ++ t) (start tag given ∷ content ++ end ∷ [])
-around {i} {t} tag given j u content e f p = record {
-  balanced = λ tags. fold-append opened (tag ∷ tags) content (end ∷ []) ∙ ap outer (p.balanced (tag ∷ tags));
-  ids = ap (λ vs. values_named (codes "id") given ++ vs) (flat_map-append _ content (end ∷ []) ∙ append-nil (given_in (codes "id") content) ∙ p.ids) ∙ ap (λ vs. vs ++ i) e;
-  targets = ap (λ vs. values_named (codes "href") given ++ vs) (flat_map-append _ content (end ∷ []) ∙ append-nil (given_in (codes "href") content) ∙ p.targets)
-      ∙ ap (λ vs. vs ++ map target t) f ∙ sym (map-append target u t);
-}
+around {i} {t} tag given j u content e f p = grind (arith, fold-append, flat_map-append, append-nil, map-append)
 
 pub in_element : {i t : List (List ℕ)} (e : Element) (content : List Event) → Carries i t content → Carries i t (inside e content)
 in_element e content p = around (Of e) [] [] [] content refl refl p
@@ -91,17 +79,10 @@ one_words bytes = record { balanced = λ tags. refl; ids = refl; targets = refl 
 -- ---- texts
 
 styled_gives : (kind : Style) (bytes : List ℕ) → Quiet (styled kind bytes)
-styled_gives style.Literal bytes = one_text Code bytes
-styled_gives style.Text bytes = one_words bytes
-styled_gives style.Emphasis bytes = one_words bytes
-styled_gives style.Metavar bytes = one_words bytes
-styled_gives style.Invalid bytes = one_words bytes
+styled_gives kind bytes = grind (arith, one_text, one_words)
 
 piece_gives : (w : Write) → Quiet (piece_events w)
-piece_gives (writes.text bytes kind) = styled_gives kind bytes
-piece_gives (writes.start b) = nothing
-piece_gives (writes.end b) = nothing
-piece_gives (writes.parts ps) = nothing
+piece_gives w = grind (arith, styled_gives, nothing)
 
 line_gives : (line : List ℕ) → Quiet (line_events line)
 line_gives line = flat piece_events piece_gives (pieces (parted line))
@@ -119,46 +100,27 @@ record Leads (before after : Run) (es : List Event) : Type 0 where
   targets : given_in (codes "href") es ≡ []
 
 leads_then : {r s t : Run} (es fs : List Event) → Leads r s es → Leads s t fs → Leads r t (es ++ fs)
-leads_then {r} {s} {t} es fs p q = record {
-  moved = λ tags. fold-append opened (open_in r tags) es fs ∙ ap (λ ts. fold opened ts fs) (p.moved tags) ∙ q.moved tags;
-  ids = flat_map-append _ es fs ∙ ap (λ vs. vs ++ given_in (codes "id") fs) p.ids ∙ q.ids;
-  targets = flat_map-append _ es fs ∙ ap (λ vs. vs ++ given_in (codes "href") fs) p.targets ∙ q.targets;
-}
+leads_then {r} {s} {t} es fs p q = grind (arith, fold-append, flat_map-append)
 
 inside_paragraph : (es : List Event) → Quiet es → Leads run.paragraph run.paragraph es
 inside_paragraph es p = record { moved = λ tags. p.balanced (Of P ∷ tags); ids = p.ids; targets = p.targets }
 
 closing_leads : (r : Run) → Leads r run.nothing (closing r)
-closing_leads run.nothing = record { moved = λ tags. refl; ids = refl; targets = refl }
-closing_leads run.paragraph = record { moved = λ tags. refl; ids = refl; targets = refl }
-closing_leads run.literal = record { moved = λ tags. refl; ids = refl; targets = refl }
-closing_leads run.block = record { moved = λ tags. refl; ids = refl; targets = refl }
+closing_leads r = grind arith
 
 paragraph_leads : (r : Run) (breaks : Bool) → Leads r run.paragraph (paragraph_seam r breaks)
-paragraph_leads run.paragraph true = record { moved = λ tags. refl; ids = refl; targets = refl }
-paragraph_leads run.paragraph false = record { moved = λ tags. refl; ids = refl; targets = refl }
-paragraph_leads run.literal breaks = record { moved = λ tags. refl; ids = refl; targets = refl }
-paragraph_leads run.nothing breaks = record { moved = λ tags. refl; ids = refl; targets = refl }
-paragraph_leads run.block breaks = record { moved = λ tags. refl; ids = refl; targets = refl }
+paragraph_leads r breaks = grind arith
 
 code_leads : (r : Run) (line : List ℕ) → Leads r run.block (code_seam r ++ words line ∷ [])
-code_leads run.block line = record { moved = λ tags. refl; ids = refl; targets = refl }
-code_leads run.nothing line = record { moved = λ tags. refl; ids = refl; targets = refl }
-code_leads run.paragraph line = record { moved = λ tags. refl; ids = refl; targets = refl }
-code_leads run.literal line = record { moved = λ tags. refl; ids = refl; targets = refl }
+code_leads r line = grind arith
 
 -- a line of code in a paragraph
 literal_leads : (r : Run) (line : List ℕ) → Leads r run.literal (paragraph_seam r true ++ text_in Code line)
-literal_leads run.nothing line = record { moved = λ tags. refl; ids = refl; targets = refl }
-literal_leads run.paragraph line = record { moved = λ tags. refl; ids = refl; targets = refl }
-literal_leads run.literal line = record { moved = λ tags. refl; ids = refl; targets = refl }
-literal_leads run.block line = record { moved = λ tags. refl; ids = refl; targets = refl }
+literal_leads r line = grind arith
 
 line_leads : (r : Run) (line : Shown) → Leads r (run_of line) (line_behind r line)
 line_leads r gap = closing_leads r
-line_leads r (prose breaks line) =
-    let events = line_events (line_after r line) in
-    leads_then (paragraph_seam r breaks) events (paragraph_leads r breaks) (inside_paragraph events (line_gives (line_after r line)))
+line_leads r (prose breaks line) = grind (arith, leads_then, paragraph_leads, inside_paragraph, line_gives)
 line_leads r (literal_line line) = literal_leads r line
 line_leads r (code_line line) = code_leads r line
 
@@ -167,9 +129,7 @@ lines_lead r [] = closing_leads r
 lines_lead r (line ∷ lines) = leads_then (line_behind r line) (lines_behind (run_of line) lines) (line_leads r line) (lines_lead (run_of line) lines)
 
 pub text_gives : (in_header : Bool) (text : List ℕ) → Quiet (text_events in_header text)
-text_gives in_header text =
-    let p = lines_lead run.nothing (map (shown_line in_header) (lines_of text)) in
-    record { balanced = p.moved; ids = p.ids; targets = p.targets }
+text_gives in_header text = grind (arith, lines_lead, nothing)
 
 pub given_text_gives : (in_header : Bool) (text : Option (List ℕ)) → Quiet (given_text in_header text)
 given_text_gives in_header None = nothing
@@ -178,16 +138,10 @@ given_text_gives in_header (Some text) = text_gives in_header text
 -- ---- documents
 
 shown_text_gives : (literal : Element) (kind : Style) (bytes : List ℕ) → Quiet (shown_text literal kind bytes)
-shown_text_gives literal style.Literal bytes = one_text literal bytes
-shown_text_gives literal style.Metavar bytes = one_text Var bytes
-shown_text_gives literal style.Text bytes = one_words bytes
-shown_text_gives literal style.Emphasis bytes = one_words bytes
-shown_text_gives literal style.Invalid bytes = one_words bytes
+shown_text_gives literal kind bytes = grind (arith, one_text, one_words)
 
 shown_part_gives : (literal : Element) (part : Part) → Quiet (shown_part literal part)
-shown_part_gives literal (Text bytes kind) = shown_text_gives literal kind bytes
-shown_part_gives literal (Start b) = nothing
-shown_part_gives literal (End b) = nothing
+shown_part_gives literal part = grind (arith, shown_text_gives, nothing)
 
 document_gives : (literal : Element) (parts : List Part) → Quiet (document_events literal parts)
 document_gives literal parts = flat (shown_part literal) (shown_part_gives literal) parts
@@ -195,25 +149,19 @@ document_gives literal parts = flat (shown_part literal) (shown_part_gives liter
 -- ---- what an entry says
 
 name_gives : (name : Name) → Quiet (name_events name)
-name_gives (short c) = record { balanced = λ tags. refl; ids = refl; targets = refl }
-name_gives (long name) = record { balanced = λ tags. refl; ids = refl; targets = refl }
-name_gives (both c name) = record { balanced = λ tags. refl; ids = refl; targets = refl }
+name_gives name = grind arith
 
 either_gives : {i t : List (List ℕ)} (b : Bool) (es fs : List Event) → Carries i t es → Carries i t fs → Carries i t (if b then es else fs)
-either_gives true es fs p q = p
-either_gives false es fs p q = q
+either_gives b es fs h3 h4 = grind arith
 
 value_gives : (value : List ℕ) → Quiet (value_events value)
-value_gives value =
-    either_gives (is_bare value) (text_in Var value) (inside Var (words (codes "<") ∷ words value ∷ words (codes ">") ∷ [])) (one_text Var value) (record { balanced = λ tags. refl; ids = refl; targets = refl })
+value_gives value = grind (arith, either_gives, one_text)
 
 given_value_gives : (value : Option (List ℕ)) → Quiet (given_value value)
-given_value_gives None = nothing
-given_value_gives (Some value) = two (words (codes "=") ∷ []) (value_events value) (one_words (codes "=")) (value_gives value)
+given_value_gives value = grind (arith, nothing, two, one_words, value_gives)
 
 initial_gives : (initial : Option ℕ) → Quiet (initial_events initial)
-initial_gives None = nothing
-initial_gives (Some c) = record { balanced = λ tags. refl; ids = refl; targets = refl }
+initial_gives initial = grind (arith, nothing)
 
 spelling_gives : (s : SpellingSaid) (value : Option (List ℕ)) → Quiet (spelling_events s value)
 spelling_gives (named name) value = two (name_events name) (given_value value) (name_gives name) (given_value_gives value)
@@ -223,20 +171,16 @@ note_gives : (label text : List ℕ) → Quiet (note_events label text)
 note_gives label text = record { balanced = λ tags. refl; ids = refl; targets = refl }
 
 given_note_gives : (label : List ℕ) (text : Option (List ℕ)) → Quiet (given_note label text)
-given_note_gives label None = nothing
-given_note_gives label (Some text) = note_gives label text
+given_note_gives label text = grind (arith, nothing, note_gives)
 
 notes_give : (default values : Option (List ℕ)) → Quiet (value_notes default values)
-notes_give default values =
-    two (given_note (codes "default") default) (given_note (codes "possible values") values) (given_note_gives (codes "default") default) (given_note_gives (codes "possible values") values)
+notes_give default values = grind (arith, two, given_note_gives)
 
 other_names_give : (names : List (List ℕ)) → Quiet (other_names names)
-other_names_give [] = nothing
-other_names_give (name ∷ names) = record { balanced = λ tags. refl; ids = refl; targets = refl }
+other_names_give names = grind (arith, nothing)
 
 env_gives : (env : Option (List ℕ)) → Quiet (env_events env)
-env_gives None = nothing
-env_gives (Some env) = record { balanced = λ tags. refl; ids = refl; targets = refl }
+env_gives env = grind (arith, nothing)
 
 said_gives : (e : EntrySaid) → Quiet (said_events e)
 said_gives (an_option o) =
@@ -304,11 +248,7 @@ module _ (one : List EntrySaid → EntrySaid → List (List ℕ)) (all : List En
     (more : (before : List EntrySaid) (e : EntrySaid) (es : List EntrySaid) → all before (e ∷ es) ≡ one before e ++ all (before ++ e ∷ []) es) where
   entries_append : (before es fs : List EntrySaid) → all before (es ++ fs) ≡ all before es ++ all (before ++ es) fs
   entries_append before [] fs = ap (λ bs. all bs fs) (sym (append-nil before)) ∙ ap (λ vs. vs ++ all (before ++ []) fs) (sym (none before))
-  entries_append before (e ∷ es) fs =
-      more before e (es ++ fs) ∙ ap (λ vs. one before e ++ vs) (entries_append (before ++ e ∷ []) es fs)
-      ∙ ap (λ bs. one before e ++ (all (before ++ e ∷ []) es ++ all bs fs)) (append_assoc before (e ∷ []) es)
-      ∙ sym (append_assoc (one before e) (all (before ++ e ∷ []) es) (all (before ++ e ∷ es) fs))
-      ∙ ap (λ vs. vs ++ all (before ++ e ∷ es) fs) (sym (more before e es))
+  entries_append before (e ∷ es) fs = grind (arith, entries_append (before ++ e ∷ []) es fs, append_assoc)
 
 lists_give : (path : List (List ℕ)) (before : List EntrySaid) (ls : List ListSaid) → Carries (entries_ids path before (entries_of ls)) (entries_targets path before (entries_of ls)) (lists_events path before ls)
 lists_give path before [] = nothing

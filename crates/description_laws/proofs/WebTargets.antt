@@ -1,6 +1,6 @@
 -- Each link of a page leads to an element of the page.
-use Rattle.std.proofs.Common.{◌≡◌, ℕ, Bool, true, false, not, List, [], ◌∷◌, ◌++◌, bytes_eq, codes, flat_map, fold, if◌then◌else◌, map, refl, sym, ap, ap₂, ◌∙◌, subst, inl, inr, append_assoc}
-use Rattle.std.specs.List.{list_all, list_any}
+use Rattle.std.proofs.Common.{◌≡◌, ℕ, Bool, true, false, not, List, [], ◌∷◌, ◌++◌, bytes_eq, codes, flat_map, if◌then◌else◌, map, refl, sym, ap, ap₂, ◌∙◌, subst, inl, inr, append_assoc, arith}
+use Rattle.std.specs.List.{list_all}
 use Rattle.std.proofs.lemmas.Bool.{and_from, or_left, or_right}
 use Rattle.std.proofs.lemmas.Grind.{flat_map-append}
 use Rattle.std.proofs.lemmas.Slice.Eq.{bytes_eq-Decides}
@@ -13,11 +13,11 @@ use Rattle.description.specs.Content.{DescriptionSaid}
 use Rattle.description.specs.Subjects.{SubjectSaid, application, below}
 use Rattle.description.specs.UsageLines.{texts_in}
 use Rattle.description.specs.WebPages.{header_events, main_of, nav_of, page_events, page_tree}
-use Rattle.description.specs.WebPages.Entries.{EntrySaid, an_option, a_value, a_command, each_once, if_new, new_behind, same_entry}
+use Rattle.description.specs.WebPages.Entries.{EntrySaid, an_option, a_value, a_command, each_once, new_behind}
 use Rattle.description.specs.WebPages.Events.{Event, inside, text_in, words}
 use Rattle.description.specs.WebPages.Ids.{section_id}
 use Rattle.description.specs.WebPages.Laws.{LinksHaveTargets, ids_in, is_target_of}
-use Rattle.description.specs.WebPages.Lists.{ListSaid, choice_entries, command_entries, command_entry, entries_of, group_lists, named_list, option_entries, option_entry, own_lists, placed_list, says_nothing, section_lists, value_entries, value_entry}
+use Rattle.description.specs.WebPages.Lists.{ListSaid, choice_entries, command_entries, command_entry, entries_of, group_lists, named_list, option_entries, option_entry, placed_list, says_nothing, section_lists, value_entries, value_entry}
 use Rattle.description.specs.WebPages.Sections.{application_section, command_section, command_links, commands_links, group_links, groups_links, level_links, link_to, listed_links, shows_commands}
 use Rattle.description.specs.WebPages.Texts.{given_text}
 use Rattle.description_laws.proofs.Among.{Among, Within, among_left, among_right, within_both}
@@ -34,16 +34,14 @@ flat_right : {X Y : Type 0} (f : X → List Y) (xs ys : List X) → Within (flat
 flat_right f xs ys x a = subst (λ zs. Among zs x) (sym (flat_map-append f xs ys)) (among_right (flat_map f xs) (flat_map f ys) x a)
 
 flat_within : {X Y : Type 0} (f g : X → List Y) (xs ys : List X) → Within (flat_map f xs) (flat_map g xs) → Within (flat_map f ys) (flat_map g ys) → Within (flat_map f (xs ++ ys)) (flat_map g (xs ++ ys))
-flat_within f g xs ys h k x a =
-    within_both (flat_map f xs) (flat_map f ys) (flat_map g (xs ++ ys)) (λ y b. flat_left g xs ys y (h y b)) (λ y b. flat_right g xs ys y (k y b)) x (subst (λ zs. Among zs x) (flat_map-append f xs ys) a)
+flat_within f g xs ys h k x a = grind (arith, within_both, flat_left, flat_right, flat_map-append)
 
 each_flat : {X Y : Type 0} (P : Y → Type 0) (f : X → List Y) → ((x : X) → Each P (f x)) → (xs : List X) → Each P (flat_map f xs)
 each_flat P f h [] = tt
 each_flat P f h (x ∷ xs) = each_append P (f x) (flat_map f xs) (h x) (each_flat P f h xs)
 
 either_each : {X : Type 0} (P : X → Type 0) (b : Bool) (xs ys : List X) → Each P xs → Each P ys → Each P (if b then xs else ys)
-either_each P true xs ys h k = h
-either_each P false xs ys h k = k
+either_each P b xs ys h4 h5 = grind arith
 
 -- ---- the entries of a section
 
@@ -54,27 +52,17 @@ IsThere ids path (a_value v) = Unit {0}
 IsThere ids path (a_command (command names h l)) = Among ids (section_id (path ++ names.name ∷ []))
 
 entry_within : (ids rest : List (List ℕ)) (path : List (List ℕ)) (before : List EntrySaid) (e : EntrySaid) → IsThere ids path e → Within (entry_targets path before e) ((entry_ids path before e ++ rest) ++ ids)
-entry_within ids rest path before (an_option o) h x (inl e) = inl e
-entry_within ids rest path before (an_option o) h x (inr a) = absurd a
-entry_within ids rest path before (a_value v) h x (inl e) = inl e
-entry_within ids rest path before (a_value v) h x (inr a) = absurd a
-entry_within ids rest path before (a_command (command names k l)) h x (inl e) = among_right rest ids x (subst (Among ids) (sym e) h)
-entry_within ids rest path before (a_command (command names k l)) h x (inr a) = absurd a
+entry_within ids rest path before e h5 h6 h7 = grind (arith, among_right)
 
 entries_within : (ids : List (List ℕ)) (path : List (List ℕ)) (before es : List EntrySaid) → Each (IsThere ids path) es → Within (entries_targets path before es) (entries_ids path before es ++ ids)
 entries_within ids path before [] h = λ x a. absurd a
-entries_within ids path before (e ∷ es) h =
-    let own : List (List ℕ) = entry_ids path before e in
-    let rest : List (List ℕ) = entries_ids path (before ++ e ∷ []) es in
-    within_both (entry_targets path before e) (entries_targets path (before ++ e ∷ []) es) ((own ++ rest) ++ ids) (entry_within ids rest path before e h.0)
-    (λ x a. subst (λ zs. Among zs x) (sym (append_assoc own rest ids)) (among_right own (rest ++ ids) x (entries_within ids path (before ++ e ∷ []) es h.1 x a)))
+entries_within ids path before (e ∷ es) h = grind (arith, entries_within ids path (before ++ e ∷ []) es h.1, within_both, entry_within, append_assoc, among_right)
 
 -- those that are listed
 
 each_new : (P : EntrySaid → Type 0) (before es : List EntrySaid) → Each P es → Each P (new_behind before es)
 each_new P before [] h = tt
-each_new P before (e ∷ es) h =
-    each_append P (if_new before e) (new_behind (before ++ e ∷ []) es) (either_each P (list_any (same_entry e) before) [] (e ∷ []) tt (h.0, tt)) (each_new P (before ++ e ∷ []) es h.1)
+each_new P before (e ∷ es) h = grind (arith, each_new P (before ++ e ∷ []) es h.1, each_append, either_each)
 
 once_there : (P : EntrySaid → Type 0) (es : List EntrySaid) → Each P es → Each P (each_once es)
 once_there P es h = each_new P [] es h
@@ -97,21 +85,15 @@ module _ (s : SubjectSaid) (ids : List (List ℕ)) where
       (λ p. either_each There p.hidden [] (if says_nothing p.help p.default p.values then [] else a_value p ∷ []) tt (either_each There (says_nothing p.help p.default p.values) [] (a_value p ∷ []) tt (tt, tt)))
 
   command_there : (m : CommandSaid) → Within (flat_map section_ids (from_command s m)) ids → Each There (command_entry m)
-  command_there (command names h l) = by (not names.hidden) where
-    by : (b : Bool) → Within (flat_map section_ids (if b then below s (command names h l) ∷ below_level (below s (command names h l)) l else [])) ids → Each There (if b then a_command (command names h l) ∷ [] else [])
-    by true w = (w (section_id (s.path ++ names.name ∷ [])) (inl refl), tt)
-    by false w = tt
+  command_there (command names h l) = grind arith
 
   commands_there : (ms : CommandsSaid) → Within (flat_map section_ids (below_commands s ms)) ids → Each There (command_entries ms)
   commands_there no_commands w = tt
-  commands_there (commands m ms) w =
-      each_append There (command_entry m) (command_entries ms) (command_there m (λ x a. w x (flat_left section_ids (from_command s m) (below_commands s ms) x a)))
-      (commands_there ms (λ x a. w x (flat_right section_ids (from_command s m) (below_commands s ms) x a)))
+  commands_there (commands m ms) w = grind (arith, commands_there ms, each_append, command_there, flat_left, flat_right)
 
   named_there : (gs : GroupsSaid) → Each AreThere (group_lists named_list gs)
   named_there no_groups = tt
-  named_there (groups (group title os cs ps ms) gs) =
-      (once_there There (option_entries os ++ choice_entries cs) (each_append There (option_entries os) (choice_entries cs) (options_there os) (choices_there cs)), named_there gs)
+  named_there (groups (group title os cs ps ms) gs) = grind (arith, named_there gs, once_there, each_append, options_there, choices_there)
 
   placed_there : (gs : GroupsSaid) → Within (flat_map section_ids (below_groups s gs)) ids → Each AreThere (group_lists placed_list gs)
   placed_there no_groups w = tt
@@ -122,18 +104,7 @@ module _ (s : SubjectSaid) (ids : List (List ℕ)) where
   )
 
   lists_there : (l : LevelSaid) → Within (flat_map section_ids (below_level s l)) ids → Each AreThere (section_lists s.help_options l)
-  lists_there (level t r os cs gs ps ms) w =
-      let front : List ListSaid = group_lists named_list gs ++ group_lists placed_list gs in
-      let options : List EntrySaid = option_entries os ++ choice_entries cs in
-      each_append AreThere front (own_lists s.help_options (level t r os cs gs ps ms))
-      (each_append AreThere (group_lists named_list gs) (group_lists placed_list gs) (named_there gs) (placed_there gs (λ x a. w x (flat_left section_ids (below_groups s gs) (below_commands s ms) x a)))) (
-        once_there There (value_entries ps) (values_there ps),
-        (
-          once_there There (options ++ option_entries s.help_options)
-              (each_append There options (option_entries s.help_options) (each_append There (option_entries os) (choice_entries cs) (options_there os) (choices_there cs)) (options_there s.help_options)),
-          (once_there There (command_entries ms) (commands_there ms (λ x a. w x (flat_right section_ids (below_groups s gs) (below_commands s ms) x a))), tt),
-        ),
-      )
+  lists_there (level t r os cs gs ps ms) w = grind (arith, each_append, named_there, placed_there, flat_left, once_there, values_there, options_there, choices_there, commands_there, flat_right)
 
   entries_there : (ls : List ListSaid) → Each AreThere ls → Each There (entries_of ls)
   entries_there [] h = tt
@@ -155,8 +126,7 @@ all_closed s h =
     within_both (section_targets s) (flat_map section_targets (below_level s s.level)) (section_ids s ++ rest) (section_within s rest (λ x a. a)) (λ x a. among_right (section_ids s) rest x (h x a))
 
 if_closed : (b : Bool) (ss : List SubjectSaid) → AreClosed ss → AreClosed (if b then ss else [])
-if_closed true ss h = h
-if_closed false ss h = λ x a. a
+if_closed b ss h2 = grind arith
 
 mutual
   level_closed : (s : SubjectSaid) (l : LevelSaid) → AreClosed (below_level s l)
@@ -204,8 +174,7 @@ leads_link ids path name h = record { targets = section_id path ∷ []; carries 
   by x (inr a) = absurd a
 
 leads_listed : (ids : List (List ℕ)) (b : Bool) (es : List Event) → Leads ids es → Leads ids (listed_links b es)
-leads_listed ids true es h = leads_in ids Ul es h
-leads_listed ids false es h = leads_none ids
+leads_listed ids b es h3 = grind (arith, leads_in, leads_none)
 
 abbrev ids_of : List SubjectSaid → List (List ℕ)
 ids_of = flat_map section_ids
@@ -217,8 +186,7 @@ leads_behind s name es h =
     (leads_more (ids_of (below_level s s.level)) (ids_of (all_from s)) es (λ x a. among_right (section_ids s) (ids_of (below_level s s.level)) x a) h)
 
 leads_shown : (hidden : Bool) (ss : List SubjectSaid) (es : List Event) → Leads (ids_of ss) es → Leads (ids_of (if not hidden then ss else [])) (if hidden then [] else inside Li es)
-leads_shown true ss es h = leads_none []
-leads_shown false ss es h = leads_in (ids_of ss) Li es h
+leads_shown hidden ss es h3 = grind (arith, leads_none, leads_in)
 
 mutual
   level_leads : (s : SubjectSaid) (l : LevelSaid) → Leads (ids_of (below_level s l)) (level_links s.path l)

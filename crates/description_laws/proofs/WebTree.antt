@@ -1,10 +1,10 @@
 -- The attributes in the tree of a page: those that its events give, in order.
-use Rattle.std.proofs.Common.{◌≡◌, ℕ, List, [], ◌∷◌, ◌++◌, codes, flat_map, fold, map, refl, sym, ap, ap₂, ◌∙◌, append_assoc, append-nil}
+use Rattle.std.proofs.Common.{◌≡◌, ℕ, List, [], ◌∷◌, ◌++◌, codes, flat_map, fold, map, refl, sym, ap, ap₂, ◌∙◌, append_assoc, append-nil, arith}
 use Rattle.web_page.specs.Tree.{Nodes, none, text, element}
 use Rattle.web_page.specs.Reader.{Draft, Frame, joined, with_byte}
 use Rattle.web_page.specs.Calls.{new_page, whole_page, with_end, with_end_in, with_words}
 use Rattle.web_page.specs.declared.elements.Tag.{Tag}
-use Rattle.web_page.specs.declared.elements.Tag.TheVariants.{Body, Br, Html}
+use Rattle.web_page.specs.declared.elements.Tag.TheVariants.{Body, Html}
 use Rattle.description.specs.Content.{DescriptionSaid}
 use Rattle.description.specs.WebPages.{page_events, page_tree}
 use Rattle.description.specs.WebPages.Events.{Event, start, words, line_break, end, with_event, with_events}
@@ -39,17 +39,10 @@ module _ (name : List ℕ) where
   values_joined : (a b : Nodes) → values_in name (joined a b) ≡ values_in name a ++ values_in name b
   values_joined none b = refl
   values_joined (text bytes rest) b = values_joined rest b
-  values_joined (element tag given content rest) b =
-      let own : List (List ℕ) = values_named name given in
-      let inner : List (List ℕ) = values_in name content in
-      ap (λ vs. own ++ (inner ++ vs)) (values_joined rest b)
-      ∙ sym (ap (λ vs. own ++ vs) (append_assoc inner (values_in name rest) (values_in name b)))
-      ∙ sym (append_assoc own (inner ++ values_in name rest) (values_in name b))
+  values_joined (element tag given content rest) b = grind (arith, values_joined rest b, append_assoc)
 
   behind_text : (bytes : List ℕ) (rest : Nodes) (b : ℕ) → values_in name (with_byte rest b) ≡ values_in name rest → values_in name (with_byte (text bytes rest) b) ≡ values_in name rest
-  behind_text bytes none b h = refl
-  behind_text bytes (text more rest) b h = h
-  behind_text bytes (element tag given content rest) b h = h
+  behind_text bytes rest b h3 = grind arith
 
   values_byte : (nodes : Nodes) (b : ℕ) → values_in name (with_byte nodes b) ≡ values_in name nodes
   values_byte none b = refl
@@ -71,25 +64,12 @@ module _ (name : List ℕ) where
   draft_values draft = open_values draft.open_elements ++ values_in name draft.nodes
 
   ended : (frames : List Frame) (nodes : Nodes) → draft_values (with_end_in frames nodes) ≡ open_values frames ++ values_in name nodes
-  ended [] nodes = refl
-  ended (frame ∷ frames) nodes =
-      let others : List (List ℕ) = open_values frames in
-      let before : List (List ℕ) = values_in name frame.before in
-      let own : List (List ℕ) = values_named name frame.attributes in
-      let inner : List (List ℕ) = values_in name nodes in
-      ap (λ vs. others ++ vs) (values_joined frame.before (element frame.tag frame.attributes nodes none))
-      ∙ ap (λ vs. others ++ (before ++ (own ++ vs))) (append-nil inner)
-      ∙ sym (ap (λ vs. others ++ vs) (append_assoc before own inner))
-      ∙ sym (append_assoc others (before ++ own) inner)
+  ended frames nodes = grind (arith, values_joined, append-nil, append_assoc)
 
   one_event : (draft : Draft) (e : Event) → draft_values (with_event draft e) ≡ draft_values draft ++ event_values name e
-  one_event draft (start tag given) =
-      append-nil (open_values draft.open_elements ++ (values_in name draft.nodes ++ values_named name given))
-      ∙ sym (append_assoc (open_values draft.open_elements) (values_in name draft.nodes) (values_named name given))
+  one_event draft (start tag given) = grind (arith, append-nil, append_assoc)
   one_event draft (words bytes) = ap (λ vs. open_values draft.open_elements ++ vs) (values_words bytes draft.nodes) ∙ sym (append-nil (draft_values draft))
-  one_event draft line_break =
-      ap (λ vs. open_values draft.open_elements ++ vs) (values_joined draft.nodes (element Br [] none none) ∙ append-nil (values_in name draft.nodes))
-      ∙ sym (append-nil (draft_values draft))
+  one_event draft line_break = grind (arith, values_joined, append-nil)
   one_event draft end = ended draft.open_elements draft.nodes ∙ sym (append-nil (draft_values draft))
 
   all_events : (es : List Event) (draft : Draft) → draft_values (with_events draft es) ≡ draft_values draft ++ given_in name es
@@ -100,10 +80,8 @@ module _ (name : List ℕ) where
 
   -- two elements are open, and end
   both_end : (frames : List Frame) (nodes : Nodes) (first second : Tag) → map (λ (f : Frame). f.tag) frames ≡ first ∷ second ∷ [] → values_in name (with_end (with_end_in frames nodes)).nodes ≡ open_values frames ++ values_in name nodes
-  both_end [] nodes first second e = cc
-  both_end (f ∷ []) nodes first second e = cc
   both_end (f ∷ g ∷ []) nodes first second e = ended (g ∷ []) (with_end_in (f ∷ g ∷ []) nodes).nodes ∙ ended (f ∷ g ∷ []) nodes
-  both_end (f ∷ g ∷ h ∷ frames) nodes first second e = cc
+  both_end x nodes first second e = cc
 
 -- ---- open elements
 
@@ -111,14 +89,10 @@ abbrev tags_of : List Frame → List Tag
 tags_of = map (λ (f : Frame). f.tag)
 
 ended_tags : (frames : List Frame) (nodes : Nodes) → tags_of (with_end_in frames nodes).open_elements ≡ outer (tags_of frames)
-ended_tags [] nodes = refl
-ended_tags (frame ∷ frames) nodes = refl
+ended_tags frames nodes = grind arith
 
 one_opened : (draft : Draft) (e : Event) → tags_of (with_event draft e).open_elements ≡ opened (tags_of draft.open_elements) e
-one_opened draft (start tag given) = refl
-one_opened draft (words bytes) = refl
-one_opened draft line_break = refl
-one_opened draft end = ended_tags draft.open_elements draft.nodes
+one_opened draft e = grind (arith, ended_tags)
 
 all_opened : (es : List Event) (draft : Draft) → tags_of (with_events draft es).open_elements ≡ fold opened (tags_of draft.open_elements) es
 all_opened [] draft = refl
