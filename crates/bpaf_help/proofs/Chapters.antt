@@ -4,7 +4,7 @@ use Rattle.std.specs.Prelude.{Option, Some, None, flat_map}
 use Rattle.std.proofs.lemmas.List.{append-nil}
 use Rattle.std.proofs.lemmas.Grind.{flat_map-append}
 use Rattle.bpaf_doc.specs.Buffer.Parts.{Part}
-use Rattle.bpaf_meta.specs.Content.{Tree, and_of, or_of, optional, required, adjacent, item, many, subsection, suffix, skip, custom_usage, strict, Trees, no_trees, tree, Leaf, any, positional, command, flag, argument}
+use Rattle.bpaf_meta.specs.Content.{Tree, and_of, or_of, optional, required, adjacent, item, many, subsection, suffix, skip, custom_usage, strict, Trees, no_trees, tree, Leaf}
 use Rattle.bpaf_items.proofs.Steps.Fronts.{none_first, none_second}
 use Rattle.bpaf_items.specs.declared.meta_help.entry.HiTy.{HiTy}
 use Rattle.bpaf_items.specs.Listing.ItemList.{Entry, note, group_end, adjacent_stop, front_type, first_front_type, item_entries, adjacent_entries, group_entries, noted_entries, entries_with_type, entries_of, entries_of_parts}
@@ -15,12 +15,7 @@ marked : (path : List (List ℕ)) (es : List Entry) (e : Entry) → entry_chapte
 marked path es e none = grind (arith, flat_map-append, append-nil)
 
 item_list_chapters : (path : List (List ℕ)) (l : Leaf) → flat_map (entry_chapters path) (item_entries l) ≡ item_chapters path l
-item_list_chapters path (any m a h) = refl
-item_list_chapters path (positional m None) = refl
-item_list_chapters path (positional m (Some h)) = refl
-item_list_chapters path (command n c h t i) = append-nil (item_chapters path (command n c h t i))
-item_list_chapters path (flag n s e h) = refl
-item_list_chapters path (argument n s m e h) = refl
+item_list_chapters path l = grind (arith, append-nil)
 
 adjacent_chapters : (path : List (List ℕ)) (o : Option HiTy) (t : Tree) (es : List Entry) (ss : List Chapter) → (o ≡ None → ss ≡ []) → flat_map (entry_chapters path) es ≡ ss → flat_map (entry_chapters path) (adjacent_entries o t es) ≡ ss
 adjacent_chapters path None t es ss f e = sym (f refl)
@@ -35,8 +30,7 @@ noted_chapters path None d es ss f e = sym (f refl)
 noted_chapters path (Some k) d es ss f e = marked path es (note d k) refl ∙ e
 
 typed_chapters : (path : List (List ℕ)) (o : Option HiTy) (es : List Entry) (ss : List Chapter) → (o ≡ None → ss ≡ []) → flat_map (entry_chapters path) es ≡ ss → flat_map (entry_chapters path) (entries_with_type o es) ≡ ss
-typed_chapters path None es ss f e = sym (f refl)
-typed_chapters path (Some k) es ss f e = e
+typed_chapters path o es ss h4 h5 = grind arith
 
 block_chapters : (path : List (List ℕ)) (g : Bool) (t : Tree) (d : List Part) → (front_type t ≡ None → command_chapters path t ≡ []) → flat_map (entry_chapters path) (entries_of false t) ≡ command_chapters path t
     → flat_map (entry_chapters path) (entries_of g (subsection t d)) ≡ command_chapters path t

@@ -1,5 +1,5 @@
 -- The pages of an application with well-nested texts are well nested.
-use Rattle.std.proofs.Common.{ℕ, false, List, [], ◌∷◌, ◌++◌}
+use Rattle.std.proofs.Common.{ℕ, false, List, [], ◌∷◌, ◌++◌, arith}
 use Rattle.std.specs.Prelude.{codes, Option, Some, None}
 use Rattle.bpaf_doc.specs.declared.buffer.Style.TheVariants as style
 use Rattle.bpaf_doc.specs.declared.buffer.Block.TheVariants as block
@@ -14,9 +14,7 @@ use Rattle.bpaf_help.specs.Chapters.{Chapter, chapters_of, own_page_writes, summ
 use Rattle.bpaf_help.specs.NestedPages.{HasNestedChapter, CollectedPagesAreNested, ManualPagesAreNested}
 
 many_keep : (cs : List Chapter) {ws : List Write} → Keeps ws → Keeps (if_many cs ws)
-many_keep [] f = nothing_keeps
-many_keep (c ∷ []) f = nothing_keeps
-many_keep (c ∷ d ∷ cs) f = f
+many_keep cs h1 = grind (arith, nothing_keeps)
 
 summary_keeps : (c : Chapter) → HasNestedChapter c → Keeps (summary_line c)
 summary_keeps c h = inside_keeps block.ItemBody (text_then (summary_text c.path) style.Text nothing_keeps)

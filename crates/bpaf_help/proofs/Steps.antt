@@ -1,6 +1,6 @@
 -- The steps of the code, one after another.
-use Rattle.std.proofs.Common.{◌≡◌, ◌≢◌, ℕ, ◌+◌, ◌<◌, ◌≤◌, Bool, false, suc, zero, List, [], ◌∷◌, ◌++◌, map, take, drop, length, refl, sym, ap, ◌∙◌, subst, inl, inr, append_assoc, append-nil, get_or, arith, Result, Ok, Err, rules}
-use Rattle.std.specs.Prelude.{flat_map, Option, Some, IfErr, IfOk, OnOk, unwrap_or, encode_utf8, codes}
+use Rattle.std.proofs.Common.{◌≡◌, ◌≢◌, ℕ, ◌+◌, ◌<◌, ◌≤◌, Bool, false, suc, List, [], ◌∷◌, ◌++◌, map, take, drop, length, refl, sym, ap, ◌∙◌, subst, inl, inr, append_assoc, append-nil, get_or, arith, Result, Ok, Err, rules}
+use Rattle.std.specs.Prelude.{flat_map, Option, IfErr, IfOk, OnOk, unwrap_or, encode_utf8, codes}
 use Rattle.std.specs.Borrow.{Bor}
 use Rattle.std.specs.List.{join_with_byte}
 use Rattle.std.specs.Bool.{nat_lt}
@@ -16,13 +16,12 @@ use Rattle.bpaf_doc.specs.Manpage.Reader.{Control}
 use Rattle.bpaf_doc.specs.Manpage.Page.{TakesDocument, IsPageOf, IsManualPageOf, TitlePageTakesDocument, TitledPageIsManualPage, title_page}
 use Rattle.bpaf_doc.specs.Buffer.Writes.{Write, start, end, plain, inside, doc_writes, path_writes, with_writes, document_of}
 use Rattle.bpaf_doc.proofs.lemmas.Buffer.Nesting.{with_writes-inside}
-use Rattle.bpaf_meta.specs.Content.{Tree, flag, argument, Head, head}
+use Rattle.bpaf_meta.specs.Content.{Tree, Head, head}
 use Rattle.bpaf_meta.specs.declared.item.Item.{the_lemmas}
 use Rattle.bpaf_meta.specs.declared.meta_help.Info.{Info}
 use Rattle.bpaf_meta.specs.View.{head_of, tree_of, text_of}
 use Rattle.bpaf_items.specs.declared.meta_help.error.HelpError.{HelpError}
-use Rattle.bpaf_items.specs.declared.meta_help.error.HelpError.TheVariants as error
-use Rattle.bpaf_items.specs.Listing.ItemList.{Entry, listed, item_list}
+use Rattle.bpaf_items.specs.Listing.ItemList.{Entry, item_list}
 use Rattle.bpaf_items.specs.Listing.Falls.{shown_entries}
 use Rattle.bpaf_items.specs.Page.EnvTexts.{Texts, no_texts}
 use Rattle.bpaf_items.specs.Page.EntryWrites.{entry_writes}
@@ -103,37 +102,30 @@ pub synopsis_put : {X T E : Type 0} (f : X → Chapter) (xs : List X) (r : Resul
     → d3 ≡ with_writes d2 (flat_map synopsis_line (map f xs))
     → OnOk r (d4 ≡ with_writes d3 (end block.Meta ∷ []))
     → OnOk r (d4 ≡ with_writes d0 (if_many (map f xs) (synopsis_writes (map f xs))))
-synopsis_put f xs (Ok x) d0 d1 d2 d3 d4 h e g k l = grind (arith, written_then, many_writes)
-synopsis_put f xs (Err x) d0 d1 d2 d3 d4 h e g k l = tt
+synopsis_put f xs r d0 d1 d2 d3 d4 h8 h9 h10 h11 h12 = grind (arith, written_then, many_writes)
 
 -- a chapter of the manual page, by whether there are two or more
 pub many_parts : (app : List ℕ) (cs : List Chapter) → flat_map (manual_part app (nat_lt 1 (length cs))) cs ≡ flat_map (λ c. if_many cs (inside block.Header (path_writes c.path)) ++ manual_chapter app c.path c.content c.info) cs
-many_parts app [] = refl
-many_parts app (c ∷ []) = refl
-many_parts app (c ∷ d ∷ cs) = ap (λ b. flat_map (manual_part app b) (c ∷ d ∷ cs)) (lt-ltb 1 (length (c ∷ d ∷ cs)) (omega arith))
+many_parts app cs = grind (arith, lt-ltb)
 
 -- ---- pages without environment texts
 
 -- an entry shows no text then
 entry_alone : (t u : Texts) (e : Entry) → entry_writes false t e ≡ entry_writes false u e
-entry_alone t u (listed (flag n s (Some v) h)) = refl
-entry_alone t u (listed (argument n s m (Some v) h)) = refl
-entry_alone t u e = refl
+entry_alone t u e = grind arith
 
 list_alone : (t u : Texts) (es : List Entry) → list_writes false t es ≡ list_writes false u es
 list_alone t u es = flat_map_same (entry_writes false t) (entry_writes false u) (entry_alone t u) (shown_entries es)
 
 heading_alone : (t u : Texts) (title : List ℕ) (es : List Entry) → heading_writes false t title es ≡ heading_writes false u title es
-heading_alone t u title [] = refl
-heading_alone t u title (e ∷ es) = rw (list_alone t u (e ∷ es)) refl
+heading_alone t u title es = grind (arith, list_alone)
 
 pub groups_alone : (t u : Texts) (es : List Entry) → groups_writes false t es ≡ groups_writes false u es
 groups_alone t u es = grind (arith, flat_map_same, list_alone, heading_alone)
 
 -- so the groups that were put behind a document
 pub groups_put : {T E : Type 0} (r : Result T E) (before now : List Part) (es fs : List Entry) (t : Texts) → es ≡ fs → OnOk r (now ≡ with_writes before (groups_writes false t es)) → OnOk r (now ≡ with_writes before (groups_writes false no_texts fs))
-groups_put (Ok x) before now es fs t e h = h ∙ ap (λ xs. with_writes before (groups_writes false t xs)) e ∙ ap (with_writes before) (groups_alone t no_texts fs)
-groups_put (Err x) before now es fs t e h = tt
+groups_put r before now es fs t h6 h7 = grind (arith, groups_alone)
 
 pub help_page_alone : (t u : Texts) (path : List (List ℕ)) (i : Head) (tree help : Tree) → help_page_writes path i tree help false t ≡ help_page_writes path i tree help false u
 help_page_alone t u path (head descr header footer usage own) tree help = rw (groups_alone t u (item_list tree ++ item_list help)) refl
@@ -179,19 +171,16 @@ collected_whole app t i cs first d1 d2 none is e f =
 
 -- an error at a chapter behind others that are well placed
 pub error_at : {A : Type 0} (front back all : List Chapter) (c : Chapter) (e : HelpError A) → all ≡ front ++ c ∷ back → AreWellPlaced front → IsErrorOf c.content e → AreErrorOf all e
-error_at front back all c (error.Memory e) order placed h = tt
-error_at front back all c (error.Misplaced l) order placed h = record { front = front; faulty = c; back = back; order = order; well_placed = placed; first = h }
+error_at front back all c e h5 h6 h7 = grind arith
 
 -- an error that is handed on
 pub err_same : {X E : Type 0} (P : E → Type 0) (r : Result X E) (e : E) → IsErrAnd r (λ y. y ≡ e) → P e → IfErr r P
-err_same P (Ok x) e h p = tt
-err_same P (Err y) e h p = subst P (sym h) p
+err_same P r e h3 h4 = grind arith
 
 -- the place of a member between those before it and those behind it
 pub at_place : {X Y : Type 0} (f : X → Y) (xs : List X) (i : ℕ) (x : X) → i < length xs → x ≡ get_or xs i x → map f xs ≡ map f (take i xs) ++ f x ∷ map f (drop (i + 1) xs)
-at_place f [] i x within is = absurd (omega arith)
-at_place f (y ∷ ys) zero x within is = ap (λ z. f z ∷ map f ys) (sym is)
 at_place f (y ∷ ys) (suc i) x within is = grind (arith, at_place f ys i x (omega arith) is)
+at_place f z u x within is = grind arith
 
 -- the help page of a chapter
 own_writes : {A : Type 0} (path : List (List ℕ)) (i : Info A) (t : Tree) (texts : Texts)
@@ -221,6 +210,5 @@ same_words a p q r u = rw (p, q, r, u) refl
 -- a page that holds a title line, with a document behind it
 pub manual_read : {S E : Type 0} → TitlePageTakesDocument → TitledPageIsManualPage → (words : List (List ℕ)) (bytes : S → List ℕ) (document same : List Part) (page : Script) (r : Result S E)
     → page ≡ title_page words → document ≡ same → (TakesDocument page → IfOk r (λ text. IsPageOf page document (bytes text))) → IfOk r (λ text. IsManualPageOf (Control (codes "TH") (map word_of words)) same (bytes text))
-manual_read takes manual words bytes document same page (Ok text) e f read =
-    manual words same (bytes text) (subst (λ d. IsPageOf (title_page words) d (bytes text)) f (subst (λ p. IsPageOf p document (bytes text)) e (read (subst TakesDocument (sym e) (takes words)))))
+manual_read takes manual words bytes document same page (Ok text) e f read = grind arith
 manual_read takes manual words bytes document same page (Err x) e f read = tt

@@ -1,5 +1,5 @@
 -- What words choose, by what they give.
-use Rattle.std.proofs.Common.{◌≡◌, ◌≢◌, ◌⊎◌, ℕ, List, [], ◌∷◌, ◌++◌, Option, Some, None, false, length, get_or, ◌+◌, ◌≤◌, ◌<◌, arith, refl, sym, ap, ◌∙◌, subst, inl, inr, Result, Ok, Err, IfErr}
+use Rattle.std.proofs.Common.{◌≡◌, ◌≢◌, ◌⊎◌, ℕ, List, [], ◌∷◌, ◌++◌, Option, Some, None, false, length, get_or, ◌+◌, ◌≤◌, ◌<◌, arith, refl, ap, ◌∙◌, Result, Ok, Err, IfErr}
 use Rattle.std.specs.Prelude.{codes, option_to_list, ◌||◌, bytes_eq}
 use Rattle.std.proofs.lemmas.Bool.{false≢true}
 use Rattle.std.proofs.lemmas.List.{length-append, length-map}
@@ -18,13 +18,10 @@ abbrev pub NamesNothing : Given → Type 0
 NamesNothing g = g.plain ≢ [] → (word : List ℕ) (file : Option (List ℕ)) → g.plain ++ g.files ≢ word ∷ option_to_list file
 
 at_most_two : (word : List ℕ) (file : Option (List ℕ)) → length (word ∷ option_to_list file) ≤ 2
-at_most_two word None = omega arith
-at_most_two word (Some text) = omega arith
+at_most_two word file = grind arith
 
 no_names : (words : List (List ℕ)) (g h : Given) → given_in words ≡ Some g → NamesNothing g → (word : List ℕ) (file : Option (List ℕ)) → ¬ Names words word file h
-no_names words g h e none word file n =
-    let same : g ≡ h = ap (given_or g) (sym e ∙ n.given) in
-    none (λ k. n.first (sym (ap (λ x. x.plain) same) ∙ k)) word file (ap (λ x. x.plain ++ x.files) same ∙ n.plain)
+no_names words g h e none word file n = grind arith
 
 pub no_check : (words : List (List ℕ)) (g : Given) → given_in words ≡ Some g → NamesNothing g → (file : Option (List ℕ)) → ¬ Chooses words (check file)
 no_check words g e none file h = no_names words g h.0 e none (codes "check") file h.1
@@ -34,17 +31,14 @@ no_all words g e none folder file h = no_names words g h.0 e none (codes "all") 
 
 -- where other values stand there than one folder
 pub no_folder : (words : List (List ℕ)) (g : Given) → given_in words ≡ Some g → ((folder : List ℕ) → ¬ (HasNoValues g × (g.folders ≡ folder ∷ []))) → (folder : List ℕ) (file : Option (List ℕ)) → ¬ Chooses words (all folder file)
-no_folder words g e none folder file h =
-    let same : g ≡ h.0 = ap (given_or g) (sym e ∙ h.1.given) in
-    none folder (subst HasNoValues (sym same) h.2, ap (λ x. x.folders) same ∙ h.3)
+no_folder words g e none folder file h = grind arith
 
 pub no_page : (words : List (List ℕ)) (g : Given) → given_in words ≡ Some g → NamesNothing g → (p : PageSaid) (file : Option (List ℕ)) → ¬ Chooses words (page p file)
 no_page words g e none p file h = no_names words g h.1 e none h.0 file h.2
 
 -- what holds of each fault
 pub always : {T : Type 0} (r : Result T WordFault) (P : WordFault → Type 0) → ((fault : WordFault) → P fault) → IfErr r P
-always (Ok t) P h = tt
-always (Err f) P h = h f
+always r P h2 = grind arith
 
 nothing : (words : List (List ℕ)) → ((file : Option (List ℕ)) → ¬ Chooses words (check file)) → ((folder : List ℕ) (file : Option (List ℕ)) → ¬ Chooses words (all folder file)) → ((p : PageSaid) (file : Option (List ℕ)) → ¬ Chooses words (page p file)) → ¬ Chooses words help → ¬ Chooses words version → (choice : ChoiceSaid) → ¬ Chooses words choice
 nothing words c a p h v (page q file) = p q file
@@ -59,13 +53,7 @@ pub no_choice : {T : Type 0} (words : List (List ℕ)) (r : Result T WordFault) 
     → IfErr r (λ fault. IsRefused fault ⊎ ((p : PageSaid) (file : Option (List ℕ)) → ¬ Chooses words (page p file))) → is_one_of words (codes "--help") (codes "-h") ≡ false → is_one_of words (codes "--version") (codes "-V") ≡ false
     → IfErr r (λ fault. IsRefused fault ⊎ ((choice : ChoiceSaid) → ¬ Chooses words choice))
 no_choice words (Ok t) c a p h v = tt
-no_choice words (Err f) c a p h v = elim c [
-  | inl refused ↦ inl refused
-  | inr c' ↦ elim a [
-    | inl refused ↦ inl refused
-    | inr a' ↦ elim p [ inl refused ↦ inl refused | inr p' ↦ inr (nothing words c' a' p' (λ e. false≢true (sym h ∙ e)) (λ e. false≢true (sym v ∙ e))) ]
-  ]
-]
+no_choice words (Err f) c a p h v = grind (arith, nothing, false≢true)
 
 pub one_word : (words : List (Bor (List ℕ))) (d : Bor (List ℕ)) (long short : List ℕ) → 1 ≤ length words → length words < 2 → is_one_of (words_said words) long short ≡ (bytes_eq (get_or words 0 d).now long || bytes_eq (get_or words 0 d).now short)
 one_word [] d long short some few = absurd (omega arith)

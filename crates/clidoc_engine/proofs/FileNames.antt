@@ -13,21 +13,13 @@ use Rattle.clidoc_engine.specs.Files.{are_alike, are_file_names, is_file_name, i
 
 -- a test that holds exactly where two texts are the same
 pub tells_same : (b : Bool) (x y : List ℕ) → (IsTrue b ↔ (x ≡ y)) → b ≡ bytes_eq x y
-tells_same true x y h = sym ((bytes_eq-Decides x y).1 (h.0 refl))
-tells_same false x y h = by (bytes_eq x y) refl where
-  by : (c : Bool) → bytes_eq x y ≡ c → false ≡ c
-  by false e = refl
-  by true e = absurd (false≢true (h.1 ((bytes_eq-Decides x y).0 e)))
+tells_same b x y h3 = grind (arith, bytes_eq-Decides, false≢true)
 
 holds : (a b : Bool) → false ≡ not (a && b) → (a && b) ≡ true
-holds true true h = refl
-holds false b h = absurd (false≢true h)
-holds true false h = absurd (false≢true h)
+holds a b h2 = grind (arith, false≢true)
 
 fails : (a b : Bool) → true ≡ not (a && b) → (a && b) ≡ false
-fails true true h = absurd (false≢true (sym h))
-fails false b h = refl
-fails true false h = refl
+fails a b h2 = grind (arith, false≢true)
 
 -- the names of files from one on
 abbrev pub names_from : {A : Type 0} → List (PageFile A) → ℕ → List (List ℕ)
@@ -53,8 +45,7 @@ texts_equal : (s t : List ℕ) → bytes_eq s t ≡ bytes_eq t s
 texts_equal s t = (on_texts_equal (λ (x : List ℕ). x)).symm s t
 
 either : (b c : Bool) → cond b true c ≡ (b || c)
-either true c = refl
-either false c = refl
+either b c = grind arith
 
 module _ {A : Type 0} (fs : List (PageFile A)) (i : ℕ) (f d : PageFile A) (at : f ≡ get_or fs i d) (h : i < length fs) where
   more : names_from fs i ≡ string_bytes f.name ∷ names_from fs (i + 1)
@@ -66,9 +57,7 @@ module _ {A : Type 0} (fs : List (PageFile A)) (i : ℕ) (f d : PageFile A) (at 
     whole = ap (λ b. is_file_name (string_bytes f.name) && b) (sym is)
 
     pub refused_here : true ≡ not (is_file_name (string_bytes f.name) && alone) → is_first_name (names_from fs i) ≡ are_file_names (names_from fs i)
-    refused_here h =
-        let bad = whole ∙ fails (is_file_name (string_bytes f.name)) alone h in
-        ap is_first_name more ∙ bad ∙ sym (ap are_file_names more ∙ ap (λ b. b && are_file_names (names_from fs (i + 1))) bad)
+    refused_here h = grind (arith, whole, fails, more)
 
     pub passed_here : (first : ℕ) → false ≡ not (is_file_name (string_bytes f.name) && alone) → is_first_name (names_from fs first) ≡ are_file_names (names_from fs (i + 1)) → is_first_name (names_from fs first) ≡ are_file_names (names_from fs i)
     passed_here first h judged = judged ∙ sym (ap are_file_names more ∙ ap (λ b. b && are_file_names (names_from fs (i + 1))) (whole ∙ holds (is_file_name (string_bytes f.name)) alone h))
@@ -76,16 +65,10 @@ module _ {A : Type 0} (fs : List (PageFile A)) (i : ℕ) (f d : PageFile A) (at 
   -- it is among those that are known
   module _ {S : Type 0} (keys new : List (String S)) (key : String S) (same : string_bytes key ≡ small (string_bytes f.name)) (held : Held keys fs (i + 1)) where
     pub alone_is : (alone : Bool) → alone ≡ not (list_any (λ k. bytes_eq (string_bytes key) (string_bytes k)) keys) → alone ≡ not (list_any (are_alike (string_bytes f.name)) (names_from fs (i + 1)))
-    alone_is alone e =
-        e ∙ ap not (held key ∙ ap (λ x. list_any (bytes_eq x) (map small (names_from fs (i + 1)))) same ∙ sym (alike_small (string_bytes f.name) (names_from fs (i + 1))))
+    alone_is alone e = grind (arith, alike_small)
 
     pub held_more : ((q : String S) → list_any (λ k. bytes_eq (string_bytes q) (string_bytes k)) new ≡ cond (bytes_eq (string_bytes key) (string_bytes q)) true (list_any (λ k. bytes_eq (string_bytes q) (string_bytes k)) keys)) → Held new fs i
-    held_more u q =
-        u q ∙ ap (λ x. cond (bytes_eq x (string_bytes q)) true (list_any (λ k. bytes_eq (string_bytes q) (string_bytes k)) keys)) same
-        ∙ either (bytes_eq (small (string_bytes f.name)) (string_bytes q)) (list_any (λ k. bytes_eq (string_bytes q) (string_bytes k)) keys)
-        ∙ ap (λ b. b || list_any (λ k. bytes_eq (string_bytes q) (string_bytes k)) keys) (texts_equal (small (string_bytes f.name)) (string_bytes q))
-        ∙ ap (λ b. bytes_eq (string_bytes q) (small (string_bytes f.name)) || b) (held q)
-        ∙ sym (ap (λ ns. list_any (bytes_eq (string_bytes q)) (map small ns)) more)
+    held_more u q = grind (arith, either, texts_equal, more)
 
   -- the same of the files that one is compared with
   pub other_differs : (name : List ℕ) → are_alike name (string_bytes f.name) ≡ false → list_any (are_alike name) (names_from fs (i + 1)) ≡ list_any (are_alike name) (names_from fs i)
@@ -95,6 +78,4 @@ module _ {A : Type 0} (fs : List (PageFile A)) (i : ℕ) (f d : PageFile A) (at 
   other_is_alike name alike = ap (list_any (are_alike name)) more ∙ ap (λ b. b || list_any (are_alike name) (names_from fs (i + 1))) alike
 
 pub none_first : {A : Type 0} (fs : List (PageFile A)) → is_first_name (names_from fs (length fs)) ≡ are_file_names (names_from fs (length fs))
-none_first fs =
-    let none = drop_all (length fs) fs (omega arith) in
-    ap (λ gs. is_first_name (names_of (map file_said gs))) none ∙ sym (ap (λ gs. are_file_names (names_of (map file_said gs))) none)
+none_first fs = grind (arith, drop_all)

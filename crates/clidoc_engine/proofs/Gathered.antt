@@ -1,5 +1,5 @@
 -- What words give, one after another.
-use Rattle.std.proofs.Common.{◌≡◌, ◌≢◌, ℕ, List, [], ◌∷◌, ◌++◌, Option, Some, None, refl, sym, ap, ◌∙◌, inl, inr, append-nil, if◌then◌else◌, drop, length, get_or, ◌<◌, ◌+◌}
+use Rattle.std.proofs.Common.{◌≡◌, ◌≢◌, ℕ, List, [], ◌∷◌, ◌++◌, Option, Some, None, refl, sym, ap, ◌∙◌, inl, inr, append-nil, if◌then◌else◌, drop, length, get_or, ◌<◌, ◌+◌, arith}
 use Rattle.std.proofs.lemmas.Bool.Decides.{eqb_tells}
 use Rattle.std.proofs.lemmas.List.{drop_more}
 use Rattle.std.specs.Borrow.{Bor}
@@ -13,10 +13,7 @@ use Rattle.clidoc_engine.specs.Words.{Given, behind, only_files}
 pub behind_none : (front word : List ℕ) → ((rest : List ℕ) → word ≢ front ++ rest) → behind front word ≡ None
 behind_none [] word h = absurd (h word refl)
 behind_none (c ∷ cs) [] h = refl
-behind_none (c ∷ cs) (d ∷ ds) h = elim (eqb_tells c d) [
-  | inl p ↦ ap (λ b. if b then behind cs ds else None) p.0 ∙ behind_none cs ds (λ rest e. h rest (ap (λ xs. d ∷ xs) e ∙ ap (λ x. x ∷ cs ++ rest) (sym p.1)))
-  | inr p ↦ ap (λ b. if b then behind cs ds else None) p.0
-]
+behind_none (c ∷ cs) (d ∷ ds) h = grind (arith, behind_none cs ds, eqb_tells)
 
 behind_some : (front rest : List ℕ) → behind front (front ++ rest) ≡ Some rest
 behind_some [] rest = refl
@@ -31,16 +28,10 @@ stripped front word None h = sym (behind_none front word h)
 stripped front word (Some x) h = ap Some h.2 ∙ sym (ap (behind front) h.1.1 ∙ behind_some front (drop h.0 word))
 
 pub before_nothing : (o : Option Given) → before (only_files []) o ≡ o
-before_nothing None = refl
-before_nothing (Some g) = refl
+before_nothing o = grind arith
 
 pub together_nothing : (g : Given) → together g (only_files []) ≡ g
-together_nothing g =
-    ap (λ ws. record { plain = ws; commands = g.commands ++ []; widths = g.widths ++ []; folders = g.folders ++ []; files = g.files ++ [] }) (append-nil g.plain)
-    ∙ ap (λ ws. record { plain = g.plain; commands = ws; widths = g.widths ++ []; folders = g.folders ++ []; files = g.files ++ [] }) (append-nil g.commands)
-    ∙ ap (λ ws. record { plain = g.plain; commands = g.commands; widths = ws; folders = g.folders ++ []; files = g.files ++ [] }) (append-nil g.widths)
-    ∙ ap (λ ws. record { plain = g.plain; commands = g.commands; widths = g.widths; folders = ws; files = g.files ++ [] }) (append-nil g.folders)
-    ∙ ap (λ ws. record { plain = g.plain; commands = g.commands; widths = g.widths; folders = g.folders; files = ws }) (append-nil g.files)
+together_nothing g = grind (arith, append-nil)
 
 pub next_word : (words : List (Bor (List ℕ))) (i : ℕ) (d : Bor (List ℕ)) → i < length words → words_said (drop i words) ≡ (get_or words i d).now ∷ words_said (drop (i + 1) words)
 next_word words i d h = ap words_said (drop_more words i d h)

@@ -1,15 +1,13 @@
 -- Where the commands of a page lead.
-use Rattle.std.proofs.Common.{◌≡◌, ℕ, ◌+◌, ◌<◌, List, drop, get_or, length, Some, None, Result, Ok, Err, IfErr, refl, sym, ap, ◌∙◌}
+use Rattle.std.proofs.Common.{◌≡◌, ℕ, ◌+◌, ◌<◌, List, drop, get_or, length, Some, None, Result, IfErr, sym, ap, ◌∙◌, arith}
 use Rattle.std.specs.Prelude.{option_and_then}
 use Rattle.std.specs.Borrow.{Bor}
 use Rattle.description_parts.specs.Content.{CommandSaid}
 use Rattle.description.specs.Content.{DescriptionSaid}
 use Rattle.description.specs.Subjects.{SubjectSaid, application, below, command_named, led_to}
 use Rattle.clidoc_engine.specs.declared.faults.Fault.{Fault}
-use Rattle.clidoc_engine.specs.declared.faults.Fault.TheVariants.{NotUtf8, NotToml, NotDescription, NoCommand, NoPage, Read, Write, Memory}
 use Rattle.clidoc_engine.specs.Chosen.{commands_of, words_said}
 use Rattle.web_page.specs.declared.errors.PageError.{PageError}
-use Rattle.web_page.specs.declared.errors.PageError.TheVariants as making
 use Rattle.clidoc_engine.specs.Faults.{IfNoCommand, IfNoPage, fault_of_page}
 use Rattle.clidoc_engine.specs.Inputs.{Describes}
 use Rattle.clidoc_engine.specs.Runs.{HasNoCommand}
@@ -28,65 +26,27 @@ module _ (words : List (Bor (List ℕ))) (i : ℕ) (s : SubjectSaid) (x d : Bor 
   led_nowhere e = first ∙ ap (option_and_then (λ m. led_to (words_said (drop (i + 1) words)) (below s m))) e
 
 pub lost : (commands : List (List ℕ)) (d : DescriptionSaid) (fault : Fault) → IsNoCommand fault → led_to commands (application d) ≡ None → IsLost commands d fault
-lost commands d (NoCommand name path) k e = e
-lost commands d Memory k e = tt
-lost commands d NotUtf8 k e = k
-lost commands d (NotToml place error) k e = k
-lost commands d (NotDescription reason) k e = k
-lost commands d (NoPage error) k e = k
-lost commands d Read k e = k
-lost commands d Write k e = k
+lost commands d fault h3 h4 = grind arith
 
 -- ---- a page that is not made
 
 lost_unmade : (p : PageSaid) (d : DescriptionSaid) (fault : Fault) → IsLost (commands_of p) d fault → IsUnmade p d fault
-lost_unmade p d (NoCommand name path) e = e
-lost_unmade p d (NoPage error) e = absurd e
-lost_unmade p d Memory e = e
-lost_unmade p d NotUtf8 e = e
-lost_unmade p d (NotToml place error) e = e
-lost_unmade p d (NotDescription reason) e = e
-lost_unmade p d Read e = e
-lost_unmade p d Write e = e
+lost_unmade p d fault h3 = grind arith
 
 pub unmade : {T : Type 0} (p : PageSaid) (d : DescriptionSaid) (r : Result T Fault) → IfErr r (IsLost (commands_of p) d) → IfErr r (IsUnmade p d)
-unmade p d (Ok t) e = tt
-unmade p d (Err fault) e = lost_unmade p d fault e
+unmade p d r h3 = grind (arith, lost_unmade)
 
 pub web_unmade : (d : DescriptionSaid) (error : PageError) → IsUnmade web d (fault_of_page error)
-web_unmade d (making.Refused error) = tt
-web_unmade d making.Language = refl
-web_unmade d making.Title = refl
-web_unmade d making.Style = refl
-web_unmade d making.Character = refl
-web_unmade d making.Id = refl
-web_unmade d making.Misplaced = refl
-web_unmade d making.NoInk = refl
+web_unmade d error = grind arith
 
 lost_command : (p : PageSaid) (text : List ℕ) (d : DescriptionSaid) (fault : Fault) → Describes text d → IsUnmade p d fault → IfNoCommand fault (HasNoCommand p text)
-lost_command p text d (NoCommand name path) k e = record { description = d; described = k; nowhere = e }
-lost_command p text d (NoPage error) k e = tt
-lost_command p text d Memory k e = tt
-lost_command p text d NotUtf8 k e = tt
-lost_command p text d (NotToml place error) k e = tt
-lost_command p text d (NotDescription reason) k e = tt
-lost_command p text d Read k e = tt
-lost_command p text d Write k e = tt
+lost_command p text d fault h4 h5 = grind arith
 
 pub lost_page : {T : Type 0} (p : PageSaid) (text : List ℕ) (d : DescriptionSaid) (r : Result T Fault) → Describes text d → IfErr r (IsUnmade p d) → IfErr r (λ fault. IfNoCommand fault (HasNoCommand p text))
-lost_page p text d (Ok t) k e = tt
-lost_page p text d (Err fault) k e = lost_command p text d fault k e
+lost_page p text d r h4 h5 = grind (arith, lost_command)
 
 no_page : (p : PageSaid) (d : DescriptionSaid) (fault : Fault) → IsUnmade p d fault → IfNoPage fault (p ≡ web)
-no_page p d (NoPage error) e = e
-no_page p d (NoCommand name path) e = tt
-no_page p d Memory e = tt
-no_page p d NotUtf8 e = tt
-no_page p d (NotToml place error) e = tt
-no_page p d (NotDescription reason) e = tt
-no_page p d Read e = tt
-no_page p d Write e = tt
+no_page p d fault h3 = grind arith
 
 pub not_made : {T : Type 0} (p : PageSaid) (d : DescriptionSaid) (r : Result T Fault) → IfErr r (IsUnmade p d) → IfErr r (λ fault. IfNoPage fault (p ≡ web))
-not_made p d (Ok t) e = tt
-not_made p d (Err fault) e = no_page p d fault e
+not_made p d r h3 = grind (arith, no_page)

@@ -21,8 +21,7 @@ any_more (b ∷ bs) byte other = ap (λ any. is_newline b || any) (any_more bs b
 
 more_by : (b : ℕ) (bs : List ℕ) (byte : ℕ) → (any : Bool) → list_any is_newline (b ∷ bs) ≡ any → list_any is_newline (b ∷ bs ++ byte ∷ []) ≡ any
     → last_line (bs ++ byte ∷ []) ≡ last_line bs ++ byte ∷ [] → last_line (b ∷ bs ++ byte ∷ []) ≡ last_line (b ∷ bs) ++ byte ∷ []
-more_by b bs byte true before after rest = rw (before, after) rest
-more_by b bs byte false before after rest = rw (before, after) refl
+more_by b bs byte h3 h4 h5 h6 = grind arith
 
 -- another byte is put behind it
 last_line-more : (front : List ℕ) (byte : ℕ) → is_newline byte ≡ false → last_line (front ++ byte ∷ []) ≡ last_line front ++ byte ∷ []

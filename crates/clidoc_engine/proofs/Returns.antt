@@ -29,9 +29,8 @@ none_there [] h = refl
 none_there (c ∷ cs) h = stays c cs (h 0 (omega arith)) ∙ ap (λ xs. c ∷ xs) (none_there cs (λ i below. h (suc i) (omega arith)))
 
 first_there : (a : ℕ) (s rest : List ℕ) → ((i : ℕ) → i < a → LacksTextAt crlf s i) → drop a s ≡ 13 ∷ 10 ∷ rest → without_returns s ≡ take a s ++ 10 ∷ without_returns rest
-first_there zero s rest h e = ap without_returns e
-first_there (suc a) [] rest h e = absurd (h 0 (omega arith) rest e)
 first_there (suc a) (c ∷ cs) rest h e = stays c cs (h 0 (omega arith)) ∙ ap (λ xs. c ∷ xs) (first_there a cs rest (λ i below. h (suc i) (omega arith)) e)
+first_there x y rest h e = grind arith
 
 pub replaced : (n : ℕ) (p : Bor (List ℕ)) (s out : List ℕ) → p.now ≡ crlf → ReplacesMatches (λ p. FindsText p.now) (λ p q. q.now ≡ p.now) (10 ∷ []) n p s out → out ≡ without_returns s
 replaced zero p s out e h = h.1 ∙ sym (none_there s (λ i below rest f. h.0 i below rest (f ∙ ap (λ xs. xs ++ rest) (sym e))))

@@ -1,5 +1,5 @@
 -- Texts that stand twice in a list.
-use Rattle.std.proofs.Common.{◌≡◌, ℕ, ◌+◌, ◌<◌, Bool, true, false, not, cond, ◌&&◌, ◌||◌, List, [], ◌∷◌, ◌++◌, length, take, drop, get_or, refl, sym, ap, ◌∙◌, append_assoc, append-nil, Bor}
+use Rattle.std.proofs.Common.{◌≡◌, ℕ, ◌+◌, ◌<◌, Bool, true, false, not, cond, ◌&&◌, ◌||◌, List, [], ◌∷◌, ◌++◌, length, take, drop, get_or, refl, sym, ap, ◌∙◌, append_assoc, append-nil, Bor, arith}
 use Rattle.std.proofs.lemmas.List.{drop_more, map-append, take_more, take-append-drop}
 use Rattle.std.specs.Prelude.{bytes_eq}
 use Rattle.std.specs.List.{filter, list_any}
@@ -15,21 +15,14 @@ texts_equal : (s t : List ℕ) → bytes_eq s t ≡ bytes_eq t s
 texts_equal s t = (on_texts_equal (λ (x : List ℕ). x)).symm s t
 
 either_false : (a b : Bool) → (a || b) ≡ false → (a ≡ false) × (b ≡ false)
-either_false false false h = (refl, refl)
-either_false true b h = cc
-either_false false true h = cc
+either_false a b h2 = grind arith
 
 both : (a b : Bool) → (a && b) ≡ true → (a ≡ true) × (b ≡ true)
-both true true h = (refl, refl)
-both false b h = cc
-both true false h = cc
+both a b h2 = grind arith
 
 -- a text behind some others
 last_new : (text : List ℕ) (xs : List (List ℕ)) (t : List ℕ) → not (list_any (bytes_eq text) xs) ≡ true → bytes_eq t text ≡ false → not (list_any (bytes_eq text) (xs ++ t ∷ [])) ≡ true
-last_new text xs t h other = ap not (list_any-append (bytes_eq text) xs (t ∷ [])) ∙ by (list_any (bytes_eq text) xs) h where
-  by : (b : Bool) → not b ≡ true → not (b || (bytes_eq text t || false)) ≡ true
-  by false g = ap (λ b. not (b || false)) (texts_equal text t ∙ other)
-  by true g = cc
+last_new text xs t h other = grind (arith, list_any-append, texts_equal)
 
 pub distinct_then : (xs : List (List ℕ)) (t : List ℕ) → are_distinct xs ≡ true → list_any (bytes_eq t) xs ≡ false → are_distinct (xs ++ t ∷ []) ≡ true
 distinct_then [] t h n = refl
@@ -39,22 +32,11 @@ distinct_then (x ∷ xs) t h n =
     rw (last_new x xs t new other, distinct_then xs t rest more) refl
 
 again : (x t : List ℕ) (xs ys : List (List ℕ)) → bytes_eq t x ≡ true → not (list_any (bytes_eq x) (xs ++ t ∷ ys)) ≡ false
-again x t xs ys same = ap not (list_any-append (bytes_eq x) xs (t ∷ ys)) ∙ by (list_any (bytes_eq x) xs) where
-  by : (b : Bool) → not (b || (bytes_eq x t || list_any (bytes_eq x) ys)) ≡ false
-  by true = refl
-  by false = ap (λ b. not (b || list_any (bytes_eq x) ys)) (texts_equal x t ∙ same)
+again x t xs ys same = grind (arith, list_any-append, texts_equal)
 
 pub repeated_then : (xs : List (List ℕ)) (t : List ℕ) (ys : List (List ℕ)) → list_any (bytes_eq t) xs ≡ true → are_distinct (xs ++ t ∷ ys) ≡ false
 repeated_then [] t ys h = cc
-repeated_then (x ∷ xs) t ys h = by (bytes_eq t x) refl h (repeated_then xs t ys) where
-  ends : (c : Bool) {d : Bool} → d ≡ false → (c && d) ≡ false
-  ends true e = e
-  ends false e = refl
-
-  by : (b : Bool) → bytes_eq t x ≡ b → (b || list_any (bytes_eq t) xs) ≡ true → (list_any (bytes_eq t) xs ≡ true → are_distinct (xs ++ t ∷ ys) ≡ false)
-      → (not (list_any (bytes_eq x) (xs ++ t ∷ ys)) && are_distinct (xs ++ t ∷ ys)) ≡ false
-  by true same g rest = rw (again x t xs ys same) refl
-  by false other g rest = ends (not (list_any (bytes_eq x) (xs ++ t ∷ ys))) (rest g)
+repeated_then (x ∷ xs) t ys h = grind (arith, repeated_then xs t ys, again)
 
 -- ---- the texts gone over so far
 
@@ -79,12 +61,10 @@ whole_words : (ts : List (Bor (List ℕ))) (i : ℕ) (d : Bor (List ℕ)) → i 
 whole_words ts i d h = ap words_of (sym (take-append-drop i ts) ∙ ap (λ us. take i ts ++ us) (drop_more ts i d h)) ∙ map-append (λ t. t.now) (take i ts) (get_or ts i d ∷ drop (i + 1) ts)
 
 not_false : (b : Bool) → not b ≡ false → b ≡ true
-not_false true h = refl
-not_false false h = cc
+not_false b h1 = grind arith
 
 not_true : (b : Bool) → not b ≡ true → b ≡ false
-not_true false h = refl
-not_true true h = cc
+not_true b h1 = grind arith
 
 pub repeated_here : (keys ts : List (Bor (List ℕ))) (i : ℕ) (d : Bor (List ℕ)) (added : Bool) → i < length ts → Seen keys ts i → added ≡ not (holds keys (get_or ts i d)) → added ≡ false → false ≡ are_distinct (words_of ts)
 repeated_here keys ts i d added h s e f =
@@ -92,10 +72,7 @@ repeated_here keys ts i d added h s e f =
     sym (ap are_distinct (whole_words ts i d h) ∙ repeated_then (words_of (take i ts)) (get_or ts i d).now (words_of (drop (i + 1) ts)) (sym (s.1 (get_or ts i d)) ∙ there))
 
 one_more : (b c : Bool) (rest : Bool) → c ≡ rest → cond b true c ≡ (rest || (b || false))
-one_more true c true e = refl
-one_more true c false e = refl
-one_more false c true e = e
-one_more false c false e = e
+one_more b c rest h3 = grind arith
 
 abbrev Held : List (Bor (List ℕ)) → List (Bor (List ℕ)) → ℕ → Type 0
 Held keys ts i = (q : Bor (List ℕ)) → has_text keys q ≡ list_any (bytes_eq q.now) (words_of (take i ts))

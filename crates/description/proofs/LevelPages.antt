@@ -1,5 +1,5 @@
 -- The manual page of a level, part by part.
-use Rattle.std.proofs.Common.{◌≡◌, ℕ, ◌≤◌, Bool, true, false, if◌then◌else◌, List, [], ◌∷◌, ◌++◌, length, drop, take, map, flat_map, codes, refl, sym, ap, ◌∙◌, append_assoc, Option, Some, None, option_and_then, Result, Ok, Err, OnOk, bytes_eq, MatchOption, take_all}
+use Rattle.std.proofs.Common.{◌≡◌, ℕ, ◌≤◌, Bool, true, false, if◌then◌else◌, List, [], ◌∷◌, ◌++◌, length, drop, take, map, flat_map, codes, refl, sym, ap, ◌∙◌, append_assoc, Option, Some, None, option_and_then, Result, OnOk, bytes_eq, MatchOption, take_all, arith}
 use Rattle.std.specs.Borrow.{Bor}
 use Rattle.std.specs.Option.{option_or, unwrap_or}
 use Rattle.std.specs.Str.Pattern.{FindsTextPrefix, StripsPrefix}
@@ -41,28 +41,23 @@ level_texts l = ap texts_in (open-Level l)
 -- ---- a usage text
 
 begins : (text rest : List ℕ) → text ≡ usage_lead ++ rest → without_lead text ≡ rest
-begins text rest e =
-    let same : bytes_eq (take (length usage_lead) text) usage_lead ≡ true = (bytes_eq-Decides (take (length usage_lead) text) usage_lead).1 (ap (take (length usage_lead)) e) in
-    ap (λ b. if b then drop (length usage_lead) text else text) same ∙ ap (drop (length usage_lead)) e
+begins text rest e = grind (arith, bytes_eq, bytes_eq-Decides)
 
 decided : (text : List ℕ) (b : Bool) → bytes_eq (take (length usage_lead) text) usage_lead ≡ b → ((rest : List ℕ) → ¬ (text ≡ usage_lead ++ rest)) → b ≡ false
-decided text true e h = absurd (h (drop (length usage_lead) text) (sym (take-append-drop (length usage_lead) text) ∙ ap (λ xs. xs ++ drop (length usage_lead) text) ((bytes_eq-Decides (take (length usage_lead) text) usage_lead).0 e)))
-decided text false e h = refl
+decided text b h2 h3 = grind (arith, take-append-drop, bytes_eq-Decides)
 
 differs : (text : List ℕ) → ((rest : List ℕ) → ¬ (text ≡ usage_lead ++ rest)) → without_lead text ≡ text
 differs text h = ap (λ b. if b then drop (length usage_lead) text else text) (decided text (bytes_eq (take (length usage_lead) text) usage_lead) refl h)
 
 pub stripped : (text result : Bor (List ℕ)) (found : Option (Bor (List ℕ))) → MatchOption found (FindsTextPrefix usage_lead text.now None) (λ x. StripsPrefix (FindsTextPrefix usage_lead) text.now x.now) → result ≡ unwrap_or found text → result.now ≡ without_lead text.now
-stripped text result None h e = ap (λ r. r.now) e ∙ sym (differs text.now h)
-stripped text result (Some x) h e = ap (λ r. r.now) e ∙ h.2 ∙ sym (begins text.now (drop h.0 text.now) h.1.1)
+stripped text result h2 h3 h4 = grind (arith, differs, begins)
 
 -- ---- what is written, one after another
 
 -- three parts
 pub three_put : {T E : Type 0} (r : Result T E) (d0 d1 d2 d3 : List Part) (us vs ws whole : List Write) → (us ++ vs) ++ ws ≡ whole
     → d1 ≡ with_writes d0 us → d2 ≡ with_writes d1 vs → OnOk r (d3 ≡ with_writes d2 ws) → OnOk r (d3 ≡ with_writes d0 whole)
-three_put (Ok x) d0 d1 d2 d3 us vs ws whole same e f g = written_then d0 d2 d3 (us ++ vs) ws (written_then d0 d1 d2 us vs e f) g ∙ ap (with_writes d0) same
-three_put (Err x) d0 d1 d2 d3 us vs ws whole same e f g = tt
+three_put r d0 d1 d2 d3 us vs ws whole h9 h10 h11 h12 = grind (arith, written_then)
 
 -- and a fourth
 four_put : {T E : Type 0} (r : Result T E) (d0 d1 d2 d3 d4 : List Part) (us vs ws xs whole : List Write) → ((us ++ vs) ++ ws) ++ xs ≡ whole
@@ -75,17 +70,12 @@ module _ {A : Type 0} (s : SubjectSaid) (l : Level A) (of_level : s.level ≡ le
 
   pub front_same : (t : Tree) → t ≡ subject_tree s → (named : Option (List ℕ)) → named ≡ summary s
       → (manual_name (page_name s.path) (document_said named) ++ synopsis_writes s.path t (text_of (out-Level A l).usage)) ++ description_writes (text_of (out-Level A l).about) ≡ front_writes s
-  front_same t of_tree named e =
-      ap (λ n. (manual_name (page_name s.path) (document_said n) ++ synopsis_writes s.path t (text_of (out-Level A l).usage)) ++ description_writes (text_of (out-Level A l).about)) e
-      ∙ ap (λ x. (manual_name (page_name s.path) (document_said (summary s)) ++ synopsis_writes s.path x (text_of (out-Level A l).usage)) ++ description_writes (text_of (out-Level A l).about)) of_tree
-      ∙ ap (λ ts. (manual_name (page_name s.path) (document_said (summary s)) ++ synopsis_writes s.path (subject_tree s) ts.usage) ++ description_writes ts.about) (sym texts)
+  front_same t of_tree named e = grind (arith, texts)
 
   pub lists_same : (t : Tree) → t ≡ subject_tree s
       → ((doc_within block.Block (document_said (text_of (out-Level A l).header)) ++ groups_writes false no_texts (item_list t ++ item_list (options_tree s.help_options))) ++ flat_map (topic_writes true) (map topic_said (out-Level A l).topics.items))
       ++ doc_within block.Block (document_said (text_of (out-Level A l).footer)) ≡ list_writes s
-  lists_same t of_tree =
-      ap (λ x. ((doc_within block.Block (document_said (text_of (out-Level A l).header)) ++ groups_writes false no_texts (item_list x ++ item_list (options_tree s.help_options))) ++ flat_map (topic_writes true) (map topic_said (out-Level A l).topics.items)) ++ doc_within block.Block (document_said (text_of (out-Level A l).footer))) of_tree
-      ∙ ap (λ ts. ((doc_within block.Block (document_said ts.header) ++ groups_writes false no_texts (item_list (subject_tree s) ++ item_list (options_tree s.help_options))) ++ flat_map (topic_writes true) ts.topics) ++ doc_within block.Block (document_said ts.footer)) (sym texts)
+  lists_same t of_tree = grind (arith, texts)
 
   pub front_put : {T E : Type 0} (r : Result T E) (d0 d1 d2 d3 : List Part) (t : Tree) → t ≡ subject_tree s → (named : Option (List ℕ)) → named ≡ summary s → d1 ≡ with_writes d0 (manual_name (page_name s.path) (document_said named))
       → d2 ≡ with_writes d1 (synopsis_writes s.path t (text_of (out-Level A l).usage)) → OnOk r (d3 ≡ with_writes d2 (description_writes (text_of (out-Level A l).about))) → OnOk r (d3 ≡ with_writes d0 (front_writes s))
@@ -107,18 +97,11 @@ module _ {A : Type 0} (s : SubjectSaid) (l : Level A) (of_level : s.level ≡ le
 
 -- the whole
 whole_writes : (s : SubjectSaid) → document_of ((front_writes s ++ list_writes s) ++ see_also_writes s.words.section (neighbours s)) ≡ subject_manual s
-whole_writes s = regrouped (front_writes s) _ _ _ _ (see_also_writes s.words.section (neighbours s)) where
-  regrouped : (us bs cs ts ds es : List Write) → document_of ((us ++ (((bs ++ cs) ++ ts) ++ ds)) ++ es) ≡ document_of (((((us ++ bs) ++ cs) ++ ts) ++ ds) ++ es)
-  regrouped us bs cs ts ds es =
-      ap (λ xs. document_of (xs ++ es)) (sym (append_assoc us ((bs ++ cs) ++ ts) ds) ∙ ap (λ xs. xs ++ ds) (sym (append_assoc us (bs ++ cs) ts) ∙ ap (λ xs. xs ++ ts) (sym (append_assoc us bs cs))))
+whole_writes s = grind (arith, append_assoc)
 
 pub manual_whole : (s : SubjectSaid) (d0 d1 d2 d3 : List Part) (section : List ℕ) (names : List (List ℕ)) → d0 ≡ [] → d1 ≡ with_writes d0 (front_writes s) → d2 ≡ with_writes d1 (list_writes s)
     → section ≡ s.words.section → names ≡ neighbours s → d3 ≡ with_writes d2 (see_also_writes section names) → d3 ≡ subject_manual s
-manual_whole s d0 d1 d2 d3 section names e0 e1 e2 es en e3 =
-    let more = e3 ∙ ap (λ x. with_writes d2 (see_also_writes x names)) es ∙ ap (λ ns. with_writes d2 (see_also_writes s.words.section ns)) en in
-    written_then d0 d2 d3 (front_writes s ++ list_writes s) (see_also_writes s.words.section (neighbours s)) (written_then d0 d1 d2 (front_writes s) (list_writes s) e1 e2) more
-    ∙ ap (λ ps. with_writes ps ((front_writes s ++ list_writes s) ++ see_also_writes s.words.section (neighbours s))) e0
-    ∙ whole_writes s
+manual_whole s d0 d1 d2 d3 section names e0 e1 e2 es en e3 = grind (arith, written_then, whole_writes)
 
 -- ---- what each element of a list writes
 

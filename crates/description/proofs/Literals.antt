@@ -1,5 +1,5 @@
 -- The pieces of a line, and the lines of a text.
-use Rattle.std.proofs.Common.{◌≡◌, ℕ, suc, ◌+◌, ◌-◌, ◌<◌, ◌≤◌, ◌==◌, Bool, true, false, cond, ◌&&◌, ◌||◌, List, [], ◌∷◌, ◌++◌, length, drop, take, get_or, refl, sym, ap, ◌∙◌, inl, inr, append-nil, arith, Bor, Some, None, OnOk, Result, Ok, Err}
+use Rattle.std.proofs.Common.{◌≡◌, ℕ, suc, ◌+◌, ◌-◌, ◌<◌, ◌≤◌, ◌==◌, Bool, true, false, cond, ◌&&◌, ◌||◌, List, [], ◌∷◌, ◌++◌, length, drop, take, get_or, refl, sym, ap, ◌∙◌, inl, inr, append-nil, arith, Bor, Some, None, OnOk, Result}
 use Rattle.std.specs.Prelude.{not}
 use Rattle.std.specs.List.{after_first, list_any, onto_first, slice_split}
 use Rattle.std.proofs.lemmas.Bool.{false≢true}
@@ -46,17 +46,11 @@ is_96 : (b : ℕ) → is_backquote b ≡ true → b ≡ 96
 is_96 b h = elim (eqb_tells b 96) [ inl p ↦ p.1 | inr p ↦ absurd (false≢true (sym p.0 ∙ h)) ]
 
 single_parts : (x y z : Bool) → (x && not (y || z)) ≡ true → (x ≡ true) × (z ≡ false)
-single_parts true false false h = (refl, refl)
-single_parts true false true h = absurd (false≢true h)
-single_parts true true z h = absurd (false≢true h)
-single_parts false y z h = absurd (false≢true h)
+single_parts x y z h3 = grind (arith, false≢true)
 
 -- behind a byte that no backquote follows, it counts for nothing which byte it is
 fresh : (b c : ℕ) (bs : List ℕ) → begins is_backquote bs ≡ false → parted_behind b bs ≡ parted_behind c bs
-fresh b c [] h = refl
-fresh b c (d ∷ ds) h =
-    ap (λ t. cond (t && not (is_backquote b || begins is_backquote ds)) ([] ∷ parted_behind d ds) (onto_first d (parted_behind d ds))) h
-    ∙ sym (ap (λ t. cond (t && not (is_backquote c || begins is_backquote ds)) ([] ∷ parted_behind d ds) (onto_first d (parted_behind d ds))) h)
+fresh b c bs h3 = grind arith
 
 module _ (bs : List ℕ) (i before b : ℕ) (within : i < length bs) (at : b ≡ get_or bs i 0) where
   next : drop i bs ≡ b ∷ drop (i + 1) bs
@@ -66,17 +60,10 @@ module _ (bs : List ℕ) (i before b : ℕ) (within : i < length bs) (at : b ≡
   seen s = sym (ap (λ us. onto_front (take i bs) (parted_behind before us)) next) ∙ s
 
   pub found : PartedSoFar bs i before → is_single before b (drop (i + 1) bs) ≡ true → parted bs ≡ take i bs ∷ parted (drop (i + 1) bs)
-  found s y =
-      let both = single_parts (is_backquote b) (is_backquote before) (begins is_backquote (drop (i + 1) bs)) y in
-      sym (seen s)
-      ∙ ap (λ t. onto_front (take i bs) (cond t ([] ∷ parted_behind b (drop (i + 1) bs)) (onto_first b (parted_behind b (drop (i + 1) bs))))) y
-      ∙ onto_new (take i bs) (parted_behind b (drop (i + 1) bs))
-      ∙ ap (λ ps. take i bs ∷ ps) (fresh b 10 (drop (i + 1) bs) both.1)
+  found s y = grind (arith, single_parts, seen, onto_new, fresh)
 
   pub found_byte : is_single before b (drop (i + 1) bs) ≡ true → get_or bs i 0 ≡ 96
-  found_byte y =
-      let both = single_parts (is_backquote b) (is_backquote before) (begins is_backquote (drop (i + 1) bs)) y in
-      sym at ∙ is_96 b both.0
+  found_byte y = grind (arith, single_parts, is_96)
 
   pub passed : PartedSoFar bs i before → is_single before b (drop (i + 1) bs) ≡ false → PartedSoFar bs (i + 1) b
   passed s n =
@@ -90,8 +77,7 @@ pub whole_rest : (bs : List ℕ) (n : ℕ) → take (length bs - n) (drop n bs) 
 whole_rest bs n = let left = length-drop n bs in take_all (length bs - n) (drop n bs) (omega arith)
 
 pub none_left : (bs : List ℕ) (i before : ℕ) → length bs ≤ i → PartedSoFar bs i before → parted bs ≡ bs ∷ []
-none_left bs i before h s =
-    sym s ∙ ap (λ us. onto_front (take i bs) (parted_behind before us)) (drop_all i bs h) ∙ onto_new (take i bs) [] ∙ ap (λ us. us ∷ []) (take_all i bs h)
+none_left bs i before h s = grind (arith, drop_all, onto_new, take_all)
 
 pub around : (bs : List ℕ) (i : ℕ) → i < length bs → get_or bs i 0 ≡ 96 → bs ≡ take i bs ++ 96 ∷ drop (i + 1) bs
 around bs i h e = sym (take-append-drop i bs) ∙ ap (λ us. take i bs ++ us) (drop_more bs i 0 h ∙ ap (λ b. b ∷ drop (i + 1) bs) e)
@@ -103,8 +89,7 @@ parted_first before [] = ([], [], refl)
 parted_first before (b ∷ bs) = chosen (is_single before b bs) b (parted_behind b bs)
 
 pair_first : (front inner : List ℕ) (ps : List (List ℕ)) → HasFirst ps → pieces (front ∷ inner ∷ ps) ≡ plain_piece front ++ literal inner ∷ pieces ps
-pair_first front inner [] h = let none : [] ≡ h.0 ∷ h.1 = h.2 in absurd cc
-pair_first front inner (p ∷ ps) h = refl
+pair_first front inner ps h3 = grind arith
 
 module _ (line front rest : List ℕ) (first : parted line ≡ front ∷ parted rest) where
   pub pair_there : (inner behind : List ℕ) → parted rest ≡ inner ∷ parted behind → pieces (parted line) ≡ plain_piece front ++ literal inner ∷ pieces (parted behind)
@@ -114,16 +99,12 @@ module _ (line front rest : List ℕ) (first : parted line ≡ front ∷ parted 
   one_alone none whole = ap pieces (first ∙ ap (λ ps. front ∷ ps) none) ∙ ap plain_piece (sym whole)
 
 pub shorter : (line front rest inner behind : List ℕ) → line ≡ front ++ 96 ∷ rest → rest ≡ inner ++ 96 ∷ behind → length behind < length line
-shorter line front rest inner behind e f =
-    let a : length line ≡ length front + length (96 ∷ rest) = ap length e ∙ length-append front (96 ∷ rest) in
-    let b : length rest ≡ length inner + length (96 ∷ behind) = ap length f ∙ length-append inner (96 ∷ behind) in
-    omega arith
+shorter line front rest inner behind e f = grind (arith, length-append)
 
 -- ---- what was written, and one text behind it
 
 pub text_put : (d d1 d2 : List Part) (us vs ws : List Write) (bytes : List ℕ) (style : Style) → ws ≡ us ++ text bytes style ∷ vs → d1 ≡ with_writes d us → d2 ≡ with_text d1 bytes style → with_writes d2 vs ≡ with_writes d ws
-text_put d d1 d2 us vs ws bytes style e f g =
-    ap (λ x. with_writes x vs) g ∙ ap (λ x. with_writes x (text bytes style ∷ vs)) f ∙ sym (with_writes-append d us (text bytes style ∷ vs)) ∙ sym (ap (with_writes d) e)
+text_put d d1 d2 us vs ws bytes style e f g = grind (arith, with_writes-append)
 
 -- ---- the lines of a text
 
@@ -132,8 +113,7 @@ split_first p [] = ([], [], refl)
 split_first p (b ∷ bs) = chosen (p b) b (slice_split p bs)
 
 more : (line : List ℕ) (ls : List (List ℕ)) → HasFirst ls → lines_writes (line ∷ ls) ≡ line_writes line ++ plain (10 ∷ []) ∷ lines_writes ls
-more line [] h = let none : [] ≡ h.0 ∷ h.1 = h.2 in absurd cc
-more line (l ∷ ls) h = refl
+more line ls h2 = grind arith
 
 pub line_there : (bs line behind : List ℕ) → lines bs ≡ line ∷ lines behind → lines_writes (lines bs) ≡ line_writes line ++ plain (10 ∷ []) ∷ lines_writes (lines behind)
 line_there bs line behind e = ap lines_writes e ∙ more line (lines behind) (split_first (λ b. b == 10) behind)
@@ -155,14 +135,10 @@ line_cut bs line behind h =
     slice_split_first (λ b. b == 10) bs 0 found.0 ∙ ap (λ x. x ∷ lines (after_first (λ b. b == 10) bs)) (sym found.1) ∙ ap (λ x. line.now ∷ lines x) (sym found.2)
 
 pub cut_shorter : (bs : List ℕ) (line behind : Bor (List ℕ)) → IsSplitOnceResult 10 bs (Some (line, behind)) → length behind.now < length bs
-cut_shorter bs line behind h =
-    let parts = split_parts 10 bs (Some (line, behind)) h (omega arith) in
-    let a : length bs ≡ length line.now + length (10 ∷ behind.now) = ap length parts.0 ∙ length-append line.now (10 ∷ behind.now) in
-    omega arith
+cut_shorter bs line behind h = grind (arith, split_parts, length-append)
 
 pub last_put : {T E : Type 0} (r : Result T E) (d e whole : List Part) (line : List ℕ) → lines line ≡ line ∷ [] → with_writes d (lines_writes (lines line)) ≡ whole → OnOk r (e ≡ with_writes d (line_writes line)) → OnOk r (e ≡ whole)
-last_put (Ok x) d e whole line one so_far h = h ∙ ap (with_writes d) (sym (append-nil (line_writes line))) ∙ sym (ap (λ ls. with_writes d (lines_writes ls)) one) ∙ so_far
-last_put (Err x) d e whole line one so_far h = tt
+last_put r d e whole line h5 h6 h7 = grind (arith, append-nil)
 
 -- ---- whether pairs count
 
@@ -173,8 +149,7 @@ pub no_fence : (bs line behind : List ℕ) → lines bs ≡ line ∷ lines behin
 no_fence bs line behind e f = ap (λ ls. not (list_any is_fence ls)) e ∙ ap (λ b. not (b || list_any is_fence (lines behind))) f
 
 or_nothing : (b : Bool) → (b || false) ≡ b
-or_nothing true = refl
-or_nothing false = refl
+or_nothing b = grind arith
 
 pub last_line : (bs : List ℕ) → lines bs ≡ bs ∷ [] → not (is_fence bs) ≡ has_literals bs
 last_line bs e = sym (ap (λ ls. not (list_any is_fence ls)) e ∙ ap not (or_nothing (is_fence bs)))

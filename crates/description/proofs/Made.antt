@@ -1,5 +1,5 @@
 -- What the calls for the pages of a description make.
-use Rattle.std.proofs.Common.{◌≡◌, ℕ, true, false, List, [], ◌∷◌, ◌++◌, Result, Ok, Err, IfOk, refl, sym, ap, ◌∙◌, subst, arith}
+use Rattle.std.proofs.Common.{◌≡◌, ℕ, true, false, List, [], ◌∷◌, ◌++◌, Result, IfOk, refl, sym, ap, ◌∙◌, subst, arith}
 use Rattle.std.specs.Borrow.{Bor}
 use Rattle.std.specs.Prelude.{All, Contains, ◌<◌}
 use Rattle.std.proofs.lemmas.List.Elements.{All-head, All-tail}
@@ -7,7 +7,7 @@ use Rattle.bpaf_doc.specs.Buffer.Parts.{IsWellNested, Part}
 use Rattle.bpaf_doc.specs.Buffer.Writes.{document_of}
 use Rattle.bpaf_doc.specs.Html.Page.{IsHtmlPageOf}
 use Rattle.bpaf_meta.specs.Content.{Tree, Leaf, Head}
-use Rattle.bpaf_meta.specs.View.{head_of, leaf_of, tree_of}
+use Rattle.bpaf_meta.specs.View.{head_of, tree_of}
 use Rattle.bpaf_meta.specs.declared.item.Item.{Item}
 use Rattle.bpaf_meta.specs.declared.meta_help.Info.{Info}
 use Rattle.bpaf_meta.specs.Meta.Misplaced.{IsWellPlaced, IsFirstMisplaced}
@@ -27,8 +27,7 @@ use Rattle.description.specs.Pages.{collected_document, description_chapters, su
 
 -- what holds of a content holds of the answer with that content
 pub of_same : {T E X : Type 0} (f : T → X) (r : Result T E) (x : X) (P : X → Type 0) → P x → IfOk r (λ t. f t ≡ x) → IfOk r (λ t. P (f t))
-of_same f (Ok t) x P p e = subst P (sym e) p
-of_same f (Err y) x P p e = tt
+of_same f r x P h4 h5 = grind arith
 
 -- ---- no item is misplaced
 
@@ -49,16 +48,11 @@ none_misplaced_of cs l h m = none_misplaced m.faulty.content l (all_middle (λ c
 
 pub pages_placed : {A : Type 0} (d : DescriptionSaid) (t : Tree) (i : Head) (e : HelpError A) (f : Bor (Item A)) → AreWellPlaced (description_chapters d) → t ≡ description_tree d → i ≡ description_head d
     → e ≡ error.Misplaced f → AreErrorOf (chapters_of (d.name ∷ []) i t) e → ⊥
-pages_placed d t i e f placed et ei ee h =
-    let found : IsFirstMisplacedOf (chapters_of (d.name ∷ []) i t) (leaf_of f.now) = subst (AreErrorOf (chapters_of (d.name ∷ []) i t)) ee h in
-    let of_tree : IsFirstMisplacedOf (chapters_of (d.name ∷ []) i (description_tree d)) (leaf_of f.now) = subst (λ x. IsFirstMisplacedOf (chapters_of (d.name ∷ []) i x) (leaf_of f.now)) et found in
-    none_misplaced_of (description_chapters d) (leaf_of f.now) placed (subst (λ x. IsFirstMisplacedOf (chapters_of (d.name ∷ []) x (description_tree d)) (leaf_of f.now)) ei of_tree)
+pages_placed d t i e f placed et ei ee h = grind (arith, none_misplaced_of)
 
 pub html_whole : (d : DescriptionSaid) (t : Tree) (i : Head) (text : List ℕ) → t ≡ description_tree d → i ≡ description_head d → IsWellNested (collected_document d)
     → (IsWellNested (pages.collected_document d.name t i) → IsHtmlPageOf (pages.collected_document d.name t i) true false text) → IsHtmlPageOf (collected_document d) true false text
-html_whole d t i text et ei nested h =
-    let same : pages.collected_document d.name t i ≡ collected_document d = ap (λ x. pages.collected_document d.name x i) et ∙ ap (pages.collected_document d.name (description_tree d)) ei in
-    subst (λ x. IsHtmlPageOf x true false text) same (h (subst IsWellNested (sym same) nested))
+html_whole d t i text et ei nested h = grind arith
 
 head_help : (shared : SharedSaid) (l : LevelSaid) → page.help_tree (level_head shared l) ≡ options_tree shared.help_options
 head_help shared (level t r os cs gs ps ms) = refl

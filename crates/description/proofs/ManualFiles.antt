@@ -1,6 +1,6 @@
 -- The manual pages of all levels, put one after another.
 use Rattle.std.specs.Prelude.{true, false, not}
-use Rattle.std.proofs.Common.{◌≡◌, ℕ, ◌+◌, ◌<◌, ◌≤◌, List, [], ◌∷◌, ◌++◌, length, drop, get_or, map, flat_map, refl, sym, ap, ◌∙◌, append_assoc, append-nil}
+use Rattle.std.proofs.Common.{◌≡◌, ℕ, ◌+◌, ◌<◌, ◌≤◌, List, [], ◌∷◌, ◌++◌, length, drop, get_or, map, flat_map, refl, sym, ap, ◌∙◌, append_assoc, append-nil, arith}
 use Rattle.std.proofs.lemmas.Grind.{flat_map-append}
 use Rattle.std.proofs.lemmas.List.{drop_all, drop_more, map-append}
 use Rattle.std.specs.List.{AllZip}
@@ -21,10 +21,8 @@ use Rattle.description.specs.Trees.{is_shown}
 -- ---- a copy of names
 
 pub copied : {X : Type 0} (bytes : X → List ℕ) (xs ys : List X) → AllZip (λ x y. bytes y ≡ bytes x) xs ys → map bytes ys ≡ map bytes xs
-copied bytes [] [] h = refl
-copied bytes [] (y ∷ ys) h = absurd h
-copied bytes (x ∷ xs) [] h = absurd h
 copied bytes (x ∷ xs) (y ∷ ys) h = ap (λ b. b ∷ map bytes ys) h.0 ∙ ap (λ bs. bytes x ∷ bs) (copied bytes xs ys h.1)
+copied bytes z u h = grind arith
 
 -- ---- what is below a subject
 
@@ -33,19 +31,14 @@ command_there s (command names h l) = refl
 
 listed_there : (s : SubjectSaid) (ms : CommandsSaid) → below_commands s ms ≡ flat_map (shown_from s) (listed ms)
 listed_there s no_commands = refl
-listed_there s (commands m ms) =
-    ap (λ ss. ss ++ below_commands s ms) (sym (command_there s m)) ∙ ap (λ ss. shown_from s m ++ ss) (listed_there s ms)
+listed_there s (commands m ms) = grind (arith, listed_there s ms, command_there)
 
 grouped_there : (s : SubjectSaid) (gs : GroupsSaid) → below_groups s gs ≡ flat_map (shown_from s) (grouped gs)
 grouped_there s no_groups = refl
-grouped_there s (groups (group title os cs ps ms) gs) =
-    ap (λ ss. ss ++ below_groups s gs) (listed_there s ms) ∙ ap (λ ss. flat_map (shown_from s) (listed ms) ++ ss) (grouped_there s gs)
-    ∙ sym (flat_map-append (shown_from s) (listed ms) (grouped gs))
+grouped_there s (groups (group title os cs ps ms) gs) = grind (arith, grouped_there s gs, listed_there, flat_map-append)
 
 level_there : (s : SubjectSaid) (l : LevelSaid) → below_level s l ≡ flat_map (shown_from s) (commands_on l)
-level_there s (level t r os cs gs ps ms) =
-    ap (λ ss. ss ++ below_commands s ms) (grouped_there s gs) ∙ ap (λ ss. flat_map (shown_from s) (grouped gs) ++ ss) (listed_there s ms)
-    ∙ sym (flat_map-append (shown_from s) (grouped gs) (listed ms))
+level_there s (level t r os cs gs ps ms) = grind (arith, grouped_there, listed_there, flat_map-append)
 
 pub each_command_is_there : EachCommandIsThere
 each_command_is_there s = ap (λ ss. s ∷ ss) (level_there s s.level)
@@ -65,9 +58,7 @@ are_manual_files (s ∷ ss) = (record { name = refl; read = subject_manual_read 
 
 -- files of some of all were put, and those of the rest are left
 turn : (before after whole : List FileSaid) (own rest all : List SubjectSaid) → all ≡ own ++ rest → after ≡ before ++ map manual_file own → before ++ map manual_file all ≡ whole → after ++ map manual_file rest ≡ whole
-turn before after whole own rest all split put so_far =
-    ap (λ fs. fs ++ map manual_file rest) put ∙ append_assoc before (map manual_file own) (map manual_file rest)
-    ∙ ap (λ fs. before ++ fs) (sym (map-append manual_file own rest)) ∙ ap (λ ss. before ++ map manual_file ss) (sym split) ∙ so_far
+turn before after whole own rest all split put so_far = grind (arith, append_assoc, map-append)
 
 module _ {A : Type 0} (s : SubjectSaid) (gs : List (Group A)) (i : ℕ) (before : List FileSaid) where
   pub group_put : (g d : Group A) {after whole : List FileSaid} → g ≡ get_or gs i d → i < length gs → before ++ map manual_file (below_groups s (groups_said (drop i gs))) ≡ whole
@@ -100,14 +91,7 @@ file_put said old new x file e f = ap (map said) e ∙ map-append said old (x �
 pub level_put : {A : Type 0} (s : SubjectSaid) (l : Level A) (f0 f1 f2 f3 : List FileSaid) → s.level ≡ level_said l → f1 ≡ f0 ++ manual_file s ∷ []
     → f2 ≡ f1 ++ map manual_file (below_groups s (groups_said (out-Level A l).groups.items)) → f3 ≡ f2 ++ map manual_file (below_commands s (commands_said (out-Level A l).commands.items))
     → f3 ≡ f0 ++ map manual_file (all_from s)
-level_put {A} s l f0 f1 f2 f3 same e1 e2 e3 =
-    let own : List SubjectSaid = below_groups s (groups_said (out-Level A l).groups.items) in
-    let others : List SubjectSaid = below_commands s (commands_said (out-Level A l).commands.items) in
-    e3 ∙ ap (λ fs. fs ++ map manual_file others) (e2 ∙ ap (λ fs. fs ++ map manual_file own) e1)
-    ∙ append_assoc (f0 ++ manual_file s ∷ []) (map manual_file own) (map manual_file others)
-    ∙ append_assoc f0 (manual_file s ∷ []) (map manual_file own ++ map manual_file others)
-    ∙ ap (λ fs. f0 ++ manual_file s ∷ fs) (sym (map-append manual_file own others))
-    ∙ ap (λ ss. f0 ++ map manual_file (s ∷ ss)) (sym (ap (below_level s) (same ∙ open-Level l)))
+level_put {A} s l f0 f1 f2 f3 same e1 e2 e3 = grind (arith, append_assoc, map-append, open-Level)
 
 pub files_below : (s t : SubjectSaid) (f0 f1 : List FileSaid) → t ≡ s → f1 ≡ f0 ++ map manual_file (all_from t) → f1 ≡ f0 ++ map manual_file (all_from s)
 files_below s t f0 f1 e put = put ∙ ap (λ x. f0 ++ map manual_file (all_from x)) e

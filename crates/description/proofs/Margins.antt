@@ -12,13 +12,7 @@ use Rattle.description.specs.Paragraphs.{is_margin, without_back, without_front}
 -- ---- the two characters
 
 either : (c : ℕ) → is_margin c ≡ true → (c ≡ 32) ⊎ (c ≡ 10)
-either c m = elim (eqb_tells c 32) [
-  | inl p ↦ inl p.1
-  | inr p ↦ elim (eqb_tells c 10) [
-    | inl q ↦ inr q.1
-    | inr q ↦ absurd (false≢true (sym (ap (λ b. b || (c == 10)) p.0 ∙ q.0) ∙ m))
-  ]
-]
+either c m = grind (arith, eqb_tells, false≢true)
 
 ascii : (c : ℕ) → is_margin c ≡ true → c < 128
 ascii c m = elim (either c m) [ inl e ↦ omega arith | inr e ↦ omega arith ]
@@ -27,14 +21,10 @@ a_scalar : (c : ℕ) → is_margin c ≡ true → IsScalar c
 a_scalar c m = elim (either c m) [ inl e ↦ subst IsScalar (sym e) refl | inr e ↦ subst IsScalar (sym e) refl ]
 
 swapped : (a b : ℕ) → (a == b) ≡ (b == a)
-swapped a b = elim (eqb_tells a b) [
-  | inl p ↦ ap (λ x. x == b) p.1 ∙ sym (ap (λ x. b == x) p.1)
-  | inr p ↦ elim (eqb_tells b a) [ inl q ↦ absurd (p.1 (sym q.1)) | inr q ↦ p.0 ∙ sym q.0 ]
-]
+swapped a b = grind (arith, eqb_tells)
 
 or_false : (b : Bool) → (b || false) ≡ b
-or_false true = refl
-or_false false = refl
+or_false b = grind arith
 
 pub margin_set : (c : ℕ) → char_set_contains (32 ∷ 10 ∷ []) c ≡ is_margin c
 margin_set c = ap (λ b. (32 == c) || b) (or_false (10 == c)) ∙ ap (λ b. b || (10 == c)) (swapped 32 c) ∙ ap (λ b. (c == 32) || b) (swapped 10 c)
@@ -55,18 +45,14 @@ front_more : (c : ℕ) (s : List ℕ) → is_margin c ≡ true → without_front
 front_more c s m = ap (λ b. drop (cond b (1 + prefix_len is_margin s) 0) (c ∷ s)) m ∙ ap (λ n. drop n (c ∷ s)) (one-add (prefix_len is_margin s))
 
 front_by : (c : ℕ) (s : List ℕ) (b : Bool) → is_margin c ≡ b → ¬ (is_margin c ≡ true) → without_front (c ∷ s) ≡ c ∷ s
-front_by c s true e h = absurd (h e)
-front_by c s false e h = ap (λ b. drop (cond b (1 + prefix_len is_margin s) 0) (c ∷ s)) e
+front_by c s b h3 h4 = grind arith
 
 front_end : (s : List ℕ) → ((c : ℕ) (rest : List ℕ) → is_margin c ≡ true → s ≡ c ∷ rest → ⊥) → without_front s ≡ s
-front_end [] h = refl
-front_end (c ∷ s) h = front_by c s (is_margin c) refl (λ m. h c s m refl)
+front_end s h1 = grind (arith, front_by)
 
 front_cuts : (ns : List ℕ) (s r : List ℕ) → CutsPrefixes Front s ns r → without_front s ≡ without_front r
 front_cuts [] s r h = ap without_front (sym h)
-front_cuts (n ∷ ns) s r (m, before, at, e) =
-    let (c, passes, is) = front_char m n at in
-    front_cuts ns s m before ∙ ap without_front is ∙ front_more c (drop n m) passes ∙ ap without_front (sym e)
+front_cuts (n ∷ ns) s r (m, before, at, e) = grind (arith, front_cuts ns s m before, front_more)
 
 front_full : (o : Option ℕ) (r : List ℕ) → Front r o → IfSome o (λ n. n ≡ 0) → without_front r ≡ r
 front_full None r h e = front_end r (λ c rest m is. false≢true (sym (h c rest (a_scalar c m) (is ∙ sym (ap (λ xs. xs ++ rest) (encode_ascii c (ascii c m))))) ∙ m))
@@ -95,10 +81,7 @@ back_len : (s : List ℕ) (c : ℕ) → is_margin c ≡ true → suffix_len is_m
 back_len s c m = ap (prefix_len is_margin) (reverse-append s (c ∷ [])) ∙ ap (λ b. cond b (1 + prefix_len is_margin (reverse s)) 0) m
 
 back_more : (s : List ℕ) (c : ℕ) → is_margin c ≡ true → without_back (s ++ c ∷ []) ≡ without_back s
-back_more s c m =
-    let long : length (s ++ c ∷ []) ≡ length s + 1 = length-append s (c ∷ []) in
-    let same : length (s ++ c ∷ []) - suffix_len is_margin (s ++ c ∷ []) ≡ length s - suffix_len is_margin s = let k = back_len s c m in omega arith in
-    ap (λ n. take n (s ++ c ∷ [])) same ∙ take-append-le (length s - suffix_len is_margin s) s (c ∷ []) (omega arith)
+back_more s c m = grind (arith, length-append, back_len, take-append-le)
 
 back_cuts : (ns : List ℕ) (s r : List ℕ) → CutsSuffixes Back s ns r → without_back s ≡ without_back r
 back_cuts [] s r h = ap without_back (sym h)
@@ -107,8 +90,7 @@ back_cuts (n ∷ ns) s r (m, before, at, e) =
     back_cuts ns s m before ∙ ap without_back is ∙ back_more (take (length m - n) m) c passes ∙ ap without_back (sym e)
 
 back_by : (c : ℕ) (s : List ℕ) (b : Bool) → is_margin c ≡ b → ¬ (is_margin c ≡ true) → prefix_len is_margin (c ∷ s) ≡ 0
-back_by c s true e h = absurd (h e)
-back_by c s false e h = ap (λ b. cond b (1 + prefix_len is_margin s) 0) e
+back_by c s b h3 h4 = grind arith
 
 no_suffix : (s back : List ℕ) → back ≡ reverse s → ((c : ℕ) (front : List ℕ) → is_margin c ≡ true → s ≡ front ++ c ∷ [] → ⊥) → suffix_len is_margin s ≡ 0
 no_suffix s [] e h = ap (prefix_len is_margin) (sym e)

@@ -1,10 +1,9 @@
 -- The chapters of a description are well placed, and the documents of its pages are well nested.
-use Rattle.std.proofs.Common.{ℕ, false, List, [], ◌∷◌, Option, Some, None}
+use Rattle.std.proofs.Common.{ℕ, false, List, [], ◌∷◌, Option, Some, None, arith}
 use Rattle.std.specs.Prelude.{All, option_map}
 use Rattle.bpaf_doc.specs.declared.buffer.Block.TheVariants as block
 use Rattle.bpaf_doc.specs.Buffer.Parts.{Part, IsWellNested}
-use Rattle.bpaf_meta.specs.Content as content
-use Rattle.bpaf_meta.specs.Content.{Tree, and_of, or_of, optional, required, adjacent, item, many, subsection, suffix, skip, custom_usage, strict, Trees, no_trees, tree, Leaf, any, positional, flag, argument}
+use Rattle.bpaf_meta.specs.Content.{Tree, and_of, or_of, optional, required, adjacent, item, many, subsection, suffix, skip, custom_usage, strict, Trees, no_trees, tree, Leaf}
 use Rattle.bpaf_meta.specs.Meta.Misplaced.{IsWellPlaced}
 use Rattle.bpaf_meta.specs.Usage.Nested.{HasNestedDocs}
 use Rattle.bpaf_items.specs.Page.EnvTexts.{no_texts}
@@ -28,8 +27,7 @@ use Rattle.description.proofs.SaidTrees.{EachHolds, Holds, HoldsLeaf, Kept, chap
 use Rattle.description.proofs.NestedTexts.{footer_nested, plain_nested, said_nested, texts_nested}
 
 usage_nested : (t : Option (List ℕ)) → IsNestedText (option_map plain_document t)
-usage_nested None = tt
-usage_nested (Some t) = plain_nested t
+usage_nested t = grind (arith, plain_nested)
 
 -- ---- a usage line
 
@@ -43,15 +41,10 @@ head_nested shared k (level t r os cs gs ps ms) = (said_nested t.about, said_nes
 -- ---- trees
 
 there_nested : (o : Option (List Part)) → Gives IsWellNested o → IsNestedText o
-there_nested None h = tt
-there_nested (Some d) h = h
+there_nested o h1 = grind arith
 
 leaf_nested : (l : Leaf) → HoldsLeaf IsWellNested l → HasNestedText l
-leaf_nested (any m a h) k = (k.0, there_nested h k.1)
-leaf_nested (positional m h) k = there_nested h k
-leaf_nested (content.command n c h t i) k = there_nested h k
-leaf_nested (flag n s e h) k = there_nested h k
-leaf_nested (argument n s m e h) k = there_nested h k
+leaf_nested l h1 = grind (arith, there_nested)
 
 mutual
   tree_nested : (t : Tree) → Holds IsWellNested IsWellNested t → HasNestedTexts t

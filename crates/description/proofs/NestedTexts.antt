@@ -1,5 +1,5 @@
 -- The documents of texts and of topics are well nested.
-use Rattle.std.proofs.Common.{ℕ, Bool, true, false, List, [], ◌∷◌, flat_map, Option, Some, None}
+use Rattle.std.proofs.Common.{ℕ, Bool, true, false, List, [], ◌∷◌, flat_map, Option, arith}
 use Rattle.bpaf_doc.specs.declared.buffer.Style.TheVariants as style
 use Rattle.bpaf_doc.specs.declared.buffer.Block.TheVariants as block
 use Rattle.bpaf_doc.specs.Buffer.Parts.{Part, IsWellNested}
@@ -15,11 +15,8 @@ use Rattle.description.proofs.Each.{Each}
 use Rattle.description.proofs.TextDocuments.{HoldsTexts, IsText, of_texts, plain_holds, text_holds, topic_holds}
 
 texts_keep : (ws : List Write) → Each IsText ws → Keeps ws
-texts_keep [] h = nothing_keeps
 texts_keep (write.text bytes how ∷ ws) h = text_then bytes how (texts_keep ws h.1)
-texts_keep (write.start b ∷ ws) h = absurd h.0
-texts_keep (write.end b ∷ ws) h = absurd h.0
-texts_keep (write.parts ps ∷ ws) h = absurd h.0
+texts_keep x h = grind (arith, nothing_keeps)
 
 pub texts_nested : (d : List Part) → HoldsTexts d → IsWellNested d
 texts_nested = of_texts IsWellNested (λ ws f. written_keeps (texts_keep ws f.each))
@@ -31,8 +28,7 @@ pub text_nested : (t : List ℕ) → IsWellNested (text_document t)
 text_nested t = texts_nested (text_document t) (text_holds t)
 
 pub said_nested : (t : Option (List ℕ)) → IsNestedText (document_said t)
-said_nested None = tt
-said_nested (Some t) = text_nested t
+said_nested t = grind (arith, text_nested)
 
 -- ---- topics
 

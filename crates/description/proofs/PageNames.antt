@@ -18,16 +18,14 @@ use Rattle.description.proofs.Named.{grouped_more, listed_all}
 
 -- names with a text of one byte between them
 pub joined : {X : Type 0} (bytes : X → List ℕ) (xs : List X) → join_by bytes (45 ∷ []) xs ≡ page_name (map bytes xs)
-joined bytes [] = refl
-joined bytes (x ∷ xs) = sym (joined_writes bytes 45 x xs)
+joined bytes xs = grind (arith, joined_writes)
 
 -- a name that was put last
 pub put_one : {X : Type 0} (bytes : X → List ℕ) (old new : List X) (x : X) (names : List (List ℕ)) → new ≡ old ++ x ∷ [] → bytes x ∷ [] ≡ names → map bytes new ≡ map bytes old ++ names
 put_one bytes old new x names e f = ap (map bytes) e ∙ map-append bytes old (x ∷ []) ∙ ap (λ ns. map bytes old ++ ns) f
 
 pub has_names : {X : Type 0} (xs : List X) → (length xs == 0) ≡ false → 0 < length xs
-has_names [] e = absurd (true≢false e)
-has_names (x ∷ xs) e = omega arith
+has_names xs h1 = grind (arith, true≢false)
 
 -- ---- above
 
@@ -35,10 +33,7 @@ pub none_above : {X : Type 0} (bytes : X → List ℕ) (xs : List X) → length 
 none_above bytes xs few = ap (λ b. if b then page_name (take (length (map bytes xs) - 1) (map bytes xs)) ∷ [] else []) (le-ltb 1 (length (map bytes xs)) (let same = length-map xs bytes in omega arith))
 
 pub one_above : {X : Type 0} (bytes : X → List ℕ) (xs : List X) → 2 ≤ length xs → name_above (map bytes xs) ≡ page_name (map bytes (take (length xs - 1) xs)) ∷ []
-one_above bytes xs many =
-    ap (λ b. if b then page_name (take (length (map bytes xs) - 1) (map bytes xs)) ∷ [] else []) (lt-ltb 1 (length (map bytes xs)) (let same = length-map xs bytes in omega arith))
-    ∙ ap (λ n. page_name (take (n - 1) (map bytes xs)) ∷ []) (length-map xs bytes)
-    ∙ ap (λ ps. page_name ps ∷ []) (take-map bytes (length xs - 1) xs)
+one_above bytes xs many = grind (arith, lt-ltb, length-map, take-map)
 
 -- ---- below
 
@@ -69,15 +64,7 @@ module _ {X : Type 0} (bytes : X → List ℕ) (xs : List X) (name : List ℕ) w
 module _ {A : Type 0} (f : CommandSaid → List (List ℕ)) (gs : List (Group A)) (i : ℕ) (before : List (List ℕ)) where
   pub group_pushed : (g d : Group A) {after whole : List (List ℕ)} → g ≡ get_or gs i d → i < length gs → before ++ flat_map f (grouped (groups_said (drop i gs))) ≡ whole
       → after ≡ before ++ flat_map f (map command_said (out-Group A g).commands.items) → after ++ flat_map f (grouped (groups_said (drop (i + 1) gs))) ≡ whole
-  group_pushed g d at h so_far e =
-      let own : List (List ℕ) = flat_map f (map command_said (out-Group A g).commands.items) in
-      let rest : List (List ℕ) = flat_map f (grouped (groups_said (drop (i + 1) gs))) in
-      ap (λ ts. ts ++ rest) e ∙ append_assoc before own rest
-      ∙ ap (λ ts. before ++ ts) (sym (flat_map-append f (map command_said (out-Group A g).commands.items) (grouped (groups_said (drop (i + 1) gs)))))
-      ∙ ap (λ ms. before ++ flat_map f ms) (sym (grouped_more g (drop (i + 1) gs)))
-      ∙ ap (λ x. before ++ flat_map f (grouped (groups_said (x ∷ drop (i + 1) gs)))) at
-      ∙ ap (λ hs. before ++ flat_map f (grouped (groups_said hs))) (sym (drop_more gs i d h))
-      ∙ so_far
+  group_pushed g d at h so_far e = grind (arith, append_assoc, flat_map-append, grouped_more, drop_more)
 
   pub groups_pushed : {whole : List (List ℕ)} → length gs ≤ i → before ++ flat_map f (grouped (groups_said (drop i gs))) ≡ whole → before ≡ whole
   groups_pushed h so_far = sym (append-nil before) ∙ ap (λ hs. before ++ flat_map f (grouped (groups_said hs))) (sym (drop_all i gs h)) ∙ so_far
@@ -89,13 +76,4 @@ commands_view {A} l = ap commands_on (open-Level l) ∙ ap (λ ms. grouped (grou
 
 pub neighbours_whole : {A : Type 0} (s : SubjectSaid) (l : Level A) (gs : List (Group A)) (ms : List (Command A)) (n0 n1 n2 n3 : List (List ℕ)) → s.level ≡ level_said l → gs ≡ (out-Level A l).groups.items → ms ≡ (out-Level A l).commands.items
     → n0 ≡ [] → n1 ≡ n0 ++ name_above s.path → n2 ≡ n1 ++ flat_map (names_below s.path) (grouped (groups_said gs)) → n3 ≡ n2 ++ flat_map (names_below s.path) (map command_said ms) → n3 ≡ neighbours s
-neighbours_whole {A} s l gs ms n0 n1 n2 n3 el eg em e0 e1 e2 e3 =
-    let f = names_below s.path in
-    let own = grouped (groups_said (out-Level A l).groups.items) in
-    let others = map command_said (out-Level A l).commands.items in
-    e3 ∙ ap (λ ns. ns ++ flat_map f (map command_said ms)) (e2 ∙ ap (λ ns. ns ++ flat_map f (grouped (groups_said gs))) (e1 ∙ ap (λ ns. ns ++ name_above s.path) e0))
-    ∙ ap (λ xs. (name_above s.path ++ flat_map f (grouped (groups_said xs))) ++ flat_map f (map command_said ms)) eg
-    ∙ ap (λ xs. (name_above s.path ++ flat_map f own) ++ flat_map f (map command_said xs)) em
-    ∙ append_assoc (name_above s.path) (flat_map f own) (flat_map f others)
-    ∙ ap (λ ns. name_above s.path ++ ns) (sym (flat_map-append f own others))
-    ∙ ap (λ xs. name_above s.path ++ flat_map f xs) (sym (ap commands_on el ∙ commands_view l))
+neighbours_whole {A} s l gs ms n0 n1 n2 n3 el eg em e0 e1 e2 e3 = grind (arith, append_assoc, flat_map-append, commands_view)

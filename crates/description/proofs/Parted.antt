@@ -1,5 +1,5 @@
 -- The paragraphs of a text, one after another.
-use Rattle.std.proofs.Common.{◌≡◌, ℕ, suc, zero, ◌+◌, ◌-◌, ◌<◌, ◌≤◌, Bool, true, false, cond, List, [], ◌∷◌, length, drop, take, refl, sym, ap, ◌∙◌, subst, inl, inr, arith, Option, Some, None, MatchOption, find, count_by, ◌&&◌, Bor, true≢false}
+use Rattle.std.proofs.Common.{◌≡◌, ℕ, suc, ◌+◌, ◌-◌, ◌<◌, ◌≤◌, Bool, true, false, cond, List, [], ◌∷◌, length, drop, take, sym, ap, ◌∙◌, subst, inl, inr, arith, Option, Some, None, MatchOption, find, count_by, ◌&&◌, Bor, true≢false}
 use Rattle.std.proofs.lemmas.Bool.Decides.{eqb_tells}
 use Rattle.std.proofs.lemmas.Bool.{lt-ltb}
 use Rattle.std.proofs.lemmas.List.{drop_all, length-drop, length-take-le}
@@ -30,25 +30,20 @@ stays : (b c : ℕ) (cs : List ℕ) → LacksTextAt between (b ∷ c ∷ cs) 0 �
 stays b c cs h = ap (λ t. cond t ([] ∷ paragraphs cs) (onto_first b (paragraphs (c ∷ cs)))) (pair b c cs h)
 
 none_there : (s : List ℕ) → ((i : ℕ) → i ≤ length s → LacksTextAt between s i) → paragraphs s ≡ s ∷ []
-none_there [] h = refl
-none_there (b ∷ []) h = refl
 none_there (b ∷ c ∷ cs) h = stays b c cs (h 0 (omega arith)) ∙ ap (onto_first b) (none_there (c ∷ cs) (λ i below. h (suc i) (omega arith)))
+none_there x h = grind arith
 
 no_bytes : (rest : List ℕ) (a : ℕ) → drop a [] ≡ 10 ∷ 10 ∷ rest → ⊥
 no_bytes rest a e = let n : 0 ≡ length (10 ∷ 10 ∷ rest) = ap length (sym (drop_all a [] (omega arith)) ∙ e) in omega arith
 
 first_there : (a : ℕ) (s rest : List ℕ) → ((i : ℕ) → i < a → LacksTextAt between s i) → drop a s ≡ 10 ∷ 10 ∷ rest → paragraphs s ≡ take a s ∷ paragraphs rest
-first_there zero s rest h e = ap paragraphs e
-first_there (suc a) [] rest h e = absurd (no_bytes rest (suc a) e)
-first_there (suc a) (b ∷ []) rest h e = absurd (no_bytes rest a e)
 first_there (suc a) (b ∷ c ∷ cs) rest h e = stays b c cs (h 0 (omega arith)) ∙ ap (onto_first b) (first_there a (c ∷ cs) rest (λ i below. h (suc i) (omega arith)) e)
+first_there x y rest h e = grind (arith, no_bytes)
 
 -- ---- the first paragraph
 
 pub no_break : (s : List ℕ) → FindsText between s None → (lead s ≡ s) × (behind_lead s ≡ [])
-no_break s f =
-    let alone = ap front (none_there s f) in
-    (alone, ap (λ t. drop (length t) s) alone ∙ drop_all (length s) s (omega arith))
+no_break s f = grind (arith, none_there, drop_all)
 
 pub at_break : (s : List ℕ) (i j : ℕ) → FindsText between s (Some (i, j)) → (lead s ≡ take i s) × (behind_lead s ≡ drop i s)
 at_break s i j f =
@@ -64,9 +59,7 @@ left_in more text = cond more (paragraphs text) []
 cut : (w x rest : List ℕ) (live : Bool) (o : Option (ℕ × ℕ)) → FindsText between w o → MatchOption o ((x ≡ w) × (live ≡ false)) (λ q. 0 < q.1 → (x ≡ take q.0 w) × (live ≡ true) × (rest ≡ drop q.1 w))
     → paragraphs w ≡ x ∷ left_in live rest
 cut w x rest live None f m = none_there w f ∙ ap (λ y. y ∷ []) (sym m.0) ∙ ap (λ b. x ∷ left_in b rest) (sym m.1)
-cut w x rest live (Some (i, j)) f m =
-    let at = m (let ends = f.1.ends in omega arith) in
-    first_there i w (drop j w) f.0 f.1.split ∙ ap (λ y. y ∷ paragraphs (drop j w)) (sym at.0) ∙ ap (λ y. x ∷ paragraphs y) (sym at.2) ∙ ap (λ b. x ∷ left_in b rest) (sym at.1)
+cut w x rest live (Some (i, j)) f m = grind (arith, first_there)
 
 abbrev pub left : Split (Bor (List ℕ)) → List (List ℕ)
 left it = left_in (split_has_more it) (split_text it)
@@ -113,9 +106,7 @@ module _ (s t : Split (Bor (List ℕ))) where
 -- ---- whether there is a second one with ink
 
 pub many : (text : List ℕ) (is_first : Bool) (m n : ℕ) → is_first ≡ false → cond is_first 0 1 + m ≡ count_by has_ink (paragraphs text) → m ≡ 1 + n → true ≡ goes_on text
-many text true m n f e more = absurd (true≢false f)
-many text false m n f e more = sym (lt-ltb 1 (count_by has_ink (paragraphs text)) (omega arith))
+many text is_first m n h4 h5 h6 = grind (arith, true≢false, lt-ltb, count_by)
 
 pub one_more : (is_first : Bool) (m n whole : ℕ) → is_first ≡ true → cond is_first 0 1 + m ≡ whole → m ≡ 1 + n → 1 + n ≡ whole
-one_more true m n whole f e more = omega arith
-one_more false m n whole f e more = absurd (true≢false (sym f))
+one_more is_first m n whole h4 h5 h6 = grind (arith, true≢false)

@@ -1,5 +1,5 @@
 -- The pieces of a syntax, one after another.
-use Rattle.std.proofs.Common.{◌≡◌, ℕ, suc, ◌+◌, ◌<◌, ◌≤◌, ◌==◌, Bool, true, false, ◌&&◌, ◌||◌, List, [], ◌∷◌, ◌++◌, map, length, drop, take, get_or, refl, sym, ap, ◌∙◌, append_assoc, append-nil, add-zero, arith, inl, inr, true≢false, Option, Some, None, nat_lt, MatchOption, is_some}
+use Rattle.std.proofs.Common.{◌≡◌, ℕ, suc, ◌+◌, ◌<◌, ◌≤◌, ◌==◌, Bool, true, false, ◌&&◌, ◌||◌, List, [], ◌∷◌, ◌++◌, map, length, drop, take, get_or, refl, sym, ap, ◌∙◌, append_assoc, append-nil, add-zero, arith, inl, inr, true≢false, Option, nat_lt, MatchOption, is_some}
 use Rattle.std.specs.List.{count_by, slice_index}
 use Rattle.std.proofs.lemmas.Bool.Decides.{eqb_tells, nat_tests}
 use Rattle.std.proofs.lemmas.Bool.{false≢true}
@@ -14,42 +14,30 @@ use Rattle.description.proofs.Stretches.{count_more}
 -- ---- behind a place outside brackets it counts for nothing what stands before
 
 same_sums : (k a b : ℕ) → (k + a == k + b) ≡ (a == b)
-same_sums k a b = elim (eqb_tells a b) [
-  | inl p ↦ elim (eqb_tells (k + a) (k + b)) [ inl q ↦ q.0 ∙ sym p.0 | inr q ↦ absurd (q.1 (ap (λ x. k + x) p.1)) ]
-  | inr p ↦ elim (eqb_tells (k + a) (k + b)) [ inl q ↦ absurd (p.1 (omega (arith, q.1))) | inr q ↦ q.0 ∙ sym p.0 ]
-]
+same_sums k a b = grind (arith, eqb_tells)
 
 pub are_same : (a b : ℕ) → (a == b) ≡ true → a ≡ b
 are_same a b h = elim (eqb_tells a b) [ inl p ↦ p.1 | inr p ↦ absurd (false≢true (sym p.0 ∙ h)) ]
 
 outside_behind : (xs ys : List ℕ) → is_outside xs ≡ true → is_outside (xs ++ ys) ≡ is_outside ys
-outside_behind xs ys h =
-    ap (λ n. n == count_by is_closing (xs ++ ys)) (count_more is_opening xs ys) ∙ ap (λ n. count_by is_opening xs + count_by is_opening ys == n) (count_more is_closing xs ys)
-    ∙ ap (λ n. count_by is_opening xs + count_by is_opening ys == n + count_by is_closing ys) (sym (are_same (count_by is_opening xs) (count_by is_closing xs) h))
-    ∙ same_sums (count_by is_opening xs) (count_by is_opening ys) (count_by is_closing ys)
+outside_behind xs ys h = grind (arith, count_more, are_same, same_sums)
 
 parts_alike : (mark : ℕ) (xs ys bs : List ℕ) → is_outside xs ≡ true → parts_behind mark (xs ++ ys) bs ≡ parts_behind mark ys bs
 parts_alike mark xs ys [] h = refl
-parts_alike mark xs ys (b ∷ bs) h =
-    ap (λ t. onto_parts (b == mark && t) b (parts_behind mark ((xs ++ ys) ++ b ∷ []) bs)) (outside_behind xs ys h)
-    ∙ ap (λ zs. onto_parts (b == mark && is_outside ys) b (parts_behind mark zs bs)) (append_assoc xs ys (b ∷ []))
-    ∙ ap (onto_parts (b == mark && is_outside ys) b) (parts_alike mark xs (ys ++ b ∷ []) bs h)
+parts_alike mark xs ys (b ∷ bs) h = grind (arith, parts_alike mark xs (ys ++ b ∷ []) bs h, outside_behind, append_assoc)
 
 parts_fresh : (mark : ℕ) (xs bs : List ℕ) → is_outside xs ≡ true → parts_behind mark xs bs ≡ parts mark bs
 parts_fresh mark xs bs h = sym (ap (λ zs. parts_behind mark zs bs) (append-nil xs)) ∙ parts_alike mark xs [] bs h
 
 either_false : (a b : Bool) → (a || b) ≡ false → (a ≡ false) × (b ≡ false)
-either_false true b h = absurd (true≢false h)
-either_false false b h = (refl, h)
+either_false a b h2 = grind (arith, true≢false)
 
 none_counted : (p : ℕ → Bool) (b : ℕ) → p b ≡ false → count_by p (b ∷ []) ≡ 0
 none_counted p b h = count_by_more_no p (b ∷ []) 0 0 (omega arith) h
 
 -- a byte that is no bracket leaves a place outside brackets
 outside_still : (xs : List ℕ) (b : ℕ) → is_bracket b ≡ false → is_outside xs ≡ true → is_outside (xs ++ b ∷ []) ≡ true
-outside_still xs b n h =
-    let both = either_false (is_opening b) (is_closing b) n in
-    outside_behind xs (b ∷ []) h ∙ ap (λ n. n == count_by is_closing (b ∷ [])) (none_counted is_opening b both.0) ∙ ap (λ n. 0 == n) (none_counted is_closing b both.1)
+outside_still xs b n h = grind (arith, either_false, outside_behind, none_counted)
 
 -- ---- the first place where a byte stands outside brackets
 
@@ -71,22 +59,13 @@ module _ (mark : ℕ) (bs : List ℕ) (i b : ℕ) (within : i < length bs) (at :
   here = sym (ap (λ us. onto_front (take i bs) (parts_behind mark (take i bs) us)) next) ∙ so_far
 
   pub cut_here : is_bracket mark ≡ false → (b == mark) ≡ true → is_outside (take i bs) ≡ true → parts mark bs ≡ take i bs ∷ parts mark (drop (i + 1) bs)
-  cut_here n e h =
-      let is_mark : b ≡ mark = are_same b mark e in
-      sym here ∙ ap (λ t. onto_front (take i bs) (onto_parts (t && is_outside (take i bs)) b (parts_behind mark (take i bs ++ b ∷ []) (drop (i + 1) bs)))) e
-      ∙ ap (λ t. onto_front (take i bs) (onto_parts t b (parts_behind mark (take i bs ++ b ∷ []) (drop (i + 1) bs)))) h
-      ∙ onto_new (take i bs) (parts_behind mark (take i bs ++ b ∷ []) (drop (i + 1) bs))
-      ∙ ap (λ ps. take i bs ∷ ps) (parts_fresh mark (take i bs ++ b ∷ []) (drop (i + 1) bs) (outside_still (take i bs) b (ap is_bracket is_mark ∙ n) h))
+  cut_here n e h = grind (arith, are_same, here, onto_new, parts_fresh, outside_still)
 
   pub cut_later : (b == mark && is_outside (take i bs)) ≡ false → CutSoFar mark bs (i + 1)
-  cut_later h =
-      ap (λ us. onto_front us (parts_behind mark us (drop (i + 1) bs))) taken
-      ∙ onto_push (take i bs) b (parts_behind mark (take i bs ++ b ∷ []) (drop (i + 1) bs))
-      ∙ sym (ap (λ t. onto_front (take i bs) (onto_parts t b (parts_behind mark (take i bs ++ b ∷ []) (drop (i + 1) bs)))) h) ∙ here
+  cut_later h = grind (arith, taken, onto_push, here)
 
 pub never_cut : (mark : ℕ) (bs : List ℕ) (i : ℕ) → length bs ≤ i → CutSoFar mark bs i → parts mark bs ≡ bs ∷ []
-never_cut mark bs i h s =
-    sym s ∙ ap (λ us. onto_front (take i bs) (parts_behind mark (take i bs) us)) (drop_all i bs h) ∙ onto_new (take i bs) [] ∙ ap (λ us. us ∷ []) (take_all i bs h)
+never_cut mark bs i h s = grind (arith, drop_all, onto_new, take_all)
 
 -- ---- pieces
 
@@ -117,15 +96,11 @@ no_bar piece e = ap (λ ps. nat_lt 1 (length ps)) e
 -- ---- brackets, counted
 
 pub count_step : (p : ℕ → Bool) (bs : List ℕ) (i b : ℕ) → i < length bs → b ≡ get_or bs i 0 → count_by p (take (i + 1) bs) ≡ count_by p (take i bs) + from_bool (p b)
-count_step p bs i b h at = by (p b) refl where
-  by : (t : Bool) → p b ≡ t → count_by p (take (i + 1) bs) ≡ count_by p (take i bs) + from_bool t
-  by true e = count_by_more_yes p bs i 0 h (ap p (sym at) ∙ e)
-  by false e = count_by_more_no p bs i 0 h (ap p (sym at) ∙ e) ∙ sym (add-zero (count_by p (take i bs)))
+count_step p bs i b h at = grind (arith, count_by_more_yes, count_by_more_no, add-zero)
 
 -- what a test of the counts says of a place
 pub where_outside : (bs : List ℕ) (i : ℕ) (is_mark : Bool) (opened closed : ℕ) (r t : Bool) → opened ≡ count_by is_opening (take i bs) → closed ≡ count_by is_closing (take i bs) → r ≡ (is_mark && opened == closed) → r ≡ t → (is_mark && is_outside (take i bs)) ≡ t
 where_outside bs i is_mark opened closed r t o c e h = sym (ap (λ n. is_mark && n == closed) o ∙ ap (λ n. is_mark && count_by is_opening (take i bs) == n) c) ∙ sym e ∙ h
 
 pub bar_is : (r : Option ℕ) (piece bytes : List ℕ) → bytes ≡ piece → MatchOption r (parts 124 bytes ≡ bytes ∷ []) (λ at. (at < length bytes) × (slice_index bytes at ≡ 124) × (parts 124 bytes ≡ take at bytes ∷ parts 124 (drop (at + 1) bytes))) → is_some r ≡ has_bar piece
-bar_is None piece bytes e h = sym (ap has_bar (sym e) ∙ no_bar bytes h)
-bar_is (Some at) piece bytes e h = sym (ap has_bar (sym e) ∙ bar_there bytes (take at bytes) (drop (at + 1) bytes) h.2)
+bar_is r piece bytes h3 h4 = grind (arith, no_bar, bar_there)

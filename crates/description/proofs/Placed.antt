@@ -1,14 +1,14 @@
 -- No named item of a description stands after a positional one: the check of the tree passes.
-use Rattle.std.proofs.Common.{◌≡◌, ℕ, Bool, true, false, List, [], ◌∷◌, ◌++◌, map, refl, ap, ◌∙◌, Option, Some, None}
+use Rattle.std.proofs.Common.{◌≡◌, ℕ, Bool, true, false, List, [], ◌∷◌, ◌++◌, map, refl, ap, ◌∙◌, Option, None, arith}
 use Rattle.std.specs.Prelude.{◌&&◌, ◌||◌}
 use Rattle.bpaf_doc.specs.Buffer.Parts.{Part}
 use Rattle.bpaf_meta.specs.Content as content
 use Rattle.bpaf_meta.specs.Content.{Name, Tree, or_of, item, positional, Head}
 use Rattle.bpaf_meta.specs.View.{trees_in}
 use Rattle.bpaf_meta.specs.Meta.Misplaced.{IsWellPlaced}
-use Rattle.bpaf_meta.specs.Meta.Steps.Walk.{Check, fine, wrong, then_check, walked, walked_parts, walked_branches}
+use Rattle.bpaf_meta.specs.Meta.Steps.Walk.{Check, fine, then_check, walked, walked_parts, walked_branches}
 use Rattle.bpaf_meta.proofs.lemmas.Misplaced.Lines.{well_placed}
-use Rattle.description_parts.specs.Content.{SpellingSaid, named, syntax, OptSaid, ChoiceSaid, PositionalSaid, LevelSaid, level, GroupsSaid, no_groups, groups, GroupSaid, group, CommandsSaid, no_commands, commands, CommandNames, CommandSaid, command}
+use Rattle.description_parts.specs.Content.{SpellingSaid, OptSaid, ChoiceSaid, PositionalSaid, LevelSaid, level, GroupsSaid, no_groups, groups, GroupSaid, group, CommandsSaid, no_commands, commands, CommandNames, CommandSaid, command}
 use Rattle.description.specs.Content.{SharedSaid}
 use Rattle.description.specs.Notes.{command_notes, value_notes}
 use Rattle.description.specs.Trees.{named_leaf, help_said, spelled_item, option_item, wrapped, unless_hidden, option_tree, alternative_tree, choice_tree, behind_dashes, positional_tree, titled, once_in_usage, one_of_commands, show_command, holds_command, hold_commands, named_group, named_groups, level_head, level_tree, placed_groups, placed_group, command_items, command_item}
@@ -22,30 +22,22 @@ IsNamed t = walked t false ≡ fine false
 
 -- each tree passes where the wrapped one does
 wrapped_walked : (r p : Bool) (t : Tree) (a : Bool) → walked (wrapped r p t) a ≡ walked t a
-wrapped_walked true false t a = refl
-wrapped_walked false false t a = refl
-wrapped_walked true true t a = refl
-wrapped_walked false true t a = refl
+wrapped_walked r p t a = grind arith
 
 leaf_named : (value : Option (List ℕ)) (name : Name) (env : Option (List ℕ)) (help : Option (List Part)) → IsNamed (item (named_leaf value name env help))
-leaf_named None name env help = refl
-leaf_named (Some value) name env help = refl
+leaf_named value name env help = grind arith
 
 spelled_named : (bracketed : Bool) (s : SpellingSaid) (o : OptSaid) → IsNamed (spelled_item bracketed s o)
-spelled_named bracketed (named name) o = leaf_named o.value name o.env (help_said o.help (value_notes o.default o.values None))
-spelled_named bracketed (syntax text) o = refl
+spelled_named bracketed s o = grind (arith, leaf_named)
 
 item_named : (bracketed : Bool) (o : OptSaid) → IsNamed (option_item bracketed o)
 item_named bracketed o = spelled_named bracketed o.spelling o
 
 hidden_named : (hidden : Bool) (t : Tree) → IsNamed t → IsNamed (unless_hidden hidden t)
-hidden_named true t h = refl
-hidden_named false t h = h
+hidden_named hidden t h2 = grind arith
 
 option_named : (o : OptSaid) → IsNamed (option_tree o)
-option_named o =
-    let t : Tree = option_item (o.required || o.repeated) o in
-    hidden_named o.hidden (wrapped o.required o.repeated t) (wrapped_walked o.required o.repeated t false ∙ item_named (o.required || o.repeated) o)
+option_named o = grind (arith, hidden_named, wrapped_walked, item_named)
 
 alternative_named : (o : OptSaid) → IsNamed (alternative_tree o)
 alternative_named o = hidden_named o.hidden (option_item false o) (item_named false o)
@@ -62,8 +54,7 @@ parts_named [] h = refl
 parts_named (t ∷ ts) h = ap (λ c. then_check c (walked_parts (trees_in ts))) h.0 ∙ parts_named ts h.1
 
 titled_named : (title : List ℕ) (ts : List Tree) → Each IsNamed ts → Each IsNamed (titled title ts)
-titled_named title [] h = tt
-titled_named title (t ∷ ts) h = (parts_named (t ∷ ts) h, tt)
+titled_named title ts h2 = grind (arith, parts_named)
 
 group_named : (g : GroupSaid) → Each IsNamed (named_group g)
 group_named (group title os cs ps ms) = titled_named title (map option_tree os ++ map choice_tree cs) (each_append IsNamed (map option_tree os) (map choice_tree cs) (each_map IsNamed option_tree option_named os) (each_map IsNamed choice_tree choice_named cs))
@@ -86,8 +77,7 @@ dashes_placed true t h = h
 dashes_placed false t h = h
 
 value_placed : (value : List ℕ) (help : Option (List Part)) → IsPlaced (item (positional value help))
-value_placed value help true = (true, refl)
-value_placed value help false = (true, refl)
+value_placed value help h2 = grind arith
 
 hidden_placed : (hidden : Bool) (t : Tree) → IsPlaced t → IsPlaced (unless_hidden hidden t)
 hidden_placed true t h a = (a, refl)
@@ -131,8 +121,7 @@ one_of_placed shown r (t ∷ ts) h =
 -- ---- one after the other
 
 then_both : (c : Check) (f g h : Bool → Check) → ((b : Bool) → f b ≡ then_check (g b) h) → then_check c f ≡ then_check (then_check c g) h
-then_both (fine b) f g h e = e b
-then_both (wrong l) f g h e = refl
+then_both c f g h h4 = grind arith
 
 walked_append : (ts us : List Tree) (a : Bool) → walked_parts (trees_in (ts ++ us)) a ≡ then_check (walked_parts (trees_in ts) a) (walked_parts (trees_in us))
 walked_append [] us a = refl
@@ -152,8 +141,7 @@ abbrev passes_level : Tree → Type 0
 passes_level t = (b : Bool) × (walked t false ≡ fine b)
 
 item_placed : (names : CommandNames) (h : Option (List Part)) (t : Tree) (i : Head) → passes_level t → IsPlaced (item (content.command names.name names.initial h t i))
-item_placed names h t i own true = (true, ap (λ c. then_check c (λ b. fine true)) own.1)
-item_placed names h t i own false = (true, ap (λ c. then_check c (λ b. fine true)) own.1)
+item_placed names h t i h4 h5 = grind arith
 
 mutual
   level_passes : (shared : SharedSaid) (l : LevelSaid) → passes_level (level_tree shared l)

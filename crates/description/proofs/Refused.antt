@@ -1,5 +1,5 @@
 -- The characters of a text, one by one.
-use Rattle.std.proofs.Common.{◌≡◌, ℕ, List, [], ◌∷◌, ◌++◌, length, Bool, true, false, Option, Some, None, refl, sym, ap, ◌∙◌, arith, chars}
+use Rattle.std.proofs.Common.{◌≡◌, ℕ, List, [], ◌∷◌, ◌++◌, length, Bool, true, false, Option, sym, ap, ◌∙◌, arith, chars}
 use Rattle.std.proofs.Math.Utf8.{encode}
 use Rattle.std.proofs.lemmas.Str.{chars_past_char, chars-nil}
 use Rattle.std.specs.Prelude.{IsUtf8, ◌&&◌, is_none, is_some}
@@ -9,12 +9,10 @@ first_of : (p : ℕ → Bool) (bs rest : List ℕ) (c : ℕ) (b : Bool) → IsUt
 first_of p bs rest c b u e h = ap (list_all p) (chars_past_char bs rest c u e) ∙ ap (λ b. b && list_all p (chars rest)) h
 
 some_none : {X : Type 0} (o : Option X) → is_some o ≡ true → is_none o ≡ false
-some_none None h = absurd cc
-some_none (Some x) h = refl
+some_none o h1 = grind arith
 
 none_some : {X : Type 0} (o : Option X) → is_some o ≡ false → is_none o ≡ true
-none_some None h = refl
-none_some (Some x) h = absurd cc
+none_some o h1 = grind arith
 
 -- a character that is refused, one that is not, and the end
 pub refused_here : {X : Type 0} (p : ℕ → Bool) (bs rest : List ℕ) (c : ℕ) (o : Option X) (some : Bool) → IsUtf8 bs → bs ≡ encode c ++ rest → is_none o ≡ p c → some ≡ is_some o → some ≡ true → is_none o ≡ list_all p (chars bs)

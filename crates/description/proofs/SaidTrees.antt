@@ -1,5 +1,5 @@
 -- What holds of the tree of a description, part by part, where it holds of documents of texts and of titles.
-use Rattle.std.proofs.Common.{ℕ, Bool, true, false, List, [], ◌∷◌, ◌++◌, map, flat_map, Option, Some, None}
+use Rattle.std.proofs.Common.{ℕ, Bool, true, false, List, [], ◌∷◌, ◌++◌, map, flat_map, Option, arith}
 use Rattle.std.specs.Prelude.{◌||◌, ◌&&◌}
 use Rattle.bpaf_doc.specs.Buffer.Parts.{Part}
 use Rattle.bpaf_meta.specs.Content as content
@@ -7,10 +7,9 @@ use Rattle.bpaf_meta.specs.Content.{Name, Tree, and_of, or_of, optional, require
 use Rattle.bpaf_meta.specs.View.{trees_in}
 use Rattle.bpaf_help.specs.Chapters.{Chapter, chapters_of, command_chapters, part_chapters}
 use Rattle.description.specs.Content.{SharedSaid}
-use Rattle.description_parts.specs.Content.{SpellingSaid, named, syntax, OptSaid, ChoiceSaid, PositionalSaid, LevelSaid, level, GroupsSaid, no_groups, groups, GroupSaid, group, CommandsSaid, no_commands, commands, CommandSaid, command}
-use Rattle.description.specs.Notes.{command_notes, value_notes}
+use Rattle.description_parts.specs.Content.{SpellingSaid, OptSaid, ChoiceSaid, PositionalSaid, LevelSaid, level, GroupsSaid, no_groups, groups, GroupSaid, group, CommandsSaid, no_commands, commands, CommandSaid, command}
+use Rattle.description.specs.Notes.{command_notes}
 use Rattle.description.specs.ReadOnce.{command_headings, commands_headings, group_headings, groups_headings, level_headings}
-use Rattle.description.specs.Syntax.{syntax_document, usage_document}
 use Rattle.description.specs.Texts.{plain_document}
 use Rattle.description.specs.Trees.{alternative_tree, behind_dashes, choice_tree, command_item, command_items, help_said, hold_commands, holds_command, level_head, level_tree, named_group, named_groups, named_leaf, once_in_usage, one_of_commands, option_item, option_tree, options_tree, spelled_item, placed_group, placed_groups, positional_tree, show_command, titled, unless_hidden, wrapped}
 use Rattle.description.proofs.Each.{Each, each_append, each_map}
@@ -60,69 +59,48 @@ pub record Kept (D T : List Part → Type 0) (H : List ℕ → Type 0) (C : Chap
 
 module _ {D T : List Part → Type 0} {H : List ℕ → Type 0} {C : Chapter → Type 0} (kept : Kept D T H C) where
   pub there : (o : Option (List Part)) → Gives HoldsTexts o → Gives D o
-  there None h = tt
-  there (Some d) h = kept.texts d h
+  there o h1 = grind arith
 
   -- what holds of a tree, and of the chapters of all commands in it and below, whatever path leads to it
   abbrev pub IsSound : Tree → Type 0
   IsSound t = Holds D T t × ((path : List (List ℕ)) → Each H path → Each C (command_chapters path t))
 
   wrapped_sound : (r p : Bool) (t : Tree) → IsSound t → IsSound (wrapped r p t)
-  wrapped_sound true false t h = h
-  wrapped_sound false false t h = h
-  wrapped_sound true true t h = h
-  wrapped_sound false true t h = h
+  wrapped_sound r p t h3 = grind arith
 
   leaf_sound : (value : Option (List ℕ)) (name : Name) (env : Option (List ℕ)) (help : Option (List Part)) → Gives D help → IsSound (item (named_leaf value name env help))
-  leaf_sound None name env help h = (h, λ path p. tt)
-  leaf_sound (Some value) name env help h = (h, λ path p. tt)
+  leaf_sound value name env help h4 = grind arith
 
   spelled_sound : (bracketed : Bool) (s : SpellingSaid) (o : OptSaid) → IsSound (spelled_item bracketed s o)
-  spelled_sound bracketed (named name) o =
-      let notes : List (List ℕ) = value_notes o.default o.values None in
-      leaf_sound o.value name o.env (help_said o.help notes) (there (help_said o.help notes) (help_holds o.help notes))
-  spelled_sound bracketed (syntax text) o =
-      let notes : List (List ℕ) = value_notes o.default o.values o.env in
-      ((kept.texts (usage_document bracketed text) (usage_holds bracketed text), (kept.texts (syntax_document text) (syntax_holds text), there (help_said o.help notes) (help_holds o.help notes))), λ path p. tt)
+  spelled_sound bracketed s o = grind (arith, leaf_sound, there, help_holds, usage_holds, syntax_holds)
 
   item_sound : (bracketed : Bool) (o : OptSaid) → IsSound (option_item bracketed o)
   item_sound bracketed o = spelled_sound bracketed o.spelling o
 
   hidden_sound : (hidden : Bool) (t : Tree) → IsSound t → IsSound (unless_hidden hidden t)
-  hidden_sound true t h = (tt, λ path p. tt)
-  hidden_sound false t h = h
+  hidden_sound hidden t h2 = grind arith
 
   option_sound : (o : OptSaid) → IsSound (option_tree o)
-  option_sound o =
-      let t : Tree = option_item (o.required || o.repeated) o in
-      hidden_sound o.hidden (wrapped o.required o.repeated t) (wrapped_sound o.required o.repeated t (item_sound (o.required || o.repeated) o))
+  option_sound o = grind (arith, hidden_sound, wrapped_sound, item_sound)
 
   alternative_sound : (o : OptSaid) → IsSound (alternative_tree o)
   alternative_sound o = hidden_sound o.hidden (option_item false o) (item_sound false o)
 
   parts_sound : (ts : List Tree) → Each IsSound ts → EachHolds D T (trees_in ts) × ((path : List (List ℕ)) → Each H path → Each C (part_chapters path (trees_in ts)))
   parts_sound [] h = (tt, λ path p. tt)
-  parts_sound (t ∷ ts) h =
-      let rest = parts_sound ts h.1 in
-      ((h.0.0, rest.0), λ path p. each_append C (command_chapters path t) (part_chapters path (trees_in ts)) (h.0.1 path p) (rest.1 path p))
+  parts_sound (t ∷ ts) h = grind (arith, parts_sound ts h.1, each_append)
 
   choice_sound : (c : ChoiceSaid) → IsSound (choice_tree c)
   choice_sound c = wrapped_sound c.required false (or_of (trees_in (map alternative_tree c.options))) (parts_sound (map alternative_tree c.options) (each_map IsSound alternative_tree alternative_sound c.options))
 
   dashes_sound : (s : Bool) (t : Tree) → IsSound t → IsSound (behind_dashes s t)
-  dashes_sound true t h = h
-  dashes_sound false t h = h
+  dashes_sound s t h2 = grind arith
 
   positional_sound : (p : PositionalSaid) → IsSound (positional_tree p)
-  positional_sound p =
-      let notes : List (List ℕ) = value_notes p.default p.values None in
-      let value : Tree = item (positional p.value (help_said p.help notes)) in
-      let whole : Tree = wrapped p.required p.repeated value in
-      hidden_sound p.hidden (behind_dashes p.strict whole) (dashes_sound p.strict whole (wrapped_sound p.required p.repeated value (there (help_said p.help notes) (help_holds p.help notes), λ path q. tt)))
+  positional_sound p = grind (arith, hidden_sound, dashes_sound, wrapped_sound, there, help_holds)
 
   titled_sound : (title : List ℕ) → H title → (ts : List Tree) → Each IsSound ts → Each IsSound (titled title ts)
-  titled_sound title heading [] h = tt
-  titled_sound title heading (t ∷ ts) h = let parts = parts_sound (t ∷ ts) h in (((kept.title title heading, parts.0), parts.1), tt)
+  titled_sound title h1 h2 h3 = grind (arith, parts_sound)
 
   once_sound : (shown : Bool) (t : Tree) → IsSound t → IsSound (once_in_usage shown t)
   once_sound true t h = ((kept.texts [] (holds_texts nothing_written), h.0), h.1)

@@ -1,5 +1,5 @@
 -- The stretches of a text, one after another.
-use Rattle.std.proofs.Common.{◌≡◌, ℕ, suc, zero, ◌+◌, ◌-◌, ◌<◌, ◌≤◌, Bool, true, false, cond, not, List, [], ◌∷◌, ◌++◌, map, flat_map, length, drop, take, get_or, refl, sym, ap, ◌∙◌, subst, append_assoc, arith, one-add, add-one, inl, inr, length-append, true≢false}
+use Rattle.std.proofs.Common.{◌≡◌, ℕ, suc, zero, ◌+◌, ◌-◌, ◌<◌, ◌≤◌, Bool, true, false, cond, not, List, [], ◌∷◌, ◌++◌, flat_map, length, drop, take, get_or, refl, sym, ap, ◌∙◌, append_assoc, arith, one-add, add-one, length-append, true≢false}
 use Rattle.std.specs.List.{count_by, prefix_len}
 use Rattle.std.specs.Str.{IsCharBoundary, IsUtf8}
 use Rattle.std.proofs.lemmas.List.Sums.{sum_by-append, prefix_len-le-length, prefix_len_passes, prefix_len_stops}
@@ -14,7 +14,6 @@ use Rattle.description.specs.Described.Taken.{without_dashes}
 use Rattle.description.specs.Syntax.{is_outside, is_same, is_word_byte, names_behind, onto_stretches, stretch_names, stretch_writes, stretches, word_write, word_writes, writes_behind}
 use Rattle.description.specs.Syntax.Steps.{is_in}
 use Rattle.description.specs.declared.syntax.Class.{Class}
-use Rattle.description.specs.declared.syntax.Class.TheVariants as class
 
 -- ---- where a stretch ends
 
@@ -24,21 +23,13 @@ after_ascii_run p bs (suc k) e utf8 ascii =
     rw (← add-one) (IsCharBoundary-after_ascii bs k utf8 (omega (arith, prefix_len-le-length p bs)) (ascii _ (prefix_len_passes p bs k 0 (omega arith))))
 
 before_ascii : (p : ℕ → Bool) (bs : List ℕ) → ((c : ℕ) → p c ≡ false → c < 128) → IsCharBoundary bs (prefix_len p bs)
-before_ascii p bs ascii =
-    elim (cases_lt (prefix_len p bs) (length bs)) [
-      | inl within ↦ IsCharBoundary-before_ascii bs _ within (ascii _ (prefix_len_stops p bs 0 within))
-      | inr past ↦ subst (IsCharBoundary bs) (omega (arith, prefix_len-le-length p bs)) (IsCharBoundary-end bs)
-    ]
+before_ascii p bs ascii = grind (arith, cases_lt, IsCharBoundary-before_ascii, prefix_len_stops, prefix_len-le-length, IsCharBoundary-end)
 
 ascii : (k : Class) (c : ℕ) → is_in k c ≡ true → c < 128
-ascii class.Separator c h = grind (arith, nat_tests)
-ascii class.Word c h = grind (arith, nat_tests)
-ascii class.Opening c h = grind (arith, nat_tests)
-ascii class.Closing c h = grind (arith, nat_tests)
+ascii k c h2 = grind (arith, nat_tests)
 
 not_false : (b : Bool) → not b ≡ false → b ≡ true
-not_false true h = refl
-not_false false h = absurd (true≢false h)
+not_false b h1 = grind (arith, true≢false)
 
 pub stretch_ends : (k : Class) (t : Bool) (bs : List ℕ) → IsUtf8 bs → IsCharBoundary bs (prefix_len (λ byte. is_same t (is_in k byte)) bs)
 stretch_ends k true bs utf8 = after_ascii_run (is_in k) bs _ refl utf8 (ascii k)
@@ -47,14 +38,10 @@ stretch_ends k false bs utf8 = before_ascii (λ byte. not (is_in k byte)) bs (λ
 -- ---- the first stretch
 
 same_self : (t : Bool) → is_same t t ≡ true
-same_self true = refl
-same_self false = refl
+same_self t = grind arith
 
 same_is : (t u : Bool) → is_same t u ≡ true → t ≡ u
-same_is true true h = refl
-same_is true false h = absurd (true≢false (sym h))
-same_is false true h = absurd (true≢false (sym h))
-same_is false false h = refl
+same_is t u h2 = grind (arith, true≢false)
 
 module _ (test : ℕ → Bool) where
   -- how many bytes at the front answer the test in this way
@@ -85,14 +72,11 @@ module _ (test : ℕ → Bool) where
 
   pub stretch_there : (bs : List ℕ) (b n : ℕ) → 0 < length bs → b ≡ get_or bs 0 0 → n ≡ alike (test b) bs → stretches test bs ≡ take n bs ∷ stretches test (drop n bs)
   stretch_there [] b n h at e = absurd (omega arith)
-  stretch_there (c ∷ cs) b n h at e =
-      let same : n ≡ suc (alike (test c) cs) = e ∙ ap (λ x. alike (test x) (c ∷ cs)) at ∙ front_alike c cs in
-      joined c cs ∙ sym (ap (λ k. take k (c ∷ cs) ∷ stretches test (drop k (c ∷ cs))) same)
+  stretch_there (c ∷ cs) b n h at e = grind (arith, front_alike, joined)
 
   pub some_there : (bs : List ℕ) (b n : ℕ) → 0 < length bs → b ≡ get_or bs 0 0 → n ≡ alike (test b) bs → 0 < n
   some_there [] b n h at e = absurd (omega arith)
-  some_there (c ∷ cs) b n h at e =
-      let same : n ≡ suc (alike (test c) cs) = e ∙ ap (λ x. alike (test x) (c ∷ cs)) at ∙ front_alike c cs in omega arith
+  some_there (c ∷ cs) b n h at e = grind (arith, front_alike)
 
 -- ---- what stands before the rest of a text
 
@@ -134,13 +118,10 @@ module _ (text rest stretch behind : List ℕ) (is_end : IsEnd text rest) (cut :
 
 pub stretch_put : (d e whole : List Part) (before after stretch : List ℕ) (ss ts : List (List ℕ)) → ss ≡ stretch ∷ ts → after ≡ before ++ stretch → e ≡ with_writes d (stretch_writes before stretch) → with_writes d (writes_behind before ss) ≡ whole
     → with_writes e (writes_behind after ts) ≡ whole
-stretch_put d e whole before after stretch ss ts at more put so_far =
-    ap (λ x. with_writes x (writes_behind after ts)) put ∙ ap (λ f. with_writes (with_writes d (stretch_writes before stretch)) (writes_behind f ts)) more
-    ∙ sym (with_writes-append d (stretch_writes before stretch) (writes_behind (before ++ stretch) ts)) ∙ sym (ap (λ xs. with_writes d (writes_behind before xs)) at) ∙ so_far
+stretch_put d e whole before after stretch ss ts at more put so_far = grind (arith, with_writes-append)
 
 pub word_put : (d e whole : List Part) (text word behind : List ℕ) → stretches is_word_byte text ≡ word ∷ stretches is_word_byte behind → e ≡ with_writes d (word_write word ∷ []) → with_writes d (word_writes text) ≡ whole → with_writes e (word_writes behind) ≡ whole
-word_put d e whole text word behind at put so_far =
-    ap (λ x. with_writes x (word_writes behind)) put ∙ sym (ap (λ ss. with_writes d (map word_write ss)) at) ∙ so_far
+word_put d e whole text word behind at put so_far = grind arith
 
 -- ---- the names of one stretch, and those behind it
 
@@ -150,10 +131,4 @@ count_more p xs ys = sum_by-append (λ x. cond (p x) 1 0) xs ys
 pub names_put : (old new whole : List (List ℕ)) (two outside : Bool) (before after stretch : List ℕ) (ss ts : List (List ℕ)) → ss ≡ stretch ∷ ts → after ≡ before ++ stretch → outside ≡ is_outside before
     → new ≡ old ++ flat_map (without_dashes two) (cond outside (stretch_names before stretch) []) → old ++ flat_map (without_dashes two) (names_behind before ss) ≡ whole
     → new ++ flat_map (without_dashes two) (names_behind after ts) ≡ whole
-names_put old new whole two outside before after stretch ss ts at more out put so_far =
-    let own : List (List ℕ) = cond (is_outside before) (stretch_names before stretch) [] in
-    ap (λ x. x ++ flat_map (without_dashes two) (names_behind after ts)) (put ∙ ap (λ t. old ++ flat_map (without_dashes two) (cond t (stretch_names before stretch) [])) out)
-    ∙ ap (λ f. (old ++ flat_map (without_dashes two) own) ++ flat_map (without_dashes two) (names_behind f ts)) more
-    ∙ append_assoc old (flat_map (without_dashes two) own) (flat_map (without_dashes two) (names_behind (before ++ stretch) ts))
-    ∙ ap (λ x. old ++ x) (sym (flat_map-append (without_dashes two) own (names_behind (before ++ stretch) ts)))
-    ∙ sym (ap (λ xs. old ++ flat_map (without_dashes two) (names_behind before xs)) at) ∙ so_far
+names_put old new whole two outside before after stretch ss ts at more out put so_far = grind (arith, append_assoc, flat_map-append)

@@ -1,16 +1,12 @@
 -- The documents of a syntax hold texts alone.
-use Rattle.std.proofs.Common.{ℕ, Bool, true, false, cond, List, [], ◌∷◌, ◌++◌, map, codes, ◌&&◌, ◌||◌, ◌==◌}
-use Rattle.std.specs.List.{starts_with}
+use Rattle.std.proofs.Common.{ℕ, Bool, true, false, cond, List, [], ◌∷◌, ◌++◌, map, ◌||◌, arith}
 use Rattle.bpaf_doc.specs.declared.buffer.Style.TheVariants as style
-use Rattle.bpaf_doc.specs.Buffer.Writes.{Write, literal, metavar, plain}
-use Rattle.description.specs.Syntax.{has_bar, in_brackets, indent_writes, is_metavar, is_name, is_negated, is_separator, is_word_byte, pieces, stretch_writes, stretches, syntax_document, syntax_writes, usage_document, usage_piece, word_write, word_writes, writes_behind}
+use Rattle.bpaf_doc.specs.Buffer.Writes.{Write, literal}
+use Rattle.description.specs.Syntax.{in_brackets, indent_writes, is_name, is_negated, is_separator, is_word_byte, stretch_writes, stretches, syntax_document, syntax_writes, usage_document, word_write, word_writes, writes_behind}
 use Rattle.description.proofs.TextDocuments.{AreTexts, HoldsTexts, both_texts, holds_texts, nothing_written, text_then}
 
 word_texts : (word : List ℕ) (ws : List Write) → AreTexts ws → AreTexts (word_write word ∷ ws)
-word_texts word ws h = by (is_metavar word) where
-  by : (t : Bool) → AreTexts (cond t (metavar word) (plain word) ∷ ws)
-  by true = text_then word style.Metavar h
-  by false = text_then word style.Text h
+word_texts word ws h = grind (arith, text_then)
 
 words_texts : (words : List (List ℕ)) → AreTexts (map word_write words)
 words_texts [] = nothing_written
@@ -30,18 +26,13 @@ syntax_texts : (text : List ℕ) → AreTexts (syntax_writes text)
 syntax_texts text = stretches_texts [] (stretches is_separator text)
 
 indent_texts : (text : List ℕ) → AreTexts (indent_writes text)
-indent_texts text = by (starts_with ◌==◌ text (codes "--")) where
-  by : (t : Bool) → AreTexts (cond t (literal (codes "    ") ∷ []) [])
-  by true = text_then (codes "    ") style.Literal nothing_written
-  by false = nothing_written
+indent_texts text = grind (arith, text_then, nothing_written)
 
 pub syntax_holds : (text : List ℕ) → HoldsTexts (syntax_document text)
 syntax_holds text = holds_texts (both_texts (indent_texts text) (syntax_texts text))
 
 enclosed_texts : (t : Bool) (ws : List Write) → AreTexts ws → AreTexts (in_brackets t ws)
-enclosed_texts true ws h = text_then (codes "(") style.Text (both_texts h (text_then (codes ")") style.Text nothing_written))
-enclosed_texts false ws h = h
+enclosed_texts t ws h2 = grind (arith, text_then, both_texts, nothing_written)
 
 pub usage_holds : (bracketed : Bool) (text : List ℕ) → HoldsTexts (usage_document bracketed text)
-usage_holds bracketed text =
-    let piece : List ℕ = usage_piece (pieces text) in holds_texts (enclosed_texts (bracketed && has_bar piece) (syntax_writes piece) (syntax_texts piece))
+usage_holds bracketed text = grind (arith, holds_texts, enclosed_texts, syntax_texts)

@@ -1,5 +1,5 @@
 -- Items that are read one after another.
-use Rattle.std.proofs.Common.{◌≡◌, ℕ, ◌+◌, ◌<◌, ◌≤◌, List, [], ◌∷◌, ◌++◌, length, drop, get_or, map, Option, Some, None, option_map, refl, sym, ap, ◌∙◌, append_assoc, append-nil}
+use Rattle.std.proofs.Common.{◌≡◌, ℕ, ◌+◌, ◌<◌, ◌≤◌, List, [], ◌∷◌, ◌++◌, length, drop, get_or, map, Option, Some, None, option_map, refl, sym, ap, ◌∙◌, append_assoc, append-nil, arith}
 use Rattle.std.proofs.lemmas.List.{drop_all, map-append}
 use Rattle.std.specs.Prelude.{option_and_then}
 use Rattle.toml.proofs.Views.{items_view-drop}
@@ -21,8 +21,7 @@ module _ {X : Type 0} (read : Data → Option X) where
   next_item vs xs i d h s = s ∙ ap (λ ds. option_map (λ rest. xs ++ rest) (each_item read ds)) (items_view-drop vs i d h)
 
   one_more : (xs : List X) (x : X) (o : Option (List X)) → option_map (λ rest. xs ++ rest) (option_map (λ ys. x ∷ ys) o) ≡ option_map (λ rest. (xs ++ x ∷ []) ++ rest) o
-  one_more xs x None = refl
-  one_more xs x (Some ys) = ap Some (sym (append_assoc xs (x ∷ []) ys))
+  one_more xs x o = grind (arith, append_assoc)
 
   pub table_read : (vs : List Value) (xs ys : List X) (x : X) (i : ℕ) (d : Value) → i < length vs → ReadSoFar read vs xs i → read (view (get_or vs i d)) ≡ Some x → ys ≡ xs ++ x ∷ []
       → ReadSoFar read vs ys (i + 1)
@@ -67,16 +66,14 @@ command_next [] c rest = refl
 command_next (d ∷ cs) c rest = ap (commands d) (command_next cs c rest)
 
 command_more : (cs : List CommandSaid) (c : CommandSaid) (o : Option CommandsSaid) → option_map (commands_before cs) (option_map (commands c) o) ≡ option_map (commands_before (cs ++ c ∷ [])) o
-command_more cs c None = refl
-command_more cs c (Some rest) = ap Some (sym (command_next cs c rest))
+command_more cs c o = grind (arith, command_next)
 
 group_next : (gs : List GroupSaid) (g : GroupSaid) (rest : GroupsSaid) → groups_before (gs ++ g ∷ []) rest ≡ groups_before gs (groups g rest)
 group_next [] g rest = refl
 group_next (h ∷ gs) g rest = ap (groups h) (group_next gs g rest)
 
 group_more : (gs : List GroupSaid) (g : GroupSaid) (o : Option GroupsSaid) → option_map (groups_before gs) (option_map (groups g) o) ≡ option_map (groups_before (gs ++ g ∷ [])) o
-group_more gs g None = refl
-group_more gs g (Some rest) = ap Some (sym (group_next gs g rest))
+group_more gs g o = grind (arith, group_next)
 
 commands_all : (cs : List CommandSaid) → commands_before cs no_commands ≡ commands_in cs
 commands_all [] = refl

@@ -1,11 +1,11 @@
 -- What the lines of a topic's text write one after another is what its chunks write.
-use Rattle.std.proofs.Common.{◌≡◌, ℕ, zero, suc, ◌-◌, Bool, true, false, not, cond, List, [], ◌∷◌, ◌++◌, map, flat_map, reverse, refl, sym, ap, ◌∙◌, append-nil, append_assoc, arith}
+use Rattle.std.proofs.Common.{◌≡◌, ℕ, zero, suc, ◌-◌, Bool, false, not, List, [], ◌∷◌, ◌++◌, map, flat_map, reverse, refl, sym, ap, ◌∙◌, append-nil, append_assoc, arith}
 use Rattle.std.specs.Bool.{⊤}
 use Rattle.std.specs.List.{onto_first, slice_split}
 use Rattle.std.proofs.lemmas.List.{reverse-append, reverse-reverse}
 use Rattle.bpaf_doc.specs.Buffer.Writes.{Write, plain}
 use Rattle.description.specs.declared.chunks.Last.TheVariants as last
-use Rattle.description.specs.Chunks.{Line, ordinary, code, counted, outside, fenced, by_turns, lines_of, Cut, rest, before, onto, cut, begins_empty, ends_empty, without_first, without_last, behind_code, Chunk, ordinary_lines, code_lines, any_left, from_code, chunks_behind, chunks_of, chunks}
+use Rattle.description.specs.Chunks.{Line, ordinary, counted, outside, fenced, by_turns, lines_of, Cut, rest, before, onto, cut, begins_empty, ends_empty, without_first, without_last, behind_code, Chunk, ordinary_lines, code_lines, any_left, from_code, chunks_behind, chunks_of, chunks}
 use Rattle.description.specs.Texts.{is_fence, line_writes, lines, lines_writes}
 use Rattle.description.specs.Topics.{between, chunks_writes, code_piece, further_writes, line_break}
 use Rattle.description.specs.Topics.Steps.{at_end, gap_behind, is_gap, lines_from, marked_in, newlines, own_line, passed}
@@ -18,21 +18,15 @@ turns f [] = []
 turns f (part ∷ parts) = map (λ line. marked_in f (counted line)) part ++ turns (not f) parts
 
 by_turns_is : (parts : List (List (List ℕ))) → by_turns parts ≡ turns false parts
-by_turns_is [] = refl
-by_turns_is (front ∷ []) = sym (append-nil (map outside front))
 by_turns_is (front ∷ inner ∷ more) = append_assoc (map outside front) (map fenced inner) (by_turns more) ∙ ap (λ ls. map outside front ++ (map fenced inner ++ ls)) (by_turns_is more)
+by_turns_is x = grind (arith, append-nil)
 
 onto_turns : (f : Bool) (line : List ℕ) (parts : List (List (List ℕ))) → turns f (onto_first line parts) ≡ marked_in f (counted line) ∷ turns f parts
-onto_turns f line [] = refl
-onto_turns f line (part ∷ parts) = refl
+onto_turns f line h2 = grind arith
 
 split_is : (f : Bool) (ls : List (List ℕ)) → turns f (slice_split is_fence ls) ≡ lines_from f ls
 split_is f [] = refl
-split_is f (line ∷ ls) = by (is_fence line) (split_is (not f) ls) (split_is f ls) where
-  by : (t : Bool) → turns (not f) (slice_split is_fence ls) ≡ lines_from (not f) ls → turns f (slice_split is_fence ls) ≡ lines_from f ls
-      → turns f (cond t ([] ∷ slice_split is_fence ls) (onto_first line (slice_split is_fence ls))) ≡ cond t (lines_from (not f) ls) (marked_in f (counted line) ∷ lines_from f ls)
-  by true h k = h
-  by false h k = onto_turns f line (slice_split is_fence ls) ∙ ap (λ ms. marked_in f (counted line) ∷ ms) k
+split_is f (line ∷ ls) = grind (arith, split_is (not f) ls, split_is f ls, onto_turns)
 
 lines_same : (text : List ℕ) → lines_from false (lines text) ≡ lines_of text
 lines_same text = sym (by_turns_is (slice_split is_fence (lines text)) ∙ split_is false (lines text))
@@ -59,12 +53,10 @@ none_last : (n : ℕ) → without_last (empties n) ≡ []
 none_last n = ap (λ ls. reverse (without_first ls)) (reversed_empties n) ∙ ap reverse (none_first n)
 
 none_behind : (n : ℕ) → behind_code (empties n) ≡ []
-none_behind zero = refl
-none_behind (suc n) = none_first n
+none_behind n = grind (arith, none_first)
 
 empties_begin : (n : ℕ) → begins_empty (empties n) ≡ is_gap (suc n)
-empties_begin zero = refl
-empties_begin (suc n) = refl
+empties_begin n = grind arith
 
 empties_end : (n : ℕ) → ends_empty (empties n) ≡ is_gap (suc n)
 empties_end n = ap begins_empty (reversed_empties n) ∙ empties_begin n
@@ -72,14 +64,11 @@ empties_end n = ap begins_empty (reversed_empties n) ∙ empties_begin n
 -- ---- empty lines, and one that is not
 
 first_stays : (ls ms : List (List ℕ)) (b : ℕ) (bs : List ℕ) → without_first (ls ++ (b ∷ bs) ∷ ms) ≡ without_first ls ++ (b ∷ bs) ∷ ms
-first_stays [] ms b bs = refl
 first_stays ([] ∷ ls) ms b bs = first_stays ls ms b bs
-first_stays ((c ∷ cs) ∷ ls) ms b bs = refl
+first_stays x ms b bs = grind arith
 
 begin_stays : (ls ms : List (List ℕ)) (b : ℕ) (bs : List ℕ) → begins_empty (ls ++ (b ∷ bs) ∷ ms) ≡ begins_empty ls
-begin_stays [] ms b bs = refl
-begin_stays ([] ∷ ls) ms b bs = refl
-begin_stays ((c ∷ cs) ∷ ls) ms b bs = refl
+begin_stays ls ms b bs = grind arith
 
 turned : (ls ms : List (List ℕ)) (line : List ℕ) → reverse (ls ++ line ∷ ms) ≡ reverse ms ++ line ∷ reverse ls
 turned ls ms line =
@@ -98,12 +87,10 @@ empties_then zero b bs ls = refl
 empties_then (suc n) b bs ls = empties_then n b bs ls
 
 own_behind : (n : ℕ) (b : ℕ) (bs : List ℕ) (ls : List (List ℕ)) → behind_code (empties n ++ (b ∷ bs) ∷ ls) ≡ own_line last.Code (suc n) (b ∷ bs) ∷ ls
-own_behind zero b bs ls = refl
-own_behind (suc n) b bs ls = empties_then n b bs ls
+own_behind n b bs ls = grind (arith, empties_then)
 
 gap_before : (n : ℕ) (b : ℕ) (bs : List ℕ) (ls : List (List ℕ)) → begins_empty (empties n ++ (b ∷ bs) ∷ ls) ≡ is_gap (suc n)
-gap_before zero b bs ls = refl
-gap_before (suc n) b bs ls = refl
+gap_before n b bs ls = grind arith
 
 -- ---- what ordinary lines write
 
@@ -136,8 +123,7 @@ abbrev tail_writes : List Chunk → List Write
 tail_writes = flat_map further_writes
 
 any_writes : (gap : Bool) (ls : List (List ℕ)) → chunks_writes (any_left gap ls) ≡ lines_writes ls
-any_writes gap [] = refl
-any_writes gap (line ∷ ls) = append-nil (lines_writes (line ∷ ls))
+any_writes gap ls = grind (arith, append-nil)
 
 -- no code without a line is first
 abbrev HasLines : List Chunk → Type 0
@@ -147,18 +133,13 @@ HasLines (code_lines gap [] ∷ cs) = ⊥
 HasLines (code_lines gap (line ∷ ls) ∷ cs) = ⊤
 
 from_has : (gap : Bool) (line : List ℕ) (cs : List Chunk) → HasLines (from_code gap line cs)
-from_has gap line [] = tt
-from_has gap line (ordinary_lines g ls ∷ cs) = tt
-from_has gap line (code_lines true ls ∷ cs) = tt
-from_has gap line (code_lines false ls ∷ cs) = tt
+from_has gap line cs = grind arith
 
 any_has : (gap : Bool) (ls : List (List ℕ)) (cs : List Chunk) → HasLines cs → HasLines (any_left gap ls ++ cs)
-any_has gap [] cs h = h
-any_has gap (line ∷ ls) cs h = tt
+any_has gap ls cs h3 = grind arith
 
 alone_has : (gap : Bool) (ls : List (List ℕ)) → HasLines (any_left gap ls)
-alone_has gap [] = tt
-alone_has gap (line ∷ ls) = tt
+alone_has gap ls = grind arith
 
 behind_has : (c : Cut) → HasLines (chunks_behind c)
 behind_has (rest ls) = alone_has (begins_empty ls) (behind_code ls)
@@ -169,17 +150,10 @@ abbrev more_code : List (List ℕ) → List Write
 more_code = flat_map (λ line. (line_break ∷ []) ++ code_piece line)
 
 from_first : (gap : Bool) (line : List ℕ) (cs : List Chunk) → HasLines cs → chunks_writes (from_code gap line cs) ≡ code_piece line ++ tail_writes cs
-from_first gap line [] h = append-nil (code_piece line ++ [])
-from_first gap line (ordinary_lines g ls ∷ cs) h = ap (λ ws. ws ++ tail_writes (ordinary_lines g ls ∷ cs)) (append-nil (code_piece line))
-from_first gap line (code_lines true ls ∷ cs) h = ap (λ ws. ws ++ tail_writes (code_lines true ls ∷ cs)) (append-nil (code_piece line))
-from_first gap line (code_lines false [] ∷ cs) h = absurd h
-from_first gap line (code_lines false (next ∷ ls) ∷ cs) h = append_assoc (code_piece line) (line_break ∷ (code_piece next ++ more_code ls)) (tail_writes cs)
+from_first gap line cs h3 = grind (arith, append-nil, append_assoc)
 
 from_further : (gap : Bool) (line : List ℕ) (cs : List Chunk) → tail_writes (from_code gap line cs) ≡ between gap ∷ chunks_writes (from_code gap line cs)
-from_further gap line [] = refl
-from_further gap line (ordinary_lines g ls ∷ cs) = refl
-from_further gap line (code_lines true ls ∷ cs) = refl
-from_further gap line (code_lines false ls ∷ cs) = refl
+from_further gap line cs = grind arith
 
 from_tail : (gap : Bool) (line : List ℕ) (cs : List Chunk) → HasLines cs → tail_writes (from_code gap line cs) ≡ between gap ∷ (code_piece line ++ tail_writes cs)
 from_tail gap line cs h = from_further gap line cs ∙ ap (λ ws. between gap ∷ ws) (from_first gap line cs h)
@@ -191,12 +165,10 @@ behind_empties n (rest ls) = rest (empties n ++ ls)
 behind_empties n (before ls line more) = before (empties n ++ ls) line more
 
 none_there : (c : Cut) → behind_empties 0 c ≡ c
-none_there (rest ls) = refl
-none_there (before ls line more) = refl
+none_there c = grind arith
 
 one_there : (n : ℕ) (c : Cut) → behind_empties n (onto [] c) ≡ behind_empties (suc n) c
-one_there n (rest ls) = ap rest (one_more n ls)
-one_there n (before ls line more) = ap (λ ms. before ms line more) (one_more n ls)
+one_there n c = grind (arith, one_more)
 
 -- what is written behind an ordinary line
 abbrev after_ordinary : Cut → List Write
@@ -235,25 +207,19 @@ module _ (n : ℕ) (line : List ℕ) (c : Cut) where
   ends = from_tail (ends_empty (empties n)) line (chunks_behind c) (behind_has c) ∙ ap (λ g. between g ∷ (code_piece line ++ tail_writes (chunks_behind c))) (empties_end n)
 
   start_code : at_start n (before [] line c) ≡ code_piece line ++ tail_writes (chunks_behind c)
-  start_code =
-      ap (λ ls. chunks_writes (any_left false (without_last ls) ++ from_code (ends_empty ls) line (chunks_behind c))) (append-nil (empties n)) ∙ ap (λ ls. chunks_writes (any_left false ls ++ then_code)) (none_last n)
-      ∙ from_first (ends_empty (empties n)) line (chunks_behind c) (behind_has c)
+  start_code = grind (arith, append-nil, none_last, from_first, behind_has)
 
   ordinary_code : in_ordinary n (before [] line c) ≡ gap_behind (suc n) ∷ (code_piece line ++ tail_writes (chunks_behind c))
-  ordinary_code =
-      ap (λ ls. others (without_last ls) ++ tail_writes (from_code (ends_empty ls) line (chunks_behind c))) (append-nil (empties n)) ∙ ap (λ ls. others ls ++ tail_writes then_code) (none_last n) ∙ ends
+  ordinary_code = grind (arith, append-nil, none_last, ends)
 
   code_code : in_code n (before [] line c) ≡ gap_behind (suc n) ∷ (code_piece line ++ tail_writes (chunks_behind c))
-  code_code =
-      ap (λ ls. tail_writes (any_left (begins_empty ls) (behind_code (without_last ls)) ++ from_code (ends_empty ls) line (chunks_behind c))) (append-nil (empties n))
-      ∙ ap (λ ls. tail_writes (any_left (begins_empty (empties n)) (behind_code ls) ++ then_code)) (none_last n) ∙ ends
+  code_code = grind (arith, append-nil, none_last, ends)
 
 -- ---- an ordinary line
 
 -- ordinary lines behind others, and chunks behind them
 any_first : (n : ℕ) (line : List ℕ) (ls : List (List ℕ)) (cs : List Chunk) → chunks_writes (any_left false (empties n ++ line ∷ ls) ++ cs) ≡ lines_writes (empties n ++ line ∷ ls) ++ tail_writes cs
-any_first zero line ls cs = refl
-any_first (suc n) line ls cs = refl
+any_first n line ls cs = grind arith
 
 module _ (n : ℕ) (b : ℕ) (bs : List ℕ) where
   abbrev own : List ℕ
@@ -261,32 +227,13 @@ module _ (n : ℕ) (b : ℕ) (bs : List ℕ) where
 
   start_ordinary : (c : Cut) → at_start n (onto (b ∷ bs) c) ≡ newlines n ++ line_writes (b ∷ bs) ++ after_ordinary c
   start_ordinary (rest ls) = any_writes false (empties n ++ (b ∷ bs) ∷ ls) ∙ lines_write n (b ∷ bs) ls
-  start_ordinary (before ls line more) =
-      ap (λ g. chunks_writes (any_left false (without_last (empties n ++ (b ∷ bs) ∷ ls)) ++ from_code g line (chunks_behind more))) (end_stays (empties n) ls b bs)
-      ∙ ap (λ xs. chunks_writes (any_left false xs ++ from_code (ends_empty ls) line (chunks_behind more))) (last_stays (empties n) ls b bs)
-      ∙ any_first n (b ∷ bs) (without_last ls) (from_code (ends_empty ls) line (chunks_behind more))
-      ∙ ap (λ ws. ws ++ tail_writes (from_code (ends_empty ls) line (chunks_behind more))) (lines_write n (b ∷ bs) (without_last ls))
-      ∙ append_assoc (newlines n ++ line_writes (b ∷ bs)) (others (without_last ls)) (tail_writes (from_code (ends_empty ls) line (chunks_behind more)))
+  start_ordinary (before ls line more) = grind (arith, end_stays, last_stays, any_first, lines_write, append_assoc)
 
   ordinary_ordinary : (c : Cut) → in_ordinary n (onto (b ∷ bs) c) ≡ newlines (suc n) ++ line_writes (b ∷ bs) ++ after_ordinary c
-  ordinary_ordinary (rest ls) = others_write n (b ∷ bs) ls
-  ordinary_ordinary (before ls line more) =
-      ap (λ g. others (without_last (empties n ++ (b ∷ bs) ∷ ls)) ++ tail_writes (from_code g line (chunks_behind more))) (end_stays (empties n) ls b bs)
-      ∙ ap (λ xs. others xs ++ tail_writes (from_code (ends_empty ls) line (chunks_behind more))) (last_stays (empties n) ls b bs)
-      ∙ ap (λ ws. ws ++ tail_writes (from_code (ends_empty ls) line (chunks_behind more))) (others_write n (b ∷ bs) (without_last ls))
-      ∙ append_assoc (newlines (suc n) ++ line_writes (b ∷ bs)) (others (without_last ls)) (tail_writes (from_code (ends_empty ls) line (chunks_behind more)))
+  ordinary_ordinary c = grind (arith, others_write, end_stays, last_stays, append_assoc)
 
   code_ordinary : (c : Cut) → in_code n (onto (b ∷ bs) c) ≡ gap_behind (suc n) ∷ (line_writes own ++ after_ordinary c)
-  code_ordinary (rest ls) =
-      ap (λ xs. tail_writes (any_left (begins_empty (empties n ++ (b ∷ bs) ∷ ls)) xs)) (own_behind n b bs ls)
-      ∙ ap (λ g. tail_writes (any_left g (own ∷ ls))) (gap_before n b bs ls)
-      ∙ append-nil (gap_behind (suc n) ∷ (line_writes own ++ others ls))
-  code_ordinary (before ls line more) =
-      ap (λ g. tail_writes (any_left g (behind_code (without_last (empties n ++ (b ∷ bs) ∷ ls))) ++ from_code (ends_empty (empties n ++ (b ∷ bs) ∷ ls)) line (chunks_behind more))) (gap_before n b bs ls)
-      ∙ ap (λ g. tail_writes (any_left (is_gap (suc n)) (behind_code (without_last (empties n ++ (b ∷ bs) ∷ ls))) ++ from_code g line (chunks_behind more))) (end_stays (empties n) ls b bs)
-      ∙ ap (λ xs. tail_writes (any_left (is_gap (suc n)) (behind_code xs) ++ from_code (ends_empty ls) line (chunks_behind more))) (last_stays (empties n) ls b bs)
-      ∙ ap (λ xs. tail_writes (any_left (is_gap (suc n)) xs ++ from_code (ends_empty ls) line (chunks_behind more))) (own_behind n b bs (without_last ls))
-      ∙ ap (λ ws. gap_behind (suc n) ∷ ws) (append_assoc (line_writes own) (others (without_last ls)) (tail_writes (from_code (ends_empty ls) line (chunks_behind more))))
+  code_ordinary c = grind (arith, own_behind, gap_before, append-nil, end_stays, last_stays, append_assoc)
 
 -- ---- all lines
 
@@ -297,30 +244,8 @@ pub record Agrees (ls : List Line) (n : ℕ) : Type 0 where
 
 agree : (ls : List Line) (n : ℕ) → Agrees ls n
 agree [] n = record { from_start = start_ends n; of_ordinary = ordinary_ends n; of_code = code_ends n }
-agree (code line ∷ ls) n =
-    let more = (agree ls 0).of_code ∙ ap (λ c. tail_writes (chunks_behind c)) (none_there (cut ls)) in
-    record {
-      from_start = ap (λ ws. code_piece line ++ ws) more ∙ sym (start_code n line (cut ls));
-      of_ordinary = ap (λ ws. gap_behind (suc n) ∷ (code_piece line ++ ws)) more ∙ sym (ordinary_code n line (cut ls));
-      of_code = ap (λ ws. gap_behind (suc n) ∷ (code_piece line ++ ws)) more ∙ sym (code_code n line (cut ls));
-    }
-agree (ordinary [] ∷ ls) n =
-    let more = agree ls (suc n) in
-    let same = sym (one_there n (cut ls)) in
-    record {
-      from_start = more.from_start ∙ ap (λ c. chunks_writes (chunks_of c)) same;
-      of_ordinary = more.of_ordinary ∙ ap after_ordinary same;
-      of_code = more.of_code ∙ ap (λ c. tail_writes (chunks_behind c)) same;
-    }
-agree (ordinary (b ∷ bs) ∷ ls) n =
-    let more = (agree ls 0).of_ordinary ∙ ap after_ordinary (none_there (cut ls)) in
-    let own = own_line last.Code (suc n) (b ∷ bs) in
-    record {
-      from_start = ap (λ ws. newlines n ++ line_writes (b ∷ bs) ++ ws) more ∙ sym (start_ordinary n b bs (cut ls));
-      of_ordinary = ap (λ ws. newlines (suc n) ++ line_writes (b ∷ bs) ++ ws) more ∙ sym (ordinary_ordinary n b bs (cut ls));
-      of_code = ap (λ ws. gap_behind (suc n) ∷ (line_writes own ++ ws)) more ∙ sym (code_ordinary n b bs (cut ls));
-    }
+agree (ordinary [] ∷ ls) n = grind (arith, agree ls (suc n), one_there)
+agree (x ∷ ls) n = grind (arith, agree ls 0, none_there, start_code, ordinary_code, code_code, start_ordinary, ordinary_ordinary, code_ordinary)
 
 pub all_passed : (text : List ℕ) → passed last.Nothing 0 (lines_from false (lines text)) ≡ chunks_writes (chunks text)
-all_passed text =
-    ap (passed last.Nothing 0) (lines_same text) ∙ (agree (lines_of text) 0).from_start ∙ ap (λ c. chunks_writes (chunks_of c)) (none_there (cut (lines_of text)))
+all_passed text = grind (arith, lines_same, agree, none_there)

@@ -1,12 +1,12 @@
 -- A usage line reads no helps, and nothing that stands behind a command.
-use Rattle.std.proofs.Common.{◌≡◌, Bool, true, false, List, [], ◌∷◌, ◌++◌, refl, sym, ap, ◌∙◌, codes, None}
+use Rattle.std.proofs.Common.{◌≡◌, Bool, List, [], ◌∷◌, ◌++◌, refl, sym, ap, ◌∙◌, codes, None, arith}
 use Rattle.std.specs.Prelude.{if◌then◌else◌}
 use Rattle.bpaf_doc.specs.Buffer.Parts.{Part}
 use Rattle.bpaf_doc.specs.Buffer.Writes.{inside, literal, plain}
 use Rattle.bpaf_doc.specs.declared.buffer.Block.TheVariants as block
 use Rattle.bpaf_meta.specs.Content as content
 use Rattle.bpaf_meta.specs.Content.{Name, Head, head, Tree, and_of, or_of, optional, required, adjacent, item, many, subsection, suffix, skip, custom_usage, strict, Trees, no_trees, tree, Leaf, any, positional, flag, argument}
-use Rattle.bpaf_meta.specs.Meta.Normal.{State, pull, push, strip, shown_trees, and_form, or_form, is_command_tree, without_commands, with_first_command, optional_many_form, optional_form, required_form, many_form, custom_usage_form, item_form, strict_state, guarded, state_after, state_out, normal_form, and_parts, or_parts, or_state, outer_form, strict_if_push, normalized}
+use Rattle.bpaf_meta.specs.Meta.Normal.{State, pull, shown_trees, and_form, or_form, is_command_tree, without_commands, with_first_command, optional_many_form, optional_form, required_form, many_form, custom_usage_form, item_form, strict_state, guarded, state_after, state_out, normal_form, and_parts, or_parts, or_state, outer_form, strict_if_push, normalized}
 use Rattle.bpaf_meta.specs.Usage.Writes.{item_writes, part_writes, separated, tree_writes, usage_writes}
 
 -- ---- a tree without them
@@ -40,51 +40,21 @@ abbrev mutual
 -- ---- its normal form
 
 and_bare : (ts : Trees) → and_form (each_bare ts) ≡ bare (and_form ts)
-and_bare no_trees = refl
-and_bare (tree t no_trees) = refl
-and_bare (tree t (tree v ts)) = refl
+and_bare ts = grind arith
 
 or_bare : (ts : Trees) → or_form (each_bare ts) ≡ bare (or_form ts)
-or_bare no_trees = refl
-or_bare (tree t no_trees) = refl
-or_bare (tree t (tree v ts)) = refl
+or_bare ts = grind arith
 
 shown_bare : (ts : Trees) → shown_trees (each_bare ts) ≡ each_bare (shown_trees ts)
 shown_bare no_trees = refl
-shown_bare (tree (and_of us) ts) = ap (tree (bare (and_of us))) (shown_bare ts)
-shown_bare (tree (or_of us) ts) = ap (tree (bare (or_of us))) (shown_bare ts)
-shown_bare (tree (optional t) ts) = ap (tree (bare (optional t))) (shown_bare ts)
-shown_bare (tree (required t) ts) = ap (tree (bare (required t))) (shown_bare ts)
-shown_bare (tree (adjacent t) ts) = ap (tree (bare (adjacent t))) (shown_bare ts)
-shown_bare (tree (item l) ts) = ap (tree (bare (item l))) (shown_bare ts)
-shown_bare (tree (many t) ts) = ap (tree (bare (many t))) (shown_bare ts)
-shown_bare (tree (subsection t d) ts) = ap (tree (bare (subsection t d))) (shown_bare ts)
-shown_bare (tree (suffix t d) ts) = ap (tree (bare (suffix t d))) (shown_bare ts)
-shown_bare (tree skip ts) = shown_bare ts
-shown_bare (tree (custom_usage t d) ts) = ap (tree (bare (custom_usage t d))) (shown_bare ts)
-shown_bare (tree (strict t) ts) = ap (tree (bare (strict t))) (shown_bare ts)
+shown_bare (tree x ts) = grind (arith, shown_bare ts)
 
 command_bare : (t : Tree) → is_command_tree (bare t) ≡ is_command_tree t
-command_bare (and_of ts) = refl
-command_bare (or_of ts) = refl
-command_bare (optional t) = refl
-command_bare (required t) = refl
-command_bare (adjacent t) = refl
-command_bare (item (any m a h)) = refl
-command_bare (item (positional m h)) = refl
-command_bare (item (content.command n c h t i)) = refl
-command_bare (item (flag n s e h)) = refl
-command_bare (item (argument n s m e h)) = refl
-command_bare (many t) = refl
 command_bare (subsection t d) = command_bare t
-command_bare (suffix t d) = refl
-command_bare skip = refl
-command_bare (custom_usage t d) = refl
-command_bare (strict t) = refl
+command_bare x = grind arith
 
 choice_bare : (b : Bool) (ts vs : Trees) → (if b then each_bare ts else each_bare vs) ≡ each_bare (if b then ts else vs)
-choice_bare true ts vs = refl
-choice_bare false ts vs = refl
+choice_bare b ts vs = grind arith
 
 without_bare : (ts : Trees) → without_commands (each_bare ts) ≡ each_bare (without_commands ts)
 without_bare no_trees = refl
@@ -95,86 +65,28 @@ without_bare (tree t ts) =
 
 first_bare : (ts : Trees) → with_first_command (each_bare ts) ≡ each_bare (with_first_command ts)
 first_bare no_trees = refl
-first_bare (tree t ts) = ap (tree (bare t))
-    (ap (λ b. if b then without_commands (each_bare ts) else with_first_command (each_bare ts)) (command_bare t)
-    ∙ ap (λ us. if is_command_tree t then us else with_first_command (each_bare ts)) (without_bare ts)
-    ∙ ap (λ us. if is_command_tree t then each_bare (without_commands ts) else us) (first_bare ts)
-    ∙ choice_bare (is_command_tree t) (without_commands ts) (with_first_command ts))
+first_bare (tree t ts) = grind (arith, first_bare ts, command_bare, without_bare, choice_bare)
 
 optional_many_bare : (t : Tree) → optional_many_form (bare t) ≡ bare (optional_many_form t)
-optional_many_bare (and_of ts) = refl
-optional_many_bare (or_of ts) = refl
-optional_many_bare (optional t) = refl
-optional_many_bare (required t) = refl
-optional_many_bare (adjacent t) = refl
-optional_many_bare (item l) = refl
-optional_many_bare (many t) = refl
-optional_many_bare (subsection t d) = refl
-optional_many_bare (suffix t d) = refl
-optional_many_bare skip = refl
-optional_many_bare (custom_usage t d) = refl
-optional_many_bare (strict t) = refl
+optional_many_bare t = grind arith
 
 optional_bare : (t : Tree) → optional_form (bare t) ≡ bare (optional_form t)
-optional_bare (and_of ts) = refl
-optional_bare (or_of ts) = refl
-optional_bare (optional t) = refl
-optional_bare (required t) = refl
-optional_bare (adjacent t) = refl
-optional_bare (item l) = refl
-optional_bare (many t) = optional_many_bare t
-optional_bare (subsection t d) = refl
-optional_bare (suffix t d) = refl
-optional_bare skip = refl
-optional_bare (custom_usage t d) = refl
-optional_bare (strict t) = refl
+optional_bare t = grind (arith, optional_many_bare)
 
 required_bare : (t : Tree) → required_form (bare t) ≡ bare (required_form t)
-required_bare (and_of ts) = refl
-required_bare (or_of ts) = refl
-required_bare (optional t) = refl
-required_bare (required t) = refl
-required_bare (adjacent t) = refl
-required_bare (item l) = refl
-required_bare (many t) = refl
-required_bare (subsection t d) = refl
-required_bare (suffix t d) = refl
-required_bare skip = refl
-required_bare (custom_usage t d) = refl
-required_bare (strict t) = refl
+required_bare t = grind arith
 
 many_bare : (t : Tree) → many_form (bare t) ≡ bare (many_form t)
-many_bare (and_of ts) = refl
-many_bare (or_of ts) = refl
-many_bare (optional t) = refl
-many_bare (required t) = refl
-many_bare (adjacent t) = refl
-many_bare (item l) = refl
-many_bare (many t) = refl
-many_bare (subsection t d) = refl
-many_bare (suffix t d) = refl
-many_bare skip = refl
-many_bare (custom_usage t d) = refl
-many_bare (strict t) = refl
+many_bare t = grind arith
 
 custom_bare : (u : Bool) (t : Tree) (d : List Part) → custom_usage_form u (bare t) d ≡ bare (custom_usage_form u t d)
-custom_bare false t d = refl
-custom_bare true t [] = refl
-custom_bare true t (p ∷ d) = refl
+custom_bare u t d = grind arith
 
 item_bare : (u : Bool) (l : Leaf) → item_form u (bare_leaf l) ≡ bare_leaf (item_form u l)
-item_bare u (any m a h) = refl
-item_bare u (positional m h) = refl
-item_bare u (content.command n c h t i) = refl
-item_bare u (flag n s e h) = refl
-item_bare u (argument n s m e h) = refl
+item_bare u l = grind arith
 
 guarded_bare : (r g : State) (t : Tree) → guarded r g (bare t) ≡ bare (guarded r g t)
-guarded_bare pull pull t = refl
-guarded_bare pull push t = refl
-guarded_bare pull strip t = refl
-guarded_bare push g t = refl
-guarded_bare strip g t = refl
+guarded_bare r g t = grind arith
 
 mutual
   state_bare : (s : State) (t : Tree) → state_out s (bare t) ≡ state_out s t
@@ -232,37 +144,13 @@ mutual
 
 -- a tree in a required one
 required_outer_bare : (t : Tree) → outer_form (required (bare t)) ≡ bare (outer_form (required t))
-required_outer_bare (and_of ts) = refl
-required_outer_bare (or_of ts) = refl
-required_outer_bare (optional t) = refl
-required_outer_bare (required t) = refl
-required_outer_bare (adjacent t) = refl
-required_outer_bare (item l) = refl
-required_outer_bare (many t) = refl
-required_outer_bare (subsection t d) = refl
-required_outer_bare (suffix t d) = refl
-required_outer_bare skip = refl
-required_outer_bare (custom_usage t d) = refl
-required_outer_bare (strict t) = refl
+required_outer_bare t = grind arith
 
 outer_bare : (t : Tree) → outer_form (bare t) ≡ bare (outer_form t)
-outer_bare (and_of ts) = refl
-outer_bare (or_of ts) = refl
-outer_bare (optional t) = refl
-outer_bare (required t) = required_outer_bare t
-outer_bare (adjacent t) = refl
-outer_bare (item l) = refl
-outer_bare (many t) = refl
-outer_bare (subsection t d) = refl
-outer_bare (suffix t d) = refl
-outer_bare skip = refl
-outer_bare (custom_usage t d) = refl
-outer_bare (strict t) = refl
+outer_bare t = grind (arith, required_outer_bare)
 
 last_bare : (s : State) (t : Tree) → strict_if_push s (bare t) ≡ bare (strict_if_push s t)
-last_bare pull t = refl
-last_bare push t = refl
-last_bare strip t = refl
+last_bare s t = grind arith
 
 normalized_bare : (u : Bool) (t : Tree) → normalized u (bare t) ≡ bare (normalized u t)
 normalized_bare u t =
@@ -274,11 +162,7 @@ normalized_bare u t =
 -- ---- what it writes
 
 leaf_writes_bare : (l : Leaf) → item_writes (bare_leaf l) ≡ item_writes l
-leaf_writes_bare (any m a h) = refl
-leaf_writes_bare (positional m h) = refl
-leaf_writes_bare (content.command n c h t i) = refl
-leaf_writes_bare (flag n s e h) = refl
-leaf_writes_bare (argument n s m e h) = refl
+leaf_writes_bare l = grind arith
 
 mutual
   tree_writes_bare : (t : Tree) → tree_writes (bare t) ≡ tree_writes t

@@ -1,5 +1,5 @@
 -- The trees that are made of a level.
-use Rattle.std.proofs.Common.{◌≡◌, ℕ, Bool, false, List, [], ◌++◌, map, sym, ap, ◌∙◌, subst, rules, Bor, Box, Vec, IfOk, Option, Result}
+use Rattle.std.proofs.Common.{◌≡◌, ℕ, Bool, false, List, [], ◌++◌, map, sym, ap, ◌∙◌, subst, rules, Bor, Box, Vec, IfOk, Option, Result, arith}
 use Rattle.std.specs.Prelude.{◌&&◌, not}
 use Rattle.bpaf_doc.specs.Buffer.Parts.{Part}
 use Rattle.bpaf_meta.specs.Content as content
@@ -39,18 +39,7 @@ pub level_whole : {A B : Type 0} (l : Level A) (shared : SharedSaid) (v : Vec (M
     → p4 ≡ p3 ++ placed_groups shared false (out-Level A l).command_required (groups_said (out-Level A l).groups.items) → p5 ≡ p4 ++ map positional_tree (map positional_said ps)
     → map tree_of v.items ≡ p5 ++ one_of_commands (shown && show_command (commands_said (out-Level A l).commands.items)) (out-Level A l).command_required (command_items shared (commands_said (out-Level A l).commands.items))
     → tree_of (And v) ≡ level_tree shared (level_said l)
-level_whole {A} l shared v {os} {cs} {gs} {hs} {ps} {p0} {p1} {p2} {p3} {p4} {p5} {shown} eo ec eg ep eh es e0 e1 e2 e3 e4 e5 e6 =
-    let f1 = e1 ∙ ap (λ ts. ts ++ map option_tree (map opt_said os)) e0 ∙ ap (λ xs. map option_tree (map opt_said xs)) eo in
-    let f2 = e2 ∙ ap (λ ts. ts ++ map choice_tree (map choice_said cs)) f1 ∙ ap (λ xs. map option_tree (map opt_said (out-Level A l).options.items) ++ map choice_tree (map choice_said xs)) ec in
-    let named = map option_tree (map opt_said (out-Level A l).options.items) ++ map choice_tree (map choice_said (out-Level A l).choices.items) in
-    let f3 = e3 ∙ ap (λ ts. ts ++ named_groups (groups_said gs)) f2 ∙ ap (λ xs. named ++ named_groups (groups_said xs)) eg in
-    let placed = placed_groups shared false (out-Level A l).command_required (groups_said (out-Level A l).groups.items) in
-    let f4 = e4 ∙ ap (λ ts. ts ++ placed) f3 in
-    let f5 = e5 ∙ ap (λ ts. ts ++ map positional_tree (map positional_said ps)) f4 ∙ ap (λ xs. named ++ named_groups (groups_said (out-Level A l).groups.items) ++ placed ++ map positional_tree (map positional_said xs)) ep in
-    let here = command_items shared (commands_said (out-Level A l).commands.items) in
-    let own = show_command (commands_said (out-Level A l).commands.items) in
-    let f6 = e6 ∙ ap (λ ts. ts ++ one_of_commands (shown && own) (out-Level A l).command_required here) f5 ∙ ap (λ b. named ++ named_groups (groups_said (out-Level A l).groups.items) ++ placed ++ map positional_tree (map positional_said (out-Level A l).positionals.items) ++ one_of_commands (b && own) (out-Level A l).command_required here) (es ∙ ap (λ xs. hold_commands (groups_said xs)) eh) in
-    view-And v ∙ ap all_of f6 ∙ sym (ap (level_tree shared) (open-Level l))
+level_whole {A} l shared v {os} {cs} {gs} {hs} {ps} {p0} {p1} {p2} {p3} {p4} {p5} {shown} eo ec eg ep eh es e0 e1 e2 e3 e4 e5 e6 = grind (arith, view-And, open-Level)
 
 pub command_shown : {A : Type 0} (m : Command A) → not (out-Command A m).hidden ≡ is_shown (command_said m)
 command_shown m = sym (ap is_shown (open-Command m))

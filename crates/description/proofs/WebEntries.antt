@@ -1,5 +1,5 @@
 -- The entries of a list, each once.
-use Rattle.std.proofs.Common.{◌≡◌, ℕ, ◌+◌, ◌<◌, Bool, true, false, not, cond, ◌||◌, List, [], ◌∷◌, ◌++◌, take, get_or, length, map, refl, sym, ap, ◌∙◌, append_assoc, append-nil}
+use Rattle.std.proofs.Common.{◌≡◌, ℕ, ◌+◌, ◌<◌, Bool, true, false, not, cond, ◌||◌, List, [], ◌∷◌, ◌++◌, take, get_or, length, map, sym, ap, ◌∙◌, append_assoc, append-nil, arith}
 use Rattle.std.specs.Prelude.{if◌then◌else◌}
 use Rattle.std.specs.List.{list_any}
 use Rattle.std.proofs.lemmas.List.{map-append, take_more}
@@ -15,10 +15,7 @@ use Rattle.description.specs.WebPages.Steps.Once.{HasSeen}
 
 new_behind-append : (before es fs : List EntrySaid) → new_behind before (es ++ fs) ≡ new_behind before es ++ new_behind (before ++ es) fs
 new_behind-append before [] fs = ap (λ bs. new_behind bs fs) (sym (append-nil before))
-new_behind-append before (e ∷ es) fs =
-    ap (λ xs. if_new before e ++ xs) (new_behind-append (before ++ e ∷ []) es fs)
-    ∙ ap (λ bs. if_new before e ++ (new_behind (before ++ e ∷ []) es ++ new_behind bs fs)) (append_assoc before (e ∷ []) es)
-    ∙ sym (append_assoc (if_new before e) (new_behind (before ++ e ∷ []) es) (new_behind (before ++ e ∷ es) fs))
+new_behind-append before (e ∷ es) fs = grind (arith, new_behind-append (before ++ e ∷ []) es fs, append_assoc)
 
 once-push : (es : List EntrySaid) (e : EntrySaid) → each_once (es ++ e ∷ []) ≡ each_once es ++ if_new es e
 once-push es e = new_behind-append [] es (e ∷ []) ∙ ap (λ xs. each_once es ++ xs) (append-nil (if_new es e))
@@ -28,12 +25,10 @@ front_more said xs i x d at below =
     ap (map said) (take_more xs i d below) ∙ map-append said (take i xs) (get_or xs i d ∷ []) ∙ ap (λ y. map said (take i xs) ++ said y ∷ []) (sym at)
 
 pub not_true : (b : Bool) → not b ≡ true → b ≡ false
-not_true false h = refl
-not_true true h = cc
+not_true b h1 = grind arith
 
 not_false : (b : Bool) → not b ≡ false → b ≡ true
-not_false true h = refl
-not_false false h = cc
+not_false b h1 = grind arith
 
 module _ (once before after : List EntrySaid) (e : EntrySaid) (new : Bool) (is : new ≡ not (list_any (same_entry e) before)) (so_far : once ≡ each_once before) (next : after ≡ before ++ e ∷ []) where
   with_next : (b : Bool) → list_any (same_entry e) before ≡ b → each_once after ≡ once ++ (if b then [] else e ∷ [])
@@ -48,10 +43,7 @@ module _ (once before after : List EntrySaid) (e : EntrySaid) (new : Bool) (is :
 -- ---- a key that is seen
 
 pub one_more : (b c rest : Bool) → c ≡ rest → cond b true c ≡ (rest || (b || false))
-one_more true c true e = refl
-one_more true c false e = refl
-one_more false c true e = e
-one_more false c false e = e
+one_more b c rest h3 = grind arith
 
 module _ {B : Type 0} where
   abbrev same_at : ItemKey B → ItemKey B → Bool
@@ -71,5 +63,4 @@ module _ {B : Type 0} where
 
 -- where no entry is the same as one before
 pub all_new : (before after : List EntrySaid) (e : EntrySaid) → each_once before ≡ before → list_any (same_entry e) before ≡ false → after ≡ before ++ e ∷ [] → each_once after ≡ after
-all_new before after e so_far absent next =
-    ap each_once next ∙ once-push before e ∙ ap (λ xs. xs ++ if_new before e) so_far ∙ ap (λ b. before ++ (if b then [] else e ∷ [])) absent ∙ sym next
+all_new before after e so_far absent next = grind (arith, once-push)

@@ -1,5 +1,5 @@
 -- Elements of a page that were put.
-use Rattle.std.proofs.Common.{◌≡◌, ◌==◌, ℕ, false, List, [], ◌∷◌, ◌++◌, codes, flat_map, length, map, refl, ap, ◌∙◌, true≢false}
+use Rattle.std.proofs.Common.{◌≡◌, ◌==◌, ℕ, false, List, [], ◌∷◌, ◌++◌, codes, flat_map, length, map, refl, ap, ◌∙◌, true≢false, arith}
 use Rattle.std.specs.List.{join_by}
 use Rattle.web_page.specs.Reader.{Draft, with_start}
 use Rattle.web_page.specs.Calls.{with_end}
@@ -13,8 +13,7 @@ pub inside_put : (e : Element) (d0 d1 d2 d3 : Draft) (content : List Event) → 
 inside_put e d0 d1 d2 d3 content h1 h2 h3 = two_put with_event d1 d2 d3 content (end ∷ []) h2 h3 ∙ ap (λ d. with_events d (content ++ end ∷ [])) h1
 
 pub inside_id_put : (e : Element) (d0 d1 d2 d3 : Draft) (bytes : List ℕ) (id : List ℕ) (content : List Event) → d1 ≡ with_event d0 (start_with_id e bytes) → bytes ≡ id → d2 ≡ with_events d1 content → d3 ≡ with_end d2 → d3 ≡ with_events d0 (inside_with_id e id content)
-inside_id_put e d0 d1 d2 d3 bytes id content h1 same h2 h3 =
-    two_put with_event d1 d2 d3 content (end ∷ []) h2 h3 ∙ ap (λ d. with_events d (content ++ end ∷ [])) h1 ∙ ap (λ bs. with_events d0 (inside_with_id e bs content)) same
+inside_id_put e d0 d1 d2 d3 bytes id content h1 same h2 h3 = grind (arith, two_put)
 
 -- ---- the other names of a command
 

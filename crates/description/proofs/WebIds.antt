@@ -1,7 +1,5 @@
 -- The ids of sections and entries.
-use Rattle.std.proofs.Common.{◌≡◌, ℕ, ◌<◌, Bool, true, false, List, [], ◌∷◌, ◌++◌, flat_map, length, map, refl, sym, ap, ◌∙◌, append_assoc, append-nil, arith, rules}
-use Rattle.std.specs.Prelude.{◌/◌, ◌%◌, if◌then◌else◌}
-use Rattle.std.specs.Char.{digit_char}
+use Rattle.std.proofs.Common.{◌≡◌, ℕ, ◌<◌, true, List, [], ◌∷◌, ◌++◌, flat_map, length, map, refl, sym, ap, ◌∙◌, append_assoc, append-nil, arith}
 use Rattle.std.specs.List.{list_all}
 use Rattle.std.proofs.lemmas.Bool.{and_parts}
 use Rattle.description.specs.WebPages.Ids.{id_text, is_id_byte, section_id}
@@ -16,9 +14,7 @@ behind_same bytes (x ∷ xs) = ap (λ bs. 58 ∷ id_text (bytes x) ++ bs) (behin
 
 pub path_whole : {X : Type 0} (bytes : X → List ℕ) (all : List X) (first : X) (others : List X) (begun text old : List ℕ) → all ≡ first ∷ others → begun ≡ old ++ id_text (bytes first)
     → text ≡ begun ++ names_behind bytes others → text ≡ old ++ section_id (map bytes all)
-path_whole bytes all first others begun text old is b e =
-    e ∙ ap (λ bs. bs ++ names_behind bytes others) b ∙ append_assoc old (id_text (bytes first)) (names_behind bytes others)
-    ∙ ap (λ bs. old ++ (id_text (bytes first) ++ bs)) (sym (behind_same bytes others)) ∙ sym (ap (λ xs. old ++ section_id (map bytes xs)) is)
+path_whole bytes all first others begun text old is b e = grind (arith, append_assoc, behind_same)
 
 -- a command below
 below_more : (path : List (List ℕ)) (name : List ℕ) → flat_map (λ n. 58 ∷ id_text n) (path ++ name ∷ []) ≡ flat_map (λ n. 58 ∷ id_text n) path ++ 58 ∷ id_text name
@@ -30,17 +26,10 @@ below_some [] name h = absurd (omega arith)
 below_some (p ∷ ps) name h = append_assoc (id_text p) (flat_map (λ n. 58 ∷ id_text n) ps) (58 ∷ id_text name) ∙ ap (λ bs. id_text p ++ bs) (sym (below_more ps name))
 
 pub below_none : (path : List (List ℕ)) (name : List ℕ) → length path ≡ 0 → section_id path ++ id_text name ≡ section_id (path ++ name ∷ [])
-below_none [] name h = sym (append-nil (id_text name))
-below_none (p ∷ ps) name h = absurd (omega arith)
+below_none path name h2 = grind (arith, append-nil)
 
 -- ---- bytes that stand for themselves
 
 pub plain_id_text : (text : List ℕ) → list_all is_id_byte text ≡ true → id_text text ≡ text
 plain_id_text [] h = refl
-plain_id_text (b ∷ text) h =
-    let p = and_parts (is_id_byte b) (list_all is_id_byte text) h in
-    plain (is_id_byte b) p.0 ∙ ap (λ bs. b ∷ bs) (plain_id_text text p.1)
-  where
-    plain : (t : Bool) → t ≡ true → (if t then b ∷ [] else 46 ∷ digit_char (b / 16) ∷ digit_char (b % 16) ∷ []) ++ id_text text ≡ b ∷ id_text text
-    plain true h = refl
-    plain false h = absurd (search rules)
+plain_id_text (b ∷ text) h = grind (arith, plain_id_text text, and_parts)

@@ -1,5 +1,5 @@
 -- The lists of a section, one after another.
-use Rattle.std.proofs.Common.{◌≡◌, ◌==◌, ℕ, false, List, [], ◌∷◌, ◌++◌, codes, length, map, refl, sym, ap, ◌∙◌, append_assoc, append-nil, true≢false}
+use Rattle.std.proofs.Common.{◌≡◌, ◌==◌, ℕ, false, List, [], ◌∷◌, ◌++◌, codes, length, map, refl, sym, ap, ◌∙◌, append_assoc, append-nil, true≢false, arith}
 use Rattle.std.proofs.lemmas.Grind.{flat_map-append, fold-append}
 use Rattle.web_page.specs.Reader.{Draft, with_start}
 use Rattle.web_page.specs.Calls.{with_end}
@@ -16,7 +16,7 @@ use Rattle.description_parts.specs.declared.levels.Command.{Command}
 use Rattle.description_parts.specs.declared.levels.Group.{Group, out-Group}
 use Rattle.description_parts.proofs.Views.{open-Group, open-Level}
 use Rattle.description.specs.WebPages.Entries.{EntrySaid, each_once}
-use Rattle.description.specs.WebPages.Events.{Event, inside, text_in, with_event, with_events}
+use Rattle.description.specs.WebPages.Events.{text_in, with_events}
 use Rattle.description.specs.WebPages.Lists.{ListSaid, all_groups, choice_entries, command_entries, entries_events, entries_of, group_lists, list_events, lists_events, named_list, option_entries, own_lists, placed_list, section_lists, value_entries}
 use Rattle.description.proofs.Folded.{two_put}
 use Rattle.description.proofs.WebEvents.{inside_put}
@@ -25,18 +25,12 @@ module _ (path : List (List ℕ)) where
   -- lists behind lists
   pub lists_append : (before : List EntrySaid) (ls ms : List ListSaid) → lists_events path before (ls ++ ms) ≡ lists_events path before ls ++ lists_events path (before ++ entries_of ls) ms
   lists_append before [] ms = ap (λ es. lists_events path es ms) (sym (append-nil before))
-  lists_append before (l ∷ ls) ms =
-      ap (λ es. list_events path before l.title l.entries ++ es) (lists_append (before ++ l.entries) ls ms)
-      ∙ sym (append_assoc (list_events path before l.title l.entries) (lists_events path (before ++ l.entries) ls) (lists_events path ((before ++ l.entries) ++ entries_of ls) ms))
-      ∙ ap (λ es. lists_events path before (l ∷ ls) ++ lists_events path es ms) (append_assoc before l.entries (entries_of ls))
+  lists_append before (l ∷ ls) ms = grind (arith, lists_append (before ++ l.entries) ls ms, append_assoc)
 
   -- some lists were put, and the others are left
   pub lists_put : (page page1 whole : Draft) (before before1 : List EntrySaid) (ls ms : List ListSaid) → page1 ≡ with_events page (lists_events path before ls) → before1 ≡ before ++ entries_of ls
       → with_events page (lists_events path before (ls ++ ms)) ≡ whole → with_events page1 (lists_events path before1 ms) ≡ whole
-  lists_put page page1 whole before before1 ls ms e f so_far =
-      ap (λ d. with_events d (lists_events path before1 ms)) e ∙ ap (λ es. with_events (with_events page (lists_events path before ls)) (lists_events path es ms)) f
-      ∙ sym (fold-append with_event page (lists_events path before ls) (lists_events path (before ++ entries_of ls) ms))
-      ∙ ap (with_events page) (sym (lists_append before ls ms)) ∙ so_far
+  lists_put page page1 whole before before1 ls ms e f so_far = grind (arith, fold-append, lists_append)
 
 -- a list by itself
 pub list_alone : (path : List (List ℕ)) (page page1 : Draft) (before : List EntrySaid) (title : List ℕ) (es : List EntrySaid) (l : ListSaid) → record { title = title; entries = es } ≡ l
@@ -48,15 +42,11 @@ entries_alone before before1 es title l is e = e ∙ ap (λ fs. before ++ fs) (s
 
 pub named_said : {A : Type 0} (g : Group A) (es : List EntrySaid) (os : List Opt) (cs : List (Choice A)) → os ≡ (out-Group A g).options.items → cs ≡ (out-Group A g).choices.items
     → es ≡ each_once (option_entries (map opt_said os) ++ choice_entries (map choice_said cs)) → record { title = (out-Group A g).title.now; entries = es } ≡ named_list (group_said g)
-named_said {A} g es os cs eo ec e =
-    ap (λ fs. record { title = (out-Group A g).title.now; entries = fs }) (e ∙ ap (λ ps. each_once (option_entries (map opt_said ps) ++ choice_entries (map choice_said cs))) eo ∙ ap (λ ds. each_once (option_entries (map opt_said (out-Group A g).options.items) ++ choice_entries (map choice_said ds))) ec)
-    ∙ sym (ap named_list (open-Group g))
+named_said {A} g es os cs eo ec e = grind (arith, open-Group)
 
 pub placed_said : {A : Type 0} (g : Group A) (es : List EntrySaid) (vs : List Positional) (ms : List (Command A)) → vs ≡ (out-Group A g).positionals.items → ms ≡ (out-Group A g).commands.items
     → es ≡ each_once (value_entries (map positional_said vs) ++ command_entries (commands_said ms)) → record { title = (out-Group A g).title.now; entries = es } ≡ placed_list (group_said g)
-placed_said {A} g es vs ms ev em e =
-    ap (λ fs. record { title = (out-Group A g).title.now; entries = fs }) (e ∙ ap (λ ps. each_once (value_entries (map positional_said ps) ++ command_entries (commands_said ms))) ev ∙ ap (λ ns. each_once (value_entries (map positional_said (out-Group A g).positionals.items) ++ command_entries (commands_said ns))) em)
-    ∙ sym (ap placed_list (open-Group g))
+placed_said {A} g es vs ms ev em e = grind (arith, open-Group)
 
 -- ---- three lists
 
@@ -64,13 +54,7 @@ three_lists : (path : List (List ℕ)) (page page1 page2 page3 : Draft) (before 
     → page1 ≡ with_events page (list_events path before l.title l.entries) → before1 ≡ before ++ l.entries
     → page2 ≡ with_events page1 (list_events path before1 m.title m.entries) → before2 ≡ before1 ++ m.entries
     → page3 ≡ with_events page2 (list_events path before2 n.title n.entries) → page3 ≡ with_events page (lists_events path before (l ∷ m ∷ n ∷ []))
-three_lists path page page1 page2 page3 before before1 before2 l m n e1 f1 e2 f2 e3 =
-    let first : List Event = list_events path before l.title l.entries in
-    let second : List Event = list_events path (before ++ l.entries) m.title m.entries in
-    let third : List Event = list_events path ((before ++ l.entries) ++ m.entries) n.title n.entries in
-    let g2 : page2 ≡ with_events page1 second = e2 ∙ ap (λ es. with_events page1 (list_events path es m.title m.entries)) f1 in
-    let g3 : page3 ≡ with_events page2 (third ++ []) = e3 ∙ ap (λ es. with_events page2 (list_events path es n.title n.entries)) (f2 ∙ ap (λ es. es ++ m.entries) f1) ∙ ap (with_events page2) (sym (append-nil third)) in
-    two_put with_event page page1 page3 first (second ++ (third ++ [])) e1 (two_put with_event page1 page2 page3 second (third ++ []) g2 g3)
+three_lists path page page1 page2 page3 before before1 before2 l m n e1 f1 e2 f2 e3 = grind (arith, append-nil, two_put)
 
 pub own_put : {A : Type 0} (level : Level A) (help : List OptSaid) (path : List (List ℕ)) (page page1 page2 page3 : Draft) (before before1 before2 e1 e2 e3 : List EntrySaid)
     (vs : List Positional) (os : List Opt) (cs : List (Choice A)) (ms : List (Command A))
@@ -117,6 +101,4 @@ level_lists_put {A} level help path page page1 page2 page3 before0 before1 befor
 pub list_put : {X : Type 0} (said : X → EntrySaid) (xs : List X) (path : List (List ℕ)) (d0 d1 d2 d3 d4 : Draft) (before : List EntrySaid) (title : List ℕ) → (length xs == 0) ≡ false → d1 ≡ with_events d0 (text_in (Heading Three) title)
     → d2 ≡ with_start d1 (Of Dl) [] → d3 ≡ with_events d2 (entries_events path before (map said xs)) → d4 ≡ with_end d3 → d4 ≡ with_events d0 (list_events path before title (map said xs))
 list_put said [] path d0 d1 d2 d3 d4 before title h e1 e2 e3 e4 = absurd (true≢false h)
-list_put said (x ∷ xs) path d0 d1 d2 d3 d4 before title h e1 e2 e3 e4 =
-    let entries : List Event = entries_events path before (map said (x ∷ xs)) in
-    two_put with_event d0 d1 d4 (text_in (Heading Three) title) (inside Dl entries) e1 (inside_put Dl d1 d2 d3 d4 entries e2 e3 e4)
+list_put said (x ∷ xs) path d0 d1 d2 d3 d4 before title h e1 e2 e3 e4 = grind (arith, two_put, inside_put)

@@ -1,5 +1,5 @@
 -- The lines of a text as a page shows them.
-use Rattle.std.proofs.Common.{◌≡◌, ℕ, Bool, true, false, cond, codes, List, [], ◌∷◌, ◌++◌, drop, map, refl, sym, ap, ◌∙◌, inl, inr, None}
+use Rattle.std.proofs.Common.{◌≡◌, ℕ, Bool, true, false, cond, codes, List, [], ◌∷◌, ◌++◌, drop, map, refl, sym, ap, ◌∙◌, None, arith}
 use Rattle.std.specs.Prelude.{not, if◌then◌else◌}
 use Rattle.std.specs.List.{onto_first, slice_split}
 use Rattle.std.specs.Str.Pattern.{FindsTextPrefix, StripsPrefix}
@@ -37,19 +37,11 @@ parts_first (l ∷ ls) = split_first (is_fence l) l (slice_split is_fence ls)
 
 turned : (b fence : Bool) (l : List ℕ) (more : Bool → List Line) (p : List (List ℕ)) (ps : List (List (List ℕ))) → ((c : Bool) → more c ≡ turns c (p ∷ ps))
     → (if fence then more (not b) else (if b then fenced l else outside l) ∷ more b) ≡ turns b (cond fence ([] ∷ p ∷ ps) (onto_first l (p ∷ ps)))
-turned false true l more p ps h = h true
-turned true true l more p ps h = h false
-turned false false l more p [] h = ap (λ ms. outside l ∷ ms) (h false)
-turned false false l more p (q ∷ qs) h = ap (λ ms. outside l ∷ ms) (h false)
-turned true false l more p ps h = ap (λ ms. fenced l ∷ ms) (h true)
+turned b fence l more p h5 h6 = grind arith
 
 lines_turned : (ls : List (List ℕ)) (b : Bool) → lines_from b ls ≡ turns b (slice_split is_fence ls)
-lines_turned [] false = refl
-lines_turned [] true = refl
-lines_turned (l ∷ ls) b =
-    let first = parts_first ls in
-    turned b (is_fence l) l (λ c. lines_from c ls) first.0 first.1 (λ c. lines_turned ls c ∙ ap (turns c) first.2)
-    ∙ ap (λ ps. turns b (cond (is_fence l) ([] ∷ ps) (onto_first l ps))) (sym first.2)
+lines_turned (l ∷ ls) b = grind (arith, lines_turned ls, parts_first, turned)
+lines_turned [] x = grind arith
 
 pub lines_same : (text : List ℕ) → lines_from false (lines text) ≡ lines_of text
 lines_same text = lines_turned (lines text) false
@@ -101,9 +93,4 @@ pub prose_some : (line x : List ℕ) → StripsPrefix (FindsTextPrefix (codes " 
 prose_some line x h = ap prose_line h.1.1 ∙ ap (prose true) (sym h.2)
 
 pub prose_none : (line : List ℕ) → shows_ink line ≡ true → FindsTextPrefix (codes " ") line None → prose_line line ≡ prose false line
-prose_none [] ink h = absurd (false≢true ink)
-prose_none (b ∷ bs) ink h =
-    elim (eqb_tells b 32) [
-      | inl p ↦ absurd (h bs (ap (λ x. x ∷ bs) p.1))
-      | inr p ↦ ap (λ t. if t then prose true bs else prose false (b ∷ bs)) p.0
-    ]
+prose_none line h1 h2 = grind (arith, false≢true, eqb_tells)

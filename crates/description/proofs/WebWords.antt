@@ -1,9 +1,9 @@
 -- Entries with one key have one word.
-use Rattle.std.proofs.Common.{◌≡◌, ℕ, Bool, true, false, cond, not, ◌&&◌, ◌||◌, List, [], ◌∷◌, ◌++◌, codes, drop, map, flat_map, refl, sym, ap, ◌∙◌, append_assoc, append-nil, one-add, Option, Some, None}
-use Rattle.std.specs.Prelude.{◌==◌, bytes_eq, if◌then◌else◌, nat_eq}
+use Rattle.std.proofs.Common.{◌≡◌, ℕ, Bool, true, false, cond, not, ◌&&◌, ◌||◌, List, [], ◌∷◌, ◌++◌, drop, map, flat_map, refl, sym, ap, ◌∙◌, append_assoc, append-nil, one-add, Option, None, arith}
+use Rattle.std.specs.Prelude.{bytes_eq, if◌then◌else◌, nat_eq}
 use Rattle.std.specs.Cmp.{IsEquivalence, and_equiv, on_equiv, nat_eq_equiv}
 use Rattle.std.specs.Cmp.Lexicographic.{nat_list_eq_equiv, options_equiv}
-use Rattle.std.specs.List.{list_any, prefix_len, starts_with}
+use Rattle.std.specs.List.{list_any, prefix_len}
 use Rattle.std.specs.Option.{option_eq}
 use Rattle.std.specs.Ordering.{eq_by_cmp}
 use Rattle.std.proofs.lemmas.List.Folds.{list_any-append}
@@ -15,11 +15,11 @@ use Rattle.bpaf_doc.specs.Buffer.Writes.{Write, literal, metavar, plain, same_st
 use Rattle.bpaf_items.specs.Listing.Keys.{Key, any_key, word_key, flag_key, argument_key, key_of}
 use Rattle.bpaf_items.proofs.Listing.KeyLaws.{equality_of_keys}
 use Rattle.bpaf_meta.specs.Content.{Name}
-use Rattle.description_parts.specs.Content.{SpellingSaid, named, syntax, OptSaid, command}
+use Rattle.description_parts.specs.Content.{SpellingSaid, OptSaid}
 use Rattle.description.specs.Chunks.{is_blank, without_blanks}
 use Rattle.description.specs.Trees.{named_leaf, spelled_leaf}
-use Rattle.description.specs.Syntax.{indent_writes, is_metavar, is_name, is_negated, is_separator, is_word_byte, onto_stretches, is_same, stretch_writes, stretches, syntax_document, syntax_writes, word_write, word_writes, writes_behind}
-use Rattle.description.specs.WebPages.Entries.{EntrySaid, an_option, a_value, a_command, each_once, entry_key, same_entry}
+use Rattle.description.specs.Syntax.{is_name, is_negated, is_word_byte, onto_stretches, stretch_writes, stretches, syntax_document, word_write, word_writes, writes_behind}
+use Rattle.description.specs.WebPages.Entries.{EntrySaid, each_once, entry_key, same_entry}
 use Rattle.description.specs.WebPages.Steps.Words.{WordSaid, entry_word, name_word, spelling_word, word_said}
 use Rattle.description.specs.declared.page.apart.Word.{Word}
 use Rattle.description.specs.contracts.page.apart.WordOrd.TheImpl as word_ord
@@ -46,14 +46,8 @@ abbrev writes_text : List Write → List ℕ
 writes_text = flat_map write_text
 
 text_behind : (ps : List Part) (bytes : List ℕ) (s : Style) → document_text (with_text ps bytes s) ≡ document_text ps ++ bytes
-text_behind [] bytes s = append-nil bytes
-text_behind (Text front r ∷ []) bytes s = by (same_style r s) where
-  by : (b : Bool) → document_text (if b then Text (front ++ bytes) s ∷ [] else Text front r ∷ Text bytes s ∷ []) ≡ (front ++ []) ++ bytes
-  by true = append-nil (front ++ bytes) ∙ ap (λ xs. xs ++ bytes) (sym (append-nil front))
-  by false = ap (λ xs. front ++ xs) (append-nil bytes) ∙ ap (λ xs. xs ++ bytes) (sym (append-nil front))
-text_behind (Start b ∷ []) bytes s = append-nil bytes
-text_behind (End b ∷ []) bytes s = append-nil bytes
 text_behind (p ∷ q ∷ ps) bytes s = ap (λ xs. part_text p ++ xs) (text_behind (q ∷ ps) bytes s) ∙ sym (append_assoc (part_text p) (document_text (q ∷ ps)) bytes)
+text_behind x bytes s = grind (arith, append-nil)
 
 written : (ps : List Part) (ws : List Write) → document_text (with_writes ps ws) ≡ document_text ps ++ writes_text ws
 written ps [] = sym (append-nil (document_text ps))
@@ -68,12 +62,7 @@ abbrev joined : List (List ℕ) → List ℕ
 joined = flat_map (λ text. text)
 
 onto_joined : (test : ℕ → Bool) (b : ℕ) (ss : List (List ℕ)) → joined (onto_stretches test b ss) ≡ b ∷ joined ss
-onto_joined test b [] = refl
-onto_joined test b ([] ∷ ss) = refl
-onto_joined test b ((c ∷ cs) ∷ ss) = by (is_same (test b) (test c)) where
-  by : (t : Bool) → joined (if t then (b ∷ c ∷ cs) ∷ ss else (b ∷ []) ∷ (c ∷ cs) ∷ ss) ≡ b ∷ joined ((c ∷ cs) ∷ ss)
-  by true = refl
-  by false = refl
+onto_joined test b ss = grind arith
 
 stretches_joined : (test : ℕ → Bool) (bs : List ℕ) → joined (stretches test bs) ≡ bs
 stretches_joined test [] = refl
@@ -81,10 +70,7 @@ stretches_joined test (b ∷ bs) = onto_joined test b (stretches test bs) ∙ ap
 
 words_text : (words : List (List ℕ)) → writes_text (map word_write words) ≡ joined words
 words_text [] = refl
-words_text (word ∷ words) = by (is_metavar word) (words_text words) where
-  by : (t : Bool) → writes_text (map word_write words) ≡ joined words → writes_text ((if t then metavar word else plain word) ∷ map word_write words) ≡ joined (word ∷ words)
-  by true rest = ap (λ xs. word ++ xs) rest
-  by false rest = ap (λ xs. word ++ xs) rest
+words_text (word ∷ words) = grind (arith, words_text words)
 
 stretch_text : (before text : List ℕ) → writes_text (stretch_writes before text) ≡ text
 stretch_text before text = by (is_name before text || is_negated before text) where
@@ -102,13 +88,7 @@ blank_first : (text : List ℕ) → without_blanks (32 ∷ text) ≡ without_bla
 blank_first text = ap (λ n. drop n (32 ∷ text)) (one-add (prefix_len is_blank text))
 
 syntax_text : (text : List ℕ) → without_blanks (document_text (syntax_document text)) ≡ without_blanks text
-syntax_text text =
-    ap without_blanks (written [] (indent_writes text ++ syntax_writes text) ∙ flat_map-append write_text (indent_writes text) (syntax_writes text)
-    ∙ ap (λ xs. writes_text (indent_writes text) ++ xs) (behind_text [] (stretches is_separator text) ∙ stretches_joined is_separator text))
-    ∙ by (starts_with ◌==◌ text (codes "--")) where
-      by : (t : Bool) → without_blanks (writes_text (if t then literal (codes "    ") ∷ [] else []) ++ text) ≡ without_blanks text
-      by true = blank_first (32 ∷ 32 ∷ 32 ∷ text) ∙ blank_first (32 ∷ 32 ∷ text) ∙ blank_first (32 ∷ text) ∙ blank_first text
-      by false = refl
+syntax_text text = grind (arith, written, flat_map-append, behind_text, stretches_joined, blank_first)
 
 -- ---- keys and words
 
@@ -119,17 +99,13 @@ key_word (flag_key name h) = name_word name
 key_word (argument_key name text h) = name_word name
 
 named_word : (value : Option (List ℕ)) (name : Name) (env : Option (List ℕ)) (help : Option (List Part)) → key_word (key_of (named_leaf value name env help)) ≡ name_word name
-named_word None name env help = refl
-named_word (Some value) name env help = refl
+named_word value name env help = grind arith
 
 spelled_word : (s : SpellingSaid) (o : OptSaid) → key_word (key_of (spelled_leaf s o)) ≡ spelling_word s
-spelled_word (named name) o = named_word o.value name o.env _
-spelled_word (syntax text) o = ap (λ t. (None, t)) (syntax_text text)
+spelled_word s o = grind (arith, named_word, syntax_text)
 
 word_in_key : (e : EntrySaid) → key_word (entry_key e) ≡ entry_word e
-word_in_key (an_option o) = spelled_word o.spelling o
-word_in_key (a_value v) = refl
-word_in_key (a_command (command names h l)) = refl
+word_in_key e = grind (arith, spelled_word)
 
 one_word : (e f : EntrySaid) → same_entry e f ≡ true → entry_word e ≡ entry_word f
 one_word e f h = sym (word_in_key e) ∙ ap key_word ((equality_of_keys (entry_key e) (entry_key f)).0 h) ∙ word_in_key f

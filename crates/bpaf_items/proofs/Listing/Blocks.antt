@@ -78,9 +78,7 @@ pub count-cons : (p : Entry → Bool) (e : Entry) (es : List Entry) → count_by
 count-cons p e es = sum_by-cons (λ x. if p x then 1 else 0) e es
 
 plain_even : (e : Entry) → is_mark e ≡ false → starts_in (e ∷ []) ≡ stops_in (e ∷ [])
-plain_even (adjacent_start t k) h = cc
-plain_even (adjacent_stop k) h = cc
-plain_even e h = refl
+plain_even e h1 = grind arith
 
 pub even : {g : Bool} {es : List Entry} → Blocks g es → starts_in es ≡ stops_in es
 even (none is) = rw is refl
@@ -95,9 +93,4 @@ even (grouped d k inner g is b) =
     let starts : starts_in (group_start d k ∷ (inner ++ group_end k ∷ [])) ≡ 0 + (starts_in inner + 0) = count-cons is_adjacent_start (group_start d k) (inner ++ group_end k ∷ []) ∙ ap (λ n. 0 + n) (count-append is_adjacent_start inner (group_end k ∷ [])) in
     let stops : stops_in (group_start d k ∷ (inner ++ group_end k ∷ [])) ≡ 0 + (stops_in inner + 0) = count-cons is_adjacent_stop (group_start d k) (inner ++ group_end k ∷ []) ∙ ap (λ n. 0 + n) (count-append is_adjacent_stop inner (group_end k ∷ [])) in
     rw is (omega arith)
-even (joined front back is b c) =
-    let same : starts_in front ≡ stops_in front = even b in
-    let also : starts_in back ≡ stops_in back = even c in
-    let starts : starts_in (front ++ back) ≡ starts_in front + starts_in back = count-append is_adjacent_start front back in
-    let stops : stops_in (front ++ back) ≡ stops_in front + stops_in back = count-append is_adjacent_stop front back in
-    rw is (omega arith)
+even (joined front back is b c) = grind (arith, even b, even c, count-append)

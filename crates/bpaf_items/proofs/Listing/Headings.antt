@@ -1,26 +1,17 @@
 -- Under a heading falls what the walk over the entries outside groups gives.
-use Rattle.std.proofs.Common.{◌≡◌, ℕ, Bool, true, false, not, ◌&&◌, ◌||◌, List, [], ◌∷◌, ◌++◌, map, refl, sym, ap, ◌∙◌, append-nil}
-use Rattle.std.specs.Prelude.{if◌then◌else◌, filter, count_by, Option, Some, None}
+use Rattle.std.proofs.Common.{◌≡◌, Bool, true, false, not, List, [], ◌∷◌, ◌++◌, map, refl, sym, ap, ◌∙◌, append-nil, arith}
+use Rattle.std.specs.Prelude.{if◌then◌else◌, filter, Option, Some, None}
 use Rattle.std.specs.List.{last_or}
 use Rattle.bpaf_items.specs.declared.meta_help.entry.HiTy.{HiTy}
 use Rattle.bpaf_items.specs.Listing.ItemList.{Entry, group_start, adjacent_start}
-use Rattle.bpaf_items.specs.Listing.Falls.{same_type, Placed, placed, placed_after, is_group_start, is_adjacent_in_group, is_group_mark, is_adjacent_mark, is_mark, is_in_group, is_group_open, lacks_help, type_of, last_that, outside_groups, group, heading, nowhere, heading_after, group_destination, heading_destination, destination, is_heading, is_given_after, is_given}
+use Rattle.bpaf_items.specs.Listing.Falls.{same_type, Placed, placed, placed_after, is_adjacent_mark, is_mark, is_in_group, type_of, last_that, outside_groups, heading, heading_after, group_destination, heading_destination, destination, is_heading, is_given_after, is_given}
 use Rattle.bpaf_items.specs.Listing.ListLaws.{HeadingsAgree}
 use Rattle.bpaf_items.proofs.Listing.Placing.{entry, two_kept, outside_groups-push}
 
 -- outside groups each mark is an adjacent one
 marks_alike : (ps : List Placed) → filter is_mark (map (λ p. p.1) (filter (λ p. not (is_in_group p)) ps)) ≡ filter is_adjacent_mark (map (λ p. p.1) (filter (λ p. not (is_in_group p)) ps))
 marks_alike [] = refl
-marks_alike (p ∷ ps) = by (is_group_mark p.1) (is_group_open p.0) refl (marks_alike ps) where
-  entries : List Entry
-  entries = map (λ q. q.1) (filter (λ q. not (is_in_group q)) ps)
-
-  by : (m o : Bool) → is_group_mark p.1 ≡ m → filter is_mark entries ≡ filter is_adjacent_mark entries
-      → filter is_mark (map (λ q. q.1) (if not (m || o) then p ∷ filter (λ q. not (is_in_group q)) ps else filter (λ q. not (is_in_group q)) ps))
-      ≡ filter is_adjacent_mark (map (λ q. q.1) (if not (m || o) then p ∷ filter (λ q. not (is_in_group q)) ps else filter (λ q. not (is_in_group q)) ps))
-  by true o h rest = rest
-  by false true h rest = rest
-  by false false h rest = rw (h, rest) refl
+marks_alike (p ∷ ps) = grind (arith, marks_alike ps)
 
 -- the last entry that passes a test passes it
 last_passes_from : (p : Entry → Bool) (o : Option Entry) (es : List Entry) (e : Entry) → ((f : Entry) → o ≡ Some f → p f ≡ true) → last_or o (filter p es) ≡ Some e → p e ≡ true
@@ -35,10 +26,7 @@ last_passes p es e is = last_passes_from p None es e (λ f none. cc) is
 
 -- after an adjacent mark, or after none
 after_mark : (o : Option Entry) (k : HiTy) (e : Entry) → ((f : Entry) → o ≡ Some f → is_adjacent_mark f ≡ true) → is_heading k (heading_after o e) ≡ is_given_after o k e
-after_mark (Some (adjacent_start t j)) k e h = by (lacks_help e) where
-  by : (b : Bool) → is_heading k (if b then nowhere else heading j) ≡ (not b && same_type j k)
-  by true = refl
-  by false = refl
+after_mark (Some (adjacent_start t j)) k e h = grind arith
 after_mark (Some (group_start d j)) k e h = let no : is_adjacent_mark (group_start d j) ≡ true = h (group_start d j) refl in cc
 after_mark o k e h = refl
 
@@ -56,10 +44,7 @@ falls_as_given before k e = by (is_mark e) where
 
 -- no entry of a group falls under a heading
 pub group_no_heading : (k : HiTy) (p : Placed) → is_heading k (group_destination p) ≡ false
-group_no_heading k p = by (lacks_help p.1 && is_adjacent_in_group p.0) (count_by is_group_start (p.0 ++ p.1 ∷ [])) where
-  by : (b : Bool) (n : ℕ) → is_heading k (if b then nowhere else group n) ≡ false
-  by true n = refl
-  by false n = refl
+group_no_heading k p = grind arith
 
 module _ (k : HiTy) where
   abbrev falls : Placed → Bool
@@ -71,17 +56,7 @@ module _ (k : HiTy) where
   heading_step : (b : Bool) (before es : List Entry) (e : Entry) → is_in_group (before, e) ≡ b
       → map entry (filter falls (placed_after (before ++ e ∷ []) es)) ≡ map entry (filter (is_given k) (placed_after (outside_groups (before ++ e ∷ [])) (map entry (filter outside (placed_after (before ++ e ∷ []) es)))))
       → map entry (filter falls (placed_after before (e ∷ es))) ≡ map entry (filter (is_given k) (placed_after (outside_groups before) (map entry (filter outside (placed_after before (e ∷ es))))))
-  heading_step true before es e h rest =
-      let same : outside_groups (before ++ e ∷ []) ≡ outside_groups before = outside_groups-push before e ∙ ap (λ b. outside_groups before ++ (if not b then e ∷ [] else [])) h ∙ append-nil (outside_groups before) in
-      let none : falls (before, e) ≡ false = ap (λ b. is_heading k (if b then group_destination (before, e) else heading_destination (before, e))) h ∙ group_no_heading k (before, e) in
-      rw (none, h) (rest ∙ ap (λ b. map entry (filter (is_given k) (placed_after b (map entry (filter outside (placed_after (before ++ e ∷ []) es)))))) same)
-  heading_step false before es e h rest =
-      let more : outside_groups (before ++ e ∷ []) ≡ outside_groups before ++ e ∷ [] = outside_groups-push before e ∙ ap (λ b. outside_groups before ++ (if not b then e ∷ [] else [])) h in
-      let agree : falls (before, e) ≡ is_given k (outside_groups before, e) = ap (λ b. is_heading k (if b then group_destination (before, e) else heading_destination (before, e))) h ∙ falls_as_given before k e in
-      let others : map entry (filter falls (placed_after (before ++ e ∷ []) es)) ≡ map entry (filter (is_given k) (placed_after (outside_groups before ++ e ∷ []) (map entry (filter outside (placed_after (before ++ e ∷ []) es)))))
-      = rest ∙ ap (λ b. map entry (filter (is_given k) (placed_after b (map entry (filter outside (placed_after (before ++ e ∷ []) es)))))) more in
-      let outer : map entry (filter outside (placed_after before (e ∷ es))) ≡ e ∷ map entry (filter outside (placed_after (before ++ e ∷ []) es)) = rw h refl in
-      two_kept (falls (before, e)) (is_given k (outside_groups before, e)) e before (outside_groups before) _ _ agree others ∙ ap (λ xs. map entry (filter (is_given k) (placed_after (outside_groups before) xs))) (sym outer)
+  heading_step b before es e h4 h5 = grind (arith, outside_groups-push, append-nil, group_no_heading, falls_as_given, two_kept)
 
   headings_after : (before es : List Entry) → map entry (filter falls (placed_after before es)) ≡ map entry (filter (is_given k) (placed_after (outside_groups before) (map entry (filter outside (placed_after before es)))))
   headings_after before [] = refl

@@ -1,5 +1,5 @@
 -- Keys are equal exactly where they say the same, and so are types.
-use Rattle.std.proofs.Common.{◌≡◌, ℕ, ◌&&◌, Bool, true, false, List, [], ◌∷◌, Option, Some, None, refl, ap, subst, nat_eq}
+use Rattle.std.proofs.Common.{◌≡◌, ℕ, ◌&&◌, Bool, true, List, ◌∷◌, Option, ap, subst, nat_eq, arith}
 use Rattle.std.specs.Option.{option_eq}
 use Rattle.std.proofs.lemmas.Bool.{eqb-true}
 use denote.Enum.Bare.{tag_one}
@@ -8,7 +8,6 @@ use Rattle.bpaf_doc.specs.Buffer.Equality.{same_text, same_document}
 use Rattle.bpaf_doc.proofs.lemmas.Buffer.Equality.{equality_of_parts}
 use Rattle.bpaf_meta.specs.Content.{Name, short, long, both}
 use Rattle.bpaf_items.specs.declared.meta_help.entry.HiTy.{HiTy}
-use Rattle.bpaf_items.specs.declared.meta_help.entry.HiTy.TheVariants as ty
 use Rattle.bpaf_items.specs.contracts.meta_help.entry.HiTy as hity
 use Rattle.bpaf_items.specs.Listing.Keys.{Key, any_key, word_key, flag_key, argument_key, same_name, same_help, same_key, IsEqualityOfKeys, IsOrderOfKeys}
 use Rattle.bpaf_items.specs.Steps.KeyOrder.{keys_equiv, keys_total, keys_tied}
@@ -16,39 +15,24 @@ use Rattle.bpaf_items.specs.Listing.Falls.{same_type}
 use Rattle.bpaf_items.specs.Listing.ListLaws.{IsEqualityOfTypes}
 
 pair : (a b : Bool) → (a && b) ≡ true → (a ≡ true) × (b ≡ true)
-pair true b h = (refl, h)
-pair false b h = cc
+pair a b h2 = grind arith
 
 option_is : {X : Type 0} (same : X → X → Bool) → ((x y : X) → same x y ≡ true → x ≡ y) → (o p : Option X) → option_eq same o p ≡ true → o ≡ p
-option_is same tells None None h = refl
-option_is same tells None (Some y) h = cc
-option_is same tells (Some x) None h = cc
-option_is same tells (Some x) (Some y) h = ap Some (tells x y h)
+option_is same h1 h2 h3 h4 = grind arith
 
 pub text_is : (xs ys : List ℕ) → same_text xs ys ≡ true → xs ≡ ys
-text_is [] [] h = refl
-text_is [] (y ∷ ys) h = cc
-text_is (x ∷ xs) [] h = cc
-text_is (x ∷ xs) (y ∷ ys) h =
-    let t = pair (nat_eq x y) (same_text xs ys) h in
-    let head : x ≡ y = eqb-true x y t.0 in
-    let tail : xs ≡ ys = text_is xs ys t.1 in
-    cc
+text_is (x ∷ xs) (y ∷ ys) h = grind (arith, text_is xs ys, pair, nat_eq, eqb-true)
+text_is z u h = grind arith
 
 name_is : (n m : Name) → same_name n m ≡ true → n ≡ m
 name_is (short c) (short d) h = let t = pair (nat_eq c d) true h in ap short (eqb-true c d t.0)
-name_is (short c) (long m) h = cc
-name_is (short c) (both d m) h = cc
-name_is (long n) (short d) h = cc
 name_is (long n) (long m) h = ap long (text_is n m h)
-name_is (long n) (both d m) h = cc
-name_is (both c n) (short d) h = cc
-name_is (both c n) (long m) h = cc
 name_is (both c n) (both d m) h =
     let t = pair (nat_eq c d) (same_text n m) h in
     let initial : c ≡ d = eqb-true c d t.0 in
     let text : n ≡ m = text_is n m t.1 in
     cc
+name_is x y h = cc
 
 document_is : (d e : List Part) → same_document d e ≡ true → d ≡ e
 document_is d e h = (equality_of_parts d e).0 h
@@ -62,28 +46,16 @@ key_is (any_key m h) (any_key n i) e =
     let document : m ≡ n = document_is m n t.0 in
     let help : h ≡ i = help_is h i t.1 in
     cc
-key_is (any_key m h) (word_key n i) e = cc
-key_is (any_key m h) (flag_key n i) e = cc
-key_is (any_key m h) (argument_key n v i) e = cc
-key_is (word_key m h) (any_key n i) e = cc
 key_is (word_key m h) (word_key n i) e =
     let t = pair (same_text m n) (same_help h i) e in
     let text : m ≡ n = text_is m n t.0 in
     let help : h ≡ i = help_is h i t.1 in
     cc
-key_is (word_key m h) (flag_key n i) e = cc
-key_is (word_key m h) (argument_key n v i) e = cc
-key_is (flag_key m h) (any_key n i) e = cc
-key_is (flag_key m h) (word_key n i) e = cc
 key_is (flag_key m h) (flag_key n i) e =
     let t = pair (same_name m n) (same_help h i) e in
     let name : m ≡ n = name_is m n t.0 in
     let help : h ≡ i = help_is h i t.1 in
     cc
-key_is (flag_key m h) (argument_key n v i) e = cc
-key_is (argument_key m v h) (any_key n i) e = cc
-key_is (argument_key m v h) (word_key n i) e = cc
-key_is (argument_key m v h) (flag_key n i) e = cc
 key_is (argument_key m v h) (argument_key n w i) e =
     let t = pair (same_name m n) (same_text v w && same_help h i) e in
     let u = pair (same_text v w) (same_help h i) t.1 in
@@ -91,6 +63,7 @@ key_is (argument_key m v h) (argument_key n w i) e =
     let text : v ≡ w = text_is v w u.0 in
     let help : h ≡ i = help_is h i u.1 in
     cc
+key_is x y e = cc
 
 pub equality_of_keys : IsEqualityOfKeys
 equality_of_keys k l = (λ h. key_is k l h, λ e. subst (λ m. same_key k m ≡ true) e (keys_equiv.refl k))
@@ -99,9 +72,7 @@ pub order_of_keys : IsOrderOfKeys
 order_of_keys = record { total = keys_total; tied = keys_tied }
 
 type_itself : (k : HiTy) → same_type k k ≡ true
-type_itself ty.Flag = refl
-type_itself ty.Command = refl
-type_itself ty.Positional = refl
+type_itself k = grind arith
 
 pub equality_of_types : IsEqualityOfTypes
 equality_of_types j k = (λ h. tag_one hity.the_type tt j k (eqb-true _ _ h), λ e. subst (λ m. same_type j m ≡ true) e (type_itself j))

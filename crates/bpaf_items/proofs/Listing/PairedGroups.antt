@@ -1,6 +1,6 @@
 -- The groups of an item list, one after another, and what falls under each.
 use Rattle.std.proofs.Common.{◌≡◌, ℕ, ◌+◌, ◌≤◌, ◌==◌, Bool, true, false, ◌&&◌, ◌||◌, ◌⊎◌, inl, inr, List, [], ◌∷◌, ◌++◌, map, refl, sym, ap, ◌∙◌, subst, append_assoc, append-nil, arith}
-use Rattle.std.specs.Prelude.{if◌then◌else◌, filter, count_by, All, Option, Some}
+use Rattle.std.specs.Prelude.{if◌then◌else◌, filter, count_by, All, Option}
 use Rattle.std.specs.List.{list_any}
 use Rattle.std.proofs.Math.Bool.{and-false}
 use Rattle.std.proofs.lemmas.Bool.{eqb-true, ne_eqb, or_parts}
@@ -50,8 +50,7 @@ pub members_after-append : (before es fs : List Entry) (n : ℕ) → members_aft
 members_after-append before es fs n = chosen-append (in_number n) before es fs
 
 heading_no_group : (n : ℕ) (o : Option Entry) (e : Entry) → is_group n (heading_after o e) ≡ false
-heading_no_group n (Some (adjacent_start t k)) e = grind arith
-heading_no_group n o e = refl
+heading_no_group n o e = grind arith
 
 pub outside_no_group : (n : ℕ) (p : Placed) → is_in_group p ≡ false → in_number n p ≡ false
 outside_no_group n p h = grind (arith, heading_no_group)
@@ -76,17 +75,11 @@ open_same before e h = open-push before e ∙ ap (λ b. if b then is_group_start
 
 pub open_through : (before es : List Entry) → list_any is_group_mark es ≡ false → is_group_open (before ++ es) ≡ is_group_open before
 open_through before [] h = ap is_group_open (append-nil before)
-open_through before (e ∷ es) h =
-    ap is_group_open (sym (append_assoc before (e ∷ []) es))
-    ∙ open_through (before ++ e ∷ []) es (or_parts (is_group_mark e) (list_any is_group_mark es) h).1
-    ∙ open_same before e (or_parts (is_group_mark e) (list_any is_group_mark es) h).0
+open_through before (e ∷ es) h = grind (arith, open_through (before ++ e ∷ []) es, append_assoc, or_parts, open_same)
 
 pub count_through : (before es : List Entry) → list_any is_group_mark es ≡ false → count_by is_group_start (before ++ es) ≡ count_by is_group_start before
 count_through before [] h = ap (count_by is_group_start) (append-nil before)
-count_through before (e ∷ es) h =
-    ap (count_by is_group_start) (sym (append_assoc before (e ∷ []) es))
-    ∙ count_through (before ++ e ∷ []) es (or_parts (is_group_mark e) (list_any is_group_mark es) h).1
-    ∙ count_same before e (or_parts (is_group_mark e) (list_any is_group_mark es) h).0
+count_through before (e ∷ es) h = grind (arith, count_through (before ++ e ∷ []) es, append_assoc, or_parts, count_same)
 
 -- what stays of the entries in a group
 abbrev pub kept_after : List Entry → List Entry → Bool → List Entry
@@ -95,10 +88,7 @@ kept_after before es c = map entry (filter (λ p. stays p && c) (placed_after be
 -- in an open group
 members_inside : (before es : List Entry) (n m : ℕ) → list_any is_group_mark es ≡ false → is_group_open before ≡ true → count_by is_group_start before ≡ m → members_after before es n ≡ kept_after before es (n == m)
 members_inside before [] n m h o c = refl
-members_inside before (e ∷ es) n m h o c =
-    let clear : is_group_mark e ≡ false = (or_parts (is_group_mark e) (list_any is_group_mark es) h).0 in
-    two_kept (in_number n (before, e)) (stays (before, e) && (n == m)) e before before _ _ (inside_number n m (before, e) (open_inside before e clear o) (count_same before e clear ∙ c))
-    (members_inside (before ++ e ∷ []) es n m (or_parts (is_group_mark e) (list_any is_group_mark es) h).1 (open_same before e clear ∙ o) (count_same before e clear ∙ c))
+members_inside before (e ∷ es) n m h o c = grind (arith, members_inside (before ++ e ∷ []) es n m, or_parts, two_kept, inside_number, open_inside, count_same, open_same)
 
 -- a whole group after entries that leave none open
 module _ (before : List Entry) (d : List Part) (j k : HiTy) (inner : List Entry) (clear : list_any is_group_mark inner ≡ false) where
@@ -128,21 +118,7 @@ module _ (before : List Entry) (d : List Part) (j k : HiTy) (inner : List Entry)
 
   pub members_of_group : (rest : List Entry) (n : ℕ) → members_after before (group_start d j ∷ (inner ++ group_end k ∷ rest)) n ≡ group_of n ++ members_after ((opened ++ inner) ++ group_end k ∷ []) rest n
   unfolding group_of
-  members_of_group rest n =
-      let first : members_after before (group_start d j ∷ []) n ≡ (if n == number then group_start d j ∷ [] else []) = alone before (group_start d j) n refl refl number_opened in
-      let last : members_after (opened ++ inner) (group_end k ∷ []) n ≡ (if n == number then group_end k ∷ [] else []) = alone (opened ++ inner) (group_end k) n refl refl number_inner in
-      let middle : members_after opened inner n ≡ kept_after opened inner (n == number) = members_inside opened inner n number clear open_opened number_opened in
-      let front : List Entry = if n == number then group_start d j ∷ [] else [] in
-      let held : List Entry = kept_after opened inner (n == number) in
-      let back : List Entry = if n == number then group_end k ∷ [] else [] in
-      let others : List Entry = members_after ((opened ++ inner) ++ group_end k ∷ []) rest n in
-      members_after-append before (group_start d j ∷ []) (inner ++ group_end k ∷ rest) n
-      ∙ ap (λ xs. members_after before (group_start d j ∷ []) n ++ xs) (members_after-append opened inner (group_end k ∷ rest) n)
-      ∙ ap (λ xs. members_after before (group_start d j ∷ []) n ++ (members_after opened inner n ++ xs)) (members_after-append (opened ++ inner) (group_end k ∷ []) rest n)
-      ∙ ap (λ xs. xs ++ (members_after opened inner n ++ (members_after (opened ++ inner) (group_end k ∷ []) n ++ others))) first
-      ∙ ap (λ xs. front ++ (xs ++ (members_after (opened ++ inner) (group_end k ∷ []) n ++ others))) middle
-      ∙ ap (λ xs. front ++ (held ++ (xs ++ others))) last
-      ∙ sym (append_assoc (front ++ held) back others ∙ append_assoc front held (back ++ others))
+  members_of_group rest n = grind (arith, alone, number_opened, number_inner, members_inside, open_opened, members_after-append, append_assoc)
 
   kept_none : (b es : List Entry) → kept_after b es false ≡ []
   kept_none b [] = refl
@@ -159,10 +135,7 @@ module _ (before : List Entry) (d : List Part) (j k : HiTy) (inner : List Entry)
 -- groups that come later have later numbers
 pub later_none : {es : List Entry} → HasPairedGroups es → (before : List Entry) (n : ℕ) → is_group_open before ≡ false → n ≤ count_by is_group_start before → members_after before es n ≡ []
 later_none (empty is) before n o l = rw is refl
-later_none (outer e rest is clear p) before n o l =
-    let skipped : in_number n (before, e) ≡ false = outside_no_group n (before, e) (closed_outside before e clear o) in
-    let more : n ≤ count_by is_group_start (before ++ e ∷ []) = let c : count_by is_group_start (before ++ e ∷ []) ≡ count_by is_group_start before = count_same before e clear in omega arith in
-    rw (is, skipped) (later_none p (before ++ e ∷ []) n (open_same before e clear ∙ o) more)
+later_none (outer e rest is clear p) before n o l = grind (arith, later_none p (before ++ e ∷ []) n, outside_no_group, closed_outside, count_same, open_same)
 later_none (whole d j k inner rest is clear p) before n o l =
     let other : (n == number before d j k inner clear) ≡ false = ne_eqb n (count_by is_group_start before + 1) (λ e. omega arith) in
     let more : n ≤ count_by is_group_start ((opened before d j k inner clear ++ inner) ++ group_end k ∷ []) = let c : count_by is_group_start ((opened before d j k inner clear ++ inner) ++ group_end k ∷ []) ≡ count_by is_group_start before + 1 = number_inner before d j k inner clear in omega arith in
@@ -198,8 +171,7 @@ module _ (P : Entry → Type 0) where
   part_all q before es h = All-map P entry _ (All-filter q (λ p. P p.1) _ (placed_all before es h))
 
 one_clear : (b : Bool) (p : Placed) (ps : List Placed) → is_group_mark p.1 ≡ false → list_any is_group_mark (map entry ps) ≡ false → list_any is_group_mark (map entry (if b then p ∷ ps else ps)) ≡ false
-one_clear true p ps h rest = rw (h, rest) refl
-one_clear false p ps h rest = rest
+one_clear b p ps h3 h4 = grind arith
 
 pub part_clear : (q : Placed → Bool) (before es : List Entry) → list_any is_group_mark es ≡ false → list_any is_group_mark (map entry (filter q (placed_after before es))) ≡ false
 part_clear q before [] h = refl

@@ -1,5 +1,5 @@
 -- Entries with those before them, one entry after another.
-use Rattle.std.proofs.Common.{◌≡◌, Bool, true, false, not, List, [], ◌∷◌, ◌++◌, map, refl, sym, ap, ◌∙◌, append_assoc, append-nil}
+use Rattle.std.proofs.Common.{◌≡◌, Bool, not, List, [], ◌∷◌, ◌++◌, map, refl, sym, ap, ◌∙◌, append_assoc, append-nil, arith}
 use Rattle.std.specs.Prelude.{if◌then◌else◌, filter}
 use Rattle.std.proofs.lemmas.List.{map-append}
 use Rattle.std.proofs.lemmas.List.Elements.{filter-append}
@@ -9,8 +9,7 @@ use Rattle.bpaf_items.specs.Listing.Falls.{Placed, placed, placed_after, is_in_g
 -- two lists: the second stands after the first
 pub placed_after-append : (before es fs : List Entry) → placed_after before (es ++ fs) ≡ placed_after before es ++ placed_after (before ++ es) fs
 placed_after-append before [] fs = ap (λ b. placed_after b fs) (sym (append-nil before))
-placed_after-append before (e ∷ es) fs =
-    ap (λ ps. (before, e) ∷ ps) (placed_after-append (before ++ e ∷ []) es fs ∙ ap (λ b. placed_after (before ++ e ∷ []) es ++ placed_after b fs) (append_assoc before (e ∷ []) es))
+placed_after-append before (e ∷ es) fs = grind (arith, placed_after-append (before ++ e ∷ []) es fs, append_assoc)
 
 pub placed-append : (es fs : List Entry) → placed (es ++ fs) ≡ placed es ++ placed_after es fs
 placed-append es fs = placed_after-append [] es fs
@@ -33,13 +32,10 @@ chosen-append q before es fs = rw (placed_after-append, filter-append, map-appen
 
 -- at two places that both pass, or both fail
 pub two_kept : (a b : Bool) (e : Entry) (before other : List Entry) (ps qs : List Placed) → a ≡ b → map entry ps ≡ map entry qs → map entry (if a then (before, e) ∷ ps else ps) ≡ map entry (if b then (other, e) ∷ qs else qs)
-two_kept true true e before other ps qs same rest = ap (λ xs. e ∷ xs) rest
-two_kept false false e before other ps qs same rest = rest
-two_kept a b e before other ps qs same rest = cc
+two_kept a b e before other ps qs h7 h8 = grind arith
 
 pub kept_map : (b : Bool) (p : Placed) → map (λ q. q.1) (if b then p ∷ [] else []) ≡ (if b then p.1 ∷ [] else [])
-kept_map true p = refl
-kept_map false p = refl
+kept_map b p = grind arith
 
 pub outside_groups-append : (es fs : List Entry) → outside_groups (es ++ fs) ≡ outside_groups es ++ map (λ p. p.1) (filter (λ p. not (is_in_group p)) (placed_after es fs))
 outside_groups-append es fs = chosen-append (λ p. not (is_in_group p)) [] es fs

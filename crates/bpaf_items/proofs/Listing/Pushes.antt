@@ -1,8 +1,8 @@
 -- What a look back sees after one more entry.
-use Rattle.std.proofs.Common.{◌≡◌, ℕ, ◌+◌, ◌-◌, Bool, true, false, not, List, [], ◌∷◌, ◌++◌, refl, ap, ◌∙◌, append-nil, arith}
-use Rattle.std.specs.Prelude.{if◌then◌else◌, length, drop, reverse, count_by, Option, Some}
+use Rattle.std.proofs.Common.{◌≡◌, ℕ, ◌+◌, Bool, true, false, not, List, [], ◌∷◌, ◌++◌, refl, ap, ◌∙◌, append-nil, arith}
+use Rattle.std.specs.Prelude.{if◌then◌else◌, count_by, Option, Some}
 use Rattle.std.specs.Option.{option_map_or}
-use Rattle.std.specs.List.{last_or, after_last, prefix_len}
+use Rattle.std.specs.List.{last_or, after_last}
 use Rattle.std.proofs.lemmas.List.Elements.{filter-append}
 use Rattle.std.proofs.lemmas.List.Sums.{sum_by_push}
 use Rattle.std.proofs.lemmas.List.{reverse-append, drop-append-le, drop_all, length-append}
@@ -22,17 +22,7 @@ count-push p es e = sum_by_push (λ x. if p x then 1 else 0) es e
 
 -- what stands after the last that passes
 pub after_last-push : {X : Type 0} (p : X → Bool) (xs : List X) (x : X) → after_last p (xs ++ x ∷ []) ≡ (if p x then [] else after_last p xs ++ x ∷ [])
-after_last-push {X = X} p xs x = ap (λ ys. drop (length (xs ++ x ∷ []) - prefix_len fails ys) (xs ++ x ∷ [])) (reverse-append xs (x ∷ [])) ∙ by (p x) refl
-  where
-    fails : X → Bool
-    fails y = not (p y)
-
-    by : (t : Bool) → p x ≡ t → drop (length (xs ++ x ∷ []) - prefix_len fails (x ∷ reverse xs)) (xs ++ x ∷ []) ≡ (if p x then [] else after_last p xs ++ x ∷ [])
-    by true e = rw e (drop_all _ (xs ++ x ∷ []) (omega arith))
-    by false e = rw e (ap (λ n. drop n (xs ++ x ∷ [])) fewer ∙ drop-append-le (length xs - prefix_len fails (reverse xs)) xs (x ∷ []) (omega arith))
-      where
-        fewer : length (xs ++ x ∷ []) - (1 + prefix_len fails (reverse xs)) ≡ length xs - prefix_len fails (reverse xs)
-        fewer = omega (arith, length-append xs (x ∷ []))
+after_last-push {X = X} p xs x = grind (arith, reverse-append, drop_all, drop-append-le, length-append)
 
 -- counts since the last group start
 abbrev pub since_start : (Entry → Bool) → List Entry → ℕ

@@ -39,8 +39,7 @@ module _ (l : Leaf) where
 
   -- an entry without the key
   passed : (b : Bool) (p : Placed) (ps : List Placed) → at p ≡ false → filter at (if b then p ∷ ps else ps) ≡ filter at ps
-  passed true p ps h = rw h refl
-  passed false p ps h = refl
+  passed b p ps h3 = grind arith
 
   -- an item with the key is not shown where the key was seen
   hidden : (before : List Entry) (e : Entry) → list_any has before ≡ true → has e ≡ true → is_shown (before, e) ≡ false
@@ -74,16 +73,14 @@ module _ (l : Leaf) where
   -- counts
 
   count_step : (b : Bool) (p : Placed) (ps : List Placed) (n : ℕ) → at p ≡ b → n ≡ length (filter at ps) → (if at p then 1 else 0) + n ≡ length (filter at (p ∷ ps))
-  count_step true p ps n h e = rw (h, e) (omega arith)
-  count_step false p ps n h e = rw (h, e) (omega arith)
+  count_step b p ps n h4 h5 = grind arith
 
   counted : (ps : List Placed) → count_by has (map (λ p. p.1) ps) ≡ length (filter at ps)
   counted [] = refl
   counted (p ∷ ps) = sum_by-cons (λ x. if has x then 1 else 0) p.1 (map (λ q. q.1) ps) ∙ count_step (at p) p ps (count_by has (map (λ q. q.1) ps)) refl (counted ps)
 
 one_of_some : (ps : List Placed) → 1 ≤ length ps → length (take 1 ps) ≡ 1
-one_of_some [] h = omega arith
-one_of_some (p ∷ ps) h = refl
+one_of_some ps h1 = grind arith
 
 pub key_once : KeyOnce
 key_once es l = record { first = alone; once = once } where

@@ -1,6 +1,6 @@
 -- In an item list what has help, or stands in no adjacent block, falls under a group or a heading.
-use Rattle.std.proofs.Common.{◌≡◌, ◌≢◌, ℕ, ◌+◌, ◌<◌, ◌≤◌, Bool, true, false, not, ◌⊎◌, inl, inr, List, [], ◌∷◌, ◌++◌, refl, sym, ap, ◌∙◌, subst, append_assoc, append-nil, arith}
-use Rattle.std.specs.Prelude.{if◌then◌else◌, IsTrue, All, count_by, Option, Some}
+use Rattle.std.proofs.Common.{◌≡◌, ◌≢◌, ℕ, ◌+◌, ◌<◌, ◌≤◌, Bool, true, false, not, ◌⊎◌, List, [], ◌∷◌, ◌++◌, refl, sym, ap, ◌∙◌, subst, append_assoc, append-nil, arith}
+use Rattle.std.specs.Prelude.{if◌then◌else◌, IsTrue, All, count_by, Option}
 use Rattle.std.specs.Option.{option_map_or}
 use Rattle.std.proofs.lemmas.Bool.{le-ltb, or_parts, false_from_ne_true}
 use Rattle.std.proofs.lemmas.List.Elements.{All-nil, All-cons, All-append, All-same}
@@ -8,15 +8,14 @@ use Rattle.bpaf_doc.specs.Buffer.Parts.{Part}
 use Rattle.bpaf_meta.specs.Content.{Tree}
 use Rattle.bpaf_items.specs.declared.meta_help.entry.HiTy.{HiTy}
 use Rattle.bpaf_items.specs.Listing.ItemList.{Entry, group_start, group_end, adjacent_start, adjacent_stop}
-use Rattle.bpaf_items.specs.Listing.Falls.{Placed, placed_after, Destination, group, heading, nowhere, lacks_help, type_of, is_mark, is_group_mark, is_group_start, is_group_end, is_adjacent_start, is_adjacent_stop, is_adjacent_mark, is_group_open, is_in_group, last_that, outside_groups, heading_after, group_destination, heading_destination, destination}
+use Rattle.bpaf_items.specs.Listing.Falls.{Placed, placed_after, Destination, group, nowhere, lacks_help, is_mark, is_group_mark, is_group_start, is_group_end, is_adjacent_start, is_adjacent_stop, is_adjacent_mark, is_group_open, is_in_group, last_that, outside_groups, heading_after, group_destination, heading_destination, destination}
 use Rattle.bpaf_items.specs.Listing.ListLaws.{IsInNoAdjacentBlock, FallsSomewhere}
 use Rattle.bpaf_items.proofs.Listing.Placing.{placed_after-append}
 use Rattle.bpaf_items.proofs.Listing.Blocks.{Blocks, none, plain, block, grouped, joined, starts_in, stops_in, even, count-append, item_list_blocks}
 use Rattle.bpaf_items.proofs.Listing.Pushes.{count-push, since_start, since_start-push, open-push, is_block_open, inside-push, block_open-push}
 
 choice_falls : (b : Bool) (x y : Destination) → (b ≡ true → x ≢ nowhere) → (b ≡ false → y ≢ nowhere) → (if b then x else y) ≢ nowhere
-choice_falls true x y f g = f refl
-choice_falls false x y f g = g refl
+choice_falls b x y h3 h4 = grind arith
 
 -- ---- what has help
 
@@ -24,8 +23,7 @@ group_falls : (p : Placed) → lacks_help p.1 ≡ false → group_destination p 
 group_falls p h e = let kept : group (count_by is_group_start (p.0 ++ p.1 ∷ [])) ≡ nowhere = rw h at e in cc
 
 heading_after_falls : (mark : Option Entry) (e : Entry) → lacks_help e ≡ false → heading_after mark e ≢ nowhere
-heading_after_falls (Some (adjacent_start t k)) e h = λ x. let kept : heading k ≡ nowhere = rw h at x in cc
-heading_after_falls mark e h = λ x. cc
+heading_after_falls mark e h2 = grind arith
 
 pub help_falls : (p : Placed) → lacks_help p.1 ≡ false → destination p ≢ nowhere
 help_falls p h = grind (arith, choice_falls, group_falls, heading_after_falls)
@@ -38,26 +36,19 @@ record Fits (before : List Entry) : Type 0 where
   pub outer : is_group_open before ≡ false → is_block_open before ≡ true → stops_in before < starts_in before
 
 alone_in_group : (p : Placed) → Fits p.0 → IsInNoAdjacentBlock p → group_destination p ≢ nowhere
-alone_in_group p f h = grind (arith, since_start, stops_in, starts_in, le-ltb)
+alone_in_group p f h = grind (arith, le-ltb)
 
 alone_after : (o : Option Entry) (e : Entry) → option_map_or is_adjacent_start o false ≡ false → heading_after o e ≢ nowhere
-alone_after (Some (adjacent_start t k)) e h = cc
-alone_after o e h = λ x. cc
+alone_after o e h2 = grind arith
 
 alone_outside : (p : Placed) → Fits p.0 → IsInNoAdjacentBlock p → is_in_group p ≡ false → heading_destination p ≢ nowhere
-alone_outside p f h out =
-    let closed : is_group_open p.0 ≡ false = (or_parts (is_group_mark p.1) (is_group_open p.0) out).1 in
-    let outer : is_block_open p.0 ≡ true → stops_in p.0 < starts_in p.0 = f.outer closed in
-    let even_now : starts_in p.0 ≤ stops_in p.0 = h in
-    choice_falls (is_mark p.1) (heading (type_of p.1)) (heading_after (last_that is_adjacent_mark (outside_groups p.0)) p.1) (λ m x. cc)
-    (λ m. alone_after (last_that is_adjacent_mark (outside_groups p.0)) p.1 (false_from_ne_true (is_block_open p.0) (λ x. let l : stops_in p.0 < starts_in p.0 = outer x in omega arith)))
+alone_outside p f h out = grind (arith, or_parts, choice_falls, alone_after, false_from_ne_true)
 
 abbrev Falls : Placed → Type 0
 Falls p = IsTrue (not (lacks_help p.1)) ⊎ IsInNoAdjacentBlock p → destination p ≢ nowhere
 
 falls_at : (p : Placed) → Fits p.0 → Falls p
-falls_at p f (inl h) = grind (arith, help_falls)
-falls_at p f (inr h) = choice_falls (is_in_group p) (group_destination p) (heading_destination p) (λ i. alone_in_group p f h) (λ o. alone_outside p f h o)
+falls_at p h1 h2 = grind (arith, help_falls, choice_falls, alone_in_group, alone_outside)
 
 -- ---- through an item list
 
@@ -104,8 +95,7 @@ in_group_here : (before : List Entry) (e : Entry) → is_group_mark e ≡ false 
 in_group_here before e h = rw h refl
 
 single : (g : Bool) (before : List Entry) (e : Entry) → is_group_mark e ≡ false → Stands g before → Stands g (before ++ e ∷ []) → Goes g before (e ∷ [])
-single g before e h s t =
-    record { falls = one_falls before e s.fits; stands = t; same = λ no_group. inside-push before e (in_group_here before e h ∙ s.inside ∙ ap not no_group) }
+single g before e h s t = grind (arith, one_falls, inside-push, in_group_here)
 
 after_start : (g : Bool) (before : List Entry) (t : Tree) (k : HiTy) → Stands g before → Stands g (before ++ adjacent_start t k ∷ [])
 after_start g before t k s =
@@ -132,13 +122,7 @@ after_plain g before e h s =
 
 -- one after the other
 go_on : (g : Bool) (before es fs : List Entry) → Goes g before es → Goes g (before ++ es) fs → Goes g before (es ++ fs)
-go_on g before es fs f h =
-    let joined_lists : (before ++ es) ++ fs ≡ before ++ (es ++ fs) = append_assoc before es fs in
-    record {
-      falls = join_falls before es fs f.falls h.falls;
-      stands = subst (Stands g) joined_lists h.stands;
-      same = λ no_group. ap outside_groups (sym joined_lists) ∙ h.same no_group ∙ f.same no_group;
-    }
+go_on g before es fs f h = grind (arith, append_assoc, join_falls)
 
 -- a group opens, and closes as it opened
 after_group_start : (before : List Entry) (d : List Part) (k : HiTy) → Stands true before → Stands false (before ++ group_start d k ∷ [])

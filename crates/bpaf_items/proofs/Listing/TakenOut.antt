@@ -10,7 +10,7 @@ use Rattle.std.proofs.lemmas.List.Folds.{list_any-append}
 use Rattle.bpaf_doc.specs.Buffer.Parts.{Part}
 use Rattle.bpaf_items.specs.declared.meta_help.entry.HiTy.{HiTy}
 use Rattle.bpaf_items.specs.Listing.ItemList.{Entry, group_start, group_end}
-use Rattle.bpaf_items.specs.Listing.Falls.{placed_after, is_group_start, is_group_end, is_group_mark, is_adjacent_start, is_adjacent_stop, is_group_open, is_in_group, is_adjacent_in_group, lacks_help, group_members, outside_groups}
+use Rattle.bpaf_items.specs.Listing.Falls.{placed_after, is_group_start, is_group_end, is_group_mark, is_group_open, is_in_group, group_members, outside_groups}
 use Rattle.bpaf_items.specs.Listing.Groups.{find_group, both_places, HasNoGroupMark, HasPairedGroups, empty, outer, whole, stays, kept_entries, HasFirstGroup, HasNoGroup, GroupsAreTakenOut}
 use Rattle.bpaf_items.proofs.Listing.Placing.{entry, chosen-append, two_kept}
 use Rattle.bpaf_items.proofs.Listing.Blocks.{item_list_blocks, count-append, count-cons}
@@ -21,21 +21,14 @@ use Rattle.bpaf_items.proofs.Listing.PairedGroups.{in_number, members_after, mem
 
 none_outside : (before es : List Entry) (n : ℕ) → HasNoGroupMark es → is_group_open before ≡ false → members_after before es n ≡ []
 none_outside before [] n h o = refl
-none_outside before (e ∷ es) n h o =
-    let clear : is_group_mark e ≡ false = (or_parts (is_group_mark e) (list_any is_group_mark es) h).0 in
-    let skipped : in_number n (before, e) ≡ false = outside_no_group n (before, e) (closed_outside before e clear o) in
-    rw skipped (none_outside (before ++ e ∷ []) es n (or_parts (is_group_mark e) (list_any is_group_mark es) h).1 (open_same before e clear ∙ o))
+none_outside before (e ∷ es) n h o = grind (arith, none_outside (before ++ e ∷ []) es n, or_parts, outside_no_group, closed_outside, open_same)
 
 -- ---- the same entries in another place
 
 -- what stays in a group depends on what stands since its start
 pub kept_alike : (before other es : List Entry) (c : Bool) → after_last is_group_start before ≡ after_last is_group_start other → kept_after before es c ≡ kept_after other es c
 kept_alike before other [] c same = refl
-kept_alike before other (e ∷ es) c same =
-    let next : after_last is_group_start (before ++ e ∷ []) ≡ after_last is_group_start (other ++ e ∷ [])
-    = after_last-push is_group_start before e ∙ ap (λ xs. if is_group_start e then [] else xs ++ e ∷ []) same ∙ sym (after_last-push is_group_start other e) in
-    let alike : is_adjacent_in_group before ≡ is_adjacent_in_group other = ap (λ xs. nat_lt (count_by is_adjacent_stop xs) (count_by is_adjacent_start xs)) same in
-    two_kept (stays (before, e) && c) (stays (other, e) && c) e before other _ _ (ap (λ b. not (lacks_help e && b) && c) alike) (kept_alike (before ++ e ∷ []) (other ++ e ∷ []) es c next)
+kept_alike before other (e ∷ es) c same = grind (arith, kept_alike (before ++ e ∷ []) (other ++ e ∷ []) es c, after_last-push, two_kept)
 
 pub kept_true : (before es : List Entry) → kept_after before es true ≡ map entry (filter stays (placed_after before es))
 kept_true before [] = refl
@@ -80,17 +73,11 @@ outside_alike before other (e ∷ es) same = grind (arith, two_kept, outside_ali
 
 outside_none : (before es : List Entry) → HasNoGroupMark es → is_group_open before ≡ true → outside_after before es ≡ []
 outside_none before [] h o = refl
-outside_none before (e ∷ es) h o =
-    let clear : is_group_mark e ≡ false = (or_parts (is_group_mark e) (list_any is_group_mark es) h).0 in
-    let within : is_in_group (before, e) ≡ true = open_inside before e clear o in
-    rw within (outside_none (before ++ e ∷ []) es (or_parts (is_group_mark e) (list_any is_group_mark es) h).1 (open_same before e clear ∙ o))
+outside_none before (e ∷ es) h o = grind (arith, outside_none (before ++ e ∷ []) es, or_parts, open_inside, open_same)
 
 outside_all : (before es : List Entry) → HasNoGroupMark es → is_group_open before ≡ false → outside_after before es ≡ es
 outside_all before [] h o = refl
-outside_all before (e ∷ es) h o =
-    let clear : is_group_mark e ≡ false = (or_parts (is_group_mark e) (list_any is_group_mark es) h).0 in
-    let without : is_in_group (before, e) ≡ false = closed_outside before e clear o in
-    rw without (ap (λ xs. e ∷ xs) (outside_all (before ++ e ∷ []) es (or_parts (is_group_mark e) (list_any is_group_mark es) h).1 (open_same before e clear ∙ o)))
+outside_all before (e ∷ es) h o = grind (arith, outside_all (before ++ e ∷ []) es, or_parts, closed_outside, open_same)
 
 outside_after-append : (before es fs : List Entry) → outside_after before (es ++ fs) ≡ outside_after before es ++ outside_after (before ++ es) fs
 outside_after-append before es fs = chosen-append (λ p. not (is_in_group p)) before es fs
@@ -99,20 +86,14 @@ outside_after-append before es fs = chosen-append (λ p. not (is_in_group p)) be
 
 at_or_len : (p : Entry → Bool) (front : List Entry) (e : Entry) (back : List Entry) → list_any p front ≡ false → p e ≡ true → position_or_len p (front ++ e ∷ back) ≡ length front
 at_or_len p [] e back h y = rw y refl
-at_or_len p (f ∷ front) e back h y =
-    let n : p f ≡ false = (or_parts (p f) (list_any p front) h).0 in
-    let rest : position_or_len p (front ++ e ∷ back) ≡ length front = at_or_len p front e back (or_parts (p f) (list_any p front) h).1 y in
-    rw n (omega arith)
+at_or_len p (f ∷ front) e back h y = grind (arith, at_or_len p front e back (or_parts (p f) (list_any p front) h).1 y, or_parts)
 
 place_at : (p : Entry → Bool) (front : List Entry) (e : Entry) (back : List Entry) → list_any p front ≡ false → p e ≡ true → position p (front ++ e ∷ back) ≡ Some (length front)
 place_at p front e back h y = grind (arith, front, back, length-append, lt-ltb, at_or_len)
 
 past_len : (p : Entry → Bool) (es : List Entry) → list_any p es ≡ false → position_or_len p es ≡ length es
 past_len p [] h = refl
-past_len p (e ∷ es) h =
-    let n : p e ≡ false = (or_parts (p e) (list_any p es) h).0 in
-    let rest : position_or_len p es ≡ length es = past_len p es (or_parts (p e) (list_any p es) h).1 in
-    rw n (omega arith)
+past_len p (e ∷ es) h = grind (arith, past_len p es, or_parts)
 
 no_place : (p : Entry → Bool) (es : List Entry) → list_any p es ≡ false → position p es ≡ None
 no_place p es h = ap (λ n. if nat_lt n (length es) then Some n else None) (past_len p es h) ∙ ap (λ b. if b then Some (length es) else None) (le-ltb (length es) (length es) (omega arith))
@@ -179,7 +160,7 @@ module _ (front : List Entry) (d : List Part) (j k : HiTy) (inner back : List En
   kept_here = kept_alike (opened front d j k inner clear) [] inner true (after_last-push is_group_start front (group_start d j)) ∙ kept_true [] inner
 
   pub first_members : group_members all 1 ≡ group_start d j ∷ (kept_entries inner ++ group_end k ∷ [])
-  first_members = grind (arith, number, front, inner, none_front, number_inner, members_all, group_of, later_none, paired, closed_after, append-nil, group_of_own, kept_here)
+  first_members = grind (arith, front, inner, none_front, number_inner, members_all, later_none, paired, closed_after, append-nil, group_of_own, kept_here)
 
   pub other_members : (n : ℕ) → group_members all (n + 2) ≡ group_members (front ++ back) (n + 1)
   other_members n =
@@ -190,7 +171,7 @@ module _ (front : List Entry) (d : List Part) (j k : HiTy) (inner back : List En
       ∙ sym (members_after-append [] front back (n + 1) ∙ ap (λ xs. xs ++ members_after front back (n + 1)) (none_outside [] front (n + 1) clear_front refl))
 
   pub outside_all_but : outside_groups all ≡ outside_groups (front ++ back)
-  outside_all_but = grind (arith, outside_after-append, front, inner, back, opened, outside_none, open-push, outside_alike, closed_after, closed_front)
+  outside_all_but = grind (arith, outside_after-append, front, inner, back, outside_none, open-push, outside_alike, closed_after, closed_front)
 
   pub one_fewer : count_by is_group_start all ≡ count_by is_group_start (front ++ back) + 1
   one_fewer =

@@ -1,23 +1,20 @@
 -- The texts that the entries of a map show.
-use Rattle.std.specs.Prelude.{◌≡◌, ℕ, Bool, true, false, List, [], ◌∷◌, Option, Some, map, String, string_bytes, refl, if◌then◌else◌, cond}
+use Rattle.std.specs.Prelude.{◌≡◌, ℕ, List, [], ◌∷◌, Option, Some, map, String, string_bytes, refl, if◌then◌else◌}
 use Rattle.std.specs.Option.{option_map}
 use Rattle.std.specs.BTreeMap.{BTreeMap, get_by_text, is_at, Updates}
 use Rattle.std.specs.Map.{lookup, update}
-use Rattle.std.specs.Ordering.{nat_cmp, is_eq}
+use Rattle.std.specs.Ordering.{nat_cmp}
 use Rattle.std.specs.Cmp.Lexicographic.{slice_cmp}
 use Rattle.std.specs.Str.{bytes_eq}
 use Rattle.std.specs.String.{string_cmp}
-use Rattle.std.proofs.Common.{ap, sym, ◌∙◌}
+use Rattle.std.proofs.Common.{ap, sym, ◌∙◌, arith}
 use Rattle.std.proofs.lemmas.Map.Text.{is_eq-slice_cmp, btree_map_updates_text}
 use Rattle.bpaf_doc.specs.Buffer.Equality.{same_text}
 use Rattle.bpaf_items.specs.Page.EnvTexts.{texts_in, texts_with}
 
 with_update : {Z : Type 0} (texts : List ℕ → Option (String Z)) (name : List ℕ) (text : String Z) (other : List ℕ)
     → option_map string_bytes (update bytes_eq texts name (Some text) other) ≡ texts_with (λ n. option_map string_bytes (texts n)) name (string_bytes text) other
-with_update texts name text other = by (bytes_eq name other) where
-  by : (b : Bool) → option_map string_bytes (cond b (Some text) (texts other)) ≡ (if b then Some (string_bytes text) else option_map string_bytes (texts other))
-  by true = refl
-  by false = refl
+with_update texts name text other = grind arith
 
 module _ {Y Z : Type 0} where
   abbrev pub shown_pair : String Y × String Z → List ℕ × List ℕ
@@ -26,13 +23,7 @@ module _ {Y Z : Type 0} where
   lookup-shown : (name : List ℕ) (es : List (String Y × String Z))
       → lookup (same_text name) (map shown_pair es) ≡ option_map string_bytes (lookup (is_at (λ (k : String Y). slice_cmp nat_cmp name (string_bytes k))) es)
   lookup-shown name [] = refl
-  lookup-shown name (e ∷ es) = by (is_eq (slice_cmp nat_cmp name (string_bytes e.0))) (is_eq-slice_cmp name (string_bytes e.0)) (lookup-shown name es) where
-    by : (b : Bool) → b ≡ same_text name (string_bytes e.0)
-        → lookup (same_text name) (map shown_pair es) ≡ option_map string_bytes (lookup (is_at (λ (k : String Y). slice_cmp nat_cmp name (string_bytes k))) es)
-        → cond (same_text name (string_bytes e.0)) (Some (string_bytes e.1)) (lookup (same_text name) (map shown_pair es))
-        ≡ option_map string_bytes (cond b (Some e.1) (lookup (is_at (λ (k : String Y). slice_cmp nat_cmp name (string_bytes k))) es))
-    by true is same = rw (← is) refl
-    by false is same = rw (← is) same
+  lookup-shown name (e ∷ es) = grind (arith, lookup-shown name es, is_eq-slice_cmp)
 
   pub texts_shown : (m : BTreeMap (String Y) (String Z)) (name : List ℕ) → texts_in (map shown_pair m.entries) name ≡ option_map string_bytes (get_by_text m name)
   texts_shown m name = lookup-shown name m.entries

@@ -1,5 +1,5 @@
 -- An insertion into a map of texts.
-use Rattle.std.proofs.Common.{◌≡◌, ◌≢◌, ℕ, Bool, true, false, List, Some, refl, ap, sym}
+use Rattle.std.proofs.Common.{◌≡◌, ◌≢◌, ℕ, false, List, Some, ap, sym, arith}
 use Rattle.std.specs.Prelude.{if◌then◌else◌}
 use Rattle.std.proofs.lemmas.Cmp.{nat_list_eq_equiv}
 use Rattle.bpaf_doc.specs.Buffer.Equality.{same_text}
@@ -7,10 +7,7 @@ use Rattle.bpaf_items.specs.Page.EnvTexts.{TextsAreInserted}
 use Rattle.bpaf_items.proofs.Listing.KeyLaws.{text_is}
 
 other_text : (xs ys : List ℕ) → xs ≢ ys → same_text xs ys ≡ false
-other_text xs ys h = by (same_text xs ys) refl where
-  by : (b : Bool) → same_text xs ys ≡ b → b ≡ false
-  by true e = absurd (h (text_is xs ys e))
-  by false e = refl
+other_text xs ys h = grind (arith, text_is)
 
 pub texts_are_inserted : TextsAreInserted
 texts_are_inserted texts name text = record {

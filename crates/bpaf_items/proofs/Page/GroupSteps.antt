@@ -1,6 +1,6 @@
 -- Groups, and entries outside them, taken from the front of a list.
 use Rattle.std.proofs.Common.{get_or, ◌&&◌, ◌≡◌, ℕ, ◌+◌, ◌<◌, ◌≤◌, Bool, true, false, not, List, [], ◌∷◌, ◌++◌, length, map, take, drop, refl, sym, ap, ◌∙◌, subst, append_assoc, add-one, zero, suc, arith}
-use Rattle.std.specs.Prelude.{if◌then◌else◌, filter, flat_map, count_by, nat_lt, codes, Option, Some, None}
+use Rattle.std.specs.Prelude.{if◌then◌else◌, filter, flat_map, count_by, nat_lt, Option, Some, None}
 use Rattle.std.specs.Borrow.{Bor}
 use Rattle.std.specs.List.{position, range_with_len}
 use Rattle.std.proofs.Math.Seq.{take-append_seam, drop-append_seam}
@@ -12,8 +12,8 @@ use Rattle.bpaf_items.specs.declared.meta_help.entry.HiTy.{HiTy}
 use Rattle.bpaf_items.specs.declared.meta_help.entry.HiTy.TheVariants as ty
 use Rattle.bpaf_items.specs.Listing.ItemList.{Entry, group_start, group_end}
 use Rattle.bpaf_items.specs.declared.meta_help.entry.HelpItem.{HelpItem}
-use Rattle.bpaf_items.specs.Listing.Falls.{placed_after, is_group_start, is_group_end, is_group_mark, is_adjacent_start, is_adjacent_stop, lacks_help, group_members, heading_members, items_of_type, outside_groups}
-use Rattle.bpaf_items.specs.Listing.Groups.{both_places, HasNoGroupMark, HasPairedGroups, empty, outer, whole, stays, kept_entries}
+use Rattle.bpaf_items.specs.Listing.Falls.{placed_after, is_group_start, is_group_end, is_group_mark, is_adjacent_start, is_adjacent_stop, lacks_help, group_members, outside_groups}
+use Rattle.bpaf_items.specs.Listing.Groups.{both_places, HasNoGroupMark, HasPairedGroups, stays, kept_entries}
 use Rattle.bpaf_items.specs.Page.EnvTexts.{Texts}
 use Rattle.bpaf_items.specs.Page.HelpPage.{groups_writes, heading_writes, list_writes}
 use Rattle.bpaf_items.specs.Page.Steps.Groups.{group_lists, group_len, heading_end, headings, len_through, Takes, title_front}
@@ -22,7 +22,7 @@ use Rattle.bpaf_items.proofs.Listing.Placing.{entry, chosen-append, kept_map}
 use Rattle.bpaf_items.proofs.Listing.Blocks.{count-cons}
 use Rattle.bpaf_items.proofs.Listing.Headings.{headings_agree}
 use Rattle.bpaf_items.proofs.Listing.Pushes.{after_last-push, since_start, since_start-push}
-use Rattle.bpaf_items.proofs.Listing.PairedGroups.{in_number, members_after, outside_no_group, closed_outside, open_same, not_start, count_same}
+use Rattle.bpaf_items.proofs.Listing.PairedGroups.{members_after, outside_no_group, closed_outside, open_same, not_start, count_same}
 use Rattle.bpaf_items.proofs.Listing.TakenOut.{kept_alike, kept_true, shifted, outside_alike, first_members, other_members, outside_all_but, one_fewer, both_at}
 
 -- ---- a list of numbers
@@ -50,7 +50,7 @@ module _ (e : Entry) (es : List Entry) (clear : is_group_mark e ≡ false) (pair
       ∙ shifted paired whole_before [] n refl refl refl
 
   outer_members : (n : ℕ) → group_members (e ∷ es) n ≡ group_members es n
-  outer_members n = grind (arith, in_number, outside_no_group, closed_outside, clear, members_behind)
+  outer_members n = grind (arith, outside_no_group, closed_outside, clear, members_behind)
 
   outer_count : count_by is_group_start (e ∷ es) ≡ count_by is_group_start es
   outer_count = grind (arith, count-cons, not_start, clear)
@@ -66,12 +66,7 @@ record FirstOuter (e : Entry) (es : List Entry) : Type 0 where
   pub paired : HasPairedGroups es
 
 first_outer : {all : List Entry} (e : Entry) (es : List Entry) → HasPairedGroups all → all ≡ e ∷ es → is_group_start e ≡ false → FirstOuter e es
-first_outer e es (empty is) same h = cc
-first_outer e es (outer f rest is clear p) same h =
-    let own : f ≡ e = cc in
-    let others : rest ≡ es = cc in
-    record { clear = ap is_group_mark (sym own) ∙ clear; paired = subst HasPairedGroups others p }
-first_outer e es (whole d j k inner rest is clear p) same h = grind arith
+first_outer e es h2 h3 h4 = grind arith
 
 pub takes_outer : (included : Bool) (texts : Texts) (all : List Entry) (e : Entry) (es : List Entry) (doc : List Part) (outside : List Entry)
     → HasPairedGroups all → all ≡ e ∷ es → is_group_start e ≡ false → Takes included texts all 1 doc doc outside (outside ++ e ∷ [])
@@ -90,9 +85,7 @@ record FirstGroup (all : List Entry) : Type 0 where
   pub paired : HasPairedGroups rest
 
 first_group : {all : List Entry} (e : Entry) (es : List Entry) → HasPairedGroups all → all ≡ e ∷ es → is_group_start e ≡ true → FirstGroup all
-first_group e es (empty is) same h = cc
-first_group e es (outer f rest is clear p) same h = grind (arith, not_start, clear)
-first_group e es (whole d j k inner rest is clear p) same h = record { title = d; first = j; last = k; inner = inner; rest = rest; order = is; clear = clear; paired = p }
+first_group e es h2 h3 h4 = grind (arith, not_start)
 
 abbrev second : Option (ℕ × ℕ) → ℕ
 second None = 0
@@ -118,9 +111,7 @@ module _ (d : List Part) (j k : HiTy) (inner rest : List Entry) (clear : HasNoGr
   split = ap (λ xs. group_start d j ∷ xs) (sym (append_assoc inner (group_end k ∷ []) rest))
 
   end_place : (o p : Option ℕ) → both_places o p ≡ Some (0, 0 + (1 + length inner)) → p ≡ Some (1 + length inner)
-  end_place None p h = cc
-  end_place (Some m) None h = cc
-  end_place (Some m) (Some n) h = let same : n ≡ 0 + (1 + length inner) = ap second h in ap Some (omega arith)
+  end_place o p h2 = grind arith
 
   marked_len : length marked ≡ (1 + length inner) + 1
   marked_len = let l : length (inner ++ group_end k ∷ []) ≡ length inner + 1 = length-append inner (group_end k ∷ []) in omega arith
@@ -173,23 +164,20 @@ pub kept-push : (es : List Entry) (e : Entry) → kept_entries (es ++ e ∷ []) 
 kept-push es e = chosen-append stays [] es (e ∷ []) ∙ ap (λ xs. kept_entries es ++ xs) (kept_map (stays (es, e)) (es, e))
 
 pub few : (b c : Bool) (n m i : ℕ) → m ≡ (if b then 0 else n + (if c then 1 else 0)) → n ≤ i → m ≤ i + 1
-few true c n m i is h = rw is (omega arith)
-few false true n m i is h = rw is (omega arith)
-few false false n m i is h = rw is (omega arith)
+few b c n m i h5 h6 = grind arith
 
 pub since_next : (p : Entry → Bool) (before next : List Entry) (e : Entry) (n m : ℕ) → m ≡ (if is_group_start e then 0 else n + (if p e then 1 else 0)) → n ≡ since_start p before → next ≡ before ++ e ∷ [] → m ≡ since_start p next
-since_next p before next e n m is old more = grind (arith, since_start-push, since_start)
+since_next p before next e n m is old more = grind (arith, since_start-push)
 
 pub kept_next : (first mid now before next : List Entry) (e : Entry) (starts stops : ℕ) (wanted : Bool) → now ≡ mid ++ (if wanted then e ∷ [] else []) → wanted ≡ not (lacks_help e && nat_lt stops starts) → mid ≡ first ++ kept_entries before
     → starts ≡ since_start is_adjacent_start before → stops ≡ since_start is_adjacent_stop before → next ≡ before ++ e ∷ [] → now ≡ first ++ kept_entries next
-kept_next first mid now before next e starts stops wanted is own old a z more = grind (arith, since_start, append_assoc, first, kept-push)
+kept_next first mid now before next e starts stops wanted is own old a z more = grind (arith, append_assoc, first, kept-push)
 
 -- ---- items
 
 module _ {B : Type 0} where
   first_of : (items : List (HelpItem B)) (first : HelpItem B) → 0 < length items → first ≡ get_or items 0 first → map entry_of items ≡ entry_of first ∷ map entry_of (drop 1 items)
-  first_of [] first h is = absurd (omega arith)
-  first_of (x ∷ items) first h is = ap (λ y. entry_of y ∷ map entry_of items) (sym is)
+  first_of items first h2 h3 = grind arith
 
   pub takes_item : (included : Bool) (texts : Texts) (items : List (HelpItem B)) (first : HelpItem B) (one : Bor (HelpItem B)) (doc : List Part) (outside kept : List (Bor (HelpItem B))) → HasPairedGroups (map entry_of items)
       → 0 < length items → first ≡ get_or items 0 first → is_group_start (entry_of first) ≡ false → one.now ≡ first → kept ≡ outside ++ one ∷ [] → Takes included texts (map entry_of items) 1 doc doc (map entry_at outside) (map entry_at kept)
@@ -217,13 +205,4 @@ module _ {B : Type 0} where
 -- ---- groups and headings
 
 pub all_writes : (included : Bool) (texts : Texts) (es : List Entry) → group_lists included texts es ++ headings included texts (outside_groups es) ≡ groups_writes included texts es
-all_writes included texts es =
-    let heading : List ℕ → List Entry → List Write = λ title fs. heading_writes included texts title fs in
-    let g : List Write = group_lists included texts es in
-    let a : List Write = heading (codes "Available positional items:") (items_of_type (outside_groups es) ty.Positional) in
-    let b : List Write = heading (codes "Available options:") (items_of_type (outside_groups es) ty.Flag) in
-    let c : List Write = heading (codes "Available commands:") (items_of_type (outside_groups es) ty.Command) in
-    sym (append_assoc (g ++ a) b c ∙ append_assoc g a (b ++ c) ∙ ap (λ ws. g ++ ws) (sym (append_assoc a b c)))
-    ∙ ap (λ fs. ((g ++ heading (codes "Available positional items:") fs) ++ b) ++ c) (sym (headings_agree es ty.Positional))
-    ∙ ap (λ fs. ((g ++ heading (codes "Available positional items:") (heading_members es ty.Positional)) ++ heading (codes "Available options:") fs) ++ c) (sym (headings_agree es ty.Flag))
-    ∙ ap (λ fs. ((g ++ heading (codes "Available positional items:") (heading_members es ty.Positional)) ++ heading (codes "Available options:") (heading_members es ty.Flag)) ++ heading (codes "Available commands:") fs) (sym (headings_agree es ty.Command))
+all_writes included texts es = grind (arith, append_assoc, headings_agree)

@@ -1,7 +1,7 @@
 -- What calls that write leave, one after another.
-use Rattle.std.specs.Prelude.{◌≡◌, ℕ, ◌+◌, ◌<◌, length, List, [], ◌∷◌, ◌++◌, flat_map, map, take, Result, Ok, Err, OnOk, OnErr, refl}
+use Rattle.std.specs.Prelude.{◌≡◌, ℕ, ◌+◌, ◌<◌, length, List, [], ◌∷◌, ◌++◌, flat_map, map, take, Result, Ok, Err, OnOk, OnErr}
 use Rattle.std.specs.Borrow.{Bor}
-use Rattle.std.proofs.Common.{ap, sym, ◌∙◌, append-nil, drop, get_or}
+use Rattle.std.proofs.Common.{ap, sym, ◌∙◌, append-nil, drop, get_or, arith}
 use Rattle.std.proofs.lemmas.Grind.{flat_map-append}
 use Rattle.std.proofs.lemmas.List.{drop_more, map-append, take-append-drop, take_more}
 use Rattle.bpaf_doc.specs.declared.buffer.Style.{Style}
@@ -32,14 +32,12 @@ pieces_next writes xs i x before mid now within is e f =
     ∙ ap (with_writes before) (sym (flat_map_next writes xs i x within))
 
 pub joined-all : (texts : List (Bor (List ℕ))) → joined texts ≡ flat_map (λ t. t.now) texts
-joined-all [] = refl
-joined-all (t ∷ []) = sym (append-nil t.now)
 joined-all (t ∷ u ∷ ts) = ap (λ bytes. t.now ++ bytes) (joined-all (u ∷ ts))
+joined-all x = grind (arith, append-nil)
 
 pub pieces-all : {A : Type 0} (ps : List (Piece A)) → pieces_write ps ≡ flat_map piece_writes ps
-pieces-all [] = refl
-pieces-all (p ∷ []) = sym (append-nil (piece_writes p))
 pieces-all (p ∷ q ∷ ps) = ap (λ ws. piece_writes p ++ ws) (pieces-all (q ∷ ps))
+pieces-all x = grind (arith, append-nil)
 
 -- a call that leaves everything where it fails
 pub leaves_call : {T E : Type 0} (r : Result T E) (before now : List Part) (ws : List Write) → OnOk r (now ≡ with_writes before ws) → OnErr r (now ≡ before) → Leaves r before now ws
@@ -71,5 +69,4 @@ pub written_then : (before mid now : List Part) (vs ws : List Write) → mid ≡
 written_then before mid now vs ws e f = f ∙ ap (λ ps. with_writes ps ws) e ∙ sym (with_writes-append before vs ws)
 
 pub done_then : {T E : Type 0} (r : Result T E) (before mid now : List Part) (vs ws : List Write) → mid ≡ with_writes before vs → OnOk r (now ≡ with_writes mid ws) → OnOk r (now ≡ with_writes before (vs ++ ws))
-done_then (Ok x) before mid now vs ws e f = written_then before mid now vs ws e f
-done_then (Err x) before mid now vs ws e f = tt
+done_then r before mid now vs ws h6 h7 = grind (arith, written_then)

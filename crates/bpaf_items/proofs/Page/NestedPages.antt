@@ -73,8 +73,7 @@ each_keeps P f k (x ∷ xs) h = both_keep (k x (All-head P x xs h)) (each_keeps 
 -- ---- a tree's texts, and the entries of its list
 
 help_nested : (l : Leaf) → HasNestedText l → HasNestedDoc l
-help_nested (any m a h) k = k.0
-help_nested l k = tt
+help_nested l h1 = grind arith
 
 mutual
   pub docs_nested : (t : Tree) → HasNestedTexts t → HasNestedDocs t
@@ -105,24 +104,19 @@ more_nested : (es : List Entry) (e : Entry) → Nested es → HasNestedEntry e �
 more_nested es e h k = All-push HasNestedEntry es e h k
 
 item_nested : (l : Leaf) → HasNestedText l → Nested (item_entries l)
-item_nested (positional m None) k = All-nil HasNestedEntry
-item_nested l k = one_nested _ k
+item_nested l h1 = grind (arith, All-nil, one_nested)
 
 adjacent_nested : (o : Option HiTy) (t : Tree) (es : List Entry) → HasNestedDocs t → Nested es → Nested (adjacent_entries o t es)
-adjacent_nested None t es h k = All-nil HasNestedEntry
-adjacent_nested (Some j) t es h k = All-cons HasNestedEntry (adjacent_start t j) (es ++ adjacent_stop j ∷ []) h (more_nested es (adjacent_stop j) k tt)
+adjacent_nested o t es h3 h4 = grind (arith, All-nil, All-cons, more_nested)
 
 group_nested : (o : Option HiTy) (d : List Part) (es : List Entry) → IsWellNested d → Nested es → Nested (group_entries o d es)
-group_nested None d es h k = All-nil HasNestedEntry
-group_nested (Some j) d es h k = All-cons HasNestedEntry (group_start d j) (es ++ group_end j ∷ []) h (more_nested es (group_end j) k tt)
+group_nested o d es h3 h4 = grind (arith, All-nil, All-cons, more_nested)
 
 noted_nested : (o : Option HiTy) (d : List Part) (es : List Entry) → IsWellNested d → Nested es → Nested (noted_entries o d es)
-noted_nested None d es h k = All-nil HasNestedEntry
-noted_nested (Some j) d es h k = more_nested es (note d j) k h
+noted_nested o d es h3 h4 = grind (arith, All-nil, more_nested)
 
 typed_nested : (o : Option HiTy) (es : List Entry) → Nested es → Nested (entries_with_type o es)
-typed_nested None es k = All-nil HasNestedEntry
-typed_nested (Some j) es k = k
+typed_nested o es h2 = grind (arith, All-nil)
 
 mutual
   tree_nested : (g : Bool) (t : Tree) → HasNestedTexts t → Nested (entries_of g t)

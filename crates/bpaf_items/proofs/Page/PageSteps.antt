@@ -1,5 +1,5 @@
 -- The parts of a help page, one after another.
-use Rattle.std.proofs.Common.{rules, ◌≡◌, ℕ, Bool, List, ◌++◌, sym, ap, ◌∙◌, refl, subst, Result, Ok, Err}
+use Rattle.std.proofs.Common.{rules, ◌≡◌, ℕ, Bool, List, ◌++◌, ap, ◌∙◌, refl, subst, Result, arith}
 use Rattle.std.specs.Prelude.{OnOk, OnErr}
 use Rattle.bpaf_doc.specs.Buffer.Parts.{Part, IsWellNested}
 use Rattle.bpaf_doc.specs.Buffer.Writes.{Write, inside, with_writes}
@@ -35,5 +35,4 @@ page_leaves r path i t help included texts items before above listed now same is
     is_above (is_listed ∙ ap (λ es. with_writes above (groups_writes included texts es)) same) footer)
 
 pub nested_after : {T E : Type 0} (r : Result T E) (before now : List Part) (ws : List Write) → OnOk r (now ≡ with_writes before ws) → OnErr r (now ≡ before) → KeepsNested ws → IsWellNested before → IsWellNested now
-nested_after (Ok x) before now ws ok err keeps h = subst IsWellNested (sym ok) (keeps before h)
-nested_after (Err x) before now ws ok err keeps h = subst IsWellNested (sym err) h
+nested_after r before now ws h4 h5 h6 h7 = grind arith

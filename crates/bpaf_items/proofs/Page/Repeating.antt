@@ -1,5 +1,5 @@
 -- What is remembered of the entries so far, after one more.
-use Rattle.std.proofs.Common.{◌≡◌, ℕ, Bool, true, false, not, ◌||◌, ◌&&◌, ◌==◌, List, [], ◌∷◌, ◌++◌, Option, Some, None, refl, sym, ap, ◌∙◌, append-nil, subst, arith, cond, drop, get_or, length, map, suc, take, ◌+◌, ◌<◌, ◌≤◌}
+use Rattle.std.proofs.Common.{◌≡◌, ℕ, Bool, true, false, not, ◌||◌, ◌&&◌, ◌==◌, List, [], ◌∷◌, ◌++◌, Option, Some, None, refl, sym, ap, ◌∙◌, append-nil, subst, arith, length, suc, ◌≤◌}
 use Rattle.std.specs.Prelude.{flat_map, fold, nat_eq, Result, Ok, Err, IfOk}
 use Rattle.std.specs.List.{AllByRecursion, IsDistinct, dedup, dedup_from, list_any, last_or}
 use Rattle.std.specs.List.Sorted.{IsPermutation, IsSorted, IsStrictlySortedBy}
@@ -12,7 +12,6 @@ use Rattle.std.specs.BTreeMap.{is_at}
 use Rattle.std.specs.BTreeSet.{insert_key}
 use Rattle.std.proofs.lemmas.Bool.{eq-eqb}
 use Rattle.std.proofs.lemmas.Grind.{flat_map-append}
-use Rattle.std.proofs.lemmas.List.{map-append}
 use Rattle.std.proofs.lemmas.List.Folds.{list_any-append}
 use Rattle.std.proofs.lemmas.List.Kept.{IsStrictlySortedBy-dedup}
 use Rattle.std.proofs.lemmas.List.Sorted.{IsPermutation-sym}
@@ -21,7 +20,7 @@ use Rattle.bpaf_doc.specs.Buffer.Parts.{Part}
 use Rattle.bpaf_doc.specs.Buffer.Writes.{with_writes}
 use Rattle.bpaf_meta.specs.Content.{Leaf}
 use Rattle.bpaf_meta.proofs.lemmas.Usage.Written.{with_writes-append}
-use Rattle.bpaf_items.specs.Listing.ItemList.{Entry, listed, note, group_start, group_end, adjacent_start, adjacent_stop}
+use Rattle.bpaf_items.specs.Listing.ItemList.{Entry, listed}
 use Rattle.bpaf_items.specs.Listing.Keys.{Key, key_cmp, key_of, entry_key, same_key}
 use Rattle.bpaf_items.specs.Steps.KeyOrder.{keys_equiv, keys_tied}
 use Rattle.bpaf_items.specs.Steps.KeyFed.{key_fed}
@@ -38,33 +37,24 @@ last_or-push o [] x = refl
 last_or-push o (y ∷ xs) x = last_or-push (Some y) xs x
 
 last_shown-push : (before : List Entry) (e : Entry) → is_last_shown (before ++ e ∷ []) ≡ is_mark_or_new (before, e)
-last_shown-push before e = grind (arith, None, placed-push, last_or-push)
+last_shown-push before e = grind (arith, placed-push, last_or-push)
 
 -- ---- keys
 
 or_swap : (a b : Bool) → (a || b) ≡ (b || (a || false))
-or_swap true true = refl
-or_swap true false = refl
-or_swap false true = refl
-or_swap false false = refl
+or_swap a b = grind arith
 
 or_none : (b : Bool) → b ≡ (b || (false || false))
-or_none true = refl
-or_none false = refl
+or_none b = grind arith
 
 or_again : (a b : Bool) → (a || b) ≡ (a || (a || b))
-or_again true b = refl
-or_again false b = refl
+or_again a b = grind arith
 
 behind : (a b c : Bool) → (b || (a || c)) ≡ (a || (b || c))
-behind true true c = refl
-behind true false c = refl
-behind false true c = refl
-behind false false c = refl
+behind a b c = grind arith
 
 number_same : (m n : ℕ) (b : Bool) → (b ≡ true → m ≡ n) → ((m == n) && b) ≡ b
-number_same m n true h = ap (λ c. c && true) (eq-eqb m n (h refl))
-number_same m n false h = grind arith
+number_same m n b h3 = grind (arith, eq-eqb)
 
 module _ {B : Type 0} where
   -- the order of the set: by hash, then by key
@@ -129,20 +119,14 @@ two_keys k l h = by (same_key k l) refl where
   by false e = refl
 
 either_false : (a b : Bool) → (a || b) ≡ false → (a ≡ false) × (b ≡ false)
-either_false false false h = (refl, refl)
-either_false true b h = cc
-either_false false true h = cc
+either_false a b h2 = grind arith
 
 keys_apart : (l : Leaf) (es : List Entry) → list_any (nat_eq (key_hash (key_of l))) (flat_map entry_hash es) ≡ false → list_any (has_key_of l) es ≡ false
 keys_apart l [] h = refl
 keys_apart l (listed m ∷ es) h =
     let (other, rest) = either_false (nat_eq (key_hash (key_of l)) (key_hash (key_of m))) (list_any (nat_eq (key_hash (key_of l))) (flat_map entry_hash es)) h in
     rw (two_keys (key_of l) (key_of m) other) (keys_apart l es rest)
-keys_apart l (note d j ∷ es) h = keys_apart l es h
-keys_apart l (group_start d j ∷ es) h = keys_apart l es h
-keys_apart l (group_end j ∷ es) h = keys_apart l es h
-keys_apart l (adjacent_start t j ∷ es) h = keys_apart l es h
-keys_apart l (adjacent_stop j ∷ es) h = keys_apart l es h
+keys_apart l (x ∷ es) h = keys_apart l es h
 
 new_among : (all before rest : List Entry) (l : Leaf) → all ≡ before ++ listed l ∷ rest → AreApart all → list_any (has_key_of l) before ≡ false
 new_among all before rest l is apart =
@@ -165,30 +149,11 @@ item_apart all rest keys after shown last now k (listed l) before is split told 
         last = set ∙ sym new ∙ sym (last_shown-push before (listed l));
       },
     )
-item_apart all rest keys after shown last now k (note d j) before is split told set same h = cc
-item_apart all rest keys after shown last now k (group_start d j) before is split told set same h = cc
-item_apart all rest keys after shown last now k (group_end j) before is split told set same h = cc
-item_apart all rest keys after shown last now k (adjacent_start t j) before is split told set same h = cc
-item_apart all rest keys after shown last now k (adjacent_stop j) before is split told set same h = cc
+item_apart all rest keys after shown last now k x before is split told set same h = cc
 
 item_shown : {B : Type 0} (all : List Entry) (keys after : List (Hashed B)) (shown last now : Bool) (k : Key) (e : Entry) (before : List Entry)
     → Some k ≡ entry_key e → PutsKey keys after k shown → now ≡ shown → Remembers all false keys last before → Goes all false after shown now before e
-item_shown all keys after shown last now k (listed l) before is put same h =
-    let own : k ≡ key_of l = cc in
-    let first : shown ≡ is_shown (before, listed l) = put.answer ∙ ap (λ q. not (has_key keys q)) own ∙ ap not (h.seen refl l) in (
-      first,
-      record {
-        apart = λ h. cc;
-        hashed = put.hashed;
-        seen = λ no m. put.has (key_of m) ∙ seen_entry (has_key keys (key_of m)) (same_key (key_of m) k) (has_key_of m) before (listed l) (ap (same_key (key_of m)) own) (h.seen no m);
-        last = same ∙ first ∙ sym (last_shown-push before (listed l));
-      },
-    )
-item_shown all keys after shown last now k (note d j) before is put same h = cc
-item_shown all keys after shown last now k (group_start d j) before is put same h = cc
-item_shown all keys after shown last now k (group_end j) before is put same h = cc
-item_shown all keys after shown last now k (adjacent_start t j) before is put same h = cc
-item_shown all keys after shown last now k (adjacent_stop j) before is put same h = cc
+item_shown all keys after shown last now k e before h9 h10 h11 h12 = grind (arith, seen_entry, last_shown-push)
 
 pub item_goes : {B E : Type 0} (r : Result Bool E) (all rest : List Entry) (apart : Bool) (keys after : List (Hashed B)) (last now : Bool) (k : Key) (e : Entry) (before : List Entry)
     → Some k ≡ entry_key e → all ≡ before ++ e ∷ rest
@@ -200,12 +165,10 @@ item_goes (Ok shown) all rest false keys after last now k e before is split free
 item_goes (Err x) all rest apart keys after last now k e before is split free puts h = tt
 
 or_false : (b : Bool) → (b || false) ≡ b
-or_false true = refl
-or_false false = refl
+or_false b = grind arith
 
 or_true : (b : Bool) → (b || true) ≡ true
-or_true true = refl
-or_true false = refl
+or_true b = grind arith
 
 seen_other : {B : Type 0} (keys : List (Hashed B)) (e : Entry) (before : List Entry) → ((m : Leaf) → has_key_of m e ≡ false) → ((m : Leaf) → has_key keys (key_of m) ≡ list_any (has_key_of m) before)
     → (m : Leaf) → has_key keys (key_of m) ≡ list_any (has_key_of m) (before ++ e ∷ [])
@@ -214,23 +177,11 @@ seen_other keys e before none seen m = grind (arith, or_none, list_any-append)
 module _ {B : Type 0} (all : List Entry) (apart : Bool) where
   mark_shown : (keys : List (Hashed B)) (last : Bool) (e : Entry) (before : List Entry) → is_mark_or_new (before, e) ≡ true → is_shown (before, e) ≡ true → ((m : Leaf) → has_key_of m e ≡ false)
       → Remembers all apart keys last before → Goes all apart keys (last || true) true before e
-  mark_shown keys last e before new is none h = (
-    or_true last ∙ sym is,
-    record { apart = h.apart; hashed = h.hashed; seen = λ no. seen_other keys e before none (h.seen no); last = sym new ∙ sym (last_shown-push before e) },
-  )
+  mark_shown keys last e before new is none h = grind (arith, or_true, seen_other, last_shown-push)
 
   pub other_shown : (keys after : List (Hashed B)) (shown last now mark : Bool) (e : Entry) (before : List Entry)
       → None ≡ entry_key e → mark ≡ is_mark e → shown ≡ (last || mark) → now ≡ mark → after ≡ keys → Remembers all apart keys last before → Goes all apart after shown now before e
-  other_shown keys after shown last now mark (listed l) before none is new same kept h = cc
-  other_shown keys after shown last now mark (note d k) before none is new same kept h =
-      rw (kept, same, new, is) (
-        or_false last ∙ h.last,
-        record { apart = h.apart; hashed = h.hashed; seen = λ no. seen_other keys (note d k) before (λ m. refl) (h.seen no); last = sym (last_shown-push before (note d k)) },
-      )
-  other_shown keys after shown last now mark (group_start d k) before none is new same kept h = rw (kept, same, new, is) (mark_shown keys last (group_start d k) before refl refl (λ m. refl) h)
-  other_shown keys after shown last now mark (group_end k) before none is new same kept h = rw (kept, same, new, is) (mark_shown keys last (group_end k) before refl refl (λ m. refl) h)
-  other_shown keys after shown last now mark (adjacent_start t k) before none is new same kept h = rw (kept, same, new, is) (mark_shown keys last (adjacent_start t k) before refl refl (λ m. refl) h)
-  other_shown keys after shown last now mark (adjacent_stop k) before none is new same kept h = rw (kept, same, new, is) (mark_shown keys last (adjacent_stop k) before refl refl (λ m. refl) h)
+  other_shown keys after shown last now mark e before h8 h9 h10 h11 h12 h13 = grind (arith, or_false, seen_other, last_shown-push, mark_shown)
 
   -- at the start of a list
   pub nothing_seen : (apart ≡ true → AreApart all) → (keys : List (Hashed B)) → keys ≡ [] → Remembers all apart keys false []
@@ -240,22 +191,14 @@ module _ {B : Type 0} (all : List Entry) (apart : Bool) where
 
 dedup_within : (k : ℕ) (xs : List ℕ) → length (dedup_from nat_eq k xs) ≤ suc (length xs)
 dedup_within k [] = omega arith
-dedup_within k (x ∷ xs) = by (nat_eq x k) (dedup_within k xs) (dedup_within x xs) where
-  by : (b : Bool) → length (dedup_from nat_eq k xs) ≤ suc (length xs) → length (dedup_from nat_eq x xs) ≤ suc (length xs) → length (cond b (dedup_from nat_eq k xs) (k ∷ dedup_from nat_eq x xs)) ≤ suc (suc (length xs))
-  by true h i = omega (arith, h)
-  by false h i = omega (arith, i)
+dedup_within k (x ∷ xs) = grind (arith, dedup_within k xs, dedup_within x xs)
 
 dedup_whole : (k : ℕ) (xs : List ℕ) → length (dedup_from nat_eq k xs) ≡ suc (length xs) → dedup_from nat_eq k xs ≡ k ∷ xs
 dedup_whole k [] h = refl
-dedup_whole k (x ∷ xs) h = by (nat_eq x k) h (dedup_within k xs) (dedup_whole x xs) where
-  by : (b : Bool) → length (cond b (dedup_from nat_eq k xs) (k ∷ dedup_from nat_eq x xs)) ≡ suc (suc (length xs)) → length (dedup_from nat_eq k xs) ≤ suc (length xs)
-      → (length (dedup_from nat_eq x xs) ≡ suc (length xs) → dedup_from nat_eq x xs ≡ x ∷ xs) → cond b (dedup_from nat_eq k xs) (k ∷ dedup_from nat_eq x xs) ≡ k ∷ x ∷ xs
-  by true e short rest = absurd (omega (arith, e, short))
-  by false e short rest = ap (λ ys. k ∷ ys) (rest (omega (arith, e)))
+dedup_whole k (x ∷ xs) h = grind (arith, dedup_whole x xs, dedup_within)
 
 all_kept : (xs : List ℕ) → length (dedup nat_eq xs) ≡ length xs → dedup nat_eq xs ≡ xs
-all_kept [] h = refl
-all_kept (x ∷ xs) h = dedup_whole x xs h
+all_kept xs h1 = grind (arith, dedup_whole)
 
 -- numbers of which none is left out once they are sorted
 pub distinct_sorted : (xs sorted : List ℕ) → IsPermutation xs sorted → IsSorted nat_cmp sorted → length (dedup nat_eq sorted) ≡ length sorted → IsDistinct nat_eq xs

@@ -1,11 +1,11 @@
 -- A list that grows begins with what it was.
-use Rattle.std.proofs.Common.{◌≡◌, List, [], ◌++◌, ap, sym, ◌∙◌, append_assoc, append-nil}
-use Rattle.std.specs.Prelude.{if◌then◌else◌, ◌∷◌, Some, None, refl}
+use Rattle.std.proofs.Common.{◌≡◌, List, [], ◌++◌, ap, sym, ◌∙◌, append_assoc, append-nil, arith}
+use Rattle.std.specs.Prelude.{if◌then◌else◌, ◌∷◌, None}
 use Rattle.std.specs.Prelude.{flat_map}
 use Rattle.std.specs.Prelude.{Option}
 use Rattle.std.specs.Option.{option_or}
 use Rattle.std.proofs.lemmas.Grind.{flat_map-append}
-use Rattle.bpaf_meta.specs.Content.{Tree, Leaf, positional}
+use Rattle.bpaf_meta.specs.Content.{Tree, Leaf}
 use Rattle.bpaf_items.specs.declared.meta_help.entry.HiTy.{HiTy}
 use Rattle.bpaf_items.specs.Listing.ItemList.{Entry, entry_of_item, item_entries, item_list, IsItemList}
 use Rattle.bpaf_items.specs.Steps.Given.{is_listed}
@@ -22,8 +22,7 @@ pub append_turn : {X : Type 0} (now after first second all rest : List X) → af
 append_turn now after first second all rest e h k = ap (λ ws. ws ++ second) e ∙ append_assoc now first second ∙ ap (λ ws. now ++ ws) (sym h) ∙ k
 
 pub listed_entries : (l : Leaf) → item_entries l ≡ (if is_listed l then entry_of_item l ∷ [] else [])
-listed_entries (positional m None) = refl
-listed_entries l = refl
+listed_entries l = grind arith
 
 -- one more tree
 pub IsItemList-append : (es : List Entry) (t : Tree) → IsItemList es → IsItemList (es ++ item_list t)
@@ -31,9 +30,7 @@ IsItemList-append es t (ts, e) = (ts ++ t ∷ [], ap (λ fs. fs ++ item_list t) 
 
 -- a choice of two that gives nothing
 pub none_first : (o p : Option HiTy) → option_or o p ≡ None → o ≡ None
-none_first None p e = refl
-none_first (Some k) p e = cc
+none_first o p h2 = grind arith
 
 pub none_second : (o p : Option HiTy) → option_or o p ≡ None → p ≡ None
-none_second None p e = e
-none_second (Some k) p e = cc
+none_second o p h2 = grind arith

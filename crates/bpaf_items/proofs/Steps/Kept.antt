@@ -1,6 +1,6 @@
 -- A block's first mark, which stands in its place before its type is known; and a tree without a front type, which lists nothing.
-use Rattle.std.proofs.Common.{◌≡◌, ℕ, zero, suc, ◌-◌, ◌<◌, Bool, true, false, List, [], ◌∷◌, ◌++◌, map, take, drop, length, refl, sym, ap, ◌∙◌, append_assoc, append-nil, arith}
-use Rattle.std.specs.Prelude.{slice_set, slice_index_or, Option, Some, None}
+use Rattle.std.proofs.Common.{◌≡◌, ℕ, suc, ◌-◌, ◌<◌, Bool, true, false, List, [], ◌∷◌, ◌++◌, map, take, drop, length, refl, sym, ap, ◌∙◌, append_assoc, append-nil, arith}
+use Rattle.std.specs.Prelude.{slice_set, slice_index_or, Option, None}
 use Rattle.std.specs.List.{swap_remove}
 use Rattle.std.specs.Option.{option_or}
 use Rattle.std.proofs.Math.Seq.{take-append_seam, set-append_seam, get_or-append_seam}
@@ -43,8 +43,7 @@ pub unnoted : (g : Bool) (t : Tree) (d : List Part) → front_type t ≡ None �
 unnoted g t d e = ap (λ o. noted_entries o d (entries_of g t)) e ∙ sym (no_entries g t e)
 
 pub option_or-assoc : (o p q : Option HiTy) → option_or (option_or o p) q ≡ option_or o (option_or p q)
-option_or-assoc None p q = refl
-option_or-assoc (Some k) p q = refl
+option_or-assoc o p q = grind arith
 
 -- a turn of the loop over the parts
 pub type_turn : (front own later rest all joined : Option HiTy) → joined ≡ option_or front own → rest ≡ option_or own later → option_or front rest ≡ all → option_or joined later ≡ all
@@ -69,9 +68,8 @@ module _ {X : Type 0} where
       moved ∙ ap (λ n. take n (slice_set one at (slice_index_or one n d))) count ∙ ap (λ x. take (length xs) (slice_set one at x)) last ∙ ap (take (length xs)) put ∙ take_set xs (q ∷ []) at q
 
   set_front : (xs : List X) (at : ℕ) (q : X) → at < length xs → IsFront (take at xs) (slice_set xs at q)
-  set_front [] at q h = absurd (omega arith)
-  set_front (x ∷ xs) zero q h = (q ∷ xs, refl)
   set_front (x ∷ xs) (suc n) q h = let f = set_front xs n q (omega arith) in (f.0, ap (λ zs. x ∷ zs) f.1)
+  set_front y z q h = grind arith
 
   pub take_front : (xs : List X) (at : ℕ) → at < length xs → IsFront (take at xs) xs
   take_front xs at h = (drop at xs, sym (take-append-drop at xs))

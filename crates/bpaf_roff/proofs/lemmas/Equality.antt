@@ -4,7 +4,7 @@ use Rattle.std.specs.Bool.{beq}
 use Rattle.std.specs.List.{AllZip}
 use Rattle.std.specs.Cmp.{IsEquivalence}
 use Rattle.std.specs.Cmp.Lexicographic.{pointwise, bytes_decides}
-use Rattle.std.proofs.Common.{sym, ap, subst, ◌∙◌}
+use Rattle.std.proofs.Common.{sym, ap, subst, ◌∙◌, arith}
 use Rattle.bpaf_roff.specs.Pieces.{Piece, Labelled, no_pieces, sum_of}
 use Rattle.bpaf_roff.specs.Equality.{IsSamePiece, piece_eq, labelled_eq}
 use Rattle.bpaf_roff.specs.Steps.Order.{labelled_equiv}
@@ -12,18 +12,13 @@ use Rattle.std.proofs.lemmas.List.Elements.{same_from_all_zip}
 use Rattle.bpaf_roff.proofs.lemmas.Sums.{sum_of-none_right}
 
 both : (x y : Bool) → (x && y) ≡ true → (x ≡ true) × (y ≡ true)
-both true y h = (refl, h)
-both false y h = absurd cc
+both x y h2 = grind arith
 
 join : (x y : Bool) → x ≡ true → y ≡ true → (x && y) ≡ true
-join true y e h = h
-join false y e h = absurd cc
+join x y h2 h3 = grind arith
 
 beq_tells : (x y : Bool) → (beq x y ≡ true → x ≡ y) × (x ≡ y → beq x y ≡ true)
-beq_tells true true = (λ _. refl, λ _. refl)
-beq_tells true false = (λ h. absurd cc, λ h. absurd cc)
-beq_tells false true = (λ h. absurd cc, λ h. absurd cc)
-beq_tells false false = (λ _. refl, λ _. refl)
+beq_tells x y = grind arith
 
 module _ {L : Type 0} (eq : L → L → Bool) where
   piece_eq_tells : (p r : Piece L) → IsTrue (piece_eq eq p r) ↔ IsSamePiece eq p r

@@ -1,5 +1,5 @@
 -- What pieces of text are escaped to is text.
-use Rattle.std.specs.Prelude.{◌≡◌, ℕ, Bool, true, false, List, [], ◌∷◌, ◌++◌, ◌<◌, ◌≤◌, map, IsUtf8, IsAscii, zero, suc, ◌&&◌, refl}
+use Rattle.std.specs.Prelude.{◌≡◌, ℕ, Bool, true, List, [], ◌∷◌, ◌++◌, ◌<◌, ◌≤◌, map, IsUtf8, IsAscii, suc, ◌&&◌, refl}
 use Rattle.std.specs.List.{AllByRecursion}
 use Rattle.std.specs.Char.{IsScalar}
 use Rattle.std.proofs.Common.{inl, inr, ap, append_assoc, arith}
@@ -11,9 +11,7 @@ use Rattle.bpaf_roff.specs.Pieces.{Piece}
 use Rattle.bpaf_roff.specs.Escaping.{newline_as_blank, guard, special_text, spaces_text, apostrophe_text, byte_text, Sign, Byte, breaks, signs, signs_of, sign_text, text_after, escaped}
 use Rattle.bpaf_roff.specs.Roff.{rendering}
 use Rattle.bpaf_roff.specs.declared.escape.Apostrophes.{Apostrophes}
-use Rattle.bpaf_roff.specs.declared.escape.Apostrophes.TheVariants.{Handle, DontHandle}
 use Rattle.bpaf_roff.specs.declared.escape.Escape.{Escape}
-use Rattle.bpaf_roff.specs.declared.escape.Escape.TheVariants.{UnescapedAtNewline, Spaces, Special, SpecialNoNewline, Unescaped}
 
 -- signs are written one part after the other
 pub text_after-append : (q : Apostrophes) (before : List ℕ) (xs ys : List Sign) → text_after q before (xs ++ ys) ≡ text_after q before xs ++ text_after q (before ++ text_after q before xs) ys
@@ -33,13 +31,11 @@ Low-append [] t h k = k
 Low-append (b ∷ s) t h k = (h.0, Low-append s t h.1 k)
 
 Low-IsAscii : (bytes : List ℕ) → Low bytes → IsAscii bytes
-Low-IsAscii [] h i = omega arith
-Low-IsAscii (b ∷ bytes) h zero = h.0
 Low-IsAscii (b ∷ bytes) h (suc i) = Low-IsAscii bytes h.1 i
+Low-IsAscii x h y = grind arith
 
 low_apostrophe : (q : Apostrophes) → Low (apostrophe_text q)
-low_apostrophe Handle = (omega arith, (omega arith, (omega arith, (omega arith, (omega arith, tt)))))
-low_apostrophe DontHandle = (omega arith, tt)
+low_apostrophe q = grind arith
 
 low_special : (q : Apostrophes) (b : ℕ) → b < 128 → Low (special_text q b)
 low_special q b h = grind (arith, low_apostrophe)
@@ -54,18 +50,10 @@ low_blank : (b : ℕ) → b < 128 → newline_as_blank b < 128
 low_blank b h = grind arith
 
 low_byte : (q : Apostrophes) (before : List ℕ) (label : Escape) (b : ℕ) → b < 128 → Low (byte_text q before label b)
-low_byte q before UnescapedAtNewline b h = (h, tt)
-low_byte q before Spaces b h = low_spaces b h
-low_byte q before Special b h = Low-append (guard before b) (special_text q b) (low_guard before b) (low_special q b h)
-low_byte q before SpecialNoNewline b h = Low-append (guard before b) (special_text q (newline_as_blank b)) (low_guard before b) (low_special q (newline_as_blank b) (low_blank b h))
-low_byte q before Unescaped b h = (h, tt)
+low_byte q before label b h4 = grind (arith, low_spaces, Low-append, low_guard, low_special, low_blank)
 
 high_byte : (q : Apostrophes) (before : List ℕ) (label : Escape) (b : ℕ) → 128 ≤ b → byte_text q before label b ≡ b ∷ []
-high_byte q before UnescapedAtNewline b h = refl
-high_byte q before Spaces b h = rw (ne_eqb b 32 (omega arith), ne_eqb b 10 (omega arith), ne_eqb b 92 (omega arith)) refl
-high_byte q before Special b h = rw (ne_eqb b 46 (omega arith), ne_eqb b 39 (omega arith), ne_eqb b 92 (omega arith), ne_eqb b 45 (omega arith)) refl
-high_byte q before SpecialNoNewline b h = rw (ne_eqb b 46 (omega arith), ne_eqb b 39 (omega arith), ne_eqb b 10 (omega arith), ne_eqb b 92 (omega arith), ne_eqb b 45 (omega arith), ne_eqb b 39 (omega arith)) refl
-high_byte q before Unescaped b h = refl
+high_byte q before label b h4 = grind (arith, ne_eqb)
 
 high_text : (q : Apostrophes) (label : Escape) (bytes before : List ℕ) → High bytes → text_after q before (map (Byte label) bytes) ≡ bytes
 high_text q label [] before h = refl
@@ -80,16 +68,14 @@ char_text : (q : Apostrophes) (label : Escape) (c : ℕ) → IsScalar c → (bef
 char_text q label c h before = elim (cases_lt c 128) [ inl low ↦ rw (encode_ascii c low, append-nil (byte_text q before label c)) (IsUtf8-from_ascii _ (Low-IsAscii _ (low_byte q before label c low))) | inr high ↦ rw (high_text q label (encode c) before (high_encode c high)) (IsUtf8-encode c h) ]
 
 pub both : (x y : Bool) → (x && y) ≡ true → (x ≡ true) × (y ≡ true)
-both true y h = (refl, h)
-both false y h = absurd cc
+both x y h2 = grind arith
 
 chars_text : (q : Apostrophes) (label : Escape) (cs : List ℕ) → scalars cs ≡ true → (before : List ℕ) → IsUtf8 (text_after q before (map (Byte label) (encodes cs)))
 chars_text q label [] h before = IsUtf8-nil
 chars_text q label (c ∷ cs) h before = let parts = both (scalar c) (scalars cs) h in rw (map-append (Byte label) (encode c) (encodes cs), text_after-append q before (map (Byte label) (encode c)) (map (Byte label) (encodes cs))) (IsUtf8-append (text_after q before (map (Byte label) (encode c))) _ (char_text q label c parts.0 before) (chars_text q label cs parts.1 (before ++ text_after q before (map (Byte label) (encode c)))))
 
 break_text : (q : Apostrophes) (label : Escape) (before : List ℕ) → IsUtf8 (text_after q before (breaks label))
-break_text q UnescapedAtNewline before = IsUtf8-from_ascii _ (Low-IsAscii _ (grind arith))
-break_text q _ before = IsUtf8-nil
+break_text q label before = grind (arith, IsUtf8-from_ascii, Low-IsAscii, IsUtf8-nil)
 
 pub piece_text : (q : Apostrophes) (piece : Piece Escape) (before : List ℕ) → IsUtf8 piece.text → IsUtf8 (text_after q before (signs_of piece))
 piece_text q piece before h = rw (text_after-append q before (breaks piece.label) (map (Byte piece.label) piece.text)) (IsUtf8-append _ _ (break_text q piece.label before) (rw (← h.1.1) (chars_text q piece.label h.0 h.1.0 (before ++ text_after q before (breaks piece.label)))))

@@ -75,15 +75,13 @@ module _ {T : Type 0} where
   Cuts-shifted by (l ∷ ls) at p c = grind (arith, moved, (Cuts-shifted by ls l.end (drop (l.end - at) p) c.3))
 
   pub ending_at-push : (e : ℕ) (ls : List (Label T)) (l : Label T) → ending_at e (ls ++ l ∷ []) ≡ ls ++ record l { end = e } ∷ []
-  ending_at-push e [] l = refl
-  ending_at-push e (k ∷ []) l = refl
   ending_at-push e (k ∷ m ∷ ls) l = ap (λ xs. k ∷ xs) (ending_at-push e (m ∷ ls) l)
+  ending_at-push e x l = grind arith
 
   -- where the labels end there already, nothing changes
   pub ending_at-same : (ls : List (Label T)) (at : ℕ) (p : List ℕ) (e : ℕ) → Cuts ls at p → e ≡ at + length p → ending_at e ls ≡ ls
-  ending_at-same [] at p e c is = refl
-  ending_at-same (l ∷ []) at p e c is = let f : e ≡ l.end = omega (arith, none_left (l.end - at) p c.1 c.3, c.0) in rw f refl
   ending_at-same (l ∷ m ∷ ls) at p e c is = grind (arith, length-drop, ending_at-same (m ∷ ls) l.end (drop (l.end - at) p) e c.3)
+  ending_at-same x at p e c is = grind (arith, none_left)
 
 -- the front of a longer front
 take_front : {X : Type 0} (n m : ℕ) (p : List X) → n ≤ length p → take n (take (n + m) p) ≡ take n p
@@ -96,24 +94,16 @@ module _ {T : Type 0} where
 
   -- the first labels end within the payload
   pub end_of-take : (k : ℕ) (ls : List (Label T)) (at : ℕ) (p : List ℕ) → Cuts ls at p → (at ≤ end_of at (take k ls)) × (end_of at (take k ls) ≤ at + length p)
-  end_of-take zero ls at p c = (omega arith, omega arith)
-  end_of-take (suc k) [] at p c = (omega arith, omega arith)
-  end_of-take (suc k) (l ∷ ls) at p c =
-      let later = end_of-take k ls l.end (drop (l.end - at) p) c.3 in
-      (omega (arith, later.0, c.0), omega (arith, later.1, c.0, c.1, length-drop (l.end - at) p))
+  end_of-take (suc k) (l ∷ ls) at p c = grind (arith, end_of-take k ls l.end (drop (l.end - at) p) c.3, length-drop)
+  end_of-take x y at p c = grind arith
 
   -- how far they reach, by the first one and the others
   reach : (k : ℕ) (l : Label T) (ls : List (Label T)) (at : ℕ) (p : List ℕ) → Cuts (l ∷ ls) at p → end_of l.end (take k ls) - at ≡ (l.end - at) + (end_of l.end (take k ls) - l.end)
   reach k l ls at p c = omega (arith, c.0, (end_of-take k ls l.end (drop (l.end - at) p) c.3).0)
 
   pub pieces_of-take : (k : ℕ) (ls : List (Label T)) (at : ℕ) (p : List ℕ) → Cuts ls at p → pieces_of (take k ls) at (take (end_of at (take k ls) - at) p) ≡ take k (pieces_of ls at p)
-  pieces_of-take zero ls at p c = refl
-  pieces_of-take (suc k) [] at p c = refl
-  pieces_of-take (suc k) (l ∷ ls) at p c =
-      let n = l.end - at in
-      let m = end_of l.end (take k ls) - l.end in
-      rw (reach k l ls at p c, take_front n m p c.1, drop-take n m p)
-      (ap (λ ps. record { label = l.label; text = take n p } ∷ ps) (pieces_of-take k ls l.end (drop n p) c.3))
+  pieces_of-take (suc k) (l ∷ ls) at p c = grind (arith, pieces_of-take k ls l.end, reach, take_front, drop-take)
+  pieces_of-take x y at p c = grind arith
 
   pub Cuts-take : (k : ℕ) (ls : List (Label T)) (at : ℕ) (p : List ℕ) → Cuts ls at p → Cuts (take k ls) at (take (end_of at (take k ls) - at) p)
   Cuts-take zero ls at p c = let e : at - at ≡ 0 = omega arith in rw e refl
@@ -134,9 +124,8 @@ module _ {T : Type 0} where
 
 module _ {T : Type 0} (eq : T → T → Bool) (squash : Bool) (t : T) where
   pub with_label-push : (ls : List (Label T)) (l : Label T) (e : ℕ) → with_label eq squash (ls ++ l ∷ []) t e ≡ ls ++ followed_by eq squash l t e
-  with_label-push [] l e = refl
-  with_label-push (k ∷ []) l e = refl
   with_label-push (k ∷ m ∷ ls) l e = ap (λ xs. k ∷ xs) (with_label-push (m ∷ ls) l e)
+  with_label-push x l e = grind arith
 
   -- the last label was taken off, and what follows it is put on
   pub with_label-popped : (ls others : List (Label T)) (o : Option (Label T)) (l : Label T) (e : ℕ) → ls ≡ others ++ option_to_list o → o ≡ Some l → with_label eq squash ls t e ≡ others ++ followed_by eq squash l t e
@@ -159,13 +148,11 @@ module _ {T : Type 0} (eq : T → T → Bool) (squash : Bool) (t : T) where
     pieces_followed : (b : Bool) (l : Label T) (at : ℕ) (p : List ℕ) (e : ℕ) → Cuts (l ∷ []) at p → e ≡ at + length p + length w
         → pieces_of (if b then record l { end = e } ∷ [] else l ∷ record { end = e; label = t } ∷ []) at (p ++ w)
         ≡ (if b then record { label = l.label; text = take (l.end - at) p ++ w } ∷ [] else record { label = l.label; text = take (l.end - at) p } ∷ record { label = t; text = w } ∷ [])
-    pieces_followed true l at p e c is = ap (λ u. record { label = l.label; text = u } ∷ []) (followed_text at p l e c is)
-    pieces_followed false l at p e c is = grind (arith, none_left, take-append-le, drop-append-le, rest_of)
+    pieces_followed b l at p e h5 h6 = grind (arith, followed_text, none_left, take-append-le, drop-append-le, rest_of)
 
     pub pieces_of-with_label : (ls : List (Label T)) (at : ℕ) (p : List ℕ) (e : ℕ) → Cuts ls at p → e ≡ at + length p + length w → pieces_of (with_label eq squash ls t e) at (p ++ w) ≡ pieces_after_push eq squash (pieces_of ls at p) t w
-    pieces_of-with_label [] at p e c is = ap (λ u. record { label = t; text = u } ∷ []) (rest_of at e p c is)
-    pieces_of-with_label (l ∷ []) at p e c is = pieces_followed (squash && eq l.label t) l at p e c is
     pieces_of-with_label (l ∷ m ∷ ls) at p e c is = grind (arith, take-append-le, drop-append-le, length-drop, pieces_of-with_label (m ∷ ls) l.end (drop (l.end - at) p) e c.3)
+    pieces_of-with_label x at p e c is = grind (arith, rest_of, pieces_followed)
 
     Cuts_alone : (at e : ℕ) (p : List ℕ) → IsUtf8 w → p ≡ [] → e ≡ at + length p + length w → Cuts (record { end = e; label = t } ∷ []) at (p ++ w)
     Cuts_alone at e p u none is = grind (arith, length-append, rest_of, drop_all)
@@ -190,22 +177,16 @@ module _ {T : Type 0} (eq : T → T → Bool) (squash : Bool) (t : T) where
 
 module _ {T : Type 0} (eq : T → T → Bool) (squash : Bool) (t : T) (end e : ℕ) where
   past : (l : Label T) (xs ys : List (Label T)) → ending_at e xs ≡ ending_at e ys → ending_at e (l ∷ xs) ≡ ending_at e (l ∷ ys)
-  past l [] (y ∷ []) h = cc
-  past l (x ∷ []) [] h = cc
-  past l xs ys h = grind arith
+  past l xs ys h3 = grind arith
 
   -- a label put past the first k is cut off again
   pub ending_at-with_label : (k : ℕ) (ls : List (Label T)) → k ≤ length ls → ending_at e (take k (with_label eq squash ls t end)) ≡ ending_at e (take k ls)
-  ending_at-with_label zero ls within = refl
-  ending_at-with_label (suc k) [] within = absurd (omega (arith, within))
-  ending_at-with_label (suc k) (l ∷ []) within = grind arith
-  ending_at-with_label (suc zero) (l ∷ m ∷ ls) within = refl
   ending_at-with_label (suc (suc k)) (l ∷ m ∷ ls) within = grind (arith, past, ending_at-with_label (suc k) (m ∷ ls))
+  ending_at-with_label x y within = grind arith
 
   pub length-with_label : (ls : List (Label T)) → length ls ≤ length (with_label eq squash ls t end)
-  length-with_label [] = omega arith
-  length-with_label (l ∷ []) = grind arith
   length-with_label (l ∷ m ∷ ls) = omega (arith, length-with_label (m ∷ ls))
+  length-with_label x = grind arith
 
 -- one text more
 pub with_texts-push : {T : Type 0} (eq : T → T → Bool) (m : Labelled T) (xs : List (T × List ℕ)) (x : T × List ℕ) → with_texts eq m (xs ++ x ∷ []) ≡ with_text eq (with_texts eq m xs) x.0 x.1

@@ -1,10 +1,10 @@
 -- Where the output is at a line start.
 use Rattle.std.specs.Prelude.{◌≡◌, ◌≢◌, ℕ, Bool, true, false, List, [], ◌∷◌, ◌++◌, ◌==◌, ◌||◌, ◌⊎◌, codes, if◌then◌else◌, refl}
-use Rattle.std.proofs.Common.{inl, inr, ap, ◌∙◌, sym, append_assoc}
+use Rattle.std.proofs.Common.{inl, inr, ap, ◌∙◌, sym, append_assoc, arith}
 use Rattle.std.proofs.lemmas.List.{append-nil}
 use Rattle.std.proofs.lemmas.Bool.Decides.{eqb_tells}
 use Rattle.bpaf_roff.specs.Pieces.{Piece}
-use Rattle.bpaf_roff.specs.Escaping.{newline, is_line_start, newline_as_blank, guard, special_text, spaces_text, apostrophe_text, byte_text, Sign, Break, Byte, signs, signs_of, sign_text, text_after}
+use Rattle.bpaf_roff.specs.Escaping.{newline, is_line_start, newline_as_blank, guard, special_text, spaces_text, apostrophe_text, byte_text, Sign, signs, signs_of, sign_text, text_after}
 use Rattle.bpaf_roff.specs.Steps.Output.{written}
 use Rattle.bpaf_roff.specs.declared.escape.Apostrophes.{Apostrophes}
 use Rattle.bpaf_roff.specs.declared.escape.Apostrophes.TheVariants.{Handle, DontHandle}
@@ -14,9 +14,8 @@ use Rattle.bpaf_roff.proofs.lemmas.EscapedText.{text_after-append}
 
 -- only what was written last tells
 pub is_line_start-last : (before : List ℕ) (b : ℕ) → is_line_start (before ++ b ∷ []) ≡ (b == newline)
-is_line_start-last [] b = refl
-is_line_start-last (x ∷ []) b = refl
 is_line_start-last (x ∷ y ∷ before) b = is_line_start-last (y ∷ before) b
+is_line_start-last z b = grind arith
 
 is_line_start-end : (before t : List ℕ) (b : ℕ) → is_line_start (before ++ (t ++ b ∷ [])) ≡ (b == newline)
 is_line_start-end before t b = rw (← append_assoc before t (b ∷ [])) (is_line_start-last (before ++ t) b)
@@ -51,9 +50,7 @@ spaces_end before b = by (eqb_tells b 32) (eqb_tells b 10) (b == 92)
 
 -- a newline under these labels ends a line
 pub newline_ends : (label : Escape) (b : ℕ) → label ≡ UnescapedAtNewline ⊎ (label ≡ Special ⊎ label ≡ Unescaped) → (q : Apostrophes) (before : List ℕ) → (b == newline) ≡ is_line_start (before ++ byte_text q before label b)
-newline_ends label b (inl e) q before = rw e (sym (is_line_start-last before b))
-newline_ends label b (inr (inl e)) q before = rw e (sym (special_end q before (guard before b) b))
-newline_ends label b (inr (inr e)) q before = rw e (sym (is_line_start-last before b))
+newline_ends label b h2 h3 h4 = grind (arith, is_line_start-last, special_end)
 
 -- no byte under these labels does
 pub nothing_ends : (label : Escape) (b : ℕ) → label ≡ Spaces ⊎ label ≡ SpecialNoNewline → (q : Apostrophes) (before : List ℕ) → false ≡ is_line_start (before ++ byte_text q before label b)
@@ -62,19 +59,13 @@ nothing_ends label b (inr e) q before = rw e (sym (blank_end q before (guard bef
 
 -- what comes next asks no more of what was written than whether it ends a line
 is_line_start-written : (x : Bool) → is_line_start (written x) ≡ x
-is_line_start-written true = refl
-is_line_start-written false = refl
+is_line_start-written x = grind arith
 
 pub byte_text-written : (q : Apostrophes) (before : List ℕ) (label : Escape) (b : ℕ) (x : Bool) → x ≡ is_line_start before → byte_text q before label b ≡ byte_text q (written x) label b
-byte_text-written q before UnescapedAtNewline b x e = refl
-byte_text-written q before Spaces b x e = refl
-byte_text-written q before Special b x e = rw (is_line_start-written x, e) refl
-byte_text-written q before SpecialNoNewline b x e = rw (is_line_start-written x, e) refl
-byte_text-written q before Unescaped b x e = refl
+byte_text-written q before label b x h5 = grind (arith, is_line_start-written)
 
 pub sign_text-written : (q : Apostrophes) (before : List ℕ) (s : Sign) (x : Bool) → x ≡ is_line_start before → sign_text q before s ≡ sign_text q (written x) s
-sign_text-written q before Break x e = rw (is_line_start-written x, e) refl
-sign_text-written q before (Byte label b) x e = byte_text-written q before label b x e
+sign_text-written q before s x h4 = grind (arith, is_line_start-written, byte_text-written)
 
 -- nothing more, or a last byte
 is_line_start-append : (before other t : List ℕ) → is_line_start before ≡ is_line_start other → is_line_start (before ++ t) ≡ is_line_start (other ++ t)
@@ -90,13 +81,7 @@ is_line_start-after before t x e = is_line_start-append before (written x) t (sy
 
 pub text_after-written : (q : Apostrophes) (xs : List Sign) (before : List ℕ) (x : Bool) → x ≡ is_line_start before → text_after q before xs ≡ text_after q (written x) xs
 text_after-written q [] before x e = refl
-text_after-written q (s ∷ xs) before x e =
-    let first = sign_text-written q before s x e in
-    let after = sign_text q (written x) s in
-    let flag = is_line_start (before ++ after) in
-    rw first
-    (ap (λ t. after ++ t) (text_after-written q xs (before ++ after) flag refl
-    ∙ sym (text_after-written q xs (written x ++ after) flag (is_line_start-after before after x e))))
+text_after-written q (s ∷ xs) before x e = grind (arith, text_after-written q xs, sign_text-written, is_line_start-after)
 
 pub signs-push : (ps : List (Piece Escape)) (p : Piece Escape) → signs (ps ++ p ∷ []) ≡ signs ps ++ signs_of p
 signs-push [] p = append-nil (signs_of p)

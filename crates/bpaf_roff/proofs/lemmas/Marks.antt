@@ -1,9 +1,9 @@
 -- What a byte with a mark is written as, and the marks of a front of some bytes.
-use Rattle.std.proofs.Common.{◌≡◌, ℕ, ◌+◌, ◌-◌, ◌<◌, ◌==◌, Bool, true, false, ◌&&◌, ◌||◌, List, [], ◌∷◌, ◌++◌, inl, inr, ◌∙◌, map, take, length, get_or, ap, sym, arith, if◌then◌else◌}
-use Rattle.std.specs.Prelude.{codes, slice_index, slice_set}
+use Rattle.std.proofs.Common.{◌≡◌, ℕ, ◌+◌, ◌-◌, ◌<◌, ◌==◌, Bool, true, false, List, [], ◌∷◌, ◌++◌, inl, inr, ◌∙◌, map, take, length, get_or, ap, sym, arith, if◌then◌else◌}
+use Rattle.std.specs.Prelude.{slice_index, slice_set}
 use Rattle.std.proofs.lemmas.Bool.{cases_lt}
 use Rattle.std.proofs.lemmas.List.{take_more, get_or-set_same, get_or-set_other}
-use Rattle.bpaf_roff.specs.Escaping.{Byte, newline, is_line_start, apostrophe_text, byte_text, text_after}
+use Rattle.bpaf_roff.specs.Escaping.{Byte, newline, is_line_start, byte_text, text_after}
 use Rattle.bpaf_roff.specs.Steps.Output.{IsText, IsMark, AreMarks, mark, written}
 use Rattle.bpaf_roff.specs.declared.escape.Apostrophes.{Apostrophes}
 use Rattle.bpaf_roff.specs.declared.escape.Escape.{Escape}
@@ -14,12 +14,7 @@ use Rattle.bpaf_roff.proofs.lemmas.Texts.{line_start_by_last}
 -- a byte that has no way of its own
 marked_special : (q : Apostrophes) (before : List ℕ) (prev s : ℕ) → (is_line_start before ≡ true → (prev == newline) ≡ true) → mark prev s < 2
     → byte_text q before Special s ≡ (if mark prev s == 1 then 92 ∷ s ∷ [] else s ∷ [])
-marked_special q before prev s h k = by (s == 39) (s == 46) (s == 92 || s == 45) (is_line_start before) (prev == 10) h k
-  where
-    by : (a d e l n : Bool) → (l ≡ true → n ≡ true) → (if a || (d && n) then 2 else 0) + (if e then 1 else 0) < 2
-        → (if (d || a) && l then codes "\\&" else []) ++ (if e then 92 ∷ s ∷ [] else if a then apostrophe_text q else s ∷ [])
-        ≡ (if ((if a || (d && n) then 2 else 0) + (if e then 1 else 0)) == 1 then 92 ∷ s ∷ [] else s ∷ [])
-    by a d e l n h k = grind arith
+marked_special q before prev s h k = grind arith
 
 -- a line starts only behind a newline
 line_behind : (q : Apostrophes) (label : Escape) → IsText label → (x : Bool) (bytes : List ℕ) (i j : ℕ) → i ≡ j + 1 → j < length bytes

@@ -17,9 +17,8 @@ script_of m strip = record { pieces = m.pieces; strip_newlines = strip }
 
 -- with squashing off each text is a piece of its own
 apart : {L : Type 0} (eq : L → L → Bool) (ps : List (Piece L)) (label : L) (text : List ℕ) → pieces_after_push eq false ps label text ≡ ps ++ record { label = label; text = text } ∷ []
-apart eq [] label text = refl
-apart eq (p ∷ []) label text = refl
 apart eq (p ∷ r ∷ ps) label text = ap (λ xs. p ∷ xs) (apart eq (r ∷ ps) label text)
+apart eq x label text = grind arith
 
 pub script_of-with_text : (eq : Escape → Escape → Bool) (m : Labelled Escape) (strip : Bool) (label : Escape) (text : List ℕ) → m.squash ≡ false → script_of (with_text eq m label text) strip ≡ with_pieces (script_of m strip) (piece label text ∷ [])
 script_of-with_text eq m strip label text off = rw off (ap (λ ps. record { pieces = ps; strip_newlines = strip }) (apart eq m.pieces label text))

@@ -1,9 +1,9 @@
 -- Bytes that are written as they are.
-use Rattle.std.specs.Prelude.{◌≡◌, ◌⊎◌, ℕ, Bool, true, false, not, ◌&&◌, ◌||◌, ◌==◌, List, [], ◌∷◌, ◌++◌, codes, if◌then◌else◌, refl}
+use Rattle.std.specs.Prelude.{◌≡◌, ◌⊎◌, ℕ, Bool, true, List, [], ◌∷◌, refl}
 use Rattle.std.specs.List.{list_all}
-use Rattle.std.proofs.Common.{inl, inr, ap}
+use Rattle.std.proofs.Common.{inl, inr, arith}
 use Rattle.std.proofs.lemmas.Bool.{and_parts}
-use Rattle.bpaf_roff.specs.Escaping.{byte_text, is_line_start, apostrophe_text}
+use Rattle.bpaf_roff.specs.Escaping.{byte_text}
 use Rattle.bpaf_roff.specs.Steps.Output.{StayUnder, is_plain}
 use Rattle.bpaf_roff.specs.declared.escape.Apostrophes.{Apostrophes}
 use Rattle.bpaf_roff.specs.declared.escape.Escape.{Escape}
@@ -12,20 +12,10 @@ use Rattle.bpaf_roff.specs.declared.escape.Escape.TheVariants.{UnescapedAtNewlin
 -- each byte as it is
 all_stay : (label : Escape) (test : ℕ → Bool) → ((q : Apostrophes) (before : List ℕ) (b : ℕ) → test b ≡ true → byte_text q before label b ≡ b ∷ []) → (bytes : List ℕ) → list_all test bytes ≡ true → StayUnder label bytes
 all_stay label test one [] h q before = refl
-all_stay label test one (b ∷ bytes) h q before =
-    let parts = and_parts (test b) (list_all test bytes) h in
-    rw (one q before b parts.0) (ap (λ t. b ∷ t) (all_stay label test one bytes parts.1 q (before ++ b ∷ [])))
+all_stay label test one (b ∷ bytes) h q before = grind (arith, all_stay label test one bytes, and_parts)
 
 plain_stays : (q : Apostrophes) (before : List ℕ) (b : ℕ) → is_plain b ≡ true → byte_text q before Special b ≡ b ∷ []
-plain_stays q before b h = by (b == 92) (b == 45) (b == 46) (b == 39) h
-  where
-    by : (v w x y : Bool) → (not v && not w && not x && not y) ≡ true
-        → (if (x || y) && is_line_start before then codes "\\&" else []) ++ (if v || w then 92 ∷ b ∷ [] else if y then apostrophe_text q else b ∷ []) ≡ b ∷ []
-    by false false false false h = refl
-    by true w x y h = absurd cc
-    by false true x y h = absurd cc
-    by false false true y h = absurd cc
-    by false false false true h = absurd cc
+plain_stays q before b h = grind arith
 
 pub plain_stay : (bytes : List ℕ) → list_all is_plain bytes ≡ true → StayUnder Special bytes
 plain_stay bytes h = all_stay Special is_plain plain_stays bytes h

@@ -1,6 +1,6 @@
 -- What a block of bytes becomes under its label, and whether a line starts behind it.
-use Rattle.std.specs.Prelude.{◌≡◌, ℕ, Bool, true, false, List, [], ◌∷◌, ◌++◌, map, flat_map, refl}
-use Rattle.std.proofs.Common.{ap, sym, ◌∙◌, append_assoc}
+use Rattle.std.specs.Prelude.{◌≡◌, ℕ, Bool, List, [], ◌∷◌, ◌++◌, map, flat_map, refl}
+use Rattle.std.proofs.Common.{ap, ◌∙◌, append_assoc, arith}
 use Rattle.std.proofs.lemmas.List.{map-append}
 use Rattle.bpaf_roff.specs.Escaping.{Byte, is_line_start, spaces_text, byte_text, text_after}
 use Rattle.bpaf_roff.specs.Steps.Output.{written}
@@ -13,20 +13,10 @@ use Rattle.bpaf_roff.proofs.lemmas.LineStarts.{byte_text-written, text_after-pus
 pub line_start_by_last : (x : Bool) (label : Escape) (bytes front : List ℕ) (last : ℕ) → bytes ≡ front ++ last ∷ []
     → (y : Bool) → ((r : Apostrophes) (s : List ℕ) → y ≡ is_line_start (s ++ byte_text r s label last))
     → (q : Apostrophes) → y ≡ is_line_start (written x ++ text_after q (written x) (map (Byte label) bytes))
-line_start_by_last x label bytes front last e y ends q =
-    let before = written x in
-    let so_far = text_after q before (map (Byte label) front) in
-    let split = ap (map (Byte label)) e ∙ map-append (Byte label) front (last ∷ []) in
-    let whole = ap (text_after q before) split ∙ text_after-push q before (map (Byte label) front) (Byte label last) in
-    ends q (before ++ so_far)
-    ∙ ap is_line_start (append_assoc before so_far (byte_text q (before ++ so_far) label last) ∙ ap (λ t. before ++ t) (sym whole))
+line_start_by_last x label bytes front last e y ends q = grind (arith, map-append, text_after-push, append_assoc)
 
 pub line_start_by_none : (x : Bool) (label : Escape) (bytes : List ℕ) → bytes ≡ [] → (q : Apostrophes) → x ≡ is_line_start (written x ++ text_after q (written x) (map (Byte label) bytes))
-line_start_by_none x label bytes e q = rw e (kept x)
-  where
-    kept : (y : Bool) → y ≡ is_line_start (written y ++ [])
-    kept true = refl
-    kept false = refl
+line_start_by_none x label bytes e q = grind arith
 
 -- the bytes of an argument know nothing of each other
 pub argument_text : (q : Apostrophes) (bytes before : List ℕ) → text_after q before (map (Byte Spaces) bytes) ≡ flat_map spaces_text bytes

@@ -1,15 +1,14 @@
 -- What a loop over bytes, one over the blocks of a piece, and one over pieces have written so far.
-use Rattle.std.proofs.Common.{◌≡◌, ◌+◌, ◌<◌, ◌∷◌, [], ◌++◌, ◌∙◌, List, ℕ, Bool, true, length, map, take, get_or, ap, sym, append_assoc, refl}
+use Rattle.std.proofs.Common.{◌≡◌, ◌+◌, ◌<◌, ◌∷◌, [], ◌++◌, ◌∙◌, List, ℕ, Bool, length, map, take, get_or, ap, sym, append_assoc, refl, arith}
 use Rattle.std.proofs.lemmas.List.{take_more, map-append, append-nil}
 use Rattle.std.specs.List.{AllByRecursion}
 use Rattle.std.specs.Str.{IsUtf8}
 use Rattle.std.proofs.lemmas.Str.{IsUtf8-append}
 use Rattle.bpaf_roff.specs.Pieces.{Piece}
-use Rattle.bpaf_roff.specs.Escaping.{is_line_start, Sign, Byte, byte_text, signs, signs_of, text_after, escaped}
-use Rattle.bpaf_roff.specs.Roff.{RoffText, text_of, with_piece, with_written, preamble, preamble_for, rendering}
+use Rattle.bpaf_roff.specs.Escaping.{is_line_start, Sign, Byte, byte_text, signs_of, text_after, escaped}
+use Rattle.bpaf_roff.specs.Roff.{text_of, with_piece, with_written, preamble_for}
 use Rattle.bpaf_roff.specs.Steps.Output.{written}
 use Rattle.bpaf_roff.specs.declared.escape.Apostrophes.{Apostrophes}
-use Rattle.bpaf_roff.specs.declared.escape.Apostrophes.TheVariants.{Handle, DontHandle}
 use Rattle.bpaf_roff.specs.declared.escape.Escape.{Escape}
 use Rattle.bpaf_roff.proofs.lemmas.EscapedText.{text_after-append, piece_text, renderings_go_on}
 use Rattle.bpaf_roff.proofs.lemmas.LineStarts.{text_after-push, text_after-written, is_line_start-after, signs-push}
@@ -35,16 +34,10 @@ module _ (q : Apostrophes) (before : List ℕ) (xs ys : List Sign) (y : Bool) (e
   text_on = ap (λ t. text_after q before xs ++ t) (sym (text_after-written q ys (before ++ text_after q before xs) y e)) ∙ sym (text_after-append q before xs ys)
 
   pub line_start_on : is_line_start (written y ++ text_after q (written y) ys) ≡ is_line_start (before ++ text_after q before (xs ++ ys))
-  line_start_on =
-      sym (is_line_start-after (before ++ text_after q before xs) (text_after q (written y) ys) y e)
-      ∙ ap is_line_start (append_assoc before (text_after q before xs) (text_after q (written y) ys) ∙ ap (λ t. before ++ t) text_on)
+  line_start_on = grind (arith, is_line_start-after, append_assoc, text_on)
 
   pub items_on : (out new all : List ℕ) → new ≡ out ++ text_after q before xs → out ++ text_after q before (xs ++ ys) ≡ all → new ++ text_after q (written y) ys ≡ all
-  items_on out new all is so_far =
-      ap (λ o. o ++ text_after q (written y) ys) is
-      ∙ append_assoc out (text_after q before xs) (text_after q (written y) ys)
-      ∙ ap (λ t. out ++ t) text_on
-      ∙ so_far
+  items_on out new all is so_far = grind (arith, append_assoc, text_on)
 
 -- the signs of a block and of what comes after it
 pub block_signs : (label : Escape) (rest block after : List ℕ) → rest ≡ block ++ after → map (Byte label) rest ≡ map (Byte label) block ++ map (Byte label) after
@@ -52,14 +45,10 @@ block_signs label rest block after e = ap (map (Byte label)) e ∙ map-append (B
 
 module _ (q : Apostrophes) (ps : List (Piece Escape)) (p : Piece Escape) (x : Bool) (e : x ≡ is_line_start (escaped q ps)) where
   escaped_push : escaped q (ps ++ p ∷ []) ≡ escaped q ps ++ text_after q (written x) (signs_of p)
-  escaped_push =
-      ap (text_after q []) (signs-push ps p) ∙ text_after-append q [] (signs ps) (signs_of p)
-      ∙ ap (λ t. escaped q ps ++ t) (text_after-written q (signs_of p) (escaped q ps) x e)
+  escaped_push = grind (arith, signs-push, text_after-append, text_after-written)
 
   pub piece_items_more : (old now new : List ℕ) → now ≡ old ++ escaped q ps → new ≡ now ++ text_after q (written x) (signs_of p) → new ≡ old ++ escaped q (ps ++ p ∷ [])
-  piece_items_more old now new was is =
-      is ∙ ap (λ o. o ++ text_after q (written x) (signs_of p)) was
-      ∙ append_assoc old (escaped q ps) (text_after q (written x) (signs_of p)) ∙ ap (λ t. old ++ t) (sym escaped_push)
+  piece_items_more old now new was is = grind (arith, append_assoc, escaped_push)
 
   pub piece_line_start_more : is_line_start (written x ++ text_after q (written x) (signs_of p)) ≡ is_line_start (escaped q (ps ++ p ∷ []))
   piece_line_start_more = sym (ap is_line_start escaped_push ∙ is_line_start-after (escaped q ps) (text_after q (written x) (signs_of p)) x e)
@@ -82,17 +71,11 @@ module _ (q : Apostrophes) (old new : List ℕ) (p : Piece Escape) (x : Bool) (e
 -- ---- a text that is gone on with
 
 after_preamble : (q : Apostrophes) (t : List ℕ) → is_line_start t ≡ is_line_start (preamble_for q ++ t)
-after_preamble Handle t = sym (is_line_start-after preamble t true refl)
-after_preamble DontHandle t = refl
+after_preamble q t = grind (arith, is_line_start-after)
 
 one_written : (q : Apostrophes) (ps : List (Piece Escape)) (p : Piece Escape) → with_piece (text_of q ps) p ≡ text_of q (ps ++ p ∷ [])
 unfolding with_piece
-one_written q ps p =
-    let text : List ℕ → RoffText = λ bytes. record { bytes = bytes; apostrophes = q } in
-    let so_far = rendering q ps in
-    let x = is_line_start (escaped q ps) in
-    ap text (ap (λ t. so_far ++ t) (text_after-written q (signs_of p) so_far x (after_preamble q (escaped q ps)) ∙ sym (text_after-written q (signs_of p) (escaped q ps) x refl)
-    ∙ ap (text_after q (escaped q ps)) (sym (append-nil (signs_of p)))) ∙ sym (renderings_go_on q ps (p ∷ [])))
+one_written q ps p = grind (arith, text_after-written, after_preamble, append-nil, renderings_go_on)
 
 -- Pieces that are written behind the text of others come to the text of all.
 pub written_on : (q : Apostrophes) (ps more : List (Piece Escape)) → with_written (text_of q ps) more ≡ text_of q (ps ++ more)

@@ -70,8 +70,7 @@ found_behind [] rest f xs h = h
 found_behind (c ∷ front) rest f xs h = rw (nat_eq_equiv.refl c) (found_behind front rest f xs h)
 
 found_gap : (more : List ℕ → List Event → List (List Stretch)) (b : ℕ) (xs : List Stretch) → (b ≡ 32) ⊎ (b ≡ 10) → Among xs (more (text_of xs) (events_of xs)) → Among (Gap b ∷ xs) (at_gap more (b ∷ text_of xs) (events_of xs))
-found_gap more b xs (inl e) h = rw e (in_map (λ ys. Gap 32 ∷ ys) xs (more (text_of xs) (events_of xs)) h)
-found_gap more b xs (inr e) h = rw e (in_map (λ ys. Gap 10 ∷ ys) xs (more (text_of xs) (events_of xs)) h)
+found_gap more b xs h3 h4 = grind (arith, in_map)
 
 module _ (more : List ℕ → List Event → List (List Stretch)) (e : Place) (xs : List Stretch) (h : Among xs (more (text_of xs) (events_of xs))) where
   abbrev place : List ℕ → Place
@@ -93,9 +92,7 @@ module _ (more : List ℕ → List Event → List (List Stretch)) (e : Place) (x
       (found_behind e.shown (text_of xs) (λ rest. chosen (starts rest (codes "\n")) (λ u. map (λ ys. Placed e ∷ ys) (more rest (events_of xs)))) (Placed e ∷ xs) (rw cut.1 mapped)))
 
 found_event : (n : ℕ) (xs : List Stretch) (text : List ℕ) (event : Event) (events : List Event) → Among xs (at_event (placings n) text (event ∷ events)) → Among xs (placings (suc n) text (event ∷ events))
-found_event n xs text event events h =
-    let more = placings n in
-    among_right xs (at_end more text (event ∷ events)) (at_gap more text (event ∷ events) ++ at_event more text (event ∷ events)) (among_right xs (at_gap more text (event ∷ events)) (at_event more text (event ∷ events)) h)
+found_event n xs text event events h = grind (arith, among_right)
 
 -- each placing is among them
 found : (n : ℕ) (xs : List Stretch) → length xs ≤ n → EachMayStand xs → Among xs (placings n (text_of xs) (events_of xs))
@@ -121,9 +118,7 @@ found (suc n) (Passed event ∷ xs) h s =
 -- a stretch makes a byte or has an event
 few : (xs : List Stretch) → length xs ≤ length (text_of xs) + length (events_of xs)
 few [] = omega arith
-few (Gap b ∷ xs) = omega (arith, few xs)
-few (Placed e ∷ xs) = omega (arith, few xs, length-append e.shown (text_of xs))
-few (Passed event ∷ xs) = omega (arith, few xs, length-append (event_bytes event) (text_of xs))
+few (x ∷ xs) = grind (arith, few xs, length-append)
 
 -- ---- where a law does not hold
 
@@ -207,17 +202,14 @@ refused {document} {full} {width} {text} layout law h =
     law.never (each_breaks law.breaks layout.stretches (placings n text (shown_events full document)) h among)
 
 clash : (a b : Bool) → (a && not b) ≡ true → (a ≡ true → b ≡ true) → ⊥
-clash true true h f = cc
-clash true false h f = let no : false ≡ true = f refl in cc
-clash false b h f = cc
+clash a b h2 h3 = grind arith
 
 abbrev is_blank : Stretch → Bool
 is_blank (Gap b) = b == 32
 is_blank x = false
 
 blank_is : (x : Stretch) → is_blank x ≡ true → x ≡ Gap 32
-blank_is (Gap b) h = ap Gap (eqb-true b 32 h)
-blank_is x h = absurd cc
+blank_is x h1 = grind (arith, eqb-true)
 
 -- whether two newlines stand together
 abbrev begins_with_newline : List ℕ → Bool

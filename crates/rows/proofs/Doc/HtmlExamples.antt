@@ -1,8 +1,8 @@
 -- Small answers that meet `IsHtmlOf`, as they are the pages that the rules make, and wrong ones that do not.
-use Rattle.std.proofs.Common.{◌≡◌, ℕ, ◌≤◌, Bool, true, false, List, [], ◌∷◌, ◌++◌, length, refl, sym, ◌∙◌, ap, arith, length-append, take, drop, cond, subst, append_assoc}
+use Rattle.std.proofs.Common.{◌≡◌, ℕ, ◌≤◌, Bool, true, false, List, [], ◌∷◌, ◌++◌, length, refl, sym, ◌∙◌, ap, arith, length-append, take, drop, cond, append_assoc}
 use Rattle.std.proofs.lemmas.Bool.{false≢true, eqb-false}
 use Rattle.std.proofs.Math.Bool.{or-true}
-use Rattle.std.specs.Prelude.{slice_index, not, ◌||◌, codes, flat_map, filter}
+use Rattle.std.specs.Prelude.{slice_index, ◌||◌, codes, flat_map, filter}
 use Rattle.std.specs.Str.{chars}
 use Rattle.unicode_width.specs.Width.{str_width, step, past_emoji}
 use Rattle.bpaf_doc.specs.declared.buffer.Style.TheVariants.{Text, Emphasis, Literal}
@@ -10,7 +10,7 @@ use Rattle.bpaf_doc.specs.declared.buffer.Block.TheVariants.{InlineBlock, Defini
 use Rattle.bpaf_doc.specs.Buffer.Parts.{Part, Text as Words, Start as PartStart, End as PartEnd, IsWellNested, text, enclosed, joined}
 use Rattle.bpaf_doc.specs.Splitter.Chunks.{Raw, Paragraph, starts, chunks_of, chunks_in, chunks_within}
 use Rattle.bpaf_doc.specs.Html.Fragments.{Fragment, TextStart, Shown, TextEnd, shown_fragments}
-use Rattle.bpaf_doc.specs.Html.Page.{IsHtmlOf, enclosed, joined, HtmlSnippet, Of, fragments_in, fragment, snippet_text, is_style_tag_or_fragment, styled_snippets}
+use Rattle.bpaf_doc.specs.Html.Page.{IsHtmlOf, enclosed, joined, HtmlSnippet, Of, fragments_in, snippet_text, is_style_tag_or_fragment, styled_snippets}
 use Rattle.bpaf_doc.proofs.lemmas.Html.Meets.{page_meets}
 
 -- two styled texts
@@ -61,20 +61,15 @@ abbrev styled : List HtmlSnippet → List HtmlSnippet
 styled ts = filter is_style_tag_or_fragment ts
 
 not_empty : (t : HtmlSnippet) → is_style_tag_or_fragment t ≡ false → 1 ≤ length (snippet_text t)
-not_empty (Of p) h = absurd (false≢true (sym h))
-not_empty t h = omega arith
+not_empty t h1 = grind (arith, false≢true)
 
 shorter : (ts : List HtmlSnippet) → length (spelled (styled ts)) ≤ length (spelled ts)
 shorter [] = omega arith
-shorter (t ∷ ts) = elim (is_style_tag_or_fragment t) as (λ b. length (spelled (cond b (t ∷ styled ts) (styled ts))) ≤ length (snippet_text t ++ spelled ts)) [
-  | true ↦ omega (arith, length-append (snippet_text t) (spelled (styled ts)), length-append (snippet_text t) (spelled ts), shorter ts)
-  | false ↦ omega (arith, length-append (snippet_text t) (spelled ts), shorter ts)
-]
+shorter (t ∷ ts) = grind (arith, shorter ts, length-append)
 
 only_styled_step : (b : Bool) (t : HtmlSnippet) (ts : List HtmlSnippet) → is_style_tag_or_fragment t ≡ b → length (snippet_text t ++ spelled ts) ≤ length (spelled (cond b (t ∷ styled ts) (styled ts)))
     → (length (spelled ts) ≤ length (spelled (styled ts)) → ts ≡ styled ts) → t ∷ ts ≡ cond b (t ∷ styled ts) (styled ts)
-only_styled_step true t ts e h more = ap (λ x. t ∷ x) (more (omega (arith, h, length-append (snippet_text t) (spelled (styled ts)), length-append (snippet_text t) (spelled ts))))
-only_styled_step false t ts e h more = absurd (omega (arith, h, not_empty t e, shorter ts, length-append (snippet_text t) (spelled ts)))
+only_styled_step b t ts h3 h4 h5 = grind (arith, length-append, not_empty, shorter)
 
 only_styled : (ts : List HtmlSnippet) → length (spelled ts) ≤ length (spelled (styled ts)) → ts ≡ styled ts
 only_styled [] h = refl
@@ -83,8 +78,7 @@ only_styled (t ∷ ts) h = only_styled_step (is_style_tag_or_fragment t) t ts re
 -- so its cut is known
 known_cut : (document : List Part) (answer : List ℕ) (h : IsHtmlOf document true answer) → length answer ≤ length (spelled (flat_map styled_snippets (shown_fragments true document)))
     → h.cut ≡ flat_map styled_snippets (shown_fragments true document)
-known_cut document answer h short =
-    only_styled h.cut (subst (λ x. length x ≤ length (spelled (styled h.cut))) h.spelling (subst (λ x. length answer ≤ length (spelled x)) (sym h.styles) short)) ∙ h.styles
+known_cut document answer h short = grind (arith, only_styled)
 
 -- wrong answers
 

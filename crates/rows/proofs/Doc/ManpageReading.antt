@@ -1,6 +1,6 @@
 -- What the program reads, the text is read as.
 use Rattle.std.specs.Prelude.{◌≡◌, ◌≢◌, ℕ, false, List, [], ◌∷◌, ◌++◌, ◌==◌, ◌↔◌, Option, Some, None, codes, refl}
-use Rattle.std.proofs.Common.{inl, inr, ap, subst, ◌∙◌, sym, append_assoc}
+use Rattle.std.proofs.Common.{inl, inr, ap, subst, ◌∙◌, sym, append_assoc, arith}
 use Rattle.std.proofs.lemmas.List.{append-nil}
 use Rattle.std.proofs.lemmas.Bool.Decides.{eqb_tells}
 use Rattle.bpaf_roff.specs.Escaping.{newline, blank, dot}
@@ -104,8 +104,7 @@ unfolding Next
 back_inside font front b t more = test (Back (Inside font front) t more) b 92 (λ h. h) (λ e92 n92. test (Back (Inside font front) t more) b 10 (λ h. record { inner = 10 ∷ h.span.inner; content = 10 ∷ h.span.content; rest = h.span.rest; more = h.span.more; joined = ap (λ ys. 10 ∷ ys) h.span.joined; is = IsSpanText.line_break h.span.inner h.span.content refl refl h.guarded h.span.is; reads = h.span.reads; first = h.span.first ∙ ap (λ w. Span font w ∷ h.span.more) (append_assoc front (10 ∷ []) h.span.content) }) (λ e10 n10. test (Back (Inside font front) t more) b 45 (λ h. absurd h) (λ e45 n45. test (Back (Inside font front) t more) b 39 (λ h. absurd h) (λ e39 n39. rw (e92, e10, e45, e39) (more_inside font front b (b ∷ []) t more (λ r m. IsSpanText.plain b r m refl refl n92 n45 n39 n10))))))
 
 guarded_by : (b : ℕ) (t inner rest : List ℕ) → b ∷ t ≡ (inner ++ restore_font) ++ rest → b ≢ 46 → b ≢ 39 → StartsNoControl inner
-guarded_by b t [] rest e n46 n39 = tt
-guarded_by b t (c ∷ inner) rest e n46 n39 = let same : b ≡ c = cc in ((λ x. n46 (same ∙ x)), (λ x. n39 (same ∙ x)))
+guarded_by b t inner rest h4 h5 h6 = grind arith
 
 same_next : (font : Font) (front : List ℕ) (b : ℕ) → (b == 46) ≡ false → (b == 39) ≡ false → next (AfterNewline font front) b ≡ next (Inside font front) b
 same_next font front b e46 e39 = rw (e46, e39) refl
@@ -130,8 +129,7 @@ back (LetterA font front) b t more = test (Back (LetterA font front) t more) b 1
 back Refused b t more = λ h. absurd h
 
 ended_events : (events : List Event) (o : Option Event) (more : List Event) → with_event events o ++ more ≡ events ++ (event_list o ++ more)
-ended_events events None more = refl
-ended_events events (Some event) more = append_assoc events (event ∷ []) more
+ended_events events o more = grind (arith, append_assoc)
 
 stopped : (state : State) (events out : List Event) → at_end state events ≡ Some out → (more : List Event) × (out ≡ events ++ more) × Next state [] more
 unfolding Next

@@ -1,11 +1,11 @@
 -- Small answers that meet `IsMarkdownOf`, as they are the texts that the rules make, and wrong ones that do not.
-use Rattle.std.proofs.Common.{◌≡◌, ℕ, ◌*◌, ◌<◌, Bool, true, false, List, [], ◌∷◌, ◌++◌, refl, sym, ◌∙◌, ap, subst, cond, ◌≤◌, length, take, drop, arith, length-append}
+use Rattle.std.proofs.Common.{◌≡◌, ℕ, ◌*◌, ◌<◌, Bool, true, false, List, [], ◌∷◌, ◌++◌, refl, sym, ◌∙◌, ap, subst, ◌≤◌, length, take, drop, arith, length-append}
 use Rattle.std.proofs.lemmas.Bool.{false≢true}
 use Rattle.std.proofs.Math.Bool.{or-true}
 use Rattle.std.proofs.lemmas.List.Folds.{list_any-append}
 use Rattle.std.proofs.lemmas.List.Elements.{filter-append}
 use Rattle.std.proofs.lemmas.List.Sums.{length-filter}
-use Rattle.std.specs.Prelude.{◌==◌, not, ◌||◌, codes, filter, flat_map}
+use Rattle.std.specs.Prelude.{◌==◌, ◌||◌, codes, filter, flat_map}
 use Rattle.std.specs.List.{list_any}
 use Rattle.std.specs.Str.{chars}
 use Rattle.unicode_width.specs.Width.{str_width, step, past_emoji}
@@ -14,7 +14,7 @@ use Rattle.bpaf_doc.specs.declared.buffer.Block.TheVariants.{Header, Section3, I
 use Rattle.bpaf_doc.specs.Buffer.Parts.{Part, Text as Words, Start as PartStart, End as PartEnd}
 use Rattle.bpaf_doc.specs.Splitter.Chunks.{Raw, Paragraph, is_paragraph, chunks_of, chunks_in, chunks_within}
 use Rattle.bpaf_doc.specs.Html.Fragments.{Fragment, TextStart, Shown, TextEnd, shows, shown_fragments}
-use Rattle.bpaf_doc.specs.Markdown.Page.{IsMarkdownOf, MarkdownSnippet, Put, Of, Mark, mark_text, is_style_mark, Italic, TextFence, Newline, fragments_in, flat_map_places, snippet_text, is_style_mark_or_fragment, styled_snippets, text_after, closed_fences, opened_fences, is_text_fence, is_newline}
+use Rattle.bpaf_doc.specs.Markdown.Page.{IsMarkdownOf, MarkdownSnippet, Put, Of, Mark, mark_text, TextFence, Newline, fragments_in, snippet_text, is_style_mark_or_fragment, styled_snippets, text_after, closed_fences, opened_fences, is_text_fence, is_newline}
 use Rattle.bpaf_doc.proofs.lemmas.Markdown.Meets.{markdown_meets}
 
 abbrev paragraphs_document : List Part
@@ -59,23 +59,16 @@ abbrev styled : List MarkdownSnippet → List MarkdownSnippet
 styled ts = filter is_style_mark_or_fragment ts
 
 mark_not_empty : (mark : Mark) → 1 ≤ length (mark_text mark)
-mark_not_empty Italic = omega arith
-mark_not_empty mark = omega arith
+mark_not_empty mark = grind arith
 
 -- an answer without its style marks is too short
 marks-le : (seen ts : List MarkdownSnippet) → length (filter is_put (styled ts)) ≤ length (text_after seen ts)
 marks-le seen [] = omega arith
 marks-le seen (Of a ∷ ts) = omega (arith, length-append (snippet_text seen (Of a) ts) (text_after (seen ++ Of a ∷ []) ts), marks-le (seen ++ Of a ∷ []) ts)
-marks-le seen (Put mark ∷ ts) = elim (is_style_mark mark) as (λ b. length (filter is_put (cond b (Put mark ∷ styled ts) (styled ts))) ≤ length (mark_text mark ++ text_after (seen ++ Put mark ∷ []) ts)) [
-  | true ↦
-      let g : length (filter is_put (Put mark ∷ styled ts)) ≤ length (mark_text mark ++ text_after (seen ++ Put mark ∷ []) ts)
-      = omega (arith, length-append (mark_text mark) (text_after (seen ++ Put mark ∷ []) ts), marks-le (seen ++ Put mark ∷ []) ts, mark_not_empty mark) in g
-  | false ↦ omega (arith, length-append (mark_text mark) (text_after (seen ++ Put mark ∷ []) ts), marks-le (seen ++ Put mark ∷ []) ts)
-]
+marks-le seen (Put mark ∷ ts) = grind (arith, marks-le (seen ++ Put mark ∷ []) ts, length-append, mark_not_empty)
 
 too_short : (document : List Part) (answer : List ℕ) → IsMarkdownOf document true answer → length answer < length (filter is_put (flat_map styled_snippets (shown_fragments true document))) → ⊥
-too_short document answer h short =
-    omega (arith, subst (λ x. length (filter is_put x) ≤ length (flat_map_places snippet_text h.cut)) h.styles (marks-le [] h.cut), subst (λ x. length x < length (filter is_put (flat_map styled_snippets (shown_fragments true document)))) h.spelling short)
+too_short document answer h short = grind (arith, marks-le)
 
 -- no marks
 bare_refused : IsMarkdownOf (Words (codes "x") Literal ∷ []) true (codes "x") → ⊥
@@ -139,10 +132,8 @@ no_paragraph_refused h =
 fences-le : (seen ts : List MarkdownSnippet) → length (filter is_text_fence ts) * 7 ≤ length (text_after seen ts)
 fences-le seen [] = omega arith
 fences-le seen (Of a ∷ ts) = omega (arith, length-append (snippet_text seen (Of a) ts) (text_after (seen ++ Of a ∷ []) ts), fences-le (seen ++ Of a ∷ []) ts)
-fences-le seen (Put TextFence ∷ ts) =
-    omega (arith, length-append (codes "```text") (text_after (seen ++ Put TextFence ∷ []) ts), fences-le (seen ++ Put TextFence ∷ []) ts)
-fences-le seen (Put mark ∷ ts) =
-    omega (arith, length-append (mark_text mark) (text_after (seen ++ Put mark ∷ []) ts), fences-le (seen ++ Put mark ∷ []) ts)
+fences-le seen (Put TextFence ∷ ts) = grind (arith, fences-le (seen ++ Put TextFence ∷ []) ts, length-append)
+fences-le seen (Put mark ∷ ts) = grind (arith, fences-le (seen ++ Put mark ∷ []) ts, length-append)
 
 -- a code line without fences, for any document that shows just that line
 no_fence_refused : (document : List Part) → shown_fragments true document ≡ TextStart Text ∷ Shown Text (Raw (codes "x") 1_000_000) ∷ TextEnd Text ∷ [] → IsMarkdownOf document true (codes "  x\n") → ⊥

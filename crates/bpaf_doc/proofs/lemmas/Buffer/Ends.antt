@@ -108,9 +108,8 @@ module _ (from to : ℕ) where
 
 -- where a last text of its style is taken off, the text takes its place
 pub with_text_end-push : (es : List PartEnd) (e : PartEnd) (style : Style) (end : ℕ) → with_text_end (es ++ e ∷ []) style end ≡ es ++ end_then_text e style end
-with_text_end-push [] e style end = refl
-with_text_end-push (f ∷ []) e style end = refl
 with_text_end-push (f ∷ g ∷ es) e style end = ap (λ fs. f ∷ fs) (with_text_end-push (g ∷ es) e style end)
+with_text_end-push x e style end = grind arith
 
 -- the last end was taken off, and put back unless it is a text of that style
 pub with_text_end-kept : (es fs : List PartEnd) (o : Option PartEnd) (e : PartEnd) (style : Style) (end : ℕ) → es ≡ fs ++ option_to_list o → o ≡ Some e → is_text_of e.kind style ≡ false
@@ -227,23 +226,20 @@ AreEnds-drop start (e ∷ es) rest (suc i) le are =
 
 -- the end before a place, as it is read from the ends
 pub end_before-read : (start : ℕ) (es : List PartEnd) (i : ℕ) (d : PartEnd) → i < length es → end_before start es (suc i) ≡ (get_or es i d).end
-end_before-read start [] i d lt = absurd (omega (arith, lt))
-end_before-read start (e ∷ es) zero d lt = refl
 end_before-read start (e ∷ es) (suc i) d lt = end_before-read e.end es i d (omega (arith, lt))
+end_before-read start x y d lt = grind arith
 
 -- what `next` gives of a list without its first parts
 pub slice_get-next : (s t ps : List Part) (r : Option handed.Part) (i : ℕ) → s ≡ drop i ps → i < length ps → YieldsFirstBy part_of (λ left. left) s r t
     → option_map part_of r ≡ slice_get ps i
-slice_get-next s t [] r i is lt yields = absurd (omega (arith, lt))
-slice_get-next s t (p ∷ ps) w zero is lt yields = grind arith
 slice_get-next s t (p ∷ ps) r (suc i) is lt yields = slice_get-next s t ps r i is (omega (arith, lt)) yields
+slice_get-next s t x y z is lt yields = grind arith
 
 -- ---- the last end moved
 
 with_last_end-push : (es : List PartEnd) (e : PartEnd) (end : ℕ) → with_last_end (es ++ e ∷ []) end ≡ es ++ record { kind = e.kind; end = end } ∷ []
-with_last_end-push [] e end = refl
-with_last_end-push (f ∷ []) e end = refl
 with_last_end-push (f ∷ g ∷ es) e end = ap (λ fs. f ∷ fs) (with_last_end-push (g ∷ es) e end)
+with_last_end-push x e end = grind arith
 
 -- the last end was taken off, and one of its kind is put back
 pub with_last_end-popped : (es fs : List PartEnd) (o : Option PartEnd) (e : PartEnd) (end : ℕ) → es ≡ fs ++ option_to_list o → o ≡ Some e

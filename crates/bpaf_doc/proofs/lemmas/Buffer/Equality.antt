@@ -1,5 +1,5 @@
 -- Equal documents have the same parts.
-use Rattle.std.proofs.Common.{arith, ◌≡◌, Bool, true, List, [], ◌∷◌, subst}
+use Rattle.std.proofs.Common.{arith, ◌≡◌, Bool, true, List, ◌∷◌, subst}
 use Rattle.std.specs.Cmp.Lexicographic.{pointwise}
 use Rattle.std.proofs.lemmas.Bool.{eqb-true, and_parts}
 use Rattle.bpaf_doc.specs.Buffer.Equality.{IsEqualityOfParts, same_document, same_part}
@@ -7,9 +7,8 @@ use Rattle.bpaf_doc.specs.Buffer.Steps.Order.{documents_equiv}
 use Rattle.bpaf_doc.specs.Buffer.Parts.{Part}
 
 pointwise_is : {X : Type 0} (same : X → X → Bool) → ((x y : X) → same x y ≡ true → x ≡ y) → (xs ys : List X) → pointwise same xs ys ≡ true → xs ≡ ys
-pointwise_is same tells [] s h = grind arith
-pointwise_is same tells (x ∷ xs) [] h = cc
 pointwise_is same tells (x ∷ xs) (y ∷ ys) h = grind (arith, pointwise_is same tells xs ys, and_parts)
+pointwise_is same tells z u h = grind arith
 
 same_part_is : (p q : Part) → same_part p q ≡ true → p ≡ q
 same_part_is p q h = grind (arith, and_parts, pointwise_is, eqb-true)

@@ -15,9 +15,8 @@ use Rattle.bpaf_doc.specs.Buffer.Writes.{Write, document_of, emphasis, inside, i
 
 -- a text leaves all parts but the last one
 pub with_text-append : (ps : List Part) (q : Part) (qs : List Part) (bytes : List ℕ) (style : Style) → with_text (ps ++ q ∷ qs) bytes style ≡ ps ++ with_text (q ∷ qs) bytes style
-with_text-append [] q qs bytes style = refl
-with_text-append (p ∷ []) q qs bytes style = refl
 with_text-append (p ∷ p' ∷ ps) q qs bytes style = ap (λ rs. p ∷ rs) (with_text-append (p' ∷ ps) q qs bytes style)
+with_text-append x q qs bytes style = grind arith
 
 one_or_two : (b : Bool) (before bytes : List ℕ) (kind style : Style) → IsWellNested (if b then Text (before ++ bytes) style ∷ [] else Text before kind ∷ Text bytes style ∷ [])
 one_or_two true before bytes kind style = text (before ++ bytes) style refl
@@ -93,8 +92,7 @@ IsWellNested-em_doc ps d nested also = IsWellNested-inside block.InlineBlock ps 
 
 pub IsWellNested-path : (names : List (List ℕ)) (ps : List Part) → IsWellNested ps → IsWellNested (with_writes ps (path_writes names))
 IsWellNested-path [] ps nested = nested
-IsWellNested-path (name ∷ names) ps nested =
-    IsWellNested-path names (with_text (with_text ps name style.Literal) (32 ∷ []) style.Text) (IsWellNested-with_text (32 ∷ []) style.Text (IsWellNested-with_text name style.Literal nested))
+IsWellNested-path (name ∷ names) ps nested = grind (arith, IsWellNested-path names (with_text (with_text ps name style.Literal) (32 ∷ []) style.Text), IsWellNested-with_text)
 
 pub IsWellNested-pairs : (pairs : List (Bor (List ℕ) × Style)) (ps : List Part) → IsWellNested ps → IsWellNested (with_writes ps (map pair_write pairs))
 IsWellNested-pairs [] ps nested = nested

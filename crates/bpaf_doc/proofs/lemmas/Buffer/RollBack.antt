@@ -33,15 +33,12 @@ unfolding IsLonger
 IsLonger-refl p = grind (arith, append-nil)
 
 Extends-refl : (ps : List Part) → Extends ps ps
-Extends-refl [] = tt
-Extends-refl (p ∷ []) = IsLonger-refl p
 Extends-refl (p ∷ p' ∷ ps) = (refl, Extends-refl (p' ∷ ps))
+Extends-refl x = grind (arith, IsLonger-refl)
 
 Extends-append : (ps qs rs : List Part) → Extends ps qs → Extends ps (qs ++ rs)
-Extends-append [] qs rs h = tt
-Extends-append (p ∷ ps) [] rs h = absurd h
-Extends-append (p ∷ []) (q ∷ qs) rs h = h
 Extends-append (p ∷ p' ∷ ps) (q ∷ qs) rs h = (h.0, Extends-append (p' ∷ ps) qs rs h.1)
+Extends-append x y rs h = grind arith
 
 same_style-is : (a b : Style) → same_style a b ≡ true → a ≡ b
 same_style-is a b same = same_true the_type (search rules) a b same

@@ -79,9 +79,8 @@ stack_after-append (s ∷ ss) ts stack = stack_after-append ss ts (shifted s sta
 -- the first j + 1 of what the numbered parts give
 take_next : {A : Type 0} (f : ℕ × Part → A) (j k : ℕ) (parts : List Part) (part : Part) (rest : List Part) → drop j parts ≡ part ∷ rest
     → take (suc j) (map f (enumerate_from k parts)) ≡ take j (map f (enumerate_from k parts)) ++ f (k + j, part) ∷ []
-take_next f zero k s part rest e = grind (arith, add-zero)
-take_next f (suc j) k [] part rest e = absurd cc
 take_next f (suc j) k (p ∷ ps) part rest e = grind (arith, take_next f j (k + 1) ps part rest e)
+take_next f x k y part rest e = grind (arith, add-zero)
 
 -- the part at place j shifts the stack
 pub stack_at-more : (document : List Part) (j : ℕ) (part : Part) (rest : List Part) → drop j document ≡ part ∷ rest
@@ -149,9 +148,8 @@ pub indent-le : (document : List Part) (j : ℕ) (part : Part) → indent (shift
 indent-le document j part = grind (arith, tab_stop-le)
 
 in_force-le : (document : List Part) (j k : ℕ) (parts : List Part) → indents_in_force (take j (map (λ (i, part). shift_at document i part) (enumerate_from k parts))) ≤ 30 * j
-in_force-le document zero k parts = omega arith
-in_force-le document (suc j) k [] = omega arith
 in_force-le document (suc j) k (part ∷ parts) = grind (arith, in_force-le document j (k + 1) parts, indent-le)
+in_force-le document x k y = grind arith
 
 pub margin-le : (document : List Part) (j : ℕ) → margin document j ≤ 30 * (j + 1)
 margin-le document j = in_force-le document (j + 1) 0 document

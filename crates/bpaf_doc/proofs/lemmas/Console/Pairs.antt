@@ -1,5 +1,5 @@
 -- What is remembered of empty Block pairs tells of each mark whether it is skipped.
-use Rattle.std.specs.Prelude.{◌≡◌, ℕ, zero, suc, ◌+◌, ◌-◌, ◌^◌, ◌<◌, ◌≤◌, min, Bool, true, false, not, cond, ◌&&◌, ◌||◌, ◌==◌, ◌⊎◌, IsTrue, ◌↔◌, List, [], ◌∷◌, Some, length, refl, drop, slice_get, Option, nat_le, nat_lt}
+use Rattle.std.specs.Prelude.{◌≡◌, ℕ, suc, ◌+◌, ◌-◌, ◌^◌, ◌<◌, ◌≤◌, min, Bool, true, false, ◌&&◌, ◌||◌, ◌==◌, ◌⊎◌, IsTrue, ◌↔◌, List, [], ◌∷◌, Some, length, refl, drop, slice_get, Option, nat_le, nat_lt}
 use Rattle.std.specs.List.{list_any, position_or_len, enumerate_from}
 use Rattle.std.proofs.Common.{sym, ◌∙◌, ap, subst, inl, inr, arith}
 use Rattle.std.proofs.lemmas.List.{drop-drop}
@@ -28,9 +28,8 @@ start_is part h = grind arith
 -- ---- a part by its place
 
 slice_get-drop : {A : Type 0} (m n : ℕ) (xs : List A) → slice_get (drop m xs) n ≡ slice_get xs (m + n)
-slice_get-drop zero n xs = ap (λ k. slice_get xs k) (sym (zero-add n))
-slice_get-drop (suc m) n [] = refl
 slice_get-drop (suc m) n (x ∷ xs) = grind (arith, slice_get-drop m n xs)
+slice_get-drop y n z = grind (arith, zero-add)
 
 -- a place behind a usize has no part
 pub slice_get-saturates : (document : List Part) (k : ℕ) → length document < 2 ^ 64 → slice_get document (min k 18446744073709551615) ≡ slice_get document k
@@ -39,12 +38,8 @@ slice_get-saturates document k small = grind (arith, slice_get_past)
 -- ---- the first Section4 end after a place
 
 position-drop : {A : Type 0} (p : A → Bool) (m : ℕ) (xs : List A) → m ≤ position_or_len p xs → m + position_or_len p (drop m xs) ≡ position_or_len p xs
-position-drop p zero xs l = zero-add (position_or_len p xs)
-position-drop p (suc m) [] l = absurd (omega arith)
-position-drop p (suc m) (x ∷ xs) l = at (p x) l (λ l. position-drop p m xs l) where
-  at : (b : Bool) → suc m ≤ cond (not b) (1 + position_or_len p xs) 0 → (m ≤ position_or_len p xs → m + position_or_len p (drop m xs) ≡ position_or_len p xs)
-      → suc m + position_or_len p (drop m xs) ≡ cond (not b) (1 + position_or_len p xs) 0
-  at b l more = grind arith
+position-drop p (suc m) (x ∷ xs) l = grind (arith, position-drop p m xs)
+position-drop p y z l = grind (arith, zero-add)
 
 -- what stands at the first place that passes
 position_passes : {A : Type 0} (p : A → Bool) (xs : List A) (x : A) → slice_get xs (position_or_len p xs) ≡ Some x → p x ≡ true
@@ -106,9 +101,8 @@ module _ (f : ℕ → Part → Bool) where
       next (i, part, here, holds) = (suc i, part, here, ap (λ n. f n part) (omega arith) ∙ holds)
 
   any_from : (parts : List Part) (k i : ℕ) (part : Part) → slice_get parts i ≡ Some part → f (k + i) part ≡ true → list_any (λ (i, part). f i part) (enumerate_from k parts) ≡ true
-  any_from [] k i part here h = absurd cc
-  any_from (p ∷ ps) k zero part here h = grind (arith, add-zero)
   any_from (p ∷ ps) k (suc i) part here h = grind (arith, any_from ps (k + 1) i part here)
+  any_from x k y part here h = grind (arith, add-zero)
 
 abbrev skips : List Part → ℕ → ℕ → Part → Bool
 skips document k i part = (is_section4_start part && skips_pair document i) && ((k == after_section4 document i) || (k == after_section4 document i + 1))
@@ -144,10 +138,10 @@ module _ (document : List Part) where
     shared = knows.ahead before
 
     pub shared_answer : pairs.has_pair ≡ skips_pair document index
-    shared_answer = grind (arith, shared, after_section4-shared)
+    shared_answer = grind (arith, after_section4-shared)
 
     pub KnowsPairs-shared : KnowsPairs document (index + 1) pairs
-    KnowsPairs-shared = grind (arith, shared, after_section4-shared, shared_answer)
+    KnowsPairs-shared = grind (arith, after_section4-shared, shared_answer)
 
   -- a start that looks for its end
   pub KnowsPairs-found : (index : ℕ) (pairs next : Pairs) → slice_get document index ≡ Some (Start blocks.Section4) → KnowsPairs document index pairs → pairs.end ≤ index
@@ -240,8 +234,7 @@ module _ (document : List Part) (small : length document < 2 ^ 64) where
   -- the start of a block
   pub knows_start : (index : ℕ) (b : Block) (pairs : Pairs) → slice_get document index ≡ Some (Start b) → KnowsPairs document index pairs
       → KnowsPairs document (index + 1) (whole.pairs_at document index b pairs) × (whole.is_adjacent b (whole.pairs_at document index b pairs) ≡ (is_section4_start (Start b) && skips_pair document index))
-  knows_start index b pairs here knows =
-      grind (arith, by_test, KnowsPairs-found, nat_tests, section4_end_is, KnowsPairs-shared, shared_answer, empty_block_is, KnowsPairs-more)
+  knows_start index b pairs here knows = grind (arith, by_test, KnowsPairs-found, nat_tests, section4_end_is, KnowsPairs-shared, shared_answer, empty_block_is, KnowsPairs-more)
 
   pub skips_is : (index : ℕ) (b : Block) (pairs : Pairs) → KnowsPairs document (index + 1) pairs → HasMarkAt document index b → whole.skips pairs index b ≡ is_skipped document index
   skips_is index b pairs knows mark = at (whole.is_block b) refl where

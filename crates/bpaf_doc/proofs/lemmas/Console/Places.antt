@@ -10,9 +10,8 @@ abbrev pub first_end : List Part → ℕ
 first_end parts = position_or_len (λ part. is_section4_end (Some part)) parts
 
 pub first_end-here : (parts : List Part) (at : ℕ) → is_section4_end (slice_get parts at) ≡ true → first_end (drop at parts) ≡ 0
-first_end-here [] s e = grind arith
-first_end-here (p ∷ parts) zero e = rw e refl
 first_end-here (p ∷ parts) (suc at) e = first_end-here parts at e
+first_end-here x y e = grind arith
 
 pub first_end-later : (parts : List Part) (at : ℕ) → at < length parts → is_section4_end (slice_get parts at) ≡ false
     → first_end (drop at parts) ≡ 1 + first_end (drop (at + 1) parts)

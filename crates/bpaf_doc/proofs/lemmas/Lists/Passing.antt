@@ -23,9 +23,7 @@ module _ {Q X : Type 0} (ok : Q → X → Bool) (next : Q → X → Q) where
 
   pub passes_both : (q : Q) (xs ys : List X) → passes q xs ≡ true → passes (state_after q xs) ys ≡ true → passes q (xs ++ ys) ≡ true
   passes_both q [] ys h k = k
-  passes_both q (x ∷ xs) ys h k =
-      let parts : (ok q x ≡ true) × (passes (next q x) xs ≡ true) = and_parts (ok q x) (passes (next q x) xs) h in
-      and_from (ok q x) (passes (next q x) (xs ++ ys)) parts.0 (passes_both (next q x) xs ys parts.1 k)
+  passes_both q (x ∷ xs) ys h k = grind (arith, passes_both (next q x) xs ys, and_parts, and_from)
 
   pub passes_first : (q : Q) (x : X) (xs : List X) → passes q (x ∷ xs) ≡ true → ok q x ≡ true
   passes_first q x xs h = (and_parts (ok q x) (passes (next q x) xs) h).0

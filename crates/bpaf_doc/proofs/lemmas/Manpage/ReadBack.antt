@@ -21,9 +21,8 @@ use Rattle.bpaf_doc.specs.Manpage.Reader.{Event, Control, Span, LineEnd, IsName,
 
 -- a text is at a line start after a newline only
 is_line_start-last : (before : List ℕ) (b : ℕ) → is_line_start (before ++ b ∷ []) ≡ (b == newline)
-is_line_start-last [] b = refl
-is_line_start-last (x ∷ []) b = refl
 is_line_start-last (x ∷ y ∷ before) b = is_line_start-last (y ∷ before) b
+is_line_start-last z b = grind arith
 
 -- what kind of byte a byte is
 data Kind : ℕ → Type 0 where

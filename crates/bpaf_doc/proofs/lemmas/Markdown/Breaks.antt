@@ -57,20 +57,7 @@ quiet_followed [] rest f e a h = h
 quiet_followed (s ∷ ss) rest f e a h = grind (arith, quiet_followed ss rest f, and_parts, and_from, marks_followed)
 
 own_followed : (p : Marked) (f : Fragment) (rest : List MarkdownSnippet) → (shows is_ordinary f ≡ true → touches rest ≡ true) → all_followed rest ≡ true → all_followed (own_snippets p f ++ rest) ≡ true
-own_followed p f rest h1 h2 = grind (
-  arith,
-  by_weight,
-  new_line_marks,
-  and_from,
-  fence_is_whole,
-  open_marks,
-  code_is_whole,
-  close_marks,
-  append_assoc,
-  marks_followed,
-  quiet_followed,
-  own-fragments,
-)
+own_followed p f rest h1 h2 = grind (arith, by_weight, new_line_marks, and_from, fence_is_whole, open_marks, code_is_whole, close_marks, append_assoc, marks_followed, quiet_followed, own-fragments)
 
 -- what comes where no item waits and no code block is open
 other_touches : (ss : List MarkdownSnippet) (f : Fragment) (fs : List Fragment) → fragments_in ss ≡ f ∷ fs → shows is_ordinary f ≡ false → touches ss ≡ true

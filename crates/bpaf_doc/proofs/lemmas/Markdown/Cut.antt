@@ -106,8 +106,7 @@ spelled before (Of f ∷ snippets) = fragment_text before f ++ spelled (before +
 
 pub fragments-append : (xs ys : List MarkdownSnippet) → fragments_in (xs ++ ys) ≡ fragments_in xs ++ fragments_in ys
 fragments-append [] ys = refl
-fragments-append (Put mark ∷ xs) ys = fragments-append xs ys
-fragments-append (Of f ∷ xs) ys = ap (λ fs. f ∷ fs) (fragments-append xs ys)
+fragments-append (x ∷ xs) ys = grind (arith, fragments-append xs ys)
 
 pub places-spelled : (before snippets : List MarkdownSnippet) → flat_map_places_from snippet_text before snippets ≡ spelled (fragments_in before) snippets
 places-spelled before [] = refl

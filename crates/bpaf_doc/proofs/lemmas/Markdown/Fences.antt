@@ -37,19 +37,10 @@ closed-cons : (s : MarkdownSnippet) (ss : List MarkdownSnippet) → closed_fence
 closed-cons s ss = count_by-cons is_fence s ss
 
 fences_counted : (q : Bool) (ss : List MarkdownSnippet) → well_fenced q ss ≡ true → one_if q + opened_fences ss ≡ closed_fences ss + one_if (fence_after q ss)
-fences_counted q [] h = omega arith
-fences_counted true (Put TextFence ∷ ss) h = absurd (false≢true (passes_first may_stand fence_next true (Put TextFence) ss h))
 fences_counted false (Put TextFence ∷ ss) h = omega (arith, opened-cons (Put TextFence) ss, closed-cons (Put TextFence) ss, fences_counted true ss h)
 fences_counted true (Put Fence ∷ ss) h = omega (arith, opened-cons (Put Fence) ss, closed-cons (Put Fence) ss, fences_counted false ss h)
-fences_counted q (s ∷ ss) h = grind (
-  arith,
-  fences_counted q ss,
-  false≢true,
-  passes_first,
-  opened-cons,
-  closed-cons,
-  passes_rest,
-)
+fences_counted q (s ∷ ss) h = grind (arith, fences_counted q ss, false≢true, passes_first, opened-cons, closed-cons, passes_rest)
+fences_counted x y h = grind (arith, false≢true, passes_first)
 
 -- ---- the steps
 

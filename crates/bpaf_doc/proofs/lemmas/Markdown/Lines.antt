@@ -81,9 +81,8 @@ lines_at before text (Put mark ∷ xs) after a h whole = subst EndsInBlankLine (
 lines_at before text (Of f ∷ xs) after a h whole = subst EndsInBlankLine (append_assoc text (fragment_text before f) (spelled (before ++ f ∷ []) xs)) (lines_at (before ++ f ∷ []) (text ++ fragment_text before f) xs after a h.1 whole)
 
 marks_stand : (before : List Fragment) (text : List ℕ) (ss : List MarkdownSnippet) → fragments_in ss ≡ [] → LinesStand before text ss
-marks_stand before text [] none = tt
 marks_stand before text (Put mark ∷ ss) none = marks_stand before (text ++ mark_text mark) ss none
-marks_stand before text (Of f ∷ ss) none = cc
+marks_stand before text x none = grind arith
 
 abbrev without_first : List Fragment → List Fragment
 without_first [] = []
@@ -94,9 +93,8 @@ first_or d [] = d
 first_or d (f ∷ fs) = f
 
 other_stands : (before : List Fragment) (text : List ℕ) (ss : List MarkdownSnippet) (f : Fragment) → fragments_in ss ≡ f ∷ [] → shows is_whole_line f ≡ false → LinesStand before text ss
-other_stands before text [] f e o = tt
 other_stands before text (Put mark ∷ ss) f e o = other_stands before (text ++ mark_text mark) ss f e o
-other_stands before text (Of g ∷ ss) f e o = grind (arith, false≢true, marks_stand)
+other_stands before text x f e o = grind (arith, false≢true, marks_stand)
 
 -- a line after a text that ends in blanks
 line_stands : (before : List Fragment) (text : List ℕ) (f : Fragment) → EndsInBlankLine text → LinesStand before text (line_snippets f)

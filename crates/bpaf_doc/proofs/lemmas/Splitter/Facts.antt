@@ -1,13 +1,13 @@
 -- What holds of the chunks of each text.
-use Rattle.std.specs.Prelude.{◌≡◌, ℕ, List, [], ◌∷◌, ◌++◌, refl, length, slice_range}
+use Rattle.std.specs.Prelude.{◌≡◌, ℕ, List, [], ◌++◌, refl, length, slice_range}
 use Rattle.std.specs.List.{All, flat_map}
 use Rattle.std.specs.Str.{IsUtf8}
-use Rattle.std.proofs.Common.{sym, ◌∙◌, ap, subst, inl, inr, arith, append_assoc}
+use Rattle.std.proofs.Common.{sym, ◌∙◌, ap, subst, arith, append_assoc}
 use Rattle.std.proofs.lemmas.List.{append-nil, take_at, drop_at, length-append}
 use Rattle.std.proofs.lemmas.List.Elements.{All-nil, All-cons, All-same}
 use Rattle.std.proofs.lemmas.List.Folds.{list_all-append}
 use Rattle.bpaf_doc.specs.Buffer.Parts.{ink}
-use Rattle.bpaf_doc.specs.Splitter.Chunks.{Chunk, Raw, chunk_ink, chunks_of}
+use Rattle.bpaf_doc.specs.Splitter.Chunks.{Chunk, chunk_ink, chunks_of}
 use Rattle.bpaf_doc.specs.Splitter.Promises.{IsGap, IsOneLine, IsPlace, IsSpelledOnce, IsText, StandInOrder, StandsFor, is_gap_byte}
 use Rattle.bpaf_doc.proofs.lemmas.Splitter.Spelling.{spells_its_chunks, only_its_chunks}
 use Rattle.bpaf_doc.proofs.lemmas.Splitter.Pieces.{Pieces, none, piece, pieces, stands_ink, IsUtf8-blank}
@@ -27,23 +27,18 @@ ink_of_chunks text u = ink_of_pieces (pieces (spells_its_chunks text)) u
 
 one_line_of_pieces : {chunks : List Chunk} {text : List ℕ} → Pieces chunks text → All IsOneLine chunks
 one_line_of_pieces {chunks} (none ec et) = All-same IsOneLine chunks [] ec (All-nil IsOneLine)
-one_line_of_pieces {chunks} (piece gap there after rest chunk others ec et g h t l w s) =
-    All-same IsOneLine chunks (chunk ∷ others) ec (All-cons IsOneLine chunk others l (one_line_of_pieces s))
+one_line_of_pieces {chunks} (piece gap there after rest chunk others ec et g h t l w s) = grind (arith, one_line_of_pieces s, All-same, All-cons)
 
 -- no chunk has a newline in it
 pub one_line_chunks : (text : List ℕ) → All IsOneLine (chunks_of text)
 one_line_chunks text = one_line_of_pieces (pieces (spells_its_chunks text))
 
 text_of_piece : (chunk : Chunk) (there : List ℕ) → StandsFor chunk there → IsUtf8 there → IsText chunk
-text_of_piece (Raw bytes weight) there (inl e) u = subst (λ t. IsUtf8 t) e u
-text_of_piece (Raw bytes weight) there (inr h) u = subst (λ t. IsUtf8 t) (sym h.1) IsUtf8-blank
-text_of_piece _ there t u = tt
+text_of_piece chunk there h2 h3 = grind (arith, IsUtf8-blank)
 
 texts_of_pieces : {chunks : List Chunk} {text : List ℕ} → Pieces chunks text → IsUtf8 text → All IsText chunks
 texts_of_pieces {chunks} (none ec et) u = All-same IsText chunks [] ec (All-nil IsText)
-texts_of_pieces {chunks} (piece gap there after rest chunk others ec et g h t l w s) u =
-    let v : IsUtf8 there × IsUtf8 rest = w u in
-    All-same IsText chunks (chunk ∷ others) ec (All-cons IsText chunk others (text_of_piece chunk there t v.0) (texts_of_pieces s v.1))
+texts_of_pieces {chunks} (piece gap there after rest chunk others ec et g h t l w s) u = grind (arith, texts_of_pieces s, All-same, All-cons, text_of_piece)
 
 -- each Raw of a UTF-8 text is UTF-8
 pub text_chunks : (text : List ℕ) → IsUtf8 text → All IsText (chunks_of text)

@@ -1,16 +1,15 @@
 -- Printable ASCII without blanks is a word, and each of its characters takes a column.
-use Rattle.std.specs.Prelude.{◌≡◌, ℕ, ◌<◌, ◌≤◌, Bool, true, false, IsTrue, List, [], ◌∷◌, refl, length, take}
+use Rattle.std.specs.Prelude.{◌≡◌, ℕ, ◌<◌, ◌≤◌, Bool, true, IsTrue, List, [], ◌∷◌, refl, length, take}
 use Rattle.std.specs.Char.{is_ascii_graphic}
 use Rattle.std.specs.Int.{is_in_range}
 use Rattle.std.specs.List.{All, list_all}
 use Rattle.std.specs.Str.{IsAscii, IsUtf8, IsCharBoundary}
-use Rattle.std.proofs.Common.{sym, ap, ◌∙◌, arith}
+use Rattle.std.proofs.Common.{arith}
 use Rattle.std.proofs.lemmas.Bool.{and_parts}
 use Rattle.std.proofs.lemmas.Bool.Decides.{nat_tests}
 use Rattle.std.proofs.lemmas.List.Sums.{AllPass-from_list_all}
 use Rattle.std.proofs.lemmas.Str.{chars-IsAscii, IsUtf8-from_ascii, IsCharBoundary-from_take}
 use Rattle.std.proofs.lemmas.Str.Ascii.{IsAscii-from_all}
-use Rattle.unicode_width.specs.Width.{str_width}
 use Rattle.unicode_width.proofs.Rules.{str_width-printable}
 use Rattle.bpaf_doc.specs.Splitter.Chunks.{columns, is_word_byte}
 
@@ -45,6 +44,4 @@ wide_small : (b : ℕ) → is_in_range 0x20 0x7E b ≡ true → b < 128
 wide_small b h = grind (arith, nat_tests)
 
 pub line_columns_are : (bytes : List ℕ) → list_all (is_in_range 0x20 0x7E) bytes ≡ true → length bytes ≡ columns bytes
-line_columns_are bytes h =
-    sym (ap (str_width false) (chars-IsAscii bytes (IsAscii-from_all bytes (λ k d l. wide_small _ (AllPass-from_list_all (is_in_range 0x20 0x7E) bytes h k d l))))
-    ∙ str_width-printable false bytes h)
+line_columns_are bytes h = grind (arith, chars-IsAscii, IsAscii-from_all, wide_small, AllPass-from_list_all, str_width-printable)

@@ -19,9 +19,8 @@ not_true b h t = cc
 
 -- a text with this front is the front and the rest
 pub starts_front : (front text : List ℕ) → IsTrue (starts text front) → text ≡ front ++ drop (length front) text
-starts_front [] text h = refl
-starts_front (f ∷ front) [] h = absurd cc
 starts_front (f ∷ front) (t ∷ text) h = grind (arith, starts_front front text, and_left, and_right, nat_tests)
+starts_front x y h = grind arith
 
 -- the bytes from the front on that pass a test, and the others
 front_split : (test : ℕ → Bool) (bytes : List ℕ) → bytes ≡ take_while test bytes ++ without_front test bytes

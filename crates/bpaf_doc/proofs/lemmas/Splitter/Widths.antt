@@ -41,10 +41,9 @@ unfolding str_width
 width_most cs = read_most cs
 
 after_most : (n c : ℕ) (bytes : List ℕ) → length (chars_after n c bytes) ≤ 1 + length bytes
-after_most zero c [] = omega arith
 after_most zero c (b ∷ bytes) = omega (arith, after_most (continuation_len b) (lead_bits b) bytes)
-after_most (suc n) c [] = omega arith
 after_most (suc n) c (b ∷ bytes) = omega (arith, after_most n (c * 64 + (b - 128)) bytes)
+after_most x c [] = grind arith
 
 chars_most : (bytes : List ℕ) → length (chars bytes) ≤ length bytes
 unfolding chars

@@ -1,10 +1,9 @@
-use Rattle.std.proofs.Common.{◌≡◌, ◌<◌, ◌==◌, false, ℕ, List, [], ◌∷◌, length, get_or, subst, sym, ◌∙◌, ap, arith}
+use Rattle.std.proofs.Common.{◌≡◌, ◌<◌, ◌==◌, false, ℕ, List, length, get_or, subst, sym, ◌∙◌, ap, arith}
 use Rattle.std.proofs.lemmas.Str.{IsCharBoundary-after_ascii}
 use Rattle.bpaf_doc.proofs.splitter.strip_byte.Goals as goal
 
 some : (bytes : List ℕ) → (length bytes == 0) ≡ false → 0 < length bytes
-some [] e = cc
-some (b ∷ bytes) e = omega arith
+some bytes h1 = grind arith
 
 pub split_at-requires : goal.split_at-requires
 split_at-requires c =

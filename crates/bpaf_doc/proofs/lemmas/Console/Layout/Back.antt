@@ -44,11 +44,7 @@ pub by_trimmed : (P : List Stretch → List Stretch → Type 0) → P [] [] → 
     → ((event : Event) (r t : List Stretch) → has_some (event_bytes event) ≡ false → P r t → P (Passed event ∷ r) (Passed event ∷ t))
     → (r : List Stretch) → P r (trimmed r)
 by_trimmed P none gap inked plain bytes bare [] = none
-by_trimmed P none gap inked plain bytes bare (s ∷ r) = grind (
-  arith,
-  by_trimmed P none gap inked plain bytes bare r,
-  by_test,
-)
+by_trimmed P none gap inked plain bytes bare (s ∷ r) = grind (arith, by_trimmed P none gap inked plain bytes bare r, by_test)
 
 -- Q of the page on which all is written that was asked for
 pub by_lines : (Q : State → Type 0) {st mid : State} → Lines st mid → Q st → Q (on_new_line st) → Q (record st { back = Gap 10 ∷ st.back }) → Q (on_new_line (on_new_line st)) → Q mid
@@ -109,20 +105,10 @@ pub by_mark : {margin_of : ℕ → ℕ} {st : State} {next : Next} {event : Even
     → next ≡ mark event margin
     → ((b : Block) (m : ℕ) → (is_inline_block b ≡ true → m ≤ st.margin) → m ≤ 18446744073709551615 → Q (Opens b) m)
     → ((b : Block) (m : ℕ) → m ≤ st.margin → m ≤ 18446744073709551615 → Q (Closes b) m) → Q event margin
-by_mark Q (raw_suits q f g) e opens closes = absurd cc
-by_mark Q (paragraph_suits j f l m) e opens closes = absurd cc
-by_mark Q (line_break_suits j f l m) e opens closes = absurd cc
-by_mark {event = event} {margin = margin} Q (open_suits b n f l u) e opens closes =
-    let same : Opens b ≡ event = cc in let level : n ≡ margin = cc in subst (λ (x : Event). Q x margin) same (subst (Q (Opens b)) level (opens b n l u))
-by_mark {event = event} {margin = margin} Q (close_suits b n f l u) e opens closes =
-    let same : Closes b ≡ event = cc in let level : n ≡ margin = cc in subst (λ (x : Event). Q x margin) same (subst (Q (Closes b)) level (closes b n l u))
+by_mark Q h1 h2 h3 h4 = grind arith
 
 -- Q of a break that comes next, at a Paragraph and at a LineBreak
 pub by_break : {margin_of : ℕ → ℕ} {st : State} {next : Next} {k : ℕ} {chunk : Chunk} (Q : Chunk → ℕ → Type 0) → Suits margin_of st next → next ≡ break k chunk
     → ((j : ℕ) → st.latest ≤ j → (st.marked ≡ true → st.latest < j) → Q Paragraph j)
     → ((j : ℕ) → st.latest ≤ j → (st.marked ≡ true → st.latest < j) → Q LineBreak j) → Q chunk k
-by_break Q (raw_suits q f g) e paragraph line = absurd cc
-by_break {k = k} {chunk = chunk} Q (paragraph_suits j f l m) e paragraph line = grind arith
-by_break {k = k} {chunk = chunk} Q (line_break_suits j f l m) e paragraph line = grind arith
-by_break Q (open_suits b margin f l u) e paragraph line = absurd cc
-by_break Q (close_suits b margin f l u) e paragraph line = absurd cc
+by_break Q h1 h2 h3 h4 = grind arith

@@ -76,11 +76,7 @@ pub record AfterPads (n : ℕ) (r m : List Stretch) (e : Place) (before : List S
 
 pub cut_padded : (n : ℕ) (r m : List Stretch) (e : Place) (before : List Stretch) → Cut (padded n r) m e before → AfterPads n r m e before
 cut_padded zero r m e before h = record { rest = m; is = refl; there = h }
-cut_padded (suc n) r m e before h = grind (
-  arith,
-  cut_padded n r (cut_gap 32 (padded n r) m e before h).rest e before,
-  cut_gap,
-)
+cut_padded (suc n) r m e before h = grind (arith, cut_padded n r (cut_gap 32 (padded n r) m e before h).rest e before, cut_gap, padded)
 
 -- a cut of the trimmed page comes from one of the page, with the same chunk and the same events
 pub record FromTrimmed (r m : List Stretch) (e : Place) (before : List Stretch) : Type 0 where

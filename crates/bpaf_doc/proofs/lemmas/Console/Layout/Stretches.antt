@@ -244,23 +244,7 @@ shown_inked e u h i = grind (arith, trim_ink)
 
 pub trim_text : (r : List Stretch) → IsLegible r → trim_end (text_back r) ≡ text_back (trimmed r)
 trim_text [] h = plain_trim [] no_ink_nil
-trim_text (x ∷ r) h =
-    grind (
-      arith,
-      trim_text r,
-      text_back_cons,
-      trim_white,
-      text_utf8,
-      gap_plain,
-      trim_some,
-      shown_inked,
-      shown_trim,
-      plain_trim,
-      no_ink_nil,
-      bare_text,
-      event_ink,
-      event_trim,
-    )
+trim_text (x ∷ r) h = grind (arith, trim_text r, text_back_cons, trim_white, text_utf8, gap_plain, trim_some, shown_inked, shown_trim, plain_trim, no_ink_nil, bare_text, event_ink, event_trim)
 
 -- ---- what may be read stays so
 

@@ -143,8 +143,7 @@ clearly_blank width margin_of = record {
 
 clearly_grows : {width : ℕ} {margin_of : ℕ → ℕ} {st after : State} {next : Next} → width < 1_000_000 → Suits margin_of st next → IsClear st next → Grows width st next after
     → Base width st → Clearly width margin_of st → Clearly width margin_of after
-clearly_grows {width} {margin_of} small suits clear g b c =
-    grind (arith, starting_grows, at_margin_grows, exact_grows, fits_width_grows, pads_only_grows, heavy_grows, alone_grows)
+clearly_grows {width} {margin_of} small suits clear g b c = grind (arith, starting_grows, at_margin_grows, exact_grows, fits_width_grows, pads_only_grows, heavy_grows, alone_grows)
 
 -- no empty line of code stands before the first byte
 abbrev clear_front : List Event → Bool

@@ -1,5 +1,5 @@
 -- The page that the code writes is the page as a function of the document.
-use Rattle.std.specs.Prelude.{◌≡◌, ℕ, ◌+◌, ◌-◌, ◌^◌, ◌<◌, Option, Bool, true, false, not, ◌&&◌, ◌==◌, List, [], ◌∷◌, ◌++◌, length, refl, if◌then◌else◌, nat_le, IfOk, Result, String, string_bytes, zero, suc, ◌≤◌, take, reverse, map, flat_map}
+use Rattle.std.specs.Prelude.{◌≡◌, ℕ, ◌+◌, ◌-◌, ◌^◌, ◌<◌, Option, Bool, true, false, not, ◌&&◌, ◌==◌, List, [], ◌∷◌, ◌++◌, length, refl, if◌then◌else◌, nat_le, IfOk, Result, String, string_bytes, suc, ◌≤◌, take, reverse, map, flat_map}
 use Rattle.std.specs.List.{enumerate_from}
 use Rattle.std.specs.Str.{bytes_eq}
 use Rattle.std.proofs.Common.{sym, ap, arith, ◌∙◌, length-append}
@@ -227,12 +227,11 @@ mark_if c b event is none = grind arith
 
 -- a stack is no deeper than the marks are many
 depth_after : (j : ℕ) (ss : List Shift) (stack : List ℕ) → length (stack_after (take j ss) stack) ≤ j + length stack
-depth_after zero ss stack = omega arith
-depth_after (suc j) [] stack = omega arith
 depth_after (suc j) (Indent n ∷ ss) stack = let rest : length (stack_after (take j ss) (shifted (Indent n) stack)) ≤ j + length (shifted (Indent n) stack) = depth_after j ss (shifted (Indent n) stack) in omega arith
 depth_after (suc j) (Outdent ∷ ss) [] = let rest : length (stack_after (take j ss) []) ≤ j + 0 = depth_after j ss [] in omega arith
 depth_after (suc j) (Outdent ∷ ss) (m ∷ ms) = let rest : length (stack_after (take j ss) ms) ≤ j + length ms = depth_after j ss ms in omega arith
 depth_after (suc j) (Level ∷ ss) stack = let rest : length (stack_after (take j ss) stack) ≤ j + length stack = depth_after j ss stack in omega arith
+depth_after x y stack = grind arith
 
 module _ (full : Bool) (document : List Part) (few : length document < 2 ^ 59) where
   is_small : length document < 2 ^ 64

@@ -218,12 +218,7 @@ module _ (full : Bool) (document : List Part) (width : ℕ) (is_small : length d
 
   module _ (index : ℕ) (before rest : List Part) (part : Part) (pairs : Pairs) (hidden : ℕ) (s : Sheet) (g : Going index before (part ∷ rest) pairs hidden s) where
     next_events : (added : List Event) → part_events full document index part ≡ added → events_from full document 0 (before ++ part ∷ []) ≡ events_from full document 0 before ++ added
-    next_events added e = (grind (
-      arith,
-      enumerate_snoc,
-      flat_map-append,
-      append-nil,
-    )) ∙ ap (λ es. events_from full document 0 before ++ es) e
+    next_events added e = grind (arith, enumerate_snoc, flat_map-append, append-nil)
 
     -- nothing is written of this part, and no margin moves
     quiet_step : (next : Pairs) → Walk full document (index + 1) (before ++ part ∷ []) rest next (hidden_after full hidden part) s → part_events full document index part ≡ []

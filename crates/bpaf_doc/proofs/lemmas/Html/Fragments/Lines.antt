@@ -1,5 +1,5 @@
 -- No chunk of a text has a newline in it, so no fragment of a document has.
-use Rattle.std.proofs.Common.{arith, ◌≡◌, ℕ, zero, suc, Bool, true, List, [], ◌∷◌, take, refl, ap, ◌∙◌}
+use Rattle.std.proofs.Common.{arith, ◌≡◌, ℕ, suc, Bool, true, List, [], ◌∷◌, take, refl, ap, ◌∙◌}
 use Rattle.std.specs.List.{list_all}
 use Rattle.std.proofs.lemmas.List.Folds.{list_all-append, list_all-map}
 use Rattle.std.proofs.lemmas.Bool.{and_parts, and_from}
@@ -45,9 +45,8 @@ pub lines_of : (text : List ℕ) → list_all chunk_is_line (chunks_of text) ≡
 lines_of text = spelled_lines (spells_its_chunks text)
 
 list_all-take : {X : Type 0} (p : X → Bool) (n : ℕ) (xs : List X) → list_all p xs ≡ true → list_all p (take n xs) ≡ true
-list_all-take p zero xs h = refl
-list_all-take p (suc n) [] h = refl
 list_all-take p (suc n) (x ∷ xs) h = grind (arith, list_all-take p n xs, and_parts, and_from)
+list_all-take p y z h = grind arith
 
 -- no fragment of a document has a newline in it
 pub walk_lines : (full : Bool) (depth : ℕ) (parts : List Part) → list_all fragment_is_line (walk full depth parts) ≡ true

@@ -10,4 +10,4 @@ returns-in_err-put_piece g c =
     (Grows-then _ _ _ so_far c.put_piece.ensures.0, search rules)
 
 pub returns : goal.returns
-returns g c = grind (arith, flat_map, take_all, pieces-all, Grows-by)
+returns g c = grind (arith, take_all, pieces-all, Grows-by)
