@@ -1,5 +1,5 @@
 -- What is among the elements of a list.
-use Rattle.std.proofs.Common.{◌≡◌, ◌⊎◌, List, [], ◌∷◌, ◌++◌, flat_map, sym, subst, inl, inr, ⊎_elim}
+use Rattle.std.proofs.Common.{◌≡◌, ◌⊎◌, List, [], ◌∷◌, ◌++◌, flat_map, sym, subst, inl, inr, ⊎_elim, arith}
 use Rattle.description.proofs.Each.{Each}
 
 abbrev pub Among : {X : Type 0} → List X → X → Type 0
@@ -39,5 +39,4 @@ each_weaker P Q k (x ∷ xs) h = (k x h.0, each_weaker P Q k xs h.1)
 -- a part of what each of some gives
 pub within_flat : {X Y : Type 0} (f g : X → List Y) → ((x : X) → Within (g x) (f x)) → (xs : List X) → Within (flat_map g xs) (flat_map f xs)
 within_flat f g part [] y a = a
-within_flat f g part (x ∷ xs) y a =
-    ⊎_elim (λ b. among_left (f x) (flat_map f xs) y (part x y b)) (λ b. among_right (f x) (flat_map f xs) y (within_flat f g part xs y b)) (among_either (g x) (flat_map g xs) y a)
+within_flat f g part (x ∷ xs) y a = grind (arith, within_flat f g part xs y, among_left (f x) (flat_map f xs) y, among_right (f x) (flat_map f xs) y, among_either (g x) (flat_map g xs) y a)

@@ -1,5 +1,5 @@
 -- Lists in which nothing stands twice.
-use Rattle.std.proofs.Common.{◌≡◌, ℕ, true, not, List, [], ◌∷◌, ◌++◌, bytes_eq, flat_map, refl, sym, ap, ◌∙◌, subst, inl, inr, ⊎_elim, arith}
+use Rattle.std.proofs.Common.{◌≡◌, ℕ, true, not, List, [], ◌∷◌, ◌++◌, bytes_eq, flat_map, refl, ap, subst, inl, inr, ⊎_elim, arith}
 use Rattle.std.specs.List.{list_any}
 use Rattle.std.proofs.lemmas.Bool.{and_from, and_parts, cases_Bool, false≢true, not-true, or_cases, or_left, or_right, true≢false}
 use Rattle.std.proofs.lemmas.Slice.Eq.{bytes_eq-Decides}
@@ -52,9 +52,7 @@ test_among x (y ∷ ys) (inr h) = or_right (bytes_eq x y) (list_any (bytes_eq x)
 
 pub distinct_test : (xs : List (List ℕ)) → are_distinct xs ≡ true → Distinct xs
 distinct_test [] h = tt
-distinct_test (x ∷ xs) h =
-    let both = and_parts (not (list_any (bytes_eq x) xs)) (are_distinct xs) h in
-    (λ a. true≢false (sym (test_among x xs a) ∙ not-true (list_any (bytes_eq x) xs) both.0), distinct_test xs both.1)
+distinct_test (x ∷ xs) h = grind (arith, distinct_test xs, and_parts, bytes_eq x, true≢false, test_among x xs, not-true)
 
 pub test_distinct : (xs : List (List ℕ)) → Distinct xs → are_distinct xs ≡ true
 test_distinct [] h = refl

@@ -1,5 +1,5 @@
 -- The characters of each kind of text are those of a text of lines.
-use Rattle.std.proofs.Common.{◌≡◌, ◌==◌, ℕ, zero, suc, ◌+◌, ◌<◌, ◌≤◌, ◌/◌, ◌%◌, List, [], ◌∷◌, ◌++◌, Bool, true, false, refl, ap, ◌∙◌, arith, chars}
+use Rattle.std.proofs.Common.{◌≡◌, ◌==◌, ℕ, zero, suc, ◌+◌, ◌<◌, ◌≤◌, ◌/◌, List, [], ◌∷◌, ◌++◌, Bool, true, false, refl, ap, ◌∙◌, arith, chars}
 use Rattle.std.specs.Prelude.{codes, ◌||◌, not, nat_lt, if◌then◌else◌, flat_map}
 use Rattle.std.specs.Char.{is_whitespace}
 use Rattle.std.specs.Int.{is_in_range}
@@ -123,18 +123,11 @@ onto (suc k) n acc h = grind (arith, onto k (n / 10), dates_cons, glyph, either)
 
 two : (n : ℕ) → Dates (two_wide n)
 unfolding two_wide digits
-two n = by (nat_lt n 100) refl where
-  by : (b : Bool) → nat_lt n 100 ≡ b → Dates (if b then (48 + n / 10) ∷ (48 + n % 10) ∷ [] else digits 10 false n)
-  by true e = dates_cons (48 + n / 10) ((48 + n % 10) ∷ []) (digit (n / 10) (grind (arith, nat_tests))) (dates_cons (48 + n % 10) [] (digit (n % 10) (omega arith)) refl)
-  by false e = onto 64 n [] refl
+two n = grind (arith, dates_cons, digit, nat_tests, onto 64 n)
 
 pub date_bytes : (d : Date) → Dates (date_text d)
 unfolding date_text
-date_bytes d =
-    let ends = dates_append (two_wide d.month) (45 ∷ two_wide d.day) (two d.month) (dates_cons 45 (two_wide d.day) refl (two d.day)) in
-    let behind = dates_cons 45 (two_wide d.month ++ 45 ∷ two_wide d.day) refl ends in
-    let year = dates_append (two_wide (d.year % 100)) (45 ∷ (two_wide d.month ++ 45 ∷ two_wide d.day)) (two (d.year % 100)) behind in
-    dates_append (two_wide (d.year / 100)) (two_wide (d.year % 100) ++ (45 ∷ (two_wide d.month ++ 45 ∷ two_wide d.day))) (two (d.year / 100)) year
+date_bytes d = grind (arith, dates_append (two_wide d.month) (45 ∷ two_wide d.day), two d.month, dates_cons 45 (two_wide d.day) refl, two d.day, dates_cons 45 (two_wide d.month ++ 45 ∷ two_wide d.day) refl, dates_append, two)
 
 ascii : (bs : List ℕ) → Dates bs → IsAscii bs
 ascii (b ∷ bs) h (suc i) = let both = and_parts (is_date_byte b) (list_all is_date_byte bs) h in ascii bs both.1 i

@@ -8,7 +8,6 @@ use Rattle.bpaf_doc.specs.Buffer.Parts.{Part}
 use Rattle.bpaf_doc.specs.Buffer.Writes.{Write, inside, path_writes}
 use Rattle.bpaf_meta.specs.Content.{Name, Tree, and_of, or_of, optional, required, adjacent, item, many, subsection, suffix, skip, custom_usage, strict, Trees, no_trees, tree, Leaf, Head, head}
 use Rattle.bpaf_items.specs.declared.meta_help.entry.HiTy.{HiTy}
-use Rattle.bpaf_items.specs.declared.meta_help.entry.HiTy.TheVariants as ty
 use Rattle.bpaf_items.specs.Listing.ItemList.{Entry, listed, note, group_start, group_end, adjacent_start, adjacent_stop, entries_of, entries_of_parts, entries_with_type, front_type, group_entries, item_entries, item_list, noted_entries}
 use Rattle.bpaf_items.specs.Listing.Falls.{Placed, destination, group_members, heading_members, is_group, is_group_start, is_heading, is_shown, placed_after, shown_entries}
 use Rattle.bpaf_items.specs.Page.EnvTexts.{no_texts}
@@ -116,12 +115,7 @@ heading_clear : (title : List ℕ) → Once title → (es : List Entry) (k : HiT
 heading_clear title once es k h = titled_clear title once (heading_members es k) (kept_clear (λ p. is_heading k (destination p)) [] es h)
 
 groups_clear : (es : List Entry) → AreClear es → Clear (groups_writes false no_texts es)
-groups_clear es h =
-    both_clear (both_clear (both_clear
-    (numbers_clear es h (range_with_len 1 (count_by is_group_start es)))
-    (heading_clear (codes "Available positional items:") refl es ty.Positional h))
-    (heading_clear (codes "Available options:") refl es ty.Flag h))
-    (heading_clear (codes "Available commands:") refl es ty.Command h)
+groups_clear es h = grind (arith, both_clear, numbers_clear es h (range_with_len 1 (count_by is_group_start es)), heading_clear)
 
 pub lists_clear : (t help : Tree) → HasClearTexts t → HasClearTexts help → Clear (groups_writes false no_texts (item_list t ++ item_list help))
 lists_clear t help h k = groups_clear (item_list t ++ item_list help) (each_append HasClearEntry (item_list t) (item_list help) (tree_clear true t h) (tree_clear true help k))

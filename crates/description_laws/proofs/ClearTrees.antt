@@ -1,5 +1,5 @@
 -- The texts of a description capture none that is not read once: the documents of its texts hold no marks, and its titles are read once.
-use Rattle.std.proofs.Common.{ℕ, ◌+◌, Bool, true, false, List, [], ◌∷◌, ◌++◌, drop, take, flat_map, refl, sym, subst, Option, arith}
+use Rattle.std.proofs.Common.{ℕ, ◌+◌, Bool, true, false, List, [], ◌∷◌, drop, take, flat_map, refl, sym, subst, Option, arith}
 use Rattle.std.specs.Prelude.{if◌then◌else◌}
 use Rattle.std.specs.List.{after_first, before_first, list_any, position_or_len}
 use Rattle.std.proofs.lemmas.List.{take-append-drop}
@@ -8,7 +8,7 @@ use Rattle.bpaf_doc.specs.Buffer.Writes as write
 use Rattle.bpaf_doc.specs.Buffer.Writes.{emphasis, inside, plain}
 use Rattle.description_parts.specs.Content.{TopicSaid, LevelSaid, level}
 use Rattle.description.specs.Content.{SharedSaid}
-use Rattle.description.specs.ReadOnce.{commands_headings, groups_headings, level_headings}
+use Rattle.description.specs.ReadOnce.{level_headings}
 use Rattle.description.specs.Texts.{plain_document, text_document}
 use Rattle.description.specs.Topics.{topic_document, topic_title, topic_writes, topics_footer}
 use Rattle.description.specs.Trees.{document_said, level_head, options_tree}
@@ -59,9 +59,7 @@ footer_clear is_header (t ∷ ts) footer h = written_clear (both_clear (topics_c
 -- ---- trees
 
 head_clear : (shared : SharedSaid) → HasClearTexts (options_tree shared.help_options) → (l : LevelSaid) → Once (level_headings l) → HasClearHead (level_head shared l)
-head_clear shared k (level t r os cs gs ps ms) h =
-    let both = once_parts (flat_map (λ topic. topic.title) t.topics) (groups_headings gs ++ commands_headings ms) h in
-    (said_clear t.about, said_clear t.header, footer_clear shared.headers t.topics t.footer both.0, k)
+head_clear shared k (level t r os cs gs ps ms) h = grind (arith, once_parts, said_clear t.about, said_clear t.header, footer_clear shared.headers t.topics t.footer)
 
 pub trees_clear : Kept IsClear IsClearTitle Once IsClearChapter
 trees_clear = record { texts = texts_clear; split = once_parts; title = title_clear; chapter = λ path p shared k l h own. (p, head_clear shared k l h, own) }

@@ -1,11 +1,12 @@
 -- Each text and each name of a description that a TOML text gives is plain, reader by reader.
+use Rattle.std.proofs.lemmas.Grind.{common_steps}
 use Rattle.std.proofs.Common.{ℕ, List, [], ◌++◌, Bool, true, false, Option, Some, refl, codes, arith}
 use Rattle.std.specs.Prelude.{chars, flat_map}
 use Rattle.bpaf_meta.specs.Content.{Name}
 use Rattle.toml.specs.Data.{Members}
 use Rattle.description_parts.specs.Content.{SpellingSaid, OptSaid, ChoiceSaid, PositionalSaid, TopicSaid, TextsSaid, LevelSaid, GroupsSaid, GroupSaid, CommandsSaid, CommandSaid}
 use Rattle.description.specs.Content.{DescriptionSaid, TitleWords}
-use Rattle.description.specs.Described.{alternative_keys, choice_from, choice_keys, command_head, command_keys, command_of, CommandHead, commands_at, described, description_head, description_keys, description_of, DescriptionHead, group_head, group_of, GroupHead, groups_at, level_of, lists_from, name_from, option_from, option_keys, option_spelling, Outline, outline_from, positional_from, positional_keys, positional_of, texts_from, title_words, topic_from, help_option_keys, is_syntax, spelling_from, unless_there, option_texts, option_value, positional_texts, required_beside, ValueSaid, language_from}
+use Rattle.description.specs.Described.{alternative_keys, choice_from, choice_keys, command_head, command_keys, command_of, CommandHead, commands_at, described, description_head, description_keys, description_of, DescriptionHead, group_of, GroupHead, groups_at, level_of, lists_from, name_from, option_from, option_keys, option_spelling, Outline, outline_from, positional_from, texts_from, title_words, topic_from, help_option_keys, is_syntax, spelling_from, unless_there, option_texts, option_value, positional_texts, required_beside, ValueSaid, language_from}
 use Rattle.description.specs.Described.Taken.{has_distinct_names}
 use Rattle.description.specs.Described.Texts.{as_command_name, as_long, as_name, as_program_name, as_text, as_value, is_command_name, is_long, is_name, is_program_name, is_text, is_value, if_passes, is_line, as_language, is_language_tag}
 use Rattle.description.specs.Described.Values.{as_short, each_table, flag_at, if_short, is_empty, optional_at, required_at, tables_at, as_default, as_syntax, as_texts, as_values, default_text, words_at}
@@ -67,10 +68,7 @@ syntax_there : (ms : Members) → Gives PlainOption (optional_at as_syntax (code
 syntax_there = gives_optional PlainText as_syntax (λ d. gives_then PlainText PlainText (as_value d) (if_passes is_well_formed) (gives_text PlainText is_value value_plain d) (λ text h. gives_if PlainText (is_well_formed text) (Some text) h)) (codes "syntax")
 
 spelling_there : (ms : Members) → Gives PlainSpelling (option_spelling ms)
-spelling_there ms =
-    gives_then (Gives PlainCharacter) PlainSpelling (optional_at as_short (codes "short") ms) _ (short_there (codes "short") ms) (λ s h.
-    gives_then PlainOption PlainSpelling (optional_at as_long (codes "long") ms) _ (long_there ms) (λ l k.
-    gives_then PlainOption PlainSpelling (optional_at as_syntax (codes "syntax") ms) (spelling_from s l) (syntax_there ms) (λ x p. spelled_plain s l x h k p)))
+spelling_there ms = grind (arith, gives_then (Gives PlainCharacter) PlainSpelling, short_there, gives_then PlainOption PlainSpelling, long_there ms, syntax_there ms, spelled_plain)
 
 pub record PlainValue (v : ValueSaid) : Type 0 where
   pub value : PlainOption v.value
@@ -134,11 +132,7 @@ positional_there ms =
 
 positional_plain : (ms : Members) → Gives PlainPositional (positional_from ms)
 unfolding positional_from
-positional_plain = gives_with_only PlainPositional positional_keys positional_of (λ ms.
-    gives_then PlainPositional PlainPositional (positional_texts ms) _ (positional_there ms) (λ positional p.
-    gives_then Whatever PlainPositional (required_beside positional.default true ms) _ (gives_whatever (required_beside positional.default true ms)) (λ required a.
-    gives_then Whatever PlainPositional (flag_at false (codes "repeated") ms) _ (flag_there false (codes "repeated") ms) (λ repeated b.
-    gives_then Whatever PlainPositional (flag_at false (codes "strict") ms) _ (flag_there false (codes "strict") ms) (λ strict c. p)))))
+positional_plain = grind (arith, common_steps, gives_with_only, gives_then, positional_there, gives_whatever, flag_there)
 
 abbrev PlainTopic : TopicSaid → Type 0
 PlainTopic t = Plain (topic_characters t)
@@ -243,14 +237,7 @@ command_there inner_groups inner_commands c ig ic h =
     (plain_append (initial_characters c.names.initial) (flat_map chars c.names.aliases ++ (characters_of c.help ++ level_characters l)) (initial_plain c.names.initial h.initial) others))
 
 all_plain : Holding (λ ts cs. PlainCommands cs) (λ ts gs. PlainGroups gs) (λ ts c. PlainCommand c) (λ ts g. PlainGroup g)
-all_plain = record {
-  no_commands = refl;
-  no_groups = refl;
-  more_commands = λ ts us c cs. plain_append (command_characters c) (commands_characters cs);
-  more_groups = λ ts us g gs. plain_append (group_characters g) (groups_characters gs);
-  command = λ ms gs cs hg hc. gives_then PlainCommandHead PlainCommand (command_head ms) (command_of gs cs) (command_head_there ms) (λ c h. command_there gs cs c hg hc h);
-  group = λ ms cs hc. gives_then (λ g. PlainText g.title) PlainGroup (group_head ms) (group_of cs) (group_title PlainText heading_plain ms) (λ g h. group_there cs g hc h);
-}
+all_plain = grind (arith, plain_append, gives_then PlainCommandHead PlainCommand, command_head_there, command_there, gives_then, group_title PlainText, heading_plain, group_there)
 
 -- ---- the whole
 

@@ -1,4 +1,5 @@
 -- The title line and the headings of a description that a TOML text gives hold no backslash and no double quote, reader by reader.
+use Rattle.std.proofs.lemmas.Grind.{common_steps}
 use Rattle.std.proofs.Common.{◌≡◌, ℕ, ◌+◌, List, [], ◌∷◌, ◌++◌, map, true, false, Option, refl, sym, ◌∙◌, arith, codes, flat_map}
 use Rattle.std.specs.Prelude.{chars, flat_map, unwrap_or}
 use Rattle.std.specs.Char.{is_ascii_alphanumeric}
@@ -127,9 +128,7 @@ level_there inner_groups inner_commands o ig ic =
     once_append (flat_map (λ topic. topic.title) ts) (groups_headings gs ++ commands_headings ms) (each_once ts ht) (once_append (groups_headings gs) (commands_headings ms) hg hm)))))))
 
 command_there : (inner_groups : Option GroupsSaid) (inner_commands : Option CommandsSaid) (c : CommandHead) → Gives OnceGroups inner_groups → Gives OnceCommands inner_commands → OnceCommandHead c → Gives OnceCommand (command_of inner_groups inner_commands c)
-command_there inner_groups inner_commands c ig ic h =
-    gives_map OnceLevel OnceCommand (level_of inner_groups inner_commands c.outline) _ (level_there inner_groups inner_commands c.outline ig ic) (λ l p.
-    once_append c.names.name (flat_map (λ name. name) c.names.aliases ++ level_headings l) h.0 (once_append (flat_map (λ name. name) c.names.aliases) (level_headings l) (once_each c.names.aliases h.1) p))
+command_there inner_groups inner_commands c ig ic h = grind (arith, common_steps, gives_map OnceLevel OnceCommand (level_of inner_groups inner_commands c.outline), level_there inner_groups inner_commands c.outline ig ic, once_append, once_each c.names.aliases h.1)
 
 all_once : Holding (λ ts cs. OnceCommands cs) (λ ts gs. OnceGroups gs) (λ ts c. OnceCommand c) (λ ts g. OnceGroup g)
 all_once = record {

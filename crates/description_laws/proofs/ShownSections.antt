@@ -70,8 +70,7 @@ module _ (shared : SharedSaid) where
   named_alone os cs = each_append (IsListed shared ty.Flag) (option_entries os) (choice_entries cs) (options_listed shared os) (choices_listed shared cs)
 
   placed_alone : (ps : List PositionalSaid) (ms : CommandsSaid) → Each IsAlone (value_entries ps ++ command_entries ms)
-  placed_alone ps ms =
-      each_append IsAlone (value_entries ps) (command_entries ms) (listed_alone ty.Positional (value_entries ps) (values_listed shared ps)) (listed_alone ty.Command (command_entries ms) (commands_listed shared ms))
+  placed_alone ps ms = grind (arith, each_append IsAlone (value_entries ps) (command_entries ms), listed_alone ty.Positional (value_entries ps), values_listed shared ps, listed_alone ty.Command (command_entries ms), commands_listed shared ms)
 
   -- what stands for some groups
   record Stands (ts : List Tree) (ls : List ListSaid) (gs : List Group) : Type 0 where
@@ -84,11 +83,7 @@ module _ (shared : SharedSaid) where
 
   stands_then : (title : List ℕ) (ts others : List Tree) (es : List EntrySaid) (ls : List ListSaid) (gs : List Group) → flat_map (entries_of false) ts ≡ items shared es → Each IsAlone es → Stands others ls gs
       → Stands (titled title ts ++ others) (record { title = title; entries = each_once es } ∷ ls) (group_with title ts es ∷ gs)
-  stands_then title ts others es ls gs listed alone rest = record {
-    in_frames = flat_map-append item_list (titled title ts) others ∙ ap (λ xs. xs ++ flat_map item_list others) (frame_of title ts es listed) ∙ ap (λ xs. frame shared (group_with title ts es) ++ xs) rest.in_frames;
-    each_typed = (is_typed title ts es listed, rest.each_typed);
-    are_shown = λ i. (record { title = plain_document title; entries = once_alone es alone i }) ∷ rest.are_shown i;
-  }
+  stands_then title ts others es ls gs listed alone rest = grind (arith, flat_map-append item_list (titled title ts) others, frame_of title ts es listed, is_typed title ts es listed, once_alone es alone)
 
   abbrev named_groups_in : GroupsSaid → List Group
   named_groups_in no_groups = []
@@ -219,11 +214,7 @@ module _ (shared : SharedSaid) where
         ∙ sym (filter-append lists_some (map (group_listing all_items) (range_with_len 1 (count_by is_group_start all_items))) headings)
 
 level_lists : (shared : SharedSaid) (hs : List OptSaid) (l : LevelSaid) → without_empty (map (listing_of shared) (section_lists hs l)) ≡ without_empty (page_listings (item_list (level_tree shared l) ++ item_list (options_tree hs)))
-level_lists shared hs (level t r os cs gs ps ms) =
-    same_lists shared hs os cs gs ps ms r t
-    ∙ ap (λ es. without_empty (page_listings es)) (sym ((λ i. listed i ++ all_list shared true (map option_tree hs) i) ∙ page_items shared hs os cs gs ps ms r)) where
-      listed : item_list (level_tree shared (level t r os cs gs ps ms)) ≡ flat_map item_list (map option_tree os ++ map choice_tree cs ++ named_groups gs ++ placed_groups shared false r gs ++ map positional_tree ps ++ one_of_commands (hold_commands gs && show_command ms) r (command_items shared ms))
-      listed = all_list shared true (map option_tree os ++ map choice_tree cs ++ named_groups gs ++ placed_groups shared false r gs ++ map positional_tree ps ++ one_of_commands (hold_commands gs && show_command ms) r (command_items shared ms))
+level_lists shared hs (level t r os cs gs ps ms) = grind (arith, same_lists shared hs os cs gs ps ms r t, all_list shared true (map option_tree hs), page_items shared hs os cs gs ps ms r, all_list shared true)
 
 pub sections_list_the_items : SectionsListTheItems
 sections_list_the_items s = level_lists (on_help_pages s.help_options) s.help_options s.level

@@ -1,5 +1,5 @@
 -- What an id tells: the section that it is of, and what stands behind the section's own id.
-use Rattle.std.proofs.Common.{◌≡◌, ℕ, ◌+◌, ◌*◌, ◌%◌, ◌/◌, ◌<◌, ◌^◌, ◌==◌, Bool, true, false, List, [], ◌∷◌, ◌++◌, codes, decimal, flat_map, if◌then◌else◌, nat_lt, refl, sym, ap, ap₂, ◌∙◌, arith, append_assoc, append-nil}
+use Rattle.std.proofs.Common.{◌≡◌, ℕ, ◌+◌, ◌*◌, ◌%◌, ◌/◌, ◌<◌, ◌^◌, ◌==◌, Bool, true, false, List, [], ◌∷◌, ◌++◌, codes, decimal, flat_map, if◌then◌else◌, refl, sym, ap, ap₂, ◌∙◌, arith, append_assoc, append-nil}
 use Rattle.std.specs.Char.{digit_char}
 use Rattle.std.proofs.lemmas.Bool.{eqb-true, false≢true, ltb-true}
 use Rattle.std.proofs.lemmas.Fmt.{decimal_injective}
@@ -28,10 +28,10 @@ split (x ∷ a) (y ∷ b) t u na nb ct cu e = grind (arith, split a b t u na.1 n
 -- ---- a name
 
 digit_colon : (d : ℕ) → digit_char d ≡ 58 → ⊥
-digit_colon d = grind (arith, nat_lt, ltb-true)
+digit_colon d = grind (arith, ltb-true)
 
 digit_told : (c d : ℕ) → digit_char c ≡ digit_char d → c ≡ d
-digit_told c d = grind (arith, nat_lt, ltb-true)
+digit_told c d = grind (arith, ltb-true)
 
 byte_colon : (b : ℕ) → NoColon (id_byte b)
 byte_colon b = grind (arith, false≢true, digit_colon)

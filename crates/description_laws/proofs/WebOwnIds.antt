@@ -87,12 +87,8 @@ AreEntryIds path before es = Each (IsEntryId path before (length (entries_ids pa
 
 entries_are : (path : List (List ℕ)) (before es : List EntrySaid) → AreEntryIds path before es
 entries_are path before [] = tt
-entries_are path before (an_option o ∷ es) =
-    let rest : List (List ℕ) = entries_ids path (before ++ an_option o ∷ []) es in
-    (first_is path before (option_word o.spelling) (length rest), each_weaker (IsEntryId path (before ++ an_option o ∷ []) (length rest)) (IsEntryId path before (suc (length rest))) (later_is path before (an_option o) (length rest)) rest (entries_are path (before ++ an_option o ∷ []) es))
-entries_are path before (a_value v ∷ es) =
-    let rest : List (List ℕ) = entries_ids path (before ++ a_value v ∷ []) es in
-    (first_is path before (shown_value v.value) (length rest), each_weaker (IsEntryId path (before ++ a_value v ∷ []) (length rest)) (IsEntryId path before (suc (length rest))) (later_is path before (a_value v) (length rest)) rest (entries_are path (before ++ a_value v ∷ []) es))
+entries_are path before (an_option o ∷ es) = grind (arith, entries_are path (before ++ an_option o ∷ []) es, first_is path before (option_word o.spelling), each_weaker, later_is path before (an_option o))
+entries_are path before (a_value v ∷ es) = grind (arith, entries_are path (before ++ a_value v ∷ []) es, first_is path before (shown_value v.value), each_weaker, later_is path before (a_value v))
 entries_are path before (a_command m ∷ es) = grind (arith, entries_are path (before ++ a_command m ∷ []) es, each_weaker, unnamed_is)
 
 -- fewer than a number can be written for
@@ -159,11 +155,7 @@ entry_path : (path : List (List ℕ)) (before : List EntrySaid) (many : ℕ) (id
 entry_path path before many id h = record { tail = word_tail h.word h.earlier; is_tail = (refl, refl); is = h.is }
 
 section_paths : (s : SubjectSaid) → Each (HasPath s.path) (section_ids s)
-section_paths s =
-    let ids : List (List ℕ) = entries_ids s.path [] (section_entries s) in (
-      record { tail = []; is_tail = tt; is = sym (append-nil (section_id s.path)) },
-      each_weaker (IsEntryId s.path [] (length ids)) (HasPath s.path) (entry_path s.path [] (length ids)) ids (entries_are s.path [] (section_entries s)),
-    )
+section_paths s = grind (arith, append-nil (section_id s.path), each_weaker, entry_path s.path, entries_are s.path)
 
 section_distinct : (s : SubjectSaid) → length (section_ids s) < 2 ^ 64 → Distinct (section_ids s)
 section_distinct s small =

@@ -1,6 +1,6 @@
 -- The ids that the parts of a page give to elements, and the ids that their links lead to. Each part ends the elements that it starts.
-use Rattle.std.proofs.Common.{◌≡◌, ℕ, Bool, true, false, List, [], ◌∷◌, ◌++◌, codes, flat_map, fold, if◌then◌else◌, map, Option, Some, None, refl, sym, ap, ◌∙◌, subst, append_assoc, append-nil, arith}
-use Rattle.std.proofs.lemmas.Grind.{flat_map-append, fold-append}
+use Rattle.std.proofs.Common.{◌≡◌, ℕ, Bool, true, false, List, [], ◌∷◌, ◌++◌, codes, flat_map, fold, if◌then◌else◌, map, Option, Some, None, refl, sym, ap, ◌∙◌, append_assoc, append-nil, arith}
+use Rattle.std.proofs.lemmas.Grind.{flat_map-append, fold-append, common_steps}
 use Rattle.std.proofs.lemmas.List.{map-append}
 use Rattle.bpaf_doc.specs.declared.buffer.Style.{Style}
 use Rattle.bpaf_doc.specs.Buffer.Parts.{Part}
@@ -19,7 +19,7 @@ use Rattle.description.specs.Subjects.{SubjectSaid}
 use Rattle.description.specs.Syntax.{bare_syntax}
 use Rattle.description.specs.Texts.{parted, pieces}
 use Rattle.description.specs.UsageLines.{texts_in, usage_part}
-use Rattle.description.specs.WebPages.Entries.{EntrySaid, an_option, a_value, a_command, by_names, by_syntax, entry_events, env_events, given_note, given_value, id_behind, initial_events, name_events, note_events, option_word, other_names, said_events, shown_value, spelling_events, term_events, term_with_id, value_events, value_notes}
+use Rattle.description.specs.WebPages.Entries.{EntrySaid, an_option, a_value, a_command, entry_events, env_events, given_note, given_value, id_behind, initial_events, name_events, note_events, option_word, other_names, said_events, shown_value, spelling_events, term_events, term_with_id, value_events, value_notes}
 use Rattle.description.specs.WebPages.Events.{Event, start, words, end, document_events, inside, inside_with_id, link, shown_part, shown_text, text_in}
 use Rattle.description.specs.WebPages.Ids.{section_id}
 use Rattle.description.specs.WebPages.Laws.{values_named}
@@ -183,13 +183,7 @@ env_gives : (env : Option (List ℕ)) → Quiet (env_events env)
 env_gives env = grind (arith, nothing)
 
 said_gives : (e : EntrySaid) → Quiet (said_events e)
-said_gives (an_option o) =
-    let text : List Event = given_text false o.help in
-    let env : List Event = env_events (by_names o.spelling o.env) in
-    let notes : List Event = value_notes o.default o.values in
-    two ((text ++ env) ++ notes) (given_note (codes "env") (by_syntax o.spelling o.env))
-    (two (text ++ env) notes (two text env (given_text_gives false o.help) (env_gives (by_names o.spelling o.env))) (notes_give o.default o.values))
-    (given_note_gives (codes "env") (by_syntax o.spelling o.env))
+said_gives (an_option o) = grind (arith, common_steps, two, given_text_gives, env_gives, notes_give, given_note_gives)
 said_gives (a_value v) = two (given_text false v.help) (value_notes v.default v.values) (given_text_gives false v.help) (notes_give v.default v.values)
 said_gives (a_command (command names h l)) = two (given_text false h) (other_names names.aliases) (given_text_gives false h) (other_names_give names.aliases)
 
@@ -207,9 +201,7 @@ entry_targets path before (a_value v) = id_behind path before (shown_value v.val
 entry_targets path before (a_command (command names h l)) = section_id (path ++ names.name ∷ []) ∷ []
 
 term_gives : (id : List ℕ) (content : List Event) → Quiet content → Carries (id ∷ []) (id ∷ []) (term_with_id id content)
-term_gives id content p =
-    subst (λ es. Carries (id ∷ []) (id ∷ []) (start (Of Dt) (attribute (codes "id") id) ∷ start A (attribute (codes "href") (codes "#" ++ id)) ∷ es)) (append_assoc content (end ∷ []) (end ∷ []))
-    (with_id Dt id (link id content) (linked id content p))
+term_gives id content p = grind (arith, common_steps, append_assoc, with_id, linked)
 
 entry_gives : (path : List (List ℕ)) (before : List EntrySaid) (e : EntrySaid) → Carries (entry_ids path before e) (entry_targets path before e) (entry_events path before e)
 entry_gives path before (an_option o) =

@@ -2,7 +2,7 @@
 use Rattle.std.proofs.Common.{◌≡◌, ℕ, Bool, true, false, not, List, [], ◌∷◌, ◌++◌, bytes_eq, codes, flat_map, if◌then◌else◌, map, refl, sym, ap, ap₂, ◌∙◌, subst, inl, inr, append_assoc, arith}
 use Rattle.std.specs.List.{list_all}
 use Rattle.std.proofs.lemmas.Bool.{and_from, or_left, or_right}
-use Rattle.std.proofs.lemmas.Grind.{flat_map-append}
+use Rattle.std.proofs.lemmas.Grind.{flat_map-append, common_steps}
 use Rattle.std.proofs.lemmas.Slice.Eq.{bytes_eq-Decides}
 use Rattle.web_page.specs.declared.elements.Element.{Element}
 use Rattle.web_page.specs.declared.elements.Element.TheVariants.{Header, Heading, Li, Main, Nav, Ul}
@@ -17,12 +17,12 @@ use Rattle.description.specs.WebPages.Entries.{EntrySaid, an_option, a_value, a_
 use Rattle.description.specs.WebPages.Events.{Event, inside, text_in, words}
 use Rattle.description.specs.WebPages.Ids.{section_id}
 use Rattle.description.specs.WebPages.Laws.{LinksHaveTargets, ids_in, is_target_of}
-use Rattle.description.specs.WebPages.Lists.{ListSaid, choice_entries, command_entries, command_entry, entries_of, group_lists, named_list, option_entries, option_entry, placed_list, says_nothing, section_lists, value_entries, value_entry}
+use Rattle.description.specs.WebPages.Lists.{ListSaid, choice_entries, command_entries, command_entry, entries_of, group_lists, named_list, option_entries, option_entry, placed_list, section_lists, value_entries, value_entry}
 use Rattle.description.specs.WebPages.Sections.{application_section, command_section, command_links, commands_links, group_links, groups_links, level_links, link_to, listed_links, shows_commands}
 use Rattle.description.specs.WebPages.Texts.{given_text}
 use Rattle.description_laws.proofs.Among.{Among, Within, among_left, among_right, within_both}
 use Rattle.description.proofs.Each.{Each, each_append}
-use Rattle.description_laws.proofs.WebParts.{Carries, application_gives, entries_ids, entries_targets, entry_ids, entry_targets, given_text_gives, in_element, linked, nothing, one_text, one_words, section_entries, section_ids, section_targets, sections_give, target, two}
+use Rattle.description_laws.proofs.WebParts.{Carries, application_gives, entries_ids, entries_targets, entry_ids, entry_targets, given_text_gives, in_element, linked, nothing, one_text, one_words, section_ids, section_targets, sections_give, target, two}
 use Rattle.description_laws.proofs.WebTree.{page_ids, page_targets}
 
 -- ---- lists
@@ -81,8 +81,7 @@ module _ (s : SubjectSaid) (ids : List (List ℕ)) where
   choices_there = each_flat There (λ c. option_entries c.options) (λ c. options_there c.options)
 
   values_there : (ps : List PositionalSaid) → Each There (value_entries ps)
-  values_there = each_flat There value_entry
-      (λ p. either_each There p.hidden [] (if says_nothing p.help p.default p.values then [] else a_value p ∷ []) tt (either_each There (says_nothing p.help p.default p.values) [] (a_value p ∷ []) tt (tt, tt)))
+  values_there = grind (arith, each_flat There value_entry, either_each There)
 
   command_there : (m : CommandSaid) → Within (flat_map section_ids (from_command s m)) ids → Each There (command_entry m)
   command_there (command names h l) = grind arith
@@ -97,11 +96,7 @@ module _ (s : SubjectSaid) (ids : List (List ℕ)) where
 
   placed_there : (gs : GroupsSaid) → Within (flat_map section_ids (below_groups s gs)) ids → Each AreThere (group_lists placed_list gs)
   placed_there no_groups w = tt
-  placed_there (groups (group title os cs ps ms) gs) w = (
-    once_there There (value_entries ps ++ command_entries ms)
-        (each_append There (value_entries ps) (command_entries ms) (values_there ps) (commands_there ms (λ x a. w x (flat_left section_ids (below_commands s ms) (below_groups s gs) x a)))),
-    placed_there gs (λ x a. w x (flat_right section_ids (below_commands s ms) (below_groups s gs) x a)),
-  )
+  placed_there (groups (group title os cs ps ms) gs) w = grind (arith, common_steps, placed_there gs, once_there, each_append, values_there, commands_there, flat_left, flat_right)
 
   lists_there : (l : LevelSaid) → Within (flat_map section_ids (below_level s l)) ids → Each AreThere (section_lists s.help_options l)
   lists_there (level t r os cs gs ps ms) w = grind (arith, each_append, named_there, placed_there, flat_left, once_there, values_there, options_there, choices_there, commands_there, flat_right)
@@ -113,8 +108,7 @@ module _ (s : SubjectSaid) (ids : List (List ℕ)) where
 -- ---- sections
 
 section_within : (s : SubjectSaid) (ids : List (List ℕ)) → Within (flat_map section_ids (below_level s s.level)) ids → Within (section_targets s) (section_ids s ++ ids)
-section_within s ids w x a =
-    inr (entries_within ids s.path [] (section_entries s) (entries_there s ids (section_lists s.help_options s.level) (lists_there s ids s.level w)) x a)
+section_within s ids w x a = grind (arith, entries_within ids s.path, entries_there s ids (section_lists s.help_options s.level), lists_there s ids s.level w)
 
 -- their links lead to elements of them
 abbrev AreClosed : List SubjectSaid → Type 0

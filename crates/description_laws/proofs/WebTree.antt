@@ -74,9 +74,7 @@ module _ (name : List ℕ) where
 
   all_events : (es : List Event) (draft : Draft) → draft_values (with_events draft es) ≡ draft_values draft ++ given_in name es
   all_events [] draft = sym (append-nil (draft_values draft))
-  all_events (e ∷ es) draft =
-      all_events es (with_event draft e) ∙ ap (λ vs. vs ++ given_in name es) (one_event draft e)
-      ∙ append_assoc (draft_values draft) (event_values name e) (given_in name es)
+  all_events (e ∷ es) draft = grind (arith, all_events es (with_event draft e), one_event draft e, append_assoc (draft_values draft) (event_values name e) (given_in name es))
 
   -- two elements are open, and end
   both_end : (frames : List Frame) (nodes : Nodes) (first second : Tag) → map (λ (f : Frame). f.tag) frames ≡ first ∷ second ∷ [] → values_in name (with_end (with_end_in frames nodes)).nodes ≡ open_values frames ++ values_in name nodes
