@@ -146,14 +146,7 @@ pub chapter_put : {A T E : Type 0} (r : Result T E) (app : List ℕ) (many : Boo
     → d3 ≡ with_writes d2 (groups_writes false no_texts (item_list t ++ item_list (tree_of i.help)))
     → OnOk r (d4 ≡ with_writes d3 (doc_within block.Block i.footer))
     → OnOk r (d4 ≡ with_writes d0 (path_title many path ++ manual_chapter app path t (head_of i)))
-chapter_put (Ok x) app many path t i d0 d1 d2 d3 d4 e f g h =
-    let listed : groups_writes false no_texts (item_list t ++ item_list (tree_of i.help)) ≡ manual_list t (head_of i) = sym (ap (manual_list t) (view_info i)) in
-    let last : doc_within block.Block i.footer ≡ manual_footer (head_of i) = sym (ap manual_footer (view_info i)) in
-    let front = manual_front app path t (head_of i) in
-    let list = manual_list t (head_of i) in
-    let whole : d4 ≡ with_writes d1 ((front ++ list) ++ manual_footer (head_of i)) =
-    written_then d1 d3 d4 (front ++ list) (manual_footer (head_of i)) (written_then d1 d2 d3 front list f (g ∙ ap (with_writes d2) listed)) (h ∙ ap (with_writes d3) last) in
-    written_then d0 d1 d4 (path_title many path) (manual_chapter app path t (head_of i)) e (whole ∙ ap (with_writes d1) (chapter_parts app path t (head_of i)))
+chapter_put (Ok x) app many path t i d0 d1 d2 d3 d4 e f g h = grind (arith, view_info i, written_then d1 d3 d4, written_then d1 d2 d3, written_then d0 d1 d4 (path_title many path) (manual_chapter app path t (head_of i)) e, chapter_parts app path t (head_of i))
 chapter_put (Err x) app many path t i d0 d1 d2 d3 d4 e f g h = tt
 
 pub manual_whole : (app : List ℕ) (t : Tree) (i : Head) (cs : List Chapter) (many : Bool) (first d1 d2 : List Part) → first ≡ [] → cs ≡ chapters_of (app ∷ []) i t → many ≡ nat_lt 1 (length cs)
@@ -162,10 +155,7 @@ manual_whole app t i cs many first d1 d2 none is m e f = grind (arith, written_t
 
 pub collected_whole : (app : List ℕ) (t : Tree) (i : Head) (cs : List Chapter) (first d1 d2 : List Part) → first ≡ [] → cs ≡ chapters_of (app ∷ []) i t
     → d1 ≡ with_writes first (if_many cs (summary_writes cs)) → d2 ≡ with_writes d1 (flat_map chapter_page cs) → d2 ≡ document_of (collected_writes app t i)
-collected_whole app t i cs first d1 d2 none is e f =
-    written_then first d1 d2 (if_many cs (summary_writes cs)) (flat_map chapter_page cs) e f
-    ∙ ap (λ ps. with_writes ps (if_many cs (summary_writes cs) ++ flat_map chapter_page cs)) none
-    ∙ ap (λ xs. document_of (if_many xs (summary_writes xs) ++ flat_map chapter_page xs)) is
+collected_whole app t i cs first d1 d2 none is e f = grind (arith, written_then first d1 d2 (if_many cs (summary_writes cs)) (flat_map chapter_page cs) e f)
 
 -- ---- pages
 

@@ -44,10 +44,8 @@ column-newline xs i inside newline = rw (take_more xs i 0 inside, last_line-newl
 
 pub column-begins : (xs : List ℕ) (i : ℕ) → i < length xs → is_newline (get_or xs i 0) ≡ false → begins_character (get_or xs i 0) ≡ true
     → column_behind (take (i + 1) xs) ≡ column_behind (take i xs) + 1
-column-begins xs i inside other begins =
-    rw (take_more xs i 0 inside, last_line-more (take i xs) (get_or xs i 0) other, count_last begins_character (last_line (take i xs)) (get_or xs i 0), begins) (omega arith)
+column-begins xs i inside other begins = grind (arith, take_more xs i 0 inside, last_line-more (take i xs) (get_or xs i 0) other, count_last begins_character (last_line (take i xs)) (get_or xs i 0))
 
 pub column-goes_on : (xs : List ℕ) (i : ℕ) → i < length xs → is_newline (get_or xs i 0) ≡ false → begins_character (get_or xs i 0) ≡ false
     → column_behind (take (i + 1) xs) ≡ column_behind (take i xs)
-column-goes_on xs i inside other goes_on =
-    rw (take_more xs i 0 inside, last_line-more (take i xs) (get_or xs i 0) other, count_last begins_character (last_line (take i xs)) (get_or xs i 0), goes_on) (omega arith)
+column-goes_on xs i inside other goes_on = grind (arith, take_more xs i 0 inside, last_line-more (take i xs) (get_or xs i 0) other, count_last begins_character (last_line (take i xs)) (get_or xs i 0))

@@ -1,4 +1,5 @@
 -- Texts that stand twice in a list.
+use Rattle.std.proofs.lemmas.Grind.{common_steps}
 use Rattle.std.proofs.Common.{◌≡◌, ℕ, ◌+◌, ◌<◌, Bool, true, false, not, cond, ◌&&◌, ◌||◌, List, [], ◌∷◌, ◌++◌, length, take, drop, get_or, refl, sym, ap, ◌∙◌, append_assoc, append-nil, Bor, arith}
 use Rattle.std.proofs.lemmas.List.{drop_more, map-append, take_more, take-append-drop}
 use Rattle.std.specs.Prelude.{bytes_eq}
@@ -67,9 +68,7 @@ not_true : (b : Bool) → not b ≡ true → b ≡ false
 not_true b h1 = grind arith
 
 pub repeated_here : (keys ts : List (Bor (List ℕ))) (i : ℕ) (d : Bor (List ℕ)) (added : Bool) → i < length ts → Seen keys ts i → added ≡ not (holds keys (get_or ts i d)) → added ≡ false → false ≡ are_distinct (words_of ts)
-repeated_here keys ts i d added h s e f =
-    let there : has_text keys (get_or ts i d) ≡ true = not_false (has_text keys (get_or ts i d)) (sym (text_added (λ k. k.now) keys (get_or ts i d) added e) ∙ f) in
-    sym (ap are_distinct (whole_words ts i d h) ∙ repeated_then (words_of (take i ts)) (get_or ts i d).now (words_of (drop (i + 1) ts)) (sym (s.1 (get_or ts i d)) ∙ there))
+repeated_here keys ts i d added h s e f = grind (arith, not_false (has_text keys (get_or ts i d)), text_added, whole_words ts i d h, repeated_then (words_of (take i ts)) (get_or ts i d).now (words_of (drop (i + 1) ts)))
 
 one_more : (b c : Bool) (rest : Bool) → c ≡ rest → cond b true c ≡ (rest || (b || false))
 one_more b c rest h3 = grind arith
@@ -122,17 +121,7 @@ module _ (old w : List (List ℕ)) (keys more ts : List (Bor (List ℕ))) (i : �
   by_text = text_added (λ k. k.now) keys (get_or ts i d) added is
 
   pub kept_new : (v : List (List ℕ)) → added ≡ true → v ≡ w ++ (get_or ts i d).now ∷ [] → Kept old v more ts (i + 1)
-  kept_new v f e =
-      let t = (get_or ts i d).now in
-      let absent : list_any (bytes_eq t) (words_of (take i ts)) ≡ false = sym (kept.1 (get_or ts i d)) ∙ not_true (has_text keys (get_or ts i d)) (sym by_text ∙ f) in (
-        e ∙ ap (λ ws. ws ++ t ∷ []) kept.0 ∙ append_assoc old (distinct (words_of (take i ts))) (t ∷ []) ∙ ap (λ ws. old ++ ws) (sym (ap distinct (front_words ts i d below) ∙ distinct_new (words_of (take i ts)) t absent)),
-        held_more keys more ts i d below kept.1 u,
-      )
+  kept_new v f e = grind (arith, common_steps, not_true (has_text keys (get_or ts i d)), by_text, append_assoc old (distinct (words_of (take i ts))), front_words ts i d below, distinct_new (words_of (take i ts)), held_more keys more ts i d below kept.1 u)
 
   pub kept_old : added ≡ false → Kept old w more ts (i + 1)
-  kept_old f =
-      let t = (get_or ts i d).now in
-      let there : list_any (bytes_eq t) (words_of (take i ts)) ≡ true = sym (kept.1 (get_or ts i d)) ∙ not_false (has_text keys (get_or ts i d)) (sym by_text ∙ f) in (
-        kept.0 ∙ ap (λ ws. old ++ ws) (sym (ap distinct (front_words ts i d below) ∙ distinct_old (words_of (take i ts)) t there)),
-        held_more keys more ts i d below kept.1 u,
-      )
+  kept_old f = grind (arith, common_steps, not_false (has_text keys (get_or ts i d)), by_text, front_words ts i d below, distinct_old (words_of (take i ts)), held_more keys more ts i d below kept.1 u)

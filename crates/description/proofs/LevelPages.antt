@@ -79,15 +79,12 @@ module _ {A : Type 0} (s : SubjectSaid) (l : Level A) (of_level : s.level ≡ le
 
   pub front_put : {T E : Type 0} (r : Result T E) (d0 d1 d2 d3 : List Part) (t : Tree) → t ≡ subject_tree s → (named : Option (List ℕ)) → named ≡ summary s → d1 ≡ with_writes d0 (manual_name (page_name s.path) (document_said named))
       → d2 ≡ with_writes d1 (synopsis_writes s.path t (text_of (out-Level A l).usage)) → OnOk r (d3 ≡ with_writes d2 (description_writes (text_of (out-Level A l).about))) → OnOk r (d3 ≡ with_writes d0 (front_writes s))
-  front_put r d0 d1 d2 d3 t of_tree named e f g h =
-      three_put r d0 d1 d2 d3 (manual_name (page_name s.path) (document_said named)) (synopsis_writes s.path t (text_of (out-Level A l).usage)) (description_writes (text_of (out-Level A l).about)) (front_writes s) (front_same t of_tree named e) f g h
+  front_put r d0 d1 d2 d3 t of_tree named e f g h = grind (arith, three_put r d0 d1 d2 d3 (manual_name (page_name s.path) (document_said named)) (synopsis_writes s.path t (text_of (out-Level A l).usage)) (description_writes (text_of (out-Level A l).about)) (front_writes s), front_same t of_tree named e)
 
   pub lists_put : {T E : Type 0} (r : Result T E) (d0 d1 d2 d3 d4 : List Part) (t : Tree) → t ≡ subject_tree s → d1 ≡ with_writes d0 (doc_within block.Block (document_said (text_of (out-Level A l).header)))
       → d2 ≡ with_writes d1 (groups_writes false no_texts (item_list t ++ item_list (options_tree s.help_options))) → d3 ≡ with_writes d2 (flat_map (topic_writes true) (map topic_said (out-Level A l).topics.items))
       → OnOk r (d4 ≡ with_writes d3 (doc_within block.Block (document_said (text_of (out-Level A l).footer)))) → OnOk r (d4 ≡ with_writes d0 (list_writes s))
-  lists_put r d0 d1 d2 d3 d4 t of_tree e f g h =
-      four_put r d0 d1 d2 d3 d4 (doc_within block.Block (document_said (text_of (out-Level A l).header))) (groups_writes false no_texts (item_list t ++ item_list (options_tree s.help_options))) (flat_map (topic_writes true) (map topic_said (out-Level A l).topics.items))
-      (doc_within block.Block (document_said (text_of (out-Level A l).footer))) (list_writes s) (lists_same t of_tree) e f g h
+  lists_put r d0 d1 d2 d3 d4 t of_tree e f g h = grind (arith, four_put r d0 d1 d2 d3 d4, lists_same t of_tree)
 
   pub own_summary : (text : List ℕ) → Some text ≡ option_and_then summary_of (text_of (out-Level A l).about) → Some text ≡ summary s
   own_summary text h = ap (λ o. option_or o (option_and_then summary_of s.help)) (h ∙ ap (λ ts. option_and_then summary_of ts.about) (sym texts))

@@ -66,11 +66,7 @@ module _ (bs : List ℕ) (i before b : ℕ) (within : i < length bs) (at : b ≡
   found_byte y = grind (arith, single_parts, is_96)
 
   pub passed : PartedSoFar bs i before → is_single before b (drop (i + 1) bs) ≡ false → PartedSoFar bs (i + 1) b
-  passed s n =
-      ap (λ us. onto_front us (parted_behind b (drop (i + 1) bs))) (take_more bs i 0 within ∙ ap (λ x. take i bs ++ x ∷ []) (sym at))
-      ∙ onto_push (take i bs) b (parted_behind b (drop (i + 1) bs))
-      ∙ sym (ap (λ t. onto_front (take i bs) (cond t ([] ∷ parted_behind b (drop (i + 1) bs)) (onto_first b (parted_behind b (drop (i + 1) bs))))) n)
-      ∙ seen s
+  passed s n = grind (arith, take_more bs i 0 within, onto_push (take i bs) b (parted_behind b (drop (i + 1) bs)), seen s)
 
 -- the rest of a list as a slice up to its end
 pub whole_rest : (bs : List ℕ) (n : ℕ) → take (length bs - n) (drop n bs) ≡ drop n bs

@@ -13,7 +13,7 @@ use Rattle.description_parts.specs.declared.levels.Level.{Level, out-Level}
 use Rattle.description_parts.specs.declared.levels.Group.{Group, out-Group}
 use Rattle.description_parts.specs.declared.levels.Command.{Command, out-Command}
 use Rattle.description_parts.proofs.Views.{open-Command, open-Group, open-Level}
-use Rattle.description.specs.All.{EachCommandIsThere, FileSaid, IsManualFile, all_from, below_commands, below_group, below_groups, below_level, from_command, manual_file, shown_from}
+use Rattle.description.specs.All.{EachCommandIsThere, FileSaid, IsManualFile, all_from, below_commands, below_groups, below_level, from_command, manual_file, shown_from}
 use Rattle.description.specs.Manuals.{IsSubjectManual, subject_manual, subject_manual_text, title_words}
 use Rattle.description.specs.Subjects.{SubjectSaid, below, commands_on, grouped, listed}
 use Rattle.description.specs.Trees.{is_shown}
@@ -46,9 +46,7 @@ each_command_is_there s = ap (λ ss. s ∷ ss) (level_there s s.level)
 -- ---- what a page is read as
 
 subject_manual_read : (s : SubjectSaid) → IsSubjectManual s (subject_manual_text s)
-subject_manual_read s =
-    titled_page_is_manual_page (title_words s) (subject_manual s) (subject_manual_text s)
-    (taken_page (title_page (title_words s)) (subject_manual s) (subject_manual_text s) (title_page_takes_document (title_words s)) refl)
+subject_manual_read s = grind (arith, titled_page_is_manual_page (title_words s) (subject_manual s) (subject_manual_text s), taken_page (title_page (title_words s)) (subject_manual s) (subject_manual_text s), title_page_takes_document (title_words s))
 
 pub are_manual_files : (ss : List SubjectSaid) → AllZip IsManualFile ss (map manual_file ss)
 are_manual_files [] = tt
@@ -63,11 +61,7 @@ turn before after whole own rest all split put so_far = grind (arith, append_ass
 module _ {A : Type 0} (s : SubjectSaid) (gs : List (Group A)) (i : ℕ) (before : List FileSaid) where
   pub group_put : (g d : Group A) {after whole : List FileSaid} → g ≡ get_or gs i d → i < length gs → before ++ map manual_file (below_groups s (groups_said (drop i gs))) ≡ whole
       → after ≡ before ++ map manual_file (below_commands s (commands_said (out-Group A g).commands.items)) → after ++ map manual_file (below_groups s (groups_said (drop (i + 1) gs))) ≡ whole
-  group_put g d {after} {whole} at h so_far put =
-      let rest : List SubjectSaid = below_groups s (groups_said (drop (i + 1) gs)) in
-      turn before after whole (below_commands s (commands_said (out-Group A g).commands.items)) rest (below_groups s (groups_said (drop i gs)))
-      (ap (λ hs. below_groups s (groups_said hs)) (drop_more gs i d h) ∙ ap (λ x. below_groups s (groups_said (x ∷ drop (i + 1) gs))) (sym at) ∙ ap (λ x. below_group s x ++ rest) (open-Group g))
-      put so_far
+  group_put g d {after} {whole} at h so_far put = grind (arith, turn before after whole (below_commands s (commands_said (out-Group A g).commands.items)), drop_more gs i d h, open-Group g)
 
   pub groups_put : {whole : List FileSaid} → length gs ≤ i → before ++ map manual_file (below_groups s (groups_said (drop i gs))) ≡ whole → before ≡ whole
   groups_put h so_far = sym (append-nil before) ∙ ap (λ hs. before ++ map manual_file (below_groups s (groups_said hs))) (sym (drop_all i gs h)) ∙ so_far
@@ -75,10 +69,7 @@ module _ {A : Type 0} (s : SubjectSaid) (gs : List (Group A)) (i : ℕ) (before 
 module _ {A : Type 0} (s : SubjectSaid) (ms : List (Command A)) (i : ℕ) (before : List FileSaid) where
   pub command_put : (m d : Command A) {after whole : List FileSaid} → m ≡ get_or ms i d → i < length ms → before ++ map manual_file (below_commands s (commands_said (drop i ms))) ≡ whole
       → after ≡ before ++ map manual_file (from_command s (command_said m)) → after ++ map manual_file (below_commands s (commands_said (drop (i + 1) ms))) ≡ whole
-  command_put m d {after} {whole} at h so_far put =
-      turn before after whole (from_command s (command_said m)) (below_commands s (commands_said (drop (i + 1) ms))) (below_commands s (commands_said (drop i ms)))
-      (ap (λ ns. below_commands s (commands_said ns)) (drop_more ms i d h) ∙ ap (λ x. below_commands s (commands_said (x ∷ drop (i + 1) ms))) (sym at))
-      put so_far
+  command_put m d {after} {whole} at h so_far put = grind (arith, turn before after whole (from_command s (command_said m)) (below_commands s (commands_said (drop (i + 1) ms))) (below_commands s (commands_said (drop i ms))), drop_more ms i d h)
 
   pub commands_put : {whole : List FileSaid} → length ms ≤ i → before ++ map manual_file (below_commands s (commands_said (drop i ms))) ≡ whole → before ≡ whole
   commands_put h so_far = sym (append-nil before) ∙ ap (λ ns. before ++ map manual_file (below_commands s (commands_said ns))) (sym (drop_all i ms h)) ∙ so_far

@@ -1,4 +1,5 @@
 -- What is left out at the ends of a text.
+use Rattle.std.proofs.lemmas.Grind.{common_steps}
 use Rattle.std.proofs.Common.{◌≡◌, ℕ, ◌+◌, ◌-◌, ◌<◌, ◌==◌, ◌||◌, Bool, true, false, cond, List, [], ◌∷◌, ◌++◌, length, drop, take, reverse, refl, sym, ap, ◌∙◌, subst, inl, inr, ◌⊎◌, arith, Option, Some, None, IfSome, take_all, length-append, one-add}
 use Rattle.std.proofs.lemmas.Bool.Decides.{eqb_tells}
 use Rattle.std.proofs.lemmas.Bool.{false≢true}
@@ -85,18 +86,14 @@ back_more s c m = grind (arith, length-append, back_len, take-append-le)
 
 back_cuts : (ns : List ℕ) (s r : List ℕ) → CutsSuffixes Back s ns r → without_back s ≡ without_back r
 back_cuts [] s r h = ap without_back (sym h)
-back_cuts (n ∷ ns) s r (m, before, at, e) =
-    let (c, passes, is) = back_char m n at in
-    back_cuts ns s m before ∙ ap without_back is ∙ back_more (take (length m - n) m) c passes ∙ ap without_back (sym e)
+back_cuts (n ∷ ns) s r (m, before, at, e) = grind (arith, common_steps, back_cuts ns s m before, back_more)
 
 back_by : (c : ℕ) (s : List ℕ) (b : Bool) → is_margin c ≡ b → ¬ (is_margin c ≡ true) → prefix_len is_margin (c ∷ s) ≡ 0
 back_by c s b h3 h4 = grind arith
 
 no_suffix : (s back : List ℕ) → back ≡ reverse s → ((c : ℕ) (front : List ℕ) → is_margin c ≡ true → s ≡ front ++ c ∷ [] → ⊥) → suffix_len is_margin s ≡ 0
 no_suffix s [] e h = ap (prefix_len is_margin) (sym e)
-no_suffix s (c ∷ back) e h =
-    let is : s ≡ reverse back ++ c ∷ [] = sym (reverse-reverse s) ∙ ap reverse (sym e) ∙ reverse-append (c ∷ []) back in
-    ap (prefix_len is_margin) (sym e) ∙ back_by c back (is_margin c) refl (λ m. h c (reverse back) m is)
+no_suffix s (c ∷ back) e h = grind (arith, reverse-reverse s, reverse-append (c ∷ []) back, back_by c back (is_margin c) refl)
 
 back_end : (s : List ℕ) → ((c : ℕ) (front : List ℕ) → is_margin c ≡ true → s ≡ front ++ c ∷ [] → ⊥) → without_back s ≡ s
 back_end s h = let none = no_suffix s (reverse s) refl h in take_all (length s - suffix_len is_margin s) s (omega arith)

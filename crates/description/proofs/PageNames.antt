@@ -54,10 +54,7 @@ module _ {X : Type 0} (bytes : X → List ℕ) (xs : List X) (name : List ℕ) w
   name_alone none = sym (alone (map bytes xs) name (length-map xs bytes ∙ none))
 
   pub name_behind : (n0 n1 n2 : List ℕ) → 0 < length xs → n0 ≡ page_name (map bytes xs) → n1 ≡ n0 ++ encode_utf8 45 → n2 ≡ n1 ++ name → n2 ≡ page_name (map bytes xs ++ name ∷ [])
-  name_behind n0 n1 n2 some e f g =
-      g ∙ ap (λ n. n ++ name) (f ∙ ap (λ n. n ++ encode_utf8 45) e ∙ ap (λ n. page_name (map bytes xs) ++ n) (encode_ascii 45 (omega arith)))
-      ∙ append_assoc (page_name (map bytes xs)) (45 ∷ []) name
-      ∙ sym (behind_some (map bytes xs) name (let same = length-map xs bytes in omega arith))
+  name_behind n0 n1 n2 some e f g = grind (arith, encode_utf8 45, encode_ascii 45 (omega arith), append_assoc (page_name (map bytes xs)) (45 ∷ []) name, behind_some (map bytes xs) name, length-map xs bytes)
 
 -- ---- the loops
 

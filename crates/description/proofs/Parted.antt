@@ -1,5 +1,5 @@
 -- The paragraphs of a text, one after another.
-use Rattle.std.proofs.Common.{◌≡◌, ℕ, suc, ◌+◌, ◌-◌, ◌<◌, ◌≤◌, Bool, true, false, cond, List, [], ◌∷◌, length, drop, take, sym, ap, ◌∙◌, subst, inl, inr, arith, Option, Some, None, MatchOption, find, count_by, ◌&&◌, Bor, true≢false}
+use Rattle.std.proofs.Common.{◌≡◌, ℕ, suc, ◌+◌, ◌<◌, ◌≤◌, Bool, true, false, cond, List, [], ◌∷◌, length, drop, take, sym, ap, ◌∙◌, subst, inl, inr, arith, Option, Some, None, MatchOption, find, count_by, ◌&&◌, Bor, true≢false}
 use Rattle.std.proofs.lemmas.Bool.Decides.{eqb_tells}
 use Rattle.std.proofs.lemmas.Bool.{lt-ltb}
 use Rattle.std.proofs.lemmas.List.{drop_all, length-drop, length-take-le}
@@ -9,7 +9,7 @@ use Rattle.std.specs.Str.Iter.{split_has_more, split_pattern, split_steps, split
 use Rattle.std.specs.Str.Pattern.{FindsText, LacksTextAt}
 use Rattle.std.specs.declared.str.Split.{Split}
 use Rattle.description.specs.Described.Texts.{has_ink}
-use Rattle.description.specs.Paragraphs.{behind_lead, front, goes_on, is_newline, lead, paragraphs}
+use Rattle.description.specs.Paragraphs.{behind_lead, goes_on, is_newline, lead, paragraphs}
 
 abbrev between : List ℕ
 between = 10 ∷ 10 ∷ []
@@ -46,10 +46,7 @@ pub no_break : (s : List ℕ) → FindsText between s None → (lead s ≡ s) ×
 no_break s f = grind (arith, none_there, drop_all)
 
 pub at_break : (s : List ℕ) (i j : ℕ) → FindsText between s (Some (i, j)) → (lead s ≡ take i s) × (behind_lead s ≡ drop i s)
-at_break s i j f =
-    let left : length s - i ≡ length (10 ∷ 10 ∷ drop j s) = sym (length-drop i s) ∙ ap length f.1.split in
-    let first = ap front (first_there i s (drop j s) f.0 f.1.split) in
-    (first, ap (λ t. drop (length t) s) first ∙ ap (λ n. drop n s) (length-take-le i s (omega (arith, left))))
+at_break s i j f = grind (arith, length-drop i s, first_there i s (drop j s) f.0 f.1.split, length-take-le i s)
 
 -- ---- the paragraphs that are left
 

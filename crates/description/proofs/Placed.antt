@@ -1,5 +1,5 @@
 -- No named item of a description stands after a positional one: the check of the tree passes.
-use Rattle.std.proofs.Common.{◌≡◌, ℕ, Bool, true, false, List, [], ◌∷◌, ◌++◌, map, refl, ap, ◌∙◌, Option, None, arith}
+use Rattle.std.proofs.Common.{◌≡◌, ℕ, Bool, true, false, List, [], ◌∷◌, ◌++◌, map, refl, ap, ◌∙◌, Option, arith}
 use Rattle.std.specs.Prelude.{◌&&◌, ◌||◌}
 use Rattle.bpaf_doc.specs.Buffer.Parts.{Part}
 use Rattle.bpaf_meta.specs.Content as content
@@ -10,7 +10,7 @@ use Rattle.bpaf_meta.specs.Meta.Steps.Walk.{Check, fine, then_check, walked, wal
 use Rattle.bpaf_meta.proofs.lemmas.Misplaced.Lines.{well_placed}
 use Rattle.description_parts.specs.Content.{SpellingSaid, OptSaid, ChoiceSaid, PositionalSaid, LevelSaid, level, GroupsSaid, no_groups, groups, GroupSaid, group, CommandsSaid, no_commands, commands, CommandNames, CommandSaid, command}
 use Rattle.description.specs.Content.{SharedSaid}
-use Rattle.description.specs.Notes.{command_notes, value_notes}
+use Rattle.description.specs.Notes.{command_notes}
 use Rattle.description.specs.Trees.{named_leaf, help_said, spelled_item, option_item, wrapped, unless_hidden, option_tree, alternative_tree, choice_tree, behind_dashes, positional_tree, titled, once_in_usage, one_of_commands, show_command, holds_command, hold_commands, named_group, named_groups, level_head, level_tree, placed_groups, placed_group, command_items, command_item}
 use Rattle.description.proofs.Each.{Each, each_append, each_map}
 
@@ -84,11 +84,7 @@ hidden_placed true t h a = (a, refl)
 hidden_placed false t h a = h a
 
 positional_placed : (p : PositionalSaid) → IsPlaced (positional_tree p)
-positional_placed p =
-    let help : Option (List Part) = help_said p.help (value_notes p.default p.values None) in
-    let value : Tree = item (positional p.value help) in
-    let whole : Tree = wrapped p.required p.repeated value in
-    hidden_placed p.hidden (behind_dashes p.strict whole) (dashes_placed p.strict whole (wrapped_placed p.required p.repeated value (value_placed p.value help)))
+positional_placed p = grind (arith, hidden_placed p.hidden, dashes_placed p.strict, wrapped_placed p.required p.repeated, value_placed)
 
 parts_placed : (ts : List Tree) → Each IsPlaced ts → (a : Bool) → (b : Bool) × (walked_parts (trees_in ts) a ≡ fine b)
 parts_placed [] h a = (a, refl)

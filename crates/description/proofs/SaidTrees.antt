@@ -108,9 +108,7 @@ module _ {D T : List Part → Type 0} {H : List ℕ → Type 0} {C : Chapter →
 
   one_of_sound : (shown r : Bool) (ts : List Tree) → Each IsSound ts → Each IsSound (one_of_commands shown r ts)
   one_of_sound shown r [] h = tt
-  one_of_sound shown r (t ∷ ts) h =
-      let any : Tree = or_of (trees_in (t ∷ ts)) in
-      (once_sound shown (wrapped r false any) (wrapped_sound r false any (parts_sound (t ∷ ts) h)), tt)
+  one_of_sound shown r (t ∷ ts) h = grind (arith, once_sound shown, wrapped_sound r false, parts_sound (t ∷ ts) h)
 
   group_sound : (g : GroupSaid) → H (group_headings g) → Each IsSound (named_group g)
   group_sound (group title os cs ps ms) h =

@@ -1,4 +1,5 @@
 -- The stretches of a text, one after another.
+use Rattle.std.proofs.lemmas.Grind.{common_steps}
 use Rattle.std.proofs.Common.{◌≡◌, ℕ, suc, zero, ◌+◌, ◌-◌, ◌<◌, ◌≤◌, Bool, true, false, cond, not, List, [], ◌∷◌, ◌++◌, flat_map, length, drop, take, get_or, refl, sym, ap, ◌∙◌, append_assoc, arith, one-add, add-one, length-append, true≢false}
 use Rattle.std.specs.List.{count_by, prefix_len}
 use Rattle.std.specs.Str.{IsCharBoundary, IsUtf8}
@@ -19,8 +20,7 @@ use Rattle.description.specs.declared.syntax.Class.{Class}
 
 after_ascii_run : (p : ℕ → Bool) (bs : List ℕ) (n : ℕ) → prefix_len p bs ≡ n → IsUtf8 bs → ((c : ℕ) → p c ≡ true → c < 128) → IsCharBoundary bs n
 after_ascii_run p bs zero e utf8 ascii = IsCharBoundary-start bs utf8
-after_ascii_run p bs (suc k) e utf8 ascii =
-    rw (← add-one) (IsCharBoundary-after_ascii bs k utf8 (omega (arith, prefix_len-le-length p bs)) (ascii _ (prefix_len_passes p bs k 0 (omega arith))))
+after_ascii_run p bs (suc k) e utf8 ascii = grind (arith, add-one, IsCharBoundary-after_ascii bs k utf8, prefix_len-le-length p bs, prefix_len_passes p bs k 0 (omega arith))
 
 before_ascii : (p : ℕ → Bool) (bs : List ℕ) → ((c : ℕ) → p c ≡ false → c < 128) → IsCharBoundary bs (prefix_len p bs)
 before_ascii p bs ascii = grind (arith, cases_lt, IsCharBoundary-before_ascii, prefix_len_stops, prefix_len-le-length, IsCharBoundary-end)
@@ -87,13 +87,7 @@ abbrev pub IsEnd : (text rest : List ℕ) → Type 0
 IsEnd text rest = text ≡ front_of text rest ++ rest
 
 front_is : (text front rest : List ℕ) → text ≡ front ++ rest → front_of text rest ≡ front
-front_is text front rest e =
-    let long : length text ≡ length front + length rest = ap length e ∙ length-append front rest in
-    let left : length text - length rest ≡ length front = omega arith in
-    ap (λ n. take n text) left ∙ ap (take (length front)) e ∙ take_front front rest where
-      take_front : (xs ys : List ℕ) → take (length xs) (xs ++ ys) ≡ xs
-      take_front [] ys = refl
-      take_front (x ∷ xs) ys = ap (λ zs. x ∷ zs) (take_front xs ys)
+front_is text front rest e = grind (arith, common_steps, length-append front rest)
 
 pub whole_end : (text : List ℕ) → IsEnd text text
 whole_end text = let none : 0 ≡ length text - length text = omega arith in ap (λ n. take n text ++ text) none

@@ -25,9 +25,7 @@ module _ {X : Type 0} (read : Data → Option X) where
 
   pub table_read : (vs : List Value) (xs ys : List X) (x : X) (i : ℕ) (d : Value) → i < length vs → ReadSoFar read vs xs i → read (view (get_or vs i d)) ≡ Some x → ys ≡ xs ++ x ∷ []
       → ReadSoFar read vs ys (i + 1)
-  table_read vs xs ys x i d h s e g =
-      next_item vs xs i d h s ∙ rw e (one_more xs x (each_item read (items_view (drop (i + 1) vs))))
-      ∙ ap (λ zs. option_map (λ rest. zs ++ rest) (each_item read (items_view (drop (i + 1) vs)))) (sym g)
+  table_read vs xs ys x i d h s e g = grind (arith, next_item vs xs i d h s, one_more xs x (each_item read (items_view (drop (i + 1) vs))))
 
   pub table_faulty : (vs : List Value) (xs : List X) (i : ℕ) (d : Value) → i < length vs → ReadSoFar read vs xs i → read (view (get_or vs i d)) ≡ None → each_item read (items_view vs) ≡ None
   table_faulty vs xs i d h s e = next_item vs xs i d h s ∙ rw e refl
@@ -36,8 +34,7 @@ module _ {X : Type 0} (read : Data → Option X) where
 
 module _ {T X : Type 0} (read : Data → Option X) (said : T → X) (vs : List Value) (ts : List T) (i : ℕ) where
   pub item_read : (t : T) {us : List T} {d : Value} → i < length vs → d ≡ get_or vs i d → ReadSoFar read vs (map said ts) i → read (view d) ≡ Some (said t) → us ≡ ts ++ t ∷ [] → ReadSoFar read vs (map said us) (i + 1)
-  item_read t {us} {d} h at s e g =
-      table_read read vs (map said ts) (map said us) (said t) i d h s (ap (λ v. read (view v)) (sym at) ∙ e) (ap (map said) g ∙ map-append said ts (t ∷ []))
+  item_read t {us} {d} h at s e g = grind (arith, table_read read vs (map said ts) (map said us) (said t) i d h s, map-append said ts (t ∷ []))
 
   pub item_faulty : {d : Value} → i < length vs → d ≡ get_or vs i d → ReadSoFar read vs (map said ts) i → read (view d) ≡ None → each_item read (items_view vs) ≡ None
   item_faulty {d} h at s e = table_faulty read vs (map said ts) i d h s (ap (λ v. read (view v)) (sym at) ∙ e)
@@ -88,8 +85,7 @@ command_item : (vs : List Value) (cs : List CommandSaid) (i : ℕ) (d : Value) �
 command_item vs cs i d h s = s ∙ ap (λ ds. option_map (commands_before cs) (each_command ds)) (items_view-drop vs i d h)
 
 pub command_read : (vs : List Value) (cs ds : List CommandSaid) (c : CommandSaid) (i : ℕ) (d : Value) → i < length vs → CommandsSoFar vs cs i → as_command (view (get_or vs i d)) ≡ Some c → ds ≡ cs ++ c ∷ [] → CommandsSoFar vs ds (i + 1)
-command_read vs cs ds c i d h s e g =
-    command_item vs cs i d h s ∙ rw e (command_more cs c (each_command (items_view (drop (i + 1) vs)))) ∙ ap (λ zs. option_map (commands_before zs) (each_command (items_view (drop (i + 1) vs)))) (sym g)
+command_read vs cs ds c i d h s e g = grind (arith, command_item vs cs i d h s, command_more cs c (each_command (items_view (drop (i + 1) vs))))
 
 pub command_faulty : (vs : List Value) (cs : List CommandSaid) (i : ℕ) (d : Value) → i < length vs → CommandsSoFar vs cs i → as_command (view (get_or vs i d)) ≡ None → each_command (items_view vs) ≡ None
 command_faulty vs cs i d h s e = command_item vs cs i d h s ∙ rw e refl
@@ -102,8 +98,7 @@ group_item : (vs : List Value) (gs : List GroupSaid) (i : ℕ) (d : Value) → i
 group_item vs gs i d h s = s ∙ ap (λ ds. option_map (groups_before gs) (each_group ds)) (items_view-drop vs i d h)
 
 pub group_read : (vs : List Value) (gs hs : List GroupSaid) (g : GroupSaid) (i : ℕ) (d : Value) → i < length vs → GroupsSoFar vs gs i → as_group (view (get_or vs i d)) ≡ Some g → hs ≡ gs ++ g ∷ [] → GroupsSoFar vs hs (i + 1)
-group_read vs gs hs g i d h s e same =
-    group_item vs gs i d h s ∙ rw e (group_more gs g (each_group (items_view (drop (i + 1) vs)))) ∙ ap (λ zs. option_map (groups_before zs) (each_group (items_view (drop (i + 1) vs)))) (sym same)
+group_read vs gs hs g i d h s e same = grind (arith, group_item vs gs i d h s, group_more gs g (each_group (items_view (drop (i + 1) vs))))
 
 pub group_faulty : (vs : List Value) (gs : List GroupSaid) (i : ℕ) (d : Value) → i < length vs → GroupsSoFar vs gs i → as_group (view (get_or vs i d)) ≡ None → each_group (items_view vs) ≡ None
 group_faulty vs gs i d h s e = group_item vs gs i d h s ∙ rw e refl

@@ -71,13 +71,10 @@ begin_stays : (ls ms : List (List ℕ)) (b : ℕ) (bs : List ℕ) → begins_emp
 begin_stays ls ms b bs = grind arith
 
 turned : (ls ms : List (List ℕ)) (line : List ℕ) → reverse (ls ++ line ∷ ms) ≡ reverse ms ++ line ∷ reverse ls
-turned ls ms line =
-    reverse-append ls (line ∷ ms) ∙ ap (λ xs. xs ++ reverse ls) (reverse-append (line ∷ []) ms) ∙ append_assoc (reverse ms) (line ∷ []) (reverse ls)
+turned ls ms line = grind (arith, reverse-append ls (line ∷ ms), reverse-append (line ∷ []) ms, append_assoc (reverse ms) (line ∷ []) (reverse ls))
 
 last_stays : (ls ms : List (List ℕ)) (b : ℕ) (bs : List ℕ) → without_last (ls ++ (b ∷ bs) ∷ ms) ≡ ls ++ (b ∷ bs) ∷ without_last ms
-last_stays ls ms b bs =
-    ap (λ xs. reverse (without_first xs)) (turned ls ms (b ∷ bs)) ∙ ap reverse (first_stays (reverse ms) (reverse ls) b bs) ∙ turned (without_first (reverse ms)) (reverse ls) (b ∷ bs)
-    ∙ ap (λ xs. xs ++ (b ∷ bs) ∷ without_last ms) (reverse-reverse ls)
+last_stays ls ms b bs = grind (arith, turned ls ms (b ∷ bs), first_stays (reverse ms) (reverse ls) b bs, turned (without_first (reverse ms)) (reverse ls) (b ∷ bs), reverse-reverse ls)
 
 end_stays : (ls ms : List (List ℕ)) (b : ℕ) (bs : List ℕ) → ends_empty (ls ++ (b ∷ bs) ∷ ms) ≡ ends_empty ms
 end_stays ls ms b bs = ap begins_empty (turned ls ms (b ∷ bs)) ∙ begin_stays (reverse ms) (reverse ls) b bs

@@ -1,4 +1,5 @@
 -- A usage line reads no helps, and nothing that stands behind a command.
+use Rattle.std.proofs.lemmas.Grind.{common_steps}
 use Rattle.std.proofs.Common.{◌≡◌, Bool, List, [], ◌∷◌, ◌++◌, refl, sym, ap, ◌∙◌, codes, None, arith}
 use Rattle.std.specs.Prelude.{if◌then◌else◌}
 use Rattle.bpaf_doc.specs.Buffer.Parts.{Part}
@@ -6,7 +7,7 @@ use Rattle.bpaf_doc.specs.Buffer.Writes.{inside, literal, plain}
 use Rattle.bpaf_doc.specs.declared.buffer.Block.TheVariants as block
 use Rattle.bpaf_meta.specs.Content as content
 use Rattle.bpaf_meta.specs.Content.{Name, Head, head, Tree, and_of, or_of, optional, required, adjacent, item, many, subsection, suffix, skip, custom_usage, strict, Trees, no_trees, tree, Leaf, any, positional, flag, argument}
-use Rattle.bpaf_meta.specs.Meta.Normal.{State, pull, shown_trees, and_form, or_form, is_command_tree, without_commands, with_first_command, optional_many_form, optional_form, required_form, many_form, custom_usage_form, item_form, strict_state, guarded, state_after, state_out, normal_form, and_parts, or_parts, or_state, outer_form, strict_if_push, normalized}
+use Rattle.bpaf_meta.specs.Meta.Normal.{State, shown_trees, and_form, or_form, is_command_tree, without_commands, with_first_command, optional_many_form, optional_form, required_form, many_form, custom_usage_form, item_form, strict_state, guarded, state_after, state_out, normal_form, and_parts, or_parts, or_state, outer_form, strict_if_push, normalized}
 use Rattle.bpaf_meta.specs.Usage.Writes.{item_writes, part_writes, separated, tree_writes, usage_writes}
 
 -- ---- a tree without them
@@ -58,10 +59,7 @@ choice_bare b ts vs = grind arith
 
 without_bare : (ts : Trees) → without_commands (each_bare ts) ≡ each_bare (without_commands ts)
 without_bare no_trees = refl
-without_bare (tree t ts) =
-    ap (λ b. if b then without_commands (each_bare ts) else tree (bare t) (without_commands (each_bare ts))) (command_bare t)
-    ∙ ap (λ us. if is_command_tree t then us else tree (bare t) us) (without_bare ts)
-    ∙ choice_bare (is_command_tree t) (without_commands ts) (tree t (without_commands ts))
+without_bare (tree t ts) = grind (arith, without_bare ts, command_bare t, choice_bare (is_command_tree t) (without_commands ts) (tree t (without_commands ts)))
 
 first_bare : (ts : Trees) → with_first_command (each_bare ts) ≡ each_bare (with_first_command ts)
 first_bare no_trees = refl
@@ -153,11 +151,7 @@ last_bare : (s : State) (t : Tree) → strict_if_push s (bare t) ≡ bare (stric
 last_bare s t = grind arith
 
 normalized_bare : (u : Bool) (t : Tree) → normalized u (bare t) ≡ bare (normalized u t)
-normalized_bare u t =
-    ap (λ s. strict_if_push s (outer_form (normal_form u pull (bare t)))) (state_bare pull t)
-    ∙ ap (λ v. strict_if_push (state_out pull t) (outer_form v)) (normal_bare u pull t)
-    ∙ ap (strict_if_push (state_out pull t)) (outer_bare (normal_form u pull t))
-    ∙ last_bare (state_out pull t) (outer_form (normal_form u pull t))
+normalized_bare u t = grind (arith, common_steps, state_bare, normal_bare, outer_bare, last_bare)
 
 -- ---- what it writes
 

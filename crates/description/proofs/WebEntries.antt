@@ -21,8 +21,7 @@ once-push : (es : List EntrySaid) (e : EntrySaid) → each_once (es ++ e ∷ [])
 once-push es e = new_behind-append [] es (e ∷ []) ∙ ap (λ xs. each_once es ++ xs) (append-nil (if_new es e))
 
 pub front_more : {X : Type 0} (said : X → EntrySaid) (xs : List X) (i : ℕ) (x d : X) → x ≡ get_or xs i d → i < length xs → map said (take (i + 1) xs) ≡ map said (take i xs) ++ said x ∷ []
-front_more said xs i x d at below =
-    ap (map said) (take_more xs i d below) ∙ map-append said (take i xs) (get_or xs i d ∷ []) ∙ ap (λ y. map said (take i xs) ++ said y ∷ []) (sym at)
+front_more said xs i x d at below = grind (arith, take_more xs i d below, map-append said (take i xs) (get_or xs i d ∷ []))
 
 pub not_true : (b : Bool) → not b ≡ true → b ≡ false
 not_true b h1 = grind arith

@@ -1,6 +1,6 @@
 -- The lists of a section, one after another.
-use Rattle.std.proofs.Common.{◌≡◌, ◌==◌, ℕ, false, List, [], ◌∷◌, ◌++◌, codes, length, map, refl, sym, ap, ◌∙◌, append_assoc, append-nil, true≢false, arith}
-use Rattle.std.proofs.lemmas.Grind.{flat_map-append, fold-append}
+use Rattle.std.proofs.Common.{◌≡◌, ◌==◌, ℕ, false, List, [], ◌∷◌, ◌++◌, codes, length, map, sym, ap, ◌∙◌, append_assoc, append-nil, true≢false, arith}
+use Rattle.std.proofs.lemmas.Grind.{flat_map-append, fold-append, common_steps}
 use Rattle.web_page.specs.Reader.{Draft, with_start}
 use Rattle.web_page.specs.Calls.{with_end}
 use Rattle.web_page.specs.declared.elements.Element.TheVariants.{Dl, Heading}
@@ -17,7 +17,7 @@ use Rattle.description_parts.specs.declared.levels.Group.{Group, out-Group}
 use Rattle.description_parts.proofs.Views.{open-Group, open-Level}
 use Rattle.description.specs.WebPages.Entries.{EntrySaid, each_once}
 use Rattle.description.specs.WebPages.Events.{text_in, with_events}
-use Rattle.description.specs.WebPages.Lists.{ListSaid, all_groups, choice_entries, command_entries, entries_events, entries_of, group_lists, list_events, lists_events, named_list, option_entries, own_lists, placed_list, section_lists, value_entries}
+use Rattle.description.specs.WebPages.Lists.{ListSaid, choice_entries, command_entries, entries_events, entries_of, group_lists, list_events, lists_events, named_list, option_entries, own_lists, placed_list, section_lists, value_entries}
 use Rattle.description.proofs.Folded.{two_put}
 use Rattle.description.proofs.WebEvents.{inside_put}
 
@@ -63,20 +63,7 @@ pub own_put : {A : Type 0} (level : Level A) (help : List OptSaid) (path : List 
     → page1 ≡ with_events page (list_events path before (codes "Available positional items") e1) → before1 ≡ before ++ e1
     → page2 ≡ with_events page1 (list_events path before1 (codes "Available options") e2) → before2 ≡ before1 ++ e2
     → page3 ≡ with_events page2 (list_events path before2 (codes "Available commands") e3) → page3 ≡ with_events page (lists_events path before (own_lists help (level_said level)))
-own_put {A} level help path page page1 page2 page3 before before1 before2 e1 e2 e3 vs os cs ms iv io ic im h1 h2 h3 p1 b1 p2 b2 p3 =
-    let o = out-Level A level in
-    let l : List EntrySaid → ListSaid = λ es. record { title = codes "Available positional items"; entries = es } in
-    let m : List EntrySaid → ListSaid = λ es. record { title = codes "Available options"; entries = es } in
-    let n : List EntrySaid → ListSaid = λ es. record { title = codes "Available commands"; entries = es } in
-    let put : List ListSaid → Draft = λ ls. with_events page (lists_events path before ls) in
-    three_lists path page page1 page2 page3 before before1 before2 (l e1) (m e2) (n e3) p1 b1 p2 b2 p3
-    ∙ ap (λ es. put (l es ∷ m e2 ∷ n e3 ∷ [])) (h1 ∙ ap (λ xs. each_once (value_entries (map positional_said xs))) iv)
-    ∙ ap (λ es. put (l (each_once (value_entries (map positional_said o.positionals.items))) ∷ m es ∷ n e3 ∷ []))
-    (h2 ∙ ap (λ xs. each_once (option_entries (map opt_said xs) ++ choice_entries (map choice_said cs) ++ option_entries help)) io
-    ∙ ap (λ xs. each_once (option_entries (map opt_said o.options.items) ++ choice_entries (map choice_said xs) ++ option_entries help)) ic)
-    ∙ ap (λ es. put (l (each_once (value_entries (map positional_said o.positionals.items))) ∷ m (each_once (option_entries (map opt_said o.options.items) ++ choice_entries (map choice_said o.choices.items) ++ option_entries help)) ∷ n es ∷ []))
-    (h3 ∙ ap (λ xs. each_once (command_entries (commands_said xs))) im)
-    ∙ sym (ap (λ x. put (own_lists help x)) (open-Level level))
+own_put {A} level help path page page1 page2 page3 before before1 before2 e1 e2 e3 vs os cs ms iv io ic im h1 h2 h3 p1 b1 p2 b2 p3 = grind (arith, common_steps, three_lists path page page1 page2 page3 before before1 before2, open-Level level)
 
 -- all lists of a level
 pub level_lists_put : {A : Type 0} (level : Level A) (help : List OptSaid) (path : List (List ℕ)) (page page1 page2 page3 : Draft) (before0 before1 before2 : List EntrySaid) (gs hs : List (Group A))
@@ -84,18 +71,7 @@ pub level_lists_put : {A : Type 0} (level : Level A) (help : List OptSaid) (path
     → page1 ≡ with_events page (lists_events path before0 (group_lists named_list (groups_said gs))) → before1 ≡ before0 ++ entries_of (group_lists named_list (groups_said gs))
     → page2 ≡ with_events page1 (lists_events path before1 (group_lists placed_list (groups_said hs))) → before2 ≡ before1 ++ entries_of (group_lists placed_list (groups_said hs))
     → page3 ≡ with_events page2 (lists_events path before2 (own_lists help (level_said level))) → page3 ≡ with_events page (lists_events path [] (section_lists help (level_said level)))
-level_lists_put {A} level help path page page1 page2 page3 before0 before1 before2 gs hs ig ih none e1 f1 e2 f2 e3 =
-    let named : List ListSaid = group_lists named_list (groups_said gs) in
-    let placed : List ListSaid = group_lists placed_list (groups_said hs) in
-    let own : List ListSaid = own_lists help (level_said level) in
-    let groups_put : page2 ≡ with_events page (lists_events path before0 (named ++ placed)) = e2 ∙ lists_put path page page1 (with_events page (lists_events path before0 (named ++ placed))) before0 before1 named placed e1 f1 refl in
-    let all_entries : before2 ≡ before0 ++ entries_of (named ++ placed) =
-    f2 ∙ ap (λ es. es ++ entries_of placed) f1 ∙ append_assoc before0 (entries_of named) (entries_of placed) ∙ ap (λ es. before0 ++ es) (sym (flat_map-append (λ (l : ListSaid). l.entries) named placed)) in
-    e3 ∙ lists_put path page page2 (with_events page (lists_events path before0 ((named ++ placed) ++ own))) before0 before2 (named ++ placed) own groups_put all_entries refl
-    ∙ ap (λ bs. with_events page (lists_events path bs ((named ++ placed) ++ own))) none
-    ∙ ap (λ xs. with_events page (lists_events path [] ((group_lists named_list (groups_said xs) ++ placed) ++ own))) ig
-    ∙ ap (λ xs. with_events page (lists_events path [] ((group_lists named_list (groups_said (out-Level A level).groups.items) ++ group_lists placed_list (groups_said xs)) ++ own))) ih
-    ∙ sym (ap (λ xs. with_events page (lists_events path [] ((group_lists named_list xs ++ group_lists placed_list xs) ++ own))) (ap all_groups (open-Level level)))
+level_lists_put {A} level help path page page1 page2 page3 before0 before1 before2 gs hs ig ih none e1 f1 e2 f2 e3 = grind (arith, lists_put path page page1, append_assoc before0, flat_map-append, lists_put path page page2, open-Level level)
 
 -- one list
 pub list_put : {X : Type 0} (said : X → EntrySaid) (xs : List X) (path : List (List ℕ)) (d0 d1 d2 d3 d4 : Draft) (before : List EntrySaid) (title : List ℕ) → (length xs == 0) ≡ false → d1 ≡ with_events d0 (text_in (Heading Three) title)

@@ -3,7 +3,7 @@ use Rattle.std.specs.Prelude.{◌||◌}
 use Rattle.std.proofs.Common.{◌≡◌, ℕ, ◌+◌, ◌<◌, drop, get_or, length, append_assoc, Bool, true, false, List, [], ◌∷◌, ◌++◌, codes, flat_map, map, refl, sym, ap, ◌∙◌, arith}
 use Rattle.std.specs.List.{join_by, join_with_byte}
 use Rattle.bpaf_help.proofs.Steps.{joined_writes}
-use Rattle.std.proofs.lemmas.Grind.{flat_map-append}
+use Rattle.std.proofs.lemmas.Grind.{flat_map-append, common_steps}
 use Rattle.web_page.specs.Reader.{Draft, with_start}
 use Rattle.web_page.specs.Calls.{with_end}
 use Rattle.web_page.specs.declared.elements.Element.TheVariants.{Heading, Li, Ul}
@@ -20,7 +20,7 @@ use Rattle.description.specs.Content.{DescriptionSaid}
 use Rattle.description.specs.Subjects.{SubjectSaid, application, below}
 use Rattle.description.specs.Trees.{hold_commands, show_command}
 use Rattle.description.specs.WebPages.{header_events, main_of, nav_of, page_events}
-use Rattle.description.specs.WebPages.Events.{Event, text_in, with_event, with_events}
+use Rattle.description.specs.WebPages.Events.{Event, text_in, with_events}
 use Rattle.description.specs.WebPages.Sections.{command_links, command_section, commands_links, heading_events, group_links, groups_links, level_links, link_to, listed_links, shows_commands}
 use Rattle.description.proofs.Folded.{one_put, two_put}
 use Rattle.description.proofs.WebEvents.{inside_put}
@@ -48,8 +48,7 @@ module _ {A : Type 0} (s : SubjectSaid) where
 pub group_sections : {A : Type 0} (s : SubjectSaid) (gs : List (Group A)) (i : ℕ) (before : Draft) (g d : Group A) {after whole : Draft} → g ≡ get_or gs i d → i < length gs
     → with_events before (flat_map command_section (below_groups s (groups_said (drop i gs)))) ≡ whole → after ≡ with_events before (flat_map command_section (below_commands s (commands_said (out-Group A g).commands.items)))
     → with_events after (flat_map command_section (below_groups s (groups_said (drop (i + 1) gs)))) ≡ whole
-group_sections {A} s gs i before g d at l so_far e =
-    one_put with_event (λ x. flat_map command_section (below_commands s (commands_said (out-Group A x).commands.items))) (λ xs. flat_map command_section (below_groups s (groups_said xs))) gs i before (groups_more s) g d at l so_far e
+group_sections {A} s gs i before g d at l so_far e = grind (arith, common_steps, one_put, groups_more)
 
 -- of a subject, and then of what is below it
 pub all_sections : (s : SubjectSaid) (l : LevelSaid) (d0 d1 d2 : Draft) → s.level ≡ l → d1 ≡ with_events d0 (command_section s) → d2 ≡ with_events d1 (flat_map command_section (below_level s l)) → d2 ≡ with_events d0 (flat_map command_section (all_from s))
@@ -90,8 +89,7 @@ level_shows l a b gs ms ig im e f = grind (arith, open-Level)
 
 pub group_links_put : {A : Type 0} (path : List (List ℕ)) (gs : List (Group A)) (i : ℕ) (before : Draft) (g d : Group A) {after whole : Draft} → g ≡ get_or gs i d → i < length gs
     → with_events before (groups_links path (groups_said (drop i gs))) ≡ whole → after ≡ with_events before (commands_links path (commands_said (out-Group A g).commands.items)) → with_events after (groups_links path (groups_said (drop (i + 1) gs))) ≡ whole
-group_links_put {A} path gs i before g d at l so_far e =
-    one_put with_event (λ x. commands_links path (commands_said (out-Group A x).commands.items)) (λ xs. groups_links path (groups_said xs)) gs i before (group_links_more path) g d at l so_far e
+group_links_put {A} path gs i before g d at l so_far e = grind (arith, common_steps, one_put, group_links_more)
 
 -- ---- the page
 

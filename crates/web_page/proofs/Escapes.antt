@@ -41,42 +41,19 @@ signed_character v c text h e = ap (escaped v) (encode_ascii c h) ∙ append-nil
 
 -- what stands for a text and its next byte
 escaped_more : (v : Bool) (text : List ℕ) (at : ℕ) → at < length text → escaped v (take (at + 1) text) ≡ escaped v (take at text) ++ escaped_byte v (get_or text at 0)
-escaped_more v text at h =
-    ap (escaped v) (take_more text at 0 h)
-    ∙ flat_map-append (escaped_byte v) (take at text) (get_or text at 0 ∷ [])
-    ∙ ap (λ x. escaped v (take at text) ++ x) (append-nil (escaped_byte v (get_or text at 0)))
+escaped_more v text at h = grind (arith, take_more text at 0 h, flat_map-append (escaped_byte v) (take at text) (get_or text at 0 ∷ []), append-nil (escaped_byte v (get_or text at 0)))
 
 -- the next byte of what lies behind a place
 run_more : (text : List ℕ) (start at : ℕ) → start ≤ at → at < length text → take (at + 1 - start) (drop start text) ≡ take (at - start) (drop start text) ++ get_or text at 0 ∷ []
-run_more text start at le h =
-    let within : at - start < length (drop start text) = omega (arith, length-drop start text) in
-    let one : at + 1 - start ≡ (at - start) + 1 = omega arith in
-    let there : start + (at - start) ≡ at = omega arith in
-    ap (λ n. take n (drop start text)) one
-    ∙ take_more (drop start text) (at - start) 0 within
-    ∙ ap (λ b. take (at - start) (drop start text) ++ b ∷ []) (get_or-drop start text (at - start) 0 ∙ ap (λ n. get_or text n 0) there)
+run_more text start at le h = grind (arith, length-drop start text, take_more (drop start text) (at - start) 0, get_or-drop start text (at - start) 0)
 
 -- a step over a byte that stands for itself
 pub plain_next : (v : Bool) (text out first : List ℕ) (start at : ℕ) → start ≤ at → at < length text → escaped_byte v (get_or text at 0) ≡ get_or text at 0 ∷ [] → out ++ take (at - start) (drop start text) ≡ first ++ escaped v (take at text) → out ++ take (at + 1 - start) (drop start text) ≡ first ++ escaped v (take (at + 1) text)
-plain_next v text out first start at le h e w =
-    ap (λ x. out ++ x) (run_more text start at le h)
-    ∙ sym (append_assoc out (take (at - start) (drop start text)) (get_or text at 0 ∷ []))
-    ∙ ap (λ x. x ++ get_or text at 0 ∷ []) w
-    ∙ append_assoc first (escaped v (take at text)) (get_or text at 0 ∷ [])
-    ∙ ap (λ x. first ++ (escaped v (take at text) ++ x)) (sym e)
-    ∙ ap (λ x. first ++ x) (sym (escaped_more v text at h))
+plain_next v text out first start at le h e w = grind (arith, run_more text start at le h, append_assoc out (take (at - start) (drop start text)) (get_or text at 0 ∷ []), append_assoc first (escaped v (take at text)) (get_or text at 0 ∷ []), escaped_more v text at h)
 
 -- a step over one that something else stands for
 pub named_next : (v : Bool) (text out first more new name : List ℕ) (start at : ℕ) → at < length text → escaped_byte v (get_or text at 0) ≡ name → more ≡ out ++ take (at - start) (drop start text) → new ≡ more ++ name → out ++ take (at - start) (drop start text) ≡ first ++ escaped v (take at text) → new ++ take (at + 1 - (at + 1)) (drop (at + 1) text) ≡ first ++ escaped v (take (at + 1) text)
-named_next v text out first more new name start at h e m n w =
-    let none : at + 1 - (at + 1) ≡ 0 = omega arith in
-    ap (λ k. new ++ take k (drop (at + 1) text)) none
-    ∙ append-nil new
-    ∙ n
-    ∙ ap (λ x. x ++ name) (m ∙ w)
-    ∙ append_assoc first (escaped v (take at text)) name
-    ∙ ap (λ x. first ++ (escaped v (take at text) ++ x)) (sym e)
-    ∙ ap (λ x. first ++ x) (sym (escaped_more v text at h))
+named_next v text out first more new name start at h e m n w = grind (arith, append-nil new, append_assoc first (escaped v (take at text)) name, escaped_more v text at h)
 
 pub extends_more : (first old new more : List ℕ) → Extends first old → new ≡ old ++ more → Extends first new
 extends_more first old new more h e = (h.0 ++ more, e ∙ ap (λ x. x ++ more) h.1 ∙ append_assoc first h.0 more)

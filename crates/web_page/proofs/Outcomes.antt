@@ -113,9 +113,7 @@ around_last (x ∷ list) first = refl
 -- a list has an element around just where it is not empty
 pub around_by : (old : List Open) → is_around (reverse old) ≡ not (length old == 0)
 around_by [] = refl
-around_by (first ∷ old) =
-    let some : (length (first ∷ old) == 0) ≡ false = ne_eqb (length (first ∷ old)) 0 (omega arith) in
-    ap is_around (reverse-append (first ∷ []) old) ∙ around_last (reverse old) first ∙ sym (ap not some)
+around_by (first ∷ old) = grind (arith, ne_eqb (length (first ∷ old)) 0 (omega arith), reverse-append (first ∷ []) old, around_last (reverse old) first)
 
 pub empty_is : (old : List Open) → (length old == 0) ≡ true → old ≡ []
 empty_is [] h = refl

@@ -7,8 +7,8 @@ use Rattle.std.proofs.lemmas.Str.{is_utf8-from_IsUtf8}
 use Rattle.web_page.specs.Tree.{Attribute, Nodes, none, element}
 use Rattle.web_page.specs.Reader.{Draft, Frame, Opening, Reading, Content, Raw, RawSign, Value, are_kept, begin, is_kept, is_permitted, no_draft, read, reading, reading_of, settled}
 use Rattle.web_page.specs.Models.{IsPage, are_fit, are_in_order, is_ink, is_language, last_child, may_end}
-use Rattle.web_page.specs.Calls.{are_written, attribute, has_end_sign, head_content, new_page, text_element, whole_page, with_end_in, with_words}
-use Rattle.web_page.specs.Exact.{end_text, escaped, page_end, page_front}
+use Rattle.web_page.specs.Calls.{are_written, attribute, has_end_sign, new_page, text_element, whole_page, with_end_in, with_words}
+use Rattle.web_page.specs.Exact.{escaped, page_end, page_front}
 use Rattle.web_page.proofs.Nodes.{are_fit-with_words, are_in_order-with_words, are_kept-with_words, has_ink-with_words}
 use Rattle.web_page.proofs.Readings.{end_reads, run, run_then, style_reads, text_reads, value_reads}
 use Rattle.web_page.proofs.Settles.{settles}
@@ -59,8 +59,7 @@ style_in_order : (style : List ℕ) → are_in_order Style None (with_words none
 style_in_order style = are_in_order-with_words Style None none style refl refl
 
 to_style : (language title : List ℕ) → list_all is_kept title ≡ true → run (reading Content (Some (in_title language (with_words none title)))) (codes "</title><style>") ≡ reading Raw (Some (in_style language title none))
-to_style language title k =
-    run_then (reading Content (Some (in_title language (with_words none title)))) (reading Content (Some (with_end_in (title_frame ∷ head_frame ∷ html_frame language ∷ []) (with_words none title)))) _ (codes "</title>") (codes "<style>") (end_reads title_frame (head_frame ∷ html_frame language ∷ []) (with_words none title) (words_settle Title title (title_in_order title) k)) refl
+to_style language title k = grind (arith, run_then (reading Content (Some (in_title language (with_words none title)))), end_reads title_frame (head_frame ∷ html_frame language ∷ []) (with_words none title), words_settle Title title, title_in_order title)
 
 style_ends : (language title : List ℕ) (nodes : Nodes) → settled Style nodes ≡ Some nodes
     → run (reading RawSign (Some (in_style language title nodes))) (codes "/style>") ≡ reading Content (Some (with_end_in (style_frame title ∷ head_frame ∷ html_frame language ∷ []) nodes))
@@ -110,10 +109,7 @@ body_draft language title style nodes = record { open_elements = (new_page langu
 
 pub end_of_page : (language title style : List ℕ) (nodes : Nodes) → are_in_order Body None nodes ≡ true → are_kept nodes ≡ true
     → run (reading Content (Some (body_draft language title style nodes))) page_end ≡ reading Content (Some (record { open_elements = []; nodes = whole_page (body_draft language title style nodes) }))
-end_of_page language title style nodes o k =
-    run_then (reading Content (Some (body_draft language title style nodes))) (reading Content (Some (with_end_in (new_page language title style).open_elements nodes))) _ (end_text Body) (end_text Html)
-    (end_reads (record { tag = Body; attributes = []; before = element Head [] (head_content title style) none }) (html_frame language ∷ []) nodes (settles Body nodes o k))
-    (end_reads (html_frame language) [] (element Head [] (head_content title style) (element Body [] nodes none)) refl)
+end_of_page language title style nodes o k = grind (arith, run_then (reading Content (Some (body_draft language title style nodes))), end_reads, settles Body nodes o k, end_reads (html_frame language))
 
 pub is_whole_text : (bytes : List ℕ) (language title style : List ℕ) (nodes : Nodes) → IsUtf8 bytes → list_all is_permitted (chars bytes) ≡ true
     → reading_of bytes ≡ reading Content (Some (record { open_elements = []; nodes = whole_page (body_draft language title style nodes) }))

@@ -63,19 +63,11 @@ kept_characters (c ∷ cs) h =
     ∙ and_from (list_all is_kept (encode_utf8 c)) (list_all is_kept (encode_utf8_all cs)) (kept_bytes (encode_utf8 c) (λ k g. other_byte c 13 k (omega arith) (not_return c p.0) g)) (kept_characters cs p.1)
 
 clean_character : (c : ℕ) → scalar c ≡ true → is_written c ≡ true → IsClean (encode_utf8 c)
-clean_character c s w =
-    let one : scalars (c ∷ []) ≡ true = and_from (scalar c) true s refl in
-    let is : chars (encode_utf8 c) ≡ c ∷ [] = ap chars (sym (append-nil (encode_utf8 c))) ∙ chars-encodes (c ∷ []) one in
-    record {
-      utf8 = IsUtf8-encode c s;
-      permitted = ap (list_all is_permitted) is ∙ and_from (is_permitted c) true (permitted c w) refl;
-    }
+clean_character c s w = grind (arith, and_from (scalar c) true s refl, append-nil (encode_utf8 c), chars-encodes (c ∷ []), IsUtf8-encode c, permitted, and_from (is_permitted c) true, permitted c w)
 
 -- a character that something else stands for
 clean_reference : (v : Bool) (c d : ℕ) (name : List ℕ) → c ≡ d → d < 128 → escaped_byte v d ≡ name → list_all is_ascii_byte name ≡ true → IsClean (escaped v (encode_utf8 c))
-clean_reference v c d name e small is h =
-    let same : escaped v (encode_utf8 c) ≡ name = ap (λ x. escaped v (encode_utf8 x)) e ∙ signed_character v d name small is in
-    subst IsClean (sym same) (clean-ascii name h)
+clean_reference v c d name e small is h = grind (arith, signed_character v d name small is, clean-ascii name h)
 
 clean_written : (v : Bool) (c : ℕ) → scalar c ≡ true → is_written c ≡ true → IsClean (escaped v (encode_utf8 c))
 clean_written v c s w =

@@ -1,5 +1,6 @@
 -- How the marks of an item list stand: each start before its stop, and no group in a group.
-use Rattle.std.proofs.Common.{◌≡◌, ℕ, ◌+◌, Bool, true, false, List, [], ◌∷◌, ◌++◌, refl, sym, ap, ◌∙◌, subst, arith}
+use Rattle.std.proofs.lemmas.Grind.{common_steps}
+use Rattle.std.proofs.Common.{◌≡◌, ℕ, ◌+◌, Bool, true, false, List, [], ◌∷◌, ◌++◌, refl, sym, subst, arith}
 use Rattle.std.specs.Prelude.{if◌then◌else◌, flat_map, count_by, Option, Some, None}
 use Rattle.bpaf_doc.specs.Buffer.Parts.{Part}
 use Rattle.bpaf_meta.specs.Content.{Tree, and_of, or_of, optional, required, adjacent, item, many, subsection, suffix, skip, custom_usage, strict, Trees, no_trees, tree, Leaf, positional}
@@ -83,14 +84,6 @@ plain_even e h1 = grind arith
 pub even : {g : Bool} {es : List Entry} → Blocks g es → starts_in es ≡ stops_in es
 even (none is) = rw is refl
 even (plain e is h) = rw is (plain_even e h)
-even (block t k inner is b) =
-    let same : starts_in inner ≡ stops_in inner = even b in
-    let starts : starts_in (adjacent_start t k ∷ (inner ++ adjacent_stop k ∷ [])) ≡ 1 + (starts_in inner + 0) = count-cons is_adjacent_start (adjacent_start t k) (inner ++ adjacent_stop k ∷ []) ∙ ap (λ n. 1 + n) (count-append is_adjacent_start inner (adjacent_stop k ∷ [])) in
-    let stops : stops_in (adjacent_start t k ∷ (inner ++ adjacent_stop k ∷ [])) ≡ 0 + (stops_in inner + 1) = count-cons is_adjacent_stop (adjacent_start t k) (inner ++ adjacent_stop k ∷ []) ∙ ap (λ n. 0 + n) (count-append is_adjacent_stop inner (adjacent_stop k ∷ [])) in
-    rw is (omega arith)
-even (grouped d k inner g is b) =
-    let same : starts_in inner ≡ stops_in inner = even b in
-    let starts : starts_in (group_start d k ∷ (inner ++ group_end k ∷ [])) ≡ 0 + (starts_in inner + 0) = count-cons is_adjacent_start (group_start d k) (inner ++ group_end k ∷ []) ∙ ap (λ n. 0 + n) (count-append is_adjacent_start inner (group_end k ∷ [])) in
-    let stops : stops_in (group_start d k ∷ (inner ++ group_end k ∷ [])) ≡ 0 + (stops_in inner + 0) = count-cons is_adjacent_stop (group_start d k) (inner ++ group_end k ∷ []) ∙ ap (λ n. 0 + n) (count-append is_adjacent_stop inner (group_end k ∷ [])) in
-    rw is (omega arith)
+even (block t k inner is b) = grind (arith, common_steps, even b, count-cons, count-append)
+even (grouped d k inner g is b) = grind (arith, common_steps, even b, count-cons, count-append)
 even (joined front back is b c) = grind (arith, even b, even c, count-append)

@@ -1,10 +1,11 @@
 -- Under a heading falls what the walk over the entries outside groups gives.
+use Rattle.std.proofs.lemmas.Grind.{common_steps}
 use Rattle.std.proofs.Common.{◌≡◌, Bool, true, false, not, List, [], ◌∷◌, ◌++◌, map, refl, sym, ap, ◌∙◌, append-nil, arith}
-use Rattle.std.specs.Prelude.{if◌then◌else◌, filter, Option, Some, None}
+use Rattle.std.specs.Prelude.{filter, Option, Some, None}
 use Rattle.std.specs.List.{last_or}
 use Rattle.bpaf_items.specs.declared.meta_help.entry.HiTy.{HiTy}
 use Rattle.bpaf_items.specs.Listing.ItemList.{Entry, group_start, adjacent_start}
-use Rattle.bpaf_items.specs.Listing.Falls.{same_type, Placed, placed, placed_after, is_adjacent_mark, is_mark, is_in_group, type_of, last_that, outside_groups, heading, heading_after, group_destination, heading_destination, destination, is_heading, is_given_after, is_given}
+use Rattle.bpaf_items.specs.Listing.Falls.{Placed, placed_after, is_adjacent_mark, is_mark, is_in_group, last_that, outside_groups, heading_after, group_destination, heading_destination, destination, is_heading, is_given_after, is_given}
 use Rattle.bpaf_items.specs.Listing.ListLaws.{HeadingsAgree}
 use Rattle.bpaf_items.proofs.Listing.Placing.{entry, two_kept, outside_groups-push}
 
@@ -31,16 +32,7 @@ after_mark (Some (group_start d j)) k e h = let no : is_adjacent_mark (group_sta
 after_mark o k e h = refl
 
 falls_as_given : (before : List Entry) (k : HiTy) (e : Entry) → is_heading k (heading_destination (before, e)) ≡ is_given k (outside_groups before, e)
-falls_as_given before k e = by (is_mark e) where
-  front : List Entry
-  front = outside_groups before
-
-  alike : last_that is_mark front ≡ last_that is_adjacent_mark front
-  alike = ap (last_or None) (marks_alike (placed before))
-
-  by : (b : Bool) → is_heading k (if b then heading (type_of e) else heading_after (last_that is_adjacent_mark front) e) ≡ (if b then same_type (type_of e) k else is_given_after (last_that is_mark front) k e)
-  by true = refl
-  by false = after_mark (last_that is_adjacent_mark front) k e (λ f is. last_passes is_adjacent_mark front f is) ∙ ap (λ o. is_given_after o k e) (sym alike)
+falls_as_given before k e = grind (arith, common_steps, marks_alike, after_mark, last_passes)
 
 -- no entry of a group falls under a heading
 pub group_no_heading : (k : HiTy) (p : Placed) → is_heading k (group_destination p) ≡ false

@@ -21,17 +21,13 @@ option_is : {X : Type 0} (same : X → X → Bool) → ((x y : X) → same x y �
 option_is same h1 h2 h3 h4 = grind arith
 
 pub text_is : (xs ys : List ℕ) → same_text xs ys ≡ true → xs ≡ ys
-text_is (x ∷ xs) (y ∷ ys) h = grind (arith, text_is xs ys, pair, nat_eq, eqb-true)
+text_is (x ∷ xs) (y ∷ ys) h = grind (arith, text_is xs ys, pair, eqb-true)
 text_is z u h = grind arith
 
 name_is : (n m : Name) → same_name n m ≡ true → n ≡ m
 name_is (short c) (short d) h = let t = pair (nat_eq c d) true h in ap short (eqb-true c d t.0)
 name_is (long n) (long m) h = ap long (text_is n m h)
-name_is (both c n) (both d m) h =
-    let t = pair (nat_eq c d) (same_text n m) h in
-    let initial : c ≡ d = eqb-true c d t.0 in
-    let text : n ≡ m = text_is n m t.1 in
-    cc
+name_is (both c n) (both d m) h = grind (arith, pair (nat_eq c d) (same_text n m) h, eqb-true c d, text_is n m)
 name_is x y h = cc
 
 document_is : (d e : List Part) → same_document d e ≡ true → d ≡ e
@@ -41,28 +37,10 @@ help_is : (h i : Option (List Part)) → same_help h i ≡ true → h ≡ i
 help_is = option_is same_document document_is
 
 key_is : (k l : Key) → same_key k l ≡ true → k ≡ l
-key_is (any_key m h) (any_key n i) e =
-    let t = pair (same_document m n) (same_help h i) e in
-    let document : m ≡ n = document_is m n t.0 in
-    let help : h ≡ i = help_is h i t.1 in
-    cc
-key_is (word_key m h) (word_key n i) e =
-    let t = pair (same_text m n) (same_help h i) e in
-    let text : m ≡ n = text_is m n t.0 in
-    let help : h ≡ i = help_is h i t.1 in
-    cc
-key_is (flag_key m h) (flag_key n i) e =
-    let t = pair (same_name m n) (same_help h i) e in
-    let name : m ≡ n = name_is m n t.0 in
-    let help : h ≡ i = help_is h i t.1 in
-    cc
-key_is (argument_key m v h) (argument_key n w i) e =
-    let t = pair (same_name m n) (same_text v w && same_help h i) e in
-    let u = pair (same_text v w) (same_help h i) t.1 in
-    let name : m ≡ n = name_is m n t.0 in
-    let text : v ≡ w = text_is v w u.0 in
-    let help : h ≡ i = help_is h i u.1 in
-    cc
+key_is (any_key m h) (any_key n i) e = grind (arith, pair (same_document m n) (same_help h i) e, document_is m n, help_is h i)
+key_is (word_key m h) (word_key n i) e = grind (arith, pair (same_text m n) (same_help h i) e, text_is m n, help_is h i)
+key_is (flag_key m h) (flag_key n i) e = grind (arith, pair (same_name m n) (same_help h i) e, name_is m n, help_is h i)
+key_is (argument_key m v h) (argument_key n w i) e = grind (arith, pair (same_name m n), pair (same_text v w) (same_help h i), name_is m n, text_is v w, help_is h i)
 key_is x y e = cc
 
 pub equality_of_keys : IsEqualityOfKeys

@@ -75,21 +75,7 @@ after_entry : (g : Bool) (before : List Entry) (e : Entry) → is_group_mark e �
     → stops_in before + stops ≤ starts_in before + starts
     → (is_group_open before ≡ false → is_block_open (before ++ e ∷ []) ≡ true → stops_in before + stops < starts_in before + starts)
     → Stands g (before ++ e ∷ [])
-after_entry g before e h s starts stops is_starts is_stops deep outer =
-    let not_start : is_group_start e ≡ false = (or_parts (is_group_start e) (is_group_end e) h).0 in
-    let a : starts_in (before ++ e ∷ []) ≡ starts_in before + starts = count-push is_adjacent_start before e ∙ ap (λ n. starts_in before + n) is_starts in
-    let z : stops_in (before ++ e ∷ []) ≡ stops_in before + stops = count-push is_adjacent_stop before e ∙ ap (λ n. stops_in before + n) is_stops in
-    let since_a : since_start is_adjacent_start (before ++ e ∷ []) ≡ since_start is_adjacent_start before + starts
-    = since_start-push is_adjacent_start before e ∙ ap (λ b. if b then 0 else since_start is_adjacent_start before + (if is_adjacent_start e then 1 else 0)) not_start ∙ ap (λ n. since_start is_adjacent_start before + n) is_starts in
-    let since_z : since_start is_adjacent_stop (before ++ e ∷ []) ≡ since_start is_adjacent_stop before + stops
-    = since_start-push is_adjacent_stop before e ∙ ap (λ b. if b then 0 else since_start is_adjacent_stop before + (if is_adjacent_stop e then 1 else 0)) not_start ∙ ap (λ n. since_start is_adjacent_stop before + n) is_stops in
-    let still : is_group_open (before ++ e ∷ []) ≡ is_group_open before = open-push before e ∙ ap (λ b. if b then is_group_start e else is_group_open before) h in
-    let old : since_start is_adjacent_start before + stops_in before ≤ since_start is_adjacent_stop before + starts_in before = s.fits.since in
-    record {
-      deep = rw (a, z) deep;
-      fits = record { since = rw (a, z, since_a, since_z) (omega arith); outer = λ o b. rw (a, z) (outer (sym still ∙ o) b) };
-      inside = still ∙ s.inside;
-    }
+after_entry g before e h s starts stops is_starts is_stops deep outer = grind (arith, or_parts (is_group_start e) (is_group_end e) h, count-push is_adjacent_start before e, count-push is_adjacent_stop before e, since_start-push is_adjacent_start before e, since_start-push is_adjacent_stop before e, open-push before e)
 
 in_group_here : (before : List Entry) (e : Entry) → is_group_mark e ≡ false → is_in_group (before, e) ≡ is_group_open before
 in_group_here before e h = rw h refl
@@ -98,27 +84,16 @@ single : (g : Bool) (before : List Entry) (e : Entry) → is_group_mark e ≡ fa
 single g before e h s t = grind (arith, one_falls, inside-push, in_group_here)
 
 after_start : (g : Bool) (before : List Entry) (t : Tree) (k : HiTy) → Stands g before → Stands g (before ++ adjacent_start t k ∷ [])
-after_start g before t k s =
-    let deep : stops_in before ≤ starts_in before = s.deep in
-    after_entry g before (adjacent_start t k) refl s 1 0 refl refl (omega arith) (λ o b. omega arith)
+after_start g before t k s = grind (arith, after_entry g before (adjacent_start t k) refl s 1 0 refl refl (omega arith))
 
 after_stop : (g : Bool) (before : List Entry) (k : HiTy) → Stands g before → stops_in before < starts_in before → Stands g (before ++ adjacent_stop k ∷ [])
-after_stop g before k s less =
-    after_entry g before (adjacent_stop k) refl s 0 1 refl refl (omega arith)
-    (λ o b. let shut : is_block_open (before ++ adjacent_stop k ∷ []) ≡ false = block_open-push before (adjacent_stop k) (in_group_here before (adjacent_stop k) refl ∙ o) in cc)
+after_stop g before k s less = grind (arith, after_entry g before (adjacent_stop k) refl s 0 1 refl refl (omega arith), block_open-push before (adjacent_stop k), in_group_here before (adjacent_stop k) refl)
 
 no_group_mark : (e : Entry) → is_mark e ≡ false → is_group_mark e ≡ false
 no_group_mark e h = (or_parts (is_group_mark e) (is_adjacent_mark e) h).0
 
 after_plain : (g : Bool) (before : List Entry) (e : Entry) → is_mark e ≡ false → Stands g before → Stands g (before ++ e ∷ [])
-after_plain g before e h s =
-    let deep : stops_in before ≤ starts_in before = s.deep in
-    let unmarked : is_adjacent_mark e ≡ false = (or_parts (is_group_mark e) (is_adjacent_mark e) h).1 in
-    let neither = or_parts (is_adjacent_start e) (is_adjacent_stop e) unmarked in
-    let still : is_group_open before ≡ false → is_block_open (before ++ e ∷ []) ≡ is_block_open before
-    = λ o. block_open-push before e (in_group_here before e (no_group_mark e h) ∙ o) ∙ ap (λ b. if b then is_adjacent_start e else is_block_open before) unmarked in
-    after_entry g before e (no_group_mark e h) s 0 0 (ap (λ b. if b then 1 else 0) neither.0) (ap (λ b. if b then 1 else 0) neither.1) (omega arith)
-    (λ o b. let less : stops_in before < starts_in before = s.fits.outer o (sym (still o) ∙ b) in omega arith)
+after_plain g before e h s = grind (arith, or_parts (is_group_mark e) (is_adjacent_mark e) h, or_parts (is_adjacent_start e) (is_adjacent_stop e), block_open-push before e, in_group_here before e, no_group_mark e h, after_entry g before e)
 
 -- one after the other
 go_on : (g : Bool) (before es fs : List Entry) → Goes g before es → Goes g (before ++ es) fs → Goes g before (es ++ fs)
@@ -126,35 +101,10 @@ go_on g before es fs f h = grind (arith, append_assoc, join_falls)
 
 -- a group opens, and closes as it opened
 after_group_start : (before : List Entry) (d : List Part) (k : HiTy) → Stands true before → Stands false (before ++ group_start d k ∷ [])
-after_group_start before d k s =
-    let e : Entry = group_start d k in
-    let deep : stops_in before ≤ starts_in before = s.deep in
-    let a : starts_in (before ++ e ∷ []) ≡ starts_in before + 0 = count-push is_adjacent_start before e in
-    let z : stops_in (before ++ e ∷ []) ≡ stops_in before + 0 = count-push is_adjacent_stop before e in
-    let since_a : since_start is_adjacent_start (before ++ e ∷ []) ≡ 0 = since_start-push is_adjacent_start before e in
-    let since_z : since_start is_adjacent_stop (before ++ e ∷ []) ≡ 0 = since_start-push is_adjacent_stop before e in
-    let opened : is_group_open (before ++ e ∷ []) ≡ true = open-push before e in
-    record { deep = rw (a, z) (omega arith); fits = record { since = rw (a, z, since_a, since_z) (omega arith); outer = λ o b. cc }; inside = opened }
+after_group_start before d k s = grind (arith, count-push is_adjacent_start before, count-push is_adjacent_stop before, since_start-push is_adjacent_start before, since_start-push is_adjacent_stop before, open-push before)
 
 after_group_end : (before : List Entry) (k : HiTy) → Stands false before → (is_block_open before ≡ true → stops_in before < starts_in before) → Stands true (before ++ group_end k ∷ [])
-after_group_end before k s outer =
-    let e : Entry = group_end k in
-    let deep : stops_in before ≤ starts_in before = s.deep in
-    let a : starts_in (before ++ e ∷ []) ≡ starts_in before + 0 = count-push is_adjacent_start before e in
-    let z : stops_in (before ++ e ∷ []) ≡ stops_in before + 0 = count-push is_adjacent_stop before e in
-    let since_a : since_start is_adjacent_start (before ++ e ∷ []) ≡ since_start is_adjacent_start before + 0 = since_start-push is_adjacent_start before e in
-    let since_z : since_start is_adjacent_stop (before ++ e ∷ []) ≡ since_start is_adjacent_stop before + 0 = since_start-push is_adjacent_stop before e in
-    let old : since_start is_adjacent_start before + stops_in before ≤ since_start is_adjacent_stop before + starts_in before = s.fits.since in
-    let closed : is_group_open (before ++ e ∷ []) ≡ false = open-push before e in
-    let same : outside_groups (before ++ e ∷ []) ≡ outside_groups before = inside-push before e refl in
-    record {
-      deep = rw (a, z) (omega arith);
-      fits = record {
-        since = rw (a, z, since_a, since_z) (omega arith);
-        outer = λ o b. let less : stops_in before < starts_in before = outer (ap (λ fs. option_map_or is_adjacent_start (last_that is_adjacent_mark fs) false) (sym same) ∙ b) in rw (a, z) (omega arith);
-      };
-      inside = closed;
-    }
+after_group_end before k s outer = grind (arith, count-push is_adjacent_start before, count-push is_adjacent_stop before, since_start-push is_adjacent_start before, since_start-push is_adjacent_stop before, open-push before, inside-push before)
 
 group_goes : (before : List Entry) (d : List Part) (k : HiTy) (inner : List Entry) → Stands true before → starts_in inner ≡ stops_in inner → Goes false (before ++ group_start d k ∷ []) inner
     → Goes true before (group_start d k ∷ (inner ++ group_end k ∷ []))
@@ -188,9 +138,7 @@ goes {g} (block t k inner is b) before s =
     rw is
     (go_on g before (adjacent_start t k ∷ []) (inner ++ adjacent_stop k ∷ []) (single g before (adjacent_start t k) refl s opened)
     (go_on g (before ++ adjacent_start t k ∷ []) inner (adjacent_stop k ∷ []) held (single g ((before ++ adjacent_start t k ∷ []) ++ inner) (adjacent_stop k) refl held.stands stopped)))
-goes {g} (grouped d k inner is_true is b) before s =
-    let at_true : Stands true before = subst (λ h. Stands h before) is_true s in
-    rw (is, is_true) (group_goes before d k inner at_true (even b) (goes b (before ++ group_start d k ∷ []) (after_group_start before d k at_true)))
+goes {g} (grouped d k inner is_true is b) before s = grind (arith, goes b (before ++ group_start d k ∷ []), group_goes before d k inner, even b, after_group_start before d k)
 goes {g} (joined front back is b c) before s =
     let first : Goes g before front = goes b before s in
     rw is (go_on g before front back first (goes c (before ++ front) first.stands))

@@ -163,12 +163,7 @@ module _ (front : List Entry) (d : List Part) (j k : HiTy) (inner back : List En
   first_members = grind (arith, front, inner, none_front, number_inner, members_all, later_none, paired, closed_after, append-nil, group_of_own, kept_here)
 
   pub other_members : (n : ℕ) → group_members all (n + 2) ≡ group_members (front ++ back) (n + 1)
-  other_members n =
-      let c : count_by is_group_start after ≡ count_by is_group_start front + 1 = number_inner front d j k inner clear in
-      let two : n + 2 ≡ (n + 1) + 1 = omega arith in
-      let other : (n + 2 == number front d j k inner clear) ≡ false = let z : count_by is_group_start front ≡ 0 = none_front in ne_eqb (n + 2) (count_by is_group_start front + 1) (λ e. omega arith) in
-      members_all (n + 2) ∙ ap (λ xs. xs ++ members_after after back (n + 2)) (group_of_other front d j k inner clear (n + 2) other) ∙ ap (members_after after back) two ∙ shifted paired after front (n + 1) (closed_after front d j k inner clear) closed_front c
-      ∙ sym (members_after-append [] front back (n + 1) ∙ ap (λ xs. xs ++ members_after front back (n + 1)) (none_outside [] front (n + 1) clear_front refl))
+  other_members n = grind (arith, number_inner front d j k inner clear, none_front, ne_eqb (n + 2) (count_by is_group_start front + 1), members_all (n + 2), group_of_other front d j k inner clear (n + 2), shifted paired after front (n + 1), closed_after front d j k inner clear, closed_front, members_after-append, none_outside)
 
   pub outside_all_but : outside_groups all ≡ outside_groups (front ++ back)
   outside_all_but = grind (arith, outside_after-append, front, inner, back, outside_none, open-push, outside_alike, closed_after, closed_front)

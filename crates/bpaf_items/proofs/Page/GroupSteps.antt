@@ -45,9 +45,7 @@ module _ (e : Entry) (es : List Entry) (clear : is_group_mark e ≡ false) (pair
   none_before = count_same [] e clear
 
   members_behind : (n : ℕ) → members_after (e ∷ []) es n ≡ members_after [] es n
-  members_behind n =
-      sym (shifted paired whole_before (e ∷ []) n refl (open_same [] e clear) (ap (λ m. m + 1) (sym none_before)))
-      ∙ shifted paired whole_before [] n refl refl refl
+  members_behind n = grind (arith, shifted paired whole_before (e ∷ []) n refl, open_same, none_before, shifted paired whole_before)
 
   outer_members : (n : ℕ) → group_members (e ∷ es) n ≡ group_members es n
   outer_members n = grind (arith, outside_no_group, closed_outside, clear, members_behind)
@@ -99,10 +97,7 @@ module _ (d : List Part) (j k : HiTy) (inner rest : List Entry) (clear : HasNoGr
   listing = group_start d j ∷ (inner ++ group_end k ∷ rest)
 
   kept_rest : map entry (filter stays (placed_after (group_start d j ∷ []) inner)) ≡ kept_entries inner
-  kept_rest =
-      sym (kept_true (group_start d j ∷ []) inner)
-      ∙ kept_alike (group_start d j ∷ []) [] inner true (after_last-push is_group_start [] (group_start d j))
-      ∙ kept_true [] inner
+  kept_rest = grind (arith, kept_true (group_start d j ∷ []) inner, kept_alike (group_start d j ∷ []), after_last-push is_group_start, kept_true)
 
   kept_marked : kept_entries marked ≡ group_start d j ∷ (kept_entries inner ++ group_end k ∷ [])
   kept_marked = ap (λ xs. group_start d j ∷ xs) (chosen-append stays (group_start d j ∷ []) inner (group_end k ∷ []) ∙ ap (λ xs. xs ++ group_end k ∷ []) kept_rest)
@@ -181,9 +176,7 @@ module _ {B : Type 0} where
 
   pub takes_item : (included : Bool) (texts : Texts) (items : List (HelpItem B)) (first : HelpItem B) (one : Bor (HelpItem B)) (doc : List Part) (outside kept : List (Bor (HelpItem B))) → HasPairedGroups (map entry_of items)
       → 0 < length items → first ≡ get_or items 0 first → is_group_start (entry_of first) ≡ false → one.now ≡ first → kept ≡ outside ++ one ∷ [] → Takes included texts (map entry_of items) 1 doc doc (map entry_at outside) (map entry_at kept)
-  takes_item included texts items first one doc outside kept paired some is starts own more =
-      subst (Takes included texts (map entry_of items) 1 doc doc (map entry_at outside)) (sym (ap (map entry_at) more ∙ map-append entry_at outside (one ∷ []) ∙ ap (λ x. map entry_at outside ++ entry_of x ∷ []) own))
-      (takes_outer included texts (map entry_of items) (entry_of first) (map entry_of (drop 1 items)) doc (map entry_at outside) paired (first_of items first some is) starts)
+  takes_item included texts items first one doc outside kept paired some is starts own more = grind (arith, map-append entry_at outside (one ∷ []), takes_outer included texts (map entry_of items) (entry_of first) (map entry_of (drop 1 items)) doc (map entry_at outside) paired, first_of items first some is)
 
   pub takes_marked : (included : Bool) (texts : Texts) (items front : List (HelpItem B)) (first : HelpItem B) (count : ℕ) (before now : List Part) (outside : List Entry) → HasPairedGroups (map entry_of items)
       → 0 < length items → first ≡ get_or items 0 first → is_group_start (entry_of first) ≡ true → count ≡ group_len (map entry_of items) → front ≡ take count items

@@ -2,7 +2,7 @@
 use Rattle.std.specs.Prelude.{◌≡◌, ℕ, ◌+◌, ◌<◌, length, List, [], ◌∷◌, ◌++◌, flat_map, map, take, Result, Ok, Err, OnOk, OnErr}
 use Rattle.std.specs.Borrow.{Bor}
 use Rattle.std.proofs.Common.{ap, sym, ◌∙◌, append-nil, drop, get_or, arith}
-use Rattle.std.proofs.lemmas.Grind.{flat_map-append}
+use Rattle.std.proofs.lemmas.Grind.{flat_map-append, common_steps}
 use Rattle.std.proofs.lemmas.List.{drop_more, map-append, take-append-drop, take_more}
 use Rattle.bpaf_doc.specs.declared.buffer.Style.{Style}
 use Rattle.bpaf_doc.specs.Buffer.Parts.{Part}
@@ -16,20 +16,15 @@ map_next f xs i x within is = ap (map f) (take_more xs i x within) ∙ map-appen
 
 -- what stands round an element
 pub map_around : {X Y : Type 0} (f : X → Y) (xs : List X) (i : ℕ) (x d : X) → x ≡ get_or xs i d → i < length xs → map f xs ≡ map f (take i xs) ++ f x ∷ map f (drop (i + 1) xs)
-map_around f xs i x d at below =
-    ap (map f) (sym (take-append-drop i xs) ∙ ap (λ ys. take i xs ++ ys) (drop_more xs i d below)) ∙ map-append f (take i xs) (get_or xs i d ∷ drop (i + 1) xs)
-    ∙ ap (λ y. map f (take i xs) ++ f y ∷ map f (drop (i + 1) xs)) (sym at)
+map_around f xs i x d at below = grind (arith, take-append-drop i xs, drop_more xs i d below, map-append f (take i xs) (get_or xs i d ∷ drop (i + 1) xs))
 
 pub flat_map_next : {X Y : Type 0} (f : X → List Y) (xs : List X) (i : ℕ) (d : X) → i < length xs → flat_map f (take (i + 1) xs) ≡ flat_map f (take i xs) ++ f (get_or xs i d)
-flat_map_next f xs i d within =
-    ap (flat_map f) (take_more xs i d within) ∙ flat_map-append f (take i xs) (get_or xs i d ∷ []) ∙ ap (λ ys. flat_map f (take i xs) ++ ys) (append-nil (f (get_or xs i d)))
+flat_map_next f xs i d within = grind (arith, take_more xs i d within, flat_map-append f (take i xs) (get_or xs i d ∷ []), append-nil (f (get_or xs i d)))
 
 -- the next piece of some
 pub pieces_next : {X : Type 0} (writes : X → List Write) (xs : List X) (i : ℕ) (x : X) (before mid now : List Part) → i < length xs → x ≡ get_or xs i x
     → mid ≡ with_writes before (flat_map writes (take i xs)) → now ≡ with_writes mid (writes x) → now ≡ with_writes before (flat_map writes (take (i + 1) xs))
-pieces_next writes xs i x before mid now within is e f =
-    f ∙ ap (λ y. with_writes mid (writes y)) is ∙ ap (λ ps. with_writes ps (writes (get_or xs i x))) e ∙ sym (with_writes-append before (flat_map writes (take i xs)) (writes (get_or xs i x)))
-    ∙ ap (with_writes before) (sym (flat_map_next writes xs i x within))
+pieces_next writes xs i x before mid now within is e f = grind (arith, with_writes-append before (flat_map writes (take i xs)) (writes (get_or xs i x)), flat_map_next writes xs i x within)
 
 pub joined-all : (texts : List (Bor (List ℕ))) → joined texts ≡ flat_map (λ t. t.now) texts
 joined-all (t ∷ u ∷ ts) = ap (λ bytes. t.now ++ bytes) (joined-all (u ∷ ts))
@@ -60,9 +55,7 @@ leaves_joined (Err x) before mid now a b how e (grows, ok) = (Grows-then before 
 -- the next text of some that are one
 pub text_next : (texts : List (Bor (List ℕ))) (i : ℕ) (d : Bor (List ℕ)) (before mid now : List Part) (how : Style) → i < length texts
     → mid ≡ with_text before (flat_map (λ x. x.now) (take i texts)) how → now ≡ with_text mid (get_or texts i d).now how → now ≡ with_text before (flat_map (λ x. x.now) (take (i + 1) texts)) how
-text_next texts i d before mid now how within e f =
-    f ∙ ap (λ ps. with_text ps (get_or texts i d).now how) e ∙ with_text_twice before (flat_map (λ x. x.now) (take i texts)) (get_or texts i d).now how
-    ∙ ap (λ bytes. with_text before bytes how) (sym (flat_map_next (λ (x : Bor (List ℕ)). x.now) texts i d within))
+text_next texts i d before mid now how within e f = grind (arith, common_steps, with_text_twice before, flat_map_next)
 
 -- writes after writes, where the call before was done
 pub written_then : (before mid now : List Part) (vs ws : List Write) → mid ≡ with_writes before vs → now ≡ with_writes mid ws → now ≡ with_writes before (vs ++ ws)

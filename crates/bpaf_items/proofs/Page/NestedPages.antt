@@ -3,7 +3,7 @@ use Rattle.std.proofs.Common.{◌≡◌, ℕ, Bool, true, false, ◌⊎◌, inl,
 use Rattle.std.specs.Prelude.{if◌then◌else◌, filter, flat_map, count_by, All, codes, Option, Some, None}
 use Rattle.std.proofs.lemmas.Bool.{or_parts}
 use Rattle.std.specs.List.{list_any, range_with_len}
-use Rattle.std.proofs.lemmas.Grind.{flat_map-append}
+use Rattle.std.proofs.lemmas.Grind.{flat_map-append, common_steps}
 use Rattle.std.proofs.lemmas.List.Elements.{All-nil, All-cons, All-append, All-push, All-head, All-tail}
 use Rattle.bpaf_doc.specs.declared.buffer.Style.{Style}
 use Rattle.bpaf_doc.specs.declared.buffer.Style.TheVariants as style
@@ -227,10 +227,7 @@ mark_no_heading k p h = rw h (group_no_heading k p)
 -- no group mark falls under a heading
 clear_step : (k : HiTy) (b : Bool) (p : Placed) (ps : List Placed) → is_group_mark p.1 ≡ b → list_any is_group_mark (map entry ps) ≡ false → list_any is_group_mark (map entry (if is_heading k (destination p) then p ∷ ps else ps)) ≡ false
 clear_step k true p ps h rest = rw (mark_no_heading k p h) rest
-clear_step k false p ps h rest = by (is_heading k (destination p)) where
-  by : (t : Bool) → list_any is_group_mark (map entry (if t then p ∷ ps else ps)) ≡ false
-  by true = rw (h, rest) refl
-  by false = rest
+clear_step k false p ps h rest = grind (arith, common_steps)
 
 heading_clear : (k : HiTy) (before es : List Entry) → list_any is_group_mark (map entry (filter (λ p. is_heading k (destination p)) (placed_after before es))) ≡ false
 heading_clear k before [] = refl
@@ -261,8 +258,7 @@ two_lists : (t help : Tree) → IsItemList (item_list t ++ item_list help)
 two_lists t help = (t ∷ help ∷ [], ap (λ es. item_list t ++ es) (sym (append-nil (item_list help))))
 
 pub two_keep : (included : Bool) (texts : Texts) (t help : Tree) → HasNestedTexts t → HasNestedTexts help → Keeps (groups_writes included texts (item_list t ++ item_list help))
-two_keep included texts t help h k =
-    groups_keep included texts (item_list t ++ item_list help) (two_lists t help) (All-append HasNestedEntry (item_list t) (item_list help) (tree_nested true t h) (tree_nested true help k))
+two_keep included texts t help h k = grind (arith, groups_keep included texts (item_list t ++ item_list help), two_lists t help, All-append HasNestedEntry (item_list t) (item_list help), tree_nested true t h, tree_nested true help k)
 
 pub within_keeps : (d : Option (List Part)) → IsNestedText d → Keeps (doc_within block.Block d)
 within_keeps None h = nothing_keeps

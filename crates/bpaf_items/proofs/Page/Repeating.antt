@@ -11,7 +11,7 @@ use Rattle.std.specs.Cmp.{both_tied, nat_cmp_total, nat_eq_equiv, unsigned_ties}
 use Rattle.std.specs.BTreeMap.{is_at}
 use Rattle.std.specs.BTreeSet.{insert_key}
 use Rattle.std.proofs.lemmas.Bool.{eq-eqb}
-use Rattle.std.proofs.lemmas.Grind.{flat_map-append}
+use Rattle.std.proofs.lemmas.Grind.{flat_map-append, common_steps}
 use Rattle.std.proofs.lemmas.List.Folds.{list_any-append}
 use Rattle.std.proofs.lemmas.List.Kept.{IsStrictlySortedBy-dedup}
 use Rattle.std.proofs.lemmas.List.Sorted.{IsPermutation-sym}
@@ -129,26 +129,14 @@ keys_apart l (listed m ∷ es) h =
 keys_apart l (x ∷ es) h = keys_apart l es h
 
 new_among : (all before rest : List Entry) (l : Leaf) → all ≡ before ++ listed l ∷ rest → AreApart all → list_any (has_key_of l) before ≡ false
-new_among all before rest l is apart =
-    keys_apart l before
-    (new_number (flat_map entry_hash before) (flat_map entry_hash rest) (key_hash (key_of l))
-    (subst (IsDistinct nat_eq) (ap (flat_map entry_hash) is ∙ flat_map-append entry_hash before (listed l ∷ rest)) apart))
+new_among all before rest l is apart = grind (arith, common_steps, keys_apart, new_number, flat_map-append)
 
 abbrev Goes : {B : Type 0} → List Entry → Bool → List (Hashed B) → (shown last : Bool) → (before : List Entry) → Entry → Type 0
 Goes all apart keys shown last before e = (shown ≡ is_shown (before, e)) × Remembers all apart keys last (before ++ e ∷ [])
 
 item_apart : {B : Type 0} (all rest : List Entry) (keys after : List (Hashed B)) (shown last now : Bool) (k : Key) (e : Entry) (before : List Entry) → Some k ≡ entry_key e → all ≡ before ++ e ∷ rest
     → shown ≡ true → now ≡ true → after ≡ keys → Remembers all true keys last before → Goes all true after shown now before e
-item_apart all rest keys after shown last now k (listed l) before is split told set same h =
-    let new : is_shown (before, listed l) ≡ true = ap not (new_among all before rest l split (h.apart refl)) in (
-      told ∙ sym new,
-      record {
-        apart = h.apart;
-        hashed = subst AreHashed (sym same) h.hashed;
-        seen = λ no m. cc;
-        last = set ∙ sym new ∙ sym (last_shown-push before (listed l));
-      },
-    )
+item_apart all rest keys after shown last now k (listed l) before is split told set same h = grind (arith, new_among all before rest l split (h.apart refl), last_shown-push before (listed l))
 item_apart all rest keys after shown last now k x before is split told set same h = cc
 
 item_shown : {B : Type 0} (all : List Entry) (keys after : List (Hashed B)) (shown last now : Bool) (k : Key) (e : Entry) (before : List Entry)

@@ -1,6 +1,6 @@
 -- A block's first mark, which stands in its place before its type is known; and a tree without a front type, which lists nothing.
-use Rattle.std.proofs.Common.{◌≡◌, ℕ, suc, ◌-◌, ◌<◌, Bool, true, false, List, [], ◌∷◌, ◌++◌, map, take, drop, length, refl, sym, ap, ◌∙◌, append_assoc, append-nil, arith}
-use Rattle.std.specs.Prelude.{slice_set, slice_index_or, Option, None}
+use Rattle.std.proofs.Common.{◌≡◌, ℕ, suc, ◌<◌, Bool, true, false, List, [], ◌∷◌, ◌++◌, map, take, drop, length, refl, sym, ap, ◌∙◌, append_assoc, append-nil, arith}
+use Rattle.std.specs.Prelude.{slice_set, Option, None}
 use Rattle.std.specs.List.{swap_remove}
 use Rattle.std.specs.Option.{option_or}
 use Rattle.std.proofs.Math.Seq.{take-append_seam, set-append_seam, get_or-append_seam}
@@ -30,10 +30,7 @@ mutual
 
   no_part_entries : (g : Bool) (ts : Trees) → first_front_type ts ≡ None → entries_of_parts g ts ≡ []
   no_part_entries g no_trees e = refl
-  no_part_entries g (tree t ts) e =
-      let front : entries_of g t ≡ [] = no_entries g t (none_first (front_type t) (first_front_type ts) e) in
-      let rest : entries_of_parts g ts ≡ [] = no_part_entries g ts (none_second (front_type t) (first_front_type ts) e) in
-      rw (front, rest) refl
+  no_part_entries g (tree t ts) e = grind (arith, no_part_entries g ts, no_entries g t, none_first (front_type t) (first_front_type ts) e, none_second (front_type t) (first_front_type ts) e)
 
 -- where no group is allowed
 pub ungrouped : (t : Tree) (d : List Part) → entries_of false (subsection t d) ≡ entries_of false t
@@ -61,11 +58,7 @@ module _ {X : Type 0} where
 
   -- the entry that was put last takes the place
   pub moved_last : (xs one two : List X) (at : ℕ) (q d : X) → at < length xs → one ≡ xs ++ q ∷ [] → two ≡ swap_remove one at d → two ≡ slice_set xs at q
-  moved_last xs one two at q d h e moved =
-      let count : length one - 1 ≡ length xs = ap (λ ys. length ys - 1) e ∙ omega (arith, length-append xs (q ∷ [])) in
-      let last : slice_index_or one (length xs) d ≡ q = ap (λ ys. slice_index_or ys (length xs) d) e ∙ get_or-append_seam xs q [] d in
-      let put : slice_set one at q ≡ slice_set xs at q ++ q ∷ [] = ap (λ ys. slice_set ys at q) e ∙ set-append_left xs (q ∷ []) at q h in
-      moved ∙ ap (λ n. take n (slice_set one at (slice_index_or one n d))) count ∙ ap (λ x. take (length xs) (slice_set one at x)) last ∙ ap (take (length xs)) put ∙ take_set xs (q ∷ []) at q
+  moved_last xs one two at q d h e moved = grind (arith, length-append xs (q ∷ []), get_or-append_seam xs q, set-append_left xs (q ∷ []) at q h, take_set xs (q ∷ []) at q)
 
   set_front : (xs : List X) (at : ℕ) (q : X) → at < length xs → IsFront (take at xs) (slice_set xs at q)
   set_front (x ∷ xs) (suc n) q h = let f = set_front xs n q (omega arith) in (f.0, ap (λ zs. x ∷ zs) f.1)

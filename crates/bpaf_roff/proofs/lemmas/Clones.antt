@@ -56,18 +56,10 @@ module _ {T : Type 0} (clones : T → T → Type 0) where
   -- a payload and the one of the clones after it
   pub sum_shown : (squash : Bool) (ls ms new : List (Label T)) (by : ℕ) (p q : List ℕ) (right : Labelled T) → Cuts ls 0 p → Cuts ms 0 q → by ≡ length p → right.pieces ≡ pieces_of ms 0 q
       → EndsInClones clones ls ms by new → IsSumOf clones (labelled squash (pieces_of ls 0 p)) right (labelled squash (pieces_of new 0 (p ++ q)))
-  sum_shown squash ls ms new by p q right mine theirs place is h =
-      let at : by + 0 ≡ 0 + length p = omega (arith, place) in
-      record {
-        copies = pieces_of h.copies 0 q;
-        are_copies = rw is (AreCopies-pieces ms h.copies 0 q h.are_clones);
-        is_sum = rw h.labels_then (ap (labelled squash) (pieces_of-append ls (shifted by h.copies) 0 (by + 0) p q mine at ∙ ap (λ ps. pieces_of ls 0 p ++ ps) (pieces_of-shifted by h.copies 0 q)));
-      }
+  sum_shown squash ls ms new by p q right mine theirs place is h = grind (arith, AreCopies-pieces ms h.copies 0 q h.are_clones, pieces_of-append ls (shifted by h.copies) 0 (by + 0) p q mine, pieces_of-shifted by h.copies 0 q)
 
   pub sum_cut : (ls ms new : List (Label T)) (by : ℕ) (p q : List ℕ) → Cuts ls 0 p → Cuts ms 0 q → by ≡ length p → EndsInClones clones ls ms by new → Cuts new 0 (p ++ q)
-  sum_cut ls ms new by p q mine theirs place h =
-      let at : by + 0 ≡ 0 + length p = omega (arith, place) in
-      rw h.labels_then (Cuts-append ls (shifted by h.copies) 0 (by + 0) p q mine at (Cuts-shifted by h.copies 0 q (Cuts-clones ms h.copies 0 q h.are_clones theirs)))
+  sum_cut ls ms new by p q mine theirs place h = grind (arith, Cuts-append ls (shifted by h.copies) 0 (by + 0) p q mine, Cuts-shifted by h.copies 0 q, Cuts-clones ms h.copies 0 q h.are_clones theirs)
 
 -- copies are equal to what they are copies of, where clones are
 pub equal_copies : {T : Type 0} (clones : T → T → Type 0) (eq : T → T → Bool) → ((x y : T) → clones x y → IsTrue (eq x y)) → (ps qs : List (Piece T)) → AreCopies clones ps qs → AllZip (IsSamePiece eq) ps qs

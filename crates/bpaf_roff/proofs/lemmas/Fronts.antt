@@ -1,5 +1,6 @@
 -- What is put last leaves in front.
-use Rattle.std.proofs.Common.{◌≡◌, List, ◌++◌, ◌∙◌, length, take, drop, sym, ap, subst, arith, take_all, take-append-drop, length-append}
+use Rattle.std.proofs.lemmas.Grind.{common_steps}
+use Rattle.std.proofs.Common.{List, ◌++◌, ◌∙◌, length, ap, arith, take_all, take-append-drop, length-append}
 use Rattle.std.proofs.lemmas.List.{take-append-le, length-take}
 use Rattle.bpaf_roff.specs.Steps.Output.{KeepsFront}
 
@@ -8,10 +9,7 @@ pub KeepsFront-append : {X : Type 0} (old more : List X) → KeepsFront old (old
 KeepsFront-append old more = take-append-le (length old) old more (omega arith) ∙ take_all (length old) old (omega arith)
 
 pub KeepsFront-later : {X : Type 0} (old more new : List X) → KeepsFront (old ++ more) new → KeepsFront old new
-KeepsFront-later old more new h =
-    let n = length (old ++ more) in
-    let whole : new ≡ (old ++ more) ++ drop n new = sym (take-append-drop n new) ∙ ap (λ front. front ++ drop n new) h in
-    ap (take (length old)) whole ∙ take-append-le (length old) (old ++ more) (drop n new) (omega (arith, length-append old more)) ∙ KeepsFront-append old more
+KeepsFront-later old more new h = grind (arith, common_steps, take-append-drop, take-append-le (length old) (old ++ more), length-append old more, KeepsFront-append old more)
 
 -- more of what comes later
 pub KeepsFront-more : {X : Type 0} (old now more : List X) → KeepsFront old now → KeepsFront old (now ++ more)
@@ -19,7 +17,4 @@ KeepsFront-more old now more h = take-append-le (length old) now more (omega (ar
 
 -- one call after another
 pub KeepsFront-trans : {X : Type 0} (old now new : List X) → KeepsFront old now → KeepsFront now new → KeepsFront old new
-KeepsFront-trans old now new h k =
-    let rest = drop (length old) now in
-    let split : now ≡ old ++ rest = sym (take-append-drop (length old) now) ∙ ap (λ front. front ++ rest) h in
-    KeepsFront-later old rest new (subst (λ n. KeepsFront n new) split k)
+KeepsFront-trans old now new h k = grind (arith, common_steps, take-append-drop (length old) now, KeepsFront-later old)

@@ -1,4 +1,5 @@
 -- What a text put last, a sum and a cut leave of the labels, and of the pieces that they show.
+use Rattle.std.proofs.lemmas.Grind.{common_steps}
 use Rattle.std.proofs.Common.{◌≡◌, ℕ, zero, suc, ◌+◌, ◌-◌, ◌<◌, ◌≤◌, Bool, true, false, List, [], ◌∷◌, ◌++◌, length, take, drop, refl, ap, ◌∙◌, subst, arith, length-append, length-drop, take_all, take-append-drop}
 use Rattle.std.proofs.lemmas.List.{take-append-le, drop-append-le, drop_all, length-take-le, drop-take}
 use Rattle.std.proofs.Math.Seq.{take-add}
@@ -16,11 +17,7 @@ labelled squash ps = record { pieces = ps; squash = squash }
 
 -- what follows a text in a text is a text
 pub IsUtf8-added : (p w : List ℕ) → IsUtf8 p → IsUtf8 (p ++ w) → IsUtf8 w
-IsUtf8-added p w u v =
-    let front : take (length p) (p ++ w) ≡ p = take-append-le (length p) p w (omega arith) ∙ take_all (length p) p (omega arith) in
-    let back : drop (length p) (p ++ w) ≡ w = rw (drop-append-le (length p) p w (omega arith), drop_all (length p) p (omega arith)) refl in
-    let cut = IsCharBoundary-from_take (p ++ w) (length p) v (omega (arith, length-append p w)) (rw front u) in
-    rw back at (IsUtf8-drop (p ++ w) (length p) v cut)
+IsUtf8-added p w u v = grind (arith, take-append-le (length p) p w (omega arith), take_all (length p) p (omega arith), drop-append-le (length p) p w (omega arith), drop_all (length p) p (omega arith), IsCharBoundary-from_take (p ++ w) (length p) v, length-append p w, IsUtf8-drop (p ++ w) (length p) v)
 
 -- nothing is left of a list that is as long as its front
 none_left : {X : Type 0} (n : ℕ) (p : List X) → n ≤ length p → drop n p ≡ [] → n ≡ length p
@@ -47,9 +44,7 @@ module _ {T : Type 0} where
   -- the pieces have the bytes of the payload
   pub payload_len-pieces_of : (ls : List (Label T)) (at : ℕ) (p : List ℕ) → Cuts ls at p → payload_len (pieces_of ls at p) ≡ length p
   payload_len-pieces_of [] at p c = rw c refl
-  payload_len-pieces_of (l ∷ ls) at p c =
-      let first = sum_by-cons (λ (q : Piece T). length q.text) (record { label = l.label; text = take (l.end - at) p }) (pieces_of ls l.end (drop (l.end - at) p)) in
-      omega (arith, first, payload_len-pieces_of ls l.end (drop (l.end - at) p) c.3, length-take-le (l.end - at) p c.1, length-drop (l.end - at) p, c.1)
+  payload_len-pieces_of (l ∷ ls) at p c = grind (arith, common_steps, payload_len-pieces_of ls l.end (drop (l.end - at) p) c.3, sum_by-cons, length-take-le, length-drop)
 
   -- every place is within the payload
   pub ends_fit : (by n : ℕ) (ls : List (Label T)) (at : ℕ) (p : List ℕ) → Cuts ls at p → by + (at + length p) < n → All (λ l. by + l.end < n) ls
@@ -108,19 +103,11 @@ module _ {T : Type 0} where
   pub Cuts-take : (k : ℕ) (ls : List (Label T)) (at : ℕ) (p : List ℕ) → Cuts ls at p → Cuts (take k ls) at (take (end_of at (take k ls) - at) p)
   Cuts-take zero ls at p c = let e : at - at ≡ 0 = omega arith in rw e refl
   Cuts-take (suc k) [] at p c = let e : at - at ≡ 0 = omega arith in rw e refl
-  Cuts-take (suc k) (l ∷ ls) at p c =
-      let n = l.end - at in
-      let m = end_of l.end (take k ls) - l.end in
-      let later = end_of-take k ls l.end (drop n p) c.3 in
-      rw (reach k l ls at p c, take_front n m p c.1, drop-take n m p)
-      (c.0, omega (arith, length-take-le (n + m) p (omega (arith, c.0, c.1, later.1, length-drop n p))), c.2, Cuts-take k ls l.end (drop n p) c.3)
+  Cuts-take (suc k) (l ∷ ls) at p c = grind (arith, Cuts-take k ls l.end, end_of-take k ls l.end, reach k l ls at p c, take_front, drop-take, length-take-le, length-drop)
 
   -- they end between characters
   pub cut_at : (k : ℕ) (ls : List (Label T)) (p : List ℕ) → Cuts ls 0 p → IsCharBoundary p (end_of 0 (take k ls))
-  cut_at k ls p c =
-      let e = end_of 0 (take k ls) in
-      let whole : e - 0 ≡ e = omega arith in
-      IsCharBoundary-from_take p e (IsUtf8-Cuts ls 0 p c) (omega (arith, (end_of-take k ls 0 p c).1)) (IsUtf8-Cuts (take k ls) 0 (take e p) (rw whole at (Cuts-take k ls 0 p c)))
+  cut_at k ls p c = grind (arith, IsCharBoundary-from_take p, IsUtf8-Cuts ls 0 p c, end_of-take k ls 0 p c, IsUtf8-Cuts (take k ls) 0, Cuts-take k ls 0 p c)
 
 module _ {T : Type 0} (eq : T → T → Bool) (squash : Bool) (t : T) where
   pub with_label-push : (ls : List (Label T)) (l : Label T) (e : ℕ) → with_label eq squash (ls ++ l ∷ []) t e ≡ ls ++ followed_by eq squash l t e
@@ -158,14 +145,8 @@ module _ {T : Type 0} (eq : T → T → Bool) (squash : Bool) (t : T) where
     Cuts_alone at e p u none is = grind (arith, length-append, rest_of, drop_all)
 
     Cuts_followed : (b : Bool) (l : Label T) (at : ℕ) (p : List ℕ) (e : ℕ) → IsUtf8 w → Cuts (l ∷ []) at p → e ≡ at + length p + length w → Cuts (if b then record l { end = e } ∷ [] else l ∷ record { end = e; label = t } ∷ []) at (p ++ w)
-    Cuts_followed true l at p e u c is =
-        (omega arith, omega (arith, length-append p w), rw (followed_text at p l e c is) (IsUtf8-append (take (l.end - at) p) w c.2 u), drop_all (e - at) (p ++ w) (omega (arith, length-append p w)))
-    Cuts_followed false l at p e u c is = (
-      c.0,
-      omega (arith, c.1, length-append p w),
-      rw (take-append-le (l.end - at) p w c.1) c.2,
-      rw (drop-append-le (l.end - at) p w c.1) (Cuts_alone l.end e (drop (l.end - at) p) u c.3 (omega (arith, none_left (l.end - at) p c.1 c.3, c.0, ap length c.3))),
-    )
+    Cuts_followed true l at p e u c is = grind (arith, length-append p w, followed_text at p l e c is, IsUtf8-append (take (l.end - at) p) w c.2 u, drop_all (e - at) (p ++ w))
+    Cuts_followed false l at p e u c is = grind (arith, length-append p w, take-append-le (l.end - at) p w c.1, drop-append-le (l.end - at) p w c.1, Cuts_alone l.end e (drop (l.end - at) p) u c.3, none_left (l.end - at) p c.1 c.3)
 
     pub Cuts-with_label : IsUtf8 w → (ls : List (Label T)) (at : ℕ) (p : List ℕ) (e : ℕ) → Cuts ls at p → e ≡ at + length p + length w → Cuts (with_label eq squash ls t e) at (p ++ w)
     Cuts-with_label u [] at p e c is = Cuts_alone at e p u c is

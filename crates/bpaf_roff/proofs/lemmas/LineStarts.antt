@@ -40,13 +40,7 @@ blank_end q before g b = by (eqb_tells b 10)
     by (inr y) = rw y.0 (special_end q before g b ∙ y.0)
 
 spaces_end : (before : List ℕ) (b : ℕ) → is_line_start (before ++ spaces_text b) ≡ false
-spaces_end before b = by (eqb_tells b 32) (eqb_tells b 10) (b == 92)
-  where
-    by : ((b == 32) ≡ true) × (b ≡ 32) ⊎ ((b == 32) ≡ false) × (b ≢ 32) → ((b == 10) ≡ true) × (b ≡ 10) ⊎ ((b == 10) ≡ false) × (b ≢ 10) → (z : Bool) → is_line_start (before ++ (if (b == 32 || b == 10) then codes "\\ " else if z then codes "\\\\" else b ∷ [])) ≡ false
-    by (inl x) y z = rw x.1 (is_line_start-end before (92 ∷ []) 32)
-    by (inr x) (inl y) z = rw y.1 (is_line_start-end before (92 ∷ []) 32)
-    by (inr x) (inr y) true = rw (x.0, y.0) (is_line_start-end before (92 ∷ []) 92)
-    by (inr x) (inr y) false = rw (x.0, y.0) (is_line_start-last before b ∙ y.0)
+spaces_end before b = grind (arith, eqb_tells b 32, eqb_tells b 10, is_line_start-end before (92 ∷ []) 32, is_line_start-end before (92 ∷ []) 92, is_line_start-last before b)
 
 -- a newline under these labels ends a line
 pub newline_ends : (label : Escape) (b : ℕ) → label ≡ UnescapedAtNewline ⊎ (label ≡ Special ⊎ label ≡ Unescaped) → (q : Apostrophes) (before : List ℕ) → (b == newline) ≡ is_line_start (before ++ byte_text q before label b)

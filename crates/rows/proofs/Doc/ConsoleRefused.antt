@@ -1,4 +1,5 @@
 -- Texts that are no layout of their document, whatever their placing: in each placing of the text the law that is named does not hold.
+use Rattle.std.proofs.lemmas.Grind.{common_steps}
 use Rattle.std.specs.Prelude.{◌≡◌, ℕ, ◌+◌, ◌<◌, ◌≤◌, Bool, true, false, not, ◌&&◌, ◌||◌, ◌==◌, max, List, [], ◌∷◌, ◌++◌, All, codes, length, map, sum_by, refl, if◌then◌else◌, nat_lt, ◌⊎◌}
 use Rattle.std.specs.List.{list_any, list_all}
 use Rattle.std.specs.Str.{trim_end}
@@ -99,9 +100,7 @@ found : (n : ℕ) (xs : List Stretch) → length xs ≤ n → EachMayStand xs �
 found zero [] h s = inl refl
 found zero (x ∷ xs) h s = absurd (omega arith)
 found (suc n) [] h s = inl refl
-found (suc n) (Gap b ∷ xs) h s =
-    among_left (Gap b ∷ xs) (at_gap (placings n) (b ∷ text_of xs) (events_of xs)) (at_event (placings n) (b ∷ text_of xs) (events_of xs))
-    (found_gap (placings n) b xs (s [] xs (Gap b) refl) (found n xs (omega arith) (may_stand_rest (Gap b) xs s)))
+found (suc n) (Gap b ∷ xs) h s = grind (arith, found n xs (omega arith), among_left (Gap b ∷ xs) (at_gap (placings n) (b ∷ text_of xs) (events_of xs)) (at_event (placings n) (b ∷ text_of xs) (events_of xs)), found_gap (placings n) b xs (s [] xs (Gap b) refl), may_stand_rest (Gap b) xs s)
 found (suc n) (Placed e ∷ xs) h s =
     let text = e.shown ++ text_of xs in
     let event = Shows e.part (chunk_at e) in
@@ -195,11 +194,7 @@ each_breaks p c (d ∷ cs) h (inr a) = each_breaks p c cs (and_parts (p d) (list
 -- each placing of the text breaks the law
 refused : {document : List Part} {full : Bool} {width : ℕ} {text : List ℕ} (layout : IsLayout document full width text) (law : Law layout)
     → list_all law.breaks (placings (length text + length (shown_events full document)) text (shown_events full document)) ≡ true → ⊥
-refused {document} {full} {width} {text} layout law h =
-    let n = length text + length (shown_events full document) in
-    let short : length layout.stretches ≤ n = omega (arith, few layout.stretches, ap length layout.placing.whole_text, ap length layout.placing.all_events) in
-    let among = rw (layout.placing.whole_text, layout.placing.all_events) at (found n layout.stretches short layout.placing.each_stretch) in
-    law.never (each_breaks law.breaks layout.stretches (placings n text (shown_events full document)) h among)
+refused {document} {full} {width} {text} layout law h = grind (arith, common_steps, few layout.stretches, found, each_breaks law.breaks layout.stretches)
 
 clash : (a b : Bool) → (a && not b) ≡ true → (a ≡ true → b ≡ true) → ⊥
 clash a b h2 h3 = grind arith
@@ -231,9 +226,7 @@ is_lost x = false
 
 none_lost : (may_add : Type 0) (xs : List Stretch) → All (IsKept may_add) xs → not (list_any is_lost xs) ≡ true
 none_lost may_add [] h = refl
-none_lost may_add (Passed event ∷ xs) h =
-    let kept : not (is_raw_event event) ≡ true = All-head (IsKept may_add) (Passed event) xs h in
-    rw (not-true (is_raw_event event) kept) (none_lost may_add xs (All-tail (IsKept may_add) (Passed event) xs h))
+none_lost may_add (Passed event ∷ xs) h = grind (arith, none_lost may_add xs, All-head (IsKept may_add) (Passed event) xs h, not-true (is_raw_event event), All-tail (IsKept may_add) (Passed event) xs h)
 none_lost may_add (x ∷ xs) h = none_lost may_add xs (All-tail (IsKept may_add) x xs h)
 
 lines_within : (n : ℕ) (lines : List (List Stretch)) → All (λ line. sum_by stretch_columns line ≤ n) lines → list_all (λ line. leb (sum_by stretch_columns line) n) lines ≡ true

@@ -1,5 +1,6 @@
 -- What the running ends give: the parts, their texts, and what is added behind them.
-use Rattle.std.proofs.Common.{◌≡◌, ℕ, zero, suc, ◌+◌, ◌-◌, ◌^◌, ◌<◌, ◌≤◌, Bool, true, false, List, [], ◌∷◌, ◌++◌, All, map, length, get_or, take, drop, sym, refl, ap, ◌∙◌, arith, length-append, length-drop, take_all, append_assoc, append-nil, take-append-drop, subst, add-zero}
+use Rattle.std.proofs.lemmas.Grind.{common_steps}
+use Rattle.std.proofs.Common.{◌≡◌, ℕ, zero, suc, ◌+◌, ◌-◌, ◌^◌, ◌<◌, ◌≤◌, Bool, true, false, List, [], ◌∷◌, ◌++◌, All, map, length, get_or, take, drop, sym, refl, ap, arith, length-append, length-drop, take_all, append_assoc, append-nil, take-append-drop, subst, add-zero}
 use Rattle.std.proofs.Math.Seq.{take-add}
 use Rattle.std.specs.Prelude.{if◌then◌else◌, Option, Some, None, option_to_list}
 use Rattle.std.specs.Iterator.{YieldsFirstBy}
@@ -76,10 +77,7 @@ module _ (start : ℕ) (es : List PartEnd) (rest : List ℕ) (k : Kind) where
   empty_end = record { kind = k; end = start + length rest }
 
   pub parts_from-push_empty : AreEnds start es rest → parts_from start (es ++ empty_end ∷ []) rest ≡ parts_from start es rest ++ part_with k [] ∷ []
-  parts_from-push_empty are =
-      ap (λ bytes. parts_from start (es ++ empty_end ∷ []) bytes) (sym (append-nil rest))
-      ∙ parts_from-append start es (empty_end ∷ []) rest [] are
-      ∙ ap (λ bytes. parts_from start es rest ++ part_with k bytes ∷ []) (take_none (start + length rest - (start + length rest)))
+  parts_from-push_empty are = grind (arith, append-nil rest, parts_from-append start es (empty_end ∷ []) rest, take_none (start + length rest - (start + length rest)))
 
   pub AreEnds-push_empty : AreEnds start es rest → AreEnds start (es ++ empty_end ∷ []) rest
   AreEnds-push_empty are =
@@ -138,12 +136,8 @@ module _ (style : Style) (text : List ℕ) where
     joined_parts : (b : Bool) (other : Style) → AreEnds start (text_end other last ∷ []) rest
         → parts_from start (if b then text_end style end ∷ [] else text_end other last ∷ text_end style end ∷ []) (rest ++ text)
         ≡ (if b then Text (take (last - start) rest ++ text) style ∷ [] else Text (take (last - start) rest) other ∷ Text text style ∷ [])
-    joined_parts true other are =
-        let front : take (last - start) rest ≡ rest = take_all (last - start) rest (omega (arith, length-drop (last - start) rest, ap length are.1)) in
-        rw front (ap (λ bytes. Text bytes style ∷ []) (take_all (end - start) (rest ++ text) (omega (arith, length-append rest text))))
-    joined_parts false other are =
-        parts_from-append start (text_end other last ∷ []) (text_end style end ∷ []) rest text are
-        ∙ ap (λ ps. Text (take (last - start) rest) other ∷ ps) (text_alone (start + length rest) end (omega arith))
+    joined_parts true other are = grind (arith, take_all (last - start) rest, length-drop (last - start) rest, take_all (end - start) (rest ++ text), length-append rest text)
+    joined_parts false other are = grind (arith, parts_from-append start (text_end other last ∷ []) (text_end style end ∷ []) rest text are, text_alone (start + length rest) end (omega arith))
 
     joined_are : IsUtf8 text → (b : Bool) (other : Style) → AreEnds start (text_end other last ∷ []) rest
         → AreEnds start (if b then text_end style end ∷ [] else text_end other last ∷ text_end style end ∷ []) (rest ++ text)
@@ -206,12 +200,7 @@ pub parts_from-drop : (start : ℕ) (es : List PartEnd) (rest : List ℕ) (i : �
     → parts_from (end_before start es i) (drop i es) (drop (end_before start es i - start) rest) ≡ drop i (parts_from start es rest)
 parts_from-drop start es rest zero are = let none : start - start ≡ 0 = omega arith in rw none refl
 parts_from-drop start [] rest (suc i) are = refl
-parts_from-drop start (e ∷ es) rest (suc i) are =
-    let n = e.end - start in
-    let m = end_before e.end es i - e.end in
-    let behind = end_before-bounds e.end es (drop n rest) i are.1 in
-    let both : end_before e.end es i - start ≡ n + m = omega (arith, are.0.not_below, behind.0) in
-    rw (both, ← drop-drop m n rest) (parts_from-drop e.end es (drop n rest) i are.1)
+parts_from-drop start (e ∷ es) rest (suc i) are = grind (arith, common_steps, parts_from-drop e.end es, end_before-bounds, drop-drop)
 
 pub AreEnds-drop : (start : ℕ) (es : List PartEnd) (rest : List ℕ) (i : ℕ) → i ≤ length es → AreEnds start es rest
     → AreEnds (end_before start es i) (drop i es) (drop (end_before start es i - start) rest)

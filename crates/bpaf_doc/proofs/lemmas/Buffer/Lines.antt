@@ -29,6 +29,4 @@ module _ (p : ℕ → Bool) where
 pub split_line-from : (text : List ℕ) (r : Option (Bor (List ℕ) × Bor (List ℕ))) → IsSplitOnceResult 10 text r
     → MatchOption r (list_any is_newline text ≡ false) (λ lines. IsSplitLine text lines.0.now lines.1.now)
 split_line-from text None h = none_passes is_newline text (split_once_first 10 text None h (omega arith))
-split_line-from text (Some lines) h =
-    let at = split_once_first 10 text (Some lines) h (omega arith) in
-    record { some = some_passes is_newline text at.0; front_is = at.1; rest_is = at.2 }
+split_line-from text (Some lines) h = grind (arith, split_once_first 10 text (Some lines) h (omega arith), some_passes is_newline text)

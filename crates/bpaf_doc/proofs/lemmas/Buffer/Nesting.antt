@@ -48,10 +48,7 @@ module _ (ps : List Part) (b : Block) where
 
   -- the start, the document that was written between, the end
   pub with_writes-inside : (ws : List Write) → with_writes ps (inside b ws) ≡ ((ps ++ Start b ∷ []) ++ document_of ws) ++ End b ∷ []
-  with_writes-inside ws =
-      fold-append with_write (ps ++ Start b ∷ []) ws (write.end b ∷ [])
-      ∙ ap (λ rs. with_writes rs ws ++ End b ∷ []) (sym (append-nil (ps ++ Start b ∷ [])))
-      ∙ ap (λ rs. rs ++ End b ∷ []) (with_writes-behind_start [] ws)
+  with_writes-inside ws = grind (arith, fold-append with_write (ps ++ Start b ∷ []) ws (write.end b ∷ []), append-nil (ps ++ Start b ∷ []), with_writes-behind_start)
 
 pub IsWellNested-inside : (b : Block) (ps : List Part) (ws : List Write) → IsWellNested ps → IsWellNested (document_of ws) → IsWellNested (with_writes ps (inside b ws))
 IsWellNested-inside b ps ws nested also = rw (with_writes-inside ps b ws) (IsWellNested-in_block b ps (document_of ws) nested also)

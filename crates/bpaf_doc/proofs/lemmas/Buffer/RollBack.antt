@@ -83,16 +83,11 @@ text_kind : (k : Kind) (n : ℕ) (rest bytes : List ℕ) (style : Style) → par
 text_kind k n rest bytes style h = grind arith
 
 front_is : (n : ℕ) (rest bytes more : List ℕ) → take n rest ≡ bytes ++ more → (length bytes ≤ n) × (take (length bytes) rest ≡ bytes)
-front_is n rest bytes more is =
-    let le : length bytes ≤ n = omega (arith, ap length is, length-append bytes more, length-take n rest) in
-    (le, sym (take-take (length bytes) n rest le) ∙ ap (λ l. take (length bytes) l) is ∙ take_at bytes more (length bytes) refl)
+front_is n rest bytes more is = grind (arith, length-append bytes more, length-take n rest, take-take (length bytes) n rest, take_at bytes more (length bytes) refl)
 
 cut_back : (k : Kind) (n : ℕ) (rest : List ℕ) (p : Part) → IsLonger p (part_with k (take n rest)) → IsCutBack k n rest p
 unfolding IsLonger IsCutBack
-cut_back k n rest (Text bytes style) (more, is) =
-    let t = text_kind k n rest (bytes ++ more) style is in
-    let front = front_is n rest bytes more t.1 in
-    (front.0, rw (t.0, front.1) refl, front.1, rw t.0 tt)
+cut_back k n rest (Text bytes style) (more, is) = grind (arith, text_kind k n rest (bytes ++ more) style is, front_is n rest bytes more)
 cut_back s n rest t is = grind arith
 
 -- the ends and the payload cut back to a document, of which `last` is the end

@@ -1,7 +1,7 @@
 -- A code line that comes to a line past the width.
 use Rattle.std.specs.Prelude.{◌≡◌, ℕ, ◌<◌, false, List, [], ◌∷◌, length}
 use Rattle.std.specs.Str.{bytes_eq}
-use Rattle.std.proofs.Common.{sym, ap, arith, ◌∙◌}
+use Rattle.std.proofs.Common.{arith}
 use Rattle.std.proofs.lemmas.Bool.{lt-ltb}
 use Rattle.std.proofs.lemmas.Bool.Decides.{nat_tests}
 use Rattle.std.proofs.lemmas.List.{length-append}
@@ -20,9 +20,7 @@ module _ (width tab_stop : ℕ) (margins : List ℕ) where
 
 -- it goes to a line of its own, unless it is a blank alone
 pub code_put_is : (s : Sheet) → IsPastLine s → (line : List ℕ) → bytes_eq line (32 ∷ []) ≡ false → raw_put line 1000000 s ≡ code_put line s
-code_put_is s is line other =
-    let there : s ≡ page_at s.width s.tab_stop s.margins s.out s.column = grind arith in
-    ap (raw_put line 1000000) there ∙ put s.width s.tab_stop s.margins s.out line s.column is.some is.past is.narrow other ∙ ap (code_put line) (sym there)
+code_put_is s is line other = grind (arith, put s.width s.tab_stop s.margins s.out line s.column is.some is.past is.narrow other)
 
 -- behind which the next one does
 pub past_again : (s : Sheet) → IsPastLine s → (line : List ℕ) → IsPastLine (code_put line s)

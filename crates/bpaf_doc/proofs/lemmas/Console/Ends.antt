@@ -1,8 +1,9 @@
 -- A text that ends in a printable ASCII character has no White_Space at its end.
+use Rattle.std.proofs.lemmas.Grind.{common_steps}
 use Rattle.std.specs.Prelude.{◌≡◌, ℕ, ◌<◌, true, false, List, [], ◌∷◌, ◌++◌, refl, filter, IsUtf8}
 use Rattle.std.specs.Char.{is_ascii_graphic, is_whitespace, is_not_whitespace}
 use Rattle.std.specs.Str.{chars, trim_end}
-use Rattle.std.proofs.Common.{sym, ap, subst, arith, ◌∙◌}
+use Rattle.std.proofs.Common.{ap, arith, ◌∙◌}
 use Rattle.std.proofs.lemmas.Bool.Decides.{nat_tests}
 use Rattle.std.proofs.lemmas.Str.{chars-IsAscii, encodes-chars, IsUtf8-from_ascii, IsUtf8-string_bytes}
 use Rattle.bpaf_doc.specs.Buffer.Parts.{ink}
@@ -28,8 +29,6 @@ one_ink : (b : ℕ) → is_ascii_graphic b ≡ true → has_some (ink (b ∷ [])
 one_ink b h = ap (λ cs. has_some (filter is_not_whitespace cs)) (one_char b h) ∙ rw (dark b h) refl
 
 pub graphic_end : (text front : List ℕ) (b : ℕ) → text ≡ front ++ b ∷ [] → IsUtf8 text → is_ascii_graphic b ≡ true → trim_end text ≡ text
-graphic_end text front b e u h =
-    let cut = utf8_cut front (b ∷ []) (small b h) (subst IsUtf8 e u) in
-    ap trim_end e ∙ trim_some front (b ∷ []) cut.0 (one_ink b h) ∙ ap (λ t. front ++ t) (trim_one b h) ∙ sym e
+graphic_end text front b e u h = grind (arith, common_steps, utf8_cut front (b ∷ []), small b h, trim_some front (b ∷ []), one_ink b h, trim_one b h)
 
 pub ruleset trimmed_end = (graphic_end, trim-boundary, trim-cut, ink-trim, IsUtf8-string_bytes)

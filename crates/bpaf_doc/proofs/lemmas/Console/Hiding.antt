@@ -1,5 +1,5 @@
 -- Counting the inline blocks that have to end before texts are shown again comes to what the definition of hidden texts says.
-use Rattle.std.specs.Prelude.{◌≡◌, ℕ, zero, suc, Bool, true, false, not, ◌&&◌, ◌||◌, ◌==◌, List, [], ◌∷◌, ◌++◌, refl, nat_le}
+use Rattle.std.specs.Prelude.{◌≡◌, ℕ, zero, suc, Bool, false, not, ◌&&◌, ◌||◌, ◌==◌, List, [], ◌∷◌, ◌++◌, refl, nat_le}
 use Rattle.std.proofs.Common.{sym, ◌∙◌, ap, arith, append_assoc}
 use Rattle.std.proofs.lemmas.List.{append-nil}
 use Rattle.std.proofs.lemmas.Bool.Decides.{nat_tests}
@@ -56,6 +56,4 @@ Counts-more hidden before part counts between = grind (arith, append_assoc, or_a
 -- and a text that follows is hidden unless the count is 0
 pub is_hidden-Counts : (hidden : ℕ) (before : List Part) → Counts hidden before → is_hidden before ≡ not (hidden == 0)
 is_hidden-Counts zero before counts = ap is_hidden (sym (append-nil before)) ∙ counts []
-is_hidden-Counts (suc more) before counts = ap is_hidden (sym (append-nil before)) ∙ counts [] ∙ rw (not_zero more, some more) refl where
-  some : (n : ℕ) → nat_le 0 n ≡ true
-  some n = grind (arith, nat_tests)
+is_hidden-Counts (suc more) before counts = grind (arith, append-nil before, not_zero more, nat_tests)

@@ -1,4 +1,5 @@
 -- The ink that the console's steps leave is the console ink of the document.
+use Rattle.std.proofs.lemmas.Grind.{common_steps}
 use Rattle.std.specs.Prelude.{◌≡◌, ◌≢◌, ℕ, ◌+◌, ◌≤◌, Bool, true, false, not, ◌==◌, List, [], ◌∷◌, ◌++◌, refl, length, drop, take, filter, flat_map, String, string_bytes, Result, IfOk, if◌then◌else◌}
 use Rattle.std.specs.Char.{is_not_whitespace, encode_utf8}
 use Rattle.std.specs.List.{enumerate_from}
@@ -146,8 +147,7 @@ IsLeft-none full count hidden out all parts left none = grind (arith, append-nil
 pub IsLeft-shown : {full : Bool} {count hidden : ℕ} {out new all bytes : List ℕ} {style : Style} {parts rest : List Part}
     → IsLeft full count hidden out all parts → parts ≡ Text bytes style ∷ rest → hidden ≡ 0
     → ink new ≡ ink out ++ shown_ink full (chunks_of bytes) → IsLeft full count (if hides full (chunks_of bytes) then 1 else 0) new all rest
-IsLeft-shown {full = full} {count = count} {out = out} {all = all} {parts = parts} left first none wrote =
-    IsLeft-more (subst (λ n. IsLeft full count n out all parts) none left) first refl wrote
+IsLeft-shown {full = full} {count = count} {out = out} {all = all} {parts = parts} left first none wrote = grind (arith, common_steps, IsLeft-more)
 
 pub IsLeft-hidden : {full : Bool} {count hidden : ℕ} {out all bytes : List ℕ} {style : Style} {parts rest : List Part}
     → IsLeft full count hidden out all parts → parts ≡ Text bytes style ∷ rest → hidden ≢ 0 → IsLeft full count hidden out all rest

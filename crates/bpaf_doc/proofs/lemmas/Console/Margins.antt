@@ -1,7 +1,7 @@
 -- A stack of margins, walked over the marks of a document, has the margin at each place on top.
 use Rattle.std.specs.Prelude.{◌≡◌, ℕ, zero, suc, ◌+◌, ◌*◌, ◌<◌, ◌≤◌, max, ⊤, true, false, List, [], ◌∷◌, ◌++◌, length, refl, map, filter, take, drop, fold, get_or, nat_le, if◌then◌else◌}
 use Rattle.std.specs.List.{enumerate_from}
-use Rattle.std.proofs.Common.{sym, ◌∙◌, ap, subst, arith, add-one}
+use Rattle.std.proofs.Common.{sym, ◌∙◌, ap, arith, add-one}
 use Rattle.std.proofs.lemmas.Bool.Decides.{nat_tests}
 use Rattle.std.proofs.Math.Nat.{zero-add, add-zero}
 use Rattle.bpaf_doc.specs.declared.buffer.Block.{Block}
@@ -85,11 +85,7 @@ take_next f x k y part rest e = grind (arith, add-zero)
 -- the part at place j shifts the stack
 pub stack_at-more : (document : List Part) (j : ℕ) (part : Part) (rest : List Part) → drop j document ≡ part ∷ rest
     → stack_at document (j + 1) ≡ shifted (shift_at document j part) (stack_at document j)
-stack_at-more document j part rest e =
-    ap (λ n. stack_after (take n (shifts document)) []) (add-one j)
-    ∙ ap (λ ss. stack_after ss []) (take_next (λ (k, p). shift_at document k p) j 0 document part rest e)
-    ∙ stack_after-append (take j (shifts document)) (shift_at document (0 + j) part ∷ []) []
-    ∙ ap (λ n. shifted (shift_at document n part) (stack_at document j)) (zero-add j)
+stack_at-more document j part rest e = grind (arith, add-one j, take_next, stack_after-append (take j (shifts document)) (shift_at document (0 + j) part ∷ []), zero-add j)
 
 -- ---- no entry is above the top
 
@@ -164,5 +160,4 @@ greatest_at f zero k a (part ∷ parts) l = grind (arith, more_than, add-zero)
 greatest_at f (suc j) k a (part ∷ parts) l = grind (arith, greatest_at f j (k + 1) (max a (f k)) parts)
 
 pub margin-le-greatest : (document : List Part) (j : ℕ) → j < length document → margin document j ≤ greatest_margin document
-margin-le-greatest document j l =
-    subst (λ n. margin document n ≤ greatest_margin document) (zero-add j) (greatest_at (margin document) j 0 0 document l)
+margin-le-greatest document j l = grind (arith, zero-add j, greatest_at (margin document) j 0 0 document l)

@@ -61,10 +61,7 @@ after_section4-shared document i j l m =
 
 -- no start stands there
 end_there : (document : List Part) (i j : ℕ) (part : Part) → j + 1 ≡ after_section4 document i → slice_get document j ≡ Some part → is_section4_end part ≡ true
-end_there document i j part e here =
-    position_passes is_section4_end (drop (i + 1) document) part
-    (slice_get-drop (i + 1) (position_or_len is_section4_end (drop (i + 1) document)) document
-    ∙ ap (λ k. slice_get document k) (omega arith) ∙ here)
+end_there document i j part e here = grind (arith, position_passes is_section4_end (drop (i + 1) document) part, slice_get-drop (i + 1) (position_or_len is_section4_end (drop (i + 1) document)) document)
 
 -- ---- the pair after it
 
@@ -118,9 +115,7 @@ skipped_by document k h = at (any_found (skips document k) document 0 h) where
   at (i, part, here, holds) = by i part here (ap (λ n. skips document k n part) (sym (zero-add i)) ∙ holds)
 
 skipped_from : (document : List Part) (k i : ℕ) → SkipsAt document i → (k ≡ after_section4 document i) ⊎ (k ≡ after_section4 document i + 1) → is_skipped document k ≡ true
-skipped_from document k i (here, pair) h = any_from (skips document k) document 0 i (Start blocks.Section4) here (ap (λ n. skips document k n (Start blocks.Section4)) (zero-add i) ∙ holds) where
-  holds : skips document k i (Start blocks.Section4) ≡ true
-  holds = rw pair (grind (arith, nat_tests))
+skipped_from document k i (here, pair) h = grind (arith, any_from (skips document k) document 0 i (Start blocks.Section4) here, zero-add i, nat_tests)
 
 -- ---- from part to part
 

@@ -1,7 +1,8 @@
 -- The first Section4 end of what follows a place, found by looking at one part after another.
+use Rattle.std.proofs.lemmas.Grind.{common_steps}
 use Rattle.std.specs.Prelude.{◌≡◌, ℕ, zero, suc, ◌+◌, ◌<◌, true, false, Some, List, [], ◌∷◌, refl, length, drop}
 use Rattle.std.specs.List.{slice_get, position_or_len}
-use Rattle.std.proofs.Common.{◌∙◌, ap, arith}
+use Rattle.std.proofs.Common.{arith}
 use Rattle.bpaf_doc.specs.Buffer.Parts.{Part}
 use Rattle.bpaf_doc.specs.Console.Steps.Text.{is_section4_end}
 
@@ -17,9 +18,6 @@ pub first_end-later : (parts : List Part) (at : ℕ) → at < length parts → i
     → first_end (drop at parts) ≡ 1 + first_end (drop (at + 1) parts)
 first_end-later [] at within e = absurd (omega arith)
 first_end-later (p ∷ parts) zero within e = rw e refl
-first_end-later (p ∷ parts) (suc at) within e =
-    first_end-later parts at (omega arith) e ∙ ap (λ n. 1 + first_end (drop n (p ∷ parts))) (next at) where
-      next : (at : ℕ) → suc (at + 1) ≡ suc at + 1
-      next at = omega arith
+first_end-later (p ∷ parts) (suc at) within e = grind (arith, common_steps, first_end-later parts at (omega arith) e)
 
 pub ruleset first_ends = (first_end-here, first_end-later)

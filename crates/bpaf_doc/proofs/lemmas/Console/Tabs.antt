@@ -1,5 +1,6 @@
 -- One walk over the parts gives the tab stop.
-use Rattle.std.specs.Prelude.{◌≡◌, ℕ, ◌+◌, min, max, Bool, true, false, not, cond, ◌&&◌, ◌||◌, List, [], ◌∷◌, ◌++◌, length, refl, map, filter, take, fold, sum_by, nat_le, if◌then◌else◌}
+use Rattle.std.proofs.lemmas.Grind.{common_steps}
+use Rattle.std.specs.Prelude.{◌≡◌, ℕ, ◌+◌, min, max, Bool, true, false, not, ◌&&◌, ◌||◌, List, [], ◌∷◌, ◌++◌, length, refl, map, filter, take, fold, sum_by, nat_le, if◌then◌else◌}
 use Rattle.std.specs.List.{list_any, before_first, after_last, enumerate_from}
 use Rattle.std.proofs.Common.{sym, ◌∙◌, ap, arith, append_assoc}
 use Rattle.std.proofs.lemmas.List.{length-append, take_at}
@@ -39,10 +40,7 @@ abbrev first_columns : List Part → ℕ
 first_columns parts = sum_by text_columns (before_first is_term_end parts)
 
 first_columns-cons : (part : Part) (parts : List Part) → first_columns (part ∷ parts) ≡ (if is_term_end part then 0 else text_columns part + first_columns parts)
-first_columns-cons part parts = ap (λ ps. sum_by text_columns ps) (take_while-cons (λ x. not (is_term_end x)) part parts) ∙ at (is_term_end part) where
-  at : (b : Bool) → sum_by text_columns (cond (not b) (part ∷ before_first is_term_end parts) []) ≡ (if b then 0 else text_columns part + first_columns parts)
-  at true = refl
-  at false = sum_by-cons text_columns part (before_first is_term_end parts)
+first_columns-cons part parts = grind (arith, take_while-cons, sum_by-cons text_columns part (before_first is_term_end parts))
 
 first_columns-push : (parts : List Part) (part : Part) → first_columns (parts ++ part ∷ []) ≡ first_columns parts + (if list_any is_term_end parts then 0 else text_columns part)
 first_columns-push [] part = (grind (arith, zero-add)) ∙ sym (zero-add (text_columns part))
@@ -86,11 +84,7 @@ quiet : (document before rest : List Part) (part : Part) (widest : ℕ) → is_t
     → (document ≡ (before ++ part ∷ []) ++ rest → widest_from widest (is_in_term (before ++ part ∷ [])) (sat (term_length (before ++ part ∷ []))) rest
     ≡ widest_of document (before ++ part ∷ []) rest widest)
     → widest_from widest (is_in_term before) (sat (term_length before)) rest ≡ fold max widest (filter (λ n. nat_le n 24) (lengths_from document (length before + 1) rest))
-quiet document before rest part widest s e n same more =
-    passed document before rest part widest (is_in_term before) (sat (term_length before))
-    (sym (is_in_term-push before part ∙ grind arith))
-    (ap sat (sym (term_length-push before part ∙ grind arith)))
-    same more
+quiet document before rest part widest s e n same more = grind (arith, passed document before rest part widest (is_in_term before) (sat (term_length before)), is_in_term-push before part, term_length-push before part)
 
 -- what a length does to the widest, as it is and with all its columns
 counted : (widest n : ℕ) (ns : List ℕ) → fold max (wider widest (sat n)) (filter (λ n. nat_le n 24) ns) ≡ fold max widest (filter (λ n. nat_le n 24) (n ∷ ns))
@@ -99,22 +93,10 @@ counted widest n ns = grind (arith, nat_tests)
 walk : (document before rest : List Part) (widest : ℕ) → document ≡ before ++ rest
     → widest_from widest (is_in_term before) (sat (term_length before)) rest ≡ widest_of document before rest widest
 walk document before [] widest e = refl
-walk document before (Text bytes style ∷ rest) widest e =
-    passed document before rest (Text bytes style) widest (is_in_term before) (if is_in_term before then sat (sat (term_length before) + columns bytes) else sat (term_length before))
-    (sym (is_in_term-push before (Text bytes style) ∙ and-true (is_in_term before)))
-    ((grind arith) ∙ ap sat (sym (term_length-push before (Text bytes style))))
-    e (λ same. walk document (before ++ Text bytes style ∷ []) rest widest same)
-walk document before (Start blocks.ItemTerm ∷ rest) widest e =
-    grind (arith, walk document (before ++ Start blocks.ItemTerm ∷ []) rest widest, passed, is_in_term-push, term_length-push)
+walk document before (Text bytes style ∷ rest) widest e = grind (arith, common_steps, walk document (before ++ Text bytes style ∷ []) rest widest, passed, is_in_term-push, and-true, term_length-push)
+walk document before (Start blocks.ItemTerm ∷ rest) widest e = grind (arith, common_steps, walk document (before ++ Start blocks.ItemTerm ∷ []) rest widest, passed, is_in_term-push, term_length-push)
 walk document before (Start b ∷ rest) widest e = quiet document before rest (Start b) widest refl refl refl e (λ same. walk document (before ++ Start b ∷ []) rest widest same)
-walk document before (End blocks.ItemTerm ∷ rest) widest e =
-    passed document before rest (End blocks.ItemTerm) (wider widest (sat (term_length before))) false (sat (term_length before))
-    (sym (is_in_term-push before (End blocks.ItemTerm) ∙ and-false (is_in_term before)))
-    (ap sat (sym (term_length-push before (End blocks.ItemTerm) ∙ grind arith)))
-    e (λ same. walk document (before ++ End blocks.ItemTerm ∷ []) rest (wider widest (sat (term_length before))) same)
-    ∙ ap (λ (m : ℕ). fold max (wider widest (sat m)) (filter (λ n. nat_le n 24) (lengths_from document (length before + 1) rest)))
-    (sym (ap term_length (ap (take (length before)) e ∙ take_at before (End blocks.ItemTerm ∷ rest) (length before) refl)))
-    ∙ counted widest (term_length (take (length before) document)) (lengths_from document (length before + 1) rest)
+walk document before (End blocks.ItemTerm ∷ rest) widest e = grind (arith, common_steps, walk document (before ++ End blocks.ItemTerm ∷ []) rest (wider widest (sat (term_length before))), passed, is_in_term-push, and-false, term_length-push, take_at, counted)
 walk document before (End b ∷ rest) widest e = quiet document before rest (End b) widest refl refl refl e (λ same. walk document (before ++ End b ∷ []) rest widest same)
 
 -- from the start on it gives the tab stop

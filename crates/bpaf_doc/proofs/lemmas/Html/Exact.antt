@@ -1,4 +1,5 @@
 -- The page that the code writes, one fragment after another, is the page as a function of the document, and this meets the laws.
+use Rattle.std.proofs.lemmas.Grind.{common_steps}
 use Rattle.std.proofs.Common.{◌≡◌, ℕ, zero, suc, Bool, true, false, List, [], ◌∷◌, ◌++◌, ◌⊎◌, inl, inr, refl, sym, ap, ◌∙◌, append_assoc, append-nil, arith}
 use Rattle.std.specs.Prelude.{◌&&◌, ◌||◌, reverse, flat_map, nat_eq, length, take, ◌-◌}
 use Rattle.std.specs.List.{list_all, ends_with}
@@ -38,11 +39,8 @@ IsOther t = (t ≡ []) ⊎ ((is_empty t ≡ false) × EndsOther t)
 
 line_ends_other : (b : ℕ) (bs : List ℕ) → list_all is_line_byte (b ∷ bs) ≡ true → EndsOther (b ∷ bs)
 unfolding byte_at
-line_ends_other b [] h text front e =
-    let newline : b ≡ 10 = ap (byte_at 0) (turned (b ∷ []) text front e) in
-    false≢true (ap is_line_byte (sym newline) ∙ (and_parts (is_line_byte b) true h).0)
-line_ends_other b (c ∷ cs) h text front e =
-    line_ends_other c cs (and_parts (is_line_byte b) (list_all is_line_byte (c ∷ cs)) h).1 (text ++ b ∷ []) front (append_assoc text (b ∷ []) (c ∷ cs) ∙ e)
+line_ends_other b [] h text front e = grind (arith, turned (b ∷ []) text front e, false≢true, and_parts (is_line_byte b) true h)
+line_ends_other b (c ∷ cs) h text front e = grind (arith, line_ends_other c cs (and_parts (is_line_byte b) (list_all is_line_byte (c ∷ cs)) h).1 (text ++ b ∷ []) front, and_parts (is_line_byte b) (list_all is_line_byte (c ∷ cs)) h, append_assoc text (b ∷ []) (c ∷ cs))
 
 line_is_other : (t : List ℕ) → list_all is_line_byte t ≡ true → IsOther t
 line_is_other t h = grind (arith, line_ends_other)
@@ -71,9 +69,7 @@ some_stays (b ∷ bs) t h = refl
 
 -- a text is at a break after a break
 break_put : (text : List ℕ) → is_at_break (text ++ break_text) ≡ true
-break_put text =
-    ap (λ b. is_empty (text ++ break_text) || b) ((ends_is Decides-eqb (text ++ break_text) break_text (ends_with nat_eq (text ++ break_text) break_text) refl).1 text refl)
-    ∙ or-true (is_empty (text ++ break_text))
+break_put text = grind (arith, common_steps, ends_is, Decides-eqb, or-true)
 
 no_break : (text t : List ℕ) → is_empty t ≡ false → EndsOther t → is_at_break (text ++ t) ≡ false
 no_break text t some other = at (cases_Bool (ends_with nat_eq (text ++ t) break_text)) where

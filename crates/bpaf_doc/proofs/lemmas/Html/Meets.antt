@@ -1,11 +1,11 @@
 -- The pages that the code writes are what `IsHtmlOf` promises.
-use Rattle.std.proofs.Common.{◌≡◌, ℕ, Bool, true, List, sym, ap, ◌∙◌, subst}
-use Rattle.std.specs.Prelude.{filter, flat_map}
+use Rattle.std.proofs.Common.{◌≡◌, ℕ, Bool, true, List, sym, ap, ◌∙◌, subst, arith}
+use Rattle.std.specs.Prelude.{filter}
 use Rattle.std.specs.List.{list_all}
 use Rattle.bpaf_doc.specs.Buffer.Parts.{Part, IsWellNested}
 use Rattle.bpaf_doc.specs.Splitter.Chunks.{is_line_byte}
 use Rattle.bpaf_doc.specs.Html.Fragments.{Fragment, shown_fragments}
-use Rattle.bpaf_doc.specs.Html.Page.{IsHtmlOf, IsWellNestedHtml, erased, html_text, fragment_text}
+use Rattle.bpaf_doc.specs.Html.Page.{IsHtmlOf, IsWellNestedHtml, erased, html_text}
 use Rattle.bpaf_doc.specs.Html.Steps.Page.{blank_page, page_after_all}
 use Rattle.bpaf_doc.proofs.lemmas.Html.Fragments.Walking.{walked}
 use Rattle.bpaf_doc.proofs.lemmas.Html.Fragments.Lines.{fragment_is_line, walk_lines}
@@ -23,11 +23,7 @@ shown_lines document full = ap (list_all fragment_is_line) (sym (walked full doc
 
 -- without tags and newlines a page is the HTML text, of every document
 pub page_text : (document : List Part) (full : Bool) (answer : List ℕ) → answer ≡ (page_after_all blank_page (shown_fragments full document)).bytes → filter is_line_byte (erased answer) ≡ html_text document full
-page_text document full answer e =
-    let fs : List Fragment = shown_fragments full document in
-    ap (λ x. filter is_line_byte (erased x)) (e ∙ page-spelled blank_page fs)
-    ∙ plain_spelled (cut_from blank_page fs) (ap (list_all fragment_is_line) (cut-fragments blank_page fs) ∙ shown_lines document full)
-    ∙ ap (λ x. flat_map fragment_text x) (cut-fragments blank_page fs)
+page_text document full answer e = grind (arith, page-spelled blank_page, plain_spelled, cut-fragments blank_page, shown_lines document full)
 
 -- the page of a well-nested document
 pub page_meets : (document : List Part) (full : Bool) (answer : List ℕ) → IsWellNested document → answer ≡ (page_after_all blank_page (shown_fragments full document)).bytes → IsHtmlOf document full answer

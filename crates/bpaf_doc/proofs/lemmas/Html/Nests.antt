@@ -215,13 +215,7 @@ nests_html (text style chunks e) p =
     let whole = around_spelled p (TextStart style) (TextEnd style) shown in
     subst IsWellNestedHtml (sym (ap (λ x. spelled (cut_from p x)) e ∙ whole)) (styled_html p last style (spelled (cut_from first shown)) (chunks_html first style chunks))
 nests_html (hidden e) p = no_html (ap (λ x. spelled (cut_from p x)) e)
-nests_html (enclosed b inner e h) p =
-    let first : Written = page_after p (Start b) in
-    let last : Written = page_after_all first inner in
-    let same : SameBlocks first last = nests_blocks h first in
-    let back : first_or_false last.outer ≡ p.in_list = ap first_or_false (same.1 ∙ start_outer p b) in
-    let whole = around_spelled p (Start b) (End b) inner ∙ ap (λ l. spelled (snippets_of p (Start b)) ++ (spelled (cut_from first inner) ++ spelled (end_snippets last.fresh l b))) back in
-    subst IsWellNestedHtml (sym (ap (λ x. spelled (cut_from p x)) e ∙ whole)) (block_html p.fresh last.fresh p.in_list b (spelled (cut_from first inner)) (nests_html h first))
+nests_html (enclosed b inner e h) p = grind (arith, nests_html h, nests_blocks h, start_outer p b, around_spelled p (Start b) (End b) inner, block_html p.fresh)
 nests_html (joined front back e h k) p =
     html_joined (spelled (cut_from p front)) (spelled (cut_from (page_after_all p front) back))
     (ap (λ x. spelled (cut_from p x)) e ∙ ap spelled (cut-append p front back) ∙ spelled-append (cut_from p front) (cut_from (page_after_all p front) back))

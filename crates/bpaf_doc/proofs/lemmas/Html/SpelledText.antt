@@ -39,9 +39,7 @@ spelled_character l c h = elim (cases_lt c 128) [ inl ascii ↦ rw (encode_ascii
 
 spelled_characters : (l : Language) (cs : List ℕ) → scalars cs ≡ true → IsUtf8 (flat_map (spelling_of l) (encodes cs))
 spelled_characters l [] h = IsUtf8-nil
-spelled_characters l (c ∷ cs) h =
-    let parts = both (scalar c) (scalars cs) h in
-    rw (flat_map-append (spelling_of l) (encode c) (encodes cs)) (IsUtf8-append (flat_map (spelling_of l) (encode c)) (flat_map (spelling_of l) (encodes cs)) (spelled_character l c parts.0) (spelled_characters l cs parts.1))
+spelled_characters l (c ∷ cs) h = grind (arith, spelled_characters l cs, both (scalar c) (scalars cs) h, flat_map-append (spelling_of l) (encode c) (encodes cs), IsUtf8-append (flat_map (spelling_of l) (encode c)) (flat_map (spelling_of l) (encodes cs)), spelled_character l c)
 
 pub IsUtf8-spelled : (l : Language) (bytes : List ℕ) → IsUtf8 bytes → IsUtf8 (flat_map (spelling_of l) bytes)
 IsUtf8-spelled l bytes h = rw (← h.1.1) (spelled_characters l h.0 h.1.0)

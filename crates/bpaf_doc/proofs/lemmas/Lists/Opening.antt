@@ -1,4 +1,5 @@
 -- Lists of what opens and closes: how many of those that were open before it a list closes.
+use Rattle.std.proofs.lemmas.Grind.{common_steps}
 use Rattle.std.specs.Prelude.{◌≡◌, ℕ, zero, suc, ◌+◌, ◌-◌, Bool, true, false, List, [], ◌∷◌, refl, map, count_by, nat_le, if◌then◌else◌, ◌⊎◌}
 use Rattle.std.specs.List.{list_all}
 use Rattle.std.proofs.Common.{◌∙◌, inl, inr, arith}
@@ -52,6 +53,4 @@ module _ {A : Type 0} (opens closes : A → Bool) (apart : (x : A) → closes x 
     at more (inr c) (inr o) ih = step more more x xs (rw (c, o) refl) ∙ ih more ∙ rw (c, o) refl
 
   pub stays_open_is : (xs : List A) → stays_open opens closes xs ≡ nat_le (closed opens closes xs) 0
-  stays_open_is xs =
-      list_all-ext (λ front. nat_le (count_by closes front) (count_by opens front)) (is_within 0) (λ front. grind (arith, nat_tests)) (fronts xs)
-      ∙ stays_by_is 0 xs
+  stays_open_is xs = grind (arith, common_steps, list_all-ext, nat_tests, stays_by_is 0 xs)

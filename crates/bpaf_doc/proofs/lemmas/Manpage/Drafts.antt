@@ -95,12 +95,7 @@ section_holds page by_page done draft b name named section term h = record {
 -- the end of any other block
 block_holds : (page : List (Piece Escape)) (by_page : Bool) (done : List Part) (draft : Draft) (b : Block) → heading_name b ≡ None → is_section b ≡ false → Holds page by_page done draft
     → Holds page by_page (done ++ End b ∷ []) (after_block draft b)
-block_holds page by_page done draft b unnamed inner h = record {
-  text = one_more page draft.page by_page done (End b) _ h.text (ap (λ found. flat_map pieces_of (end_calls done b found)) (sym unnamed) ∙ (grind arith));
-  strips = (grind arith) ∙ ap (λ x. if is_term_mark (End b) then false else x) h.strips ∙ sym (strips-append by_page done (End b));
-  captures = h.captures ∙ sym (last_is_start-append is_section_mark done (End b) ∙ ap (λ x. if x then false else last_is_start is_section_mark done) inner);
-  heading = h.heading ∙ sym (captured_texts-append done (End b) ∙ ap (λ x. if x then [] else captured_texts done ++ []) inner ∙ append-nil (captured_texts done));
-}
+block_holds page by_page done draft b unnamed inner h = grind (arith, one_more page draft.page by_page done (End b), strips-append by_page done (End b), last_is_start-append is_section_mark done (End b), captured_texts-append done (End b), append-nil (captured_texts done))
 
 end_holds : (page : List (Piece Escape)) (by_page : Bool) (done : List Part) (draft : Draft) (b : Block) → Holds page by_page done draft → Holds page by_page (done ++ End b ∷ []) (after_end draft b)
 end_holds page by_page done draft block.Header h = section_holds page by_page done draft block.Header _ refl refl refl h
@@ -127,8 +122,7 @@ written_text page document = (parts_hold page.pieces page.strip_newlines [] (dra
 -- So its text is the page as a function of the document.
 pub exact_page : (page : Script) (begun written : RoffText) (document : List Part) (text : List ℕ) → begun ≡ text_of Handle page.pieces → written ≡ (after_parts (draft_on begun page.strip_newlines) document).page → text ≡ written.bytes
     → text ≡ roff_page page document
-exact_page page begun written document text begins on e =
-    e ∙ ap (λ (t : RoffText). t.bytes) (on ∙ ap (λ t. (after_parts (draft_on t page.strip_newlines) document).page) begins ∙ written_text page document)
+exact_page page begun written document text begins on e = grind (arith, written_text page document)
 
 -- ---- a page that keeps newlines
 

@@ -1,5 +1,5 @@
 -- Nothing stands between the words of a markdown text, and breaks stand where they were asked for.
-use Rattle.std.proofs.Common.{◌≡◌, Bool, true, false, List, [], ◌∷◌, ◌++◌, refl, sym, ap, ◌∙◌, inl, inr, append_assoc, append-nil, arith}
+use Rattle.std.proofs.Common.{◌≡◌, Bool, true, false, List, [], ◌∷◌, ◌++◌, refl, sym, ap, ◌∙◌, append_assoc, append-nil, arith}
 use Rattle.std.specs.Prelude.{not, ◌&&◌, ◌||◌, IsTrue}
 use Rattle.std.specs.List.{list_any}
 use Rattle.std.proofs.lemmas.Bool.{false≢true, and_parts, and_from, not-true, or_right, cases_Bool}
@@ -65,10 +65,7 @@ other_touches ss f fs h1 h2 = grind arith
 
 cut_touches : (q : Marked) (fs : List Fragment) → q.pending ≡ false → q.in_code ≡ false → touches (cut_from q fs) ≡ true
 cut_touches q [] e k = rw e refl
-cut_touches q (Shown style (Raw bytes weight) ∷ fs) e k = elim (cases_Bool (is_ordinary (Raw bytes weight))) [
-  | inl o ↦ (grind (arith, and_parts, not-true, item-code))
-  | inr o ↦ other_touches (cut_from q (Shown style (Raw bytes weight) ∷ fs)) (Shown style (Raw bytes weight)) fs (cut-fragments q (Shown style (Raw bytes weight) ∷ fs)) o
-]
+cut_touches q (Shown style (Raw bytes weight) ∷ fs) e k = grind (arith, cases_Bool (is_ordinary (Raw bytes weight)), item-code, other_touches (cut_from q (Shown style (Raw bytes weight) ∷ fs)) (Shown style (Raw bytes weight)) fs, cut-fragments q (Shown style (Raw bytes weight) ∷ fs))
 cut_touches q (f ∷ fs) e k = other_touches (cut_from q (f ∷ fs)) f fs (cut-fragments q (f ∷ fs)) refl
 
 cut_followed : (p : Marked) (fs : List Fragment) → all_followed (cut_from p fs) ≡ true

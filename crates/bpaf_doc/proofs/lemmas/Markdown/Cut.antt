@@ -1,4 +1,5 @@
 -- The snippets that make up a markdown text, and what it keeps in mind between fragments.
+use Rattle.std.proofs.lemmas.Grind.{common_steps}
 use Rattle.std.proofs.Common.{◌≡◌, ℕ, Bool, true, false, List, [], ◌∷◌, ◌++◌, map, refl, sym, ap, ◌∙◌, append_assoc, append-nil, nat_lt, arith}
 use Rattle.std.specs.Prelude.{not, ◌&&◌, ◌==◌, flat_map, reverse, codes, if◌then◌else◌}
 use Rattle.std.proofs.Math.Bool.{and-true, and-false}
@@ -226,25 +227,7 @@ end_code-spelled : (before : List Fragment) (p : Marked) → (close_code p (code
 end_code-spelled before p = grind (arith, append-nil p.bytes)
 
 raw-spelled : (before : List Fragment) (p : Marked) (style : Style) (bytes : List ℕ) (weight : ℕ) → SameMono before p → (with_raw p bytes weight).bytes ≡ p.bytes ++ spelled before (raw_snippets p style bytes weight)
-raw-spelled before p style bytes weight mono =
-    by_weight weight (λ t c. (raw_marked t c p bytes).bytes ≡ p.bytes ++ spelled before (raw_cut t c p f))
-    (λ e c. line_put (with_new_line p).bytes (new_line_snippets p.bytes) (new_line-spelled before p) (new_line_marks p.bytes) (fence_is_whole bytes weight e))
-    (λ e h. line_put (open_code p).bytes (open_snippets p.in_code) (open-spelled before p) (open_marks p.in_code) (code_is_whole bytes weight h))
-    (λ e h.
-    let q : Marked = close_code p (codes "\n  ```\n") in
-    ap (λ t. q.bytes ++ (if t then flat_map escaped_character bytes else bytes)) (sym mono)
-    ∙ ap (λ x. q.bytes ++ x) (sym (words_text before style bytes weight (others_are_ordinary bytes weight e h)))
-    ∙ ap (λ x. x ++ fragment_text before f) (close-spelled before p)
-    ∙ append_assoc p.bytes (spelled before (close_snippets p.in_code)) (fragment_text before f)
-    ∙ ap (λ x. p.bytes ++ (spelled before (close_snippets p.in_code) ++ x)) (sym (append-nil (fragment_text before f)))
-    ∙ ap (λ x. p.bytes ++ x) (sym (marks_then before (close_snippets p.in_code) (Of f ∷ []) (close_marks p.in_code)))) where
-      f : Fragment
-      f = Shown style (Raw bytes weight)
-
-      -- a line after what was put before it
-      line_put : (put_before : List ℕ) (marks : List MarkdownSnippet) → put_before ≡ p.bytes ++ spelled before marks → fragments_in marks ≡ [] → is_ordinary (Raw bytes weight) ≡ false
-          → ((put_before ++ codes "  ") ++ bytes) ++ codes "\n" ≡ p.bytes ++ spelled before (marks ++ line_snippets f)
-      line_put put_before marks e none whole = grind (arith, f, whole_text, append_assoc, marks_then)
+raw-spelled before p style bytes weight mono = grind (arith, common_steps, by_weight, new_line-spelled, new_line_marks, fence_is_whole, open-spelled, open_marks, code_is_whole, words_text, others_are_ordinary, close-spelled, append_assoc, append-nil, marks_then, close_marks, whole_text)
 
 blank_line-spelled : (before : List Fragment) (p : Marked) → (with_blank_line p).bytes ≡ p.bytes ++ spelled before (blank_line_snippets p.bytes)
 blank_line-spelled before p = grind (arith, append-nil p.bytes)

@@ -1,14 +1,15 @@
 -- The text that the code writes, one fragment after another, is the text as a function of the document, and this meets the laws.
+use Rattle.std.proofs.lemmas.Grind.{common_steps}
 use Rattle.std.proofs.Common.{◌≡◌, ℕ, ◌^◌, ◌<◌, Bool, true, false, List, [], ◌∷◌, ◌++◌, length, refl, sym, ap, ◌∙◌, append_assoc, append-nil, nat_lt, arith}
-use Rattle.std.specs.Prelude.{filter, flat_map, if◌then◌else◌, codes}
+use Rattle.std.specs.Prelude.{filter, if◌then◌else◌, codes}
 use Rattle.std.specs.List.{list_any}
 use Rattle.std.proofs.lemmas.List.{reverse-append}
 use Rattle.bpaf_doc.specs.Buffer.Parts.{Part}
 use Rattle.bpaf_doc.specs.Html.Fragments.{Fragment, shown_fragments}
-use Rattle.bpaf_doc.specs.Markdown.Page.{IsMarkdownOf, escaped_character, is_header_start, is_in_list, is_in_mono, is_item_start, is_after_empty_item}
-use Rattle.bpaf_doc.specs.Markdown.Exact.{new_line, blank_line, indented_line, decides_code, begins_with_code_line, is_in_code, opening_fence, closing_fence, words_markdown, raw_markdown, item_mark, fragment_markdown, markdown_after, markdown_page}
+use Rattle.bpaf_doc.specs.Markdown.Page.{IsMarkdownOf, is_header_start, is_in_list, is_in_mono, is_item_start, is_after_empty_item}
+use Rattle.bpaf_doc.specs.Markdown.Exact.{new_line, blank_line, indented_line, decides_code, begins_with_code_line, is_in_code, opening_fence, raw_markdown, item_mark, fragment_markdown, markdown_after, markdown_page}
 use Rattle.bpaf_doc.specs.Markdown.Steps.Page.{Marked, blank_text, with_new_line, with_blank_line, with_item, open_code, close_code, with_raw, own_after, is_term_end, marked_after, marked_after_all}
-use Rattle.bpaf_doc.proofs.lemmas.Markdown.Cut.{raw_marked, by_weight, flags, item-flags, step-flags, code_next, item-code, step-code}
+use Rattle.bpaf_doc.proofs.lemmas.Markdown.Cut.{by_weight, flags, item-flags, step-flags, code_next, item-code, step-code}
 use Rattle.bpaf_doc.proofs.lemmas.Markdown.Mind.{Agrees, Room, begins_is, after_empty_is, agrees_after, rooms_next, same_mono}
 use Rattle.bpaf_doc.proofs.lemmas.Markdown.Meets.{room_for, at_start, markdown_meets}
 
@@ -51,13 +52,7 @@ both : (bytes first second : List ℕ) (after : List ℕ) → after ≡ bytes ++
 both bytes first second after e = ap (λ x. x ++ second) e ∙ append_assoc bytes first second
 
 raw_put : (before : List Fragment) (p : Marked) (bytes : List ℕ) (weight : ℕ) → Looks before p → (with_raw p bytes weight).bytes ≡ p.bytes ++ raw_markdown p.bytes before bytes weight
-raw_put before p bytes weight h =
-    by_weight weight (λ t c. (raw_marked t c p bytes).bytes
-    ≡ p.bytes ++ (if t then new_line p.bytes ++ indented_line bytes else (if c then opening_fence before ++ indented_line bytes else (closing_fence before ++ words_markdown before bytes))))
-    (λ e c. line_put (with_new_line p).bytes bytes ∙ both p.bytes (new_line p.bytes) (indented_line bytes) (with_new_line p).bytes (new_line_put p))
-    (λ e k. line_put (open_code p).bytes bytes ∙ both p.bytes (opening_fence before) (indented_line bytes) (open_code p).bytes (open_put before p h.code))
-    (λ e k. ap (λ b. (close_code p (codes "\n  ```\n")).bytes ++ (if b then flat_map escaped_character bytes else bytes)) h.mono
-    ∙ both p.bytes (closing_fence before) (words_markdown before bytes) (close_code p (codes "\n  ```\n")).bytes (close_put before p (codes "\n  ```\n") h.code))
+raw_put before p bytes weight h = grind (arith, common_steps, by_weight, line_put, both, new_line_put, open_put, close_put)
 
 -- a fragment that begins no item
 own_put : (before : List Fragment) (p : Marked) (f : Fragment) (fs : List Fragment) → Looks before p → is_item_start f ≡ false → (is_term_end f ≡ false → p.empty_item ≡ is_after_empty_item before)

@@ -1,5 +1,6 @@
 -- Fences open and close in turn, and code stands between them.
-use Rattle.std.proofs.Common.{◌≡◌, ℕ, ◌+◌, ◌<◌, Bool, true, false, List, [], ◌∷◌, ◌++◌, map, refl, sym, ap, ◌∙◌, subst, arith}
+use Rattle.std.proofs.lemmas.Grind.{common_steps}
+use Rattle.std.proofs.Common.{◌≡◌, ℕ, ◌+◌, ◌<◌, Bool, true, false, List, [], ◌∷◌, ◌++◌, map, refl, ap, ◌∙◌, arith}
 use Rattle.std.specs.Prelude.{not, ◌&&◌, ◌||◌, ◌==◌, reverse, IsTrue}
 use Rattle.std.specs.List.{list_all}
 use Rattle.std.proofs.lemmas.Bool.{false≢true, eqb-true, and_parts, and_from}
@@ -7,7 +8,7 @@ use Rattle.bpaf_doc.specs.declared.buffer.Style.TheVariants as styles
 use Rattle.bpaf_doc.specs.Splitter.Chunks.{Raw, Paragraph, LineBreak, code_weight, fence_weight, is_ordinary, is_code_line}
 use Rattle.bpaf_doc.specs.Html.Fragments.{Fragment, TextStart, Shown, TextEnd, Hidden, Start, End, shows}
 use Rattle.bpaf_doc.specs.Markdown.Page.{TextFence, Fence, MarkdownSnippet, Put, Of, style_marks, is_text_fence, is_fence, opened_fences, closed_fences, is_text_end}
-use Rattle.bpaf_doc.specs.Markdown.Steps.Page.{Marked, with_item, is_term_end, marked_after}
+use Rattle.bpaf_doc.specs.Markdown.Steps.Page.{Marked, is_term_end, marked_after}
 use Rattle.bpaf_doc.proofs.lemmas.Lists.Counting.{one_if, count_by-cons}
 use Rattle.bpaf_doc.proofs.lemmas.Lists.Passing.{state_after, passes, passes_back, passes_both, passes_first, passes_rest}
 use Rattle.bpaf_doc.proofs.lemmas.Markdown.Cut.{by_weight, start_snippets, own_snippets, snippets_of, cut_from, item_snippets, end_code_snippets, code_next, step-code, item-code, fence_is_whole, code_is_whole, others_are_ordinary}
@@ -59,12 +60,7 @@ abbrev Fences : Bool → List MarkdownSnippet → Bool → Type 0
 Fences q ss next = (well_fenced q ss ≡ true) × (fence_after q ss ≡ next)
 
 then_fences : (q r next : Bool) (xs ys : List MarkdownSnippet) → Fences q xs r → Fences r ys next → Fences q (xs ++ ys) next
-then_fences q r next xs ys h k =
-    (passes_both may_stand fence_next q xs ys h.0 (ap (λ s. well_fenced s ys) h.1 ∙ k.0), after-append q xs ys ∙ ap (λ s. fence_after s ys) h.1 ∙ k.1)
-  where
-    after-append : (q : Bool) (xs ys : List MarkdownSnippet) → fence_after q (xs ++ ys) ≡ fence_after (fence_after q xs) ys
-    after-append q [] ys = refl
-    after-append q (x ∷ xs) ys = after-append (fence_next q x) xs ys
+then_fences q r next xs ys h k = grind (arith, common_steps, passes_both may_stand fence_next q xs ys h.0)
 
 -- a fragment that asks nothing of fences, and is no text's end
 one_fences : (q : Bool) (f : Fragment) (rest : List MarkdownSnippet) (next : Bool) → may_stand q (Of f) ≡ true → Fences q rest next → Fences q (Of f ∷ rest) next
@@ -97,11 +93,7 @@ own_fences p (Start b) = plain_fences p.in_code (start_snippets p b) (grind arit
 own_fences p (End b) = grind (arith, plain_fences)
 
 step_fences : (p : Marked) (f : Fragment) → Fences p.in_code (snippets_of p f) (marked_after p f).in_code
-step_fences p f =
-    let q : Marked = with_item p (is_term_end f) in
-    let own : Fences p.in_code (own_snippets q f) (code_next p.in_code f) = subst (λ c. Fences c (own_snippets q f) (code_next c f)) (item-code p (is_term_end f)) (own_fences q f) in
-    subst (λ c. Fences p.in_code (snippets_of p f) c) (sym (step-code p f))
-    (then_fences p.in_code p.in_code (code_next p.in_code f) (item_snippets p.pending (is_term_end f)) (own_snippets q f) (item_fences p.in_code p.pending (is_term_end f)) own)
+step_fences p f = grind (arith, item-code p (is_term_end f), own_fences, step-code p f, then_fences p.in_code p.in_code (code_next p.in_code f) (item_snippets p.pending (is_term_end f)), item_fences p.in_code p.pending (is_term_end f))
 
 cut_fenced : (p : Marked) (fs : List Fragment) → well_fenced p.in_code (cut_from p fs) ≡ true
 cut_fenced p [] = (item_fences p.in_code p.pending false).0
@@ -115,23 +107,13 @@ passes_front q (x ∷ xs) ys h = grind (arith, passes_front (fence_next q x) xs 
 
 counted_before : (p : Marked) (fs : List Fragment) (before after : List MarkdownSnippet) (a : Fragment) → p.in_code ≡ false → cut_from p fs ≡ before ++ Of a ∷ after
     → (opened_fences before ≡ closed_fences before + one_if (fence_after false before)) × (may_stand (fence_after false before) (Of a) ≡ true)
-counted_before p fs before after a none e =
-    let whole : well_fenced false (before ++ Of a ∷ after) ≡ true = ap (well_fenced false) (sym e) ∙ ap (λ c. well_fenced c (cut_from p fs)) (sym none) ∙ cut_fenced p fs in (
-      omega (arith, fences_counted false before (passes_front false before (Of a ∷ after) whole)),
-      passes_first may_stand fence_next (fence_after false before) (Of a) after (passes_back may_stand fence_next false before (Of a ∷ after) whole),
-    )
+counted_before p fs before after a none e = grind (arith, cut_fenced p fs, fences_counted false before, passes_front false before (Of a ∷ after), passes_first may_stand fence_next (fence_after false before) (Of a) after, passes_back may_stand fence_next false before (Of a ∷ after))
 
 -- at a code line more fences were opened than closed
 pub fenced_of : (p : Marked) (fs : List Fragment) → p.in_code ≡ false → (before after : List MarkdownSnippet) (a : Fragment) → cut_from p fs ≡ before ++ Of a ∷ after → IsTrue (shows is_code_line a) → closed_fences before < opened_fences before
-fenced_of p fs none before after a e code =
-    let counts : (opened_fences before ≡ closed_fences before + one_if (fence_after false before)) × (may_stand (fence_after false before) (Of a) ≡ true) = counted_before p fs before after a none e in
-    let state : fence_after false before ≡ true = grind arith in
-    omega (arith, counts.0, ap one_if state)
+fenced_of p fs none before after a e code = grind (arith, counted_before p fs before after a none e)
 
 -- at an ordinary Raw, and at the end of a text, as many
 pub unfenced_of : (p : Marked) (fs : List Fragment) → p.in_code ≡ false → (before after : List MarkdownSnippet) (a : Fragment) → cut_from p fs ≡ before ++ Of a ∷ after → IsTrue (shows is_ordinary a || is_text_end a)
     → closed_fences before ≡ opened_fences before
-unfenced_of p fs none before after a e other =
-    let counts : (opened_fences before ≡ closed_fences before + one_if (fence_after false before)) × (may_stand (fence_after false before) (Of a) ≡ true) = counted_before p fs before after a none e in
-    let state : fence_after false before ≡ false = grind arith in
-    omega (arith, counts.0, ap one_if state)
+unfenced_of p fs none before after a e other = grind (arith, counted_before p fs before after a none e)

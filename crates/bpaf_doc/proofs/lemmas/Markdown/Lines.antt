@@ -1,4 +1,5 @@
 -- A whole line of a markdown text stands alone on its line.
+use Rattle.std.proofs.lemmas.Grind.{common_steps}
 use Rattle.std.proofs.Common.{rules, ◌≡◌, ℕ, ◌+◌, ◌-◌, Bool, true, false, cond, List, [], ◌∷◌, ◌++◌, length, take, drop, refl, sym, ap, ◌∙◌, subst, arith, append_assoc, append-nil, length-append}
 use Rattle.std.specs.Prelude.{not, ◌&&◌, ◌||◌, ◌==◌, if◌then◌else◌, IsTrue, codes}
 use Rattle.std.specs.List.{list_all, after_last, suffix_len, prefix_len}
@@ -10,9 +11,9 @@ use Rattle.bpaf_doc.specs.declared.buffer.Style.{Style}
 use Rattle.bpaf_doc.specs.Splitter.Chunks.{Chunk, Raw, Paragraph, LineBreak, fence_weight, is_whole_line}
 use Rattle.bpaf_doc.specs.Html.Fragments.{Fragment, TextStart, Shown, TextEnd, shows}
 use Rattle.bpaf_doc.specs.Markdown.Page.{mark_text, MarkdownSnippet, Put, Of, fragments_in, fragment_text, EndsInBlankLine, is_item_start}
-use Rattle.bpaf_doc.specs.Markdown.Steps.Page.{Marked, put, starts_line, with_new_line, open_code, with_line, with_words, with_raw, with_chunk, marked_after}
+use Rattle.bpaf_doc.specs.Markdown.Steps.Page.{Marked, put, starts_line, with_new_line, open_code, with_line, with_raw, with_chunk, marked_after}
 use Rattle.bpaf_doc.proofs.lemmas.Lists.Passing.{passes}
-use Rattle.bpaf_doc.proofs.lemmas.Markdown.Cut.{raw_cut, raw_marked, by_weight, spelled, own_snippets, snippets_of, cut_from, item_snippets, open_snippets, close_snippets, line_snippets, new_line_snippets, flags, step-flags, step-code, item_marks, step-spelled, new_line-spelled, open-spelled, new_line_marks, open_marks, close-code}
+use Rattle.bpaf_doc.proofs.lemmas.Markdown.Cut.{raw_cut, by_weight, spelled, own_snippets, snippets_of, cut_from, item_snippets, open_snippets, close_snippets, line_snippets, new_line_snippets, flags, step-flags, step-code, item_marks, step-spelled, new_line-spelled, open-spelled, new_line_marks, open_marks, close-code}
 use Rattle.bpaf_doc.proofs.lemmas.Markdown.Kept.{step-fragments}
 use Rattle.bpaf_doc.proofs.lemmas.Markdown.Mind.{Agrees, Room, agrees_after, rooms_next, same_mono}
 
@@ -138,15 +139,11 @@ with_line_blank : (p : Marked) (text : List ℕ) → EndsInBlankLine (with_line 
 with_line_blank p text = blank_newline ((p.bytes ++ codes "  ") ++ text)
 
 raw_keeps : (p : Marked) (bytes : List ℕ) (weight : ℕ) → (with_raw p bytes weight).in_code ≡ true → EndsInBlankLine (with_raw p bytes weight).bytes
-raw_keeps p bytes weight = by_weight weight (λ t c. (raw_marked t c p bytes).in_code ≡ true → EndsInBlankLine (raw_marked t c p bytes).bytes)
-    (λ e c h. with_line_blank (with_new_line p) bytes) (λ e k h. with_line_blank (open_code p) bytes) (λ e k h. never (with_words p bytes).in_code (close-code p (codes "\n  ```\n")) h)
+raw_keeps p bytes weight = grind (arith, by_weight weight, with_line_blank (with_new_line p) bytes, with_line_blank (open_code p) bytes, close-code p)
 
 chunk_keeps : (p : Marked) (chunk : Chunk) → (with_chunk p chunk).in_code ≡ true → EndsInBlankLine (with_chunk p chunk).bytes
 chunk_keeps p (Raw bytes weight) = raw_keeps p bytes weight
-chunk_keeps p Paragraph = λ _. elim (p.in_list) as (λ l. EndsInBlankLine (p.bytes ++ (if l then codes "\n\n  " else codes "\n\n"))) [
-  | true ↦ subst EndsInBlankLine (ap (λ x. x ++ codes "  ") (append_assoc p.bytes (codes "\n") (codes "\n")) ∙ append_assoc p.bytes (codes "\n\n") (codes "  ")) (two_blanks ((p.bytes ++ codes "\n") ++ codes "\n") (blank_newline (p.bytes ++ codes "\n")))
-  | false ↦ subst EndsInBlankLine (append_assoc p.bytes (codes "\n") (codes "\n")) (blank_newline (p.bytes ++ codes "\n"))
-]
+chunk_keeps p Paragraph = grind (arith, common_steps, append_assoc, two_blanks, blank_newline)
 chunk_keeps p LineBreak = λ _. blank_newline p.bytes
 
 -- what the step of a chunk is where no item waits
@@ -157,10 +154,7 @@ pending_after : (p : Marked) (f : Fragment) → is_item_start f ≡ false → (m
 pending_after p f e = ap (λ s. s.pending) (step-flags p f) ∙ ap (λ b. if b then true else false) e
 
 chunk_next : (p : Marked) (style : Style) (chunk : Chunk) → Keeps true p → Keeps true (marked_after p (Shown style chunk))
-chunk_next p style chunk keeps = (
-  pending_after p (Shown style chunk) refl,
-  subst (λ q. q.in_code ≡ true → EndsInBlankLine q.bytes) (sym (chunk_step p style chunk keeps.0)) (chunk_keeps p chunk),
-)
+chunk_next p style chunk keeps = grind (arith, common_steps, pending_after p (Shown style chunk) refl, chunk_step p style chunk keeps.0, chunk_keeps p chunk)
 
 step_stands : (t : Bool) (before : List Fragment) (p : Marked) (f : Fragment) → may_come t f ≡ true → Keeps t p → LinesStand before p.bytes (snippets_of p f)
 step_stands t before p f h1 h2 = grind (arith, raw_stands, false≢true, other_stands, step-fragments)

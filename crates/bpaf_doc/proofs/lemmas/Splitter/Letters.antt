@@ -1,4 +1,5 @@
 -- Latin letters of two bytes take a column each, as printable ASCII does.
+use Rattle.std.proofs.lemmas.Grind.{common_steps}
 use Rattle.std.specs.Prelude.{◌≡◌, ℕ, zero, suc, ◌+◌, ◌-◌, ◌/◌, ◌%◌, ◌<◌, ◌≤◌, ◌==◌, Bool, true, false, ◌&&◌, List, [], ◌∷◌, ◌++◌, refl, length, take, drop, sum_by, if◌then◌else◌}
 use Rattle.std.specs.Int.{is_in_range}
 use Rattle.std.specs.List.{list_all}
@@ -44,12 +45,8 @@ narrow_high = refl
 
 narrow_at : (n first k : ℕ) → all_narrow n first ≡ true → k < n → is_narrow (first + k) ≡ true
 narrow_at zero first k h l = absurd (omega (arith, l))
-narrow_at (suc n) first zero h l =
-    let e : first + 0 ≡ first = omega arith in
-    ap is_narrow e ∙ (and_parts (is_narrow first) (all_narrow n (first + 1)) h).0
-narrow_at (suc n) first (suc k) h l =
-    let e : first + 1 + k ≡ first + suc k = omega arith in
-    ap is_narrow (sym e) ∙ narrow_at n (first + 1) k (and_parts (is_narrow first) (all_narrow n (first + 1)) h).1 (omega (arith, l))
+narrow_at (suc n) first zero h l = grind (arith, common_steps, and_parts)
+narrow_at (suc n) first (suc k) h l = grind (arith, common_steps, narrow_at n (first + 1) k (and_parts (is_narrow first) (all_narrow n (first + 1)) h).1 (omega (arith, l)), and_parts)
 
 narrow_in : (first c : ℕ) → all_narrow 128 first ≡ true → first ≤ c → c < first + 128 → is_narrow c ≡ true
 narrow_in first c h low high =

@@ -1,5 +1,5 @@
 -- The chunks of a run, and of a text that begins with one.
-use Rattle.std.specs.Prelude.{◌≡◌, ◌≢◌, ℕ, suc, ◌<◌, ◌≤◌, Bool, true, IsTrue, ◌⊎◌, List, [], ◌∷◌, ◌++◌, codes, refl, length, take, drop, Option, Some, None, unwrap_or}
+use Rattle.std.specs.Prelude.{◌≡◌, ◌≢◌, ℕ, ◌<◌, ◌≤◌, Bool, true, IsTrue, ◌⊎◌, List, [], ◌∷◌, ◌++◌, codes, refl, length, take, drop, Option, Some, None, unwrap_or}
 use Rattle.std.specs.List.{list_all}
 use Rattle.std.proofs.Common.{sym, ◌∙◌, ap, subst, inl, inr, arith, append_assoc, get_or, take-append-drop, take_all, drop-cons, length-take}
 use Rattle.std.proofs.lemmas.List.{take-take, drop_all, get_or-take}
@@ -65,10 +65,7 @@ run_first text run back e l w =
 
 -- a front of bytes that pass a test
 pub tested_front : (test : ℕ → Bool) (text : List ℕ) (i j : ℕ) → i ≤ j → list_all test (take j text) ≡ true → list_all test (take i text) ≡ true
-tested_front test text i j le h =
-    let split : take j text ≡ take i text ++ drop i (take j text) = sym (take-append-drop i (take j text)) ∙ ap (λ t. t ++ drop i (take j text)) (take-take i j text le) in
-    and_left (list_all test (take i text)) (list_all test (drop i (take j text)))
-    (sym (list_all-append test (take i text) (drop i (take j text))) ∙ ap (list_all test) (sym split) ∙ h)
+tested_front test text i j le h = grind (arith, take-append-drop i (take j text), take-take i j text le, and_left (list_all test (take i text)) (list_all test (drop i (take j text))), list_all-append test (take i text) (drop i (take j text)))
 
 -- a blank ends a word
 pub blank_ends : (text : List ℕ) (i : ℕ) → i < length text → get_or text i 0 ≡ 32 → IsWordEnd (drop i text)
@@ -94,19 +91,10 @@ module _ (text window : List ℕ) (n : ℕ) (le : n ≤ length text) (is : windo
 
   -- a place where a byte ends a word
   ended_at : (k b : ℕ) → k < length window → get_or window k 0 ≡ b → (b ≡ 10) ⊎ (b ≡ 32) → IsLine (take k window) → IsRunEnd text k
-  ended_at k b lt e ends line =
-      let below : k < n = inside k lt in
-      let here : k < length text = omega (arith, below, le) in
-      record {
-        within = omega (arith, here);
-        line = subst (λ t. IsLine t) (sym (front_same k (omega (arith, below)))) line;
-        word_end = subst (λ t. IsWordEnd t) (sym (drop-cons text k 0 here ∙ ap (λ c. c ∷ drop (suc k) text) (byte_same k lt ∙ e))) ends;
-      }
+  ended_at k b lt e ends line = grind (arith, inside k lt, front_same k, drop-cons text k 0, byte_same k lt)
 
   line_front : (k : ℕ) → IsLine window → IsLine (take k window)
-  line_front k line =
-      and_left (list_all is_line_byte (take k window)) (list_all is_line_byte (drop k window))
-      (sym (list_all-append is_line_byte (take k window) (drop k window)) ∙ ap (list_all is_line_byte) (take-append-drop k window) ∙ line)
+  line_front k line = grind (arith, and_left (list_all is_line_byte (take k window)) (list_all is_line_byte (drop k window)), list_all-append is_line_byte (take k window) (drop k window), take-append-drop k window)
 
   pub newline_run : (k : ℕ) → NoneBefore (Passes (is_byte 10) window) 0 (length window) k → Passes (is_byte 10) window k → IsRunEnd text k
   newline_run k first passes = ended_at k 10 first.high (is_newline (get_or window k 0) passes) (inl refl) (line_before_newline window k first)

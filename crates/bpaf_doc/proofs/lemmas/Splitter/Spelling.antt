@@ -65,13 +65,7 @@ past_newline rest h = grind arith
 
 -- the line in front begins with three backquotes if the text does, and only then
 line_ticks : (text : List ℕ) → IsTrue (starts text (codes "```")) → IsTrue (starts (take_while is_line_byte text) (codes "```"))
-line_ticks text t =
-    let front : text ≡ 96 ∷ 96 ∷ 96 ∷ drop 3 text = starts_front (codes "```") text t in
-    let line : take_while is_line_byte (96 ∷ 96 ∷ 96 ∷ drop 3 text) ≡ 96 ∷ 96 ∷ 96 ∷ take_while is_line_byte (drop 3 text) =
-    take_while_true is_line_byte 96 (96 ∷ 96 ∷ drop 3 text) refl
-    ∙ ap (λ xs. 96 ∷ xs) (take_while_true is_line_byte 96 (96 ∷ drop 3 text) refl ∙ ap (λ xs. 96 ∷ xs) (take_while_true is_line_byte 96 (drop 3 text) refl)) in
-    subst (λ xs. IsTrue (starts (take_while is_line_byte xs) (codes "```"))) (sym front)
-    (subst (λ xs. IsTrue (starts xs (codes "```"))) (sym line) refl)
+line_ticks text t = grind (arith, starts_front, take_while_true is_line_byte 96 (96 ∷ 96 ∷ drop 3 text) refl, take_while_true is_line_byte 96 (96 ∷ drop 3 text) refl, take_while_true is_line_byte 96 (drop 3 text) refl)
 
 text_ticks : (text line rest : List ℕ) → text ≡ line ++ rest → IsTrue (starts line (codes "```")) → IsTrue (starts text (codes "```"))
 text_ticks text line rest e t = grind (arith, starts_front)
@@ -159,17 +153,7 @@ word_is : (n : ℕ) (bytes rest : List ℕ) (others : List Chunk) → IsWord byt
     → Raw bytes (columns bytes) ∷ others ≡ chunks_within (suc n) Plain (bytes ++ rest)
 unfolding chunks_within
 word_is n [] rest others w r e = absurd (w.0 refl)
-word_is n (b ∷ bytes) rest others w r e =
-    let front : take_while is_word_byte (b ∷ (bytes ++ rest)) ≡ b ∷ bytes = take_while_append is_word_byte (b ∷ bytes) rest w.1 (word_stops rest r).0 in
-    let back : without_front is_word_byte (b ∷ (bytes ++ rest)) ≡ rest = without_append is_word_byte (b ∷ bytes) rest w.1 (word_stops rest r).1 in
-    at (Raw (b ∷ bytes) (columns (b ∷ bytes)) ∷ others)
-    (ap (λ l. Raw l (columns l) ∷ others) (sym front)
-    ∙ ap (λ xs. Raw (take_while is_word_byte (b ∷ (bytes ++ rest))) (columns (take_while is_word_byte (b ∷ (bytes ++ rest)))) ∷ xs) (e ∙ ap (λ xs. chunks_within n Plain xs) (sym back)))
-    (grind (arith, and_right)) where
-      at : (spelt : List Chunk)
-          → spelt ≡ Raw (take_while is_word_byte (b ∷ (bytes ++ rest))) (columns (take_while is_word_byte (b ∷ (bytes ++ rest)))) ∷ chunks_within n Plain (without_front is_word_byte (b ∷ (bytes ++ rest)))
-          → ((b == 10) ≡ false) × ((b == 32) ≡ false) → spelt ≡ chunks_within (suc n) Plain (b ∷ (bytes ++ rest))
-      at spelt s p = let x : (b == 10) ≡ false = p.0 in let y : (b == 32) ≡ false = p.1 in rw (x, chunks_within) rw (y, chunks_within) s
+word_is n (b ∷ bytes) rest others w r e = grind (arith, take_while_append is_word_byte (b ∷ bytes) rest w.1, word_stops rest r, without_append is_word_byte (b ∷ bytes) rest w.1, and_right)
 
 unique : {form : Form} {chunks : List Chunk} {text : List ℕ} → Spells form chunks text → (n : ℕ) → length text ≤ n → chunks ≡ chunks_within n form text
 unfolding chunks_within

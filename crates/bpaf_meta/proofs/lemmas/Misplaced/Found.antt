@@ -14,10 +14,7 @@ abbrev pub AreFrom : (n k : ℕ) → List Numbered → Type 0
 AreFrom n k xs = (x : Numbered) → Among x xs → (n ≤ x.0) × (x.0 < n + k)
 
 pub from_then : (n k j l : ℕ) (xs ys zs : List Numbered) → l ≡ k + j → Same zs (xs ++ ys) → AreFrom n k xs → AreFrom (n + k) j ys → AreFrom n l zs
-from_then n k j l xs ys zs e s f g x a = elim (among_cases x xs ys ((s x).0 a)) [
-  | inl b ↦ let r = f x b in (r.0, omega (arith, r.1))
-  | inr b ↦ let r = g x b in (omega (arith, r.0), omega (arith, r.1))
-]
+from_then n k j l xs ys zs e s f g x a = grind (arith, among_cases x xs ys ((s x).0 a))
 
 -- the check's answer: no fault, and the mark; or the first of the faults
 abbrev pub Finds : List Numbered → (mark : Bool) → Check → Type 0

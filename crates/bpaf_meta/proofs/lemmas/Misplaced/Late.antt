@@ -1,5 +1,5 @@
 -- The late items of a line, by a mark that says whether a positional item came before the line.
-use Rattle.std.proofs.Common.{◌≡◌, suc, ◌+◌, Bool, true, false, List, [], ◌∷◌, ◌++◌, refl, ap, arith}
+use Rattle.std.proofs.Common.{◌≡◌, suc, ◌+◌, Bool, true, false, List, [], ◌∷◌, ◌++◌, refl, arith}
 use Rattle.std.proofs.lemmas.List.Elements.{filter-append}
 use Rattle.std.specs.Prelude.{not, ◌||◌, filter}
 use Rattle.std.specs.List.{after_first, list_any, position_or_len}
@@ -24,10 +24,7 @@ after_first-later p x xs e = let step : (1 + position_or_len p xs) + 1 ≡ suc (
 
 late_step : (x : Numbered) (front back : Line) (b : Bool) → is_positional x.1 ≡ b → late_items (front ++ back) ≡ late_items front ++ late_after (list_any at_positional front) back → late_items (x ∷ front ++ back) ≡ late_items (x ∷ front) ++ late_after (b || list_any at_positional front) back
 late_step x front back true e h = grind (arith, after_first-here, filter-append)
-late_step x front back false e h =
-    let all : late_items (x ∷ front ++ back) ≡ late_items (front ++ back) = ap (filter is_named) (after_first-later at_positional x (front ++ back) e) in
-    let one : late_items (x ∷ front) ≡ late_items front = ap (filter is_named) (after_first-later at_positional x front e) in
-    rw (all, one) h
+late_step x front back false e h = grind (arith, after_first-later at_positional x (front ++ back) e, after_first-later at_positional x front e)
 
 late_first : (front back : Line) → late_items (front ++ back) ≡ late_items front ++ late_after (list_any at_positional front) back
 late_first [] back = refl

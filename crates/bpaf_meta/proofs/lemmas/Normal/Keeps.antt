@@ -87,11 +87,7 @@ alike_then : {a b c : Bool} {P Q R : Language} → Alike a P b Q → Alike b Q c
 alike_then f g = (f.0 ∙ g.0, λ e. then_same _ _ _ (f.1 (g.0 ∙ e)) (g.1 e))
 
 part_alike : (u : Bool) (t v : Tree) (ts vs : Trees) → TreesAlike u t v → PartsAlike u ts vs → PartsAlike u (tree t ts) (tree v vs)
-part_alike u t v ts vs f g = (
-  rw (f.0, g.0) refl,
-  choice_keeps (is_hidden u t) (is_hidden u v) _ _ _ _ f.0 g.1 (λ e. joined_keeps _ _ _ _ (f.1 e) g.1),
-  choice_keeps (is_hidden u t) (is_hidden u v) _ _ _ _ f.0 g.2 (λ e. either_keeps _ _ _ _ (f.1 e) g.2),
-)
+part_alike u t v ts vs f g = grind (arith, choice_keeps (is_hidden u t) (is_hidden u v), joined_keeps, either_keeps)
 
 -- what the forms show
 

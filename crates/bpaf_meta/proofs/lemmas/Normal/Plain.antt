@@ -34,10 +34,7 @@ mutual
 
   or_state_kept : (s : State) (ts : Trees) → ¬ SomeHasStrict ts → or_state s s ts ≡ s
   or_state_kept s no_trees h = refl
-  or_state_kept s (tree t ts) h =
-      let kept : state_out s t ≡ s = state_kept s t (λ x. h (inl x)) in
-      let rest : or_state s s ts ≡ s = or_state_kept s ts (λ x. h (inr x)) in
-      rw (kept, state_after_same s) rest
+  or_state_kept s (tree t ts) h = grind (arith, or_state_kept s ts, state_kept s t, state_after_same s)
 
 -- the parts in normal form, each from the same state
 abbrev pub plain_parts : Bool → State → Trees → Trees
@@ -46,10 +43,7 @@ plain_parts u s (tree t ts) = tree (normal_form u s t) (plain_parts u s ts)
 
 pub and_parts_plain : (u : Bool) (s : State) (ts : Trees) → ¬ SomeHasStrict ts → and_parts u s ts ≡ plain_parts u s ts
 and_parts_plain u s no_trees h = refl
-and_parts_plain u s (tree t ts) h =
-    let kept : state_out s t ≡ s = state_kept s t (λ x. h (inl x)) in
-    let rest : and_parts u s ts ≡ plain_parts u s ts = and_parts_plain u s ts (λ x. h (inr x)) in
-    rw (kept, state_after_same s, guarded_same s (normal_form u s t), rest) refl
+and_parts_plain u s (tree t ts) h = grind (arith, and_parts_plain u s ts, state_kept s t, state_after_same s, guarded_same s (normal_form u s t))
 
 pub or_parts_plain : (u : Bool) (s : State) (ts : Trees) → ¬ SomeHasStrict ts → or_parts u s s ts ≡ plain_parts u s ts
 or_parts_plain u s no_trees h = refl
@@ -169,11 +163,7 @@ mutual
 
   parts_skip : (u : Bool) (s : State) (ts : Trees) → ¬ SomeHasStrict ts → are_hidden u ts ≡ true → shown_trees (plain_parts u s ts) ≡ no_trees
   parts_skip u s no_trees h e = refl
-  parts_skip u s (tree t ts) h e =
-      let es = conjuncts (is_hidden u t) (are_hidden u ts) e in
-      let first : normal_form u s t ≡ skip = normal_skip u s t (λ x. h (inl x)) es.0 in
-      let rest : shown_trees (plain_parts u s ts) ≡ no_trees = parts_skip u s ts (λ x. h (inr x)) es.1 in
-      rw first rest
+  parts_skip u s (tree t ts) h e = grind (arith, parts_skip u s ts, conjuncts (is_hidden u t) (are_hidden u ts) e, normal_skip u s t)
 
 -- without Strict the normal form is Skip exactly where the tree is hidden
 pub normalized_skip : (u : Bool) (t : Tree) → ¬ HasStrict t → (normalized u t ≡ skip) ↔ (is_hidden u t ≡ true)

@@ -7,7 +7,7 @@ use Rattle.bpaf_doc.specs.Console.Layout.{Shows, Stretch, Gap, Placed, Passed, P
 use Rattle.bpaf_doc.proofs.lemmas.Console.Layout.State.{State, Piece, Lines, Begins, first, stays, wraps, places, drops, Next, Grows, placing, breaking, passing, padded, trimmed, put}
 use Rattle.bpaf_doc.proofs.lemmas.Console.Layout.Back.{by_cases, EachPlace, each_grows, place_of, by_lines, same_padded}
 use Rattle.bpaf_doc.proofs.lemmas.Console.Layout.Text.{IsStarting, has_place, or_true_right}
-use Rattle.bpaf_doc.proofs.lemmas.Console.Layout.Split.{Cut, cut_cons, AfterGap, cut_gap, AfterPassed, cut_passed, AfterPads, cut_padded, has_newline}
+use Rattle.bpaf_doc.proofs.lemmas.Console.Layout.Split.{Cut, cut_cons, cut_gap, AfterPassed, cut_passed, cut_padded, has_newline}
 
 -- ---- helpers
 
@@ -26,9 +26,7 @@ lines_same_or_line {st} l = by_lines (SameOrLine st) l (same_page refl) (new_lin
 
 -- a newline at the end stands after each place
 pub line_since : (r rest m before : List Stretch) (e : Place) → r ≡ Gap 10 ∷ rest → Cut r m e before → has_newline m ≡ true
-line_since r rest m before e is there =
-    let found : AfterGap 10 rest m e before = cut_gap 10 rest m e before (subst (λ x. Cut x m e before) is there) in
-    ap has_newline found.is
+line_since r rest m before e is there = grind (arith, cut_gap 10 rest m e before)
 
 -- ---- the column behind a code line
 
@@ -49,9 +47,7 @@ alone_begins {width} {st} p base small start h (stays t l w) = λ m before e the
 alone_begins p base small start h (wraps t mid l w b s) = λ m before e there whole. line_since base.back (trimmed mid.back) m before e (ap (λ (x : State). x.back) s) there
 
 alone_padded : (n : ℕ) (r : List Stretch) (f : Place) → AloneBefore r f → AloneBefore (padded n r) f
-alone_padded n r f h = λ m before e there whole.
-    let found : AfterPads n r m e before = cut_padded n r m e before there in
-    ap has_newline found.is ∙ same_padded has_newline (λ x. refl) n found.rest ∙ h found.rest before e found.there whole
+alone_padded n r f h = grind (arith, cut_padded n r, same_padded has_newline)
 
 heavy_put : (p : Piece) (base : State) (n : ℕ) → AloneBefore (padded n base.back) (place_of p) → IsHeavy (put n p.part p.bytes p.weight base)
 heavy_put p base n alone = grind (arith, cut_cons, nat_tests)
@@ -63,10 +59,7 @@ heavy_grows small start (placing p e (drops t mid l w b a)) h = subst IsHeavy (s
     let line : has_newline m ≡ true = ap has_newline found.is ∙ line_since (Gap 10 ∷ trimmed mid.back) (trimmed mid.back) found.rest before g refl found.there in absurd cc)
 heavy_grows {st = st} small start (breaking k chunk e a) h = subst IsHeavy (sym a) (λ m before g there whole none.
     let line : has_newline m ≡ true = line_since (Gap 10 ∷ Passed (Shows k chunk) ∷ st.back) (Passed (Shows k chunk) ∷ st.back) m before g refl there in absurd cc)
-heavy_grows {st = st} small start (passing event margin e a) h = subst IsHeavy (sym a) (λ m before g there whole none.
-    let found : AfterPassed event st.back m g before = cut_passed event st.back m g before there in
-    let bare : has_newline found.rest ≡ false = sym (ap has_newline found.is) ∙ none in
-    let far : 1_000_000 ≤ st.column = h found.rest before g found.there whole bare in omega arith)
+heavy_grows {st = st} small start (passing event margin e a) h = grind (arith, cut_passed event st.back)
 
 -- ---- the law
 

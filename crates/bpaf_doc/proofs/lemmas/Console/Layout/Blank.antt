@@ -1,9 +1,9 @@
 -- A blank line stands where one is asked for.
-use Rattle.std.specs.Prelude.{◌≡◌, ℕ, zero, suc, ◌≤◌, Bool, true, false, ◌&&◌, ◌||◌, ◌==◌, List, [], ◌∷◌, ◌++◌, reverse, codes, refl, if◌then◌else◌, ◌⊎◌}
+use Rattle.std.specs.Prelude.{◌≡◌, ℕ, zero, suc, ◌≤◌, Bool, true, false, ◌&&◌, ◌||◌, ◌==◌, List, [], ◌∷◌, ◌++◌, reverse, codes, refl, if◌then◌else◌}
 use Rattle.std.specs.List.{list_any}
 use Rattle.std.proofs.Common.{sym, subst, ap, arith, inl, inr, ◌∙◌, append_assoc}
 use Rattle.std.proofs.lemmas.List.{reverse-append, append-nil}
-use Rattle.std.proofs.lemmas.Grind.{flat_map-append}
+use Rattle.std.proofs.lemmas.Grind.{flat_map-append, common_steps}
 use Rattle.std.proofs.lemmas.Bool.{and_parts, eqb-true, or_cases}
 use Rattle.bpaf_doc.specs.Splitter.Chunks.{columns, is_inked, has_some}
 use Rattle.bpaf_doc.specs.Console.Layout.{Event, Stretch, Gap, Placed, Passed, Place, chunk_at, event_bytes, stretch_bytes, asks_blank_line, is_raw_event, text_of, HasBlankLine, is_inked_stretch, asks_newline}
@@ -138,9 +138,7 @@ abbrev pub text_back : List Stretch → List ℕ
 text_back m = text_of (reverse m)
 
 pub text_back_cons : (x : Stretch) (m : List Stretch) → text_back (x ∷ m) ≡ text_back m ++ stretch_bytes x
-text_back_cons x m =
-    let turned : reverse (x ∷ m) ≡ reverse m ++ x ∷ [] = reverse-append (x ∷ []) m in
-    ap text_of turned ∙ flat_map-append stretch_bytes (reverse m) (x ∷ []) ∙ ap (λ t. text_back m ++ t) (append-nil (stretch_bytes x))
+text_back_cons x m = grind (arith, reverse-append (x ∷ []) m, flat_map-append stretch_bytes (reverse m) (x ∷ []), append-nil (stretch_bytes x))
 
 pub some_none : (xs : List ℕ) → has_some xs ≡ false → xs ≡ []
 some_none xs h = grind arith
@@ -155,20 +153,16 @@ HasNoRaw m = list_any is_raw_event (events_back m) ≡ false
 
 line_between : (m : List Stretch) (e : Place) (before : List Stretch) → HasNoRaw m → has_some e.shown ≡ true → ends_line (m ++ Placed e ∷ before) ≡ true → EndsLine m
 line_between [] e before none some h = let no : false ≡ true = rw some at h in absurd cc
-line_between (Gap b ∷ m) e before none some h =
-    let ten : b ≡ 10 = eqb-true b 10 h in
-    (text_back m, text_back_cons (Gap b) m ∙ ap (λ c. text_back m ++ c ∷ []) ten)
+line_between (Gap b ∷ m) e before none some h = grind (arith, eqb-true b 10 h, text_back_cons (Gap b) m)
 line_between (Placed g ∷ m) e before none some h = absurd cc
 line_between (Passed event ∷ m) e before none some h = grind (arith, line_between m e before, or_false_right, text_back_cons, some_none, append-nil)
 
 blank_between : (m : List Stretch) (e : Place) (before : List Stretch) → HasNoRaw m → has_some e.shown ≡ true → ends_blank (m ++ Placed e ∷ before) ≡ true → HasBlankLine (text_back m)
 blank_between [] e before none some h = let no : false ≡ true = rw some at h in absurd cc
-blank_between (x ∷ m) e before none some h =
-    grind (arith, blank_between m, eqb-true, and_parts, line_between, text_back_cons, append_assoc, append-nil, or_false_right, some_none)
+blank_between (x ∷ m) e before none some h = grind (arith, common_steps, blank_between m, eqb-true, and_parts, line_between, text_back_cons, append_assoc, append-nil, or_false_right, some_none)
 
 blank_longer : (m : List Stretch) (x : Stretch) → HasBlankLine (text_back m) → HasBlankLine (text_back (x ∷ m))
-blank_longer m x h =
-    (h.0, h.1 ++ stretch_bytes x, text_back_cons x m ∙ ap (λ t. t ++ stretch_bytes x) h.2 ∙ append_assoc (h.0 ++ codes "\n\n") h.1 (stretch_bytes x))
+blank_longer m x h = grind (arith, text_back_cons x m, append_assoc)
 
 blank_padded : (n : ℕ) (m : List Stretch) → HasBlankLine (text_back m) → HasBlankLine (text_back (padded n m))
 blank_padded zero m h = h
@@ -207,14 +201,7 @@ module _ (width : ℕ) where
   Owes r t = (last_raw_inked t ≡ true → last_raw_inked r ≡ true) × (owes_blank t ≡ true → owes_blank r ≡ true)
 
   owes_trimmed : (r : List Stretch) → (last_raw_inked (trimmed r) ≡ true → last_raw_inked r ≡ true) × (owes_blank (trimmed r) ≡ true → owes_blank r ≡ true)
-  owes_trimmed = by_trimmed Owes ((λ h. h), (λ h. h)) (λ b r t ih. ih) (λ e r i. ((λ h. i), (λ h. h))) (λ e r t i ih. ((λ h. absurd cc), (λ h. h))) (λ event r i. ((λ h. h), (λ h. h)))
-      (λ event r t i ih. at event r t (by_cases (is_raw_event event)) ih) where
-        owed : (event : Event) (r t : List Stretch) → Owes r t → ((asks_blank_line event && last_raw_inked t) ≡ true) ⊎ (owes_blank t ≡ true)
-            → ((asks_blank_line event && last_raw_inked r) || owes_blank r) ≡ true
-        owed event r t h1 h2 = grind (arith, and_parts, or_true_right)
-
-        at : (event : Event) (r t : List Stretch) → (is_raw_event event ≡ true) ⊎ (is_raw_event event ≡ false) → Owes r t → Owes (Passed event ∷ r) (Passed event ∷ t)
-        at event r t h1 h2 = grind (arith, owed, or_cases)
+  owes_trimmed = grind (arith, by_trimmed Owes, by_cases, or_true_right, or_cases)
 
   blank_begins : {st : State} {p : Piece} {base : State} → EachPlace Fills st.back → EachPassed NoInk st.back → IsAskedBlank st → IsFreshAtZero st
       → Begins width st p base → columns p.bytes ≤ width → (m before : List Stretch) (e : Place) → Cut base.back m e before → is_inked (chunk_at e) ≡ true

@@ -55,8 +55,7 @@ WritesNone (break k chunk) = ⊤
 WritesNone (mark event margin) = IsBare event
 
 pub bare_grows : {width : ℕ} {st after : State} {next : Next} → WritesNone next → Grows width st next after → EachPassed IsBare st.back → EachPassed IsBare after.back
-bare_grows writes g h = by_grows (λ s. EachPassed IsBare s.back) g (λ p base n e b d. by_padded (EachPassed IsBare) (λ x y. y) n base.back (bare_begins b h))
-    (λ p mid e l w b. (refl, bare_trimmed mid.back (bare_lines l h))) (λ k chunk e. (refl, h)) (λ event margin e. (subst WritesNone e writes, h))
+bare_grows writes g h = grind (arith, by_grows, by_padded (EachPassed IsBare), bare_begins, bare_trimmed, bare_lines)
 
 -- the columns of a chunk that comes are at most these
 abbrev pub IsNarrow : ℕ → Next → Type 0

@@ -1,13 +1,13 @@
 -- Between neighbouring inked chunks of one line nothing is cut or left out, and within one text nothing is added.
 use Rattle.std.specs.Prelude.{◌≡◌, ◌≢◌, ℕ, zero, suc, ◌<◌, ◌≤◌, ⊤, true, false, ◌||◌, List, [], ◌∷◌, refl, ◌⊎◌}
 use Rattle.std.specs.List.{list_any}
-use Rattle.std.proofs.Common.{sym, subst, arith, inl, inr, ◌∙◌}
+use Rattle.std.proofs.Common.{sym, subst, arith, inl, inr}
 use Rattle.bpaf_doc.specs.Splitter.Chunks.{Chunk, Raw, is_inked}
 use Rattle.bpaf_doc.specs.Console.Layout.{Event, Shows, Stretch, Gap, Placed, Passed, Place, chunk_at, is_inked_stretch, is_inked_event, is_raw_event}
 use Rattle.bpaf_doc.proofs.lemmas.Console.Layout.State.{State, Piece, Lines, Pads, Begins, first, stays, wraps, places, drops, Next, raw, break, Grows, placing, breaking, passing, padded, trimmed, put, passed, Suits}
 use Rattle.bpaf_doc.proofs.lemmas.Console.Layout.Back.{each_back, by_cases, EachPlace, each_grows, each_begins, each_trimmed, each_lines, place_of, fits_of, by_lines, by_padded, same_padded, by_mark, by_break, by_grows}
 use Rattle.bpaf_doc.proofs.lemmas.Console.Layout.Text.{or_false_right, begins_margin, lines_margin, no_ink_blank}
-use Rattle.bpaf_doc.proofs.lemmas.Console.Layout.Split.{Cut, FirstOrLater, here, later, cut_cons, AfterGap, cut_gap, AfterPassed, cut_passed, AfterPads, cut_padded, has_newline, inked_line, inked_since}
+use Rattle.bpaf_doc.proofs.lemmas.Console.Layout.Split.{Cut, FirstOrLater, here, later, cut_cons, cut_gap, AfterPassed, cut_passed, AfterPads, cut_padded, has_newline, inked_line, inked_since}
 
 -- ---- parts come in order
 
@@ -79,13 +79,7 @@ IsKeptSince st = (m before : List Stretch) (e : Place) → IsNeighbour st.back m
 
 -- blanks that are put stand between neighbours
 neighbour_padded : (n : ℕ) (r m : List Stretch) (e : Place) (before : List Stretch) → (there : IsNeighbour (padded n r) m e before) → IsNeighbour r (cut_padded n r m e before there.0).rest e before
-neighbour_padded n r m e before there =
-    let found : AfterPads n r m e before = cut_padded n r m e before there.0 in (
-      found.there,
-      there.1,
-      sym (same_padded (list_any is_inked_stretch) (λ x. refl) n found.rest) ∙ subst (λ x. list_any is_inked_stretch x ≡ false) found.is there.2,
-      sym (same_padded has_newline (λ x. refl) n found.rest) ∙ subst (λ x. has_newline x ≡ false) found.is there.3,
-    )
+neighbour_padded n r m e before there = grind (arith, cut_padded n r m e before there.0, same_padded (list_any is_inked_stretch), same_padded has_newline)
 
 kept_same : (st : State) (k n : ℕ) → IsSettled st → IsUnsettled st → InOrder st → IsKeptSince st → st.latest ≤ k → (st.marked ≡ true → st.latest < k) → Pads st n
     → (m before : List Stretch) (e : Place) → IsNeighbour (padded n st.back) m e before → (e.shown ≡ e.bytes) × AllKept (e.part < k) m
@@ -115,13 +109,10 @@ kept_same st k n settled unsettled order h o moved d m before e there =
 
 -- no neighbour stands before a newline
 no_neighbour : (r m : List Stretch) (e : Place) (before : List Stretch) → IsNeighbour (Gap 10 ∷ r) m e before → ⊥
-no_neighbour r m e before there =
-    let found : AfterGap 10 r m e before = cut_gap 10 r m e before there.0 in
-    let line : true ≡ false = subst (λ x. has_newline x ≡ false) found.is there.3 in cc
+no_neighbour r m e before there = grind (arith, cut_gap 10 r m e before there.0)
 
 no_neighbour_padded : (n : ℕ) (r m : List Stretch) (e : Place) (before : List Stretch) → IsNeighbour (padded n (Gap 10 ∷ r)) m e before → ⊥
-no_neighbour_padded n r m e before there =
-    no_neighbour r (cut_padded n (Gap 10 ∷ r) m e before there.0).rest e before (neighbour_padded n (Gap 10 ∷ r) m e before there)
+no_neighbour_padded n r m e before there = grind (arith, no_neighbour r, cut_padded n (Gap 10 ∷ r) m e before there.0, neighbour_padded n (Gap 10 ∷ r) m e before there)
 
 record Ready (st : State) (k : ℕ) : Type 0 where
   settled : IsSettled st
@@ -139,8 +130,7 @@ kept_lines {st} {mid} k n y l = by_lines (λ s. Pads s n → (m before : List St
 
 kept_begins : {width : ℕ} {st : State} {p : Piece} {base : State} (n : ℕ) → Ready st p.part → Begins width st p base → Pads base n
     → (m before : List Stretch) (e : Place) → IsNeighbour (padded n base.back) m e before → (e.shown ≡ e.bytes) × AllKept (e.part < p.part) m
-kept_begins {st = st} {p = p} n y (first t s) d m before e there =
-    kept_same st p.part n y.settled y.unsettled y.order y.since y.later_part y.moved (subst (λ (x : State). Pads x n) s d) m before e (subst (λ (x : State). IsNeighbour (padded n x.back) m e before) s there)
+kept_begins {st = st} {p = p} n y (first t s) d m before e there = grind (arith, kept_same st p.part n y.settled y.unsettled y.order y.since y.later_part y.moved)
 kept_begins {p = p} n y (stays t l w) d m before e there = kept_lines p.part n y l d m before e there
 kept_begins n y (wraps t mid l w b s) d m before e there = absurd (no_neighbour_padded n (trimmed mid.back) m e before (subst (λ (x : State). IsNeighbour (padded n x.back) m e before) s there))
 
@@ -160,9 +150,7 @@ kept_put p base n y b d = λ m before e there. at m before e there (cut_cons (Pl
       (found.0, subst (λ x. AllKept (e.part < p.part) x) (sym is) (refl, found.1))
 
 kept_passed : (event : Event) (margin : ℕ) (st : State) → is_raw_event event ≡ false → IsKeptSince st → IsKeptSince (passed event margin st)
-kept_passed event margin st plain_mark h = λ m before e there. at m before e there (cut_passed event st.back m e before there.0) where
-  at : (m before : List Stretch) (e : Place) → IsNeighbour (Passed event ∷ st.back) m e before → AfterPassed event st.back m e before → (e.shown ≡ e.bytes) × AllKept (e.part < st.latest) m
-  at m before e there found = grind (arith, or_false_right)
+kept_passed event margin st plain_mark h = grind (arith, cut_passed event st.back, or_false_right)
 
 pub kept_since_grows : {width : ℕ} {margin_of : ℕ → ℕ} {st after : State} {next : Next} → Suits margin_of st next → IsSettled st → IsUnsettled st → InOrder st
     → Grows width st next after → IsKeptSince st → IsKeptSince after

@@ -1,9 +1,9 @@
 -- Chunks fit the width, and blanks are added only up to the margin or after a wide term, and before a place.
 use Rattle.std.specs.Prelude.{◌≡◌, ℕ, zero, suc, ◌+◌, ◌<◌, ◌≤◌, ⊤, Bool, true, false, ◌&&◌, ◌||◌, ◌==◌, List, [], ◌∷◌, ◌++◌, reverse, refl, if◌then◌else◌, ◌⊎◌}
-use Rattle.std.proofs.Common.{rules, sym, subst, ap, arith, inl, inr, ◌∙◌, append_assoc}
+use Rattle.std.proofs.Common.{rules, ap, arith, inl, inr, ◌∙◌, append_assoc}
 use Rattle.std.proofs.lemmas.List.{reverse-append}
 use Rattle.bpaf_doc.specs.Splitter.Chunks.{columns}
-use Rattle.bpaf_doc.specs.Console.Layout.{Event, Shows, Stretch, Gap, Placed, Passed, Place, is_newline, is_placed, is_gap, holds_line, leads_to_place, opens_body}
+use Rattle.bpaf_doc.specs.Console.Layout.{Event, Stretch, Gap, Placed, Passed, Place, is_newline, is_placed, is_gap, holds_line, leads_to_place, opens_body}
 use Rattle.bpaf_doc.proofs.lemmas.Console.Layout.State.{State, Piece, Lines, Pads, Begins, first, stays, wraps, Next, raw, Grows, padded, trimmed, has_text, Suits}
 use Rattle.bpaf_doc.proofs.lemmas.Console.Layout.Back.{by_cases, EachPlace, KeepsCut, each_grows, place_of, fits_of, by_lines, lines_back, begins_back, by_trimmed, by_padded, same_padded, by_grows}
 use Rattle.bpaf_doc.proofs.lemmas.Console.Layout.Columns.{Fills, column_back, column_padded, Agrees, any_in_line}
@@ -54,13 +54,9 @@ module _ (width : ℕ) where
 
   fits_place : {st : State} (p : Piece) (base : State) (n : ℕ) → width < 1_000_000 → EachPlace Fills st.back → IsStarting st → Agrees st → HasNoPads st
       → Begins width st p base → FitsBefore (padded n base.back) (place_of p)
-  fits_place {st} p base n small f start h none (first t e) = λ holds.
-      let bare : holds_back st.back ≡ false = no_text_holds st.back t (start t).1 in
-      let some : holds_back st.back ≡ true = sym (same_padded holds_back (λ x. refl) n st.back) ∙ subst (λ (x : State). holds_back (padded n x.back) ≡ true) e holds in absurd cc
+  fits_place {st} p base n small f start h none (first t e) = grind (arith, no_text_holds st.back t (start t).1, same_padded holds_back)
   fits_place {st} p base n small f start h none (stays t l w) = grind (arith, begins_column, column_padded, pads_padded)
-  fits_place p base n small f start h none (wraps t mid l w b e) = λ holds.
-      let some : holds_back base.back ≡ true = sym (same_padded holds_back (λ x. refl) n base.back) ∙ holds in
-      let no : false ≡ true = subst (λ (x : State). holds_back x.back ≡ true) e some in absurd cc
+  fits_place p base n small f start h none (wraps t mid l w b e) = grind (arith, same_padded holds_back)
 
   pub fits_width_grows : {st after : State} {next : Next} → width < 1_000_000 → EachPlace Fills st.back → IsStarting st → Agrees st → HasNoPads st
       → Grows width st next after → EachPlace FitsBefore st.back → EachPlace FitsBefore after.back
@@ -96,8 +92,7 @@ led_begins : {width : ℕ} {st : State} {p : Piece} {base : State} → Begins wi
 led_begins b h = begins_back (Leads false) leads_newline (λ r x. leads_newline (trimmed r) (leads_trimmed r false x)) b h
 
 pub led_grows : {width : ℕ} {st after : State} {next : Next} → Grows width st next after → IsLed st → IsLed after
-led_grows {st = st} g h = by_grows IsLed g (λ p base n e b d. by_padded (Leads true) (λ x y. ((λ t. refl), y)) n base.back (leads_more base.back (led_begins b h)))
-    (λ p mid e l w b. leads_newline (trimmed mid.back) (leads_trimmed mid.back false (led_lines l h))) (λ k chunk e. leads_newline (Passed (Shows k chunk) ∷ st.back) h) (λ event margin e. h)
+led_grows {st = st} g h = grind (arith, by_grows IsLed g, by_padded (Leads true), leads_more, led_begins, leads_newline, leads_trimmed, led_lines)
 
 -- a blank of the page leads to a place
 pub leads_at : (place : Bool) (m r rest : List Stretch) → Leads place (m ++ Gap 32 ∷ r) → (place ≡ true → leads_to_place rest ≡ true) → leads_to_place (reverse m ++ rest) ≡ true

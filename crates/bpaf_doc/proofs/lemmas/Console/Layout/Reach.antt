@@ -213,9 +213,7 @@ module _ (width : ℕ) (rule : Rule) where
 
     known_passed : (event : Event) (margin : ℕ) (st : State) → (rule.follows event ≡ true → IsQuiet rule st.margin margin event) → IsRoomy st
         → IsRoomy (passed event margin st)
-    known_passed event margin st quiet h = λ m before e there run. at m before e run (cut_passed event st.back m e before there) where
-      at : (m before : List Stretch) (e : Place) → IsRun m e → AfterPassed event st.back m e before → Known (passed event margin st) m e before
-      at m before e run found = grind (arith, run_parts)
+    known_passed event margin st quiet h = grind (arith, cut_passed event st.back, passed event margin st, run_parts)
 
     -- a break does not follow
     no_break : {A : Type 0} {margin_of : ℕ → ℕ} (st : State) (next : Next) (k : ℕ) (chunk : Chunk) → Suits margin_of st next → next ≡ break k chunk
@@ -224,10 +222,7 @@ module _ (width : ℕ) (rule : Rule) where
 
     known_broken : {margin_of : ℕ → ℕ} (st : State) (next : Next) (k : ℕ) (chunk : Chunk) → Suits margin_of st next → next ≡ break k chunk
         → IsRoomy (broken k chunk st)
-    known_broken st next k chunk suits e = λ m before g there run.
-        let gap : AfterGap 10 (Passed (Shows k chunk) ∷ st.back) m g before = cut_gap 10 (Passed (Shows k chunk) ∷ st.back) m g before there in
-        let found : AfterPassed (Shows k chunk) st.back gap.rest g before = cut_passed (Shows k chunk) st.back gap.rest g before gap.there in
-        no_break st next k chunk suits e (run_parts (Shows k chunk) m found.rest g (ap events_back gap.is ∙ ap events_back found.is) run).0
+    known_broken st next k chunk suits e = grind (arith, cut_gap 10 (Passed (Shows k chunk) ∷ st.back), cut_passed (Shows k chunk) st.back, run_parts (Shows k chunk))
 
     quiet_mark : {margin_of : ℕ → ℕ} (st : State) (next : Next) (event : Event) (margin : ℕ) → Suits margin_of st next → next ≡ mark event margin
         → margin ≤ deepest

@@ -3,7 +3,7 @@ use Rattle.std.specs.Prelude.{◌≡◌, ℕ, zero, suc, Bool, true, false, List
 use Rattle.std.specs.List.{list_any}
 use Rattle.std.proofs.Common.{sym, ap, ◌∙◌, arith}
 use Rattle.std.proofs.lemmas.Bool.{or_parts}
-use Rattle.bpaf_doc.specs.Splitter.Chunks.{Raw, is_inked, has_some}
+use Rattle.bpaf_doc.specs.Splitter.Chunks.{is_inked, has_some}
 use Rattle.bpaf_doc.specs.Console.Layout.{Event, Shows, Stretch, Gap, Placed, Passed, Place, chunk_at, event_bytes, is_newline, is_inked_stretch}
 use Rattle.bpaf_doc.proofs.lemmas.Console.Layout.Columns.{any_in_line}
 use Rattle.bpaf_doc.proofs.lemmas.Console.Layout.State.{State, Piece, Lines, Begins, places, drops, Next, Grows, placing, breaking, passing, padded, trimmed, cut}
@@ -32,8 +32,7 @@ pub events_begins : {width : ℕ} {st : State} {p : Piece} {base : State} → Be
 events_begins {st = st} b = begins_back (λ r. events_back r ≡ events_back st.back) (λ r x. x) (λ r x. events_trimmed r ∙ x) b refl
 
 pub events_grows : {width : ℕ} {st after : State} {next : Next} → Grows width st next after → events_back after.back ≡ next_event next ∷ events_back st.back
-events_grows {st = st} (placing p e (places base n b d a)) =
-    ap (λ (s : State). events_back s.back) a ∙ ap (λ es. Shows p.part (Raw p.bytes p.weight) ∷ es) (same_padded events_back (λ x. refl) n base.back ∙ events_begins b) ∙ ap (λ (x : Next). next_event x ∷ events_back st.back) (sym e)
+events_grows {st = st} (placing p e (places base n b d a)) = grind (arith, same_padded events_back, events_begins b)
 events_grows {st = st} (placing p e (drops t mid l w b a)) = grind (arith, events_trimmed, events_lines)
 events_grows {st = st} (breaking k chunk e a) = ap (λ (s : State). events_back s.back) a ∙ ap (λ (x : Next). next_event x ∷ events_back st.back) (sym e)
 events_grows {st = st} (passing event level e a) = ap (λ (s : State). events_back s.back) a ∙ ap (λ (x : Next). next_event x ∷ events_back st.back) (sym e)

@@ -1,5 +1,6 @@
 -- What the text of a page shows of its stretches, and what it is without its blank end.
-use Rattle.std.specs.Prelude.{◌≡◌, ◌≢◌, ℕ, ◌+◌, ◌<◌, Bool, true, false, ◌&&◌, ◌==◌, List, [], ◌∷◌, ◌++◌, length, filter, refl, if◌then◌else◌, ◌⊎◌, IsUtf8}
+use Rattle.std.proofs.lemmas.Grind.{common_steps}
+use Rattle.std.specs.Prelude.{◌≡◌, ◌≢◌, ℕ, Bool, true, false, ◌&&◌, ◌==◌, List, [], ◌∷◌, ◌++◌, length, filter, refl, if◌then◌else◌, ◌⊎◌, IsUtf8}
 use Rattle.std.specs.Str.{trim_end, drop_trailing_whitespace, chars, encode_utf8_all}
 use Rattle.std.specs.Char.{is_whitespace, is_not_whitespace}
 use Rattle.std.proofs.Common.{rules, sym, subst, ap, arith, inl, inr, ◌∙◌, append_assoc}
@@ -30,17 +31,7 @@ dropped_white (c ∷ cs) ds h = let ih : drop_trailing_whitespace (cs ++ ds) ≡
 
 dropped_some : (cs ds : List ℕ) → has_some (filter is_not_whitespace ds) ≡ true → drop_trailing_whitespace (cs ++ ds) ≡ cs ++ drop_trailing_whitespace ds
 dropped_some [] ds h = refl
-dropped_some (c ∷ cs) ds h =
-    let ih : drop_trailing_whitespace (cs ++ ds) ≡ cs ++ drop_trailing_whitespace ds = dropped_some cs ds h in
-    let some : 0 < length (drop_trailing_whitespace ds) = whole_trim ds h in
-    rw ih (at (is_whitespace c) (no_end cs (drop_trailing_whitespace ds) some)) where
-      no_end : (cs es : List ℕ) → 0 < length es → (length (cs ++ es) == 0) ≡ false
-      no_end [] es h = grind (arith, nat_tests)
-      no_end (c ∷ cs) es h = grind (arith, nat_tests)
-
-      at : (w : Bool) → (length (cs ++ drop_trailing_whitespace ds) == 0) ≡ false
-          → (if (w && (length (cs ++ drop_trailing_whitespace ds) == 0)) then [] else (c ∷ (cs ++ drop_trailing_whitespace ds))) ≡ c ∷ (cs ++ drop_trailing_whitespace ds)
-      at w e = grind arith
+dropped_some (c ∷ cs) ds h = grind (arith, common_steps, dropped_some cs ds h, whole_trim, nat_tests)
 
 pub trim_white : (front back : List ℕ) → IsUtf8 front → has_some (ink back) ≡ false → trim_end (front ++ back) ≡ trim_end front
 unfolding trim_end
@@ -225,15 +216,7 @@ shown_trim e u h = grind (arith, trim_twice)
 
 kept_ink : (cs : List ℕ) → filter is_not_whitespace (drop_trailing_whitespace cs) ≡ filter is_not_whitespace cs
 kept_ink [] = refl
-kept_ink (c ∷ cs) = at (by_cases (is_whitespace c)) (by_cases (length (drop_trailing_whitespace cs) == 0)) (kept_ink cs) where
-  none_of : (xs : List ℕ) → (length xs == 0) ≡ true → xs ≡ []
-  none_of [] h = refl
-  none_of (x ∷ xs) h = absurd (let no : 1 + length xs ≡ 0 = grind (arith, nat_tests) in omega arith)
-
-  at : (is_whitespace c ≡ true) ⊎ (is_whitespace c ≡ false) → ((length (drop_trailing_whitespace cs) == 0) ≡ true) ⊎ ((length (drop_trailing_whitespace cs) == 0) ≡ false)
-      → filter is_not_whitespace (drop_trailing_whitespace cs) ≡ filter is_not_whitespace cs
-      → filter is_not_whitespace (drop_trailing_whitespace (c ∷ cs)) ≡ filter is_not_whitespace (c ∷ cs)
-  at h1 h2 h3 = grind (arith, none_of)
+kept_ink (c ∷ cs) = grind (arith, common_steps, kept_ink cs, by_cases, nat_tests)
 
 pub trim_ink : (text : List ℕ) → IsUtf8 text → ink (trim_end text) ≡ ink text
 unfolding trim_end

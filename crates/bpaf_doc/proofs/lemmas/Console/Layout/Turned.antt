@@ -62,10 +62,7 @@ prefix_le p [] = omega arith
 prefix_le p (x ∷ r) = grind (arith, prefix_le p r)
 
 drop_turned : (k : ℕ) (r : List Stretch) → k ≤ length r → drop (length r - k) (reverse r) ≡ reverse (take k r)
-drop_turned k r h =
-    let cut : reverse r ≡ reverse (drop k r) ++ reverse (take k r) = ap (λ ys. reverse ys) (sym (take-append-drop k r)) ∙ reverse-append (take k r) (drop k r) in
-    let size : length (reverse (drop k r)) ≡ length r - k = length-reverse (drop k r) ∙ length-drop k r in
-    ap (λ (n : ℕ). drop n (reverse r)) (sym size) ∙ ap (λ ys. drop (length (reverse (drop k r))) ys) cut ∙ drop-append_seam (reverse (drop k r)) (reverse (take k r))
+drop_turned k r h = grind (arith, take-append-drop k r, reverse-append (take k r) (drop k r), length-reverse (drop k r), length-drop k r, drop-append_seam (reverse (drop k r)) (reverse (take k r)))
 
 pub after_last_turned : (p : Stretch → Bool) (r : List Stretch) → after_last p (reverse r) ≡ reverse (since p r)
 after_last_turned p r = grind (arith, length-reverse, reverse-reverse, drop_turned, prefix_le, since_take)
@@ -176,9 +173,7 @@ lines_bounded bound back h =
 
 -- the stretches in order, cut at a place, are the page newest first, cut at it
 pub turned_at : (back before after : List Stretch) (x : Stretch) → reverse back ≡ before ++ x ∷ after → back ≡ reverse after ++ x ∷ reverse before
-turned_at back before after x s =
-    sym (reverse-reverse back) ∙ ap (λ ys. reverse ys) s ∙ reverse-append before (x ∷ after) ∙ ap (λ ys. ys ++ reverse before) (reverse_cons x after)
-    ∙ append_assoc (reverse after) (x ∷ []) (reverse before)
+turned_at back before after x s = grind (arith, reverse-reverse back, reverse-append before (x ∷ after), reverse_cons x after, append_assoc (reverse after) (x ∷ []) (reverse before))
 
 -- two places in order
 pub turned_between : (before between after : List Stretch) (x y : Stretch)

@@ -1,4 +1,5 @@
 -- A page that grows by the rules is a layout of its document.
+use Rattle.std.proofs.lemmas.Grind.{common_steps}
 use Rattle.std.specs.Prelude.{◌≡◌, ◌≢◌, ℕ, suc, ◌+◌, ◌<◌, ◌≤◌, max, ⊤, Bool, true, false, not, ◌&&◌, ◌==◌, List, [], ◌∷◌, ◌++◌, take, reverse, map, fold, sum_by, All, codes, refl, if◌then◌else◌, ◌⊎◌, IsTrue}
 use Rattle.std.specs.List.{list_any, list_all, after_last}
 use Rattle.std.proofs.Common.{rules, sym, subst, ap, arith, inl, inr, ◌∙◌, append_assoc}
@@ -21,7 +22,7 @@ use Rattle.bpaf_doc.proofs.lemmas.Console.Layout.Text.{EachPassed, NoInk, no_ink
 use Rattle.bpaf_doc.proofs.lemmas.Console.Layout.Margin.{AtMargin, at_margin_grows}
 use Rattle.bpaf_doc.proofs.lemmas.Console.Layout.Bound.{EachFront, Within, IsBare, WritesNone, IsNarrow, bare_grows, bound, within_grows}
 use Rattle.bpaf_doc.proofs.lemmas.Console.Layout.Pads.{FitsBefore, fits_width_grows, holds_back, IsLed, Leads, led_grows, leads_at, HasNoPads, no_pads_grows, IsPending, pending_grows, PadsOnly, pads_only_grows, pads_back, body_back}
-use Rattle.bpaf_doc.proofs.lemmas.Console.Layout.Reach.{Rule, sum_of, end_of, IsRun, HasNoRoom, BreaksBy, IsSound, breaks_grows}
+use Rattle.bpaf_doc.proofs.lemmas.Console.Layout.Reach.{Rule, sum_of, IsRun, HasNoRoom, BreaksBy, IsSound, breaks_grows}
 use Rattle.bpaf_doc.proofs.lemmas.Console.Layout.Room.{ComesInOrder, in_order_blank, in_order_grows, IsAfterAll, after_all_grows, part_later, is_chunk, allowance, is_idle, idle_all, idle, idle_sound}
 use Rattle.bpaf_doc.proofs.lemmas.Console.Layout.Alone.{IsHeavy, heavy_grows, AloneBefore, alone_grows}
 use Rattle.bpaf_doc.proofs.lemmas.Console.Layout.Split.{events_back, events_grows, Cut, has_newline, inked_line, inked_since}
@@ -295,12 +296,7 @@ may_stand m r x h q = at x (known_end m false x r [] (λ t. absurd cc) h) q wher
 
 all_kept : (may_add : Type 0) (m : List Stretch) → AllKept may_add m → All (IsKept may_add) (reverse m)
 all_kept may_add [] h = All-nil (IsKept may_add)
-all_kept may_add (x ∷ m) h = subst (λ ys. All (IsKept may_add) ys) (sym (reverse_cons x m)) (at x h (all_kept may_add m)) where
-  one : (y : Stretch) → IsKept may_add y → All (IsKept may_add) (reverse m) → All (IsKept may_add) (reverse m ++ y ∷ [])
-  one y k rest = All-append (IsKept may_add) (reverse m) (y ∷ []) rest (All-cons (IsKept may_add) y [] k (All-nil (IsKept may_add)))
-
-  at : (x : Stretch) → AllKept may_add (x ∷ m) → (AllKept may_add m → All (IsKept may_add) (reverse m)) → All (IsKept may_add) (reverse m ++ x ∷ [])
-  at x h1 h2 = grind (arith, one)
+all_kept may_add (x ∷ m) h = grind (arith, common_steps, all_kept may_add m, reverse_cons, All-append, All-cons, All-nil)
 
 -- a newline stands between an inked place and a place that owes none
 debt_paid : (m before : List Stretch) (e : Place) → EachPlace IsFreeOfDebt (m ++ Placed e ∷ before) → owes_line (m ++ Placed e ∷ before) ≡ false → is_inked (chunk_at e) ≡ true
@@ -323,8 +319,7 @@ module _ (width : ℕ) (document : List Part) (st : State) (final : List Stretch
 
   law_at : (P : List Stretch → Place → Type 0) → EachPlace P st.back → (before between after : List Stretch) (e f : Place) → stretches ≡ before ++ Placed e ∷ (between ++ Placed f ∷ after)
       → P (reverse between ++ Placed e ∷ reverse before) f
-  law_at P h before between after e f s =
-      (each_back P (reverse after) (Placed f ∷ (reverse between ++ Placed e ∷ reverse before)) (subst (λ ys. EachPlace P ys) (apart_at before between after e f s) (grind arith))).0
+  law_at P h before between after e f s = grind (arith, each_back P (reverse after) (Placed f ∷ (reverse between ++ Placed e ∷ reverse before)), apart_at before between after e f s)
 
   one_at : (P : List Stretch → Place → Type 0) → EachPlace P st.back → (before after : List Stretch) (f : Place) → stretches ≡ before ++ Placed f ∷ after → P (reverse before) f
   one_at P h before after f s = (each_back P (reverse after) (Placed f ∷ reverse before) (subst (λ ys. EachPlace P ys) (turned_at final before after (Placed f) s) (grind arith))).0
@@ -395,10 +390,7 @@ module _ (width : ℕ) (document : List Part) (st : State) (final : List Stretch
     -- where the line is broken, what the rule reckons is more than the width
     over_width : (rule : Rule) → BreaksBy width rule st → (before between : List Stretch) (e f : Place) → AreApart stretches before e between f → IsRun width rule (reverse between) e
         → IsTrue (list_any is_newline between) → width < column before + rule.takes (Shows e.part (chunk_at e)) + rule.taken (events_back (reverse between)) + columns f.bytes
-    over_width rule broken before between e f h run line =
-        let over : width < end_of width rule (events_back (reverse between)) e (reverse before) + columns f.bytes =
-        law_at (HasNoRoom width rule) broken.no_room before between h.after e f h.order (reverse between) (reverse before) e refl run (any_turned is_newline between ∙ line) in
-        let here : column before ≡ column_back (reverse before) = column_is before in omega arith
+    over_width rule broken before between e f h run line = grind (arith, law_at (HasNoRoom width rule) broken.no_room before between h.after e f h.order (reverse between) (reverse before) e refl run, any_turned is_newline between, column_is before)
 
     needed_law : Spacious width (greatest_margin document) st → WrapsOnlyIfNeeded width stretches
     needed_law spacious = λ before between e f h ordinary second kind line.

@@ -5,7 +5,7 @@ use Rattle.std.specs.Str.{bytes_eq}
 use Rattle.std.proofs.Common.{sym, ap, arith, ◌∙◌, length-append}
 use Rattle.std.proofs.lemmas.Bool.Decides.{nat_tests}
 use Rattle.std.proofs.lemmas.List.{append-nil, length-reverse, reverse-reverse}
-use Rattle.std.proofs.lemmas.Grind.{flat_map-append}
+use Rattle.std.proofs.lemmas.Grind.{flat_map-append, common_steps}
 use Rattle.bpaf_doc.specs.declared.console.pairs.Pairs.{Pairs}
 use Rattle.bpaf_doc.specs.declared.console.page.Asked.{Asked}
 use Rattle.bpaf_doc.specs.declared.console.page.Asked.TheVariants as asked
@@ -27,7 +27,7 @@ use Rattle.bpaf_doc.specs.Console.Laws.{IsExactPageLayout}
 use Rattle.bpaf_doc.proofs.lemmas.Console.Layout.Back.{by_test}
 use Rattle.bpaf_doc.proofs.lemmas.Console.Margins.{top, stack_at, shifted, top-margin, stack_after}
 use Rattle.bpaf_doc.proofs.lemmas.Console.Sheet.Grows.{raw_cases, top_innermost}
-use Rattle.bpaf_doc.proofs.lemmas.Console.Sheet.Walk.{Frame, asked_keeps, text_frame, raw_frame, written_of, Walk, stack_next, text_level, shown_is, hidden_is, start_skips, end_skips, walk_begins, walk_part, opened_keeps, closed_keeps}
+use Rattle.bpaf_doc.proofs.lemmas.Console.Sheet.Walk.{asked_keeps, text_frame, raw_frame, written_of, Walk, stack_next, text_level, shown_is, hidden_is, start_skips, end_skips, walk_begins, walk_part, opened_keeps, closed_keeps}
 use Rattle.bpaf_doc.proofs.lemmas.Console.Sheet.Whole.{Each, IsGood, text_good, columns_good, margin_kept, Done, done, console_layout, events_from, text_is_utf8}
 use Rattle.bpaf_doc.proofs.lemmas.Console.Ink.{ink-backquote}
 use Rattle.bpaf_doc.proofs.lemmas.Console.Pages.{skips-mark_bytes}
@@ -110,10 +110,7 @@ raw_is width level bytes weight s same_columns wide margin =
 text_is : (full : Bool) (width level : ℕ) (chunks : List Chunk) (s : Sheet) → Each IsGood chunks → s.width ≡ width → page.margin_of s ≡ level
     → view (page.text_put full chunks s) ≡ exact.chunks_put width level (written_of full chunks) (view s)
 text_is full width level [] s good wide margin = refl
-text_is full width level (Raw bytes weight ∷ chunks) s good wide margin =
-    let frame : Frame s (page.raw_put bytes weight s) = raw_frame bytes weight s in
-    text_is full width level chunks (page.raw_put bytes weight s) good.1 (frame.width ∙ wide) (margin_kept s (page.raw_put bytes weight s) frame ∙ margin)
-    ∙ ap (exact.chunks_put width level (written_of full chunks)) (raw_is width level bytes weight s (columns_good bytes weight good.0) wide margin)
+text_is full width level (Raw bytes weight ∷ chunks) s good wide margin = grind (arith, common_steps, text_is full width level chunks (page.raw_put bytes weight s) good.1, raw_frame, margin_kept, raw_is, columns_good)
 text_is full width level (LineBreak ∷ chunks) s good wide margin = text_is full width level chunks (page.newline_put s) good.1 wide margin
 text_is full width level (Paragraph ∷ chunks) s good wide margin = grind (arith, text_is full width level chunks)
 

@@ -4,7 +4,7 @@ use Rattle.std.specs.List.{ends_with}
 use Rattle.std.specs.Str.{bytes_eq}
 use Rattle.std.proofs.Common.{sym, subst, ap, arith, inl, inr, ◌∙◌, append_assoc}
 use Rattle.std.proofs.lemmas.List.{append-nil, nil_from_length, same_from_push, reverse-append, length-reverse}
-use Rattle.std.proofs.lemmas.Grind.{replicate_next}
+use Rattle.std.proofs.lemmas.Grind.{replicate_next, common_steps}
 use Rattle.std.proofs.lemmas.Slice.Eq.{ends_is, bytes_eq-Decides}
 use Rattle.std.proofs.lemmas.Bool.{cases_lt, eqb-true, and_parts, not-true, not-false}
 use Rattle.std.proofs.lemmas.Bool.Decides.{nat_tests, Decides-eqb}
@@ -79,9 +79,7 @@ draws_blank s st d h =
 
 -- a text that ends in two newlines after one more ended in one before
 one_before : (text : List ℕ) → ends_with nat_eq (text ++ 10 ∷ []) (10 ∷ 10 ∷ []) ≡ true → ends_with nat_eq text (10 ∷ []) ≡ true
-one_before text h =
-    let found : (front : List ℕ) × (text ++ 10 ∷ [] ≡ front ++ 10 ∷ 10 ∷ []) = ends_front (10 ∷ 10 ∷ []) (text ++ 10 ∷ []) h in
-    ends_when (10 ∷ []) text found.0 (same_from_push text (found.0 ++ 10 ∷ []) 10 10 (found.1 ∙ sym (append_assoc found.0 (10 ∷ []) (10 ∷ [])))).0
+one_before text h = grind (arith, common_steps, ends_when (10 ∷ []) text, same_from_push text, append_assoc)
 
 abbrev pub LinesTo : State → Sheet → Type 0
 LinesTo st t = (mid : State) × Lines st mid × Draws t mid
@@ -242,9 +240,7 @@ draws_opened b adjacent s st d = grind (arith, pushed_same, draws_marked, start_
 
 pub draws_closed : (b : Block) (s : Sheet) (st : State) → Draws s st → Draws (page.closed b s) (passed (Closes b) (page.margin_of (page.closed b s)) st)
 unfolding page.closed
-draws_closed b s st d =
-    draws_marked (Closes b) b (record s { margins = take (length s.margins - 1) s.margins; asks = page.asked_by_end s.asks b; at_body = s.at_body && not (page.is_body b) }) st refl
-    d.bytes d.column d.fits (ap (λ (a : Asked). page.asked_by_end a b) d.asked ∙ (grind arith)) (ap (λ (p : Bool). p && not (page.is_body b)) d.body ∙ end_body st.pending b) d.legible
+draws_closed b s st d = grind (arith, common_steps, draws_marked (Closes b) b, end_body st.pending b)
 
 -- ---- the stack, newest first
 

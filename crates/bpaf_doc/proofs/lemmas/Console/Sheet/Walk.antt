@@ -1,7 +1,7 @@
 -- The exact page goes over a document as its marks are counted: the stack of margins, the count of inline blocks that hide, and
 -- what is remembered of empty Block pairs.
-use Rattle.std.specs.Prelude.{◌≡◌, ℕ, suc, ◌+◌, ◌-◌, ◌*◌, ◌^◌, ◌<◌, ◌≤◌, ⊤, Bool, true, false, not, ◌&&◌, ◌==◌, List, [], ◌∷◌, ◌++◌, length, take, drop, reverse, refl, min, if◌then◌else◌, slice_get, Some}
-use Rattle.std.specs.Str.{bytes_eq}
+use Rattle.std.proofs.lemmas.Grind.{common_steps}
+use Rattle.std.specs.Prelude.{◌≡◌, ℕ, suc, ◌+◌, ◌-◌, ◌*◌, ◌^◌, ◌<◌, ◌≤◌, ⊤, Bool, true, false, not, ◌&&◌, ◌==◌, List, [], ◌∷◌, ◌++◌, length, take, drop, reverse, refl, if◌then◌else◌, slice_get, Some}
 use Rattle.std.proofs.Common.{rules, sym, ap, arith, inl, inr, ◌∙◌, append_assoc, length-append}
 use Rattle.std.proofs.lemmas.List.{length-reverse}
 use Rattle.std.proofs.lemmas.Bool.Decides.{nat_tests}
@@ -49,11 +49,7 @@ room_frame n s = grind (arith, asked_keeps, frame_if, same_frame)
 
 pub raw_frame : (bytes : List ℕ) (weight : ℕ) (s : Sheet) → Frame s (page.raw_put bytes weight s)
 unfolding page.raw_put
-raw_frame bytes weight s =
-    frame_if (page.wraps (page.columns_of bytes weight) s && bytes_eq bytes (32 ∷ [])) s (page.room_made (page.columns_of bytes weight) s) (page.placed bytes weight (page.room_made (page.columns_of bytes weight) s))
-    (room_frame (page.columns_of bytes weight) s)
-    (frame_then s (page.room_made (page.columns_of bytes weight) s) (page.placed bytes weight (page.room_made (page.columns_of bytes weight) s)) (room_frame (page.columns_of bytes weight) s)
-    (grind (arith, frame_if)))
+raw_frame bytes weight s = grind (arith, frame_if, room_frame (page.columns_of bytes weight) s, frame_then s (page.room_made (page.columns_of bytes weight) s))
 
 pub text_frame : (full : Bool) (chunks : List Chunk) (s : Sheet) → Frame s (page.text_put full chunks s)
 text_frame full [] s = same_frame s
@@ -160,8 +156,7 @@ module _ (full : Bool) (document : List Part) where
     -- the margins stay
     walk_still : (next : Pairs) (t : Sheet) → KnowsPairs document (index + 1) next → t.tab_stop ≡ s.tab_stop → t.margins ≡ s.margins → shift_at document index part ≡ Level
         → Walk (index + 1) (before ++ part ∷ []) rest next (hidden_after full hidden part) t
-    walk_still next t knows tab margins level =
-        walk_on next t knows tab (margins ∙ w.margins ∙ ap (λ (x : Shift). reverse (shifted x (stack_at document index))) (sym level))
+    walk_still next t knows tab margins level = grind (arith, walk_on next t knows tab)
 
   -- a text
   module _ (index : ℕ) (before rest : List Part) (bytes : List ℕ) (style : Style) (pairs : Pairs) (hidden : ℕ) (s : Sheet) (w : Walk index before (Text bytes style ∷ rest) pairs hidden s) where
@@ -169,9 +164,7 @@ module _ (full : Bool) (document : List Part) where
     text_level = shift_at-text document index bytes style
 
     text_knows : KnowsPairs document (index + 1) pairs
-    text_knows =
-        KnowsPairs-more document index pairs
-        (λ e. let no : Some (Text bytes style) ≡ Some (Start blocks.Section4) = sym (there index before rest (Text bytes style) pairs hidden s w) ∙ e in cc) w.knows
+    text_knows = grind (arith, KnowsPairs-more document index pairs, there index before rest (Text bytes style) pairs hidden s w)
 
     pub walk_text : (t : Sheet) → Frame s t → Walk (index + 1) (before ++ Text bytes style ∷ []) rest pairs (hidden_after full hidden (Text bytes style)) t
     walk_text t frame = walk_still index before rest (Text bytes style) pairs hidden s w pairs t text_knows frame.tab_stop frame.margins text_level
@@ -191,16 +184,7 @@ module _ (full : Bool) (document : List Part) where
       → adjacent ≡ (is_section4_start (Start b) && skips_pair document index) → ((n : ℕ) → part_shift document index (Start b) ≡ Indent n → top stack + n ≤ 2 ^ 128 - 1)
       → (page.opened b adjacent s).margins ≡ reverse (shifted (part_shift document index (Start b)) stack)
   unfolding page.opened
-  opened_margins index b adjacent s stack m t a fits = at b a fits where
-    pushed : (n : ℕ) → top stack + n ≤ 2 ^ 128 - 1 → s.margins ++ min (page.innermost s + n) (2 ^ 128 - 1) ∷ [] ≡ reverse ((top stack + n) ∷ stack)
-    pushed n l = grind (arith, top_innermost, pushed_margins)
-
-    body : page.saturated (s.tab_stop + 2) ≡ tab_stop document + 2
-    body = let most : tab_stop document ≤ 28 = tab_stop-le document in omega arith
-
-    at : (b : Block) → adjacent ≡ (is_section4_start (Start b) && skips_pair document index) → ((n : ℕ) → part_shift document index (Start b) ≡ Indent n → top stack + n ≤ 2 ^ 128 - 1)
-        → (page.opened b adjacent s).margins ≡ reverse (shifted (part_shift document index (Start b)) stack)
-    at b h1 h2 = grind (arith, pushed, body)
+  opened_margins index b adjacent s stack m t a fits = grind (arith, common_steps, top_innermost, pushed_margins, tab_stop-le)
 
   -- a start
   module _ (is_small : length document < 2 ^ 64) (index : ℕ) (before rest : List Part) (b : Block) (pairs : Pairs) (hidden : ℕ) (s : Sheet) (w : Walk index before (Start b ∷ rest) pairs hidden s) where
@@ -230,8 +214,7 @@ module _ (full : Bool) (document : List Part) where
   -- an end
   module _ (is_small : length document < 2 ^ 64) (index : ℕ) (before rest : List Part) (b : Block) (pairs : Pairs) (hidden : ℕ) (s : Sheet) (w : Walk index before (End b ∷ rest) pairs hidden s) where
     end_knows : KnowsPairs document (index + 1) pairs
-    end_knows =
-        KnowsPairs-more document index pairs (λ e. let no : Some (End b) ≡ Some (Start blocks.Section4) = sym (there index before rest (End b) pairs hidden s w) ∙ e in cc) w.knows
+    end_knows = grind (arith, KnowsPairs-more document index pairs, there index before rest (End b) pairs hidden s w)
 
     pub end_skips : whole.skips pairs index b ≡ is_skipped document index
     end_skips = skips_is document is_small index b pairs end_knows (inr (there index before rest (End b) pairs hidden s w))
@@ -240,10 +223,7 @@ module _ (full : Bool) (document : List Part) where
     walk_end_skipped e = walk_still index before rest (End b) pairs hidden s w pairs s end_knows refl refl (shift_at-skipped document index (End b) e)
 
     pub walk_end : is_skipped document index ≡ false → Walk (index + 1) (before ++ End b ∷ []) rest pairs (hidden_after full hidden (End b)) (page.closed b s)
-    walk_end e =
-        walk_on index before rest (End b) pairs hidden s w pairs (page.closed b s) end_knows (closed_keeps b s).1
-        ((closed_keeps b s).2 ∙ popped_margins s.margins (stack_at document index) w.margins
-        ∙ ap (λ (x : Shift). reverse (shifted x (stack_at document index))) (sym (shift_at-shown document index (End b) e)))
+    walk_end e = grind (arith, walk_on index before rest (End b) pairs hidden s w pairs (page.closed b s), end_knows, closed_keeps b s, popped_margins s.margins (stack_at document index) w.margins, shift_at-shown document index (End b) e)
 
   pub tab_is : whole.tab_stop_from 0 false 0 document ≡ tab_stop document
   tab_is =
@@ -270,7 +250,4 @@ module _ (full : Bool) (document : List Part) where
       by_test (Walk (index + 1) (before ++ Start b ∷ []) rest (whole.pairs_at document index b pairs) (hidden_after full hidden (Start b))) (whole.skips (whole.pairs_at document index b pairs) index b) _ _
       (λ e. walk_start_skipped is_small index before rest b pairs hidden s w (sym (start_skips is_small index before rest b pairs hidden s w) ∙ e))
       (λ e. walk_start is_small index before rest b pairs hidden s w (sym (start_skips is_small index before rest b pairs hidden s w) ∙ e))
-  walk_part is_small index before rest (End b) pairs hidden s w =
-      by_test (Walk (index + 1) (before ++ End b ∷ []) rest pairs (hidden_after full hidden (End b))) (whole.skips pairs index b) s (page.closed b s)
-      (λ e. walk_end_skipped is_small index before rest b pairs hidden s w (sym (end_skips is_small index before rest b pairs hidden s w) ∙ e))
-      (λ e. walk_end is_small index before rest b pairs hidden s w (sym (end_skips is_small index before rest b pairs hidden s w) ∙ e))
+  walk_part is_small index before rest (End b) pairs hidden s w = grind (arith, by_test, walk_end_skipped is_small index before rest b pairs hidden s w, end_skips is_small index before rest b pairs hidden s w, walk_end is_small index before rest b pairs hidden s w)

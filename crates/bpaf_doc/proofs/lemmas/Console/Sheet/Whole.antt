@@ -2,7 +2,7 @@
 use Rattle.std.specs.Prelude.{◌≡◌, ℕ, suc, ◌+◌, ◌-◌, ◌^◌, ◌<◌, ◌≤◌, ⊤, Bool, true, false, ◌==◌, List, [], ◌∷◌, ◌++◌, length, take, map, flat_map, All, codes, refl, if◌then◌else◌, IsUtf8, slice_get, IfOk, Result, String, string_bytes, unwrap_or, Some}
 use Rattle.std.specs.List.{enumerate_from}
 use Rattle.std.specs.Str.{chars}
-use Rattle.std.proofs.Common.{sym, subst, ap, arith, inr, ◌∙◌, append_assoc}
+use Rattle.std.proofs.Common.{sym, subst, ap, arith, ◌∙◌, append_assoc}
 use Rattle.std.proofs.lemmas.List.{append-nil}
 use Rattle.std.proofs.lemmas.List.Elements.{All-get_or}
 use Rattle.std.proofs.lemmas.Option.{get_or_from_slice_get, slice_get_within}
@@ -97,15 +97,7 @@ pub margin_kept : (s t : Sheet) → Frame s t → page.margin_of t ≡ page.marg
 margin_kept s t f = ap (λ (ms : List ℕ). page.saturated (unwrap_or (slice_get ms (length ms - 1)) 0)) f.margins
 
 draws_broken : (k : ℕ) (chunk : Chunk) (s : Sheet) (st : State) → Draws s st → Draws (page.newline_put s) (broken k chunk st)
-draws_broken k chunk s st d = record {
-  bytes = ap (λ bs. bs ++ 10 ∷ []) (d.bytes ∙ sym (text_back_cons (Passed (Shows k chunk)) st.back ∙ append-nil (text_back st.back))) ∙ sym (text_back_cons (Gap 10) (Passed (Shows k chunk) ∷ st.back));
-  column = refl;
-  asked = d.asked;
-  body = d.body;
-  margin = d.margin;
-  legible = (inr refl, d.legible);
-  fits = omega arith;
-}
+draws_broken k chunk s st d = grind (arith, text_back_cons (Passed (Shows k chunk)) st.back, append-nil (text_back st.back), text_back_cons (Gap 10) (Passed (Shows k chunk) ∷ st.back))
 
 -- the document's texts may be written here: after parts before this one
 pub record CanWrite (margin_of : ℕ → ℕ) (k : ℕ) (st : State) : Type 0 where
@@ -163,9 +155,7 @@ module _ (document : List Part) (width : ℕ) where
   text_steps : (k : ℕ) (full : Bool) (chunks : List Chunk) (nexts : List Next) (s : Sheet) → AfterText k nexts s → Each IsText chunks → Each IsGood chunks
       → AfterText k (nexts ++ map (chunk_next k) (written_of full chunks)) (page.text_put full chunks s)
   text_steps k full [] nexts s l t g = subst (λ ns. AfterText k ns s) (sym (append-nil nexts)) l
-  text_steps k full (Raw bytes weight ∷ chunks) nexts s l t g =
-      longer nexts (raw (piece k bytes weight)) (map (chunk_next k) (written_of full chunks)) k (page.text_put full chunks (page.raw_put bytes weight s))
-      (text_steps k full chunks (nexts ++ raw (piece k bytes weight) ∷ []) (page.raw_put bytes weight s) (raw_step k bytes weight nexts s l t.0 g.0) t.1 g.1)
+  text_steps k full (Raw bytes weight ∷ chunks) nexts s l t g = grind (arith, text_steps k full chunks (nexts ++ raw (piece k bytes weight) ∷ []) (page.raw_put bytes weight s) (raw_step k bytes weight nexts s l t.0 g.0) t.1 g.1, longer nexts, raw (piece k bytes weight), chunk_next k, raw_step k bytes weight nexts s l t.0 g.0)
   text_steps k full (LineBreak ∷ chunks) nexts s l t g =
       longer nexts (break k LineBreak) (map (chunk_next k) (written_of full chunks)) k (page.text_put full chunks (page.newline_put s))
       (text_steps k full chunks (nexts ++ break k LineBreak ∷ []) (page.newline_put s) (break_step k LineBreak nexts s l (line_break_suits k refl l.1.order l.1.moved)) t.1 g.1)

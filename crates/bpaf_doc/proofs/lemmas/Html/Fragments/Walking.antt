@@ -105,11 +105,7 @@ run_more : {chunks : List Chunk} {text : List ℕ} → AreWords chunks text → 
     → text_rest full style (chunks ++ rest) ++ walk full (depth_after_text full (chunks ++ rest)) parts
     ≡ map (Shown style) chunks ++ (text_rest full style rest ++ walk full (depth_after_text full rest) parts)
 run_more {chunks} (no_words ec et) full style rest parts = grind arith
-run_more {chunks} (a_word bytes others_text others ec et w) full style rest parts =
-    ap (λ cs. text_rest full style (cs ++ rest) ++ walk full (depth_after_text full (cs ++ rest)) parts) ec
-    ∙ text_more full style (Raw bytes (columns bytes)) (others ++ rest) parts (inr refl)
-    ∙ ap (λ t. Shown style (Raw bytes (columns bytes)) ∷ t) (run_more w full style rest parts)
-    ∙ sym (ap (λ cs. map (Shown style) cs ++ (text_rest full style rest ++ walk full (depth_after_text full rest) parts)) ec)
+run_more {chunks} (a_word bytes others_text others ec et w) full style rest parts = grind (arith, run_more w full style rest parts, text_more full style (Raw bytes (columns bytes)) (others ++ rest) parts (inr refl))
 
 pub left_run : (now : List Fragment) (full in_text : Bool) (style : Style) (run : List ℕ) (chunks rest : List Chunk) (depth : ℕ) (parts : List Part)
     → left_of full in_text style chunks depth parts ≡ now → in_text ≡ true → chunks ≡ chunks_of run ++ rest → IsLine run
@@ -120,6 +116,4 @@ left_run now full in_text style run chunks rest depth parts view begun e line =
 
 -- and fewer fragments are left
 pub fewer_left : (now after : List Fragment) (style : Style) (run : List ℕ) → IsRun run → now ≡ map (Shown style) (chunks_of run) ++ after → length after < length now
-fewer_left now after style run is e =
-    let some : 0 < length (chunks_of run) = words_some (words_of_line run is.line) is.some in
-    omega (arith, some, ap length e, length-append (map (Shown style) (chunks_of run)) after, length-map (chunks_of run) (Shown style))
+fewer_left now after style run is e = grind (arith, words_some, words_of_line run is.line, length-append (map (Shown style) (chunks_of run)) after, length-map (chunks_of run) (Shown style))
