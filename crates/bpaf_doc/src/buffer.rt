@@ -508,6 +508,14 @@ impl<A: Allocator> Doc<A> {
         texts.len()
     }
 
+    // States a bound on the parts: each takes 16 bytes, and all of them less than 2^63.
+    pub(crate) fn bound_parts(&self)
+        ensures { length self.now < 2 ^ 59 }
+    {
+        let few = self.ends.as_slice().len() < 1 << 59;
+        prove!(few);
+    }
+
     // The allocator that its memory comes from.
     pub(crate) fn allocator(&self) -> &A {
         self.payload.allocator()

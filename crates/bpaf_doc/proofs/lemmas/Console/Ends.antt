@@ -8,7 +8,7 @@ use Rattle.std.proofs.lemmas.Bool.Decides.{nat_tests}
 use Rattle.std.proofs.lemmas.Str.{chars-IsAscii, encodes-chars, IsUtf8-from_ascii, IsUtf8-string_bytes}
 use Rattle.bpaf_doc.specs.Buffer.Parts.{ink}
 use Rattle.bpaf_doc.specs.Splitter.Chunks.{has_some}
-use Rattle.bpaf_doc.proofs.lemmas.Console.Ink.{ink-trim, trim-boundary, trim-cut}
+use Rattle.bpaf_doc.proofs.lemmas.Console.Ink.{trim-boundary, trim-cut}
 use Rattle.bpaf_doc.proofs.lemmas.Splitter.Pieces.{utf8_cut}
 use Rattle.bpaf_doc.proofs.lemmas.Console.Layout.Stretches.{trim_some}
 
@@ -31,4 +31,4 @@ one_ink b h = ap (λ cs. has_some (filter is_not_whitespace cs)) (one_char b h) 
 pub graphic_end : (text front : List ℕ) (b : ℕ) → text ≡ front ++ b ∷ [] → IsUtf8 text → is_ascii_graphic b ≡ true → trim_end text ≡ text
 graphic_end text front b e u h = grind (arith, common_steps, utf8_cut front (b ∷ []), small b h, trim_some front (b ∷ []), one_ink b h, trim_one b h)
 
-pub ruleset trimmed_end = (graphic_end, trim-boundary, trim-cut, ink-trim, IsUtf8-string_bytes)
+pub ruleset trimmed_end = (graphic_end, trim-boundary, trim-cut, IsUtf8-string_bytes)

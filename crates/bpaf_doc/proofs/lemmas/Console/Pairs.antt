@@ -12,6 +12,7 @@ use Rattle.bpaf_doc.specs.declared.buffer.Block.TheVariants as blocks
 use Rattle.bpaf_doc.specs.declared.buffer.Block.{Block}
 use Rattle.bpaf_doc.specs.declared.console.pairs.Pairs.{Pairs}
 use Rattle.bpaf_doc.specs.Buffer.Parts.{Part, Start, End}
+use Rattle.bpaf_doc.specs.Shown.{mark_bytes}
 use Rattle.bpaf_doc.specs.Console.Margin.{is_section4_start, is_section4_end, has_empty_block, after_section4, skips_pair, is_skipped}
 use Rattle.bpaf_doc.specs.Console.Steps.Pairs.{SkipsAt, HasMarkAt, KnowsPairs}
 use Rattle.bpaf_doc.specs.Console.Steps.Text as whole
@@ -113,6 +114,12 @@ skipped_by document k h = at (any_found (skips document k) document 0 h) where
   at : ((i : ℕ) × (part : Part) × (slice_get document i ≡ Some part) × (skips document k (0 + i) part ≡ true))
       → (i : ℕ) × SkipsAt document i × ((k ≡ after_section4 document i) ⊎ (k ≡ after_section4 document i + 1))
   at (i, part, here, holds) = by i part here (ap (λ n. skips document k n part) (sym (zero-add i)) ∙ holds)
+
+-- no mark with a backquote is skipped
+pub skipped_bare : (document : List Part) (k : ℕ) (b : Block) → HasMarkAt document k b → is_skipped document k ≡ true → mark_bytes b ≡ []
+skipped_bare document k b mark h = at (skipped_by document k h) where
+  at : ((i : ℕ) × SkipsAt document i × ((k ≡ after_section4 document i) ⊎ (k ≡ after_section4 document i + 1))) → mark_bytes b ≡ []
+  at (i, skips, place) = grind (arith, pair_there document i skips.1)
 
 skipped_from : (document : List Part) (k i : ℕ) → SkipsAt document i → (k ≡ after_section4 document i) ⊎ (k ≡ after_section4 document i + 1) → is_skipped document k ≡ true
 skipped_from document k i (here, pair) h = grind (arith, any_from (skips document k) document 0 i (Start blocks.Section4) here, zero-add i, nat_tests)

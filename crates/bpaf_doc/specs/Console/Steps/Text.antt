@@ -1,6 +1,6 @@
 -- A console text, part by part, as the private functions leave it. Nothing here has to be believed: that such a text is a
 -- layout of its document, with the console's ink, is proved.
-use Rattle.std.specs.Prelude.{◌≡◌, ⊤, ℕ, ◌+◌, ◌-◌, ◌==◌, Bool, true, false, ◌&&◌, List, [], ◌∷◌, Option, Some, drop, max, nat_le, nat_lt, if◌then◌else◌}
+use Rattle.std.specs.Prelude.{ℕ, ◌+◌, ◌-◌, ◌==◌, Bool, true, false, ◌&&◌, List, [], ◌∷◌, Option, Some, drop, max, nat_le, nat_lt, if◌then◌else◌}
 use Rattle.std.specs.List.{slice_get, position_or_len}
 use Rattle.bpaf_doc.specs.declared.buffer.Block.TheVariants as blocks
 use Rattle.bpaf_doc.specs.declared.buffer.Block.{Block}
@@ -8,7 +8,8 @@ use Rattle.bpaf_doc.specs.declared.console.pairs.Pairs.{Pairs}
 use Rattle.bpaf_doc.specs.Buffer.Parts.{Part, Text, Start, End}
 use Rattle.bpaf_doc.specs.Splitter.Chunks.{columns, chunks_of}
 use Rattle.bpaf_doc.specs.Console.Steps.Hiding.{hidden_after}
-use Rattle.bpaf_doc.specs.Console.Steps.Page.{Sheet, HasFewMargins, blank_sheet, saturated, text_put, opened, closed, finished}
+use Rattle.bpaf_doc.specs.Console.Exact.{saturated, finished}
+use Rattle.bpaf_doc.specs.Console.Steps.Page.{Sheet, blank_sheet, text_put, opened, closed}
 
 -- ---- the tab stop
 
@@ -97,24 +98,9 @@ parts_put full document index p hidden [] s = s
 parts_put full document index p hidden (part ∷ parts) s =
     parts_put full document (index + 1) (pairs_after document index p part) (hidden_after full hidden part) parts (part_put full document index p hidden part s)
 
--- each mark that is not passed over leaves few margins
-abbrev pub LeavesFew : Pairs → ℕ → Part → Sheet → Type 0
-LeavesFew p index (Text bytes style) s = ⊤
-LeavesFew p index (Start b) s = skips p index b ≡ false → HasFewMargins s
-LeavesFew p index (End b) s = skips p index b ≡ false → HasFewMargins s
-
-abbrev pub KeepsFew : Bool → List Part → ℕ → Pairs → ℕ → List Part → Sheet → Type 0
-KeepsFew full document index p hidden [] s = ⊤
-KeepsFew full document index p hidden (part ∷ parts) s =
-    LeavesFew (pairs_after document index p part) index part (part_put full document index p hidden part s)
-    × KeepsFew full document (index + 1) (pairs_after document index p part) (hidden_after full hidden part) parts (part_put full document index p hidden part s)
-
-abbrev pub HasFewThroughout : Bool → ℕ → List Part → Type 0
-HasFewThroughout full width document = KeepsFew full document 0 no_pairs 0 document (blank_sheet width (tab_stop_from 0 false 0 document))
-
 -- the page after all the parts, and its text
 abbrev pub whole_page : Bool → ℕ → List Part → Sheet
 whole_page full width document = parts_put full document 0 no_pairs 0 document (blank_sheet width (tab_stop_from 0 false 0 document))
 
 abbrev pub console_text : Bool → ℕ → List Part → List ℕ
-console_text full width document = finished (whole_page full width document)
+console_text full width document = finished (whole_page full width document).page

@@ -2,7 +2,6 @@ use Rattle.std.proofs.Common.{◌++◌, string_bytes, replicate, ap, ◌∙◌, 
 use Rattle.std.specs.Char.{encode_utf8}
 use Rattle.std.proofs.lemmas.Str.{encode_ascii}
 use Rattle.std.proofs.lemmas.List.{replicate-append-replicate}
-use Rattle.bpaf_doc.proofs.lemmas.Console.Ink.{ink-push_blank}
 use Rattle.bpaf_doc.proofs.console.page.push_blanks.Goals as goal
 
 pub loop-preserved : goal.loop-preserved
@@ -12,5 +11,4 @@ loop-preserved g c = record {
       ∙ append_assoc (string_bytes c.args.out.now) (replicate c.loop.counter 32) (encode_utf8 32)
       ∙ ap (λ blanks. string_bytes c.args.out.now ++ blanks)
       (ap (λ blank. replicate c.loop.counter 32 ++ blank) (encode_ascii 32 (omega arith)) ∙ replicate-append-replicate c.loop.counter 1 32);
-  same_ink = ink-push_blank c.loop.out (string_bytes c.push.new.self) c.in_ok-push.ensures.bytes ∙ c.loop.invariant.same_ink;
 }

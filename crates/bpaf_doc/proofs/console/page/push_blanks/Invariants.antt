@@ -1,9 +1,7 @@
 use Rattle.std.proofs.Common.{◌≡◌, ◌++◌, string_bytes, replicate}
-use Rattle.bpaf_doc.specs.Buffer.Parts.{ink}
 use Rattle.bpaf_doc.proofs.console.page.push_blanks.Given as goal
 
 abbrev pub invariant-loop : goal.invariant-loop
 invariant-loop g l = record {
   bytes : string_bytes l.out ≡ string_bytes l.fn.out ++ replicate l.counter 32;
-  same_ink : ink (string_bytes l.out) ≡ ink (string_bytes l.fn.out);
 }

@@ -5,7 +5,7 @@ use Rattle.bpaf_doc.specs.declared.buffer.Block.{Block}
 use Rattle.bpaf_doc.specs.Splitter.Chunks.{Chunk, Raw, is_inked}
 use Rattle.bpaf_doc.specs.Shown.{is_term_ref, mark_bytes}
 use Rattle.bpaf_doc.specs.Console.Layout.{Event, Shows, Stretch, Gap, Placed, Passed, Place, chunk_at, is_raw_or_ref}
-use Rattle.bpaf_doc.specs.declared.console.page.Asked.TheVariants.{Nothing}
+use Rattle.bpaf_doc.specs.Console.Exact.{NoBreak}
 use Rattle.bpaf_doc.proofs.lemmas.Console.Layout.State.{State, Piece, Lines, Pads, Begins, first, stays, wraps, places, drops, Next, raw, mark, Grows, placing, breaking, passing, padded, put, Suits}
 use Rattle.bpaf_doc.proofs.lemmas.Console.Layout.Back.{by_cases, EachPlace, each_grows, place_of, fits_of, by_lines, same_padded, by_mark}
 use Rattle.bpaf_doc.proofs.lemmas.Console.Layout.Columns.{Fills, column_back, column_padded, Agrees}
@@ -33,7 +33,7 @@ quiet_column (x ∷ r) q i p = grind (arith, quiet_column r, no_backquote, or_fa
 
 -- nothing stands after an inked chunk that no event follows
 abbrev pub IsLast : State → Type 0
-IsLast st = (m before : List Stretch) (e : Place) → Cut st.back m e before → is_inked (chunk_at e) ≡ true → events_back m ≡ [] → (m ≡ []) × (st.asked ≡ Nothing)
+IsLast st = (m before : List Stretch) (e : Place) → Cut st.back m e before → is_inked (chunk_at e) ≡ true → events_back m ≡ [] → (m ≡ []) × (st.asked ≡ NoBreak)
 
 pub last_grows : {width : ℕ} {st after : State} {next : Next} → Grows width st next after → IsLast st → IsLast after
 last_grows e h = grind (arith, cut_cons, cut_passed, cut_gap)

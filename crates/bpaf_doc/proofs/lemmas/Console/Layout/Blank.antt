@@ -7,10 +7,9 @@ use Rattle.std.proofs.lemmas.Grind.{flat_map-append, common_steps}
 use Rattle.std.proofs.lemmas.Bool.{and_parts, eqb-true, or_cases}
 use Rattle.bpaf_doc.specs.Splitter.Chunks.{columns, is_inked, has_some}
 use Rattle.bpaf_doc.specs.Console.Layout.{Event, Stretch, Gap, Placed, Passed, Place, chunk_at, event_bytes, stretch_bytes, asks_blank_line, is_raw_event, text_of, HasBlankLine, is_inked_stretch, asks_newline}
-use Rattle.bpaf_doc.specs.declared.console.page.Asked.{Asked}
-use Rattle.bpaf_doc.specs.declared.console.page.Asked.TheVariants.{Nothing, BlankLine}
+use Rattle.bpaf_doc.specs.Console.Exact.{Request, NoBreak, BlankLine, at_least_new_line}
 use Rattle.bpaf_doc.specs.Buffer.Parts.{ink}
-use Rattle.bpaf_doc.proofs.lemmas.Console.Layout.State.{State, Piece, Lines, Pads, Begins, first, stays, wraps, Next, raw, Grows, padded, trimmed, ends_line, ends_blank, passed, at_least_line, Suits, is_nothing}
+use Rattle.bpaf_doc.proofs.lemmas.Console.Layout.State.{State, Piece, Lines, Pads, Begins, first, stays, wraps, Next, raw, Grows, padded, trimmed, ends_line, ends_blank, passed, Suits, is_nothing}
 use Rattle.bpaf_doc.proofs.lemmas.Console.Layout.Back.{by_cases, EachPlace, each_grows, place_of, lines_back, by_trimmed, same_padded, by_break, by_grows}
 use Rattle.bpaf_doc.proofs.lemmas.Console.Layout.Columns.{Fills, inked_some, fills_begins, no_bytes}
 use Rattle.bpaf_doc.proofs.lemmas.Console.Layout.Text.{EachPassed, NoInk, ink_text, or_true_right, or_false_left, or_false_right}
@@ -53,13 +52,13 @@ owes_ink : (r : List Stretch) → owes_line r ≡ true → list_any is_inked_str
 owes_ink [] h = absurd cc
 owes_ink (x ∷ r) h = grind (arith, owes_ink r, inked_line_ink)
 
-not_owed : (st : State) → IsAskedLine st → st.asked ≡ Nothing → owes_line st.back ≡ false
+not_owed : (st : State) → IsAskedLine st → st.asked ≡ NoBreak → owes_line st.back ≡ false
 not_owed st h a = elim (by_cases (owes_line st.back)) [ inl o ↦ let some : is_nothing st.asked ≡ false = h o in let none : is_nothing st.asked ≡ true = rw a refl in absurd cc | inr o ↦ o ]
 
 owes_begins : {width : ℕ} {st : State} {p : Piece} {base : State} → EachPlace Fills st.back → EachPassed NoInk st.back → IsAskedLine st → Begins width st p base → owes_line base.back ≡ false
 owes_begins f q h e = grind (arith, ink_text, owes_ink, not_owed, ends_line_owes, blank_line_ends)
 
-at_least_something : (a : Asked) → is_nothing (at_least_line a) ≡ false
+at_least_something : (a : Request) → is_nothing (at_least_new_line a) ≡ false
 at_least_something a = grind arith
 
 asked_line_passed : (event : Event) (margin : ℕ) (st : State) → IsAskedLine st → IsAskedLine (passed event margin st)
@@ -122,7 +121,7 @@ owes_fresh _ f o h = h
 
 -- ---- what is owed is asked for
 
-at_least_blank : (a : Asked) → a ≡ BlankLine → at_least_line a ≡ BlankLine
+at_least_blank : (a : Request) → a ≡ BlankLine → at_least_new_line a ≡ BlankLine
 at_least_blank a h = rw h refl
 
 asked_blank_passed : (event : Event) (margin : ℕ) (st : State) → IsAskedBlank st → IsAskedBlank (passed event margin st)

@@ -4,7 +4,7 @@ use Rattle.std.specs.Prelude.{◌≡◌, ℕ, ◌≤◌, Bool, true, false, ◌&
 use Rattle.std.proofs.Common.{arith}
 use Rattle.std.proofs.lemmas.Bool.{and_parts}
 use Rattle.bpaf_doc.specs.declared.buffer.Block.{Block}
-use Rattle.bpaf_doc.specs.declared.console.page.Asked.{Asked}
+use Rattle.bpaf_doc.specs.Console.Exact.{Request}
 use Rattle.bpaf_doc.specs.Splitter.Chunks.{Chunk, Raw, columns, is_inked, is_ordinary}
 use Rattle.bpaf_doc.specs.Console.Layout.{Event, Closes, event_bytes, event_columns, is_light, is_light_mark}
 use Rattle.bpaf_doc.proofs.lemmas.Console.Layout.State.{Piece, asked_after}
@@ -23,7 +23,7 @@ light_marks = record { begins = is_plain; follows = is_light_mark; has_chunks = 
 light_close : (b : Block) (level margin : ℕ) → margin ≤ level → is_light (Closes b) ≡ true → IsQuiet light level margin (Closes b)
 light_close b level margin low h = grind arith
 
-asks_nothing : (event : Event) (level margin : ℕ) → ((a : Asked) → asked_after event a ≡ a) → length (event_bytes event) ≡ 0
+asks_nothing : (event : Event) (level margin : ℕ) → ((a : Request) → asked_after event a ≡ a) → length (event_bytes event) ≡ 0
     → IsQuiet light_marks level margin event
 asks_nothing event level margin same none = record { asked = same; bytes = omega arith; pending = λ c p t. absurd cc; margin = λ c es. absurd cc }
 

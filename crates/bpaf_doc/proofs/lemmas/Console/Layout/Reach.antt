@@ -4,8 +4,7 @@ use Rattle.std.specs.List.{list_all}
 use Rattle.std.proofs.Common.{sym, subst, ap, arith, ◌∙◌}
 use Rattle.std.proofs.lemmas.Bool.{and_parts}
 use Rattle.bpaf_doc.specs.declared.buffer.Block.{Block}
-use Rattle.bpaf_doc.specs.declared.console.page.Asked.{Asked}
-use Rattle.bpaf_doc.specs.declared.console.page.Asked.TheVariants.{Nothing}
+use Rattle.bpaf_doc.specs.Console.Exact.{Request, NoBreak}
 use Rattle.bpaf_doc.specs.Splitter.Chunks.{Chunk, Raw, Paragraph, LineBreak, columns, IsOrdinary}
 use Rattle.bpaf_doc.specs.Console.Layout.{Event, Shows, Opens, Closes, Stretch, Gap, Placed, Passed, Place, chunk_at, event_bytes, is_inline_block}
 use Rattle.bpaf_doc.proofs.lemmas.Console.Layout.State.{State, Piece, Lines, Pads, Begins, first, stays, wraps, Next, raw, break, mark, Grows, padded, trimmed, sat, wrapped, put, passed, dropped, broken, asked_after, pending_after, Suits, IsShallow}
@@ -40,7 +39,7 @@ IsWeighed p = IsOrdinary (Raw p.bytes p.weight) → p.weight ≡ columns p.bytes
 
 -- what a mark does that may follow, where the margin goes from this level to the next
 pub record IsQuiet (rule : Rule) (level next : ℕ) (event : Event) : Type 0 where
-  pub asked : (a : Asked) → asked_after event a ≡ a
+  pub asked : (a : Request) → asked_after event a ≡ a
   pub bytes : length (event_bytes event) ≤ rule.takes event
   pub pending : rule.has_chunks ≡ true → (p : Bool) → pending_after event p ≡ true → (p ≡ true) ⊎ (length (event_bytes event) + 2 ≤ rule.takes event)
   pub margin : rule.has_chunks ≡ true → (es : List Event) → (next ≤ level) ⊎ (next ≤ rule.taken (event ∷ es))
@@ -68,7 +67,7 @@ module _ (width : ℕ) (rule : Rule) where
   -- what is known of the page there
   pub record InReach (end : ℕ) (st : State) : Type 0 where
     pub column : st.column ≤ end
-    pub asked : st.asked ≡ Nothing
+    pub asked : st.asked ≡ NoBreak
     pub margin : rule.has_chunks ≡ true → st.margin ≤ end
     pub pending : rule.has_chunks ≡ true → st.pending ≡ true → st.column + 2 ≤ end
 

@@ -8,7 +8,7 @@ use Rattle.bpaf_doc.specs.Console.Layout.{Event, Shows, Stretch, Gap, Placed, Pa
 use Rattle.bpaf_doc.proofs.lemmas.Console.Layout.Columns.{any_in_line}
 use Rattle.bpaf_doc.proofs.lemmas.Console.Layout.State.{State, Piece, Lines, Begins, places, drops, Next, Grows, placing, breaking, passing, padded, trimmed, cut}
 use Rattle.bpaf_doc.proofs.lemmas.Console.Layout.Text.{next_event}
-use Rattle.bpaf_doc.specs.declared.console.page.Asked.TheVariants.{Nothing}
+use Rattle.bpaf_doc.specs.Console.Exact.{NoBreak}
 use Rattle.bpaf_doc.proofs.lemmas.Console.Layout.Back.{lines_back, begins_back, by_trimmed, same_padded}
 
 -- ---- the events, newest first
@@ -143,7 +143,7 @@ cut_trimmed r = by_trimmed ComesFrom (same_cut []) gap inked plain (λ event r i
 -- ---- what was asked for
 
 -- the page and what is asked for are as they were, since nothing was asked for
-pub lines_same : {st mid : State} → st.asked ≡ Nothing → Lines st mid → mid ≡ st
+pub lines_same : {st mid : State} → st.asked ≡ NoBreak → Lines st mid → mid ≡ st
 lines_same h e = grind arith
 
 -- a cut after what was asked for is one of the page before, at the same events

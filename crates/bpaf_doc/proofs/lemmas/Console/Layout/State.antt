@@ -4,8 +4,7 @@ use Rattle.std.specs.Prelude.{IsUtf8, ◌⊎◌, ◌≡◌, ◌≢◌, ℕ, zero
 use Rattle.std.specs.Str.{trim_end}
 use Rattle.bpaf_doc.specs.Splitter.Chunks.{IsLine, Chunk, Raw, Paragraph, LineBreak, columns, is_inked, has_some, IsOrdinary}
 use Rattle.bpaf_doc.specs.Console.Layout.{Event, Shows, Opens, Closes, Stretch, Gap, Placed, Passed, Place, chunk_at, event_bytes, stretch_bytes, is_newline, asks_newline, asks_blank_line, opens_body, is_inline_block, is_empty_code}
-use Rattle.bpaf_doc.specs.declared.console.page.Asked.{Asked}
-use Rattle.bpaf_doc.specs.declared.console.page.Asked.TheVariants.{Nothing, NewLine, BlankLine}
+use Rattle.bpaf_doc.specs.Console.Exact.{Request, NoBreak, NewLine, BlankLine, at_least_new_line}
 use Rattle.bpaf_doc.specs.declared.buffer.Block.TheVariants as blocks
 use Rattle.bpaf_doc.specs.declared.buffer.Block.{Block}
 
@@ -14,7 +13,7 @@ use Rattle.bpaf_doc.specs.declared.buffer.Block.{Block}
 pub record State : Type 0 where
   pub back : List Stretch
   pub column : ℕ
-  pub asked : Asked
+  pub asked : Request
   pub pending : Bool
   pub margin : ℕ
   pub latest : ℕ
@@ -59,19 +58,13 @@ trimmed (Gap b ∷ r) = trimmed r
 trimmed (Placed e ∷ r) = if is_inked (chunk_at e) then Placed (cut e) ∷ r else Passed (Shows e.part (chunk_at e)) ∷ trimmed r
 trimmed (Passed event ∷ r) = if has_some (event_bytes event) then Passed event ∷ r else Passed event ∷ trimmed r
 
-abbrev pub is_nothing : Asked → Bool
-is_nothing Nothing = true
+abbrev pub is_nothing : Request → Bool
+is_nothing NoBreak = true
 is_nothing NewLine = false
 is_nothing BlankLine = false
 
--- a new line is asked for, at least
-abbrev pub at_least_line : Asked → Asked
-at_least_line Nothing = NewLine
-at_least_line NewLine = NewLine
-at_least_line BlankLine = BlankLine
-
-abbrev pub asked_after : Event → Asked → Asked
-asked_after event asked = if asks_blank_line event then BlankLine else (if asks_newline event then at_least_line asked else asked)
+abbrev pub asked_after : Event → Request → Request
+asked_after event asked = if asks_blank_line event then BlankLine else (if asks_newline event then at_least_new_line asked else asked)
 
 -- an end of ItemBody
 abbrev pub closes_body : Event → Bool
@@ -114,7 +107,7 @@ abbrev pub put : ℕ → ℕ → List ℕ → ℕ → State → State
 put n k bytes weight st = record st {
   back = Placed (record { part = k; bytes = bytes; weight = weight; shown = bytes }) ∷ padded n st.back;
   column = sat (st.column + n + weight);
-  asked = Nothing;
+  asked = NoBreak;
   pending = false;
   latest = k;
   marked = false;
@@ -125,7 +118,7 @@ put n k bytes weight st = record st {
 
 -- what was asked for is written
 pub data Lines : State → State → Type 0 where
-  none_asked : {st after : State} → st.asked ≡ Nothing → after ≡ st → Lines st after
+  none_asked : {st after : State} → st.asked ≡ NoBreak → after ≡ st → Lines st after
   line_there : {st after : State} → st.asked ≡ NewLine → ends_line st.back ≡ true → after ≡ st → Lines st after
   line_put : {st after : State} → st.asked ≡ NewLine → after ≡ on_new_line st → Lines st after
   blank_there : {st after : State} → st.asked ≡ BlankLine → ends_blank st.back ≡ true → after ≡ st → Lines st after
@@ -205,7 +198,7 @@ IsShallow deepest (mark event level) = level ≤ deepest
 
 -- before anything is written
 abbrev pub blank_page : State
-blank_page = record { back = []; column = 0; asked = Nothing; pending = false; margin = 0; latest = 0; marked = false; settled = false }
+blank_page = record { back = []; column = 0; asked = NoBreak; pending = false; margin = 0; latest = 0; marked = false; settled = false }
 
 -- the page after all that comes, piece by piece
 pub data Written (width : ℕ) (margin_of : ℕ → ℕ) (clear : State → Next → Type 0) : List Next → State → Type 0 where

@@ -1,9 +1,9 @@
--- The exact page goes over a document as its marks are counted: the stack of margins, the count of inline blocks that hide, and
--- what is remembered of empty Block pairs.
+-- The code goes over a document as its marks are counted: the stack of margins, the count of inline blocks that hide, and what is
+-- remembered of empty Block pairs.
+use Rattle.std.specs.Prelude.{◌≡◌, ℕ, zero, suc, ◌+◌, ◌-◌, ◌^◌, ◌<◌, ◌≤◌, Bool, true, false, not, ◌&&◌, ◌==◌, List, [], ◌∷◌, ◌++◌, length, take, drop, reverse, refl, if◌then◌else◌, slice_get, Some}
+use Rattle.std.proofs.Common.{sym, ap, arith, inl, inr, ◌∙◌}
 use Rattle.std.proofs.lemmas.Grind.{common_steps}
-use Rattle.std.specs.Prelude.{◌≡◌, ℕ, suc, ◌+◌, ◌-◌, ◌*◌, ◌^◌, ◌<◌, ◌≤◌, ⊤, Bool, true, false, not, ◌&&◌, ◌==◌, List, [], ◌∷◌, ◌++◌, length, take, drop, reverse, refl, if◌then◌else◌, slice_get, Some}
-use Rattle.std.proofs.Common.{rules, sym, ap, arith, inl, inr, ◌∙◌, append_assoc, length-append}
-use Rattle.std.proofs.lemmas.List.{length-reverse}
+use Rattle.std.proofs.lemmas.List.{length-drop, length-reverse, reverse-append}
 use Rattle.std.proofs.lemmas.Bool.Decides.{nat_tests}
 use Rattle.bpaf_doc.specs.declared.console.pairs.Pairs.{Pairs}
 use Rattle.bpaf_doc.specs.declared.buffer.Block.{Block}
@@ -12,7 +12,8 @@ use Rattle.bpaf_doc.specs.declared.buffer.Style.{Style}
 use Rattle.bpaf_doc.specs.Buffer.Parts.{Part, Text, Start, End}
 use Rattle.bpaf_doc.specs.Splitter.Chunks.{Chunk, Raw, Paragraph, LineBreak, columns, chunks_of}
 use Rattle.bpaf_doc.specs.Shown.{is_hidden, shown_chunks, through_paragraph}
-use Rattle.bpaf_doc.specs.Console.Margin.{margin, is_skipped, skips_pair, is_section4_start, tab_stop, Shift, Indent, Level, part_shift, indent}
+use Rattle.bpaf_doc.specs.Console.Margin.{margin, is_skipped, skips_pair, is_section4_start, tab_stop, Shift, Indent, Level, part_shift}
+use Rattle.bpaf_doc.specs.Console.Exact.{saturated}
 use Rattle.bpaf_doc.specs.Console.Steps.Hiding.{hidden_after}
 use Rattle.bpaf_doc.specs.Console.Steps.Page as page
 use Rattle.bpaf_doc.specs.Console.Steps.Page.{Sheet, blank_sheet}
@@ -20,40 +21,35 @@ use Rattle.bpaf_doc.specs.Console.Steps.Text as whole
 use Rattle.bpaf_doc.specs.Console.Steps.Pairs.{KnowsPairs}
 use Rattle.bpaf_doc.proofs.lemmas.Console.Hiding.{Counts, Counts-nil, Counts-more, is_hidden-Counts}
 use Rattle.bpaf_doc.proofs.lemmas.Console.Layout.Back.{by_test}
-use Rattle.bpaf_doc.proofs.lemmas.Console.Margins.{top, stack_at, stack_at-none, stack_at-more, shifted, shift_at, shift_at-skipped, shift_at-shown, shift_at-text, margin-le, margin-indent, tab_stop-le, indent-le}
+use Rattle.bpaf_doc.proofs.lemmas.Console.Margins.{top, popped, stack_at, stack_at-none, stack_at-more, shifted, shift_at, shift_at-skipped, shift_at-shown, shift_at-text, margin-le, margin-indent, margin-level, tab_stop-le}
 use Rattle.bpaf_doc.proofs.lemmas.Console.Pairs.{KnowsPairs-more, knows_none, knows_start, skips_is}
+use Rattle.bpaf_doc.proofs.lemmas.Console.Sheet.Whole.{get_from_drop, drop_next}
 use Rattle.bpaf_doc.proofs.lemmas.Console.Tabs.{widest_from, tab_stop-walk}
-use Rattle.bpaf_doc.proofs.lemmas.Console.Sheet.Grows.{top_innermost, popped_margins, pushed_margins}
 
--- ---- what a chunk keeps of the sheet
+-- ---- the stack, newest first
 
-pub record Frame (s t : Sheet) : Type 0 where
-  pub width : t.width ≡ s.width
-  pub tab_stop : t.tab_stop ≡ s.tab_stop
-  pub margins : t.margins ≡ s.margins
+get_last : (xs : List ℕ) (m : ℕ) → slice_get (xs ++ m ∷ []) (length xs) ≡ Some m
+get_last [] m = refl
+get_last (x ∷ xs) m = get_last xs m
 
-pub same_frame : (s : Sheet) → Frame s s
-same_frame s = record { width = refl; tab_stop = refl; margins = refl }
+turned : (m : ℕ) (ms : List ℕ) → reverse (m ∷ ms) ≡ reverse ms ++ m ∷ []
+turned m ms = reverse-append (m ∷ []) ms
 
-pub frame_if : (b : Bool) (s x y : Sheet) → Frame s x → Frame s y → Frame s (if b then x else y)
-frame_if b s x y a h = grind arith
+length_turned : (m : ℕ) (ms : List ℕ) → length (reverse (m ∷ ms)) - 1 ≡ length (reverse ms)
+length_turned m ms = let a : length (reverse (m ∷ ms)) ≡ length (m ∷ ms) = length-reverse (m ∷ ms) in let b : length (reverse ms) ≡ length ms = length-reverse ms in omega arith
 
-pub frame_then : (s t u : Sheet) → Frame s t → Frame t u → Frame s u
-frame_then s t u a b = record { width = b.width ∙ a.width; tab_stop = b.tab_stop ∙ a.tab_stop; margins = b.margins ∙ a.margins }
+pub top_innermost : (s : Sheet) (stack : List ℕ) → s.margins ≡ reverse stack → page.innermost s ≡ top stack
+top_innermost s stack e = grind (arith, length_turned, turned, get_last)
 
-pub asked_keeps : (s : Sheet) → Frame s (page.asked_put s)
-asked_keeps s = search (rules, frame_if, same_frame)
+take_front : (xs : List ℕ) (m : ℕ) → take (length xs) (xs ++ m ∷ []) ≡ xs
+take_front [] m = refl
+take_front (x ∷ xs) m = ap (λ ys. x ∷ ys) (take_front xs m)
 
-room_frame : (n : ℕ) (s : Sheet) → Frame s (page.room_made n s)
-room_frame n s = grind (arith, asked_keeps, frame_if, same_frame)
+pub popped_margins : (margins stack : List ℕ) → margins ≡ reverse stack → take (length margins - 1) margins ≡ reverse (popped stack)
+popped_margins margins stack e = grind (arith, length_turned, turned, take_front)
 
-pub raw_frame : (bytes : List ℕ) (weight : ℕ) (s : Sheet) → Frame s (page.raw_put bytes weight s)
-unfolding page.raw_put
-raw_frame bytes weight s = grind (arith, frame_if, room_frame (page.columns_of bytes weight) s, frame_then s (page.room_made (page.columns_of bytes weight) s))
-
-pub text_frame : (full : Bool) (chunks : List Chunk) (s : Sheet) → Frame s (page.text_put full chunks s)
-text_frame full [] s = same_frame s
-text_frame full (x ∷ chunks) s = grind (arith, text_frame full chunks, frame_then, raw_frame)
+pub pushed_margins : (margins stack : List ℕ) (m : ℕ) → margins ≡ reverse stack → margins ++ m ∷ [] ≡ reverse (m ∷ stack)
+pushed_margins margins stack m e = ap (λ (xs : List ℕ). xs ++ m ∷ []) e ∙ sym (turned m stack)
 
 -- ---- the chunks of a text that are written
 
@@ -64,113 +60,69 @@ written_of full (Raw bytes weight ∷ chunks) = Raw bytes weight ∷ written_of 
 written_of full (LineBreak ∷ chunks) = LineBreak ∷ written_of full chunks
 written_of full (Paragraph ∷ chunks) = Paragraph ∷ (if full then written_of full chunks else [])
 
-pub written_all : (chunks : List Chunk) → written_of true chunks ≡ chunks
+written_all : (chunks : List Chunk) → written_of true chunks ≡ chunks
 written_all [] = refl
 written_all (x ∷ chunks) = grind (arith, written_all chunks)
 
-take_next : (k : ℕ) (x : Chunk) (xs : List Chunk) → take (1 + k + 1) (x ∷ xs) ≡ x ∷ take (k + 1) xs
-take_next k x xs = let e : 1 + k + 1 ≡ suc (k + 1) = omega arith in rw e refl
+take_more : (k : ℕ) (x : Chunk) (xs : List Chunk) → take (1 + k + 1) (x ∷ xs) ≡ x ∷ take (k + 1) xs
+take_more k x xs = let e : 1 + k + 1 ≡ suc (k + 1) = omega arith in rw e refl
 
-pub written_brief : (chunks : List Chunk) → written_of false chunks ≡ through_paragraph chunks
-written_brief (x ∷ chunks) = grind (arith, written_brief chunks, take_next)
+written_brief : (chunks : List Chunk) → written_of false chunks ≡ through_paragraph chunks
+written_brief (x ∷ chunks) = grind (arith, written_brief chunks, take_more)
 written_brief _ = refl
-
--- ---- what is hidden
-
--- ---- a stack is low: no entry is above 30 for each entry from it down
-
-abbrev pub IsLow : List ℕ → Type 0
-IsLow [] = ⊤
-IsLow (m ∷ ms) = (m ≤ 30 * length (m ∷ ms)) × IsLow ms
-
--- so few margins fit a usize, and the margin in force is the top
-pub few_fits : (s : Sheet) (stack : List ℕ) → s.margins ≡ reverse stack → IsLow stack → page.HasFewMargins s → top stack ≤ 18446744073709551615
-few_fits s stack margins low few = grind (arith, length-reverse)
-
-pub level_top : (s : Sheet) (stack : List ℕ) → s.margins ≡ reverse stack → top stack ≤ 18446744073709551615 → page.margin_of s ≡ top stack
-level_top s stack margins fits = let is : page.innermost s ≡ top stack = top_innermost s stack margins in omega arith
-
-low_shifted : (shift : Shift) (stack : List ℕ) → indent shift ≤ 30 → IsLow stack → IsLow (shifted shift stack)
-low_shifted shift stack most low = grind arith
 
 -- ---- the parts
 
-drop_front : (before parts : List Part) → drop (length before) (before ++ parts) ≡ parts
-drop_front [] parts = refl
-drop_front (x ∷ before) parts = drop_front before parts
-
-take_front : (before parts : List Part) → take (length before) (before ++ parts) ≡ before
-take_front [] parts = refl
-take_front (x ∷ before) parts = ap (λ ps. x ∷ ps) (take_front before parts)
-
-get_front : (before rest : List Part) (part : Part) → slice_get (before ++ part ∷ rest) (length before) ≡ Some part
-get_front [] rest part = refl
-get_front (x ∷ before) rest part = get_front before rest part
-
-pub opened_keeps : (b : Block) (adjacent : Bool) (s : Sheet) → ((page.opened b adjacent s).width ≡ s.width) × ((page.opened b adjacent s).tab_stop ≡ s.tab_stop)
-unfolding page.opened
-opened_keeps b adjacent s = grind arith
-
-pub closed_keeps : (b : Block) (s : Sheet) → ((page.closed b s).width ≡ s.width) × ((page.closed b s).tab_stop ≡ s.tab_stop) × ((page.closed b s).margins ≡ take (length s.margins - 1) s.margins)
-unfolding page.closed
-closed_keeps b s = grind arith
+take_next : (parts : List Part) (k : ℕ) (part : Part) (rest : List Part) → drop k parts ≡ part ∷ rest → take (k + 1) parts ≡ take k parts ++ part ∷ []
+take_next (p ∷ parts) (suc k) part rest e = let next : suc k + 1 ≡ suc (k + 1) = omega arith in rw next (ap (λ ps. p ∷ ps) (take_next parts k part rest e))
+take_next (p ∷ parts) zero part rest e = grind arith
+take_next [] (suc k) part rest e = grind arith
+take_next [] zero part rest e = grind arith
 
 module _ (full : Bool) (document : List Part) where
-  -- some parts are done, and others follow
-  pub record Walk (index : ℕ) (before parts : List Part) (pairs : Pairs) (hidden : ℕ) (s : Sheet) : Type 0 where
-    pub split : document ≡ before ++ parts
-    pub count : length before ≡ index
+  -- these parts are left, from this place on
+  pub record Walk (index : ℕ) (parts : List Part) (pairs : Pairs) (hidden : ℕ) (s : Sheet) : Type 0 where
+    pub here : drop index document ≡ parts
     pub tab : s.tab_stop ≡ tab_stop document
     pub margins : s.margins ≡ reverse (stack_at document index)
-    pub low : IsLow (stack_at document index)
     pub knows : KnowsPairs document index pairs
-    pub counts : full ≡ false → Counts hidden before
+    pub counts : full ≡ false → Counts hidden (take index document)
     pub open_all : full ≡ true → hidden ≡ 0
 
-  module _ (index : ℕ) (before rest : List Part) (part : Part) (pairs : Pairs) (hidden : ℕ) (s : Sheet) (w : Walk index before (part ∷ rest) pairs hidden s) where
-    next_split : document ≡ (before ++ part ∷ []) ++ rest
-    next_split = w.split ∙ sym (append_assoc before (part ∷ []) rest)
-
-    next_count : length (before ++ part ∷ []) ≡ index + 1
-    next_count = let n : length before ≡ index = w.count in omega (arith, length-append before (part ∷ []))
-
-    pub here : drop index document ≡ part ∷ rest
-    here = ap (λ (n : ℕ). drop n document) (sym w.count) ∙ ap (λ ps. drop (length before) ps) w.split ∙ drop_front before (part ∷ rest)
-
-    pub there : slice_get document index ≡ Some part
-    there = ap (λ (n : ℕ). slice_get document n) (sym w.count) ∙ ap (λ ps. slice_get ps (length before)) w.split ∙ get_front before rest part
-
-    front : take index document ≡ before
-    front = ap (λ (n : ℕ). take n document) (sym w.count) ∙ ap (λ ps. take (length before) ps) w.split ∙ take_front before (part ∷ rest)
-
-    pub within : index < length document
-    within = let a : length document ≡ length (before ++ part ∷ rest) = ap length w.split in let n : length before ≡ index = w.count in omega (arith, length-append before (part ∷ rest))
-
-    pub stack_next : stack_at document (index + 1) ≡ shifted (shift_at document index part) (stack_at document index)
-    stack_next = stack_at-more document index part rest here
+  module _ (index : ℕ) (part : Part) (rest : List Part) (pairs : Pairs) (hidden : ℕ) (s : Sheet) (w : Walk index (part ∷ rest) pairs hidden s) where
+    there : slice_get document index ≡ Some part
+    there = get_from_drop document index part rest w.here
 
     walk_on : (next : Pairs) (t : Sheet) → KnowsPairs document (index + 1) next → t.tab_stop ≡ s.tab_stop → t.margins ≡ reverse (shifted (shift_at document index part) (stack_at document index))
-        → Walk (index + 1) (before ++ part ∷ []) rest next (hidden_after full hidden part) t
-    walk_on next t knows tab margins = grind (arith, next_split, next_count, stack_next, low_shifted, indent-le, Counts-more)
+        → Walk (index + 1) rest next (hidden_after full hidden part) t
+    walk_on next t knows tab margins = record {
+      here = drop_next document index part rest w.here;
+      tab = tab ∙ w.tab;
+      margins = margins ∙ ap reverse (sym (stack_at-more document index part rest w.here));
+      knows = knows;
+      counts = λ f. rw (f, take_next document index part rest w.here) (Counts-more hidden (take index document) part (w.counts f));
+      open_all = λ t. grind (arith, w.open_all t);
+    }
 
     -- the margins stay
     walk_still : (next : Pairs) (t : Sheet) → KnowsPairs document (index + 1) next → t.tab_stop ≡ s.tab_stop → t.margins ≡ s.margins → shift_at document index part ≡ Level
-        → Walk (index + 1) (before ++ part ∷ []) rest next (hidden_after full hidden part) t
+        → Walk (index + 1) rest next (hidden_after full hidden part) t
     walk_still next t knows tab margins level = grind (arith, walk_on next t knows tab)
 
   -- a text
-  module _ (index : ℕ) (before rest : List Part) (bytes : List ℕ) (style : Style) (pairs : Pairs) (hidden : ℕ) (s : Sheet) (w : Walk index before (Text bytes style ∷ rest) pairs hidden s) where
-    pub text_level : shift_at document index (Text bytes style) ≡ Level
-    text_level = shift_at-text document index bytes style
+  module _ (index : ℕ) (rest : List Part) (bytes : List ℕ) (style : Style) (pairs : Pairs) (hidden : ℕ) (s : Sheet) (w : Walk index (Text bytes style ∷ rest) pairs hidden s) where
+    pub text_level : page.margin_of s ≡ saturated (margin document index)
+    text_level =
+        ap saturated (top_innermost s (stack_at document index) w.margins ∙ sym (margin-level document index (Text bytes style) rest w.here (shift_at-text document index bytes style)))
 
-    text_knows : KnowsPairs document (index + 1) pairs
-    text_knows = grind (arith, KnowsPairs-more document index pairs, there index before rest (Text bytes style) pairs hidden s w)
-
-    pub walk_text : (t : Sheet) → Frame s t → Walk (index + 1) (before ++ Text bytes style ∷ []) rest pairs (hidden_after full hidden (Text bytes style)) t
-    walk_text t frame = walk_still index before rest (Text bytes style) pairs hidden s w pairs t text_knows frame.tab_stop frame.margins text_level
+    walk_text : (t : Sheet) → t.tab_stop ≡ s.tab_stop → t.margins ≡ s.margins → Walk (index + 1) rest pairs (hidden_after full hidden (Text bytes style)) t
+    walk_text t tab margins =
+        walk_still index (Text bytes style) rest pairs hidden s w pairs t text_knows tab margins (shift_at-text document index bytes style) where
+          text_knows : KnowsPairs document (index + 1) pairs
+          text_knows = grind (arith, KnowsPairs-more document index pairs, there index (Text bytes style) rest pairs hidden s w)
 
     hiding_is : full ≡ false → is_hidden (take index document) ≡ not (hidden == 0)
-    hiding_is f = ap is_hidden (front index before rest (Text bytes style) pairs hidden s w) ∙ is_hidden-Counts hidden before (w.counts f)
+    hiding_is f = is_hidden-Counts hidden (take index document) (w.counts f)
 
     -- the chunks that are shown, where the text is
     pub shown_is : (hidden == 0) ≡ true → shown_chunks full (take index document) bytes ≡ written_of full (chunks_of bytes)
@@ -186,68 +138,75 @@ module _ (full : Bool) (document : List Part) where
   unfolding page.opened
   opened_margins index b adjacent s stack m t a fits = grind (arith, common_steps, top_innermost, pushed_margins, tab_stop-le)
 
+  opened_tab : (b : Block) (adjacent : Bool) (s : Sheet) → (page.opened b adjacent s).tab_stop ≡ s.tab_stop
+  unfolding page.opened
+  opened_tab b adjacent s = grind arith
+
+  closed_keeps : (b : Block) (s : Sheet) → ((page.closed b s).tab_stop ≡ s.tab_stop) × ((page.closed b s).margins ≡ take (length s.margins - 1) s.margins)
+  unfolding page.closed
+  closed_keeps b s = (refl, refl)
+
   -- a start
-  module _ (is_small : length document < 2 ^ 64) (index : ℕ) (before rest : List Part) (b : Block) (pairs : Pairs) (hidden : ℕ) (s : Sheet) (w : Walk index before (Start b ∷ rest) pairs hidden s) where
-    start_known : KnowsPairs document (index + 1) (whole.pairs_at document index b pairs) × (whole.is_adjacent b (whole.pairs_at document index b pairs) ≡ (is_section4_start (Start b) && skips_pair document index))
-    start_known = knows_start document is_small index b pairs (there index before rest (Start b) pairs hidden s w) w.knows
+  module _ (is_small : length document < 2 ^ 64) (index : ℕ) (rest : List Part) (b : Block) (pairs : Pairs) (hidden : ℕ) (s : Sheet) (w : Walk index (Start b ∷ rest) pairs hidden s) where
+    abbrev next : Pairs
+    next = whole.pairs_at document index b pairs
 
-    pub start_skips : whole.skips (whole.pairs_at document index b pairs) index b ≡ is_skipped document index
-    start_skips = skips_is document is_small index b (whole.pairs_at document index b pairs) start_known.0 (inl (there index before rest (Start b) pairs hidden s w))
+    start_known : KnowsPairs document (index + 1) next × (whole.is_adjacent b next ≡ (is_section4_start (Start b) && skips_pair document index))
+    start_known = knows_start document is_small index b pairs (there index (Start b) rest pairs hidden s w) w.knows
 
-    pub walk_start_skipped : is_skipped document index ≡ true → Walk (index + 1) (before ++ Start b ∷ []) rest (whole.pairs_at document index b pairs) (hidden_after full hidden (Start b)) s
-    walk_start_skipped e =
-        walk_still index before rest (Start b) pairs hidden s w (whole.pairs_at document index b pairs) s start_known.0 refl refl (shift_at-skipped document index (Start b) e)
+    pub start_skips : whole.skips next index b ≡ is_skipped document index
+    start_skips = skips_is document is_small index b next start_known.0 (inl (there index (Start b) rest pairs hidden s w))
 
-    pub walk_start : is_skipped document index ≡ false
-        → Walk (index + 1) (before ++ Start b ∷ []) rest (whole.pairs_at document index b pairs) (hidden_after full hidden (Start b)) (page.opened b (whole.is_adjacent b (whole.pairs_at document index b pairs)) s)
+    walk_start : is_skipped document index ≡ false → Walk (index + 1) rest next (hidden_after full hidden (Start b)) (page.opened b (whole.is_adjacent b next) s)
     walk_start e =
         let shift : shift_at document index (Start b) ≡ part_shift document index (Start b) = shift_at-shown document index (Start b) e in
+        let inside : index < length document = (let n : length (drop index document) ≡ length (Start b ∷ rest) = ap length w.here in omega (arith, length-drop index document)) in
         let fits : (n : ℕ) → part_shift document index (Start b) ≡ Indent n → top (stack_at document index) + n ≤ 2 ^ 128 - 1 = λ n i.
-        (let is : margin document index ≡ top (stack_at document index) + n = margin-indent document index (Start b) rest (here index before rest (Start b) pairs hidden s w) n (shift ∙ i) in
-        let most : margin document index ≤ 30 * (index + 1) = margin-le document index in
-        let inside : index < length document = within index before rest (Start b) pairs hidden s w in omega arith) in
-        walk_on index before rest (Start b) pairs hidden s w (whole.pairs_at document index b pairs) (page.opened b (whole.is_adjacent b (whole.pairs_at document index b pairs)) s) start_known.0
-        (opened_keeps b (whole.is_adjacent b (whole.pairs_at document index b pairs)) s).1
-        (opened_margins index b (whole.is_adjacent b (whole.pairs_at document index b pairs)) s (stack_at document index) w.margins w.tab start_known.1 fits
-        ∙ ap (λ (x : Shift). reverse (shifted x (stack_at document index))) (sym shift))
+        (let is : margin document index ≡ top (stack_at document index) + n = margin-indent document index (Start b) rest w.here n (shift ∙ i) in omega (arith, margin-le document index, inside)) in
+        walk_on index (Start b) rest pairs hidden s w next (page.opened b (whole.is_adjacent b next) s) start_known.0 (opened_tab b (whole.is_adjacent b next) s)
+        (opened_margins index b (whole.is_adjacent b next) s (stack_at document index) w.margins w.tab start_known.1 fits ∙ ap (λ (x : Shift). reverse (shifted x (stack_at document index))) (sym shift))
+
+    walk_any_start : Walk (index + 1) rest next (hidden_after full hidden (Start b)) (whole.start_put next index b s)
+    walk_any_start =
+        by_test (Walk (index + 1) rest next (hidden_after full hidden (Start b))) (whole.skips next index b) s (page.opened b (whole.is_adjacent b next) s)
+        (λ e. walk_still index (Start b) rest pairs hidden s w next s start_known.0 refl refl (shift_at-skipped document index (Start b) (sym start_skips ∙ e))) (λ e. walk_start (sym start_skips ∙ e))
 
   -- an end
-  module _ (is_small : length document < 2 ^ 64) (index : ℕ) (before rest : List Part) (b : Block) (pairs : Pairs) (hidden : ℕ) (s : Sheet) (w : Walk index before (End b ∷ rest) pairs hidden s) where
+  module _ (is_small : length document < 2 ^ 64) (index : ℕ) (rest : List Part) (b : Block) (pairs : Pairs) (hidden : ℕ) (s : Sheet) (w : Walk index (End b ∷ rest) pairs hidden s) where
     end_knows : KnowsPairs document (index + 1) pairs
-    end_knows = grind (arith, KnowsPairs-more document index pairs, there index before rest (End b) pairs hidden s w)
+    end_knows = grind (arith, KnowsPairs-more document index pairs, there index (End b) rest pairs hidden s w)
 
     pub end_skips : whole.skips pairs index b ≡ is_skipped document index
-    end_skips = skips_is document is_small index b pairs end_knows (inr (there index before rest (End b) pairs hidden s w))
+    end_skips = skips_is document is_small index b pairs end_knows (inr (there index (End b) rest pairs hidden s w))
 
-    pub walk_end_skipped : is_skipped document index ≡ true → Walk (index + 1) (before ++ End b ∷ []) rest pairs (hidden_after full hidden (End b)) s
-    walk_end_skipped e = walk_still index before rest (End b) pairs hidden s w pairs s end_knows refl refl (shift_at-skipped document index (End b) e)
+    walk_end : is_skipped document index ≡ false → Walk (index + 1) rest pairs (hidden_after full hidden (End b)) (page.closed b s)
+    walk_end e = grind (arith, walk_on index (End b) rest pairs hidden s w pairs (page.closed b s), end_knows, closed_keeps b s, popped_margins s.margins (stack_at document index) w.margins, shift_at-shown document index (End b) e)
 
-    pub walk_end : is_skipped document index ≡ false → Walk (index + 1) (before ++ End b ∷ []) rest pairs (hidden_after full hidden (End b)) (page.closed b s)
-    walk_end e = grind (arith, walk_on index before rest (End b) pairs hidden s w pairs (page.closed b s), end_knows, closed_keeps b s, popped_margins s.margins (stack_at document index) w.margins, shift_at-shown document index (End b) e)
+    walk_any_end : Walk (index + 1) rest pairs (hidden_after full hidden (End b)) (whole.end_put pairs index b s)
+    walk_any_end =
+        by_test (Walk (index + 1) rest pairs (hidden_after full hidden (End b))) (whole.skips pairs index b) s (page.closed b s)
+        (λ e. walk_still index (End b) rest pairs hidden s w pairs s end_knows refl refl (shift_at-skipped document index (End b) (sym end_skips ∙ e))) (λ e. walk_end (sym end_skips ∙ e))
 
-  pub tab_is : whole.tab_stop_from 0 false 0 document ≡ tab_stop document
+  tab_is : whole.tab_stop_from 0 false 0 document ≡ tab_stop document
   tab_is =
-      let walk : whole.tab_stop_from 0 false 0 document ≡ page.saturated (widest_from 0 false 0 document + 4) = same_walk document 0 false 0 in
+      let walk : whole.tab_stop_from 0 false 0 document ≡ saturated (widest_from 0 false 0 document + 4) = same_walk document 0 false 0 in
       let stop : widest_from 0 false 0 document + 4 ≡ tab_stop document = tab_stop-walk document in
       let most : tab_stop document ≤ 28 = tab_stop-le document in omega arith where
-        same_walk : (parts : List Part) (widest : ℕ) (in_term : Bool) (term : ℕ) → whole.tab_stop_from widest in_term term parts ≡ page.saturated (widest_from widest in_term term parts + 4)
+        same_walk : (parts : List Part) (widest : ℕ) (in_term : Bool) (term : ℕ) → whole.tab_stop_from widest in_term term parts ≡ saturated (widest_from widest in_term term parts + 4)
         same_walk [] widest in_term term = refl
-        same_walk (Text bytes style ∷ parts) widest in_term term = same_walk parts widest in_term (if in_term then page.saturated (term + columns bytes) else term)
+        same_walk (Text bytes style ∷ parts) widest in_term term = same_walk parts widest in_term (if in_term then saturated (term + columns bytes) else term)
         same_walk (Start blocks.ItemTerm ∷ parts) widest in_term term = same_walk parts widest true 0
         same_walk (End blocks.ItemTerm ∷ parts) widest in_term term = same_walk parts (whole.wider_term widest term) false term
         same_walk (_ ∷ parts) widest in_term term = same_walk parts widest in_term term
 
-  pub walk_begins : length document < 2 ^ 64 → (width : ℕ) → Walk 0 [] document whole.no_pairs 0 (blank_sheet width (whole.tab_stop_from 0 false 0 document))
+  pub walk_begins : length document < 2 ^ 64 → (width : ℕ) → Walk 0 document whole.no_pairs 0 (blank_sheet width (whole.tab_stop_from 0 false 0 document))
   walk_begins is_small width = grind (arith, tab_is, stack_at-none, knows_none, Counts-nil)
 
   -- any part
-  pub walk_part : length document < 2 ^ 64 → (index : ℕ) (before rest : List Part) (part : Part) (pairs : Pairs) (hidden : ℕ) (s : Sheet) → Walk index before (part ∷ rest) pairs hidden s
-      → Walk (index + 1) (before ++ part ∷ []) rest (whole.pairs_after document index pairs part) (hidden_after full hidden part) (whole.part_put full document index pairs hidden part s)
-  walk_part is_small index before rest (Text bytes style) pairs hidden s w =
-      walk_text index before rest bytes style pairs hidden s w (whole.part_put full document index pairs hidden (Text bytes style) s)
-      (frame_if (hidden == 0) s (page.text_put full (chunks_of bytes) s) s (text_frame full (chunks_of bytes) s) (same_frame s))
-  walk_part is_small index before rest (Start b) pairs hidden s w =
-      by_test (Walk (index + 1) (before ++ Start b ∷ []) rest (whole.pairs_at document index b pairs) (hidden_after full hidden (Start b))) (whole.skips (whole.pairs_at document index b pairs) index b) _ _
-      (λ e. walk_start_skipped is_small index before rest b pairs hidden s w (sym (start_skips is_small index before rest b pairs hidden s w) ∙ e))
-      (λ e. walk_start is_small index before rest b pairs hidden s w (sym (start_skips is_small index before rest b pairs hidden s w) ∙ e))
-  walk_part is_small index before rest (End b) pairs hidden s w = grind (arith, by_test, walk_end_skipped is_small index before rest b pairs hidden s w, end_skips is_small index before rest b pairs hidden s w, walk_end is_small index before rest b pairs hidden s w)
+  pub walk_part : length document < 2 ^ 64 → (index : ℕ) (rest : List Part) (part : Part) (pairs : Pairs) (hidden : ℕ) (s : Sheet) → Walk index (part ∷ rest) pairs hidden s
+      → Walk (index + 1) rest (whole.pairs_after document index pairs part) (hidden_after full hidden part) (whole.part_put full document index pairs hidden part s)
+  walk_part is_small index rest (Text bytes style) pairs hidden s w =
+      by_test (Walk (index + 1) rest pairs (hidden_after full hidden (Text bytes style))) (hidden == 0) _ _
+      (λ h. walk_text index rest bytes style pairs hidden s w (page.text_put full (chunks_of bytes) s) refl refl) (λ h. walk_text index rest bytes style pairs hidden s w s refl refl)
+  walk_part is_small index rest (Start b) pairs hidden s w = walk_any_start is_small index rest b pairs hidden s w
+  walk_part is_small index rest (End b) pairs hidden s w = walk_any_end is_small index rest b pairs hidden s w

@@ -1,38 +1,40 @@
--- The exact console text is a layout of its document.
-use Rattle.std.specs.Prelude.{◌≡◌, ℕ, suc, ◌+◌, ◌-◌, ◌^◌, ◌<◌, ◌≤◌, ⊤, Bool, true, false, ◌==◌, List, [], ◌∷◌, ◌++◌, length, take, map, flat_map, All, codes, refl, if◌then◌else◌, IsUtf8, slice_get, IfOk, Result, String, string_bytes, unwrap_or, Some}
+-- The exact page is a layout of its document, with the console's ink.
+use Rattle.std.specs.Prelude.{◌≡◌, ℕ, zero, suc, ◌+◌, ◌^◌, ◌<◌, ◌≤◌, ⊤, Bool, true, false, List, [], ◌∷◌, ◌++◌, length, take, drop, reverse, map, flat_map, All, codes, refl, if◌then◌else◌, IsUtf8, slice_get, Some}
 use Rattle.std.specs.List.{enumerate_from}
 use Rattle.std.specs.Str.{chars}
-use Rattle.std.proofs.Common.{sym, subst, ap, arith, ◌∙◌, append_assoc}
-use Rattle.std.proofs.lemmas.List.{append-nil}
+use Rattle.std.proofs.Common.{sym, subst, ap, arith, inl, inr, ◌∙◌, append_assoc}
+use Rattle.std.proofs.lemmas.List.{append-nil, reverse-reverse, length-drop}
 use Rattle.std.proofs.lemmas.List.Elements.{All-get_or}
 use Rattle.std.proofs.lemmas.Option.{get_or_from_slice_get, slice_get_within}
 use Rattle.std.proofs.lemmas.Grind.{flat_map-append}
 use Rattle.bpaf_doc.proofs.lemmas.Splitter.Pieces.{word_line}
 use Rattle.unicode_width.specs.Width.{str_width, step, past_emoji}
-use Rattle.bpaf_doc.specs.declared.console.pairs.Pairs.{Pairs}
 use Rattle.bpaf_doc.specs.declared.buffer.Block.{Block}
 use Rattle.bpaf_doc.specs.declared.buffer.Style.{Style}
 use Rattle.bpaf_doc.specs.Buffer.Parts.{Part, Text, Start, End, ink, part_bytes, HasUtf8Texts}
-use Rattle.bpaf_doc.specs.Splitter.Chunks.{Chunk, Raw, Paragraph, LineBreak, IsLine, IsWord, IsOrdinary, has_some, columns, chunks_of, code_weight, fence_weight, Spells, Plain, nothing, code_line, fence, before_code, paragraph, line_break, newline, blank, word, opening, later, closing, closing_paragraph, Form}
+use Rattle.bpaf_doc.specs.Splitter.Chunks.{Chunk, Raw, Paragraph, LineBreak, IsLine, IsWord, IsOrdinary, has_some, columns, chunks_of, chunk_ink, code_weight, fence_weight, Spells, Plain, nothing, code_line, fence, before_code, paragraph, line_break, newline, blank, word, opening, later, closing, closing_paragraph, Form}
 use Rattle.bpaf_doc.specs.Splitter.Promises.{IsText}
-use Rattle.bpaf_doc.specs.Shown.{console_ink, shown_chunks}
+use Rattle.bpaf_doc.specs.Shown.{console_ink, mark_bytes, numbered, shown_chunks, shown_part_ink, is_term_ref}
 use Rattle.bpaf_doc.specs.Console.Margin.{margin, greatest_margin, is_skipped, Level}
-use Rattle.bpaf_doc.specs.Console.Layout.{Event, Shows, Opens, Closes, part_events, shown_events, IsLayout, Stretch, Gap, Passed}
-use Rattle.bpaf_doc.specs.Console.Steps.Hiding.{hidden_after}
-use Rattle.bpaf_doc.specs.Console.Steps.Page as page
-use Rattle.bpaf_doc.specs.Console.Steps.Page.{Sheet, blank_sheet}
-use Rattle.bpaf_doc.specs.Console.Steps.Text as whole
-use Rattle.bpaf_doc.specs.Console.Steps.Text.{console_text}
+use Rattle.bpaf_doc.specs.Console.Layout.{Event, Shows, Opens, Closes, part_events, shown_events, IsLayout, Stretch, Gap, Passed, event_bytes}
+use Rattle.bpaf_doc.specs.Console.Laws.{IsExactPageLayout}
+use Rattle.bpaf_doc.specs.Console.Exact as page
+use Rattle.bpaf_doc.specs.Console.Exact.{PageSoFar, console_page}
 use Rattle.bpaf_doc.proofs.lemmas.Splitter.Facts.{text_chunks}
+use Rattle.bpaf_doc.proofs.lemmas.Splitter.Ink.{ink-nil, ink-append, ink_before_gap}
 use Rattle.bpaf_doc.proofs.lemmas.Splitter.Spelling.{spells_in}
-use Rattle.bpaf_doc.proofs.lemmas.Console.Layout.State.{State, piece, Next, raw, break, mark, placing, breaking, passing, Places, Fits, Suits, raw_suits, paragraph_suits, line_break_suits, open_suits, close_suits, Written, nothing, more, blank_page, broken, passed, chunk_next, IsShallow, Ends, as_is, with_newline}
+use Rattle.bpaf_doc.proofs.lemmas.Console.Ink.{ink-backquote}
+use Rattle.bpaf_doc.proofs.lemmas.Console.Layout.State.{State, piece, Next, raw, break, mark, placing, breaking, passing, Fits, Suits, raw_suits, paragraph_suits, line_break_suits, open_suits, close_suits, Written, nothing, more, blank_page, broken, passed, chunk_next, IsLegible, IsShallow, Ends, as_is, with_newline}
 use Rattle.bpaf_doc.proofs.lemmas.Console.Layout.Back.{by_test}
-use Rattle.bpaf_doc.proofs.lemmas.Console.Layout.Blank.{text_back, text_back_cons}
-use Rattle.bpaf_doc.proofs.lemmas.Console.Layout.Text.{next_event}
-use Rattle.bpaf_doc.proofs.lemmas.Console.Layout.Whole.{EachNext, layout_of_page}
-use Rattle.bpaf_doc.proofs.lemmas.Console.Margins.{top, stack_at, shifted, shift_at, shift_at-shown, top-margin, margin-le-greatest, margin-level, margin-end}
-use Rattle.bpaf_doc.proofs.lemmas.Console.Sheet.Grows.{columns_is, Draws, raw_placed, RawTo, draws_opened, draws_closed, top_innermost}
-use Rattle.bpaf_doc.proofs.lemmas.Console.Sheet.Walk.{Frame, same_frame, raw_frame, text_frame, written_of, Walk, few_fits, level_top, opened_keeps, closed_keeps, here, there, within, stack_next, text_level, walk_text, shown_is, hidden_is, start_skips, walk_start_skipped, walk_start, end_skips, walk_end_skipped, walk_end, walk_begins}
+use Rattle.bpaf_doc.proofs.lemmas.Console.Layout.Blank.{text_back, text_back_cons, some_none}
+use Rattle.bpaf_doc.proofs.lemmas.Console.Layout.Split.{events_back}
+use Rattle.bpaf_doc.proofs.lemmas.Console.Layout.Stretches.{text_utf8, trim_ink}
+use Rattle.bpaf_doc.proofs.lemmas.Console.Layout.Text.{EachPassed, NoInk, next_event}
+use Rattle.bpaf_doc.proofs.lemmas.Console.Layout.Turned.{reverse_cons}
+use Rattle.bpaf_doc.proofs.lemmas.Console.Layout.Whole.{EachNext, layout_of_page, written_base, written_events}
+use Rattle.bpaf_doc.proofs.lemmas.Console.Margins.{top, stack_at, shift_at, shift_at-shown, shift_at-skipped, shift_at-text, top-margin, margin-le, margin-le-greatest, margin-level, margin-end}
+use Rattle.bpaf_doc.proofs.lemmas.Console.Pairs.{skipped_bare}
+use Rattle.bpaf_doc.proofs.lemmas.Console.Sheet.Grows.{Draws, raw_placed, RawTo, draws_opened, draws_closed}
 
 -- ---- what is known of the chunks of a text
 
@@ -45,9 +47,6 @@ IsGood LineBreak = ⊤
 abbrev pub Each : (Chunk → Type 0) → List Chunk → Type 0
 Each P [] = ⊤
 Each P (x ∷ xs) = P x × Each P xs
-
-pub columns_good : (bytes : List ℕ) (weight : ℕ) → IsGood (Raw bytes weight) → page.columns_of bytes weight ≡ columns bytes
-columns_good bytes weight good = columns_is (piece 0 bytes weight) good.1
 
 blank_columns : columns (codes " ") ≡ 1
 unfolding chars str_width step past_emoji
@@ -88,16 +87,20 @@ pub text_good : (text : List ℕ) → Each IsGood (chunks_of text)
 unfolding chunks_of
 text_good text = good_chunks (spells_in Plain text)
 
+each_taken : (P : Chunk → Type 0) (n : ℕ) (xs : List Chunk) → Each P xs → Each P (take n xs)
+each_taken P (suc n) (x ∷ xs) h = (h.0, each_taken P n xs h.1)
+each_taken P _ _ h = grind arith
+
+each_shown : (P : Chunk → Type 0) (full : Bool) (before : List Part) (bytes : List ℕ) → Each P (chunks_of bytes) → Each P (shown_chunks full before bytes)
+each_shown P full before bytes h = grind (arith, each_taken)
+
 -- ---- a text
 
 abbrev pub Any : State → Next → Type 0
 Any st next = ⊤
 
-pub margin_kept : (s t : Sheet) → Frame s t → page.margin_of t ≡ page.margin_of s
-margin_kept s t f = ap (λ (ms : List ℕ). page.saturated (unwrap_or (slice_get ms (length ms - 1)) 0)) f.margins
-
-draws_broken : (k : ℕ) (chunk : Chunk) (s : Sheet) (st : State) → Draws s st → Draws (page.newline_put s) (broken k chunk st)
-draws_broken k chunk s st d = grind (arith, text_back_cons (Passed (Shows k chunk)) st.back, append-nil (text_back st.back), text_back_cons (Gap 10) (Passed (Shows k chunk) ∷ st.back))
+draws_broken : (level k : ℕ) (chunk : Chunk) (s : PageSoFar) (st : State) → Draws level s st → Draws level (page.on_new_line s) (broken k chunk st)
+draws_broken level k chunk s st d = grind (arith, text_back_cons (Passed (Shows k chunk)) st.back, append-nil (text_back st.back), text_back_cons (Gap 10) (Passed (Shows k chunk) ∷ st.back))
 
 -- the document's texts may be written here: after parts before this one
 pub record CanWrite (margin_of : ℕ → ℕ) (k : ℕ) (st : State) : Type 0 where
@@ -105,78 +108,65 @@ pub record CanWrite (margin_of : ℕ → ℕ) (k : ℕ) (st : State) : Type 0 wh
   pub order : st.latest ≤ k
   pub moved : st.marked ≡ true → st.latest < k
 
-module _ (document : List Part) (width : ℕ) where
+module _ (document : List Part) (width level : ℕ) where
   -- the page after some more of the document
-  pub record Later (nexts : List Next) (s : Sheet) : Type 0 where
+  pub record Later (nexts : List Next) (s : PageSoFar) : Type 0 where
     pub st : State
     pub written : Written width (margin document) Any nexts st
-    pub draws : Draws s st
-    pub wide : s.width ≡ width
+    pub draws : Draws level s st
 
-  abbrev pub AfterText : ℕ → List Next → Sheet → Type 0
+  abbrev pub AfterText : ℕ → List Next → PageSoFar → Type 0
   AfterText k nexts s = (l : Later nexts s) × CanWrite (margin document) k l.st
 
-  raw_step : (k : ℕ) (bytes : List ℕ) (weight : ℕ) (nexts : List Next) (s : Sheet) → AfterText k nexts s → IsUtf8 bytes → IsGood (Raw bytes weight)
-      → AfterText k (nexts ++ raw (piece k bytes weight) ∷ []) (page.raw_put bytes weight s)
+  raw_step : (k : ℕ) (bytes : List ℕ) (weight : ℕ) (nexts : List Next) (s : PageSoFar) → AfterText k nexts s → IsUtf8 bytes → IsGood (Raw bytes weight)
+      → AfterText k (nexts ++ raw (piece k bytes weight) ∷ []) (page.raw_put width level bytes weight s)
   raw_step k bytes weight nexts s l u good =
-      let r : RawTo s.width (piece k bytes weight) l.0.st (page.raw_put bytes weight s) = raw_placed (piece k bytes weight) s l.0.st u good.0 good.1 l.0.draws in
-      let frame : Frame s (page.raw_put bytes weight s) = raw_frame bytes weight s in
+      let r : RawTo level width (piece k bytes weight) l.0.st (page.raw_put width level bytes weight s) = raw_placed level width (piece k bytes weight) s l.0.st u good.0 l.0.draws in
       let fits : Fits (margin document) l.0.st (piece k bytes weight) = record { margin_is = l.1.margin_is; order = l.1.order; moved = l.1.moved; weighed = good.2; filled = good.3 } in
       let latest : (r.0.latest ≡ k) × (r.0.marked ≡ false) = grind arith in
       let is_last : r.0.latest ≡ k = latest.0 in (
         record {
           st = r.0;
-          written = more nexts l.0.st (raw (piece k bytes weight)) refl l.0.written (raw_suits (piece k bytes weight) refl fits) tt
-              (placing (piece k bytes weight) refl (subst (λ (w : ℕ). Places w l.0.st (piece k bytes weight) r.0) l.0.wide r.1));
+          written = more nexts l.0.st (raw (piece k bytes weight)) refl l.0.written (raw_suits (piece k bytes weight) refl fits) tt (placing (piece k bytes weight) refl r.1);
           draws = r.2;
-          wide = frame.width ∙ l.0.wide;
         },
         record {
-          margin_is = sym r.2.margin ∙ margin_kept s (page.raw_put bytes weight s) frame ∙ l.0.draws.margin ∙ l.1.margin_is;
+          margin_is = sym r.2.margin ∙ l.0.draws.margin ∙ l.1.margin_is;
           order = omega arith;
           moved = λ t. absurd (let no : true ≡ false = sym t ∙ latest.1 in cc);
         },
       )
 
-  break_step : (k : ℕ) (chunk : Chunk) (nexts : List Next) (s : Sheet) → (l : AfterText k nexts s) → Suits (margin document) l.0.st (break k chunk) → AfterText k (nexts ++ break k chunk ∷ []) (page.newline_put s)
+  break_step : (k : ℕ) (chunk : Chunk) (nexts : List Next) (s : PageSoFar) → (l : AfterText k nexts s) → Suits (margin document) l.0.st (break k chunk) → AfterText k (nexts ++ break k chunk ∷ []) (page.on_new_line s)
   break_step k chunk nexts s l suits = (
     record {
       st = broken k chunk l.0.st;
       written = more nexts l.0.st (break k chunk) refl l.0.written suits tt (breaking k chunk refl refl);
-      draws = draws_broken k chunk s l.0.st l.0.draws;
-      wide = l.0.wide;
+      draws = draws_broken level k chunk s l.0.st l.0.draws;
     },
     record { margin_is = l.1.margin_is; order = omega arith; moved = λ t. absurd cc },
   )
 
-  longer : (nexts : List Next) (x : Next) (rest : List Next) (k : ℕ) (s : Sheet) → AfterText k ((nexts ++ x ∷ []) ++ rest) s → AfterText k (nexts ++ x ∷ rest) s
+  longer : (nexts : List Next) (x : Next) (rest : List Next) (k : ℕ) (s : PageSoFar) → AfterText k ((nexts ++ x ∷ []) ++ rest) s → AfterText k (nexts ++ x ∷ rest) s
   longer nexts x rest k s l = subst (λ ns. AfterText k ns s) (append_assoc nexts (x ∷ []) rest) l
 
-  text_steps : (k : ℕ) (full : Bool) (chunks : List Chunk) (nexts : List Next) (s : Sheet) → AfterText k nexts s → Each IsText chunks → Each IsGood chunks
-      → AfterText k (nexts ++ map (chunk_next k) (written_of full chunks)) (page.text_put full chunks s)
-  text_steps k full [] nexts s l t g = subst (λ ns. AfterText k ns s) (sym (append-nil nexts)) l
-  text_steps k full (Raw bytes weight ∷ chunks) nexts s l t g = grind (arith, text_steps k full chunks (nexts ++ raw (piece k bytes weight) ∷ []) (page.raw_put bytes weight s) (raw_step k bytes weight nexts s l t.0 g.0) t.1 g.1, longer nexts, raw (piece k bytes weight), chunk_next k, raw_step k bytes weight nexts s l t.0 g.0)
-  text_steps k full (LineBreak ∷ chunks) nexts s l t g =
-      longer nexts (break k LineBreak) (map (chunk_next k) (written_of full chunks)) k (page.text_put full chunks (page.newline_put s))
-      (text_steps k full chunks (nexts ++ break k LineBreak ∷ []) (page.newline_put s) (break_step k LineBreak nexts s l (line_break_suits k refl l.1.order l.1.moved)) t.1 g.1)
-  text_steps k full (Paragraph ∷ chunks) nexts s l t g = at full (text_steps k full chunks (nexts ++ break k Paragraph ∷ []) (page.newline_put s) broken_off t.1 g.1) where
-    broken_off : AfterText k (nexts ++ break k Paragraph ∷ []) (page.newline_put s)
-    broken_off = break_step k Paragraph nexts s l (paragraph_suits k refl l.1.order l.1.moved)
-
-    at : (b : Bool) → AfterText k ((nexts ++ break k Paragraph ∷ []) ++ map (chunk_next k) (written_of full chunks)) (page.text_put full chunks (page.newline_put s))
-        → AfterText k (nexts ++ map (chunk_next k) (Paragraph ∷ (if b then written_of full chunks else []))) (if b then page.text_put full chunks (page.newline_put s) else page.newline_put s)
-    at true rest = longer nexts (break k Paragraph) (map (chunk_next k) (written_of full chunks)) k (page.text_put full chunks (page.newline_put s)) rest
-    at false rest = broken_off
+  text_steps : (k : ℕ) (chunks : List Chunk) (nexts : List Next) (s : PageSoFar) → AfterText k nexts s → Each IsText chunks → Each IsGood chunks
+      → AfterText k (nexts ++ map (chunk_next k) chunks) (page.chunks_put width level chunks s)
+  text_steps k [] nexts s l t g = subst (λ ns. AfterText k ns s) (sym (append-nil nexts)) l
+  text_steps k (Raw bytes weight ∷ chunks) nexts s l t g =
+      longer nexts (raw (piece k bytes weight)) (map (chunk_next k) chunks) k _ (text_steps k chunks _ _ (raw_step k bytes weight nexts s l t.0 g.0) t.1 g.1)
+  text_steps k (LineBreak ∷ chunks) nexts s l t g =
+      longer nexts (break k LineBreak) (map (chunk_next k) chunks) k _
+      (text_steps k chunks _ _ (break_step k LineBreak nexts s l (line_break_suits k refl l.1.order l.1.moved)) t.1 g.1)
+  text_steps k (Paragraph ∷ chunks) nexts s l t g =
+      longer nexts (break k Paragraph) (map (chunk_next k) chunks) k _
+      (text_steps k chunks _ _ (break_step k Paragraph nexts s l (paragraph_suits k refl l.1.order l.1.moved)) t.1 g.1)
 
 -- ---- the parts
 
 -- the events of some parts that begin at this place
 abbrev pub events_from : Bool → List Part → ℕ → List Part → List Event
 events_from full document k parts = flat_map (λ (j, part). part_events full document j part) (enumerate_from k parts)
-
-enumerate_snoc : (k : ℕ) (xs : List Part) (x : Part) → enumerate_from k (xs ++ x ∷ []) ≡ enumerate_from k xs ++ (k + length xs, x) ∷ []
-enumerate_snoc k [] x = let e : k ≡ k + 0 = omega arith in ap (λ (n : ℕ). (n, x) ∷ []) e
-enumerate_snoc k (y ∷ xs) x = grind (arith, enumerate_snoc (k + 1) xs x)
 
 map_append : (xs ys : List Next) → map next_event (xs ++ ys) ≡ map next_event xs ++ map next_event ys
 map_append [] ys = refl
@@ -194,202 +184,192 @@ shallow_chunks : (deepest k : ℕ) (chunks : List Chunk) → EachNext (IsShallow
 shallow_chunks deepest k [] = tt
 shallow_chunks deepest k (x ∷ chunks) = grind (arith, shallow_chunks deepest k chunks)
 
-module _ (full : Bool) (document : List Part) (width : ℕ) (is_small : length document < 2 ^ 64) (utf8 : (k : ℕ) (bytes : List ℕ) (style : Style) → slice_get document k ≡ Some (Text bytes style) → IsUtf8 bytes) where
-  -- some parts are done, and others follow
-  pub record Going (index : ℕ) (before parts : List Part) (pairs : Pairs) (hidden : ℕ) (s : Sheet) : Type 0 where
-    pub walk : Walk full document index before parts pairs hidden s
-    pub fits : top (stack_at document index) ≤ 18446744073709551615
+-- a part by its place
+pub get_from_drop : {A : Type 0} (xs : List A) (k : ℕ) (x : A) (rest : List A) → drop k xs ≡ x ∷ rest → slice_get xs k ≡ Some x
+get_from_drop (y ∷ ys) (suc k) x rest e = get_from_drop ys k x rest e
+get_from_drop (y ∷ ys) zero x rest e = grind arith
+get_from_drop [] (suc k) x rest e = grind arith
+get_from_drop [] zero x rest e = grind arith
+
+pub drop_next : {A : Type 0} (xs : List A) (k : ℕ) (x : A) (rest : List A) → drop k xs ≡ x ∷ rest → drop (k + 1) xs ≡ rest
+drop_next (y ∷ ys) (suc k) x rest e = let next : suc k + 1 ≡ suc (k + 1) = omega arith in rw next (drop_next ys k x rest e)
+drop_next (y ∷ ys) zero x rest e = grind arith
+drop_next [] (suc k) x rest e = grind arith
+drop_next [] zero x rest e = grind arith
+
+module _ (full : Bool) (document : List Part) (width : ℕ) (few : length document < 2 ^ 59) (utf8 : (k : ℕ) (bytes : List ℕ) (style : Style) → slice_get document k ≡ Some (Text bytes style) → IsUtf8 bytes) where
+  -- these parts are left, from this place on
+  pub record Going (index : ℕ) (parts : List Part) (s : PageSoFar) : Type 0 where
+    pub here : drop index document ≡ parts
     pub nexts : List Next
-    pub later : Later document width nexts s
+    pub later : Later document width (top (stack_at document index)) nexts s
     pub order : later.st.latest ≤ index
     pub moved : later.st.marked ≡ true → later.st.latest < index
-    pub events : map next_event nexts ≡ events_from full document 0 before
+    pub events : map next_event nexts ++ events_from full document index parts ≡ shown_events full document
     pub shallow : EachNext (IsShallow (greatest_margin document)) nexts
 
-  module _ (index : ℕ) (before rest : List Part) (part : Part) (pairs : Pairs) (hidden : ℕ) (s : Sheet) (g : Going index before (part ∷ rest) pairs hidden s) where
-    next_events : (added : List Event) → part_events full document index part ≡ added → events_from full document 0 (before ++ part ∷ []) ≡ events_from full document 0 before ++ added
-    next_events added e = grind (arith, enumerate_snoc, flat_map-append, append-nil)
+  module _ (index : ℕ) (part : Part) (rest : List Part) (s : PageSoFar) (g : Going index (part ∷ rest) s) where
+    within : index < length document
+    within = let n : length (drop index document) ≡ length (part ∷ rest) = ap length g.here in omega (arith, length-drop index document)
 
-    -- nothing is written of this part, and no margin moves
-    quiet_step : (next : Pairs) → Walk full document (index + 1) (before ++ part ∷ []) rest next (hidden_after full hidden part) s → part_events full document index part ≡ []
-        → Going (index + 1) (before ++ part ∷ []) rest next (hidden_after full hidden part) s
-    quiet_step next walk none = record {
-      walk = walk;
-      fits = grind (arith, top_innermost);
-      nexts = g.nexts;
-      later = g.later;
-      order = let a : g.later.st.latest ≤ index = g.order in omega arith;
-      moved = λ t. let a : g.later.st.latest ≤ index = g.order in omega arith;
-      events = g.events ∙ sym (append-nil (events_from full document 0 before)) ∙ sym (next_events [] none);
-      shallow = g.shallow;
+    -- the margin fits a usize
+    fits : margin document index ≤ 18446744073709551615
+    fits = omega (arith, margin-le document index, within, few)
+
+    more_events : (added : List Next) → part_events full document index part ≡ map next_event added → map next_event (g.nexts ++ added) ++ events_from full document (index + 1) rest ≡ shown_events full document
+    more_events added e =
+        ap (λ es. es ++ events_from full document (index + 1) rest) (map_append g.nexts added ∙ ap (λ es. map next_event g.nexts ++ es) (sym e))
+        ∙ append_assoc (map next_event g.nexts) (part_events full document index part) (events_from full document (index + 1) rest) ∙ g.events
+
+    -- some chunks of this part are written, and no margin moves
+    chunks_step : (added : List Next) (t : PageSoFar) → part_events full document index part ≡ map next_event added → shift_at document index part ≡ Level → EachNext (IsShallow (greatest_margin document)) added
+        → AfterText document width (margin document index) index (g.nexts ++ added) t → Going (index + 1) rest t
+    chunks_step added t e still shallow l = record {
+      here = drop_next document index part rest g.here;
+      nexts = g.nexts ++ added;
+      later = record { st = l.0.st; written = l.0.written; draws = subst (λ n. Draws n t l.0.st) (sym (top-margin document index)) l.0.draws };
+      order = let a : l.0.st.latest ≤ index = l.1.order in omega arith;
+      moved = λ m. let a : l.0.st.latest ≤ index = l.1.order in omega arith;
+      events = more_events added e;
+      shallow = shallow_append (greatest_margin document) g.nexts added g.shallow shallow;
     }
 
-    st_margin : g.later.st.margin ≡ top (stack_at document index)
-    st_margin = sym g.later.draws.margin ∙ level_top s (stack_at document index) g.walk.margins g.fits
+    -- before the chunks
+    before_chunks : shift_at document index part ≡ Level → AfterText document width (margin document index) index g.nexts s
+    before_chunks still =
+        let same : margin document index ≡ top (stack_at document index) = margin-level document index part rest g.here still in (
+          record { st = g.later.st; written = g.later.written; draws = subst (λ n. Draws n s g.later.st) (sym same) g.later.draws },
+          record { margin_is = sym g.later.draws.margin ∙ sym same; order = g.order; moved = g.moved },
+        )
+
+    -- nothing is written of this part
+    quiet_step : part_events full document index part ≡ [] → shift_at document index part ≡ Level → Going (index + 1) rest s
+    quiet_step none still =
+        chunks_step [] s none still tt (subst (λ ns. AfterText document width (margin document index) index ns s) (sym (append-nil g.nexts)) (before_chunks still))
 
     -- a mark is written
-    mark_step : (next : Pairs) (event : Event) (t : Sheet) → Walk full document (index + 1) (before ++ part ∷ []) rest next (hidden_after full hidden part) t → page.HasFewMargins t
-        → part_events full document index part ≡ event ∷ [] → Draws t (passed event (page.margin_of t) g.later.st) → t.width ≡ s.width
-        → (page.margin_of t ≡ margin document index → g.later.st.margin ≡ top (stack_at document index) → Suits (margin document) g.later.st (mark event (page.margin_of t)))
-        → Going (index + 1) (before ++ part ∷ []) rest next (hidden_after full hidden part) t
-    mark_step next event t walk few one draws wide suits = record {
-      walk = walk;
-      fits = few_fits t (stack_at document (index + 1)) walk.margins walk.low few;
-      nexts = g.nexts ++ mark event (page.margin_of t) ∷ [];
+    mark_step : (event : Event) (t : PageSoFar) → part_events full document index part ≡ event ∷ [] → Draws (margin document index) t (passed event (margin document index) g.later.st)
+        → Suits (margin document) g.later.st (mark event (margin document index)) → Going (index + 1) rest t
+    mark_step event t one draws suits = record {
+      here = drop_next document index part rest g.here;
+      nexts = g.nexts ++ mark event (margin document index) ∷ [];
       later = record {
-        st = passed event (page.margin_of t) g.later.st;
-        written = more g.nexts g.later.st (mark event (page.margin_of t)) refl g.later.written (suits (grind (
-          arith,
-          level_top,
-          few_fits,
-          top-margin,
-        )) st_margin) tt (passing event (page.margin_of t) refl refl);
-        draws = draws;
-        wide = wide ∙ g.later.wide;
+        st = passed event (margin document index) g.later.st;
+        written = more g.nexts g.later.st (mark event (margin document index)) refl g.later.written suits tt (passing event (margin document index) refl refl);
+        draws = subst (λ n. Draws n t (passed event (margin document index) g.later.st)) (sym (top-margin document index)) draws;
       };
       order = let a : g.later.st.latest ≤ index = g.order in omega arith;
       moved = λ m. let a : g.later.st.latest ≤ index = g.order in omega arith;
-      events = map_append g.nexts (mark event (page.margin_of t) ∷ []) ∙ ap (λ es. es ++ event ∷ []) g.events ∙ sym (next_events (event ∷ []) one);
-      shallow = shallow_append (greatest_margin document) g.nexts (mark event (page.margin_of t) ∷ []) g.shallow
-          (let is : page.margin_of t ≡ margin document index = grind (arith, level_top, few_fits, top-margin) in
-          let most : margin document index ≤ greatest_margin document = margin-le-greatest document index (within full document index before rest part pairs hidden s g.walk) in (omega arith, tt));
+      events = more_events (mark event (margin document index) ∷ []) one;
+      shallow = shallow_append (greatest_margin document) g.nexts (mark event (margin document index) ∷ []) g.shallow (margin-le-greatest document index within, tt);
     }
 
-  -- ---- each part
-
-  text_step : (index : ℕ) (before rest : List Part) (bytes : List ℕ) (style : Style) (pairs : Pairs) (hidden : ℕ) (s : Sheet)
-      → Going index before (Text bytes style ∷ rest) pairs hidden s
-      → Going (index + 1) (before ++ Text bytes style ∷ []) rest pairs (hidden_after full hidden (Text bytes style)) (whole.part_put full document index pairs hidden (Text bytes style) s)
-  text_step index before rest bytes style pairs hidden s g =
-      by_test (Going (index + 1) (before ++ Text bytes style ∷ []) rest pairs (hidden_after full hidden (Text bytes style))) (hidden == 0) _ _ shown
-      (λ h. quiet_step index before rest (Text bytes style) pairs hidden s g pairs (walk_text full document index before rest bytes style pairs hidden s g.walk s (same_frame s))
-      (ap (λ cs. map (λ chunk. Shows index chunk) cs) (hidden_is full document index before rest bytes style pairs hidden s g.walk h))) where
-        level : shift_at document index (Text bytes style) ≡ Level
-        level = text_level full document index before rest bytes style pairs hidden s g.walk
-
-        place : slice_get document index ≡ Some (Text bytes style)
-        place = there full document index before rest (Text bytes style) pairs hidden s g.walk
-
-        can_write : CanWrite (margin document) index g.later.st
-        can_write = record {
-          margin_is = st_margin index before rest (Text bytes style) pairs hidden s g
-              ∙ sym (margin-level document index (Text bytes style) rest (here full document index before rest (Text bytes style) pairs hidden s g.walk) level);
-          order = g.order;
-          moved = g.moved;
-        }
-
-        shown : (hidden == 0) ≡ true → Going (index + 1) (before ++ Text bytes style ∷ []) rest pairs (hidden_after full hidden (Text bytes style)) (page.text_put full (chunks_of bytes) s)
-        shown h =
-            let t : AfterText document width index (g.nexts ++ map (chunk_next index) (written_of full (chunks_of bytes))) (page.text_put full (chunks_of bytes) s) =
-            text_steps document width index full (chunks_of bytes) g.nexts s (g.later, can_write) (each_of_all IsText (chunks_of bytes) (text_chunks bytes (utf8 index bytes style place))) (text_good bytes) in
-            let frame : Frame s (page.text_put full (chunks_of bytes) s) = text_frame full (chunks_of bytes) s in
-            let stack : stack_at document (index + 1) ≡ stack_at document index =
-            stack_next full document index before rest (Text bytes style) pairs hidden s g.walk ∙ ap (λ x. shifted x (stack_at document index)) level in
-            record {
-              walk = walk_text full document index before rest bytes style pairs hidden s g.walk (page.text_put full (chunks_of bytes) s) frame;
-              fits = subst (λ ms. top ms ≤ 18446744073709551615) (sym stack) g.fits;
-              nexts = g.nexts ++ map (chunk_next index) (written_of full (chunks_of bytes));
-              later = t.0;
-              order = let a : t.0.st.latest ≤ index = t.1.order in omega arith;
-              moved = λ m. let a : t.0.st.latest ≤ index = t.1.order in omega arith;
-              events = map_append g.nexts (map (chunk_next index) (written_of full (chunks_of bytes)))
-                  ∙ ap (λ es. es ++ map next_event (map (chunk_next index) (written_of full (chunks_of bytes)))) g.events
-                  ∙ ap (λ es. events_from full document 0 before ++ es)
-                  (shows_chunks index (written_of full (chunks_of bytes)) ∙ ap (λ cs. map (λ chunk. Shows index chunk) cs) (sym (shown_is full document index before rest bytes style pairs hidden s g.walk h)))
-                  ∙ sym (next_events index before rest (Text bytes style) pairs hidden s g (map (λ chunk. Shows index chunk) (shown_chunks full (take index document) bytes)) refl);
-              shallow = shallow_append (greatest_margin document) g.nexts (map (chunk_next index) (written_of full (chunks_of bytes))) g.shallow (shallow_chunks (greatest_margin document) index (written_of full (chunks_of bytes)));
-            }
-
-  start_step : (index : ℕ) (before rest : List Part) (b : Block) (pairs : Pairs) (hidden : ℕ) (s : Sheet)
-      → whole.LeavesFew (whole.pairs_at document index b pairs) index (Start b) (whole.part_put full document index pairs hidden (Start b) s)
-      → Going index before (Start b ∷ rest) pairs hidden s
-      → Going (index + 1) (before ++ Start b ∷ []) rest (whole.pairs_at document index b pairs) (hidden_after full hidden (Start b)) (whole.part_put full document index pairs hidden (Start b) s)
-  start_step index before rest b pairs hidden s few g =
-      by_test (λ (t : Sheet). (whole.skips (whole.pairs_at document index b pairs) index b ≡ false → page.HasFewMargins t) → Going (index + 1) (before ++ Start b ∷ []) rest (whole.pairs_at document index b pairs) (hidden_after full hidden (Start b)) t)
-      (whole.skips (whole.pairs_at document index b pairs) index b) _ _ (λ h few. let skipped : is_skipped document index ≡ true = sym skips_here ∙ h in
-      quiet_step index before rest (Start b) pairs hidden s g (whole.pairs_at document index b pairs) (walk_start_skipped full document is_small index before rest b pairs hidden s g.walk skipped) (rw skipped refl))
-      (λ h few. shown (sym skips_here ∙ h) (few h)) few where
-        skips_here : whole.skips (whole.pairs_at document index b pairs) index b ≡ is_skipped document index
-        skips_here = start_skips full document is_small index before rest b pairs hidden s g.walk
-
-        shown : is_skipped document index ≡ false → page.HasFewMargins (page.opened b (whole.is_adjacent b (whole.pairs_at document index b pairs)) s)
-            → Going (index + 1) (before ++ Start b ∷ []) rest (whole.pairs_at document index b pairs) (hidden_after full hidden (Start b)) (page.opened b (whole.is_adjacent b (whole.pairs_at document index b pairs)) s)
-        shown e few =
-            mark_step index before rest (Start b) pairs hidden s g (whole.pairs_at document index b pairs) (Opens b) (page.opened b (whole.is_adjacent b (whole.pairs_at document index b pairs)) s)
-            (walk_start full document is_small index before rest b pairs hidden s g.walk e) few (rw e refl)
-            (draws_opened b (whole.is_adjacent b (whole.pairs_at document index b pairs)) s g.later.st g.later.draws)
-            (opened_keeps b (whole.is_adjacent b (whole.pairs_at document index b pairs)) s).0
-            (λ level old. open_suits b (page.margin_of (page.opened b (whole.is_adjacent b (whole.pairs_at document index b pairs)) s)) refl
-            (λ h. let same : margin document index ≡ top (stack_at document index) =
-            margin-level document index (Start b) rest (here full document index before rest (Start b) pairs hidden s g.walk) (shift_at-shown document index (Start b) e ∙ (grind arith)) in omega arith) (omega arith))
-
-  end_step : (index : ℕ) (before rest : List Part) (b : Block) (pairs : Pairs) (hidden : ℕ) (s : Sheet)
-      → whole.LeavesFew pairs index (End b) (whole.part_put full document index pairs hidden (End b) s)
-      → Going index before (End b ∷ rest) pairs hidden s
-      → Going (index + 1) (before ++ End b ∷ []) rest pairs (hidden_after full hidden (End b)) (whole.part_put full document index pairs hidden (End b) s)
-  end_step index before rest b pairs hidden s few g =
-      by_test (λ (t : Sheet). (whole.skips pairs index b ≡ false → page.HasFewMargins t) → Going (index + 1) (before ++ End b ∷ []) rest pairs (hidden_after full hidden (End b)) t) (whole.skips pairs index b) _ _
-      (λ h few. let skipped : is_skipped document index ≡ true = sym skips_here ∙ h in
-      quiet_step index before rest (End b) pairs hidden s g pairs (walk_end_skipped full document is_small index before rest b pairs hidden s g.walk skipped) (rw skipped refl))
-      (λ h few. shown (sym skips_here ∙ h) (few h)) few where
-        skips_here : whole.skips pairs index b ≡ is_skipped document index
-        skips_here = end_skips full document is_small index before rest b pairs hidden s g.walk
-
-        shown : is_skipped document index ≡ false → page.HasFewMargins (page.closed b s) → Going (index + 1) (before ++ End b ∷ []) rest pairs (hidden_after full hidden (End b)) (page.closed b s)
-        shown e few =
-            let less : margin document index ≤ top (stack_at document index) = margin-end document index b rest (here full document index before rest (End b) pairs hidden s g.walk) in
-            mark_step index before rest (End b) pairs hidden s g pairs (Closes b) (page.closed b s) (walk_end full document is_small index before rest b pairs hidden s g.walk e) few (rw e refl)
-            (draws_closed b s g.later.st g.later.draws) (closed_keeps b s).0
-            (λ level old. close_suits b (page.margin_of (page.closed b s)) refl (omega arith) (omega arith))
+  part_step : (index : ℕ) (part : Part) (rest : List Part) (s : PageSoFar) → Going index (part ∷ rest) s → Going (index + 1) rest (page.part_put full width document index part s)
+  part_step index (Text bytes style) rest s g =
+      let chunks : List Chunk = shown_chunks full (take index document) bytes in
+      let level : page.saturated (margin document index) ≡ margin document index = omega (arith, fits index (Text bytes style) rest s g) in
+      let still : shift_at document index (Text bytes style) ≡ Level = shift_at-text document index bytes style in
+      let u : IsUtf8 bytes = utf8 index bytes style (get_from_drop document index (Text bytes style) rest g.here) in
+      subst (λ n. Going (index + 1) rest (page.chunks_put width n chunks s)) (sym level)
+      (chunks_step index (Text bytes style) rest s g (map (chunk_next index) chunks) (page.chunks_put width (margin document index) chunks s) (sym (shows_chunks index chunks)) still (shallow_chunks (greatest_margin document) index chunks)
+      (text_steps document width (margin document index) index chunks g.nexts s (before_chunks index (Text bytes style) rest s g still)
+      (each_shown IsText full (take index document) bytes (each_of_all IsText (chunks_of bytes) (text_chunks bytes u))) (each_shown IsGood full (take index document) bytes (text_good bytes))))
+  part_step index (Start b) rest s g =
+      by_test (Going (index + 1) rest) (is_skipped document index) s (page.start_put b s)
+      (λ e. quiet_step index (Start b) rest s g (rw e refl) (shift_at-skipped document index (Start b) e))
+      (λ e. mark_step index (Start b) rest s g (Opens b) (page.start_put b s) (rw e refl) (draws_opened (top (stack_at document index)) (margin document index) b s g.later.st g.later.draws)
+      (open_suits b (margin document index) refl
+      (λ h. let same : margin document index ≡ top (stack_at document index) = margin-level document index (Start b) rest g.here (shift_at-shown document index (Start b) e ∙ grind arith) in
+      let is : top (stack_at document index) ≡ g.later.st.margin = g.later.draws.margin in omega arith)
+      (fits index (Start b) rest s g)))
+  part_step index (End b) rest s g =
+      by_test (Going (index + 1) rest) (is_skipped document index) s (page.end_put b s)
+      (λ e. quiet_step index (End b) rest s g (rw e refl) (shift_at-skipped document index (End b) e))
+      (λ e. mark_step index (End b) rest s g (Closes b) (page.end_put b s) (rw e refl) (draws_closed (top (stack_at document index)) (margin document index) b s g.later.st g.later.draws)
+      (close_suits b (margin document index) refl
+      (let less : margin document index ≤ top (stack_at document index) = margin-end document index b rest g.here in
+      let is : top (stack_at document index) ≡ g.later.st.margin = g.later.draws.margin in omega arith)
+      (fits index (End b) rest s g)))
 
   -- all is done
-  pub record Done (s : Sheet) : Type 0 where
+  pub record Done (s : PageSoFar) : Type 0 where
     pub nexts : List Next
-    pub later : Later document width nexts s
+    pub level : ℕ
+    pub later : Later document width level nexts s
     pub events : map next_event nexts ≡ shown_events full document
     pub shallow : EachNext (IsShallow (greatest_margin document)) nexts
 
-  going_on : (parts : List Part) (index : ℕ) (before : List Part) (pairs : Pairs) (hidden : ℕ) (s : Sheet) → whole.KeepsFew full document index pairs hidden parts s
-      → Going index before parts pairs hidden s → Done (whole.parts_put full document index pairs hidden parts s)
-  going_on [] index before pairs hidden s few g = grind (arith, append-nil)
-  going_on (Text bytes style ∷ parts) index before pairs hidden s few g =
-      grind (arith, going_on parts (index + 1) (before ++ Text bytes style ∷ []) pairs, text_step)
-  going_on (Start b ∷ parts) index before pairs hidden s few g =
-      going_on parts (index + 1) (before ++ Start b ∷ []) (whole.pairs_at document index b pairs) (hidden_after full hidden (Start b)) (whole.part_put full document index pairs hidden (Start b) s) few.1 (start_step index before parts b pairs hidden s few.0 g)
-  going_on (End b ∷ parts) index before pairs hidden s few g =
-      going_on parts (index + 1) (before ++ End b ∷ []) pairs (hidden_after full hidden (End b)) (whole.part_put full document index pairs hidden (End b) s) few.1 (end_step index before parts b pairs hidden s few.0 g)
+  going_on : (parts : List Part) (index : ℕ) (s : PageSoFar) → Going index parts s → Done (page.parts_put full width document (enumerate_from index parts) s)
+  going_on [] index s g = record {
+    nexts = g.nexts;
+    level = top (stack_at document index);
+    later = g.later;
+    events = sym (append-nil (map next_event g.nexts)) ∙ g.events;
+    shallow = g.shallow;
+  }
+  going_on (part ∷ parts) index s g = going_on parts (index + 1) (page.part_put full width document index part s) (part_step index part parts s g)
 
-  starts_going : Going 0 [] document whole.no_pairs 0 (blank_sheet width (whole.tab_stop_from 0 false 0 document))
-  starts_going = record {
-    walk = walk_begins full document is_small width;
-    fits = omega arith;
+  abbrev whole : PageSoFar
+  whole = page.parts_put full width document (numbered document) page.empty_page
+
+  page_done : Done whole
+  page_done = going_on document 0 page.empty_page (record {
+    here = refl;
     nexts = [];
     later = record {
       st = blank_page;
       written = nothing refl refl;
       draws = record { bytes = refl; column = refl; asked = refl; body = refl; margin = refl; legible = tt; fits = omega arith };
-      wide = refl;
     };
     order = omega arith;
     moved = λ m. absurd cc;
     events = refl;
     shallow = tt;
-  }
+  })
 
-  pub done : whole.HasFewThroughout full width document → Done (whole.whole_page full width document)
-  done few = going_on document 0 [] whole.no_pairs 0 (blank_sheet width (whole.tab_stop_from 0 false 0 document)) few starts_going
+-- ---- the ink of a text by its stretches
 
-  -- the text of the page is that of its stretches, with a last newline where one is asked for
-  pub console_layout : whole.HasFewThroughout full width document → ink (console_text full width document) ≡ console_ink full document → IsLayout document full width (console_text full width document)
-  console_layout few same =
-      by_test (λ text. ink text ≡ console_ink full document → IsLayout document full width text) (page.asks_break (whole.whole_page full width document).asks) _ _
-      (λ h. layout (Gap 10 ∷ ended_page.later.st.back) (with_newline refl) (ap (λ bs. bs ++ 10 ∷ []) ended_page.later.draws.bytes ∙ sym (text_back_cons (Gap 10) ended_page.later.st.back)))
-      (λ h. layout ended_page.later.st.back (as_is refl) ended_page.later.draws.bytes) same where
-        ended_page : Done (whole.whole_page full width document)
-        ended_page = done few
+abbrev event_ink : Event → List ℕ
+event_ink (Shows k chunk) = chunk_ink chunk
+event_ink (Opens b) = mark_bytes b
+event_ink (Closes b) = mark_bytes b
 
-        layout : (final : List Stretch) {text : List ℕ} → Ends ended_page.later.st final → text ≡ text_back final → ink text ≡ console_ink full document → IsLayout document full width text
-        layout final ends is same = grind (arith, layout_of_page, ended_page)
+mark_ink : (b : Block) → ink (mark_bytes b) ≡ mark_bytes b
+mark_ink b = elim (is_term_ref b) as (λ (c : Bool). ink (if c then 96 ∷ [] else []) ≡ (if c then 96 ∷ [] else [])) [ true ↦ ink-backquote | false ↦ ink-nil ]
+
+passed_ink : (event : Event) → NoInk event → ink (event_bytes event) ≡ event_ink event
+passed_ink event none = grind (arith, ink-nil, some_none, mark_ink)
+
+inks_cons : (x : Event) (xs : List Event) → flat_map event_ink (reverse (x ∷ xs)) ≡ flat_map event_ink (reverse xs) ++ event_ink x
+inks_cons x xs = grind (arith, reverse_cons, flat_map-append, append-nil)
+
+ink_back : (r : List Stretch) → IsLegible r → EachPassed NoInk r → ink (text_back r) ≡ flat_map event_ink (reverse (events_back r))
+ink_back [] legible none = ink-nil
+ink_back (x ∷ r) legible none = grind (arith, ink_back r, text_back_cons, ink_before_gap, text_utf8, ink-append, trim_ink, inks_cons, passed_ink)
+
+-- ---- the ink of what is shown
+
+chunks_ink : (k : ℕ) (chunks : List Chunk) → flat_map event_ink (map (λ chunk. Shows k chunk) chunks) ≡ flat_map chunk_ink chunks
+chunks_ink k [] = refl
+chunks_ink k (chunk ∷ chunks) = ap (λ more. chunk_ink chunk ++ more) (chunks_ink k chunks)
+
+mark_if : (c : Bool) (b : Block) (event : Event) → event_ink event ≡ mark_bytes b → (c ≡ true → mark_bytes b ≡ []) → flat_map event_ink (if c then [] else event ∷ []) ≡ mark_bytes b
+mark_if c b event is none = grind arith
+
+part_ink : (full : Bool) (document : List Part) (k : ℕ) (part : Part) → slice_get document k ≡ Some part → flat_map event_ink (part_events full document k part) ≡ shown_part_ink full (take k document) part
+part_ink full document k (Text bytes style) there = chunks_ink k (shown_chunks full (take k document) bytes)
+part_ink full document k (Start b) there = mark_if (is_skipped document k) b (Opens b) refl (skipped_bare document k b (inl there))
+part_ink full document k (End b) there = mark_if (is_skipped document k) b (Closes b) refl (skipped_bare document k b (inr there))
+
+parts_ink : (full : Bool) (document parts : List Part) (k : ℕ) → drop k document ≡ parts
+    → flat_map event_ink (events_from full document k parts) ≡ flat_map (λ (k, part). shown_part_ink full (take k document) part) (enumerate_from k parts)
+parts_ink full document [] k here = refl
+parts_ink full document (part ∷ parts) k here =
+    flat_map-append event_ink (part_events full document k part) (events_from full document (k + 1) parts)
+    ∙ ap (λ front. front ++ flat_map event_ink (events_from full document (k + 1) parts)) (part_ink full document k part (get_from_drop document k part parts here))
+    ∙ ap (λ more. shown_part_ink full (take k document) part ++ more) (parts_ink full document parts (k + 1) (drop_next document k part parts here))
+
+-- ---- the page
 
 pub text_is_utf8 : (document : List Part) → HasUtf8Texts document → (k : ℕ) (bytes : List ℕ) (style : Style) → slice_get document k ≡ Some (Text bytes style) → IsUtf8 bytes
 text_is_utf8 document all k bytes style at =
@@ -397,9 +377,27 @@ text_is_utf8 document all k bytes style at =
     subst (λ p. IsUtf8 (part_bytes p)) (get_or_from_slice_get document k part part at)
     (All-get_or (λ p. IsUtf8 (part_bytes p)) document k part (slice_get_within document k part at) all)
 
--- the answer of a call that lays the document out
-pub IfOk-layout : {Z E : Type 0} (full : Bool) (width : ℕ) (document : List Part) → length document < 2 ^ 64 → HasUtf8Texts document
-    → (r : Result (String Z) E) → IfOk r (λ text. string_bytes text ≡ console_text full width document)
-    → IfOk r (λ text. whole.HasFewThroughout full width document) → IfOk r (λ text. ink (string_bytes text) ≡ console_ink full document)
-    → IfOk r (λ text. IsLayout document full width (string_bytes text))
-IfOk-layout full width document small utf8 r same few inked = grind (arith, console_layout, text_is_utf8)
+module _ (full : Bool) (width : ℕ) (document : List Part) (all : HasUtf8Texts document) (few : length document < 2 ^ 59) where
+  abbrev page_at_end : PageSoFar
+  page_at_end = page.parts_put full width document (numbered document) page.empty_page
+
+  ended : Done full document width few (text_is_utf8 document all) page_at_end
+  ended = page_done full document width few (text_is_utf8 document all)
+
+  out_ink : ink page_at_end.text ≡ console_ink full document
+  out_ink = grind (arith, ended, ink_back, written_base, written_events, reverse-reverse, parts_ink full document document 0 refl)
+
+  pub page_ink : ink (console_page full width document) ≡ console_ink full document
+  page_ink = grind (arith, ended, text_utf8, ink_before_gap, out_ink)
+
+  -- the text of the page is that of its stretches, with a last newline where one is asked for
+  pub page_layout : IsLayout document full width (console_page full width document)
+  page_layout =
+      by_test (λ text. ink text ≡ console_ink full document → IsLayout document full width text) (page.asks_line page_at_end.request) _ _
+      (λ h. layout (Gap 10 ∷ ended.later.st.back) (with_newline refl) (ap (λ bs. bs ++ 10 ∷ []) ended.later.draws.bytes ∙ sym (text_back_cons (Gap 10) ended.later.st.back)))
+      (λ h. layout ended.later.st.back (as_is refl) ended.later.draws.bytes) page_ink where
+        layout : (final : List Stretch) {text : List ℕ} → Ends ended.later.st final → text ≡ text_back final → ink text ≡ console_ink full document → IsLayout document full width text
+        layout final ends is same = grind (arith, layout_of_page, ended)
+
+pub exact_page_is_layout : IsExactPageLayout
+exact_page_is_layout full width document utf8 few = page_layout full width document utf8 few

@@ -1,13 +1,11 @@
 use Rattle.std.proofs.Common.{◌≡◌, ◌≤◌, Bool, length}
 use Rattle.bpaf_doc.specs.Console.Steps.Hiding.{hides}
-use Rattle.bpaf_doc.specs.Console.Steps.Ink.{shown_ink}
 use Rattle.bpaf_doc.specs.Console.Steps.Page.{sheet_of, text_put}
 use Rattle.bpaf_doc.proofs.console.page.Page.pass_blanks.Given as goal
 
 abbrev pub invariant-blanks : goal.invariant-blanks
 invariant-blanks g l = record {
   page : (full : Bool) → text_put full l.chunks (sheet_of l.self) ≡ text_put full l.fn.chunks (sheet_of l.self);
-  ink : (full : Bool) → shown_ink full l.chunks ≡ shown_ink full l.fn.chunks;
   hides : (full : Bool) → hides full l.chunks ≡ hides full l.fn.chunks;
   left : length l.chunks ≤ length l.fn.chunks;
 }

@@ -1,16 +1,11 @@
-use Rattle.std.proofs.Common.{◌≡◌, ◌≤◌, ◌++◌, Bool, length, string_bytes}
-use Rattle.bpaf_doc.specs.Buffer.Parts.{ink}
+use Rattle.std.proofs.Common.{◌≡◌, ◌≤◌, Bool, length}
 use Rattle.bpaf_doc.specs.Console.Steps.Hiding.{hides}
-use Rattle.bpaf_doc.specs.Console.Steps.Ink.{shown_ink}
 use Rattle.bpaf_doc.specs.Console.Steps.Page.{IsPastLine, margin_of, sheet_of, text_put}
 use Rattle.bpaf_doc.proofs.console.page.Page.put_code.Given as goal
 
 abbrev pub invariant-lines : goal.invariant-lines
 invariant-lines g l = record {
   page : (full : Bool) → text_put full l.chunks (sheet_of l.self) ≡ text_put full l.fn.chunks (sheet_of l.fn.self);
-  same_ink :
-      (full : Bool)
-      → ink (string_bytes l.self.out) ++ shown_ink full l.chunks ≡ ink (string_bytes l.fn.self.out) ++ shown_ink full l.fn.chunks;
   same_hiding : (full : Bool) → hides full l.chunks ≡ hides full l.fn.chunks;
   left : length l.chunks ≤ length l.fn.chunks;
   past : IsPastLine (sheet_of l.self);

@@ -1,23 +1,17 @@
 -- A run that is written at once is its words written one after another.
-use Rattle.std.proofs.Common.{◌+◌, ◌<◌, ◌≤◌, ◌++◌, ◌^◌, ap, ap₂, ◌∙◌, arith, rules}
+use Rattle.std.proofs.Common.{◌+◌, ◌<◌, ◌≤◌, ◌^◌, ap₂, ◌∙◌, arith, rules}
 use Rattle.bpaf_doc.specs.Splitter.Steps.Runs.{letters}
-use Rattle.bpaf_doc.specs.Console.Steps.Ink.{shown_ink}
-use Rattle.bpaf_doc.specs.Console.Steps.Page.{sheet_of, text_put}
-use Rattle.bpaf_doc.proofs.lemmas.Console.Ink.{ink-push_str}
-use Rattle.bpaf_doc.proofs.lemmas.Console.Runs.{run_put, run_ink}
+use Rattle.bpaf_doc.specs.Console.Steps.Page.{page_of, sheet_of, text_put}
+use Rattle.bpaf_doc.proofs.lemmas.Console.Runs.{run_put}
 use Rattle.bpaf_doc.proofs.console.page.Page.put_run.Goals as goal
-
-pub returns-in_ok-push_str-clause-ink : goal.returns-in_ok-push_str-clause-ink
-returns-in_ok-push_str-clause-ink g c = λ full.
-    ap (λ i. i ++ shown_ink full c.take_fitting.new.self) (ink-push_str c.args.self.now.out _ _ c.in_ok-push_str.ensures.bytes)
-    ∙ run_ink _ _ full _ _ c.in-Some.ensures.chunks c.in-Some.ensures.line c.in-Some.ensures.text
 
 pub returns-in_ok-push_str-clause-page : goal.returns-in_ok-push_str-clause-page
 returns-in_ok-push_str-clause-page g c = λ full.
     let run = c.in-Some.run'.now in
     let s = sheet_of c.args.self.now in
+    let p = page_of c.args.self.now in
     let small : c.args.self.now.width < 2 ^ 64 = search rules in
     let is = c.is_within_line.ensures c.if-not-is_within_line.false in
     let fits : c.args.self.now.column + letters run ≤ c.args.self.now.width = omega (arith, is.room, c.in-Some.ensures.fits, c.in-Some.ensures.taken) in
-    ap₂ (λ o n. text_put full c.take_fitting.new.self (record s { out = o; column = c.args.self.now.column + n })) c.in_ok-push_str.ensures.bytes c.in-Some.ensures.taken
+    ap₂ (λ t n. text_put full c.take_fitting.new.self (record s { page = record p { text = t; column = c.args.self.now.column + n } })) c.in_ok-push_str.ensures.bytes c.in-Some.ensures.taken
     ∙ run_put s run full c.args.chunks.now c.take_fitting.new.self is (omega (arith, small)) c.in-Some.ensures.chunks c.in-Some.ensures.line c.in-Some.ensures.text c.in-Some.ensures.lettered fits

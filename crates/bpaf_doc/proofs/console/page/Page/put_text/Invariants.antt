@@ -1,17 +1,12 @@
-use Rattle.std.proofs.Common.{◌≡◌, ◌++◌, length, string_bytes}
-use Rattle.bpaf_doc.specs.Buffer.Parts.{ink}
+use Rattle.std.proofs.Common.{◌≡◌, length}
 use Rattle.bpaf_doc.specs.Splitter.Chunks.{chunks_of}
 use Rattle.bpaf_doc.specs.Console.Steps.Hiding.{hides}
-use Rattle.bpaf_doc.specs.Console.Steps.Ink.{shown_ink}
 use Rattle.bpaf_doc.specs.Console.Steps.Page.{sheet_of, text_put}
-use Rattle.bpaf_doc.proofs.lemmas.Console.Ink.{IsTextLeft}
 use Rattle.bpaf_doc.proofs.console.page.Page.put_text.Given as goal
 
 abbrev pub invariant-loop-chunk : goal.invariant-loop-chunk
 invariant-loop-chunk g l = record {
-  left :
-      IsTextLeft l.full (hides l.full (chunks_of l.text)) (string_bytes l.self.out)
-      (ink (string_bytes l.fn.self.out) ++ shown_ink l.full (chunks_of l.text)) l.chunks;
+  same_hiding : hides l.full l.chunks ≡ hides l.full (chunks_of l.text);
   same_page : text_put l.full l.chunks (sheet_of l.self) ≡ text_put l.full (chunks_of l.text) (sheet_of l.fn.self);
 }
 
