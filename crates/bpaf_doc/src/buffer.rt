@@ -195,6 +195,7 @@ impl<A: Allocator + Copy> Doc<A> {
 
     /// A document of the leading texts, up to the first newline or mark and without them. `None` where there are no
     /// parts.
+    #[tactic(auto, using(crate::proofs::lemmas::Buffer::Nesting::nested_front))]
     pub fn first_line(&self) -> Result<Option<Doc<A>>, AllocError>
         ensures line { IfOk result (λ line. line ≡ first_line_of self.now) }
         ensures nested { IfOk result (λ line. IfSome line IsWellNested) }
@@ -228,6 +229,7 @@ impl<A: Allocator + Copy> Doc<A> {
 impl<A: Allocator> Doc<A> {
     /// Writes a text. It joins a last part that is a text of its style, and else it is a part of its own, also where it
     /// is empty.
+    #[tactic(auto, using(crate::proofs::lemmas::Buffer::Nesting::text_pushed))]
     pub fn write_str(&mut self, text: &str, style: Style) -> Result<(), AllocError>
         ensures ok { OnOk result (self.new ≡ with_text self.old text.now style) }
         ensures err { OnErr result (self.new ≡ self.old) }
@@ -240,6 +242,7 @@ impl<A: Allocator> Doc<A> {
     }
 
     /// Writes a character as `write_str` writes a text.
+    #[tactic(auto, using(crate::proofs::lemmas::Buffer::Nesting::text_pushed))]
     pub fn write_char(&mut self, character: char, style: Style) -> Result<(), AllocError>
         ensures ok { OnOk result (self.new ≡ with_text self.old (encode_utf8 character) style) }
         ensures err { OnErr result (self.new ≡ self.old) }
@@ -301,6 +304,7 @@ impl<A: Allocator> Doc<A> {
     }
 
     /// Adds the parts of another document as they are, in an inline block.
+    #[tactic(auto, using(crate::proofs::lemmas::Buffer::Nesting::nested_parts))]
     pub fn doc<B: Allocator>(&mut self, other: &Doc<B>) -> Result<(), AllocError>
         ensures ok { OnOk result (self.new ≡ with_writes self.old (doc_writes other.now)) }
         ensures err { OnErr result (self.new ≡ self.old) }
@@ -323,6 +327,7 @@ impl<A: Allocator> Doc<A> {
     /// Adds another document in an inline block. Where its first part is a plain text, that is a title: up to its first
     /// newline in emphasis, and the rest of it, with the parts behind it, in a section; without a newline in it the
     /// other parts follow the title as they are. Any other document is added as it is.
+    #[tactic(auto, using(crate::proofs::lemmas::Buffer::Nesting::nested_parts))]
     pub fn em_doc<B: Allocator>(&mut self, other: &Doc<B>) -> Result<(), AllocError>
         ensures ok { OnOk result (self.new ≡ with_writes self.old (em_doc_writes other.now)) }
         ensures err { OnErr result (self.new ≡ self.old) }
@@ -373,6 +378,7 @@ impl<A: Allocator> Doc<A> {
     }
 
     /// Writes each name literally, and a blank after it.
+    #[tactic(auto, using(crate::proofs::lemmas::Buffer::Nesting::nested_parts))]
     pub fn write_path<B: Allocator>(&mut self, path: &[String<B>]) -> Result<(), AllocError>
         ensures ok { OnOk result (self.new ≡ with_writes self.old (path_writes (map string_bytes path.now))) }
         ensures err { OnErr result (self.new ≡ self.old) }
@@ -487,6 +493,7 @@ impl<A: Allocator> Doc<A> {
 
 impl<A: Allocator> Doc<A> {
     /// Whether there are no parts.
+    #[tactic(auto, using(crate::proofs::lemmas::Buffer::Ends::part_count))]
     pub fn is_empty(&self) -> bool
         ensures { result ≡ (length self.now == 0) }
     {
@@ -494,6 +501,7 @@ impl<A: Allocator> Doc<A> {
     }
 
     /// The number of parts.
+    #[tactic(auto, using(crate::proofs::lemmas::Buffer::Ends::part_count))]
     pub fn len(&self) -> usize
         ensures { result ≡ length self.now }
     {
@@ -509,6 +517,7 @@ impl<A: Allocator> Doc<A> {
     }
 
     // States a bound on the parts: each takes 16 bytes, and all of them less than 2^63.
+    #[tactic(auto, using(crate::proofs::lemmas::Buffer::Ends::part_count))]
     pub(crate) fn bound_parts(&self)
         ensures { length self.now < 2 ^ 59 }
     {
@@ -535,6 +544,7 @@ impl<A: Allocator> Doc<A> {
     }
 
     /// The part at that place, counted from 0; `None` from `len` on. It makes no walk over the parts before.
+    #[tactic(auto, using(crate::proofs::lemmas::Buffer::Ends::next_slice))]
     pub fn part_at(&self, index: usize) -> Option<Part<'_>>
         ensures { option_map part_of result ≡ slice_get self.now index }
     {
@@ -566,6 +576,7 @@ fn split_line(text: &str) -> Option<(&str, &str)>
 }
 
 // Where the part at that place starts.
+#[tactic(auto, using(crate::proofs::lemmas::Buffer::Ends::read_end))]
 fn start_of(ends: &[PartEnd], index: usize) -> usize
     requires { index ≤ length ends.now }
     ensures { result ≡ end_before 0 ends.now index }
@@ -574,6 +585,7 @@ fn start_of(ends: &[PartEnd], index: usize) -> usize
 }
 
 // Adds a text that ends here, or moves the end of the last part here, where that is a text of its style.
+#[tactic(auto, using(crate::proofs::lemmas::Buffer::Ends::text_ends))]
 fn push_text<A: Allocator>(ends: &mut Vec<PartEnd, A>, style: Style, end: usize)
     requires { vec_len ends.old < vec_capacity ends.old }
     ensures { ends.new.items ≡ with_text_end ends.old.items style end }
@@ -590,6 +602,7 @@ fn push_text<A: Allocator>(ends: &mut Vec<PartEnd, A>, style: Style, end: usize)
 }
 
 // Moves the end of the last part here, if there is one.
+#[tactic(auto, using(crate::proofs::lemmas::Buffer::Ends::popped_end))]
 fn move_last_end<A: Allocator>(ends: &mut Vec<PartEnd, A>, end: usize)
     ensures { ends.new.items ≡ with_last_end ends.old.items end }
 {
@@ -645,6 +658,7 @@ impl<'a> Iterator for Parts<'a> {
 
     ghost remaining = { item_count (λ left. left) };
 
+    #[tactic(auto, using(crate::proofs::lemmas::Buffer::Ends::parts_cut))]
     fn next(&mut self) -> Option<Part<'a>> {
         let (first, others) = self.ends.split_first()?;
         let (text, rest) = self.text.split_at(first.end - self.start);

@@ -65,6 +65,7 @@ enum Language {
 
 impl Language {
     // Where the first character with another spelling stands.
+    #[tactic(auto, using(crate::proofs::lemmas::Html::Spelled::finds_html, crate::proofs::lemmas::Html::Spelled::finds_markdown))]
     fn find(self, text: &str) -> Option<usize>
         ensures { MatchOption result (IsPlain self text.now) (λ at. IsFirstSpelled self text.now at) }
     {

@@ -73,6 +73,7 @@ impl<'a> Model for Splitter<'a> {
 }
 
 /// The chunks of the text, in order. All of them together take time in proportion to the text's bytes, and no memory.
+#[tactic(auto, using(crate::proofs::lemmas::Splitter::Facts::text_split))]
 pub fn split(text: &str) -> Splitter<'_>
     ensures value { result ≡ chunks_of text.now }
     ensures spelled { Spells Plain result text.now }
@@ -96,6 +97,7 @@ impl<'a> Iterator for Splitter<'a> {
     ghost remaining = { item_count (λ left. left) };
 
     // This and what it calls is inlined: a call hands a chunk on through memory, which costs more than cutting it.
+    #[tactic(auto, using(crate::proofs::lemmas::Splitter::FirstChunk::nothing_left))]
     #[inline(always)]
     fn next(&mut self) -> Option<Chunk<'a>> {
         if self.rest.is_empty() {
@@ -116,6 +118,7 @@ impl<'a> Iterator for Splitter<'a> {
 impl<'a> Splitter<'a> {
     /// Takes the rest of a line off, or as much of it as a run has at most. None where no word or blank of a line comes
     /// next, or too long a word.
+    #[tactic(auto, using(crate::proofs::lemmas::Splitter::FirstChunk::plain_chunks))]
     #[inline(always)]
     pub(crate) fn take_line(&mut self) -> Option<&'a str>
         ensures run { IfSome result (λ run. IsRun run.now) }
@@ -171,6 +174,7 @@ impl<'a> Splitter<'a> {
 
     /// Takes as many words of a line off as have no other characters than printable ASCII and Latin letters and fit
     /// these columns, with the columns that they take. None where none fits.
+    #[tactic(auto, using(crate::proofs::lemmas::Splitter::FirstChunk::plain_chunks))]
     #[inline(always)]
     pub(crate) fn take_fitting(&mut self, columns: usize) -> Option<(&'a str, usize)>
         ensures line { IfSome result (λ run. IsLine run.0.now) }
@@ -314,6 +318,7 @@ fn count_letters(bytes: &[u8]) -> usize
 }
 
 // The end of such a run and its columns, byte by byte. Out of line: few texts have other characters.
+#[tactic(auto, using(crate::proofs::lemmas::Splitter::Letters::lettered_ends))]
 #[inline(never)]
 fn lettered_run_end(bytes: &[u8], columns: usize) -> (usize, usize)
     ensures run { 0 < result.0 → IsRunEnd bytes.now result.0 }
@@ -362,6 +367,7 @@ fn is_line_end(rest: &[u8]) -> bool
 }
 
 // The first chunk of a text outside of a fence, and those after it.
+#[tactic(auto, using(crate::proofs::lemmas::Splitter::FirstChunk::plain_first))]
 #[inline(always)]
 fn next_plain(text: &str) -> (Chunk<'_>, Splitter<'_>)
     requires { text.now ≢ [] }
@@ -411,6 +417,7 @@ fn strip_byte(text: &str, byte: u8) -> Option<&str>
 }
 
 // What is left of two newlines and the text after their paragraph break. `line` is the second newline and the text.
+#[tactic(auto, using(crate::proofs::lemmas::Splitter::FirstChunk::after_newlines))]
 #[inline(always)]
 fn after_paragraph<'a>(line: &'a str, text: &'a str) -> Splitter<'a>
     requires { line.now ≡ 10 ∷ text.now }
@@ -429,6 +436,7 @@ fn after_paragraph<'a>(line: &'a str, text: &'a str) -> Splitter<'a>
 }
 
 // The opening line of a fence, which this text begins with, and the chunks after it.
+#[tactic(auto, using(crate::proofs::lemmas::Splitter::FirstChunk::opening_first))]
 #[inline(always)]
 fn next_opening(text: &str) -> (Chunk<'_>, Splitter<'_>)
     requires { text.now ≢ [] }
@@ -443,6 +451,7 @@ fn next_opening(text: &str) -> (Chunk<'_>, Splitter<'_>)
 }
 
 // A later line of a fence, which this text begins with, and the chunks after it.
+#[tactic(auto, using(crate::proofs::lemmas::Splitter::FirstChunk::later_lines))]
 #[inline(always)]
 fn next_later(text: &str) -> (Chunk<'_>, Splitter<'_>)
     requires { text.now ≢ [] }
@@ -464,6 +473,7 @@ fn next_later(text: &str) -> (Chunk<'_>, Splitter<'_>)
 }
 
 // The text up to its first newline, and the rest.
+#[tactic(auto, using(crate::proofs::lemmas::Splitter::Cuts::line_cuts))]
 #[inline(always)]
 fn cut_line(text: &str) -> (&str, &str)
     ensures whole { text.now ≡ result.0.now ++ result.1.now }
@@ -478,6 +488,7 @@ fn cut_line(text: &str) -> (&str, &str)
 
 // The text up to its first newline or blank, the columns of that, and the rest. Each printable ASCII character takes a
 // column, so that most words are read once.
+#[tactic(auto, using(crate::proofs::lemmas::Splitter::Printable::printable_words))]
 #[inline(always)]
 fn cut_word(text: &str) -> (&str, usize, &str)
     ensures whole { text.now ≡ result.0.now ++ result.2.now }

@@ -398,6 +398,7 @@ fn trim_end<B: Allocator>(out: &mut String<B>)
     out.truncate(kept);
 }
 
+#[tactic(auto, using(crate::proofs::lemmas::Console::Ends::pushed_blanks))]
 fn push_blanks<B: Allocator>(out: &mut String<B>, count: usize) -> Result<(), AllocError>
     ensures bytes { OnOk result (string_bytes out.new ≡ string_bytes out.old ++ replicate count 32) }
 {

@@ -59,6 +59,7 @@ impl<'a> Model for Fragments<'a> {
 }
 
 /// The fragments of a document: all of its texts in full, and in brief less.
+#[tactic(auto, using(crate::proofs::lemmas::Html::Fragments::Walking::walked))]
 pub(super) fn fragments_of<A: Allocator>(doc: &Doc<A>, full: bool) -> Fragments<'_>
     ensures { result ≡ shown_fragments full doc.now }
 {

@@ -327,6 +327,7 @@ impl<B: Allocator> Markdown<B> {
         }
     }
 
+    #[tactic(auto, using(crate::proofs::lemmas::Markdown::Runs::run_marked))]
     fn take(&mut self, taken: Taken<'_>) -> Result<(), AllocError>
         requires { IsTaken taken }
         ensures { OnOk result (self.new ≡ marked_after_all self.old (fragments_in taken.entry)) }
@@ -356,6 +357,7 @@ impl<A: Allocator> Doc<A> {
     /// paragraph between them, and a newline where they have a line break.
     ///
     /// An `AllocError` says that a growth was refused.
+    #[tactic(auto, using(crate::proofs::lemmas::Markdown::Exact::written_text))]
     pub fn render_markdown<B: Allocator>(
         &self,
         alloc: B,

@@ -226,6 +226,7 @@ impl<B: Allocator> Page<B> {
         }
     }
 
+    #[tactic(auto, using(crate::proofs::lemmas::Html::Runs::run_page))]
     #[inline(always)]
     fn take(&mut self, taken: Taken<'_>) -> Result<(), AllocError>
         requires { IsTaken taken }

@@ -9,7 +9,7 @@ use Rattle.std.specs.Option.{option_map}
 use Rattle.std.specs.Str.{IsUtf8}
 use Rattle.std.proofs.lemmas.List.{take-append-le, drop-append-le, drop-drop, drop_all}
 use Rattle.std.proofs.lemmas.List.Elements.{All-nil, All-cons}
-use Rattle.std.proofs.lemmas.Str.{IsUtf8-append, IsUtf8-nil}
+use Rattle.std.proofs.lemmas.Str.{IsUtf8-append, IsUtf8-nil, IsCharBoundary-from_take}
 use Rattle.bpaf_doc.specs.declared.buffer.Style.{Style}
 use Rattle.bpaf_doc.specs.declared.buffer.Kind.{Kind}
 use Rattle.bpaf_doc.specs.declared.buffer.PartEnd.{PartEnd}
@@ -18,6 +18,7 @@ use Rattle.bpaf_doc.specs.declared.buffer.Part as handed
 use Rattle.bpaf_doc.specs.Buffer.View.{part_of}
 use Rattle.bpaf_doc.specs.Buffer.Parts.{Part, Text, HasUtf8Texts, document_bytes, part_bytes}
 use Rattle.bpaf_doc.specs.Buffer.Writes.{part_then_text, with_text}
+use Rattle.std.proofs.lemmas.Option.{slice_get_past}
 
 pub length-parts_from : (start : ℕ) (es : List PartEnd) (rest : List ℕ) → length (parts_from start es rest) ≡ length es
 length-parts_from start [] rest = refl
@@ -234,3 +235,15 @@ with_last_end-push x e end = grind arith
 pub with_last_end-popped : (es fs : List PartEnd) (o : Option PartEnd) (e : PartEnd) (end : ℕ) → es ≡ fs ++ option_to_list o → o ≡ Some e
     → with_last_end es end ≡ fs ++ record { kind = e.kind; end = end } ∷ []
 with_last_end-popped es fs o e end was is = rw (was, is) (with_last_end-push fs e end)
+
+pub ruleset part_count = (length-parts_from)
+
+pub ruleset popped_end = (with_last_end-popped)
+
+pub ruleset text_ends = (with_text_end-kept, with_text_end-none, with_text_end-replaced)
+
+pub ruleset read_end = (end_before-read)
+
+pub ruleset next_slice = (slice_get_past, slice_get-next)
+
+pub ruleset parts_cut = (IsCharBoundary-from_take, IsUtf8-AreEnds)

@@ -12,6 +12,9 @@ use Rattle.bpaf_doc.specs.Buffer.FirstLine.{leading_texts}
 use Rattle.bpaf_doc.specs.Buffer.Parts.{Part, Text, Start, End, IsWellNested, nothing, text, enclosed, joined}
 use Rattle.bpaf_doc.specs.Buffer.Writes as write
 use Rattle.bpaf_doc.specs.Buffer.Writes.{Write, document_of, emphasis, inside, is_newline, pair_write, part_then_text, path_writes, plain, same_style, title_writes, titled, with_text, with_write, with_writes}
+use Rattle.std.proofs.lemmas.Str.{IsUtf8-encode}
+use Rattle.bpaf_doc.proofs.lemmas.Buffer.Ends.{AreEnds-with_text_end, parts_from-with_text_end}
+use Rattle.bpaf_doc.proofs.lemmas.Buffer.Growing.{settled_nested}
 
 -- a text leaves all parts but the last one
 pub with_text-append : (ps : List Part) (q : Part) (qs : List Part) (bytes : List ℕ) (style : Style) → with_text (ps ++ q ∷ qs) bytes style ≡ ps ++ with_text (q ∷ qs) bytes style
@@ -102,3 +105,9 @@ line_and_others false front bytes style others nested = text_and_others bytes st
 pub IsWellNested-leading_texts : (ps : List Part) → IsWellNested (leading_texts ps)
 IsWellNested-leading_texts (Text bytes style ∷ ps) = line_and_others (list_any is_newline bytes) (before_first is_newline bytes) bytes style (leading_texts ps) (IsWellNested-leading_texts ps)
 IsWellNested-leading_texts _ = nothing refl
+
+pub ruleset text_pushed = (IsUtf8-encode, AreEnds-with_text_end, parts_from-with_text_end, IsWellNested-with_text)
+
+pub ruleset nested_parts = (settled_nested, IsWellNested-in_block, IsWellNested-em_doc, IsWellNested-path)
+
+pub ruleset nested_front = (IsWellNested-leading_texts)

@@ -5,12 +5,13 @@ use Rattle.std.specs.Char.{is_ascii_graphic, is_whitespace, is_not_whitespace}
 use Rattle.std.specs.Str.{chars, trim_end}
 use Rattle.std.proofs.Common.{ap, arith, ◌∙◌}
 use Rattle.std.proofs.lemmas.Bool.Decides.{nat_tests}
-use Rattle.std.proofs.lemmas.Str.{chars-IsAscii, encodes-chars, IsUtf8-from_ascii, IsUtf8-string_bytes}
+use Rattle.std.proofs.lemmas.Str.{chars-IsAscii, encodes-chars, IsUtf8-from_ascii, IsUtf8-string_bytes, encode_ascii}
 use Rattle.bpaf_doc.specs.Buffer.Parts.{ink}
 use Rattle.bpaf_doc.specs.Splitter.Chunks.{has_some}
 use Rattle.bpaf_doc.proofs.lemmas.Console.Ink.{trim-boundary, trim-cut}
 use Rattle.bpaf_doc.proofs.lemmas.Splitter.Pieces.{utf8_cut}
 use Rattle.bpaf_doc.proofs.lemmas.Console.Layout.Stretches.{trim_some}
+use Rattle.std.proofs.lemmas.List.{replicate-append-replicate}
 
 small : (b : ℕ) → is_ascii_graphic b ≡ true → b < 128
 small b h = grind (arith, nat_tests)
@@ -32,3 +33,5 @@ pub graphic_end : (text front : List ℕ) (b : ℕ) → text ≡ front ++ b ∷ 
 graphic_end text front b e u h = grind (arith, common_steps, utf8_cut front (b ∷ []), small b h, trim_some front (b ∷ []), one_ink b h, trim_one b h)
 
 pub ruleset trimmed_end = (graphic_end, trim-boundary, trim-cut, IsUtf8-string_bytes)
+
+pub ruleset pushed_blanks = (encode_ascii, replicate-append-replicate)

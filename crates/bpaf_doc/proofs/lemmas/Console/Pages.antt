@@ -1,16 +1,11 @@
 -- What a loop over the parts keeps of the page that it writes.
-use Rattle.std.specs.Prelude.{◌≡◌, ◌≢◌, ℕ, ◌+◌, ◌≤◌, Bool, true, false, ◌&&◌, ◌==◌, List, [], ◌∷◌, length, if◌then◌else◌, String, string_bytes, Result, IfOk}
-use Rattle.std.proofs.Common.{sym, ◌∙◌, ap, arith}
-use Rattle.std.proofs.lemmas.Bool.Decides.{nat_tests}
-use Rattle.bpaf_doc.specs.declared.buffer.Block.{Block}
-use Rattle.bpaf_doc.specs.declared.buffer.Style.{Style}
+use Rattle.std.specs.Prelude.{◌≡◌, ℕ, ◌+◌, ◌≤◌, Bool, false, List, ◌∷◌, length}
+use Rattle.std.proofs.Common.{arith}
 use Rattle.bpaf_doc.specs.declared.console.pairs.Pairs.{Pairs}
-use Rattle.bpaf_doc.specs.Buffer.Parts.{Part, Text}
-use Rattle.bpaf_doc.specs.Splitter.Chunks.{chunks_of}
-use Rattle.bpaf_doc.specs.Console.Exact.{finished}
-use Rattle.bpaf_doc.specs.Console.Steps.Hiding.{hides, hidden_after}
-use Rattle.bpaf_doc.specs.Console.Steps.Page.{Sheet, blank_sheet, text_put, opened, closed}
-use Rattle.bpaf_doc.specs.Console.Steps.Text.{is_adjacent, skips, pairs_after, start_put, end_put, part_put, parts_put, no_pairs, tab_stop_from, whole_page}
+use Rattle.bpaf_doc.specs.Buffer.Parts.{Part}
+use Rattle.bpaf_doc.specs.Console.Steps.Hiding.{hidden_after}
+use Rattle.bpaf_doc.specs.Console.Steps.Page.{Sheet, blank_sheet}
+use Rattle.bpaf_doc.specs.Console.Steps.Text.{pairs_after, part_put, parts_put, no_pairs, tab_stop_from, whole_page}
 
 -- The parts that are left, from this place on, make the page whole.
 pub record IsPageLeft (full : Bool) (document : List Part) (whole : Sheet) (index : ℕ) (pairs : Pairs) (hidden : ℕ) (parts : List Part) (page : Sheet) : Type 0 where

@@ -12,6 +12,7 @@ use Rattle.bpaf_doc.specs.Markdown.Steps.Page.{Marked, blank_text, with_new_line
 use Rattle.bpaf_doc.proofs.lemmas.Markdown.Cut.{by_weight, flags, item-flags, step-flags, code_next, item-code, step-code}
 use Rattle.bpaf_doc.proofs.lemmas.Markdown.Mind.{Agrees, Room, begins_is, after_empty_is, agrees_after, rooms_next, same_mono}
 use Rattle.bpaf_doc.proofs.lemmas.Markdown.Meets.{room_for, at_start, markdown_meets}
+use Rattle.bpaf_doc.proofs.lemmas.Markdown.Runs.{marked-append}
 
 -- ---- whether a code block is open
 
@@ -102,3 +103,5 @@ text_exact document full few = texts_same [] blank_text (shown_fragments full do
 -- the bound is that of a count of the code; each document meets it
 pub text_laws : (document : List Part) (full : Bool) → length document < 2 ^ 64 → IsMarkdownOf document full (markdown_page full document)
 text_laws document full few = markdown_meets document full (markdown_page full document) few (sym (text_exact document full few))
+
+pub ruleset written_text = (marked-append, text_exact, text_laws)

@@ -57,3 +57,5 @@ word_end_at bytes i j (c, t, h) = grind (arith, nat_tests, drop_at_char)
 pub past_newline_is : (r : Option (Bor (List ℕ))) (rest : Bor (List ℕ)) → IsLineEnd rest.now
     → MatchOption r ((back : List ℕ) → rest.now ≢ 10 ∷ back) (λ next. rest.now ≡ 10 ∷ next.now) → IsPastNewline rest.now (unwrap_or r rest).now
 past_newline_is r rest h1 h2 = grind arith
+
+pub ruleset line_cuts = (line_from_no_newline, line_before_newline)

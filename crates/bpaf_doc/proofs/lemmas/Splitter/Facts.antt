@@ -9,9 +9,10 @@ use Rattle.std.proofs.lemmas.List.Folds.{list_all-append}
 use Rattle.bpaf_doc.specs.Buffer.Parts.{ink}
 use Rattle.bpaf_doc.specs.Splitter.Chunks.{Chunk, chunk_ink, chunks_of}
 use Rattle.bpaf_doc.specs.Splitter.Promises.{IsGap, IsOneLine, IsPlace, IsSpelledOnce, IsText, StandInOrder, StandsFor, is_gap_byte}
-use Rattle.bpaf_doc.proofs.lemmas.Splitter.Spelling.{spells_its_chunks, only_its_chunks}
+use Rattle.bpaf_doc.proofs.lemmas.Splitter.Spelling.{spells_its_chunks, only_its_chunks, spells_in}
 use Rattle.bpaf_doc.proofs.lemmas.Splitter.Pieces.{Pieces, none, piece, pieces, stands_ink, IsUtf8-blank}
 use Rattle.bpaf_doc.proofs.lemmas.Splitter.Ink.{ink-nil, ink-append, ink_after_gap}
+use Rattle.bpaf_doc.proofs.lemmas.Splitter.FirstChunk.{chunks_of-plain}
 
 -- ---- ink
 
@@ -76,3 +77,5 @@ chunks_in_order text = in_order_of_pieces (pieces (spells_its_chunks text)) text
 
 pub spelled_once : (text : List ℕ) → IsSpelledOnce text
 spelled_once text = record { spelled = spells_its_chunks text; only = λ chunks s. only_its_chunks chunks text s }
+
+pub ruleset text_split = (spells_in, ink_of_chunks, one_line_chunks, chunks_in_order, chunks_of-plain)

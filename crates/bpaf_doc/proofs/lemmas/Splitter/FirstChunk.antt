@@ -100,3 +100,11 @@ closing_first text line rest next left e l t f p s = first_is (closing line rest
 pub closing_paragraph_first : (text line rest : List ℕ) (left : List Chunk) → text ≡ line ++ rest → IsLine line → IsTrue (starts line (codes "```")) → IsTrue (starts rest (codes "\n\n"))
     → left ≡ chunks_of rest → chunks_in Later text ≡ Raw line fence_weight ∷ left
 closing_paragraph_first text line rest left e l t f s = first_is (closing_paragraph line rest left refl e l t f (spelt rest left s))
+
+pub ruleset plain_chunks = (chunks_of-plain)
+
+pub ruleset after_newlines = (begins, begins_not, fence_first, before_code_first, paragraph_first)
+
+pub ruleset later_lines = (begins, begins_not, later_first, closing_first, closing_paragraph_first)
+
+pub ruleset plain_first = (blank_first, word_first)

@@ -9,8 +9,8 @@ use Rattle.std.proofs.Math.Utf8.{encode, encodes}
 use Rattle.std.proofs.lemmas.Bool.{and_parts, cases_lt, lt-ltb, le-ltb, eqb-true}
 use Rattle.std.proofs.lemmas.Bool.Decides.{nat_tests}
 use Rattle.std.proofs.lemmas.List.Folds.{list_all-append, list_all_more}
-use Rattle.std.proofs.lemmas.List.{take_more}
-use Rattle.std.proofs.lemmas.List.Sums.{sum_by-append, sum_by-cons}
+use Rattle.std.proofs.lemmas.List.{take_more, take_rest}
+use Rattle.std.proofs.lemmas.List.Sums.{sum_by-append, sum_by-cons, count_by-le-length}
 use Rattle.std.proofs.lemmas.Str.{chars_from_encodes}
 use Rattle.unicode_width.specs.Width.{char_width}
 use Rattle.unicode_width.proofs.Rules.{is_simple, width_or_zero, str_width-simple}
@@ -18,7 +18,7 @@ use Rattle.unicode_width.proofs.Computing.{unicode_width}
 use Rattle.bpaf_doc.specs.Splitter.Chunks.{IsWordEnd, columns, is_line_byte}
 use Rattle.bpaf_doc.specs.Splitter.Steps.Runs.{IsRunEnd, IsLettered, is_lettered, begins, letters}
 use Rattle.bpaf_doc.proofs.lemmas.Splitter.Printable.{each}
-use Rattle.bpaf_doc.proofs.lemmas.Splitter.Runs.{tested_front}
+use Rattle.bpaf_doc.proofs.lemmas.Splitter.Runs.{tested_front, line_ends, blank_ends}
 
 -- ---- characters
 
@@ -156,3 +156,5 @@ lettered_line_byte b h = grind (arith, nat_tests)
 -- a run of them
 pub lettered_run : (text : List ℕ) (end : ℕ) → end ≤ length text → IsLettered (take end text) → IsWordEnd (drop end text) → IsRunEnd text end
 lettered_run text end le h w = record { within = le; line = each is_lettered is_line_byte (take end text) lettered_line_byte h; word_end = w }
+
+pub ruleset lettered_ends = (count_by-le-length, take_rest, lettered_front, lettered_more, letters_more, lettered_run, line_ends, blank_ends)

@@ -45,3 +45,5 @@ wide_small b h = grind (arith, nat_tests)
 
 pub line_columns_are : (bytes : List ℕ) → list_all (is_in_range 0x20 0x7E) bytes ≡ true → length bytes ≡ columns bytes
 line_columns_are bytes h = grind (arith, chars-IsAscii, IsAscii-from_all, wide_small, AllPass-from_list_all, str_width-printable)
+
+pub ruleset printable_words = (printable_word, printable_columns, printable_cut)

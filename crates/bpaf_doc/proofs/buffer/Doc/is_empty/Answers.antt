@@ -1,6 +1,0 @@
-use Rattle.std.proofs.Common.{vec_len, arith}
-use Rattle.bpaf_doc.proofs.lemmas.Buffer.Ends.{length-parts_from}
-use Rattle.bpaf_doc.proofs.buffer.Doc.is_empty.Goals as goal
-
-pub returns : goal.returns
-returns g c = grind (arith, vec_len, length-parts_from)
