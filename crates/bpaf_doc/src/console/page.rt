@@ -10,7 +10,7 @@ ghost use Rattle.bpaf_doc.specs.Console.Exact.{request_at_start, request_met, wi
 ghost use Rattle.bpaf_doc.specs.Console.Steps.Hiding.{hides};
 ghost use Rattle.bpaf_doc.specs.Console.Steps.Page.{page_of, sheet_of, blank_sheet, on, text_put, opened, closed};
 ghost use Rattle.bpaf_doc.specs.Console.Steps.Page.{raw_put, wraps, has_no_room, room_made, lacks_newline};
-ghost use Rattle.bpaf_doc.specs.Console.Steps.Page.{lacks_blank_line, margin_pushed, margin_of, innermost};
+ghost use Rattle.bpaf_doc.specs.Console.Steps.Page.{lacks_blank_line, margin_pushed, margin_of};
 ghost use Rattle.bpaf_doc.specs.Console.Steps.Page.{IsWithinLine, DropsBlanks, IsPastLine, code_put};
 ghost use Rattle.bpaf_doc.specs.Console.Steps.Page.{columns_of, indent_of, request_of};
 
@@ -36,8 +36,8 @@ pub struct Page<B: Allocator> {
     column: usize,
     width: usize,
     tab_stop: usize,
-    // Each adds at most 30 to the one below it, so that no document has one that a `u128` does not hold.
-    margins: Vec<u128, B>,
+    // Each adds at most 30 to the one below it, so that no document has one that a `usize` does not hold.
+    margins: Vec<usize, B>,
     asked: Asked,
     // An item's body starts at the next text.
     at_body: bool,
@@ -355,21 +355,15 @@ impl<B: Allocator> Page<B> {
         ensures { OnOk result (sheet_of self.new ≡ margin_pushed indent (sheet_of self.old)) }
     {
         if let Some(indent) = indent {
-            let margin = self.innermost().saturating_add(indent as u128);
+            let margin = self.margin().saturating_add(indent);
             self.margins.push(margin)?;
         }
         Ok(())
     }
 
-    // The margin in force: the innermost one, as a number of columns.
+    // The margin in force: the innermost one.
     fn margin(&self) -> usize
         ensures { result ≡ margin_of (sheet_of self.now) }
-    {
-        usize::try_from(self.innermost()).unwrap_or(usize::MAX)
-    }
-
-    fn innermost(&self) -> u128
-        ensures { result ≡ innermost (sheet_of self.now) }
     {
         self.margins.last().copied().unwrap_or(0)
     }

@@ -1,6 +1,6 @@
 -- A console page, step by step, as the private functions leave it: the page so far of the exact rules, and what the code carries
 -- beside it. Nothing here has to be believed.
-use Rattle.std.specs.Prelude.{◌≡◌, ℕ, ◌+◌, ◌-◌, ◌^◌, ◌<◌, ◌≤◌, ◌==◌, Bool, false, not, ◌&&◌, List, [], ◌∷◌, ◌++◌, Option, Some, None, unwrap_or, length, take, min, nat_eq, nat_lt, string_bytes, if◌then◌else◌}
+use Rattle.std.specs.Prelude.{◌≡◌, ℕ, ◌+◌, ◌-◌, ◌<◌, ◌≤◌, ◌==◌, Bool, false, not, ◌&&◌, List, [], ◌∷◌, ◌++◌, Option, Some, None, unwrap_or, length, take, nat_eq, nat_lt, string_bytes, if◌then◌else◌}
 use Rattle.std.specs.List.{slice_get, ends_with}
 use Rattle.std.specs.Str.{trim_end, bytes_eq}
 use Rattle.bpaf_doc.specs.declared.buffer.Block.TheVariants as blocks
@@ -36,12 +36,9 @@ blank_sheet width tab_stop = record { page = empty_page; width = width; tab_stop
 abbrev pub on : (PageSoFar → PageSoFar) → Sheet → Sheet
 on step s = record s { page = step s.page }
 
--- the innermost margin, and that as columns: the margin in force
-abbrev pub innermost : Sheet → ℕ
-innermost s = unwrap_or (slice_get s.margins (length s.margins - 1)) 0
-
+-- the innermost margin, which is in force
 abbrev pub margin_of : Sheet → ℕ
-margin_of s = saturated (innermost s)
+margin_of s = unwrap_or (slice_get s.margins (length s.margins - 1)) 0
 
 -- some text stands, and the next stands right behind it: the line has room, nothing is asked for, and no margin is missing
 pub record IsWithinLine (s : Sheet) : Type 0 where
@@ -125,7 +122,7 @@ indent_of _ tab_stop adjacent = None
 
 abbrev pub margin_pushed : Option ℕ → Sheet → Sheet
 margin_pushed None s = s
-margin_pushed (Some indent) s = record s { margins = s.margins ++ min (innermost s + indent) (2 ^ 128 - 1) ∷ [] }
+margin_pushed (Some indent) s = record s { margins = s.margins ++ saturated (margin_of s + indent) ∷ [] }
 
 unfoldable pub opened : Block → Bool → Sheet → Sheet
 opened b adjacent s = on (start_put b) (margin_pushed (indent_of b s.tab_stop adjacent) s)

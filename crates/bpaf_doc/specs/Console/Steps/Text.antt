@@ -1,5 +1,5 @@
--- A console text, part by part, as the private functions leave it. Nothing here has to be believed: that such a text is a
--- layout of its document, with the console's ink, is proved.
+-- A console text, part by part, as the private functions leave it. Nothing here has to be believed: that such a text is the exact
+-- page is proved.
 use Rattle.std.specs.Prelude.{ℕ, ◌+◌, ◌-◌, ◌==◌, Bool, true, false, ◌&&◌, List, [], ◌∷◌, Option, Some, drop, max, nat_le, nat_lt, if◌then◌else◌}
 use Rattle.std.specs.List.{slice_get, position_or_len}
 use Rattle.bpaf_doc.specs.declared.buffer.Block.TheVariants as blocks

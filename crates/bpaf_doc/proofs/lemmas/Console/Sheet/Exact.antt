@@ -63,36 +63,36 @@ kept_width : (b : Block) (adjacent : Bool) (s : Sheet) → ((page.opened b adjac
 unfolding page.opened page.closed
 kept_width b adjacent s = grind arith
 
-module _ (full : Bool) (document : List Part) (width : ℕ) (is_small : length document < 2 ^ 64) where
-  text_part : (index : ℕ) (rest : List Part) (bytes : List ℕ) (style : Style) (pairs : Pairs) (hidden : ℕ) (s : Sheet) → Walk full document index (Text bytes style ∷ rest) pairs hidden s
+module _ (full : Bool) (document : List Part) (width : ℕ) (few : length document < 2 ^ 59) where
+  text_part : (index : ℕ) (rest : List Part) (bytes : List ℕ) (style : Style) (pairs : Pairs) (hidden : ℕ) (s : Sheet) → Walk full document few index (Text bytes style ∷ rest) pairs hidden s
       → s.width ≡ width → (whole.part_put full document index pairs hidden (Text bytes style) s).page ≡ exact.part_put full width document index (Text bytes style) s.page
   text_part index rest bytes style pairs hidden s w wide =
       by_test (λ x. x.page ≡ exact.part_put full width document index (Text bytes style) s.page) (hidden == 0) (page.text_put full (chunks_of bytes) s) s
-      (λ h. rw (wide, text_level full document index rest bytes style pairs hidden s w, shown_is full document index rest bytes style pairs hidden s w h)
+      (λ h. rw (wide, text_level full document few index rest bytes style pairs hidden s w, shown_is full document few index rest bytes style pairs hidden s w h)
       (text_is full width (exact.saturated (margin document index)) (chunks_of bytes) s.page (text_good bytes)))
-      (λ h. rw (hidden_is full document index rest bytes style pairs hidden s w h) refl)
+      (λ h. rw (hidden_is full document few index rest bytes style pairs hidden s w h) refl)
 
-  part_same : (index : ℕ) (rest : List Part) (part : Part) (pairs : Pairs) (hidden : ℕ) (s : Sheet) → Walk full document index (part ∷ rest) pairs hidden s → s.width ≡ width
+  part_same : (index : ℕ) (rest : List Part) (part : Part) (pairs : Pairs) (hidden : ℕ) (s : Sheet) → Walk full document few index (part ∷ rest) pairs hidden s → s.width ≡ width
       → (whole.part_put full document index pairs hidden part s).page ≡ exact.part_put full width document index part s.page
   part_same index rest (Text bytes style) pairs hidden s w wide = text_part index rest bytes style pairs hidden s w wide
-  part_same index rest (Start b) pairs hidden s w wide = grind (arith, start_skips full document is_small index rest b pairs hidden s w, opened_page)
-  part_same index rest (End b) pairs hidden s w wide = grind (arith, end_skips full document is_small index rest b pairs hidden s w, closed_page)
+  part_same index rest (Start b) pairs hidden s w wide = grind (arith, start_skips full document few index rest b pairs hidden s w, opened_page)
+  part_same index rest (End b) pairs hidden s w wide = grind (arith, end_skips full document few index rest b pairs hidden s w, closed_page)
 
   same_width : (index : ℕ) (part : Part) (pairs : Pairs) (hidden : ℕ) (s : Sheet) → (whole.part_put full document index pairs hidden part s).width ≡ s.width
   same_width index (Text bytes style) pairs hidden s = grind arith
   same_width index (Start b) pairs hidden s = grind (arith, kept_width b (whole.is_adjacent b (whole.pairs_at document index b pairs)) s)
   same_width index (End b) pairs hidden s = grind (arith, kept_width b false s)
 
-  parts_same : (parts : List Part) (index : ℕ) (pairs : Pairs) (hidden : ℕ) (s : Sheet) → Walk full document index parts pairs hidden s → s.width ≡ width
+  parts_same : (parts : List Part) (index : ℕ) (pairs : Pairs) (hidden : ℕ) (s : Sheet) → Walk full document few index parts pairs hidden s → s.width ≡ width
       → (whole.parts_put full document index pairs hidden parts s).page ≡ exact.parts_put full width document (enumerate_from index parts) s.page
   parts_same [] index pairs hidden s w wide = refl
   parts_same (part ∷ parts) index pairs hidden s w wide =
       parts_same parts (index + 1) (whole.pairs_after document index pairs part) (hidden_after full hidden part) (whole.part_put full document index pairs hidden part s)
-      (walk_part full document is_small index parts part pairs hidden s w) (same_width index part pairs hidden s ∙ wide)
+      (walk_part full document few index parts part pairs hidden s w) (same_width index part pairs hidden s ∙ wide)
       ∙ ap (exact.parts_put full width document (enumerate_from (index + 1) parts)) (part_same index parts part pairs hidden s w wide)
 
   text_page : console_text full width document ≡ console_page full width document
-  text_page = ap exact.finished (parts_same document 0 whole.no_pairs 0 (blank_sheet width (whole.tab_stop_from 0 false 0 document)) (walk_begins full document is_small width) refl)
+  text_page = ap exact.finished (parts_same document 0 whole.no_pairs 0 (blank_sheet width (whole.tab_stop_from 0 false 0 document)) (walk_begins full document few width) refl)
 
 -- what the exact page keeps to, the answer of a call that writes it does
 pub IfOk-page : (P : List ℕ → Type 0) {Z E : Type 0} (full : Bool) (width : ℕ) (document : List Part) → length document < 2 ^ 59

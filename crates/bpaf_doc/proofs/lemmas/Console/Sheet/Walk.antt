@@ -38,7 +38,7 @@ turned m ms = reverse-append (m ∷ []) ms
 length_turned : (m : ℕ) (ms : List ℕ) → length (reverse (m ∷ ms)) - 1 ≡ length (reverse ms)
 length_turned m ms = let a : length (reverse (m ∷ ms)) ≡ length (m ∷ ms) = length-reverse (m ∷ ms) in let b : length (reverse ms) ≡ length ms = length-reverse ms in omega arith
 
-pub top_innermost : (s : Sheet) (stack : List ℕ) → s.margins ≡ reverse stack → page.innermost s ≡ top stack
+pub top_innermost : (s : Sheet) (stack : List ℕ) → s.margins ≡ reverse stack → page.margin_of s ≡ top stack
 top_innermost s stack e = grind (arith, length_turned, turned, get_last)
 
 take_front : (xs : List ℕ) (m : ℕ) → take (length xs) (xs ++ m ∷ []) ≡ xs
@@ -79,7 +79,10 @@ take_next (p ∷ parts) zero part rest e = grind arith
 take_next [] (suc k) part rest e = grind arith
 take_next [] zero part rest e = grind arith
 
-module _ (full : Bool) (document : List Part) where
+small : (document : List Part) → length document < 2 ^ 59 → length document < 2 ^ 64
+small document few = omega arith
+
+module _ (full : Bool) (document : List Part) (few : length document < 2 ^ 59) where
   -- these parts are left, from this place on
   pub record Walk (index : ℕ) (parts : List Part) (pairs : Pairs) (hidden : ℕ) (s : Sheet) : Type 0 where
     pub here : drop index document ≡ parts
@@ -90,6 +93,10 @@ module _ (full : Bool) (document : List Part) where
     pub open_all : full ≡ true → hidden ≡ 0
 
   module _ (index : ℕ) (part : Part) (rest : List Part) (pairs : Pairs) (hidden : ℕ) (s : Sheet) (w : Walk index (part ∷ rest) pairs hidden s) where
+    -- the margin fits a usize
+    fits : margin document index ≤ 18446744073709551615
+    fits = let n : length (drop index document) ≡ length (part ∷ rest) = ap length w.here in omega (arith, length-drop index document, margin-le document index, few)
+
     there : slice_get document index ≡ Some part
     there = get_from_drop document index part rest w.here
 
@@ -113,7 +120,8 @@ module _ (full : Bool) (document : List Part) where
   module _ (index : ℕ) (rest : List Part) (bytes : List ℕ) (style : Style) (pairs : Pairs) (hidden : ℕ) (s : Sheet) (w : Walk index (Text bytes style ∷ rest) pairs hidden s) where
     pub text_level : page.margin_of s ≡ saturated (margin document index)
     text_level =
-        ap saturated (top_innermost s (stack_at document index) w.margins ∙ sym (margin-level document index (Text bytes style) rest w.here (shift_at-text document index bytes style)))
+        top_innermost s (stack_at document index) w.margins ∙ sym (margin-level document index (Text bytes style) rest w.here (shift_at-text document index bytes style))
+        ∙ (let in_range : margin document index ≤ 18446744073709551615 = fits index (Text bytes style) rest pairs hidden s w in omega arith)
 
     walk_text : (t : Sheet) → t.tab_stop ≡ s.tab_stop → t.margins ≡ s.margins → Walk (index + 1) rest pairs (hidden_after full hidden (Text bytes style)) t
     walk_text t tab margins =
@@ -133,7 +141,7 @@ module _ (full : Bool) (document : List Part) where
 
   -- what the start of a block does to the stack
   opened_margins : (index : ℕ) (b : Block) (adjacent : Bool) (s : Sheet) (stack : List ℕ) → s.margins ≡ reverse stack → s.tab_stop ≡ tab_stop document
-      → adjacent ≡ (is_section4_start (Start b) && skips_pair document index) → ((n : ℕ) → part_shift document index (Start b) ≡ Indent n → top stack + n ≤ 2 ^ 128 - 1)
+      → adjacent ≡ (is_section4_start (Start b) && skips_pair document index) → ((n : ℕ) → part_shift document index (Start b) ≡ Indent n → top stack + n ≤ 18446744073709551615)
       → (page.opened b adjacent s).margins ≡ reverse (shifted (part_shift document index (Start b)) stack)
   unfolding page.opened
   opened_margins index b adjacent s stack m t a fits = grind (arith, common_steps, top_innermost, pushed_margins, tab_stop-le)
@@ -147,24 +155,24 @@ module _ (full : Bool) (document : List Part) where
   closed_keeps b s = (refl, refl)
 
   -- a start
-  module _ (is_small : length document < 2 ^ 64) (index : ℕ) (rest : List Part) (b : Block) (pairs : Pairs) (hidden : ℕ) (s : Sheet) (w : Walk index (Start b ∷ rest) pairs hidden s) where
+  module _ (index : ℕ) (rest : List Part) (b : Block) (pairs : Pairs) (hidden : ℕ) (s : Sheet) (w : Walk index (Start b ∷ rest) pairs hidden s) where
     abbrev next : Pairs
     next = whole.pairs_at document index b pairs
 
     start_known : KnowsPairs document (index + 1) next × (whole.is_adjacent b next ≡ (is_section4_start (Start b) && skips_pair document index))
-    start_known = knows_start document is_small index b pairs (there index (Start b) rest pairs hidden s w) w.knows
+    start_known = knows_start document (small document few) index b pairs (there index (Start b) rest pairs hidden s w) w.knows
 
     pub start_skips : whole.skips next index b ≡ is_skipped document index
-    start_skips = skips_is document is_small index b next start_known.0 (inl (there index (Start b) rest pairs hidden s w))
+    start_skips = skips_is document (small document few) index b next start_known.0 (inl (there index (Start b) rest pairs hidden s w))
 
     walk_start : is_skipped document index ≡ false → Walk (index + 1) rest next (hidden_after full hidden (Start b)) (page.opened b (whole.is_adjacent b next) s)
     walk_start e =
         let shift : shift_at document index (Start b) ≡ part_shift document index (Start b) = shift_at-shown document index (Start b) e in
-        let inside : index < length document = (let n : length (drop index document) ≡ length (Start b ∷ rest) = ap length w.here in omega (arith, length-drop index document)) in
-        let fits : (n : ℕ) → part_shift document index (Start b) ≡ Indent n → top (stack_at document index) + n ≤ 2 ^ 128 - 1 = λ n i.
-        (let is : margin document index ≡ top (stack_at document index) + n = margin-indent document index (Start b) rest w.here n (shift ∙ i) in omega (arith, margin-le document index, inside)) in
+        let most : margin document index ≤ 18446744073709551615 = fits index (Start b) rest pairs hidden s w in
+        let within : (n : ℕ) → part_shift document index (Start b) ≡ Indent n → top (stack_at document index) + n ≤ 18446744073709551615 = λ n i.
+        (let is : margin document index ≡ top (stack_at document index) + n = margin-indent document index (Start b) rest w.here n (shift ∙ i) in omega arith) in
         walk_on index (Start b) rest pairs hidden s w next (page.opened b (whole.is_adjacent b next) s) start_known.0 (opened_tab b (whole.is_adjacent b next) s)
-        (opened_margins index b (whole.is_adjacent b next) s (stack_at document index) w.margins w.tab start_known.1 fits ∙ ap (λ (x : Shift). reverse (shifted x (stack_at document index))) (sym shift))
+        (opened_margins index b (whole.is_adjacent b next) s (stack_at document index) w.margins w.tab start_known.1 within ∙ ap (λ (x : Shift). reverse (shifted x (stack_at document index))) (sym shift))
 
     walk_any_start : Walk (index + 1) rest next (hidden_after full hidden (Start b)) (whole.start_put next index b s)
     walk_any_start =
@@ -172,12 +180,12 @@ module _ (full : Bool) (document : List Part) where
         (λ e. walk_still index (Start b) rest pairs hidden s w next s start_known.0 refl refl (shift_at-skipped document index (Start b) (sym start_skips ∙ e))) (λ e. walk_start (sym start_skips ∙ e))
 
   -- an end
-  module _ (is_small : length document < 2 ^ 64) (index : ℕ) (rest : List Part) (b : Block) (pairs : Pairs) (hidden : ℕ) (s : Sheet) (w : Walk index (End b ∷ rest) pairs hidden s) where
+  module _ (index : ℕ) (rest : List Part) (b : Block) (pairs : Pairs) (hidden : ℕ) (s : Sheet) (w : Walk index (End b ∷ rest) pairs hidden s) where
     end_knows : KnowsPairs document (index + 1) pairs
     end_knows = grind (arith, KnowsPairs-more document index pairs, there index (End b) rest pairs hidden s w)
 
     pub end_skips : whole.skips pairs index b ≡ is_skipped document index
-    end_skips = skips_is document is_small index b pairs end_knows (inr (there index (End b) rest pairs hidden s w))
+    end_skips = skips_is document (small document few) index b pairs end_knows (inr (there index (End b) rest pairs hidden s w))
 
     walk_end : is_skipped document index ≡ false → Walk (index + 1) rest pairs (hidden_after full hidden (End b)) (page.closed b s)
     walk_end e = grind (arith, walk_on index (End b) rest pairs hidden s w pairs (page.closed b s), end_knows, closed_keeps b s, popped_margins s.margins (stack_at document index) w.margins, shift_at-shown document index (End b) e)
@@ -199,14 +207,14 @@ module _ (full : Bool) (document : List Part) where
         same_walk (End blocks.ItemTerm ∷ parts) widest in_term term = same_walk parts (whole.wider_term widest term) false term
         same_walk (_ ∷ parts) widest in_term term = same_walk parts widest in_term term
 
-  pub walk_begins : length document < 2 ^ 64 → (width : ℕ) → Walk 0 document whole.no_pairs 0 (blank_sheet width (whole.tab_stop_from 0 false 0 document))
-  walk_begins is_small width = grind (arith, tab_is, stack_at-none, knows_none, Counts-nil)
+  pub walk_begins : (width : ℕ) → Walk 0 document whole.no_pairs 0 (blank_sheet width (whole.tab_stop_from 0 false 0 document))
+  walk_begins width = grind (arith, tab_is, stack_at-none, knows_none, Counts-nil)
 
   -- any part
-  pub walk_part : length document < 2 ^ 64 → (index : ℕ) (rest : List Part) (part : Part) (pairs : Pairs) (hidden : ℕ) (s : Sheet) → Walk index (part ∷ rest) pairs hidden s
+  pub walk_part : (index : ℕ) (rest : List Part) (part : Part) (pairs : Pairs) (hidden : ℕ) (s : Sheet) → Walk index (part ∷ rest) pairs hidden s
       → Walk (index + 1) rest (whole.pairs_after document index pairs part) (hidden_after full hidden part) (whole.part_put full document index pairs hidden part s)
-  walk_part is_small index rest (Text bytes style) pairs hidden s w =
+  walk_part index rest (Text bytes style) pairs hidden s w =
       by_test (Walk (index + 1) rest pairs (hidden_after full hidden (Text bytes style))) (hidden == 0) _ _
       (λ h. walk_text index rest bytes style pairs hidden s w (page.text_put full (chunks_of bytes) s) refl refl) (λ h. walk_text index rest bytes style pairs hidden s w s refl refl)
-  walk_part is_small index rest (Start b) pairs hidden s w = walk_any_start is_small index rest b pairs hidden s w
-  walk_part is_small index rest (End b) pairs hidden s w = walk_any_end is_small index rest b pairs hidden s w
+  walk_part index rest (Start b) pairs hidden s w = walk_any_start index rest b pairs hidden s w
+  walk_part index rest (End b) pairs hidden s w = walk_any_end index rest b pairs hidden s w
