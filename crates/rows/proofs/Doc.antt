@@ -6,6 +6,7 @@ mod ConsoleRefused
 mod Fragments
 mod Html
 mod HtmlPages
+mod Snippets
 mod HtmlExamples
 mod MarkdownPages
 mod MarkdownExamples

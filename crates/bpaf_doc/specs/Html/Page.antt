@@ -7,7 +7,8 @@ use Rattle.bpaf_doc.specs.declared.buffer.Block.{Block}
 use Rattle.bpaf_doc.specs.declared.buffer.Block.TheVariants.{Header, Section2, Section3, Section4, ItemTerm, ItemBody, DefinitionList, Block as Plain}
 use Rattle.bpaf_doc.specs.Splitter.Chunks.{Raw, Paragraph, LineBreak, is_inked, is_raw, is_line_byte}
 use Rattle.bpaf_doc.specs.Buffer.Parts.{Part}
-use Rattle.bpaf_doc.specs.Html.Fragments.{Fragment, TextStart, Shown, TextEnd, Start, End, shows, shown_fragments}
+use Rattle.bpaf_doc.specs.Html.Fragments.{Fragment, Shown, Start, End, shows, shown_fragments}
+use Rattle.bpaf_doc.specs.Snippets.{Snippet, Put, Of, fragments_in, is_mark_or_fragment, styled_by, Touch}
 
 -- `erased`, from inside or from outside of a run
 abbrev pub erased_from : Bool → List ℕ → List ℕ
@@ -82,26 +83,33 @@ fragment_text _ = []
 abbrev pub html_text : List Part → Bool → List ℕ
 html_text document full = flat_map fragment_text (shown_fragments full document)
 
+-- what is put round the texts
+pub data HtmlMark : Type 0 where
+  Open : Element → HtmlMark
+  Close : Element → HtmlMark
+  Break : HtmlMark
+  Newline : HtmlMark
+
+abbrev pub mark_text : HtmlMark → List ℕ
+mark_text (Open e) = opening_tag e
+mark_text (Close e) = closing_tag e
+mark_text Break = codes "<br>"
+mark_text Newline = codes "\n"
+
 -- what an answer is cut into: a tag, `<br>`, a newline, or a fragment of the document
-pub data HtmlSnippet : Type 0 where
-  Open : Element → HtmlSnippet
-  Close : Element → HtmlSnippet
-  Break : HtmlSnippet
-  Newline : HtmlSnippet
-  Of : Fragment → HtmlSnippet
+abbrev pub HtmlSnippet : Type 0
+HtmlSnippet = Snippet HtmlMark
 
 abbrev pub snippet_text : HtmlSnippet → List ℕ
-snippet_text (Open e) = opening_tag e
-snippet_text (Close e) = closing_tag e
-snippet_text Break = codes "<br>"
-snippet_text Newline = codes "\n"
+snippet_text (Put mark) = mark_text mark
 snippet_text (Of fragment) = fragment_text fragment
 
--- the snippets without the tags, `<br>` and newlines
-abbrev pub fragments_in : List HtmlSnippet → List Fragment
-fragments_in [] = []
-fragments_in (Of fragment ∷ snippets) = fragment ∷ fragments_in snippets
-fragments_in (_ ∷ snippets) = fragments_in snippets
+-- the tags of these elements
+abbrev pub open_each : List Element → List HtmlSnippet
+open_each elements = map (λ e. Put (Open e)) elements
+
+abbrev pub close_each : List Element → List HtmlSnippet
+close_each elements = map (λ e. Put (Close e)) elements
 
 -- a Paragraph, a LineBreak or a Header mark
 abbrev pub asks_break : Fragment → Bool
@@ -112,7 +120,7 @@ asks_break (End Header) = true
 asks_break _ = false
 
 abbrev pub is_break : HtmlSnippet → Bool
-is_break Break = true
+is_break (Put Break) = true
 is_break _ = false
 
 -- the elements round a text of a style, from the outside in
@@ -129,18 +137,20 @@ is_style_element B = true
 is_style_element I = true
 is_style_element _ = false
 
--- a tag of tt, b or i, or a fragment
-abbrev pub is_style_tag_or_fragment : HtmlSnippet → Bool
-is_style_tag_or_fragment (Open e) = is_style_element e
-is_style_tag_or_fragment (Close e) = is_style_element e
-is_style_tag_or_fragment (Of fragment) = true
-is_style_tag_or_fragment _ = false
+-- a tag of tt, b or i, and one of another element
+abbrev pub is_style_tag : HtmlMark → Bool
+is_style_tag (Open e) = is_style_element e
+is_style_tag (Close e) = is_style_element e
+is_style_tag _ = false
+
+abbrev pub is_block_tag : HtmlMark → Bool
+is_block_tag (Open e) = not (is_style_element e)
+is_block_tag (Close e) = not (is_style_element e)
+is_block_tag _ = false
 
 -- each text opens its style's tags before its chunks and closes them after
 abbrev pub styled_snippets : Fragment → List HtmlSnippet
-styled_snippets (TextStart style) = Of (TextStart style) ∷ map Open (style_elements style)
-styled_snippets (TextEnd style) = map Close (reverse (style_elements style)) ++ Of (TextEnd style) ∷ []
-styled_snippets fragment = Of fragment ∷ []
+styled_snippets fragment = styled_by (λ style. map Open (style_elements style)) (λ style. map Close (reverse (style_elements style))) fragment
 
 abbrev pub is_definition_list : Block → Bool
 is_definition_list DefinitionList = true
@@ -158,13 +168,6 @@ block_elements in_list DefinitionList = Dl ∷ []
 block_elements in_list Plain = P ∷ []
 block_elements in_list _ = []
 
--- a tag of a block, or a fragment
-abbrev pub is_block_tag_or_fragment : HtmlSnippet → Bool
-is_block_tag_or_fragment (Open e) = not (is_style_element e)
-is_block_tag_or_fragment (Close e) = not (is_style_element e)
-is_block_tag_or_fragment (Of fragment) = true
-is_block_tag_or_fragment _ = false
-
 abbrev pub is_mark : Fragment → Bool
 is_mark (Start b) = true
 is_mark (End b) = true
@@ -176,7 +179,7 @@ pub data HasBlockTags : Bool → List Fragment → List HtmlSnippet → Type 0 w
   fragment : {in_list : Bool} {fragments : List Fragment} {snippets : List HtmlSnippet} (p : Fragment) → is_mark p ≡ false → fragments ≡ p ∷ [] → snippets ≡ Of p ∷ [] → HasBlockTags in_list fragments snippets
   enclosed : {in_list : Bool} {fragments : List Fragment} {snippets : List HtmlSnippet} (b : Block) (inner : List Fragment) (held : List HtmlSnippet)
       → fragments ≡ Start b ∷ (inner ++ End b ∷ [])
-      → snippets ≡ Of (Start b) ∷ (map Open (block_elements in_list b) ++ held ++ map Close (block_elements in_list b) ++ Of (End b) ∷ [])
+      → snippets ≡ Of (Start b) ∷ (open_each (block_elements in_list b) ++ held ++ close_each (block_elements in_list b) ++ Of (End b) ∷ [])
       → HasBlockTags (is_definition_list b) inner held → HasBlockTags in_list fragments snippets
   joined : {in_list : Bool} {fragments : List Fragment} {snippets : List HtmlSnippet} (front back : List Fragment) (tags more : List HtmlSnippet)
       → fragments ≡ front ++ back → snippets ≡ tags ++ more → HasBlockTags in_list front tags → HasBlockTags in_list back more → HasBlockTags in_list fragments snippets
@@ -195,12 +198,11 @@ pub record IsHtmlOf (document : List Part) (full : Bool) (answer : List ℕ) : T
   pub breaks : (before between after : List HtmlSnippet) (a b : Fragment) → cut ≡ before ++ Of a ∷ (between ++ Of b ∷ after)
       → IsTrue (shows is_inked a) → IsTrue (shows is_inked b) → IsTrue (list_any asks_break (fragments_in between)) → IsTrue (list_any is_break between)
   -- Raw chunks that follow one another in a text touch
-  pub touching : (before between after : List HtmlSnippet) (a b : Fragment) → cut ≡ before ++ Of a ∷ (between ++ Of b ∷ after)
-      → IsTrue (shows is_raw a) → IsTrue (shows is_raw b) → fragments_in between ≡ [] → between ≡ []
+  pub touching : Touch (shows is_raw) cut
   -- the tags of the blocks stand round what the blocks hold
-  pub tags : HasBlockTags false (shown_fragments full document) (filter is_block_tag_or_fragment cut)
+  pub tags : HasBlockTags false (shown_fragments full document) (filter (is_mark_or_fragment is_block_tag) cut)
   -- just the tags of its style stand round the chunks of each text
-  pub styles : filter is_style_tag_or_fragment cut ≡ flat_map styled_snippets (shown_fragments full document)
+  pub styles : filter (is_mark_or_fragment is_style_tag) cut ≡ flat_map styled_snippets (shown_fragments full document)
 
 -- what follows an answer where the style sheet is asked for
 abbrev pub style_sheet : List ℕ

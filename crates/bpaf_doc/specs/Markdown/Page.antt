@@ -6,7 +6,8 @@ use Rattle.bpaf_doc.specs.declared.buffer.Style.TheVariants.{Text, Emphasis, Lit
 use Rattle.bpaf_doc.specs.declared.buffer.Block.TheVariants.{Header, Section3, Section4, ItemTerm, ItemBody, DefinitionList, Mono}
 use Rattle.bpaf_doc.specs.Splitter.Chunks.{Raw, starts, is_raw, is_ordinary, is_code_line, is_whole_line, is_paragraph, is_line_break}
 use Rattle.bpaf_doc.specs.Buffer.Parts.{Part}
-use Rattle.bpaf_doc.specs.Html.Fragments.{Fragment, TextStart, Shown, TextEnd, Start, End, shows, shown_fragments}
+use Rattle.bpaf_doc.specs.Html.Fragments.{Fragment, Shown, TextEnd, Start, End, shows, shown_fragments}
+use Rattle.bpaf_doc.specs.Snippets.{Snippet, Put, Of, fragments_in, is_mark_or_fragment, styled_by, Touch}
 
 -- what f gives at each place of xs, from what stands before it, it, and what stands after it
 abbrev pub flat_map_places_from : {X Y : Type 0} → (List X → X → List X → List Y) → List X → List X → List Y
@@ -46,15 +47,8 @@ mark_text Blank = codes " "
 mark_text Newline = codes "\n"
 
 -- what an answer is cut into: a mark, or a fragment of the document
-pub data MarkdownSnippet : Type 0 where
-  Put : Mark → MarkdownSnippet
-  Of : Fragment → MarkdownSnippet
-
--- the snippets without the marks
-abbrev pub fragments_in : List MarkdownSnippet → List Fragment
-fragments_in [] = []
-fragments_in (Of fragment ∷ snippets) = fragment ∷ fragments_in snippets
-fragments_in (Put mark ∷ snippets) = fragments_in snippets
+abbrev pub MarkdownSnippet : Type 0
+MarkdownSnippet = Snippet Mark
 
 abbrev pub is_mono_start : Fragment → Bool
 is_mono_start (Start Mono) = true
@@ -133,10 +127,6 @@ is_heading Dash = true
 is_heading LongDash = true
 is_heading _ = false
 
-abbrev pub is_heading_or_fragment : MarkdownSnippet → Bool
-is_heading_or_fragment (Put mark) = is_heading mark
-is_heading_or_fragment (Of fragment) = true
-
 -- the marks round a text of a style, from the outside in
 abbrev pub style_marks : Style → List Mark
 style_marks Text = []
@@ -147,19 +137,13 @@ style_marks Invalid = Bold ∷ []
 
 -- each text has its style's marks before its chunks and, in the other order, after them
 abbrev pub styled_snippets : Fragment → List MarkdownSnippet
-styled_snippets (TextStart style) = Of (TextStart style) ∷ map Put (style_marks style)
-styled_snippets (TextEnd style) = map Put (reverse (style_marks style)) ++ Of (TextEnd style) ∷ []
-styled_snippets fragment = Of fragment ∷ []
+styled_snippets fragment = styled_by style_marks (λ style. reverse (style_marks style)) fragment
 
 abbrev pub is_style_mark : Mark → Bool
 is_style_mark Italic = true
 is_style_mark Bold = true
 is_style_mark Tick = true
 is_style_mark _ = false
-
-abbrev pub is_style_mark_or_fragment : MarkdownSnippet → Bool
-is_style_mark_or_fragment (Put mark) = is_style_mark mark
-is_style_mark_or_fragment (Of fragment) = true
 
 -- the text of the snippets that follow others
 abbrev pub text_after : List MarkdownSnippet → List MarkdownSnippet → List ℕ
@@ -199,9 +183,9 @@ pub record IsMarkdownOf (document : List Part) (full : Bool) (answer : List ℕ)
   pub spelling : answer ≡ flat_map_places snippet_text cut
   pub fragments : fragments_in cut ≡ shown_fragments full document
   -- the heading and list marks are those of the block marks, in order among the fragments
-  pub headings : filter is_heading_or_fragment cut ≡ flat_map_places headed_snippets (shown_fragments full document)
+  pub headings : filter (is_mark_or_fragment is_heading) cut ≡ flat_map_places headed_snippets (shown_fragments full document)
   -- just the marks of its style stand round the chunks of each text
-  pub styles : filter is_style_mark_or_fragment cut ≡ flat_map styled_snippets (shown_fragments full document)
+  pub styles : filter (is_mark_or_fragment is_style_mark) cut ≡ flat_map styled_snippets (shown_fragments full document)
   -- at a code line more fences were opened than closed
   pub fenced : (before after : List MarkdownSnippet) (a : Fragment) → cut ≡ before ++ Of a ∷ after → IsTrue (shows is_code_line a) → closed_fences before < opened_fences before
   -- at an ordinary Raw chunk, and at the end of a text, as many
@@ -210,8 +194,7 @@ pub record IsMarkdownOf (document : List Part) (full : Bool) (answer : List ℕ)
   pub lines : (before after : List MarkdownSnippet) (a : Fragment) → cut ≡ before ++ Of a ∷ after → IsTrue (shows is_whole_line a)
       → EndsInBlankLine (text_after [] before) × IsTrue (starts (text_after (before ++ Of a ∷ []) after) (codes "\n"))
   -- between ordinary Raw chunks that follow one another in a text stands nothing
-  pub touching : (before between after : List MarkdownSnippet) (a b : Fragment) → cut ≡ before ++ Of a ∷ (between ++ Of b ∷ after)
-      → IsTrue (shows is_ordinary a) → IsTrue (shows is_ordinary b) → fragments_in between ≡ [] → between ≡ []
+  pub touching : Touch (shows is_ordinary) cut
   -- between Raw chunks with a Paragraph between them two newlines stand together
   pub paragraphs : (before between after : List MarkdownSnippet) (a b : Fragment) → cut ≡ before ++ Of a ∷ (between ++ Of b ∷ after)
       → IsTrue (shows is_raw a) → IsTrue (shows is_raw b) → IsTrue (list_any (shows is_paragraph) (fragments_in between))

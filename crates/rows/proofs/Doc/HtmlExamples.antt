@@ -10,7 +10,9 @@ use Rattle.bpaf_doc.specs.declared.buffer.Block.TheVariants.{InlineBlock, Defini
 use Rattle.bpaf_doc.specs.Buffer.Parts.{Part, Text as Words, Start as PartStart, End as PartEnd, IsWellNested, text, enclosed, joined}
 use Rattle.bpaf_doc.specs.Splitter.Chunks.{Raw, Paragraph, starts, chunks_of, chunks_in, chunks_within}
 use Rattle.bpaf_doc.specs.Html.Fragments.{Fragment, TextStart, Shown, TextEnd, shown_fragments}
-use Rattle.bpaf_doc.specs.Html.Page.{IsHtmlOf, enclosed, joined, HtmlSnippet, Of, fragments_in, snippet_text, is_style_tag_or_fragment, styled_snippets}
+use Rattle.bpaf_doc.specs.Html.Page.{IsHtmlOf, enclosed, joined, HtmlSnippet, snippet_text, is_style_tag, styled_snippets}
+use Rattle.bpaf_doc.specs.Snippets.{Of, is_mark_or_fragment}
+use Rattle.rows.proofs.Doc.Snippets.{CutAt, cut_at}
 use Rattle.bpaf_doc.proofs.lemmas.Html.Meets.{page_meets}
 
 -- two styled texts
@@ -58,22 +60,22 @@ abbrev spelled : List HtmlSnippet → List ℕ
 spelled ts = flat_map snippet_text ts
 
 abbrev styled : List HtmlSnippet → List HtmlSnippet
-styled ts = filter is_style_tag_or_fragment ts
+styled ts = filter (is_mark_or_fragment is_style_tag) ts
 
-not_empty : (t : HtmlSnippet) → is_style_tag_or_fragment t ≡ false → 1 ≤ length (snippet_text t)
+not_empty : (t : HtmlSnippet) → is_mark_or_fragment is_style_tag t ≡ false → 1 ≤ length (snippet_text t)
 not_empty t h1 = grind (arith, false≢true)
 
 shorter : (ts : List HtmlSnippet) → length (spelled (styled ts)) ≤ length (spelled ts)
 shorter [] = omega arith
 shorter (t ∷ ts) = grind (arith, shorter ts, length-append)
 
-only_styled_step : (b : Bool) (t : HtmlSnippet) (ts : List HtmlSnippet) → is_style_tag_or_fragment t ≡ b → length (snippet_text t ++ spelled ts) ≤ length (spelled (cond b (t ∷ styled ts) (styled ts)))
+only_styled_step : (b : Bool) (t : HtmlSnippet) (ts : List HtmlSnippet) → is_mark_or_fragment is_style_tag t ≡ b → length (snippet_text t ++ spelled ts) ≤ length (spelled (cond b (t ∷ styled ts) (styled ts)))
     → (length (spelled ts) ≤ length (spelled (styled ts)) → ts ≡ styled ts) → t ∷ ts ≡ cond b (t ∷ styled ts) (styled ts)
 only_styled_step b t ts h3 h4 h5 = grind (arith, length-append, not_empty, shorter)
 
 only_styled : (ts : List HtmlSnippet) → length (spelled ts) ≤ length (spelled (styled ts)) → ts ≡ styled ts
 only_styled [] h = refl
-only_styled (t ∷ ts) h = only_styled_step (is_style_tag_or_fragment t) t ts refl h (only_styled ts)
+only_styled (t ∷ ts) h = only_styled_step (is_mark_or_fragment is_style_tag t) t ts refl h (only_styled ts)
 
 -- so its cut is known
 known_cut : (document : List Part) (answer : List ℕ) (h : IsHtmlOf document true answer) → length answer ≤ length (spelled (flat_map styled_snippets (shown_fragments true document)))
@@ -121,30 +123,6 @@ no_break_refused h = false≢true (h.breaks (take 2 bare_cut) (Of (Shown Text Pa
 
 -- `<br>` and newlines between the words of a text
 
-abbrev first_or : Fragment → List Fragment → Fragment
-first_or d [] = d
-first_or d (p ∷ ps) = p
-
-abbrev rest_of : List Fragment → List Fragment
-rest_of [] = []
-rest_of (p ∷ ps) = ps
-
-next_at : (t : HtmlSnippet) (ts : List HtmlSnippet) (front rest : List Fragment) (p : Fragment) → ((before : List HtmlSnippet) → fragments_in (t ∷ before) ≡ fragments_in before)
-    → ((before after : List HtmlSnippet) × (ts ≡ before ++ Of p ∷ after) × (fragments_in before ≡ front) × (fragments_in after ≡ rest))
-    → (before after : List HtmlSnippet) × (t ∷ ts ≡ before ++ Of p ∷ after) × (fragments_in before ≡ front) × (fragments_in after ≡ rest)
-next_at t ts front rest p none found = (t ∷ found.0, found.1, ap (λ x. t ∷ x) found.2, none found.0 ∙ found.3, found.4)
-
--- a cut at a fragment of the document
-cut_at : (ts : List HtmlSnippet) (front rest : List Fragment) (p : Fragment) → fragments_in ts ≡ front ++ p ∷ rest
-    → (before after : List HtmlSnippet) × (ts ≡ before ++ Of p ∷ after) × (fragments_in before ≡ front) × (fragments_in after ≡ rest)
-cut_at [] [] rest p e = absurd cc
-cut_at [] (f ∷ fs) rest p e = absurd cc
-cut_at (Of a ∷ ts) [] rest p e = ([], ts, ap (λ x. Of x ∷ ts) (ap (first_or p) e), refl, ap rest_of e)
-cut_at (Of a ∷ ts) (f ∷ fs) rest p e =
-    let found : (before after : List HtmlSnippet) × (ts ≡ before ++ Of p ∷ after) × (fragments_in before ≡ fs) × (fragments_in after ≡ rest) = cut_at ts fs rest p (ap rest_of e) in
-    (Of a ∷ found.0, found.1, ap (λ x. Of a ∷ x) found.2, ap (λ x. x ∷ fragments_in found.0) (ap (first_or p) e) ∙ ap (λ x. f ∷ x) found.3, found.4)
-cut_at (t ∷ ts) front rest p e = next_at t ts front rest p (λ before. refl) (cut_at ts front rest p e)
-
 -- whether the word and a blank stand together in the text
 abbrev has_together : List ℕ → Bool
 has_together [] = false
@@ -165,9 +143,9 @@ apart_refused h =
     let a : Fragment = Shown Text (Raw (codes "a") 1) in
     let blank : Fragment = Shown Text (Raw (codes " ") 1) in
     let rest : List Fragment = Shown Text (Raw (codes "b") 1) ∷ TextEnd Text ∷ [] in
-    let first : (before after : List HtmlSnippet) × (h.cut ≡ before ++ Of a ∷ after) × (fragments_in before ≡ TextStart Text ∷ []) × (fragments_in after ≡ blank ∷ rest)
+    let first : CutAt h.cut (TextStart Text ∷ []) (blank ∷ rest) a
     = cut_at h.cut (TextStart Text ∷ []) (blank ∷ rest) a h.fragments in
-    let second : (between after : List HtmlSnippet) × (first.1 ≡ between ++ Of blank ∷ after) × (fragments_in between ≡ []) × (fragments_in after ≡ rest)
+    let second : CutAt first.1 [] rest blank
     = cut_at first.1 [] rest blank first.4 in
     let whole : h.cut ≡ first.0 ++ Of a ∷ (second.0 ++ Of blank ∷ second.1) = first.2 ∙ ap (λ x. first.0 ++ Of a ∷ x) second.2 in
     let none : second.0 ≡ [] = h.touching first.0 second.0 second.1 a blank whole refl refl second.3 in

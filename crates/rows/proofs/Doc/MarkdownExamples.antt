@@ -14,7 +14,9 @@ use Rattle.bpaf_doc.specs.declared.buffer.Block.TheVariants.{Header, Section3, I
 use Rattle.bpaf_doc.specs.Buffer.Parts.{Part, Text as Words, Start as PartStart, End as PartEnd}
 use Rattle.bpaf_doc.specs.Splitter.Chunks.{Raw, Paragraph, is_paragraph, chunks_of, chunks_in, chunks_within}
 use Rattle.bpaf_doc.specs.Html.Fragments.{Fragment, TextStart, Shown, TextEnd, shows, shown_fragments}
-use Rattle.bpaf_doc.specs.Markdown.Page.{IsMarkdownOf, MarkdownSnippet, Put, Of, Mark, mark_text, TextFence, Newline, fragments_in, snippet_text, is_style_mark_or_fragment, styled_snippets, text_after, closed_fences, opened_fences, is_text_fence, is_newline}
+use Rattle.bpaf_doc.specs.Markdown.Page.{IsMarkdownOf, MarkdownSnippet, Mark, mark_text, TextFence, Newline, snippet_text, is_style_mark, styled_snippets, text_after, closed_fences, opened_fences, is_text_fence, is_newline}
+use Rattle.bpaf_doc.specs.Snippets.{Put, Of, is_mark_or_fragment}
+use Rattle.rows.proofs.Doc.Snippets.{CutAt, cut_at}
 use Rattle.bpaf_doc.proofs.lemmas.Markdown.Meets.{markdown_meets}
 
 abbrev paragraphs_document : List Part
@@ -56,7 +58,7 @@ is_put (Put mark) = true
 is_put (Of a) = false
 
 abbrev styled : List MarkdownSnippet → List MarkdownSnippet
-styled ts = filter is_style_mark_or_fragment ts
+styled ts = filter (is_mark_or_fragment is_style_mark) ts
 
 mark_not_empty : (mark : Mark) → 1 ≤ length (mark_text mark)
 mark_not_empty mark = grind arith
@@ -89,27 +91,6 @@ newline_in seen (Put Newline ∷ ts) h = refl
 newline_in seen (Of a ∷ ts) h = any_behind (λ c. c == 10) (snippet_text seen (Of a) ts) (text_after (seen ++ Of a ∷ []) ts) (newline_in (seen ++ Of a ∷ []) ts h)
 newline_in seen (Put mark ∷ ts) h = any_behind (λ c. c == 10) (mark_text mark) (text_after (seen ++ Put mark ∷ []) ts) (newline_in (seen ++ Put mark ∷ []) ts h)
 
-abbrev first_or : Fragment → List Fragment → Fragment
-first_or d [] = d
-first_or d (p ∷ ps) = p
-
-abbrev rest_of : List Fragment → List Fragment
-rest_of [] = []
-rest_of (p ∷ ps) = ps
-
--- a cut at a fragment of the document
-cut_at : (ts : List MarkdownSnippet) (front rest : List Fragment) (p : Fragment) → fragments_in ts ≡ front ++ p ∷ rest
-    → (before after : List MarkdownSnippet) × (ts ≡ before ++ Of p ∷ after) × (fragments_in before ≡ front) × (fragments_in after ≡ rest)
-cut_at [] [] rest p e = absurd cc
-cut_at [] (f ∷ fs) rest p e = absurd cc
-cut_at (Put mark ∷ ts) front rest p e =
-    let found : (before after : List MarkdownSnippet) × (ts ≡ before ++ Of p ∷ after) × (fragments_in before ≡ front) × (fragments_in after ≡ rest) = cut_at ts front rest p e in
-    (Put mark ∷ found.0, found.1, ap (λ x. Put mark ∷ x) found.2, found.3, found.4)
-cut_at (Of a ∷ ts) [] rest p e = ([], ts, ap (λ x. Of x ∷ ts) (ap (first_or p) e), refl, ap rest_of e)
-cut_at (Of a ∷ ts) (f ∷ fs) rest p e =
-    let found : (before after : List MarkdownSnippet) × (ts ≡ before ++ Of p ∷ after) × (fragments_in before ≡ fs) × (fragments_in after ≡ rest) = cut_at ts fs rest p (ap rest_of e) in
-    (Of a ∷ found.0, found.1, ap (λ x. Of a ∷ x) found.2, ap (λ x. x ∷ fragments_in found.0) (ap (first_or p) e) ∙ ap (λ x. f ∷ x) found.3, found.4)
-
 -- no break between two paragraphs
 no_paragraph_refused : IsMarkdownOf paragraphs_document true (codes "abc") → ⊥
 unfolding chunks_of chunks_in chunks_within chars str_width step past_emoji
@@ -117,8 +98,8 @@ no_paragraph_refused h =
     let ps : List Fragment = shown_fragments true paragraphs_document in
     let a : Fragment = Shown Text (Raw (codes "a") 1) in
     let b : Fragment = Shown Text (Raw (codes "b") 1) in
-    let first : (before after : List MarkdownSnippet) × (h.cut ≡ before ++ Of a ∷ after) × (fragments_in before ≡ take 2 ps) × (fragments_in after ≡ drop 3 ps) = cut_at h.cut (take 2 ps) (drop 3 ps) a h.fragments in
-    let second : (before after : List MarkdownSnippet) × (first.1 ≡ before ++ Of b ∷ after) × (fragments_in before ≡ Shown Text Paragraph ∷ []) × (fragments_in after ≡ drop 5 ps)
+    let first : CutAt h.cut (take 2 ps) (drop 3 ps) a = cut_at h.cut (take 2 ps) (drop 3 ps) a h.fragments in
+    let second : CutAt first.1 (Shown Text Paragraph ∷ []) (drop 5 ps) b
     = cut_at first.1 (Shown Text Paragraph ∷ []) (drop 5 ps) b first.4 in
     let whole : h.cut ≡ first.0 ++ Of a ∷ (second.0 ++ Of b ∷ second.1) = first.2 ∙ ap (λ x. first.0 ++ Of a ∷ x) second.2 in
     let found : (front back : List MarkdownSnippet) × (second.0 ≡ front ++ Put Newline ∷ Put Newline ∷ back)
@@ -139,7 +120,7 @@ fences-le seen (Put mark ∷ ts) = grind (arith, fences-le (seen ++ Put mark ∷
 no_fence_refused : (document : List Part) → shown_fragments true document ≡ TextStart Text ∷ Shown Text (Raw (codes "x") 1_000_000) ∷ TextEnd Text ∷ [] → IsMarkdownOf document true (codes "  x\n") → ⊥
 no_fence_refused document shown h =
     let line : Fragment = Shown Text (Raw (codes "x") 1_000_000) in
-    let found : (before after : List MarkdownSnippet) × (h.cut ≡ before ++ Of line ∷ after) × (fragments_in before ≡ TextStart Text ∷ []) × (fragments_in after ≡ TextEnd Text ∷ [])
+    let found : CutAt h.cut (TextStart Text ∷ []) (TextEnd Text ∷ []) line
     = cut_at h.cut (TextStart Text ∷ []) (TextEnd Text ∷ []) line (h.fragments ∙ shown) in
     let more : closed_fences found.0 < opened_fences found.0 = h.fenced found.0 found.1 line found.2 refl in
     let whole : length (filter is_text_fence (found.0 ++ Of line ∷ found.1)) * 7 ≤ 4

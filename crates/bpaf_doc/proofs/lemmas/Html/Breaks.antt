@@ -9,58 +9,38 @@ use Rattle.std.proofs.Math.Bool.{and-false}
 use Rattle.bpaf_doc.specs.declared.buffer.Block.TheVariants as blocks
 use Rattle.bpaf_doc.specs.Splitter.Chunks.{Raw, Paragraph, LineBreak, is_inked, is_raw, has_some}
 use Rattle.bpaf_doc.specs.Html.Fragments.{Fragment, Shown, Start, End, shows}
-use Rattle.bpaf_doc.specs.Html.Page.{HtmlSnippet, Break, Of, fragments_in, asks_break, is_break}
+use Rattle.bpaf_doc.specs.Html.Page.{HtmlSnippet, Break, asks_break, is_break}
+use Rattle.bpaf_doc.specs.Snippets.{Put, Of, fragments_in, Touch}
 use Rattle.bpaf_doc.specs.Html.Steps.Page.{Written, page_after, is_empty}
 use Rattle.bpaf_doc.proofs.lemmas.Lists.Passing.{implies}
-use Rattle.bpaf_doc.proofs.lemmas.Html.Cut.{snippets_of, cut_from, fragments-append, step-fragments, cut-fragments}
+use Rattle.bpaf_doc.proofs.lemmas.Html.Cut.{snippets_of, cut_from, step-fragments, cut-fragments}
+use Rattle.bpaf_doc.proofs.lemmas.Snippets.{all_followed, followed_at, quiet_followed, touches, other_touches, touching_between}
 
 -- ---- what follows a Raw
 
-abbrev begins_raw : List Fragment → Bool
-begins_raw [] = false
-begins_raw (f ∷ fs) = shows is_raw f
-
--- nothing stands before a Raw that is the next fragment
-abbrev touches : List HtmlSnippet → Bool
-touches (Of f ∷ ss) = true
-touches ss = not (begins_raw (fragments_in ss))
-
 abbrev begins_break : List HtmlSnippet → Bool
-begins_break (Break ∷ ss) = true
+begins_break (Put Break ∷ ss) = true
 begins_break _ = false
 
 -- up to the first break, nothing asks for one but what stands right before it
 abbrev breaks_soon : List HtmlSnippet → Bool
 breaks_soon [] = true
-breaks_soon (Break ∷ ss) = true
+breaks_soon (Put Break ∷ ss) = true
 breaks_soon (Of f ∷ ss) = if asks_break f then begins_break ss else breaks_soon ss
 breaks_soon (_ ∷ ss) = breaks_soon ss
 
 abbrev is_followed : Fragment → List HtmlSnippet → Bool
-is_followed f rest = (not (shows is_raw f) || touches rest) && (not (shows is_inked f) || breaks_soon rest)
-
-abbrev all_followed : List HtmlSnippet → Bool
-all_followed [] = true
-all_followed (Of f ∷ ss) = is_followed f ss && all_followed ss
-all_followed (_ ∷ ss) = all_followed ss
-
-followed_back : (xs ys : List HtmlSnippet) → all_followed (xs ++ ys) ≡ true → all_followed ys ≡ true
-followed_back [] ys h = h
-followed_back (s ∷ xs) ys h = grind (arith, followed_back xs ys, and_parts)
+is_followed f rest = (not (shows is_raw f) || touches (shows is_raw) rest) && (not (shows is_inked f) || breaks_soon rest)
 
 -- ---- a page
 
 abbrev asks : Fragment → Bool
 asks f = shows is_raw f || shows is_inked f
 
-quiet_followed : (ss rest : List HtmlSnippet) → list_any asks (fragments_in ss) ≡ false → all_followed rest ≡ true → all_followed (ss ++ rest) ≡ true
-quiet_followed [] rest e h = h
-quiet_followed (s ∷ ss) rest e h = grind (arith, quiet_followed ss rest)
+quiet : (f : Fragment) (rest : List HtmlSnippet) → asks f ≡ false → is_followed f rest ≡ true
+quiet f rest e = grind arith
 
-other_touches : (ss : List HtmlSnippet) (f : Fragment) (fs : List Fragment) → fragments_in ss ≡ f ∷ fs → shows is_raw f ≡ false → touches ss ≡ true
-other_touches ss f fs h1 h2 = grind arith
-
-cut_touches : (p : Written) (fs : List Fragment) → touches (cut_from p fs) ≡ true
+cut_touches : (p : Written) (fs : List Fragment) → touches (shows is_raw) (cut_from p fs) ≡ true
 cut_touches p [] = refl
 cut_touches p (f ∷ fs) = grind (arith, other_touches, cut-fragments)
 
@@ -87,21 +67,17 @@ inked_is_text (b ∷ bs) weight fresh h = and-false fresh
 implied : (a b : Bool) → (a ≡ true → b ≡ true) → (not a || b) ≡ true
 implied a b i = grind arith
 
-cut_followed : (p : Written) (fs : List Fragment) → all_followed (cut_from p fs) ≡ true
+cut_followed : (p : Written) (fs : List Fragment) → all_followed is_followed (cut_from p fs) ≡ true
 cut_followed p [] = refl
 cut_followed p (Shown style (Raw bytes weight) ∷ fs) =
     let next : Written = page_after p (Shown style (Raw bytes weight)) in
     and_from _ _ (and_from _ _ (cut_touches next fs) (implied _ _ (λ i. cut_soon next fs (inked_is_text bytes weight p.fresh i)))) (cut_followed next fs)
-cut_followed p (f ∷ fs) = quiet_followed (snippets_of p f) (cut_from (page_after p f) fs) (ap (list_any asks) (step-fragments p f)) (cut_followed (page_after p f) fs)
-
--- what follows a fragment of a page
-followed_at : (p : Written) (fs : List Fragment) (before rest : List HtmlSnippet) (a : Fragment) → cut_from p fs ≡ before ++ Of a ∷ rest → is_followed a rest ≡ true
-followed_at p fs before rest a e = (and_parts _ _ (followed_back before (Of a ∷ rest) (ap all_followed (sym e) ∙ cut_followed p fs))).0
+cut_followed p (f ∷ fs) = quiet_followed is_followed asks quiet (snippets_of p f) (cut_from (page_after p f) fs) (ap (list_any asks) (step-fragments p f)) (cut_followed (page_after p f) fs)
 
 -- ---- the laws
 
 begins_inside : (between after : List HtmlSnippet) (b : Fragment) → begins_break (between ++ Of b ∷ after) ≡ true → list_any is_break between ≡ true
-begins_inside (Break ∷ between) after b h = refl
+begins_inside (Put Break ∷ between) after b h = refl
 begins_inside _ after b h = absurd (false≢true h)
 
 break_between : (between after : List HtmlSnippet) (b : Fragment) → breaks_soon (between ++ Of b ∷ after) ≡ true → list_any asks_break (fragments_in between) ≡ true → list_any is_break between ≡ true
@@ -111,13 +87,9 @@ break_between (s ∷ between) after b h any = grind (arith, break_between betwee
 -- between inked chunks with something between them that asks for a break, there is one
 pub breaks_of : (p : Written) (fs : List Fragment) (before between after : List HtmlSnippet) (a b : Fragment) → cut_from p fs ≡ before ++ Of a ∷ (between ++ Of b ∷ after)
     → IsTrue (shows is_inked a) → IsTrue (shows is_inked b) → IsTrue (list_any asks_break (fragments_in between)) → IsTrue (list_any is_break between)
-breaks_of p fs before between after a b e i j any = break_between between after b (implies _ _ (and_parts _ _ (followed_at p fs before (between ++ Of b ∷ after) a e)).1 i) any
-
-touching_between : (between after : List HtmlSnippet) (b : Fragment) → touches (between ++ Of b ∷ after) ≡ true → shows is_raw b ≡ true → fragments_in between ≡ [] → between ≡ []
-touching_between [] after b h o none = refl
-touching_between (s ∷ between) after b h o none = grind (arith, fragments-append)
+breaks_of p fs before between after a b e i j any = break_between between after b (implies _ _ (and_parts _ _ (followed_at is_followed (cut_from p fs) before (between ++ Of b ∷ after) a (cut_followed p fs) e).0).1 i) any
 
 -- Raws that follow one another in a text touch
-pub touching_of : (p : Written) (fs : List Fragment) (before between after : List HtmlSnippet) (a b : Fragment) → cut_from p fs ≡ before ++ Of a ∷ (between ++ Of b ∷ after)
-    → IsTrue (shows is_raw a) → IsTrue (shows is_raw b) → fragments_in between ≡ [] → between ≡ []
-touching_of p fs before between after a b e i j none = touching_between between after b (implies _ _ (and_parts _ _ (followed_at p fs before (between ++ Of b ∷ after) a e)).0 i) j none
+pub touching_of : (p : Written) (fs : List Fragment) → Touch (shows is_raw) (cut_from p fs)
+touching_of p fs before between after a b e i j none =
+    touching_between (shows is_raw) between after b (implies _ _ (and_parts _ _ (followed_at is_followed (cut_from p fs) before (between ++ Of b ∷ after) a (cut_followed p fs) e).0).0 i) j none

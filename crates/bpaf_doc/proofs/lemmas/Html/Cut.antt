@@ -1,5 +1,5 @@
 -- The snippets that make up a page.
-use Rattle.std.proofs.Common.{◌≡◌, ℕ, Bool, List, [], ◌∷◌, ◌++◌, map, refl, sym, append_assoc, append-nil, arith}
+use Rattle.std.proofs.Common.{◌≡◌, ℕ, Bool, List, [], ◌∷◌, ◌++◌, refl, sym, append_assoc, append-nil, arith}
 use Rattle.std.specs.Prelude.{flat_map, filter, reverse, if◌then◌else◌}
 use Rattle.std.proofs.lemmas.List.Concat.{flat_map-append}
 use Rattle.std.proofs.lemmas.List.Elements.{filter-append}
@@ -7,36 +7,38 @@ use Rattle.bpaf_doc.specs.declared.buffer.Block.{Block}
 use Rattle.bpaf_doc.specs.declared.buffer.Block.TheVariants as blocks
 use Rattle.bpaf_doc.specs.Splitter.Chunks.{Raw, Paragraph, LineBreak}
 use Rattle.bpaf_doc.specs.Html.Fragments.{Fragment, TextStart, Shown, TextEnd, Hidden, Start, End}
-use Rattle.bpaf_doc.specs.Html.Page.{HtmlSnippet, Open, Close, Break, Newline, Of, snippet_text, fragments_in, style_elements, block_elements, is_style_tag_or_fragment, styled_snippets}
+use Rattle.bpaf_doc.specs.Html.Page.{HtmlSnippet, Break, Newline, snippet_text, open_each, close_each, style_elements, block_elements, is_style_tag, styled_snippets}
+use Rattle.bpaf_doc.specs.Snippets.{Put, Of, fragments_in, is_mark_or_fragment}
+use Rattle.bpaf_doc.proofs.lemmas.Snippets.{fragments-append}
 use Rattle.bpaf_doc.specs.Html.Steps.Page.{Written, page_after, page_after_all, first_or_false, is_header}
 
 -- a break before a mark of a header
 abbrev pub heading_snippets : Bool → Block → List HtmlSnippet
-heading_snippets fresh b = if is_header b then (if fresh then [] else (Break ∷ Newline ∷ [])) else []
+heading_snippets fresh b = if is_header b then (if fresh then [] else (Put Break ∷ Put Newline ∷ [])) else []
 
 abbrev pub start_newline : Block → List HtmlSnippet
-start_newline blocks.Section2 = Newline ∷ []
+start_newline blocks.Section2 = Put Newline ∷ []
 start_newline _ = []
 
 abbrev pub end_newline : Block → List HtmlSnippet
-end_newline blocks.ItemTerm = Newline ∷ []
-end_newline blocks.ItemBody = Newline ∷ []
-end_newline blocks.DefinitionList = Newline ∷ []
+end_newline blocks.ItemTerm = Put Newline ∷ []
+end_newline blocks.ItemBody = Put Newline ∷ []
+end_newline blocks.DefinitionList = Put Newline ∷ []
 end_newline _ = []
 
 abbrev pub start_snippets : Bool → Bool → Block → List HtmlSnippet
-start_snippets fresh in_list b = heading_snippets fresh b ++ (Of (Start b) ∷ (map Open (block_elements in_list b) ++ start_newline b))
+start_snippets fresh in_list b = heading_snippets fresh b ++ (Of (Start b) ∷ (open_each (block_elements in_list b) ++ start_newline b))
 
 abbrev pub end_snippets : Bool → Bool → Block → List HtmlSnippet
-end_snippets fresh in_list b = heading_snippets fresh b ++ (map Close (block_elements in_list b) ++ (end_newline b ++ Of (End b) ∷ []))
+end_snippets fresh in_list b = heading_snippets fresh b ++ (close_each (block_elements in_list b) ++ (end_newline b ++ Of (End b) ∷ []))
 
 -- the snippets that a fragment adds to a page
 abbrev pub snippets_of : Written → Fragment → List HtmlSnippet
-snippets_of p (TextStart style) = Of (TextStart style) ∷ map Open (style_elements style)
+snippets_of p (TextStart style) = Of (TextStart style) ∷ open_each (style_elements style)
 snippets_of p (Shown style (Raw bytes weight)) = Of (Shown style (Raw bytes weight)) ∷ []
-snippets_of p (Shown style Paragraph) = Of (Shown style Paragraph) ∷ Break ∷ Newline ∷ []
-snippets_of p (Shown style LineBreak) = Of (Shown style LineBreak) ∷ Break ∷ Newline ∷ []
-snippets_of p (TextEnd style) = map Close (reverse (style_elements style)) ++ Of (TextEnd style) ∷ []
+snippets_of p (Shown style Paragraph) = Of (Shown style Paragraph) ∷ Put Break ∷ Put Newline ∷ []
+snippets_of p (Shown style LineBreak) = Of (Shown style LineBreak) ∷ Put Break ∷ Put Newline ∷ []
+snippets_of p (TextEnd style) = close_each (reverse (style_elements style)) ++ Of (TextEnd style) ∷ []
 snippets_of p Hidden = Of Hidden ∷ []
 snippets_of p (Start b) = start_snippets p.fresh p.in_list b
 snippets_of p (End b) = end_snippets p.fresh (first_or_false p.outer) b
@@ -66,10 +68,6 @@ page-spelled p (f ∷ fs) = grind (arith, page-spelled (page_after p f) fs, step
 
 -- ---- what of them stays under a test
 
-pub fragments-append : (xs ys : List HtmlSnippet) → fragments_in (xs ++ ys) ≡ fragments_in xs ++ fragments_in ys
-fragments-append [] ys = refl
-fragments-append (s ∷ xs) ys = grind (arith, fragments-append xs ys)
-
 pub step-fragments : (p : Written) (f : Fragment) → fragments_in (snippets_of p f) ≡ f ∷ []
 step-fragments p f = grind arith
 
@@ -77,9 +75,9 @@ pub cut-fragments : (p : Written) (fs : List Fragment) → fragments_in (cut_fro
 cut-fragments p [] = refl
 cut-fragments p (f ∷ fs) = grind (arith, cut-fragments (page_after p f) fs, fragments-append, step-fragments)
 
-step-styles : (p : Written) (f : Fragment) → filter is_style_tag_or_fragment (snippets_of p f) ≡ styled_snippets f
+step-styles : (p : Written) (f : Fragment) → filter (is_mark_or_fragment is_style_tag) (snippets_of p f) ≡ styled_snippets f
 step-styles p f = grind arith
 
-pub cut-styles : (p : Written) (fs : List Fragment) → filter is_style_tag_or_fragment (cut_from p fs) ≡ flat_map styled_snippets fs
+pub cut-styles : (p : Written) (fs : List Fragment) → filter (is_mark_or_fragment is_style_tag) (cut_from p fs) ≡ flat_map styled_snippets fs
 cut-styles p [] = refl
 cut-styles p (f ∷ fs) = grind (arith, cut-styles (page_after p f) fs, filter-append, step-styles)

@@ -13,7 +13,8 @@ use Rattle.bpaf_doc.specs.declared.buffer.Block.{Block}
 use Rattle.bpaf_doc.specs.declared.buffer.Block.TheVariants as blocks
 use Rattle.bpaf_doc.specs.Splitter.Chunks.{Chunk}
 use Rattle.bpaf_doc.specs.Html.Fragments.{Fragment, TextStart, Shown, TextEnd, Hidden, Start, End}
-use Rattle.bpaf_doc.specs.Html.Page.{HtmlSnippet, Element, Tt, B, I, Div, IndentedDiv, Dt, Dd, Li, Dl, P, Open, Close, Of, snippet_text, escaped_character, is_no_angle, opening_tag, closing_tag, IsWellNestedHtml, nothing as no_html, characters, line_break, enclosed as html_enclosed, joined as html_joined, block_elements, is_block_tag_or_fragment, HasBlockTags, nothing as no_tags, fragment as one_fragment, enclosed as tags_enclosed, joined as tags_joined}
+use Rattle.bpaf_doc.specs.Html.Page.{HtmlSnippet, Element, Tt, B, I, Div, IndentedDiv, Dt, Dd, Li, Dl, P, snippet_text, escaped_character, is_no_angle, opening_tag, closing_tag, IsWellNestedHtml, nothing as no_html, characters, line_break, enclosed as html_enclosed, joined as html_joined, block_elements, HasBlockTags, nothing as no_tags, fragment as one_fragment, enclosed as tags_enclosed, joined as tags_joined, open_each, close_each, is_block_tag}
+use Rattle.bpaf_doc.specs.Snippets.{Of, is_mark_or_fragment}
 use Rattle.bpaf_doc.specs.Html.Steps.Page.{Written, page_after, page_after_all, first_or_false, with_heading}
 use Rattle.bpaf_doc.proofs.lemmas.Html.Cut.{spelled, snippets_of, cut_from, start_snippets, end_snippets}
 use Rattle.bpaf_doc.proofs.lemmas.Html.Fragments.Nests.{Nests, nothing, text, hidden, enclosed, joined}
@@ -70,10 +71,10 @@ nests_blocks (joined front back e h k) p = grind (arith, nests_blocks h p, nests
 -- ---- the tags of blocks
 
 abbrev tags_of : List HtmlSnippet → List HtmlSnippet
-tags_of snippets = filter is_block_tag_or_fragment snippets
+tags_of snippets = filter (is_mark_or_fragment is_block_tag) snippets
 
 tags-append : (xs ys : List HtmlSnippet) → tags_of (xs ++ ys) ≡ tags_of xs ++ tags_of ys
-tags-append xs ys = filter-append is_block_tag_or_fragment xs ys
+tags-append xs ys = filter-append (is_mark_or_fragment is_block_tag) xs ys
 
 around_tags : (p : Written) (f g : Fragment) (inner : List Fragment)
     → tags_of (cut_from p (f ∷ (inner ++ g ∷ []))) ≡ tags_of (snippets_of p f) ++ (tags_of (cut_from (page_after p f) inner) ++ tags_of (snippets_of (page_after_all (page_after p f) inner) g))
@@ -88,10 +89,10 @@ text_end_tags p style = grind arith
 chunk_tags : (p : Written) (style : Style) (chunk : Chunk) → tags_of (snippets_of p (Shown style chunk)) ≡ Of (Shown style chunk) ∷ []
 chunk_tags p style chunk = grind arith
 
-start_tags : (fresh in_list : Bool) (b : Block) → tags_of (start_snippets fresh in_list b) ≡ Of (Start b) ∷ map Open (block_elements in_list b)
+start_tags : (fresh in_list : Bool) (b : Block) → tags_of (start_snippets fresh in_list b) ≡ Of (Start b) ∷ open_each (block_elements in_list b)
 start_tags fresh in_list b = grind arith
 
-end_tags : (fresh in_list : Bool) (b : Block) → tags_of (end_snippets fresh in_list b) ≡ map Close (block_elements in_list b) ++ Of (End b) ∷ []
+end_tags : (fresh in_list : Bool) (b : Block) → tags_of (end_snippets fresh in_list b) ≡ close_each (block_elements in_list b) ++ Of (End b) ∷ []
 end_tags fresh in_list b = grind arith
 
 chunks_tags : (in_list : Bool) (p : Written) (style : Style) (chunks : List Chunk) → HasBlockTags in_list (map (Shown style) chunks) (tags_of (cut_from p (map (Shown style) chunks)))
@@ -126,10 +127,10 @@ nests_tags (enclosed b inner e h) p =
     let held : List HtmlSnippet = tags_of (cut_from first inner) in
     let same : SameBlocks first last = nests_blocks h first in
     let back : first_or_false last.outer ≡ p.in_list = ap first_or_false (same.1 ∙ start_outer p b) in
-    let opens : List HtmlSnippet = map Open (block_elements p.in_list b) in
-    let closes : List HtmlSnippet = map Close (block_elements p.in_list b) in
+    let opens : List HtmlSnippet = open_each (block_elements p.in_list b) in
+    let closes : List HtmlSnippet = close_each (block_elements p.in_list b) in
     let ending : tags_of (snippets_of last (End b)) ≡ closes ++ Of (End b) ∷ []
-    = end_tags last.fresh (first_or_false last.outer) b ∙ ap (λ l. map Close (block_elements l b) ++ Of (End b) ∷ []) back in
+    = end_tags last.fresh (first_or_false last.outer) b ∙ ap (λ l. close_each (block_elements l b) ++ Of (End b) ∷ []) back in
     let whole : tags_of (cut_from p (Start b ∷ (inner ++ End b ∷ []))) ≡ Of (Start b) ∷ (opens ++ (held ++ (closes ++ Of (End b) ∷ [])))
     = around_tags p (Start b) (End b) inner ∙ ap (λ x. x ++ (held ++ tags_of (snippets_of last (End b)))) (start_tags p.fresh p.in_list b) ∙ ap (λ x. Of (Start b) ∷ (opens ++ (held ++ x))) ending in
     let flat : opens ++ (held ++ (closes ++ Of (End b) ∷ [])) ≡ opens ++ held ++ closes ++ Of (End b) ∷ []

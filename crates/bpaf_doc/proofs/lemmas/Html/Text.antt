@@ -4,7 +4,8 @@ use Rattle.std.specs.Prelude.{◌==◌, flat_map, filter}
 use Rattle.std.specs.List.{list_all}
 use Rattle.std.proofs.lemmas.Bool.{and_parts}
 use Rattle.bpaf_doc.specs.Splitter.Chunks.{is_line_byte}
-use Rattle.bpaf_doc.specs.Html.Page.{erased, escaped_character, fragment_text, HtmlSnippet, fragments_in}
+use Rattle.bpaf_doc.specs.Html.Page.{erased, escaped_character, fragment_text, HtmlSnippet}
+use Rattle.bpaf_doc.specs.Snippets.{fragments_in}
 use Rattle.bpaf_doc.proofs.lemmas.Html.Fragments.Lines.{fragment_is_line}
 use Rattle.bpaf_doc.proofs.lemmas.Html.Cut.{spelled}
 

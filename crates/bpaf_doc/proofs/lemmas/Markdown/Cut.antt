@@ -8,7 +8,9 @@ use Rattle.bpaf_doc.specs.declared.buffer.Block.{Block}
 use Rattle.bpaf_doc.specs.declared.buffer.Block.TheVariants as blocks
 use Rattle.bpaf_doc.specs.Splitter.Chunks.{Raw, Paragraph, LineBreak, code_weight, fence_weight, is_ordinary}
 use Rattle.bpaf_doc.specs.Html.Fragments.{Fragment, TextStart, Shown, TextEnd, Hidden, Start, End}
-use Rattle.bpaf_doc.specs.Markdown.Page.{TextFence, Fence, Heading, SecondHeading, ThirdHeading, Dash, LongDash, Blank, Newline, mark_text, MarkdownSnippet, Put, Of, fragments_in, is_in_mono, escaped_character, fragment_text, snippet_text, flat_map_places_from, style_marks, is_header_start, is_item_start, is_mono_start, is_mono_end}
+use Rattle.bpaf_doc.specs.Markdown.Page.{TextFence, Fence, Heading, SecondHeading, ThirdHeading, Dash, LongDash, Blank, Newline, mark_text, MarkdownSnippet, is_in_mono, escaped_character, fragment_text, snippet_text, flat_map_places_from, style_marks, is_header_start, is_item_start, is_mono_start, is_mono_end}
+use Rattle.bpaf_doc.specs.Snippets.{Put, Of, fragments_in}
+use Rattle.bpaf_doc.proofs.lemmas.Snippets.{fragments-append}
 use Rattle.bpaf_doc.specs.Markdown.Steps.Page.{Marked, put, starts_line, starts_paragraph, with_new_line, with_blank_line, with_item, with_line, open_code, close_code, with_words, with_raw, own_after, is_term_end, marked_after, one_more}
 
 abbrev pub blanks : List MarkdownSnippet
@@ -104,10 +106,6 @@ abbrev pub spelled : List Fragment → List MarkdownSnippet → List ℕ
 spelled before [] = []
 spelled before (Put mark ∷ snippets) = mark_text mark ++ spelled before snippets
 spelled before (Of f ∷ snippets) = fragment_text before f ++ spelled (before ++ f ∷ []) snippets
-
-pub fragments-append : (xs ys : List MarkdownSnippet) → fragments_in (xs ++ ys) ≡ fragments_in xs ++ fragments_in ys
-fragments-append [] ys = refl
-fragments-append (x ∷ xs) ys = grind (arith, fragments-append xs ys)
 
 pub places-spelled : (before snippets : List MarkdownSnippet) → flat_map_places_from snippet_text before snippets ≡ spelled (fragments_in before) snippets
 places-spelled before [] = refl

@@ -7,7 +7,8 @@ use Rattle.std.proofs.lemmas.Bool.{false≢true, eqb-true, and_parts, and_from}
 use Rattle.bpaf_doc.specs.declared.buffer.Style.TheVariants as styles
 use Rattle.bpaf_doc.specs.Splitter.Chunks.{Raw, Paragraph, LineBreak, code_weight, fence_weight, is_ordinary, is_code_line}
 use Rattle.bpaf_doc.specs.Html.Fragments.{Fragment, TextStart, Shown, TextEnd, Hidden, Start, End, shows}
-use Rattle.bpaf_doc.specs.Markdown.Page.{TextFence, Fence, MarkdownSnippet, Put, Of, style_marks, is_text_fence, is_fence, opened_fences, closed_fences, is_text_end}
+use Rattle.bpaf_doc.specs.Markdown.Page.{TextFence, Fence, MarkdownSnippet, style_marks, is_text_fence, is_fence, opened_fences, closed_fences, is_text_end}
+use Rattle.bpaf_doc.specs.Snippets.{Put, Of}
 use Rattle.bpaf_doc.specs.Markdown.Steps.Page.{Marked, is_term_end, marked_after}
 use Rattle.bpaf_doc.proofs.lemmas.Lists.Counting.{one_if, count_by-cons}
 use Rattle.bpaf_doc.proofs.lemmas.Lists.Passing.{state_after, passes, passes_back, passes_both, passes_first, passes_rest}

@@ -4,9 +4,11 @@ use Rattle.std.specs.Prelude.{filter, flat_map, if◌then◌else◌}
 use Rattle.std.proofs.lemmas.List.Elements.{filter-append}
 use Rattle.bpaf_doc.specs.declared.buffer.Block.TheVariants as blocks
 use Rattle.bpaf_doc.specs.Html.Fragments.{Fragment, Start}
-use Rattle.bpaf_doc.specs.Markdown.Page.{Mark, Heading, SecondHeading, ThirdHeading, Dash, LongDash, Put, Of, fragments_in, styled_snippets, is_style_mark_or_fragment, is_heading_or_fragment}
+use Rattle.bpaf_doc.specs.Markdown.Page.{Mark, Heading, SecondHeading, ThirdHeading, Dash, LongDash, styled_snippets, is_heading, is_style_mark}
+use Rattle.bpaf_doc.specs.Snippets.{Put, Of, fragments_in, is_mark_or_fragment}
 use Rattle.bpaf_doc.specs.Markdown.Steps.Page.{Marked, with_item, is_term_end, marked_after}
-use Rattle.bpaf_doc.proofs.lemmas.Markdown.Cut.{item_snippets, own_snippets, snippets_of, cut_from, fragments-append, item_marks}
+use Rattle.bpaf_doc.proofs.lemmas.Markdown.Cut.{item_snippets, own_snippets, snippets_of, cut_from, item_marks}
+use Rattle.bpaf_doc.proofs.lemmas.Snippets.{fragments-append}
 
 -- the heading or list mark that a fragment writes of its own
 abbrev pub own_heading : Marked → Fragment → List Mark
@@ -22,7 +24,7 @@ own-fragments p f = grind arith
 abbrev pub item_heading : Bool → Bool → List Mark
 item_heading pending empty = if pending then (if empty then [] else (Dash ∷ [])) else []
 
-pub item-headings : (pending empty : Bool) → filter is_heading_or_fragment (item_snippets pending empty) ≡ map Put (item_heading pending empty)
+pub item-headings : (pending empty : Bool) → filter (is_mark_or_fragment is_heading) (item_snippets pending empty) ≡ map Put (item_heading pending empty)
 item-headings pending empty = grind arith
 
 pub step-fragments : (p : Marked) (f : Fragment) → fragments_in (snippets_of p f) ≡ f ∷ []
@@ -32,13 +34,13 @@ pub cut-fragments : (p : Marked) (fs : List Fragment) → fragments_in (cut_from
 cut-fragments p [] = item_marks p.pending false
 cut-fragments p (f ∷ fs) = grind (arith, cut-fragments (marked_after p f) fs, fragments-append, step-fragments)
 
-step-styles : (p : Marked) (f : Fragment) → filter is_style_mark_or_fragment (snippets_of p f) ≡ styled_snippets f
+step-styles : (p : Marked) (f : Fragment) → filter (is_mark_or_fragment is_style_mark) (snippets_of p f) ≡ styled_snippets f
 step-styles p f = grind (arith, filter-append)
 
-pub cut-styles : (p : Marked) (fs : List Fragment) → filter is_style_mark_or_fragment (cut_from p fs) ≡ flat_map styled_snippets fs
+pub cut-styles : (p : Marked) (fs : List Fragment) → filter (is_mark_or_fragment is_style_mark) (cut_from p fs) ≡ flat_map styled_snippets fs
 cut-styles p [] = grind arith
 cut-styles p (f ∷ fs) = grind (arith, cut-styles (marked_after p f) fs, filter-append, step-styles)
 
 pub step-headings : (p : Marked) (f : Fragment)
-    → filter is_heading_or_fragment (snippets_of p f) ≡ map Put (item_heading p.pending (is_term_end f)) ++ Of f ∷ map Put (own_heading (with_item p (is_term_end f)) f)
+    → filter (is_mark_or_fragment is_heading) (snippets_of p f) ≡ map Put (item_heading p.pending (is_term_end f)) ++ Of f ∷ map Put (own_heading (with_item p (is_term_end f)) f)
 step-headings p f = grind (arith, filter-append, item-headings)

@@ -5,7 +5,8 @@ use Rattle.bpaf_doc.specs.declared.buffer.Style.{Style}
 use Rattle.bpaf_doc.specs.Buffer.Parts.{Part, Text, Start as PartStart, End as PartEnd}
 use Rattle.bpaf_doc.specs.Splitter.Chunks.{Chunk, chunks_of, starts}
 use Rattle.bpaf_doc.specs.Html.Fragments.{Fragment, TextStart, Shown, TextEnd, Hidden, shown_fragments}
-use Rattle.bpaf_doc.specs.Markdown.Page.{IsMarkdownOf, MarkdownSnippet, Put, Of, Newline, text_after, EndsInBlankLine, is_mono_start, is_mono_end}
+use Rattle.bpaf_doc.specs.Markdown.Page.{IsMarkdownOf, MarkdownSnippet, Newline, text_after, EndsInBlankLine, is_mono_start, is_mono_end}
+use Rattle.bpaf_doc.specs.Snippets.{Put, Of}
 use Rattle.bpaf_doc.specs.Html.Steps.Walk.{visible, text_rest, part_walk, walk, depth_after}
 use Rattle.bpaf_doc.specs.Markdown.Steps.Page.{blank_text, with_item, marked_after_all}
 use Rattle.bpaf_doc.proofs.lemmas.Lists.Counting.{one_if, one_at_most, count_by-cons, count_by-append}

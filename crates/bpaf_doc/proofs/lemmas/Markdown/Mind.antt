@@ -6,7 +6,8 @@ use Rattle.std.proofs.lemmas.List.{reverse-append, drop-append-le, drop_all, map
 use Rattle.std.proofs.lemmas.List.Folds.{list_any-append}
 use Rattle.std.proofs.lemmas.List.Elements.{filter-append}
 use Rattle.bpaf_doc.specs.Html.Fragments.{Fragment}
-use Rattle.bpaf_doc.specs.Markdown.Page.{Mark, MarkdownSnippet, Put, Of, is_mono_start, is_mono_end, is_header_start, is_item_start, begins_with_term_end, is_in_list, is_after_empty_item, headings_of, headed_snippets, flat_map_places_from, is_heading_or_fragment}
+use Rattle.bpaf_doc.specs.Markdown.Page.{Mark, MarkdownSnippet, is_mono_start, is_mono_end, is_header_start, is_item_start, begins_with_term_end, is_in_list, is_after_empty_item, headings_of, headed_snippets, flat_map_places_from, is_heading}
+use Rattle.bpaf_doc.specs.Snippets.{Put, Of, is_mark_or_fragment}
 use Rattle.bpaf_doc.specs.Markdown.Steps.Page.{Marked, with_item, is_term_end, marked_after, marked_after_all, one_more}
 use Rattle.bpaf_doc.proofs.lemmas.Lists.Counting.{one_if, count_by-cons, count_by-push}
 use Rattle.bpaf_doc.proofs.lemmas.Markdown.Cut.{Flags, flags, flags_next, item-flags, step-flags, is_list_start, is_list_end, SameMono, spelled, spelled-append, step-spelled, cut_from, snippets_of, item-spelled}
@@ -115,15 +116,15 @@ heading_is : (before : List Fragment) (p : Marked) (f : Fragment) (fs : List Fra
 heading_is before p f fs h = grind (arith, item-flags, append-nil, after_empty_is)
 
 pub all-headings : (before : List Fragment) (p : Marked) (fs : List Fragment) → Agrees before (flags p) → Room before fs
-    → filter is_heading_or_fragment (cut_from p fs) ≡ map Put (item_heading p.pending (begins_with_term_end fs)) ++ flat_map_places_from headed_snippets before fs
+    → filter (is_mark_or_fragment is_heading) (cut_from p fs) ≡ map Put (item_heading p.pending (begins_with_term_end fs)) ++ flat_map_places_from headed_snippets before fs
 all-headings before p [] h room = item-headings p.pending false ∙ sym (append-nil (map Put (item_heading p.pending false)))
 all-headings before p (f ∷ fs) h room =
     let next : Marked = marked_after p f in
     let first : List MarkdownSnippet = map Put (item_heading p.pending (is_term_end f)) in
     let own : List Mark = own_heading (with_item p (is_term_end f)) f in
     let later : List MarkdownSnippet = flat_map_places_from headed_snippets (before ++ f ∷ []) fs in
-    filter-append is_heading_or_fragment (snippets_of p f) (cut_from next fs)
-    ∙ ap (λ x. x ++ filter is_heading_or_fragment (cut_from next fs)) (step-headings p f)
+    filter-append (is_mark_or_fragment is_heading) (snippets_of p f) (cut_from next fs)
+    ∙ ap (λ x. x ++ filter (is_mark_or_fragment is_heading) (cut_from next fs)) (step-headings p f)
     ∙ ap (λ x. (first ++ Of f ∷ map Put own) ++ x) (all-headings (before ++ f ∷ []) next fs (agrees_after before p f fs h room) (rooms_next before f fs room))
     ∙ ap (λ s. (first ++ Of f ∷ map Put own) ++ (map Put (item_heading s.pending (begins_with_term_end fs)) ++ later)) (step-flags p f)
     ∙ append_assoc first (Of f ∷ map Put own) (map Put (item_heading (flags_next (flags p) f).pending (begins_with_term_end fs)) ++ later)
