@@ -87,6 +87,9 @@ lettered_first b low h = (grind (arith, nat_tests), grind (arith, nat_tests))
 begins_not : (b : ℕ) → 128 ≤ b → b < 192 → begins b ≡ false
 begins_not b low high = grind (arith, nat_tests)
 
+begins_first : (b : ℕ) → 192 ≤ b → begins b ≡ true
+begins_first b low = grind (arith, nat_tests)
+
 -- of a character with lettered bytes: it takes a column, and one of its bytes is a first one
 record IsLetter (c : ℕ) : Type 0 where
   narrow : is_narrow c ≡ true
@@ -96,20 +99,23 @@ first_of : (b : ℕ) (rest : List ℕ) (bytes : List ℕ) → bytes ≡ b ∷ re
 first_of b rest bytes e h = (and_parts (is_lettered b) (list_all is_lettered rest) (ap (list_all is_lettered) (sym e) ∙ h)).0
 
 letter_is : (c : ℕ) → list_all is_lettered (encode c) ≡ true → IsLetter c
-letter_is c h = (grind (arith, encode_one, ascii_narrow, nat_tests, encode, two_bytes, cases_lt)) where
-  two_bytes : (c < 2048) ⊎ (2048 ≤ c) → 128 ≤ c → IsLetter c
-  two_bytes h1 h2 = grind (
-    arith,
-    encode_two,
-    lettered_first,
-    encode,
-    letter_narrow,
-    nat_tests,
-    begins_not,
-    encode_three,
-    encode_four,
-    cases_lt,
-  )
+letter_is c h = elim (cases_lt c 128) [
+  | inl small ↦ grind (arith, encode_one c small, ascii_narrow, nat_tests, h)
+  | inr low ↦ elim (cases_lt c 2048) [ inl high ↦ two_bytes low high | inr more ↦ absurd (no_more more (cases_lt c 65536)) ]
+] where
+  two_bytes : 128 ≤ c → c < 2048 → IsLetter c
+  two_bytes low high =
+      let is = encode_two c low high in
+      let first = lettered_first (192 + c / 64) (omega arith) (first_of (192 + c / 64) ((128 + c % 64) ∷ []) (encode c) is h) in
+      record {
+        narrow = letter_narrow c (omega (arith, first.0)) (omega (arith, first.1));
+        one = ap letters is ∙ rw (begins_first (192 + c / 64) (omega arith), begins_not (128 + c % 64) (omega arith) (omega arith)) refl;
+      }
+
+  no_more : 2048 ≤ c → (c < 65536) ⊎ (65536 ≤ c) → ⊥
+  no_more low (inl high) = omega (arith, (lettered_first (224 + c / 4096) (omega arith) (first_of (224 + c / 4096) ((128 + c / 64 % 64) ∷ (128 + c % 64) ∷ []) (encode c) (encode_three c low high) h)).1)
+  no_more low (inr high) =
+      omega (arith, (lettered_first (240 + c / 262144) (omega arith) (first_of (240 + c / 262144) ((128 + c / 4096 % 64) ∷ (128 + c / 64 % 64) ∷ (128 + c % 64) ∷ []) (encode c) (encode_four c high) h)).1)
 
 -- ---- a text of such characters
 
