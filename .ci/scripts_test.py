@@ -57,11 +57,11 @@ class Refusals(InFolder):
         self.assertEqual(self.told(), (1, "bpaf_doc::Doc::text has no row\n"))
 
     def test_finds_a_test_that_went(self):
-        for source in (self.folder / "crates" / "doc_tests" / "src").rglob("*.rt"):
+        for source in (self.folder / "crates" / "library_tests" / "src").rglob("*.rt"):
             source.write_text(source.read_text(encoding="utf-8").replace("#[test]\n", ""), encoding="utf-8")
         status, told = self.told()
         self.assertEqual(status, 1)
-        self.assertIn("bpaf_doc::Doc::text: crate doc_tests has no test", told)
+        self.assertIn("bpaf_doc::Doc::text: crate library_tests has no test", told)
 
 
 class Callers(InFolder):

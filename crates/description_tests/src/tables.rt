@@ -1,5 +1,5 @@
-//! The tables of rows with ample memory, each with what it shows. A test goes through a few: one over all is too much for
-//! the prover.
+//! The tables of rows with ample memory, each with what it shows. A test goes through a few tables of pages: one over all is
+//! too much for the prover, which has each row of them as a value of its own. A table of faults is one text.
 use crate::forms::Form;
 use crate::reading::{Row, TOP, says, told};
 use crate::{all, faults, keys, manuals, pages, rows, subjects, syntaxes, texts, web_pages};
@@ -88,16 +88,14 @@ fn web_pages_are_shown(rt: HostRuntime) {
     }
 }
 
-// A text, and the usage line of what it describes, or its fault. All texts of a table stand behind one head.
-type Faults = (
-    &'static str,
-    &'static str,
-    &'static [(&'static str, &'static str)],
-);
+// The rows of a table of faults stand behind one head, with an empty line between them. A row is a text, and behind `=> ` the
+// usage line of what it describes, or its fault.
+type Faults = (&'static str, &'static str, &'static str);
 
 const NAME: &str = "name = 'a'\n";
 
-fn is_told(rt: &impl Abort, out: Global, head: &str, text: &str, want: &str) -> bool {
+fn is_told(rt: &impl Abort, out: Global, head: &str, row: &str) -> bool {
+    let (text, want) = row.split_once("=> ").expect(rt, "what is told");
     let whole = format!(in out; "{head}{text}").expect(rt, "a text");
     let told = told(rt, out, &(whole.as_str(), TOP, Form::Usage, want));
     drop(whole);
@@ -106,69 +104,29 @@ fn is_told(rt: &impl Abort, out: Global, head: &str, text: &str, want: &str) -> 
     is_that
 }
 
-fn check_faults(rt: &impl Abort, out: Global, name: &str, head: &str, rows: &[(&str, &str)]) {
-    for &(text, want) in rows {
-        assert!(rt; is_told(rt, out, head, text, want), "{name}: {text}");
+fn check_faults(rt: &impl Abort, out: Global, name: &str, head: &str, rows: &str) {
+    for row in rows.trim().split("\n\n") {
+        assert!(rt; is_told(rt, out, head, row), "{name}: {row}");
     }
 }
 
-const NO_TEXTS: &[Faults] = &[
+const FAULTS: &[Faults] = &[
     ("texts hold lines alone", "", faults::TEXTS),
     ("words stand on one line", "", faults::LINES),
-];
-
-#[test]
-fn texts_that_are_none_are_told(rt: HostRuntime) {
-    for &(name, head, rows) in NO_TEXTS {
-        check_faults(&rt, rt.alloc(), name, head, rows);
-    }
-}
-
-const NO_TOPICS: &[Faults] = &[
     ("topics say what they lack", "", faults::TOPICS),
     ("sections of the manual", NAME, faults::SECTIONS),
     ("keys that are near are named", NAME, faults::KEYS),
-];
-
-#[test]
-fn topics_and_keys_that_are_none_are_told(rt: HostRuntime) {
-    for &(name, head, rows) in NO_TOPICS {
-        check_faults(&rt, rt.alloc(), name, head, rows);
-    }
-}
-
-const NO_NAMES: &[Faults] = &[
     ("names say why they are none", "", faults::NAMES),
     ("words of commands are taken once", "", faults::TAKEN),
-];
-
-#[test]
-fn names_that_are_none_are_told(rt: HostRuntime) {
-    for &(name, head, rows) in NO_NAMES {
-        check_faults(&rt, rt.alloc(), name, head, rows);
-    }
-}
-
-const NO_VALUES: &[Faults] = &[
     ("what is said stands where it may", NAME, faults::SAID),
     ("names of a syntax are taken once", NAME, syntaxes::TAKEN),
-];
-
-#[test]
-fn what_stands_where_it_may_not_is_told(rt: HostRuntime) {
-    for &(name, head, rows) in NO_VALUES {
-        check_faults(&rt, rt.alloc(), name, head, rows);
-    }
-}
-
-const NO_SYNTAXES: &[Faults] = &[
     ("a usage line shows one piece", NAME, syntaxes::PIECES),
     ("what is no syntax is told", NAME, syntaxes::FAULTS),
 ];
 
 #[test]
-fn syntaxes_that_are_none_are_told(rt: HostRuntime) {
-    for &(name, head, rows) in NO_SYNTAXES {
+fn faults_are_told(rt: HostRuntime) {
+    for &(name, head, rows) in FAULTS {
         check_faults(&rt, rt.alloc(), name, head, rows);
     }
 }

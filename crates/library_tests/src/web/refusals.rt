@@ -1,8 +1,8 @@
 //! Each growth refused in turn. A page is written in an arena, with a text of some length, and then all that is
 //! left of the arena is taken. Where the next call is refused, it is made again with the arena's room back, and the
 //! page is then that of ample memory: so the refused call had left nothing.
-use crate::steps::Step::{End, LineBreak, Start, StartLink, StartLinkToId, StartWithId, Text};
-use crate::steps::{Step, apply, new};
+use crate::web::steps::Step::{End, LineBreak, Start, StartLink, StartLinkToId, StartWithId, Text};
+use crate::web::steps::{Step, apply, new};
 use bumpalo::Bump;
 use std::alloc::{AllocError, Allocator};
 use std::process::Abort;

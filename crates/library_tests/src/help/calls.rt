@@ -1,9 +1,9 @@
 //! The calls that may answer `AllocError`, how each of them ends over an arena, and what it shows then: what it gave,
 //! or what it left where it was refused, as debug text, which is the same over all allocators.
 use crate::arenas::{leave, roomy};
-use crate::meta::calls::{Make, Write, is_made, read_is_shown, shorts_are_put, write_in};
-use crate::pages_calls::{PageCall, page_ended};
-use crate::trees::{DESCRIBED, info, path, tree};
+use crate::help::meta::calls::{Make, Write, is_made, read_is_shown, shorts_are_put, write_in};
+use crate::help::pages_calls::{PageCall, page_ended};
+use crate::help::trees::{DESCRIBED, info, path, tree};
 use bpaf_doc::buffer::Doc;
 use bpaf_help::meta::Meta;
 use bpaf_help::meta_help::{EnvTexts, HelpItems, write_help, write_help_item_groups};

@@ -2,10 +2,10 @@
 //! time, until it succeeds. Each refusal leaves what was lent as it was, and the answer at the end is that of
 //! ample memory.
 use crate::arenas::{BYTES, STEP};
-use crate::calls::{Call, Ended, end_of};
-use crate::meta::calls::{Make, Write};
-use crate::pages_calls::PageCall;
-use crate::rows::{Form, Row, is_made};
+use crate::help::calls::{Call, Ended, end_of};
+use crate::help::meta::calls::{Make, Write};
+use crate::help::pages_calls::PageCall;
+use crate::help::rows::{Form, Row, is_made};
 use std::alloc::Global;
 use std::process::Abort;
 

@@ -1,7 +1,7 @@
 //! What is made of trees with ample memory.
-use crate::calls::list_of;
-use crate::pages_calls::{PageCall, gathered, text_of};
-use crate::trees::{info, path, tree};
+use crate::help::calls::list_of;
+use crate::help::pages_calls::{PageCall, gathered, text_of};
+use crate::help::trees::{info, path, tree};
 use bpaf_doc::buffer::Doc;
 use bpaf_help::meta::Meta;
 use bpaf_help::meta_help::{EnvTexts, Info, render_help, write_help_item_groups};

@@ -1,7 +1,7 @@
 //! The calls that make pages and sections, and may answer `AllocError`.
 use crate::arenas::leave;
-use crate::calls::Ended;
-use crate::trees::{DESCRIBED, info, make_path, path};
+use crate::help::calls::Ended;
+use crate::help::trees::{DESCRIBED, info, make_path, path};
 use bpaf_doc::buffer::Doc;
 use bpaf_help::item::{Item, ShortLong};
 use bpaf_help::meta::Meta;

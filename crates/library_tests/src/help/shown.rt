@@ -1,5 +1,5 @@
 //! What `Debug` shows of texts of environment variables, what errors say, and title lines.
-use crate::trees::{BARE, info, tree};
+use crate::help::trees::{BARE, info, tree};
 use bpaf_help::item::NoName;
 use bpaf_help::meta::Meta;
 use bpaf_help::meta_help::{EnvTexts, HelpError};

@@ -1,6 +1,6 @@
 //! A page of many flags.
-use crate::rows::{Form, made};
-use crate::trees::{BARE, info, leaf};
+use crate::help::rows::{Form, made};
+use crate::help::trees::{BARE, info, leaf};
 use bpaf_help::meta::Meta;
 use std::alloc::Global;
 use std::fmt::Write;

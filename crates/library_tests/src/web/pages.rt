@@ -1,6 +1,6 @@
 //! Rows: what the body's content is written as, and which fault a call has.
-use crate::steps::Step::{End, LineBreak, Start, StartLink, StartLinkToId, StartWithId, Text};
-use crate::steps::{END, FRONT, Step, apply, new};
+use crate::web::steps::Step::{End, LineBreak, Start, StartLink, StartLinkToId, StartWithId, Text};
+use crate::web::steps::{END, FRONT, Step, apply, new};
 use std::alloc::Global;
 use std::process::Abort;
 use std::test::Fail;

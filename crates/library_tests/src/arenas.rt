@@ -5,7 +5,7 @@ use bumpalo::collections::into_bump_slice;
 use std::alloc::Global;
 use std::process::Abort;
 
-/// How many bytes an arena has: more than a page of these tests takes beside what it is made of.
+/// How many bytes an arena has: more than a call of these tests takes beside what it is given.
 pub const BYTES: usize = 65536;
 
 /// How many bytes more an arena has left each time. Few growths are smaller.

@@ -1,0 +1,10 @@
+//! Tests of trees and usage lines, item lists, texts of environment variables, help pages and pages of applications.
+
+mod calls;
+mod many;
+mod meta;
+mod pages_calls;
+mod refusals;
+mod rows;
+mod shown;
+mod trees;
