@@ -1,5 +1,5 @@
-//! The tables of rows with ample memory, each with what it shows. A test goes through a few tables of pages: one over all is
-//! too much for the prover, which has each row of them as a value of its own. A table of faults is one text.
+//! The tables of rows with ample memory, each with what it shows. A test goes through a few tables of pages: one over
+//! all is too much for the prover, which has each row of them as a value of its own. A table of faults is one text.
 use crate::forms::Form;
 use crate::reading::{Row, TOP, says, told};
 use crate::{all, faults, keys, manuals, pages, rows, subjects, syntaxes, texts, web_pages};
@@ -88,8 +88,8 @@ fn web_pages_are_shown(rt: HostRuntime) {
     }
 }
 
-// The rows of a table of faults stand behind one head, with an empty line between them. A row is a text, and behind `=> ` the
-// usage line of what it describes, or its fault.
+// The rows of a table of faults stand behind one head, with an empty line between them. A row is a text, and behind
+// `=> ` the usage line of what it describes, or its fault.
 type Faults = (&'static str, &'static str, &'static str);
 
 const NAME: &str = "name = 'a'\n";
