@@ -117,7 +117,7 @@ class Vendor(InFolder):
 
     def test_copies_a_crate_and_those_below_it(self):
         status, told, _ = self.call("bpaf_doc")
-        self.assertEqual((status, told.splitlines()[1:]), (0, ["bpaf_roff:", "bpaf_doc: bpaf_roff memchr unicode_width"]))
+        self.assertEqual((status, told.splitlines()[1:]), (0, ["bpaf_roff:", "bpaf_doc: bpaf_roff memchr unicode_width ucd_table"]))
         held = self.held()
         for name in ("bpaf_roff", "bpaf_doc"):
             for part in ("src", "specs", "proofs"):

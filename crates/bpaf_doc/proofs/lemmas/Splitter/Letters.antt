@@ -1,6 +1,5 @@
 -- Latin letters of two bytes take a column each, as printable ASCII does.
-use Rattle.std.proofs.lemmas.Grind.{common_steps}
-use Rattle.std.specs.Prelude.{◌≡◌, ℕ, zero, suc, ◌+◌, ◌-◌, ◌/◌, ◌%◌, ◌<◌, ◌≤◌, ◌==◌, Bool, true, false, ◌&&◌, List, [], ◌∷◌, ◌++◌, refl, length, take, drop, sum_by, if◌then◌else◌}
+use Rattle.std.specs.Prelude.{◌≡◌, ℕ, ◌+◌, ◌/◌, ◌%◌, ◌<◌, ◌≤◌, ◌==◌, Bool, true, false, ◌&&◌, ◌||◌, nat_lt, List, [], ◌∷◌, ◌++◌, refl, length, take, drop, sum_by, if◌then◌else◌}
 use Rattle.std.specs.Int.{is_in_range}
 use Rattle.std.specs.List.{list_all}
 use Rattle.std.specs.Str.{IsUtf8}
@@ -12,8 +11,12 @@ use Rattle.std.proofs.lemmas.List.Folds.{list_all-append, list_all_more}
 use Rattle.std.proofs.lemmas.List.{take_more, take_rest}
 use Rattle.std.proofs.lemmas.List.Sums.{sum_by-append, sum_by-cons, count_by-le-length}
 use Rattle.std.proofs.lemmas.Str.{chars_from_encodes}
-use Rattle.unicode_width.specs.Width.{char_width}
-use Rattle.unicode_width.proofs.Rules.{is_simple, width_or_zero, str_width-simple}
+use Rattle.ucd_table.proofs.Facts.{passes_below, Stepped-below}
+use Rattle.unicode_width.specs.declared.kind.Kind.{Kind}
+use Rattle.unicode_width.specs.Kind.{kind}
+use Rattle.unicode_width.specs.Width.{alone, char_width, of_kind}
+use Rattle.unicode_width.proofs.KindLemmas.{kind_stepped}
+use Rattle.unicode_width.proofs.Rules.{is_simple, is_simple_kind, width_or_zero, str_width-simple}
 use Rattle.unicode_width.proofs.Computing.{unicode_width}
 use Rattle.bpaf_doc.specs.Splitter.Chunks.{IsWordEnd, columns, is_line_byte}
 use Rattle.bpaf_doc.specs.Splitter.Steps.Runs.{IsRunEnd, IsLettered, is_lettered, begins, letters}
@@ -26,38 +29,18 @@ use Rattle.bpaf_doc.proofs.lemmas.Splitter.Runs.{tested_front, line_ends, blank_
 abbrev is_narrow : ℕ → Bool
 is_narrow c = is_simple c && (width_or_zero false c == 1)
 
-abbrev all_narrow : ℕ → ℕ → Bool
-all_narrow zero first = true
-all_narrow (suc n) first = is_narrow first && all_narrow n (first + 1)
+-- of a character above U+00A0, by its kind
+abbrev is_narrow_kind : ℕ → Kind → Bool
+is_narrow_kind c k = is_simple_kind k && ((of_kind false c k).0 == 1)
 
--- the letters from U+00C0 up to U+023F, some at a time
-narrow_low : all_narrow 128 0x0C0 ≡ true
+-- the letters from U+00C0 up to U+023F
+letters_narrow : passes_below kind kind_stepped (λ c k. nat_lt c 0xC0 || is_narrow_kind c k) 0x240 ≡ true
 unfolding unicode_width
-narrow_low = refl
-
-narrow_middle : all_narrow 128 0x140 ≡ true
-unfolding unicode_width
-narrow_middle = refl
-
-narrow_high : all_narrow 128 0x1C0 ≡ true
-unfolding unicode_width
-narrow_high = refl
-
-narrow_at : (n first k : ℕ) → all_narrow n first ≡ true → k < n → is_narrow (first + k) ≡ true
-narrow_at zero first k h l = absurd (omega (arith, l))
-narrow_at (suc n) first zero h l = grind (arith, common_steps, and_parts)
-narrow_at (suc n) first (suc k) h l = grind (arith, common_steps, narrow_at n (first + 1) k (and_parts (is_narrow first) (all_narrow n (first + 1)) h).1 (omega (arith, l)), and_parts)
-
-narrow_in : (first c : ℕ) → all_narrow 128 first ≡ true → first ≤ c → c < first + 128 → is_narrow c ≡ true
-narrow_in first c h low high =
-    let e : first + (c - first) ≡ c = omega (arith, low) in
-    ap is_narrow (sym e) ∙ narrow_at 128 first (c - first) h (omega (arith, low, high))
+letters_narrow = refl
 
 letter_narrow : (c : ℕ) → 192 ≤ c → c < 576 → is_narrow c ≡ true
-letter_narrow c low high = elim (cases_lt c 0x140) [
-  | inl l ↦ narrow_in 0x0C0 c narrow_low low l
-  | inr m ↦ elim (cases_lt c 0x1C0) [ inl l ↦ narrow_in 0x140 c narrow_middle m l | inr m ↦ narrow_in 0x1C0 c narrow_high m high ]
-]
+unfolding char_width alone
+letter_narrow c low high = grind (arith, nat_tests, Stepped-below kind kind_stepped (λ c k. nat_lt c 0xC0 || is_narrow_kind c k) 0x240 letters_narrow c high)
 
 ascii_narrow : (c : ℕ) → is_in_range 0x20 0x7E c ≡ true → is_narrow c ≡ true
 unfolding char_width

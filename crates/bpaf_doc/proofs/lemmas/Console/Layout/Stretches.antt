@@ -4,11 +4,11 @@ use Rattle.std.specs.Prelude.{◌≡◌, ◌≢◌, ℕ, Bool, true, false, ◌&
 use Rattle.std.specs.Str.{trim_end, drop_trailing_whitespace, chars, encode_utf8_all}
 use Rattle.std.specs.Char.{is_whitespace, is_not_whitespace}
 use Rattle.std.proofs.Common.{rules, sym, subst, ap, arith, inl, inr, ◌∙◌, append_assoc}
-use Rattle.std.proofs.lemmas.List.{append-nil, same_from_push}
+use Rattle.std.proofs.lemmas.List.{append-nil, nil_from_length, same_from_push}
 use Rattle.std.proofs.lemmas.Str.{chars-append, encodes-chars, chars-encodes, scalars-chars, encodes-append, IsUtf8-append, IsUtf8-nil, IsUtf8-from_ascii}
 use Rattle.std.proofs.Math.Utf8.{encodes, scalars, scalar}
 use Rattle.std.proofs.lemmas.Bool.Decides.{nat_tests}
-use Rattle.std.proofs.lemmas.Bool.{or_parts}
+use Rattle.std.proofs.lemmas.Bool.{and_parts, eqb-true, or_parts}
 use Rattle.bpaf_doc.proofs.lemmas.Console.Layout.Columns.{whole_trim}
 use Rattle.bpaf_doc.specs.Buffer.Parts.{ink}
 use Rattle.bpaf_doc.specs.Splitter.Chunks.{is_inked, has_some, IsLine}
@@ -216,7 +216,13 @@ shown_trim e u h = grind (arith, trim_twice)
 
 kept_ink : (cs : List ℕ) → filter is_not_whitespace (drop_trailing_whitespace cs) ≡ filter is_not_whitespace cs
 kept_ink [] = refl
-kept_ink (c ∷ cs) = grind (arith, common_steps, kept_ink cs, by_cases, nat_tests)
+kept_ink (c ∷ cs) = elim (by_cases (is_whitespace c && (length (drop_trailing_whitespace cs) == 0))) [
+  | inl t ↦
+      let parts = and_parts (is_whitespace c) (length (drop_trailing_whitespace cs) == 0) t in
+      let none : drop_trailing_whitespace cs ≡ [] = nil_from_length (drop_trailing_whitespace cs) (eqb-true _ 0 parts.1) in
+      rw t (rw parts.0 (ap (λ ds. filter is_not_whitespace ds) (sym none) ∙ kept_ink cs))
+  | inr t ↦ rw t (rw (kept_ink cs) refl)
+]
 
 pub trim_ink : (text : List ℕ) → IsUtf8 text → ink (trim_end text) ≡ ink text
 unfolding trim_end
