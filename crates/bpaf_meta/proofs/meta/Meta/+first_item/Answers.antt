@@ -20,4 +20,4 @@ around m inner (inr (inr (inr (inr (inr (inr (inl e))))))) = grind (arith, the_l
 around m inner (inr (inr (inr (inr (inr (inr (inr e))))))) = grind (arith, the_lemmas, e)
 
 pub returns-in-Optional : goal.returns-in-Optional
-returns-in-Optional g t c = cc (around c.args.self.now c.in-Optional.inner c.in-Optional.is, c.deref-in-Optional.ensures, c.first_item-in-Optional.ensures)
+returns-in-Optional g t c = grind (arith, around c.args.self.now c.in-Optional.inner c.in-Optional.is)
