@@ -2,14 +2,17 @@
 //!
 //! Each call answers whether what it says is so. Where a test itself has too little memory, it is not.
 
+ghost use Rattle.std.specs.Prelude.{◌<◌};
+
 use crate::clidoc::ends::description_ran;
 use crate::clidoc::pages::Form;
 use crate::helpdoc::ends::{sample_ran, text_ran};
+use crate::stand_ins::arenas::{BYTES, arena_of};
 use crate::stand_ins::runs::{Ending, Ends};
-use crate::stand_ins::scripts::{Draws, Script, stride};
+use crate::stand_ins::scripts::{Draws, Script};
 use helpdoc_engine::words::Choice;
 use linked_list_allocator::LocalHeap;
-use std::alloc::Global;
+use std::alloc::{Allocator, Global};
 
 /// How many bytes are ample for a small page.
 pub const AMPLE: usize = 1 << 20;
@@ -24,15 +27,33 @@ pub enum Asked {
     Clidoc(Form),
 }
 
+// How a run over this memory ends. None where its ends tell otherwise.
+fn ran_over<A: Allocator + Copy>(
+    alloc: A,
+    global: Global,
+    asked: Asked,
+    ends: &Ends<'_>,
+) -> Option<Ending> {
+    match asked {
+        Asked::Helpdoc(Choice::Text(form)) => text_ran(alloc, form, ends),
+        Asked::Helpdoc(Choice::Sample(form)) => sample_ran(alloc, form, ends),
+        Asked::Clidoc(form) => description_ran(alloc, global, form, ends),
+    }
+}
+
 /// How a run on so much memory ends. None where its ends tell otherwise.
 pub fn ran(global: Global, budget: usize, asked: Asked, ends: &Ends<'_>) -> Option<Ending> {
-    let Ok(heap) = LocalHeap::new(global, budget) else {
-        return None;
-    };
-    match asked {
-        Asked::Helpdoc(Choice::Text(form)) => text_ran(&heap, form, ends),
-        Asked::Helpdoc(Choice::Sample(form)) => sample_ran(&heap, form, ends),
-        Asked::Clidoc(form) => description_ran(&heap, global, form, ends),
+    match LocalHeap::new(global, budget) {
+        Ok(heap) => ran_over(&heap, global, asked, ends),
+        Err(_) => None,
+    }
+}
+
+// The same, in an arena.
+fn ran_in(global: Global, room: usize, asked: Asked, ends: &Ends<'_>) -> Option<Ending> {
+    match arena_of(global, room) {
+        Ok(arena) => ran_over(&arena, global, asked, ends),
+        Err(_) => None,
     }
 }
 
@@ -58,9 +79,9 @@ pub fn says_failed_reads(global: Global, asked: Asked, input: &[u8], page: &[u8]
     true
 }
 
-/// Whether each failed write is said, one a byte, or of a page that is long some of them.
+/// Whether each failed write is said, one a byte.
 pub fn says_failed_writes(global: Global, asked: Asked, input: &[u8], page: &[u8]) -> bool {
-    for call in (0..page.len()).step_by(stride(page.len())) {
+    for call in 0..page.len() {
         let ends = Ends::new(input, page).writing(Script::failing(call));
         if ran(global, AMPLE, asked, &ends) != Some(Ending::WriteFailed) {
             return false;
@@ -69,14 +90,25 @@ pub fn says_failed_writes(global: Global, asked: Asked, input: &[u8], page: &[u8
     true
 }
 
-/// Whether each budget refuses the first growth that does not fit it, and nothing is written then; the budgets rise
-/// until one suffices, and the first is too small.
+// How many bytes more an arena has each time. No growth is smaller than one; of the longer runs a smaller one may be
+// passed over.
+fn step_of(asked: Asked) -> usize
+    ensures { 0 < result }
+{
+    match asked {
+        Asked::Helpdoc(_) => 1,
+        Asked::Clidoc(_) => 64,
+    }
+}
+
+/// Whether each room refuses the first growth that does not fit it, and nothing is written then; the first is none, and
+/// the rooms rise until one suffices.
 pub fn refuses_until_ample(global: Global, asked: Asked, input: &[u8], page: &[u8]) -> bool {
     let ends = Ends::new(input, page).reading(Script::BYTES);
-    for budget in 1..4096usize {
-        let ran = ran(global, budget * 16, asked, &ends);
+    for room in (0..BYTES).step_by(step_of(asked)) {
+        let ran = ran_in(global, room, asked, &ends);
         if ran != Some(Ending::NoMemory) {
-            return ran == Some(Ending::Done) && budget > 1;
+            return ran == Some(Ending::Done) && room > 0;
         }
     }
     false

@@ -6,7 +6,7 @@ use crate::stand_ins::scripts::Script;
 use clidoc_engine::engine::{check_description, run_description};
 use clidoc_engine::faults::Fault;
 use linked_list_allocator::LocalHeap;
-use std::alloc::Global;
+use std::alloc::{Allocator, Global};
 use watched::Watched;
 
 fn ending_of(outcome: &Result<(), Fault>) -> Ending {
@@ -20,8 +20,8 @@ fn ending_of(outcome: &Result<(), Fault>) -> Ending {
 }
 
 /// How a run on a description ends. None where its ends tell otherwise.
-pub fn description_ran(
-    heap: &LocalHeap,
+pub fn description_ran<A: Allocator + Copy>(
+    alloc: A,
     global: Global,
     form: Form,
     ends: &Ends<'_>,
@@ -29,7 +29,7 @@ pub fn description_ran(
     let mut reader = Watched::new(ends.reader());
     let mut writer = Watched::new(ends.writer());
     let asked = page_of(global, form);
-    let ending = ending_of(&run_description(heap, global, &asked, &mut reader, &mut writer));
+    let ending = ending_of(&run_description(alloc, global, &asked, &mut reader, &mut writer));
     if ends.have_read(ending, reader) && ends.have_written(ending, writer) {
         Some(ending)
     } else {

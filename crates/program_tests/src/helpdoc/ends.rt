@@ -3,7 +3,7 @@ use crate::stand_ins::runs::{Ending, Ends};
 use helpdoc_engine::engine::{run_sample, run_text};
 use helpdoc_engine::faults::Fault;
 use helpdoc_engine::words::Form;
-use linked_list_allocator::LocalHeap;
+use std::alloc::Allocator;
 use watched::Watched;
 
 fn ending_of(outcome: Result<(), Fault>) -> Ending {
@@ -17,10 +17,10 @@ fn ending_of(outcome: Result<(), Fault>) -> Ending {
 }
 
 /// How a run on a text ends. None where its ends tell otherwise.
-pub fn text_ran(heap: &LocalHeap, form: Form, ends: &Ends<'_>) -> Option<Ending> {
+pub fn text_ran<A: Allocator + Copy>(alloc: A, form: Form, ends: &Ends<'_>) -> Option<Ending> {
     let mut reader = Watched::new(ends.reader());
     let mut writer = Watched::new(ends.writer());
-    let ending = ending_of(run_text(heap, form, &mut reader, &mut writer));
+    let ending = ending_of(run_text(alloc, form, &mut reader, &mut writer));
     if ends.have_read(ending, reader) && ends.have_written(ending, writer) {
         Some(ending)
     } else {
@@ -29,9 +29,9 @@ pub fn text_ran(heap: &LocalHeap, form: Form, ends: &Ends<'_>) -> Option<Ending>
 }
 
 /// How a run on the sample ends. None where its writer tells otherwise.
-pub fn sample_ran(heap: &LocalHeap, form: Form, ends: &Ends<'_>) -> Option<Ending> {
+pub fn sample_ran<A: Allocator + Copy>(alloc: A, form: Form, ends: &Ends<'_>) -> Option<Ending> {
     let mut writer = Watched::new(ends.writer());
-    let ending = ending_of(run_sample(heap, form, &mut writer));
+    let ending = ending_of(run_sample(alloc, form, &mut writer));
     if ends.have_written(ending, writer) {
         Some(ending)
     } else {

@@ -317,13 +317,6 @@ impl Write for ScriptedWriter<'_> {
     }
 }
 
-/// How far places stand apart of which so many are tried, at most 64.
-pub fn stride(places: usize) -> usize
-    ensures { 0 < result }
-{
-    places / 64 + 1
-}
-
 /// The sizes around each small constant of the code.
 pub static SIZES: [usize; 9] = [1, 63, 64, 65, 4095, 4096, 4097, 64 * 1024, 64 * 1024 + 1];
 

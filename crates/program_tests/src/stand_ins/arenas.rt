@@ -1,0 +1,20 @@
+//! Arenas with little room. An arena gives no room out twice, but for that of its last block: so with a little more room
+//! each time, one growth of a run after another is the first that is refused, also where a heap would have room again that
+//! was given back.
+
+use bumpalo::Bump;
+use bumpalo::collections::into_bump_slice;
+use std::alloc::{AllocError, Global};
+
+/// How many bytes an arena has: more than a run on a small page takes.
+pub const BYTES: usize = 65536;
+
+/// An arena that has so many bytes left and gets no more.
+pub fn arena_of(global: Global, room: usize) -> Result<Bump, AllocError> {
+    let arena = Bump::try_with_capacity(global, BYTES)?;
+    arena.set_allocation_limit(Some(0));
+    let rest = arena.chunk_capacity().saturating_sub(room);
+    let taken: Vec<u8, &Bump> = Vec::with_capacity(&arena, rest)?;
+    into_bump_slice(taken);
+    Ok(arena)
+}
