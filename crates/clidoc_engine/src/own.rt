@@ -1,7 +1,7 @@
 //! What the program says of itself.
 
-/// The line of its version, which is that of the Rust crate whose pages it makes.
-pub const VERSION: &str = "clidoc 0.9.28\n";
+/// The line of its version, which `./release` reads here. It is greater than that of the Rust crate whose pages it makes, which it had before.
+pub const VERSION: &str = "clidoc 1.0.0\n";
 
 /// Its description: the text of `examples/clidoc.toml`.
 pub const DESCRIPTION: &str = r#"# The program that makes the pages. Its footer has an example.

@@ -161,13 +161,13 @@ clidoc|check
 
 ----
 clidoc|--version
-clidoc 0.9.28
+clidoc 1.0.0
 
 ====
 
 ----
 clidoc|-V
-clidoc 0.9.28
+clidoc 1.0.0
 
 ====
 
