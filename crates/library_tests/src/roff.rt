@@ -5,3 +5,4 @@ mod labels;
 mod monoids;
 mod refusals;
 mod roffs;
+mod vectors;

@@ -17,6 +17,8 @@ use std::process::Abort;
 
 #[derive(Clone, Copy)]
 pub enum PageCall {
+    /// The check that stands before each page, alone.
+    Check,
     Help,
     Collected,
     Html,
@@ -54,6 +56,7 @@ pub fn page_ended<'a>(
         _ => {
             leave(rt, arena, room);
             match call {
+                PageCall::Check => ended(rt, checked(tree), shown),
                 PageCall::Collected => ended(rt, collect_html(arena, "app", tree, &info), shown),
                 PageCall::Count => ended(rt, count(arena, tree, &info), shown),
                 _ => ended(rt, text_of(arena, tree, &info, call), shown),
@@ -125,6 +128,13 @@ pub fn text_of<'m, A: Allocator + Copy>(
             let page = render_manpage(alloc, "app", section, None, None, None, tree, info)?;
             Ok(page)
         }
+    }
+}
+
+fn checked<'m, A: Allocator>(tree: &'m Meta<A>) -> Result<(), HelpError<'m, A>> {
+    match tree.positional_invariant_check() {
+        Ok(()) => Ok(()),
+        Err(item) => Err(HelpError::Misplaced(item)),
     }
 }
 

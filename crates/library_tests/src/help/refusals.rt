@@ -206,6 +206,9 @@ const GATHERED: usize = usize::MAX;
 
 // A room, a tree, a page, and how it ends.
 const ENDS: &[(usize, &str, PageCall, Ended)] = &[
+    // The check takes no memory.
+    (0, "Pb&", PageCall::Check, Ended::Misplaced('b')),
+    (0, "bP&", PageCall::Check, Ended::Given),
     // A misplaced item is found before memory is asked for.
     (0, "Pb&", PageCall::Help, Ended::Misplaced('b')),
     (BYTES, "Pb&", PageCall::Help, Ended::Misplaced('b')),
