@@ -6,11 +6,12 @@ description of README.md in `examples/`. The description of the README's picture
 Prints what does not. Ends with status 1 where there is any.
 """
 import difflib
-import pathlib
 import re
 import sys
 
-TOP = pathlib.Path(sys.argv[1] if sys.argv[1:] else pathlib.Path(__file__).resolve().parent.parent)
+import common
+
+TOP = common.top_of("callers")
 CRATES, EXAMPLES = TOP / "crates", TOP / "examples"
 FIRST = "#![tactic(auto)]\n\n"
 

@@ -4,11 +4,12 @@
 The libraries are those of crates.txt. A call can meet a failure where it answers a `Result`, unless its error is one of those named here.
 Prints what is missing there, and rows that name no such call or no test. Ends with status 1 where there is any.
 """
-import pathlib
 import re
 import sys
 
-TOP = pathlib.Path(sys.argv[1] if sys.argv[1:] else pathlib.Path(__file__).resolve().parent.parent)
+import common
+
+TOP = common.top_of("refusals")
 PAGE = TOP / "docs" / "lists" / "REFUSALS.md"
 # Crates that are no libraries for others: tests, equations, and callers.
 NO_LIBRARIES = re.compile(r"\w+_tests|rows|callers")
@@ -21,9 +22,8 @@ ROW = re.compile(r"(?m)^\| `([\w:]+)` \| `(\w+)::((?:\w+::)*)(\w+)`")
 
 
 def libraries():
-    for line in (TOP / "crates.txt").read_text(encoding="utf-8").splitlines():
-        name = re.match(r"\w*", line)[0]
-        if name and (TOP / "crates" / name / "src" / "lib.rt").exists() and not NO_LIBRARIES.fullmatch(name) and name not in OF_GLOBAL:
+    for name in common.lines(TOP):
+        if (TOP / "crates" / name / "src" / "lib.rt").exists() and not NO_LIBRARIES.fullmatch(name) and name not in OF_GLOBAL:
             yield name
 
 

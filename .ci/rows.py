@@ -3,13 +3,13 @@
 
 Prints the rows that are not there, and those that nothing runs. Ends with status 1 where there is any. `rows.py write` writes the page.
 """
-import pathlib
 import re
 import sys
 
-TOP = pathlib.Path(__file__).resolve().parent.parent
-CRATES = TOP / "crates"
-PAGE = TOP / "docs" / "lists" / "ROWS.md"
+import common
+
+CRATES = common.TOP / "crates"
+PAGE = common.TOP / "docs" / "lists" / "ROWS.md"
 HEAD = """# Rows of the rules
 
 A row is an input with what comes of it. Each has a number here, in the order of the files that hold them, and what runs it in the gate:
@@ -88,6 +88,8 @@ def rows():
 
 
 def main():
+    if sys.argv[1:] not in ([], ["write"]):
+        common.refuse("rows", "expected nothing, or write")
     lines = [f"| {number} | {words.replace('|', chr(92) + '|')} | {run} |" for number, (words, run) in enumerate(rows(), 1)]
     text = HEAD + "\n".join(lines) + "\n"
     if sys.argv[1:] == ["write"]:

@@ -1,25 +1,35 @@
 #!/usr/bin/env python3
-"""Tests of `.ci/refusals.py`, `.ci/callers.py`, `.ci/mutants`, `vendor`, `test` and `install`, on copies in a temporary folder: some seconds.
+"""Tests of the scripts, most on copies in a temporary folder: some seconds.
 
-All but the first two and `vendor` call the toolchain's `rt`. Here a stand-in answers in its place.
+`.ci/run`, `.ci/mutants`, `test` and `install` call the toolchain's `rt`, and `release` calls `install`. Here stand-ins answer in their place.
 """
 import os
 import pathlib
 import shutil
 import subprocess
 import sys
+import tarfile
 import tempfile
+import time
 import unittest
 
 TOP = pathlib.Path(__file__).resolve().parent.parent
+
+
+def copy_script(folder, name):
+    """Copies a script, and what scripts share."""
+    for it in (name, ".ci/common.py"):
+        (folder / it).parent.mkdir(parents=True, exist_ok=True)
+        shutil.copy(TOP / it, folder / it)
 
 
 def copy_to(folder, crates):
     """A repository with these crates of this one, its lists and its scripts."""
     for name in crates:
         shutil.copytree(TOP / "crates" / name, folder / "crates" / name, ignore=shutil.ignore_patterns("out", "must-fail", "mutants"))
-    for name in ("crates.txt", "README.md", "vendor"):
+    for name in ("crates.txt", "README.md"):
         shutil.copy(TOP / name, folder / name)
+    copy_script(folder, "vendor")
     shutil.copytree(TOP / "docs", folder / "docs", ignore=shutil.ignore_patterns("pictures"))
 
 
@@ -146,8 +156,40 @@ class Vendor(InFolder):
         self.assertEqual(self.held(), held)
 
     def test_refuses_what_is_not_there(self):
-        self.assertEqual(self.call("no_crate")[::2], (1, "vendor: no crate no_crate stands in crates.txt\n"))
+        self.assertEqual(self.call("no_crate")[::2], (2, "vendor: no crate no_crate stands in crates.txt\n"))
+        self.assertEqual(self.call()[::2], (2, "vendor: expected FOLDER and the names of crates\n"))
         self.assertEqual(self.held(), {})
+
+
+class WrongWords(InFolder):
+    WRONG = (
+        (".ci/run", "x"),
+        (".ci/rows.py", "wirte"),
+        (".ci/rows.py", "write", "x"),
+        (".ci/callers.py", "no_folder"),
+        (".ci/refusals.py", ".", "x"),
+        (".ci/mutants", "no_crate"),
+        ("test", "no_crate"),
+        ("install",),
+        ("install", "--help"),
+        ("release", "--helf"),
+        ("release", "x", "x"),
+        ("speed", "no such case"),
+    )
+
+    def test_are_refused_at_once(self):
+        for script, *words in self.WRONG:
+            asked = subprocess.run([TOP / script, *words] if os.access(TOP / script, os.X_OK) else [sys.executable, TOP / script, *words], **self.how())
+            self.assertEqual((asked.returncode, asked.stdout), (2, ""), script)
+            self.assertIn(f"{pathlib.Path(script).stem}: ", asked.stderr)
+
+    def test_help_of_release_is_its_head(self):
+        asked = subprocess.run([TOP / "release", "--help"], **self.how())
+        self.assertEqual((asked.returncode, asked.stderr), (0, ""))
+        self.assertIn("\n    ./release [FOLDER] ", asked.stdout)
+
+    def how(self):
+        return {"capture_output": True, "text": True, "cwd": TOP}
 
 
 class OverStandIn(InFolder):
@@ -159,42 +201,87 @@ class OverStandIn(InFolder):
         place.write_text(f"#!/bin/sh\n{script}\n")
         place.chmod(0o755)
 
-    def call(self, *words):
-        path = f"{self.folder / 'bin'}:/usr/bin:/bin"
-        asked = subprocess.run([sys.executable, *words], capture_output=True, text=True, env={**os.environ, "PATH": path})
+    def call(self, *words, **more):
+        path = {"PATH": f"{self.folder / 'bin'}:/usr/bin:/bin"}
+        asked = subprocess.run([*words], capture_output=True, text=True, env={**os.environ, **path, **more})
         return asked.returncode, asked.stdout, asked.stderr
+
+
+class Run(OverStandIn):
+    JOBS = "echo $RT_JOBS >> jobs"
+
+    def test_gives_each_step_a_job_at_least(self):
+        copy_script(self.folder, ".ci/run")
+        for path in ("test", ".ci/mutants"):
+            (self.folder / path).write_text(f"#!/bin/sh\n{self.JOBS}\n")
+            (self.folder / path).chmod(0o755)
+        for path in ("callers", "refusals", "rows", "scripts_test"):
+            (self.folder / ".ci" / f"{path}.py").write_text("")
+        self.stand_in("rt", "echo '9 passed, 0 failed'")
+        # What tells the memory that is free.
+        self.stand_in("awk", "echo 0")
+        status, told, _ = self.call(self.folder / ".ci" / "run", RT_JOBS="")
+        self.assertEqual((status, told.splitlines()[-1]), (0, "9 passed, 0 failed"))
+        self.assertEqual((self.folder / "jobs").read_text(), "1\n1\n1\n")
 
 
 class Tests(OverStandIn):
     def setUp(self):
         super().setUp()
-        shutil.copy(TOP / "test", self.folder)
+        copy_script(self.folder, "test")
         (self.folder / "crates.txt").write_text("some_tests: app_engine\napp: app_engine # a program\napp_engine:\n")
         held = {"some_tests/src/lib.rt": "#[test]\n", "app_engine/src/lib.rt": "\n", "app/src/main.rt": "\n", "app/stdin": "in\n"}
-        for path, text in {**held, "app/stdout": "words: full\nin\n", "app/args": "full\n", "app/status": "3\n"}.items():
+        for path, text in {**held, "app/stdout": "read:in\n", "app/args": "full\n", "app/status": "3\n"}.items():
             (self.folder / "crates" / path).parent.mkdir(parents=True, exist_ok=True)
             (self.folder / "crates" / path).write_text(text)
 
+    # It stands for the run of a program: of each case it says by its words how it ends, and that another output comes than is stored.
+    CASES = """cd "$5"; for case in *.args; do case "$(cat $case)" in %s) how='%s';; *) how='ended status=0 runners=1';; esac
+        name=${case%%.args}; [ -f $name.stdout ] && ! sed s/^/read:/ $name | cmp -s - $name.stdout && how="$how output=differs"
+        echo "case=$name run=$how proved=no" >&2; done"""
+
     def told(self, tests, program):
-        self.stand_in("rt", f'case "$*" in *--test) {tests};; *) echo "words: ${{5}}"; cat; {program};; esac')
+        self.stand_in("rt", f'case "$*" in *--test) {tests};; *) {program};; esac')
         status, told, _ = self.call(self.folder / "test")
         return status, told
 
     def test_counts_what_passed(self):
         tests = "echo 'tests: 2'; echo 'test a::b ... ok'; echo 'test c ... ok'"
-        status, told = self.told(tests, "echo 'run=ended status=3 runners=1 proved=no' >&2; exit 3")
+        status, told = self.told(tests, self.CASES % ("full", "ended status=3 runners=1"))
         self.assertEqual((status, told.splitlines()[-1]), (0, "3 passed, 0 failed"))
 
     def test_counts_what_failed(self):
         tests = "echo 'tests: 2'; echo 'test a::b ... ok'; echo 'test c ... FAILED'; exit 101"
-        status, told = self.told(tests, "echo 'run=ended status=0 runners=1 proved=no' >&2")
+        status, told = self.told(tests, self.CASES % ("full", "ended status=1 runners=1"))
         self.assertEqual((status, told.splitlines()[-1]), (1, "1 passed, 2 failed"))
-        self.assertIn("it ended with status 0", told)
+        self.assertIn("case=stored run=ended status=1 ", told)
 
     def test_counts_what_does_not_run(self):
-        status, told = self.told("exit 1", "echo more; echo 'run=fault proved=no' >&2; exit 4")
+        status, told = self.told("exit 1", self.CASES % ("full", "fault"))
         self.assertEqual((status, told.splitlines()[-1]), (1, "0 passed, 2 failed"))
-        self.assertIn("it wrote something else than stdout from line 3 on", told)
+        (self.folder / "crates/app/stdout").write_text("other\n")
+        status, told = self.told("echo 'tests: 1'; echo 'test a::b ... ok'", self.CASES % ("full", "ended status=3 runners=1"))
+        self.assertEqual((status, told.splitlines()[-1]), (1, "1 passed, 1 failed"))
+        self.assertIn("output=differs", told)
+
+    def test_runs_each_example_in_each_form(self):
+        for path in ("crates/clidoc/src/main.rt", "examples/one.toml", "examples/two.toml"):
+            (self.folder / path).parent.mkdir(parents=True, exist_ok=True)
+            (self.folder / path).write_text(f"{path}\n")
+        (self.folder / "crates.txt").write_text("clidoc:\n")
+        self.stand_in("rt", self.CASES % ("man", "ended status=1 runners=1"))
+        status, told, _ = self.call(self.folder / "test")
+        self.assertEqual((status, told.splitlines()[-1]), (1, "17 passed, 2 failed"))
+        self.assertIn("it fails: one-man\n    it fails: two-man\n", told)
+
+    def test_ends_hints_and_nothing_else(self):
+        hints = "sleep 60 & names=$!; wait $tool; wait $names; echo $? > ended"
+        tests = f"setsid sleep 1 & tool=$!; {hints}; echo 'tests: 1'; echo 'test a::b ... ok'"
+        begun = time.monotonic()
+        status, told = self.told(tests, self.CASES % ("full", "ended status=3 runners=1"))
+        self.assertEqual((status, told.splitlines()[-1]), (0, "2 passed, 0 failed"))
+        self.assertEqual((self.folder / "crates/some_tests/ended").read_text(), f"{128 + 15}\n")
+        self.assertLess(time.monotonic() - begun, 30)
 
 
 class Install(OverStandIn):
@@ -202,7 +289,7 @@ class Install(OverStandIn):
         super().setUp()
         self.ours, self.prefix = self.folder / "ours", self.folder / "prefix"
         copy_to(self.ours, [path.name for path in (TOP / "crates").iterdir() if (path / "src").exists()])
-        shutil.copy(TOP / "install", self.ours)
+        copy_script(self.ours, "install")
         shutil.copytree(TOP / "examples", self.ours / "examples")
         self.gives("page")
 
@@ -257,6 +344,57 @@ class Install(OverStandIn):
         self.assertRegex(why, r"^fn of::it: not proved\ninstall: \w+ is not proved, so nothing was installed\n$")
 
 
+class Release(OverStandIn):
+    """A release is made of a commit of a repository whose `install` is a stand-in."""
+
+    def setUp(self):
+        super().setUp()
+        self.ours = self.folder / "ours"
+        for path in ("release", "LICENSE-MIT", "LICENSE-APACHE", "crates/clidoc_engine/src/own.rt"):
+            (self.ours / path).parent.mkdir(parents=True, exist_ok=True)
+            shutil.copy(TOP / path, self.ours / path)
+        (self.ours / "install").write_text('#!/bin/sh\nmkdir -p $1/bin $1/share/man/man1\necho GLIBC_2.34 > $1/bin/clidoc\necho page > $1/share/man/man1/clidoc.1\n')
+        (self.ours / "install").chmod(0o755)
+        self.git("init", "-q")
+        self.git("add", ".")
+        self.git("-c", "user.name=somebody", "-c", "user.email=somebody@here", "commit", "-q", "-m", "all")
+        # It shows what a package would have in the place of the package.
+        self.stand_in("dpkg-deb", 'cat "$3/DEBIAN/control" "$3/usr/share/doc/clidoc/copyright" > "$4"')
+
+    def git(self, *words):
+        subprocess.run(["git", "-C", self.ours, *words], check=True)
+
+    def released(self, **more):
+        status, told, why = self.call(self.ours / "release", self.folder / "out", **{"DEBEMAIL": "", "DEBFULLNAME": "", **more})
+        self.assertEqual((status, why), (0, ""), told)
+        return next((self.folder / "out").glob("*.deb"))
+
+    def test_has_a_version_of_its_own_and_licences(self):
+        package = self.released()
+        version = (self.ours / "crates/clidoc_engine/src/own.rt").read_text().split('"clidoc ')[1].split("\\n")[0]
+        self.assertRegex(package.name, rf"^clidoc_{version}\+\d{{8}}\.\d{{4}}_amd64\.deb$")
+        self.assertGreater([int(it) for it in version.split(".")], [0, 9, 28])
+        self.assertIn("Maintainer: The authors of clidoc <authors@clidoc.invalid>\n", package.read_text())
+        self.assertIn((TOP / "LICENSE-MIT").read_text(), package.read_text())
+        with tarfile.open(next((self.folder / "out").glob("*.tar.gz"))) as archive:
+            held = {name.split("/", 1)[1] for name in archive.getnames() if "/" in name}
+        self.assertLessEqual({"bin/clidoc", "share/doc/clidoc/LICENSE-MIT", "share/doc/clidoc/LICENSE-APACHE"}, held)
+
+    def test_has_the_maintainer_that_is_set(self):
+        self.assertIn("Maintainer: The authors of clidoc <me@here>\n", self.released(DEBEMAIL="me@here").read_text())
+        self.assertIn("Maintainer: Me <me@here>\n", self.released(DEBEMAIL="me@here", DEBFULLNAME="Me").read_text())
+        self.assertIn("Maintainer: Me <me@here>\n", self.released(DEBEMAIL="Me <me@here>").read_text())
+
+
+class Speed(OverStandIn):
+    def test_says_what_is_missing(self):
+        copy_script(self.folder, "speed")
+        status, told, why = self.call(sys.executable, self.folder / "speed", "options, usage", PATH=str(self.folder / "bin"))
+        self.assertEqual((status, told, why.count("\n")), (1, "", 1))
+        self.assertIn("crates/clidoc/out/clidoc", why)
+        self.assertIn("no valgrind", why)
+
+
 # It stands for `rt`. Of a body `wrong` a goal is open, of `unsaid` no report tells, `same` is proved, and `stray` does not compile.
 STAND_IN = r"""
 import pathlib, re, sys
@@ -302,10 +440,10 @@ class Mutants(InFolder):
     def mutant(self, name, old, new, more=""):
         self.write(f"crates/one/mutants/{name}.edit", f"file: src/lib.rt\nold: {old}\nnew: {new}\n{more}")
 
-    def told(self, *words):
+    def told(self, *words, **more):
         path = {"PATH": f"{self.folder / 'bin'}:{os.environ['PATH']}"}
         words = [sys.executable, self.folder / ".ci" / "mutants", *words]
-        asked = subprocess.run(words, capture_output=True, text=True, env={**os.environ, **path})
+        asked = subprocess.run(words, capture_output=True, text=True, env={**os.environ, **path, **more})
         return asked.returncode, asked.stdout.splitlines()
 
     def test_tells_what_does_not_apply(self):
@@ -357,6 +495,16 @@ class Mutants(InFolder):
         self.assertEqual((self.folder / "bin" / "asked").read_text(), "a b c\nb\n")
         self.mutant("of_d", "d_body", "wrong")
         self.assertEqual(self.told("--over", self.folder / "run")[1][-1], "3 refused, 1 let through")
+
+    def test_has_one_lane_where_there_are_no_jobs(self):
+        self.mutant("of_a", "a_body", "wrong")
+        self.assertEqual(self.told("one", RT_JOBS="0")[1][-1], "1 refused, 0 let through")
+
+    def test_does_nothing_when_it_is_imported(self):
+        script = "import importlib.util as u; from importlib.machinery import SourceFileLoader as L; "
+        script += "m = u.module_from_spec(u.spec_from_loader('m', L('m', '.ci/mutants'))); m.__loader__.exec_module(m); print(m.short('a::B::c'))"
+        asked = subprocess.run([sys.executable, "-B", "-c", script], capture_output=True, text=True, cwd=self.folder)
+        self.assertEqual((asked.returncode, asked.stdout), (0, "a::c\n"), asked.stderr)
 
     def test_lets_through_what_is_proved_or_does_not_compile(self):
         for name, new in zip("abcd", ["same", "stray", "wrong", "wrong"]):
