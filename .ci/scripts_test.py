@@ -235,9 +235,9 @@ class Tests(OverStandIn):
             (self.folder / "crates" / path).parent.mkdir(parents=True, exist_ok=True)
             (self.folder / "crates" / path).write_text(text)
 
-    # It stands for the run of a program: of each case it says by its words how it ends, and that another output comes than is stored.
+    # It stands for the run of a program: of each case it says by its words how it ends, and whether the output is that which is stored.
     CASES = """cd "$5"; for case in *.args; do case "$(cat $case)" in %s) how='%s';; *) how='ended status=0 runners=1';; esac
-        name=${case%%.args}; [ -f $name.stdout ] && ! sed s/^/read:/ $name | cmp -s - $name.stdout && how="$how output=differs"
+        name=${case%%.args}; [ -f $name.stdout ] && how="$how output=$(sed s/^/read:/ $name | cmp -s - $name.stdout && echo expected || echo differs)"
         echo "case=$name run=$how proved=no" >&2; done"""
 
     def told(self, tests, program):
