@@ -1,6 +1,6 @@
 //! The bytes that labelled pieces are escaped to.
 
-ghost use Rattle.std.specs.Prelude.{◌≡◌, ◌≤◌, ◌++◌, [], ◌∷◌, List, ℕ, length, map, flat_map, IfOk, OnOk, OnErr, IsUtf8};
+ghost use Rattle.std.specs.Prelude.{◌≡◌, ◌≤◌, ◌++◌, [], ◌∷◌, List, ℕ, length, drop, map, flat_map, IfOk, OnOk, OnErr, IsUtf8};
 ghost use Rattle.std.specs.Borrow.{Bor};
 ghost use Rattle.std.specs.Iterator.{IsFinite, Drains};
 ghost use Rattle.bpaf_roff.specs.Pieces.{Piece, piece_at};
@@ -188,6 +188,7 @@ pub fn escape<'a, I: Iterator<Item = (&'a Escape, &'a str)> + Drop, A: Allocator
     requires ends { IsFinite (I.remaining items) }
     ensures ok { OnOk result ((xs : List (Bor Escape × Bor (List ℕ))) × Drains I.next_gives items xs
         × (out.new.items ≡ out.old.items ++ escaped apostrophes (map piece_at xs))) }
+    ensures added { OnOk result (IsUtf8 (drop (length out.old.items) out.new.items)) }
     ensures text { OnOk result (IsUtf8 out.old.items → IsUtf8 out.new.items) }
     ensures err { OnErr result (out.new.items ≡ out.old.items) }
 {

@@ -1,4 +1,5 @@
 use Rattle.std.proofs.Common.{[], ◌∙◌, map, subst, rules}
+use Rattle.std.proofs.Math.Seq.{drop-append_seam}
 use Rattle.std.proofs.lemmas.List.{map-append}
 use Rattle.std.proofs.lemmas.Str.{IsUtf8-append}
 use Rattle.std.specs.Str.{IsUtf8}
@@ -35,6 +36,12 @@ returns-in-Err-clause-err g c =
     let new = c.write_piece.new.out.items in
     let kept = KeepsFront-later old (escaped c.args.apostrophes (map piece_at c.loop-label.yielded)) new (subst (λ now. KeepsFront now new) inv.items c.write_piece.ensures.kept) in
     rw (c.truncate.ensures.items, inv.start) kept
+
+pub returns-clause-added : goal.returns-clause-added
+returns-clause-added g c =
+    let inv = c.loop-label.invariant in
+    let pieces = map piece_at c.loop-label.yielded in
+    rw (inv.items, drop-append_seam c.args.out.now.items (escaped c.args.apostrophes pieces)) (pieces_text c.args.apostrophes pieces inv.utf8 [])
 
 pub returns-clause-text : goal.returns-clause-text
 returns-clause-text g c =
