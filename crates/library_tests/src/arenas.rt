@@ -23,3 +23,9 @@ pub fn leave(rt: &impl Abort, arena: &Bump, room: usize) {
     let taken: Vec<u8, &Bump> = Vec::with_capacity(arena, rest).expect(rt, "the rest of an arena");
     into_bump_slice(taken);
 }
+
+/// How much room is little beside so many bytes that are written. As a text grows it takes its memory anew, and an
+/// arena gives none out twice.
+pub fn little(written: usize) -> usize {
+    written.saturating_mul(4).saturating_add(256)
+}

@@ -5,4 +5,5 @@ mod labels;
 mod monoids;
 mod refusals;
 mod roffs;
+mod rooms;
 mod vectors;
