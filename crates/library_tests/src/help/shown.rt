@@ -1,4 +1,5 @@
-//! What `Debug` shows of texts of environment variables, what errors say, and title lines.
+//! What `Debug` shows of lists and of texts of environment variables, what errors say, and title lines.
+use crate::help::calls::list_of;
 use crate::help::trees::{BARE, info, tree};
 use bpaf_help::item::NoName;
 use bpaf_help::meta::Meta;
@@ -24,6 +25,24 @@ fn env_texts(rt: &impl Abort, out: Global) -> String {
 fn env_texts_show_what_they_hold(rt: HostRuntime) {
     let shown = env_texts(&rt, rt.alloc());
     assert!(rt; shown.as_str() == r#"{} {"A": "'y'", "B": "'x'"}"#);
+    drop(shown);
+}
+
+fn list(rt: &impl Abort, out: Global) -> String {
+    let tree = tree(rt, out, "X");
+    let list = list_of(rt, out, &tree);
+    let shown = format!(in out; "{list:?}");
+    drop(list);
+    drop(tree);
+    shown.expect(rt, "a text")
+}
+
+#[test]
+fn lists_show_their_entries(rt: HostRuntime) {
+    let shown = list(&rt, rt.alloc());
+    assert!(rt;
+        shown.as_str() == r#"[Positional { metavar: Metavar("X"), help: Some([Text("h", Text)]) }]"#
+    );
     drop(shown);
 }
 
