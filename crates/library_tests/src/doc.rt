@@ -3,3 +3,4 @@
 mod calls;
 mod pages;
 mod refusals;
+mod rooms;

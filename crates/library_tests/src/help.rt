@@ -5,6 +5,7 @@ mod many;
 mod meta;
 mod pages_calls;
 mod refusals;
+mod rooms;
 mod rows;
 mod shown;
 mod trees;

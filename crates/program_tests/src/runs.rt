@@ -279,6 +279,12 @@ helpdoc: expected text or sample, then full, brief, html, markdown or man
 helpdoc|samples|full
 helpdoc: expected text or sample, then full, brief, html, markdown or man
 
+helpdoc|text |full
+helpdoc: expected text or sample, then full, brief, html, markdown or man
+
+helpdoc|text| full
+helpdoc: expected text or sample, then full, brief, html, markdown or man
+
 helpdoc|sample|full|full
 helpdoc: expected text or sample, then full, brief, html, markdown or man";
 

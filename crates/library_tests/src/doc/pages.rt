@@ -17,6 +17,7 @@ pub enum Page {
     StyledHtml,
     BriefHtml,
     Markdown,
+    BriefMarkdown,
     Roff,
     OwnedRoff,
 }
@@ -37,6 +38,7 @@ pub fn text_of<A: Allocator + Copy>(
         Page::StyledHtml => doc.styled_html(alloc),
         Page::BriefHtml => doc.render_html(alloc, false, true),
         Page::Markdown => doc.render_markdown(alloc, true),
+        Page::BriefMarkdown => doc.render_markdown(alloc, false),
         Page::Roff => doc.render_roff(Roff::new(alloc)),
         Page::OwnedRoff => doc.clone()?.into_roff(Roff::new(alloc)),
     }
