@@ -21,6 +21,7 @@ use Rattle.bpaf_meta.specs.declared.item.Item.{the_lemmas}
 use Rattle.bpaf_meta.specs.declared.meta_help.Info.{Info}
 use Rattle.bpaf_meta.specs.View.{head_of, tree_of, text_of}
 use Rattle.bpaf_items.specs.declared.meta_help.error.HelpError.{HelpError}
+use Rattle.bpaf_items.specs.declared.meta_help.error.HelpError.TheVariants as error
 use Rattle.bpaf_items.specs.Listing.ItemList.{Entry, item_list}
 use Rattle.bpaf_items.specs.Listing.Falls.{shown_entries}
 use Rattle.bpaf_items.specs.Page.EnvTexts.{Texts, no_texts}
@@ -28,8 +29,8 @@ use Rattle.bpaf_items.specs.Page.EntryWrites.{entry_writes}
 use Rattle.bpaf_items.specs.Page.HelpPage.{list_writes, heading_writes, groups_writes, doc_within, help_page_writes, help_tree}
 use Rattle.bpaf_items.proofs.Page.Leaving.{map_next, written_then}
 use Rattle.bpaf_help.specs.Chapters.{Chapter, AreWellPlaced, chapter_page, chapters_of, collected_writes, dashed_byte, if_many, manual_chapter, manual_writes, own_page_writes, summary_writes, synopsis_line, synopsis_writes}
-use Rattle.bpaf_help.specs.PageAnswers.{AreErrorOf, IsErrorOf}
-use Rattle.bpaf_help.specs.Steps.{manual_part, manual_front, manual_list, manual_footer, path_title}
+use Rattle.bpaf_help.specs.PageAnswers.{AreErrorOf}
+use Rattle.bpaf_help.specs.Steps.{EndsAtOne, IsErrorOf, manual_part, manual_front, manual_list, manual_footer, path_title}
 
 -- ---- paths
 
@@ -160,8 +161,12 @@ collected_whole app t i cs first d1 d2 none is e f = grind (arith, written_then 
 -- ---- pages
 
 -- an error at a chapter behind others that are well placed
-pub error_at : {A : Type 0} (front back all : List Chapter) (c : Chapter) (e : HelpError A) → all ≡ front ++ c ∷ back → AreWellPlaced front → IsErrorOf c.content e → AreErrorOf all e
-error_at front back all c e h5 h6 h7 = grind arith
+pub error_at : {A : Type 0} (front back all : List Chapter) (c : Chapter) (e : HelpError A) → all ≡ front ++ c ∷ back → AreWellPlaced front → IsErrorOf c.content e → EndsAtOne all e
+error_at front back all c e order well_placed reason = record { front = front; last = c; back = back; order = order; well_placed = well_placed; reason = reason }
+
+pub error_of_pages : {A : Type 0} (cs : List Chapter) (e : HelpError A) → EndsAtOne cs e → AreErrorOf cs e
+error_of_pages cs (error.Memory refused) h = tt
+error_of_pages cs (error.Misplaced i) h = record { front = h.front; faulty = h.last; back = h.back; order = h.order; well_placed = h.well_placed; first = h.reason }
 
 -- an error that is handed on
 pub err_same : {X E : Type 0} (P : E → Type 0) (r : Result X E) (e : E) → IsErrAnd r (λ y. y ≡ e) → P e → IfErr r P

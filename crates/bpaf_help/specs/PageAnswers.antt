@@ -5,18 +5,12 @@ use Rattle.bpaf_doc.specs.Buffer.Writes.{document_of}
 use Rattle.bpaf_doc.specs.Manpage.Page.{IsManualPageOf, title_arguments, title_event, title_page}
 use Rattle.bpaf_doc.specs.Manpage.Exact.{roff_page}
 use Rattle.bpaf_meta.specs.Content.{Tree, Head}
-use Rattle.bpaf_meta.specs.Meta.Misplaced.{IsFirstMisplaced}
 use Rattle.bpaf_meta.specs.View.{leaf_of}
 use Rattle.bpaf_items.specs.declared.meta_help.error.HelpError.{HelpError}
 use Rattle.bpaf_items.specs.declared.meta_help.error.HelpError.TheVariants as error
 use Rattle.bpaf_help.specs.Chapters.{Chapter, IsFirstMisplacedOf, collected_writes, manual_writes}
 
--- why there is no page of a tree: this is its first misplaced item, or an allocation failed
-abbrev pub IsErrorOf : {A : Type 0} → Tree → HelpError A → Type 0
-IsErrorOf t (error.Memory e) = ⊤
-IsErrorOf t (error.Misplaced i) = IsFirstMisplaced t (leaf_of i.now)
-
--- why there is none of some chapters: this is the first misplaced item of the first chapter that has one, or an allocation failed, at any time
+-- why there are no pages of some chapters: this is the first misplaced item of the first chapter that has one, or an allocation failed, be it before the first is checked
 abbrev pub AreErrorOf : {A : Type 0} → List Chapter → HelpError A → Type 0
 AreErrorOf chapters (error.Memory e) = ⊤
 AreErrorOf chapters (error.Misplaced i) = IsFirstMisplacedOf chapters (leaf_of i.now)

@@ -1,13 +1,31 @@
 -- What the steps of the code leave.
-use Rattle.std.specs.Prelude.{ℕ, Bool, true, false, if◌then◌else◌, List, [], ◌∷◌, ◌++◌, codes}
+use Rattle.std.specs.Prelude.{◌≡◌, ℕ, Bool, true, false, if◌then◌else◌, List, [], ◌∷◌, ◌++◌, codes}
 use Rattle.bpaf_doc.specs.declared.buffer.Block.TheVariants as block
 use Rattle.bpaf_doc.specs.Buffer.Writes.{Write, plain, inside, path_writes}
 use Rattle.bpaf_meta.specs.Content.{Tree, Head, head}
+use Rattle.bpaf_meta.specs.Meta.Misplaced.{IsWellPlaced, IsFirstMisplaced}
 use Rattle.bpaf_meta.specs.Usage.Writes.{usage_writes}
+use Rattle.bpaf_meta.specs.View.{leaf_of}
+use Rattle.bpaf_items.specs.declared.meta_help.error.HelpError.{HelpError}
+use Rattle.bpaf_items.specs.declared.meta_help.error.HelpError.TheVariants as error
 use Rattle.bpaf_items.specs.Listing.ItemList.{item_list}
 use Rattle.bpaf_items.specs.Page.EnvTexts.{no_texts}
 use Rattle.bpaf_items.specs.Page.HelpPage.{doc_within, groups_writes}
-use Rattle.bpaf_help.specs.Chapters.{Chapter, manual_chapter, manual_name}
+use Rattle.bpaf_help.specs.Chapters.{Chapter, AreWellPlaced, manual_chapter, manual_name}
+
+-- why there is no page of a tree: this is its first misplaced item, or an allocation failed behind the check
+abbrev pub IsErrorOf : {A : Type 0} → Tree → HelpError A → Type 0
+IsErrorOf t (error.Memory e) = IsWellPlaced t
+IsErrorOf t (error.Misplaced i) = IsFirstMisplaced t (leaf_of i.now)
+
+-- why the pages of some chapters end: there is none of one of them, and no item of those before it is misplaced
+pub record EndsAtOne {A : Type 0} (chapters : List Chapter) (e : HelpError A) : Type 0 where
+  pub front : List Chapter
+  pub last : Chapter
+  pub back : List Chapter
+  pub order : chapters ≡ front ++ last ∷ back
+  pub well_placed : AreWellPlaced front
+  pub reason : IsErrorOf last.content e
 
 -- the path over a chapter of the manual page
 abbrev pub path_title : (many : Bool) → List (List ℕ) → List Write

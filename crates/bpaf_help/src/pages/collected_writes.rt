@@ -6,7 +6,7 @@ ghost use Rattle.bpaf_meta.specs.Meta.Misplaced.{IsWellPlaced};
 ghost use Rattle.bpaf_meta.specs.View.{tree_of};
 ghost use Rattle.bpaf_help.specs.Chapters.{AreWellPlaced, chapter_page, if_many, own_page_writes, summary_line};
 ghost use Rattle.bpaf_help.specs.Chapters.{summary_text, summary_writes};
-ghost use Rattle.bpaf_help.specs.PageAnswers.{AreErrorOf, IsErrorOf};
+ghost use Rattle.bpaf_help.specs.Steps.{EndsAtOne, IsErrorOf};
 ghost use Rattle.bpaf_help.specs.View.{chapter_of};
 
 use crate::pages::paths::{anchor, joined};
@@ -83,7 +83,7 @@ pub fn put_pages<'m, A: Allocator + Copy, B: Allocator + Copy>(
     ensures placed { OnOk result (AreWellPlaced (map chapter_of sections.now)) }
     ensures pages { OnOk result (doc.new
         ≡ with_writes doc.old (flat_map chapter_page (map chapter_of sections.now))) }
-    ensures misplaced { IfErr result (AreErrorOf (map chapter_of sections.now)) }
+    ensures stops { IfErr result (EndsAtOne (map chapter_of sections.now)) }
 {
     for section in sections {
         put_page(alloc, doc, section)?;
@@ -98,7 +98,7 @@ fn put_page<'m, A: Allocator + Copy, B: Allocator + Copy>(
 ) -> Result<(), HelpError<'m, B>>
     ensures placed { OnOk result (IsWellPlaced (tree_of section.now.meta.now)) }
     ensures page { OnOk result (doc.new ≡ with_writes doc.old (chapter_page (chapter_of section.now))) }
-    ensures misplaced { IfErr result (IsErrorOf (tree_of section.now.meta.now)) }
+    ensures stops { IfErr result (IsErrorOf (tree_of section.now.meta.now)) }
 {
     if let Err(item) = section.meta.positional_invariant_check() {
         return Err(HelpError::Misplaced(item));
