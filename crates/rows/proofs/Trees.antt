@@ -15,9 +15,10 @@ use Rattle.bpaf_meta.specs.Meta.Alternatives.{either_form}
 use Rattle.bpaf_meta.specs.Meta.Shorts.{flag_shorts, argument_shorts}
 use Rattle.bpaf_meta.specs.Meta.Misplaced.{misplaced_items}
 use Rattle.bpaf_meta.specs.Usage.Writes.{usage_writes}
-use Rattle.std.proofs.Common.{inl}
+use Rattle.std.proofs.Common.{ap, inl, inr, sym, ◌++◌, ◌∙◌}
+use Rattle.std.proofs.lemmas.Bool.{false≢true}
 use Rattle.bpaf_meta.specs.Meta.Shape.{HasUsageShape}
-use Rattle.bpaf_meta.specs.Meta.Sequences.{Shows, symbol_of, once, again}
+use Rattle.bpaf_meta.specs.Meta.Sequences.{Only, Repeated, Shows, ShowsSame, symbol_of, once, again}
 
 abbrev a : Tree
 a = item (flag (short 97) [] None None)
@@ -124,6 +125,20 @@ bare h = h.0
 -- one sequence of an optional part and a repeated one
 sequence : Shows true (and_of (two (optional a) (many b))) (symbol_of true (flag (short 98) [] None None) ∷ symbol_of true (flag (short 98) [] None None) ∷ [])
 sequence = ([], _, refl, inl refl, (_, [], refl, again (_ ∷ []) (_ ∷ []) refl refl (once refl), refl))
+
+-- the law of sequences alone: nothing, and the first of two branches alone
+nothing_refused : ShowsSame true skip a → ⊥
+nothing_refused h = false≢true (sym h.hidden)
+
+first_branch_refused : ShowsSame true a (or_of (two a P)) → ⊥
+first_branch_refused h = let same : symbol_of true (positional (codes "P") None) ∷ [] ≡ symbol_of true (flag (short 97) [] None None) ∷ [] = (h.sequences refl (symbol_of true (positional (codes "P") None) ∷ [])).1 (inr (inl refl)) in cc
+
+-- the law of sequences alone: `Optional(Many(a))` as `Many(a)`, which never shows none
+many_refused : ShowsSame true (many a) (optional (many a)) → ⊥
+many_refused h = none ((h.sequences refl []).1 (inl refl)) where
+  none : Repeated (Only (symbol_of true (flag (short 97) [] None None) ∷ [])) [] → ⊥
+  none (once empty) = cc
+  none (again front back whole first rest) = let some : [] ≡ symbol_of true (flag (short 97) [] None None) ∷ back = whole ∙ ap (λ xs. xs ++ back) first in cc
 
 -- in usage a CustomUsage takes a `--` with it; outside it stays
 lost : normalized true (custom_usage (strict a) (Text (codes "own") style.Text ∷ [])) ≡ strict (custom_usage a (Text (codes "own") style.Text ∷ []))

@@ -1,6 +1,7 @@
 -- The definitions at small trees and lists.
-use Rattle.std.specs.Prelude.{◌≡◌, true, false, List, [], ◌∷◌, ◌++◌, refl, codes, Some, None, map}
+use Rattle.std.specs.Prelude.{◌≡◌, ◌≢◌, All, true, false, List, [], ◌∷◌, ◌++◌, refl, codes, Some, None, map}
 use Rattle.std.specs.declared.cmp.Ordering.TheVariants as order
+use Rattle.std.proofs.lemmas.List.Elements.{All-nil, All-cons}
 use Rattle.bpaf_doc.specs.declared.buffer.Style.TheVariants as style
 use lib.Utf8.{encode}
 use Rattle.bpaf_roff.specs.declared.roff.Font.TheVariants as font
@@ -14,7 +15,7 @@ use Rattle.bpaf_meta.specs.Meta.Misplaced.{misplaced_items}
 use Rattle.bpaf_items.specs.declared.meta_help.entry.HiTy.TheVariants as ty
 use Rattle.bpaf_items.specs.Listing.ItemList.{listed, note, group_start, group_end, adjacent_start, adjacent_stop, item_list}
 use Rattle.bpaf_items.specs.Listing.Keys.{word_key, flag_key, argument_key, key_cmp}
-use Rattle.bpaf_items.specs.Listing.Falls.{group_members, heading_members, shown_entries}
+use Rattle.bpaf_items.specs.Listing.Falls.{Placed, placed, destination, heading, is_shown, group_members, heading_members, shown_entries}
 use Rattle.bpaf_items.specs.Listing.Groups.{find_group}
 use Rattle.bpaf_items.specs.Page.EnvTexts.{Texts, no_texts, texts_with}
 use Rattle.bpaf_items.specs.Page.EntryWrites.{entry_writes, argument_env_text}
@@ -55,6 +56,34 @@ again = flag (short 98) [] (Some (codes "V")) None
 
 differ_in_environment : shown_entries (item_list (and_of (tree (item b) (tree (item again) no_trees)))) ≡ listed b ∷ []
 differ_in_environment = refl
+
+-- the rule of repeats alone: of two flags with one key the second is shown, or the first is not
+abbrev IsLeftOut : Placed → Type 0
+IsLeftOut p = p.1 ≡ listed again → is_shown p ≢ true
+
+abbrev Stays : Placed → Type 0
+Stays p = p.1 ≡ listed b → is_shown p ≢ false
+
+second_place_refused : All IsLeftOut (placed (listed b ∷ listed again ∷ []))
+second_place_refused = All-cons IsLeftOut ([], listed b) ((listed b ∷ [], listed again) ∷ []) (λ is shown. cc) (All-cons IsLeftOut (listed b ∷ [], listed again) [] (λ is shown. cc) (All-nil IsLeftOut))
+
+first_place_refused : All Stays (placed (listed b ∷ listed again ∷ []))
+first_place_refused = All-cons Stays ([], listed b) ((listed b ∷ [], listed again) ∷ []) (λ is left_out. cc) (All-cons Stays (listed b ∷ [], listed again) [] (λ is left_out. cc) (All-nil Stays))
+
+-- the rule of places alone: a flag of a group stands under its heading too
+abbrev IsUnderNoHeading : Placed → Type 0
+IsUnderNoHeading p = p.1 ≡ listed c → destination p ≢ heading ty.Flag
+
+abbrev in_group : Placed
+in_group = (group_start h ty.Flag ∷ [], listed c)
+
+abbrev at_end : Placed
+at_end = (group_start h ty.Flag ∷ listed c ∷ [], group_end ty.Flag)
+
+heading_too_refused : All IsUnderNoHeading (placed (item_list (subsection (item c) h)))
+heading_too_refused =
+    All-cons IsUnderNoHeading ([], group_start h ty.Flag) (in_group ∷ at_end ∷ []) (λ is falls. cc)
+    (All-cons IsUnderNoHeading in_group (at_end ∷ []) (λ is falls. cc) (All-cons IsUnderNoHeading at_end [] (λ is falls. cc) (All-nil IsUnderNoHeading)))
 
 -- a note after a note is not shown
 notes : shown_entries (item_list (suffix (suffix (item c) h) h)) ≡ listed c ∷ note h ty.Flag ∷ []
