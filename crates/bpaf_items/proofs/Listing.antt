@@ -2,6 +2,7 @@
 pub mod Blocks
 pub mod Headings
 pub mod KeyLaws
+pub mod Numbers
 pub mod PairedGroups
 pub mod Placing
 pub mod Pushes

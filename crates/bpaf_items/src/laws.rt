@@ -3,7 +3,8 @@
 ghost use Rattle.bpaf_items.specs.Page.EnvTexts.{TextsAreInserted};
 ghost use Rattle.bpaf_items.specs.Listing.Groups.{GroupsAreTakenOut};
 ghost use Rattle.bpaf_items.specs.Listing.Keys.{IsEqualityOfKeys, IsOrderOfKeys};
-ghost use Rattle.bpaf_items.specs.Listing.ListLaws.{FallsSomewhere, HeadingsAgree, IsEqualityOfTypes, KeyOnce};
+ghost use Rattle.bpaf_items.specs.Listing.ListLaws.{FallsSomewhere, FallsUnderWritten, HeadingsAgree};
+ghost use Rattle.bpaf_items.specs.Listing.ListLaws.{IsEqualityOfTypes, KeyOnce};
 ghost use Rattle.bpaf_items.specs.Page.NestedTexts.{GroupsAreNested, HelpPagesAreNested, ItemListsAreNested};
 
 /// Two types are equal exactly where they are the same.
@@ -24,9 +25,11 @@ pub fn order_of_keys()
     ensures { IsOrderOfKeys }
 {}
 
-/// In an item list each entry that has help, or stands in no adjacent block, falls under a group or a heading.
+/// In an item list each entry that has help, or stands in no adjacent block, falls under a group or a heading. A group
+/// that an entry falls under is one of those that are written.
 pub fn falls_somewhere()
-    ensures { FallsSomewhere }
+    ensures somewhere { FallsSomewhere }
+    ensures written { FallsUnderWritten }
 {}
 
 /// Of the entries of a list each key is shown once, at its first place.

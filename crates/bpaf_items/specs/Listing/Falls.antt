@@ -1,7 +1,7 @@
 -- Where an entry of an item list falls, and which entries are shown: both by a look back over the entries before it.
 use Rattle.std.specs.Prelude.{ℕ, Bool, true, false, not, ◌&&◌, ◌||◌, if◌then◌else◌, List, [], ◌∷◌, ◌++◌, map, filter, count_by, nat_lt, ◌==◌, Option, Some, None, is_some}
 use Rattle.std.specs.Option.{option_map_or}
-use Rattle.std.specs.List.{list_any, last_or, after_last}
+use Rattle.std.specs.List.{list_any, last_or, after_last, range_with_len}
 use Rattle.bpaf_items.specs.declared.meta_help.entry.HiTy.{HiTy}
 use Rattle.bpaf_items.specs.contracts.meta_help.entry.HiTyPartialEq.TheImpl as type_eq
 use Rattle.bpaf_doc.specs.Buffer.Parts.{Part}
@@ -119,6 +119,10 @@ is_group n d = false
 abbrev pub is_heading : HiTy → Destination → Bool
 is_heading k (heading j) = same_type j k
 is_heading k d = false
+
+-- the numbers of the groups, in the order in which they are written
+abbrev pub group_numbers : List Entry → List ℕ
+group_numbers es = range_with_len 1 (count_by is_group_start es)
 
 -- the entries that fall under a group, and under a heading
 abbrev pub group_members : List Entry → ℕ → List Entry

@@ -1,9 +1,9 @@
 -- What holds of item lists: where their entries fall, and what is shown of them.
-use Rattle.std.specs.Prelude.{◌≡◌, ◌≢◌, ◌≤◌, ◌⊎◌, ◌↔◌, IsTrue, not, List, filter, take, count_by, All, Contains}
+use Rattle.std.specs.Prelude.{◌≡◌, ◌≢◌, ℕ, ◌≤◌, ◌⊎◌, ◌↔◌, IsTrue, not, List, filter, take, count_by, All, Contains}
 use Rattle.bpaf_items.specs.declared.meta_help.entry.HiTy.{HiTy}
 use Rattle.bpaf_meta.specs.Content.{Leaf}
 use Rattle.bpaf_items.specs.Listing.ItemList.{Entry, listed, IsItemList}
-use Rattle.bpaf_items.specs.Listing.Falls.{same_type, Placed, placed, is_adjacent_start, is_adjacent_stop, lacks_help, destination, nowhere, outside_groups, heading_members, items_of_type, has_key_of, shown_places, shown_entries}
+use Rattle.bpaf_items.specs.Listing.Falls.{same_type, Placed, placed, is_adjacent_start, is_adjacent_stop, lacks_help, destination, group, nowhere, group_numbers, outside_groups, heading_members, items_of_type, has_key_of, shown_places, shown_entries}
 
 -- two types are equal exactly where they are the same
 abbrev pub IsEqualityOfTypes : Type 0
@@ -16,6 +16,10 @@ IsInNoAdjacentBlock p = count_by is_adjacent_start p.0 ≤ count_by is_adjacent_
 -- in an item list each entry that has help, or stands in no adjacent block, falls under a group or a heading
 abbrev pub FallsSomewhere : Type 0
 FallsSomewhere = (es : List Entry) → IsItemList es → All (λ p. IsTrue (not (lacks_help p.1)) ⊎ IsInNoAdjacentBlock p → destination p ≢ nowhere) (placed es)
+
+-- in an item list a group that an entry falls under is one of those that are written
+abbrev pub FallsUnderWritten : Type 0
+FallsUnderWritten = (es : List Entry) → IsItemList es → All (λ p. (n : ℕ) → destination p ≡ group n → Contains (group_numbers es) n) (placed es)
 
 -- of the places that hold an item with this key just the first is shown, so that a listed item is shown once
 pub record IsShownOnce (es : List Entry) (l : Leaf) : Type 0 where

@@ -1,6 +1,5 @@
 -- The entries of a list under their groups and headings, and the help page.
-use Rattle.std.specs.Prelude.{ℕ, Bool, true, List, [], ◌∷◌, ◌++◌, flat_map, count_by, Option, Some, None, codes}
-use Rattle.std.specs.List.{range_with_len}
+use Rattle.std.specs.Prelude.{ℕ, Bool, true, List, [], ◌∷◌, ◌++◌, flat_map, Option, Some, None, codes}
 use Rattle.bpaf_doc.specs.declared.buffer.Block.{Block}
 use Rattle.bpaf_doc.specs.declared.buffer.Block.TheVariants as block
 use Rattle.bpaf_doc.specs.Buffer.Parts.{Part}
@@ -9,7 +8,7 @@ use Rattle.bpaf_meta.specs.Content.{Tree, Head, head}
 use Rattle.bpaf_meta.specs.Usage.Writes.{usage_writes}
 use Rattle.bpaf_items.specs.declared.meta_help.entry.HiTy.TheVariants as ty
 use Rattle.bpaf_items.specs.Listing.ItemList.{Entry, item_list}
-use Rattle.bpaf_items.specs.Listing.Falls.{is_group_start, group_members, heading_members, shown_entries}
+use Rattle.bpaf_items.specs.Listing.Falls.{group_members, group_numbers, heading_members, shown_entries}
 use Rattle.bpaf_items.specs.Page.EnvTexts.{Texts}
 use Rattle.bpaf_items.specs.Page.EntryWrites.{entry_writes}
 
@@ -25,7 +24,7 @@ heading_writes include texts title (e ∷ es) = inside block.Block (inside block
 -- `write_help_item_groups`: the groups in order, and then the three headings
 abbrev pub groups_writes : (include_env : Bool) → Texts → List Entry → List Write
 groups_writes include texts es =
-    flat_map (λ n. list_writes include texts (group_members es n)) (range_with_len 1 (count_by is_group_start es))
+    flat_map (λ n. list_writes include texts (group_members es n)) (group_numbers es)
     ++ heading_writes include texts (codes "Available positional items:") (heading_members es ty.Positional)
     ++ heading_writes include texts (codes "Available options:") (heading_members es ty.Flag)
     ++ heading_writes include texts (codes "Available commands:") (heading_members es ty.Command)
