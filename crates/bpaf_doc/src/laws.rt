@@ -1,5 +1,6 @@
 //! Laws of the definitions that the contracts cite: nothing to call, but statements that the check proves.
 
+ghost use Rattle.bpaf_doc.specs.Console.Ink.{FullInkIsBackquotedInk, FullInkIsDocumentInk};
 ghost use Rattle.bpaf_doc.specs.Console.Laws.{IsExactPageLayout};
 ghost use Rattle.bpaf_doc.specs.Html.Laws.{IsExactHtmlPage, IsExactHtmlText};
 ghost use Rattle.bpaf_doc.specs.Splitter.Promises.{EachTextIsSpelledOnce, ChunksKeepInk, ChunksAreLines};
@@ -60,6 +61,14 @@ pub fn titled_page()
 /// UTF-8 texts and fewer than 2^59 parts.
 pub fn laws_of_exact_page()
     ensures { IsExactPageLayout }
+{}
+
+/// The ink that a console shows in full of a document of UTF-8 texts, as each `Doc` is: that of its texts, in order, with a
+/// backquote in the place of each mark of a term reference; without such marks it is just the document's ink.
+#[tactic(auto, using(crate::proofs::lemmas::Console::InFull::backquoted, crate::proofs::lemmas::Console::InFull::own))]
+pub fn ink_in_full()
+    ensures backquoted { FullInkIsBackquotedInk }
+    ensures own { FullInkIsDocumentInk }
 {}
 
 /// The HTML page as a function of the document is well nested, with the document's tags and breaks, where the document

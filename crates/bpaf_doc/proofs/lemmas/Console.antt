@@ -2,6 +2,7 @@
 -- one, and keeps the rules.
 pub mod Hiding
 pub mod Ink
+pub mod InFull
 pub mod Pages
 pub mod Places
 pub mod Margins

@@ -6,9 +6,11 @@ use Rattle.unicode_width.specs.Width.{str_width, step, past_emoji}
 use Rattle.bpaf_doc.specs.declared.buffer.Style.TheVariants as style
 use Rattle.bpaf_doc.specs.declared.buffer.Block.{Block}
 use Rattle.bpaf_doc.specs.declared.buffer.Block.TheVariants as block
-use Rattle.bpaf_doc.specs.Buffer.Parts.{Part, Text, Start, End}
+use Rattle.bpaf_doc.specs.Buffer.Parts.{Part, Text, Start, End, document_ink}
 use Rattle.bpaf_doc.specs.Splitter.Chunks.{chunks_of, chunks_in, chunks_within}
+use Rattle.bpaf_doc.specs.Shown.{console_ink}
 use Rattle.bpaf_doc.specs.Console.Exact.{console_page}
+use Rattle.bpaf_doc.specs.Console.Ink.{backquoted_ink}
 use Rattle.bpaf_doc.specs.Console.Margin.{greatest_margin}
 
 -- what has to unfold to compute the page of an ASCII document
@@ -73,3 +75,14 @@ row_bodies : console_page true 48 blank_bodies ≡ replicate 30 97 ++ codes "\nb
     × greatest_margin blank_bodies ≡ 6
 unfolding computed
 row_bodies = (refl, refl, refl)
+
+-- the ink of a document with a term reference: in full a console shows it with two backquotes, in brief what stands before a paragraph
+abbrev referenced : List Part
+referenced = words (codes "a ") ++ (inside block.TermRef (words (codes "b c")) ++ words (codes " d\n\ne"))
+
+row_ink : document_ink referenced ≡ codes "abcde"
+    × backquoted_ink referenced ≡ codes "a`bc`de"
+    × console_ink true referenced ≡ codes "a`bc`de"
+    × console_ink false referenced ≡ codes "a`bc`d"
+unfolding computed
+row_ink = (refl, refl, refl, refl)
