@@ -1,61 +1,37 @@
--- What is promised of the console page, the HTML, the roff, the manual page and the normal form, together.
-use Rattle.std.specs.Prelude.{◌≡◌, ℕ, ◌<◌, Bool, true, false, not, List, filter, Option, IsTrue}
-use Rattle.std.specs.List.{list_any}
+-- The headline: what is promised of the console page, the HTML and the roff of a document, of the manual page of an application and of the
+-- normal form of its tree, together.
+use Rattle.std.specs.Prelude.{◌≡◌, true, false, string_bytes}
 use Rattle.bpaf_roff.specs.Roff.{Script}
-use Rattle.bpaf_doc.specs.Buffer.Parts.{Part, IsWellNested, ink}
+use Rattle.bpaf_doc.specs.Buffer.Parts.{IsWellNested, ink}
 use Rattle.bpaf_doc.specs.Shown.{console_ink}
-use Rattle.bpaf_doc.specs.Console.Layout.{Stretch, shown_events, is_ref, IsPlacing, IsBounded, IsLayout}
-use Rattle.bpaf_doc.specs.Splitter.Chunks.{is_line_byte}
-use Rattle.bpaf_doc.specs.Html.Page.{erased, html_text, IsWellNestedHtml, IsHtmlPageOf}
+use Rattle.bpaf_doc.specs.Console.Layout.{IsLayout}
+use Rattle.bpaf_doc.specs.Html.Page.{IsHtmlPageOf, IsHtmlTextPageOf}
 use Rattle.bpaf_doc.specs.Manpage.Page.{TakesDocument, IsPageOf}
-use Rattle.bpaf_meta.specs.Content.{Tree, Head}
 use Rattle.bpaf_meta.specs.Meta.Shape.{HasUsageShape, KeepsStrict}
 use Rattle.bpaf_meta.specs.Meta.Sequences.{ShowsSame}
+use Rattle.bpaf_meta.specs.View.{head_of, text_of, tree_of}
+use Rattle.bpaf_help.specs.declared.headline.Sources.{Sources}
+use Rattle.bpaf_help.specs.declared.headline.Headline.{Headline}
 use Rattle.bpaf_help.specs.PageAnswers.{IsManualOf}
+use Rattle.bpaf_help.specs.View.{section_name}
 
--- the words of a manual page's title line
-pub record Title : Type 0 where
-  pub app : List ℕ
-  pub section : List ℕ
-  pub date : Option (List ℕ)
-  pub vendor : Option (List ℕ)
-  pub title : Option (List ℕ)
-
--- the texts that are made of a document, and the page that its roff is written behind
-pub record Renderings : Type 0 where
-  pub console : List ℕ
-  pub html : List ℕ
-  pub page : Script
-  pub roff : List ℕ
-
--- of a well-nested document in full, of a tree and its normal form, and of an application
-pub record IsHeadline (document : List Part) (width : ℕ) (made : Renderings) (for_usage : Bool) (tree normal : Tree) (words : Title) (info : Head) (manual : List ℕ) : Type 0 where
-  -- the console text has exactly the document's inked characters, in order
-  pub same_ink : ink made.console ≡ console_ink true document
-  -- and each line is within the bound
-  pub bounded : width < 1_000_000 → IsTrue (not (list_any is_ref (shown_events true document))) → (stretches : List Stretch) × IsPlacing document true made.console stretches × IsBounded document width stretches
-  -- the HTML is well nested
-  pub nested : IsWellNestedHtml made.html
-  -- and erases to the document's text
-  pub erases : filter is_line_byte (erased made.html) ≡ html_text document true
-  -- behind the page, the roff text reads back to the document's events
-  pub reads : TakesDocument made.page → IsPageOf made.page document made.roff
-  -- the application's manual page reads back to its title and its events
-  pub manual_reads : IsManualOf words.app words.section words.date words.vendor words.title tree info manual
-  -- the normal form has the usage shape
-  pub shaped : HasUsageShape for_usage normal
-  -- with a `--` only where the tree has one, and one where it has, as far as a usage line can
-  pub strict : KeepsStrict for_usage tree normal
-  -- and shows exactly the same item sequences
-  pub shows : ShowsSame for_usage normal tree
-
--- the headline follows from what each call promises
-abbrev pub HeadlineFollows : Type 0
-HeadlineFollows = (document : List Part) (width : ℕ) (made : Renderings) (for_usage : Bool) (tree normal : Tree) (words : Title) (info : Head) (manual : List ℕ)
-    → IsWellNested document
-    → IsLayout document true width made.console
-    → (IsWellNested document → IsHtmlPageOf document true false made.html)
-    → (TakesDocument made.page → IsPageOf made.page document made.roff)
-    → HasUsageShape for_usage normal → KeepsStrict for_usage tree normal → ShowsSame for_usage normal tree
-    → IsManualOf words.app words.section words.date words.vendor words.title tree info manual
-    → IsHeadline document width made for_usage tree normal words info manual
+-- Each field is a clause of the call that gave the answer, at what the call was given.
+pub record IsHeadline {D M A P : Type 0} (of : Sources D M) (page : Script) (made : Headline A P M) : Type 0 where
+  -- `ink` of `render_console`: the full console text has exactly the document's inked characters, in order
+  pub same_ink : ink (string_bytes made.console) ≡ console_ink true of.document.now
+  -- `layout` of `render_console`: and its lines are within the bound, which is its field `bound`
+  pub layout : IsLayout of.document.now true of.width (string_bytes made.console)
+  -- `html` of `render_html`: of a well-nested document the full HTML is well nested
+  pub html : IsWellNested of.document.now → IsHtmlPageOf of.document.now true false (string_bytes made.html)
+  -- `text` of `render_html`: and erases to the same characters
+  pub text : IsHtmlTextPageOf of.document.now true false (string_bytes made.html)
+  -- `read` of `render_roff`: behind a page that takes a document, the body reads back to the document's controls, headings and texts
+  pub read : TakesDocument page → IsPageOf page of.document.now (string_bytes made.roff)
+  -- `read` of `render_manpage`: the manual page reads back to its title line and its document
+  pub manual_read : IsManualOf of.app.now (section_name of.title.section) (text_of of.title.date) (text_of of.title.vendor) (text_of of.title.title) (tree_of of.tree.now) (head_of of.info.now) (string_bytes made.manual)
+  -- `shape` of `normalized`: the tree is normalized to the usage shape
+  pub shape : HasUsageShape of.for_usage (tree_of made.normal)
+  -- `strict` of `normalized`: with a `--` only where the tree has one
+  pub strict : KeepsStrict of.for_usage (tree_of of.tree.now) (tree_of made.normal)
+  -- `shows` of `normalized`: showing exactly the same item sequences
+  pub shows : ShowsSame of.for_usage (tree_of made.normal) (tree_of of.tree.now)

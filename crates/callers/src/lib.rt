@@ -1,5 +1,4 @@
-//! Callers of the libraries: those of each crate's `CALLING.md`, word by word, below the crate's name, and one that
-//! makes all kinds of text.
+//! Callers of the libraries: those of each crate's `CALLING.md`, word by word, below the crate's name.
 #![tactic(auto)]
 
 // bpaf_roff
@@ -11,6 +10,7 @@ pub mod web;
 
 // bpaf_help
 pub mod application;
+pub mod headline;
 pub mod usage;
 
 // description
@@ -27,6 +27,3 @@ pub mod ends;
 
 // web_page
 pub mod note;
-
-// All of them.
-pub mod headline;

@@ -1,7 +1,6 @@
 //! Laws of the definitions that the contracts cite: nothing to call, but statements that the check proves.
 
 ghost use Rattle.bpaf_help.specs.Chapters.{ChaptersAreListed};
-ghost use Rattle.bpaf_help.specs.Headline.{HeadlineFollows};
 ghost use Rattle.bpaf_help.specs.NestedPages.{CollectedPagesAreNested, ManualPagesAreNested};
 
 /// The chapters of the commands of a tree are those of the commands that its item list has, in order.
@@ -15,10 +14,4 @@ pub fn chapters_are_listed()
 pub fn pages_are_nested()
     ensures collected { CollectedPagesAreNested }
     ensures manual { ManualPagesAreNested }
-{}
-
-/// What `IsHeadline` says of console page, HTML, roff, manual page and normal form together follows from what each
-/// call promises.
-pub fn headline_follows()
-    ensures { HeadlineFollows }
 {}

@@ -3,6 +3,7 @@ use crate::arenas::leave;
 use crate::help::calls::Ended;
 use crate::help::trees::{DESCRIBED, info, make_path, path};
 use bpaf_doc::buffer::Doc;
+use bpaf_help::headline::{Sources, show};
 use bpaf_help::item::{Item, ShortLong};
 use bpaf_help::meta::Meta;
 use bpaf_help::meta_help::{EnvTexts, HelpError, Info, render_help};
@@ -10,6 +11,7 @@ use bpaf_help::pages::{
     DocSection, ManualTitle, Section, collect_html, extract_sections, render_html, render_manpage,
     render_markdown,
 };
+use bpaf_roff::roff::Roff;
 use bumpalo::Bump;
 use std::alloc::{AllocError, Allocator};
 use std::fmt::{Debug, Write};
@@ -26,6 +28,8 @@ pub enum PageCall {
     Manual,
     /// The same, by the words of a title line.
     Titled,
+    /// All forms of a document and of the application.
+    Forms,
     /// The sections behind themselves in a list.
     Sections,
     /// A copy of the last section.
@@ -53,6 +57,7 @@ pub fn page_ended<'a>(
         PageCall::Sections | PageCall::SectionsOnce | PageCall::Section | PageCall::LastSection => {
             Ended::of(are_put(rt, arena, room, tree, &info, call, shown))
         }
+        PageCall::Forms => Ended::of(are_forms_shown(rt, arena, room, tree, &info, shown)),
         _ => {
             leave(rt, arena, room);
             match call {
@@ -107,6 +112,39 @@ fn ended<T: Debug + Drop>(
         ) => Ended::Misplaced(*letter),
         Err(_) => Ended::Refused,
     }
+}
+
+// Shows all forms of the application, and those of a document with its roff behind a heading.
+fn are_forms_shown<'a, 's>(
+    rt: &impl Abort,
+    arena: &'a Bump,
+    room: usize,
+    tree: &'s Meta<&'a Bump>,
+    info: &'s Info<&'a Bump>,
+    shown: &mut String,
+) -> bool {
+    let document = Doc::from_text(arena, "<a> b\n\nc").expect(rt, "a document");
+    let mut page = Roff::new(arena);
+    page.append_control("SH", &["d"]).expect(rt, "a page");
+    let of = Sources {
+        document: &document,
+        width: 4,
+        app: "app",
+        title: ManualTitle::new(Section::Game).vendor("V"),
+        tree,
+        info,
+        for_usage: true,
+    };
+    leave(rt, arena, room);
+    let made = show(arena, page, &of).ok();
+    drop(of);
+    drop(document);
+    let is_made = made.is_some();
+    if let Some(made) = made {
+        write!(shown, "{made:?}").expect(rt, "a text");
+        drop(made);
+    }
+    is_made
 }
 
 /// A page of an application as a text.

@@ -105,6 +105,7 @@ const CALLS: &[(&str, Call, &str)] = &[
     (APPLICATION, Call::Page(PageCall::Markdown), ""),
     (APPLICATION, Call::Page(PageCall::Manual), ""),
     (APPLICATION, Call::Page(PageCall::Titled), ""),
+    ("a", Call::Page(PageCall::Forms), ""),
 ];
 
 #[test]

@@ -1,5 +1,7 @@
-//! What `Debug` shows of lists and of texts of environment variables, what errors say, and title lines.
-use crate::help::calls::list_of;
+//! What `Debug` shows of lists and of texts of environment variables, what errors say, all forms at once, and title lines.
+use crate::help::calls::{Call, list_of};
+use crate::help::pages_calls::PageCall;
+use crate::help::refusals::given;
 use crate::help::trees::{BARE, info, tree};
 use bpaf_help::item::NoName;
 use bpaf_help::meta::Meta;
@@ -63,6 +65,34 @@ fn errors_say_what_is_wrong(rt: HostRuntime) {
     let said = errors(&rt, rt.alloc());
     assert!(rt; said.as_str() == "no name, no memory, misplaced item");
     drop(said);
+}
+
+// All forms of a document and of a flag, in parts.
+const FORMS: &[&str] = &[
+    r#"Headline { console: "<a>\nb\nc", html: "&lt;a&gt; b<br>\nc", "#,
+    r#"roff: ".ie \\n(.g .ds Aq \\(aq\n.el .ds Aq '\n.SH d\n\\fR<a> b\n\nc\\fP", "#,
+    r#"manual: ".ie \\n(.g .ds Aq \\(aq\n.el .ds Aq '\n.TH app 6 - V \"\"\n"#,
+    r#".SH NAME\n\\fRapp \\- \\fP\\fRPrints things\\fP\n.SH SYNOPSIS\n\\fBapp\\fP\\fR \\fP\\fB\\-a\\fP\n"#,
+    r#".PP\n.SS AVAILABLE\\ OPTIONS:\n.TP\n\\fB\\-a\\fP\n\\fRA\\fP\n.PP\n", "#,
+    r#"normal: Item(Flag { name: Short('a'), shorts: ['a'], env: None, help: Some([Text("A", Text)]) }) }"#,
+];
+
+fn is_joined(text: &str, parts: &[&str]) -> bool {
+    let mut rest = text;
+    for part in parts {
+        match rest.strip_prefix(*part) {
+            Some(behind) => rest = behind,
+            None => return false,
+        }
+    }
+    rest.is_empty()
+}
+
+#[test]
+fn all_forms_of_a_document_and_a_tree(rt: HostRuntime) {
+    let shown = given(&rt, rt.alloc(), "a", Call::Page(PageCall::Forms));
+    assert!(rt; is_joined(&shown, FORMS));
+    drop(shown);
 }
 
 // What stands before and behind the words of a title line, in a manual page of nothing.

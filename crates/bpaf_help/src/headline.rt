@@ -1,0 +1,66 @@
+//! A document and an application, shown in each way at once.
+
+ghost use Rattle.std.specs.Prelude.{IfOk};
+ghost use Rattle.bpaf_help.specs.Headline.{IsHeadline};
+
+use crate::pages::{ManualTitle, render_manpage};
+use bpaf_doc::buffer::Doc;
+use bpaf_items::meta_help::Info;
+use bpaf_meta::meta::Meta;
+use bpaf_roff::roff::Roff;
+use std::alloc::{AllocError, Allocator, Global};
+
+/// What is shown.
+#[derive(Drop)]
+pub struct Sources<'a, D: Allocator = Global, M: Allocator = Global> {
+    /// A document, and the columns of its console page.
+    pub document: &'a Doc<D>,
+    pub width: usize,
+    /// An application by its name, the rest of its manual page's title line, its tree and its info.
+    pub app: &'a str,
+    pub title: ManualTitle<'a>,
+    pub tree: &'a Meta<M>,
+    pub info: &'a Info<M>,
+    /// Whether the normal form of the tree is for a usage line.
+    pub for_usage: bool,
+}
+
+/// What they are shown as: the document in full for a console, as HTML without a style sheet and as roff, the
+/// application as a manual page, and its tree in the normal form.
+#[derive(Drop)]
+#[derive_where(Debug)]
+pub struct Headline<A: Allocator = Global, P: Allocator = Global, M: Allocator = Global> {
+    pub console: String<A>,
+    pub html: String<A>,
+    pub roff: String<P>,
+    pub manual: String<A>,
+    pub normal: Meta<M>,
+}
+
+/// All that these are shown as, the roff of the document behind what the page holds. What is promised of the answers
+/// together is what each call in the body promises of its own.
+///
+/// An `AllocError` says that an allocation failed; nothing of the page is left then.
+pub fn show<A: Allocator + Copy, P: Allocator + Copy, D: Allocator, M: Allocator + Copy>(
+    alloc: A,
+    page: Roff<P>,
+    of: &Sources<'_, D, M>,
+) -> Result<Headline<A, P, M>, AllocError>
+    ensures { IfOk result (λ made. IsHeadline of.now page made) }
+{
+    let ManualTitle {
+        section,
+        date,
+        vendor,
+        title,
+    } = of.title;
+    Ok(Headline {
+        console: of.document.render_console(alloc, true, of.width)?,
+        html: of.document.render_html(alloc, true, false)?,
+        roff: of.document.render_roff(page)?,
+        manual: render_manpage(
+            alloc, of.app, section, date, vendor, title, of.tree, of.info,
+        )?,
+        normal: of.tree.normalized(of.for_usage)?,
+    })
+}
