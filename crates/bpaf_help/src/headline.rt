@@ -37,8 +37,8 @@ pub struct Headline<A: Allocator = Global, P: Allocator = Global, M: Allocator =
     pub normal: Meta<M>,
 }
 
-/// All that these are shown as, the roff of the document behind what the page holds. What is promised of the answers
-/// together is what each call in the body promises of its own.
+/// Shows the document and the application in each form, the roff of the document behind what `page` holds. `IsHeadline`
+/// has a field for each clause of the five calls that make them.
 ///
 /// An `AllocError` says that an allocation failed; nothing of the page is left then.
 pub fn show<A: Allocator + Copy, P: Allocator + Copy, D: Allocator, M: Allocator + Copy>(
