@@ -114,7 +114,7 @@ fn ended<T: Debug + Drop>(
     }
 }
 
-// Shows all forms of the application, and those of a document with its roff behind a heading.
+// Shows all forms of the application and of its description, whose roff stands behind a heading.
 fn are_forms_shown<'a, 's>(
     rt: &impl Abort,
     arena: &'a Bump,
@@ -123,12 +123,14 @@ fn are_forms_shown<'a, 's>(
     info: &'s Info<&'a Bump>,
     shown: &mut String,
 ) -> bool {
-    let document = Doc::from_text(arena, "<a> b\n\nc").expect(rt, "a document");
+    let Some(document) = &info.descr else {
+        return false;
+    };
     let mut page = Roff::new(arena);
     page.append_control("SH", &["d"]).expect(rt, "a page");
     let of = Sources {
-        document: &document,
-        width: 4,
+        document,
+        width: 6,
         app: "app",
         title: ManualTitle::new(Section::Game).vendor("V"),
         tree,
@@ -136,15 +138,12 @@ fn are_forms_shown<'a, 's>(
         for_usage: true,
     };
     leave(rt, arena, room);
-    let made = show(arena, page, &of).ok();
-    drop(of);
-    drop(document);
-    let is_made = made.is_some();
-    if let Some(made) = made {
-        write!(shown, "{made:?}").expect(rt, "a text");
-        drop(made);
-    }
-    is_made
+    let Ok(made) = show(arena, page, &of) else {
+        return false;
+    };
+    write!(shown, "{made:?}").expect(rt, "a text");
+    drop(made);
+    true
 }
 
 /// A page of an application as a text.

@@ -67,10 +67,10 @@ fn errors_say_what_is_wrong(rt: HostRuntime) {
     drop(said);
 }
 
-// All forms of a document and of a flag, in parts.
+// All forms of a description and of a flag, in parts.
 const FORMS: &[&str] = &[
-    r#"Headline { console: "<a>\nb\nc", html: "&lt;a&gt; b<br>\nc", "#,
-    r#"roff: ".ie \\n(.g .ds Aq \\(aq\n.el .ds Aq '\n.SH d\n\\fR<a> b\n\nc\\fP", "#,
+    r#"Headline { console: "Prints\nthings", html: "Prints things", "#,
+    r#"roff: ".ie \\n(.g .ds Aq \\(aq\n.el .ds Aq '\n.SH d\n\\fRPrints things\\fP", "#,
     r#"manual: ".ie \\n(.g .ds Aq \\(aq\n.el .ds Aq '\n.TH app 6 - V \"\"\n"#,
     r#".SH NAME\n\\fRapp \\- \\fP\\fRPrints things\\fP\n.SH SYNOPSIS\n\\fBapp\\fP\\fR \\fP\\fB\\-a\\fP\n"#,
     r#".PP\n.SS AVAILABLE\\ OPTIONS:\n.TP\n\\fB\\-a\\fP\n\\fRA\\fP\n.PP\n", "#,
