@@ -1,0 +1,185 @@
+"""A page in markdown, as CommonMark has it.
+
+`arranged` is the page as blocks that follow one another, and `write` writes them. `keeps` is what a reader can give back: an entry is an item
+that begins with its terms, usage and code have no styles, and nothing has an id.
+"""
+import re
+import unicodedata
+import urllib.parse
+
+from pages.tree import element, is_a, joined, merged, plain
+
+ALWAYS = set("\\`*[]<")
+AT_FRONT = re.compile(r"[#+>=~-]|[0-9]{1,9}(?=[.)])")
+
+
+# What stands on a page of markdown.
+
+def arranged(page):
+    """The blocks of all levels. Behind the first page everything but the names is one rank lower."""
+    links, found = Links(page), []
+    for number, level in enumerate(page.inside):
+        rank = 3 if number else 2
+        for part in level.inside:
+            if is_a(part, "heading"):
+                found.append(element("heading", *part.inside, rank=1))
+            elif is_a(part, "usage"):
+                found.append(element("code", "\n".join(map(form_line, part.inside))))
+            elif is_a(part, "section"):
+                found.append(element("heading", *part.child("heading").inside, rank=rank))
+                found += [block for child in part.inside[1:] for block in [entry_list(child, links) if is_a(child, "entries") else child]]
+            elif is_a(part, "about", "header"):
+                found += part.inside
+    return element("page", *[links.resolved(block) for block in merged(found)])
+
+
+def form_line(form):
+    return " ".join(plain(part.inside) for part in form.inside)
+
+
+def entry_list(entries, links):
+    return element("list", *[element("item", *entry_blocks(entry, links)) for entry in entries.inside], is_loose=True)
+
+
+def entry_blocks(entry, links):
+    """The terms, each in a span of its own, and the first paragraph behind them."""
+    terms = [[element("literal", plain(term.inside))] for term in entry.children("term")]
+    if "to" in entry.said:
+        terms[0] = [element("link", *terms[0], address=links.address(entry.said["to"]))]
+    line, blocks = joined(terms, ", "), entry.child("body").inside
+    if blocks and is_a(blocks[0], "paragraph"):
+        line, blocks = [*line, " \u2014 ", *blocks[0].inside], blocks[1:]
+    return [element("paragraph", *line), *blocks]
+
+
+class Links:
+    """Where links to levels lead: to headings of this page, or to the pages beside it."""
+
+    def __init__(self, page):
+        self.slugs, taken = {}, {}
+        for level in page.inside:
+            headings = [level.child("heading"), *[section.child("heading") for section in level.children("section")]]
+            for heading, names in zip(headings, [level.said["names"], *[None] * len(headings)]):
+                slug = slug_of(plain(heading.inside))
+                taken[slug] = taken.get(slug, -1) + 1
+                if names and level is not page.inside[0]:
+                    self.slugs[tuple(names)] = f"{slug}-{taken[slug]}" if taken[slug] else slug
+
+    def address(self, names):
+        slug = self.slugs.get(tuple(names))
+        return encoded("-".join(names)) + ".md" if slug is None else "#" + encoded(slug)
+
+    def resolved(self, node):
+        """A node with links for its references."""
+        if isinstance(node, str):
+            return node
+        inside = map(self.resolved, node.inside)
+        if node.kind == "reference":
+            return element("link", *inside, address=self.address(node.said["to"]))
+        return element(node.kind, *inside, **node.said)
+
+
+def slug_of(title):
+    """The id that sites give to a heading."""
+    return "".join("-" if letter == " " else letter for letter in title.lower() if letter in " -_" or unicodedata.category(letter)[0] in "LNM")
+
+
+def encoded(text):
+    return urllib.parse.quote(text, safe="")
+
+
+def keeps(page):
+    return kept(arranged(page))
+
+
+def kept(node):
+    if isinstance(node, str):
+        return node
+    inside = list(map(kept, node.inside))
+    if node.kind == "item" and not (inside and is_a(inside[0], "paragraph")):
+        inside = [element("paragraph", *inside)]
+    return element(node.kind, *inside, **{key: said for key, said in node.said.items() if key in {"rank", "address"}})
+
+
+# How it is written.
+
+def is_letter(letter):
+    return unicodedata.category(letter)[0] in "LN"
+
+
+def escapes(text, place, in_heading):
+    """Whether a backslash stands before a letter, wherever its line begins."""
+    letter, before, behind = text[place], text[:place][-1:], text[place + 1:place + 2]
+    if letter == "_":
+        return not (before and is_letter(before) and behind and is_letter(behind))
+    if letter == "&":
+        return behind == "#" or behind.isascii() and behind.isalpha()
+    return letter in ALWAYS or in_heading and letter == "#"
+
+
+def escaped(text, in_heading=False):
+    return "".join("\\" + letter if escapes(text, place, in_heading) else letter for place, letter in enumerate(text))
+
+
+def guarded(line):
+    """A line that begins no block."""
+    match = AT_FRONT.match(line)
+    if not match:
+        return line
+    at = match.end() if match[0][0].isdigit() else 0
+    return line[:at] + "\\" + line[at:]
+
+
+def span(text):
+    """A code span."""
+    ticks = next("`" * count for count in range(1, len(text) + 2) if count not in map(len, re.findall("`+", text)))
+    pad = " " if text[:1] in ("`", " ") or text[-1:] in ("`", " ") else ""
+    return ticks + pad + text + pad + ticks
+
+
+def shown(node):
+    if isinstance(node, str):
+        return escaped(node)
+    if node.kind == "literal":
+        return span(plain(node.inside))
+    if node.kind == "break":
+        return "\\\n"
+    if node.said["address"] == plain(node.inside):
+        return "<" + node.said["address"].replace("&", "&amp;") + ">"
+    return f"[{''.join(map(shown, node.inside))}]({node.said['address']})"
+
+
+def filled(nodes):
+    """The lines of a paragraph or an item."""
+    return [guarded(line) for line in "".join(map(shown, nodes)).split("\n")]
+
+
+def code_lines(code):
+    lines = plain(code.inside).split("\n")
+    fence = "`" * max(3, *[len(run) + 1 for line in lines for run in re.findall("`+", line)], 0)
+    return [fence, *lines, fence]
+
+
+def item_lines(item, is_loose):
+    lines = blocks_lines(item.inside) if is_loose else filled(item.inside)
+    return [("  " if number else "- ") + line if line else "" for number, line in enumerate(lines)]
+
+
+def block_lines(block):
+    if is_a(block, "heading"):
+        return ["#" * block.said["rank"] + " " + escaped(plain(block.inside), True)]
+    if is_a(block, "code"):
+        return code_lines(block)
+    if is_a(block, "list"):
+        is_loose = block.said.get("is_loose", False)
+        groups = [item_lines(item, is_loose) for item in block.inside]
+        return joined(groups, "") if is_loose else [line for group in groups for line in group]
+    return filled(block.inside)
+
+
+def blocks_lines(blocks):
+    return joined(map(block_lines, blocks), "")
+
+
+def write(page):
+    return "\n".join(blocks_lines(arranged(page).inside)) + "\n"

@@ -1,0 +1,131 @@
+"""Reads markdown as CommonMark says, as far as a page is written in it. Else it raises `Refused`.
+
+| CommonMark | Tree |
+|---|---|
+| document | page |
+| heading, its level | heading, its rank |
+| paragraph, block of code, list, item | paragraph, code, list, item |
+| text, code span, hard break | text, literal, break |
+| link, autolink, its destination | link, its address |
+
+Not read, since none is written: indented code, setext headings, thematic breaks, quotes, numbered lists, HTML, emphasis, images, link
+references, entities but `&amp;` in an autolink, and paragraphs that go on in a second line without a hard break.
+"""
+import re
+
+from pages.tree import element
+
+PUNCTUATION = r"!-/:-@\[-`{-~"
+INLINE = re.compile(rf"\\(?P<escaped>[{PUNCTUATION}])|(?P<ticks>`+)|<(?P<auto>https?:[^\x00-\x20<>]*)>|\[(?P<text>(?:\\.|`[^`]*`|[^\]\\])*)\]\((?P<address>[^\s()]*)\)|(?P<letter>[^\\`<])", re.DOTALL)
+HEADING = re.compile(r"(#{1,6}) (.*)")
+FENCE = re.compile(r"(```+)([^`]*)")
+# Begins a block that no page has.
+OTHER = re.compile(r"[+*>=<~]|\t|    |#|-[ -]|[0-9]{1,9}[.)]|_{3}|```+[^`]*$")
+
+
+class Refused(Exception):
+    """What is not read."""
+
+
+def read(text):
+    """The tree of a page, as `markdown.keeps` gives it."""
+    return element("page", *blocks(text.split("\n")))
+
+
+def blocks(lines):
+    found, at = [], 0
+    while at < len(lines):
+        if not lines[at]:
+            at += 1
+            continue
+        reader = heading if HEADING.fullmatch(lines[at]) else fence if FENCE.fullmatch(lines[at]) else list_of if lines[at].startswith("- ") else paragraph
+        block, at = reader(lines, at)
+        found.append(block)
+    return found
+
+
+def heading(lines, at):
+    marks, text = HEADING.fullmatch(lines[at]).groups()
+    if re.search(r"(^| )#+ *$", text):
+        raise Refused(f"a heading that is closed: {text}")
+    return element("heading", *within(text), rank=len(marks)), at + 1
+
+
+def fence(lines, at):
+    ticks, info = FENCE.fullmatch(lines[at]).groups()
+    end = next((place for place in range(at + 1, len(lines)) if is_close(lines[place], ticks)), None)
+    if info or end is None:
+        raise Refused("a fence that is not closed, or has an info string")
+    return element("code", "\n".join(lines[at + 1:end])), end + 1
+
+
+def is_close(line, ticks):
+    return re.fullmatch(rf" {{0,3}}`{{{len(ticks)},}} *", line) is not None
+
+
+def list_of(lines, at):
+    """Items: lines that begin with `- `, and those below that are two columns in, or empty before such."""
+    found = []
+    while at < len(lines) and lines[at].startswith("- "):
+        own, at = [lines[at][2:]], at + 1
+        while at < len(lines) and (lines[at].startswith("  ") or not lines[at]):
+            own.append(lines[at][2:])
+            at += 1
+        found.append(element("item", *blocks(own)))
+    return element("list", *found), at
+
+
+def paragraph(lines, at):
+    """A line, and the next one where it ends in a hard break."""
+    found, start = [], at
+    while True:
+        if OTHER.match(lines[at]):
+            raise Refused(f"another block: {lines[at]}")
+        ends = re.search(r"(?:^|[^\\])(?:\\\\)*\\$", lines[at]) is not None
+        found += within(lines[at].removesuffix("\\") if ends else lines[at])
+        at += 1
+        if not ends:
+            break
+        if at == len(lines) or not lines[at]:
+            raise Refused("a hard break at the end")
+        found.append(element("break"))
+    if at < len(lines) and lines[at] and not lines[at].startswith("- ") and start < at:
+        raise Refused(f"a line goes on: {lines[at]}")
+    return element("paragraph", *found), at
+
+
+def within(text):
+    """What stands within a line."""
+    at, found = 0, []
+    while at < len(text):
+        match = INLINE.match(text, at)
+        if not match:
+            raise Refused(f"no text: {text[at:]}")
+        at = match.end()
+        if match["ticks"]:
+            end = re.compile(rf"(?<!`){match['ticks']}(?!`)").search(text, at)
+            if not end:
+                raise Refused(f"a span that is not closed: {text}")
+            found.append(element("literal", unpadded(text[at:end.start()])))
+            at = end.end()
+        elif match["auto"]:
+            address = match["auto"].replace("&amp;", "&")
+            found.append(element("link", address, address=address))
+        elif match["address"] is not None:
+            found.append(element("link", *within(match["text"]), address=match["address"]))
+        else:
+            found.append(bare(match, text))
+    return element("", *found).inside
+
+
+def unpadded(text):
+    """A span that begins and ends with a blank has one more at each end."""
+    return text[1:-1] if text.startswith(" ") and text.endswith(" ") and text.strip(" ") else text
+
+
+def bare(match, text):
+    """A letter that stands for itself."""
+    letter, before, behind = match["letter"], text[:match.start()][-1:], text[match.end():][:1]
+    if letter in ("*", "[", "]") or letter == "&" and re.match(r"[#A-Za-z]", behind) or letter == "_" and not (before.isalnum() and behind.isalnum()):
+        raise Refused(f"a letter that means more: {text[match.start():]}")
+    return match["escaped"] or letter
