@@ -1,4 +1,4 @@
-#!/usr/bin/env python3
+#!/usr/bin/python3
 """Writes a page of a description, by `pages`: the definition of the pages as a program.
 
     compare/page_of.py FORM [--command NAME].. [--deep] [--width COLUMNS] [--fragment] [FILE]

@@ -6,7 +6,6 @@ from pages.columns import columns
 from pages.level import without_references
 from pages.tree import is_a, plain
 
-NO_BREAK = "\u00a0"
 WIDEST_TERM = 24
 
 
@@ -106,14 +105,14 @@ def form_lines(form, before, width):
     column = before + columns(names) + 1
     if max(map(columns, parts), default=0) > room(width, column):
         column = 4
-    whole = [piece.replace(" ", NO_BREAK) for part in parts for piece in pieces(part, room(width, column))]
+    whole = [piece for part in parts for piece in pieces(part, room(width, column))]
     lines, at = [names], before + columns(names)
     for piece in whole:
         if at + 1 + columns(piece) > width and at > column:
             lines, at = [*lines, " " * column + piece], column + columns(piece)
         else:
             lines[-1], at = f"{lines[-1]} {piece}", at + 1 + columns(piece)
-    return [line.replace(NO_BREAK, " ") for line in lines]
+    return lines
 
 
 def usage_lines(usage, word, width):
