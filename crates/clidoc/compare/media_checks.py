@@ -83,7 +83,7 @@ def word_faults(page, text):
     for word in words_of(man.keeps(page)):
         if not word.isascii():
             continue
-        before, found, rest_behind = rest.partition(word.replace("'", "'"))
+        before, found, rest_behind = rest.partition(word)
         if not found:
             yield f"groff does not show {word!r}"
             return
@@ -91,7 +91,7 @@ def word_faults(page, text):
 
 
 def of_cmark(node):
-    """A node of cmark's tree as an element."""
+    """A node of cmark's tree as an element, by the table of `markdown_reader`."""
     kind, inside = node.tag.removeprefix(SPACE), [of_cmark(child) for child in node]
     text = node.text or ""
     if kind == "text":
@@ -106,19 +106,11 @@ def of_cmark(node):
     return element(kinds.get(kind, kind), *(inside or [text]))
 
 
-def as_browsers_have_it(node):
-    """An address as cmark writes it, with what is no part of an address percent-encoded."""
-    if not isinstance(node, Element):
-        return node
-    said = {key: re.sub(r"[\[\]\\^{|}\"]", lambda letter: f"%{ord(letter[0]):02X}", value) if key == "address" else value for key, value in node.said.items()}
-    return Element(node.kind, said, [as_browsers_have_it(child) for child in node.inside])
-
-
 def markdown_faults(page):
     text, wanted = markdown.write(page), markdown.keeps(page)
     yield from reads(markdown_reader, text, wanted)
     shown = xml.etree.ElementTree.fromstring(run(["cmark", "-t", "xml"], text)[0].partition("\n")[2])
-    fault = difference(of_cmark(shown), as_browsers_have_it(wanted))
+    fault = difference(of_cmark(shown), wanted)
     if fault:
         yield f"cmark: {fault}"
 

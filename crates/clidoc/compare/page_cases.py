@@ -74,9 +74,10 @@ def tidied(top):
 def with_hostile(top, chances):
     """Puts hostile texts at some places. A name is taken once."""
     places = [(table, key) for table in tables(top) for key, each in table.items() if isinstance(each, str) and key in TEXTS | LINES | TITLES | NAMES]
-    taken = set()
+    taken = {name for table in tables(top) for key in ["name", "short", "long"] for name in [table.get(key)]}
+    taken |= {name for table in tables(top) for name in [*table.get("aliases", []), *(syntaxes.names(table["syntax"]) if "syntax" in table else [])]}
     for table, key in chances.sample(places, min(len(places), 8)):
-        text = fitting(key, chances.choice([hostile_texts.TEXTS, MARKS])[chances.randrange(len(MARKS))])
+        text = fitting(key, chances.choice(chances.choice([hostile_texts.TEXTS, MARKS])))
         text = chances.choice([text, table[key] + text, text + table[key]]) if key in TEXTS else text
         names = syntaxes.names(text) if key == "syntax" and syntaxes.is_syntax(text) else [text] if key in NAMES else []
         if is_fit(key, text) and not taken & set(names):
@@ -91,7 +92,6 @@ MARKS = [
     "    a\n\n     b\n    \n    c\n- d\n      \n- e\n  f\n\n    g", "\ta\n\n\tb", "    .so x\n    'br\n    \\e", ".a\n .b", "'a\n 'b", "a\n\n- b\n\n    c\n\n d", "- `-x`: a\n- `-y` — b", "-- a", "- ", "-", "a.\n b.", "Usage: a [b]\nUsage: c {d | e} f] (g",
     "a\n  [b c] d...\n\n    e", "Usage:\n  x y", "x {a,b} <c d> -e=F... G", "\u00a0a\u00a0", "\u3000", "`\u00a0`", "a  b\t\tc", "https://x.example/a_b_c", "100% of ^ and ~ and \" and '", "a|b", "Notes", "See also", "notes:", "NOTES",
 ]
-MARKS += ["x"] * (len(hostile_texts.TEXTS) - len(MARKS))
 
 
 def with_words(top, chances):

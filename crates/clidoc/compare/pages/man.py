@@ -101,8 +101,8 @@ def title_line(words):
 
 
 def guarded(line):
-    """A line that is no request."""
-    return "\\&" + line if line.startswith(".") else line
+    """A line that is no request. An apostrophe is written as a glyph, but some readers look no further."""
+    return "\\&" + line if line.startswith((".", GLYPHS["'"])) else line
 
 
 def shown(node, keeps_whole=False):

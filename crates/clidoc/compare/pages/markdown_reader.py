@@ -1,12 +1,17 @@
 """Reads markdown as CommonMark says, as far as a page is written in it. Else it raises `Refused`.
 
-| CommonMark | Tree |
-|---|---|
-| document | page |
-| heading, its level | heading, its rank |
-| paragraph, block of code, list, item | paragraph, code, list, item |
-| text, code span, hard break | text, literal, break |
-| link, autolink, its destination | link, its address |
+| CommonMark | In cmark's XML | Tree |
+|---|---|---|
+| document | `document` | page |
+| heading, its level | `heading`, `level` | heading, its rank |
+| paragraph | `paragraph` | paragraph |
+| fenced code without an info string | `code_block` | code: its text without the newline at the end |
+| list of items with `-`, tight or loose; an item | `list`, `item` | list, item |
+| text, code span, hard break | `text`, `code`, `linebreak` | text, literal, break |
+| link, autolink, and the destination | `link`, `destination` | link, its address |
+
+An entry of a list is an item: its terms are the code spans at its front, with a comma and a blank between two, and behind them stands ` \u2014 ` and the first
+paragraph of what is said of it. A usage is code.
 
 Not read, since none is written: indented code, setext headings, thematic breaks, quotes, numbered lists, HTML, emphasis, images, link
 references, entities but `&amp;` in an autolink, and paragraphs that go on in a second line without a hard break.
