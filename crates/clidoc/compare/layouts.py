@@ -4,9 +4,9 @@
     compare/layouts.py ask [COUNT [SEED]] > REQUESTS
     compare/layouts.py judge ANSWERS
 
-The first prints requests to `replay`, of which docs/replay.md tells, for the paragraphs and items of COUNT random descriptions (100) from SEED (1),
-each at some widths. The second reads what `replay` answers to them, and says how many layouts by `pages/console.py` agree. Each that differs is
-printed. Ends with status 1 where one does.
+The first prints requests to `replay`, of which docs/replay.md tells, for the paragraphs and items of COUNT random
+descriptions (100) from SEED (1), each at some widths. The second reads what `replay` answers to them, and says how
+many layouts by `pages/console.py` agree. Each that differs is printed. Ends with status 1 where one does.
 """
 import random
 import re
@@ -46,12 +46,14 @@ def judged(lines):
         match = re.fullmatch(r"console full (\d+) \[ T(.*) \]", asked)
         if match:
             text = asking.page("full", match[2]).replace("\n ", "\n")
-            yield asked, asking.page("full", answered.removeprefix("= console ")), "\n".join(console.filled(text, int(match[1])))
+            yield asked, asking.page("full", answered.removeprefix("= console ")), "\n".join(
+                console.filled(text, int(match[1]))
+            )
 
 
 def main():
     if sys.argv[1] == "ask":
-        count, seed = (list(map(int, sys.argv[2:])) + [100, 1][len(sys.argv) - 2:])[:2]
+        count, seed = (list(map(int, sys.argv[2:])) + [100, 1][len(sys.argv) - 2 :])[:2]
         print("\n".join(requests(count, seed)))
         return
     with open(sys.argv[2], encoding="utf-8") as answers:

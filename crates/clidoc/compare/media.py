@@ -3,16 +3,20 @@
 
     compare/media.py [COUNT [SEED]]
 
-Takes those of `examples/`, and COUNT random ones (100) from SEED (1), of each all levels, in full and in brief, and each page with those below it.
+Takes those of `examples/`, and COUNT random ones (100) from SEED (1), of each all levels, in full and in brief, and
+each page with those below it.
 
-- A manual page is read by `man_reader`, which gives what `man` keeps; `groff` and `mandoc` say nothing of it, but of a date, and of what is
-  wider than a line; `lexgrog` reads one that has a summary; and the text that `groff` shows holds each word of the page in order.
+- A manual page is read by `man_reader`, which gives what `man` keeps; `groff` and `mandoc` say nothing of it, but of
+  a date, and of what is wider than a line; `lexgrog` reads one that has a summary; and the text that `groff` shows
+  holds each word of the page in order.
 - A page in markdown is read by `markdown_reader` and by `cmark`, which both give what `markdown` keeps.
-- A page in HTML is parsed by `html5lib` in its strict mode as the tree that it was written from; `tidy` warns of empty elements alone; no id
-  stands twice, and each link to a place on the page leads there.
-- On the console no part of a usage that fits is broken at 40, 80 and 120 columns, and no line is wider than the width but by a word of its own.
+- A page in HTML is parsed by `html5lib` in its strict mode as the tree that it was written from; `tidy` warns of
+  empty elements alone; no id stands twice, and each link to a place on the page leads there.
+- On the console no part of a usage that fits is broken at 40, 80 and 120 columns, and no line is wider than the width
+  but by a word of its own.
 
-Needs Debian's packages `groff`, `mandoc`, `man-db`, `cmark`, `python3-html5lib` and `tidy`. Prints each fault and counts. Ends with status 1 where there is a fault.
+Needs Debian's packages `groff`, `mandoc`, `man-db`, `cmark`, `python3-html5lib` and `tidy`. Prints each fault and
+counts. Ends with status 1 where there is a fault.
 """
 import collections
 import concurrent.futures
@@ -57,7 +61,7 @@ def judged(case):
 
 
 def main():
-    count, seed = (list(map(int, sys.argv[1:])) + [100, 1][len(sys.argv) - 1:])[:2]
+    count, seed = (list(map(int, sys.argv[1:])) + [100, 1][len(sys.argv) - 1 :])[:2]
     total, wrong = collections.Counter(), 0
     with concurrent.futures.ProcessPoolExecutor(2) as pool:
         for faults, counts in pool.map(judged, page_cases.cases(count, seed)):

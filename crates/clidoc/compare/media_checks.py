@@ -23,7 +23,12 @@ def run(command, text):
 
 def difference(found, wanted, way=""):
     """Where two trees differ first."""
-    if isinstance(found, Element) and isinstance(wanted, Element) and found[:2] == wanted[:2] and len(found.inside) == len(wanted.inside):
+    if (
+        isinstance(found, Element)
+        and isinstance(wanted, Element)
+        and found[:2] == wanted[:2]
+        and len(found.inside) == len(wanted.inside)
+    ):
         pairs = zip(found.inside, wanted.inside)
         return next(filter(None, (difference(one, other, f"{way}/{found.kind}") for one, other in pairs)), None)
     return None if found == wanted else f"{way}: {str(found)[:300]!r}, not {str(wanted)[:300]!r}"
@@ -41,7 +46,10 @@ def reads(reader, text, wanted):
 def man_faults(page):
     text = man.write(page)
     yield from reads(man_reader, text, man.keeps(page))
-    for command in [["groff", "-Kutf8", "-man", "-ww", "-Tutf8", "-Z"], ["mandoc", "-Kutf-8", "-T", "lint", "-W", "warning"]]:
+    for command in [
+        ["groff", "-Kutf8", "-man", "-ww", "-Tutf8", "-Z"],
+        ["mandoc", "-Kutf-8", "-T", "lint", "-W", "warning"],
+    ]:
         shown, told = run(command, text)
         for line in (told if command[0] == "groff" else shown + told).splitlines():
             if not NAMED.search(line):
@@ -54,13 +62,18 @@ def lexgrog_faults(page, text):
     first = page.inside[0]
     name = "-".join(first.said["names"])
     # A name with a dash at an end is none for it, and it looks under NAME.
-    if not first.children("summary") or "," in name or name != name.strip("-") or page.said["words"]["name"] != words.WORDS["name"]:
+    if (
+        not first.children("summary")
+        or "," in name
+        or name != name.strip("-")
+        or page.said["words"]["name"] != words.WORDS["name"]
+    ):
         return
     with tempfile.NamedTemporaryFile(suffix=".1") as file:
         file.write(text.encode())
         file.flush()
         told, _ = run(["lexgrog", "-E", "UTF-8", file.name], "")
-    if f": \"{name} - " not in told:
+    if f': "{name} - ' not in told:
         yield f"lexgrog: {told!r} of {name}"
 
 
@@ -102,7 +115,14 @@ def of_cmark(node):
         return element(kind, *inside, address=node.get("destination"))
     if kind == "code_block":
         return element("code", text.removesuffix("\n")) if not node.get("info") else element("code with info", text)
-    kinds = {"document": "page", "linebreak": "break", "paragraph": "paragraph", "list": "list", "item": "item", "code": "literal"}
+    kinds = {
+        "document": "page",
+        "linebreak": "break",
+        "paragraph": "paragraph",
+        "list": "list",
+        "item": "item",
+        "code": "literal",
+    }
     return element(kinds.get(kind, kind), *(inside or [text]))
 
 
@@ -173,12 +193,16 @@ def console_faults(page, width):
     fixed += [row for node in every(page) if is_a(node, "code") for row in plain(node.inside).split("\n")]
     terms = [console.term_text(node) for node in every(page) if is_a(node, "entry")]
     for row in shown.split("\n"):
-        if columns(row) > width and not any(text and row.endswith(text) for text in fixed) and not is_one_word(row, terms):
+        if (
+            columns(row) > width
+            and not any(text and row.endswith(text) for text in fixed)
+            and not is_one_word(row, terms)
+        ):
             yield f"a line is wider than {width}: {row}"
 
 
 def is_one_word(row, terms):
     """Whether a line holds one word, behind a term or not, or a term alone."""
     text = row.strip(" ")
-    rests = [text, *[row[4 + len(term):].strip(" ") for term in terms if row.startswith("    " + term)]]
+    rests = [text, *[row[4 + len(term) :].strip(" ") for term in terms if row.startswith("    " + term)]]
     return any(" " not in rest.removeprefix("- ") for rest in rests)

@@ -1,4 +1,4 @@
-"""Descriptions whose pages are made and read: those of `examples/`, and random ones with hostile texts and words of their own."""
+"""Descriptions whose pages are made and read: `examples/`, and random ones with hostile texts and fixed words."""
 import pathlib
 import random
 import tomllib
@@ -21,7 +21,12 @@ LANGUAGES = ["en", "de", "pt-BR", "zh-Hans-CN"]
 
 def is_refused(letter):
     """Whether no description holds this letter: a control character or a noncharacter."""
-    return unicodedata.category(letter) == "Cc" and letter not in "\t\n" or ord(letter) & 0xFFFE == 0xFFFE or "\ufdd0" <= letter <= "\ufdef"
+    return (
+        unicodedata.category(letter) == "Cc"
+        and letter not in "\t\n"
+        or ord(letter) & 0xFFFE == 0xFFFE
+        or "\ufdd0" <= letter <= "\ufdef"
+    )
 
 
 def fitting(key, text):
@@ -31,7 +36,7 @@ def fitting(key, text):
         return text
     text = text.replace("\n", " ").replace("\t", " ")
     if key in TITLES or key in NAMES - {"long", "env"}:
-        text = text.replace("\\", "").replace("\"", "")
+        text = text.replace("\\", "").replace('"', "")
     if key in NAMES:
         return "".join(letter for letter in text if not letter.isspace() and letter != "=").lstrip("-") or "x"
     return text
@@ -73,13 +78,24 @@ def tidied(top):
 
 def with_hostile(top, chances):
     """Puts hostile texts at some places. A name is taken once."""
-    places = [(table, key) for table in tables(top) for key, each in table.items() if isinstance(each, str) and key in TEXTS | LINES | TITLES | NAMES]
+    places = [
+        (table, key)
+        for table in tables(top)
+        for key, each in table.items()
+        if isinstance(each, str) and key in TEXTS | LINES | TITLES | NAMES
+    ]
     taken = {name for table in tables(top) for key in ["name", "short", "long"] for name in [table.get(key)]}
-    taken |= {name for table in tables(top) for name in [*table.get("aliases", []), *(syntaxes.names(table["syntax"]) if "syntax" in table else [])]}
+    taken |= {
+        name
+        for table in tables(top)
+        for name in [*table.get("aliases", []), *(syntaxes.names(table["syntax"]) if "syntax" in table else [])]
+    }
     for table, key in chances.sample(places, min(len(places), 8)):
         text = fitting(key, chances.choice(chances.choice([hostile_texts.TEXTS, MARKS])))
         text = chances.choice([text, table[key] + text, text + table[key]]) if key in TEXTS else text
-        names = syntaxes.names(text) if key == "syntax" and syntaxes.is_syntax(text) else [text] if key in NAMES else []
+        names = (
+            syntaxes.names(text) if key == "syntax" and syntaxes.is_syntax(text) else [text] if key in NAMES else []
+        )
         if is_fit(key, text) and not taken & set(names):
             table[key] = text
             taken |= set(names)
@@ -87,10 +103,67 @@ def with_hostile(top, chances):
 
 # What means something in a text, in markdown, or in a manual page, at the ends of lines and beside literals.
 MARKS = [
-    "- a\n- b `c`", "-a", "+ a", "1. a", "12) b", "1234567890. c", "a\n  b\n  - c", "===", "a\n ===", "a\n ---", "~~~", "# a #", "> a", "a_b _c_ d_", "a*b*", "&copy; &#65; & b", "a\\", "a\\\n b", "[a](b)", "![a](b)",
-    "<https://a.example/?b&copy=c>", "<http://x> <https://>", "<b>", "`` a ` b `` c", "`a``b` c", "` a ` b ` c `", "`a ` `b`", "a` b`", "`a` `b`", "`*` `_`", "`a\\`", "```\n````\n```", "```\n\n```", "```sh\na ``` b\n\n  c\n```", "```a`b",
-    "    a\n\n     b\n    \n    c\n- d\n      \n- e\n  f\n\n    g", "\ta\n\n\tb", "    .so x\n    'br\n    \\e", ".a\n .b", "'a\n 'b", "a\n\n- b\n\n    c\n\n d", "- `-x`: a\n- `-y` — b", "-- a", "- ", "-", "a.\n b.", "Usage: a [b]\nUsage: c {d | e} f] (g",
-    "a\n  [b c] d...\n\n    e", "Usage:\n  x y", "x {a,b} <c d> -e=F... G", "\u00a0a\u00a0", "\u3000", "`\u00a0`", "a  b\t\tc", "https://x.example/a_b_c", "100% of ^ and ~ and \" and '", "a|b", "Notes", "See also", "notes:", "NOTES",
+    "- a\n- b `c`",
+    "-a",
+    "+ a",
+    "1. a",
+    "12) b",
+    "1234567890. c",
+    "a\n  b\n  - c",
+    "===",
+    "a\n ===",
+    "a\n ---",
+    "~~~",
+    "# a #",
+    "> a",
+    "a_b _c_ d_",
+    "a*b*",
+    "&copy; &#65; & b",
+    "a\\",
+    "a\\\n b",
+    "[a](b)",
+    "![a](b)",
+    "<https://a.example/?b&copy=c>",
+    "<http://x> <https://>",
+    "<b>",
+    "`` a ` b `` c",
+    "`a``b` c",
+    "` a ` b ` c `",
+    "`a ` `b`",
+    "a` b`",
+    "`a` `b`",
+    "`*` `_`",
+    "`a\\`",
+    "```\n````\n```",
+    "```\n\n```",
+    "```sh\na ``` b\n\n  c\n```",
+    "```a`b",
+    "    a\n\n     b\n    \n    c\n- d\n      \n- e\n  f\n\n    g",
+    "\ta\n\n\tb",
+    "    .so x\n    'br\n    \\e",
+    ".a\n .b",
+    "'a\n 'b",
+    "a\n\n- b\n\n    c\n\n d",
+    "- `-x`: a\n- `-y` — b",
+    "-- a",
+    "- ",
+    "-",
+    "a.\n b.",
+    "Usage: a [b]\nUsage: c {d | e} f] (g",
+    "a\n  [b c] d...\n\n    e",
+    "Usage:\n  x y",
+    "x {a,b} <c d> -e=F... G",
+    "\u00a0a\u00a0",
+    "\u3000",
+    "`\u00a0`",
+    "a  b\t\tc",
+    "https://x.example/a_b_c",
+    "100% of ^ and ~ and \" and '",
+    "a|b",
+    "Notes",
+    "See also",
+    "notes:",
+    "NOTES",
 ]
 
 
@@ -98,7 +171,9 @@ def with_words(top, chances):
     """Gives a description words of its own."""
     if chances.random() < 0.3:
         keys = chances.sample(sorted(words.WORDS), 5)
-        top["words"] = {key: title(chances.choice(["Übersicht", "ÉTÉ:", "Σας", *hostile_texts.TEXTS])) for key in keys}
+        top["words"] = {
+            key: title(chances.choice(["Übersicht", "ÉTÉ:", "Σας", *hostile_texts.TEXTS])) for key in keys
+        }
 
 
 def cases(count, seed):

@@ -3,7 +3,8 @@
 
     compare/page_of.py FORM [--command NAME].. [--deep] [--width COLUMNS] [--fragment] [FILE]
 
-FORM is `usage`, `full`, `brief`, `man`, `markdown` or `html`, or `tree`, which writes the tree of the page in full as JSON.
+FORM is `usage`, `full`, `brief`, `man`, `markdown` or `html`, or `tree`, which writes the tree of the page in full as
+JSON.
 """
 import argparse
 import json
@@ -16,7 +17,9 @@ from pages import console, html, level, man, markdown
 
 
 def spelled(node):
-    return node if isinstance(node, str) else {"kind": node.kind, **node.said, "inside": list(map(spelled, node.inside))}
+    return (
+        node if isinstance(node, str) else {"kind": node.kind, **node.said, "inside": list(map(spelled, node.inside))}
+    )
 
 
 def text_of(top, form, given=(), deep=False, width=100, fragment=False):
@@ -28,7 +31,11 @@ def text_of(top, form, given=(), deep=False, width=100, fragment=False):
         return console.whole(page, width)
     if form == "html":
         return html.fragment(page) if fragment else html.write(page)
-    return {"man": man.write, "markdown": markdown.write, "tree": lambda tree: json.dumps(spelled(tree), indent=1, ensure_ascii=False) + "\n"}[form](page)
+    return {
+        "man": man.write,
+        "markdown": markdown.write,
+        "tree": lambda tree: json.dumps(spelled(tree), indent=1, ensure_ascii=False) + "\n",
+    }[form](page)
 
 
 def main():
@@ -40,7 +47,9 @@ def main():
     words.add_argument("--fragment", action="store_true")
     words.add_argument("file", nargs="?", type=argparse.FileType("rb"), default=sys.stdin.buffer)
     given = words.parse_intermixed_args()
-    sys.stdout.write(text_of(tomllib.load(given.file), given.form, given.command, given.deep, given.width, given.fragment))
+    sys.stdout.write(
+        text_of(tomllib.load(given.file), given.form, given.command, given.deep, given.width, given.fragment)
+    )
 
 
 if __name__ == "__main__":

@@ -39,7 +39,9 @@ def block_lines(block, width):
     if is_a(block, "code"):
         return behind("    ", "    ", plain(block.inside).split("\n"))
     if is_a(block, "list"):
-        return [line for item in block.inside for line in behind("- ", "  ", filled(letters(item.inside), room(width, 2)))]
+        return [
+            line for item in block.inside for line in behind("- ", "  ", filled(letters(item.inside), room(width, 2)))
+        ]
     return filled(letters(block.inside), width)
 
 
@@ -49,7 +51,9 @@ def room(width, taken):
 
 def blocks_lines(blocks, width):
     """Blocks with an empty line between two."""
-    return [line for number, block in enumerate(blocks) for line in ([""] if number else []) + block_lines(block, width)]
+    return [
+        line for number, block in enumerate(blocks) for line in ([""] if number else []) + block_lines(block, width)
+    ]
 
 
 def term_text(entry):
@@ -60,7 +64,12 @@ def term_text(entry):
 
 def help_column(level):
     """The column of each help: two behind the widest term that is not too wide."""
-    widths = [columns(term_text(entry)) for section in level.children("section") for entries in section.children("entries") for entry in entries.inside]
+    widths = [
+        columns(term_text(entry))
+        for section in level.children("section")
+        for entries in section.children("entries")
+        for entry in entries.inside
+    ]
     return 4 + max([width for width in widths if width <= WIDEST_TERM], default=0) + 2
 
 
@@ -100,7 +109,8 @@ def pieces(part, width):
 
 
 def form_lines(form, before, width):
-    """A form behind a number of columns. Other lines begin under its first part, or four columns in where the widest does not fit there."""
+    """A form behind a number of columns. Other lines begin under its first part, or four columns in where the widest
+    does not fit there."""
     names, parts = plain(form.child("names").inside), [plain(part.inside) for part in form.children("part")]
     column = before + columns(names) + 1
     if max(map(columns, parts), default=0) > room(width, column):
@@ -134,7 +144,9 @@ def whole(page, width):
     level, word = without_references(page).inside[0], page.said["words"]["usage"]
     column = help_column(level)
     parts = [
-        blocks_lines(level.child("about").inside, width), usage_lines(level.child("usage"), word + ": ", width), blocks_lines(level.child("header").inside, width),
+        blocks_lines(level.child("about").inside, width),
+        usage_lines(level.child("usage"), word + ": ", width),
+        blocks_lines(level.child("header").inside, width),
         *[section_lines(section, column, width) for section in level.children("section")],
     ]
     shown = ["\n".join(part) for part in parts if part]

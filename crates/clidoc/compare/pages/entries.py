@@ -12,7 +12,9 @@ def shown(tables):
 
 def value(word):
     """The word for a value: as it is where it is in capitals, and else between `<` and `>`."""
-    return element("value", word if all(letter.isupper() or letter in "0123456789-_" for letter in word) else f"<{word}>")
+    return element(
+        "value", word if all(letter.isupper() or letter in "0123456789-_" for letter in word) else f"<{word}>"
+    )
 
 
 def styled(syntax):
@@ -25,7 +27,9 @@ def option_terms(option):
     """Each name, and the value behind the last; of a syntax its pieces."""
     if "syntax" in option:
         return [styled(piece) for piece in syntaxes.pieces(option["syntax"])]
-    terms = [[element("literal", lead + option[key])] for lead, key in [("-", "short"), ("--", "long")] if key in option]
+    terms = [
+        [element("literal", lead + option[key])] for lead, key in [("-", "short"), ("--", "long")] if key in option
+    ]
     if "value" in option:
         terms[-1] += ["=" if "long" in option else " ", value(option["value"])]
     return terms
@@ -39,7 +43,7 @@ def option_word(option):
     """What an option is called in an id: without dashes, where it has a name."""
     if "syntax" in option:
         first = next(iter(syntaxes.names(option["syntax"])), None)
-        return option["syntax"] if first is None else first[2 if first.startswith("--") else 1:]
+        return option["syntax"] if first is None else first[2 if first.startswith("--") else 1 :]
     return option.get("long", option.get("short"))
 
 
@@ -53,7 +57,12 @@ def command_terms(command):
 
 def notes(table, words):
     """What is said of a table but its help, as one text."""
-    said = [("env", "env", str), ("default", "default", str), ("possible_values", "values", ", ".join), ("aliases", "aliases", ", ".join)]
+    said = [
+        ("env", "env", str),
+        ("default", "default", str),
+        ("possible_values", "values", ", ".join),
+        ("aliases", "aliases", ", ".join),
+    ]
     return " ".join(f"[{words[word]}: {show(table[key])}]" for word, key, show in said if key in table)
 
 
@@ -74,7 +83,9 @@ def body(table, words, brief):
 
 def alternatives(table):
     """The options of a level or of a group, and those of its choices."""
-    return shown(table.get("option", []) + [option for choice in table.get("choice", []) for option in choice["option"]])
+    return shown(
+        table.get("option", []) + [option for choice in table.get("choice", []) for option in choice["option"]]
+    )
 
 
 def lists(level, top, words):
@@ -87,7 +98,7 @@ def lists(level, top, words):
 
 
 def rows(members, words, brief):
-    """The entries of a list: a key, what it is called in an id, the name of the command it leads to, terms, and body."""
+    """The entries of a list: a key, the word for its id, the name of the command that it leads to, terms, and body."""
     options, positionals, commands = members
     for option in options:
         yield option_key(option), option_word(option), None, option_terms(option), body(option, words, brief)

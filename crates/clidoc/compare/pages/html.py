@@ -1,13 +1,25 @@
-"""A page in HTML. `arranged` is its tree of elements, of which nothing is left out but the summary and what points to the pages beside it."""
+"""A page in HTML.
+
+`arranged` is its tree of elements. Nothing is left out but the summary and what points to the pages beside it.
+"""
 from pages.ids import of_level
 from pages.level import without_references
 from pages.tree import element, is_a, joined, plain
 
 STYLE = (
-    "body{font:1rem/1.5 sans-serif;max-width:50rem;margin:0 auto;padding:1rem;color:#1b1b1b;background:#fff;overflow-wrap:anywhere}a{color:#0645ad}"
-    "pre{white-space:pre-wrap;padding:.5rem;background:#f2f2f2}pre code{display:inline-block;max-width:100%}dt{margin-top:.5rem}dt a{text-decoration:none}"
-    "dt a:hover{text-decoration:underline}dd{margin-left:2rem}dd p{margin:.25rem 0}@media(max-width:40rem){dd,ul{margin-left:0;padding-left:0}ul{list-style-position:inside}}"
-    "@media(prefers-color-scheme:dark){body{color:#e6e6e6;background:#161616}a{color:#8ab4f8}pre{background:#262626}}"
+    "body{font:1rem/1.5 sans-serif;max-width:50rem;margin:0 auto;padding:1rem;color:#1b1b1b;background:#fff;"
+    "overflow-wrap:anywhere}"
+    "a{color:#0645ad}"
+    "pre{white-space:pre-wrap;padding:.5rem;background:#f2f2f2}"
+    "pre code{display:inline-block;max-width:100%}"
+    "dt{margin-top:.5rem}"
+    "dt a{text-decoration:none}"
+    "dt a:hover{text-decoration:underline}"
+    "dd{margin-left:2rem}"
+    "dd p{margin:.25rem 0}"
+    "@media(max-width:40rem){dd,ul{margin-left:0;padding-left:0}ul{list-style-position:inside}}"
+    "@media(prefers-color-scheme:dark){body{color:#e6e6e6;background:#161616}a{color:#8ab4f8}"
+    "pre{background:#262626}}"
     "@media print{body{max-width:none;color:#000;background:#fff}a{color:#000}pre{background:none}}"
 )
 TAGS = {"literal": "code", "value": "var", "break": "br", "code": "pre", "list": "ul", "item": "li", "paragraph": "p"}
@@ -16,10 +28,16 @@ EMPTY = {"br", "meta"}
 
 # The elements of a page.
 
+
 def arranged(page):
     page = without_references(page)
     name = plain(page.inside[0].child("heading").inside)
-    head = [element("meta", charset="utf-8"), element("meta", name="viewport", content="width=device-width"), element("title", name), element("style", STYLE)]
+    head = [
+        element("meta", charset="utf-8"),
+        element("meta", name="viewport", content="width=device-width"),
+        element("title", name),
+        element("style", STYLE),
+    ]
     return element("html", element("head", *head), element("body", *body(page, name)), lang=page.said["language"])
 
 
@@ -45,7 +63,7 @@ def link_item(page, level):
 
 
 def section(page, level):
-    """The section of a level. The names of the first stand over it where it is alone, and its `about` stands there always."""
+    """The section of a level. What stands over all sections is the name, and the `about` of the first."""
     is_first, found = level is page.inside[0], []
     if not is_first or len(page.inside) > 1:
         found.append(element("h2", *level.child("heading").inside))
@@ -100,6 +118,7 @@ def block(node):
 
 # How they are written.
 
+
 def escaped(text):
     return text.replace("&", "&amp;").replace("<", "&lt;").replace(">", "&gt;")
 
@@ -107,7 +126,7 @@ def escaped(text):
 def written(node):
     if isinstance(node, str):
         return escaped(node)
-    said = "".join(" {}=\"{}\"".format(key, escaped(value).replace("\"", "&quot;")) for key, value in node.said.items())
+    said = "".join(' {}="{}"'.format(key, escaped(value).replace('"', "&quot;")) for key, value in node.said.items())
     if node.kind in EMPTY:
         return f"<{node.kind}{said}>"
     inside = "".join(node.inside) if node.kind == "style" else "".join(map(written, node.inside))

@@ -4,7 +4,9 @@ import re
 
 def spelled(name):
     """A name in an id: ASCII letters, digits, `-` and `_`, and for every other byte a dot and two hex digits."""
-    return "".join(chr(byte) if re.match(rb"[A-Za-z0-9_-]", bytes([byte])) else f".{byte:02x}" for byte in name.encode())
+    return "".join(
+        chr(byte) if re.match(rb"[A-Za-z0-9_-]", bytes([byte])) else f".{byte:02x}" for byte in name.encode()
+    )
 
 
 def of_level(names):

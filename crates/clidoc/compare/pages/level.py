@@ -31,7 +31,9 @@ def all_below(level, names):
 
 def summary(blocks, help_blocks):
     """The first paragraph of the help, or else that of `about`, on one line and without the full stop at its end."""
-    paragraphs = [block for block in help_blocks if is_a(block, "paragraph")] + [block for block in blocks if is_a(block, "paragraph")]
+    paragraphs = [block for block in help_blocks if is_a(block, "paragraph")] + [
+        block for block in blocks if is_a(block, "paragraph")
+    ]
     inside = [" " if is_a(node, "break") else node for node in paragraphs[0].inside] if paragraphs else []
     if inside and isinstance(inside[-1], str):
         inside[-1] = inside[-1].removesuffix(".").rstrip(" ")
@@ -39,7 +41,7 @@ def summary(blocks, help_blocks):
 
 
 class LevelPage:
-    """The page of one level: of a page that holds more the first, or one of the others, which have no links to the pages beside them."""
+    """The page of one level, which may stand behind another on one page: then it names no pages beside it."""
 
     def __init__(self, top, level, names, brief=False, is_first=True):
         self.top, self.level, self.names, self.brief, self.is_first = top, level, names, brief, is_first
@@ -52,10 +54,17 @@ class LevelPage:
         about = texts.blocks(self.level.get("about"))
         help_blocks = [] if self.level is self.top else texts.blocks(self.level.get("help"))
         parts = [
-            element("heading", " ".join(self.names)), summary(about, help_blocks), element("about", *entries.first(about, self.brief)),
-            usage(self.level, self.names, self.words), element("header", *self.blocks(self.level.get("header"))), *self.lists(), *self.topics(),
+            element("heading", " ".join(self.names)),
+            summary(about, help_blocks),
+            element("about", *entries.first(about, self.brief)),
+            usage(self.level, self.names, self.words),
+            element("header", *self.blocks(self.level.get("header"))),
+            *self.lists(),
+            *self.topics(),
         ]
-        return element("level", *[part for part in parts if part.inside], id=ids.of_level(self.names), names=self.names)
+        return element(
+            "level", *[part for part in parts if part.inside], id=ids.of_level(self.names), names=self.names
+        )
 
     def section(self, name, inside):
         return [element("section", element("heading", name, id=self.ids.of_heading(name)), *inside)] if inside else []
@@ -88,7 +97,11 @@ class LevelPage:
 
     def references(self):
         """The pages above and below."""
-        near = [self.names[:-1], *[[*self.names, command["name"]] for command in below(self.level)]] if self.is_first else []
+        near = (
+            [self.names[:-1], *[[*self.names, command["name"]] for command in below(self.level)]]
+            if self.is_first
+            else []
+        )
         section = str(self.top.get("section", "1"))
         links = [[element("reference", "-".join(names), to=names, section=section)] for names in near if names]
         return [element("paragraph", *joined(links, ", "))] if links else []
@@ -101,12 +114,18 @@ def page(top, given=(), deep=False, brief=False):
     if deep:
         found += [LevelPage(top, command, own, brief, False).tree() for command, own in all_below(level, names)]
     date = top.get("date", "")
-    said = {"section": str(top.get("section", "1")), "date": getattr(date, "text", None) or str(date), "vendor": top.get("vendor", ""), "title": top.get("title", "")}
+    said = {
+        "section": str(top.get("section", "1")),
+        "date": getattr(date, "text", None) or str(date),
+        "vendor": top.get("vendor", ""),
+        "title": top.get("title", ""),
+    }
     return element("page", *found, **said, language=top.get("language", "en"), words=words_of(top))
 
 
 def without_references(page_tree):
     """A page for a medium that has all levels on one page, or no links: nothing points to the pages beside it."""
+
     def kept(section):
         inside = [block for block in section.inside if not any(is_a(node, "reference") for node in block.inside)]
         return [Element(section.kind, section.said, inside)] if len(inside) > 1 else []

@@ -1,14 +1,16 @@
 """A page in the language of man(7).
 
-`arranged` is the page as a manual page has it: its sections, with NAME, SYNOPSIS and DESCRIPTION in front. `write` writes this, and `keeps` is
-what of it a reader can give back: no ids, targets and small letters in titles, texts for links, and the terms of an entry in one line.
+`arranged` is the page as a manual page has it: its sections, with NAME, SYNOPSIS and DESCRIPTION in front. `write`
+writes this, and `keeps` is what of it a reader can give back: no ids, targets and small letters in titles, texts for
+links, and the terms of an entry in one line.
 """
 from pages.tree import Element, element, is_a, joined, merged, plain
 
-GLYPHS = {"-": "\\-", "\\": "\\e", "'": "\\(aq", "`": "\\(ga", "^": "\\(ha", "~": "\\(ti", "\"": "\\(dq"}
+GLYPHS = {"-": "\\-", "\\": "\\e", "'": "\\(aq", "`": "\\(ga", "^": "\\(ha", "~": "\\(ti", '"': "\\(dq"}
 
 
 # What stands on a manual page.
+
 
 def arranged(page):
     first, *others = page.inside
@@ -41,7 +43,11 @@ def own_sections(page, level):
     if level is page.inside[0] and is_only(about, level.child("summary").inside):
         about = []
     description = merged(about + level.child("header").inside)
-    return [*named(page, "synopsis", *usage), *named(page, "description", *description), *map(capital, level.children("section"))]
+    return [
+        *named(page, "synopsis", *usage),
+        *named(page, "description", *description),
+        *map(capital, level.children("section")),
+    ]
 
 
 def is_only(blocks, summary):
@@ -82,13 +88,14 @@ def kept_within(node):
 
 # How it is written.
 
+
 def escaped(text, glyphs=GLYPHS):
     return "".join(glyphs.get(letter, letter) for letter in text)
 
 
 def argument(text, is_quoted, glyphs=GLYPHS):
     """An argument of a request."""
-    return f"\"{escaped(text, glyphs)}\"" if is_quoted else escaped(text, glyphs)
+    return f'"{escaped(text, glyphs)}"' if is_quoted else escaped(text, glyphs)
 
 
 def word(text, glyphs=GLYPHS):
@@ -113,7 +120,12 @@ def shown(node, keeps_whole=False):
         return f"\\fB\\%{escaped(plain(node.inside))}\\fP({escaped(node.said['section'])})"
     text = plain(node.inside)
     mark = "\\%" if keeps_whole and any(map(str.isalpha, text)) else ""
-    return {"literal": f"\\fB{mark}{escaped(text)}\\fP", "value": f"\\fI{escaped(text)}\\fP", "link": escaped(text), "break": "\n"}[node.kind]
+    return {
+        "literal": f"\\fB{mark}{escaped(text)}\\fP",
+        "value": f"\\fI{escaped(text)}\\fP",
+        "link": escaped(text),
+        "break": "\n",
+    }[node.kind]
 
 
 def filled(nodes, keeps_whole=True):

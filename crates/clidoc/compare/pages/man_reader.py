@@ -1,10 +1,10 @@
-"""Reads the text of a manual page: the requests and escapes of man(7) that a page may have. Else it raises `Refused`."""
+"""Reads a manual page, by the requests and escapes of man(7) that one may have. Else it raises `Refused`."""
 import re
 
 from pages.tree import element, is_a
 
 ESCAPE = re.compile(r"\\(?:\((?P<glyph>..)|f(?P<font>[BIP])|(?P<one>[-e&%~]))|(?P<letter>[^\\])", re.DOTALL)
-GLYPHS = {"aq": "'", "ga": "`", "ha": "^", "ti": "~", "dq": "\"", "bu": "\u2022"}
+GLYPHS = {"aq": "'", "ga": "`", "ha": "^", "ti": "~", "dq": '"', "bu": "\u2022"}
 ONES = {"-": "-", "e": "\\", "&": "", "%": "", "~": " "}
 FONTS = {"B": "literal", "I": "value"}
 
@@ -17,7 +17,9 @@ class Lines:
     """The lines of a page, each a request with its arguments or a text."""
 
     def __init__(self, text):
-        self.rest = [request(line) or line for line in text.removesuffix("\n").split("\n")] if text.endswith("\n") else []
+        self.rest = (
+            [request(line) or line for line in text.removesuffix("\n").split("\n")] if text.endswith("\n") else []
+        )
         if not self.rest:
             raise Refused("the last line has no end")
 
@@ -28,7 +30,9 @@ class Lines:
 
     def is_at(self, *requests):
         """Whether the next line is one of these requests."""
-        return bool(self.rest) and tuple(self.rest[0][:1] if isinstance(self.rest[0], tuple) else ()) in {(name,) for name in requests}
+        return bool(self.rest) and tuple(self.rest[0][:1] if isinstance(self.rest[0], tuple) else ()) in {
+            (name,) for name in requests
+        }
 
     def is_at_text(self):
         return bool(self.rest) and isinstance(self.rest[0], str)
@@ -172,7 +176,9 @@ def section(lines, name="SH"):
     if asked != name:
         raise Refused(f"{asked}, not {name}")
     found = [element("heading", " ".join(words))]
-    kinds = [(("TP",), entries), (("SY",), usage)] + ([(("SS",), lambda rest: section(rest, "SS"))] if name == "SH" else [])
+    kinds = [(("TP",), entries), (("SY",), usage)] + (
+        [(("SS",), lambda rest: section(rest, "SS"))] if name == "SH" else []
+    )
     while lines.rest and not lines.is_at("SH") and not (name == "SS" and lines.is_at("SS")):
         read = next((read for requests, read in kinds if lines.is_at(*requests)), None)
         some = [read(lines)] if read else blocks(lines)

@@ -1,7 +1,7 @@
 """A page in markdown, as CommonMark has it.
 
-`arranged` is the page as blocks that follow one another, and `write` writes them. `keeps` is what a reader can give back: an entry is an item
-that begins with its terms, usage and code have no styles, and nothing has an id.
+`arranged` is the page as blocks that follow one another, and `write` writes them. `keeps` is what a reader can give
+back: an entry is an item that begins with its terms, usage and code have no styles, and nothing has an id.
 """
 import re
 import unicodedata
@@ -15,6 +15,7 @@ AT_FRONT = re.compile(r"[#+>=~-]|[0-9]{1,9}(?=[.)])")
 
 # What stands on a page of markdown.
 
+
 def arranged(page):
     """The blocks of all levels. Behind the first page everything but the names is one rank lower."""
     links, found = Links(page), []
@@ -27,7 +28,11 @@ def arranged(page):
                 found.append(element("code", "\n".join(map(form_line, part.inside))))
             elif is_a(part, "section"):
                 found.append(element("heading", *part.child("heading").inside, rank=rank))
-                found += [block for child in part.inside[1:] for block in [entry_list(child, links) if is_a(child, "entries") else child]]
+                found += [
+                    block
+                    for child in part.inside[1:]
+                    for block in [entry_list(child, links) if is_a(child, "entries") else child]
+                ]
             elif is_a(part, "about", "header"):
                 found += part.inside
     return element("page", *[links.resolved(block) for block in merged(found)])
@@ -81,7 +86,11 @@ class Links:
 
 def slug_of(title):
     """The id that sites give to a heading."""
-    return "".join("-" if letter == " " else letter for letter in title.lower() if letter in " -_" or unicodedata.category(letter)[0] in "LNM")
+    return "".join(
+        "-" if letter == " " else letter
+        for letter in title.lower()
+        if letter in " -_" or unicodedata.category(letter)[0] in "LNM"
+    )
 
 
 def encoded(text):
@@ -103,13 +112,14 @@ def kept(node):
 
 # How it is written.
 
+
 def is_letter(letter):
     return unicodedata.category(letter)[0] in "LN"
 
 
 def escapes(text, place, in_heading):
     """Whether a backslash stands before a letter, wherever its line begins."""
-    letter, before, behind = text[place], text[:place][-1:], text[place + 1:place + 2]
+    letter, before, behind = text[place], text[:place][-1:], text[place + 1 : place + 2]
     if letter == "_":
         return not (before and is_letter(before) and behind and is_letter(behind))
     if letter == "&":

@@ -10,22 +10,27 @@
 | text, code span, hard break | `text`, `code`, `linebreak` | text, literal, break |
 | link, autolink, and the destination | `link`, `destination` | link, its address |
 
-An entry of a list is an item: its terms are the code spans at its front, with a comma and a blank between two, and behind them stands ` \u2014 ` and the first
-paragraph of what is said of it. A usage is code.
+An entry of a list is an item: its terms are the code spans at its front, with a comma and a blank between two, and
+behind them stands ` \u2014 ` and the first paragraph of what is said of it. A usage is code.
 
-Not read, since none is written: indented code, setext headings, thematic breaks, quotes, numbered lists, HTML, emphasis, images, link
-references, entities but `&amp;` in an autolink, and paragraphs that go on in a second line without a hard break.
+Not read, since none is written: indented code, setext headings, thematic breaks, quotes, numbered lists, HTML,
+emphasis, images, link references, entities but `&amp;` in an autolink, and paragraphs that go on in a second line
+without a hard break.
 """
 import re
 
 from pages.tree import element
 
 PUNCTUATION = r"!-/:-@\[-`{-~"
-INLINE = re.compile(rf"\\(?P<escaped>[{PUNCTUATION}])|(?P<ticks>`+)|<(?P<auto>https?:[^\x00-\x20<>]*)>|\[(?P<text>(?:\\.|`[^`]*`|[^\]\\])*)\]\((?P<address>[^\s()]*)\)|(?P<letter>[^\\`<])", re.DOTALL)
+INLINE = re.compile(
+    rf"\\(?P<escaped>[{PUNCTUATION}])|(?P<ticks>`+)|<(?P<auto>https?:[^\x00-\x20<>]*)>|"
+    r"\[(?P<text>(?:\\.|`[^`]*`|[^\]\\])*)\]\((?P<address>[^\s()]*)\)|(?P<letter>[^\\`<])",
+    re.DOTALL,
+)
 HEADING = re.compile(r"(#{1,6}) (.*)")
 FENCE = re.compile(r"(```+)([^`]*)")
 # Begins a block that no page has.
-OTHER = re.compile(r"[+*>=<~]|\t|    |#|-[ -]|[0-9]{1,9}[.)]|_{3}|```+[^`]*$")
+OTHER = re.compile(r"[+*>=~]|<(?!https?:)|\t|    |#|-[ -]|[0-9]{1,9}[.)]|_{3}|```+[^`]*$")
 
 
 class Refused(Exception):
@@ -43,7 +48,15 @@ def blocks(lines):
         if not lines[at]:
             at += 1
             continue
-        reader = heading if HEADING.fullmatch(lines[at]) else fence if FENCE.fullmatch(lines[at]) else list_of if lines[at].startswith("- ") else paragraph
+        reader = (
+            heading
+            if HEADING.fullmatch(lines[at])
+            else fence
+            if FENCE.fullmatch(lines[at])
+            else list_of
+            if lines[at].startswith("- ")
+            else paragraph
+        )
         block, at = reader(lines, at)
         found.append(block)
     return found
@@ -61,7 +74,7 @@ def fence(lines, at):
     end = next((place for place in range(at + 1, len(lines)) if is_close(lines[place], ticks)), None)
     if info or end is None:
         raise Refused("a fence that is not closed, or has an info string")
-    return element("code", "\n".join(lines[at + 1:end])), end + 1
+    return element("code", "\n".join(lines[at + 1 : end])), end + 1
 
 
 def is_close(line, ticks):
@@ -111,7 +124,7 @@ def within(text):
             end = re.compile(rf"(?<!`){match['ticks']}(?!`)").search(text, at)
             if not end:
                 raise Refused(f"a span that is not closed: {text}")
-            found.append(element("literal", unpadded(text[at:end.start()])))
+            found.append(element("literal", unpadded(text[at : end.start()])))
             at = end.end()
         elif match["auto"]:
             address = match["auto"].replace("&amp;", "&")
@@ -130,7 +143,13 @@ def unpadded(text):
 
 def bare(match, text):
     """A letter that stands for itself."""
-    letter, before, behind = match["letter"], text[:match.start()][-1:], text[match.end():][:1]
-    if letter in ("*", "[", "]") or letter == "&" and re.match(r"[#A-Za-z]", behind) or letter == "_" and not (before.isalnum() and behind.isalnum()):
+    letter, before, behind = match["letter"], text[: match.start()][-1:], text[match.end() :][:1]
+    if (
+        letter in ("*", "[", "]")
+        or letter == "&"
+        and re.match(r"[#A-Za-z]", behind)
+        or letter == "_"
+        and not (before.isalnum() and behind.isalnum())
+    ):
         raise Refused(f"a letter that means more: {text[match.start():]}")
     return match["escaped"] or letter

@@ -42,7 +42,17 @@ def blocks(text):
     found, lines = [], lines_of(text or "")
     while lines:
         first = lines[0]
-        kind = next(kind for fits, kind in [(is_blank, blank), (is_fence, fence), (is_code, code), (is_item, items), (is_plain, paragraph)] if fits(first))
+        kind = next(
+            kind
+            for fits, kind in [
+                (is_blank, blank),
+                (is_fence, fence),
+                (is_code, code),
+                (is_item, items),
+                (is_plain, paragraph),
+            ]
+            if fits(first)
+        )
         some, taken = kind(lines)
         found += some
         lines = lines[taken:]
@@ -70,7 +80,7 @@ def items(lines):
     """Items that follow one another, blank lines between them or not."""
     found, place, taken = [], 0, 0
     while place < len(lines) and is_item(lines[place]):
-        more = list(itertools.takewhile(is_plain, lines[place + 1:]))
+        more = list(itertools.takewhile(is_plain, lines[place + 1 :]))
         first = lines[place].lstrip(" ")[2:]
         found.append(element("item", *within([first, *(line.lstrip(" ") for line in more)])))
         place = taken = place + 1 + len(more)
@@ -116,8 +126,13 @@ def links(text):
 
 
 def spaced(parts):
-    """Blanks that follow one another are one, that of a text before that of a literal. None stands at the ends or beside a line break."""
-    places = [(kind, number, " " if letter == "\t" else letter) for number, (kind, text) in enumerate(parts) for letter in text]
+    """Blanks that follow one another are one: that of a text stays, before that of a literal. None stands at the ends
+    or beside a line break."""
+    places = [
+        (kind, number, " " if letter == "\t" else letter)
+        for number, (kind, text) in enumerate(parts)
+        for letter in text
+    ]
     runs = [(is_space, list(run)) for is_space, run in itertools.groupby(places, key=lambda place: place[2] in " \n")]
     kept = []
     for number, (is_space, run) in enumerate(runs):

@@ -15,8 +15,9 @@
 | code | text, its lines with newlines between them | |
 | list | items: each what stands within a line | |
 
-Blocks are paragraphs, code and lists. Within a line stand texts, literals and values, which hold text, links with an address, line breaks,
-and references: a link to the page of a level, which has its names and the section of the manual.
+Blocks are paragraphs, code and lists. Within a line stand texts, literals and values, which hold text, links with an
+address, line breaks, and references: a link to the page of a level, which has its names and the section of the
+manual.
 """
 import typing
 
@@ -51,7 +52,9 @@ def element(kind, *inside, **said):
 
 def plain(nodes):
     """The letters of what stands within a line. A line break is a blank."""
-    return "".join(node if isinstance(node, str) else " " if node.kind == "break" else plain(node.inside) for node in nodes)
+    return "".join(
+        node if isinstance(node, str) else " " if node.kind == "break" else plain(node.inside) for node in nodes
+    )
 
 
 def joined(groups, between):

@@ -15,10 +15,17 @@ def has_bar(parts):
 
 
 def called(option):
-    """An option by its short name where it has one; of a syntax the first piece that is more than one name, else the first."""
+    """An option by its short name, if any; of a syntax the first piece that is more than a name, or else the first."""
     if "syntax" in option:
         pieces = [styled(piece) for piece in syntaxes.pieces(option["syntax"])]
-        return next((piece for piece in pieces if [node if isinstance(node, str) else node.kind for node in piece] != ["literal"]), pieces[0])
+        return next(
+            (
+                piece
+                for piece in pieces
+                if [node if isinstance(node, str) else node.kind for node in piece] != ["literal"]
+            ),
+            pieces[0],
+        )
     name, between = ("-" + option["short"], " ") if "short" in option else ("--" + option["long"], "=")
     return [element("literal", name)] + ([between, value(option["value"])] if "value" in option else [])
 
@@ -38,7 +45,10 @@ def option_part(option, required, repeated):
 
 def option_parts(table):
     """The options of a level or of a group, and then its choices."""
-    parts = [option_part(option, option.get("required", False), option.get("repeated", False)) for option in shown(table.get("option", []))]
+    parts = [
+        option_part(option, option.get("required", False), option.get("repeated", False))
+        for option in shown(table.get("option", []))
+    ]
     for choice in table.get("choice", []):
         members, required = shown(choice["option"]), choice.get("required", False)
         if len(members) == 1:
@@ -52,7 +62,10 @@ def positional_parts(positionals):
     """The first strict value has `--` before it, within its brackets."""
     parts, has_strict = [], False
     for positional in positionals:
-        required, dots = positional.get("required", "default" not in positional), "..." if positional.get("repeated", False) else ""
+        required, dots = (
+            positional.get("required", "default" not in positional),
+            "..." if positional.get("repeated", False) else "",
+        )
         inside = [value(positional["value"])]
         if positional.get("strict", False) and not has_strict:
             has_strict, inside = True, [element("literal", "--"), " ", *inside, dots]
@@ -78,7 +91,7 @@ def parts_of(level, words):
 
 
 def unpaired(line):
-    """The places of the brackets that are in no pair. A closing one is in a pair with the innermost open one, if it is of its kind."""
+    """The places of the brackets in no pair. A closing one closes the innermost open one, if that is of its kind."""
     open_ones, alone = [], set()
     for place, letter in enumerate(line):
         if letter in syntaxes.BRACKETS:
@@ -100,9 +113,16 @@ def read_parts(line):
     """The parts of a line: what blanks outside of brackets part, read as a syntax."""
     alone = unpaired(line)
     marked = "".join(letter.translate(LETTERS) if place in alone else letter for place, letter in enumerate(line))
-    cut = "".join("\n" if letter == " " and not depth else letter for letter, depth in zip(marked, syntaxes.depths(marked)))
+    cut = "".join(
+        "\n" if letter == " " and not depth else letter for letter, depth in zip(marked, syntaxes.depths(marked))
+    )
     for piece in filter(None, cut.split("\n")):
-        yield [node.translate(BRACKETS) if isinstance(node, str) else element(node.kind, *[text.translate(BRACKETS) for text in node.inside]) for node in styled(piece)]
+        yield [
+            node.translate(BRACKETS)
+            if isinstance(node, str)
+            else element(node.kind, *[text.translate(BRACKETS) for text in node.inside])
+            for node in styled(piece)
+        ]
 
 
 def read_forms(text, words):
@@ -121,4 +141,10 @@ def usage(level, names, words):
         forms = list(read_forms(level["usage"], words))
     else:
         forms = [[joined([[element("literal", name)] for name in names], " "), *parts_of(level, words)]]
-    return element("usage", *[element("form", element("names", *name), *[element("part", *part) for part in parts]) for name, *parts in forms])
+    return element(
+        "usage",
+        *[
+            element("form", element("names", *name), *[element("part", *part) for part in parts])
+            for name, *parts in forms
+        ],
+    )

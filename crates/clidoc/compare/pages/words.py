@@ -1,9 +1,21 @@
 """The fixed words, and titles."""
 
 WORDS = {
-    "usage": "Usage", "arguments": "Arguments", "options": "Options", "commands": "Commands", "contents": "Contents", "notes": "Notes",
-    "default": "default", "possible_values": "possible values", "env": "env", "aliases": "aliases", "command": "COMMAND",
-    "name": "Name", "synopsis": "Synopsis", "description": "Description", "see_also": "See also",
+    "usage": "Usage",
+    "arguments": "Arguments",
+    "options": "Options",
+    "commands": "Commands",
+    "contents": "Contents",
+    "notes": "Notes",
+    "default": "default",
+    "possible_values": "possible values",
+    "env": "env",
+    "aliases": "aliases",
+    "command": "COMMAND",
+    "name": "Name",
+    "synopsis": "Synopsis",
+    "description": "Description",
+    "see_also": "See also",
 }
 
 
