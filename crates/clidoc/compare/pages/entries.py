@@ -12,9 +12,8 @@ def shown(tables):
 
 def value(word):
     """The word for a value: as it is where it is in capitals, and else between `<` and `>`."""
-    return element(
-        "value", word if all(letter.isupper() or letter in "0123456789-_" for letter in word) else f"<{word}>"
-    )
+    is_capital = all(letter.isupper() or letter in "0123456789-_" for letter in word)
+    return element("value", word if is_capital else f"<{word}>")
 
 
 def styled(syntax):
@@ -27,9 +26,8 @@ def option_terms(option):
     """Each name, and the value behind the last; of a syntax its pieces."""
     if "syntax" in option:
         return [styled(piece) for piece in syntaxes.pieces(option["syntax"])]
-    terms = [
-        [element("literal", lead + option[key])] for lead, key in [("-", "short"), ("--", "long")] if key in option
-    ]
+    names = [lead + option[key] for lead, key in [("-", "short"), ("--", "long")] if key in option]
+    terms = [[element("literal", name)] for name in names]
     if "value" in option:
         terms[-1] += ["=" if "long" in option else " ", value(option["value"])]
     return terms
@@ -83,9 +81,8 @@ def body(table, words, brief):
 
 def alternatives(table):
     """The options of a level or of a group, and those of its choices."""
-    return shown(
-        table.get("option", []) + [option for choice in table.get("choice", []) for option in choice["option"]]
-    )
+    members = [option for choice in table.get("choice", []) for option in choice["option"]]
+    return shown(table.get("option", []) + members)
 
 
 def lists(level, top, words):

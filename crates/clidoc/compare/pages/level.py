@@ -2,7 +2,7 @@
 import levels
 
 from pages import entries, ids, texts
-from pages.tree import Element, element, is_a, joined, merged, plain
+from pages.tree import Element, element, is_a, joined, merged, one_line
 from pages.usage import usage
 from pages.words import same_title, title, words_of
 
@@ -29,15 +29,10 @@ def all_below(level, names):
         yield from all_below(command, own)
 
 
-def summary(blocks, help_blocks):
+def summary(about, help_blocks):
     """The first paragraph of the help, or else that of `about`, on one line and without the full stop at its end."""
-    paragraphs = [block for block in help_blocks if is_a(block, "paragraph")] + [
-        block for block in blocks if is_a(block, "paragraph")
-    ]
-    inside = [" " if is_a(node, "break") else node for node in paragraphs[0].inside] if paragraphs else []
-    if inside and isinstance(inside[-1], str):
-        inside[-1] = inside[-1].removesuffix(".").rstrip(" ")
-    return element("summary", *inside)
+    paragraphs = [block for block in help_blocks + about if is_a(block, "paragraph")]
+    return element("summary", *(one_line(paragraphs[0].inside) if paragraphs else []))
 
 
 class LevelPage:
@@ -97,14 +92,10 @@ class LevelPage:
 
     def references(self):
         """The pages above and below."""
-        near = (
-            [self.names[:-1], *[[*self.names, command["name"]] for command in below(self.level)]]
-            if self.is_first
-            else []
-        )
+        near = [self.names[:-1]] + [[*self.names, command["name"]] for command in below(self.level)]
         section = str(self.top.get("section", "1"))
         links = [[element("reference", "-".join(names), to=names, section=section)] for names in near if names]
-        return [element("paragraph", *joined(links, ", "))] if links else []
+        return [element("paragraph", *joined(links, ", "))] if links and self.is_first else []
 
 
 def page(top, given=(), deep=False, brief=False):

@@ -4,7 +4,7 @@
 writes this, and `keeps` is what of it a reader can give back: no ids, targets and small letters in titles, texts for
 links, and the terms of an entry in one line.
 """
-from pages.tree import Element, element, is_a, joined, merged, plain
+from pages.tree import element, is_a, joined, merged, one_line, plain
 
 GLYPHS = {"-": "\\-", "\\": "\\e", "'": "\\(aq", "`": "\\(ga", "^": "\\(ha", "~": "\\(ti", '"': "\\(dq"}
 
@@ -52,12 +52,8 @@ def own_sections(page, level):
 
 def is_only(blocks, summary):
     """Whether blocks are a paragraph that says the same as a summary."""
-    if len(blocks) != 1 or not is_a(blocks[0], "paragraph"):
-        return False
-    inside = [" " if is_a(node, "break") else node for node in blocks[0].inside]
-    if inside and isinstance(inside[-1], str):
-        inside[-1] = inside[-1].removesuffix(".").rstrip(" ")
-    return element("summary", *inside).inside == summary
+    is_paragraph = len(blocks) == 1 and is_a(blocks[0], "paragraph")
+    return is_paragraph and element("summary", *one_line(blocks[0].inside)).inside == summary
 
 
 def keeps(page):

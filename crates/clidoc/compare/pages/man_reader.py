@@ -1,7 +1,7 @@
 """Reads a manual page, by the requests and escapes of man(7) that one may have. Else it raises `Refused`."""
 import re
 
-from pages.tree import element, is_a
+from pages.tree import element
 
 ESCAPE = re.compile(r"\\(?:\((?P<glyph>..)|f(?P<font>[BIP])|(?P<one>[-e&%~]))|(?P<letter>[^\\])", re.DOTALL)
 GLYPHS = {"aq": "'", "ga": "`", "ha": "^", "ti": "~", "dq": '"', "bu": "\u2022"}
@@ -17,11 +17,9 @@ class Lines:
     """The lines of a page, each a request with its arguments or a text."""
 
     def __init__(self, text):
-        self.rest = (
-            [request(line) or line for line in text.removesuffix("\n").split("\n")] if text.endswith("\n") else []
-        )
-        if not self.rest:
+        if not text.endswith("\n"):
             raise Refused("the last line has no end")
+        self.rest = [request(line) or line for line in text[:-1].split("\n")]
 
     def next(self):
         if not self.rest:
@@ -30,9 +28,7 @@ class Lines:
 
     def is_at(self, *requests):
         """Whether the next line is one of these requests."""
-        return bool(self.rest) and tuple(self.rest[0][:1] if isinstance(self.rest[0], tuple) else ()) in {
-            (name,) for name in requests
-        }
+        return bool(self.rest) and isinstance(self.rest[0], tuple) and self.rest[0][0] in requests
 
     def is_at_text(self):
         return bool(self.rest) and isinstance(self.rest[0], str)
@@ -70,12 +66,12 @@ def within(text):
         if match.start() != at:
             break
         at = match.end()
+        if match["font"] and (match["font"] == "P") != bool(font):
+            raise Refused(f"a font in a font, or the end of none: {text}")
         if match["font"] == "P":
             yield element(font, *inside)
             font, inside = None, []
         elif match["font"]:
-            if font or inside and font:
-                raise Refused(f"a font in a font: {text}")
             font = FONTS[match["font"]]
         else:
             letter = match["letter"] or (GLYPHS[match["glyph"]] if match["glyph"] else ONES[match["one"]])
@@ -89,10 +85,10 @@ def within(text):
 
 def filled(lines):
     """A paragraph or an item: a line, and behind each `.br` one more."""
-    inside = list(within(text_line(lines)))
+    inside = list(within(filled_line(lines)))
     while lines.is_at("br"):
         lines.take("br")
-        inside += [element("break"), *within(text_line(lines))]
+        inside += [element("break"), *within(filled_line(lines))]
     return inside
 
 
@@ -100,6 +96,14 @@ def text_line(lines):
     if not lines.is_at_text():
         raise Refused(f"no text: {lines.rest[:1]}")
     return lines.next()
+
+
+def filled_line(lines):
+    """A line that is filled. One that is empty or begins with a blank would break the one before."""
+    line = text_line(lines)
+    if not line or line.startswith(" "):
+        raise Refused(f"a break in a text: {line}")
+    return line
 
 
 def code(lines):
@@ -164,7 +168,7 @@ def usage(lines):
         _, *names = lines.next()
         parts = []
         while not lines.is_at("YS"):
-            parts.append(element("part", *within(text_line(lines))))
+            parts.append(element("part", *within(filled_line(lines))))
         lines.take("YS")
         found.append(element("form", element("names", *names), *parts))
     return element("usage", *found)
@@ -176,16 +180,20 @@ def section(lines, name="SH"):
     if asked != name:
         raise Refused(f"{asked}, not {name}")
     found = [element("heading", " ".join(words))]
-    kinds = [(("TP",), entries), (("SY",), usage)] + (
-        [(("SS",), lambda rest: section(rest, "SS"))] if name == "SH" else []
-    )
-    while lines.rest and not lines.is_at("SH") and not (name == "SS" and lines.is_at("SS")):
-        read = next((read for requests, read in kinds if lines.is_at(*requests)), None)
-        some = [read(lines)] if read else blocks(lines)
-        if not some:
-            raise Refused(f"{lines.rest[0]} in a section")
-        found += some
+    ends = ["SH"] if name == "SH" else ["SH", "SS"]
+    while lines.rest and not lines.is_at(*ends):
+        found += parts_of_section(lines)
     return element("section", *found)
+
+
+def parts_of_section(lines):
+    for name, read_part in [("TP", entries), ("SY", usage), ("SS", lambda rest: section(rest, "SS"))]:
+        if lines.is_at(name):
+            return [read_part(lines)]
+    found = blocks(lines)
+    if not found:
+        raise Refused(f"{lines.rest[0]} in a section")
+    return found
 
 
 def read(text):

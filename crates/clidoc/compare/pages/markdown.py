@@ -28,11 +28,7 @@ def arranged(page):
                 found.append(element("code", "\n".join(map(form_line, part.inside))))
             elif is_a(part, "section"):
                 found.append(element("heading", *part.child("heading").inside, rank=rank))
-                found += [
-                    block
-                    for child in part.inside[1:]
-                    for block in [entry_list(child, links) if is_a(child, "entries") else child]
-                ]
+                found += [entry_list(child, links) if is_a(child, "entries") else child for child in part.inside[1:]]
             elif is_a(part, "about", "header"):
                 found += part.inside
     return element("page", *[links.resolved(block) for block in merged(found)])

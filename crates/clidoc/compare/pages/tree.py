@@ -57,6 +57,14 @@ def plain(nodes):
     )
 
 
+def one_line(nodes):
+    """What stands within a line, with blanks for line breaks, and without the full stop at its end."""
+    inside = [" " if is_a(node, "break") else node for node in nodes]
+    if inside and isinstance(inside[-1], str):
+        inside[-1] = inside[-1].removesuffix(".").rstrip(" ")
+    return inside
+
+
 def joined(groups, between):
     """The groups one behind another, with a text between two."""
     whole = []

@@ -4,7 +4,7 @@ import re
 import syntaxes
 
 from pages.entries import shown, styled, value
-from pages.tree import element, joined, plain
+from pages.tree import element, is_a, joined, plain
 
 
 def has_bar(parts):
@@ -18,14 +18,8 @@ def called(option):
     """An option by its short name, if any; of a syntax the first piece that is more than a name, or else the first."""
     if "syntax" in option:
         pieces = [styled(piece) for piece in syntaxes.pieces(option["syntax"])]
-        return next(
-            (
-                piece
-                for piece in pieces
-                if [node if isinstance(node, str) else node.kind for node in piece] != ["literal"]
-            ),
-            pieces[0],
-        )
+        more = [piece for piece in pieces if len(piece) > 1 or not is_a(piece[0], "literal")]
+        return (more or pieces)[0]
     name, between = ("-" + option["short"], " ") if "short" in option else ("--" + option["long"], "=")
     return [element("literal", name)] + ([between, value(option["value"])] if "value" in option else [])
 
@@ -62,10 +56,8 @@ def positional_parts(positionals):
     """The first strict value has `--` before it, within its brackets."""
     parts, has_strict = [], False
     for positional in positionals:
-        required, dots = (
-            positional.get("required", "default" not in positional),
-            "..." if positional.get("repeated", False) else "",
-        )
+        required = positional.get("required", "default" not in positional)
+        dots = "..." if positional.get("repeated", False) else ""
         inside = [value(positional["value"])]
         if positional.get("strict", False) and not has_strict:
             has_strict, inside = True, [element("literal", "--"), " ", *inside, dots]
@@ -117,12 +109,14 @@ def read_parts(line):
         "\n" if letter == " " and not depth else letter for letter, depth in zip(marked, syntaxes.depths(marked))
     )
     for piece in filter(None, cut.split("\n")):
-        yield [
-            node.translate(BRACKETS)
-            if isinstance(node, str)
-            else element(node.kind, *[text.translate(BRACKETS) for text in node.inside])
-            for node in styled(piece)
-        ]
+        yield list(map(with_brackets, styled(piece)))
+
+
+def with_brackets(node):
+    """A text, or an element of one, with the brackets for the letters that stood for them."""
+    if isinstance(node, str):
+        return node.translate(BRACKETS)
+    return element(node.kind, *map(with_brackets, node.inside))
 
 
 def read_forms(text, words):
@@ -141,10 +135,9 @@ def usage(level, names, words):
         forms = list(read_forms(level["usage"], words))
     else:
         forms = [[joined([[element("literal", name)] for name in names], " "), *parts_of(level, words)]]
-    return element(
-        "usage",
-        *[
-            element("form", element("names", *name), *[element("part", *part) for part in parts])
-            for name, *parts in forms
-        ],
-    )
+    return element("usage", *map(form, forms))
+
+
+def form(parts):
+    names, *others = parts
+    return element("form", element("names", *names), *[element("part", *part) for part in others])
