@@ -149,16 +149,17 @@ def of_html5lib(node):
 
 def html_faults(page):
     text, wanted = html.write(page), html.arranged(page)
+    parser = html5lib.HTMLParser(strict=True, namespaceHTMLElements=False)
     try:
-        found = of_html5lib(html5lib.HTMLParser(strict=True, namespaceHTMLElements=False).parse(text))
+        found = of_html5lib(parser.parse(text))
+        part = list(map(of_html5lib, parser.parseFragment(html.fragment(page), container="body")))
     except html5lib.html5parser.ParseError as fault:
         yield f"html5lib: {fault}"
         return
-    fault = difference(found, wanted)
-    if fault:
-        yield f"html5lib: {fault}"
-    if html.fragment(page) not in text:
-        yield "the fragment is not of the page"
+    for one, other in [(found, wanted), (element("body", *part), wanted.child("body"))]:
+        fault = difference(one, other)
+        if fault:
+            yield f"html5lib: {fault}"
     for line in run(["tidy", "-e", "-q", "-utf8", "--show-info", "no"], text)[1].splitlines():
         if not line.endswith(("Warning: trimming empty <dd>", "Warning: trimming empty <code>")):
             yield f"tidy: {line}"

@@ -123,6 +123,7 @@ MARKS = [
     "a\\\n b",
     "[a](b)",
     "![a](b)",
+    "a]:",
     "<https://a.example/?b&copy=c>",
     "<http://x> <https://>",
     "<b>",

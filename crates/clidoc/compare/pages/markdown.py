@@ -43,9 +43,10 @@ def entry_list(entries, links):
 
 
 def entry_blocks(entry, links):
-    """The terms, each in a span of its own, and the first paragraph behind them."""
+    """The terms, each in a span of its own, and the first paragraph behind them. A name that holds `]:` is no link: at
+    the front of a line that would be the definition of a link."""
     terms = [[element("literal", plain(term.inside))] for term in entry.children("term")]
-    if "to" in entry.said:
+    if "to" in entry.said and "]:" not in entry.said["to"][-1]:
         terms[0] = [element("link", *terms[0], address=links.address(entry.said["to"]))]
     line, blocks = joined(terms, ", "), entry.child("body").inside
     if blocks and is_a(blocks[0], "paragraph"):

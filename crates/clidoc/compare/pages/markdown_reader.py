@@ -30,7 +30,7 @@ INLINE = re.compile(
 HEADING = re.compile(r"(#{1,6}) (.*)")
 FENCE = re.compile(r"(```+)([^`]*)")
 # Begins a block that no page has.
-OTHER = re.compile(r"[+*>=~]|<(?!https?:)|\t|    |#|-[ -]|[0-9]{1,9}[.)]|_{3}|```+[^`]*$")
+OTHER = re.compile(r"[+*>=~]|<(?!https?:)|\t|    |\[(?:\\.|[^\[\]\\])+\]:|#|-[ -]|[0-9]{1,9}[.)]|_{3}|```+[^`]*$")
 
 
 class Refused(Exception):
