@@ -24,9 +24,10 @@ from pages.tree import element
 PUNCTUATION = r"!-/:-@\[-`{-~"
 INLINE = re.compile(
     rf"\\(?P<escaped>[{PUNCTUATION}])|(?P<ticks>`+)|<(?P<auto>https?:[^\x00-\x20<>]*)>|"
-    r"\[(?P<text>(?:\\.|`[^`]*`|[^\]\\])*)\]\((?P<address>[^\s()]*)\)|(?P<letter>[^\\`<])",
+    r"(?P<open>\[)|(?P<letter>[^\\`<\[])",
     re.DOTALL,
 )
+ADDRESS = re.compile(r"\]\(([^\s()]*)\)")
 HEADING = re.compile(r"(#{1,6}) (.*)")
 FENCE = re.compile(r"(```+)([^`]*)")
 # Begins a block that no page has.
@@ -114,26 +115,45 @@ def paragraph(lines, at):
 
 def within(text):
     """What stands within a line."""
-    at, found = 0, []
-    while at < len(text):
+    return element("", *inline(text, 0, False)[0]).inside
+
+
+def inline(text, at, in_link):
+    """What stands behind a place, in a link up to the bracket that closes its text, and where that ends."""
+    found = []
+    while at < len(text) and not (in_link and text[at] == "]"):
         match = INLINE.match(text, at)
         if not match:
             raise Refused(f"no text: {text[at:]}")
-        at = match.end()
         if match["ticks"]:
-            end = re.compile(rf"(?<!`){match['ticks']}(?!`)").search(text, at)
-            if not end:
-                raise Refused(f"a span that is not closed: {text}")
-            found.append(element("literal", unpadded(text[at : end.start()])))
-            at = end.end()
-        elif match["auto"]:
-            address = match["auto"].replace("&amp;", "&")
-            found.append(element("link", address, address=address))
-        elif match["address"] is not None:
-            found.append(element("link", *within(match["text"]), address=match["address"]))
+            node, at = span(text, match)
+        elif match["open"]:
+            node, at = link(text, match.end(), in_link)
         else:
-            found.append(bare(match, text))
-    return element("", *found).inside
+            node, at = auto(match["auto"]) if match["auto"] else bare(match, text), match.end()
+        found.append(node)
+    return found, at
+
+
+def span(text, ticks):
+    """A code span, up to the next run of as many backquotes."""
+    end = re.compile(rf"(?<!`){ticks[0]}(?!`)").search(text, ticks.end())
+    if not end:
+        raise Refused(f"a span that is not closed: {text}")
+    return element("literal", unpadded(text[ticks.end() : end.start()])), end.end()
+
+
+def link(text, at, in_link):
+    inside, at = inline(text, at, True)
+    address = ADDRESS.match(text, at)
+    if in_link or not address:
+        raise Refused(f"a bracket that means more: {text}")
+    return element("link", *inside, address=address[1]), address.end()
+
+
+def auto(text):
+    address = text.replace("&amp;", "&")
+    return element("link", address, address=address)
 
 
 def unpadded(text):
@@ -144,12 +164,8 @@ def unpadded(text):
 def bare(match, text):
     """A letter that stands for itself."""
     letter, before, behind = match["letter"], text[: match.start()][-1:], text[match.end() :][:1]
-    if (
-        letter in ("*", "[", "]")
-        or letter == "&"
-        and re.match(r"[#A-Za-z]", behind)
-        or letter == "_"
-        and not (before.isalnum() and behind.isalnum())
-    ):
+    is_intraword = before.isalnum() and behind.isalnum()
+    is_entity = letter == "&" and re.match(r"[#A-Za-z]", behind)
+    if letter in ("*", "]") or is_entity or letter == "_" and not is_intraword:
         raise Refused(f"a letter that means more: {text[match.start():]}")
     return match["escaped"] or letter
