@@ -1,5 +1,5 @@
-//! Each call is passed on once, its answer is handed out as it was, and the mark stands exactly where a call has
-//! failed.
+//! Each call is passed on once, and again where it is interrupted, its answer is handed out as it was, and the mark
+//! stands exactly where a call has failed.
 use crate::stand_ins::lines::says;
 use crate::stand_ins::scripts::{
     Answer, Calls, Draws, KINDS, LARGE, MESSAGE, Outcome, SIZES, Script, ScriptedReader,
@@ -30,8 +30,19 @@ fn reads(
     kind_of(reader.read(room)) == want && room.starts_with(given)
 }
 
+// Whether the calls came by these answers, of which the last may be interruptions that none came to.
 fn are_passed_on(calls: Calls, answers: &[Answer]) -> bool {
-    calls.fit && calls.count == answers.len()
+    let mut count = 0;
+    for (index, answer) in answers.iter().enumerate() {
+        if !is_interruption(answer) {
+            count = index.saturating_add(1);
+        }
+    }
+    calls.fit && calls.count == count
+}
+
+fn is_interruption(answer: &Answer) -> bool {
+    matches!(answer, Answer::Fails(ErrorKind::Interrupted))
 }
 
 fn reads_each_once(bytes: &[u8], room: &mut [u8], answers: &[Answer]) -> bool {
@@ -40,6 +51,9 @@ fn reads_each_once(bytes: &[u8], room: &mut [u8], answers: &[Answer]) -> bool {
     let mut left = bytes;
     let mut is_marked = false;
     for answer in answers {
+        if is_interruption(answer) {
+            continue;
+        }
         let want = answer.outcome(left.len().min(room.len()));
         let (given, rest) = left.split_at(want.unwrap_or(0));
         is_marked |= want.is_err();
@@ -55,6 +69,9 @@ fn writes_each_once(bytes: &[u8], answers: &[Answer]) -> bool {
     let mut writer = Watched::new(ScriptedWriter::new(bytes, Script::of(answers)).again());
     let mut is_marked = false;
     for answer in answers {
+        if is_interruption(answer) {
+            continue;
+        }
         let want = answer.outcome(bytes.len());
         is_marked |= want.unwrap_or(0) == 0;
         if kind_of(writer.write(bytes)) != want || writer.failed() != is_marked {
@@ -136,17 +153,18 @@ fn each_call_is_passed_on_once(rt: HostRuntime) {
     assert!(rt; moves(rt.alloc(), LARGE, &mut draws).unwrap_or(false));
 }
 
-// Whether writing answers this error of the writer, with all that it says.
+// Whether writing answers this error of the writer, with all that it says, and goes on where it is an interruption.
 fn hands_out(kind: ErrorKind) -> bool {
     let answers = [Answer::Moves(2), Answer::Fails(kind)];
     let mut writer = Watched::new(ScriptedWriter::new(b"abcd", Script::of(&answers)));
     match writer.write_all(b"abcd") {
-        Ok(()) => false,
+        Ok(()) => kind == ErrorKind::Interrupted,
+        Err(_) if kind == ErrorKind::Interrupted => false,
         Err(error) => error.kind() == kind && says(&error, MESSAGE),
     }
 }
 
-// Whether this error behind two bytes comes out of each call.
+// Whether this error behind two bytes comes out of each call, or is none.
 fn comes_out(global: Global, kind: ErrorKind) -> bool {
     let answers = [Answer::Moves(2), Answer::Fails(kind)];
     let script = Script::of(&answers);

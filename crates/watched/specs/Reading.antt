@@ -1,5 +1,7 @@
 -- Why not all was read.
-use Rattle.std.specs.Prelude.{Bool, true, false, Result, Ok, Err, ⊤}
+use Rattle.std.specs.Prelude.{◌≢◌, Bool, true, false, Result, Ok, Err, ⊤}
+use Rattle.std_io.specs.IoError.{error_kind}
+use Rattle.std_io.specs.declared.io.kind.ErrorKind.TheVariants.{Interrupted}
 use Rattle.watched.specs.declared.ReadError.{ReadError}
 use Rattle.watched.specs.declared.ReadError.TheVariants.{Failed, NotUtf8, Refused}
 
@@ -15,3 +17,9 @@ is_failed_read (Ok bytes) = false
 is_failed_read (Err (Failed error)) = true
 is_failed_read (Err NotUtf8) = false
 is_failed_read (Err (Refused error)) = false
+
+-- no read was interrupted, and ended all for that
+abbrev pub IsRetried : ReadError → Type 0
+IsRetried (Failed error) = error_kind error ≢ Interrupted
+IsRetried NotUtf8 = ⊤
+IsRetried (Refused error) = ⊤

@@ -2,12 +2,13 @@
 //! common.
 #![tactic(auto)]
 
-ghost use Rattle.std.specs.Prelude.{◌≡◌, ◌||◌, ◌↔◌, IfErr, IfOk, IsErrOf, IsOk, IsUtf8, OnErr, OnOk, is_err};
+ghost use Rattle.std.specs.Prelude.{◌≡◌, ◌≢◌, ◌||◌, ◌↔◌, IfErr, IfOk, IsErrOf, IsOk, IsUtf8, OnErr, OnOk, is_err};
 ghost use Rattle.std.specs.Prelude.{string_bytes};
 ghost use Rattle.std.specs.Io.{ReadsAtMost, WritesAtMost};
+ghost use Rattle.std_io.specs.IoError.{error_kind};
 ghost use Rattle.std.specs.Io.KnownBytes.{Appends, ReadConsumes, WriteAppends};
 ghost use Rattle.watched.specs.Calls.{Moves, ReadStops, ReadsToEnd, WriteFails};
-ghost use Rattle.watched.specs.Reading.{IsRefused, is_failed_read};
+ghost use Rattle.watched.specs.Reading.{IsRefused, IsRetried, is_failed_read};
 ghost use Rattle.watched.specs.Watched.{AppendsPart, IsUnmarked, ReadsAll, ReadsNoText, is_failed_write};
 
 use std::alloc::{AllocError, Allocator};
@@ -92,9 +93,10 @@ const CHUNK: usize = 64 * 1024;
 
 impl<R: Source> Watched<R> {
     /// Reads into the buffer by one read of the reader, and answers what it answers. An error sets the
-    /// mark, of whatever kind it is.
+    /// mark, of whatever kind it is; none is an interruption, since such a read is made again.
     pub fn read(&mut self, buf: &mut [u8]) -> io::Result<usize>
         ensures bound { ReadsAtMost result buf.new }
+        ensures retried { IfErr result (λ error. error_kind error ≢ ErrorKind.Interrupted) }
         ensures bytes { ReadConsumes (R.remaining self.old.end) (R.remaining self.new.end)
             result buf.new }
         ensures called { R.reads self.old.end result buf.new self.new.end }
@@ -116,6 +118,7 @@ impl<R: Source> Watched<R> {
             ReadsToEnd R.reads self.old.end bytes.items self.new.end) }
         ensures stops { IfErr result (λ error.
             ReadStops R.reads self.old.end error self.new.end) }
+        ensures retried { IfErr result IsRetried }
         ensures mark { self.new.marked ≡ (self.old.marked || is_failed_read result) }
     {
         let mut chunk = [0; CHUNK];
@@ -141,6 +144,7 @@ impl<R: Source> Watched<R> {
             ReadsToEnd R.reads self.old.end (string_bytes text) self.new.end) }
         ensures stops { IfErr result (λ error.
             ReadStops R.reads self.old.end error self.new.end) }
+        ensures retried { IfErr result IsRetried }
         ensures mark { self.new.marked ≡ (self.old.marked || is_failed_read result) }
     {
         let bytes = self.read_all(alloc)?;
@@ -160,9 +164,10 @@ fn text_of<A: Allocator>(bytes: Vec<u8, A>) -> Result<String<A>, ReadError>
 impl<W: Sink> Watched<W> {
     /// Writes some of the bytes by one write of the writer, and answers what it answers. An error sets
     /// the mark, of whatever kind it is, and so does a write of at least one byte that takes none: its answer is
-    /// `Ok(0)`, and yet it has failed.
+    /// `Ok(0)`, and yet it has failed. No error is an interruption, since such a write is made again.
     pub fn write(&mut self, buf: &[u8]) -> io::Result<usize>
         ensures bound { WritesAtMost result buf.now }
+        ensures retried { IfErr result (λ error. error_kind error ≢ ErrorKind.Interrupted) }
         ensures bytes { WriteAppends (W.contents self.old.end) (W.contents self.new.end)
             result buf.now }
         ensures called { W.writes self.old.end result buf.now self.new.end }
@@ -180,6 +185,7 @@ impl<W: Sink> Watched<W> {
     /// error, of whatever kind this is, and then the writer has a beginning of the bytes, and not all of them.
     /// A write that takes none answers `WriteZero`.
     pub fn write_all(&mut self, buf: &[u8]) -> io::Result<()>
+        ensures retried { IfErr result (λ error. error_kind error ≢ ErrorKind.Interrupted) }
         ensures ok { OnOk result (
             Appends (W.contents self.old.end) (W.contents self.new.end) buf.now) }
         ensures cut_short { OnErr result (

@@ -3,9 +3,11 @@
 ghost use Rattle.std.specs.Prelude.{◌≡◌, IfOk, OnErr};
 ghost use Rattle.std.specs.Process.{exit_status};
 
+use std::env::FillError;
 use std::fmt::Display;
 use std::process::ExitCode;
 use std::rt::Env;
+use std::str::from_utf8;
 use std::{env, io};
 
 /// The status for words that choose nothing.
@@ -25,6 +27,31 @@ pub fn with_words<R: Alloc + Env, T, F: FnOnce(&[&str]) -> T + Drop>(
         .map(|word| word.as_str())
         .collect(rt.alloc())?;
     Ok(follow(&words))
+}
+
+/// The number of the first word that is no text; the program's name has the number 0. None where each is one, or memory
+/// does not last.
+pub fn garbled_word<R: Alloc + Env>(rt: &R) -> Option<usize> {
+    for index in 0..usize::MAX {
+        if !is_text(rt, index)? {
+            return Some(index);
+        }
+    }
+    None
+}
+
+// Whether the word of this number is a text. None where there is none, or memory does not last.
+fn is_text<R: Alloc + Env>(rt: &R, index: usize) -> Option<bool> {
+    let mut room = 256usize;
+    for _ in 0..usize::BITS {
+        let mut bytes = vec![in rt.alloc(); 0u8; room].ok()?;
+        match rt.arg(index, &mut bytes) {
+            Ok(length) => return Some(from_utf8(&bytes[..length]).is_ok()),
+            Err(FillError::TooLong) => room = room.checked_mul(2)?,
+            Err(FillError::NotPresent) => return None,
+        }
+    }
+    None
 }
 
 /// Says on standard error which words are expected, and answers `WRONG_WORDS`.

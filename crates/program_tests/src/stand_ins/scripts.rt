@@ -159,9 +159,9 @@ pub struct Calls {
     pub count: usize,
     /// How many bytes were moved.
     pub moved: usize,
-    /// How many of them moved none or failed.
+    /// How many of them moved none or failed, but those that were interrupted, which are made again.
     pub ends: usize,
-    /// What the last one answered.
+    /// What the last one of the others answered.
     pub last: Outcome,
     /// Whether each of them offered, or had room for, as many bytes as it should.
     pub fit: bool,
@@ -178,12 +178,15 @@ impl Calls {
 
     fn note(&mut self, outcome: Outcome, fits: bool) {
         self.count = self.count.saturating_add(1);
+        self.fit &= fits;
+        if outcome == Err(ErrorKind::Interrupted) {
+            return;
+        }
         self.moved = self.moved.saturating_add(outcome.unwrap_or(0));
         if outcome.unwrap_or(0) == 0 {
             self.ends = self.ends.saturating_add(1);
         }
         self.last = outcome;
-        self.fit &= fits;
     }
 
     /// What reading to the end answers by these calls: how many bytes there were, or the kind of the error. None where
