@@ -9,8 +9,8 @@ use bpaf_help::meta::Meta;
 use lasting_names::Names;
 use std::alloc::{AllocError, Global};
 
-// How many levels of trees and documents a line may nest.
-const DEEPEST: usize = 1_000;
+// How many levels of trees and documents a line may nest, so that 8 MiB of stack last.
+const DEEPEST: usize = 500;
 
 // A word with nothing to it, or the document or tree for which a word stands with those behind it: its levels.
 #[derive(Clone, Copy)]
