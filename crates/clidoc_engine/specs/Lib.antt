@@ -9,3 +9,4 @@ pub mod Chosen
 pub mod Reading
 pub mod Newlines
 pub mod Files
+pub mod Beside

@@ -11,7 +11,7 @@ use std::alloc::{AllocError, Allocator};
 use std::collections::BTreeSet;
 use thiserror::Error;
 
-/// How many bytes a name has at most. On the way there it has a dot before it and `.new` behind it, too.
+/// How many bytes a name has at most. On the way there it has one before it and 13 behind it, too (`name_beside`).
 const MOST: usize = 200;
 
 /// Why files are not written. It is shown as the line that the program writes on standard error.

@@ -3,6 +3,8 @@
 #![tactic(auto)]
 
 pub mod all;
+mod beside;
+pub mod bounded;
 pub mod engine;
 pub mod faults;
 pub mod files;

@@ -1,6 +1,9 @@
 //! A whole run of the program, over any runtime.
 
+ghost use Rattle.watched.specs.Watched.{IsUnmarked};
+
 use crate::all::make_files;
+use crate::bounded::Bounded;
 use crate::engine::{check_description, page_of, run_description};
 use crate::faults::Fault;
 use crate::files::check_names;
@@ -10,25 +13,32 @@ use crate::words::{Choice, Console, ConsoleForm, Page, choose};
 use crate::wrong::line_of;
 use bpaf_doc::console::MAX_WIDTH;
 use description::words::Shown;
-use folder::{check_folder, write_files};
+use folder::{enter, tell_left, write_files};
 use std::alloc::{AllocError, Global};
-use std::io::Read;
+use std::io::{ErrorKind, Read};
 use std::process::ExitCode;
+use std::random::RandomSource;
 use std::rt::{Env, Files};
 use std::{fs, io};
 use thiserror::Error;
 use watched::Watched;
 pub use watched::program::WRONG_WORDS;
-use watched::program::{expecting, status_of, with_words};
+use watched::program::{expecting, garbled_word, status_of, with_words};
 
 mod folder;
+
+/// How many bytes are read at most: 16 MiB.
+const MOST_INPUT: usize = 16 << 20;
 
 /// Why a run fails.
 #[derive(Debug, Drop, Error)]
 pub(crate) enum Failure {
     #[error("{0}")]
     Fault(Fault),
-    /// The file cannot be opened.
+    /// There is more to read than may be read.
+    #[error("clidoc: input is over 16 MiB long")]
+    LongInput,
+    /// The file, or the folder, cannot be opened.
     #[error("clidoc: can't open {}", Shown(.0.as_str()))]
     NoFile(String),
     /// The folder is not there.
@@ -58,18 +68,36 @@ impl From<AllocError> for Failure {
 /// choose nothing, and failure where the run failed. On standard error it says why it was no success. The TOML and
 /// the description are kept in `global`, and all else in the runtime's memory. No clause can say what a runtime
 /// reads and prints.
-pub fn run<R: Alloc + Env + Files + Input + Print + Eprint>(rt: &R, global: Global) -> ExitCode
+pub fn run<R: Alloc + Env + Files + Input + Print + Eprint + RandomSource>(
+    rt: &R,
+    global: Global,
+) -> ExitCode
 where
     R::A: Copy,
 {
     let outcome = match with_words(rt, |words| follow(rt, global, words)) {
         Ok(outcome) => outcome,
-        Err(_) => Err(Failure::Fault(Fault::Memory)),
+        Err(error) => unread(rt, global, error),
     };
     status_of(rt, outcome)
 }
 
-fn follow<R: Alloc + Env + Files + Input + Print + Eprint>(
+// Says why the words could not be read.
+fn unread<R: Alloc + Env + Eprint>(
+    rt: &R,
+    global: Global,
+    error: io::Error,
+) -> Result<ExitCode, Failure> {
+    if error.kind() == ErrorKind::InvalidData {
+        if let Some(index) = garbled_word(rt) {
+            let line = format!(in global; "clidoc: word {index} is not UTF-8")?;
+            return Ok(expecting(rt, &line));
+        }
+    }
+    Err(Failure::Fault(Fault::Memory))
+}
+
+fn follow<R: Alloc + Env + Files + Input + Print + Eprint + RandomSource>(
     rt: &R,
     global: Global,
     words: &[&str],
@@ -110,7 +138,7 @@ fn refuse<R: Alloc + Eprint>(
     Ok(expecting(rt, &line))
 }
 
-fn perform<R: Alloc + Env + Files + Input + Print + Eprint>(
+fn perform<R: Alloc + Env + Files + Input + Print + Eprint + RandomSource>(
     rt: &R,
     global: Global,
     choice: &Choice<'_, Global>,
@@ -159,23 +187,42 @@ fn write_page<R: Alloc + Print, S: Read + Drop>(
 where
     R::A: Copy,
 {
-    let mut reader = Watched::new(input);
+    let mut reader = bounded(input);
     let mut writer = Watched::new(io::writer(rt));
-    run_description(rt.alloc(), global, page, &mut reader, &mut writer)?;
-    Ok(())
+    let outcome = run_description(rt.alloc(), global, page, &mut reader, &mut writer);
+    within(outcome, reader)
+}
+
+// A reader of no more bytes than may be read.
+fn bounded<S: Read>(input: S) -> Watched<Bounded<S>>
+    ensures { IsUnmarked result }
+{
+    Watched::new(Bounded::new(input, MOST_INPUT))
+}
+
+// What is told of a run over such a reader.
+fn within<T: Drop, S: Drop>(
+    outcome: Result<T, Fault>,
+    reader: Watched<Bounded<S>>,
+) -> Result<T, Failure> {
+    if reader.into_inner().is_over() {
+        drop(outcome);
+        return Err(Failure::LongInput);
+    }
+    Ok(outcome?)
 }
 
 fn check<R: Alloc, S: Read + Drop>(rt: &R, global: Global, input: S) -> Result<(), Failure>
 where
     R::A: Copy,
 {
-    let mut reader = Watched::new(input);
-    check_description(rt.alloc(), global, &mut reader)?;
-    Ok(())
+    let mut reader = bounded(input);
+    let outcome = check_description(rt.alloc(), global, &mut reader);
+    within(outcome, reader)
 }
 
 // Writes all pages into the folder, once all of them are made, and says how many they are.
-fn write_all<R: Alloc + Files + Eprint, S: Read + Drop>(
+fn write_all<R: Alloc + Env + Files + Eprint + RandomSource, S: Read + Drop>(
     rt: &R,
     global: Global,
     folder: &str,
@@ -184,12 +231,14 @@ fn write_all<R: Alloc + Files + Eprint, S: Read + Drop>(
 where
     R::A: Copy,
 {
-    check_folder(rt, global, folder)?;
-    let mut reader = Watched::new(input);
-    let files = make_files(rt.alloc(), global, &mut reader)?;
+    enter(rt, global, folder)?;
+    let mut reader = bounded(input);
+    let outcome = make_files(rt.alloc(), global, &mut reader);
+    let files = within(outcome, reader)?;
     if let Err(fault) = check_names(global, &files)? {
         return Err(Failure::BadName(format!(in global; "{fault}")?));
     }
+    tell_left(rt, folder);
     write_files(rt, global, folder, &files)?;
     let _ = eprintln!(rt; "clidoc: {} files written", files.len());
     Ok(())

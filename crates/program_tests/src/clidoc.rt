@@ -3,5 +3,6 @@
 pub mod ends;
 mod faults;
 mod folders;
+mod inputs;
 pub mod pages;
 mod words;

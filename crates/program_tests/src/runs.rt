@@ -500,10 +500,10 @@ fn tells(global: Global, row: &Faulty) -> bool {
 }
 
 // Where the words cannot be read, nothing else is looked at.
-fn tells_garbled_words<'a>(global: Global, words: &'a str, line: &'a str) -> bool {
+fn tells_garbled_words<'a>(global: Global, words: &'a str, status: u8, line: &'a str) -> bool {
     let ends = Ends::new(INPUT, HELP).reading(FIRST).writing(FIRST);
     let desk = Desk::new(global, words, ends, line).garbled();
-    ends_with(global, &desk, 1, 0, true)
+    ends_with(global, &desk, status, 0, true)
 }
 
 // Of several faults the first is told: words, then reads, then the text, its TOML, its description, then writes.
@@ -512,8 +512,9 @@ fn tells_the_first_fault(rt: HostRuntime) {
     for row in FAULTY {
         assert!(rt; tells(rt.alloc(), row), "{} {} {}", row.0, row.6, row.5);
     }
-    assert!(rt; tells_garbled_words(rt.alloc(), "helpdoc|text|full", "helpdoc: no memory"));
-    assert!(rt; tells_garbled_words(rt.alloc(), "clidoc|full", "clidoc: no memory"));
+    assert!(rt; tells_garbled_words(rt.alloc(), "helpdoc|text|full", 1, "helpdoc: no memory"));
+    let line = "clidoc: word 1 is not UTF-8";
+    assert!(rt; tells_garbled_words(rt.alloc(), "clidoc|full", 2, line));
 }
 
 #[test]

@@ -1,49 +1,168 @@
-//! Pages as files of a folder. No clause can say what a folder then holds.
+//! Pages as files of a folder that others may write into too. No clause can say what a folder then holds.
 
+use crate::beside::{is_beside, name_beside};
+use crate::faults::Fault;
 use crate::program::Failure;
 use description::PageFile;
+use description::words::Shown;
 use std::alloc::{Allocator, Global};
-use std::rt::Files;
-use std::{fs, io};
+use std::fs::{Metadata, OpenFile, OpenOptions, Permissions};
+use std::io::{ErrorKind, Write};
+use std::os::unix::fs::{MetadataExt, OpenOptionsExt, PermissionsExt};
+use std::random::RandomSource;
+use std::rt::{Env, Files};
+use std::{env, fs, io};
 
-/// Refuses a folder that is not there.
-pub fn check_folder<R: Files>(rt: &R, global: Global, folder: &str) -> Result<(), Failure> {
-    match fs::metadata(rt, folder) {
-        Ok(found) if found.is_dir() => Ok(()),
-        _ => Err(Failure::NoFolder(String::from_str(global, folder)?)),
+/// How many names beside a place are tried.
+const TRIES: u32 = 8;
+
+/// How many files are told that runs before have left.
+const MOST_TOLD: u32 = 8;
+
+/// Who may read, write and run a file. The bits beside these would have it run as its owner.
+const MODE: u32 = 0o777;
+
+/// Goes into the folder, and so holds it: what is put in its place from here on is not written into. Refuses a folder
+/// that is not there.
+pub fn enter<R: Env>(rt: &R, global: Global, folder: &str) -> Result<(), Failure> {
+    let Err(error) = env::set_current_dir(rt, folder) else {
+        return Ok(());
+    };
+    let name = String::from_str(global, folder)?;
+    match error.kind() {
+        ErrorKind::NotFound | ErrorKind::NotADirectory => Err(Failure::NoFolder(name)),
+        _ => Err(Failure::NoFile(name)),
     }
 }
 
-/// Writes each page beside its place, and renames it there, so that no page of before is lost for a part of a new one.
-/// Where that fails, nothing is left beside the place; the files before it stay where they are.
-pub fn write_files<R: Files, A: Allocator>(
+/// Says which files runs that were stopped have left in the folder that was entered, some at least, as far as it can be
+/// read.
+pub fn tell_left<R: Alloc + Files + Eprint>(rt: &R, folder: &str) {
+    let Ok(entries) = fs::read_dir(&rt, ".") else {
+        return;
+    };
+    let mut told = 0;
+    for entry in entries {
+        if let Ok(entry) = entry {
+            if told < MOST_TOLD && is_beside(entry.file_name()) {
+                told += 1;
+                let (folder, name) = (Shown(folder), Shown(entry.file_name()));
+                let _ = eprintln!(rt; "clidoc: {folder}/{name} is of a run that was stopped");
+            }
+        }
+    }
+}
+
+/// Writes each page beside its place in the folder that was entered, and renames it there, so that no page of before is
+/// lost for a part of a new one. All are kept when the machine stops, as far as the system says so. Where a file fails,
+/// nothing is left beside its place; the files before it stay where they are.
+pub fn write_files<R: Files + RandomSource, A: Allocator>(
     rt: &R,
     global: Global,
     folder: &str,
     files: &[PageFile<A>],
 ) -> Result<(), Failure> {
     for file in files {
-        write_file(rt, global, folder, file)?;
+        if let Err(error) = write_file(rt, global, &file.name, &file.page) {
+            let place = format!(in global; "{folder}/{}", file.name)?;
+            return Err(not_written(place, error));
+        }
     }
-    Ok(())
+    match keep_folder(rt) {
+        Ok(()) => Ok(()),
+        Err(error) => Err(not_written(String::from_str(global, folder)?, error)),
+    }
 }
 
-fn write_file<R: Files, A: Allocator>(
+fn not_written(place: String, error: io::Error) -> Failure {
+    match error.kind() {
+        ErrorKind::OutOfMemory => Failure::Fault(Fault::Memory),
+        _ => Failure::NotWritten(place),
+    }
+}
+
+fn write_file<R: Files + RandomSource>(
     rt: &R,
     global: Global,
-    folder: &str,
-    file: &PageFile<A>,
-) -> Result<(), Failure> {
-    let place = format!(in global; "{folder}/{}", file.name)?;
-    let beside = format!(in global; "{folder}/.{}.new", file.name)?;
-    if put(rt, &beside, &place, &file.page).is_ok() {
-        return Ok(());
+    place: &str,
+    page: &str,
+) -> io::Result<()> {
+    let before = file_before(rt, place);
+    let (beside, file) = create_beside(rt, global, place, &options(&before))?;
+    let written = fill(file, page, &before).and_then(|()| fs::rename(rt, &beside, place));
+    if written.is_err() {
+        let _ = fs::remove_file(rt, &beside);
     }
-    let _ = fs::remove_file(rt, &beside);
-    Err(Failure::NotWritten(place))
+    written
 }
 
-fn put<R: Files>(rt: &R, beside: &str, place: &str, page: &str) -> io::Result<()> {
-    fs::write(rt, beside, page.as_bytes())?;
-    fs::rename(rt, beside, place)
+// The file that stands in the place, which is to be replaced. What a link leads to is none.
+fn file_before<R: Files>(rt: &R, place: &str) -> Option<Metadata> {
+    let found = fs::symlink_metadata(rt, place).ok()?;
+    found.is_file().then_some(found)
+}
+
+// A file that nobody had, with the mode of the one before: nothing that stands there is opened, and no link followed.
+fn options(before: &Option<Metadata>) -> OpenOptions {
+    let mut options = OpenOptions::new();
+    options.write(true).create_new(true);
+    if let Some(found) = before {
+        options.mode(found.mode() & MODE);
+    }
+    options
+}
+
+// Creates a file beside the place, under a name that cannot be foreseen, and that no other run has.
+fn create_beside<R: Files + RandomSource>(
+    rt: &R,
+    global: Global,
+    place: &str,
+    options: &OpenOptions,
+) -> io::Result<(String, R::File)> {
+    for _ in 0..TRIES {
+        let mut drawn = [0; 4];
+        rt.fill_bytes(&mut drawn)?;
+        let beside = name_beside(global, place, drawn)?;
+        match options.open(rt, &beside) {
+            Ok(file) => return Ok((beside, file)),
+            Err(error) if error.kind() == ErrorKind::AlreadyExists => {}
+            Err(error) => return Err(error),
+        }
+    }
+    Err(ErrorKind::AlreadyExists.into())
+}
+
+// Writes the page, and waits until it is kept. Its file has the mode of the one before, where both have the same owner
+// and group; else what the system left of that.
+fn fill<F: Write + OpenFile + Drop>(
+    mut file: F,
+    page: &str,
+    before: &Option<Metadata>,
+) -> io::Result<()> {
+    if let Some(found) = before {
+        let made = file.metadata()?;
+        if made.uid() == found.uid() && made.gid() == found.gid() {
+            file.set_permissions(Permissions::from_mode(found.mode() & MODE))?;
+        }
+    }
+    file.write_all(page.as_bytes())?;
+    file.sync_all()
+}
+
+// Waits until the names in the folder are kept. There are folders that cannot be opened, and that know no such wait.
+fn keep_folder<R: Files>(rt: &R) -> io::Result<()> {
+    let Ok(folder) = fs::open(rt, ".") else {
+        return Ok(());
+    };
+    match folder.sync_all() {
+        Err(error) if is_unknown(error) => Ok(()),
+        outcome => outcome,
+    }
+}
+
+fn is_unknown(error: io::Error) -> bool {
+    matches!(
+        error.kind(),
+        ErrorKind::InvalidInput | ErrorKind::Unsupported
+    )
 }

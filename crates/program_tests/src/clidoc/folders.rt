@@ -1,8 +1,8 @@
-//! Runs that write all pages into a folder, which fails at each call.
+//! Runs that write all pages into a folder, which fails at each call, or holds what others put there.
 use crate::engines::AMPLE;
 use crate::programs::{ends_with, status_of};
 use crate::stand_ins::desk::Desk;
-use crate::stand_ins::folder::Folder;
+use crate::stand_ins::folder::{Folder, Stands};
 use crate::stand_ins::lines::says;
 use crate::stand_ins::runs::Ends;
 use clidoc_engine::all::make_files;
@@ -10,6 +10,7 @@ use clidoc_engine::files::check_names;
 use description::PageFile;
 use linked_list_allocator::LocalHeap;
 use std::alloc::{AllocError, Global};
+use std::io::ErrorKind;
 use std::process::ExitCode;
 use watched::Watched;
 
@@ -17,24 +18,133 @@ const WORDS: &str = "clidoc|all|--into|out";
 
 const INPUT: &[u8] = b"name = 'a'\n";
 
-// The calls that write three files.
+const MANUAL: &str =
+    "write .ie \\n(.g .ds Aq \\(aq\n.el .ds Aq '\n.TH a 1 - - \"\"\n.SH SYNOPSIS\n\\fBa\\fP\\fR \\fP";
+
+const WEB: &str =
+    "write <!DOCTYPE html><html lang=\"en\"><head><meta charset=\"utf-8\"><meta name=\"viewport\" content=\"width=device-width\"><title>a</title><style>body{font:1rem/1.5 sans-serif;max-width:50rem;margin:0 auto;padding:1rem;color:#1b1b1b;background:#fff;overflow-wrap:anywhere}a{color:#0645ad}pre{white-space:pre-wrap;padding:.5rem;background:#f2f2f2}dt{margin-top:.5rem}dt a{text-decoration:none}dt a:hover{text-decoration:underline}dd{margin-left:2rem}dd p{margin:.25rem 0}@media(prefers-color-scheme:dark){body{color:#e6e6e6;background:#161616}a{color:#8ab4f8}pre{background:#262626}}@media print{body{max-width:none;color:#000;background:#fff}a{color:#000}nav{display:none}pre{background:none}}</style></head><body><header><h1>a</h1></header><main><section id=\"a\"><h2>a</h2><pre>\n<code><strong>a</strong> </code></pre></section></main></body></html>";
+
+const MARKDOWN: &str = "write # a\n\n**Usage**: **`a`** \n";
+
+// The calls that write three files. Before a page is written what stands in its place is looked at.
 const CALLS: &[&str] = &[
-    "create out/.a.1.new",
-    "write .ie \\n(.g .ds Aq \\(aq\n.el .ds Aq '\n.TH a 1 - - \"\"\n.SH SYNOPSIS\n\\fBa\\fP\\fR \\fP",
-    "rename out/.a.1.new out/a.1",
-    "create out/.a.html.new",
-    "write <!DOCTYPE html><html lang=\"en\"><head><meta charset=\"utf-8\"><meta name=\"viewport\" content=\"width=device-width\"><title>a</title><style>body{font:1rem/1.5 sans-serif;max-width:50rem;margin:0 auto;padding:1rem;color:#1b1b1b;background:#fff;overflow-wrap:anywhere}a{color:#0645ad}pre{white-space:pre-wrap;padding:.5rem;background:#f2f2f2}dt{margin-top:.5rem}dt a{text-decoration:none}dt a:hover{text-decoration:underline}dd{margin-left:2rem}dd p{margin:.25rem 0}@media(prefers-color-scheme:dark){body{color:#e6e6e6;background:#161616}a{color:#8ab4f8}pre{background:#262626}}@media print{body{max-width:none;color:#000;background:#fff}a{color:#000}nav{display:none}pre{background:none}}</style></head><body><header><h1>a</h1></header><main><section id=\"a\"><h2>a</h2><pre>\n<code><strong>a</strong> </code></pre></section></main></body></html>",
-    "rename out/.a.html.new out/a.html",
-    "create out/.a.md.new",
-    "write # a\n\n**Usage**: **`a`** \n",
-    "rename out/.a.md.new out/a.md",
+    "enter out",
+    "list ./",
+    "look a.1",
+    "draw",
+    "create .a.1.00000000.new",
+    MANUAL,
+    "keep file",
+    "rename .a.1.00000000.new a.1",
+    "look a.html",
+    "draw",
+    "create .a.html.01010101.new",
+    WEB,
+    "keep file",
+    "rename .a.html.01010101.new a.html",
+    "look a.md",
+    "draw",
+    "create .a.md.02020202.new",
+    MARKDOWN,
+    "keep file",
+    "rename .a.md.02020202.new a.md",
+    "open .",
+    "keep folder",
 ];
 
-// What comes where a call for a file fails, and the line on standard error.
-const FAILED: &[(&str, &str)] = &[
-    ("remove out/.a.1.new", "clidoc: can't write out/a.1"),
-    ("remove out/.a.html.new", "clidoc: can't write out/a.html"),
-    ("remove out/.a.md.new", "clidoc: can't write out/a.md"),
+// The same, where a file stands in each place.
+const REPLACING: &[&str] = &[
+    "enter out",
+    "list ./",
+    "look a.1",
+    "draw",
+    "create .a.1.00000000.new",
+    "mode",
+    MANUAL,
+    "keep file",
+    "rename .a.1.00000000.new a.1",
+    "look a.html",
+    "draw",
+    "create .a.html.01010101.new",
+    "mode",
+    WEB,
+    "keep file",
+    "rename .a.html.01010101.new a.html",
+    "look a.md",
+    "draw",
+    "create .a.md.02020202.new",
+    "mode",
+    MARKDOWN,
+    "keep file",
+    "rename .a.md.02020202.new a.md",
+    "open .",
+    "keep folder",
+];
+
+// The calls behind the first that creates a file, where another has one of this name.
+const OTHER: &[&str] = &[
+    "draw",
+    "create .a.1.01010101.new",
+    MANUAL,
+    "keep file",
+    "rename .a.1.01010101.new a.1",
+    "look a.html",
+    "draw",
+    "create .a.html.02020202.new",
+    WEB,
+    "keep file",
+    "rename .a.html.02020202.new a.html",
+    "look a.md",
+    "draw",
+    "create .a.md.03030303.new",
+    MARKDOWN,
+    "keep file",
+    "rename .a.md.03030303.new a.md",
+    "open .",
+    "keep folder",
+];
+
+// A call that fails, why, the calls behind it, the status, and the line. A folder may not know how it is kept.
+type Failing = (usize, ErrorKind, &'static [&'static str], u8, &'static str);
+
+const WRITTEN: &str = "clidoc: 3 files written";
+
+const FULL: ErrorKind = ErrorKind::StorageFull;
+
+const REMOVE_MANUAL: &[&str] = &["remove .a.1.00000000.new"];
+
+const REMOVE_WEB: &[&str] = &["remove .a.html.01010101.new"];
+
+const REMOVE_MARKDOWN: &[&str] = &["remove .a.md.02020202.new"];
+
+const FAILING: &[Failing] = &[
+    (0, ErrorKind::NotFound, &[], 1, "clidoc: no folder out"),
+    (0, ErrorKind::NotADirectory, &[], 1, "clidoc: no folder out"),
+    (
+        0,
+        ErrorKind::PermissionDenied,
+        &[],
+        1,
+        "clidoc: can't open out",
+    ),
+    (3, ErrorKind::Other, &[], 1, "clidoc: can't write out/a.1"),
+    (4, FULL, &[], 1, "clidoc: can't write out/a.1"),
+    (4, ErrorKind::AlreadyExists, OTHER, 0, WRITTEN),
+    (5, FULL, REMOVE_MANUAL, 1, "clidoc: can't write out/a.1"),
+    (6, FULL, REMOVE_MANUAL, 1, "clidoc: can't write out/a.1"),
+    (7, FULL, REMOVE_MANUAL, 1, "clidoc: can't write out/a.1"),
+    (10, FULL, &[], 1, "clidoc: can't write out/a.html"),
+    (11, FULL, REMOVE_WEB, 1, "clidoc: can't write out/a.html"),
+    (12, FULL, REMOVE_WEB, 1, "clidoc: can't write out/a.html"),
+    (13, FULL, REMOVE_WEB, 1, "clidoc: can't write out/a.html"),
+    (16, FULL, &[], 1, "clidoc: can't write out/a.md"),
+    (17, FULL, REMOVE_MARKDOWN, 1, "clidoc: can't write out/a.md"),
+    (18, FULL, REMOVE_MARKDOWN, 1, "clidoc: can't write out/a.md"),
+    (19, FULL, REMOVE_MARKDOWN, 1, "clidoc: can't write out/a.md"),
+    (20, ErrorKind::PermissionDenied, &[], 0, WRITTEN),
+    (21, FULL, &[], 1, "clidoc: can't write out"),
+    (21, ErrorKind::InvalidInput, &[], 0, WRITTEN),
+    (21, ErrorKind::Unsupported, &[], 0, WRITTEN),
 ];
 
 // Whether a run ends so, and the calls came on the folder that should.
@@ -50,71 +160,88 @@ fn ends_so<'a>(
     ends_with(global, &desk, status, 0, true) && folder.is_done()
 }
 
-// Whether the call of this number fails the run. Each file has three.
-fn fails_at(global: Global, call: usize) -> bool {
-    match FAILED.get(call / 3) {
-        Some(&(remove, line)) => {
-            let folder = Folder::new(CALLS, call, remove);
-            ends_so(global, &folder, WORDS, INPUT, 1, line)
-        }
-        None => false,
-    }
+fn writes_all(global: Global, folder: Folder, status: u8, line: &str) -> bool {
+    ends_so(global, &folder, WORDS, INPUT, status, line)
 }
 
 #[test]
 fn pages_are_written_into_a_folder(rt: HostRuntime) {
-    for call in 0..9usize {
-        assert!(rt; fails_at(rt.alloc(), call), "{call}");
+    assert!(rt; writes_all(rt.alloc(), Folder::new(CALLS), 0, WRITTEN));
+    for &(call, kind, then, status, line) in FAILING {
+        let folder = Folder::new(CALLS).failing(call, kind, then);
+        assert!(rt;
+            writes_all(rt.alloc(), folder, status, line),
+            "{call} {kind:?}"
+        );
     }
-    let folder = Folder::new(CALLS, 9, "");
-    assert!(rt;
-        ends_so(
-            rt.alloc(),
-            &folder,
-            WORDS,
-            INPUT,
-            0,
-            "clidoc: 3 files written"
-        )
-    );
+}
+
+// What is not told, of the folder or of a place in it, changes nothing.
+#[test]
+fn what_is_not_told_changes_nothing(rt: HostRuntime) {
+    for call in 1..3usize {
+        let folder = Folder::new(CALLS).failing(
+            call,
+            ErrorKind::PermissionDenied,
+            &CALLS[call + 1..],
+        );
+        assert!(rt; writes_all(rt.alloc(), folder, 0, WRITTEN), "{call}");
+    }
+}
+
+// A link is not followed, and a file keeps its mode.
+#[test]
+fn what_stands_in_a_place_is_replaced(rt: HostRuntime) {
+    let replacing = Folder::new(REPLACING).holding(Stands::File);
+    assert!(rt; writes_all(rt.alloc(), replacing, 0, WRITTEN));
+    for &stands in &[Stands::Link, Stands::Folder] {
+        let folder = Folder::new(CALLS).holding(stands);
+        assert!(rt; writes_all(rt.alloc(), folder, 0, WRITTEN));
+    }
+}
+
+const LEFT: &[u8] =
+    b"a.1\0.a.1.0123abcd.new\0.a.1.new\0.a.1.0123abc.new\0a.1.0123abcd.new\0.0123abcd.new\0.x\x1b.0123ABCD.new\0";
+
+const LEFT_LINES: &str =
+    "clidoc: out/.a.1.0123abcd.new is of a run that was stoppedclidoc: out/\".x\\u{1b}.0123ABCD.new\" is of a run that was stoppedclidoc: 3 files written";
+
+// Nothing that a run before has left is touched.
+#[test]
+fn what_a_run_has_left_is_told(rt: HostRuntime) {
+    let folder = Folder::new(CALLS).listing(LEFT);
+    assert!(rt; writes_all(rt.alloc(), folder, 0, LEFT_LINES));
 }
 
 // Words, an input, and the line where no file is written. Nothing is read where the folder is not there, nor where the
 // file is not.
-const NOTHING: &[(&str, &[u8], &str)] = &[
+const NOTHING: &[(&str, &[u8], &[&str], &str)] = &[
     (
         WORDS,
         b"lnog = 1\nlnog = 1\n",
+        &["enter out"],
         "clidoc: line 2, column 1: duplicate key",
     ),
     (
         WORDS,
         b"name = 'a'\n[[command]]\nname = 'b/c'\n",
+        &["enter out"],
         "clidoc: file name a-b/c.1 holds a slash",
-    ),
-    (
-        "clidoc|all|--into=nowhere",
-        INPUT,
-        "clidoc: no folder nowhere",
     ),
     (
         "clidoc|all|--into|out|b.toml",
         INPUT,
+        &[],
         "clidoc: can't open b.toml",
     ),
 ];
-
-fn writes_nothing<'a>(global: Global, words: &'a str, input: &'a [u8], line: &'a str) -> bool {
-    let folder = Folder::new(&[], 0, "");
-    ends_so(global, &folder, words, input, 1, line)
-}
 
 // Whether a growth is refused on so much memory, and no file written. None where it is done, or anything else comes.
 fn is_without_memory(global: Global, budget: usize) -> Option<bool> {
     let Ok(heap) = LocalHeap::new(global, budget) else {
         return None;
     };
-    let folder = Folder::new(&[], 0, "");
+    let folder = Folder::new(CALLS);
     let line = "clidoc: no memory";
     let desk = Desk::new(global, WORDS, Ends::new(INPUT, b""), line).with_folder(&folder);
     let status = status_of(&heap, global, &desk);
@@ -135,8 +262,12 @@ fn writes_when_ample(global: Global) -> bool {
 
 #[test]
 fn a_fault_writes_no_file(rt: HostRuntime) {
-    for &(words, input, line) in NOTHING {
-        assert!(rt; writes_nothing(rt.alloc(), words, input, line), "{line}");
+    for &(words, input, calls, line) in NOTHING {
+        let folder = Folder::new(calls);
+        assert!(rt;
+            ends_so(rt.alloc(), &folder, words, input, 1, line),
+            "{line}"
+        );
     }
     assert!(rt; writes_when_ample(rt.alloc()));
 }

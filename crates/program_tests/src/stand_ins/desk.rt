@@ -11,9 +11,10 @@ use std::alloc::{Allocator, Global};
 use std::cell::Cell;
 use std::env::FillError;
 use std::fmt::{Display, Write as _};
-use std::fs::{File, Metadata, OpenOptions};
+use std::fs::{Metadata, OpenOptions};
 use std::io;
 use std::io::{BufRead, BufReader, Lines, Write};
+use std::random::RandomSource;
 use std::rt::{Env, Files};
 
 /// The byte behind each word that cannot be read: no text holds it.
@@ -52,7 +53,7 @@ impl<'a> Desk<'a> {
         self
     }
 
-    /// The same, but no word is a text, so the words cannot be read.
+    /// The same, but no word behind the program's name is a text, so the words cannot be read.
     pub fn garbled(mut self) -> Desk<'a> {
         self.garbles_words = true;
         self
@@ -73,6 +74,13 @@ impl<'a> Desk<'a> {
 }
 
 impl Env for Desk<'_> {
+    fn set_current_dir(&self, path: &str) -> io::Result<()> {
+        match self.folder {
+            Some(folder) => folder.enter(path),
+            None => unsupported(),
+        }
+    }
+
     fn arg(&self, i: usize, buf: &mut [u8]) -> Result<usize, FillError> {
         let Some(word) = self.words.split('|').nth(i) else {
             return Err(FillError::NotPresent);
@@ -83,7 +91,7 @@ impl Env for Desk<'_> {
             return Err(FillError::TooLong);
         }
         buf[..bytes.len()].copy_from_slice(bytes);
-        if !self.garbles_words {
+        if !self.garbles_words || i == 0 {
             return Ok(bytes.len());
         }
         buf[bytes.len()] = GARBLE;
@@ -116,32 +124,35 @@ impl<'a> Input for Desk<'a> {
     }
 }
 
-// There are no files but those that are created in the folder.
+// There are no files but those of the folder.
 impl<'a> Files for Desk<'a> {
     type File = FolderFile<'a>;
 
-    type Dir = File;
+    type Dir = &'static [u8];
 
     fn open_file(&self, how: &OpenOptions, path: &str) -> io::Result<FolderFile<'a>> {
-        let Some(folder) = self.folder else {
-            return unsupported();
-        };
-        FolderFile::create(folder, how, path)
-    }
-
-    fn open_dir(&self, _path: &str) -> io::Result<File> {
-        unsupported()
-    }
-
-    fn metadata(&self, path: &str) -> io::Result<Metadata> {
         match self.folder {
-            Some(folder) => folder.metadata(path),
+            Some(folder) => folder.open(how, path),
             None => unsupported(),
         }
     }
 
-    fn symlink_metadata(&self, _path: &str) -> io::Result<Metadata> {
+    fn open_dir(&self, path: &str) -> io::Result<&'static [u8]> {
+        match self.folder {
+            Some(folder) => folder.list(path),
+            None => unsupported(),
+        }
+    }
+
+    fn metadata(&self, _path: &str) -> io::Result<Metadata> {
         unsupported()
+    }
+
+    fn symlink_metadata(&self, path: &str) -> io::Result<Metadata> {
+        match self.folder {
+            Some(folder) => folder.look(path),
+            None => unsupported(),
+        }
     }
 
     fn copy(&self, _from: &str, _to: &str) -> io::Result<u64> {
@@ -172,6 +183,15 @@ impl<'a> Files for Desk<'a> {
 
     fn remove_dir_all<B: Allocator>(&self, _alloc: B, _path: &str) -> io::Result<()> {
         unsupported()
+    }
+}
+
+impl RandomSource for Desk<'_> {
+    fn fill_bytes(&self, buf: &mut [u8]) -> io::Result<()> {
+        match self.folder {
+            Some(folder) => folder.draw(buf),
+            None => unsupported(),
+        }
     }
 }
 

@@ -3,78 +3,139 @@
 ghost use Rattle.std.specs.Prelude.{IsErr};
 
 use std::cell::Cell;
-use std::fs::{Metadata, OpenFile, OpenOptions};
+use std::fs::{Metadata, OpenFile, OpenOptions, Permissions};
 use std::io;
 use std::io::{ErrorKind, Read, Seek, SeekFrom, Write};
+use std::os::unix::fs::PermissionsExt;
 
-/// A folder of this name, on which these calls should come: `create PATH`, `write BYTES` of all bytes at once,
-/// `rename PATH PATH` and `remove PATH`.
+/// What stands where a page is to be written.
+#[derive(Clone, Copy)]
+pub enum Stands {
+    Nothing,
+    File,
+    Link,
+    Folder,
+}
+
+/// A folder, on which these calls should come: `enter PATH`, `list PATH`, `look PATH`, `draw`, `create PATH`, `mode`,
+/// `write BYTES` of all bytes at once, `keep FILE`, `rename PATH PATH`, `remove PATH` and `open PATH`.
 #[derive(Drop)]
 pub struct Folder {
-    name: &'static str,
     calls: &'static [&'static str],
-    fails_at: usize,
-    remove: &'static str,
+    fails_at: Option<(usize, ErrorKind)>,
+    then: &'static [&'static str],
+    stands: Stands,
+    names: &'static [u8],
     count: Cell<usize>,
+    draws: Cell<u8>,
     fit: Cell<bool>,
 }
 
 impl Folder {
-    /// The call of this number, counted from 0, fails, if there are so many. Behind it this one comes alone.
-    pub fn new(calls: &'static [&'static str], fails_at: usize, remove: &'static str) -> Folder {
+    /// None of the calls fails, and the folder holds nothing.
+    pub fn new(calls: &'static [&'static str]) -> Folder {
         Folder {
-            name: "out",
             calls,
-            fails_at,
-            remove,
+            fails_at: None,
+            then: &[],
+            stands: Stands::Nothing,
+            names: b"",
             count: Cell::new(0),
+            draws: Cell::new(0),
             fit: Cell::new(true),
         }
     }
 
-    /// Whether the calls came, and no other.
-    pub fn is_done(&self) -> bool {
-        let whole = self.calls.len();
-        let count = if self.fails_at < whole {
-            self.fails_at.saturating_add(2)
-        } else {
-            whole
-        };
-        self.fit.get() && self.count.get() == count
+    /// The same, but the call of this number, counted from 0, fails, and behind it come these.
+    pub fn failing(
+        mut self,
+        call: usize,
+        kind: ErrorKind,
+        then: &'static [&'static str],
+    ) -> Folder {
+        self.fails_at = Some((call, kind));
+        self.then = then;
+        self
     }
 
-    /// Whether no call came.
+    /// The same, but this stands where each page is to be written.
+    pub fn holding(mut self, stands: Stands) -> Folder {
+        self.stands = stands;
+        self
+    }
+
+    /// The same, but it lists these names, each with a NUL behind it.
+    pub fn listing(mut self, names: &'static [u8]) -> Folder {
+        self.names = names;
+        self
+    }
+
+    /// Whether the calls came, and no other.
+    pub fn is_done(&self) -> bool {
+        let whole = match self.fails_at {
+            Some((call, _)) => call.saturating_add(1).saturating_add(self.then.len()),
+            None => self.calls.len(),
+        };
+        self.fit.get() && self.count.get() == whole
+    }
+
+    /// Whether no file was touched.
     pub fn is_untouched(&self) -> bool {
-        self.count.get() == 0
+        self.count.get() <= 1
     }
 
     // The call that should come now, or nothing.
     fn next(&self) -> &'static str {
         let index = self.count.get();
         self.count.set(index.saturating_add(1));
-        if index > self.fails_at {
-            self.remove
-        } else {
-            self.calls.get(index).copied().unwrap_or("")
+        match self.fails_at {
+            Some((call, _)) if index > call => self
+                .then
+                .get(index - call - 1)
+                .copied()
+                .unwrap_or(""),
+            _ => self.calls.get(index).copied().unwrap_or(""),
         }
     }
 
     fn call(&self, verb: &str, path: &str, rest: &[u8]) -> io::Result<()> {
-        let fails = self.count.get() == self.fails_at;
+        let index = self.count.get();
         if !is_call(self.next(), verb, path, rest) {
             self.fit.set(false);
         }
-        if fails {
-            return Err(io::Error::from(ErrorKind::StorageFull));
+        match self.fails_at {
+            Some((call, kind)) if call == index => Err(io::Error::from(kind)),
+            _ => Ok(()),
         }
-        Ok(())
     }
 
-    pub fn metadata(&self, path: &str) -> io::Result<Metadata> {
-        if path == self.name {
-            return Ok(Metadata::of_dir());
+    pub fn enter(&self, path: &str) -> io::Result<()> {
+        self.call("enter ", path, b"")
+    }
+
+    pub fn list(&self, path: &str) -> io::Result<&'static [u8]> {
+        self.call("list ", path, b"")?;
+        Ok(self.names)
+    }
+
+    /// What stands there itself, and not what a link leads to.
+    pub fn look(&self, path: &str) -> io::Result<Metadata> {
+        self.call("look ", path, b"")?;
+        match self.stands {
+            Stands::Nothing => Err(io::Error::from(ErrorKind::NotFound)),
+            Stands::File => Ok(Metadata::of_file(7)),
+            Stands::Link => Ok(Metadata::of_symlink(7)),
+            Stands::Folder => Ok(Metadata::of_dir()),
         }
-        Err(io::Error::from(ErrorKind::NotFound))
+    }
+
+    /// Bytes that are others each time.
+    pub fn draw(&self, bytes: &mut [u8]) -> io::Result<()> {
+        self.call("draw", "", b"")?;
+        let draw = self.draws.get();
+        self.draws.set(draw.wrapping_add(1));
+        bytes.fill(draw);
+        Ok(())
     }
 
     pub fn rename(&self, from: &str, to: &str) -> io::Result<()> {
@@ -83,6 +144,26 @@ impl Folder {
 
     pub fn remove_file(&self, path: &str) -> io::Result<()> {
         self.call("remove ", path, b"")
+    }
+
+    /// A file that is created, where nothing stands, or the folder itself.
+    pub fn open(&self, how: &OpenOptions, path: &str) -> io::Result<FolderFile<'_>> {
+        how.check()?;
+        if how.asks_create_new() {
+            self.call("create ", path, b"")?;
+            Ok(FolderFile {
+                folder: self,
+                is_folder: false,
+            })
+        } else if path != "." {
+            Err(io::Error::from(ErrorKind::NotFound))
+        } else {
+            self.call("open ", path, b"")?;
+            Ok(FolderFile {
+                folder: self,
+                is_folder: true,
+            })
+        }
     }
 }
 
@@ -97,21 +178,11 @@ fn is_call(told: &str, verb: &str, path: &str, rest: &[u8]) -> bool {
     }
 }
 
-/// A file of a folder.
+/// A file of a folder, or the folder as one.
 #[derive(Drop)]
 pub struct FolderFile<'a> {
     folder: &'a Folder,
-}
-
-impl<'a> FolderFile<'a> {
-    /// A file that is created there.
-    pub fn create(folder: &'a Folder, how: &OpenOptions, path: &str) -> io::Result<FolderFile<'a>> {
-        if !how.asks_create() {
-            return unsupported();
-        }
-        folder.call("create ", path, b"")?;
-        Ok(FolderFile { folder })
-    }
+    is_folder: bool,
 }
 
 pub fn unsupported<T>() -> io::Result<T>
@@ -145,7 +216,7 @@ impl Seek for FolderFile<'_> {
 
 impl OpenFile for FolderFile<'_> {
     fn metadata(&self) -> io::Result<Metadata> {
-        unsupported()
+        Ok(Metadata::of_file(0))
     }
 
     fn set_len(&self, _size: u64) -> io::Result<()> {
@@ -153,10 +224,18 @@ impl OpenFile for FolderFile<'_> {
     }
 
     fn sync_all(&self) -> io::Result<()> {
-        unsupported()
+        let kept = if self.is_folder { "folder" } else { "file" };
+        self.folder.call("keep ", kept, b"")
     }
 
     fn sync_data(&self) -> io::Result<()> {
         unsupported()
+    }
+
+    fn set_permissions(&self, perm: Permissions) -> io::Result<()> {
+        if perm.mode() != 0o644 {
+            return unsupported();
+        }
+        self.folder.call("mode", "", b"")
     }
 }

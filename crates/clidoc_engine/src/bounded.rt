@@ -1,0 +1,55 @@
+//! Readers that give no more than so many bytes.
+
+ghost use Rattle.std.specs.Prelude.{◌≡◌, IfOk};
+
+use std::io;
+use std::io::{ErrorKind, Read};
+
+/// A reader that fails where it would give more bytes than these.
+#[derive(Drop)]
+pub struct Bounded<R> {
+    inner: R,
+    left: usize,
+    is_over: bool,
+}
+
+impl<R> Bounded<R> {
+    /// The reader, which gives so many bytes at most.
+    pub fn new(inner: R, most: usize) -> Bounded<R> {
+        Bounded {
+            inner,
+            left: most,
+            is_over: false,
+        }
+    }
+
+    /// Whether there were more bytes than it may give.
+    pub fn is_over(&self) -> bool {
+        self.is_over
+    }
+}
+
+impl<R: Read> Bounded<R> {
+    // A byte more would be one too many.
+    fn look_further(&mut self) -> io::Result<usize>
+        ensures { IfOk result (λ taken. taken ≡ 0) }
+    {
+        if self.inner.read(&mut [0])? == 0 {
+            return Ok(0);
+        }
+        self.is_over = true;
+        Err(ErrorKind::FileTooLarge.into())
+    }
+}
+
+impl<R: Read> Read for Bounded<R> {
+    fn read(&mut self, buf: &mut [u8]) -> io::Result<usize> {
+        let room = self.left.min(buf.len());
+        if room == 0 {
+            return self.look_further();
+        }
+        let taken = self.inner.read(&mut buf[..room])?;
+        self.left -= taken;
+        Ok(taken)
+    }
+}
