@@ -1,0 +1,11 @@
+pub mod Ends
+pub mod Escapes
+pub mod Lists
+pub mod Parts
+pub mod Rows
+pub mod Glyphs
+pub mod Inputs
+pub mod Pieces
+pub mod Words
+pub mod Blocks
+pub mod Pages

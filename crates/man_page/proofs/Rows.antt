@@ -1,0 +1,102 @@
+-- Pages, each with what is written for it and what that is read as, and texts that the reader refuses.
+use Rattle.std.specs.Prelude.{◌≡◌, ℕ, List, [], ◌∷◌, ◌++◌, Option, Some, None, codes}
+use Rattle.std.proofs.Common.{refl}
+use Rattle.page_model.specs.Content.{words, literal, value, link, page, paragraph, code, bullets, heading, usage, block, entries, PartSaid}
+use Rattle.page_model.specs.declared.parts.Rank.TheVariants.{Section, Subsection}
+use Rattle.man_page.specs.Sheet.{Plain, Tagged, Roman, Bold, Italic, Said, Paragraph, Example, Sheet}
+use Rattle.man_page.specs.Kept.{TitleSaid, page_kept, in_font}
+use Rattle.man_page.specs.Exact.{page_text}
+use Rattle.man_page.specs.Reader.{read}
+
+abbrev title : TitleSaid
+title = record { name = codes "a-b"; section = codes "1"; date = []; vendor = codes "v  %1"; title = codes "T'" }
+
+abbrev front : List ℕ
+front = codes ".TH a-b 1 \"\" \"v  \\N'37'1\" T\\(aq\n"
+
+-- what is written is this behind the title line, and reads back
+abbrev IsWrittenAs : List PartSaid → List ℕ → Type 0
+IsWrittenAs parts bytes = (page_text title parts ≡ front ++ bytes) × (read (front ++ bytes) ≡ Some (page_kept title parts))
+
+pub writes :
+    -- nothing but a title line
+    IsWrittenAs [] []
+    -- headings: with two blanks, with signs, an empty one, and one as usual
+    × IsWrittenAs (heading Section (codes "A  B") ∷ heading Subsection (codes "'.\"\\") ∷ heading Section [] ∷ heading Section (codes "A b") ∷ [])
+    (codes ".SH A\\~\\~B\n.SS \\(aq.\\(dq\\e\n.SH \\&\n.SH A b\n")
+    -- a paragraph with a line break, one with an empty line, and one with none, which is nothing
+    × IsWrittenAs (heading Section (codes "A") ∷ block (paragraph ((words (codes ".a ") ∷ literal (codes "-b") ∷ []) ∷ (value (codes " c ") ∷ page (codes "p-q") ∷ []) ∷ [])) ∷ block (paragraph ([] ∷ [])) ∷ block (paragraph []) ∷ [])
+    (codes ".SH A\n\\&.a \\fB\\%\\-b\\fP\n.br\n\\fI c \\fP\\fB\\%p\\-q\\fP(1)\n.PP\n\\&\n.PP\n")
+    -- an entry with two terms, and code, items and a paragraph in its body; and one without anything
+    × IsWrittenAs (entries (record { terms = (literal (codes "-a") ∷ []) ∷ (literal (codes "--all") ∷ words (codes "=") ∷ value (codes "X") ∷ []) ∷ []; body = paragraph ((words (codes "p") ∷ []) ∷ (words (codes "q") ∷ []) ∷ []) ∷ code (codes ".x " ∷ [] ∷ codes "  y" ∷ []) ∷ bullets (((words (codes "i") ∷ []) ∷ []) ∷ []) ∷ paragraph ((link (codes "l") ∷ []) ∷ []) ∷ [] } ∷ record { terms = []; body = [] } ∷ []) ∷ [])
+    (codes ".TP\n\\fB\\-a\\fP, \\fB\\-\\-all\\fP=\\fIX\\fP\np\n.br\nq\n.RS\n.PP\n.RS 4\n.EX\n\\&.x \\&\n\n  y\n.EE\n.RE\n.RE\n.RS\n.IP \\(bu 2\ni\n.RE\n.IP\nl\n.TP\n\\&\n")
+    -- items, of which one has two lines and one has none; and code
+    × IsWrittenAs (block (bullets (((words (codes "'i") ∷ []) ∷ (words (codes "k ") ∷ []) ∷ []) ∷ [] ∷ ((literal (codes "j") ∷ []) ∷ []) ∷ [])) ∷ block (code (codes "\t.%" ∷ [])) ∷ [])
+    (codes ".IP \\(bu 2\n\\&\\(aqi\n.br\nk \\&\n.IP \\(bu 2\n.IP \\(bu 2\n\\fB\\%j\\fP\n.PP\n.RS 4\n.EX\n\t.%\n.EE\n.RE\n")
+    -- usages, of which one has no name
+    × IsWrittenAs (usage (record { name = codes "a b"; items = (words (codes "[") ∷ literal (codes "-a") ∷ words (codes " B]") ∷ []) ∷ (words (codes ".") ∷ []) ∷ [] ∷ [] } ∷ record { name = []; items = [] } ∷ []) ∷ [])
+    (codes ".SY \"a b\"\n[\\fB\\-a\\fP\\~B]\n\\&.\\&\n\\&\n.YS\n.SY \"\"\n.YS\n")
+writes = ((refl, refl), (refl, refl), (refl, refl), (refl, refl), (refl, refl), (refl, refl))
+
+-- ---- what the reader reads
+
+abbrev behind : List ℕ → Option Sheet
+behind bytes = read (codes ".TH a 1\n" ++ bytes)
+
+abbrev says : List Said → Option Sheet
+says said = Some (record { title = in_font Roman (codes "a") ∷ in_font Roman (codes "1") ∷ []; said = said })
+
+abbrev plain : List ℕ → List Said
+plain bytes = Paragraph 0 Plain (in_font Roman bytes ∷ []) ∷ []
+
+pub reads :
+    -- lines that follow one another are one, with a blank between two
+    (behind (codes "a\nb\n") ≡ says (plain (codes "a b")))
+    -- a request is none of the text
+    × (behind (codes "a\n.PP\nb\n") ≡ says (plain (codes "a") ++ plain (codes "b")))
+    -- but what stands behind a sign that shows nothing is
+    × (behind (codes "\\&.PP\n") ≡ says (plain (codes ".PP")))
+    -- escapes
+    × (behind (codes "\\-\\e\\~\\(aq\\(ga\\(ha\\(ti\\(dq\\N'37'\\%\n") ≡ says (plain (codes "-\\ '`^~\"%")))
+    -- fonts
+    × (behind (codes "a\\fBb\\fP\\fIc\\fP\n") ≡ says (Paragraph 0 Plain ((in_font Roman (codes "a") ++ (in_font Bold (codes "b") ++ in_font Italic (codes "c"))) ∷ []) ∷ []))
+    -- a tag and its paragraph
+    × (behind (codes ".TP\nt\na\n.br\nb\n") ≡ says (Paragraph 0 (Tagged (in_font Roman (codes "t"))) (in_font Roman (codes "a") ∷ in_font Roman (codes "b") ∷ []) ∷ []))
+    -- an indent
+    × (behind (codes ".RS\na\n.RE\n") ≡ says (Paragraph 1 Plain (in_font Roman (codes "a") ∷ []) ∷ []))
+    -- lines of an example, with their blanks
+    × (behind (codes ".EX\n  a\n\n.EE\n") ≡ says (Example 0 (in_font Roman (codes "  a") ∷ [] ∷ []) ∷ []))
+reads = (refl, refl, refl, refl, refl, refl, refl, refl)
+
+pub refuses :
+    -- a page without a title line, with two, and with one whose quotes have no end
+    (read (codes "a\n") ≡ None)
+    × (behind (codes ".TH b 1\n") ≡ None)
+    × (read (codes ".TH \"a 1\n") ≡ None)
+    -- a text that does not end with a newline
+    × (behind (codes "a") ≡ None)
+    -- a line that is empty, or has a blank at an end
+    × (behind (codes "\n") ≡ None)
+    × (behind (codes " a\n") ≡ None)
+    × (behind (codes "a \n") ≡ None)
+    -- other requests and escapes
+    × (behind (codes ".XX\n") ≡ None)
+    × (behind (codes "'a\n") ≡ None)
+    × (behind (codes "\\x\n") ≡ None)
+    × (behind (codes "a\\\n") ≡ None)
+    -- signs that are shown as others
+    × (behind (codes "a-b\n") ≡ None)
+    × (behind (codes "a'\n") ≡ None)
+    -- a font that does not end in its line
+    × (behind (codes "\\fBa\n") ≡ None)
+    -- a heading in double quotes, and one in an indent
+    × (behind (codes ".SH \"a\"\n") ≡ None)
+    × (behind (codes ".RS\n.SH a\n.RE\n") ≡ None)
+    -- indents and examples that do not pair
+    × (behind (codes ".RE\n") ≡ None)
+    × (behind (codes ".RS\na\n") ≡ None)
+    × (behind (codes ".EX\na\n.PP\n.EE\n") ≡ None)
+    × (behind (codes ".EX\na\n") ≡ None)
+    -- a line break where no line is
+    × (behind (codes ".br\na\n") ≡ None)
+refuses = (refl, refl, refl, refl, refl, refl, refl, refl, refl, refl, refl, refl, refl, refl, refl, refl, refl, refl, refl, refl, refl)

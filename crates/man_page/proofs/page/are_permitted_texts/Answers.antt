@@ -1,0 +1,12 @@
+use Rattle.std.proofs.Common.{◌&&◌, ◌∙◌, ap, map, sym}
+use Rattle.std.specs.List.{list_all}
+use Rattle.std.proofs.lemmas.List.Folds.{list_all-map}
+use Rattle.page_model.specs.Permitted.{is_permitted_part}
+use Rattle.page_model.specs.View.{part_of}
+use Rattle.man_page.specs.Promises.{fault_unless}
+use Rattle.man_page.proofs.page.are_permitted_texts.Goals as goal
+
+pub returns-then-is_permitted_title : goal.returns-then-is_permitted_title
+returns-then-is_permitted_title g c =
+    ap fault_unless (ap (λ b. b && list_all is_permitted_part (map part_of c.args.parts.now)) (sym c.is_permitted_title.ensures ∙ c.if-is_permitted_title.true)
+    ∙ list_all-map is_permitted_part part_of c.args.parts.now ∙ sym c.are_permitted_parts.ensures)

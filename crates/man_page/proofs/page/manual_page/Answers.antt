@@ -1,0 +1,19 @@
+use Rattle.std.proofs.Common.{◌&&◌, ◌∙◌, ap, map, sym, subst}
+use Rattle.std.specs.List.{list_all}
+use Rattle.std.proofs.lemmas.Bool.{and_parts}
+use Rattle.page_model.specs.Permitted.{are_permitted, is_permitted_part}
+use Rattle.page_model.specs.View.{part_of}
+use Rattle.man_page.specs.Kept.{page_kept, title_words}
+use Rattle.man_page.specs.Promises.{ReadsAs, fault_unless}
+use Rattle.man_page.specs.Steps.{title_of}
+use Rattle.man_page.proofs.Pages.{reads_back}
+use Rattle.man_page.proofs.Parts.{permitted_of}
+use Rattle.man_page.proofs.page.manual_page.Goals as goal
+
+pub returns-clause-reads : goal.returns-clause-reads
+returns-clause-reads g c =
+    let title = title_of c.args.title.now in
+    let parts = map part_of c.args.parts.now in
+    let h = permitted_of (list_all are_permitted (title_words title) && list_all is_permitted_part parts) (c.are_permitted_texts.ensures ∙ ap fault_unless c.if-not-are_permitted_texts.false) in
+    let both = and_parts (list_all are_permitted (title_words title)) (list_all is_permitted_part parts) h in
+    subst (λ bytes. ReadsAs bytes (page_kept title parts)) (sym c.in_ok-write_page.ensures) (reads_back title parts (both.0, both.1))

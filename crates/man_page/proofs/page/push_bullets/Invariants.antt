@@ -1,0 +1,8 @@
+use Rattle.std.proofs.Common.{◌≡◌, ◌++◌, map, take, string_bytes}
+use Rattle.std.specs.Prelude.{flat_map}
+use Rattle.page_model.specs.View.{line_of}
+use Rattle.man_page.specs.Exact.{bullet_text}
+use Rattle.man_page.proofs.page.push_bullets.Given as goal
+
+abbrev pub invariant-loop-item : goal.invariant-loop-item
+invariant-loop-item g l = string_bytes l.writer.page ≡ string_bytes l.initial.writer.page ++ flat_map (bullet_text l.section) (map (λ item. map (λ line. line_of line.items) item.items) (take l.item-index l.items))

@@ -1,0 +1,6 @@
+pub mod Sheet
+pub mod Reader
+pub mod Kept
+pub mod Exact
+pub mod Steps
+pub mod Promises

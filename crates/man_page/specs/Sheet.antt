@@ -1,0 +1,33 @@
+-- What a manual page says, as one sees it: headings, paragraphs, examples and synopses, in order.
+use Rattle.std.specs.Prelude.{ℕ, List}
+use Rattle.page_model.specs.declared.parts.Rank.{Rank}
+
+pub data Font : Type 0 where
+  Roman : Font
+  Bold : Font
+  Italic : Font
+
+-- a byte that is shown, and how
+pub record Glyph : Type 0 where
+  pub byte : ℕ
+  pub font : Font
+
+-- what a paragraph has before it: nothing, its tag, a bullet, or nothing but the indent of a tagged one
+pub data Kind : Type 0 where
+  Plain : Kind
+  Tagged : List Glyph → Kind
+  Bulleted : Kind
+  Continued : Kind
+
+-- A paragraph and an example have how many indents they stand in; a paragraph the lines between its line breaks, and an
+-- example its lines as they stand.
+pub data Said : Type 0 where
+  Heading : Rank → List Glyph → Said
+  Paragraph : ℕ → Kind → List (List Glyph) → Said
+  Example : ℕ → List (List Glyph) → Said
+  Synopsis : List Glyph → List (List Glyph) → Said
+
+-- a page: the words of its title line, and what it says
+pub record Sheet : Type 0 where
+  pub title : List (List Glyph)
+  pub said : List Said

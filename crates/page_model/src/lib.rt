@@ -1,0 +1,7 @@
+//! What a page of a command line says, as a value that each medium shows in its own way.
+#![tactic(auto)]
+
+pub mod parts;
+pub mod permitted;
+
+pub use parts::{Block, Entry, Form, Inline, Line, Part, Rank};

@@ -1,0 +1,63 @@
+//! The parts of a page. They borrow their texts, and hold each as it is said: white space, marks and letters of all
+//! kinds.
+
+use std::alloc::{Allocator, Global};
+
+/// A piece of a line.
+#[derive(Clone, Copy, Debug)]
+pub enum Inline<'a> {
+    /// Plain words.
+    Words(&'a str),
+    /// What is typed as it stands.
+    Literal(&'a str),
+    /// A word that stands for a value.
+    Value(&'a str),
+    /// A link to this address, which is what is shown.
+    Link(&'a str),
+    /// The page of this name.
+    Page(&'a str),
+}
+
+/// The pieces of a line, which no line break parts.
+pub type Line<'a, A = Global> = Vec<Inline<'a>, A>;
+
+/// What stands by itself in a page or in the body of an entry.
+#[derive(Debug, Drop)]
+pub enum Block<'a, A: Allocator = Global> {
+    /// Lines, with a line break between two.
+    Paragraph(Vec<Line<'a, A>, A>),
+    /// Lines that are shown as they stand.
+    Code(Vec<&'a str, A>),
+    /// Items, each a paragraph.
+    List(Vec<Vec<Line<'a, A>, A>, A>),
+}
+
+/// An entry of a list: the ways to write what it is about, and what is said of it.
+#[derive(Debug, Drop)]
+pub struct Entry<'a, A: Allocator = Global> {
+    pub terms: Vec<Line<'a, A>, A>,
+    pub body: Vec<Block<'a, A>, A>,
+}
+
+/// One form of a usage: what it begins with, and items that no line breaks.
+#[derive(Debug, Drop)]
+pub struct Form<'a, A: Allocator = Global> {
+    pub name: &'a str,
+    pub items: Vec<Line<'a, A>, A>,
+}
+
+/// The rank of a heading: that of a section, or of a section in one.
+#[derive(Clone, Copy, Debug, PartialEq, Eq)]
+pub enum Rank {
+    Section,
+    Subsection,
+}
+
+/// A part of a page.
+#[derive(Debug, Drop)]
+pub enum Part<'a, A: Allocator = Global> {
+    Heading(Rank, &'a str),
+    Usage(Vec<Form<'a, A>, A>),
+    Block(Block<'a, A>),
+    Entries(Vec<Entry<'a, A>, A>),
+}
