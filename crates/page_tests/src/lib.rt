@@ -1,0 +1,16 @@
+//! Tests of `man_page`, over pages of `page_model`: whole pages, what stands for each text, which texts a page may have,
+//! and each growth refused in turn.
+#![tactic(auto)]
+
+#[cfg(test)]
+mod manual;
+#[cfg(test)]
+mod refusals;
+#[cfg(test)]
+mod said;
+#[cfg(test)]
+mod texts;
+#[cfg(test)]
+mod tide;
+#[cfg(test)]
+mod tide_save;
