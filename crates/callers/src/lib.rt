@@ -27,3 +27,6 @@ pub mod ends;
 
 // web_page
 pub mod note;
+
+// man_page
+pub mod manual;
