@@ -25,7 +25,7 @@ type Row = (Place, &'static str, &'static str);
 
 const ROWS: &[Row] = &[
     (Place::Text, ".a.", "\\&.a."),
-    (Place::Text, "'a'", "\\(aqa\\(aq"),
+    (Place::Text, "'a'", "\\&\\(aqa\\(aq"),
     (Place::Text, "\\fB", "\\efB"),
     (Place::Text, "-", "\\-"),
     (Place::Text, "\"`^~", "\\(dq\\(ga\\(ha\\(ti"),
@@ -37,6 +37,7 @@ const ROWS: &[Row] = &[
     (Place::Code, "", ""),
     (Place::Code, "  a - ", "  a \\- \\&"),
     (Place::Code, ".a", "\\&.a"),
+    (Place::Code, "'a", "\\&\\(aqa"),
     (Place::Code, "\t'\nb", "\t\\(aq b"),
     (Place::Name, "a-b", "a\\-b"),
     (Place::Name, "a b", "\"a b\""),
