@@ -6,7 +6,7 @@ ghost use Rattle.page_model.specs.View.{part_of};
 ghost use Rattle.page_model.specs.declared.parts.Rank.TheVariants as Rank;
 ghost use Rattle.man_page.specs.Kept.{page_kept};
 ghost use Rattle.man_page.specs.Promises.{ReadsAs};
-ghost use Rattle.man_page.specs.Steps.{title_of};
+ghost use Rattle.man_page.specs.View.{title_of};
 
 use man_page::{PageFault, TitleLine, manual_page};
 use page_model::{Block, Inline, Part, Rank};

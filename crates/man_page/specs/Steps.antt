@@ -1,20 +1,9 @@
--- How the code holds what a page says.
+-- What the steps of the code write.
 use Rattle.std.specs.Prelude.{ℕ, List, ◌++◌, codes, true, false, if◌then◌else◌}
 use Rattle.page_model.specs.Content.{Line, BlockSaid, paragraph, code, bullets}
 use Rattle.man_page.specs.declared.escape.Role.TheVariants.{Text, Item, Title}
 use Rattle.man_page.specs.declared.escape.Role.{Role}
 use Rattle.man_page.specs.Exact.{inner_text, input_line, is_spaced_text, lines_text, pieces_text, word_text}
-use Rattle.man_page.specs.Kept.{TitleSaid}
-use Rattle.man_page.specs.declared.page.TitleLine.{TitleLine}
-
-abbrev pub title_of : TitleLine → TitleSaid
-title_of title = record {
-  name = title.name.now;
-  section = title.section.now;
-  date = title.date.now;
-  vendor = title.vendor.now;
-  title = title.title.now;
-}
 
 -- a line behind the first of a paragraph, and a term behind the first of an entry
 abbrev pub further_line : List ℕ → Line → List ℕ

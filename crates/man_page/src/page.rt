@@ -14,7 +14,8 @@ ghost use Rattle.std.specs.List.{list_all};
 ghost use Rattle.page_model.specs.Permitted.{are_permitted};
 ghost use Rattle.man_page.specs.Kept.{page_kept, title_words};
 ghost use Rattle.man_page.specs.Promises.{FailsOnlyBy, ReadsAs, fault_unless, page_fault};
-ghost use Rattle.man_page.specs.Steps.{first_text, further_line, further_term, title_of, title_role, title_word};
+ghost use Rattle.man_page.specs.Steps.{first_text, further_line, further_term, title_role, title_word};
+ghost use Rattle.man_page.specs.View.{title_of};
 ghost use Rattle.man_page.specs.declared.escape.Role.TheVariants as Role;
 
 use crate::escape::{Role, push_escaped};

@@ -5,7 +5,7 @@ use Rattle.page_model.specs.Permitted.{are_permitted, is_permitted_part}
 use Rattle.page_model.specs.View.{part_of}
 use Rattle.man_page.specs.Kept.{page_kept, title_words}
 use Rattle.man_page.specs.Promises.{ReadsAs, fault_unless}
-use Rattle.man_page.specs.Steps.{title_of}
+use Rattle.man_page.specs.View.{title_of}
 use Rattle.man_page.proofs.Pages.{reads_back}
 use Rattle.man_page.proofs.Parts.{permitted_of}
 use Rattle.man_page.proofs.page.manual_page.Goals as goal

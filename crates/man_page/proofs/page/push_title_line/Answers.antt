@@ -1,5 +1,5 @@
 use Rattle.std.proofs.Common.{string_bytes}
-use Rattle.man_page.specs.Steps.{title_of}
+use Rattle.man_page.specs.View.{title_of}
 use Rattle.man_page.proofs.Parts.{title_written}
 use Rattle.man_page.proofs.page.push_title_line.Goals as goal
 
