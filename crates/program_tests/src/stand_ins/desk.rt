@@ -131,10 +131,10 @@ impl<'a> Files for Desk<'a> {
     type Dir = &'static [u8];
 
     fn open_file(&self, how: &OpenOptions, path: &str) -> io::Result<FolderFile<'a>> {
-        match self.folder {
-            Some(folder) => folder.open(how, path),
-            None => unsupported(),
-        }
+        let Some(folder) = self.folder else {
+            return unsupported();
+        };
+        folder.open(how, path)
     }
 
     fn open_dir(&self, path: &str) -> io::Result<&'static [u8]> {
