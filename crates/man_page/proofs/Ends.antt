@@ -2,7 +2,7 @@
 use Rattle.std.proofs.Common.{◌≡◌, ℕ, ◌-◌, ◌<◌, false, suc, List, [], ◌∷◌, length, get_or, refl, arith}
 use Rattle.std.specs.Prelude.{◌==◌}
 use Rattle.std.proofs.lemmas.Bool.{ne_eqb}
-use Rattle.man_page.specs.Exact.{last_of}
+use Rattle.man_page.specs.Reader.{last_of}
 
 behind : (b : ℕ) (bytes : List ℕ) → last_of b bytes ≡ get_or (b ∷ bytes) (length bytes) 0
 behind b [] = refl

@@ -6,9 +6,9 @@ use Rattle.std.proofs.lemmas.Bool.{and_parts, and_from}
 use Rattle.std.proofs.lemmas.List.Folds.{list_all-append}
 use Rattle.std.proofs.lemmas.List.Sums.{fold-append}
 use Rattle.man_page.specs.Sheet.{Roman, Glyph}
-use Rattle.man_page.specs.Exact.{code_front, input_line, is_quote_first, item_back, last_of, line_back, line_front}
+use Rattle.man_page.specs.Exact.{code_front, input_line, is_quote_first, item_back, line_back, line_front}
 use Rattle.man_page.specs.Reader
-use Rattle.man_page.specs.Reader.{Input, Reading, Request, Stand, done_if, ends_in_blank, glyphs, is_in_example, is_plain_input, last_or, line_of, next_line, placed, placed_if, with_input}
+use Rattle.man_page.specs.Reader.{Input, Reading, Request, Stand, done_if, ends_in_blank, glyphs, is_in_example, is_plain_input, last_of, line_of, next_line, placed, placed_if, with_input}
 use Rattle.man_page.proofs.Glyphs.{in_text, is_solid, is_text_byte, run, run_if, run_then}
 
 pub not_true : (x : Bool) → not x ≡ true → x ≡ false
@@ -127,17 +127,9 @@ no_blank_signed false back (b ∷ text) h = h refl
 
 -- ---- how a line ends
 
-last_same : (b : ℕ) (bytes : List ℕ) → last_or b bytes ≡ last_of b bytes
-last_same b [] = refl
-last_same b (c ∷ bytes) = last_same c bytes
-
 last-append : (b : ℕ) (xs ys : List ℕ) → last_of b (xs ++ ys) ≡ last_of (last_of b xs) ys
 last-append b [] ys = refl
 last-append b (c ∷ xs) ys = last-append c xs ys
-
-ends_as : (line : List ℕ) → ends_in_blank line ≡ (last_of 0 line == 32)
-ends_as [] = refl
-ends_as (b ∷ line) = ap (λ c. c == 32) (last_same b line)
 
 last_behind_sign : (front : Bool) (text : List ℕ) → (last_of 0 text == 32) ≡ false → (last_of (last_of 0 (sign_if front)) text == 32) ≡ false
 last_behind_sign true [] h = refl
@@ -150,13 +142,12 @@ last_signed front false text h = last_behind_sign front text (h refl)
 
 ends_signed : (front back : Bool) (text : List ℕ) → (back ≡ false → (last_of 0 text == 32) ≡ false) → ends_in_blank (signed front back text) ≡ false
 ends_signed front back text h =
-    ends_as (signed front back text)
-    ∙ ap (λ c. c == 32) (last-append 0 (sign_if front) (text ++ sign_if back) ∙ last-append (last_of 0 (sign_if front)) text (sign_if back))
+    ap (λ c. c == 32) (last-append 0 (sign_if front) (text ++ sign_if back) ∙ last-append (last_of 0 (sign_if front)) text (sign_if back))
     ∙ last_signed front back text h
 
 plain_of : (line : List ℕ) → no_blank line ≡ true → ends_in_blank line ≡ false → is_plain_input line ≡ true
 plain_of [] h e = h
-plain_of (b ∷ line) h e = and_from (not (b == 32)) (not (last_or b line == 32)) h (not_false (last_or b line == 32) e)
+plain_of (b ∷ line) h e = and_from (not (b == 32)) (not (last_of b line == 32)) h (not_false (last_of b line == 32) e)
 
 -- ---- what it shows
 

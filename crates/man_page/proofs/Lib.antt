@@ -1,5 +1,4 @@
 pub mod Ends
-pub mod Escapes
 pub mod Lists
 pub mod Parts
 pub mod Rows

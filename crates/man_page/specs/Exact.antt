@@ -8,6 +8,7 @@ use Rattle.page_model.specs.declared.parts.Rank.TheVariants.{Section, Subsection
 use Rattle.man_page.specs.declared.escape.Role.{Role}
 use Rattle.man_page.specs.declared.escape.Role.TheVariants.{Text, Item, Code, Title}
 use Rattle.man_page.specs.Kept.{TitleSaid}
+use Rattle.man_page.specs.Reader.{last_of}
 
 -- ---- texts
 
@@ -67,10 +68,6 @@ is_quote_first _ = false
 abbrev pub line_front : List ℕ → List ℕ
 line_front [] = codes "\\&"
 line_front (b ∷ line) = if (b == 46 || b == 32) || is_quote_first (b ∷ line) then codes "\\&" else []
-
-abbrev pub last_of : ℕ → List ℕ → ℕ
-last_of b [] = b
-last_of b (c ∷ bytes) = last_of c bytes
 
 -- blanks at the end of a line are dropped
 abbrev pub line_back : List ℕ → List ℕ

@@ -167,7 +167,7 @@ glyphs other bytes = end_of_line (fold (next_byte other) (Some start_of_line) by
 -- ---- the words of a request
 
 pub data Place : Type 0 where
-  -- between words, behind this many
+  -- between words
   Between : Place
   -- in a word of these bytes, which stands by itself or in double quotes
   Bare : List ℕ → Place
@@ -342,17 +342,16 @@ abbrev pub changing_last : Reading → (Said → Said) → Option Reading
 changing_last read change = Some (record read { said = on_last change read.said; stand = Filled })
 
 -- whether a line of text is none that roff takes for more than its glyphs: it is not empty, and no blank is at its ends
-abbrev pub last_or : ℕ → List ℕ → ℕ
-last_or b [] = b
-last_or b (c ∷ bytes) = last_or c bytes
+abbrev pub last_of : ℕ → List ℕ → ℕ
+last_of b [] = b
+last_of b (c ∷ bytes) = last_of c bytes
 
 abbrev pub ends_in_blank : List ℕ → Bool
-ends_in_blank [] = false
-ends_in_blank (b ∷ bytes) = last_or b bytes == blank
+ends_in_blank line = last_of 0 line == blank
 
 abbrev pub is_plain_input : List ℕ → Bool
 is_plain_input [] = false
-is_plain_input (b ∷ bytes) = not (b == blank) && not (last_or b bytes == blank)
+is_plain_input (b ∷ bytes) = not (b == blank) && not (last_of b bytes == blank)
 
 -- a line of text in a place, once its glyphs are read
 abbrev pub placed : Reading → Stand → List Glyph → Option Reading

@@ -1,9 +1,9 @@
 //! What stands for a text in a manual page.
 
-ghost use Rattle.std.specs.Prelude.{◌≡◌, ◌<◌, ◌++◌, [], ◌∷◌, MatchOption, OnOk, string_bytes};
-ghost use Rattle.man_page.specs.Exact.{blank_text, escaped, escaped_byte, hyphen_text, percent_text, tab_text};
+ghost use Rattle.std.specs.Prelude.{◌≡◌, [], ◌∷◌, MatchOption};
+ghost use Rattle.man_page.specs.Exact.{blank_text, escaped_byte, hyphen_text, percent_text, tab_text};
 
-use std::alloc::{AllocError, Allocator};
+use page_model::replaced::StandIns;
 
 /// Where a text stands: in lines that are filled, in an item of a usage, in lines of code, or in the title line.
 #[derive(Clone, Copy)]
@@ -60,43 +60,23 @@ fn stand_in_of_percent(role: Role) -> Option<&'static str>
     }
 }
 
-// What stands for a byte that does not stand for itself. Such a byte is a character.
-fn stand_in(byte: u8, role: Role) -> Option<&'static str>
-    ensures { MatchOption result (escaped_byte role byte ≡ byte ∷ [])
-        (λ text. (byte < 128) × (escaped_byte role byte ≡ text.now)) }
-{
-    match byte {
-        b' ' => stand_in_of_blank(role),
-        b'\n' => Some(stand_in_of_newline(role)),
-        b'\t' => stand_in_of_tab(role),
-        b'-' => stand_in_of_hyphen(role),
-        b'%' => stand_in_of_percent(role),
-        b'\\' => Some("\\e"),
-        b'\'' => Some("\\(aq"),
-        b'`' => Some("\\(ga"),
-        b'^' => Some("\\(ha"),
-        b'~' => Some("\\(ti"),
-        b'"' => Some("\\(dq"),
-        _ => None,
-    }
-}
+impl StandIns for Role {
+    ghost replaced = { escaped_byte };
 
-/// Writes what stands for a text. What lies between two bytes that do not stand for themselves goes in at once.
-pub fn push_escaped<A: Allocator>(
-    out: &mut String<A>,
-    text: &str,
-    role: Role,
-) -> Result<(), AllocError>
-    ensures { OnOk result (string_bytes out.new ≡ string_bytes out.old ++ escaped role text.now) }
-{
-    let bytes = text.as_bytes();
-    let mut start = 0;
-    for at in 0..bytes.len() {
-        if let Some(name) = stand_in(bytes[at], role) {
-            out.push_str(&text[start..at])?;
-            out.push_str(name)?;
-            start = at + 1;
+    fn stand_in(self, byte: u8) -> Option<&'static str> {
+        match byte {
+            b' ' => stand_in_of_blank(self),
+            b'\n' => Some(stand_in_of_newline(self)),
+            b'\t' => stand_in_of_tab(self),
+            b'-' => stand_in_of_hyphen(self),
+            b'%' => stand_in_of_percent(self),
+            b'\\' => Some("\\e"),
+            b'\'' => Some("\\(aq"),
+            b'`' => Some("\\(ga"),
+            b'^' => Some("\\(ha"),
+            b'~' => Some("\\(ti"),
+            b'"' => Some("\\(dq"),
+            _ => None,
         }
     }
-    out.push_str(&text[start..])
 }

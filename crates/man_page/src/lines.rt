@@ -4,12 +4,13 @@ ghost use Rattle.std.specs.Prelude.{◌≡◌, ◌<◌, ◌++◌, ◌==◌, [], 
 ghost use Rattle.std.specs.List.{list_any};
 ghost use Rattle.page_model.specs.Content.{page};
 ghost use Rattle.page_model.specs.View.{line_of, piece_of};
-ghost use Rattle.man_page.specs.Exact.{escaped, code_front, code_line, input_line, is_letter, item_back, last_of};
-ghost use Rattle.man_page.specs.Exact.{line_back};
-ghost use Rattle.man_page.specs.Exact.{is_quote_first, line_front, piece_text, pieces_text, unhyphenated};
+ghost use Rattle.man_page.specs.Exact.{code_front, code_line, escaped, input_line, is_letter, is_quote_first};
+ghost use Rattle.man_page.specs.Exact.{item_back, line_back, line_front, piece_text, pieces_text, unhyphenated};
+ghost use Rattle.man_page.specs.Reader.{last_of};
 
-use crate::escape::{Role, push_escaped};
+use crate::escape::Role;
 use page_model::Inline;
+use page_model::replaced::push_replaced;
 use std::alloc::{AllocError, Allocator};
 
 /// How the pieces of a line are written: where they stand, whether a literal with a letter in it is kept from being
@@ -55,7 +56,7 @@ fn push_styled<A: Allocator>(
 {
     line.push_str(font)?;
     line.push_str(guard)?;
-    push_escaped(line, text, role)?;
+    push_replaced(line, text, role)?;
     line.push_str("\\fP")
 }
 
@@ -70,9 +71,9 @@ fn push_page<A: Allocator>(
 {
     line.push_str("\\fB")?;
     line.push_str(unhyphenated(name, manner.is_guarded))?;
-    push_escaped(line, name, manner.role)?;
+    push_replaced(line, name, manner.role)?;
     line.push_str("\\fP(")?;
-    push_escaped(line, manner.section, manner.role)?;
+    push_replaced(line, manner.section, manner.role)?;
     line.push_str(")")
 }
 
@@ -86,7 +87,7 @@ fn push_piece<A: Allocator>(
         ++ piece_text manner.entry.role manner.entry.is_guarded manner.entry.section.now (piece_of piece.entry)) }
 {
     match piece {
-        Inline::Words(text) | Inline::Link(text) => push_escaped(line, text, manner.role),
+        Inline::Words(text) | Inline::Link(text) => push_replaced(line, text, manner.role),
         Inline::Literal(text) => {
             let guard = unhyphenated(text, manner.is_guarded);
             push_styled(line, "\\fB", guard, text, manner.role)

@@ -18,10 +18,11 @@ ghost use Rattle.man_page.specs.Steps.{first_text, further_line, further_term, t
 ghost use Rattle.man_page.specs.View.{title_of};
 ghost use Rattle.man_page.specs.declared.escape.Role.TheVariants as Role;
 
-use crate::escape::{Role, push_escaped};
+use crate::escape::Role;
 use crate::fault::PageFault;
 use crate::lines::{Manner, push_code, push_input, push_item, push_pieces};
 use page_model::permitted::{are_permitted, are_permitted_parts};
+use page_model::replaced::push_replaced;
 use page_model::{Block, Entry, Form, Inline, Line, Part, Rank};
 use std::alloc::{AllocError, Allocator};
 
@@ -100,7 +101,7 @@ fn push_code_line<A: Allocator>(writer: &mut Writer<A>, line: &str) -> Result<()
     ensures { OnOk result (string_bytes writer.new.page ≡ string_bytes writer.old.page ++ code_line line.now) }
 {
     writer.line.clear();
-    push_escaped(&mut writer.line, line, Role::Code)?;
+    push_replaced(&mut writer.line, line, Role::Code)?;
     push_code(&mut writer.page, writer.line.as_str())
 }
 
@@ -387,10 +388,10 @@ fn push_word<A: Allocator>(page: &mut String<A>, word: &str, role: Role) -> Resu
     ensures { OnOk result (string_bytes page.new ≡ string_bytes page.old ++ word_text role word.now) }
 {
     if !wants_quotes(word) {
-        return push_escaped(page, word, role);
+        return push_replaced(page, word, role);
     }
     page.push_str("\"")?;
-    push_escaped(page, word, role)?;
+    push_replaced(page, word, role)?;
     page.push_str("\"")
 }
 
@@ -466,7 +467,7 @@ fn push_title<A: Allocator>(page: &mut String<A>, title: &str) -> Result<(), All
     if title.is_empty() {
         return page.push_str("\\&");
     }
-    push_escaped(page, title, role_of_title(title))
+    push_replaced(page, title, role_of_title(title))
 }
 
 fn push_heading<A: Allocator>(

@@ -1,5 +1,5 @@
 -- What a page says, wherever its texts lie in memory.
-use Rattle.std.specs.Prelude.{ℕ, List}
+use Rattle.std.specs.Prelude.{ℕ, List, Option}
 use Rattle.page_model.specs.declared.parts.Rank.{Rank}
 
 -- a piece of a line, by the bytes of its text
@@ -18,7 +18,9 @@ pub data BlockSaid : Type 0 where
   code : List (List ℕ) → BlockSaid
   bullets : List (List Line) → BlockSaid
 
+-- with the name of the page that it leads to
 pub record EntrySaid : Type 0 where
+  pub page : Option (List ℕ)
   pub terms : List Line
   pub body : List BlockSaid
 

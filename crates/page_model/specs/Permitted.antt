@@ -1,5 +1,5 @@
 -- Which texts a page may have: those that every reader of a medium gives back.
-use Rattle.std.specs.Prelude.{ℕ, ◌%◌, Bool, not, ◌&&◌, ◌||◌, ◌==◌, nat_lt, nat_le, List}
+use Rattle.std.specs.Prelude.{ℕ, ◌%◌, Bool, true, not, ◌&&◌, ◌||◌, ◌==◌, nat_lt, nat_le, List, Option, Some, None}
 use Rattle.std.specs.List.{list_all}
 use Rattle.std.specs.Str.{chars}
 use Rattle.page_model.specs.Content.{Piece, words, literal, value, link, page, Line, BlockSaid, paragraph, code, bullets, EntrySaid, FormSaid, PartSaid, heading, usage, block, entries}
@@ -37,8 +37,15 @@ is_permitted_block (paragraph lines) = list_all is_permitted_line lines
 is_permitted_block (code lines) = list_all are_permitted lines
 is_permitted_block (bullets items) = list_all (list_all is_permitted_line) items
 
+abbrev pub is_permitted_page : Option (List ℕ) → Bool
+is_permitted_page None = true
+is_permitted_page (Some name) = are_permitted name
+
+abbrev pub has_permitted_content : EntrySaid → Bool
+has_permitted_content entry = list_all is_permitted_line entry.terms && list_all is_permitted_block entry.body
+
 abbrev pub is_permitted_entry : EntrySaid → Bool
-is_permitted_entry entry = list_all is_permitted_line entry.terms && list_all is_permitted_block entry.body
+is_permitted_entry entry = is_permitted_page entry.page && has_permitted_content entry
 
 abbrev pub is_permitted_form : FormSaid → Bool
 is_permitted_form form = are_permitted form.name && list_all is_permitted_line form.items

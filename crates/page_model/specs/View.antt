@@ -1,5 +1,5 @@
 -- What the parts of a page say.
-use Rattle.std.specs.Prelude.{List, map}
+use Rattle.std.specs.Prelude.{List, map, option_map}
 use Rattle.page_model.specs.Content.{Piece, words, literal, value, link, page, Line, BlockSaid, paragraph, code, bullets, EntrySaid, FormSaid, PartSaid, heading, usage, block, entries}
 use Rattle.page_model.specs.declared.parts.Inline.{Inline}
 use Rattle.page_model.specs.declared.parts.Inline.TheVariants as inline
@@ -27,6 +27,7 @@ block_of (shown.List items) = bullets (map (λ item. map (λ line. line_of line.
 
 abbrev pub entry_of : {A : Type 0} → Entry A → EntrySaid
 entry_of entry = record {
+  page = option_map (λ name. name.now) entry.page;
   terms = map (λ term. line_of term.items) entry.terms.items;
   body = map block_of entry.body.items;
 }

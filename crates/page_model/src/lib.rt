@@ -3,5 +3,6 @@
 
 pub mod parts;
 pub mod permitted;
+pub mod replaced;
 
 pub use parts::{Block, Entry, Form, Inline, Line, Part, Rank};

@@ -35,6 +35,8 @@ pub enum Block<'a, A: Allocator = Global> {
 /// An entry of a list: the ways to write what it is about, and what is said of it.
 #[derive(Debug, Drop)]
 pub struct Entry<'a, A: Allocator = Global> {
+    /// The name of the page of what it is about, where there is such a page.
+    pub page: Option<&'a str>,
     pub terms: Vec<Line<'a, A>, A>,
     pub body: Vec<Block<'a, A>, A>,
 }

@@ -1,13 +1,14 @@
 //! Which texts a page may have: those that every reader of a medium gives back.
 #![tactic(auto, using(crate::proofs::Lists::line_seen, crate::proofs::Lists::all_seen))]
 
-ghost use Rattle.std.specs.Prelude.{◌≡◌, map};
+ghost use Rattle.std.specs.Prelude.{◌≡◌, map, option_map};
 ghost use Rattle.std.specs.List.{list_all};
 ghost use Rattle.std.specs.Str.{chars};
 ghost use Rattle.page_model.specs.View.{block_of, entry_of, form_of, line_of, part_of, piece_of};
-ghost use Rattle.page_model.specs.Permitted.{are_permitted, is_permitted, is_permitted_block, is_permitted_byte};
-ghost use Rattle.page_model.specs.Permitted.{is_permitted_entry, is_permitted_form, is_permitted_line};
-ghost use Rattle.page_model.specs.Permitted.{is_permitted_part, is_permitted_piece};
+ghost use Rattle.page_model.specs.Permitted.{are_permitted, has_permitted_content, is_permitted, is_permitted_block};
+ghost use Rattle.page_model.specs.Permitted.{is_permitted_byte};
+ghost use Rattle.page_model.specs.Permitted.{is_permitted_entry, is_permitted_form};
+ghost use Rattle.page_model.specs.Permitted.{is_permitted_page, is_permitted_part, is_permitted_piece};
 
 use crate::parts::{Block, Entry, Form, Inline, Line, Part};
 use std::alloc::Allocator;
@@ -58,8 +59,7 @@ fn is_permitted_piece(piece: &Inline<'_>) -> bool
     }
 }
 
-/// Whether each text of a line is permitted.
-pub fn is_permitted_line(line: &[Inline<'_>]) -> bool
+fn is_permitted_line(line: &[Inline<'_>]) -> bool
     ensures { result ≡ list_all (λ piece. is_permitted_piece (piece_of piece)) line.now }
 {
     line.iter().all(|piece| is_permitted_piece(piece))
@@ -102,10 +102,23 @@ fn are_permitted_blocks<A: Allocator>(blocks: &[Block<'_, A>]) -> bool
     blocks.iter().all(|block| is_permitted_block(block))
 }
 
+fn is_permitted_page(page: Option<&str>) -> bool
+    ensures { result ≡ is_permitted_page (option_map (λ name. name.now) page.entry) }
+{
+    page.is_none_or(|name| are_permitted(name))
+}
+
+// Whether the terms and the body are permitted.
+fn has_permitted_content<A: Allocator>(entry: &Entry<'_, A>) -> bool
+    ensures { result ≡ has_permitted_content (entry_of entry.now) }
+{
+    are_permitted_lines(entry.terms.as_slice()) && are_permitted_blocks(entry.body.as_slice())
+}
+
 fn is_permitted_entry<A: Allocator>(entry: &Entry<'_, A>) -> bool
     ensures { result ≡ is_permitted_entry (entry_of entry.now) }
 {
-    are_permitted_lines(entry.terms.as_slice()) && are_permitted_blocks(entry.body.as_slice())
+    is_permitted_page(entry.page) && has_permitted_content(entry)
 }
 
 fn is_permitted_form<A: Allocator>(form: &Form<'_, A>) -> bool

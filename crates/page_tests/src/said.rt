@@ -78,6 +78,7 @@ fn entries(alloc: Global, said: &[Item]) -> Result<Vec<Entry<'static>>, AllocErr
     let mut entries = Vec::new(alloc);
     for item in said {
         entries.push(Entry {
+            page: None,
             terms: lines(alloc, item.0)?,
             body: blocks(alloc, item.1)?,
         })?;

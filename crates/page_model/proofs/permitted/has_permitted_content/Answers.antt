@@ -3,7 +3,7 @@ use Rattle.std.specs.List.{list_all}
 use Rattle.page_model.proofs.Lists.{all_seen, lines_seen}
 use Rattle.page_model.specs.View.{piece_of, line_of, block_of}
 use Rattle.page_model.specs.Permitted.{is_permitted_piece, is_permitted_line, is_permitted_block}
-use Rattle.page_model.proofs.permitted.is_permitted_entry.Goals as goal
+use Rattle.page_model.proofs.permitted.has_permitted_content.Goals as goal
 
 pub returns-then-are_permitted_lines : goal.returns-then-are_permitted_lines
 returns-then-are_permitted_lines g c =

@@ -1,9 +1,8 @@
 use Rattle.std.proofs.Common.{◌≡◌, ◌-◌, ◌++◌, ◌<◌, length, take, drop, get_or, string_bytes, ap, ◌∙◌, arith, refl}
 use Rattle.std.proofs.lemmas.Str.{IsCharBoundary-start, IsCharBoundary-after_ascii}
-use Rattle.man_page.specs.Exact.{escaped_byte}
-use Rattle.man_page.proofs.Escapes.{named_next, plain_next}
-use Rattle.man_page.proofs.escape.push_escaped.Goals as goal
-use Rattle.man_page.proofs.escape.push_escaped.Goals.{in-Some+in_ok-push_str+in_ok-push_str-2, in_default}
+use Rattle.page_model.proofs.Runs.{named_next, plain_next}
+use Rattle.page_model.proofs.replaced.push_replaced.Goals as goal
+use Rattle.page_model.proofs.replaced.push_replaced.Goals.{in-Some+in_ok-push_str+in_ok-push_str-2, in_default}
 
 pub loop-at-init : goal.loop-at-init
 loop-at-init g c = record {
@@ -26,12 +25,12 @@ loop-at-preserved g c =
           rw (w.out-is, w.start-is) (record {
             in_order = omega arith;
             boundary = IsCharBoundary-after_ascii text at c.utf8.text within small;
-            written = named_next (escaped_byte c.args.role) text (string_bytes c.loop-at.out) (string_bytes c.args.out.now) (string_bytes w.push_str.new.self) (string_bytes w.push_str-in-Some.new.self) w.in-Some.name.now c.loop-at.start at within (rw byte at w.in-Some.ensures.1) run (w.in_ok-push_str-2.ensures.bytes) c.loop-at.invariant.written;
+            written = named_next (g.S.StandIns.replaced c.args.stand_ins) text (string_bytes c.loop-at.out) (string_bytes c.args.out.now) (string_bytes w.push_str.new.self) (string_bytes w.push_str-in-Some.new.self) w.in-Some.name.now c.loop-at.start at within (rw byte at w.in-Some.ensures.1) run (w.in_ok-push_str-2.ensures.bytes) c.loop-at.invariant.written;
           })
       | in_default w ↦
           rw (w.out-is, w.start-is) (record {
             in_order = omega arith;
             boundary = c.loop-at.invariant.boundary;
-            written = plain_next (escaped_byte c.args.role) text (string_bytes c.loop-at.out) (string_bytes c.args.out.now) c.loop-at.start at c.loop-at.invariant.in_order within (rw byte at w.in_default.ensures) c.loop-at.invariant.written;
+            written = plain_next (g.S.StandIns.replaced c.args.stand_ins) text (string_bytes c.loop-at.out) (string_bytes c.args.out.now) c.loop-at.start at c.loop-at.invariant.in_order within (rw byte at w.in_default.ensures) c.loop-at.invariant.written;
           })
     ]
