@@ -6,6 +6,7 @@ import unicodedata
 
 import describing
 import hostile_texts
+import levels
 import syntaxes
 
 from pages import texts, words
@@ -56,20 +57,9 @@ def title(text):
     return text if words.title(text).strip() else "Title"
 
 
-def tables(data):
-    """Each table of a description."""
-    if isinstance(data, dict):
-        yield data
-        for each in data.values():
-            yield from tables(each)
-    elif isinstance(data, list):
-        for each in data:
-            yield from tables(each)
-
-
 def tidied(top):
     """Titles and topics as they may be."""
-    for table in tables(top):
+    for table in levels.tables(top):
         if "title" in table and table is not top:
             table["title"] = title(table["title"])
         if "text" in table and not texts.blocks(table["text"]):
@@ -80,14 +70,14 @@ def with_hostile(top, chances):
     """Puts hostile texts at some places. A name is taken once."""
     places = [
         (table, key)
-        for table in tables(top)
+        for table in levels.tables(top)
         for key, each in table.items()
         if isinstance(each, str) and key in TEXTS | LINES | TITLES | NAMES
     ]
-    taken = {name for table in tables(top) for key in ["name", "short", "long"] for name in [table.get(key)]}
+    taken = {name for table in levels.tables(top) for key in ["name", "short", "long"] for name in [table.get(key)]}
     taken |= {
         name
-        for table in tables(top)
+        for table in levels.tables(top)
         for name in [*table.get("aliases", []), *(syntaxes.names(table["syntax"]) if "syntax" in table else [])]
     }
     for table, key in chances.sample(places, min(len(places), 8)):

@@ -443,17 +443,6 @@ def judged(program, top, text, counts):
             yield from list_faults(found, console(program, "full", path, bare))
 
 
-def tables(data):
-    """Each table of a description."""
-    if isinstance(data, dict):
-        yield data
-        for each in data.values():
-            yield from tables(each)
-    elif isinstance(data, list):
-        for each in data:
-            yield from tables(each)
-
-
 def twin(table, chances):
     """An entry that says what another says, or nearly."""
     other = {key: each for key, each in table.items() if key not in ["required", "hidden"]}
@@ -473,7 +462,7 @@ def twin(table, chances):
 
 def with_twins(top, chances):
     """Adds entries like others, of which a page shows some once."""
-    for table in list(tables(top)):
+    for table in list(levels.tables(top)):
         if table.get("positional") and chances.random() < 0.2:
             table["positional"].append(twin(chances.choice(table["positional"]), chances))
         if table.get("option") and chances.random() < 0.2:
@@ -485,8 +474,8 @@ def with_twins(top, chances):
 
 def with_hostile(program, top, chances):
     """Puts hostile texts at some places, where the description is still one, and says at how many."""
-    places = [(table, key) for table in tables(top) for key, each in table.items() if isinstance(each, str)]
-    places += [(table[key], 0) for table in tables(top) for key in ["values", "aliases"] if key in table]
+    places = [(table, key) for table in levels.tables(top) for key, each in table.items() if isinstance(each, str)]
+    places += [(table[key], 0) for table in levels.tables(top) for key in ["values", "aliases"] if key in table]
     put = 0
     for table, key in chances.sample(places, min(len(places), 6)):
         kept, hostile = table[key], chances.choice(hostile_texts.TEXTS)

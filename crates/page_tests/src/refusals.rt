@@ -1,11 +1,14 @@
 //! Each growth refused in turn: a page is written into an arena with room for nothing, then for a little more each
 //! time, until it is whole.
+ghost use Rattle.std.specs.Prelude.{[], ◌∷◌, ◌==◌, codes, if◌then◌else◌};
+
 use crate::manual::title;
 use crate::said::parts;
 use crate::tide_save::{SAID, WRITTEN};
 use bumpalo::Bump;
 use man_page::{PageFault, manual_page};
 use page_model::Part;
+use page_model::replaced::{StandIns, push_replaced};
 use std::alloc::{AllocError, Global};
 use std::process::Abort;
 
@@ -27,8 +30,8 @@ fn taken<'a>(rt: &impl Abort, arena: &'a Bump, room: usize) -> Vec<u8, &'a Bump>
     Vec::with_capacity(arena, rest).expect(rt, "the rest of an arena")
 }
 
-// Whether a page is whole in so much room. None where it is another, or has another fault.
-fn is_whole(rt: &impl Abort, out: Global, parts: &[Part<'_>], room: usize) -> Option<bool> {
+// Whether a manual page is whole in so much room. None where it is another, or has another fault.
+fn is_page_whole(rt: &impl Abort, out: Global, parts: &[Part<'_>], room: usize) -> Option<bool> {
     let arena = roomy(rt, out);
     let _rest = taken(rt, &arena, room);
     match manual_page(&arena, &title("tide-save"), parts) {
@@ -37,18 +40,58 @@ fn is_whole(rt: &impl Abort, out: Global, parts: &[Part<'_>], room: usize) -> Op
     }
 }
 
-#[test]
-fn a_refused_manual_page_is_made_with_more(rt: HostRuntime) {
-    let parts = parts(rt.alloc(), SAID).expect(&rt, "parts");
+/// Text as the value of an attribute has it.
+#[derive(Clone, Copy)]
+struct InQuotes;
+
+impl StandIns for InQuotes {
+    ghost replaced = { λ _ byte. if byte == 34 then codes "&quot;" else byte ∷ [] };
+
+    fn stand_in(self, byte: u8) -> Option<&'static str> {
+        if byte == b'"' { Some("&quot;") } else { None }
+    }
+}
+
+// Whether a text is written behind another in so much room. None where it is another text.
+fn is_replaced(rt: &impl Abort, out: Global, room: usize) -> Option<bool> {
+    let arena = roomy(rt, out);
+    let mut text = String::from_str(&arena, "so: ").expect(rt, "a text");
+    let _rest = taken(rt, &arena, room);
+    match push_replaced(&mut text, "\"\u{e9}\" or \"e\"", InQuotes) {
+        Ok(()) => (text.as_str() == "so: &quot;\u{e9}&quot; or &quot;e&quot;").then_some(true),
+        Err(AllocError) => Some(false),
+    }
+}
+
+/// What is made.
+#[derive(Clone, Copy)]
+enum Call {
+    ManualPage,
+    PushReplaced,
+}
+
+// Whether it is made in some room, and not before with less of it.
+fn is_made_with_more(rt: &impl Abort, out: Global, call: Call) -> bool {
+    let parts = parts(out, SAID).expect(rt, "parts");
     for step in 0..BYTES / STEP {
-        match is_whole(&rt, rt.alloc(), parts.as_slice(), step.saturating_mul(STEP)) {
-            Some(false) => {}
-            Some(true) => {
-                assert!(rt; step > 0);
-                return;
-            }
-            None => panic!(rt; "another page or fault at {step}"),
+        let room = step.saturating_mul(STEP);
+        let made = match call {
+            Call::ManualPage => is_page_whole(rt, out, parts.as_slice(), room),
+            Call::PushReplaced => is_replaced(rt, out, room),
+        };
+        if made != Some(false) {
+            return step > 0 && made == Some(true);
         }
     }
-    panic!(rt; "never made")
+    false
+}
+
+#[test]
+fn a_refused_manual_page_is_made_with_more(rt: HostRuntime) {
+    assert!(rt; is_made_with_more(&rt, rt.alloc(), Call::ManualPage));
+}
+
+#[test]
+fn a_refused_text_is_replaced_with_more(rt: HostRuntime) {
+    assert!(rt; is_made_with_more(&rt, rt.alloc(), Call::PushReplaced));
 }
