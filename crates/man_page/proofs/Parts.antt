@@ -2,14 +2,13 @@
 use Rattle.std.proofs.Common.{◌≡◌, ℕ, ◌+◌, ◌<◌, Bool, not, ◌&&◌, drop, get_or, map, true, false, List, [], ◌∷◌, ◌++◌, append_assoc, append-nil, add-one, arith, suc, refl, sym, ap, ◌∙◌}
 use Rattle.std.proofs.Math.Seq.{drop-cons}
 use Rattle.std.proofs.lemmas.Bool.{ne_eqb}
-use Rattle.std.specs.Prelude.{Result, Ok, Err, OnOk, is_ok, None, flat_map, codes, ◌==◌, length, if◌then◌else◌}
+use Rattle.std.specs.Prelude.{Result, Ok, Err, OnOk, is_ok, flat_map, codes, ◌==◌, length, if◌then◌else◌}
 use Rattle.std.specs.List.{list_any}
 use Rattle.page_model.specs.Content.{Line, BlockSaid, paragraph, code, bullets, PartSaid}
 use Rattle.man_page.specs.declared.escape.Role.TheVariants.{Text, Item}
 use Rattle.man_page.specs.Exact.{is_heading, part_text, parts_text, body_text, escaped, inner_text, input_line, is_blank, is_spaced_text, lines_text, pieces_text, terms_text, title_line, title_text, wants_quotes}
 use Rattle.man_page.specs.Steps.{first_text, further_line, further_term, title_role, title_word}
 use Rattle.man_page.specs.Kept.{TitleSaid}
-use Rattle.man_page.specs.Promises.{fault_unless}
 
 -- the first of what is left of a list
 drop_next : {X : Type 0} (xs : List X) (i : ℕ) (d : X) → i < length xs → drop i xs ≡ get_or xs i d ∷ drop (i + 1) xs
@@ -88,7 +87,3 @@ terms_joined section out mid new terms see first rest is m n =
     n ∙ ap (λ x. x ++ flat_map (further_term section) (map see rest)) m
     ∙ append_assoc out (pieces_text Text false section (see first)) (flat_map (further_term section) (map see rest))
     ∙ ap (λ x. out ++ x) (sym (terms_first section (see first) (map see rest)) ∙ ap (λ xs. terms_text section (map see xs)) (sym is))
-
-pub permitted_of : (permitted : Bool) → fault_unless permitted ≡ None → permitted ≡ true
-permitted_of true h = refl
-permitted_of false h = absurd cc

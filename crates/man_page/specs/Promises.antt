@@ -1,13 +1,13 @@
 -- What a written page promises: read as a manual page, it says what was said, as far as a manual page keeps it.
-use Rattle.std.specs.Prelude.{◌≡◌, ◌&&◌, ℕ, Bool, true, List, Option, Some, None, Result, Err, IfErr, alloc_error, if◌then◌else◌}
+use Rattle.std.specs.Prelude.{◌≡◌, ◌&&◌, ℕ, true, List, Option, Some}
 use Rattle.std.specs.List.{list_all}
 use Rattle.page_model.specs.Content.{PartSaid}
 use Rattle.page_model.specs.Permitted.{are_permitted, is_permitted_part}
 use Rattle.man_page.specs.Sheet.{Sheet}
 use Rattle.man_page.specs.Kept.{TitleSaid, title_words}
 use Rattle.man_page.specs.Reader.{read}
-use Rattle.man_page.specs.declared.fault.PageFault.{PageFault}
-use Rattle.man_page.specs.declared.fault.PageFault.TheVariants.{Character, Refused}
+use Rattle.page_model.specs.Faults.{fault_unless}
+use Rattle.page_model.specs.declared.fault.PageFault.{PageFault}
 
 -- each text of a page is permitted, and each word of its title line
 abbrev pub ArePermitted : TitleSaid → List PartSaid → Type 0
@@ -18,14 +18,6 @@ ArePermitted title parts =
 abbrev pub ReadsAs : List ℕ → Sheet → Type 0
 ReadsAs bytes sheet = read bytes ≡ Some sheet
 
--- why a page is not written: a text that no reader gives back
-abbrev pub fault_unless : Bool → Option PageFault
-fault_unless permitted = if permitted then None else Some Character
-
+-- a page with a text that no reader gives back has a fault
 abbrev pub page_fault : TitleSaid → List PartSaid → Option PageFault
 page_fault title parts = fault_unless (list_all are_permitted (title_words title) && list_all is_permitted_part parts)
-
--- a call fails with its fault where it has one, and else only where memory is refused
-abbrev pub FailsOnlyBy : {T : Type 0} → Option PageFault → Result T PageFault → Type 0
-FailsOnlyBy (Some fault) result = result ≡ Err fault
-FailsOnlyBy None result = IfErr result (λ error. error ≡ Refused alloc_error)

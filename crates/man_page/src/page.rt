@@ -13,17 +13,17 @@ ghost use Rattle.man_page.specs.Exact.{word_text};
 ghost use Rattle.std.specs.List.{list_all};
 ghost use Rattle.page_model.specs.Permitted.{are_permitted};
 ghost use Rattle.man_page.specs.Kept.{page_kept, title_words};
-ghost use Rattle.man_page.specs.Promises.{FailsOnlyBy, ReadsAs, fault_unless, page_fault};
+ghost use Rattle.page_model.specs.Faults.{FailsOnlyBy, fault_unless};
+ghost use Rattle.man_page.specs.Promises.{ReadsAs, page_fault};
 ghost use Rattle.man_page.specs.Steps.{first_text, further_line, further_term, title_role, title_word};
 ghost use Rattle.man_page.specs.View.{title_of};
 ghost use Rattle.man_page.specs.declared.escape.Role.TheVariants as Role;
 
 use crate::escape::Role;
-use crate::fault::PageFault;
 use crate::lines::{Manner, push_code, push_input, push_item, push_pieces};
 use page_model::permitted::{are_permitted, are_permitted_parts};
 use page_model::replaced::push_replaced;
-use page_model::{Block, Entry, Form, Inline, Line, Part, Rank};
+use page_model::{Block, Entry, Form, Inline, Line, PageFault, Part, Rank};
 use std::alloc::{AllocError, Allocator};
 
 /// The words of a manual page's title line.

@@ -4,10 +4,11 @@ use Rattle.std.proofs.lemmas.Bool.{and_parts}
 use Rattle.page_model.specs.Permitted.{are_permitted, is_permitted_part}
 use Rattle.page_model.specs.View.{part_of}
 use Rattle.man_page.specs.Kept.{page_kept, title_words}
-use Rattle.man_page.specs.Promises.{ReadsAs, fault_unless}
+use Rattle.man_page.specs.Promises.{ReadsAs}
+use Rattle.page_model.specs.Faults.{fault_unless}
 use Rattle.man_page.specs.View.{title_of}
 use Rattle.man_page.proofs.Pages.{reads_back}
-use Rattle.man_page.proofs.Parts.{permitted_of}
+use Rattle.page_model.proofs.Faults.{permitted_of}
 use Rattle.man_page.proofs.page.manual_page.Goals as goal
 
 pub returns-clause-reads : goal.returns-clause-reads

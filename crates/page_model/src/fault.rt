@@ -1,12 +1,12 @@
-//! Why a manual page cannot be written.
+//! Why a page cannot be written.
 
 ghost use Rattle.std.specs.Prelude.{◌≡◌, alloc_error};
-ghost use Rattle.man_page.specs.declared.fault.PageFault.TheVariants.{Refused};
+ghost use Rattle.page_model.specs.declared.fault.PageFault.TheVariants.{Refused};
 
 use std::alloc::AllocError;
 use thiserror::Error;
 
-/// Why a manual page cannot be written.
+/// Why a page cannot be written, in any medium.
 #[derive(Clone, Copy, Debug, PartialEq, Eq, Error)]
 pub enum PageFault {
     /// A text has a noncharacter in it, or a control character but newline and tab.
