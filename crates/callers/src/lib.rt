@@ -30,3 +30,6 @@ pub mod note;
 
 // man_page
 pub mod manual;
+
+// markdown_page
+pub mod markdown;

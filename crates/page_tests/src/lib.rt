@@ -1,9 +1,15 @@
-//! Tests of `man_page`, over pages of `page_model`: whole pages, what stands for each text, which texts a page may have,
-//! and each growth refused in turn.
+//! Tests of `man_page` and `markdown_page`, over pages of `page_model`: whole pages, what stands for each text, which
+//! texts a page may have, and each growth refused in turn.
 #![tactic(auto)]
 
 #[cfg(test)]
 mod manual;
+#[cfg(test)]
+mod markdown;
+#[cfg(test)]
+mod markdown_tide;
+#[cfg(test)]
+mod markdown_tide_save;
 #[cfg(test)]
 mod refusals;
 #[cfg(test)]

@@ -13,19 +13,20 @@ use std::alloc::{AllocError, Global};
 use std::process::Abort;
 
 /// How many bytes an arena has: more than the page takes.
-const BYTES: usize = 16384;
+pub const BYTES: usize = 16384;
 
 /// How many bytes more are left of it each time. No growth is smaller.
-const STEP: usize = 8;
+pub const STEP: usize = 8;
 
-fn roomy(rt: &impl Abort, out: Global) -> Bump {
+/// An arena that grows no more.
+pub fn roomy(rt: &impl Abort, out: Global) -> Bump {
     let arena = Bump::try_with_capacity(out, BYTES).expect(rt, "an arena");
     arena.set_allocation_limit(Some(0));
     arena
 }
 
-// Takes all that an arena has left but so many bytes.
-fn taken<'a>(rt: &impl Abort, arena: &'a Bump, room: usize) -> Vec<u8, &'a Bump> {
+/// Takes all that an arena has left but so many bytes.
+pub fn taken<'a>(rt: &impl Abort, arena: &'a Bump, room: usize) -> Vec<u8, &'a Bump> {
     let rest = arena.chunk_capacity().saturating_sub(room);
     Vec::with_capacity(arena, rest).expect(rt, "the rest of an arena")
 }

@@ -15,6 +15,9 @@ pub enum Shown {
 /// An entry: its terms and its body.
 pub struct Item(pub Lines, pub &'static [Shown]);
 
+/// An entry that leads to the page of this name.
+pub struct Leading(pub &'static str, pub Item);
+
 pub enum Said {
     Section(&'static str),
     Subsection(&'static str),
@@ -22,6 +25,7 @@ pub enum Said {
     Usage(&'static str, Lines),
     Block(Shown),
     Entries(&'static [Item]),
+    LeadingEntries(&'static [Leading]),
 }
 
 fn line(alloc: Global, pieces: &[Inline<'static>]) -> Result<Line<'static>, AllocError> {
@@ -74,14 +78,30 @@ fn blocks(alloc: Global, said: &[Shown]) -> Result<Vec<Block<'static>>, AllocErr
     Ok(blocks)
 }
 
+fn entry(
+    alloc: Global,
+    page: Option<&'static str>,
+    said: &Item,
+) -> Result<Entry<'static>, AllocError> {
+    Ok(Entry {
+        page,
+        terms: lines(alloc, said.0)?,
+        body: blocks(alloc, said.1)?,
+    })
+}
+
 fn entries(alloc: Global, said: &[Item]) -> Result<Vec<Entry<'static>>, AllocError> {
     let mut entries = Vec::new(alloc);
     for item in said {
-        entries.push(Entry {
-            page: None,
-            terms: lines(alloc, item.0)?,
-            body: blocks(alloc, item.1)?,
-        })?;
+        entries.push(entry(alloc, None, item)?)?;
+    }
+    Ok(entries)
+}
+
+fn leading_entries(alloc: Global, said: &[Leading]) -> Result<Vec<Entry<'static>>, AllocError> {
+    let mut entries = Vec::new(alloc);
+    for leading in said {
+        entries.push(entry(alloc, Some(leading.0), &leading.1)?)?;
     }
     Ok(entries)
 }
@@ -102,6 +122,7 @@ fn part(alloc: Global, said: &Said) -> Result<Part<'static>, AllocError> {
         Said::Usage(name, said) => Ok(Part::Usage(forms(alloc, name, said)?)),
         Said::Block(shown) => Ok(Part::Block(block(alloc, shown)?)),
         Said::Entries(said) => Ok(Part::Entries(entries(alloc, said)?)),
+        Said::LeadingEntries(said) => Ok(Part::Entries(leading_entries(alloc, said)?)),
     }
 }
 

@@ -1,0 +1,58 @@
+use Rattle.std.proofs.Common.{◌≡◌, ◌-◌, ◌+◌, ◌++◌, ◌<◌, ◌||◌, true, false, length, take, drop, get_or, string_bytes, ap, ◌∙◌, sym, arith, refl}
+use Rattle.std.specs.Prelude.{◌==◌}
+use Rattle.std.proofs.lemmas.Str.{IsCharBoundary-start, IsCharBoundary-after_ascii, IsCharBoundary-before_ascii}
+use Rattle.markdown_page.specs.Bytes.{is_word}
+use Rattle.markdown_page.specs.Exact.{is_escaped}
+use Rattle.markdown_page.proofs.Escapes.{bare_step, blank_step, marked_is, marked_step, none_shown, seen_escaped, space_shown, space_small}
+use Rattle.markdown_page.proofs.escape.push_escaped.Goals as goal
+use Rattle.markdown_page.proofs.escape.push_escaped.Goals.{then-is_escaped+in_ok-push_str+in_ok-push_str-2, else-is_escaped+then-is_space+in_ok-push_str-3+in_ok-push_str-4, else-is_escaped+else-is_space}
+
+pub loop-at-init : goal.loop-at-init
+loop-at-init g c = record {
+  in_order = omega arith;
+  boundary = IsCharBoundary-start c.args.text.now c.utf8.text;
+  written = refl;
+}
+
+pub loop-at-preserved : goal.loop-at-preserved
+loop-at-preserved g c =
+    let heading = c.args.in_heading in
+    let behind = c.loop-at.is_behind_word in
+    let text = c.args.text.now in
+    let first = string_bytes c.args.out.now in
+    let out = string_bytes c.loop-at.out in
+    let at = c.loop-at.at in
+    let start = c.loop-at.start in
+    let is : c.as_bytes-bytes.result.now ≡ text = c.as_bytes-bytes.ensures.value in
+    let byte : get_or c.as_bytes-bytes.result.now at 0 ≡ get_or text at 0 = ap (λ bytes. get_or bytes at 0) is in
+    let within : at < length text = omega (arith, ap length is) in
+    let word : c.is_word-is_behind_word.result ≡ is_word (get_or text at 0) = c.is_word-is_behind_word.ensures ∙ ap is_word byte in
+    let test : is_escaped heading behind (get_or text at 0) (drop (at + 1) text) ≡ c.is_escaped.result = seen_escaped heading behind c.as_bytes-bytes.result.now text at c.is_escaped.result is c.is_escaped.ensures in
+    elim c.if-is_escaped.branch [
+      | then-is_escaped+in_ok-push_str+in_ok-push_str-2 w ↦
+          let marked : is_escaped heading behind (get_or text at 0) (drop (at + 1) text) ≡ true = test ∙ w.if-is_escaped.true in
+          let mark = marked_is heading behind (get_or text at 0) (drop (at + 1) text) marked in
+          let run : string_bytes w.push_str.new.self ≡ out ++ take (at - start) (drop start text) = w.in_ok-push_str.ensures.bytes ∙ ap (λ more. out ++ more) w.range.ensures.value in
+          rw (w.out-is, w.start-is, word) (record {
+            in_order = omega arith;
+            boundary = IsCharBoundary-before_ascii text at within mark.0;
+            written = marked_step heading text first out start at behind c.loop-at.invariant.in_order within (string_bytes w.push_str.new.self) (string_bytes w.push_str-then-is_escaped.new.self) run w.in_ok-push_str-2.ensures.bytes marked mark.1 c.loop-at.invariant.written;
+          })
+      | else-is_escaped+then-is_space+in_ok-push_str-3+in_ok-push_str-4 w ↦
+          let bare : is_escaped heading behind (get_or text at 0) (drop (at + 1) text) ≡ false = test ∙ w.if-is_escaped.false in
+          let space : (get_or text at 0 == 9 || get_or text at 0 == 10) ≡ true = ap (λ b. b == 9 || b == 10) (sym byte) ∙ sym w.is_space.ensures ∙ w.if-is_space.true in
+          let run : string_bytes w.push_str-then-is_space.new.self ≡ out ++ take (at - start) (drop start text) = w.in_ok-push_str-3.ensures.bytes ∙ ap (λ more. out ++ more) w.range-then-is_space.ensures.value in
+          rw (w.out-is, w.start-is, word) (record {
+            in_order = omega arith;
+            boundary = IsCharBoundary-after_ascii text at c.utf8.text within (space_small (get_or text at 0) space);
+            written = blank_step heading text first out start at behind c.loop-at.invariant.in_order within (string_bytes w.push_str-then-is_space.new.self) (string_bytes w.push_str-then-is_space-2.new.self) run w.in_ok-push_str-4.ensures.bytes bare (space_shown (get_or text at 0) space) c.loop-at.invariant.written;
+          })
+      | else-is_escaped+else-is_space w ↦
+          let bare : is_escaped heading behind (get_or text at 0) (drop (at + 1) text) ≡ false = test ∙ w.if-is_escaped.false in
+          let none : (get_or text at 0 == 9 || get_or text at 0 == 10) ≡ false = ap (λ b. b == 9 || b == 10) (sym byte) ∙ sym w.is_space.ensures ∙ w.if-is_space.false in
+          rw (w.out-is, w.start-is, word) (record {
+            in_order = omega arith;
+            boundary = c.loop-at.invariant.boundary;
+            written = bare_step heading text first out start at behind c.loop-at.invariant.in_order within bare (none_shown (get_or text at 0) none) c.loop-at.invariant.written;
+          })
+    ]

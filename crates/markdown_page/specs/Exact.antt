@@ -1,0 +1,248 @@
+-- How a page is written, byte by byte. The promise does not rest on it: what is written reads back, whatever it is.
+use Rattle.std.specs.Prelude.{ℕ, zero, suc, max, Bool, true, false, not, ◌&&◌, ◌||◌, ◌==◌, List, [], ◌∷◌, ◌++◌, length, map, flat_map, Option, Some, None, codes, if◌then◌else◌}
+use Rattle.std.specs.List.{list_all}
+use Rattle.page_model.specs.declared.parts.Rank.{Rank}
+use Rattle.page_model.specs.declared.parts.Rank.TheVariants.{Section, Subsection}
+use Rattle.page_model.specs.Content.{words, literal, value, link, page, Line, BlockSaid, paragraph, code, bullets, EntrySaid, PartSaid, heading, usage, block, entries}
+use Rattle.markdown_page.specs.Bytes.{grave, graves, has_run, holds_definition, is_blank, is_digit, is_letter, is_word}
+use Rattle.markdown_page.specs.Kept.{code_byte, dash, form_bytes, is_link, line_bytes, page_address, shown_byte}
+use Rattle.markdown_page.specs.Reader.{last_or, longest_run}
+
+-- ---- texts
+
+-- Always escaped: these and what a program that makes pages of a site takes for its own.
+abbrev pub is_sign : ℕ → Bool
+is_sign b = b == 92 || b == 96 || b == 42 || b == 91 || b == 93 || b == 60 || b == 123
+
+abbrev pub begins_in_word : List ℕ → Bool
+begins_in_word [] = false
+begins_in_word (b ∷ text) = is_word b
+
+-- whether an ampersand before this text may begin the reference of a character
+abbrev pub may_refer : List ℕ → Bool
+may_refer [] = true
+may_refer (b ∷ text) = b == 35 || is_letter b
+
+abbrev pub is_end : List ℕ → Bool
+is_end [] = true
+is_end (b ∷ text) = false
+
+-- Whether a backslash stands before a byte, behind a letter or a digit or not, and before this text: an exclamation
+-- mark at the end of a text may stand before a link.
+abbrev pub is_escaped : Bool → Bool → ℕ → List ℕ → Bool
+is_escaped in_heading behind_word b text =
+    is_sign b
+    || (b == 35 && in_heading)
+    || (b == 95 && not (behind_word && begins_in_word text))
+    || (b == 38 && may_refer text)
+    || (b == 33 && is_end text)
+
+abbrev pub mark_if : Bool → List ℕ
+mark_if true = codes "\\"
+mark_if false = []
+
+abbrev pub escaped : Bool → Bool → List ℕ → List ℕ
+escaped in_heading behind_word [] = []
+escaped in_heading behind_word (b ∷ text) =
+    mark_if (is_escaped in_heading behind_word b text) ++ (shown_byte b ∷ escaped in_heading (is_word b) text)
+
+-- ---- code spans
+
+-- How many more backquotes than one begin a span: as few as the text does not have in a run, from so many on.
+abbrev pub spare_run : ℕ → ℕ → List ℕ → ℕ
+spare_run zero n text = n
+spare_run (suc fuel) n text = if has_run (suc n) 0 text then spare_run fuel (suc n) text else n
+
+abbrev pub is_edge : ℕ → Bool
+is_edge b = b == 32 || b == grave
+
+abbrev pub has_edge : List ℕ → Bool
+has_edge [] = false
+has_edge (b ∷ text) = is_edge b || is_edge (last_or b text)
+
+abbrev pub padding : List ℕ → List ℕ
+padding text = if has_edge text && not (list_all is_blank text) then codes " " else []
+
+abbrev pub span_text : List ℕ → List ℕ
+span_text [] = []
+span_text (b ∷ text) =
+    let ticks : List ℕ = graves (suc (spare_run (length (b ∷ text)) 0 (b ∷ text))) in
+    let pad : List ℕ = padding (b ∷ text) in
+    ticks ++ (pad ++ (b ∷ text ++ (pad ++ ticks)))
+
+-- ---- links
+
+abbrev pub auto_byte : ℕ → List ℕ
+auto_byte b = if b == 38 then codes "&amp;" else b ∷ []
+
+abbrev pub auto_text : List ℕ → List ℕ
+auto_text address = codes "<" ++ (flat_map auto_byte address ++ codes ">")
+
+-- a text that leads to the page of a name
+abbrev pub leading_text : List ℕ → List ℕ → List ℕ
+leading_text name text = codes "[" ++ (text ++ (codes "](" ++ (page_address name ++ codes ")")))
+
+-- ---- pieces
+
+-- a piece that is no literal
+abbrev pub link_text : List ℕ → List ℕ
+link_text text = if is_link text then auto_text text else escaped false false text
+
+-- Literals that touch are one span, which is written before the next text. These are the bytes of the span so far, with
+-- a piece that is no literal, its text and what is written for it; one without a text is nothing.
+abbrev pub behind_literal : List ℕ → List ℕ → List ℕ → List ℕ
+behind_literal span [] written = []
+behind_literal span (b ∷ text) written = span_text span ++ written
+
+abbrev pub span_left : List ℕ → List ℕ → List ℕ
+span_left span [] = span
+span_left span (b ∷ text) = []
+
+abbrev pub pieces_text : List ℕ → Line → List ℕ
+pieces_text span [] = span_text span
+pieces_text span (words text ∷ line) =
+    behind_literal span text (escaped false false text) ++ pieces_text (span_left span text) line
+pieces_text span (literal text ∷ line) = pieces_text (span ++ map shown_byte text) line
+pieces_text span (value text ∷ line) =
+    behind_literal span text (escaped false false text) ++ pieces_text (span_left span text) line
+pieces_text span (link text ∷ line) =
+    behind_literal span text (link_text text) ++ pieces_text (span_left span text) line
+pieces_text span (page name ∷ line) =
+    behind_literal span name (leading_text name (escaped false false name)) ++ pieces_text (span_left span name) line
+
+-- ---- lines
+
+-- a blank that a reader does not drop
+abbrev pub kept_blank : List ℕ
+kept_blank = codes "&#32;"
+
+-- a line with the blank at its end
+abbrev pub with_end : List ℕ → List ℕ
+with_end [] = []
+with_end (b ∷ []) = if b == 32 then kept_blank else b ∷ []
+with_end (b ∷ c ∷ line) = b ∷ with_end (c ∷ line)
+
+abbrev pub is_block_mark : ℕ → Bool
+is_block_mark b = b == 35 || b == 43 || b == 45 || b == 61 || b == 62 || b == 126
+
+-- what would end a number, behind a digit, or begin a block
+abbrev pub wants_mark : Bool → ℕ → Bool
+wants_mark true b = b == 46 || b == 41
+wants_mark false b = is_block_mark b
+
+-- a line that begins no block, behind a digit at its front or not
+abbrev pub guarded : Bool → List ℕ → List ℕ
+guarded behind_digit [] = []
+guarded behind_digit (b ∷ line) =
+    if is_digit b then b ∷ guarded true line else mark_if (wants_mark behind_digit b) ++ with_end (b ∷ line)
+
+abbrev pub line_text : List ℕ → List ℕ
+line_text [] = kept_blank
+line_text (b ∷ line) = if b == 32 then kept_blank ++ with_end line else guarded false (b ∷ line)
+
+-- the line of a heading
+abbrev pub framed : List ℕ → List ℕ
+framed [] = kept_blank
+framed (b ∷ line) = if b == 32 then kept_blank ++ with_end line else with_end (b ∷ line)
+
+abbrev pub title_text : List ℕ → List ℕ
+title_text title = framed (escaped true false title)
+
+-- ---- blocks, which stand in so many items
+
+abbrev pub indent : ℕ → List ℕ
+indent zero = []
+indent (suc level) = 32 ∷ 32 ∷ indent level
+
+-- a line behind a line break
+abbrev pub further_line : ℕ → List ℕ → List ℕ
+further_line level line = codes "\\\n" ++ (indent level ++ line_text line)
+
+abbrev pub lines_text : ℕ → List ℕ → List (List ℕ) → List ℕ
+lines_text level line lines = line_text line ++ (flat_map (further_line level) lines ++ codes "\n")
+
+abbrev pub written : Line → List ℕ
+written line = pieces_text [] line
+
+abbrev pub paragraph_text : ℕ → List Line → List ℕ
+paragraph_text level [] = []
+paragraph_text level (line ∷ lines) =
+    codes "\n" ++ (indent level ++ lines_text level (written line) (map written lines))
+
+abbrev pub item_text : ℕ → List Line → List ℕ
+item_text level [] = []
+item_text level (line ∷ lines) =
+    indent level ++ (codes "- " ++ lines_text (suc level) (written line) (map written lines))
+
+-- one less than the backquotes of a fence: three, or more than the code has in a row
+abbrev pub longest_of : List (List ℕ) → ℕ
+longest_of [] = 2
+longest_of (line ∷ lines) = max (longest_run 0 line) (longest_of lines)
+
+abbrev pub fence_text : ℕ → List (List ℕ) → List ℕ
+fence_text level lines = indent level ++ (graves (suc (longest_of lines)) ++ codes "\n")
+
+abbrev pub indented : ℕ → List ℕ → List ℕ
+indented level [] = []
+indented level (b ∷ line) = indent level ++ b ∷ line
+
+abbrev pub code_line : ℕ → List ℕ → List ℕ
+code_line level line = indented level (map code_byte line) ++ codes "\n"
+
+abbrev pub code_text : ℕ → List (List ℕ) → List ℕ
+code_text level lines =
+    codes "\n" ++ (fence_text level lines ++ (flat_map (code_line level) lines ++ fence_text level lines))
+
+abbrev pub block_text : ℕ → BlockSaid → List ℕ
+block_text level (paragraph lines) = paragraph_text level lines
+block_text level (code lines) = code_text level lines
+block_text level (bullets items) = codes "\n" ++ flat_map (item_text level) items
+
+-- ---- entries
+
+abbrev pub term_span : Line → List ℕ
+term_span term = span_text (map shown_byte (line_bytes term))
+
+-- a link without a text is nothing
+abbrev pub leading_span : List ℕ → List ℕ → List ℕ
+leading_span name [] = []
+leading_span name (b ∷ text) =
+    if holds_definition (b ∷ text) then span_text (map shown_byte (b ∷ text))
+    else leading_text name (span_text (map shown_byte (b ∷ text)))
+
+abbrev pub first_span : Option (List ℕ) → Line → List ℕ
+first_span None term = term_span term
+first_span (Some name) term = leading_span name (line_bytes term)
+
+abbrev pub further_span : Line → List ℕ
+further_span term = codes ", " ++ term_span term
+
+abbrev pub terms_text : Option (List ℕ) → List Line → List ℕ
+terms_text name [] = []
+terms_text name (term ∷ terms) = first_span name term ++ flat_map further_span terms
+
+abbrev pub body_text : List ℕ → List BlockSaid → List ℕ
+body_text terms [] = lines_text 1 terms []
+body_text terms (paragraph (line ∷ lines) ∷ blocks) =
+    lines_text 1 (terms ++ (dash ++ written line)) (map written lines) ++ flat_map (block_text 1) blocks
+body_text terms (paragraph [] ∷ blocks) = lines_text 1 terms [] ++ flat_map (block_text 1) blocks
+body_text terms (code lines ∷ blocks) = lines_text 1 terms [] ++ flat_map (block_text 1) (code lines ∷ blocks)
+body_text terms (bullets items ∷ blocks) = lines_text 1 terms [] ++ flat_map (block_text 1) (bullets items ∷ blocks)
+
+abbrev pub entry_text : EntrySaid → List ℕ
+entry_text entry = codes "\n- " ++ body_text (terms_text entry.page entry.terms) entry.body
+
+-- ---- the page
+
+abbrev pub rank_text : Rank → List ℕ
+rank_text Section = codes "\n## "
+rank_text Subsection = codes "\n### "
+
+abbrev pub part_text : PartSaid → List ℕ
+part_text (heading rank title) = rank_text rank ++ (title_text title ++ codes "\n")
+part_text (usage forms) = code_text 0 (map form_bytes forms)
+part_text (block shown) = block_text 0 shown
+part_text (entries list) = flat_map entry_text list
+
+abbrev pub page_text : List ℕ → List PartSaid → List ℕ
+page_text title parts = codes "# " ++ (title_text title ++ (codes "\n" ++ flat_map part_text parts))

@@ -1,0 +1,7 @@
+pub mod Bytes
+pub mod Sheet
+pub mod Reader
+pub mod Kept
+pub mod Exact
+pub mod Promises
+pub mod Steps

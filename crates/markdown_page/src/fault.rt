@@ -1,0 +1,26 @@
+//! Why a page of markdown cannot be written.
+
+ghost use Rattle.std.specs.Prelude.{◌≡◌, alloc_error};
+ghost use Rattle.markdown_page.specs.declared.fault.PageFault.TheVariants.{Refused};
+
+use std::alloc::AllocError;
+use thiserror::Error;
+
+/// Why a page of markdown cannot be written.
+#[derive(Clone, Copy, Debug, PartialEq, Eq, Error)]
+pub enum PageFault {
+    /// A text has a noncharacter in it, or a control character but newline and tab.
+    #[error("a control character or a noncharacter in a text")]
+    Character,
+    /// An allocation failed.
+    #[error("no memory")]
+    Refused(AllocError),
+}
+
+impl From<AllocError> for PageFault {
+    ghost from_gives = { λ _ e. e ≡ Refused alloc_error };
+
+    fn from(refused: AllocError) -> PageFault {
+        PageFault::Refused(refused)
+    }
+}

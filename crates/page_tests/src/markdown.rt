@@ -1,0 +1,154 @@
+//! Pages in markdown: two whole ones, what stands for texts, which texts are refused, and each growth refused in turn.
+use crate::refusals::{BYTES, STEP, roomy, taken};
+use crate::said::{Said, parts};
+use crate::{markdown_tide, markdown_tide_save};
+use markdown_page::{PageFault, markdown_page};
+use page_model::{Block, Entry, Inline, Line, Part, Rank};
+use std::alloc::{AllocError, Global};
+use std::process::Abort;
+
+fn is_written(rt: &impl Abort, out: Global, title: &str, said: &[Said], want: &str) -> bool {
+    let parts = parts(out, said).expect(rt, "parts");
+    let page = markdown_page(out, title, parts.as_slice()).expect(rt, "a page");
+    let is_that = page.as_str() == want;
+    drop(page);
+    drop(parts);
+    is_that
+}
+
+#[test]
+fn pages_in_markdown_are_written_so(rt: HostRuntime) {
+    assert!(rt;
+        is_written(
+            &rt,
+            rt.alloc(),
+            "tide",
+            markdown_tide::SAID,
+            markdown_tide::WRITTEN
+        )
+    );
+    assert!(rt;
+        is_written(
+            &rt,
+            rt.alloc(),
+            "tide save",
+            markdown_tide_save::SAID,
+            markdown_tide_save::WRITTEN
+        )
+    );
+}
+
+// Pieces, each with what a paragraph of it alone is written as.
+const ROWS: &[(Inline<'static>, &str)] = &[
+    (Inline::Words("# a"), "\\# a"),
+    (Inline::Words("-"), "\\-"),
+    (Inline::Words("1. a"), "1\\. a"),
+    (Inline::Words("1.5"), "1\\.5"),
+    (Inline::Words("12"), "12"),
+    (Inline::Words("a_b _c"), "a_b \\_c"),
+    (Inline::Words("*`[]<{\\"), "\\*\\`\\[\\]\\<\\{\\\\"),
+    (Inline::Words("a & b &c &"), "a & b \\&c \\&"),
+    (Inline::Words("a! b!"), "a! b\\!"),
+    (Inline::Words(" a\tb\n"), "&#32;a b&#32;"),
+    (Inline::Words("\u{a0}é\u{fffd}"), "\u{a0}é\u{fffd}"),
+    (Inline::Words(""), "&#32;"),
+    (Inline::Value("*"), "\\*"),
+    (Inline::Literal("*"), "`*`"),
+    (Inline::Literal("`"), "`` ` ``"),
+    (Inline::Literal("``"), "` `` `"),
+    (Inline::Literal("a`b"), "``a`b``"),
+    (Inline::Literal(" a"), "`  a `"),
+    (Inline::Literal(" \n"), "`  `"),
+    (Inline::Literal(""), "&#32;"),
+    (Inline::Link("https://a.b/?c&d"), "<https://a.b/?c&amp;d>"),
+    (Inline::Link("http://a b"), "http://a b"),
+    (Inline::Page("a b_é"), "[a b\\_é](a%20b_%C3%A9.md)"),
+];
+
+fn one_line(alloc: Global, piece: Inline<'static>) -> Result<Vec<Line<'static>>, AllocError> {
+    let line = vec![in alloc; piece]?;
+    let mut lines = Vec::new(alloc);
+    lines.push(line)?;
+    Ok(lines)
+}
+
+fn one_paragraph(alloc: Global, piece: Inline<'static>) -> Result<String, PageFault> {
+    let lines = one_line(alloc, piece)?;
+    let parts = [Part::Block(Block::Paragraph(lines))];
+    markdown_page(alloc, "t", &parts)
+}
+
+#[test]
+fn pieces_are_written_so(rt: HostRuntime) {
+    for (piece, written) in ROWS {
+        let page = one_paragraph(rt.alloc(), *piece).expect(&rt, "a page");
+        let text = page.as_str();
+        let want = format!(in rt.alloc(); "# t\n\n{written}\n").expect(&rt, "a text");
+        assert!(rt; text == want.as_str(), "{text}");
+    }
+}
+
+fn leading(alloc: Global, name: &'static str) -> Result<Part<'static>, AllocError> {
+    let mut entries = Vec::new(alloc);
+    entries.push(Entry {
+        page: Some(name),
+        terms: Vec::new(alloc),
+        body: Vec::new(alloc),
+    })?;
+    Ok(Part::Entries(entries))
+}
+
+fn fault_of(alloc: Global, title: &str, part: Part<'static>) -> Option<PageFault> {
+    let parts = [part];
+    markdown_page(alloc, title, &parts).err()
+}
+
+#[test]
+fn other_texts_are_refused(rt: HostRuntime) {
+    let alloc = rt.alloc();
+    let fault = Some(PageFault::Character);
+    assert!(rt; fault_of(alloc, "a\u{7}", Part::Heading(Rank::Section, "b")) == fault);
+    assert!(rt; fault_of(alloc, "a", Part::Heading(Rank::Subsection, "\u{fdd0}")) == fault);
+    let code = vec![in alloc; "\u{fffe}"].expect(&rt, "code");
+    assert!(rt; fault_of(alloc, "a", Part::Block(Block::Code(code))) == fault);
+    let entry = leading(alloc, "\u{9b}").expect(&rt, "an entry");
+    assert!(rt; fault_of(alloc, "a", entry) == fault);
+    assert!(rt; one_paragraph(alloc, Inline::Words("\u{7f}")).err() == fault);
+}
+
+// Whether a page is whole in so much room. None where it is another, or has another fault.
+fn is_whole(rt: &impl Abort, out: Global, parts: &[Part<'_>], room: usize) -> Option<bool> {
+    let arena = roomy(rt, out);
+    let _rest = taken(rt, &arena, room);
+    match markdown_page(&arena, "tide save", parts) {
+        Ok(page) => (page.as_str() == markdown_tide_save::WRITTEN).then_some(true),
+        Err(fault) => (fault == PageFault::Refused(AllocError)).then_some(false),
+    }
+}
+
+#[test]
+fn a_refused_page_in_markdown_is_made_with_more(rt: HostRuntime) {
+    let parts = parts(rt.alloc(), markdown_tide_save::SAID).expect(&rt, "parts");
+    for step in 0..BYTES / STEP {
+        match is_whole(&rt, rt.alloc(), parts.as_slice(), step.saturating_mul(STEP)) {
+            Some(false) => {}
+            Some(true) => {
+                assert!(rt; step > 0);
+                return;
+            }
+            None => panic!(rt; "another page or fault at {step}"),
+        }
+    }
+    panic!(rt; "never made")
+}
+
+#[test]
+fn faults_of_markdown_have_words(rt: HostRuntime) {
+    let words = format!(in rt.alloc();
+        "{}; {}",
+        PageFault::Character,
+        PageFault::Refused(AllocError)
+    )
+    .expect(&rt, "words");
+    assert!(rt; words.as_str() == "a control character or a noncharacter in a text; no memory");
+}
