@@ -1,11 +1,10 @@
 -- Parts of a page, the first one and the others.
-use Rattle.std.proofs.Common.{◌≡◌, ℕ, Bool, true, false, List, [], ◌∷◌, ◌++◌, map, refl, sym, ap, ◌∙◌, append_assoc}
-use Rattle.std.specs.Prelude.{None, flat_map, codes, if◌then◌else◌, Result, Ok, Err, OnOk, is_ok}
+use Rattle.std.proofs.Common.{◌≡◌, ℕ, Bool, List, [], ◌∷◌, ◌++◌, map, refl, sym, ap, ◌∙◌, append_assoc}
+use Rattle.std.specs.Prelude.{flat_map, codes, if◌then◌else◌, Result, Ok, Err, OnOk, is_ok}
 use Rattle.page_model.specs.Content.{Line, BlockSaid, paragraph, code, bullets, FormSaid}
 use Rattle.markdown_page.specs.Exact.{block_text, body_text, code_line, code_text, further_line, leading_span, leading_text, line_text, lines_text, longest_of, span_text, written}
 use Rattle.markdown_page.specs.Steps.{fence_of, first_block, form_line, shown_span, written_line}
 use Rattle.markdown_page.specs.Kept.{form_bytes, shown_byte}
-use Rattle.markdown_page.specs.Promises.{fault_unless}
 use Rattle.markdown_page.proofs.Pieces.{shown_definition}
 
 written_lines : (level : ℕ) (lines : List Line) → flat_map (written_line level) lines ≡ flat_map (further_line level) (map written lines)
@@ -51,7 +50,3 @@ in_fences out first second third new forms more m f s t n =
     ∙ ap (λ x. x ++ fence) (t ∙ ap (λ x. x ++ flat_map form_line forms) (s ∙ ap (λ x. x ++ fence) f) ∙ ap (λ x. ((out ++ codes "\n") ++ fence) ++ x) (form_lines forms))
     ∙ regroup out (codes "\n") fence (flat_map (code_line 0) (map form_bytes forms)) fence
     ∙ ap (λ x. out ++ (codes "\n" ++ (fence_of 0 x ++ (flat_map (code_line 0) (map form_bytes forms) ++ fence_of 0 x)))) m
-
-pub permitted_of : (permitted : Bool) → fault_unless permitted ≡ None → permitted ≡ true
-permitted_of true h = refl
-permitted_of false h = absurd cc

@@ -6,17 +6,17 @@ ghost use Rattle.page_model.specs.Permitted.{are_permitted, is_permitted_part};
 ghost use Rattle.page_model.specs.View.{form_of, line_of, part_of};
 ghost use Rattle.markdown_page.specs.Exact.{code_text, longest_of, page_text, part_text, rank_text, title_text};
 ghost use Rattle.markdown_page.specs.Kept.{form_bytes, item_bytes, line_bytes, page_kept};
-ghost use Rattle.markdown_page.specs.Promises.{FailsOnlyBy, ReadsAs, fault_unless, page_fault};
+ghost use Rattle.page_model.specs.Faults.{FailsOnlyBy, fault_unless};
+ghost use Rattle.markdown_page.specs.Promises.{ReadsAs, page_fault};
 ghost use Rattle.markdown_page.specs.Steps.{form_line};
 
 use crate::block::{Writer, begin_line, push_block, push_code_line, push_fence};
 use crate::entry::{push_entries, text_of};
 use crate::escape::push_escaped;
-use crate::fault::PageFault;
 use crate::line::{LineText, push_framed};
 use crate::span::longest_run;
 use page_model::permitted::{are_permitted, are_permitted_parts};
-use page_model::{Form, Inline, Line, Part, Rank};
+use page_model::{Form, Inline, Line, PageFault, Part, Rank};
 use std::alloc::{AllocError, Allocator};
 
 fn push_item_texts<A: Allocator>(

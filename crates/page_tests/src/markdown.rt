@@ -141,14 +141,3 @@ fn a_refused_page_in_markdown_is_made_with_more(rt: HostRuntime) {
     }
     panic!(rt; "never made")
 }
-
-#[test]
-fn faults_of_markdown_have_words(rt: HostRuntime) {
-    let words = format!(in rt.alloc();
-        "{}; {}",
-        PageFault::Character,
-        PageFault::Refused(AllocError)
-    )
-    .expect(&rt, "words");
-    assert!(rt; words.as_str() == "a control character or a noncharacter in a text; no memory");
-}

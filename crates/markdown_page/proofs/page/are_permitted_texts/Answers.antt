@@ -3,7 +3,7 @@ use Rattle.std.specs.List.{list_all}
 use Rattle.std.proofs.lemmas.List.Folds.{list_all-map}
 use Rattle.page_model.specs.Permitted.{is_permitted_part}
 use Rattle.page_model.specs.View.{part_of}
-use Rattle.markdown_page.specs.Promises.{fault_unless}
+use Rattle.page_model.specs.Faults.{fault_unless}
 use Rattle.markdown_page.proofs.page.are_permitted_texts.Goals as goal
 
 pub returns-then-are_permitted : goal.returns-then-are_permitted

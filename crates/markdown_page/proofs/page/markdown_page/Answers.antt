@@ -4,9 +4,10 @@ use Rattle.std.proofs.lemmas.Bool.{and_parts}
 use Rattle.page_model.specs.Permitted.{are_permitted, is_permitted_part}
 use Rattle.page_model.specs.View.{part_of}
 use Rattle.markdown_page.specs.Kept.{page_kept}
-use Rattle.markdown_page.specs.Promises.{ReadsAs, fault_unless}
+use Rattle.markdown_page.specs.Promises.{ReadsAs}
+use Rattle.page_model.specs.Faults.{fault_unless}
 use Rattle.markdown_page.proofs.Pages.{reads_back}
-use Rattle.markdown_page.proofs.Parts.{permitted_of}
+use Rattle.page_model.proofs.Faults.{permitted_of}
 use Rattle.markdown_page.proofs.page.markdown_page.Goals as goal
 
 pub returns-clause-reads : goal.returns-clause-reads
