@@ -19,6 +19,9 @@ pub mod files;
 pub mod levels;
 pub mod reading;
 
+// description_pages
+pub mod level_manual;
+
 // lasting_names
 pub mod naming;
 

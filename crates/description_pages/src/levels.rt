@@ -1,0 +1,103 @@
+//! The page of a level, before a medium arranges it.
+ghost use Rattle.std.specs.Prelude.{◌≡◌, ◌++◌, map, IfOk, OnOk};
+ghost use Rattle.description_parts.specs.View.{level_said, opt_said};
+ghost use Rattle.description_pages.specs.Levels.{notes_of, page_of, sections_of, texts_of};
+ghost use Rattle.description_pages.specs.LevelsView.{level_page_of, subject_of};
+ghost use Rattle.description_pages.specs.Sections.{section_of};
+ghost use Rattle.description_pages.specs.Words.{words_said};
+
+use crate::forms::usage_forms;
+use crate::neighbours::{joined_names, neighbours};
+use crate::sections::{ArenaSections, Detail, Making, Section, given_blocks, push_lists};
+use crate::topics::{Place, placed_blocks, push_blocks, push_text_section, push_topics};
+use crate::words::FixedWords;
+use bumpalo::Bump;
+use description_parts::{Level, Opt};
+use page_model::{Block, Form};
+use std::alloc::{AllocError, Allocator};
+
+/// A level by what its page says: the names that lead there, the level itself, and the options that ask for help.
+#[derive_where(Clone, Copy)]
+pub struct LevelSubject<'p, C: Allocator> {
+    pub names: &'p [&'p str],
+    pub level: &'p Level<'p, C>,
+    pub help_options: &'p [Opt<'p>],
+}
+
+/// What the page of a level says, in the order of most media.
+#[derive(Debug, Drop)]
+pub struct LevelPage<'a, A: Allocator> {
+    /// The names that lead there, with a blank between two.
+    pub title: &'a str,
+    pub about: Vec<Block<'a, A>, A>,
+    pub usage: Vec<Form<'a, A>, A>,
+    pub header: Vec<Block<'a, A>, A>,
+    /// Lists, topics and notes.
+    pub sections: Vec<Section<'a, A>, A>,
+    /// What stands above the references.
+    pub see_also: Vec<Block<'a, A>, A>,
+    /// The names of the pages above and below.
+    pub references: Vec<&'a str, A>,
+}
+
+// The lists, the topics and the notes.
+fn sections<'p, C: Allocator>(
+    making: Making<'p>,
+    subject: LevelSubject<'p, C>,
+) -> Result<ArenaSections<'p>, AllocError>
+    ensures { IfOk result (λ sections. map section_of sections.items ≡ sections_of
+        (words_said making.entry.words.now) making.entry.detail (map (λ name. name.now) making.entry.names.now)
+        (map opt_said subject.entry.help_options.now) (level_said subject.entry.level.now)) }
+{
+    let mut sections: ArenaSections<'p> = Vec::new(making.arena);
+    push_lists(making, &mut sections, subject.level, subject.help_options)?;
+    push_topics(making, &mut sections, subject.level.topics.as_slice())?;
+    push_notes(making, &mut sections, subject.level)?;
+    Ok(sections)
+}
+
+fn push_notes<'p, C: Allocator>(
+    making: Making<'p>,
+    sections: &mut ArenaSections<'p>,
+    level: &'p Level<'p, C>,
+) -> Result<(), AllocError>
+    ensures { OnOk result (map section_of sections.new.items ≡ map section_of sections.old.items
+        ++ notes_of (words_said making.entry.words.now) making.entry.detail (texts_of (level_said level.now))) }
+{
+    let mut blocks = placed_blocks(making, Place::Notes, level.topics.as_slice())?;
+    push_blocks(
+        &mut blocks,
+        given_blocks(making.arena, making.detail, level.footer)?,
+    )?;
+    push_text_section(sections, making.words.notes, blocks)
+}
+
+/// The page of a level, made in an arena: each text in full, or its first block. An error comes only where an
+/// allocation failed.
+pub fn level_page<'p, C: Allocator>(
+    arena: &'p Bump,
+    words: &'p FixedWords<'p>,
+    detail: Detail,
+    subject: LevelSubject<'p, C>,
+) -> Result<LevelPage<'p, &'p Bump>, AllocError>
+    ensures { IfOk result (λ page. level_page_of page
+        ≡ page_of (words_said words.now) detail (subject_of subject.entry)) }
+{
+    let making = Making {
+        arena,
+        words,
+        detail,
+        names: subject.names,
+    };
+    let level = subject.level;
+    let title = joined_names(arena, subject.names, " ")?;
+    Ok(LevelPage {
+        title,
+        about: given_blocks(arena, detail, level.about)?,
+        usage: usage_forms(arena, words, title, level)?,
+        header: given_blocks(arena, detail, level.header)?,
+        sections: sections(making, subject)?,
+        see_also: placed_blocks(making, Place::References, level.topics.as_slice())?,
+        references: neighbours(arena, subject.names, level)?,
+    })
+}
