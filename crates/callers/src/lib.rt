@@ -36,3 +36,6 @@ pub mod manual;
 
 // markdown_page
 pub mod markdown;
+
+// console_page
+pub mod terminal;

@@ -133,7 +133,8 @@ fn are_permitted_entries<A: Allocator>(entries: &[Entry<'_, A>]) -> bool
     entries.iter().all(|entry| is_permitted_entry(entry))
 }
 
-fn are_permitted_forms<A: Allocator>(forms: &[Form<'_, A>]) -> bool
+/// Whether each text of the forms of a usage is permitted.
+pub fn are_permitted_forms<A: Allocator>(forms: &[Form<'_, A>]) -> bool
     ensures { result ≡ list_all (λ form. is_permitted_form (form_of form)) forms.now }
 {
     forms.iter().all(|form| is_permitted_form(form))

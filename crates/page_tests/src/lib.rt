@@ -1,10 +1,12 @@
-//! Tests of `man_page` and `markdown_page`, over pages of `page_model`: whole pages, what stands for each text, which
-//! texts a page may have, and each growth refused in turn; and of `description_pages`: texts with their blocks, and levels
-//! from their records to their manual pages.
+//! Tests of `man_page`, `markdown_page` and `console_page`, over pages of `page_model`: whole pages, what stands for each
+//! text, which texts a page may have, and each growth refused in turn; and of `description_pages`: texts with their
+//! blocks, and levels from their records to their manual pages.
 #![tactic(auto)]
 
 #[cfg(test)]
 mod blocks;
+#[cfg(test)]
+mod console;
 #[cfg(test)]
 mod levels;
 #[cfg(test)]

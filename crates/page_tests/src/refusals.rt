@@ -2,10 +2,12 @@
 //! time, until it is whole.
 ghost use Rattle.std.specs.Prelude.{[], ◌∷◌, ◌==◌, codes, if◌then◌else◌};
 
+use crate::console::{FEW, FEW_WRITTEN, USED, USED_NARROWLY};
 use crate::manual::title;
 use crate::said::parts;
 use crate::tide_save::{SAID, WRITTEN};
 use bumpalo::Bump;
+use console_page::{console_page, console_usage};
 use man_page::{PageFault, manual_page};
 use page_model::Part;
 use page_model::replaced::{StandIns, push_replaced};
@@ -41,6 +43,31 @@ fn is_page_whole(rt: &impl Abort, out: Global, parts: &[Part<'_>], room: usize) 
     }
 }
 
+// The same of a page on a console.
+fn is_console_whole(rt: &impl Abort, out: Global, room: usize) -> Option<bool> {
+    let parts = parts(out, FEW).expect(rt, "parts");
+    let arena = roomy(rt, out);
+    let _rest = taken(rt, &arena, room);
+    match console_page(&arena, 12, "Usage", parts.as_slice()) {
+        Ok(page) => (page.as_str() == FEW_WRITTEN).then_some(true),
+        Err(fault) => (fault == console_page::PageFault::Refused(AllocError)).then_some(false),
+    }
+}
+
+// The same of a usage alone.
+fn is_usage_whole(rt: &impl Abort, out: Global, room: usize) -> Option<bool> {
+    let used = parts(out, USED).expect(rt, "parts");
+    let [Part::Usage(forms)] = used.as_slice() else {
+        return None;
+    };
+    let arena = roomy(rt, out);
+    let _rest = taken(rt, &arena, room);
+    match console_usage(&arena, 12, forms.as_slice()) {
+        Ok(usage) => (usage.as_str() == USED_NARROWLY).then_some(true),
+        Err(fault) => (fault == console_page::PageFault::Refused(AllocError)).then_some(false),
+    }
+}
+
 /// Text as the value of an attribute has it.
 #[derive(Clone, Copy)]
 struct InQuotes;
@@ -68,6 +95,8 @@ fn is_replaced(rt: &impl Abort, out: Global, room: usize) -> Option<bool> {
 #[derive(Clone, Copy)]
 enum Call {
     ManualPage,
+    ConsolePage,
+    ConsoleUsage,
     PushReplaced,
 }
 
@@ -78,6 +107,8 @@ fn is_made_with_more(rt: &impl Abort, out: Global, call: Call) -> bool {
         let room = step.saturating_mul(STEP);
         let made = match call {
             Call::ManualPage => is_page_whole(rt, out, parts.as_slice(), room),
+            Call::ConsolePage => is_console_whole(rt, out, room),
+            Call::ConsoleUsage => is_usage_whole(rt, out, room),
             Call::PushReplaced => is_replaced(rt, out, room),
         };
         if made != Some(false) {
@@ -90,6 +121,16 @@ fn is_made_with_more(rt: &impl Abort, out: Global, call: Call) -> bool {
 #[test]
 fn a_refused_manual_page_is_made_with_more(rt: HostRuntime) {
     assert!(rt; is_made_with_more(&rt, rt.alloc(), Call::ManualPage));
+}
+
+#[test]
+fn a_refused_page_on_a_console_is_made_with_more(rt: HostRuntime) {
+    assert!(rt; is_made_with_more(&rt, rt.alloc(), Call::ConsolePage));
+}
+
+#[test]
+fn a_refused_usage_on_a_console_is_made_with_more(rt: HostRuntime) {
+    assert!(rt; is_made_with_more(&rt, rt.alloc(), Call::ConsoleUsage));
 }
 
 #[test]

@@ -1,0 +1,5 @@
+pub mod Bars
+pub mod Behind
+pub mod Items
+pub mod Lists
+pub mod Rows

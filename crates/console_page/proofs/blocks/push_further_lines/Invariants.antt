@@ -1,0 +1,8 @@
+use Rattle.std.proofs.Common.{◌≡◌, ◌++◌, map, take, string_bytes}
+use Rattle.std.specs.Prelude.{flat_map}
+use Rattle.page_model.specs.View.{line_of}
+use Rattle.console_page.specs.Blocks.{further_line}
+use Rattle.console_page.proofs.blocks.push_further_lines.Given as goal
+
+abbrev pub invariant-loop-line : goal.invariant-loop-line
+invariant-loop-line g l = string_bytes l.out ≡ string_bytes l.initial.out ++ flat_map further_line (map (λ line. line_of line.items) (take l.line-index l.lines))

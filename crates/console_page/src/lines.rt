@@ -1,0 +1,73 @@
+//! Lines behind prefixes, and paragraphs that are laid out.
+
+ghost use Rattle.std.specs.Prelude.{◌≡◌, ◌++◌, IfOk, OnOk, string_bytes};
+ghost use Rattle.console_page.specs.Lines.{behind, blanks, fronted, laid_out, parting};
+
+use bpaf_doc::buffer::Doc;
+use std::alloc::{AllocError, Allocator};
+
+/// An empty line, where one is wanted.
+pub fn parting(is_wanted: bool) -> &'static str
+    ensures { result.now ≡ parting is_wanted }
+{
+    if is_wanted { "\n" } else { "" }
+}
+
+/// Writes so many blanks.
+pub fn push_blanks<A: Allocator>(out: &mut String<A>, count: usize) -> Result<(), AllocError>
+    ensures { OnOk result (string_bytes out.new ≡ string_bytes out.old ++ blanks count) }
+{
+    for _ in 0..count {
+        out.push_str(" ")?;
+    }
+    Ok(())
+}
+
+// A line behind a prefix, which an empty one does not have.
+fn push_fronted<A: Allocator>(
+    out: &mut String<A>,
+    front: &str,
+    line: &str,
+) -> Result<(), AllocError>
+    ensures { OnOk result (string_bytes out.new ≡ string_bytes out.old ++ fronted front.now line.now) }
+{
+    if line.is_empty() {
+        return Ok(());
+    }
+    out.push_str(front)?;
+    out.push_str(line)
+}
+
+/// Writes the lines of a text, the first behind one prefix and each other behind another. Nothing stands before an
+/// empty line.
+pub fn push_behind<A: Allocator>(
+    out: &mut String<A>,
+    text: &str,
+    first: &str,
+    others: &str,
+) -> Result<(), AllocError>
+    ensures { OnOk result (string_bytes out.new
+        ≡ string_bytes out.old ++ behind first.now others.now text.now) }
+{
+    let mut front = first;
+    let mut rest = text;
+    while let Some((line, below)) = rest.split_once('\n') {
+        push_fronted(out, front, line)?;
+        out.push_str("\n")?;
+        front = others;
+        rest = below;
+    }
+    push_fronted(out, front, rest)
+}
+
+/// The lines of a text of words, as the console page of a document of its own lays them out.
+#[tactic(auto, unfolding(crate::specs::Lines::laid_out))]
+pub fn lay_out<A: Allocator + Copy>(
+    alloc: A,
+    text: &str,
+    width: usize,
+) -> Result<String<A>, AllocError>
+    ensures { IfOk result (λ lines. string_bytes lines ≡ laid_out width text.now) }
+{
+    Doc::from_text(alloc, text)?.render_console(alloc, true, width)
+}
