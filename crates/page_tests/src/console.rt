@@ -1,5 +1,5 @@
 //! A whole page on a console, and a usage at two widths.
-use crate::said::{Item, Said, Shown, parts};
+use crate::said::{Item, Lines, Said, Shown, forms, parts};
 use console_page::{PageFault, console_page, console_usage};
 use page_model::Inline::{Literal, Value, Words};
 use page_model::{Block, Form, Line, Part};
@@ -99,27 +99,25 @@ const SAID: &[Said] = &[
     ])),
 ];
 
-pub const USED: &[Said] = &[Said::Usage(
-    "tide",
+/// The items of a usage.
+pub const USED: Lines = &[
     &[
-        &[
-            Words("["),
-            Literal("-s"),
-            Words(" "),
-            Value("FOLDER"),
-            Words("]"),
-        ],
-        &[Words("["), Literal("-v"), Words("]...")],
-        &[
-            Words("["),
-            Literal("--color"),
-            Words("[="),
-            Value("WHEN"),
-            Words("]]"),
-        ],
-        &[Value("COMMAND"), Words(" ...")],
+        Words("["),
+        Literal("-s"),
+        Words(" "),
+        Value("FOLDER"),
+        Words("]"),
     ],
-)];
+    &[Words("["), Literal("-v"), Words("]...")],
+    &[
+        Words("["),
+        Literal("--color"),
+        Words("[="),
+        Value("WHEN"),
+        Words("]]"),
+    ],
+    &[Value("COMMAND"), Words(" ...")],
+];
 
 const WRITTEN: &str = r#"Saves folders as a new snapshot.
 
@@ -205,10 +203,7 @@ fn is_page(rt: &impl Abort, out: Global, said: &[Said], width: usize, want: &str
 }
 
 fn is_usage(rt: &impl Abort, out: Global, width: usize, want: &str) -> bool {
-    let made = parts(out, USED).expect(rt, "parts");
-    let [Part::Usage(forms)] = made.as_slice() else {
-        return false;
-    };
+    let forms = forms(out, "tide", USED).expect(rt, "forms");
     let usage = console_usage(out, width, forms.as_slice()).expect(rt, "a usage");
     usage.as_str() == want
 }

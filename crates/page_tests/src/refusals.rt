@@ -4,7 +4,7 @@ ghost use Rattle.std.specs.Prelude.{[], ◌∷◌, ◌==◌, codes, if◌then◌
 
 use crate::console::{FEW, FEW_WRITTEN, USED, USED_NARROWLY};
 use crate::manual::title;
-use crate::said::parts;
+use crate::said::{forms, parts};
 use crate::tide_save::{SAID, WRITTEN};
 use bumpalo::Bump;
 use console_page::{console_page, console_usage};
@@ -56,13 +56,10 @@ fn is_console_whole(rt: &impl Abort, out: Global, room: usize) -> Option<bool> {
 
 // The same of a usage alone.
 fn is_usage_whole(rt: &impl Abort, out: Global, room: usize) -> Option<bool> {
-    let used = parts(out, USED).expect(rt, "parts");
-    let [Part::Usage(forms)] = used.as_slice() else {
-        return None;
-    };
+    let used = forms(out, "tide", USED).expect(rt, "forms");
     let arena = roomy(rt, out);
     let _rest = taken(rt, &arena, room);
-    match console_usage(&arena, 12, forms.as_slice()) {
+    match console_usage(&arena, 12, used.as_slice()) {
         Ok(usage) => (usage.as_str() == USED_NARROWLY).then_some(true),
         Err(fault) => (fault == console_page::PageFault::Refused(AllocError)).then_some(false),
     }

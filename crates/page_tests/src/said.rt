@@ -106,7 +106,11 @@ fn leading_entries(alloc: Global, said: &[Leading]) -> Result<Vec<Entry<'static>
     Ok(entries)
 }
 
-fn forms(alloc: Global, name: &'static str, said: Lines) -> Result<Vec<Form<'static>>, AllocError> {
+pub fn forms(
+    alloc: Global,
+    name: &'static str,
+    said: Lines,
+) -> Result<Vec<Form<'static>>, AllocError> {
     let mut forms = Vec::new(alloc);
     forms.push(Form {
         name,
