@@ -40,7 +40,7 @@ grouped_below names (groups first others) = pages_below names (commands_in first
 abbrev pub commands_of : LevelSaid → CommandsSaid
 commands_of (level texts required options choices below values subcommands) = subcommands
 
--- commands of groups stand before the others
+-- the page above, the commands of groups, and the others
 abbrev pub neighbours : (names : List (List ℕ)) → LevelSaid → List (List ℕ)
 neighbours names l = page_above names ++ (grouped_below names (groups_of l) ++ pages_below names (commands_of l))
 

@@ -46,7 +46,7 @@ abbrev pub name_line : (name : List ℕ) → (summary : Line) → Line
 name_line name [] = words name ∷ []
 name_line name (piece ∷ line) = words name ∷ words (codes " - ") ∷ piece ∷ line
 
--- ---- what the summary says is not said once more
+-- ---- what the summary says is not said once more, where it is the same piece by piece
 
 abbrev pub same_piece : Piece → Piece → Bool
 same_piece (words text) (words other) = bytes_eq text other
@@ -92,7 +92,7 @@ body_parts (told blocks) = map block blocks
 abbrev pub section_parts : Rank → SectionSaid → List PartSaid
 section_parts rank section = capital_heading rank section.title ∷ body_parts section.body
 
--- what stands on a manual page but its name and references
+-- what stands on a manual page between its name and its references
 pub record OwnSaid : Type 0 where
   pub usage : List FormSaid
   pub described : List BlockSaid
@@ -122,7 +122,8 @@ manual_parts fixed name help said =
     (record { usage = said.usage; described = description line said.about said.header; sections = said.sections })
     ++ titled Section fixed.see_also (map block (said.see_also ++ reference_blocks said.references))))
 
--- a level that stands behind another on its page: all one rank lower, without NAME and references
+-- A level that stands behind another on its page: its names, and all else one rank lower, without NAME and references. Of
+-- SEE ALSO stay the topics that have its title.
 abbrev pub deeper_parts : WordsSaid → PageSaid → List PartSaid
 deeper_parts fixed said =
     heading Section said.title

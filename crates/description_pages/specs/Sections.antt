@@ -83,10 +83,11 @@ value_rows_of fixed detail p =
 abbrev pub value_rows : WordsSaid → Detail → List PositionalSaid → List RowSaid
 value_rows fixed detail values = flat_map (value_rows_of fixed detail) values
 
--- names as that of a page, with `-` between two
+-- names as one text, with another between two
 abbrev pub joined_names : (between : List ℕ) → List (List ℕ) → List ℕ
 joined_names between names = join_by (λ name. name) between names
 
+-- that of a page has `-` between two
 abbrev pub page_name : List (List ℕ) → List ℕ
 page_name = joined_names (codes "-")
 

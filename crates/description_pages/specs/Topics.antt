@@ -26,7 +26,7 @@ and_block [] block = block ∷ []
 and_block (last ∷ []) block = together last block
 and_block (first ∷ second ∷ blocks) block = first ∷ and_block (second ∷ blocks) block
 
--- blocks, with one list for those that follow one another
+-- blocks, with one list for those that follow one another: a medium has no mark between two
 abbrev pub gathered : List BlockSaid → List BlockSaid
 gathered blocks = fold and_block [] blocks
 

@@ -196,7 +196,6 @@ fn push_values<'p>(
     Ok(())
 }
 
-// What stands for a command of a level that these names lead to.
 fn push_command<'p, C: Allocator>(
     making: Making<'p>,
     rows: &mut ArenaRows<'p>,
