@@ -1,6 +1,6 @@
 //! Tests of `man_page`, `markdown_page` and `console_page`, over pages of `page_model`: whole pages, what stands for each
 //! text, which texts a page may have, and each growth refused in turn; and of `description_pages`: texts with their
-//! blocks, and levels from their records to their manual pages.
+//! blocks, and a level from its records to its manual page.
 #![tactic(auto)]
 
 #[cfg(test)]
