@@ -15,7 +15,7 @@ use std::alloc::{AllocError, Global};
 use std::process::Abort;
 
 /// How many bytes an arena has: more than the page takes.
-pub const BYTES: usize = 16384;
+pub const BYTES: usize = 65536;
 
 /// How many bytes more are left of it each time. No growth is smaller.
 pub const STEP: usize = 8;
