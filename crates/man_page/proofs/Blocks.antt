@@ -7,9 +7,9 @@ use Rattle.std.proofs.lemmas.List.Concat.{flat_map_single}
 use Rattle.page_model.specs.Content.{Line, BlockSaid, paragraph, code, bullets, EntrySaid, FormSaid}
 use Rattle.page_model.specs.Permitted.{are_permitted, has_permitted_content, is_permitted_block, is_permitted_byte, is_permitted_entry, is_permitted_form, is_permitted_line, is_permitted_page}
 use Rattle.page_model.specs.declared.parts.Rank.{Rank}
-use Rattle.page_model.specs.declared.parts.Rank.TheVariants.{Section, Subsection}
+use Rattle.page_model.specs.declared.parts.Rank.TheVariants.{Page, Section, Subsection}
 use Rattle.man_page.specs.Sheet.{Roman, Glyph, Kind, Plain, Tagged, Bulleted, Continued, Said, Heading, Paragraph, Example, Synopsis}
-use Rattle.man_page.specs.Kept.{block_kept, body_kept, code_shown, entry_kept, form_kept, in_font, inner_kept, line_shown, lines_shown, paragraph_kept, terms_shown}
+use Rattle.man_page.specs.Kept.{block_kept, body_kept, code_shown, entry_kept, form_kept, in_font, inner_kept, line_shown, lines_shown, paragraph_kept, rank_kept, terms_shown}
 use Rattle.man_page.specs.Exact.{block_text, body_text, bullet_text, code_line, entry_text, escaped, example_text, form_text, heading_name, heading_text, inner_text, input_line, item_text, lines_text, new_paragraph, pieces_text, terms_text, title_text, word_text}
 use Rattle.man_page.specs.Reader.{Bodied, Broken, Filled, Fresh, InExample, InSynopsis, Reading, Stand, Tag, done_if, heading_glyphs, if_open, is_open, next_line, on_last, placed, with_heading, with_line, with_synopsis}
 use Rattle.man_page.specs.declared.escape.Role.TheVariants.{Text, Item, Code}
@@ -269,20 +269,26 @@ module _ (title : List (List Glyph)) where
 
   -- ---- headings
 
+  section_line : (read : Reading) (written : List ℕ) (shown : List Glyph) → heading_glyphs written ≡ Some shown → is_open read.stand ≡ true
+      → next_line (Some read) (codes ".SH " ++ written) ≡ with_heading read Section (Some shown)
+  section_line read written shown e o = ap (done_if read) (section_asks written) ∙ opened read (with_heading read Section (heading_glyphs written)) o ∙ ap (with_heading read Section) e
+
   heading_line : (rank : Rank) (read : Reading) (written : List ℕ) (shown : List Glyph) → heading_glyphs written ≡ Some shown → is_open read.stand ≡ true
-      → next_line (Some read) (heading_name rank ++ written) ≡ with_heading read rank (Some shown)
-  heading_line Section read written shown e o = ap (done_if read) (section_asks written) ∙ opened read (with_heading read Section (heading_glyphs written)) o ∙ ap (with_heading read Section) e
+      → next_line (Some read) (heading_name rank ++ written) ≡ with_heading read (rank_kept rank) (Some shown)
+  heading_line Page read written shown e o = section_line read written shown e o
+  heading_line Section read written shown e o = section_line read written shown e o
   heading_line Subsection read written shown e o = ap (done_if read) (subsection_asks written) ∙ opened read (with_heading read Subsection (heading_glyphs written)) o ∙ ap (with_heading read Subsection) e
 
   name_inside : (rank : Rank) → list_all is_in_line (heading_name rank) ≡ true
+  name_inside Page = refl
   name_inside Section = refl
   name_inside Subsection = refl
 
   pub heading_leads : (rank : Rank) (text : List ℕ) (said : List Said) (stand : Stand) → list_all is_permitted_byte text ≡ true → is_open stand ≡ true
-      → Leads (heading_text rank text) (here title said 0 stand) (here title (said ++ Heading rank (in_font Roman text) ∷ []) 0 (Fresh Plain))
+      → Leads (heading_text rank text) (here title said 0 stand) (here title (said ++ Heading (rank_kept rank) (in_font Roman text) ∷ []) 0 (Fresh Plain))
   heading_leads rank text said stand h o =
       let is = title_is text h in
-      let next : Option Reading = here title (said ++ Heading rank (in_font Roman text) ∷ []) 0 (Fresh Plain) in
+      let next : Option Reading = here title (said ++ Heading (rank_kept rank) (in_font Roman text) ∷ []) 0 (Fresh Plain) in
       subst (λ x. Leads x (here title said 0 stand) next) (append_assoc (heading_name rank) (title_text text) (codes "\n"))
       (leads_line (heading_name rank ++ title_text text) (here title said 0 stand) next
       (all_both is_in_line (heading_name rank) (title_text text) (name_inside rank) is.inside)

@@ -4,7 +4,7 @@ use Rattle.std.specs.Prelude.{ℕ, Bool, true, false, not, ◌&&◌, ◌||◌, �
 use Rattle.std.specs.List.{list_any}
 use Rattle.page_model.specs.Content.{Piece, words, literal, value, link, page, Line, BlockSaid, paragraph, code, bullets, EntrySaid, FormSaid, PartSaid, heading, usage, block, entries}
 use Rattle.page_model.specs.declared.parts.Rank.{Rank}
-use Rattle.page_model.specs.declared.parts.Rank.TheVariants.{Section, Subsection}
+use Rattle.page_model.specs.declared.parts.Rank.TheVariants.{Page, Section, Subsection}
 use Rattle.man_page.specs.declared.escape.Role.{Role}
 use Rattle.man_page.specs.declared.escape.Role.TheVariants.{Text, Item, Code, Title}
 use Rattle.man_page.specs.Kept.{TitleSaid}
@@ -181,6 +181,7 @@ form_text section form =
     ++ (flat_map (item_text section) form.items ++ codes ".YS\n")))
 
 abbrev pub heading_name : Rank → List ℕ
+heading_name Page = codes ".SH "
 heading_name Section = codes ".SH "
 heading_name Subsection = codes ".SS "
 

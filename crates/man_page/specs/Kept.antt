@@ -1,6 +1,8 @@
 -- What a manual page keeps of a page: texts and their fonts, not where links lead to, and white space as blanks.
 use Rattle.std.specs.Prelude.{ℕ, ◌||◌, ◌==◌, List, [], ◌∷◌, ◌++◌, map, flat_map, codes, if◌then◌else◌}
 use Rattle.page_model.specs.Content.{Piece, words, literal, value, link, page, Line, BlockSaid, paragraph, code, bullets, EntrySaid, FormSaid, PartSaid, heading, usage, block, entries}
+use Rattle.page_model.specs.declared.parts.Rank.{Rank}
+use Rattle.page_model.specs.declared.parts.Rank.TheVariants.{Page, Section, Subsection}
 use Rattle.man_page.specs.Sheet.{Font, Roman, Bold, Italic, Glyph, Kind, Plain, Tagged, Bulleted, Continued, Said, Heading, Paragraph, Example, Synopsis, Sheet}
 
 -- a newline and a tab are a blank; in code a tab stays
@@ -69,8 +71,14 @@ entry_kept section entry = body_kept section (terms_shown section entry.terms) e
 abbrev pub form_kept : List ℕ → FormSaid → Said
 form_kept section form = Synopsis (in_font Roman form.name) (map (line_shown section) form.items)
 
+-- a page that stands behind another has the heading of a section
+abbrev pub rank_kept : Rank → Rank
+rank_kept Page = Section
+rank_kept Section = Section
+rank_kept Subsection = Subsection
+
 abbrev pub part_kept : List ℕ → PartSaid → List Said
-part_kept section (heading rank title) = Heading rank (in_font Roman title) ∷ []
+part_kept section (heading rank title) = Heading (rank_kept rank) (in_font Roman title) ∷ []
 part_kept section (usage forms) = map (form_kept section) forms
 part_kept section (block shown) = block_kept section shown
 part_kept section (entries list) = flat_map (entry_kept section) list

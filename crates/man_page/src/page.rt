@@ -455,7 +455,7 @@ fn heading_name(rank: Rank) -> &'static str
     ensures { result.now ≡ heading_name rank }
 {
     match rank {
-        Rank::Section => ".SH ",
+        Rank::Page | Rank::Section => ".SH ",
         Rank::Subsection => ".SS ",
     }
 }

@@ -7,7 +7,7 @@ use Rattle.std.proofs.lemmas.List.Sums.{fold-append}
 use Rattle.page_model.specs.Content.{Line, BlockSaid, paragraph, code, bullets, EntrySaid}
 use Rattle.page_model.specs.Permitted.{has_permitted_content, is_permitted_block, is_permitted_byte, is_permitted_entry, is_permitted_line, is_permitted_page}
 use Rattle.page_model.specs.declared.parts.Rank.{Rank}
-use Rattle.page_model.specs.declared.parts.Rank.TheVariants.{Section, Subsection}
+use Rattle.page_model.specs.declared.parts.Rank.TheVariants.{Page, Section, Subsection}
 use Rattle.markdown_page.specs.Bytes.{graves, is_grave}
 use Rattle.markdown_page.specs.Sheet.{Glyph, Said, Heading, Item, Paragraph, Code}
 use Rattle.markdown_page.specs.Kept.{block_kept, body_kept, code_byte, code_kept, dash, entry_kept, item_kept, line_kept, line_shown, paragraph_kept, plain, rank_kept, seen, terms_shown}
@@ -462,6 +462,9 @@ title_leads text h = marked_leads (codes "# ") [] 0 1 text h refl (next_open [] 
 
 rank_leads : (rank : Rank) (said : List Said) (depth : ℕ) (stand : Stand) (text : List ℕ) → list_all is_permitted_byte text ≡ true → is_open stand ≡ true
     → Leads (rank_text rank ++ (title_text text ++ codes "\n")) (on said depth stand) (on (said ++ Heading (rank_kept rank) (seen (plain text)) ∷ []) 0 Between)
+rank_leads Page said depth stand text h o =
+    leads_then (empty_leads said depth stand o)
+    (marked_leads (codes "# ") said depth 1 text h refl (next_open said 0 depth Between 35 (32 ∷ title_text text) (HeadingLine 1 (title_text text)) refl refl refl))
 rank_leads Section said depth stand text h o =
     leads_then (empty_leads said depth stand o)
     (marked_leads (codes "## ") said depth 2 text h refl (next_open said 0 depth Between 35 (35 ∷ 32 ∷ title_text text) (HeadingLine 2 (title_text text)) refl refl refl))

@@ -2,7 +2,7 @@
 use Rattle.std.specs.Prelude.{ℕ, zero, suc, max, Bool, true, false, not, ◌&&◌, ◌||◌, ◌==◌, List, [], ◌∷◌, ◌++◌, length, map, flat_map, Option, Some, None, codes, if◌then◌else◌}
 use Rattle.std.specs.List.{list_all}
 use Rattle.page_model.specs.declared.parts.Rank.{Rank}
-use Rattle.page_model.specs.declared.parts.Rank.TheVariants.{Section, Subsection}
+use Rattle.page_model.specs.declared.parts.Rank.TheVariants.{Page, Section, Subsection}
 use Rattle.page_model.specs.Content.{words, literal, value, link, page, Line, BlockSaid, paragraph, code, bullets, EntrySaid, PartSaid, heading, usage, block, entries}
 use Rattle.markdown_page.specs.Bytes.{grave, graves, has_run, holds_definition, is_blank, is_digit, is_letter, is_word}
 use Rattle.markdown_page.specs.Kept.{code_byte, dash, form_bytes, is_link, line_bytes, page_address, shown_byte}
@@ -235,6 +235,7 @@ entry_text entry = codes "\n- " ++ body_text (terms_text entry.page entry.terms)
 -- ---- the page
 
 abbrev pub rank_text : Rank → List ℕ
+rank_text Page = codes "\n# "
 rank_text Section = codes "\n## "
 rank_text Subsection = codes "\n### "
 

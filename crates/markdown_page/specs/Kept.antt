@@ -2,7 +2,7 @@
 use Rattle.std.specs.Prelude.{ℕ, suc, ◌/◌, ◌%◌, Bool, not, ◌&&◌, ◌||◌, ◌==◌, nat_lt, false, true, List, [], ◌∷◌, ◌++◌, get_or, map, flat_map, Option, Some, None, codes, if◌then◌else◌}
 use Rattle.std.specs.List.{list_all}
 use Rattle.page_model.specs.declared.parts.Rank.{Rank}
-use Rattle.page_model.specs.declared.parts.Rank.TheVariants.{Section, Subsection}
+use Rattle.page_model.specs.declared.parts.Rank.TheVariants.{Page, Section, Subsection}
 use Rattle.page_model.specs.Content.{Piece, words, literal, value, link, page, Line, BlockSaid, paragraph, code, bullets, EntrySaid, FormSaid, PartSaid, heading, usage, block, entries}
 use Rattle.markdown_page.specs.Bytes.{begins_with, holds_definition, is_word}
 use Rattle.markdown_page.specs.Sheet.{Glyph, Said, Heading, Item, Paragraph, Code}
@@ -139,6 +139,7 @@ abbrev pub form_bytes : FormSaid → List ℕ
 form_bytes form = form.name ++ flat_map item_bytes form.items
 
 abbrev pub rank_kept : Rank → ℕ
+rank_kept Page = 1
 rank_kept Section = 2
 rank_kept Subsection = 3
 

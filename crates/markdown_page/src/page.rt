@@ -124,6 +124,7 @@ fn rank_text(rank: Rank) -> &'static str
     ensures { result.now ≡ rank_text rank }
 {
     match rank {
+        Rank::Page => "\n# ",
         Rank::Section => "\n## ",
         Rank::Subsection => "\n### ",
     }

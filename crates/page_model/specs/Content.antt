@@ -18,8 +18,9 @@ pub data BlockSaid : Type 0 where
   code : List (List ℕ) → BlockSaid
   bullets : List (List Line) → BlockSaid
 
--- with the name of the page that it leads to
+-- with what it is called, and the name of the page that it leads to
 pub record EntrySaid : Type 0 where
+  pub word : List ℕ
   pub page : Option (List ℕ)
   pub terms : List Line
   pub body : List BlockSaid

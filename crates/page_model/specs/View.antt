@@ -27,6 +27,7 @@ block_of (shown.List items) = bullets (map (λ item. map (λ line. line_of line.
 
 abbrev pub entry_of : {A : Type 0} → Entry A → EntrySaid
 entry_of entry = record {
+  word = entry.word.now;
   page = option_map (λ name. name.now) entry.page;
   terms = map (λ term. line_of term.items) entry.terms.items;
   body = map block_of entry.body.items;

@@ -35,6 +35,8 @@ pub enum Block<'a, A: Allocator = Global> {
 /// An entry of a list: the ways to write what it is about, and what is said of it.
 #[derive(Debug, Drop)]
 pub struct Entry<'a, A: Allocator = Global> {
+    /// What it is called where others refer to it.
+    pub word: &'a str,
     /// The name of the page of what it is about, where there is such a page.
     pub page: Option<&'a str>,
     pub terms: Vec<Line<'a, A>, A>,
@@ -48,9 +50,10 @@ pub struct Form<'a, A: Allocator = Global> {
     pub items: Vec<Line<'a, A>, A>,
 }
 
-/// The rank of a heading: that of a section, or of a section in one.
+/// The rank of a heading: that of a page that stands behind another, of a section, or of a section in one.
 #[derive(Clone, Copy, Debug, PartialEq, Eq)]
 pub enum Rank {
+    Page,
     Section,
     Subsection,
 }
