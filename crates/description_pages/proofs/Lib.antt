@@ -1,8 +1,11 @@
 pub mod Margins
 pub mod Stretches
+pub mod Dashes
 pub mod Parts
 pub mod Behind
 pub mod LevelParts
+pub mod Named
+pub mod LevelsBelow
 pub mod Seen
 pub mod Alike
 pub mod Rows
@@ -20,6 +23,8 @@ pub mod TextsSpaces
 pub mod TextsRows
 pub mod Titles
 pub mod Lists
-pub mod Gathered
+pub mod Merged
 pub mod PageNames
-pub mod Summaries
+pub mod Shortened
+pub mod Below
+pub mod Media

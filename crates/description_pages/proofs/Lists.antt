@@ -11,7 +11,7 @@ use Rattle.description_parts.specs.declared.levels.Group.{Group, out-Group}
 use Rattle.description_parts.proofs.Views.{open-Group, open-Level}
 use Rattle.description_pages.specs.Keys.{RowSaid, entries_once}
 use Rattle.description_pages.specs.Sections.{SectionSaid, argument_section, choice_rows, command_rows, command_section, group_section, group_sections, groups_of, list_section, list_sections, option_rows, option_section, value_rows, without_colon}
-use Rattle.description_pages.specs.Words.{WordsSaid}
+use Rattle.description_parts.specs.Words.{WordsSaid}
 use Rattle.description_pages.specs.declared.sections.Detail.{Detail}
 
 pub own_commands : {A : Type 0} (l : Level A) (fixed : WordsSaid) (detail : Detail) (names : List (List ℕ)) (e0 es : List RowSaid) (ms : List (Command A)) → ms ≡ (out-Level A l).commands.items

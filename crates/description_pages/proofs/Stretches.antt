@@ -1,6 +1,6 @@
 -- The stretches of a text, one after another.
 use Rattle.std.proofs.lemmas.Grind.{common_steps}
-use Rattle.std.proofs.Common.{◌≡◌, ℕ, suc, zero, ◌+◌, ◌-◌, ◌<◌, ◌≤◌, Bool, true, false, cond, not, List, [], ◌∷◌, ◌++◌, length, drop, take, get_or, refl, sym, ap, ◌∙◌, append_assoc, arith, one-add, add-one, length-append, true≢false}
+use Rattle.std.proofs.Common.{◌≡◌, ℕ, suc, zero, ◌+◌, ◌-◌, ◌<◌, ◌≤◌, Bool, true, false, ◌&&◌, ◌||◌, cond, not, List, [], ◌∷◌, ◌++◌, length, drop, take, get_or, refl, sym, ap, ◌∙◌, append_assoc, arith, one-add, add-one, length-append, true≢false}
 use Rattle.std.specs.List.{count_by, prefix_len}
 use Rattle.std.specs.Str.{IsCharBoundary, IsUtf8}
 use Rattle.std.proofs.lemmas.List.Sums.{sum_by-append, prefix_len-le-length, prefix_len_passes, prefix_len_stops}
@@ -8,7 +8,7 @@ use Rattle.std.proofs.lemmas.Bool.{cases_lt}
 use Rattle.std.proofs.lemmas.Bool.Decides.{nat_tests}
 use Rattle.std.proofs.lemmas.Str.{IsCharBoundary-start, IsCharBoundary-end, IsCharBoundary-before_ascii, IsCharBoundary-after_ascii}
 use Rattle.page_model.specs.Content.{Line, Piece}
-use Rattle.description_pages.specs.Syntax.{is_same, is_word_byte, onto_stretches, pieces_behind, stretch_pieces, stretches, word_piece, word_pieces}
+use Rattle.description_pages.specs.Syntax.{is_name, is_negated, is_outside, is_same, is_word_byte, names_behind, onto_stretches, pieces_behind, stretch_pieces, stretches, word_piece, word_pieces}
 use Rattle.description_pages.specs.Syntax.Steps.{is_in}
 use Rattle.description_pages.specs.declared.syntax.Class.{Class}
 
@@ -117,3 +117,9 @@ word_put line more whole piece text word behind at is put so_far = grind (arith,
 
 pub count_more : (p : ℕ → Bool) (xs ys : List ℕ) → count_by p (xs ++ ys) ≡ count_by p xs + count_by p ys
 count_more p xs ys = sum_by-append (λ x. cond (p x) 1 0) xs ys
+
+-- ---- the first name
+
+pub name_passed : (before after stretch : List ℕ) (ss ts : List (List ℕ)) (outside : Bool) → ss ≡ stretch ∷ ts → after ≡ before ++ stretch → outside ≡ is_outside before
+    → (outside && (is_name before stretch || is_negated before stretch)) ≡ false → names_behind after ts ≡ names_behind before ss
+name_passed before after stretch ss ts outside at more out none = grind arith

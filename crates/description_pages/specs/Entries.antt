@@ -5,8 +5,8 @@ use Rattle.bpaf_meta.specs.Content.{Name, short, long, both}
 use Rattle.description_parts.specs.Content.{SpellingSaid, named, syntax, OptSaid, PositionalSaid, CommandNames, CommandSaid, command}
 use Rattle.description_pages.specs.Lines.{joined}
 use Rattle.description_pages.specs.Names.{value_piece, short_line, long_line}
-use Rattle.description_pages.specs.Syntax.{syntax_terms}
-use Rattle.description_pages.specs.Words.{WordsSaid}
+use Rattle.description_pages.specs.Syntax.{syntax_terms, syntax_word}
+use Rattle.description_parts.specs.Words.{WordsSaid}
 
 -- ---- terms
 
@@ -76,22 +76,35 @@ abbrev pub body : (notes : List Line) → (help : List BlockSaid) → List Block
 body [] help = help
 body (first ∷ others) help = noted_body (joined (codes " ") (first ∷ others)) help
 
+-- ---- what entries are called
+
+-- the long name where there is one, else the short one
+abbrev pub named_word : Name → List ℕ
+named_word (short c) = encode_utf8 c
+named_word (long name) = name
+named_word (both c name) = name
+
+-- a syntax by its first name
+abbrev pub option_word : SpellingSaid → List ℕ
+option_word (named name) = named_word name
+option_word (syntax text) = syntax_word text
+
 -- ---- entries, of the blocks of a help
 
 abbrev pub option_entry : WordsSaid → OptSaid → (help : List BlockSaid) → EntrySaid
-option_entry fixed o help = record { page = None; terms = option_terms o; body = body (option_notes fixed o) help }
+option_entry fixed o help = record { word = option_word o.spelling; page = None; terms = option_terms o; body = body (option_notes fixed o) help }
 
 -- a positional value of which nothing is said is no entry
-abbrev pub entry_if_said : (terms : List Line) → (body : List BlockSaid) → Option EntrySaid
-entry_if_said terms [] = None
-entry_if_said terms (first ∷ others) = Some (record { page = None; terms = terms; body = first ∷ others })
+abbrev pub entry_if_said : (word : List ℕ) → (terms : List Line) → (body : List BlockSaid) → Option EntrySaid
+entry_if_said word terms [] = None
+entry_if_said word terms (first ∷ others) = Some (record { word = word; page = None; terms = terms; body = first ∷ others })
 
 abbrev pub positional_entry : WordsSaid → PositionalSaid → (help : List BlockSaid) → Option EntrySaid
-positional_entry fixed p help = entry_if_said (positional_terms p) (body (positional_notes fixed p) help)
+positional_entry fixed p help = entry_if_said p.value (positional_terms p) (body (positional_notes fixed p) help)
 
 -- with the name of the page of the command
 abbrev pub named_entry : WordsSaid → (page : List ℕ) → CommandNames → (help : List BlockSaid) → EntrySaid
-named_entry fixed page names help = record { page = Some page; terms = command_terms names; body = body (command_notes fixed names) help }
+named_entry fixed page names help = record { word = names.name; page = Some page; terms = command_terms names; body = body (command_notes fixed names) help }
 
 abbrev pub command_entry : WordsSaid → (page : List ℕ) → CommandSaid → (help : List BlockSaid) → EntrySaid
 command_entry fixed page (command names text below) help = named_entry fixed page names help

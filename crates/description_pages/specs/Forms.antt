@@ -6,7 +6,7 @@ use Rattle.description_pages.specs.Margins.{without_front, without_margins}
 use Rattle.description_pages.specs.Syntax.{begins, is_closing, is_opening, parts, syntax_line}
 use Rattle.description_parts.specs.Content.{LevelSaid, level}
 use Rattle.description_pages.specs.Usage.{usage_items}
-use Rattle.description_pages.specs.Words.{WordsSaid}
+use Rattle.description_parts.specs.Words.{WordsSaid}
 
 -- ---- brackets in no pair
 

@@ -1,18 +1,19 @@
 -- The page of a level of a command line: its texts, its usage, and the sections below them, before a medium arranges
 -- them.
-use Rattle.std.specs.Prelude.{ℕ, ◌-◌, List, [], ◌∷◌, ◌++◌, codes, length, take, nat_lt, if◌then◌else◌}
+use Rattle.std.specs.Prelude.{ℕ, ◌-◌, List, [], ◌∷◌, ◌++◌, codes, length, take, nat_lt, Option, if◌then◌else◌}
 use Rattle.page_model.specs.Content.{BlockSaid, FormSaid}
 use Rattle.description_parts.specs.Content.{OptSaid, TextsSaid, LevelSaid, level, GroupsSaid, no_groups, groups, GroupSaid, group, CommandsSaid, no_commands, commands, CommandSaid, command}
 use Rattle.description_pages.specs.Sections.{SectionSaid, given_blocks, groups_of, joined_names, list_sections, page_name, text_section}
-use Rattle.description_pages.specs.Topics.{gathered, own_sections, placed_blocks}
+use Rattle.description_pages.specs.Topics.{merged, own_sections, placed_blocks}
 use Rattle.description_pages.specs.Forms.{usage_forms}
-use Rattle.description_pages.specs.Words.{WordsSaid}
+use Rattle.description_parts.specs.Words.{WordsSaid}
 use Rattle.description_pages.specs.declared.sections.Detail.{Detail}
 use Rattle.description_pages.specs.declared.topics.Place.TheVariants.{Notes, References}
 
--- a level, by what its page says: the names that lead there, and the options that ask for help
+-- a level, by what its pages say: the names that lead there, what the level above says of it, and the options that ask for help
 pub record SubjectSaid : Type 0 where
   pub names : List (List ℕ)
+  pub help : Option (List ℕ)
   pub help_options : List OptSaid
   pub level : LevelSaid
 
@@ -64,7 +65,7 @@ texts_of (level texts required options choices below values subcommands) = texts
 -- the topics that have the title of the notes, and the footer
 abbrev pub notes_of : WordsSaid → Detail → TextsSaid → List SectionSaid
 notes_of fixed detail texts =
-    text_section fixed.notes (gathered (placed_blocks fixed detail Notes texts.topics ++ given_blocks detail texts.footer))
+    text_section fixed.notes (merged (placed_blocks fixed detail Notes texts.topics ++ given_blocks detail texts.footer))
 
 abbrev pub sections_of : WordsSaid → Detail → (names : List (List ℕ)) → (help_options : List OptSaid) → LevelSaid → List SectionSaid
 sections_of fixed detail names help_options l =
@@ -78,6 +79,6 @@ page_of fixed detail subject = record {
   usage = usage_forms fixed (joined_names (codes " ") subject.names) subject.level;
   header = given_blocks detail (texts_of subject.level).header;
   sections = sections_of fixed detail subject.names subject.help_options subject.level;
-  see_also = gathered (placed_blocks fixed detail References (texts_of subject.level).topics);
+  see_also = merged (placed_blocks fixed detail References (texts_of subject.level).topics);
   references = neighbours subject.names subject.level;
 }

@@ -1,5 +1,5 @@
 -- What the page of a level says, as a value.
-use Rattle.std.specs.Prelude.{map}
+use Rattle.std.specs.Prelude.{map, option_map}
 use Rattle.page_model.specs.View.{block_of, form_of}
 use Rattle.description_parts.specs.View.{level_said, opt_said}
 use Rattle.description_pages.specs.Levels.{PageSaid, SubjectSaid}
@@ -10,6 +10,7 @@ use Rattle.description_pages.specs.declared.levels.LevelSubject.{LevelSubject}
 abbrev pub subject_of : {C : Type 0} → LevelSubject C → SubjectSaid
 subject_of subject = record {
   names = map (λ name. name.now) subject.names.now;
+  help = option_map (λ text. text.now) subject.help;
   help_options = map opt_said subject.help_options.now;
   level = level_said subject.level.now;
 }

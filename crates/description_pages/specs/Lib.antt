@@ -1,6 +1,5 @@
 pub mod Margins
 pub mod Syntax
-pub mod Words
 pub mod Lines
 pub mod Names
 pub mod Entries
@@ -18,5 +17,11 @@ pub mod Sections
 pub mod Topics
 pub mod Levels
 pub mod LevelsView
+pub mod Subjects
+pub mod Arranged
+pub mod References
+pub mod Summaries
 pub mod Manuals
-pub mod ManualsView
+pub mod Markdowns
+pub mod Consoles
+pub mod Media

@@ -6,7 +6,7 @@ use Rattle.description_parts.specs.Content.{OptSaid, ChoiceSaid, PositionalSaid,
 use Rattle.description_pages.specs.Entries.{command_entry, option_entry, positional_entry}
 use Rattle.description_pages.specs.Keys.{KeySaid, RowSaid, command_key, entries_once, option_key, positional_key}
 use Rattle.description_pages.specs.Texts.{text_blocks}
-use Rattle.description_pages.specs.Words.{WordsSaid}
+use Rattle.description_parts.specs.Words.{WordsSaid}
 use Rattle.page_model.specs.View.{block_of, entry_of}
 use Rattle.description_pages.specs.declared.sections.Body.{Body}
 use Rattle.description_pages.specs.declared.sections.Body.TheVariants.{Listed, Told}

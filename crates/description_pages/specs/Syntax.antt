@@ -1,8 +1,8 @@
--- The syntax of an option: one text that says how the option is written. What of it is a name, what a word for a value, and what of it a usage shows.
+-- The syntax of an option: one text that says how the option is written. What of it is a name, what a word for a value, what it is called, and what of it a usage shows.
 pub mod Steps
-use Rattle.std.specs.Prelude.{codes, ℕ, ◌-◌, List, [], ◌∷◌, ◌++◌, ◌==◌, length, take, map, find, count_by, nat_lt, unwrap_or, Bool, true, false, not, ◌&&◌, ◌||◌, if◌then◌else◌, Option, Some, None}
+use Rattle.std.specs.Prelude.{codes, ℕ, ◌-◌, List, [], ◌∷◌, ◌++◌, ◌==◌, length, drop, take, map, find, count_by, nat_lt, unwrap_or, option_map, Bool, true, false, not, ◌&&◌, ◌||◌, if◌then◌else◌, Option, Some, None}
 use Rattle.std.specs.Char.{is_ascii_alphanumeric, is_ascii_lowercase, is_ascii_uppercase}
-use Rattle.std.specs.List.{ends_with, list_any, onto_first, slice_get}
+use Rattle.std.specs.List.{ends_with, list_any, onto_first, prefix_len, slice_get}
 use Rattle.page_model.specs.Content.{Piece, words, literal, value, Line}
 use Rattle.description_pages.specs.Margins.{without_margins}
 
@@ -133,6 +133,31 @@ ways text = map without_margins (parts 44 text)
 -- each as a term of an entry
 abbrev pub syntax_terms : List ℕ → List Line
 syntax_terms text = map syntax_line (ways text)
+
+-- ---- what it is called
+
+-- a stretch outside brackets that is a name
+abbrev pub stretch_names : (before text : List ℕ) → List (List ℕ)
+stretch_names before text = if is_outside before && (is_name before text || is_negated before text) then text ∷ [] else []
+
+abbrev pub names_behind : (before : List ℕ) → List (List ℕ) → List (List ℕ)
+names_behind before [] = []
+names_behind before (text ∷ texts) = stretch_names before text ++ names_behind (before ++ text) texts
+
+abbrev pub syntax_names : List ℕ → List (List ℕ)
+syntax_names text = names_behind [] (stretches is_separator text)
+
+-- the first
+abbrev pub first_name : List ℕ → Option (List ℕ)
+first_name text = slice_get (syntax_names text) 0
+
+-- a name without the dashes at its front
+abbrev pub without_dashes : List ℕ → List ℕ
+without_dashes name = drop (prefix_len is_dash name) name
+
+-- the first name without its dashes; the whole text, where it has none
+abbrev pub syntax_word : List ℕ → List ℕ
+syntax_word text = unwrap_or (option_map without_dashes (first_name text)) text
 
 -- ---- the usage
 

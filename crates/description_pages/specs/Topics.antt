@@ -6,7 +6,7 @@ use Rattle.page_model.specs.Content.{BlockSaid, paragraph, code, bullets}
 use Rattle.description_parts.specs.Content.{TopicSaid}
 use Rattle.description_pages.specs.Sections.{SectionSaid, shown_blocks, text_section, without_colon}
 use Rattle.description_pages.specs.Texts.{text_blocks}
-use Rattle.description_pages.specs.Words.{WordsSaid}
+use Rattle.description_parts.specs.Words.{WordsSaid}
 use Rattle.description_pages.specs.declared.sections.Detail.{Detail}
 use Rattle.description_pages.specs.declared.topics.Place.{Place}
 use Rattle.description_pages.specs.declared.topics.Place.TheVariants.{Own, Notes, References}
@@ -27,8 +27,8 @@ and_block (last ∷ []) block = together last block
 and_block (first ∷ second ∷ blocks) block = first ∷ and_block (second ∷ blocks) block
 
 -- blocks, with one list for those that follow one another: a medium has no mark between two
-abbrev pub gathered : List BlockSaid → List BlockSaid
-gathered blocks = fold and_block [] blocks
+abbrev pub merged : List BlockSaid → List BlockSaid
+merged blocks = fold and_block [] blocks
 
 -- ---- where a topic stands
 

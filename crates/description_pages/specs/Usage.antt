@@ -7,7 +7,7 @@ use Rattle.description_parts.specs.Content.{SpellingSaid, named, syntax, OptSaid
 use Rattle.description_pages.specs.Lines.{joined}
 use Rattle.description_pages.specs.Names.{value_piece, short_line, long_line}
 use Rattle.description_pages.specs.Syntax.{has_bar, shown_line, shown_way}
-use Rattle.description_pages.specs.Words.{WordsSaid}
+use Rattle.description_parts.specs.Words.{WordsSaid}
 
 -- ---- brackets
 

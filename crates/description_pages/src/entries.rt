@@ -6,18 +6,17 @@ ghost use Rattle.page_model.specs.View.{block_of, entry_of, line_of};
 ghost use Rattle.bpaf_meta.specs.View.{name_of};
 ghost use Rattle.description_parts.specs.View.{command_said, opt_said, positional_said};
 ghost use Rattle.description_pages.specs.Entries.{alias_notes, behind_lines, body, command_entry, command_terms};
-ghost use Rattle.description_pages.specs.Entries.{initial_terms, named_entry, named_terms, note, noted, noted_body};
-ghost use Rattle.description_pages.specs.Entries.{option_entry, option_notes, option_terms, positional_entry};
+ghost use Rattle.description_pages.specs.Entries.{initial_terms, named_entry, named_terms, named_word, note, noted, noted_body};
+ghost use Rattle.description_pages.specs.Entries.{option_entry, option_notes, option_terms, option_word, positional_entry};
 ghost use Rattle.description_pages.specs.Entries.{positional_notes, positional_terms};
-ghost use Rattle.description_pages.specs.Words.{words_said};
+ghost use Rattle.description_parts.specs.Words.{words_said};
 
 use crate::lines::{joined, one};
 use crate::names::{ArenaLine, character_text, long_line, short_line, value_piece};
-use crate::syntax::syntax_terms;
-use crate::words::FixedWords;
+use crate::syntax::{syntax_terms, syntax_word};
 use bpaf_meta::item::ShortLong;
 use bumpalo::Bump;
-use description_parts::{Command, Opt, Positional, Spelling};
+use description_parts::{Command, FixedWords, Opt, Positional, Spelling};
 use page_model::{Block, Entry, Inline, Line};
 use std::alloc::{AllocError, Allocator};
 
@@ -292,6 +291,29 @@ fn body<'a, A: Allocator + Copy>(
     noted_body(alloc, help, joined(alloc, " ", notes)?)
 }
 
+// ---- what entries are called
+
+fn named_word<'p, A: Allocator>(arena: &'p Bump<A>, name: ShortLong) -> Result<&'p str, AllocError>
+    ensures { IfOk result (λ word. word.now ≡ named_word (name_of name)) }
+{
+    match name {
+        ShortLong::Short(short) => character_text(arena, short),
+        ShortLong::Long(long) | ShortLong::Both(_, long) => Ok(long),
+    }
+}
+
+fn option_word<'p, A: Allocator>(
+    arena: &'p Bump<A>,
+    option: &Opt<'p>,
+) -> Result<&'p str, AllocError>
+    ensures { IfOk result (λ word. word.now ≡ option_word (opt_said option.now).spelling) }
+{
+    match option.spelling {
+        Spelling::Names(name) => named_word(arena, name),
+        Spelling::Syntax(text) => Ok(syntax_word(text)),
+    }
+}
+
 // ---- entries
 
 /// The entry of an option, with the blocks of its help.
@@ -306,6 +328,7 @@ pub fn option_entry<'p, A: Allocator>(
 {
     let notes = option_notes(arena, words, option)?;
     Ok(Entry {
+        word: option_word(arena, option)?,
         page: None,
         terms: option_terms(arena, option)?,
         body: body(arena, help, notes.as_slice())?,
@@ -328,6 +351,7 @@ pub fn positional_entry<'p, A: Allocator>(
         return Ok(None);
     }
     Ok(Some(Entry {
+        word: positional.value,
         page: None,
         terms: positional_terms(arena, positional)?,
         body,
@@ -335,11 +359,11 @@ pub fn positional_entry<'p, A: Allocator>(
 }
 
 /// The entry of a command, with the name of its page and the blocks of its help.
-pub fn command_entry<'p, A: Allocator, B: Allocator>(
+pub fn command_entry<'p, 'a: 'p, A: Allocator, B: Allocator>(
     arena: &'p Bump<A>,
     words: &FixedWords<'p>,
     page: &'p str,
-    command: &Command<'p, B>,
+    command: &Command<'a, B>,
     help: ArenaBlocks<'p, A>,
 ) -> Result<ArenaEntry<'p, A>, AllocError>
     ensures { IfOk result (λ entry. entry_of entry ≡ command_entry (words_said words.now) page.now
@@ -350,6 +374,7 @@ pub fn command_entry<'p, A: Allocator, B: Allocator>(
     let mut notes = Vec::new(arena);
     push_aliases(arena, &mut notes, words.aliases, command.aliases.as_slice())?;
     Ok(Entry {
+        word: command.name,
         page: Some(page),
         terms,
         body: body(arena, help, notes.as_slice())?,

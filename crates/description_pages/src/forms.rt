@@ -6,7 +6,7 @@ ghost use Rattle.page_model.specs.View.{form_of, line_of, piece_of};
 ghost use Rattle.description_pages.specs.Forms.{behind_colon, behind_word, blank_for_tab, form_text, line_form};
 ghost use Rattle.description_pages.specs.Forms.{text_forms, untabbed, usage_forms, without_lead};
 ghost use Rattle.description_parts.specs.View.{level_said};
-ghost use Rattle.description_pages.specs.Words.{words_said};
+ghost use Rattle.description_parts.specs.Words.{words_said};
 ghost use Rattle.description_pages.specs.Forms.{bracket_of, is_empty, is_stand_in, line_parts, part_line};
 ghost use Rattle.description_pages.specs.Forms.{parts_form, restored, restored_piece};
 
@@ -16,9 +16,8 @@ use crate::lone::shaped;
 use crate::names::ArenaLine;
 use crate::syntax::{push_syntax, split_part, without_front, without_margins};
 use crate::usage::usage_items;
-use crate::words::FixedWords;
 use bumpalo::Bump;
-use description_parts::Level;
+use description_parts::{FixedWords, Level};
 use page_model::replaced::{StandIns, push_replaced};
 use page_model::{Form, Inline};
 use std::alloc::{AllocError, Allocator};
@@ -277,11 +276,11 @@ pub fn text_forms<'p, A: Allocator>(
 // ---- the level
 
 /// The forms of the usage of a level: those of its text, or one, of the names that lead there and its items.
-pub fn usage_forms<'p, A: Allocator, B: Allocator>(
+pub fn usage_forms<'p, 'a: 'p, A: Allocator, B: Allocator>(
     arena: &'p Bump<A>,
     words: &FixedWords<'p>,
     names: &'p str,
-    level: &Level<'p, B>,
+    level: &Level<'a, B>,
 ) -> Result<Vec<ArenaForm<'p, A>, &'p Bump<A>>, AllocError>
     ensures { IfOk result (λ forms. map form_of forms.items
         ≡ usage_forms (words_said words.now) names.now (level_said level.now)) }

@@ -4,24 +4,34 @@ ghost use Rattle.description_parts.specs.View.{level_said, opt_said};
 ghost use Rattle.description_pages.specs.Levels.{notes_of, page_of, sections_of, texts_of};
 ghost use Rattle.description_pages.specs.LevelsView.{level_page_of, subject_of};
 ghost use Rattle.description_pages.specs.Sections.{section_of};
-ghost use Rattle.description_pages.specs.Words.{words_said};
+ghost use Rattle.description_parts.specs.Words.{words_said};
 
 use crate::forms::usage_forms;
 use crate::neighbours::{joined_names, neighbours};
 use crate::sections::{ArenaSections, Detail, Making, Section, given_blocks, push_lists};
 use crate::topics::{Place, placed_blocks, push_blocks, push_text_section, push_topics};
-use crate::words::FixedWords;
 use bumpalo::Bump;
-use description_parts::{Level, Opt};
+use description_parts::{FixedWords, Level, Opt};
 use page_model::{Block, Form};
 use std::alloc::{AllocError, Allocator};
 
-/// A level by what its page says: the names that lead there, the level itself, and the options that ask for help.
+/// What stands on the page of a level: it alone, or behind it the levels below, too.
+#[derive(Clone, Copy, Debug, PartialEq, Eq)]
+pub enum Depth {
+    Alone,
+    Deep,
+}
+
+/// A level by what its pages say. Its records may live longer than what is made of them.
 #[derive_where(Clone, Copy)]
-pub struct LevelSubject<'p, C: Allocator> {
+pub struct LevelSubject<'p, 'a, C: Allocator> {
+    /// The names that lead there, that of the application first.
     pub names: &'p [&'p str],
-    pub level: &'p Level<'p, C>,
+    /// What the level above says of it. `None` of the application.
+    pub help: Option<&'p str>,
+    /// The options that ask for help.
     pub help_options: &'p [Opt<'p>],
+    pub level: &'p Level<'a, C>,
 }
 
 /// What the page of a level says, in the order of most media.
@@ -41,9 +51,9 @@ pub struct LevelPage<'a, A: Allocator> {
 }
 
 // The lists, the topics and the notes.
-fn sections<'p, C: Allocator>(
+fn sections<'p, 'a: 'p, C: Allocator>(
     making: Making<'p>,
-    subject: LevelSubject<'p, C>,
+    subject: LevelSubject<'p, 'a, C>,
 ) -> Result<ArenaSections<'p>, AllocError>
     ensures { IfOk result (λ sections. map section_of sections.items ≡ sections_of
         (words_said making.entry.words.now) making.entry.detail (map (λ name. name.now) making.entry.names.now)
@@ -56,10 +66,10 @@ fn sections<'p, C: Allocator>(
     Ok(sections)
 }
 
-fn push_notes<'p, C: Allocator>(
+fn push_notes<'p, 'a: 'p, C: Allocator>(
     making: Making<'p>,
     sections: &mut ArenaSections<'p>,
-    level: &'p Level<'p, C>,
+    level: &'p Level<'a, C>,
 ) -> Result<(), AllocError>
     ensures { OnOk result (map section_of sections.new.items ≡ map section_of sections.old.items
         ++ notes_of (words_said making.entry.words.now) making.entry.detail (texts_of (level_said level.now))) }
@@ -74,11 +84,11 @@ fn push_notes<'p, C: Allocator>(
 
 /// The page of a level, made in an arena: each text in full, or its first block. An error comes only where an
 /// allocation failed.
-pub fn level_page<'p, C: Allocator>(
+pub fn level_page<'p, 'a: 'p, C: Allocator>(
     arena: &'p Bump,
     words: &'p FixedWords<'p>,
     detail: Detail,
-    subject: LevelSubject<'p, C>,
+    subject: LevelSubject<'p, 'a, C>,
 ) -> Result<LevelPage<'p, &'p Bump>, AllocError>
     ensures { IfOk result (λ page. level_page_of page
         ≡ page_of (words_said words.now) detail (subject_of subject.entry)) }

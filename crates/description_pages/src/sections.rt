@@ -13,16 +13,15 @@ ghost use Rattle.description_pages.specs.Sections.{group_sections, joined_names,
 ghost use Rattle.description_pages.specs.Sections.{option_rows, option_rows_of, option_section, page_name};
 ghost use Rattle.description_pages.specs.Sections.{section_of, shown_blocks, value_rows, value_rows_of};
 ghost use Rattle.description_pages.specs.Sections.{without_colon, without_last};
-ghost use Rattle.description_pages.specs.Words.{words_said};
+ghost use Rattle.description_parts.specs.Words.{words_said};
 
 use crate::entries::{ArenaBlocks, command_entry, option_entry, positional_entry};
 use crate::keys::{Row, command_key, entries_once, option_key, positional_key};
 use crate::neighbours::page_name_below;
 use crate::once::Keyed;
 use crate::texts::blocks;
-use crate::words::FixedWords;
 use bumpalo::Bump;
-use description_parts::{Choice, Command, Group, Level, Opt, Positional};
+use description_parts::{Choice, Command, FixedWords, Group, Level, Opt, Positional};
 use page_model::{Block, Entry};
 use std::alloc::{AllocError, Allocator, Global};
 
@@ -147,10 +146,10 @@ fn push_options<'p>(
     Ok(())
 }
 
-fn push_choices<'p, C: Allocator>(
+fn push_choices<'p, 'a: 'p, C: Allocator>(
     making: Making<'p>,
     rows: &mut ArenaRows<'p>,
-    choices: &'p [Choice<'p, C>],
+    choices: &'p [Choice<'a, C>],
 ) -> Result<(), AllocError>
     ensures { OnOk result (map row_said rows.new.items ≡ map row_said rows.old.items
         ++ choice_rows (words_said making.entry.words.now) making.entry.detail (map choice_said choices.now)) }
@@ -196,10 +195,10 @@ fn push_values<'p>(
     Ok(())
 }
 
-fn push_command<'p, C: Allocator>(
+fn push_command<'p, 'a: 'p, C: Allocator>(
     making: Making<'p>,
     rows: &mut ArenaRows<'p>,
-    command: &'p Command<'p, C>,
+    command: &'p Command<'a, C>,
 ) -> Result<(), AllocError>
     ensures { OnOk result (map row_said rows.new.items ≡ map row_said rows.old.items
         ++ command_rows_of (words_said making.entry.words.now) making.entry.detail
@@ -217,10 +216,10 @@ fn push_command<'p, C: Allocator>(
     Ok(())
 }
 
-fn push_commands<'p, C: Allocator>(
+fn push_commands<'p, 'a: 'p, C: Allocator>(
     making: Making<'p>,
     rows: &mut ArenaRows<'p>,
-    commands: &'p [Command<'p, C>],
+    commands: &'p [Command<'a, C>],
 ) -> Result<(), AllocError>
     ensures { OnOk result (map row_said rows.new.items ≡ map row_said rows.old.items
         ++ command_rows (words_said making.entry.words.now) making.entry.detail
@@ -253,10 +252,10 @@ fn push_list<'p>(
     Ok(())
 }
 
-fn push_group<'p, C: Allocator>(
+fn push_group<'p, 'a: 'p, C: Allocator>(
     making: Making<'p>,
     sections: &mut ArenaSections<'p>,
-    group: &'p Group<'p, C>,
+    group: &'p Group<'a, C>,
 ) -> Result<(), AllocError>
     ensures { OnOk result (map section_of sections.new.items ≡ map section_of sections.old.items
         ++ group_section (words_said making.entry.words.now) making.entry.detail
@@ -270,10 +269,10 @@ fn push_group<'p, C: Allocator>(
     push_list(making.arena, sections, without_colon(group.title), rows)
 }
 
-fn push_groups<'p, C: Allocator>(
+fn push_groups<'p, 'a: 'p, C: Allocator>(
     making: Making<'p>,
     sections: &mut ArenaSections<'p>,
-    groups: &'p [Group<'p, C>],
+    groups: &'p [Group<'a, C>],
 ) -> Result<(), AllocError>
     ensures { OnOk result (map section_of sections.new.items ≡ map section_of sections.old.items
         ++ group_sections (words_said making.entry.words.now) making.entry.detail
@@ -285,10 +284,10 @@ fn push_groups<'p, C: Allocator>(
     Ok(())
 }
 
-fn push_arguments<'p, C: Allocator>(
+fn push_arguments<'p, 'a: 'p, C: Allocator>(
     making: Making<'p>,
     sections: &mut ArenaSections<'p>,
-    level: &'p Level<'p, C>,
+    level: &'p Level<'a, C>,
 ) -> Result<(), AllocError>
     ensures { OnOk result (map section_of sections.new.items ≡ map section_of sections.old.items
         ++ argument_section (words_said making.entry.words.now) making.entry.detail (level_said level.now)) }
@@ -299,10 +298,10 @@ fn push_arguments<'p, C: Allocator>(
 }
 
 // The options that are in no group, and behind them those that ask for help.
-fn push_own_options<'p, C: Allocator>(
+fn push_own_options<'p, 'a: 'p, C: Allocator>(
     making: Making<'p>,
     sections: &mut ArenaSections<'p>,
-    level: &'p Level<'p, C>,
+    level: &'p Level<'a, C>,
     help_options: &'p [Opt<'p>],
 ) -> Result<(), AllocError>
     ensures { OnOk result (map section_of sections.new.items ≡ map section_of sections.old.items
@@ -316,10 +315,10 @@ fn push_own_options<'p, C: Allocator>(
     push_list(making.arena, sections, making.words.options, rows)
 }
 
-fn push_own_commands<'p, C: Allocator>(
+fn push_own_commands<'p, 'a: 'p, C: Allocator>(
     making: Making<'p>,
     sections: &mut ArenaSections<'p>,
-    level: &'p Level<'p, C>,
+    level: &'p Level<'a, C>,
 ) -> Result<(), AllocError>
     ensures { OnOk result (map section_of sections.new.items ≡ map section_of sections.old.items
         ++ command_section (words_said making.entry.words.now) making.entry.detail
@@ -331,10 +330,10 @@ fn push_own_commands<'p, C: Allocator>(
 }
 
 /// Puts the lists of a level: arguments, its groups, options and those that ask for help, and commands.
-pub fn push_lists<'p, C: Allocator>(
+pub fn push_lists<'p, 'a: 'p, C: Allocator>(
     making: Making<'p>,
     sections: &mut ArenaSections<'p>,
-    level: &'p Level<'p, C>,
+    level: &'p Level<'a, C>,
     help_options: &'p [Opt<'p>],
 ) -> Result<(), AllocError>
     ensures { OnOk result (map section_of sections.new.items ≡ map section_of sections.old.items

@@ -1,16 +1,17 @@
-//! The syntax of an option: its lines, and the part of it that a usage shows.
-ghost use Rattle.std.specs.Prelude.{◌≡◌, ◌++◌, ◌∷◌, ◌-◌, ◌<◌, ◌≤◌, ◌+◌, ◌==◌, ◌&&◌, [], take, drop, length, false, not};
+//! The syntax of an option: its lines, what it is called, and the part of it that a usage shows.
+ghost use Rattle.std.specs.Prelude.{◌≡◌, ◌++◌, ◌∷◌, ◌-◌, ◌<◌, ◌≤◌, ◌+◌, ◌==◌, ◌&&◌, ◌||◌, [], take, drop, length, false, not};
 ghost use Rattle.std.specs.Prelude.{find, map, IfOk, IfSome, OnOk, MatchOption};
 ghost use Rattle.std.specs.Char.{is_ascii_lowercase};
 ghost use Rattle.std.specs.List.{count_by, list_any, prefix_len, slice_index};
 ghost use Rattle.std.specs.Option.{option_map};
 ghost use Rattle.page_model.specs.View.{line_of, piece_of};
 ghost use Rattle.description_pages.specs.Margins.{without_back, without_front, without_margins};
-ghost use Rattle.description_pages.specs.Syntax.{shown_line, shown_way, ways, first_way, has_bar};
+ghost use Rattle.description_pages.specs.Syntax.{shown_line, shown_way, ways, first_name, first_way, has_bar};
 ghost use Rattle.description_pages.specs.Syntax.{has_form_of_name, has_letter, is_bracket, is_closing, is_lead};
 ghost use Rattle.description_pages.specs.Syntax.{is_metavar, is_name, is_negated, is_one_name, is_opening, is_place};
 ghost use Rattle.description_pages.specs.Syntax.{is_same, is_separator, is_word_byte, parts, stretch_pieces};
-ghost use Rattle.description_pages.specs.Syntax.{stretches, syntax_line, syntax_terms, word_piece, word_pieces};
+ghost use Rattle.description_pages.specs.Syntax.{stretches, syntax_line, syntax_terms, syntax_word, without_dashes};
+ghost use Rattle.description_pages.specs.Syntax.{word_piece, word_pieces};
 ghost use Rattle.description_pages.specs.Syntax.Steps.{is_in};
 
 use page_model::{Inline, Line};
@@ -22,11 +23,13 @@ const NEGATION: &str = "--[no-]";
 // What is left out at the ends of a part.
 const MARGIN: [char; 2] = [' ', '\n'];
 
-// What the bytes of a stretch are, or are not.
+// What the bytes of a stretch are, or are not, and which are counted.
 #[derive(Clone, Copy)]
 enum Class {
     Separator,
     Word,
+    Opening,
+    Closing,
 }
 
 impl Class {
@@ -36,6 +39,8 @@ impl Class {
         match self {
             Class::Separator => is_separator(byte),
             Class::Word => is_word_byte(byte),
+            Class::Opening => is_opening(byte),
+            Class::Closing => is_closing(byte),
         }
     }
 }
@@ -157,6 +162,13 @@ fn is_negated(before: &[u8], run: &[u8]) -> bool
         && has_letter(run)
 }
 
+// Whether a run is a name, or the end of one that can be negated.
+fn is_called(before: &[u8], run: &[u8]) -> bool
+    ensures { result ≡ (is_name before.now run.now || is_negated before.now run.now) }
+{
+    is_name(before, run) || is_negated(before, run)
+}
+
 // ---- the line of a syntax
 
 /// Puts the pieces of a syntax behind those of a line. After `AllocError` some may stand there.
@@ -182,7 +194,7 @@ fn push_stretch<'a, A: Allocator>(
     ensures { OnOk result (line_of line.new.items
         ≡ line_of line.old.items ++ stretch_pieces before.now stretch.now) }
 {
-    if is_name(before, stretch.as_bytes()) || is_negated(before, stretch.as_bytes()) {
+    if is_called(before, stretch.as_bytes()) {
         line.push(Inline::Literal(stretch))?;
         Ok(())
     } else {
@@ -310,6 +322,60 @@ pub fn syntax_terms<'a, A: Allocator + Copy>(
     }
     terms.push(syntax_term(alloc, without_margins(rest))?)?;
     Ok(terms)
+}
+
+// ---- what it is called
+
+fn count(bytes: &[u8], class: Class) -> usize
+    ensures { result ≡ count_by (is_in class) bytes.now }
+{
+    let mut count = 0;
+    for byte in bytes {
+        count += usize::from(class.holds(*byte));
+    }
+    count
+}
+
+fn is_outer_name(is_outside: bool, before: &[u8], run: &[u8]) -> bool
+    ensures { result ≡ (is_outside && (is_name before.now run.now || is_negated before.now run.now)) }
+{
+    is_outside && is_called(before, run)
+}
+
+// The first name outside brackets.
+fn first_name(text: &str) -> Option<&str>
+    ensures { option_map (λ name. name.now) result ≡ first_name text.now }
+{
+    let mut rest = text;
+    let mut opened = 0;
+    let mut closed = 0;
+    while let Some((stretch, behind)) = first_stretch(rest, Class::Separator) {
+        let is_outside = opened == closed;
+        if is_outer_name(is_outside, before(text, rest), stretch.as_bytes()) {
+            return Some(stretch);
+        }
+        opened += count(stretch.as_bytes(), Class::Opening);
+        closed += count(stretch.as_bytes(), Class::Closing);
+        rest = behind;
+    }
+    None
+}
+
+fn without_dashes(name: &str) -> &str
+    ensures { result.now ≡ without_dashes name.now }
+{
+    name.trim_start_matches('-')
+}
+
+/// What an option is called: the first name outside brackets, without the dashes at its front. The whole text where it
+/// has none.
+pub fn syntax_word(text: &str) -> &str
+    ensures { result.now ≡ syntax_word text.now }
+{
+    match first_name(text) {
+        None => text,
+        Some(name) => without_dashes(name),
+    }
 }
 
 // ---- the usage

@@ -24,7 +24,7 @@ mod inside;
 mod lines;
 mod links;
 mod literals;
-mod pieces;
+pub(crate) mod pieces;
 mod spacing;
 
 // The lines of a paragraph, and the items of a list, in an arena.

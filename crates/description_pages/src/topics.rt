@@ -4,9 +4,9 @@ ghost use Rattle.page_model.specs.View.{block_of};
 ghost use Rattle.page_model.specs.declared.parts.Block.TheVariants.{List};
 ghost use Rattle.description_parts.specs.View.{topic_said};
 ghost use Rattle.description_pages.specs.Sections.{section_of, text_section};
-ghost use Rattle.description_pages.specs.Topics.{and_block, gathered, own_section, own_sections, place_of};
+ghost use Rattle.description_pages.specs.Topics.{and_block, merged, own_section, own_sections, place_of};
 ghost use Rattle.description_pages.specs.Topics.{placed_blocks, placed_of, same_title, together};
-ghost use Rattle.description_pages.specs.Words.{words_said};
+ghost use Rattle.description_parts.specs.Words.{words_said};
 
 use crate::entries::ArenaBlocks;
 use crate::sections::{ArenaSections, Body, Making, Section, shown_blocks, without_colon};
@@ -193,7 +193,7 @@ pub fn placed_blocks<'p>(
     topics: &[Topic<'p>],
 ) -> Result<ArenaBlocks<'p, Global>, AllocError>
     ensures { IfOk result (λ blocks. map block_of blocks.items
-        ≡ gathered (placed_blocks (words_said making.entry.words.now) making.entry.detail place (map topic_said topics.now))) }
+        ≡ merged (placed_blocks (words_said making.entry.words.now) making.entry.detail place (map topic_said topics.now))) }
 {
     let mut blocks: ArenaBlocks<'p, Global> = Vec::new(making.arena);
     for topic in topics {

@@ -14,16 +14,15 @@ ghost use Rattle.description_pages.specs.Usage.{is_barred, is_shown_command, lev
 ghost use Rattle.description_pages.specs.Usage.{level_shows_command, member_items, named_items, option_item};
 ghost use Rattle.description_pages.specs.Usage.{option_items, plain_item, positionals_behind, shown_options};
 ghost use Rattle.description_pages.specs.Usage.{shown_positionals, strict_item, strict_value, usage_items};
-ghost use Rattle.description_pages.specs.Words.{words_said};
+ghost use Rattle.description_parts.specs.Words.{words_said};
 
 use crate::entries::ArenaLines;
 use crate::lines::{joined, one};
 use crate::names::{ArenaLine, long_line, short_line, value_piece};
 use crate::syntax::{has_bar, push_syntax, shown_way};
-use crate::words::FixedWords;
 use bpaf_meta::item::ShortLong;
 use bumpalo::Bump;
-use description_parts::{Choice, Command, Group, Level, Opt, Positional, Spelling};
+use description_parts::{Choice, Command, FixedWords, Group, Level, Opt, Positional, Spelling};
 use page_model::{Inline, Line};
 use std::alloc::{AllocError, Allocator};
 
@@ -243,10 +242,10 @@ fn push_members<'p, A: Allocator>(
     Ok(())
 }
 
-fn push_choice<'p, A: Allocator, B: Allocator>(
+fn push_choice<'p, 'a: 'p, A: Allocator, B: Allocator>(
     arena: &'p Bump<A>,
     items: &mut ArenaLines<'p, A>,
-    choice: &Choice<'p, B>,
+    choice: &Choice<'a, B>,
 ) -> Result<(), AllocError>
     ensures { OnOk result (map (λ item. line_of item.items) items.new.items
         ≡ map (λ item. line_of item.items) items.old.items ++ choice_items (choice_said choice.now)) }
@@ -255,10 +254,10 @@ fn push_choice<'p, A: Allocator, B: Allocator>(
     push_members(arena, items, shown.as_slice(), choice.required)
 }
 
-fn push_choices<'p, A: Allocator, B: Allocator>(
+fn push_choices<'p, 'a: 'p, A: Allocator, B: Allocator>(
     arena: &'p Bump<A>,
     items: &mut ArenaLines<'p, A>,
-    choices: &[Choice<'p, B>],
+    choices: &[Choice<'a, B>],
 ) -> Result<(), AllocError>
     ensures { OnOk result (map (λ item. line_of item.items) items.new.items
         ≡ map (λ item. line_of item.items) items.old.items
@@ -388,10 +387,10 @@ fn push_positionals<'p, A: Allocator>(
 
 // ---- groups
 
-fn push_group<'p, A: Allocator, B: Allocator>(
+fn push_group<'p, 'a: 'p, A: Allocator, B: Allocator>(
     arena: &'p Bump<A>,
     items: &mut ArenaLines<'p, A>,
-    group: &Group<'p, B>,
+    group: &Group<'a, B>,
 ) -> Result<(), AllocError>
     ensures { OnOk result (map (λ item. line_of item.items) items.new.items
         ≡ map (λ item. line_of item.items) items.old.items ++ group_items (group_said group.now)) }
@@ -400,10 +399,10 @@ fn push_group<'p, A: Allocator, B: Allocator>(
     push_choices(arena, items, group.choices.as_slice())
 }
 
-fn push_groups<'p, A: Allocator, B: Allocator>(
+fn push_groups<'p, 'a: 'p, A: Allocator, B: Allocator>(
     arena: &'p Bump<A>,
     items: &mut ArenaLines<'p, A>,
-    groups: &[Group<'p, B>],
+    groups: &[Group<'a, B>],
 ) -> Result<(), AllocError>
     ensures { OnOk result (map (λ item. line_of item.items) items.new.items
         ≡ map (λ item. line_of item.items) items.old.items
@@ -415,9 +414,9 @@ fn push_groups<'p, A: Allocator, B: Allocator>(
     Ok(())
 }
 
-fn push_group_positionals<'p, A: Allocator, B: Allocator>(
+fn push_group_positionals<'p, 'a: 'p, A: Allocator, B: Allocator>(
     shown: &mut Vec<Positional<'p>, A>,
-    groups: &[Group<'p, B>],
+    groups: &[Group<'a, B>],
 ) -> Result<(), AllocError>
     ensures { OnOk result (map positional_said shown.new.items ≡ map positional_said shown.old.items
         ++ shown_positionals (flat_map group_positionals (map group_said groups.now))) }
@@ -428,9 +427,9 @@ fn push_group_positionals<'p, A: Allocator, B: Allocator>(
     Ok(())
 }
 
-fn shown_positionals<'p, A: Allocator, B: Allocator>(
+fn shown_positionals<'p, 'a: 'p, A: Allocator, B: Allocator>(
     alloc: A,
-    level: &Level<'p, B>,
+    level: &Level<'a, B>,
 ) -> Result<Vec<Positional<'p>, A>, AllocError>
     ensures { IfOk result (λ shown. map positional_said shown.items
         ≡ shown_positionals (level_positionals (level_said level.now))) }
@@ -492,10 +491,10 @@ fn push_command<'p, A: Allocator>(
 
 // ---- the level
 
-fn push_named<'p, A: Allocator, B: Allocator>(
+fn push_named<'p, 'a: 'p, A: Allocator, B: Allocator>(
     arena: &'p Bump<A>,
     items: &mut ArenaLines<'p, A>,
-    level: &Level<'p, B>,
+    level: &Level<'a, B>,
 ) -> Result<(), AllocError>
     ensures { OnOk result (map (λ item. line_of item.items) items.new.items
         ≡ map (λ item. line_of item.items) items.old.items ++ named_items (level_said level.now)) }
@@ -507,10 +506,10 @@ fn push_named<'p, A: Allocator, B: Allocator>(
 
 /// The items of the usage of a level, behind the names that lead there: its options and choices and those of its
 /// groups, positional values, and what stands for a command.
-pub fn usage_items<'p, A: Allocator, B: Allocator>(
+pub fn usage_items<'p, 'a: 'p, A: Allocator, B: Allocator>(
     arena: &'p Bump<A>,
     words: &FixedWords<'p>,
-    level: &Level<'p, B>,
+    level: &Level<'a, B>,
 ) -> Result<ArenaLines<'p, A>, AllocError>
     ensures { IfOk result (λ items. map (λ item. line_of item.items) items.items
         ≡ usage_items (words_said words.now) (level_said level.now)) }

@@ -1,3 +1,4 @@
 pub mod Content
 pub mod View
+pub mod Words
 pub mod Calls

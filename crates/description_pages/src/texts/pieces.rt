@@ -2,7 +2,8 @@
 
 ghost use Rattle.std.specs.Prelude.{◌≡◌, ◌++◌, ◌∷◌, [], flat_map, string_bytes, IfOk, OnOk};
 ghost use Rattle.page_model.specs.View.{line_of, piece_of};
-ghost use Rattle.description_pages.specs.TextsInside.{nothing, some_words, whole, with_apart, with_words};
+ghost use Rattle.description_pages.specs.TextsInside.{gathered, nothing, some_words, whole, with_apart, with_piece};
+ghost use Rattle.description_pages.specs.TextsInside.{with_words};
 ghost use Rattle.description_pages.specs.TextsView.{draft_of};
 
 use bumpalo::Bump;
@@ -64,7 +65,8 @@ pub fn push_words<'a, A: Allocator>(
     Ok(())
 }
 
-fn push_some<'a, A: Allocator>(line: &mut Line<'a, A>, text: &'a str) -> Result<(), AllocError>
+/// Puts words behind a line, unless there are none.
+pub fn push_some<'a, A: Allocator>(line: &mut Line<'a, A>, text: &'a str) -> Result<(), AllocError>
     ensures { OnOk result (line_of line.new.items ≡ line_of line.old.items ++ some_words text.now) }
 {
     if text.is_empty() {
@@ -108,4 +110,29 @@ pub fn finished<'a>(
     let mut pieces = pieces;
     close(arena, &mut pieces)?;
     Ok(pieces.pieces)
+}
+
+// Puts a piece behind the pieces.
+fn push_piece<'a>(
+    arena: &'a Bump,
+    pieces: &mut Pieces<'a, &'a Bump>,
+    piece: Inline<'a>,
+) -> Result<(), AllocError>
+    ensures { OnOk result (draft_of pieces.new ≡ with_piece (draft_of pieces.old) (piece_of piece.entry)) }
+{
+    match piece {
+        Inline::Words(text) => push_words(pieces, text),
+        other => push_apart(arena, pieces, other),
+    }
+}
+
+/// A line in which words that are neighbours are one piece.
+pub fn gathered<'a>(arena: &'a Bump, line: &[Inline<'a>]) -> Result<Line<'a, &'a Bump>, AllocError>
+    ensures { IfOk result (λ whole. line_of whole.items ≡ gathered (line_of line.now)) }
+{
+    let mut pieces = no_pieces(arena);
+    for piece in line {
+        push_piece(arena, &mut pieces, *piece)?;
+    }
+    finished(arena, pieces)
 }

@@ -2,7 +2,7 @@ use Rattle.std.proofs.Common.{◌++◌, ap, map, ◌∙◌}
 use Rattle.std.proofs.lemmas.Result.{on_ok_weaker}
 use Rattle.description_pages.specs.Rows.{row_said}
 use Rattle.description_pages.specs.Sections.{section_of}
-use Rattle.description_pages.specs.Words.{words_said}
+use Rattle.description_parts.specs.Words.{words_said}
 use Rattle.description_pages.proofs.Lists.{group_listed}
 use Rattle.description_pages.proofs.sections.push_group.Goals as goal
 

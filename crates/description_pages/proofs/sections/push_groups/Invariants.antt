@@ -1,7 +1,7 @@
 use Rattle.std.proofs.Common.{◌≡◌, ◌++◌, drop, map}
 use Rattle.description_parts.specs.View.{groups_said}
 use Rattle.description_pages.specs.Sections.{group_sections, section_of}
-use Rattle.description_pages.specs.Words.{words_said}
+use Rattle.description_parts.specs.Words.{words_said}
 use Rattle.description_pages.proofs.sections.push_groups.Given as goal
 
 abbrev pub invariant-loop-group : goal.invariant-loop-group

@@ -2,7 +2,7 @@ use Rattle.std.proofs.Common.{map}
 use Rattle.std.proofs.lemmas.Result.{on_ok_weaker}
 use Rattle.description_parts.specs.View.{opt_said}
 use Rattle.description_pages.specs.Sections.{section_of}
-use Rattle.description_pages.specs.Words.{words_said}
+use Rattle.description_parts.specs.Words.{words_said}
 use Rattle.description_pages.proofs.Lists.{level_listed}
 use Rattle.description_pages.proofs.sections.push_lists.Goals as goal
 

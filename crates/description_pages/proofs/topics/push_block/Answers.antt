@@ -1,7 +1,7 @@
 use Rattle.std.proofs.Common.{map}
 use Rattle.std.proofs.lemmas.Result.{on_ok_weaker}
 use Rattle.page_model.specs.View.{block_of}
-use Rattle.description_pages.proofs.Gathered.{block_put}
+use Rattle.description_pages.proofs.Merged.{block_put}
 use Rattle.description_pages.proofs.topics.push_block.Goals as goal
 
 pub returns-in-Some : goal.returns-in-Some
