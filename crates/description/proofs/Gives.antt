@@ -38,7 +38,7 @@ gives_with_only P keys read h ms = gives_if P (has_only keys ms) (read ms) (h ms
 
 -- ---- what stands at a key
 
-found : {Y : Type 0} (P : Y → Type 0) (left_out : Option Y) (read : Data → Option Y) (o : Option Data) → Gives P left_out → ((d : Data) → Gives P (read d)) → Gives P (value_or left_out read o)
+pub found : {Y : Type 0} (P : Y → Type 0) (left_out : Option Y) (read : Data → Option Y) (o : Option Data) → Gives P left_out → ((d : Data) → Gives P (read d)) → Gives P (value_or left_out read o)
 found P left_out read o h4 h5 = grind arith
 
 pub gives_optional : {X : Type 0} (P : X → Type 0) (read : Data → Option X) → ((d : Data) → Gives P (read d)) → (key : List ℕ) (ms : Members) → Gives (Gives P) (optional_at read key ms)

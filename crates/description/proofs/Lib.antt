@@ -1,12 +1,5 @@
 pub mod Each
-pub mod Placed
-pub mod TextDocuments
-pub mod SaidTrees
-pub mod NestedTexts
-pub mod SyntaxTexts
-pub mod Nested
 pub mod Views
-pub mod Made
 pub mod Reading
 pub mod Tables
 pub mod Pushed
@@ -15,6 +8,7 @@ pub mod Ordered
 pub mod Distinct
 pub mod Named
 pub mod Refused
+pub mod Titles
 pub mod Gives
 pub mod Parted
 pub mod Literals
@@ -22,9 +16,6 @@ pub mod Notes
 pub mod Stretches
 pub mod Pieces
 pub mod Margins
-pub mod PageNames
-pub mod LevelPages
-pub mod ManualFiles
 pub mod TopicLines
 pub mod TopicChunks
 pub mod Folded
@@ -35,5 +26,6 @@ pub mod WebEntries
 pub mod WebWords
 pub mod WebLists
 pub mod WebSections
+pub mod UsageLead
 pub mod UsageTrees
 pub mod UsageLevels

@@ -1,48 +1,15 @@
--- The first command that a word names.
-use Rattle.std.proofs.Common.{◌≡◌, ℕ, ◌+◌, ◌<◌, ◌≤◌, Bool, true, false, List, [], ◌∷◌, ◌++◌, length, drop, get_or, map, refl, ap, Some, None, arith}
-use Rattle.std.proofs.lemmas.List.{drop_all, drop_more}
-use Rattle.std.specs.List.{find}
-use Rattle.std.specs.Option.{option_or}
-use Rattle.std.proofs.lemmas.List.Folds.{find-append}
-use Rattle.description_parts.specs.Content.{CommandSaid}
-use Rattle.description_parts.specs.View.{command_said, commands_in, groups_said, level_said}
-use Rattle.description_parts.specs.declared.levels.Level.{Level, out-Level}
-use Rattle.description_parts.specs.declared.levels.Group.{Group, out-Group}
+-- A command below a subject.
+use Rattle.std.proofs.Common.{◌≡◌, ℕ, List, [], ◌∷◌, ◌++◌, map, ap, ◌∙◌, arith}
+use Rattle.std.specs.List.{AllZip}
+use Rattle.description_parts.specs.View.{command_said}
 use Rattle.description_parts.specs.declared.levels.Command.{Command, out-Command}
-use Rattle.description_parts.proofs.Views.{open-Level, open-Group, open-Command}
-use Rattle.description.specs.Subjects.{SubjectSaid, below, commands_on, grouped, help_in, level_in, listed}
+use Rattle.description_parts.proofs.Views.{open-Command}
+use Rattle.description.specs.Subjects.{SubjectSaid, below, level_in}
 
--- ---- what the first that passes is, in a list that is looked at from a place on
+-- a copy of names
+pub copied : {X : Type 0} (bytes : X → List ℕ) (xs ys : List X) → AllZip (λ x y. bytes y ≡ bytes x) xs ys → map bytes ys ≡ map bytes xs
+copied bytes (x ∷ xs) (y ∷ ys) h = ap (λ b. b ∷ map bytes ys) h.0 ∙ ap (λ bs. bytes x ∷ bs) (copied bytes xs ys h.1)
+copied bytes z u h = grind arith
 
-module _ {X Y : Type 0} (said : X → Y) (test : Y → Bool) (xs : List X) (i : ℕ) where
-  pub found : (x d : X) → x ≡ get_or xs i d → i < length xs → test (said x) ≡ true → find test (map said (drop i xs)) ≡ Some (said x)
-  found x d at h passes = grind (arith, drop_more)
-
-  pub passed : (x d : X) → x ≡ get_or xs i d → i < length xs → test (said x) ≡ false → find test (map said (drop i xs)) ≡ find test (map said (drop (i + 1) xs))
-  passed x d at h fails = grind (arith, drop_more)
-
-  pub none_left : length xs ≤ i → find test (map said (drop i xs)) ≡ None
-  none_left h = ap (λ ys. find test (map said ys)) (drop_all i xs h)
-
--- ---- the commands of groups and levels
-
-pub listed_all : (ms : List CommandSaid) → listed (commands_in ms) ≡ ms
-listed_all [] = refl
-listed_all (m ∷ ms) = ap (λ ns. m ∷ ns) (listed_all ms)
-
-pub grouped_more : {A : Type 0} (g : Group A) (gs : List (Group A)) → grouped (groups_said (g ∷ gs)) ≡ map command_said (out-Group A g).commands.items ++ grouped (groups_said gs)
-grouped_more {A} g gs = grind (arith, open-Group, listed_all)
-
-module _ {A : Type 0} (test : CommandSaid → Bool) (gs : List (Group A)) (i : ℕ) (g d : Group A) (at : g ≡ get_or gs i d) (h : i < length gs) where
-  pub in_group : find test (grouped (groups_said (drop i gs))) ≡ option_or (find test (map command_said (out-Group A g).commands.items)) (find test (grouped (groups_said (drop (i + 1) gs))))
-  in_group = grind (arith, drop_more, grouped_more, find-append)
-
-pub no_group_left : {A : Type 0} (test : CommandSaid → Bool) (gs : List (Group A)) (i : ℕ) → length gs ≤ i → find test (grouped (groups_said (drop i gs))) ≡ None
-no_group_left test gs i h = ap (λ hs. find test (grouped (groups_said hs))) (drop_all i gs h)
-
-pub on_level : {A : Type 0} (test : CommandSaid → Bool) (l : Level A) → find test (commands_on (level_said l)) ≡ option_or (find test (grouped (groups_said (out-Level A l).groups.items))) (find test (map command_said (out-Level A l).commands.items))
-on_level {A} test l = grind (arith, open-Level, listed_all, find-append)
-
-pub entered : {A : Type 0} (s : SubjectSaid) (m : Command A)
-    → below s (command_said m) ≡ record { path = s.path ++ (out-Command A m).name.now ∷ []; words = s.words; help = help_in (command_said m); help_options = s.help_options; level = level_in (command_said m) }
+pub entered : {A : Type 0} (s : SubjectSaid) (m : Command A) → below s (command_said m) ≡ record { path = s.path ++ (out-Command A m).name.now ∷ []; help_options = s.help_options; level = level_in (command_said m) }
 entered {A} s m = grind (arith, open-Command)

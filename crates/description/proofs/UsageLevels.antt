@@ -17,7 +17,6 @@ use Rattle.description_parts.specs.declared.levels.Level.{Level, Level-F, out-Le
 use Rattle.description_parts.specs.declared.levels.Command.{Command}
 use Rattle.description_parts.specs.declared.levels.Group.{Group, Group-F, out-Group, roll-Group}
 use Rattle.description_parts.proofs.Views.{group_layer, level_layer, made-Group, made-Level, open-Group, open-Level}
-use Rattle.description.specs.Content.{SharedSaid}
 use Rattle.description.specs.Trees.{named_leaf, spelled_item, wrapped, unless_hidden, option_tree, alternative_tree, choice_tree, behind_dashes, positional_tree, titled, once_in_usage, one_of_commands, is_shown, show_command, holds_command, hold_commands, named_group, named_groups, level_tree, placed_groups, placed_group, command_items, command_item}
 use Rattle.description.specs.UsageLines.{texts_in, usage_part}
 use Rattle.description.specs.WebPages.Steps.UsageLevels.{usage_option, usage_choice, usage_positional, usage_command, usage_commands, usage_group, usage_groups, usage_level}
@@ -88,10 +87,10 @@ positional_same p = grind (arith, hidden_same, dashes_same, wrapped_same)
 
 -- ---- commands
 
-command_same : (s r : SharedSaid) (m : CommandSaid) → bare (command_item s (usage_command m)) ≡ bare (command_item r m)
+command_same : (s r : List OptSaid) (m : CommandSaid) → bare (command_item s (usage_command m)) ≡ bare (command_item r m)
 command_same s r (command names h l) = grind arith
 
-commands_same : (s r : SharedSaid) (ms : CommandsSaid) → map bare (command_items s (usage_commands ms)) ≡ map bare (command_items r ms)
+commands_same : (s r : List OptSaid) (ms : CommandsSaid) → map bare (command_items s (usage_commands ms)) ≡ map bare (command_items r ms)
 commands_same s r no_commands = refl
 commands_same s r (commands m ms) = ap (λ t. t ∷ map bare (command_items s (usage_commands ms))) (command_same s r m) ∙ ap (λ ts. bare (command_item r m) ∷ ts) (commands_same s r ms)
 
@@ -107,7 +106,7 @@ hold_same no_groups = refl
 hold_same (groups g gs) = ap (λ b. b || hold_commands (usage_groups gs)) (holds_same g) ∙ ap (λ b. holds_command g || b) (hold_same gs)
 
 -- the place for one of the commands
-place_same : (s q : SharedSaid) (before also required : Bool) (ms : CommandsSaid) → before ≡ also
+place_same : (s q : List OptSaid) (before also required : Bool) (ms : CommandsSaid) → before ≡ also
     → map bare (one_of_commands (before && show_command (usage_commands ms)) required (command_items s (usage_commands ms))) ≡ map bare (one_of_commands (also && show_command ms) required (command_items q ms))
 place_same s q before also required ms e = grind (arith, show_same, one_same, commands_same)
 
@@ -120,23 +119,23 @@ named_groups_same : (gs : GroupsSaid) → map bare (named_groups (usage_groups g
 named_groups_same no_groups = refl
 named_groups_same (groups g gs) = both_same (named_group (usage_group g)) (named_groups (usage_groups gs)) (named_group g) (named_groups gs) (named_group_same g) (named_groups_same gs)
 
-placed_group_same : (s q : SharedSaid) (shown required : Bool) (g : GroupSaid) → map bare (placed_group s shown required (usage_group g)) ≡ map bare (placed_group q shown required g)
+placed_group_same : (s q : List OptSaid) (shown required : Bool) (g : GroupSaid) → map bare (placed_group s shown required (usage_group g)) ≡ map bare (placed_group q shown required g)
 placed_group_same s q shown required (group title os cs ps ms) = grind (arith, titled_same, both_same, map_same, positional_same, place_same)
 
-placed_groups_same : (s q : SharedSaid) (shown required : Bool) (gs : GroupsSaid) → map bare (placed_groups s shown required (usage_groups gs)) ≡ map bare (placed_groups q shown required gs)
+placed_groups_same : (s q : List OptSaid) (shown required : Bool) (gs : GroupsSaid) → map bare (placed_groups s shown required (usage_groups gs)) ≡ map bare (placed_groups q shown required gs)
 placed_groups_same s q shown required no_groups = refl
 placed_groups_same s q shown required (groups g gs) = grind (arith, placed_groups_same s q (shown || holds_command g) required gs, both_same, placed_group_same, holds_same)
 
 -- ---- the whole
 
-level_same : (s q : SharedSaid) (l : LevelSaid) → bare (level_tree s (usage_level l)) ≡ bare (level_tree q l)
+level_same : (s q : List OptSaid) (l : LevelSaid) → bare (level_tree s (usage_level l)) ≡ bare (level_tree q l)
 level_same s q (level t r os cs gs ps ms) = grind (arith, each_same, both_same, map_same, option_same, choice_same, named_groups_same, placed_groups_same, positional_same, place_same, hold_same)
 
 part_same : (path : List (List ℕ)) (t v : Tree) (usage : Option (List ℕ)) → usage_writes true t ≡ usage_writes true v → usage_part path t usage ≡ usage_part path v usage
 part_same path t v usage h4 = grind arith
 
 -- the usage line of a level, written of a tree of what it reads
-line_same : (path : List (List ℕ)) (s q : SharedSaid) (l less : LevelSaid) (t : Tree) (usage : Option (List ℕ)) → less ≡ usage_level l → t ≡ level_tree s less → usage_part path t usage ≡ usage_part path (level_tree q l) usage
+line_same : (path : List (List ℕ)) (s q : List OptSaid) (l less : LevelSaid) (t : Tree) (usage : Option (List ℕ)) → less ≡ usage_level l → t ≡ level_tree s less → usage_part path t usage ≡ usage_part path (level_tree q l) usage
 line_same path s q l less t usage e f = grind (arith, part_same, usage_same, level_same)
 
 -- ---- the commands and the groups of a level
@@ -177,6 +176,6 @@ pub level_made : {A B : Type 0} (l : Level A) (r : Level-F B (Command B) (Group 
     → level_said (roll-Level B r) ≡ usage_level (level_said l)
 level_made {A} {B} l r os cs gs ps ms is eo ec eg ep em ro rc rg rp rm = grind (arith, level_layer, made-Level, open-Level)
 
-pub line_said : {A E : Type 0} (r : Result (List Part) E) (l : Level A) (names path : List (List ℕ)) (s q : SharedSaid) (less : LevelSaid) (t : Tree) → names ≡ path → less ≡ usage_level (level_said l) → t ≡ level_tree s less
+pub line_said : {A E : Type 0} (r : Result (List Part) E) (l : Level A) (names path : List (List ℕ)) (s q : List OptSaid) (less : LevelSaid) (t : Tree) → names ≡ path → less ≡ usage_level (level_said l) → t ≡ level_tree s less
     → IfOk r (λ d. d ≡ document_of (usage_part names t (text_of (out-Level A l).usage))) → IfOk r (λ d. d ≡ document_of (usage_part path (level_tree q (level_said l)) (texts_in (level_said l)).usage))
 line_said {A} r l names path s q less t n e f h = grind (arith, line_same, open-Level)

@@ -15,9 +15,8 @@ use Rattle.description_parts.specs.declared.levels.Level.{Level, out-Level}
 use Rattle.description_parts.specs.declared.levels.Group.{Group, out-Group}
 use Rattle.description_parts.specs.declared.levels.Command.{Command, out-Command}
 use Rattle.description_parts.proofs.Views.{open-Command, open-Group, open-Level}
-use Rattle.description.specs.All.{all_from, below_commands, below_groups, below_level, from_command}
 use Rattle.description.specs.Content.{DescriptionSaid}
-use Rattle.description.specs.Subjects.{SubjectSaid, application, below}
+use Rattle.description.specs.Subjects.{SubjectSaid, all_from, application, below, below_commands, below_groups, below_level, from_command}
 use Rattle.description.specs.Trees.{hold_commands, show_command}
 use Rattle.description.specs.WebPages.{header_events, main_of, nav_of, page_events}
 use Rattle.description.specs.WebPages.Events.{Event, text_in, with_events}

@@ -1,6 +1,7 @@
 -- What a description says, with no memory in it: names and texts are bytes.
-use Rattle.std.specs.Prelude.{ℕ, List, Bool, Option}
+use Rattle.std.specs.Prelude.{ℕ, List, Option}
 use Rattle.description_parts.specs.Content.{OptSaid, LevelSaid}
+use Rattle.description_parts.specs.Words.{WordsSaid}
 
 -- the content of a `Description`
 pub record DescriptionSaid : Type 0 where
@@ -10,6 +11,7 @@ pub record DescriptionSaid : Type 0 where
   pub vendor : Option (List ℕ)
   pub title : Option (List ℕ)
   pub language : List ℕ
+  pub words : WordsSaid
   pub help_options : List OptSaid
   pub level : LevelSaid
 
@@ -19,8 +21,3 @@ pub record TitleWords : Type 0 where
   pub date : Option (List ℕ)
   pub vendor : Option (List ℕ)
   pub title : Option (List ℕ)
-
--- the content of a `Shared`: the options that ask for help, and whether titles of topics are headers
-pub record SharedSaid : Type 0 where
-  pub help_options : List OptSaid
-  pub headers : Bool

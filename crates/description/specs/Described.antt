@@ -10,9 +10,10 @@ use Rattle.std.specs.Cmp.Lexicographic.{slice_cmp}
 use Rattle.bpaf_meta.specs.Content.{Name, short, long, both}
 use Rattle.toml.specs.Data.{Data, array, table, Items, no_items, item, Members, no_members, member, get_member}
 use Rattle.description.specs.Content.{DescriptionSaid, TitleWords}
+use Rattle.description_parts.specs.Words.{WordsSaid, english}
 use Rattle.description_parts.specs.Content.{SpellingSaid, named, syntax, OptSaid, ChoiceSaid, PositionalSaid, TopicSaid, TextsSaid, LevelSaid, level, GroupsSaid, no_groups, groups, GroupSaid, group, CommandsSaid, no_commands, commands, CommandSaid, command, CommandNames}
-use Rattle.description.specs.Described.Texts.{as_body, as_command_name, as_heading, as_language, as_long, as_name, as_program_name, as_text, as_title, as_value}
-use Rattle.description.specs.Described.Values.{has_only, flag_at, optional_at, required_at, tables_at, is_empty, each_table, as_short, as_section, as_date, words_at, as_default, as_syntax, as_values}
+use Rattle.description.specs.Described.Texts.{as_body, as_command_name, as_heading, as_language, as_long, as_name, as_program_name, as_text, as_title, as_value, without_colon}
+use Rattle.description.specs.Described.Values.{has_only, at_key, table_at, flag_at, optional_at, required_at, tables_at, is_empty, each_table, as_short, as_section, as_date, words_at, as_default, as_syntax, as_values}
 use Rattle.description.specs.Described.Taken.{has_distinct_names}
 
 -- ---- keys
@@ -47,7 +48,11 @@ abbrev pub command_keys : List (List ℕ)
 command_keys = codes "name" ∷ codes "short" ∷ codes "help" ∷ codes "hidden" ∷ codes "aliases" ∷ level_keys
 
 abbrev pub description_keys : List (List ℕ)
-description_keys = codes "name" ∷ codes "section" ∷ codes "date" ∷ codes "vendor" ∷ codes "title" ∷ codes "language" ∷ codes "help_option" ∷ level_keys
+description_keys = codes "name" ∷ codes "section" ∷ codes "date" ∷ codes "vendor" ∷ codes "title" ∷ codes "language" ∷ codes "words" ∷ codes "help_option" ∷ level_keys
+
+-- of the table of fixed words
+abbrev pub fixed_keys : List (List ℕ)
+fixed_keys = codes "usage" ∷ codes "arguments" ∷ codes "options" ∷ codes "commands" ∷ codes "contents" ∷ codes "notes" ∷ codes "default" ∷ codes "possible_values" ∷ codes "env" ∷ codes "aliases" ∷ codes "command" ∷ codes "name" ∷ codes "synopsis" ∷ codes "description" ∷ codes "see_also" ∷ []
 
 -- a table with these keys alone, read
 abbrev pub with_only : {X : Type 0} → (keys : List (List ℕ)) → (Members → Option X) → Members → Option X
@@ -246,6 +251,38 @@ abbrev mutual
   as_group (table ms) = group_head ms >>= group_of (commands_at (codes "command") ms)
   as_group _ = None
 
+-- ---- fixed words
+
+-- a title without the colon at its end; or the word that stands for a key that is left out
+abbrev pub fixed_at : (word key : List ℕ) → Members → Option (List ℕ)
+fixed_at word = at_key (Some word) (λ d. option_map without_colon (as_heading d))
+
+-- above the parts of a page
+unfoldable pub with_titles : WordsSaid → Members → Option WordsSaid
+with_titles w ms =
+    fixed_at w.usage (codes "usage") ms >>= (λ usage. fixed_at w.arguments (codes "arguments") ms >>= (λ arguments. fixed_at w.options (codes "options") ms >>= (λ options. fixed_at w.commands (codes "commands") ms >>= (λ commands. fixed_at w.contents (codes "contents") ms >>= (λ contents. fixed_at w.notes (codes "notes") ms >>= (λ notes.
+    Some (record w { usage = usage; arguments = arguments; options = options; commands = commands; contents = contents; notes = notes })))))))
+
+-- in a note, and for a command in a usage
+unfoldable pub with_words_of_notes : WordsSaid → Members → Option WordsSaid
+with_words_of_notes w ms =
+    fixed_at w.default (codes "default") ms >>= (λ default. fixed_at w.possible_values (codes "possible_values") ms >>= (λ possible_values. fixed_at w.env (codes "env") ms >>= (λ env. fixed_at w.aliases (codes "aliases") ms >>= (λ aliases. fixed_at w.command (codes "command") ms >>= (λ command.
+    Some (record w { default = default; possible_values = possible_values; env = env; aliases = aliases; command = command }))))))
+
+-- above the parts of a manual page
+unfoldable pub with_manual_titles : WordsSaid → Members → Option WordsSaid
+with_manual_titles w ms =
+    fixed_at w.name (codes "name") ms >>= (λ name. fixed_at w.synopsis (codes "synopsis") ms >>= (λ synopsis. fixed_at w.description (codes "description") ms >>= (λ description. fixed_at w.see_also (codes "see_also") ms >>= (λ see_also.
+    Some (record w { name = name; synopsis = synopsis; description = description; see_also = see_also })))))
+
+-- in place of those in English
+unfoldable pub fixed_from : Members → Option WordsSaid
+fixed_from = with_only fixed_keys (λ ms. with_titles english ms >>= (λ w. with_words_of_notes w ms >>= (λ v. with_manual_titles v ms)))
+
+abbrev pub fixed_in : Option Members → Option WordsSaid
+fixed_in None = Some english
+fixed_in (Some ms) = fixed_from ms
+
 -- ---- the whole
 
 -- the section of the manual is the first one where none is named
@@ -269,17 +306,18 @@ pub record DescriptionHead : Type 0 where
   pub name : List ℕ
   pub words : TitleWords
   pub language : List ℕ
+  pub fixed : Option Members
   pub help_options : Items
   pub outline : Outline
 
 unfoldable pub description_head : Members → Option DescriptionHead
 description_head = with_only description_keys (λ ms.
-    required_at as_program_name (codes "name") ms >>= (λ name. title_words ms >>= (λ words. optional_at as_language (codes "language") ms >>= (λ language. tables_at (codes "help_option") ms >>= (λ helps. outline_from ms >>= (λ outline.
-    Some (record { name = name; words = words; language = language_from language; help_options = helps; outline = outline })))))))
+    required_at as_program_name (codes "name") ms >>= (λ name. title_words ms >>= (λ words. optional_at as_language (codes "language") ms >>= (λ language. table_at (codes "words") ms >>= (λ fixed. tables_at (codes "help_option") ms >>= (λ helps. outline_from ms >>= (λ outline.
+    Some (record { name = name; words = words; language = language_from language; fixed = fixed; help_options = helps; outline = outline }))))))))
 
-abbrev pub description_of : DescriptionHead → List OptSaid → LevelSaid → DescriptionSaid
-description_of d helps l = record { name = d.name; section = d.words.section; date = d.words.date; vendor = d.words.vendor; title = d.words.title; language = d.language; help_options = helps; level = l }
+abbrev pub description_of : DescriptionHead → WordsSaid → List OptSaid → LevelSaid → DescriptionSaid
+description_of d fixed helps l = record { name = d.name; section = d.words.section; date = d.words.date; vendor = d.words.vendor; title = d.words.title; language = d.language; words = fixed; help_options = helps; level = l }
 
 unfoldable pub described : Members → Option DescriptionSaid
-described ms = description_head ms >>= (λ head. each_table (option_from help_option_keys) head.help_options >>= (λ helps.
-    option_map (description_of head helps) (level_of (groups_at (codes "group") ms) (commands_at (codes "command") ms) head.outline)))
+described ms = description_head ms >>= (λ head. fixed_in head.fixed >>= (λ fixed. each_table (option_from help_option_keys) head.help_options >>= (λ helps.
+    option_map (description_of head fixed helps) (level_of (groups_at (codes "group") ms) (commands_at (codes "command") ms) head.outline))))

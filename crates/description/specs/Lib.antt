@@ -7,12 +7,8 @@ pub mod Topics
 pub mod Syntax
 pub mod Trees
 pub mod UsageLines
-pub mod Pages
 pub mod Paragraphs
 pub mod Notes
-pub mod Manuals
-pub mod All
 pub mod Described
-pub mod ReadOnce
 pub mod Faults
 pub mod WebPages

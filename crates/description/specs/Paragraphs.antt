@@ -1,7 +1,6 @@
 -- The paragraphs of a text.
-use Rattle.std.specs.Prelude.{ℕ, ◌-◌, ◌==◌, ◌&&◌, ◌||◌, nat_lt, List, [], ◌∷◌, take, drop, length, find, count_by, Bool, if◌then◌else◌, Option, option_map}
+use Rattle.std.specs.Prelude.{ℕ, ◌-◌, ◌==◌, ◌&&◌, ◌||◌, List, [], ◌∷◌, take, drop, length, Bool, if◌then◌else◌}
 use Rattle.std.specs.List.{onto_first, prefix_len, suffix_len}
-use Rattle.description.specs.Described.Texts.{has_ink}
 
 abbrev pub is_newline : ℕ → Bool
 is_newline b = b == 10
@@ -36,11 +35,3 @@ without_back text = take (length text - suffix_len is_margin text) text
 
 abbrev pub without_margins : List ℕ → List ℕ
 without_margins text = without_back (without_front text)
-
--- the first paragraph with ink, if there is one
-abbrev pub summary_of : List ℕ → Option (List ℕ)
-summary_of text = option_map without_margins (find has_ink (paragraphs text))
-
--- one behind it has ink too
-abbrev pub goes_on : List ℕ → Bool
-goes_on text = nat_lt 1 (count_by has_ink (paragraphs text))

@@ -1,63 +1,50 @@
--- What a page of a description shows, the application or a command of it, and which words lead there.
-use Rattle.std.specs.Prelude.{ℕ, List, [], ◌∷◌, ◌++◌, Bool, Option, Some, None, option_map, option_and_then, option_to_list, bytes_eq}
-use Rattle.std.specs.List.{find, list_any}
-use Rattle.std.specs.Char.{encode_utf8}
-use Rattle.description.specs.Content.{DescriptionSaid, TitleWords}
-use Rattle.description_parts.specs.Content.{OptSaid, LevelSaid, level, GroupsSaid, no_groups, groups, group, CommandsSaid, no_commands, commands, CommandSaid, command}
+-- What a section of a page shows: the application, or a command of it.
+use Rattle.std.specs.Prelude.{ℕ, List, [], ◌∷◌, ◌++◌, if◌then◌else◌}
+use Rattle.bpaf_meta.specs.Content.{Tree}
+use Rattle.description.specs.Content.{DescriptionSaid}
+use Rattle.description.specs.Trees.{is_shown, level_tree}
+use Rattle.description_parts.specs.Content.{OptSaid, LevelSaid, level, GroupsSaid, no_groups, groups, GroupSaid, group, CommandsSaid, no_commands, commands, CommandSaid, command}
 
--- the names that lead there, the application's first; the words of the title line of its manual page; what the level above says of it, if it
--- is a command; the options that ask for help; and what can be given there
+-- the names that lead there, the application's first; the options that ask for help; and what can be given there
 pub record SubjectSaid : Type 0 where
   pub path : List (List ℕ)
-  pub words : TitleWords
-  pub help : Option (List ℕ)
   pub help_options : List OptSaid
   pub level : LevelSaid
 
-abbrev pub title_words_of : DescriptionSaid → TitleWords
-title_words_of d = record { section = d.section; date = d.date; vendor = d.vendor; title = d.title }
-
 abbrev pub application : DescriptionSaid → SubjectSaid
-application d = record { path = d.name ∷ []; words = title_words_of d; help = None; help_options = d.help_options; level = d.level }
+application d = record { path = d.name ∷ []; help_options = d.help_options; level = d.level }
 
--- ---- which command a word names
+abbrev pub subject_tree : SubjectSaid → Tree
+subject_tree s = level_tree s.help_options s.level
 
-abbrev pub listed : CommandsSaid → List CommandSaid
-listed no_commands = []
-listed (commands m ms) = m ∷ listed ms
-
-abbrev pub grouped : GroupsSaid → List CommandSaid
-grouped no_groups = []
-grouped (groups (group title os cs ps ms) gs) = listed ms ++ grouped gs
-
--- the commands of a level, those of its groups first
-abbrev pub commands_on : LevelSaid → List CommandSaid
-commands_on (level t r os cs gs ps ms) = grouped gs ++ listed ms
-
--- the name of a command, its short name as a text, and its other names
-abbrev pub names_of : CommandSaid → List (List ℕ)
-names_of (command names h l) = names.name ∷ option_to_list (option_map encode_utf8 names.initial) ++ names.aliases
-
-abbrev pub is_named : (word : List ℕ) → CommandSaid → Bool
-is_named word m = list_any (bytes_eq word) (names_of m)
-
--- the first command of the level that the word is a name of
-abbrev pub command_named : (word : List ℕ) → LevelSaid → Option CommandSaid
-command_named word l = find (is_named word) (commands_on l)
-
--- ---- where words lead
+-- ---- what is below
 
 abbrev pub level_in : CommandSaid → LevelSaid
 level_in (command names h l) = l
 
-abbrev pub help_in : CommandSaid → Option (List ℕ)
-help_in (command names h l) = h
-
 -- a command of the subject
 abbrev pub below : SubjectSaid → CommandSaid → SubjectSaid
-below s (command names h l) = record { path = s.path ++ names.name ∷ []; words = s.words; help = h; help_options = s.help_options; level = l }
+below s (command names h l) = record { path = s.path ++ names.name ∷ []; help_options = s.help_options; level = l }
 
--- down from command to command; nowhere, where a word names none
-abbrev pub led_to : (words : List (List ℕ)) → SubjectSaid → Option SubjectSaid
-led_to [] s = Some s
-led_to (word ∷ words) s = option_and_then (λ m. led_to words (below s m)) (command_named word s.level)
+abbrev mutual
+  -- the commands below a subject at any depth that are not hidden: of a level those of its groups first, each before those below it
+  pub below_level : SubjectSaid → LevelSaid → List SubjectSaid
+  below_level s (level t r os cs gs ps ms) = below_groups s gs ++ below_commands s ms
+
+  pub below_groups : SubjectSaid → GroupsSaid → List SubjectSaid
+  below_groups s no_groups = []
+  below_groups s (groups g gs) = below_group s g ++ below_groups s gs
+
+  pub below_group : SubjectSaid → GroupSaid → List SubjectSaid
+  below_group s (group title os cs ps ms) = below_commands s ms
+
+  pub below_commands : SubjectSaid → CommandsSaid → List SubjectSaid
+  below_commands s no_commands = []
+  below_commands s (commands m ms) = from_command s m ++ below_commands s ms
+
+  pub from_command : SubjectSaid → CommandSaid → List SubjectSaid
+  from_command s (command names h l) = if is_shown (command names h l) then below s (command names h l) ∷ below_level (below s (command names h l)) l else []
+
+-- the subject, and the commands below it
+abbrev pub all_from : SubjectSaid → List SubjectSaid
+all_from s = s ∷ below_level s s.level

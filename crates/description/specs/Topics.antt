@@ -49,16 +49,15 @@ topic_document text = document_of (chunks_writes (chunks text))
 
 -- ---- topics
 
--- on a manual page a title is a header, and else a heading as those of lists
-abbrev pub topic_title : (is_header : Bool) → List ℕ → List Write
-topic_title true title = inside block.Header (plain title ∷ [])
-topic_title false title = inside block.Block (inside block.Section2 (emphasis title ∷ []))
+-- the title is a heading as those of lists
+abbrev pub topic_title : List ℕ → List Write
+topic_title title = inside block.Block (inside block.Section2 (emphasis title ∷ []))
 
 -- the text stands in a block of its own
-abbrev pub topic_writes : (is_header : Bool) → TopicSaid → List Write
-topic_writes is_header t = topic_title is_header t.title ++ inside block.Block (doc_writes (topic_document t.text))
+abbrev pub topic_writes : TopicSaid → List Write
+topic_writes t = topic_title t.title ++ inside block.Block (doc_writes (topic_document t.text))
 
 -- the footer of a level: its topics, and behind them the text `footer`; without topics this text alone
-abbrev pub topics_footer : (is_header : Bool) → List TopicSaid → (footer : Option (List ℕ)) → Option (List Part)
-topics_footer is_header [] footer = option_map text_document footer
-topics_footer is_header (t ∷ ts) footer = Some (document_of (flat_map (topic_writes is_header) (t ∷ ts) ++ doc_within block.Block (option_map text_document footer)))
+abbrev pub topics_footer : List TopicSaid → (footer : Option (List ℕ)) → Option (List Part)
+topics_footer [] footer = option_map text_document footer
+topics_footer (t ∷ ts) footer = Some (document_of (flat_map topic_writes (t ∷ ts) ++ doc_within block.Block (option_map text_document footer)))

@@ -1,4 +1,4 @@
--- The tree and the info of a description.
+-- The tree of a level.
 use Rattle.std.specs.Prelude.{ℕ, Bool, true, false, not, ◌&&◌, ◌||◌, List, [], ◌∷◌, ◌++◌, map, Option, Some, None, option_to_list, unwrap_or}
 use Rattle.std.specs.Option.{option_map}
 use Rattle.bpaf_doc.specs.Buffer.Parts.{Part}
@@ -8,7 +8,6 @@ use Rattle.bpaf_meta.specs.Content.{Name, Tree, and_of, or_of, optional, require
 use Rattle.bpaf_meta.specs.Names.{short_name}
 use Rattle.bpaf_meta.specs.View.{trees_in}
 use Rattle.bpaf_help.specs.Chapters.{spaced}
-use Rattle.description.specs.Content.{DescriptionSaid, SharedSaid}
 use Rattle.description.specs.Texts.{plain_document, text_document}
 use Rattle.description.specs.Topics.{topics_footer}
 use Rattle.description.specs.Notes.{command_notes, noted_writes, value_notes}
@@ -126,52 +125,30 @@ abbrev pub named_groups : GroupsSaid → List Tree
 named_groups no_groups = []
 named_groups (groups g gs) = named_group g ++ named_groups gs
 
--- what all levels have in common: on help pages titles of topics are headings as those of lists, on a manual page they are headers
-abbrev pub on_help_pages : (help_options : List OptSaid) → SharedSaid
-on_help_pages os = record { help_options = os; headers = false }
-
-abbrev pub on_manual_page : (help_options : List OptSaid) → SharedSaid
-on_manual_page os = record { help_options = os; headers = true }
-
 -- the texts of a level, of which that of its usage line stands as it is, and the tree of the options that ask for help
-abbrev pub texts_head : TextsSaid → SharedSaid → Head
-texts_head t shared = head (document_said t.about) (document_said t.header) (topics_footer shared.headers t.topics t.footer) (option_map plain_document t.usage) (options_tree shared.help_options)
+abbrev pub texts_head : TextsSaid → List OptSaid → Head
+texts_head t helps = head (document_said t.about) (document_said t.header) (topics_footer t.topics t.footer) (option_map plain_document t.usage) (options_tree helps)
 
-abbrev pub level_head : SharedSaid → LevelSaid → Head
-level_head shared (level t r os cs gs ps ms) = texts_head t shared
+abbrev pub level_head : List OptSaid → LevelSaid → Head
+level_head helps (level t r os cs gs ps ms) = texts_head t helps
 
 abbrev mutual
   -- the parts of a level, in the order of their kinds: what is named stands before what is taken by its place, so a group with both
   -- stands in two places
-  pub level_tree : SharedSaid → LevelSaid → Tree
-  level_tree shared (level t r os cs gs ps ms) = all_of (map option_tree os ++ map choice_tree cs ++ named_groups gs ++ placed_groups shared false r gs ++ map positional_tree ps ++ one_of_commands (hold_commands gs && show_command ms) r (command_items shared ms))
+  pub level_tree : List OptSaid → LevelSaid → Tree
+  level_tree helps (level t r os cs gs ps ms) = all_of (map option_tree os ++ map choice_tree cs ++ named_groups gs ++ placed_groups helps false r gs ++ map positional_tree ps ++ one_of_commands (hold_commands gs && show_command ms) r (command_items helps ms))
 
   -- what each group has of positional values and commands; `shown` says whether a group before holds a command that is not hidden
-  pub placed_groups : SharedSaid → (shown command_required : Bool) → GroupsSaid → List Tree
-  placed_groups shared shown r no_groups = []
-  placed_groups shared shown r (groups g gs) = placed_group shared shown r g ++ placed_groups shared (shown || holds_command g) r gs
+  pub placed_groups : List OptSaid → (shown command_required : Bool) → GroupsSaid → List Tree
+  placed_groups helps shown r no_groups = []
+  placed_groups helps shown r (groups g gs) = placed_group helps shown r g ++ placed_groups helps (shown || holds_command g) r gs
 
-  pub placed_group : SharedSaid → (shown command_required : Bool) → GroupSaid → List Tree
-  placed_group shared shown r (group title os cs ps ms) = titled title (map positional_tree ps ++ one_of_commands (shown && show_command ms) r (command_items shared ms))
+  pub placed_group : List OptSaid → (shown command_required : Bool) → GroupSaid → List Tree
+  placed_group helps shown r (group title os cs ps ms) = titled title (map positional_tree ps ++ one_of_commands (shown && show_command ms) r (command_items helps ms))
 
-  pub command_items : SharedSaid → CommandsSaid → List Tree
-  command_items shared no_commands = []
-  command_items shared (commands m ms) = command_item shared m ∷ command_items shared ms
+  pub command_items : List OptSaid → CommandsSaid → List Tree
+  command_items helps no_commands = []
+  command_items helps (commands m ms) = command_item helps m ∷ command_items helps ms
 
-  pub command_item : SharedSaid → CommandSaid → Tree
-  command_item shared (command names h l) = unless_hidden names.hidden (item (content.command names.name names.initial (help_said h (command_notes names.aliases)) (level_tree shared l) (level_head shared l)))
-
--- ---- the whole
-
-abbrev pub description_tree : DescriptionSaid → Tree
-description_tree d = level_tree (on_help_pages d.help_options) d.level
-
-abbrev pub description_head : DescriptionSaid → Head
-description_head d = level_head (on_help_pages d.help_options) d.level
-
--- those of the manual page of all
-abbrev pub manual_tree : DescriptionSaid → Tree
-manual_tree d = level_tree (on_manual_page d.help_options) d.level
-
-abbrev pub manual_head : DescriptionSaid → Head
-manual_head d = level_head (on_manual_page d.help_options) d.level
+  pub command_item : List OptSaid → CommandSaid → Tree
+  command_item helps (command names h l) = unless_hidden names.hidden (item (content.command names.name names.initial (help_said h (command_notes names.aliases)) (level_tree helps l) (level_head helps l)))

@@ -16,9 +16,8 @@ use Rattle.web_page.specs.Calls.{new_page, whole_page}
 use Rattle.web_page.specs.declared.elements.Element.TheVariants.{Header, Heading, Li, Main, Nav, Ul}
 use Rattle.web_page.specs.declared.elements.Level.TheVariants.{One}
 use Rattle.description_parts.specs.Content.{LevelSaid}
-use Rattle.description.specs.All.{below_level}
 use Rattle.description.specs.Content.{DescriptionSaid}
-use Rattle.description.specs.Subjects.{SubjectSaid, application}
+use Rattle.description.specs.Subjects.{SubjectSaid, application, below_level}
 use Rattle.description.specs.UsageLines.{texts_in}
 use Rattle.description.specs.WebPages.Events.{Event, inside, text_in, with_events}
 use Rattle.description.specs.WebPages.Sections.{application_section, command_section, level_links, link_to, shows_commands}
@@ -33,7 +32,7 @@ header_events d = inside Header (text_in (Heading One) d.name ++ given_text true
 abbrev pub nav_of : (path : List (List ℕ)) → (name : List ℕ) → LevelSaid → List Event
 nav_of path name l = if shows_commands l then inside Nav (inside Ul (inside Li (link_to path name ++ level_links path l))) else []
 
--- a section of the application, and one of each command at any depth that is not hidden, in the order of their manual pages
+-- a section of the application, and one of each command at any depth that is not hidden
 abbrev pub main_of : SubjectSaid → List Event
 main_of s = inside Main (application_section s ++ flat_map command_section (below_level s s.level))
 

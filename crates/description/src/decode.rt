@@ -12,6 +12,7 @@ ghost use Rattle.description.specs.Faults.{IsMemory, Reads};
 ghost use Rattle.description.specs.View.{description_said};
 
 mod faults;
+mod fixed;
 mod levels;
 mod options;
 mod taken;
@@ -23,6 +24,7 @@ use crate::descriptions::Description;
 use bpaf_help::pages::Section;
 pub use faults::DescriptionError;
 use faults::{Fault, Way};
+use fixed::fixed_in;
 use lasting_names::Names;
 use levels::{Outline, level_of, outline_from};
 use options::help_options_in;
@@ -30,15 +32,16 @@ use std::alloc::{AllocError, Allocator};
 use texts::{Kind, checked};
 use toml::value::{Date, Datetime};
 use toml::{Table, Value};
-use values::{check_keys, required_word_at, section_at, tables_at, text_at, value_at};
+use values::{check_keys, required_word_at, section_at, table_at, tables_at, text_at, value_at};
 
-const DESCRIPTION_KEYS: [&str; 18] = [
+const DESCRIPTION_KEYS: [&str; 19] = [
     "name",
     "section",
     "date",
     "vendor",
     "title",
     "language",
+    "words",
     "help_option",
     "about",
     "header",
@@ -88,6 +91,7 @@ fn description_of<'a, A: Allocator + Copy>(
     ensures { Reads (described (table_view table.now)) (λ d. description_said d) result }
 {
     let head = description_head(way.alloc(), names, table)?;
+    let words = fixed_in(way, head.fixed)?;
     let help_options = help_options_in(way, names, head.help_options)?;
     let level = level_of(way, names, head.outline)?;
     Ok(Description {
@@ -97,6 +101,7 @@ fn description_of<'a, A: Allocator + Copy>(
         vendor: head.words.vendor,
         title: head.words.title,
         language: head.language,
+        words,
         help_options,
         level,
     })
@@ -117,6 +122,7 @@ struct DescriptionHead<'a> {
     name: &'static str,
     words: TitleWords<'a>,
     language: &'a str,
+    fixed: Option<&'a Table>,
     help_options: &'a [Value],
     outline: Outline<'a>,
 }
@@ -158,6 +164,7 @@ fn description_head<'a, A: Allocator + Copy>(
         name: required_word_at(names, table, "name", Kind::Program)?,
         words: title_words(alloc, names, table)?,
         language: language_of(text_at(table, "language", Kind::Language)?),
+        fixed: table_at(table, "words")?,
         help_options: tables_at(table, "help_option")?,
         outline: outline_from(alloc, table)?,
     })

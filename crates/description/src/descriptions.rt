@@ -3,14 +3,16 @@ ghost use Rattle.std.specs.Prelude.{◌≡◌, ◌++◌, ◌∷◌, [], None, So
 ghost use Rattle.bpaf_help.specs.View.{section_name};
 ghost use Rattle.description.specs.View.{description_said};
 ghost use Rattle.description_parts.specs.View.{level_said, opt_said};
+ghost use Rattle.description_parts.specs.Words.{english, words_said};
 
 use bpaf_help::pages::Section;
 use description_parts::levels::Level;
 use description_parts::options::Opt;
+use description_parts::words::FixedWords;
 use std::alloc::{AllocError, Allocator, Global};
 
-/// A command line: its name, the words of the title line of its manual page, the language of its texts, the options
-/// that ask for help, and its top level.
+/// A command line: its name, the words of the title line of its manual page, the language of its texts, the words that
+/// stand on each page, the options that ask for help, and its top level.
 #[derive(Drop)]
 #[derive_where(Debug)]
 pub struct Description<'a, A: Allocator = Global> {
@@ -21,6 +23,7 @@ pub struct Description<'a, A: Allocator = Global> {
     pub title: Option<&'a str>,
     /// The tag of the language of the texts, as `en` or `pt-BR`.
     pub language: &'a str,
+    pub words: FixedWords<'a>,
     /// The options that ask for help, here and at each command.
     pub help_options: Vec<Opt<'a>, A>,
     pub level: Level<'a, A>,
@@ -38,6 +41,7 @@ impl<'a, A: Allocator> Description<'a, A> {
               vendor = None;
               title = None;
               language = codes "en";
+              words = english;
               help_options = [];
               level = level_said level.entry;
             } }
@@ -49,6 +53,7 @@ impl<'a, A: Allocator> Description<'a, A> {
             vendor: None,
             title: None,
             language: "en",
+            words: FixedWords::english(),
             help_options: Vec::new(alloc),
             level,
         }
@@ -93,6 +98,14 @@ impl<'a, A: Allocator> Description<'a, A> {
         ensures { description_said result ≡ record (description_said self.entry) { language = language.now } }
     {
         self.language = language;
+        self
+    }
+
+    /// The command line with other words on each page.
+    pub fn words(mut self, words: FixedWords<'a>) -> Description<'a, A>
+        ensures { description_said result ≡ record (description_said self.entry) { words = words_said words.entry } }
+    {
+        self.words = words;
         self
     }
 

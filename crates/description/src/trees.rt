@@ -16,10 +16,8 @@ ghost use Rattle.description.specs.Paragraphs.{without_back};
 ghost use Rattle.description.specs.Trees.{named_group, named_groups, once_in_usage, one_of_commands};
 ghost use Rattle.description.specs.Trees.{option_item, option_tree, options_tree, placed_group};
 ghost use Rattle.description.specs.Trees.{placed_groups, positional_tree, titled, show_command, spelled_item, wrapped};
-ghost use Rattle.description.specs.Trees.{on_help_pages, on_manual_page};
 ghost use Rattle.description.specs.Notes.Steps.{gap_behind, with_note};
 ghost use Rattle.description_parts.specs.Content.{named, syntax};
-ghost use Rattle.description.specs.View.{shared_said};
 ghost use Rattle.description_parts.specs.View.{choice_said, command_said, commands_said, group_said};
 ghost use Rattle.description_parts.specs.View.{groups_said, level_said, opt_said, positional_said, topic_said};
 
@@ -36,37 +34,6 @@ use description_parts::options::{Choice, Opt, Spelling};
 use description_parts::positionals::Positional;
 use description_parts::topics::Topic;
 use std::alloc::{AllocError, Allocator};
-
-/// What the trees and the texts of all levels have in common.
-#[derive(Clone, Copy)]
-pub(crate) struct Shared<'o, 'a> {
-    // The options that ask for help.
-    help_options: &'o [Opt<'a>],
-    // Whether titles of topics are headers.
-    headers: bool,
-}
-
-impl<'o, 'a> Shared<'o, 'a> {
-    /// On help pages titles of topics are headings as those of lists.
-    pub(crate) fn on_help_pages(help_options: &'o [Opt<'a>]) -> Shared<'o, 'a>
-        ensures { shared_said result ≡ on_help_pages (map opt_said help_options.now) }
-    {
-        Shared {
-            help_options,
-            headers: false,
-        }
-    }
-
-    /// On a manual page they are headers.
-    pub(crate) fn on_manual_page(help_options: &'o [Opt<'a>]) -> Shared<'o, 'a>
-        ensures { shared_said result ≡ on_manual_page (map opt_said help_options.now) }
-    {
-        Shared {
-            help_options,
-            headers: true,
-        }
-    }
-}
 
 // Each `put` appends to `parts`; after `AllocError` some may stand there.
 
@@ -616,11 +583,8 @@ fn put_named_groups<A: Allocator, B: Allocator + Copy>(
     Ok(())
 }
 
-/// The tree of some options, each of which may be given.
-pub(crate) fn options_tree<B: Allocator + Copy>(
-    alloc: B,
-    options: &[Opt<'_>],
-) -> Result<Meta<B>, AllocError>
+// The tree of some options, each of which may be given.
+fn options_tree<B: Allocator + Copy>(alloc: B, options: &[Opt<'_>]) -> Result<Meta<B>, AllocError>
     ensures { IfOk result (λ m. tree_of m ≡ options_tree (map opt_said options.now)) }
 {
     let mut parts = Vec::new(alloc);
@@ -631,34 +595,33 @@ pub(crate) fn options_tree<B: Allocator + Copy>(
 // The footer of a level, with its topics.
 fn footer<B: Allocator + Copy>(
     alloc: B,
-    headers: bool,
     topics: &[Topic<'_>],
     footer: Option<&str>,
 ) -> Result<Option<Doc<B>>, AllocError>
-    ensures { IfOk result (λ d. d ≡ topics_footer headers (map topic_said topics.now) (text_of footer.entry)) }
+    ensures { IfOk result (λ d. d ≡ topics_footer (map topic_said topics.now) (text_of footer.entry)) }
 {
     if topics.is_empty() {
         document(alloc, footer)
     } else {
-        Ok(Some(topics_document(alloc, headers, topics, footer)?))
+        Ok(Some(topics_document(alloc, topics, footer)?))
     }
 }
 
-/// The texts of a level, with the options that ask for help.
-pub(crate) fn level_info<A: Allocator, B: Allocator + Copy>(
+// The texts of a level, with the options that ask for help.
+fn level_info<A: Allocator, B: Allocator + Copy>(
     alloc: B,
     level: &Level<'_, A>,
-    shared: Shared<'_, '_>,
+    help_options: &[Opt<'_>],
 ) -> Result<Info<B>, AllocError>
     ensures { IfOk result (λ i. head_of i
-        ≡ level_head (shared_said shared.entry) (level_said level.now)) }
+        ≡ level_head (map opt_said help_options.now) (level_said level.now)) }
 {
     Ok(Info {
         descr: document(alloc, level.about)?,
         header: document(alloc, level.header)?,
-        footer: footer(alloc, shared.headers, &level.topics, level.footer)?,
+        footer: footer(alloc, &level.topics, level.footer)?,
         usage: plain_document(alloc, level.usage)?,
-        help: options_tree(alloc, shared.help_options)?,
+        help: options_tree(alloc, help_options)?,
     })
 }
 
@@ -667,10 +630,10 @@ pub(crate) fn level_info<A: Allocator, B: Allocator + Copy>(
 pub(crate) fn level_tree<A: Allocator, B: Allocator + Copy>(
     alloc: B,
     level: &Level<'_, A>,
-    shared: Shared<'_, '_>,
+    help_options: &[Opt<'_>],
 ) -> Result<Meta<B>, AllocError>
     ensures { IfOk result (λ m. tree_of m
-        ≡ level_tree (shared_said shared.entry) (level_said level.now)) }
+        ≡ level_tree (map opt_said help_options.now) (level_said level.now)) }
 {
     let mut parts = Vec::new(alloc);
     put_options(alloc, &mut parts, &level.options)?;
@@ -681,7 +644,7 @@ pub(crate) fn level_tree<A: Allocator, B: Allocator + Copy>(
         &mut parts,
         &level.groups,
         level.command_required,
-        shared,
+        help_options,
     )?;
     put_positionals(alloc, &mut parts, &level.positionals)?;
     put_commands(
@@ -690,7 +653,7 @@ pub(crate) fn level_tree<A: Allocator, B: Allocator + Copy>(
         &level.commands,
         hold_commands(&level.groups),
         level.command_required,
-        shared,
+        help_options,
     )?;
     Ok(Meta::And(parts))
 }
@@ -701,15 +664,15 @@ fn put_placed_groups<A: Allocator, B: Allocator + Copy>(
     parts: &mut Vec<Meta<B>, B>,
     groups: &Vec<Group<'_, A>, A>,
     is_required: bool,
-    shared: Shared<'_, '_>,
+    help_options: &[Opt<'_>],
 ) -> Result<(), AllocError>
     ensures { OnOk result (map tree_of parts.new.items ≡ map tree_of parts.old.items
-        ++ placed_groups (shared_said shared.entry) false is_required
+        ++ placed_groups (map opt_said help_options.now) false is_required
         (groups_said groups.now.items)) }
 {
     let mut shown = false;
     for group in groups {
-        put_placed_group(alloc, parts, group, shown, is_required, shared)?;
+        put_placed_group(alloc, parts, group, shown, is_required, help_options)?;
         shown = shown || holds_command(group);
     }
     Ok(())
@@ -723,10 +686,10 @@ fn put_placed_group<A: Allocator, B: Allocator + Copy>(
     group: &Group<'_, A>,
     is_shown: bool,
     is_required: bool,
-    shared: Shared<'_, '_>,
+    help_options: &[Opt<'_>],
 ) -> Result<(), AllocError>
     ensures { OnOk result (map tree_of parts.new.items ≡ map tree_of parts.old.items
-        ++ placed_group (shared_said shared.entry) is_shown is_required
+        ++ placed_group (map opt_said help_options.now) is_shown is_required
         (group_said group.now)) }
 {
     let mut members = Vec::new(alloc);
@@ -737,7 +700,7 @@ fn put_placed_group<A: Allocator, B: Allocator + Copy>(
         &group.commands,
         is_shown,
         is_required,
-        shared,
+        help_options,
     )?;
     put_titled(alloc, parts, group.title, members)
 }
@@ -750,14 +713,14 @@ fn put_commands<A: Allocator, B: Allocator + Copy>(
     commands: &Vec<Command<'_, A>, A>,
     is_shown: bool,
     is_required: bool,
-    shared: Shared<'_, '_>,
+    help_options: &[Opt<'_>],
 ) -> Result<(), AllocError>
     ensures { OnOk result (map tree_of parts.new.items ≡ map tree_of parts.old.items
         ++ one_of_commands (is_shown && show_command (commands_said commands.now.items)) is_required
-        (command_items (shared_said shared.entry) (commands_said commands.now.items))) }
+        (command_items (map opt_said help_options.now) (commands_said commands.now.items))) }
 {
     let mut items = Vec::new(alloc);
-    put_command_items(alloc, &mut items, commands, shared)?;
+    put_command_items(alloc, &mut items, commands, help_options)?;
     put_one_of(
         alloc,
         parts,
@@ -772,13 +735,13 @@ fn put_command_items<A: Allocator, B: Allocator + Copy>(
     alloc: B,
     items: &mut Vec<Meta<B>, B>,
     commands: &Vec<Command<'_, A>, A>,
-    shared: Shared<'_, '_>,
+    help_options: &[Opt<'_>],
 ) -> Result<(), AllocError>
     ensures { OnOk result (map tree_of items.new.items ≡ map tree_of items.old.items
-        ++ command_items (shared_said shared.entry) (commands_said commands.now.items)) }
+        ++ command_items (map opt_said help_options.now) (commands_said commands.now.items)) }
 {
     for command in commands {
-        put(items, command_item(alloc, command, shared)?)?;
+        put(items, command_item(alloc, command, help_options)?)?;
     }
     Ok(())
 }
@@ -787,16 +750,16 @@ fn put_command_items<A: Allocator, B: Allocator + Copy>(
 fn command_item<A: Allocator, B: Allocator + Copy>(
     alloc: B,
     command: &Command<'_, A>,
-    shared: Shared<'_, '_>,
+    help_options: &[Opt<'_>],
 ) -> Result<Meta<B>, AllocError>
     ensures { IfOk result (λ m. tree_of m
-        ≡ command_item (shared_said shared.entry) (command_said command.now)) }
+        ≡ command_item (map opt_said help_options.now) (command_said command.now)) }
 {
     if command.hidden {
         return Ok(Meta::Skip);
     }
-    let meta = Box::new(alloc, level_tree(alloc, &command.level, shared)?)?;
-    let info = Box::new(alloc, level_info(alloc, &command.level, shared)?)?;
+    let meta = Box::new(alloc, level_tree(alloc, &command.level, help_options)?)?;
+    let info = Box::new(alloc, level_info(alloc, &command.level, help_options)?)?;
     let item = Item::Command {
         name: command.name,
         short: command.short,

@@ -1,18 +1,18 @@
 -- The characters of each kind of text are those of a text of lines.
-use Rattle.std.proofs.Common.{◌≡◌, ◌==◌, ℕ, zero, suc, ◌+◌, ◌<◌, ◌≤◌, ◌/◌, List, [], ◌∷◌, ◌++◌, Bool, true, false, refl, ap, ◌∙◌, arith, chars}
-use Rattle.std.specs.Prelude.{codes, ◌||◌, not, nat_lt, if◌then◌else◌, flat_map}
+use Rattle.std.proofs.Common.{◌≡◌, ◌==◌, ℕ, zero, suc, ◌+◌, ◌*◌, ◌-◌, ◌<◌, ◌≤◌, ◌/◌, List, [], ◌∷◌, ◌++◌, Bool, true, false, refl, ap, ◌∙◌, arith}
+use Rattle.std.specs.Prelude.{codes, ◌&&◌, ◌||◌, not, nat_lt, if◌then◌else◌, flat_map}
 use Rattle.std.specs.Char.{is_whitespace}
 use Rattle.std.specs.Int.{is_in_range}
 use Rattle.std.specs.List.{list_all}
 use Rattle.std.specs.Fmt.{digits, digits_onto, digit_glyph}
-use Rattle.std.specs.Str.{IsAscii}
+use Rattle.std.specs.Str.{IsAscii, chars, chars_after, continuation_len, lead_bits}
 use Rattle.std.proofs.lemmas.Bool.{and_parts, and_from, or_right}
 use Rattle.std.proofs.lemmas.Bool.Decides.{nat_tests}
 use Rattle.std.proofs.lemmas.List.Folds.{list_all-append}
 use Rattle.std.proofs.lemmas.Str.{chars-IsAscii}
 use Rattle.toml_datetime.specs.Text.{two_wide, date_text}
 use Rattle.toml_datetime.specs.declared.datetime.Date.{Date}
-use Rattle.description.specs.Described.Texts.{has_ink, begins, is_body, is_dash, is_empty_text, is_text, is_value, is_title, is_heading, is_section, is_name, is_long, is_program_name, is_command_name, is_line_character, is_name_character, is_read_once, is_short, is_text_character, is_line, is_language_tag}
+use Rattle.description.specs.Described.Texts.{has_blank_end, without_colon, begins, is_body, is_dash, is_empty_text, is_text, is_value, is_title, is_heading, is_section, is_name, is_long, is_program_name, is_command_name, is_line_character, is_name_character, is_read_once, is_short, is_text_character, is_line, is_language_tag}
 use Rattle.web_page.specs.Models.{is_language}
 use Rattle.description.proofs.Each.{Each}
 
@@ -67,7 +67,27 @@ pub title_plain : (text : List ℕ) → is_title text ≡ true → PlainText tex
 title_plain text h = let both = and_parts (list_all is_line_character (chars text)) (list_all is_read_once text) h in weaker is_line_character is_text_character line (chars text) both.0
 
 pub heading_plain : (text : List ℕ) → is_heading text ≡ true → PlainText text
-heading_plain text h = let both = and_parts (is_title text) (has_ink text) h in title_plain text both.0
+heading_plain text h = let both = and_parts (is_title text) (not (has_blank_end text) && not (is_empty_text (without_colon text))) h in title_plain text both.0
+
+-- the characters of a text without its colon are the first ones of the text
+colon_behind : (n c : ℕ) (text : List ℕ) → Plain (chars_after n c text) → Plain (chars_after n c (without_colon text))
+colon_behind n c [] h = h
+colon_behind zero c (b ∷ []) h = grind (arith, and_parts, plain_cons)
+colon_behind zero c (b ∷ d ∷ text) h = let both = and_parts (is_text_character c) (list_all is_text_character (chars_after (continuation_len b) (lead_bits b) (d ∷ text))) h in
+    plain_cons c (chars_after (continuation_len b) (lead_bits b) (without_colon (d ∷ text))) both.0 (colon_behind (continuation_len b) (lead_bits b) (d ∷ text) both.1)
+colon_behind (suc n) c (b ∷ []) h = grind (arith)
+colon_behind (suc n) c (b ∷ d ∷ text) h = colon_behind n (c * 64 + (b - 128)) (d ∷ text) h
+
+one_plain : (is_colon : Bool) (b : ℕ) → PlainText (b ∷ []) → PlainText (if is_colon then [] else b ∷ [])
+unfolding chars
+one_plain true b h = refl
+one_plain false b h = h
+
+pub colon_plain : (text : List ℕ) → PlainText text → PlainText (without_colon text)
+unfolding chars
+colon_plain [] h = h
+colon_plain (b ∷ []) h = one_plain (b == 58) b h
+colon_plain (b ∷ d ∷ text) h = colon_behind (continuation_len b) (lead_bits b) (d ∷ text) h
 
 pub section_plain : (text : List ℕ) → is_section text ≡ true → PlainText text
 section_plain text h = grind (arith, and_parts, weaker, line)

@@ -7,13 +7,12 @@ use Rattle.std.proofs.lemmas.Grind.{flat_map-append}
 use Rattle.toml.specs.Data.{Data, Members, as_str, get_member}
 use Rattle.description_parts.specs.Content.{GroupsSaid, GroupSaid, CommandsSaid, CommandSaid}
 use Rattle.description.specs.Content.{DescriptionSaid}
-use Rattle.description.specs.Described.{choice_from, command_head, command_keys, command_of, CommandHead, commands_at, described, description_head, description_of, DescriptionHead, group_head, group_of, GroupHead, groups_at, help_option_keys, level_of, option_from, option_keys, Outline, outline_from, positional_from, topic_from}
+use Rattle.description.specs.Described.{choice_from, command_head, command_keys, command_of, CommandHead, commands_at, described, description_head, description_of, DescriptionHead, fixed_in, group_head, group_of, GroupHead, groups_at, help_option_keys, level_of, option_from, option_keys, Outline, outline_from, positional_from, topic_from}
 use Rattle.description.specs.Described.Taken.{are_distinct, command_words, distinct, has_distinct_names, level_commands, level_options, option_names, tables_under, text_under, texts_under}
 use Rattle.description.specs.Described.Texts.{as_command_name, as_text, if_passes, is_command_name, is_empty_text, is_name, is_name_character, is_program_name, is_read_once}
 use Rattle.description.specs.Described.Values.{as_short, each_table, flag_at, has_only, optional_at, required_at, value_or, words_at}
 use Rattle.description.specs.WebPages.Laws.{IdsAreDistinct}
-use Rattle.description.specs.All.{all_from}
-use Rattle.description.specs.Subjects.{application}
+use Rattle.description.specs.Subjects.{all_from, application}
 use Rattle.description_laws.proofs.Among.{Within}
 use Rattle.description_laws.proofs.Apart.{Distinct, distinct_flat, distinct_swap, distinct_test, test_distinct}
 use Rattle.description.proofs.Gives.{Gives, Whatever, given, gives_if, gives_map, gives_required, gives_text, gives_then, gives_whatever}
@@ -158,9 +157,10 @@ described_tells : (ms : Members) → Gives DescriptionTells (described ms)
 unfolding described
 described_tells ms =
     gives_then (HeadTold ms) DescriptionTells (description_head ms) _ (head_there ms) (λ h p.
+    gives_then Whatever DescriptionTells (fixed_in h.fixed) _ (gives_whatever (fixed_in h.fixed)) (λ w v.
     gives_then Whatever DescriptionTells (each_table (option_from help_option_keys) h.help_options) _ (gives_whatever (each_table (option_from help_option_keys) h.help_options)) (λ helps u.
-    gives_map TellsApart DescriptionTells (level_of (groups_at (codes "group") ms) (commands_at (codes "command") ms) h.outline) (description_of h helps)
-    (level_there ms (groups_at (codes "group") ms) (commands_at (codes "command") ms) h.outline (groups_hold tell (codes "group") ms) (commands_hold tell (codes "command") ms) p.distinct) (λ l q. (p.bytes, q))))
+    gives_map TellsApart DescriptionTells (level_of (groups_at (codes "group") ms) (commands_at (codes "command") ms) h.outline) (description_of h w helps)
+    (level_there ms (groups_at (codes "group") ms) (commands_at (codes "command") ms) h.outline (groups_hold tell (codes "group") ms) (commands_hold tell (codes "command") ms) p.distinct) (λ l q. (p.bytes, q)))))
 
 pub ids_are_distinct : IdsAreDistinct
 ids_are_distinct ms d e small =

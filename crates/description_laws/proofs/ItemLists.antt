@@ -11,7 +11,6 @@ use Rattle.bpaf_items.specs.declared.meta_help.entry.HiTy.TheVariants as ty
 use Rattle.bpaf_items.specs.Listing.ItemList.{Entry, listed, entries_of, entries_of_parts, front_type, group_entries, item_entries, item_list, type_of_item}
 use Rattle.bpaf_items.specs.Listing.Keys.{key_of}
 use Rattle.description_parts.specs.Content.{SpellingSaid, OptSaid, ChoiceSaid, PositionalSaid, CommandsSaid, no_commands, commands, CommandSaid, command}
-use Rattle.description.specs.Content.{SharedSaid}
 use Rattle.description.specs.Notes.{command_notes, value_notes}
 use Rattle.description.specs.Texts.{plain_document}
 use Rattle.description.specs.Trees.{all_of, alternative_tree, behind_dashes, choice_tree, command_item, command_items, help_said, level_head, level_tree, named_leaf, one_of_commands, option_item, option_tree, positional_tree, spelled_item, titled, unless_hidden, wrapped, option_leaf, positional_leaf, spelled_leaf}
@@ -27,11 +26,11 @@ without_shorts (flag n s e h) = flag n [] e h
 without_shorts (argument n s m e h) = argument n [] m e h
 without_shorts l = l
 
-module _ (shared : SharedSaid) where
+module _ (helps : List OptSaid) where
   abbrev pub leaf_at : EntrySaid → Leaf
   leaf_at (an_option o) = without_shorts (option_leaf o)
   leaf_at (a_value v) = positional_leaf v
-  leaf_at (a_command (command names h l)) = content.command names.name names.initial (help_said h (command_notes names.aliases)) (level_tree shared l) (level_head shared l)
+  leaf_at (a_command (command names h l)) = content.command names.name names.initial (help_said h (command_notes names.aliases)) (level_tree helps l) (level_head helps l)
 
   abbrev pub item_at : EntrySaid → Entry
   item_at e = listed (leaf_at e)
@@ -108,18 +107,18 @@ module _ (shared : SharedSaid) where
     pub values_list : (vs : List PositionalSaid) → flat_map (entries_of g) (map positional_tree vs) ≡ map item_at (value_entries vs)
     values_list = flat_list positional_tree value_entry value_list
 
-    command_list : (m : CommandSaid) → entries_of g (command_item shared m) ≡ map item_at (command_entry m)
+    command_list : (m : CommandSaid) → entries_of g (command_item helps m) ≡ map item_at (command_entry m)
     command_list (command names h l) = grind arith
 
-    items_list : (ms : CommandsSaid) → flat_map (entries_of g) (command_items shared ms) ≡ map item_at (command_entries ms)
+    items_list : (ms : CommandsSaid) → flat_map (entries_of g) (command_items helps ms) ≡ map item_at (command_entries ms)
     items_list no_commands = refl
     items_list (commands m ms) = grind (arith, items_list ms, command_list, map-append)
 
     one_list : (shown required : Bool) (ts : List Tree) → flat_map (entries_of g) (one_of_commands shown required ts) ≡ flat_map (entries_of g) ts
     one_list shown required ts = grind (arith, append-nil, wrapped_list, parts_list)
 
-    pub commands_list : (shown required : Bool) (ms : CommandsSaid) → flat_map (entries_of g) (one_of_commands shown required (command_items shared ms)) ≡ map item_at (command_entries ms)
-    commands_list shown required ms = one_list shown required (command_items shared ms) ∙ items_list ms
+    pub commands_list : (shown required : Bool) (ms : CommandsSaid) → flat_map (entries_of g) (one_of_commands shown required (command_items helps ms)) ≡ map item_at (command_entries ms)
+    commands_list shown required ms = one_list shown required (command_items helps ms) ∙ items_list ms
 
     pub all_list : (ts : List Tree) → entries_of g (all_of ts) ≡ flat_map (entries_of g) ts
     all_list = parts_list
@@ -132,7 +131,7 @@ module _ (shared : SharedSaid) where
   -- ---- an entry that is listed has one item, and stands under the heading of a type
 
   pub record IsListed (k : HiTy) (e : EntrySaid) : Type 0 where
-    pub alone : entry_items shared e ≡ item_at e ∷ []
+    pub alone : entry_items helps e ≡ item_at e ∷ []
     pub kind : type_of_item (leaf_at e) ≡ k
 
   listed_unless : (k : HiTy) (b : Bool) (e : EntrySaid) → (b ≡ false → IsListed k e) → Each (IsListed k) (if b then [] else e ∷ [])

@@ -2,12 +2,6 @@ pub mod Readers
 pub mod Characters
 pub mod Plain
 pub mod ReadOnce
-pub mod Captured
-pub mod ClearUsage
-pub mod ClearPages
-pub mod ClearTrees
-pub mod PagesReadOnce
-pub mod NestedLevels
 pub mod Among
 pub mod Apart
 pub mod WebTree

@@ -1,20 +1,22 @@
 -- Each text and each name of a description that a TOML text gives is plain, reader by reader.
 use Rattle.std.proofs.lemmas.Grind.{common_steps}
 use Rattle.std.proofs.Common.{ℕ, List, [], ◌++◌, Bool, true, false, Option, Some, refl, codes, arith}
-use Rattle.std.specs.Prelude.{chars, flat_map}
+use Rattle.std.specs.Prelude.{flat_map}
+use Rattle.std.specs.Str.{chars}
 use Rattle.bpaf_meta.specs.Content.{Name}
 use Rattle.toml.specs.Data.{Members}
+use Rattle.description_parts.specs.Words.{WordsSaid, english}
 use Rattle.description_parts.specs.Content.{SpellingSaid, OptSaid, ChoiceSaid, PositionalSaid, TopicSaid, TextsSaid, LevelSaid, GroupsSaid, GroupSaid, CommandsSaid, CommandSaid}
 use Rattle.description.specs.Content.{DescriptionSaid, TitleWords}
-use Rattle.description.specs.Described.{alternative_keys, choice_from, choice_keys, command_head, command_keys, command_of, CommandHead, commands_at, described, description_head, description_keys, description_of, DescriptionHead, group_of, GroupHead, groups_at, level_of, lists_from, name_from, option_from, option_keys, option_spelling, Outline, outline_from, positional_from, texts_from, title_words, topic_from, help_option_keys, is_syntax, spelling_from, unless_there, option_texts, option_value, positional_texts, required_beside, ValueSaid, language_from}
+use Rattle.description.specs.Described.{alternative_keys, choice_from, choice_keys, command_head, command_keys, command_of, CommandHead, commands_at, described, description_head, description_keys, description_of, DescriptionHead, group_of, GroupHead, groups_at, level_of, lists_from, name_from, option_from, option_keys, option_spelling, Outline, outline_from, positional_from, texts_from, title_words, topic_from, topic_keys, help_option_keys, fixed_in, is_syntax, spelling_from, unless_there, option_texts, option_value, positional_texts, required_beside, ValueSaid, language_from}
 use Rattle.description.specs.Described.Taken.{has_distinct_names}
-use Rattle.description.specs.Described.Texts.{as_command_name, as_long, as_name, as_program_name, as_text, as_value, is_command_name, is_long, is_name, is_program_name, is_text, is_value, if_passes, is_line, as_language, is_language_tag}
-use Rattle.description.specs.Described.Values.{as_short, each_table, flag_at, if_short, is_empty, optional_at, required_at, tables_at, as_default, as_syntax, as_texts, as_values, default_text, words_at}
-use Rattle.description_laws.specs.Plain.{characters_of, choice_characters, command_characters, commands_characters, description_characters, group_characters, groups_characters, initial_characters, level_characters, name_characters, option_characters, spelling_characters, positional_characters, texts_characters, topic_characters, TextsArePlain}
-use Rattle.description_laws.proofs.Characters.{body_plain, command_plain, day_plain, digit_plain, english_plain, heading_plain, language_plain, long_plain, name_plain, Plain, plain_append, plain_cons, plain_each, PlainCharacter, PlainText, program_plain, section_plain, short_plain, title_plain, value_plain, line_plain}
+use Rattle.description.specs.Described.Texts.{as_body, as_command_name, as_heading, as_long, as_name, as_program_name, as_text, as_value, is_body, is_command_name, is_heading, is_long, is_name, is_program_name, is_text, is_value, if_passes, is_line, as_language, is_language_tag}
+use Rattle.description.specs.Described.Values.{as_short, each_table, flag_at, if_short, is_empty, optional_at, required_at, table_at, tables_at, as_default, as_syntax, as_texts, as_values, default_text, words_at}
+use Rattle.description_laws.specs.Plain.{each_word, characters_of, choice_characters, command_characters, commands_characters, description_characters, group_characters, groups_characters, initial_characters, level_characters, name_characters, option_characters, spelling_characters, positional_characters, texts_characters, topic_characters, TextsArePlain}
+use Rattle.description_laws.proofs.Characters.{body_plain, colon_plain, command_plain, day_plain, digit_plain, english_plain, heading_plain, language_plain, long_plain, name_plain, Plain, plain_append, plain_cons, plain_each, PlainCharacter, PlainText, program_plain, section_plain, short_plain, title_plain, value_plain, line_plain}
 use Rattle.description.specs.Notes.{listed_texts}
 use Rattle.description.specs.Syntax.{is_well_formed}
-use Rattle.description_laws.proofs.Readers.{Holding, WordsAre, commands_hold, group_title, groups_hold, words_there}
+use Rattle.description_laws.proofs.Readers.{Holding, WordsAre, commands_hold, fixed_hold, group_title, groups_hold, words_there}
 use Rattle.description.proofs.Each.{Each}
 use Rattle.description.proofs.Gives.{given, Gives, gives_each, gives_if, gives_map, gives_optional, gives_passing, gives_required, gives_text, gives_then, gives_unless, gives_whatever, gives_with_only, gives_words, Whatever}
 
@@ -139,7 +141,10 @@ PlainTopic t = Plain (topic_characters t)
 
 topic_plain : (ms : Members) → Gives PlainTopic (topic_from ms)
 unfolding topic_from
-topic_plain = grind (arith, gives_with_only, gives_then, gives_required, gives_text, heading_plain, body_plain, plain_append)
+topic_plain = gives_with_only PlainTopic topic_keys _ (λ ms.
+    gives_then PlainText PlainTopic (required_at as_heading (codes "title") ms) _ (gives_required PlainText as_heading (gives_text PlainText is_heading heading_plain) (codes "title") ms) (λ title t.
+    gives_then PlainText PlainTopic (required_at as_body (codes "text") ms) _ (gives_required PlainText as_body (gives_text PlainText is_body body_plain) (codes "text") ms) (λ text b.
+    plain_append (chars title) (chars text) t b)))
 
 -- ---- what a group and a level say of themselves
 
@@ -244,6 +249,16 @@ all_plain = grind (arith, plain_append, gives_then PlainCommandHead PlainCommand
 abbrev PlainWords : TitleWords → Type 0
 PlainWords = WordsAre PlainText
 
+abbrev PlainFixed : WordsSaid → Type 0
+PlainFixed w = Each PlainText (each_word w)
+
+english_fixed : PlainFixed english
+unfolding chars
+english_fixed = (refl, (refl, (refl, (refl, (refl, (refl, (refl, (refl, (refl, (refl, (refl, (refl, (refl, (refl, (refl, tt)))))))))))))))
+
+words_in : (o : Option Members) → Gives PlainFixed (fixed_in o)
+words_in = fixed_hold PlainText english_fixed (λ text h. colon_plain text (heading_plain text h))
+
 language_named : (o : Option (List ℕ)) → PlainOption o → PlainText (language_from o)
 language_named o h1 = grind (arith, english_plain)
 
@@ -259,23 +274,31 @@ head_there = gives_with_only PlainHead description_keys _ (λ ms.
     gives_then PlainText PlainHead (required_at as_program_name (codes "name") ms) _ (gives_required PlainText as_program_name (gives_text PlainText is_program_name program_plain) (codes "name") ms) (λ name n.
     gives_then PlainWords PlainHead (title_words ms) _ (words_there PlainText section_plain digit_plain title_plain day_plain ms) (λ words w.
     gives_then PlainOption PlainHead (optional_at as_language (codes "language") ms) _ (gives_optional PlainText as_language (gives_text PlainText is_language_tag language_plain) (codes "language") ms) (λ language g.
+    gives_then Whatever PlainHead (table_at (codes "words") ms) _ (gives_whatever (table_at (codes "words") ms)) (λ fixed v.
     gives_then Whatever PlainHead (tables_at (codes "help_option") ms) _ (gives_whatever (tables_at (codes "help_option") ms)) (λ helps u.
     gives_then PlainOutline PlainHead (outline_from ms) _ (outline_there ms) (λ outline o.
-    record { name = n; words = w; language = language_named language g; outline = o }))))))
+    record { name = n; words = w; language = language_named language g; outline = o })))))))
 
 abbrev PlainDescription : DescriptionSaid → Type 0
 PlainDescription d = Plain (description_characters d)
 
-whole : (h : DescriptionHead) (helps : List OptSaid) (l : LevelSaid) → PlainHead h → Each PlainOpt helps → PlainLevel l → PlainDescription (description_of h helps l)
-whole h helps l p o q = grind (arith, plain_append, plain_each, there)
+with_head : (h : DescriptionHead) (behind : List ℕ) → PlainHead h → Plain behind
+    → Plain (chars h.name ++ (chars h.words.section ++ (characters_of h.words.date ++ (characters_of h.words.vendor ++ (characters_of h.words.title ++ (chars h.language ++ behind))))))
+with_head h behind p q = grind (arith, plain_append, there)
+
+whole : (h : DescriptionHead) (w : WordsSaid) (helps : List OptSaid) (l : LevelSaid) → PlainHead h → PlainFixed w → Each PlainOpt helps → PlainLevel l → PlainDescription (description_of h w helps l)
+whole h w helps l p f o q =
+    let behind = plain_append (flat_map chars (each_word w)) (flat_map option_characters helps ++ level_characters l) (plain_each chars (each_word w) f) (plain_append (flat_map option_characters helps) (level_characters l) (plain_each option_characters helps o) q) in
+    with_head h (flat_map chars (each_word w) ++ (flat_map option_characters helps ++ level_characters l)) p behind
 
 described_plain : (ms : Members) → Gives PlainDescription (described ms)
 unfolding described
 described_plain ms =
     gives_then PlainHead PlainDescription (description_head ms) _ (head_there ms) (λ h p.
+    gives_then PlainFixed PlainDescription (fixed_in h.fixed) _ (words_in h.fixed) (λ w f.
     gives_then (Each PlainOpt) PlainDescription (each_table (option_from help_option_keys) h.help_options) _ (gives_each PlainOpt (option_from help_option_keys) (option_plain help_option_keys) h.help_options) (λ helps o.
-    gives_map PlainLevel PlainDescription (level_of (groups_at (codes "group") ms) (commands_at (codes "command") ms) h.outline) (description_of h helps)
-    (level_there (groups_at (codes "group") ms) (commands_at (codes "command") ms) h.outline (groups_hold all_plain (codes "group") ms) (commands_hold all_plain (codes "command") ms) p.outline) (λ l q. whole h helps l p o q)))
+    gives_map PlainLevel PlainDescription (level_of (groups_at (codes "group") ms) (commands_at (codes "command") ms) h.outline) (description_of h w helps)
+    (level_there (groups_at (codes "group") ms) (commands_at (codes "command") ms) h.outline (groups_hold all_plain (codes "group") ms) (commands_hold all_plain (codes "command") ms) p.outline) (λ l q. whole h w helps l p f o q))))
 
 pub texts_are_plain : TextsArePlain
 texts_are_plain ms d e = given PlainDescription (described ms) d (described_plain ms) e

@@ -1,28 +1,26 @@
 -- The title line and the headings of a description that a TOML text gives hold no backslash and no double quote, reader by reader.
 use Rattle.std.proofs.lemmas.Grind.{common_steps}
-use Rattle.std.proofs.Common.{◌≡◌, ℕ, ◌+◌, List, [], ◌∷◌, ◌++◌, map, true, false, Option, refl, sym, ◌∙◌, arith, codes, flat_map}
-use Rattle.std.specs.Prelude.{chars, flat_map, unwrap_or}
+use Rattle.std.proofs.Common.{◌≡◌, ℕ, ◌+◌, List, [], ◌∷◌, ◌++◌, true, false, Option, None, Some, refl, ◌∙◌, arith, codes, flat_map}
+use Rattle.std.specs.Prelude.{◌&&◌, chars, flat_map, not}
 use Rattle.std.specs.Char.{is_ascii_alphanumeric}
 use Rattle.std.specs.List.{list_all}
-use Rattle.std.proofs.lemmas.Bool.{and_parts, and_from, or_right}
+use Rattle.std.proofs.lemmas.Bool.{and_parts, and_from}
 use Rattle.std.proofs.lemmas.Bool.Decides.{nat_tests}
 use Rattle.std.proofs.lemmas.List.Folds.{list_all-append}
-use Rattle.bpaf_roff.specs.Escaping.{newline_as_blank}
-use Rattle.bpaf_doc.specs.Manpage.Events.{word_of}
-use Rattle.bpaf_doc.specs.Manpage.Page.{title_arguments}
 use Rattle.toml.specs.Data.{Members}
 use Rattle.toml_datetime.specs.Text.{date_text}
+use Rattle.description_parts.specs.Words.{WordsSaid, english}
 use Rattle.description_parts.specs.Content.{OptSaid, TopicSaid, LevelSaid, GroupsSaid, GroupSaid, CommandsSaid, CommandSaid}
-use Rattle.description.specs.Content.{DescriptionSaid, TitleWords}
-use Rattle.description.specs.Described.{choice_from, command_head, command_keys, command_of, CommandHead, commands_at, described, description_head, description_keys, description_of, DescriptionHead, group_head, group_of, GroupHead, groups_at, level_of, option_from, Outline, outline_from, positional_from, title_words, topic_from, help_option_keys, option_keys}
-use Rattle.description.specs.Described.Texts.{as_command_name, as_program_name, as_text, has_ink, is_command_name, is_heading, is_line_character, is_long, is_name, is_program_name, is_read_once, is_section, is_title, as_language}
-use Rattle.description.specs.Described.Values.{as_short, each_table, optional_at, required_at, tables_at, flag_at, words_at}
-use Rattle.description.specs.ReadOnce.{command_headings, commands_headings, group_headings, groups_headings, is_word_read_once, level_headings}
-use Rattle.description.specs.Subjects.{title_words_of}
+use Rattle.description.specs.Content.{TitleWords}
+use Rattle.description.specs.Described.{choice_from, command_head, command_keys, command_of, CommandHead, commands_at, described, description_head, description_keys, description_of, DescriptionHead, fixed_in, group_head, group_of, GroupHead, groups_at, level_of, option_from, Outline, outline_from, positional_from, title_words, topic_from, help_option_keys, option_keys}
+use Rattle.description.specs.Described.Texts.{as_command_name, as_program_name, as_text, has_blank_end, is_command_name, is_empty_text, without_colon, is_heading, is_line_character, is_long, is_name, is_program_name, is_read_once, is_section, is_title, as_language}
+use Rattle.description.specs.Described.Values.{as_short, each_table, optional_at, required_at, table_at, tables_at, flag_at, words_at}
+use Rattle.description_laws.specs.Plain.{each_word}
+use Rattle.description_laws.specs.ReadOnce.{IsReadOnce, TitlesAreReadOnce, command_headings, commands_headings, given, group_headings, groups_headings, level_headings}
 use Rattle.description_laws.proofs.Characters.{date_bytes, Dates, digit_bytes, is_date_byte, weaker}
-use Rattle.description_laws.proofs.Readers.{Holding, WordsAre, commands_hold, group_title, groups_hold, words_there}
+use Rattle.description_laws.proofs.Readers.{Holding, WordsAre, commands_hold, fixed_hold, group_title, groups_hold, words_there}
 use Rattle.description.proofs.Each.{Each}
-use Rattle.description.proofs.Gives.{Gives, gives_each, gives_map, gives_required, gives_text, gives_then, gives_whatever, gives_with_only, Whatever, gives_words}
+use Rattle.description.proofs.Gives.{given as given_there, Gives, gives_each, gives_map, gives_required, gives_text, gives_then, gives_whatever, gives_with_only, Whatever, gives_words}
 
 -- ---- texts
 
@@ -35,19 +33,11 @@ OnceOption = Gives Once
 pub once_append : (xs ys : List ℕ) → Once xs → Once ys → Once (xs ++ ys)
 once_append xs ys h k = list_all-append is_read_once xs ys ∙ and_from (list_all is_read_once xs) (list_all is_read_once ys) h k
 
--- what holds one is read once as well
-pub once_parts : (xs ys : List ℕ) → Once (xs ++ ys) → Once xs × Once ys
-once_parts xs ys h = and_parts (list_all is_read_once xs) (list_all is_read_once ys) (sym (list_all-append is_read_once xs ys) ∙ h)
-
-pub once_map : (f : ℕ → ℕ) → ((b : ℕ) → is_read_once b ≡ true → is_read_once (f b) ≡ true) → (bs : List ℕ) → Once bs → Once (map f bs)
-once_map f k [] h = refl
-once_map f k (b ∷ bs) h = grind (arith, once_map f k bs, and_parts, and_from)
-
 title_once : (text : List ℕ) → is_title text ≡ true → Once text
 title_once text h = let both = and_parts (list_all is_line_character (chars text)) (list_all is_read_once text) h in both.1
 
 heading_once : (text : List ℕ) → is_heading text ≡ true → Once text
-heading_once text h = let both = and_parts (is_title text) (has_ink text) h in title_once text both.0
+heading_once text h = let both = and_parts (is_title text) (not (has_blank_end text) && not (is_empty_text (without_colon text))) h in title_once text both.0
 
 program_once : (text : List ℕ) → is_program_name text ≡ true → Once text
 program_once text h = let both = and_parts (is_name text) (list_all is_read_once text) h in both.1
@@ -155,49 +145,50 @@ head_there = gives_with_only OnceHead description_keys _ (λ ms.
     gives_then Once OnceHead (required_at as_program_name (codes "name") ms) _ (gives_required Once as_program_name (gives_text Once is_program_name program_once) (codes "name") ms) (λ name n.
     gives_then OnceWords OnceHead (title_words ms) _ (words_there Once section_once (λ n h. dates_once ((48 + n) ∷ []) (digit_bytes n h)) title_once (λ d. dates_once (date_text d) (date_bytes d)) ms) (λ words w.
     gives_then Whatever OnceHead (optional_at as_language (codes "language") ms) _ (gives_whatever (optional_at as_language (codes "language") ms)) (λ language g.
+    gives_then Whatever OnceHead (table_at (codes "words") ms) _ (gives_whatever (table_at (codes "words") ms)) (λ fixed v.
     gives_then Whatever OnceHead (tables_at (codes "help_option") ms) _ (gives_whatever (tables_at (codes "help_option") ms)) (λ helps u.
     gives_then Whatever OnceHead (outline_from ms) _ (gives_whatever (outline_from ms)) (λ outline o.
-    record { name = n; words = w }))))))
+    record { name = n; words = w })))))))
 
--- a newline that becomes a blank changes nothing of it
-blanked : (b : ℕ) → is_read_once b ≡ true → is_read_once (newline_as_blank b) ≡ true
-blanked b h = grind (arith, nat_tests)
-
-pub word_once : (bs : List ℕ) → Once bs → is_word_read_once (word_of bs) ≡ true
-word_once bs h1 = grind (arith, or_right, once_map, blanked)
-
-dash_or : (o : Option (List ℕ)) → OnceOption o → Once (unwrap_or o (codes "-"))
-dash_or o h1 = grind arith
-
-nothing_or : (o : Option (List ℕ)) → OnceOption o → Once (unwrap_or o [])
-nothing_or o h1 = grind arith
-
-then_word : (bs : List ℕ) (words : List (List ℕ)) → Once bs → list_all is_word_read_once (map word_of words) ≡ true → list_all is_word_read_once (map word_of (bs ∷ words)) ≡ true
-then_word bs words h k = and_from (is_word_read_once (word_of bs)) (list_all is_word_read_once (map word_of words)) (word_once bs h) k
-
--- the words of a title line
-pub line_once : (name : List ℕ) (w : TitleWords) → Once name → OnceWords w → list_all is_word_read_once (map word_of (title_arguments name w.section w.date w.vendor w.title)) ≡ true
-line_once name w n p =
-    let last = then_word (unwrap_or w.title []) [] (nothing_or w.title p.title) refl in
-    let sold = then_word (unwrap_or w.vendor (codes "-")) (unwrap_or w.title [] ∷ []) (dash_or w.vendor p.vendor) last in
-    let dated = then_word (unwrap_or w.date (codes "-")) (unwrap_or w.vendor (codes "-") ∷ unwrap_or w.title [] ∷ []) (dash_or w.date p.date) sold in
-    let placed = then_word w.section (unwrap_or w.date (codes "-") ∷ unwrap_or w.vendor (codes "-") ∷ unwrap_or w.title [] ∷ []) p.section dated in
-    then_word name (w.section ∷ unwrap_or w.date (codes "-") ∷ unwrap_or w.vendor (codes "-") ∷ unwrap_or w.title [] ∷ []) n placed
+given_once : (o : Option (List ℕ)) → OnceOption o → Once (given o)
+given_once None h = refl
+given_once (Some text) h = h
 
 -- ---- the whole
 
-pub record OnceSaid (d : DescriptionSaid) : Type 0 where
-  pub name : Once d.name
-  pub words : OnceWords (title_words_of d)
-  pub level : Once (level_headings d.level)
+abbrev OnceFixed : WordsSaid → Type 0
+OnceFixed w = Each Once (each_word w)
 
-whole : (h : DescriptionHead) (helps : List OptSaid) (l : LevelSaid) → OnceHead h → OnceLevel l → OnceSaid (description_of h helps l)
-whole h helps l p q = grind arith
+english_once : OnceFixed english
+english_once = (refl, (refl, (refl, (refl, (refl, (refl, (refl, (refl, (refl, (refl, (refl, (refl, (refl, (refl, (refl, tt)))))))))))))))
 
-pub described_once : (ms : Members) → Gives OnceSaid (described ms)
+-- a text without its colon
+colon_once : (text : List ℕ) → Once text → Once (without_colon text)
+colon_once [] h = h
+colon_once (b ∷ []) h = grind (arith)
+colon_once (b ∷ c ∷ text) h = let both = and_parts (is_read_once b) (list_all is_read_once (c ∷ text)) h in and_from (is_read_once b) (list_all is_read_once (without_colon (c ∷ text))) both.0 (colon_once (c ∷ text) both.1)
+
+words_once : (o : Option Members) → Gives OnceFixed (fixed_in o)
+words_once = fixed_hold Once english_once (λ text h. colon_once text (heading_once text h))
+
+whole : (h : DescriptionHead) (w : WordsSaid) (helps : List OptSaid) (l : LevelSaid) → OnceHead h → OnceFixed w → OnceLevel l → IsReadOnce (description_of h w helps l)
+whole h w helps l p f q = record {
+  title_line = once_append h.name (h.words.section ++ (given h.words.date ++ (given h.words.vendor ++ given h.words.title))) p.name
+      (once_append h.words.section (given h.words.date ++ (given h.words.vendor ++ given h.words.title)) p.words.section
+      (once_append (given h.words.date) (given h.words.vendor ++ given h.words.title) (given_once h.words.date p.words.date)
+      (once_append (given h.words.vendor) (given h.words.title) (given_once h.words.vendor p.words.vendor) (given_once h.words.title p.words.title))));
+  headings = q;
+  words = once_each (each_word w) f;
+}
+
+described_once : (ms : Members) → Gives IsReadOnce (described ms)
 unfolding described
 described_once ms =
-    gives_then OnceHead OnceSaid (description_head ms) _ (head_there ms) (λ h p.
-    gives_then Whatever OnceSaid (each_table (option_from help_option_keys) h.help_options) _ (gives_whatever (each_table (option_from help_option_keys) h.help_options)) (λ helps u.
-    gives_map OnceLevel OnceSaid (level_of (groups_at (codes "group") ms) (commands_at (codes "command") ms) h.outline) (description_of h helps)
-    (level_there (groups_at (codes "group") ms) (commands_at (codes "command") ms) h.outline (groups_hold all_once (codes "group") ms) (commands_hold all_once (codes "command") ms)) (λ l q. whole h helps l p q)))
+    gives_then OnceHead IsReadOnce (description_head ms) _ (head_there ms) (λ h p.
+    gives_then OnceFixed IsReadOnce (fixed_in h.fixed) _ (words_once h.fixed) (λ w f.
+    gives_then Whatever IsReadOnce (each_table (option_from help_option_keys) h.help_options) _ (gives_whatever (each_table (option_from help_option_keys) h.help_options)) (λ helps u.
+    gives_map OnceLevel IsReadOnce (level_of (groups_at (codes "group") ms) (commands_at (codes "command") ms) h.outline) (description_of h w helps)
+    (level_there (groups_at (codes "group") ms) (commands_at (codes "command") ms) h.outline (groups_hold all_once (codes "group") ms) (commands_hold all_once (codes "command") ms)) (λ l q. whole h w helps l p f q))))
+
+pub titles_are_read_once : TitlesAreReadOnce
+titles_are_read_once ms d e = given_there IsReadOnce (described ms) d (described_once ms) e

@@ -1,6 +1,6 @@
--- What holds of that which a TOML text gives, for any law: of the words of a title line, and of groups and commands in one another.
+-- What holds of that which a TOML text gives, for any law: of the words of a title line, of fixed words, and of groups and commands in one another.
 use Rattle.std.proofs.Common.{◌≡◌, ℕ, ◌+◌, Ordering, nat_cmp, List, [], ◌∷◌, ◌++◌, true, Option, Some, None, refl, codes, option_and_then, option_to_list, ℤ, arith}
-use Rattle.std.specs.Prelude.{nat_lt}
+use Rattle.std.specs.Prelude.{nat_lt, option_map}
 use Rattle.std.specs.Cmp.Lexicographic.{slice_cmp}
 use Rattle.std.specs.Ordering.{match_ordering}
 use Rattle.toml.specs.Data.{Data, array, table, Items, no_items, item, Members, no_members, member, as_table, get_member}
@@ -8,13 +8,16 @@ use Rattle.toml_datetime.specs.Text.{date_text}
 use Rattle.toml_datetime.specs.declared.datetime.Date.{Date}
 use Rattle.toml_datetime.specs.declared.datetime.Time.{Time}
 use Rattle.toml_datetime.specs.declared.datetime.Offset.{Offset}
+use Rattle.description_parts.specs.Words.{WordsSaid, english}
 use Rattle.description_parts.specs.Content.{GroupsSaid, no_groups, groups, GroupSaid, CommandsSaid, no_commands, commands, CommandSaid}
 use Rattle.description.specs.Content.{TitleWords}
-use Rattle.description.specs.Described.{as_command, as_commands, as_group, as_groups, command_head, command_of, commands_at, each_command, each_group, group_head, GroupHead, group_of, groups_at, section_from, title_words}
+use Rattle.description.specs.Described.{as_command, as_commands, as_group, as_groups, command_head, command_of, commands_at, each_command, each_group, fixed_at, fixed_from, fixed_in, fixed_keys, group_head, GroupHead, group_of, groups_at, section_from, title_words, with_manual_titles, with_titles, with_words_of_notes}
 use Rattle.description.specs.Described.Taken.{tables_in, tables_of, tables_under}
-use Rattle.description.specs.Described.Texts.{as_title, is_heading, is_section, is_title}
+use Rattle.description.specs.Described.Texts.{as_heading, as_title, is_heading, is_section, is_title, without_colon}
 use Rattle.description.specs.Described.Values.{as_date, as_section, day_text, digit_text, optional_at}
-use Rattle.description.proofs.Gives.{Gives, gives_if, gives_map, gives_optional, gives_passing, gives_required, gives_text, gives_then, gives_whatever, gives_with_only}
+use Rattle.description_laws.specs.Plain.{each_word}
+use Rattle.description.proofs.Each.{Each}
+use Rattle.description.proofs.Gives.{found, Gives, gives_if, gives_map, gives_optional, gives_passing, gives_required, gives_text, gives_then, gives_whatever, gives_with_only}
 
 -- ---- the words of a title line, and the title of a group
 
@@ -58,6 +61,64 @@ module _ (P : List ℕ → Type 0) where
         gives_then (Gives P) (WordsAre P) (optional_at as_title (codes "vendor") ms) _ (title_there (codes "vendor") ms) (λ vendor v.
         gives_then (Gives P) (WordsAre P) (optional_at as_title (codes "title") ms) _ (title_there (codes "title") ms) (λ title t.
         record { section = section_named section s; date = d; vendor = v; title = t }))))
+
+-- ---- fixed words
+
+abbrev Headed : List ℕ → Type 0
+Headed text = is_heading text ≡ true
+
+module _ (P : List ℕ → Type 0) where
+  abbrev pub FixedAre : WordsSaid → Type 0
+  FixedAre w = Each P (each_word w)
+
+  module _ (english_are : FixedAre english) (heading : (text : List ℕ) → is_heading text ≡ true → P (without_colon text)) where
+    -- a heading without its colon
+    bare : (d : Data) → Gives P (option_map without_colon (as_heading d))
+    bare d = gives_map Headed P (as_heading d) without_colon (gives_text Headed is_heading (λ text h. h) d) heading
+
+    fixed_there : (word key : List ℕ) (ms : Members) → P word → Gives P (fixed_at word key ms)
+    fixed_there word key ms h = found P (Some word) (λ d. option_map without_colon (as_heading d)) (get_member key ms) h bare
+
+    titles_there : (w : WordsSaid) (ms : Members) → FixedAre w → Gives FixedAre (with_titles w ms)
+    unfolding with_titles
+    titles_there w ms h =
+        gives_then P FixedAre (fixed_at w.usage (codes "usage") ms) _ (fixed_there w.usage (codes "usage") ms h.0) (λ usage a.
+        gives_then P FixedAre (fixed_at w.arguments (codes "arguments") ms) _ (fixed_there w.arguments (codes "arguments") ms h.1.0) (λ arguments b.
+        gives_then P FixedAre (fixed_at w.options (codes "options") ms) _ (fixed_there w.options (codes "options") ms h.1.1.0) (λ options c.
+        gives_then P FixedAre (fixed_at w.commands (codes "commands") ms) _ (fixed_there w.commands (codes "commands") ms h.1.1.1.0) (λ commands d.
+        gives_then P FixedAre (fixed_at w.contents (codes "contents") ms) _ (fixed_there w.contents (codes "contents") ms h.1.1.1.1.0) (λ contents e.
+        gives_then P FixedAre (fixed_at w.notes (codes "notes") ms) _ (fixed_there w.notes (codes "notes") ms h.1.1.1.1.1.0) (λ notes f.
+        (a, (b, (c, (d, (e, (f, h.1.1.1.1.1.1))))))))))))
+
+    notes_there : (w : WordsSaid) (ms : Members) → FixedAre w → Gives FixedAre (with_words_of_notes w ms)
+    unfolding with_words_of_notes
+    notes_there w ms h =
+        gives_then P FixedAre (fixed_at w.default (codes "default") ms) _ (fixed_there w.default (codes "default") ms h.1.1.1.1.1.1.0) (λ default a.
+        gives_then P FixedAre (fixed_at w.possible_values (codes "possible_values") ms) _ (fixed_there w.possible_values (codes "possible_values") ms h.1.1.1.1.1.1.1.0) (λ values b.
+        gives_then P FixedAre (fixed_at w.env (codes "env") ms) _ (fixed_there w.env (codes "env") ms h.1.1.1.1.1.1.1.1.0) (λ env c.
+        gives_then P FixedAre (fixed_at w.aliases (codes "aliases") ms) _ (fixed_there w.aliases (codes "aliases") ms h.1.1.1.1.1.1.1.1.1.0) (λ aliases d.
+        gives_then P FixedAre (fixed_at w.command (codes "command") ms) _ (fixed_there w.command (codes "command") ms h.1.1.1.1.1.1.1.1.1.1.0) (λ command e.
+        (h.0, (h.1.0, (h.1.1.0, (h.1.1.1.0, (h.1.1.1.1.0, (h.1.1.1.1.1.0, (a, (b, (c, (d, (e, h.1.1.1.1.1.1.1.1.1.1.1))))))))))))))))
+
+    manual_there : (w : WordsSaid) (ms : Members) → FixedAre w → Gives FixedAre (with_manual_titles w ms)
+    unfolding with_manual_titles
+    manual_there w ms h =
+        let manual = h.1.1.1.1.1.1.1.1.1.1.1 in
+        gives_then P FixedAre (fixed_at w.name (codes "name") ms) _ (fixed_there w.name (codes "name") ms manual.0) (λ name a.
+        gives_then P FixedAre (fixed_at w.synopsis (codes "synopsis") ms) _ (fixed_there w.synopsis (codes "synopsis") ms manual.1.0) (λ synopsis b.
+        gives_then P FixedAre (fixed_at w.description (codes "description") ms) _ (fixed_there w.description (codes "description") ms manual.1.1.0) (λ description c.
+        gives_then P FixedAre (fixed_at w.see_also (codes "see_also") ms) _ (fixed_there w.see_also (codes "see_also") ms manual.1.1.1.0) (λ references d.
+        (h.0, (h.1.0, (h.1.1.0, (h.1.1.1.0, (h.1.1.1.1.0, (h.1.1.1.1.1.0, (h.1.1.1.1.1.1.0, (h.1.1.1.1.1.1.1.0, (h.1.1.1.1.1.1.1.1.0, (h.1.1.1.1.1.1.1.1.1.0, (h.1.1.1.1.1.1.1.1.1.1.0, (a, (b, (c, (d, tt)))))))))))))))))))
+
+    words_from : (ms : Members) → Gives FixedAre (fixed_from ms)
+    unfolding fixed_from
+    words_from = gives_with_only FixedAre fixed_keys _ (λ ms.
+        gives_then FixedAre FixedAre (with_titles english ms) _ (titles_there english ms english_are) (λ w p.
+        gives_then FixedAre FixedAre (with_words_of_notes w ms) _ (notes_there w ms p) (λ v q. manual_there v ms q)))
+
+    pub fixed_hold : (o : Option Members) → Gives FixedAre (fixed_in o)
+    fixed_hold None = english_are
+    fixed_hold (Some ms) = words_from ms
 
 -- ---- groups and commands in one another
 

@@ -18,7 +18,7 @@ use Rattle.bpaf_items.proofs.Listing.Headings.{headings_agree}
 use Rattle.bpaf_items.proofs.Listing.PairedGroups.{count_through}
 use Rattle.bpaf_items.proofs.Listing.Pushes.{after_last-push, last_that-push, open-push}
 use Rattle.bpaf_items.proofs.Listing.TakenOut.{first_members, other_members, outside_all_but, one_fewer}
-use Rattle.description.specs.Content.{SharedSaid}
+use Rattle.description_parts.specs.Content.{OptSaid}
 use Rattle.description.specs.Texts.{plain_document}
 use Rattle.description.specs.WebPages.Entries.{EntrySaid, each_once, entry_key, new_behind, same_entry}
 use Rattle.description.proofs.Each.{Each}
@@ -38,9 +38,9 @@ IsTyped g = g.kind ≡ None → g.entries ≡ []
 abbrev alone : Entry → List Entry
 alone e = e ∷ []
 
-module _ (shared : SharedSaid) where
+module _ (helps : List OptSaid) where
   abbrev at : EntrySaid → Entry
-  at = item_at shared
+  at = item_at helps
 
   abbrev pub items : List EntrySaid → List Entry
   items = map at
@@ -76,7 +76,7 @@ module _ (shared : SharedSaid) where
         rest = filter is_shown (placed_after (before ++ at e ∷ []) (items es ++ tail))
 
         fresh : is_shown (before, at e) ≡ not (list_any (same_entry e) others)
-        fresh = ap not (alike (leaf_at shared e) ∙ ap (λ k. list_any (λ f. same_key k (entry_key f)) others) (key_at shared e))
+        fresh = ap not (alike (leaf_at helps e) ∙ ap (λ k. list_any (λ f. same_key k (entry_key f)) others) (key_at helps e))
 
         by : (b : Bool) → unmarked (placed_after (before ++ at e ∷ []) (items es ++ tail)) ≡ items (new_behind (others ++ e ∷ []) es)
             → filter (λ x. not (is_mark x)) (map (λ (p : Placed). p.1) (if not b then (before, at e) ∷ rest else rest)) ≡ items ((if b then [] else e ∷ []) ++ new_behind (others ++ e ∷ []) es)
@@ -130,7 +130,7 @@ module _ (shared : SharedSaid) where
   pub typed-append : (k : HiTy) (es fs : List EntrySaid) → typed k (es ++ fs) ≡ typed k es ++ typed k fs
   typed-append k es fs = ap (filter (λ e. same_type (type_of e) k)) (map-append at es fs) ∙ filter-append (λ e. same_type (type_of e) k) (items es) (items fs)
 
-  pub of_type : (k j : HiTy) (es : List EntrySaid) → Each (IsListed shared j) es → typed k es ≡ (if same_type j k then items es else [])
+  pub of_type : (k j : HiTy) (es : List EntrySaid) → Each (IsListed helps j) es → typed k es ≡ (if same_type j k then items es else [])
   of_type k j [] h = grind arith
   of_type k j (e ∷ es) h = grind (arith, of_type k j es h.1)
 

@@ -3,9 +3,8 @@ use Rattle.std.proofs.Common.{◌≡◌, ℕ, suc, ◌+◌, ◌<◌, ◌≤◌, 
 use Rattle.std.proofs.lemmas.Grind.{flat_map-append, fold-append}
 use Rattle.std.proofs.lemmas.Slice.Eq.{bytes_eq-Decides}
 use Rattle.description_parts.specs.Content.{LevelSaid, level, GroupsSaid, no_groups, groups, GroupSaid, group, CommandsSaid, no_commands, commands, CommandSaid, command}
-use Rattle.description.specs.All.{all_from, below_commands, below_group, below_groups, below_level, from_command}
+use Rattle.description.specs.Subjects.{SubjectSaid, all_from, application, below, below_commands, below_group, below_groups, below_level, from_command}
 use Rattle.description.specs.Content.{DescriptionSaid}
-use Rattle.description.specs.Subjects.{SubjectSaid, application, below}
 use Rattle.description.specs.WebPages.Entries.{EntrySaid, an_option, a_value, a_command, has_word, id_behind, option_word, shown_value}
 use Rattle.description.specs.WebPages.Ids.{section_id}
 use Rattle.description_laws.proofs.Among.{Among, Within, among_left, among_right, each_among, each_weaker}

@@ -14,8 +14,7 @@ use Rattle.web_page.specs.declared.elements.Level.TheVariants.{Two, Three}
 use Rattle.web_page.specs.declared.elements.Tag.{Tag}
 use Rattle.web_page.specs.declared.elements.Tag.TheVariants.{A, Of}
 use Rattle.description_parts.specs.Content.{SpellingSaid, named, syntax, TopicSaid, command}
-use Rattle.description.specs.Pages.{subject_tree}
-use Rattle.description.specs.Subjects.{SubjectSaid}
+use Rattle.description.specs.Subjects.{SubjectSaid, subject_tree}
 use Rattle.description.specs.Syntax.{bare_syntax}
 use Rattle.description.specs.Texts.{parted, pieces}
 use Rattle.description.specs.UsageLines.{texts_in, usage_part}

@@ -8,9 +8,8 @@ use Rattle.web_page.specs.declared.elements.Element.{Element}
 use Rattle.web_page.specs.declared.elements.Element.TheVariants.{Header, Heading, Li, Main, Nav, Ul}
 use Rattle.web_page.specs.declared.elements.Level.TheVariants.{One}
 use Rattle.description_parts.specs.Content.{OptSaid, ChoiceSaid, PositionalSaid, LevelSaid, level, GroupsSaid, no_groups, groups, GroupSaid, group, CommandsSaid, no_commands, commands, CommandSaid, command}
-use Rattle.description.specs.All.{all_from, below_commands, below_group, below_groups, below_level, from_command}
+use Rattle.description.specs.Subjects.{SubjectSaid, all_from, application, below, below_commands, below_group, below_groups, below_level, from_command}
 use Rattle.description.specs.Content.{DescriptionSaid}
-use Rattle.description.specs.Subjects.{SubjectSaid, application, below}
 use Rattle.description.specs.UsageLines.{texts_in}
 use Rattle.description.specs.WebPages.{header_events, main_of, nav_of, page_events, page_tree}
 use Rattle.description.specs.WebPages.Entries.{EntrySaid, an_option, a_value, a_command, each_once, new_behind}

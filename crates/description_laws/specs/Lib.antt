@@ -1,2 +1,3 @@
 pub mod Plain
+pub mod ReadOnce
 pub mod Sections

@@ -3,6 +3,7 @@ use Rattle.std.specs.Prelude.{◌≡◌, chars, ℕ, List, [], ◌∷◌, ◌++�
 use Rattle.std.specs.List.{list_all}
 use Rattle.bpaf_meta.specs.Content.{Name, short, long, both}
 use Rattle.toml.specs.Data.{Members}
+use Rattle.description_parts.specs.Words.{WordsSaid}
 use Rattle.description_parts.specs.Content.{SpellingSaid, named, syntax, OptSaid, ChoiceSaid, PositionalSaid, TopicSaid, TextsSaid, LevelSaid, level, GroupsSaid, no_groups, groups, GroupSaid, group, CommandsSaid, no_commands, commands, CommandSaid, command}
 use Rattle.description.specs.Content.{DescriptionSaid}
 use Rattle.description.specs.Described.{described}
@@ -64,9 +65,12 @@ abbrev mutual
 
 -- ---- the whole
 
+abbrev pub each_word : WordsSaid → List (List ℕ)
+each_word w = w.usage ∷ w.arguments ∷ w.options ∷ w.commands ∷ w.contents ∷ w.notes ∷ w.default ∷ w.possible_values ∷ w.env ∷ w.aliases ∷ w.command ∷ w.name ∷ w.synopsis ∷ w.description ∷ w.see_also ∷ []
+
 abbrev pub description_characters : DescriptionSaid → List ℕ
 description_characters d =
-    chars d.name ++ (chars d.section ++ (characters_of d.date ++ (characters_of d.vendor ++ (characters_of d.title ++ (chars d.language ++ (flat_map option_characters d.help_options ++ level_characters d.level))))))
+    chars d.name ++ (chars d.section ++ (characters_of d.date ++ (characters_of d.vendor ++ (characters_of d.title ++ (chars d.language ++ (flat_map chars (each_word d.words) ++ (flat_map option_characters d.help_options ++ level_characters d.level)))))))
 
 -- no text and no name of a description that a TOML text gives holds a control character but newline and tab, nor a noncharacter
 abbrev pub TextsArePlain : Type 0

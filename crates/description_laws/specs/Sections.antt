@@ -1,4 +1,4 @@
--- The entries of a section of the complete HTML page, and the items of the help page of that level.
+-- The entries of a section of the complete HTML page, and the items of the help page that bpaf makes of the tree of that level.
 use Rattle.std.specs.Prelude.{◌≡◌, codes, ℕ, not, Bool, true, false, List, [], ◌∷◌, ◌++◌, map, filter, count_by}
 use Rattle.std.specs.List.{range_with_len}
 use Rattle.bpaf_doc.specs.Buffer.Parts.{Part}
@@ -7,11 +7,10 @@ use Rattle.bpaf_items.specs.declared.meta_help.entry.HiTy.{HiTy}
 use Rattle.bpaf_items.specs.declared.meta_help.entry.HiTy.TheVariants as ty
 use Rattle.bpaf_items.specs.Listing.ItemList.{Entry, group_start, item_list}
 use Rattle.bpaf_items.specs.Listing.Falls.{is_group_start, is_mark, group_members, heading_members, shown_entries}
-use Rattle.description.specs.Content.{SharedSaid}
-use Rattle.description.specs.Pages.{subject_tree}
-use Rattle.description.specs.Subjects.{SubjectSaid}
+use Rattle.description_parts.specs.Content.{OptSaid}
+use Rattle.description.specs.Subjects.{SubjectSaid, subject_tree}
 use Rattle.description.specs.Texts.{plain_document}
-use Rattle.description.specs.Trees.{command_item, on_help_pages, option_tree, options_tree, positional_tree}
+use Rattle.description.specs.Trees.{command_item, option_tree, options_tree, positional_tree}
 use Rattle.description.specs.WebPages.Entries.{EntrySaid, an_option, a_value, a_command}
 use Rattle.description.specs.WebPages.Lists.{ListSaid, section_lists}
 
@@ -62,19 +61,19 @@ help_listings s = without_empty (page_listings (item_list (subject_tree s) ++ it
 -- ---- in the section
 
 -- what stands in a tree for the record that an entry is made of
-abbrev pub entry_tree : SharedSaid → EntrySaid → Tree
-entry_tree shared (an_option o) = option_tree o
-entry_tree shared (a_value v) = positional_tree v
-entry_tree shared (a_command m) = command_item shared m
+abbrev pub entry_tree : List OptSaid → EntrySaid → Tree
+entry_tree helps (an_option o) = option_tree o
+entry_tree helps (a_value v) = positional_tree v
+entry_tree helps (a_command m) = command_item helps m
 
-abbrev pub entry_items : SharedSaid → EntrySaid → List Entry
-entry_items shared e = item_list (entry_tree shared e)
+abbrev pub entry_items : List OptSaid → EntrySaid → List Entry
+entry_items helps e = item_list (entry_tree helps e)
 
-abbrev pub listing_of : SharedSaid → ListSaid → Listing
-listing_of shared l = record { title = plain_document l.title; entries = map (entry_items shared) l.entries }
+abbrev pub listing_of : List OptSaid → ListSaid → Listing
+listing_of helps l = record { title = plain_document l.title; entries = map (entry_items helps) l.entries }
 
 abbrev pub section_listings : SubjectSaid → List Listing
-section_listings s = without_empty (map (listing_of (on_help_pages s.help_options)) (section_lists s.help_options s.level))
+section_listings s = without_empty (map (listing_of s.help_options) (section_lists s.help_options s.level))
 
 -- ---- law
 

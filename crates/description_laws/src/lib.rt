@@ -2,19 +2,10 @@
 //! so they stand above `description`, and who makes pages need not have them proved.
 #![tactic(auto)]
 
-ghost use Rattle.description.specs.Manuals.{SubjectManualsAreWellNested};
-ghost use Rattle.description.specs.Pages.{SubjectsAreWellNested};
-ghost use Rattle.description.specs.ReadOnce.{TitlesAreReadOnce};
 ghost use Rattle.description.specs.WebPages.Laws.{IdsAreDistinct, LinksHaveTargets};
 ghost use Rattle.description_laws.specs.Plain.{TextsArePlain};
+ghost use Rattle.description_laws.specs.ReadOnce.{TitlesAreReadOnce};
 ghost use Rattle.description_laws.specs.Sections.{SectionsListTheItems};
-
-/// The documents of a usage line, of a help page and of a manual page are well nested, for the application and for each
-/// command.
-pub fn subjects_are_nested()
-    ensures console { SubjectsAreWellNested }
-    ensures manual { SubjectManualsAreWellNested }
-{}
 
 /// No text and no name of a description that a TOML text gives holds a control character but newline and tab, nor a
 /// noncharacter of Unicode.
@@ -22,10 +13,9 @@ pub fn texts_are_plain()
     ensures { TextsArePlain }
 {}
 
-/// Of a description that a TOML text gives, no title of a group or of a topic and no name of a command holds a
-/// backslash or a double quote. And of all that a reader of roff reads behind the preamble of its manual page, or of
-/// the manual page of a level to which words lead, no argument of a control holds one, but the argument of two quotes.
-/// So a macro that reads its arguments a second time reads the same words.
+/// Of a description that a TOML text gives, no word of the title line of its manual page, no title of a group or of a
+/// topic, no name of a command and no fixed word holds a backslash or a double quote. So a macro that reads its arguments
+/// a second time reads the same words.
 pub fn titles_are_read_once()
     ensures { TitlesAreReadOnce }
 {}

@@ -192,12 +192,35 @@ title = '"'
 name = 'a'
 [[group]]
 title = ''
-=> group 1: title is blank
+=> group 1: title is empty
+
+name = 'a'
+[[group]]
+title = ':'
+=> group 1: title is empty
 
 name = 'a'
 [[group]]
 title = " \u00a0\u3000"
-=> group 1: title is blank
+=> group 1: title begins with a blank
+
+name = 'a'
+[[group]]
+title = "\u3000T"
+=> group 1: title begins with a blank
+
+name = 'a'
+[[group]]
+title = "T\u00a0"
+=> group 1: title ends with a blank
+
+# A blank before the colon stands at no end.
+name = 'a'
+[[group]]
+title = 'T :'
+[[group.option]]
+short = 'b'
+=> a [-b]
 
 name = 'a'
 [[group]]
@@ -333,7 +356,7 @@ name = 'a'
 [[topic]]
 title = " \u00a0"
 text = 't'
-=> topic 1: title is blank
+=> topic 1: title begins with a blank
 
 name = 'a'
 [[topic]]
@@ -389,7 +412,7 @@ title = 'T'
 name = 'b'
 [[command.topic]]
 title = ''
-=> command 1, topic 1: title is blank
+=> command 1, topic 1: title is empty
 
 name = 'a'
 [[topic]]
@@ -960,4 +983,81 @@ aliases = ['c"']
 name = 'b'
 aliases = ['c', 'c', 'b']
 => a COMMAND ...
+"#;
+
+// The table of fixed words.
+pub const WORDS: &str = r#"
+words = 1
+=> description: words is no table
+
+[[words]]
+usage = 'U'
+=> description: words is no table
+
+[words]
+usgae = 'U'
+=> words: no key usgae is known here; is it usage?
+
+[words]
+title = 'T'
+=> words: no key title is known here
+
+[words]
+usage = 1
+=> words: usage is no text
+
+[words]
+arguments = ''
+=> words: arguments is empty
+
+[words]
+options = ':'
+=> words: options is empty
+
+[words]
+commands = ' C'
+=> words: commands begins with a blank
+
+[words]
+contents = 'C '
+=> words: contents ends with a blank
+
+[words]
+notes = "N\n"
+=> words: notes holds a control character
+
+[words]
+default = "\ufffe"
+=> words: default holds a noncharacter
+
+[words]
+possible_values = 'a\b'
+=> words: possible_values holds a backslash
+
+[words]
+env = '"'
+=> words: env holds a double quote
+
+# Of two the first in the order of the words is told, behind the keys of the description.
+[words]
+see_also = ''
+aliases = ''
+=> words: aliases is empty
+
+[words]
+name = ''
+[[option]]
+short = 1
+=> words: name is empty
+
+language = 1
+words = 1
+=> description: language is no text
+
+words = 1
+help_option = 1
+=> description: words is no table
+
+[words]
+=> a
 "#;

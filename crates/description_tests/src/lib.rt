@@ -7,17 +7,11 @@
 #![tactic(auto)]
 
 #[cfg(test)]
-mod all;
-#[cfg(test)]
 mod faults;
 #[cfg(test)]
 mod forms;
 #[cfg(test)]
 mod keys;
-#[cfg(test)]
-mod manuals;
-#[cfg(test)]
-mod pages;
 #[cfg(test)]
 mod reading;
 #[cfg(test)]
@@ -25,14 +19,8 @@ mod refusals;
 #[cfg(test)]
 mod rows;
 #[cfg(test)]
-mod subjects;
-#[cfg(test)]
 mod syntaxes;
 #[cfg(test)]
 mod tables;
-#[cfg(test)]
-mod texts;
-#[cfg(test)]
-mod topics;
 #[cfg(test)]
 mod web_pages;

@@ -9,11 +9,8 @@ use std::alloc::{Allocator, Global};
 use std::process::Abort;
 use toml::Table;
 
-/// A text, the words that lead to a level of what it describes, and what is made of that, or the fault of the text.
-pub type Row<'a> = (&'a str, &'a [&'a str], Form, &'a str);
-
-/// No words, which lead to the top.
-pub const TOP: &[&str] = &[];
+/// A text, and what is made of what it describes, or the fault of the text.
+pub type Row<'a> = (&'a str, Form, &'a str);
 
 fn table(rt: &impl Abort, out: Global, text: &str) -> Table {
     toml::table_from_str(out, text).ok().expect(rt, "a table")
@@ -36,12 +33,12 @@ fn said<A: Allocator + Copy>(
     out: Global,
     alloc: A,
     table: &Table,
-    &(_, words, form, _): &Row<'_>,
+    &(_, form, _): &Row<'_>,
 ) -> Option<String> {
     let mut names = Names::new(out);
     match Description::from_table(alloc, &mut names, table) {
         Ok(app) => {
-            let text = made(out, &app, words, form).expect(rt, "a text");
+            let text = made(out, &app, form).expect(rt, "a text");
             drop(app);
             Some(text)
         }
@@ -61,7 +58,7 @@ pub fn told(rt: &impl Abort, out: Global, row: &Row<'_>) -> String {
 /// Whether this is made of the description that a text gives, or is its fault.
 pub fn says(rt: &impl Abort, out: Global, row: &Row<'_>) -> bool {
     let told = told(rt, out, row);
-    let is_that = told.as_str() == row.3;
+    let is_that = told.as_str() == row.2;
     drop(told);
     is_that
 }
@@ -84,7 +81,7 @@ fn told_on(
     let heap = LocalHeap::new(out, budget).expect(rt, "a heap");
     let told = match work {
         Work::Reading(table) => said(rt, out, &heap, table, row),
-        Work::Making(app) => copied(rt, out, made(&heap, app, row.1, row.2).ok()),
+        Work::Making(app) => copied(rt, out, made(&heap, app, row.1).ok()),
     };
     drop(heap);
     told
@@ -100,7 +97,7 @@ fn is_told_on(
 ) -> Option<bool> {
     match told_on(rt, out, budget, work, row) {
         Some(text) => {
-            let is_that = text.as_str() == row.3;
+            let is_that = text.as_str() == row.2;
             drop(text);
             Some(is_that)
         }
@@ -132,10 +129,10 @@ fn is_made_over(
     rt: &impl Abort,
     out: Global,
     app: &Description<'_>,
-    &(text, words, form, _): &Row<'_>,
+    &(text, form, _): &Row<'_>,
 ) -> bool {
-    let want = made(out, app, words, form).expect(rt, "a text");
-    let row = (text, words, form, want.as_str());
+    let want = made(out, app, form).expect(rt, "a text");
+    let row = (text, form, want.as_str());
     let is_made = is_told_with_more(rt, out, Work::Making(app), &row);
     drop(want);
     is_made

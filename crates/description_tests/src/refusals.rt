@@ -2,69 +2,41 @@
 //! memory.
 use crate::forms::Form;
 use crate::reading::{Row, is_made_with_more, is_read_with_more};
-use crate::{all, manuals, subjects, web_pages};
+use crate::web_pages;
 use description::{Choice, Command, Description, Group, Level, Opt, Positional, Topic};
 use linked_list_allocator::LocalHeap;
 use std::alloc::{AllocError, Global};
 use std::process::Abort;
-
-/// An application with one command and a topic, an option that takes a value, one that is written by a syntax, and one
-/// that asks for help.
-pub const WITH_HELP: &str = "name = 'app'
-[[help_option]]
-short = 'h'
-long = 'help'
-help = 'Print this help'
-[[option]]
-long = 'to'
-value = 'X'
-default = 'a'
-values = ['a', 'b']
-[[option]]
-syntax = '--[no-]edit=HOW | -e'
-repeated = true
-env = 'EDIT'
-[[command]]
-name = 'run'
-aliases = ['go']
-[[topic]]
-title = 'Files'
-text = '''
-It reads `none`
-
-So:
-    $ app
-
-lasts'''
-";
 
 // Of what is read stands the usage line.
 const TABLES: &[Row<'static>] = &[
     // A description with a table of each kind.
     (
         "name = 'app'\ndate = 2026-11-23\n[[help_option]]\nshort = 'h'\n[[option]]\nlong = 'output'\nvalue = 'FILE'\nenv = 'OUT'\n[[option]]\nsyntax = '-s, --[no-]save[=(A|B)]'\nenv = 'SAVE'\n[[choice]]\n[[choice.option]]\nshort = 'a'\n[[choice.option]]\nshort = 'b'\n[[group]]\ntitle = 'More'\n[[group.option]]\nshort = 'm'\nvalue = 'M'\nvalues = ['a', 'b']\nrepeated = true\n[[positional]]\nvalue = 'INPUT'\ndefault = 7\n[[command]]\nname = 'run'\naliases = ['go']\n[[command.option]]\nshort = 'n'\n[[command.topic]]\ntitle = 'Files'\ntext = 'None'\n",
-        &[],
         Form::Usage,
-        "app [--output=FILE] [--[no-]save[=(A|B)]] [-a | -b] [-m=M]... [INPUT] COMMAND ...\n",
+        "app [--output=FILE] [--[no-]save[=(A|B)]] [-a | -b] [-m=M]... [INPUT] COMMAND ...",
     ),
     // No description.
     (
         "name = 'app'\n[[command]]\nname = 'run'\n[[command.option]]\nshort = 'n'\n[[command.option]]\nlong = 'x y'\n",
-        &[],
         Form::Usage,
         "command 1, option 2: long holds a blank",
+    ),
+    // None, since a fixed word is no title.
+    (
+        "name = 'app'\n[words]\nnotes = 'Remarks '\n",
+        Form::Usage,
+        "words: notes ends with a blank",
     ),
     // None, since a name of a syntax is taken.
     (
         "name = 'app'\n[[option]]\nsyntax = '-o, --[no-]x'\n[[option]]\nlong = 'x'\n",
-        &[],
         Form::Usage,
         "description: --x is taken",
     ),
     // None either, since a key is not known, and the known one is near.
     (
         "name = 'app'\n[[option]]\nlnog = 'x'\n",
-        &[],
         Form::Usage,
         "option 1: no key lnog is known here; is it long?",
     ),
@@ -73,60 +45,18 @@ const TABLES: &[Row<'static>] = &[
 #[test]
 fn a_refused_table_is_read_with_more(rt: HostRuntime) {
     for row in TABLES {
-        assert!(rt; is_read_with_more(&rt, rt.alloc(), row), "{}", row.3);
+        assert!(rt; is_read_with_more(&rt, rt.alloc(), row), "{}", row.2);
     }
 }
 
 // A row has its name in place of what is made.
 fn check_made(rt: &impl Abort, out: Global, rows: &[Row<'_>]) {
     for row in rows {
-        assert!(rt; is_made_with_more(rt, out, row), "{}", row.3);
+        assert!(rt; is_made_with_more(rt, out, row), "{}", row.2);
     }
 }
 
-const PAGES: &[Row<'static>] = &[
-    (WITH_HELP, &[], Form::Tree, "tree"),
-    (WITH_HELP, &[], Form::Info, "info"),
-    (WITH_HELP, &[], Form::Usage, "usage"),
-    (WITH_HELP, &[], Form::Brief, "brief"),
-    (WITH_HELP, &[], Form::Html, "html"),
-    (WITH_HELP, &[], Form::Markdown, "markdown"),
-    (WITH_HELP, &[], Form::Manual, "manual"),
-];
-
-#[test]
-fn a_refused_page_is_made_with_more(rt: HostRuntime) {
-    check_made(&rt, rt.alloc(), PAGES);
-}
-
-const LEVELS: &[Row<'static>] = &[
-    (
-        subjects::APP,
-        &["remote", "add"],
-        Form::Line(100),
-        "usage of a command",
-    ),
-    (
-        subjects::APP,
-        &["remote", "add"],
-        Form::Help(true, 100),
-        "help of a command",
-    ),
-    (
-        manuals::APP,
-        &["remote", "add"],
-        Form::LevelManual,
-        "manual page of a command",
-    ),
-    (all::APP, &[], Form::File(5), "files"),
-];
-
-#[test]
-fn a_refused_page_of_a_level_is_made_with_more(rt: HostRuntime) {
-    check_made(&rt, rt.alloc(), LEVELS);
-}
-
-const WEB: &[Row<'static>] = &[(web_pages::APP, &[], Form::Web("", ""), "page")];
+const WEB: &[Row<'static>] = &[(web_pages::APP, Form::Web("", ""), "page")];
 
 #[test]
 fn a_refused_web_page_is_made_with_more(rt: HostRuntime) {

@@ -1,5 +1,5 @@
-//! Usage lines with ample memory.
-use crate::forms::Form;
+//! Usage lines, and lists of groups.
+use crate::forms::{Form, made};
 use crate::reading::Row;
 use description::{Choice, Description, Level, Opt};
 use std::alloc::Global;
@@ -8,122 +8,105 @@ use std::process::Abort;
 pub const OPTIONS: &[Row<'static>] = &[
     (
         "name = 'app'\n[[option]]\nlong = 'output'\nvalue = 'FILE'\nrequired = true\n",
-        &[],
         Form::Usage,
-        "app --output=FILE\n",
+        "app --output=FILE",
     ),
     (
         "name = 'app'\n[[option]]\nlong = 'output'\nvalue = 'FILE'\n",
-        &[],
         Form::Usage,
-        "app [--output=FILE]\n",
+        "app [--output=FILE]",
     ),
     (
         "name = 'app'\n[[option]]\nlong = 'output'\nvalue = 'FILE'\nrequired = true\nrepeated = true\n",
-        &[],
         Form::Usage,
-        "app --output=FILE...\n",
+        "app --output=FILE...",
     ),
     (
         "name = 'app'\n[[option]]\nlong = 'output'\nvalue = 'FILE'\nrepeated = true\n",
-        &[],
         Form::Usage,
-        "app [--output=FILE]...\n",
+        "app [--output=FILE]...",
     ),
     (
         "name = 'app'\n[[option]]\nshort = 'n'\n",
-        &[],
         Form::Usage,
-        "app [-n]\n",
+        "app [-n]",
     ),
     (
         "name = 'app'\n[[option]]\nshort = 'v'\nlong = 'verbose'\n",
-        &[],
         Form::Usage,
-        "app [-v]\n",
+        "app [-v]",
     ),
 ];
 
 pub const VALUES: &[Row<'static>] = &[
     (
         "name = 'app'\n[[positional]]\nvalue = 'INPUT'\n",
-        &[],
         Form::Usage,
-        "app INPUT\n",
+        "app INPUT",
     ),
     (
         "name = 'app'\n[[positional]]\nvalue = 'INPUT'\nrequired = false\n",
-        &[],
         Form::Usage,
-        "app [INPUT]\n",
+        "app [INPUT]",
     ),
     (
         "name = 'app'\n[[positional]]\nvalue = 'INPUT'\nrepeated = true\n",
-        &[],
         Form::Usage,
-        "app INPUT...\n",
+        "app INPUT...",
     ),
     (
         "name = 'app'\n[[positional]]\nvalue = 'INPUT'\nrequired = false\nrepeated = true\n",
-        &[],
         Form::Usage,
-        "app [INPUT]...\n",
+        "app [INPUT]...",
     ),
     (
         "name = 'app'\n[[positional]]\nvalue = 'INPUT'\nstrict = true\n",
-        &[],
         Form::Usage,
-        "app -- INPUT\n",
+        "app -- INPUT",
     ),
     (
         "name = 'app'\n[[positional]]\nvalue = 'INPUT'\nstrict = true\nrequired = false\n",
-        &[],
         Form::Usage,
-        "app -- [INPUT]\n",
+        "app -- [INPUT]",
     ),
     (
         "name = 'app'\n[[positional]]\nvalue = 'file'\n",
-        &[],
         Form::Usage,
-        "app <file>\n",
+        "app <file>",
     ),
 ];
 
 pub const KINDS: &[Row<'static>] = &[
     (
         "name = 'app'\n[[command]]\nname = 'x'\n[[command]]\nname = 'y'\n",
-        &[],
         Form::Usage,
-        "app COMMAND ...\n",
+        "app COMMAND ...",
     ),
     (
         "name = 'app'\ncommand_required = false\n[[command]]\nname = 'x'\n[[command]]\nname = 'y'\n",
-        &[],
         Form::Usage,
-        "app [COMMAND ...]\n",
+        "app [COMMAND ...]",
     ),
     // Something of each kind, put in another order than that of the line.
     (
         "name = 'app'\n[[command]]\nname = 'x'\n[[command]]\nname = 'y'\n[[positional]]\nvalue = 'Q'\n[[group]]\ntitle = 'Both'\n[[group.positional]]\nvalue = 'P'\n[[group.option]]\nshort = 'a'\nrequired = true\n[[option]]\nshort = 'b'\nrequired = true\n[[option]]\nlong = 'output'\nvalue = 'FILE'\n",
-        &[],
         Form::Usage,
-        "app -b [--output=FILE] -a P Q COMMAND ...\n",
+        "app -b [--output=FILE] -a P Q COMMAND ...",
     ),
-    ("name = 'app'\n", &[], Form::Usage, "app \n"),
+    ("name = 'app'\n", Form::Usage, "app "),
 ];
 
 pub const GROUPS: &[Row<'static>] = &[
     (
         "name = 'app'\n[[group]]\ntitle = 'Extra'\n[[group.option]]\nshort = 'a'\nhelp = 'A'\nrequired = true\n",
-        &[],
-        Form::Full,
-        "Usage: app -a\n\nExtra\n    -a  A\n",
+        Form::Web("</pre>", "</section>"),
+        "<h3>Extra</h3><dl><dt id=\"app::a\"><a href=\"#app::a\"><code>-a</code></a></dt><dd><p>A</p></dd></dl>",
     ),
+    // A text in place of the line.
     (
-        "name = 'app'\n[[group]]\ntitle = 'G'\n[[group.command]]\nname = 'X'\nhelp = 'h'\n[[group.positional]]\nvalue = 'X'\nhelp = 'h'\n",
-        &[],
-        Form::Full,
-        "Usage: app X COMMAND ...\n\nG\n    X  h\n",
+        "name = 'app'\nusage = \"Usage: app FILE\\n app -l\"\n[[group]]\ntitle = 'G'\n[[group.command]]\nname = 'X'\n",
+        Form::Usage,
+        "app FILE\n app -l",
     ),
 ];
 
@@ -131,18 +114,17 @@ pub const GROUPS: &[Row<'static>] = &[
 type Syntax = (&'static str, bool, &'static str);
 
 const SYNTAXES: &[Syntax] = &[
-    ("--color[=WHEN]", false, "app [--color[=WHEN]]\n"),
+    ("--color[=WHEN]", false, "app [--color[=WHEN]]"),
     // A value counts for nothing beside a syntax.
-    ("-a", true, "app -a\n"),
+    ("-a", true, "app -a"),
     // What no TOML text may say.
-    ("-a, x]", false, "app [x]]\n"),
-    (")-a, x", false, "app [)-a, x]\n"),
-    ("", false, "app \n"),
+    ("-a, x]", false, "app [x]]"),
+    (")-a, x", false, "app [)-a, x]"),
 ];
 
 fn usage_is(rt: &impl Abort, out: Global, level: Level<'static>, want: &str) -> bool {
     let app = Description::new(out, "app", level);
-    let line = app.usage(out).expect(rt, "a line");
+    let line = made(out, &app, Form::Usage).expect(rt, "a line");
     drop(app);
     let is_that = line.as_str() == want;
     drop(line);
@@ -185,7 +167,7 @@ fn what_no_text_may_say(rt: HostRuntime) {
         assert!(rt; syntax_is(&rt, rt.alloc(), row), "{}", row.0);
     }
     let required = two_options(&rt, rt.alloc()).required();
-    assert!(rt; choice_is(&rt, rt.alloc(), required, "app (-a | -b)\n"));
+    assert!(rt; choice_is(&rt, rt.alloc(), required, "app (-a | -b)"));
     let optional = two_options(&rt, rt.alloc());
-    assert!(rt; choice_is(&rt, rt.alloc(), optional, "app [-a | -b]\n"));
+    assert!(rt; choice_is(&rt, rt.alloc(), optional, "app [-a | -b]"));
 }

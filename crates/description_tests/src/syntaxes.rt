@@ -334,23 +334,21 @@ const LIST: &str =
     "name = 'a'\n[[option]]\nsyntax = '--color[=WHEN]'\nhelp = \"When to colour.\\n\\nMore.\"\nenv = 'COLOR'\nvalues = ['never', 'always']\ndefault = 'never'\n[[option]]\nsyntax = '-n, --line, --number'\n[[option]]\nsyntax = '--[no-]edit'\nenv = 'EDIT'\n";
 
 pub const LIST_ROWS: &[Row<'static>] = &[
+    (LIST, Form::Usage, "a [--color[=WHEN]] [-n] [--[no-]edit]"),
     (
         LIST,
-        &[],
-        Form::Help(false, 100),
-        "Usage: a [--color[=WHEN]] [-n] [--[no-]edit]\n\nAvailable options:\n        --color[=WHEN]    When to colour.\n                          [default: never] [possible values: never, always] [env: COLOR]\n    -n, --line, --number\n        --[no-]edit       [env: EDIT]\n",
+        Form::Web("<dl>", "</dl>"),
+        "<dt id=\"a::--color.5b.3dWHEN.5d\"><a href=\"#a::--color.5b.3dWHEN.5d\"><code>--color</code>[=<var>WHEN</var>]</a></dt><dd><p>When to colour.</p><p>More.</p><p>[default: never]</p><p>[possible values: never, always]</p><p>[env: COLOR]</p></dd><dt id=\"a::-n.2c.20--line.2c.20--number\"><a href=\"#a::-n.2c.20--line.2c.20--number\"><code>-n</code>, <code>--line</code>, <code>--number</code></a></dt><dd></dd><dt id=\"a::--.5bno-.5dedit\"><a href=\"#a::--.5bno-.5dedit\">--[no-]<code>edit</code></a></dt><dd><p>[env: EDIT]</p></dd>",
     ),
     // Which texts are names, and which stand for a value.
     (
-        "name = 'a'\n[[option]]\nsyntax = '--[no-]edit[=HOW|x-Y]'\nhelp = 'E'\n",
-        &[],
-        Form::LevelManual,
-        ".ie \\n(.g .ds Aq \\(aq\n.el .ds Aq '\n.TH a 1 - - \"\"\n.SH SYNOPSIS\n\\fBa\\fP\\fR \\fP\\fR[\\fP\\fR\\-\\-[no\\-]\\fP\\fBedit\\fP\\fR[=\\fP\\fIHOW\\fP\\fR|x\\-Y]\\fP\\fR]\\fP\n.PP\n.SS AVAILABLE\\ OPTIONS:\n.TP\n\\fB    \\fP\\fR\\-\\-[no\\-]\\fP\\fBedit\\fP\\fR[=\\fP\\fIHOW\\fP\\fR|x\\-Y]\\fP\n\\fRE\\fP\n.PP\n",
+        "name = 'a'\n[[option]]\nsyntax = '--[no-]edit[=HOW|x-Y]'\n",
+        Form::Web("<dl><dt ", "</a></dt>"),
+        "id=\"a::--.5bno-.5dedit.5b.3dHOW.7cx-Y.5d\"><a href=\"#a::--.5bno-.5dedit.5b.3dHOW.7cx-Y.5d\">--[no-]<code>edit</code>[=<var>HOW</var>|x-Y]",
     ),
     (
-        "name = 'a'\n[[option]]\nsyntax = '--to=TO-2,-to T_o é.X'\nhelp = 'E'\n",
-        &[],
-        Form::LevelManual,
-        ".ie \\n(.g .ds Aq \\(aq\n.el .ds Aq '\n.TH a 1 - - \"\"\n.SH SYNOPSIS\n\\fBa\\fP\\fR \\fP\\fR[\\fP\\fB\\-\\-to\\fP\\fR=\\fP\\fITO\\-2\\fP\\fR]\\fP\n.PP\n.SS AVAILABLE\\ OPTIONS:\n.TP\n\\fB    \\-\\-to\\fP\\fR=\\fP\\fITO\\-2\\fP\\fR,\\fP\\fB\\-to\\fP\\fR T_o é.\\fP\\fIX\\fP\n\\fRE\\fP\n.PP\n",
+        "name = 'a'\n[[option]]\nsyntax = '--to=TO-2,-to T_o é.X'\n",
+        Form::Web("<dl><dt ", "</a></dt>"),
+        "id=\"a::--to.3dTO-2.2c-to.20T_o.20.c3.a9.2eX\"><a href=\"#a::--to.3dTO-2.2c-to.20T_o.20.c3.a9.2eX\"><code>--to</code>=<var>TO-2</var>,<code>-to</code> T_o é.<var>X</var>",
     ),
 ];

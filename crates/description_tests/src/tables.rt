@@ -1,8 +1,8 @@
 //! The tables of rows with ample memory, each with what it shows. A test goes through a few tables of pages: one over
 //! all is too much for the prover, which has each row of them as a value of its own. A table of faults is one text.
 use crate::forms::Form;
-use crate::reading::{Row, TOP, says, told};
-use crate::{all, faults, keys, manuals, pages, rows, subjects, syntaxes, texts, web_pages};
+use crate::reading::{Row, says, told};
+use crate::{faults, keys, rows, syntaxes, web_pages};
 use std::alloc::Global;
 use std::process::Abort;
 
@@ -10,28 +10,15 @@ type Table = (&'static str, &'static [Row<'static>]);
 
 fn check(rt: &impl Abort, out: Global, name: &str, rows: &[Row<'_>]) {
     for row in rows {
-        assert!(rt; says(rt, out, row), "{name}: {}", row.3);
-    }
-}
-
-const HIDDEN: &[Table] = &[
-    ("no level has two files", all::NO_OTHER),
-    ("what is hidden is on no page", keys::HIDDEN_ROWS),
-];
-
-#[test]
-fn what_is_hidden_is_shown_nowhere(rt: HostRuntime) {
-    for &(name, rows) in HIDDEN {
-        check(&rt, rt.alloc(), name, rows);
+        assert!(rt; says(rt, out, row), "{name}: {}", row.2);
     }
 }
 
 const KEYS: &[Table] = &[
-    ("other names lead to a command", keys::ALIASES_ROWS),
-    (
-        "what is said of values is behind the first paragraph",
-        keys::VALUES_ROWS,
-    ),
+    ("what is hidden is on no page", keys::HIDDEN_ROWS),
+    ("other names are noted", keys::ALIASES_ROWS),
+    ("what is said of values is noted", keys::VALUES_ROWS),
+    ("fixed words are read", keys::WORDS_ROWS),
 ];
 
 #[test]
@@ -41,30 +28,17 @@ fn keys_are_shown(rt: HostRuntime) {
     }
 }
 
-#[test]
-fn each_level_has_its_manual_page(rt: HostRuntime) {
-    check(&rt, rt.alloc(), "manuals", manuals::ROWS);
-}
-
-#[test]
-fn a_command_has_its_own_pages(rt: HostRuntime) {
-    check(&rt, rt.alloc(), "subjects", subjects::ROWS);
-}
-
-const PAGES: &[Table] = &[
-    ("pages of the sample", pages::PAGES),
-    ("texts of a page, and words of the title line", pages::TEXTS),
+const USAGES: &[Table] = &[
     ("options", rows::OPTIONS),
     ("positional values", rows::VALUES),
     ("commands, and kinds in their order", rows::KINDS),
     ("groups", rows::GROUPS),
     ("a syntax stands in the list", syntaxes::LIST_ROWS),
-    ("topics of a level", texts::PAGES),
 ];
 
 #[test]
-fn pages_are_shown(rt: HostRuntime) {
-    for &(name, rows) in PAGES {
+fn usages_and_lists_are_shown(rt: HostRuntime) {
+    for &(name, rows) in USAGES {
         check(&rt, rt.alloc(), name, rows);
     }
 }
@@ -97,7 +71,7 @@ const NAME: &str = "name = 'a'\n";
 fn is_told(rt: &impl Abort, out: Global, head: &str, row: &str) -> bool {
     let (text, want) = row.split_once("=> ").expect(rt, "what is told");
     let whole = format!(in out; "{head}{text}").expect(rt, "a text");
-    let told = told(rt, out, &(whole.as_str(), TOP, Form::Usage, want));
+    let told = told(rt, out, &(whole.as_str(), Form::Usage, want));
     drop(whole);
     let is_that = told.as_str().trim_end() == want;
     drop(told);
@@ -122,6 +96,7 @@ const FAULTS: &[Faults] = &[
     ("names of a syntax are taken once", NAME, syntaxes::TAKEN),
     ("a usage line shows one piece", NAME, syntaxes::PIECES),
     ("what is no syntax is told", NAME, syntaxes::FAULTS),
+    ("fixed words are titles", NAME, faults::WORDS),
 ];
 
 #[test]

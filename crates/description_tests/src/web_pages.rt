@@ -80,93 +80,79 @@ const BODY: &str =
 
 // The page, whatever its style sheet.
 pub const PAGE: &[Row<'static>] = &[
-    (APP, &[], Form::Web("", "<style>"), FRONT),
-    (APP, &[], Form::Web("</style></head><body>", ""), BODY),
+    (APP, Form::Web("", "<style>"), FRONT),
+    (APP, Form::Web("</style></head><body>", ""), BODY),
 ];
 
 // A text in a help, and what stands in its description.
 pub const TEXTS: &[Row<'static>] = &[
     (
         "name = 'app'\n[[option]]\nshort = 'o'\nhelp = \"\"\n",
-        &[],
         Form::Web("<dd>", "</dd>"),
         "",
     ),
     (
         "name = 'app'\n[[option]]\nshort = 'o'\nhelp = \" \\n\\t\\n\"\n",
-        &[],
         Form::Web("<dd>", "</dd>"),
         "",
     ),
     (
         "name = 'app'\n[[option]]\nshort = 'o'\nhelp = \"` `\"\n",
-        &[],
         Form::Web("<dd>", "</dd>"),
         "",
     ),
     (
         "name = 'app'\n[[option]]\nshort = 'o'\nhelp = \"a\\n\\n\\nb\"\n",
-        &[],
         Form::Web("<dd>", "</dd>"),
         "<p>a</p><p>b</p>",
     ),
     (
         "name = 'app'\n[[option]]\nshort = 'o'\nhelp = \"a\\n b\\n  c\"\n",
-        &[],
         Form::Web("<dd>", "</dd>"),
         "<p>a<br>b<br> c</p>",
     ),
     (
         "name = 'app'\n[[option]]\nshort = 'o'\nhelp = \"a\\n` `\\nb\"\n",
-        &[],
         Form::Web("<dd>", "</dd>"),
         "<p>a</p><p>b</p>",
     ),
     (
         "name = 'app'\n[[option]]\nshort = 'o'\nhelp = \"<&>\\\"`\"\n",
-        &[],
         Form::Web("<dd>", "</dd>"),
         "<p>&lt;&amp;&gt;\"`</p>",
     ),
     (
         "name = 'app'\n[[option]]\nshort = 'o'\nhelp = \"a `b` c`d\"\n",
-        &[],
         Form::Web("<dd>", "</dd>"),
         "<p>a <code>b</code> c`d</p>",
     ),
     (
         "name = 'app'\n[[option]]\nshort = 'o'\nhelp = \"a\\n    b\\n      c\\nd\"\n",
-        &[],
         Form::Web("<dd>", "</dd>"),
         "<p>a</p><pre>\n<code>b\n  c</code></pre><p>d</p>",
     ),
     (
         "name = 'app'\n[[option]]\nshort = 'o'\nhelp = \"    \\n    b\"\n",
-        &[],
         Form::Web("<dd>", "</dd>"),
         "<pre>\n<code>b</code></pre>",
     ),
     (
         "name = 'app'\n[[option]]\nshort = 'o'\nhelp = \"    b\\n  c\\n d\"\n",
-        &[],
         Form::Web("<dd>", "</dd>"),
         "<pre>\n<code>b</code></pre><p>c<br>d</p>",
     ),
     (
         "name = 'app'\n[[option]]\nshort = 'o'\nhelp = \"```\\n`a`\\n\\n\"\n",
-        &[],
         Form::Web("<dd>", "</dd>"),
         "<pre>\n<code>`a`\n\n</code></pre>",
     ),
     (
         "name = 'app'\n[[option]]\nshort = 'o'\nhelp = \"```\\na\\n```\\n```\\nb\\n```\"\n",
-        &[],
         Form::Web("<dd>", "</dd>"),
         "<pre>\n<code>a\nb</code></pre>",
     ),
     (
         "name = 'app'\n[[option]]\nshort = 'o'\nhelp = \"```x\\n```\"\n",
-        &[],
         Form::Web("<dd>", "</dd>"),
         "",
     ),
@@ -176,19 +162,16 @@ pub const TEXTS: &[Row<'static>] = &[
 pub const ABOUTS: &[Row<'static>] = &[
     (
         "name = 'app'\nabout = \"a\\nb\"\n",
-        &[],
         Form::Web("<h1>app</h1>", "</header>"),
         "<p>a\nb</p>",
     ),
     (
         "name = 'app'\nabout = \"a\\n    b <c>\\nd\\n\\n```\\ne\\n\\nf\\n```\"\n",
-        &[],
         Form::Web("<h1>app</h1>", "</header>"),
         "<p>a<br><code>b &lt;c&gt;</code><br>d</p><p><code>e</code></p><p><code>f</code></p>",
     ),
     (
         "name = 'app'\nabout = \"    a\\n    b\"\n",
-        &[],
         Form::Web("<h1>app</h1>", "</header>"),
         "<p><code>a</code><br><code>b</code></p>",
     ),
@@ -198,19 +181,16 @@ pub const ABOUTS: &[Row<'static>] = &[
 pub const SYNTAXES: &[Row<'static>] = &[
     (
         "name = 'app'\n[[option]]\nsyntax = '--color[=WHEN]'\n",
-        &[],
         Form::Web("<dl><dt ", "</a></dt>"),
         "id=\"app::--color.5b.3dWHEN.5d\"><a href=\"#app::--color.5b.3dWHEN.5d\"><code>--color</code>[=<var>WHEN</var>]",
     ),
     (
         "name = 'app'\n[[option]]\nsyntax = '--[no-]edit'\n",
-        &[],
         Form::Web("<dl><dt ", "</a></dt>"),
         "id=\"app::--.5bno-.5dedit\"><a href=\"#app::--.5bno-.5dedit\">--[no-]<code>edit</code>",
     ),
     (
         "name = 'app'\n[[option]]\nsyntax = '-o FILE'\n",
-        &[],
         Form::Web("<dl><dt ", "</a></dt>"),
         "id=\"app::-o.20FILE\"><a href=\"#app::-o.20FILE\"><code>-o</code> <var>FILE</var>",
     ),
@@ -218,7 +198,6 @@ pub const SYNTAXES: &[Row<'static>] = &[
 
 pub const IN_PORTUGUESE: &[Row<'static>] = &[(
     "name = 'app'\nlanguage = 'pt-BR'\n",
-    &[],
     Form::Web("", "<meta charset"),
     "<!DOCTYPE html><html lang=\"pt-BR\"><head>",
 )];
@@ -248,7 +227,6 @@ value = 'V'
 help = 'Other'
 default = 'd'
 ",
-        &[],
         Form::Web("<h3>Available options</h3><dl>", "</dl>"),
         "<dt id=\"app::o\"><a href=\"#app::o\"><code>--o</code>=<var>V</var></a></dt><dd><p>Help</p><p>[default: d]</p></dd><dt id=\"app::o::2\"><a href=\"#app::o::2\"><code>--o</code>=<var>V</var></a></dt><dd><p>Other</p><p>[default: d]</p></dd>",
     ),
@@ -263,7 +241,6 @@ help = 'Runs'
 name = 'RUN'
 help = 'Runs'
 ",
-        &[],
         Form::Web("<h3>One</h3><dl>", "</dl>"),
         "<dt id=\"app::RUN\"><a href=\"#app::RUN\"><var>RUN</var></a></dt><dd><p>Runs</p></dd>",
     ),

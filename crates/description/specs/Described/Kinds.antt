@@ -4,7 +4,7 @@ use Rattle.std.specs.Char.{is_ascii_alphanumeric}
 use Rattle.std.specs.List.{list_all}
 use Rattle.toml.specs.Data.{Data}
 use Rattle.web_page.specs.Models.{is_language}
-use Rattle.description.specs.Described.Texts.{as_text_of, begins, begins_a_section, has_ink, is_body, is_command_name, is_dash, is_empty_text, is_heading, is_language_tag, is_line_character, is_long, is_name, is_name_character, is_program_name, is_read_once, is_section, is_text, is_text_character, is_title, is_value, is_line}
+use Rattle.description.specs.Described.Texts.{as_text_of, begins, begins_a_section, has_blank_end, is_body, is_command_name, is_dash, is_empty_text, is_heading, is_language_tag, is_line_character, is_long, is_name, is_name_character, is_program_name, is_read_once, is_section, is_text, is_text_character, is_title, is_value, is_line, without_colon}
 use Rattle.description.specs.declared.decode.texts.Kind.{Kind}
 use Rattle.description.specs.declared.decode.texts.Kind.TheVariants as kind
 
@@ -43,7 +43,7 @@ abbrev pub has_form : Kind → List ℕ → Bool
 has_form kind.Text text = true
 has_form kind.Line text = true
 has_form kind.Title text = list_all is_read_once text
-has_form kind.Heading text = list_all is_read_once text && has_ink text
+has_form kind.Heading text = list_all is_read_once text && (not (has_blank_end text) && not (is_empty_text (without_colon text)))
 has_form kind.Section text = list_all is_ascii_alphanumeric text && begins begins_a_section text
 has_form kind.Language text = is_language text
 has_form kind.Body text = not (is_empty_text text)

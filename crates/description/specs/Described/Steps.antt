@@ -1,5 +1,5 @@
 -- What the lists that the decoder goes over say.
-use Rattle.std.specs.Prelude.{ℕ, [], List, map, String}
+use Rattle.std.specs.Prelude.{ℕ, [], List, map, Option, option_map, String}
 use Rattle.std.specs.Borrow.{Bor}
 use Rattle.std.specs.BTreeMap.{BTreeMap}
 use Rattle.std.specs.declared.alloc.Global.{Global}
@@ -27,6 +27,9 @@ views_of = map (λ table. table_view table.now)
 abbrev pub words_of : List (Bor (List ℕ)) → List (List ℕ)
 words_of = map (λ text. text.now)
 
+abbrev pub member_view : Option (Bor (BTreeMap (String Global) Value)) → Option Members
+member_view = option_map (λ table. table_view table.now)
+
 -- what the code has seen of a level
 abbrev pub texts_seen : Texts → TextsSaid
 texts_seen t = record { about = text_of t.about; header = text_of t.header; footer = text_of t.footer; usage = text_of t.usage; topics = [] }
@@ -50,7 +53,7 @@ abbrev pub words_seen : SeenWords → TitleWords
 words_seen w = record { section = section_name w.section; date = text_of w.date; vendor = text_of w.vendor; title = text_of w.title }
 
 abbrev pub description_head_seen : SeenDescription → DescriptionHead
-description_head_seen d = record { name = d.name.now; words = words_seen d.words; language = d.language.now; help_options = items_view d.help_options.now; outline = outline_seen d.outline }
+description_head_seen d = record { name = d.name.now; words = words_seen d.words; language = d.language.now; fixed = member_view d.fixed; help_options = items_view d.help_options.now; outline = outline_seen d.outline }
 
 -- how deep the groups and the commands in the arrays of a level lie
 abbrev pub lists_depth : Lists → ℕ

@@ -1,8 +1,8 @@
 -- The texts and the names that a description may hold: the characters that stand in them, and the form that they have.
 use Rattle.std.specs.Prelude.{chars, ℕ, List, [], ◌∷◌, ◌==◌, ◌%◌, length, Bool, false, not, ◌&&◌, ◌||◌, if◌then◌else◌, nat_lt, Option, Some, None, option_and_then}
-use Rattle.std.specs.Char.{is_ascii_alphanumeric, is_ascii_digit, is_control, is_not_whitespace, is_whitespace}
+use Rattle.std.specs.Char.{is_ascii_alphanumeric, is_ascii_digit, is_control, is_whitespace}
 use Rattle.std.specs.Int.{is_in_range}
-use Rattle.std.specs.List.{list_all, list_any}
+use Rattle.std.specs.List.{list_all}
 use Rattle.toml.specs.Data.{Data, as_str}
 use Rattle.web_page.specs.Models.{is_language}
 
@@ -33,10 +33,16 @@ is_short c = not (c == 45) && is_name_character c
 abbrev pub is_empty_text : List ℕ → Bool
 is_empty_text text = length text == 0
 
--- the first byte passes the test
+-- the first of a list passes the test
 abbrev pub begins : (ℕ → Bool) → List ℕ → Bool
 begins test [] = false
 begins test (b ∷ bs) = test b
+
+-- the last of a list passes the test
+abbrev pub ends : (ℕ → Bool) → List ℕ → Bool
+ends test [] = false
+ends test (b ∷ []) = test b
+ends test (b ∷ c ∷ bs) = ends test (c ∷ bs)
 
 abbrev pub is_dash : ℕ → Bool
 is_dash b = b == 45
@@ -45,9 +51,15 @@ is_dash b = b == 45
 abbrev pub is_read_once : ℕ → Bool
 is_read_once b = not (b == 92 || b == 34)
 
--- a character that is no white space
-abbrev pub has_ink : List ℕ → Bool
-has_ink text = list_any is_not_whitespace (chars text)
+-- white space in front or at the end
+abbrev pub has_blank_end : List ℕ → Bool
+has_blank_end text = begins is_whitespace (chars text) || ends is_whitespace (chars text)
+
+-- the text without the colon at its end
+abbrev pub without_colon : List ℕ → List ℕ
+without_colon [] = []
+without_colon (b ∷ []) = if b == 58 then [] else b ∷ []
+without_colon (b ∷ c ∷ text) = b ∷ without_colon (c ∷ text)
 
 -- a digit, `n` or `l`
 abbrev pub begins_a_section : ℕ → Bool
@@ -74,9 +86,9 @@ is_value text = list_all is_line_character (chars text) && not (is_empty_text te
 abbrev pub is_title : List ℕ → Bool
 is_title text = list_all is_line_character (chars text) && list_all is_read_once text
 
--- the title of a group or of a topic
+-- a title that stands on a page, of a group or of a topic, or a fixed word
 abbrev pub is_heading : List ℕ → Bool
-is_heading text = is_title text && has_ink text
+is_heading text = is_title text && (not (has_blank_end text) && not (is_empty_text (without_colon text)))
 
 -- a section of the manual: a digit, `n` or `l`, with ASCII letters and digits behind it
 abbrev pub is_section : List ℕ → Bool

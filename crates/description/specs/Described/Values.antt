@@ -82,6 +82,10 @@ as_date (string text) = if_passes is_title text
 as_date (datetime dt) = text_of_date dt
 as_date _ = None
 
+-- a table that may be left out
+abbrev pub table_at : (key : List ℕ) → Members → Option (Option Members)
+table_at = optional_at as_table
+
 -- an array of tables; nothing where it is left out
 abbrev pub are_tables : Items → Bool
 are_tables no_items = true

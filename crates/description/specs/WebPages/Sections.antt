@@ -5,8 +5,7 @@ use Rattle.bpaf_doc.specs.Buffer.Writes.{document_of}
 use Rattle.web_page.specs.declared.elements.Element.TheVariants.{Code, Heading, Li, Pre, Section, Strong, Ul}
 use Rattle.web_page.specs.declared.elements.Level.TheVariants.{Two, Three}
 use Rattle.description_parts.specs.Content.{TopicSaid, LevelSaid, level, GroupsSaid, no_groups, groups, GroupSaid, group, CommandsSaid, no_commands, commands, CommandSaid, command}
-use Rattle.description.specs.Pages.{subject_tree}
-use Rattle.description.specs.Subjects.{SubjectSaid}
+use Rattle.description.specs.Subjects.{SubjectSaid, subject_tree}
 use Rattle.description.specs.Trees.{hold_commands, show_command}
 use Rattle.description.specs.UsageLines.{texts_in, usage_part}
 use Rattle.description.specs.WebPages.Events.{Event, document_events, words, inside, inside_with_id, link, text_in}

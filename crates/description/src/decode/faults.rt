@@ -64,11 +64,20 @@ impl<'a> Fault<'a> {
     }
 }
 
-// One table among those of its kind in another, counted from 1.
+// One table in another: the only one of its kind, or one of many, counted from 1.
 #[derive(Clone, Copy)]
-struct Step {
-    kind: &'static str,
-    number: usize,
+enum Step {
+    Only(&'static str),
+    Numbered { kind: &'static str, number: usize },
+}
+
+impl Display for Step {
+    fn fmt<W: fmt::Write>(&self, f: &mut fmt::Formatter<W>) -> fmt::Result {
+        match self {
+            Step::Only(kind) => f.write_str(*kind),
+            Step::Numbered { kind, number } => write!(f, "{kind} {number}"),
+        }
+    }
 }
 
 /// The way to a faulty table, from the table outwards: the top is not on it.
@@ -95,7 +104,20 @@ impl<A: Allocator + Copy> Way<A> {
         ensures { IsAsMuch fault.entry result }
     {
         let number = index.saturating_add(1);
-        match self.steps.push(Step { kind, number }) {
+        self.through(Step::Numbered { kind, number }, fault)
+    }
+
+    /// The fault of the only table of this kind, as one of the table around it.
+    pub fn outwards_of_the_only<'a>(&mut self, kind: &'static str, fault: Fault<'a>) -> Fault<'a>
+        ensures { IsAsMuch fault.entry result }
+    {
+        self.through(Step::Only(kind), fault)
+    }
+
+    fn through<'a>(&mut self, step: Step, fault: Fault<'a>) -> Fault<'a>
+        ensures { IsAsMuch fault.entry result }
+    {
+        match self.steps.push(step) {
             Ok(_) => fault,
             Err(_) => Fault::Memory,
         }
@@ -159,7 +181,7 @@ impl Display for Place<'_> {
             if !is_first {
                 f.write_str(", ")?;
             }
-            write!(f, "{} {}", step.kind, step.number)?;
+            write!(f, "{step}")?;
             is_first = false;
         }
         Ok(())

@@ -1,16 +1,16 @@
 //! The kinds of texts, and why one is none of its kind.
 ghost use Rattle.std.specs.Prelude.{◌≡◌, ◌&&◌, chars, is_none, not};
-ghost use Rattle.std.specs.Char.{is_ascii_alphanumeric};
+ghost use Rattle.std.specs.Char.{is_ascii_alphanumeric, is_whitespace};
 ghost use Rattle.std.specs.List.{list_all};
 ghost use Rattle.description.specs.Described.Kinds.{allows, has_form, is_of};
-ghost use Rattle.description.specs.Described.Texts.{begins, begins_a_section, has_ink, if_passes, is_dash};
-ghost use Rattle.description.specs.Described.Texts.{is_empty_text, is_line_character, is_name_character};
-ghost use Rattle.description.specs.Described.Texts.{is_noncharacter, is_read_once, is_short, is_text_character};
+ghost use Rattle.description.specs.Described.Texts.{begins, begins_a_section, ends, has_blank_end, if_passes};
+ghost use Rattle.description.specs.Described.Texts.{is_dash, is_empty_text, is_line_character};
+ghost use Rattle.description.specs.Described.Texts.{is_name_character, is_noncharacter, is_read_once, is_short};
+ghost use Rattle.description.specs.Described.Texts.{is_text_character, without_colon};
 ghost use Rattle.description.specs.Faults.{Reads};
 ghost use Rattle.web_page.specs.Models.{is_language, is_language_byte};
 
 use super::faults::Fault;
-use crate::paragraphs::has_ink;
 
 /// What a text at a key is, which decides what it may hold.
 #[derive(Clone, Copy)]
@@ -25,7 +25,7 @@ pub enum Kind {
     Value,
     /// A word of the title line of a manual page.
     Title,
-    /// The title of a group or of a topic.
+    /// A title on a page: of a group or of a topic, or a fixed word.
     Heading,
     /// A section of the manual.
     Section,
@@ -121,13 +121,46 @@ fn refused_with_a_dash(text: &str) -> Refusal
     }
 }
 
-fn refused_without_ink(text: &str) -> Refusal
-    ensures { is_none result ≡ has_ink text.now }
+fn begins_with_a_blank(text: &str) -> bool
+    ensures { result ≡ begins is_whitespace (chars text.now) }
 {
-    if has_ink(text) {
-        None
+    match text.chars().next() {
+        None => false,
+        Some(first) => first.is_whitespace(),
+    }
+}
+
+fn ends_with_a_blank(text: &str) -> bool
+    ensures { result ≡ ends is_whitespace (chars text.now) }
+{
+    let mut is_blank = false;
+    for character in text.chars() {
+        is_blank = character.is_whitespace();
+    }
+    is_blank
+}
+
+/// A title without the colon at its end.
+pub fn without_colon(title: &str) -> &str
+    ensures { result.now ≡ without_colon title.now }
+{
+    match title.strip_suffix(':') {
+        None => title,
+        Some(rest) => rest,
+    }
+}
+
+fn refused_as_heading(text: &str) -> Refusal
+    ensures { is_none result ≡ not (has_blank_end text.now) && not (is_empty_text (without_colon text.now)) }
+{
+    if without_colon(text).is_empty() {
+        Some(" is empty")
+    } else if begins_with_a_blank(text) {
+        Some(" begins with a blank")
+    } else if ends_with_a_blank(text) {
+        Some(" ends with a blank")
     } else {
-        Some(" is blank")
+        None
     }
 }
 
@@ -237,7 +270,7 @@ impl Kind {
         match self {
             Kind::Text | Kind::Line => None,
             Kind::Title => refused_by_roff(text.as_bytes()),
-            Kind::Heading => first_of(refused_by_roff(text.as_bytes()), refused_without_ink(text)),
+            Kind::Heading => first_of(refused_by_roff(text.as_bytes()), refused_as_heading(text)),
             Kind::Section => refused_as_section(text),
             Kind::Language => refused_as_language(text),
             Kind::Body | Kind::Value | Kind::Name => refused_if_empty(text),

@@ -12,8 +12,9 @@ ghost use Rattle.description.specs.Described.Texts.{if_passes, is_value};
 ghost use Rattle.description.specs.Described.Values.{as_syntax, as_values, digit_text};
 ghost use Rattle.description.specs.Described.Values.{each_item, is_empty, words_at};
 ghost use Rattle.description.specs.Described.Values.{flag_at, has_only};
-ghost use Rattle.description.specs.Described.Values.{if_short, optional_at, required_at, only_character, tables_at};
-ghost use Rattle.description.specs.Described.Steps.{words_of};
+ghost use Rattle.description.specs.Described.Values.{if_short, optional_at, required_at, only_character};
+ghost use Rattle.description.specs.Described.Values.{table_at, tables_at};
+ghost use Rattle.description.specs.Described.Steps.{member_view, words_of};
 ghost use Rattle.description.specs.Syntax.{is_well_formed};
 ghost use Rattle.description.specs.Faults.{Reads, Sees};
 
@@ -28,13 +29,16 @@ use toml::{Table, Value};
 pub fn table_of<'a>(value: &'a Value) -> Result<&'a Table, Fault<'a>>
     ensures { Reads (as_table (view value.now)) (λ table. table_view table.now) result }
 {
+    table_in(value, "this")
+}
+
+// The table that stands at a key.
+fn table_in<'a>(value: &'a Value, key: &'static str) -> Result<&'a Table, Fault<'a>>
+    ensures { Reads (as_table (view value.now)) (λ table. table_view table.now) result }
+{
     match value {
         Value::Table(table) => Ok(table),
-        _ => Err(Fault::Content {
-            before: "this",
-            name: "",
-            after: " is no table",
-        }),
+        _ => Err(Fault::at(key, " is no table")),
     }
 }
 
@@ -360,6 +364,16 @@ fn digit_text(number: i64) -> Option<&'static str>
         8 => Some("8"),
         9 => Some("9"),
         _ => None,
+    }
+}
+
+/// The table at a key.
+pub fn table_at<'a>(table: &'a Table, key: &'static str) -> Result<Option<&'a Table>, Fault<'a>>
+    ensures { Reads (table_at key.now (table_view table.now)) (λ inner. member_view inner) result }
+{
+    match value_at(table, key) {
+        None => Ok(None),
+        Some(value) => Ok(Some(table_in(value, key)?)),
     }
 }
 

@@ -2,9 +2,8 @@
 ghost use Rattle.std.specs.Prelude.{◌≡◌, IfOk, OnOk, flat_map, map, string_bytes};
 ghost use Rattle.bpaf_doc.specs.Buffer.Writes.{document_of};
 ghost use Rattle.bpaf_meta.specs.View.{text_of, tree_of};
-ghost use Rattle.description.specs.All.{all_from, below_commands, below_groups, below_level, from_command};
-ghost use Rattle.description.specs.Pages.{subject_tree};
-ghost use Rattle.description.specs.Subjects.{below};
+ghost use Rattle.description.specs.Subjects.{all_from, below, below_commands, below_groups, below_level};
+ghost use Rattle.description.specs.Subjects.{from_command, subject_tree};
 ghost use Rattle.description.specs.UsageLines.{texts_in, usage_part};
 ghost use Rattle.description.specs.View.{subject_said};
 ghost use Rattle.description.specs.WebPages.Events.{document_events, inside, with_events};
@@ -19,7 +18,7 @@ use crate::page::lists::put_lists;
 use crate::page::texts::{put_given, put_text};
 use crate::page::usages::usage_level;
 use crate::subjects::Subject;
-use crate::trees::{Shared, level_tree};
+use crate::trees::level_tree;
 use crate::usage_lines::put_usage as write_usage;
 use bpaf_doc::buffer::Doc;
 use bpaf_help::meta::Meta;
@@ -85,7 +84,7 @@ impl<'d, 'a, A: Allocator, B: Allocator + Copy> Subject<'d, 'a, A, B> {
     {
         let alloc = self.allocator();
         let read = usage_level(alloc, self.level)?;
-        let tree = level_tree(alloc, &read, Shared::on_help_pages(&[]))?;
+        let tree = level_tree(alloc, &read, &[])?;
         let document = usage_of(alloc, &self.path, &tree, self.level.usage);
         drop(tree);
         drop(read);

@@ -1,4 +1,4 @@
-use Rattle.description.proofs.LevelPages.{stripped}
+use Rattle.description.proofs.UsageLead.{stripped}
 use Rattle.description.proofs.usage_lines.without_lead.Goals as goal
 
 pub returns : goal.returns

@@ -1,6 +1,6 @@
 use Rattle.std.proofs.Common.{◌≡◌, drop, flat_map}
 use Rattle.description_parts.specs.View.{commands_said, groups_said}
-use Rattle.description.specs.All.{below_commands, below_groups}
+use Rattle.description.specs.Subjects.{below_commands, below_groups}
 use Rattle.description.specs.View.{subject_said}
 use Rattle.description.specs.WebPages.Events.{with_events}
 use Rattle.description.specs.WebPages.Sections.{command_section}
