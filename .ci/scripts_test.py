@@ -271,7 +271,7 @@ class Tests(OverStandIn):
         (self.folder / "crates.txt").write_text("clidoc:\n")
         self.stand_in("rt", self.CASES % ("man", "ended status=1 runners=1"))
         status, told, _ = self.call(self.folder / "test")
-        self.assertEqual((status, told.splitlines()[-1]), (1, "17 passed, 2 failed"))
+        self.assertEqual((status, told.splitlines()[-1]), (1, "19 passed, 2 failed"))
         self.assertIn("it fails: one-man\n    it fails: two-man\n", told)
 
     def test_ends_hints_and_nothing_else(self):

@@ -1,10 +1,10 @@
-//! A command line that describes itself, and its pages.
+//! A command line that describes itself, and its page.
 
 ghost use Rattle.std.specs.Prelude.{IfOk, string_bytes};
-ghost use Rattle.description.specs.Pages.{IsDescriptionManual, IsUsageLineOf};
 ghost use Rattle.description.specs.View.{description_said};
+ghost use Rattle.description.specs.WebPages.{IsWebPageOf};
 
-use description::{Command, Description, Group, Level, Opt};
+use description::{Command, Description, Group, Level, Opt, PageError};
 use std::alloc::{AllocError, Global};
 
 /// A command line with options, a group and two commands.
@@ -21,25 +21,9 @@ pub fn describe(alloc: Global) -> Result<Description<'static>, AllocError> {
     Ok(Description::new(alloc, "app", level))
 }
 
-/// The pages of a command line.
-#[derive(Drop)]
-pub struct Pages {
-    pub usage: String,
-    pub help: String,
-    pub html: String,
-    pub markdown: String,
-    pub manual: String,
-}
-
-pub fn pages_of(alloc: Global, app: &Description<'_>) -> Result<Pages, AllocError>
-    ensures usage { IfOk result (λ p. IsUsageLineOf (description_said app.now) (string_bytes p.usage)) }
-    ensures manual { IfOk result (λ p. IsDescriptionManual (description_said app.now) (string_bytes p.manual)) }
+/// The complete HTML page of a command line.
+pub fn page_of(alloc: Global, app: &Description<'_>) -> Result<String, PageError>
+    ensures { IfOk result (λ page. IsWebPageOf (description_said app.now) (string_bytes page)) }
 {
-    Ok(Pages {
-        usage: app.usage(alloc)?,
-        help: app.help(alloc, true)?,
-        html: app.html(alloc)?,
-        markdown: app.markdown(alloc)?,
-        manual: app.manpage(alloc)?,
-    })
+    app.page(alloc)
 }

@@ -15,12 +15,13 @@ pub mod usage;
 
 // description
 pub mod describing;
-pub mod files;
-pub mod levels;
 pub mod reading;
 
 // description_pages
 pub mod level_manual;
+
+// command_pages
+pub mod command_help;
 
 // lasting_names
 pub mod naming;

@@ -1,11 +1,10 @@
 #!/usr/bin/env python3
-"""Compares the pages of `clidoc` with those that `replay` answers, for random descriptions.
+"""Compares the pages of `clidoc` with those of `pages`, for the descriptions of `examples/` and for random ones.
 
     compare/compare.py [COUNT [SEED]]
 
-Makes COUNT descriptions (100) from SEED (1), writes each as TOML, and runs the built program, `out/clidoc`, on it: in the forms that show all levels,
-and in those that show one for a level by turns, under words that lead there and at a width. The tree of each description is made here once more, by the rules in
-docs/description.md, and its pages are asked of the built `replay`, of which docs/replay.md tells. Then the program is run on the same
+Makes COUNT descriptions (100) from SEED (1), with hostile texts and fixed words, writes each as TOML, and runs the built program, `out/clidoc`, on it in each
+form, for the application and for a command to which random words lead. `pages` is the definition of the pages as a program. Then `clidoc` is run on the same
 descriptions with one fault each, and the line that it prints is compared (`faults.py`).
 Prints how many pages and lines agree and how many differ, and the first that differs. Ends with status 1 where any differs.
 """
@@ -18,67 +17,75 @@ import tomllib
 
 sys.dont_write_bytecode = True
 
-import asking
 import describing
 import faults
 import levels
+import page_cases
+
+from page_of import text_of
 
 CLIDOC = pathlib.Path(__file__).resolve().parent.parent / "out" / "clidoc"
-REPLAY = CLIDOC.parent.parent.parent / "replay" / "out" / "replay"
+WIDTHS = [5, 7, 20, 40, 72, 79, 80, 100, 101, 120, 1000, 2**64 - 1]
+FORMS = ["usage", "full", "brief", "man", "markdown"]
+TITLES = ["November 2026", "2026-11-23", "", "a-b 'c'", "日本", "a\\b \"c\""]
 
 
-def described(count, seed):
-    """Random descriptions, each with a TOML text of it."""
+def written(count, seed):
+    """The descriptions, each with a TOML text of it."""
     chances = random.Random(seed)
-    for _ in range(count):
-        table = describing.Describer(chances).description()
-        text = describing.Writer(chances).document(table)
+    for name, table in page_cases.cases(count, seed):
+        file = page_cases.EXAMPLES / name
+        text = file.read_text() if file.exists() else describing.Writer(chances).document(table)
         if tomllib.loads(text) != table:
             sys.exit(f"the text says something else than\n{table}\n{text}")
         yield table, text
 
 
-def run(words, given):
-    done = subprocess.run([CLIDOC, *words], input=given, capture_output=True, check=False)
-    return done.returncode, done.stdout, done.stderr
-
-
-def answers(requests):
-    """The answer that `replay` gives to each request."""
-    done = subprocess.run([REPLAY], input="\n".join(requests).encode(), stdout=subprocess.PIPE, check=True)
-    lines = done.stdout.decode().split("\n")
-    found = [line[2:].partition(" ")[2] for line in lines if line.startswith("= ")]
-    if len(found) != len(requests):
-        sys.exit("some requests have not one answer")
-    return found
+def way(table, chances):
+    """Words that lead to a level: names of commands, of all kinds."""
+    words = []
+    while levels.commands(table) and chances.random() < 0.7:
+        word = chances.choice([word for command in levels.commands(table) for word in levels.called(command)])
+        table = next(command for command in levels.commands(table) if word in levels.called(command))
+        words.append(word)
+    return words
 
 
 def pages(cases, seed):
     """What is given, the words, and what should come out."""
     chances = random.Random(seed)
-    shown = [levels.Level(table, chances) for table, _ in cases]
-    lists = answers([level.lists_request() for level in shown])
-    asked = []
-    for (table, text), level, listed in zip(cases, shown, lists):
-        way = [f"--command={word}" for word in level.words]
-        asked += [(text, form, [form], request) for form, request in asking.requests(table).items()]
-        asked += [(text, form, [form, *way, f"--width={level.width}"], request) for form, request in level.console_requests().items()]
-        # Without a word `man` has all levels on one page.
-        asked += [(text, "man", ["man", *way], level.manual_request(listed))] if way else []
-    for (text, form, words, _), answer in zip(asked, answers([request for *_, request in asked])):
-        yield text.encode(), words, (0, asking.page(form, answer).encode(), b"")
+    for top, text in cases:
+        given = way(top, chances)
+        for form in FORMS:
+            table, words, how = dict(top), [form, *(f"--command={word}" for word in given)], {}
+            if form in ("usage", "full", "brief"):
+                how["width"] = chances.choice(WIDTHS)
+                words.append(f"--width={how['width']}")
+            elif form == "man" and chances.random() < 0.5:
+                how["deep"] = True
+                words.append("--deep")
+            for key in ["date", "vendor"] if form == "man" else []:
+                if chances.random() < 0.3:
+                    table[key] = chances.choice(TITLES)
+                    words += [f"--{key}", table[key]]
+            yield text.encode(), words, (0, text_of(table, form, given, **how).encode(), b"")
 
 
 def lines(cases, seed):
     """The same of data with one fault, in a form by turns."""
     chances = random.Random(seed)
     number = 0
-    for table, _ in cases:
+    for table, _ in cases[len(list(page_cases.EXAMPLES.glob("*.toml"))) :]:
         for other, said in faults.planted(table, chances):
             given = describing.Writer(chances).document(other).encode()
-            form = asking.FORMS[number % len(asking.FORMS)]
+            form = FORMS[number % len(FORMS)]
             number += 1
             yield given, [form], (1, b"", f"clidoc: {said}\n".encode())
+
+
+def run(words, given):
+    done = subprocess.run([CLIDOC, *words], input=given, capture_output=True, check=False)
+    return done.returncode, done.stdout, done.stderr
 
 
 def compared(what, rows):
@@ -97,8 +104,8 @@ def compared(what, rows):
 
 
 def main():
-    count, seed = (list(map(int, sys.argv[1:])) + [100, 1][len(sys.argv) - 1:])[:2]
-    cases = list(described(count, seed))
+    count, seed = (list(map(int, sys.argv[1:])) + [100, 1][len(sys.argv) - 1 :])[:2]
+    cases = list(written(count, seed))
     same = compared("pages", pages(cases, seed))
     sys.exit(0 if compared("lines", lines(cases, seed)) and same else 1)
 

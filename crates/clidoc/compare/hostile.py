@@ -12,7 +12,7 @@ The built program, `out/clidoc`, refuses it, in one line and without a page, or 
   nor of the environment, no command is run, and no warning of a name that is not known;
 - as HTML, by a parser: the elements of the same page without the characters that a tag is made of.
 
-Markdown is not read: bpaf writes a text in it as it stands. Prints how many texts were refused and how many pages were read, and each fault. Ends with
+Pages in markdown are read by `media.py`. Prints how many texts were refused and how many pages were read, and each fault. Ends with
 status 1 where there is one.
 """
 import concurrent.futures
@@ -28,7 +28,9 @@ import unicodedata
 sys.dont_write_bytecode = True
 
 import hostile_texts
-import texts as styled
+
+from pages import texts
+from pages.tree import is_a, plain
 
 try:
     import pyte
@@ -44,7 +46,7 @@ KEYS = [
     "command.name", "command.aliases", "command.help", "command.about", "command.usage", "command.footer",
 ]
 # By the short name of the command no text stands in the words.
-FORMS = ["usage", "full", "brief", "html", "man", "man --command=C", "full --command=C", "usage --command=C --width=40"]
+FORMS = ["usage", "full", "brief", "html", "man", "man --deep", "man --command=C", "full --command=C", "usage --command=C --width=40"]
 # The words of a manual page's title line that take any text.
 TITLE = {"date", "vendor", "title"}
 # Those whose texts have literals.
@@ -106,20 +108,18 @@ def quoted(text):
 
 def description(key, text):
     """A description with this text at this key, and harmless ones at all others."""
-    texts = {each: PLAIN.get(each, each.replace(".", "-")) for each in KEYS}
-    texts[key] = text
-    told = re.sub(r"\{([\w.]+)\}", lambda m: usage(texts[m[1]]) if m[1].endswith("usage") else quoted(texts[m[1]]), HARMLESS)
+    held = {each: PLAIN.get(each, each.replace(".", "-")) for each in KEYS}
+    held[key] = text
+    told = re.sub(r"\{([\w.]+)\}", lambda m: usage(held[m[1]]) if m[1].endswith("usage") else quoted(held[m[1]]), HARMLESS)
     return told.encode()
 
 
 def visible(key, text):
-    """What a page shows of the text at the key: no backquotes that stand around a literal, and no fences of a topic."""
-    if key.endswith("help"):
-        # Notes stand behind the first paragraph.
-        text = text.split("\n\n")[0]
-    if key == "topic.text":
-        return "".join(piece for _, piece in styled.topic_parts(text))
-    return "".join(piece for _, piece in styled.parts(text)) if key.split(".")[-1] in LITERALS else text
+    """What a page shows of the text at the key, but of one with a list, before whose items each medium has a mark of its own."""
+    if key.split(".")[-1] not in LITERALS:
+        return text
+    blocks = texts.blocks(text)
+    return "" if any(is_a(block, "list") for block in blocks) else "".join(plain(block.inside) for block in blocks)
 
 
 def usage(text):
@@ -156,7 +156,7 @@ def on_console(page, text):
         pyte.Stream(screen).feed(page.replace("\n", "\r\n"))
         if [ink(line) for line in screen.display[:len(lines)]] != [ink(line) for line in lines] and page.isascii():
             yield "a terminal shows something else"
-    if "before" in ink(page) and not shows(page, text.split("\n\n")[0] if "\n" in text else text):
+    if "before" in ink(page) and not shows(page, text):
         yield "the text is not there"
 
 
@@ -249,8 +249,8 @@ def pages(key, text, folder):
 def main():
     step = int(sys.argv[1]) if len(sys.argv) > 1 else 1
     os.environ["CANARY"] = os.environ["HOME"] = "leaked-by-the-environment"
-    texts = hostile_texts.TEXTS[::step]
-    cases = [(key, text) for key in KEYS for text in texts]
+    chosen = hostile_texts.TEXTS[::step]
+    cases = [(key, text) for key in KEYS for text in chosen]
     with tempfile.TemporaryDirectory() as folder, concurrent.futures.ThreadPoolExecutor() as pool:
         (pathlib.Path(folder) / "CANARY").write_text("leaked-by-a-file\n")
 
@@ -264,7 +264,7 @@ def main():
         for form, fault in faults:
             wrong += 1
             print(f"{key} {text!r}: {form}: {fault}")
-    print(f"{len(texts)} texts at {len(KEYS)} keys: {refused} refused, {len(FORMS) * (len(cases) - refused)} pages read, {wrong} faults")
+    print(f"{len(chosen)} texts at {len(KEYS)} keys: {refused} refused, {len(FORMS) * (len(cases) - refused)} pages read, {wrong} faults")
     sys.exit(1 if wrong else 0)
 
 

@@ -51,9 +51,9 @@ def is_fit(key, text):
 
 def title(text):
     """A title that may stand over a list or a topic."""
-    text = fitting("title", text).strip(" ")
-    while text and words.title(text).endswith(" "):
-        text = words.title(text).strip(" ")
+    text = fitting("title", text).strip()
+    while text and words.title(text) != words.title(text).strip():
+        text = words.title(text).strip()
     return text if words.title(text).strip() else "Title"
 
 
@@ -71,6 +71,7 @@ def with_hostile(top, chances):
     places = [
         (table, key)
         for table in levels.tables(top)
+        if table is not top.get("words")
         for key, each in table.items()
         if isinstance(each, str) and key in TEXTS | LINES | TITLES | NAMES
     ]

@@ -4,15 +4,12 @@
     compare/published.py [--program PATH] [COUNT [SEED]]
 
 Makes COUNT descriptions (100) from SEED (1), every second one with texts of `hostile_texts.py`, and takes those of
-`examples/` too. Of each the page of the form `page`, by the built program, `out/clidoc`, or by that at PATH,
+`examples/` too. Of each the page of the form `html`, by the built program, `out/clidoc`, or by that at PATH,
 
 - is given to `tidy`, which may warn of an empty `dd`, and of an empty `code`, where a text has code of blanks alone;
 - is parsed by `html5lib` in its strict mode, and the tree is compared, letter by letter, with the one that is made
-  here by the rules in docs/description.md. The text of the style sheet is left out. A usage line is compared with
-  that of the form `usage`, and its names and words for values with what stands in `strong` and in `var`;
-- has no id twice, links that show something and lead somewhere, one `main`, and no heading that skips a level;
-- lists in each section what the form `full` lists of that level. These two forms are given the level alone, without
-  texts around its lists; where a line of these may look like another, as a help like an entry, they are skipped.
+  here by the rules in docs/description.md. The text of the style sheet and usage lines are left out;
+- has no id twice, links that show something and lead somewhere, one `main`, and no heading that skips a level.
 
 Some entries are given a twin that says the same, or nearly, and some one whose help has the other's notes in it. Needs Debian's packages `python3-html5lib` and `tidy`.
 Prints a line for each difference, and how many pages agree. Ends with status 1 where any differs.
@@ -41,10 +38,6 @@ import texts
 CLIDOC = pathlib.Path(__file__).resolve().parent.parent / "out" / "clidoc"
 EXAMPLES = CLIDOC.parent.parent.parent.parent / "examples"
 LANGUAGES = ["en", "de", "pt-BR", "zh-Hans-CN", "x", "-", "0-A"]
-# No line of a console page breaks at this width but where its text does.
-WIDTH = "--width=999999"
-AROUND = {"about", "header", "footer", "usage", "topic", "date"}
-ENTRY = {"name", "short", "help", "hidden", "aliases"}
 NOTES = [("default", "default", str), ("possible values", "values", ", ".join)]
 # Stands in a tree for a usage line.
 USAGE = "usage line", {}, []
@@ -256,28 +249,6 @@ def wanted_page(top):
     return element("html", element("head", *head), element("body", *body), lang=top.get("language", "en"))
 
 
-def usage_faults(level, path, line, found):
-    """What is wrong with the usage line of a section, where the form `usage` shows this one."""
-    node = next((node for node in every(found, ["pre"]) if list(every(node, ["strong"]))), None)
-    if node is None or [child[0] for child in node[2]] != ["code"] or plain(node) != line:
-        yield "usage line", node and plain(node), line
-        return
-    groups = [level, *level.get("group", [])]
-    named = [option for table in groups for option in options(table)]
-    tokens = [token for option in named if "syntax" in option for token in syntaxes.styled(option["syntax"])]
-    names = {f"-{option['short']}" if "short" in option else f"--{option.get('long')}" for option in named}
-    valued = named + [each for table in groups for each in shown(table.get("positional", []))]
-    words = {value(each["value"]) for each in valued if "value" in each}
-    allowed = {"strong": {*path, "--", *names, *(text for style, text in tokens if style == "L")}}
-    allowed["var"] = {"COMMAND ...", *words, *(text for style, text in tokens if style == "M")}
-    for child in node[2][0][2]:
-        if isinstance(child, str):
-            if not tokens and set(child) - set(" []()|.="):
-                yield "usage line without markup", child, "signs between names and words"
-        elif child[0] not in allowed or plain(child) not in allowed[child[0]]:
-            yield f"{child[0]} of a usage line", plain(child), allowed.get(child[0])
-
-
 def read(node):
     """A node of the parser as an element."""
     if not isinstance(node.tag, str):
@@ -342,63 +313,6 @@ def habits(page):
             yield "heading", f"h{below} behind h{above}", "no level skipped"
 
 
-def brief(table):
-    """A level or a group with nothing below its commands."""
-    commands = [{key: command[key] for key in command if key in ENTRY} for command in table.get("command", [])]
-    return {key: commands if key == "command" else table[key] for key in table if key not in AROUND}
-
-
-def alone(table, names):
-    """A description of the level that the names lead to: its lists, without the texts around them."""
-    if names:
-        below = next(command for command in levels.commands(table) if command["name"] == names[0])
-        kept = {key: table[key] for key in ["name", "help_option"] if key in table}
-        return {**kept, "command": [alone(below, names[1:])]}
-    kept = brief(table)
-    return {**kept, "group": list(map(brief, kept["group"]))} if "group" in kept else kept
-
-
-def is_ambiguous(level, top):
-    """Whether a line of a help, a title or a syntax may look like something else among the lists of a console page."""
-    found = list(lists(level, top))
-    terms = ["".join(map(plain, entry.term)) for _, entries in found for entry in entries]
-    if any(title.startswith("    ") for title, _ in found) or any(term.startswith(" ") for term in terms):
-        return True
-    # A term of such a length has helps stand further to the right than any term.
-    return not any(5 <= len(term) <= 12 for term in terms)
-
-
-def console_lists(page):
-    """The titles of the lists of a help page, and the lines that begin with a term."""
-    found = []
-    for line in page.split("\n")[1:]:
-        rest = line.lstrip(" ")
-        indent = len(line) - len(rest)
-        if rest and indent < 4:
-            found.append((line.removesuffix(":") if line.startswith("Available ") else line, []))
-        elif rest and (indent == 4 or indent == 8 and rest.startswith("--")):
-            found[-1][1].append(rest)
-    return [(title, lines) for title, lines in found if lines]
-
-
-def section_lists(section):
-    """The titles of the lists of a section, and their terms."""
-    for heading, below in zip(section[2], section[2][1:]):
-        if below[0] == "dl":
-            yield plain(heading), [plain(term).lstrip(" ") for term in every(below, ["dt"])]
-
-
-def list_faults(section, page):
-    listed, terms = console_lists(page), list(section_lists(section))
-    if [(title, len(lines)) for title, lines in listed] != [(title, len(found)) for title, found in terms]:
-        yield "lists", terms, listed
-        return
-    for (_, lines), (_, found) in zip(listed, terms):
-        for line, term in zip(lines, found):
-            if line != term and not line.startswith(term + "  "):
-                yield "term", term, line
-
-
 def tidy_faults(page):
     words = ["tidy", "-e", "-q", "-utf8", "--show-info", "no"]
     told = subprocess.run(words, input=page, capture_output=True, check=False)
@@ -411,18 +325,11 @@ def run(program, words, text):
     return subprocess.run([program, *words], input=text.encode(), capture_output=True, check=False)
 
 
-def console(program, form, path, table):
-    """The console page of the level that the names lead to."""
-    text = describing.Writer(random.Random(1)).document(table)
-    done = run(program, [form, WIDTH, *[f"--command={name}" for name in path[1:]]], text)
-    return done.stdout.decode().removesuffix("\n") if not done.returncode else done.stderr.decode()
-
-
-def judged(program, top, text, counts):
+def judged(program, top, text):
     """What is wrong with the page of a description: what it is about, what is there, and what should be."""
-    done = run(program, ["page"], text)
+    done = run(program, ["html"], text)
     if done.returncode or done.stderr:
-        yield "page", done.stderr.decode(), "a page"
+        yield "html", done.stderr.decode(), "a page"
         return
     yield from tidy_faults(done.stdout)
     try:
@@ -432,15 +339,6 @@ def judged(program, top, text, counts):
         return
     yield from differences(page, wanted_page(top))
     yield from habits(page)
-    for (level, path), found in zip(all_levels(top, [top["name"]]), every(page, ["section"])):
-        bare = alone(top, path[1:])
-        if "usage" not in level:
-            yield from usage_faults(level, path, console(program, "usage", path, bare), found)
-        if is_ambiguous(level, top):
-            counts["skipped"] += 1
-        else:
-            counts["listed"] += 1
-            yield from list_faults(found, console(program, "full", path, bare))
 
 
 def twin(table, chances):
@@ -512,13 +410,13 @@ def main():
     words.add_argument("seed", type=int, nargs="?", default=1)
     words.add_argument("--program", default=CLIDOC)
     given = words.parse_args()
-    counts = dict.fromkeys(["agree", "differ", "listed", "skipped", "hostile"], 0)
+    counts = dict.fromkeys(["agree", "differ", "hostile"], 0)
     for name, top, text in cases(given.program, given.count, given.seed, counts):
-        faults = list(judged(given.program, top, text, counts))
+        faults = list(judged(given.program, top, text))
         counts["differ" if faults else "agree"] += 1
         for what, found, wanted in faults:
             print(f"{name}: {what}: {str(found)[:200]!r}, not {str(wanted)[:200]!r}")
-    print(f"hostile texts: {counts['hostile']}; lists of levels: {counts['listed']} read, {counts['skipped']} skipped")
+    print(f"hostile texts: {counts['hostile']}")
     print(f"pages: {counts['agree']} agree, {counts['differ']} differ")
     sys.exit(1 if counts["differ"] else 0)
 

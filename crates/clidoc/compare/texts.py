@@ -95,16 +95,3 @@ def chunks(text):
             found.append((is_code, bool(found) and (left_out or front > 0), kept))
         left_out = back > 0 or front > 0 and not kept
     return found
-
-
-def topic_parts(text):
-    """The text of a topic: a part for each line of code, and the others with their literals."""
-    parts = []
-    for number, (is_code, left_out, lines) in enumerate(chunks(text)):
-        if number:
-            parts.append(("T", "\n\n" if left_out else "\n "))
-        for place, line in enumerate(lines):
-            if place:
-                parts.append(("T", "\n " if is_code else "\n"))
-            parts += [("L", line)] if is_code else line_parts(line)
-    return joined(parts)

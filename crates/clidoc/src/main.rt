@@ -1,6 +1,6 @@
 //! `clidoc FORM [FILE]` reads a description of a command line in TOML from a file or from standard input, and
-//! writes one of its pages; FORM is `usage`, `full`, `brief`, `html`, `page`, `markdown`, `man` or `check`, or `all`
-//! for all pages as files of a folder.
+//! writes one of its pages; FORM is `usage`, `full`, `brief`, `man`, `markdown`, `html` or `check`, or `all` for all
+//! pages as files of a folder.
 #![tactic(auto)]
 
 use clidoc_engine::program::run;

@@ -4,10 +4,11 @@ use Rattle.std.specs.Prelude.{codes, option_to_list, ◌||◌, bytes_eq}
 use Rattle.std.proofs.lemmas.Bool.{false≢true}
 use Rattle.std.proofs.lemmas.List.{length-append, length-map}
 use Rattle.std.specs.Borrow.{Bor}
+use Rattle.command_pages.specs.Pages.{TitleGiven}
 use Rattle.clidoc_engine.specs.Chosen.{words_said}
 use Rattle.clidoc_engine.specs.declared.reading.WordFault.{WordFault}
 use Rattle.clidoc_engine.specs.Reading.{IsRefused}
-use Rattle.clidoc_engine.specs.Words.{Given, HasNoValues, given_in, Names, PageSaid, ChoiceSaid, Chooses, page, check, all, help, version, is_one_of}
+use Rattle.clidoc_engine.specs.Words.{Given, HasNoLevel, IsTitle, given_in, Names, PageSaid, ChoiceSaid, Chooses, page, check, all, help, version, is_one_of}
 
 abbrev given_or : Given → Option Given → Given
 given_or g None = g
@@ -26,12 +27,13 @@ no_names words g h e none word file n = grind arith
 pub no_check : (words : List (List ℕ)) (g : Given) → given_in words ≡ Some g → NamesNothing g → (file : Option (List ℕ)) → ¬ Chooses words (check file)
 no_check words g e none file h = no_names words g h.0 e none (codes "check") file h.1
 
-pub no_all : (words : List (List ℕ)) (g : Given) → given_in words ≡ Some g → NamesNothing g → (folder : List ℕ) (file : Option (List ℕ)) → ¬ Chooses words (all folder file)
-no_all words g e none folder file h = no_names words g h.0 e none (codes "all") file h.1
+pub no_all : (words : List (List ℕ)) (g : Given) → given_in words ≡ Some g → NamesNothing g → (folder : List ℕ) (title : TitleGiven) (file : Option (List ℕ)) → ¬ Chooses words (all folder title file)
+no_all words g e none folder title file h = no_names words g h.0 e none (codes "all") file h.1
 
--- where other values stand there than one folder
-pub no_folder : (words : List (List ℕ)) (g : Given) → given_in words ≡ Some g → ((folder : List ℕ) → ¬ (HasNoValues g × (g.folders ≡ folder ∷ []))) → (folder : List ℕ) (file : Option (List ℕ)) → ¬ Chooses words (all folder file)
-no_folder words g e none folder file h = grind arith
+-- where other options stand there than one folder and the words of title lines
+pub no_folder : (words : List (List ℕ)) (g : Given) → given_in words ≡ Some g → ((folder : List ℕ) (title : TitleGiven) → ¬ (HasNoLevel g × IsTitle g title × (g.folders ≡ folder ∷ [])))
+    → (folder : List ℕ) (title : TitleGiven) (file : Option (List ℕ)) → ¬ Chooses words (all folder title file)
+no_folder words g e none folder title file h = grind arith
 
 pub no_page : (words : List (List ℕ)) (g : Given) → given_in words ≡ Some g → NamesNothing g → (p : PageSaid) (file : Option (List ℕ)) → ¬ Chooses words (page p file)
 no_page words g e none p file h = no_names words g h.1 e none h.0 file h.2
@@ -40,16 +42,16 @@ no_page words g e none p file h = no_names words g h.1 e none h.0 file h.2
 pub always : {T : Type 0} (r : Result T WordFault) (P : WordFault → Type 0) → ((fault : WordFault) → P fault) → IfErr r P
 always r P h2 = grind arith
 
-nothing : (words : List (List ℕ)) → ((file : Option (List ℕ)) → ¬ Chooses words (check file)) → ((folder : List ℕ) (file : Option (List ℕ)) → ¬ Chooses words (all folder file)) → ((p : PageSaid) (file : Option (List ℕ)) → ¬ Chooses words (page p file)) → ¬ Chooses words help → ¬ Chooses words version → (choice : ChoiceSaid) → ¬ Chooses words choice
+nothing : (words : List (List ℕ)) → ((file : Option (List ℕ)) → ¬ Chooses words (check file)) → ((folder : List ℕ) (title : TitleGiven) (file : Option (List ℕ)) → ¬ Chooses words (all folder title file)) → ((p : PageSaid) (file : Option (List ℕ)) → ¬ Chooses words (page p file)) → ¬ Chooses words help → ¬ Chooses words version → (choice : ChoiceSaid) → ¬ Chooses words choice
 nothing words c a p h v (page q file) = p q file
 nothing words c a p h v (check file) = c file
-nothing words c a p h v (all folder file) = a folder file
+nothing words c a p h v (all folder title file) = a folder title file
 nothing words c a p h v help = h
 nothing words c a p h v version = v
 
 -- where the words choose no page and no check, and do not ask for all or for the program itself, they choose nothing
 pub no_choice : {T : Type 0} (words : List (List ℕ)) (r : Result T WordFault) → IfErr r (λ fault. IsRefused fault ⊎ ((file : Option (List ℕ)) → ¬ Chooses words (check file)))
-    → IfErr r (λ fault. IsRefused fault ⊎ ((folder : List ℕ) (file : Option (List ℕ)) → ¬ Chooses words (all folder file)))
+    → IfErr r (λ fault. IsRefused fault ⊎ ((folder : List ℕ) (title : TitleGiven) (file : Option (List ℕ)) → ¬ Chooses words (all folder title file)))
     → IfErr r (λ fault. IsRefused fault ⊎ ((p : PageSaid) (file : Option (List ℕ)) → ¬ Chooses words (page p file))) → is_one_of words (codes "--help") (codes "-h") ≡ false → is_one_of words (codes "--version") (codes "-V") ≡ false
     → IfErr r (λ fault. IsRefused fault ⊎ ((choice : ChoiceSaid) → ¬ Chooses words choice))
 no_choice words (Ok t) c a p h v = tt

@@ -6,8 +6,8 @@ use Rattle.std.specs.Cmp.Lexicographic.{on_texts_equal}
 use Rattle.std.proofs.lemmas.Bool.{false≢true}
 use Rattle.std.proofs.lemmas.List.{drop_all, drop_more}
 use Rattle.std.proofs.lemmas.Slice.Eq.{bytes_eq-Decides}
-use Rattle.description.specs.View.{file_said}
-use Rattle.description.specs.declared.all.PageFile.{PageFile}
+use Rattle.clidoc_engine.specs.Files.{file_said}
+use Rattle.clidoc_engine.specs.declared.files.PageFile.{PageFile}
 use Rattle.std.specs.Char.{to_ascii_lowercase}
 use Rattle.clidoc_engine.specs.Files.{are_alike, are_file_names, is_file_name, is_first_name, names_of}
 

@@ -3,11 +3,13 @@ use Rattle.std.proofs.Common.{◌≡◌, ◌≢◌, ℕ, List, [], ◌∷◌, �
 use Rattle.std.proofs.lemmas.Bool.Decides.{eqb_tells}
 use Rattle.std.proofs.lemmas.List.{drop_more}
 use Rattle.std.specs.Borrow.{Bor}
-use Rattle.std.specs.Prelude.{MatchOption, option_map}
+use Rattle.std.specs.Prelude.{MatchOption, bytes_eq, codes, false, option_map}
+use Rattle.std.proofs.lemmas.Bool.{false≢true}
+use Rattle.std.proofs.lemmas.Slice.Eq.{bytes_eq-Decides}
 use Rattle.std.specs.Str.Pattern.{FindsTextPrefix, StripsPrefix}
 use Rattle.clidoc_engine.specs.Chosen.{words_said}
 use Rattle.clidoc_engine.specs.Reading.{before, together}
-use Rattle.clidoc_engine.specs.Words.{Given, behind, only_files}
+use Rattle.clidoc_engine.specs.Words.{Given, behind, kind_of, only_files, other_kind}
 
 -- where the word does not begin with the front, nothing stands behind it
 pub behind_none : (front word : List ℕ) → ((rest : List ℕ) → word ≢ front ++ rest) → behind front word ≡ None
@@ -35,3 +37,10 @@ together_nothing g = grind (arith, append-nil)
 
 pub next_word : (words : List (Bor (List ℕ))) (i : ℕ) (d : Bor (List ℕ)) → i < length words → words_said (drop i words) ≡ (get_or words i d).now ∷ words_said (drop (i + 1) words)
 next_word words i d h = ap words_said (drop_more words i d h)
+
+differs : (xs ys : List ℕ) → xs ≢ ys → bytes_eq xs ys ≡ false
+differs xs ys h = grind (arith, bytes_eq-Decides xs ys, false≢true)
+
+-- a word that is no option of its own
+pub other_word : (word : List ℕ) → word ≢ codes "--" → word ≢ codes "--deep" → word ≢ codes "--command" → word ≢ codes "--width" → word ≢ codes "--into" → word ≢ codes "--date" → word ≢ codes "--vendor" → kind_of word ≡ other_kind word
+other_word word dashes deep command width folder date vendor = grind (arith, differs word (codes "--") dashes, differs word (codes "--deep") deep, differs word (codes "--command") command, differs word (codes "--width") width, differs word (codes "--into") folder, differs word (codes "--date") date, differs word (codes "--vendor") vendor)

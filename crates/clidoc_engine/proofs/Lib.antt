@@ -1,8 +1,7 @@
 mod Lines
-mod Pages
+mod Made
 mod Gathered
 mod Choosing
 mod Led
 mod Returns
 mod FileNames
-mod AllFiles

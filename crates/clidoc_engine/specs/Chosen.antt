@@ -2,12 +2,13 @@
 use Rattle.std.specs.Prelude.{ℕ, List, [], map}
 use Rattle.std.specs.Borrow.{Bor}
 use Rattle.bpaf_meta.specs.View.{text_of}
+use Rattle.command_pages.specs.View.{title_said}
 use Rattle.clidoc_engine.specs.declared.words.Console.{Console}
 use Rattle.clidoc_engine.specs.declared.words.Page.{Page}
 use Rattle.clidoc_engine.specs.declared.words.Page.TheVariants as of_page
 use Rattle.clidoc_engine.specs.declared.words.Choice.{Choice}
 use Rattle.clidoc_engine.specs.declared.words.Choice.TheVariants as of_choice
-use Rattle.clidoc_engine.specs.Words.{PageSaid, console, html, web, markdown, man, ChoiceSaid, page, check, all, help, version}
+use Rattle.clidoc_engine.specs.Words.{PageSaid, console, html, markdown, man, ChoiceSaid, page, check, all, help, version}
 
 abbrev pub words_said : List (Bor (List ℕ)) → List (List ℕ)
 words_said = map (λ word. word.now)
@@ -18,14 +19,13 @@ console_said c = console c.form (words_said c.commands.items) c.width
 abbrev pub page_said : {A : Type 0} → Page A → PageSaid
 page_said (of_page.Console c) = console_said c
 page_said of_page.Html = html
-page_said of_page.Web = web
-page_said of_page.Markdown = markdown
-page_said (of_page.Man commands) = man (words_said commands.items)
+page_said (of_page.Markdown commands depth) = markdown (words_said commands.items) depth
+page_said (of_page.Man commands depth title) = man (words_said commands.items) depth (title_said title)
 
 abbrev pub choice_said : {A : Type 0} → Choice A → ChoiceSaid
 choice_said (of_choice.Page p file) = page (page_said p) (text_of file)
 choice_said (of_choice.Check file) = check (text_of file)
-choice_said (of_choice.All folder file) = all folder.now (text_of file)
+choice_said (of_choice.All folder title file) = all folder.now (title_said title) (text_of file)
 choice_said of_choice.Help = help
 choice_said of_choice.Version = version
 
@@ -33,6 +33,5 @@ choice_said of_choice.Version = version
 abbrev pub commands_of : PageSaid → List (List ℕ)
 commands_of (console form commands width) = commands
 commands_of html = []
-commands_of web = []
-commands_of markdown = []
-commands_of (man commands) = commands
+commands_of (markdown commands depth) = commands
+commands_of (man commands depth title) = commands

@@ -8,6 +8,8 @@ use Rattle.description.specs.declared.decode.faults.DescriptionError.{Descriptio
 use Rattle.description.specs.declared.decode.faults.DescriptionError.TheVariants as describing
 use Rattle.web_page.specs.declared.errors.PageError.{PageError}
 use Rattle.web_page.specs.declared.errors.PageError.TheVariants as making
+use Rattle.page_model.specs.declared.fault.PageFault.{PageFault}
+use Rattle.page_model.specs.declared.fault.PageFault.TheVariants as writing
 use Rattle.clidoc_engine.specs.declared.places.Place.{Place}
 use Rattle.clidoc_engine.specs.declared.faults.Fault.{Fault}
 use Rattle.clidoc_engine.specs.declared.faults.Fault.TheVariants.{NotUtf8, NotToml, NotDescription, NoCommand, NoPage, Read, Write, Memory}
@@ -20,6 +22,10 @@ fault_of_read (reading.Refused error) = Memory
 abbrev pub fault_of_description : DescriptionError Global → Fault
 fault_of_description (describing.Memory error) = Memory
 fault_of_description (describing.Content text) = NotDescription text
+
+abbrev pub fault_of_medium : PageFault → Fault
+fault_of_medium (writing.Refused error) = Memory
+fault_of_medium writing.Character = NoPage making.Character
 
 abbrev pub fault_of_page : PageError → Fault
 fault_of_page (making.Refused error) = Memory
@@ -64,7 +70,7 @@ IfNoCommand Read P = ⊤
 IfNoCommand Write P = ⊤
 IfNoCommand Memory P = ⊤
 
--- where a fault says that the complete HTML page cannot be made, this holds
+-- where a fault says that a page is not written, this holds
 abbrev pub IfNoPage : Fault → Type 0 → Type 0
 IfNoPage (NoPage error) P = P
 IfNoPage (NoCommand name path) P = ⊤

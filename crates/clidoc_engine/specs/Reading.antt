@@ -8,14 +8,24 @@ use Rattle.clidoc_engine.specs.declared.reading.WordFault.TheVariants.{NoForm, N
 use Rattle.clidoc_engine.specs.Chosen.{words_said}
 use Rattle.clidoc_engine.specs.declared.reading.Next.{Next}
 use Rattle.clidoc_engine.specs.declared.reading.Next.TheVariants.{Any, Value, File}
-use Rattle.clidoc_engine.specs.Words.{Given, Kind, dashes, plain, apart, joined, unknown, given_in, only_files, valued_in}
+use Rattle.clidoc_engine.specs.Words.{Given, Kind, dashes, plain, deep, apart, joined, unknown, given_in, only_files, valued_in}
 
 abbrev pub given_of : {A : Type 0} → of_given.Given A → Given
-given_of g = record { plain = words_said g.plain.items; commands = words_said g.commands.items; widths = words_said g.widths.items; folders = words_said g.folders.items; files = words_said g.files.items }
+given_of g = record {
+  plain = words_said g.plain.items;
+  commands = words_said g.commands.items;
+  widths = words_said g.widths.items;
+  folders = words_said g.folders.items;
+  dates = words_said g.dates.items;
+  vendors = words_said g.vendors.items;
+  deeps = words_said g.deeps.items;
+  files = words_said g.files.items;
+}
 
 abbrev pub kind_said : of_kind.Kind → Kind
 kind_said kinds.Dashes = dashes
 kind_said kinds.Plain = plain
+kind_said kinds.Deep = deep
 kind_said (kinds.Apart o) = apart o
 kind_said (kinds.Joined o value) = joined o value.now
 kind_said kinds.Unknown = unknown
@@ -36,7 +46,16 @@ IsRefused (NotAlone word) = ⊥
 
 -- what some words give, and then what others do
 abbrev pub together : Given → Given → Given
-together g h = record { plain = g.plain ++ h.plain; commands = g.commands ++ h.commands; widths = g.widths ++ h.widths; folders = g.folders ++ h.folders; files = g.files ++ h.files }
+together g h = record {
+  plain = g.plain ++ h.plain;
+  commands = g.commands ++ h.commands;
+  widths = g.widths ++ h.widths;
+  folders = g.folders ++ h.folders;
+  dates = g.dates ++ h.dates;
+  vendors = g.vendors ++ h.vendors;
+  deeps = g.deeps ++ h.deeps;
+  files = g.files ++ h.files;
+}
 
 abbrev pub before : Given → Option Given → Option Given
 before g = option_map (together g)

@@ -1,53 +1,47 @@
 -- What is promised of a page of a description.
-use Rattle.std.specs.Prelude.{◌≡◌, ℕ, ⊤, true, false, List, [], ◌∷◌, ◌++◌, IsUtf8, Some, option_map}
-use Rattle.bpaf_doc.specs.Console.Layout.{IsLayout}
-use Rattle.bpaf_doc.specs.Console.Exact.{console_page}
-use Rattle.bpaf_doc.specs.Html.Page.{IsHtmlPageOf}
-use Rattle.bpaf_doc.specs.Html.Exact.{html_page}
-use Rattle.bpaf_doc.specs.Markdown.Page.{IsMarkdownOf}
-use Rattle.bpaf_doc.specs.Markdown.Exact.{markdown_page}
+use Rattle.std.specs.Prelude.{◌≡◌, ℕ, ⊤, List, IsUtf8, Option, Some, option_map}
+use Rattle.page_model.specs.declared.fault.PageFault.{PageFault}
+use Rattle.page_model.specs.declared.fault.PageFault.TheVariants.{Character}
 use Rattle.description.specs.Content.{DescriptionSaid}
-use Rattle.description.specs.Manuals.{IsSubjectManual, subject_manual_text}
-use Rattle.description.specs.Pages.{IsDescriptionManual, IsUsageOf, collected_document, manual_text, subject_help, subject_usage}
-use Rattle.description.specs.Subjects.{SubjectSaid, application, led_to}
 use Rattle.description.specs.WebPages.{IsWebPageOf}
-use Rattle.clidoc_engine.specs.declared.words.ConsoleForm.{ConsoleForm}
-use Rattle.clidoc_engine.specs.declared.words.ConsoleForm.TheVariants.{Usage, Full, Brief}
-use Rattle.clidoc_engine.specs.Words.{PageSaid, console, html, web, markdown, man}
+use Rattle.description_pages.specs.Levels.{SubjectSaid}
+use Rattle.description_pages.specs.declared.levels.Depth.{Depth}
+use Rattle.description_parts.specs.Words.{WordsSaid}
+use Rattle.command_pages.specs.Pages.{console_page, console_page_fault, level_at, manual_page, manual_page_fault, markdown_page, markdown_page_fault}
+use Rattle.command_pages.specs.Readings.{IsManualOf, IsMarkdownOf}
+use Rattle.clidoc_engine.specs.Words.{PageSaid, console, html, markdown, man}
 
--- What the form's renderer promises of the bytes that it makes of the application or of a command: a layout at some columns.
-abbrev pub IsConsoleRendering : ConsoleForm → (width : ℕ) → SubjectSaid → List ℕ → Type 0
-IsConsoleRendering Usage width s output = IsUsageOf s width output
-IsConsoleRendering Full width s output = IsLayout (subject_help s) true width output
-IsConsoleRendering Brief width s output = IsLayout (subject_help s) false width output
+-- ---- of a page
 
--- exactly the bytes that it makes
-abbrev pub console_bytes : ConsoleForm → (width : ℕ) → SubjectSaid → List ℕ
-console_bytes Usage width s = console_page true width (subject_usage s) ++ 10 ∷ []
-console_bytes Full width s = console_page true width (subject_help s)
-console_bytes Brief width s = console_page false width (subject_help s)
+-- the level that the commands lead to is one of which this holds
+abbrev pub AtLevel : (commands : List (List ℕ)) → DescriptionSaid → (SubjectSaid → Type 0) → Type 0
+AtLevel commands d P = (s : SubjectSaid) × (level_at commands d ≡ Some s) × P s
 
--- What the page's renderer promises. On the console, and of a manual page with commands, it is one of what the commands lead to. The HTML has no
--- style sheet, the complete HTML page is read as its tree, and a manual page as its title and the document.
+-- What a reader of the page's medium reads in the bytes: what the page says. None reads a page on a console.
 abbrev pub IsRendering : PageSaid → DescriptionSaid → List ℕ → Type 0
-IsRendering (console form commands width) d output = (s : SubjectSaid) × (led_to commands (application d) ≡ Some s) × IsConsoleRendering form width s output
-IsRendering html d output = IsHtmlPageOf (collected_document d) true false output
-IsRendering web d output = IsWebPageOf d output
-IsRendering markdown d output = IsMarkdownOf (collected_document d) true output
-IsRendering (man []) d output = IsDescriptionManual d output
-IsRendering (man (c ∷ cs)) d output = (s : SubjectSaid) × (led_to (c ∷ cs) (application d) ≡ Some s) × IsSubjectManual s output
+IsRendering (console form commands width) d output = ⊤
+IsRendering html d output = IsWebPageOf d output
+IsRendering (markdown commands depth) d output = AtLevel commands d (λ s. IsMarkdownOf depth d.words s output)
+IsRendering (man commands depth given) d output = AtLevel commands d (λ s. IsManualOf d depth given s output)
 
 -- exactly these bytes. Of the complete HTML page the tree says all but how it is spelled.
 abbrev pub IsExact : PageSaid → DescriptionSaid → List ℕ → Type 0
-IsExact (console form commands width) d output = option_map (console_bytes form width) (led_to commands (application d)) ≡ Some output
-IsExact html d output = output ≡ html_page true false (collected_document d)
-IsExact web d output = ⊤
-IsExact markdown d output = output ≡ markdown_page true (collected_document d)
-IsExact (man []) d output = output ≡ manual_text d
-IsExact (man (c ∷ cs)) d output = option_map subject_manual_text (led_to (c ∷ cs) (application d)) ≡ Some output
+IsExact (console form commands width) d output = option_map (console_page form width d.words) (level_at commands d) ≡ Some output
+IsExact html d output = ⊤
+IsExact (markdown commands depth) d output = option_map (markdown_page depth d.words) (level_at commands d) ≡ Some output
+IsExact (man commands depth given) d output = option_map (manual_page d depth given) (level_at commands d) ≡ Some output
 
--- this page of the description: a text of which the renderer's promise holds, and its exact clause
+-- this page of the description: a text of which both hold
 pub record IsPage (p : PageSaid) (d : DescriptionSaid) (output : List ℕ) : Type 0 where
   pub utf8 : IsUtf8 output
   pub rendering : IsRendering p d output
   pub exact : IsExact p d output
+
+-- ---- when there is none
+
+-- The page has a text that no reader would give back, and its medium does not write it. Why the complete HTML page cannot be made is only told.
+abbrev pub IsUnwritable : PageSaid → DescriptionSaid → Type 0
+IsUnwritable (console form commands width) d = AtLevel commands d (λ s. console_page_fault form d.words s ≡ Some Character)
+IsUnwritable html d = ⊤
+IsUnwritable (markdown commands depth) d = AtLevel commands d (λ s. markdown_page_fault depth d.words s ≡ Some Character)
+IsUnwritable (man commands depth given) d = AtLevel commands d (λ s. manual_page_fault d depth given s ≡ Some Character)

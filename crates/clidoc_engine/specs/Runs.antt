@@ -3,10 +3,10 @@ use Rattle.std.specs.Prelude.{◌≡◌, ℕ, List, Option, None}
 use Rattle.std.specs.Io.KnownBytes.{Appends}
 use Rattle.watched.specs.Watched.{AppendsPart}
 use Rattle.description.specs.Content.{DescriptionSaid}
-use Rattle.description.specs.Subjects.{application, led_to}
 use Rattle.clidoc_engine.specs.Chosen.{commands_of}
 use Rattle.clidoc_engine.specs.Inputs.{Describes}
-use Rattle.clidoc_engine.specs.Rendering.{IsPage}
+use Rattle.command_pages.specs.Pages.{level_at}
+use Rattle.clidoc_engine.specs.Rendering.{IsPage, IsUnwritable}
 use Rattle.clidoc_engine.specs.Words.{PageSaid}
 
 -- the text gives a description, of which this is a page
@@ -35,4 +35,10 @@ MakesPage p text Fact = (page : List ℕ) × HasPage p text page × Fact page
 pub record HasNoCommand (p : PageSaid) (text : List ℕ) : Type 0 where
   pub description : DescriptionSaid
   pub described : Describes text description
-  pub nowhere : led_to (commands_of p) (application description) ≡ None
+  pub nowhere : level_at (commands_of p) description ≡ None
+
+-- the text gives a description, of which the page is not written
+pub record HasUnwritablePage (p : PageSaid) (text : List ℕ) : Type 0 where
+  pub description : DescriptionSaid
+  pub described : Describes text description
+  pub unwritable : IsUnwritable p description

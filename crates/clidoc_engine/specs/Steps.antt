@@ -3,10 +3,11 @@ use Rattle.std.specs.Prelude.{◌≡◌, ℕ, List, None, ⊤}
 use Rattle.clidoc_engine.specs.declared.faults.Fault.{Fault}
 use Rattle.clidoc_engine.specs.declared.faults.Fault.TheVariants.{NotUtf8, NotToml, NotDescription, NoCommand, NoPage, Read, Write, Memory}
 use Rattle.description.specs.Content.{DescriptionSaid}
-use Rattle.description.specs.Subjects.{application, led_to}
 use Rattle.clidoc_engine.specs.Chosen.{commands_of}
 use Rattle.clidoc_engine.specs.Inputs.{IsNoTomlText}
-use Rattle.clidoc_engine.specs.Words.{PageSaid, web}
+use Rattle.command_pages.specs.Pages.{level_at}
+use Rattle.clidoc_engine.specs.Rendering.{IsUnwritable}
+use Rattle.clidoc_engine.specs.Words.{PageSaid}
 
 -- the fault says that the text is no TOML, and where; or that an allocation failed
 abbrev pub IsSyntaxFault : (text : List ℕ) → Fault → Type 0
@@ -32,7 +33,7 @@ IsOfContent Write = ⊥
 
 -- the fault says that the commands lead nowhere; or that an allocation failed
 abbrev pub IsLost : (commands : List (List ℕ)) → DescriptionSaid → Fault → Type 0
-IsLost commands d (NoCommand name path) = led_to commands (application d) ≡ None
+IsLost commands d (NoCommand name path) = level_at commands d ≡ None
 IsLost commands d Memory = ⊤
 IsLost commands d NotUtf8 = ⊥
 IsLost commands d (NotToml place error) = ⊥
@@ -41,10 +42,10 @@ IsLost commands d (NoPage error) = ⊥
 IsLost commands d Read = ⊥
 IsLost commands d Write = ⊥
 
--- the fault says that the commands of the page lead nowhere, or that it is the complete HTML page, which cannot be made; or that an allocation failed
+-- the fault says that the commands of the page lead nowhere, or that it is not written; or that an allocation failed
 abbrev pub IsUnmade : PageSaid → DescriptionSaid → Fault → Type 0
-IsUnmade p d (NoCommand name path) = led_to (commands_of p) (application d) ≡ None
-IsUnmade p d (NoPage error) = p ≡ web
+IsUnmade p d (NoCommand name path) = level_at (commands_of p) d ≡ None
+IsUnmade p d (NoPage error) = IsUnwritable p d
 IsUnmade p d Memory = ⊤
 IsUnmade p d NotUtf8 = ⊥
 IsUnmade p d (NotToml place error) = ⊥
@@ -84,7 +85,7 @@ IsOfText (NoPage error) = ⊥
 IsOfText Read = ⊥
 IsOfText Write = ⊥
 
--- the fault is one of making all files: one of reading a description, or the complete HTML page cannot be made
+-- the fault is one of making all files: one of reading a description, or a page is not written
 abbrev pub IsOfFiles : Fault → Type 0
 IsOfFiles Read = ⊤
 IsOfFiles NotUtf8 = ⊤

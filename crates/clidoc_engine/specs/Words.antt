@@ -1,58 +1,71 @@
 -- Which words choose what.
 use Rattle.std.specs.Prelude.{codes, ℕ, ◌≡◌, ◌≢◌, ◌^◌, ◌<◌, ◌==◌, ◌||◌, List, [], ◌∷◌, ◌++◌, Bool, true, false, not, if◌then◌else◌, Option, Some, None, option_map, option_to_list, bytes_eq, slice_index}
 use Rattle.std.specs.Str.Parse.{IsNumeral, digits_value}
-use Rattle.clidoc_engine.specs.declared.words.ConsoleForm.{ConsoleForm}
-use Rattle.clidoc_engine.specs.declared.words.ConsoleForm.TheVariants.{Usage, Full, Brief}
+use Rattle.description_pages.specs.declared.levels.Depth.{Depth}
+use Rattle.description_pages.specs.declared.levels.Depth.TheVariants.{Alone, Deep}
+use Rattle.command_pages.specs.Pages.{TitleGiven}
+use Rattle.command_pages.specs.declared.given.ConsoleForm.{ConsoleForm}
+use Rattle.command_pages.specs.declared.given.ConsoleForm.TheVariants.{Usage, Full, Brief}
 use Rattle.clidoc_engine.specs.declared.reading.Valued.{Valued}
-use Rattle.clidoc_engine.specs.declared.reading.Valued.TheVariants.{Command, Width, Into}
+use Rattle.clidoc_engine.specs.declared.reading.Valued.TheVariants.{Command, Width, Into, Date, Vendor}
 
 -- ---- what is chosen
 
--- a page: on the console, of what some words lead to, and of a width; or one page of all, which in HTML is for other pages to hold, or complete; or the manual page of what some words lead to, and of all where
--- there are none
+-- a page of what some commands lead to: on the console, of a width; in markdown, or as a manual page, of that level alone, or of those below it
+-- too. Or the HTML page of all.
 pub data PageSaid : Type 0 where
   console : ConsoleForm → (commands : List (List ℕ)) → (width : ℕ) → PageSaid
   html : PageSaid
-  web : PageSaid
-  markdown : PageSaid
-  man : (commands : List (List ℕ)) → PageSaid
+  markdown : (commands : List (List ℕ)) → Depth → PageSaid
+  man : (commands : List (List ℕ)) → Depth → TitleGiven → PageSaid
 
 pub data ChoiceSaid : Type 0 where
   page : PageSaid → (file : Option (List ℕ)) → ChoiceSaid
   check : (file : Option (List ℕ)) → ChoiceSaid
-  all : (folder : List ℕ) → (file : Option (List ℕ)) → ChoiceSaid
+  all : (folder : List ℕ) → TitleGiven → (file : Option (List ℕ)) → ChoiceSaid
   help : ChoiceSaid
   version : ChoiceSaid
 
 -- ---- what each word gives
 
--- the words that stand for themselves, the values of each option, and the words behind `--`, in order
+-- the words that stand for themselves, the values of each option, each `--deep`, and the words behind `--`, in order
 pub record Given : Type 0 where
   pub plain : List (List ℕ)
   pub commands : List (List ℕ)
   pub widths : List (List ℕ)
   pub folders : List (List ℕ)
+  pub dates : List (List ℕ)
+  pub vendors : List (List ℕ)
+  pub deeps : List (List ℕ)
   pub files : List (List ℕ)
 
 abbrev pub only_files : List (List ℕ) → Given
-only_files words = record { plain = []; commands = []; widths = []; folders = []; files = words }
+only_files words = record { plain = []; commands = []; widths = []; folders = []; dates = []; vendors = []; deeps = []; files = words }
 
 abbrev pub with_plain : List ℕ → Given → Given
 with_plain word g = record g { plain = word ∷ g.plain }
+
+abbrev pub with_deep : List ℕ → Given → Given
+with_deep word g = record g { deeps = word ∷ g.deeps }
 
 abbrev pub with_value : Valued → List ℕ → Given → Given
 with_value Command value g = record g { commands = value ∷ g.commands }
 with_value Width value g = record g { widths = value ∷ g.widths }
 with_value Into value g = record g { folders = value ∷ g.folders }
+with_value Date value g = record g { dates = value ∷ g.dates }
+with_value Vendor value g = record g { vendors = value ∷ g.vendors }
 
 abbrev pub option_word : Valued → List ℕ
 option_word Command = codes "--command"
 option_word Width = codes "--width"
 option_word Into = codes "--into"
+option_word Date = codes "--date"
+option_word Vendor = codes "--vendor"
 
 pub data Kind : Type 0 where
   dashes : Kind
   plain : Kind
+  deep : Kind
   apart : Valued → Kind
   joined : Valued → (value : List ℕ) → Kind
   unknown : Kind
@@ -63,27 +76,38 @@ behind [] word = Some word
 behind (c ∷ cs) [] = None
 behind (c ∷ cs) (d ∷ ds) = if c == d then behind cs ds else None
 
-abbrev pub joined_kind : (command width folder : Option (List ℕ)) → Kind
-joined_kind (Some value) w f = joined Command value
-joined_kind None (Some value) f = joined Width value
-joined_kind None None (Some value) = joined Into value
-joined_kind None None None = unknown
+-- an option of these, with its value behind `=`
+abbrev pub joined_to : Valued → (value : Option (List ℕ)) → (other : Kind) → Kind
+joined_to o (Some value) other = joined o value
+joined_to o None other = other
 
--- a word that begins with `-` is `--`, or `-` alone, or an option, with its value behind `=` or as the next word, whatever that is; any other
--- such word is unknown
+abbrev pub joined_kind : List Valued → (word : List ℕ) → Kind
+joined_kind [] word = unknown
+joined_kind (o ∷ os) word = joined_to o (behind (option_word o ++ codes "=") word) (joined_kind os word)
+
+-- a word that is no option of its own
+abbrev pub other_kind : List ℕ → Kind
+other_kind word =
+    if bytes_eq word (codes "-") || not (slice_index word 0 == 45) then plain else joined_kind (Command ∷ Width ∷ Into ∷ Date ∷ Vendor ∷ []) word
+
+-- a word that begins with `-` is `--`, or `-` alone, or `--deep`, or an option with a value, which stands behind `=` or is the next word, whatever
+-- that is; any other such word is unknown
 abbrev pub kind_of : List ℕ → Kind
 kind_of word =
     if bytes_eq word (codes "--") then dashes else
+    if bytes_eq word (codes "--deep") then deep else
     if bytes_eq word (option_word Command) then apart Command else
     if bytes_eq word (option_word Width) then apart Width else
     if bytes_eq word (option_word Into) then apart Into else
-    if bytes_eq word (codes "-") || not (slice_index word 0 == 45) then plain else
-    joined_kind (behind (codes "--command=") word) (behind (codes "--width=") word) (behind (codes "--into=") word)
+    if bytes_eq word (option_word Date) then apart Date else
+    if bytes_eq word (option_word Vendor) then apart Vendor else
+    other_kind word
 
 -- what a word gives: alone, before what the others give, or with the next one
 abbrev pub given_by : Kind → (word : List ℕ) → (words : List (List ℕ)) → (others : Option Given) → (with_next : Valued → Option Given) → Option Given
 given_by dashes word words others with_next = Some (only_files words)
 given_by plain word words others with_next = option_map (with_plain word) others
+given_by deep word words others with_next = option_map (with_deep word) others
 given_by (joined o value) word words others with_next = option_map (with_value o value) others
 given_by (apart o) word words others with_next = with_next o
 given_by unknown word words others with_next = None
@@ -119,17 +143,29 @@ IsWidth [] n = n ≡ 100
 IsWidth (text ∷ []) n = IsColumns text n
 IsWidth (text ∷ other ∷ texts) n = ⊥
 
--- neither a command nor a width
-abbrev pub HasNoValues : Given → Type 0
-HasNoValues g = (g.commands ≡ []) × (g.widths ≡ [])
+-- the level alone, and those below it too where one word says so
+abbrev pub IsDepth : (deeps : List (List ℕ)) → Depth → Type 0
+IsDepth [] depth = depth ≡ Alone
+IsDepth (word ∷ []) depth = depth ≡ Deep
+IsDepth (word ∷ other ∷ words) depth = ⊥
 
--- the word, and the values of options that stand with it, name this page
+-- at most one date, and one vendor
+abbrev pub IsTitle : Given → TitleGiven → Type 0
+IsTitle g title = (g.dates ≡ option_to_list title.date) × (g.vendors ≡ option_to_list title.vendor)
+
+abbrev pub HasNoTitle : Given → Type 0
+HasNoTitle g = (g.dates ≡ []) × (g.vendors ≡ [])
+
+-- no word says which level, or how it is shown
+abbrev pub HasNoLevel : Given → Type 0
+HasNoLevel g = (g.commands ≡ []) × (g.widths ≡ []) × (g.deeps ≡ [])
+
+-- the word, and the options that stand with it, name this page
 abbrev pub NamesPage : (word : List ℕ) → Given → PageSaid → Type 0
-NamesPage word g (console form commands width) = (word ≡ form_word form) × (commands ≡ g.commands) × IsWidth g.widths width
-NamesPage word g html = (word ≡ codes "html") × HasNoValues g
-NamesPage word g web = (word ≡ codes "page") × HasNoValues g
-NamesPage word g markdown = (word ≡ codes "markdown") × HasNoValues g
-NamesPage word g (man commands) = (word ≡ codes "man") × (commands ≡ g.commands) × (g.widths ≡ [])
+NamesPage word g (console form commands width) = (word ≡ form_word form) × (commands ≡ g.commands) × IsWidth g.widths width × (g.deeps ≡ []) × HasNoTitle g
+NamesPage word g html = (word ≡ codes "html") × HasNoLevel g × HasNoTitle g
+NamesPage word g (markdown commands depth) = (word ≡ codes "markdown") × (commands ≡ g.commands) × (g.widths ≡ []) × IsDepth g.deeps depth × HasNoTitle g
+NamesPage word g (man commands depth title) = (word ≡ codes "man") × (commands ≡ g.commands) × (g.widths ≡ []) × IsDepth g.deeps depth × IsTitle g title
 
 -- the first word that stands for itself, and the one file, if there is one: a second such word, or one behind `--`
 pub record Names (words : List (List ℕ)) (word : List ℕ) (file : Option (List ℕ)) (g : Given) : Type 0 where
@@ -144,7 +180,7 @@ is_one_of words long short = false
 
 abbrev pub Chooses : (words : List (List ℕ)) → ChoiceSaid → Type 0
 Chooses words (page p file) = (word : List ℕ) × (g : Given) × Names words word file g × NamesPage word g p × (g.folders ≡ [])
-Chooses words (check file) = (g : Given) × Names words (codes "check") file g × HasNoValues g × (g.folders ≡ [])
-Chooses words (all folder file) = (g : Given) × Names words (codes "all") file g × HasNoValues g × (g.folders ≡ folder ∷ [])
+Chooses words (check file) = (g : Given) × Names words (codes "check") file g × HasNoLevel g × HasNoTitle g × (g.folders ≡ [])
+Chooses words (all folder title file) = (g : Given) × Names words (codes "all") file g × HasNoLevel g × IsTitle g title × (g.folders ≡ folder ∷ [])
 Chooses words help = is_one_of words (codes "--help") (codes "-h") ≡ true
 Chooses words version = is_one_of words (codes "--version") (codes "-V") ≡ true

@@ -1,29 +1,43 @@
 //! All pages of a description, as files.
 
-ghost use Rattle.std.specs.Prelude.{◌≡◌, ◌↔◌, IfOk, IfErr, IsErrOf, map, string_bytes, true};
+ghost use Rattle.std.specs.Prelude.{◌≡◌, ◌↔◌, ◌++◌, ◌∷◌, [], IfOk, IfErr, IsErrOf, OnOk, flat_map, map};
 ghost use Rattle.watched.specs.Calls.{GivesNoText, GivesText, ReadFails};
 ghost use Rattle.watched.specs.Watched.{IsMarked, IsUnmarked, ReadsText, ReadsNoText};
-ghost use Rattle.bpaf_doc.specs.Markdown.Page.{IsMarkdownOf};
-ghost use Rattle.description.specs.Pages.{collected_document};
-ghost use Rattle.description.specs.View.{description_said, file_said};
+ghost use Rattle.description.specs.View.{description_said};
+ghost use Rattle.description_pages.specs.LevelsView.{subject_of};
+ghost use Rattle.description_pages.specs.Subjects.{all_from};
+ghost use Rattle.description_pages.specs.declared.levels.Depth.TheVariants.{Alone};
+ghost use Rattle.command_pages.specs.View.{title_said};
+ghost use Rattle.command_pages.specs.Readings.{IsManualOf, IsMarkdownOf};
 ghost use Rattle.clidoc_engine.specs.Faults.{IfNotDescription, IfNotToml};
-ghost use Rattle.clidoc_engine.specs.Files.{AreFiles, HasFiles, IsWebFile, markdown_file};
+ghost use Rattle.clidoc_engine.specs.Files.{AreAllRead, AreFiles, AreRead, HasFiles, IsWebFile, file_said};
+ghost use Rattle.clidoc_engine.specs.Files.{level_files, manual_file, markdown_file};
 ghost use Rattle.clidoc_engine.specs.Inputs.{IsNoDescription, IsNoToml};
+ghost use Rattle.command_pages.specs.Pages.{application};
 ghost use Rattle.clidoc_engine.specs.Steps.{IsOfFiles, IsOfFilesText, IsOfPages};
 
 use crate::engine::table_of;
 use crate::faults::Fault;
-use description::{Description, PageFile};
+use crate::files::PageFile;
+use crate::words::TitleGiven;
+use bumpalo::Bump;
+use command_pages::{application, manual_page_of, markdown_page_of};
+use description::Description;
+use description_pages::Depth;
+use description_pages::levels::LevelSubject;
+use description_pages::subjects::{all_from, page_name};
 use lasting_names::Names;
 use std::alloc::{AllocError, Allocator, Global};
 use watched::{Source, Watched};
 
-/// Reads all that the reader has left, as a description in TOML, and makes all pages of it: the manual page of each
-/// level, the complete HTML page and the markdown of all. Its faults are those of `run_description` that come of
-/// reading, and they come where those do, and `NoPage`, where a name or a text cannot stand in the HTML page.
+/// Reads all that the reader has left, as a description in TOML, and makes all pages of it: of each level, each before
+/// those below it, the manual page and the page in markdown, and last the complete HTML page. In the title lines of the
+/// manual pages stand the words that are given. Its faults are those of `run_description` that come of reading, and
+/// they come where those do, and `NoPage`, where a word or a text cannot stand in a page.
 pub fn make_files<A: Allocator + Copy, R: Source>(
     alloc: A,
     global: Global,
+    given: TitleGiven<'_>,
     reader: &mut Watched<R>,
 ) -> Result<Vec<PageFile<A>, A>, Fault>
     requires reader { IsUnmarked reader.old }
@@ -32,7 +46,7 @@ pub fn make_files<A: Allocator + Copy, R: Source>(
     ensures read { IsErrOf result Fault.Read ↔ IsMarked reader.new }
     ensures fault { IfErr result IsOfFiles }
     ensures given { IfOk result (λ files. GivesText R.reads reader.old.end reader.new.end (λ input.
-        HasFiles input (map file_said files.items))) }
+        HasFiles input (title_said given.entry) (map file_said files.items))) }
     ensures read_failed { IsErrOf result Fault.Read →
         (error : _) × ReadFails R.reads reader.old.end error reader.new.end }
     ensures no_text { IsErrOf result Fault.NotUtf8 →
@@ -45,7 +59,7 @@ pub fn make_files<A: Allocator + Copy, R: Source>(
     // Over streams that tell their bytes.
     ensures ok { IfOk result (λ files.
         ReadsText (R.remaining reader.old.end) (R.remaining reader.new.end) (λ input.
-        HasFiles input (map file_said files.items))) }
+        HasFiles input (title_said given.entry) (map file_said files.items))) }
     ensures not_utf8 { IsErrOf result Fault.NotUtf8 →
         ReadsNoText (R.remaining reader.old.end) (R.remaining reader.new.end) }
     ensures not_toml { IfErr result (λ fault. IfNotToml fault (λ place error.
@@ -55,16 +69,17 @@ pub fn make_files<A: Allocator + Copy, R: Source>(
         ReadsText (R.remaining reader.old.end) (R.remaining reader.new.end) IsNoDescription)) }
 {
     let text = reader.read_text(alloc)?;
-    files_in(alloc, global, text.as_str())
+    files_in(alloc, global, given, text.as_str())
 }
 
 // The files of the description that the text gives.
 fn files_in<A: Allocator + Copy>(
     alloc: A,
     global: Global,
+    given: TitleGiven<'_>,
     text: &str,
 ) -> Result<Vec<PageFile<A>, A>, Fault>
-    ensures ok { IfOk result (λ files. HasFiles text.now (map file_said files.items)) }
+    ensures ok { IfOk result (λ files. HasFiles text.now (title_said given.entry) (map file_said files.items)) }
     ensures fault { IfErr result IsOfFilesText }
     ensures not_toml { IfErr result (λ fault. IfNotToml fault (IsNoToml text.now)) }
     ensures not_description { IfErr result (λ fault.
@@ -73,36 +88,168 @@ fn files_in<A: Allocator + Copy>(
     let table = table_of(global, text)?;
     let mut names = Names::new(global);
     let description = Description::from_table(global, &mut names, &table)?;
-    let files = files_of(alloc, &description);
+    let files = files_of(alloc, global, given, &description);
     drop(description);
     files
 }
 
 fn files_of<A: Allocator + Copy>(
     alloc: A,
+    global: Global,
+    given: TitleGiven<'_>,
     description: &Description<'_>,
 ) -> Result<Vec<PageFile<A>, A>, Fault>
-    ensures ok { IfOk result (λ files. AreFiles (description_said description.now) (map file_said files.items)) }
+    ensures ok { IfOk result (λ files.
+        AreFiles (description_said description.now) (title_said given.entry) (map file_said files.items)) }
     ensures fault { IfErr result IsOfPages }
 {
-    let web = web_file(alloc, description)?;
-    Ok(files_with(alloc, description, web)?)
+    let mut files = Vec::new(alloc);
+    push_levels(alloc, global, &given, &mut files, description)?;
+    put(&mut files, web_file(alloc, description)?)?;
+    Ok(files)
 }
 
-// All files, of which this is the complete HTML page.
-fn files_with<A: Allocator + Copy>(
+// Puts the files of each level. The levels are found in an arena.
+fn push_levels<A: Allocator + Copy>(
     alloc: A,
+    global: Global,
+    given: &TitleGiven<'_>,
+    files: &mut Vec<PageFile<A>, A>,
     description: &Description<'_>,
-    web: PageFile<A>,
-) -> Result<Vec<PageFile<A>, A>, AllocError>
-    requires { IsWebFile (description_said description.now) (file_said web) }
-    ensures { IfOk result (λ files. AreFiles (description_said description.now) (map file_said files.items)) }
+) -> Result<(), Fault>
+    ensures exact { OnOk result (map file_said files.new.items ≡ map file_said files.old.items
+        ++ flat_map (level_files (description_said description.now) (title_said given.now))
+        (all_from (application (description_said description.now)))) }
+    ensures read { OnOk result (AreAllRead (description_said description.now) (title_said given.now)
+        (all_from (application (description_said description.now)))) }
+    ensures fault { IfErr result IsOfPages }
 {
-    let markdown = markdown_file(alloc, description)?;
-    let mut files = description.manpages(alloc)?;
-    files.push(web)?;
-    files.push(markdown)?;
-    Ok(files)
+    let arena = Bump::new(global);
+    push_levels_in(alloc, &arena, global, given, files, description)
+}
+
+fn push_levels_in<'p, 'a: 'p, A: Allocator + Copy>(
+    alloc: A,
+    arena: &'p Bump,
+    global: Global,
+    given: &TitleGiven<'_>,
+    files: &mut Vec<PageFile<A>, A>,
+    description: &'p Description<'a>,
+) -> Result<(), Fault>
+    ensures exact { OnOk result (map file_said files.new.items ≡ map file_said files.old.items
+        ++ flat_map (level_files (description_said description.now) (title_said given.now))
+        (all_from (application (description_said description.now)))) }
+    ensures read { OnOk result (AreAllRead (description_said description.now) (title_said given.now)
+        (all_from (application (description_said description.now)))) }
+    ensures fault { IfErr result IsOfPages }
+{
+    for level in all_from(arena, application(arena, description)?)? {
+        push_level(alloc, global, given, files, description, &level)?;
+    }
+    Ok(())
+}
+
+fn push_level<'a, A: Allocator + Copy>(
+    alloc: A,
+    global: Global,
+    given: &TitleGiven<'_>,
+    files: &mut Vec<PageFile<A>, A>,
+    description: &Description<'a>,
+    level: &LevelSubject<'_, 'a, Global>,
+) -> Result<(), Fault>
+    ensures exact { OnOk result (map file_said files.new.items ≡ map file_said files.old.items
+        ++ level_files (description_said description.now) (title_said given.now) (subject_of level.now)) }
+    ensures read { OnOk result
+        (AreRead (description_said description.now) (title_said given.now) (subject_of level.now)) }
+    ensures fault { IfErr result IsOfPages }
+{
+    put(
+        files,
+        manual_file(alloc, global, given, description, level)?,
+    )?;
+    put(files, markdown_file(alloc, global, description, level)?)?;
+    Ok(())
+}
+
+fn put<A: Allocator>(files: &mut Vec<PageFile<A>, A>, file: PageFile<A>) -> Result<(), AllocError>
+    ensures { OnOk result (map file_said files.new.items
+        ≡ map file_said files.old.items ++ file_said file ∷ []) }
+{
+    files.push(file)?;
+    Ok(())
+}
+
+// The manual page of a level, made in an arena of its own.
+fn manual_file<'a, A: Allocator + Copy>(
+    alloc: A,
+    global: Global,
+    given: &TitleGiven<'_>,
+    description: &Description<'a>,
+    level: &LevelSubject<'_, 'a, Global>,
+) -> Result<PageFile<A>, Fault>
+    ensures exact { IfOk result (λ file. file_said file
+        ≡ manual_file (description_said description.now) (title_said given.now) (subject_of level.now)) }
+    ensures read { IfOk result (λ file. IsManualOf (description_said description.now) Alone (title_said given.now)
+        (subject_of level.now) (file_said file).page) }
+    ensures fault { IfErr result IsOfPages }
+{
+    let arena = Bump::new(global);
+    manual_file_in(alloc, &arena, given, description, *level)
+}
+
+fn manual_file_in<'p, 'a: 'p, A: Allocator + Copy>(
+    alloc: A,
+    arena: &'p Bump,
+    given: &TitleGiven<'_>,
+    description: &'p Description<'a>,
+    level: LevelSubject<'p, 'a, Global>,
+) -> Result<PageFile<A>, Fault>
+    ensures exact { IfOk result (λ file. file_said file
+        ≡ manual_file (description_said description.now) (title_said given.now) (subject_of level.entry)) }
+    ensures read { IfOk result (λ file. IsManualOf (description_said description.now) Alone (title_said given.now)
+        (subject_of level.entry) (file_said file).page) }
+    ensures fault { IfErr result IsOfPages }
+{
+    let page = manual_page_of(alloc, arena, description, Depth::Alone, *given, level)?;
+    let mut name = String::from_str(alloc, page_name(arena, level.names)?)?;
+    name.push('.')?;
+    name.push_str(description.section.as_str())?;
+    Ok(PageFile { name, page })
+}
+
+// The page of a level in markdown, made in an arena of its own.
+fn markdown_file<'a, A: Allocator + Copy>(
+    alloc: A,
+    global: Global,
+    description: &Description<'a>,
+    level: &LevelSubject<'_, 'a, Global>,
+) -> Result<PageFile<A>, Fault>
+    ensures exact { IfOk result (λ file.
+        file_said file ≡ markdown_file (description_said description.now) (subject_of level.now)) }
+    ensures read { IfOk result (λ file. IsMarkdownOf Alone (description_said description.now).words
+        (subject_of level.now) (file_said file).page) }
+    ensures fault { IfErr result IsOfPages }
+{
+    let arena = Bump::new(global);
+    markdown_file_in(alloc, &arena, description, *level)
+}
+
+fn markdown_file_in<'p, 'a: 'p, A: Allocator + Copy>(
+    alloc: A,
+    arena: &'p Bump,
+    description: &'p Description<'a>,
+    level: LevelSubject<'p, 'a, Global>,
+) -> Result<PageFile<A>, Fault>
+    ensures exact { IfOk result (λ file.
+        file_said file ≡ markdown_file (description_said description.now) (subject_of level.entry)) }
+    ensures read { IfOk result (λ file. IsMarkdownOf Alone (description_said description.now).words
+        (subject_of level.entry) (file_said file).page) }
+    ensures fault { IfErr result IsOfPages }
+{
+    let page = markdown_page_of(alloc, arena, &description.words, Depth::Alone, level)?;
+    let mut name = String::from_str(alloc, page_name(arena, level.names)?)?;
+    name.push_str(".md")?;
+    Ok(PageFile { name, page })
 }
 
 fn web_file<A: Allocator + Copy>(
@@ -116,20 +263,4 @@ fn web_file<A: Allocator + Copy>(
     let mut name = String::from_str(alloc, description.name)?;
     name.push_str(".html")?;
     Ok(PageFile { name, page })
-}
-
-fn markdown_file<A: Allocator + Copy>(
-    alloc: A,
-    description: &Description<'_>,
-) -> Result<PageFile<A>, AllocError>
-    ensures exact { IfOk result (λ file. file_said file ≡ markdown_file (description_said description.now)) }
-    ensures laws { IfOk result (λ file.
-        IsMarkdownOf (collected_document (description_said description.now)) true (string_bytes file.page)) }
-{
-    let mut name = String::from_str(alloc, description.name)?;
-    name.push_str(".md")?;
-    Ok(PageFile {
-        name,
-        page: description.markdown(alloc)?,
-    })
 }

@@ -6,39 +6,37 @@ ghost use Rattle.toml.specs.Parse.{parse_document};
 ghost use Rattle.toml.specs.View.{table_view};
 ghost use Rattle.watched.specs.Calls.{GivesNoText, GivesText, Moves, ReadFails, WriteFails};
 ghost use Rattle.watched.specs.Watched.{IsMarked, IsUnmarked, ReadsText, ReadsNoText};
-ghost use Rattle.description.specs.View.{description_said, subject_said};
-ghost use Rattle.description.specs.Subjects.{application, led_to};
-ghost use Rattle.clidoc_engine.specs.Chosen.{console_said, page_said, words_said};
+ghost use Rattle.clidoc_engine.specs.Chosen.{page_said};
 ghost use Rattle.clidoc_engine.specs.Faults.{IfNoCommand, IfNoPage, IfNotDescription, IfNotToml};
 ghost use Rattle.clidoc_engine.specs.Newlines.{without_returns};
 ghost use Rattle.clidoc_engine.specs.Inputs.{IsDescribed, IsNoDescription, IsNoToml};
-ghost use Rattle.clidoc_engine.specs.Rendering.{IsConsoleRendering, IsPage, console_bytes};
-ghost use Rattle.clidoc_engine.specs.Runs.{HasNoCommand, HasPage, MakesPage, WritesBeginning, WritesPage};
-ghost use Rattle.clidoc_engine.specs.Words.{man, web};
-ghost use Rattle.clidoc_engine.specs.Steps.{IsLost, IsNoCommand, IsOfContent, IsOfReading, IsOfText, IsSyntaxFault, IsUnmade};
+ghost use Rattle.clidoc_engine.specs.Runs.{HasNoCommand, HasPage, HasUnwritablePage, MakesPage};
+ghost use Rattle.clidoc_engine.specs.Runs.{WritesBeginning, WritesPage};
+ghost use Rattle.clidoc_engine.specs.Steps.{IsOfContent, IsOfReading, IsOfText, IsSyntaxFault};
 
 use crate::faults::Fault;
 use crate::newlines::without_returns;
+use crate::pages::rendered;
 use crate::places::place_behind;
-use crate::words::{Console, ConsoleForm, Page};
-use description::{Description, Subject};
+use crate::words::Page;
+use description::Description;
 use lasting_names::Names;
-use std::alloc::{AllocError, Allocator, Global};
+use std::alloc::{Allocator, Global};
 use toml::Table;
 use watched::{Sink, Source, Watched};
 
 /// Reads all that the reader has left, as a description in TOML, and writes a page of it and nothing more. A carriage
 /// return directly before a newline counts for nothing.
 /// The whole page is made before the first write, so that an error other than `Write` leaves the writer
-/// as it was. The tables of the TOML, the description and its names are kept in `global`, and what is
-/// read and the page in `alloc`. The names are never freed, so each call keeps its own.
+/// as it was. The tables of the TOML, the description, its names and what a page is made of are kept in `global`, and
+/// what is read and the page in `alloc`. The names are never freed, so each call keeps its own.
 ///
 /// `Read` comes exactly where the reader's mark is then set, since its last read failed, `Write` exactly
 /// where the writer's is, since its last write failed or took none, and the faults of the input only where
 /// all was read: `NotUtf8` where it is no text, `NotToml` where it is no TOML, `NotDescription` where its data is
-/// no description, and `NoCommand` where the commands of the page lead nowhere. `NoPage` comes only of the complete
-/// HTML page, where a name or a text cannot stand in it. `Memory` comes only where an
-/// allocation failed, which no clause can say.
+/// no description, `NoCommand` where the commands of the page lead nowhere, and `NoPage` where a text of the page has a
+/// control character but newline and tab, or a noncharacter, or it is the complete HTML page, in which a name or a text
+/// cannot stand. `Memory` comes only where an allocation failed, which no clause can say.
 pub fn run_description<A: Allocator + Copy, B: Allocator, R: Source, W: Sink>(
     alloc: A,
     global: Global,
@@ -73,7 +71,8 @@ pub fn run_description<A: Allocator + Copy, B: Allocator, R: Source, W: Sink>(
         GivesText R.reads reader.old.end reader.new.end IsNoDescription)) }
     ensures no_command { IfErr result (λ fault. IfNoCommand fault (
         GivesText R.reads reader.old.end reader.new.end (HasNoCommand (page_said page.now)))) }
-    ensures no_page { IfErr result (λ fault. IfNoPage fault (page_said page.now ≡ web)) }
+    ensures no_page { IfErr result (λ fault. IfNoPage fault (
+        GivesText R.reads reader.old.end reader.new.end (HasUnwritablePage (page_said page.now)))) }
 
     // Over streams that tell their bytes: which are read and written.
     ensures ok { OnOk result (
@@ -92,6 +91,9 @@ pub fn run_description<A: Allocator + Copy, B: Allocator, R: Source, W: Sink>(
     ensures lost_command { IfErr result (λ fault. IfNoCommand fault (
         ReadsText (R.remaining reader.old.end) (R.remaining reader.new.end)
         (HasNoCommand (page_said page.now)))) }
+    ensures unwritable { IfErr result (λ fault. IfNoPage fault (
+        ReadsText (R.remaining reader.old.end) (R.remaining reader.new.end)
+        (HasUnwritablePage (page_said page.now)))) }
 {
     let input = reader.read_text(alloc)?;
     let text = page_of(alloc, global, page, input.as_str())?;
@@ -164,7 +166,8 @@ pub(crate) fn page_of<A: Allocator + Copy, B: Allocator>(
         IfNotDescription fault (IsNoDescription text.now)) }
     ensures no_command { IfErr result (λ fault.
         IfNoCommand fault (HasNoCommand (page_said page.now) text.now)) }
-    ensures no_page { IfErr result (λ fault. IfNoPage fault (page_said page.now ≡ web)) }
+    ensures no_page { IfErr result (λ fault.
+        IfNoPage fault (HasUnwritablePage (page_said page.now) text.now)) }
 {
     let table = table_of(global, text)?;
     let mut names = Names::new(global);
@@ -206,116 +209,4 @@ fn syntax_fault(text: &str, error: toml::de::Error) -> Fault
             error,
         },
     }
-}
-
-// A page of the description.
-#[tactic(auto, using(crate::proofs::Led::unmade, crate::proofs::Led::web_unmade))]
-fn rendered<A: Allocator + Copy, B: Allocator>(
-    alloc: A,
-    global: Global,
-    page: &Page<'_, B>,
-    description: &Description<'_>,
-) -> Result<String<A>, Fault>
-    ensures page { IfOk result (λ made.
-        IsPage (page_said page.now) (description_said description.now) (string_bytes made)) }
-    ensures unmade { IfErr result (IsUnmade (page_said page.now) (description_said description.now)) }
-{
-    match page {
-        Page::Console(console) => on_console(alloc, global, console, description),
-        Page::Html => Ok(description.html(alloc)?),
-        Page::Web => Ok(description.page(alloc)?),
-        Page::Markdown => Ok(description.markdown(alloc)?),
-        Page::Man(commands) => manual(alloc, global, commands, description),
-    }
-}
-
-// The manual page of all, or of the level that commands lead to.
-fn manual<A: Allocator + Copy>(
-    alloc: A,
-    global: Global,
-    commands: &[&str],
-    description: &Description<'_>,
-) -> Result<String<A>, Fault>
-    ensures page { IfOk result (λ made.
-        IsPage (man (words_said commands.now)) (description_said description.now) (string_bytes made)) }
-    ensures lost { IfErr result (IsLost (words_said commands.now) (description_said description.now)) }
-{
-    if commands.is_empty() {
-        return Ok(description.manpage(alloc)?);
-    }
-    let subject = led_to(alloc, global, commands, description)?;
-    Ok(subject.manpage()?)
-}
-
-// A page of what the commands lead to.
-fn on_console<A: Allocator + Copy, B: Allocator>(
-    alloc: A,
-    global: Global,
-    console: &Console<'_, B>,
-    description: &Description<'_>,
-) -> Result<String<A>, Fault>
-    ensures page { IfOk result (λ made.
-        IsPage (console_said console.now) (description_said description.now) (string_bytes made)) }
-    ensures lost { IfErr result (IsLost (words_said console.now.commands.items) (description_said description.now)) }
-{
-    let subject = led_to(alloc, global, &console.commands, description)?;
-    Ok(shown(&subject, console.form, console.width)?)
-}
-
-fn shown<A: Allocator + Copy>(
-    subject: &Subject<'_, '_, Global, A>,
-    form: ConsoleForm,
-    width: usize,
-) -> Result<String<A>, AllocError>
-    ensures rendering { IfOk result (λ made.
-        IsConsoleRendering form width (subject_said subject.now) (string_bytes made)) }
-    ensures exact { IfOk result (λ made.
-        string_bytes made ≡ console_bytes form width (subject_said subject.now)) }
-{
-    match form {
-        ConsoleForm::Usage => subject.usage(width),
-        ConsoleForm::Full => subject.help(true, width),
-        ConsoleForm::Brief => subject.help(false, width),
-    }
-}
-
-// What the commands lead to, one after another.
-#[tactic(auto, using(crate::proofs::Led::led_on, crate::proofs::Led::led_nowhere, crate::proofs::Led::lost))]
-fn led_to<'d, 'a, A: Allocator + Copy>(
-    alloc: A,
-    global: Global,
-    commands: &[&str],
-    description: &'d Description<'a>,
-) -> Result<Subject<'d, 'a, Global, A>, Fault>
-    ensures ok { IfOk result (λ subject.
-        led_to (words_said commands.now) (application (description_said description.now))
-        ≡ Some (subject_said subject)) }
-    ensures lost { IfErr result (IsLost (words_said commands.now) (description_said description.now)) }
-{
-    let mut subject = description.subject(alloc)?;
-    for command in commands {
-        if !subject.enter(*command)? {
-            return Err(no_command(global, *command, &subject)?);
-        }
-    }
-    Ok(subject)
-}
-
-// The fault of a command that is not there.
-fn no_command<A: Allocator + Copy>(
-    global: Global,
-    command: &str,
-    subject: &Subject<'_, '_, Global, A>,
-) -> Result<Fault, AllocError>
-    ensures { IfOk result IsNoCommand }
-{
-    let mut path = String::new(global);
-    for (index, name) in subject.path.iter().enumerate() {
-        if index > 0 {
-            path.push(' ')?;
-        }
-        path.push_str(name)?;
-    }
-    let name = String::from_str(global, command)?;
-    Ok(Fault::NoCommand { name, path })
 }

@@ -6,6 +6,7 @@ ghost use Rattle.clidoc_engine.specs.declared.faults.Fault.TheVariants.{Memory};
 use crate::places::Place;
 use description::words::Shown;
 use description::{DescriptionError, PageError};
+use page_model::PageFault;
 use std::alloc::AllocError;
 use thiserror::Error;
 use watched::ReadError;
@@ -32,7 +33,7 @@ pub enum Fault {
         name: String,
         path: String,
     },
-    /// A name or a text of the description cannot stand in the complete HTML page: why. No test found one.
+    /// A word or a text cannot stand in the page: why. Of texts of a description no test found one.
     #[error("clidoc: no page: {0}")]
     NoPage(PageError),
     /// A read failed.
@@ -77,6 +78,19 @@ impl From<DescriptionError> for Fault {
         match error {
             DescriptionError::Memory(_) => Fault::Memory,
             DescriptionError::Content(text) => Fault::NotDescription(text),
+        }
+    }
+}
+
+impl From<PageFault> for Fault {
+    ghost use Rattle.clidoc_engine.specs.Faults.{fault_of_medium};
+
+    ghost from_gives = { λ error fault. fault ≡ fault_of_medium error };
+
+    fn from(error: PageFault) -> Fault {
+        match error {
+            PageFault::Refused(_) => Fault::Memory,
+            PageFault::Character => Fault::NoPage(PageError::Character),
         }
     }
 }

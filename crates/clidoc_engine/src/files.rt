@@ -1,18 +1,25 @@
-//! Which names files of pages may have.
+//! Files of pages, and which names they may have.
 
 ghost use Rattle.std.specs.Prelude.{◌≡◌, ◌≤◌, ◌&&◌, IfOk, drop, is_ok, length, map, not};
 ghost use Rattle.std.specs.List.{list_any};
-ghost use Rattle.clidoc_engine.specs.Files.{are_alike, are_file_names, is_file_name, is_first_name, names_of};
-ghost use Rattle.description.specs.View.{file_said};
+ghost use Rattle.clidoc_engine.specs.Files.{are_alike, are_file_names, file_said, is_file_name, is_first_name};
+ghost use Rattle.clidoc_engine.specs.Files.{names_of};
 
-use description::PageFile;
 use description::words::Shown;
-use std::alloc::{AllocError, Allocator};
+use std::alloc::{AllocError, Allocator, Global};
 use std::collections::BTreeSet;
 use thiserror::Error;
 
 /// How many bytes a name has at most. On the way there it has one before it and 13 behind it, too (`name_beside`).
 const MOST: usize = 200;
+
+/// The name of a file, and the page that it holds.
+#[derive(Drop)]
+#[derive_where(Debug)]
+pub struct PageFile<A: Allocator = Global> {
+    pub name: String<A>,
+    pub page: String<A>,
+}
 
 /// Why files are not written. It is shown as the line that the program writes on standard error.
 #[derive(Clone, Copy, Debug, Error)]

@@ -10,6 +10,7 @@ pub mod faults;
 pub mod files;
 mod newlines;
 mod own;
+mod pages;
 pub mod places;
 pub mod program;
 pub mod reading;

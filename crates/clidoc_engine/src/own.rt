@@ -41,8 +41,15 @@ value = "NAME"
 help = """
 Show this command, by any of its names.
 
-It is given once for each level down, with usage, full, brief and man."""
+It is given once for each level down. It goes with `usage`, `full`, `brief`, `man` and `markdown`."""
 repeated = true
+
+[[option]]
+long = "deep"
+help = """
+Show the levels below, too, each behind the one above it.
+
+It goes with `man` and `markdown`."""
 
 [[option]]
 long = "width"
@@ -50,7 +57,7 @@ value = "COLUMNS"
 help = """
 Break lines at so many columns, and not at 100.
 
-It goes with usage, full and brief."""
+It goes with `usage`, `full` and `brief`."""
 
 [[option]]
 long = "into"
@@ -58,22 +65,37 @@ value = "FOLDER"
 help = """
 Write all pages into this folder, which has to be there.
 
-It goes with all."""
+It goes with `all`."""
+
+[[option]]
+long = "date"
+value = "DATE"
+help = """
+Put this date on manual pages, and not that of the description.
+
+It goes with `man` and `all`."""
+
+[[option]]
+long = "vendor"
+value = "TEXT"
+help = """
+Name this vendor on manual pages, and not that of the description.
+
+It goes with `man` and `all`."""
 
 [[positional]]
 value = "FORM"
 help = """
-The form of the page: usage, full, brief, html, page, markdown, man, check or all
+What is made of the description.
 
-    usage     the usage line
-    full      the help page
-    brief     the help page, first paragraphs alone
-    html      the help pages of all commands, in HTML, for other pages to hold
-    page      one complete HTML page, with all commands
-    markdown  the help pages of all commands, in markdown
-    man       the manual page of all, or of what --command shows
-    check     nothing: only whether FILE is a description
-    all       a manual page a level, page and markdown, as files of --into"""
+- `usage`: the usage alone.
+- `full`: the help page.
+- `brief`: the help page, with the first paragraph of each text.
+- `man`: a manual page.
+- `markdown`: a page in markdown.
+- `html`: one HTML page with all commands.
+- `check`: no page. It is only told whether FILE is a description.
+- `all`: the manual page and the page in markdown of each level, and the HTML page, as files of `--into`."""
 
 [[positional]]
 value = "FILE"

@@ -9,9 +9,8 @@ use crate::faults::Fault;
 use crate::files::check_names;
 use crate::own::{DESCRIPTION, VERSION};
 use crate::reading::WordFault;
-use crate::words::{Choice, Console, ConsoleForm, Page, choose};
+use crate::words::{Choice, Console, ConsoleForm, Page, TitleGiven, WIDTH, choose};
 use crate::wrong::line_of;
-use bpaf_doc::console::MAX_WIDTH;
 use description::words::Shown;
 use folder::{enter, tell_left, write_files};
 use std::alloc::{AllocError, Global};
@@ -155,12 +154,14 @@ where
         Choice::Check(Some(file)) => check(rt, global, opened(rt, global, *file)?),
         Choice::All {
             folder,
+            title,
             file: None | Some("-"),
-        } => write_all(rt, global, *folder, rt.reader()),
+        } => write_all(rt, global, *folder, *title, rt.reader()),
         Choice::All {
             folder,
+            title,
             file: Some(file),
-        } => write_all(rt, global, *folder, opened(rt, global, *file)?),
+        } => write_all(rt, global, *folder, *title, opened(rt, global, *file)?),
         Choice::Help => {
             let page = own_page(global, ConsoleForm::Full);
             let written = write_page(rt, global, &page, DESCRIPTION.as_bytes());
@@ -226,6 +227,7 @@ fn write_all<R: Alloc + Env + Files + Eprint + RandomSource, S: Read + Drop>(
     rt: &R,
     global: Global,
     folder: &str,
+    given: TitleGiven<'_>,
     input: S,
 ) -> Result<(), Failure>
 where
@@ -233,7 +235,7 @@ where
 {
     enter(rt, global, folder)?;
     let mut reader = bounded(input);
-    let outcome = make_files(rt.alloc(), global, &mut reader);
+    let outcome = make_files(rt.alloc(), global, given, &mut reader);
     let files = within(outcome, reader)?;
     if let Err(fault) = check_names(global, &files)? {
         return Err(Failure::BadName(format!(in global; "{fault}")?));
@@ -249,7 +251,7 @@ fn own_page(global: Global, form: ConsoleForm) -> Page<'static, Global> {
     Page::Console(Console {
         form,
         commands: Vec::new(global),
-        width: MAX_WIDTH,
+        width: WIDTH,
     })
 }
 

@@ -4,7 +4,9 @@ ghost use Rattle.std.specs.Prelude.{◌≡◌, ◌≢◌, ◌⊎◌, ◌++◌, �
 ghost use Rattle.std.specs.Prelude.{codes, option_map};
 ghost use Rattle.clidoc_engine.specs.Chosen.{words_said};
 ghost use Rattle.clidoc_engine.specs.Reading.{IsRefused, before, given_after, given_of, kind_said, together};
-ghost use Rattle.clidoc_engine.specs.Words.{behind, given_in, kind_of, only_files, with_value};
+ghost use Rattle.clidoc_engine.specs.Words.{behind, given_in, joined_kind, kind_of, only_files, other_kind};
+ghost use Rattle.clidoc_engine.specs.Words.{with_value};
+ghost use Rattle.clidoc_engine.specs.declared.reading.Valued.TheVariants.{Command, Date, Into, Vendor, Width};
 
 use std::alloc::{AllocError, Allocator};
 
@@ -17,6 +19,18 @@ pub enum Valued {
     Width,
     /// `--into`
     Into,
+    /// `--date`
+    Date,
+    /// `--vendor`
+    Vendor,
+}
+
+/// An option.
+#[derive(Clone, Copy, Debug, PartialEq, Eq)]
+pub enum WordOption {
+    /// `--deep`
+    Deep,
+    Valued(Valued),
 }
 
 /// Why words choose nothing.
@@ -35,11 +49,11 @@ pub enum WordFault<'w> {
     /// There is no folder to write all pages into.
     NoFolder,
     /// This option is given more than once.
-    Twice(Valued),
+    Twice(WordOption),
     /// This stands behind the name of the file.
     TooMany(&'w str),
     /// This option is none of the form that the word names.
-    NotWith { option: Valued, word: &'w str },
+    NotWith { option: WordOption, word: &'w str },
     /// This option stands with other words, where it has to stand alone.
     NotAlone(&'w str),
     /// An allocation failed.
@@ -54,13 +68,17 @@ impl<'w> From<AllocError> for WordFault<'w> {
     }
 }
 
-/// What words give: those that stand for themselves, the values of each option, and those behind `--`, in order.
+/// What words give: those that stand for themselves, the values of each option, each `--deep`, and those behind `--`, in
+/// order.
 #[derive(Drop)]
 pub(crate) struct Given<'w, A: Allocator> {
     pub plain: Vec<&'w str, A>,
     pub commands: Vec<&'w str, A>,
     pub widths: Vec<&'w str, A>,
     pub folders: Vec<&'w str, A>,
+    pub dates: Vec<&'w str, A>,
+    pub vendors: Vec<&'w str, A>,
+    pub deeps: Vec<&'w str, A>,
     pub files: Vec<&'w str, A>,
 }
 
@@ -81,6 +99,8 @@ pub(crate) enum Kind<'w> {
     Dashes,
     /// It stands for itself.
     Plain,
+    /// `--deep`
+    Deep,
     /// An option, whose value is the next word.
     Apart(Valued),
     /// An option with its value.
@@ -102,6 +122,9 @@ pub(crate) fn given_in<'w, A: Allocator + Copy>(
         commands: Vec::new(alloc),
         widths: Vec::new(alloc),
         folders: Vec::new(alloc),
+        dates: Vec::new(alloc),
+        vendors: Vec::new(alloc),
+        deeps: Vec::new(alloc),
         files: Vec::new(alloc),
     };
     let mut next = Next::Any;
@@ -149,6 +172,7 @@ fn put_any<'w, A: Allocator>(given: &mut Given<'w, A>, word: &'w str) -> Result<
     match kind_of(word) {
         Kind::Dashes => return Ok(Next::File),
         Kind::Plain => put(&mut given.plain, word)?,
+        Kind::Deep => put(&mut given.deeps, word)?,
         Kind::Joined(option, value) => put_value(given, option, value)?,
         Kind::Apart(option) => return Ok(Next::Value(option)),
         Kind::Unknown => return Err(unknown(word)),
@@ -176,6 +200,8 @@ fn put_value<'w, A: Allocator>(
         Valued::Command => put(&mut given.commands, value),
         Valued::Width => put(&mut given.widths, value),
         Valued::Into => put(&mut given.folders, value),
+        Valued::Date => put(&mut given.dates, value),
+        Valued::Vendor => put(&mut given.vendors, value),
     }
 }
 
@@ -186,6 +212,7 @@ fn put<'w, A: Allocator>(words: &mut Vec<&'w str, A>, word: &'w str) -> Result<(
     Ok(())
 }
 
+#[tactic(auto, using(crate::proofs::Gathered::other_word))]
 fn kind_of(word: &str) -> Kind<'_>
     ensures { kind_said result ≡ kind_of word.now }
 {
@@ -194,32 +221,42 @@ fn kind_of(word: &str) -> Kind<'_>
         "--command" => Kind::Apart(Valued::Command),
         "--width" => Kind::Apart(Valued::Width),
         "--into" => Kind::Apart(Valued::Into),
+        "--date" => Kind::Apart(Valued::Date),
+        "--vendor" => Kind::Apart(Valued::Vendor),
+        "--deep" => Kind::Deep,
         "-" => Kind::Plain,
         _ => other_kind(word),
     }
 }
 
-// The same of a word that is none of those.
+// The same of a word that is no option of its own.
 fn other_kind(word: &str) -> Kind<'_>
-    requires dashes { word.now ≢ codes "--" }
-    requires command { word.now ≢ codes "--command" }
-    requires width { word.now ≢ codes "--width" }
-    requires folder { word.now ≢ codes "--into" }
-    requires dash { word.now ≢ codes "-" }
-    ensures { kind_said result ≡ kind_of word.now }
+    requires { word.now ≢ codes "-" }
+    ensures { kind_said result ≡ other_kind word.now }
 {
-    if word.as_bytes().first() != Some(&b'-') {
-        return Kind::Plain;
+    if word.as_bytes().first() == Some(&b'-') {
+        joined(word)
+    } else {
+        Kind::Plain
     }
-    match (
-        behind(word, "--command="),
-        behind(word, "--width="),
-        behind(word, "--into="),
-    ) {
-        (Some(value), _, _) => Kind::Joined(Valued::Command, value),
-        (None, Some(value), _) => Kind::Joined(Valued::Width, value),
-        (None, None, Some(value)) => Kind::Joined(Valued::Into, value),
-        (None, None, None) => Kind::Unknown,
+}
+
+// An option with its value.
+fn joined(word: &str) -> Kind<'_>
+    ensures { kind_said result ≡ joined_kind (Command ∷ Width ∷ Into ∷ Date ∷ Vendor ∷ []) word.now }
+{
+    if let Some(value) = behind(word, "--command=") {
+        Kind::Joined(Valued::Command, value)
+    } else if let Some(value) = behind(word, "--width=") {
+        Kind::Joined(Valued::Width, value)
+    } else if let Some(value) = behind(word, "--into=") {
+        Kind::Joined(Valued::Into, value)
+    } else if let Some(value) = behind(word, "--date=") {
+        Kind::Joined(Valued::Date, value)
+    } else if let Some(value) = behind(word, "--vendor=") {
+        Kind::Joined(Valued::Vendor, value)
+    } else {
+        Kind::Unknown
     }
 }
 

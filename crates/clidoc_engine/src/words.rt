@@ -1,28 +1,23 @@
 //! What the words after the program's name choose.
 
-ghost use Rattle.std.specs.Prelude.{◌≡◌, ◌≢◌, ◌⊎◌, ◌++◌, ◌∷◌, [], IfErr, IfOk, option_to_list};
+ghost use Rattle.std.specs.Prelude.{◌≡◌, ◌≢◌, ◌⊎◌, ◌++◌, ◌∷◌, [], IfErr, IfOk, codes, option_to_list};
 ghost use Rattle.bpaf_meta.specs.View.{text_of};
+ghost use Rattle.command_pages.specs.View.{title_said};
 ghost use Rattle.clidoc_engine.specs.Chosen.{choice_said, page_said, words_said};
 ghost use Rattle.clidoc_engine.specs.Reading.{IsRefused, given_of};
-ghost use Rattle.clidoc_engine.specs.Words.{ChoiceSaid, Chooses, HasNoValues, IsColumns, IsWidth, NamesPage};
-ghost use Rattle.clidoc_engine.specs.Words.{PageSaid, all, check, form_word, is_one_of, man, page};
+ghost use Rattle.clidoc_engine.specs.Words.{ChoiceSaid, Chooses, HasNoLevel, HasNoTitle, IsColumns, IsDepth};
+ghost use Rattle.clidoc_engine.specs.Words.{IsTitle, IsWidth, NamesPage, PageSaid, all, check, form_word};
+ghost use Rattle.clidoc_engine.specs.Words.{is_one_of, page};
 
-use crate::reading::{Given, Valued, WordFault, given_in};
-use bpaf_doc::console::MAX_WIDTH;
+use crate::reading::{Given, Valued, WordFault, WordOption, given_in};
+pub use command_pages::{ConsoleForm, TitleGiven};
+use description_pages::Depth;
 use std::alloc::Allocator;
 
-/// A page on a console.
-#[derive(Clone, Copy, Debug, PartialEq, Eq)]
-pub enum ConsoleForm {
-    /// The usage line.
-    Usage,
-    /// The help page, in full.
-    Full,
-    /// The help page, each text up to its first paragraph break.
-    Brief,
-}
+/// The columns of a line where no width is given.
+pub const WIDTH: usize = 100;
 
-/// A page on a console, of the application or of a command.
+/// A page on a console.
 #[derive(Drop)]
 pub struct Console<'w, A: Allocator> {
     pub form: ConsoleForm,
@@ -32,18 +27,22 @@ pub struct Console<'w, A: Allocator> {
     pub width: usize,
 }
 
-/// Which page of a description.
+/// Which page of a description. The commands of a page lead to the level that it shows.
 #[derive(Drop)]
 pub enum Page<'w, A: Allocator> {
     Console(Console<'w, A>),
-    /// All help pages as HTML, in full and without a style sheet.
-    Html,
     /// The complete HTML page of all.
-    Web,
-    /// All help pages as markdown, in full.
-    Markdown,
-    /// The manual page: of all, or, where there are commands, of the level that they lead to.
-    Man(Vec<&'w str, A>),
+    Html,
+    Markdown {
+        commands: Vec<&'w str, A>,
+        depth: Depth,
+    },
+    /// A manual page.
+    Man {
+        commands: Vec<&'w str, A>,
+        depth: Depth,
+        title: TitleGiven<'w>,
+    },
 }
 
 /// What the program does.
@@ -56,6 +55,7 @@ pub enum Choice<'w, A: Allocator> {
     /// Writes all pages of the description in a file, or on standard input, into a folder.
     All {
         folder: &'w str,
+        title: TitleGiven<'w>,
         file: Option<&'w str>,
     },
     /// Writes its own help page.
@@ -102,8 +102,8 @@ fn with_input<'w, A: Allocator + Copy>(
     ensures ok { IfOk result (λ choice. Chooses (words_said words.now) (choice_said choice)) }
     ensures no_check { IfErr result (λ fault. IsRefused fault ⊎ ((file : _)
         → ¬ Chooses (words_said words.now) (check file))) }
-    ensures no_all { IfErr result (λ fault. IsRefused fault ⊎ ((folder file : _)
-        → ¬ Chooses (words_said words.now) (all folder file))) }
+    ensures no_all { IfErr result (λ fault. IsRefused fault ⊎ ((folder title file : _)
+        → ¬ Chooses (words_said words.now) (all folder title file))) }
     ensures no_page { IfErr result (λ fault. IsRefused fault ⊎ ((p file : _)
         → ¬ Chooses (words_said words.now) (page p file))) }
 {
@@ -114,8 +114,12 @@ fn with_input<'w, A: Allocator + Copy>(
         return Ok(Choice::Check(file));
     }
     if word == "all" {
-        let folder = folder_alone(word, given)?;
-        return Ok(Choice::All { folder, file });
+        let (folder, title) = folder_alone(word, given)?;
+        return Ok(Choice::All {
+            folder,
+            title,
+            file,
+        });
     }
     Ok(Choice::Page(page_alone(word, given)?, file))
 }
@@ -142,33 +146,34 @@ fn names<'w>(
     }
 }
 
-// Refuses values of options.
+// Refuses options.
 fn alone<'w, A: Allocator>(word: &'w str, given: Given<'w, A>) -> Result<(), WordFault<'w>>
-    ensures ok { IfOk result (λ _. HasNoValues (given_of given.entry) × ((given_of given.entry).folders ≡ [])) }
-    ensures err { IfErr result (λ _. ¬ (HasNoValues (given_of given.entry) × ((given_of given.entry).folders ≡ []))) }
+    ensures ok { IfOk result (λ _. HasNoLevel (given_of given.entry) × HasNoTitle (given_of given.entry)
+        × ((given_of given.entry).folders ≡ [])) }
+    ensures err { IfErr result (λ _. ¬ (HasNoLevel (given_of given.entry) × HasNoTitle (given_of given.entry)
+        × ((given_of given.entry).folders ≡ []))) }
 {
-    let values = check_no_values(&given, word);
-    let folders = check_no_folder(&given, word);
-    drop(given);
-    values?;
-    folders
+    check_no_level(&given, word)?;
+    check_no_title(&given, word)?;
+    check_no_folder(&given, word)
 }
 
-// The one folder. Other values are refused.
+// The one folder, and the words of title lines. Other options are refused.
 fn folder_alone<'w, A: Allocator>(
     word: &'w str,
     given: Given<'w, A>,
-) -> Result<&'w str, WordFault<'w>>
-    ensures no_values { IfOk result (λ _. HasNoValues (given_of given.entry)) }
-    ensures folder { IfOk result (λ folder. (given_of given.entry).folders ≡ folder.now ∷ []) }
-    ensures err { IfErr result (λ _. (folder : _)
-        → ¬ (HasNoValues (given_of given.entry) × ((given_of given.entry).folders ≡ folder ∷ []))) }
+) -> Result<(&'w str, TitleGiven<'w>), WordFault<'w>>
+    ensures no_level { IfOk result (λ _. HasNoLevel (given_of given.entry)) }
+    ensures folder { IfOk result (λ chosen. (given_of given.entry).folders ≡ chosen.0.now ∷ []) }
+    ensures title { IfOk result (λ chosen. IsTitle (given_of given.entry) (title_said chosen.1)) }
+    ensures err { IfErr result (λ _. (folder title : _)
+        → ¬ (HasNoLevel (given_of given.entry) × IsTitle (given_of given.entry) title
+        × ((given_of given.entry).folders ≡ folder ∷ []))) }
 {
-    let values = check_no_values(&given, word);
-    let folder = one_folder(&given.folders);
-    drop(given);
-    values?;
-    folder
+    check_no_level(&given, word)?;
+    let title = title_of(&given)?;
+    let folder = one_folder(&given.folders)?;
+    Ok((folder, title))
 }
 
 fn one_folder<'w>(folders: &[&'w str]) -> Result<&'w str, WordFault<'w>>
@@ -178,7 +183,7 @@ fn one_folder<'w>(folders: &[&'w str]) -> Result<&'w str, WordFault<'w>>
     match folders {
         [] => Err(WordFault::NoFolder),
         [folder] => Ok(*folder),
-        _ => Err(WordFault::Twice(Valued::Into)),
+        _ => Err(WordFault::Twice(WordOption::Valued(Valued::Into))),
     }
 }
 
@@ -212,12 +217,11 @@ fn page_named<'w, A: Allocator>(
     ensures err { IfErr result (λ _. (p : PageSaid) → ¬ NamesPage word.now (given_of given.entry) p) }
 {
     match word {
-        "usage" => on_console(ConsoleForm::Usage, given),
-        "full" => on_console(ConsoleForm::Full, given),
-        "brief" => on_console(ConsoleForm::Brief, given),
-        "html" => without_values(Page::Html, given, word),
-        "page" => without_values(Page::Web, given, word),
-        "markdown" => without_values(Page::Markdown, given, word),
+        "usage" => on_console(ConsoleForm::Usage, given, word),
+        "full" => on_console(ConsoleForm::Full, given, word),
+        "brief" => on_console(ConsoleForm::Brief, given, word),
+        "html" => whole(given, word),
+        "markdown" => markdown(given, word),
         "man" => manual(given, word),
         _ => {
             drop(given);
@@ -226,59 +230,101 @@ fn page_named<'w, A: Allocator>(
     }
 }
 
-// The page that the word names, where it takes neither a command nor a width.
-fn without_values<'w, A: Allocator>(
-    named: Page<'w, A>,
+// The page of all, which takes no options.
+fn whole<'w, A: Allocator>(given: Given<'w, A>, word: &'w str) -> Result<Page<'w, A>, WordFault<'w>>
+    ensures ok { IfOk result (λ page. NamesPage (codes "html") (given_of given.entry) (page_said page)) }
+    ensures err { IfErr result (λ _. ¬ (HasNoLevel (given_of given.entry) × HasNoTitle (given_of given.entry))) }
+{
+    check_no_level(&given, word)?;
+    check_no_title(&given, word)?;
+    Ok(Page::Html)
+}
+
+fn markdown<'w, A: Allocator>(
     given: Given<'w, A>,
     word: &'w str,
 ) -> Result<Page<'w, A>, WordFault<'w>>
-    ensures same { IfOk result (λ made. page_said made ≡ page_said named.entry) }
-    ensures ok { IfOk result (λ _. HasNoValues (given_of given.entry)) }
-    ensures err { IfErr result (λ _. ¬ HasNoValues (given_of given.entry)) }
+    ensures ok { IfOk result (λ page. NamesPage (codes "markdown") (given_of given.entry) (page_said page)) }
+    ensures err { IfErr result (λ _. (depth : _) → ¬ (((given_of given.entry).widths ≡ [])
+        × IsDepth (given_of given.entry).deeps depth × HasNoTitle (given_of given.entry))) }
 {
-    let checked = check_no_values(&given, word);
-    drop(given);
-    match checked {
-        Ok(()) => Ok(named),
-        Err(fault) => {
-            drop(named);
-            Err(fault)
-        }
-    }
+    check_no_width(&given, word)?;
+    let depth = depth_of(&given.deeps)?;
+    check_no_title(&given, word)?;
+    Ok(Page::Markdown {
+        commands: given.commands,
+        depth,
+    })
 }
 
 fn manual<'w, A: Allocator>(
     given: Given<'w, A>,
     word: &'w str,
 ) -> Result<Page<'w, A>, WordFault<'w>>
-    ensures ok { IfOk result (λ page. page_said page ≡ man (given_of given.entry).commands) }
-    ensures no_width { IfOk result (λ _. (given_of given.entry).widths ≡ []) }
-    ensures err { IfErr result (λ _. (given_of given.entry).widths ≢ []) }
+    ensures ok { IfOk result (λ page. NamesPage (codes "man") (given_of given.entry) (page_said page)) }
+    ensures err { IfErr result (λ _. (depth title : _) → ¬ (((given_of given.entry).widths ≡ [])
+        × IsDepth (given_of given.entry).deeps depth × IsTitle (given_of given.entry) title)) }
 {
-    if !given.widths.is_empty() {
-        drop(given);
-        return Err(WordFault::NotWith {
-            option: Valued::Width,
-            word,
-        });
-    }
-    Ok(Page::Man(given.commands))
+    check_no_width(&given, word)?;
+    let depth = depth_of(&given.deeps)?;
+    let title = title_of(&given)?;
+    Ok(Page::Man {
+        commands: given.commands,
+        depth,
+        title,
+    })
 }
 
 fn on_console<'w, A: Allocator>(
     form: ConsoleForm,
     given: Given<'w, A>,
+    word: &'w str,
 ) -> Result<Page<'w, A>, WordFault<'w>>
     ensures ok { IfOk result (λ page. NamesPage (form_word form) (given_of given.entry) (page_said page)) }
-    ensures err { IfErr result (λ _. (n : _) → ¬ IsWidth (given_of given.entry).widths n) }
+    ensures err { IfErr result (λ _. (n : _) → ¬ (IsWidth (given_of given.entry).widths n
+        × ((given_of given.entry).deeps ≡ []) × HasNoTitle (given_of given.entry))) }
 {
     let width = width_of(&given.widths)?;
-    let commands = given.commands;
+    check_no_deep(&given, word)?;
+    check_no_title(&given, word)?;
     Ok(Page::Console(Console {
         form,
-        commands,
+        commands: given.commands,
         width,
     }))
+}
+
+// How far down the page goes.
+fn depth_of<'w>(deeps: &[&'w str]) -> Result<Depth, WordFault<'w>>
+    ensures ok { IfOk result (λ depth. IsDepth (words_said deeps.now) depth) }
+    ensures err { IfErr result (λ _. (depth : _) → ¬ IsDepth (words_said deeps.now) depth) }
+{
+    match deeps {
+        [] => Ok(Depth::Alone),
+        [_] => Ok(Depth::Deep),
+        _ => Err(WordFault::Twice(WordOption::Deep)),
+    }
+}
+
+// The words of title lines.
+fn title_of<'w, A: Allocator>(given: &Given<'w, A>) -> Result<TitleGiven<'w>, WordFault<'w>>
+    ensures ok { IfOk result (λ title. IsTitle (given_of given.now) (title_said title)) }
+    ensures err { IfErr result (λ _. (title : _) → ¬ IsTitle (given_of given.now) title) }
+{
+    let date = at_most_one(&given.dates, Valued::Date)?;
+    let vendor = at_most_one(&given.vendors, Valued::Vendor)?;
+    Ok(TitleGiven { date, vendor })
+}
+
+fn at_most_one<'w>(values: &[&'w str], option: Valued) -> Result<Option<&'w str>, WordFault<'w>>
+    ensures ok { IfOk result (λ value. words_said values.now ≡ option_to_list (text_of value)) }
+    ensures err { IfErr result (λ _. (value : _) → words_said values.now ≢ option_to_list value) }
+{
+    match values {
+        [] => Ok(None),
+        [value] => Ok(Some(*value)),
+        _ => Err(WordFault::Twice(WordOption::Valued(option))),
+    }
 }
 
 fn width_of<'w>(texts: &[&'w str]) -> Result<usize, WordFault<'w>>
@@ -286,9 +332,9 @@ fn width_of<'w>(texts: &[&'w str]) -> Result<usize, WordFault<'w>>
     ensures err { IfErr result (λ _. (n : _) → ¬ IsWidth (words_said texts.now) n) }
 {
     match texts {
-        [] => Ok(MAX_WIDTH),
+        [] => Ok(WIDTH),
         [text] => columns(text),
-        _ => Err(WordFault::Twice(Valued::Width)),
+        _ => Err(WordFault::Twice(WordOption::Valued(Valued::Width))),
     }
 }
 
@@ -305,25 +351,47 @@ fn columns(text: &str) -> Result<usize, WordFault<'_>>
     }
 }
 
-// Refuses a command or a width, where the word takes none.
-fn check_no_values<'w, A: Allocator>(
+// Refuses options that say which level is shown, and how, where the word takes none.
+fn check_no_level<'w, A: Allocator>(
     given: &Given<'w, A>,
     word: &'w str,
 ) -> Result<(), WordFault<'w>>
-    ensures ok { IfOk result (λ _. HasNoValues (given_of given.now)) }
-    ensures err { IfErr result (λ _. ¬ HasNoValues (given_of given.now)) }
+    ensures ok { IfOk result (λ _. HasNoLevel (given_of given.now)) }
+    ensures err { IfErr result (λ _. ¬ HasNoLevel (given_of given.now)) }
 {
-    let option = if !given.commands.is_empty() {
-        Valued::Command
-    } else if !given.widths.is_empty() {
-        Valued::Width
-    } else {
-        return Ok(());
-    };
-    Err(WordFault::NotWith { option, word })
+    check_none(&given.commands, WordOption::Valued(Valued::Command), word)?;
+    check_no_width(given, word)?;
+    check_no_deep(given, word)
 }
 
-// Refuses a folder, where the word takes none.
+fn check_no_title<'w, A: Allocator>(
+    given: &Given<'w, A>,
+    word: &'w str,
+) -> Result<(), WordFault<'w>>
+    ensures ok { IfOk result (λ _. HasNoTitle (given_of given.now)) }
+    ensures err { IfErr result (λ _. ¬ HasNoTitle (given_of given.now)) }
+{
+    check_none(&given.dates, WordOption::Valued(Valued::Date), word)?;
+    check_none(&given.vendors, WordOption::Valued(Valued::Vendor), word)
+}
+
+fn check_no_width<'w, A: Allocator>(
+    given: &Given<'w, A>,
+    word: &'w str,
+) -> Result<(), WordFault<'w>>
+    ensures ok { IfOk result (λ _. (given_of given.now).widths ≡ []) }
+    ensures err { IfErr result (λ _. (given_of given.now).widths ≢ []) }
+{
+    check_none(&given.widths, WordOption::Valued(Valued::Width), word)
+}
+
+fn check_no_deep<'w, A: Allocator>(given: &Given<'w, A>, word: &'w str) -> Result<(), WordFault<'w>>
+    ensures ok { IfOk result (λ _. (given_of given.now).deeps ≡ []) }
+    ensures err { IfErr result (λ _. (given_of given.now).deeps ≢ []) }
+{
+    check_none(&given.deeps, WordOption::Deep, word)
+}
+
 fn check_no_folder<'w, A: Allocator>(
     given: &Given<'w, A>,
     word: &'w str,
@@ -331,11 +399,21 @@ fn check_no_folder<'w, A: Allocator>(
     ensures ok { IfOk result (λ _. (given_of given.now).folders ≡ []) }
     ensures err { IfErr result (λ _. (given_of given.now).folders ≢ []) }
 {
-    if given.folders.is_empty() {
-        return Ok(());
+    check_none(&given.folders, WordOption::Valued(Valued::Into), word)
+}
+
+// Refuses an option, where the word does not take it.
+fn check_none<'w>(
+    values: &[&'w str],
+    option: WordOption,
+    word: &'w str,
+) -> Result<(), WordFault<'w>>
+    ensures ok { IfOk result (λ _. words_said values.now ≡ []) }
+    ensures err { IfErr result (λ _. words_said values.now ≢ []) }
+{
+    if values.is_empty() {
+        Ok(())
+    } else {
+        Err(WordFault::NotWith { option, word })
     }
-    Err(WordFault::NotWith {
-        option: Valued::Into,
-        word,
-    })
 }

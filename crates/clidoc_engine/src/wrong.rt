@@ -1,15 +1,24 @@
 //! What is said of words that choose nothing.
 
-use crate::reading::{Valued, WordFault};
+use crate::reading::{Valued, WordFault, WordOption};
 use description::words::{Shown, nearest};
 use std::alloc::{AllocError, Global};
 use std::fmt::Write;
 
-const FORMS: [&str; 9] = [
-    "usage", "full", "brief", "html", "page", "markdown", "man", "check", "all",
+const FORMS: [&str; 8] = [
+    "usage", "full", "brief", "man", "markdown", "html", "check", "all",
 ];
 
-const OPTIONS: [&str; 5] = ["--command", "--width", "--into", "--help", "--version"];
+const OPTIONS: [&str; 8] = [
+    "--command",
+    "--deep",
+    "--width",
+    "--into",
+    "--date",
+    "--vendor",
+    "--help",
+    "--version",
+];
 
 /// The line for standard error. For a word that is unknown it names the one that is near, or else those that there
 /// are.
@@ -19,7 +28,7 @@ pub fn line_of(global: Global, fault: &WordFault<'_>) -> Result<String, AllocErr
         WordFault::NoForm => put(&mut line, "no form", "")?,
         WordFault::NoSuchForm(word) => put(&mut line, "no form ", word)?,
         WordFault::NoSuchOption(word) => put(&mut line, "no option ", word)?,
-        WordFault::NoValue(option) => put(&mut line, "no value behind ", word_of(*option))?,
+        WordFault::NoValue(option) => put(&mut line, "no value behind ", valued_word(*option))?,
         WordFault::NoColumns(word) => put(&mut line, "no number of columns: ", word)?,
         WordFault::NoFolder => put(&mut line, "all goes with --into FOLDER", "")?,
         WordFault::Twice(option) => put(&mut line, word_of(*option), " stands twice")?,
@@ -35,11 +44,20 @@ pub fn line_of(global: Global, fault: &WordFault<'_>) -> Result<String, AllocErr
     Ok(line)
 }
 
-fn word_of(option: Valued) -> &'static str {
+fn word_of(option: WordOption) -> &'static str {
+    match option {
+        WordOption::Deep => "--deep",
+        WordOption::Valued(option) => valued_word(option),
+    }
+}
+
+fn valued_word(option: Valued) -> &'static str {
     match option {
         Valued::Command => "--command",
         Valued::Width => "--width",
         Valued::Into => "--into",
+        Valued::Date => "--date",
+        Valued::Vendor => "--vendor",
     }
 }
 

@@ -119,7 +119,7 @@ pub const USED: Lines = &[
     &[Value("COMMAND"), Words(" ...")],
 ];
 
-const WRITTEN: &str = r#"Saves folders as a new snapshot.
+pub const WRITTEN: &str = r#"Saves folders as a new snapshot.
 
 What is left out:
 

@@ -1,10 +1,13 @@
 //! Tests of `man_page`, `markdown_page` and `console_page`, over pages of `page_model`: whole pages, what stands for each
 //! text, which texts a page may have, and each growth refused in turn; and of `description_pages`: texts with their
-//! blocks, and a level from its records to its manual page.
+//! blocks, a level from its records to its manual page, which words lead to a level; and of
+//! `command_pages`: the pages of a command line.
 #![tactic(auto)]
 
 #[cfg(test)]
 mod blocks;
+#[cfg(test)]
+mod commands;
 #[cfg(test)]
 mod console;
 #[cfg(test)]
@@ -21,6 +24,8 @@ mod markdown_tide_save;
 mod refusals;
 #[cfg(test)]
 mod said;
+#[cfg(test)]
+mod subjects;
 #[cfg(test)]
 mod texts;
 #[cfg(test)]

@@ -91,6 +91,7 @@ fn pieces_are_written_so(rt: HostRuntime) {
 fn leading(alloc: Global, name: &'static str) -> Result<Part<'static>, AllocError> {
     let mut entries = Vec::new(alloc);
     entries.push(Entry {
+        word: "",
         page: Some(name),
         terms: Vec::new(alloc),
         body: Vec::new(alloc),

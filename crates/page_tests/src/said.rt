@@ -84,6 +84,7 @@ fn entry(
     said: &Item,
 ) -> Result<Entry<'static>, AllocError> {
     Ok(Entry {
+        word: "",
         page,
         terms: lines(alloc, said.0)?,
         body: blocks(alloc, said.1)?,

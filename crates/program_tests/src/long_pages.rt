@@ -27,68 +27,53 @@ const MAN_TEXT: Frame = (
 
 const TEXTS: &[Frame] = &[FULL_TEXT, BRIEF_TEXT, HTML_TEXT, MARKDOWN_TEXT, MAN_TEXT];
 
-// Around a name on the usage line. Behind one that fills a line stands a newline in place of the blank.
-const SHORT_NAME: Frame = (Asked::Clidoc(Form::Usage), "name = \"@\"\n", "@ \n");
-
-const LONG_NAME: Frame = (Asked::Clidoc(Form::Usage), "name = \"@\"\n", "@\n\n");
+// Around a name in a usage.
+const NAME: Frame = (Asked::Clidoc(Form::Usage), "name = \"@\"\n", "@\n");
 
 // Around what a description says in short.
 const FULL: Frame = (
     Asked::Clidoc(Form::Full),
     "name = \"app\"\nabout = \"@\"\n",
-    "@\n\nUsage: app \n",
+    "@\n\nUsage: app\n",
 );
 
 const BRIEF: Frame = (
     Asked::Clidoc(Form::Brief),
     "name = \"app\"\nabout = \"@\"\n",
-    "@\n\nUsage: app \n",
-);
-
-const HTML: Frame = (
-    Asked::Clidoc(Form::Html),
-    "name = \"app\"\nabout = \"@\"\n",
-    "# app<br>\n<p>@</p><p><b>Usage</b>: <tt><b>app</b></tt> </p>",
+    "@\n\nUsage: app\n",
 );
 
 const MARKDOWN: Frame = (
     Asked::Clidoc(Form::Markdown),
     "name = \"app\"\nabout = \"@\"\n",
-    "# app\n\n@\n\n**Usage**: **`app`** \n",
+    "# app\n\n@\n\n```\napp\n```\n",
 );
 
 const MAN: Frame = (
     Asked::Clidoc(Form::Man),
     "name = \"app\"\nabout = \"@\"\n",
-    ".ie \\n(.g .ds Aq \\(aq\n.el .ds Aq '\n.TH app 1 - - \"\"\n.SH NAME\n\\fRapp \\- \\fP\\fR@\\fP\n.SH SYNOPSIS\n\\fBapp\\fP\\fR \\fP",
+    ".TH app 1 \"\" \"\" \"\"\n.SH NAME\napp \\- @\n.SH SYNOPSIS\n.SY app\n.YS\n",
 );
 
 // Around a help text whose lines stand below one another.
 const FULL_HELP: Frame = (
     Asked::Clidoc(Form::Full),
     "name = \"app\"\n[[option]]\nlong = \"verbose-as-can\"\nhelp = \"\"\"a@\"\"\"\n",
-    "Usage: app [--verbose-as-can]\n\nAvailable options:\n        --verbose-as-can  a@\n",
+    "Usage: app [--verbose-as-can]\n\nOptions:\n        --verbose-as-can  a@\n",
 );
 
 const BRIEF_HELP: Frame = (
     Asked::Clidoc(Form::Brief),
     "name = \"app\"\n[[option]]\nlong = \"verbose-as-can\"\nhelp = \"\"\"a@\"\"\"\n",
-    "Usage: app [--verbose-as-can]\n\nAvailable options:\n        --verbose-as-can  a@\n",
+    "Usage: app [--verbose-as-can]\n\nOptions:\n        --verbose-as-can  a@\n",
 );
 
-const SHORT_FRAMES: &[Frame] = &[SHORT_NAME, FULL, BRIEF, HTML, MARKDOWN, MAN];
-
-const FRAMES: &[Frame] = &[LONG_NAME, FULL, BRIEF, HTML, MARKDOWN, MAN];
-
-// A frame for each form, and for words of this size.
-fn frames(size: usize) -> &'static [Frame] {
-    if size < 100 { SHORT_FRAMES } else { FRAMES }
-}
+const FRAMES: &[Frame] = &[NAME, FULL, BRIEF, MARKDOWN, MAN];
 
 // Whether the page of each form comes through drawn ends, with words of these sizes by turns.
 fn each_form_comes_through(global: Global, draws: &mut Draws, sizes: [usize; 2]) -> bool {
     let mut size = sizes[0];
-    for frame in frames(sizes[0]) {
+    for frame in FRAMES {
         let comes_through = word_comes_through(global, AMPLE, draws, frame, size);
         if !comes_through.unwrap_or(false) {
             return false;
@@ -155,9 +140,8 @@ const PIECES: &[(&Frame, &str, &str)] = &[
     (&MAN_TEXT, LETTERS, LETTERS),
     (&FULL_HELP, "\n a", "\n                          a"),
     (&BRIEF_HELP, "\n a", "\n                          a"),
-    (&HTML, "<", "&lt;"),
-    (&MARKDOWN, "Many words", "Many words"),
-    (&MAN, "'", "\\*(Aq"),
+    (&MARKDOWN, "*", "\\*"),
+    (&MAN, "'", "\\(aq"),
 ];
 
 /// Pushes a word between these two.
@@ -185,8 +169,9 @@ fn names(global: Global, head: &str, around: [&str; 2], back: &str) -> Result<St
 // Whether a large page comes through whose description is large too.
 fn shows_names(global: Global) -> Result<bool, AllocError> {
     let option = ["[[option]]\nlong = '", "'\nrequired = true\n"];
-    let input = names(global, "name = 'app'\n", option, "")?;
-    let page = names(global, "app", ["\n--", ""], "\n")?;
+    let head = "name = 'app'\n[[option]]\nshort = 'v'\nrequired = true\n";
+    let input = names(global, head, option, "")?;
+    let page = names(global, "app -v", ["\n    --", ""], "\n")?;
     let (input, page) = (input.as_bytes(), page.as_bytes());
     Ok(
         input.len() > LARGE

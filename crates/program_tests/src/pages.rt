@@ -98,25 +98,19 @@ const CLIDOC: &[Row] = &[
         Asked::Clidoc(clidoc::pages::Form::Html),
         "clidoc|html",
         clidoc::pages::INPUT,
-        b"# app<br>\n<p>Prints things</p><p><b>Usage</b>: <tt><b>app</b></tt> <tt><b>-v</b></tt></p><p><div>\n<b>Available options:</b></div><dl><dt><tt><b>-v</b></tt>, <tt><b>--verbose</b></tt></dt>\n<dd>Talk more</dd>\n</dl>\n</p>",
-    ),
-    (
-        Asked::Clidoc(clidoc::pages::Form::Web),
-        "clidoc|page",
-        clidoc::pages::INPUT,
         b"<!DOCTYPE html><html lang=\"en\"><head><meta charset=\"utf-8\"><meta name=\"viewport\" content=\"width=device-width\"><title>app</title><style>body{font:1rem/1.5 sans-serif;max-width:50rem;margin:0 auto;padding:1rem;color:#1b1b1b;background:#fff;overflow-wrap:anywhere}a{color:#0645ad}pre{white-space:pre-wrap;padding:.5rem;background:#f2f2f2}dt{margin-top:.5rem}dt a{text-decoration:none}dt a:hover{text-decoration:underline}dd{margin-left:2rem}dd p{margin:.25rem 0}@media(prefers-color-scheme:dark){body{color:#e6e6e6;background:#161616}a{color:#8ab4f8}pre{background:#262626}}@media print{body{max-width:none;color:#000;background:#fff}a{color:#000}nav{display:none}pre{background:none}}</style></head><body><header><h1>app</h1><p>Prints things</p></header><main><section id=\"app\"><h2>app</h2><pre>\n<code><strong>app</strong> <strong>-v</strong></code></pre><h3>Available options</h3><dl><dt id=\"app::verbose\"><a href=\"#app::verbose\"><code>-v</code>, <code>--verbose</code></a></dt><dd><p>Talk more</p></dd></dl></section></main></body></html>",
     ),
     (
         Asked::Clidoc(clidoc::pages::Form::Markdown),
         "clidoc|markdown",
         clidoc::pages::INPUT,
-        b"# app\n\nPrints things\n\n**Usage**: **`app`** **`-v`**\n\n**Available options:**\n- **`-v`**, **`--verbose`** &mdash; \n  Talk more\n\n\n",
+        b"# app\n\nPrints things\n\n```\napp -v\n```\n\n## Options\n\n- `-v`, `--verbose` \xe2\x80\x94 Talk more\n",
     ),
     (
         Asked::Clidoc(clidoc::pages::Form::Man),
         "clidoc|man",
         clidoc::pages::INPUT,
-        b".ie \\n(.g .ds Aq \\(aq\n.el .ds Aq '\n.TH app 1 - - \"\"\n.SH NAME\n\\fRapp \\- \\fP\\fRPrints things\\fP\n.SH SYNOPSIS\n\\fBapp\\fP\\fR \\fP\\fB\\-v\\fP\n.PP\n.SS AVAILABLE\\ OPTIONS:\n.TP\n\\fB\\-v\\fP\\fR, \\fP\\fB\\-\\-verbose\\fP\n\\fRTalk more\\fP\n.PP\n",
+        b".TH app 1 \"\" \"\" \"\"\n.SH NAME\napp \\- Prints things\n.SH SYNOPSIS\n.SY app\n\\fB\\-v\\fP\n.YS\n.SH OPTIONS\n.TP\n\\fB\\-v\\fP, \\fB\\-\\-verbose\\fP\nTalk more\n",
     ),
 ];
 

@@ -9,31 +9,38 @@ use std::alloc::Global;
 
 // Wrong words with bars between them, and on the next line what says so. Behind each row stands an empty line.
 const WRONG: &str = "clidoc
-clidoc [--command=NAME]... [--width=COLUMNS] [--into=FOLDER] FORM [FILE]
+clidoc [--command=NAME]... [--deep] [--width=COLUMNS] [--into=FOLDER] [--date=DATE] [--vendor=TEXT]
+       FORM [FILE]
 
 clidoc|--width=3
-clidoc: no form; forms are usage, full, brief, html, page, markdown, man, check and all
+clidoc: no form; forms are usage, full, brief, man, markdown, html, check and all
 
 clidoc|--|full
-clidoc: no form; forms are usage, full, brief, html, page, markdown, man, check and all
+clidoc: no form; forms are usage, full, brief, man, markdown, html, check and all
 
 clidoc|
-clidoc: no form ; forms are usage, full, brief, html, page, markdown, man, check and all
+clidoc: no form ; forms are usage, full, brief, man, markdown, html, check and all
 
 clidoc|\u{1b}[2J
-clidoc: no form \"\\u{1b}[2J\"; forms are usage, full, brief, html, page, markdown, man, check and all
+clidoc: no form \"\\u{1b}[2J\"; forms are usage, full, brief, man, markdown, html, check and all
 
 clidoc|Full
 clidoc: no form Full; is it full?
 
 clidoc|xml
-clidoc: no form xml; forms are usage, full, brief, html, page, markdown, man, check and all
+clidoc: no form xml; forms are usage, full, brief, man, markdown, html, check and all
 
 clidoc|full|a|b
 clidoc: one word too many: b
 
 clidoc|full|a|--|b
 clidoc: one word too many: b
+
+clidoc|full|--|a|b
+clidoc: one word too many: b
+
+clidoc|page
+clidoc: no form page; forms are usage, full, brief, man, markdown, html, check and all
 
 clidoc|--wdth|3|full
 clidoc: no option --wdth; is it --width?
@@ -42,7 +49,7 @@ clidoc|full|--widht=80
 clidoc: no option --widht=80; is it --width?
 
 clidoc|full|-x
-clidoc: no option -x; options are --command, --width, --into, --help and --version
+clidoc: no option -x; options are --command, --deep, --width, --into, --date, --vendor, --help and --version
 
 clidoc|full|--width|0
 clidoc: no number of columns: 0
@@ -68,6 +75,39 @@ clidoc: --width is no option of check
 clidoc|full|--help
 clidoc: other words stand beside --help
 
+clidoc|--version|full
+clidoc: other words stand beside --version
+
+clidoc|-V|-h
+clidoc: other words stand beside -V
+
+clidoc|man|--deep|--deep
+clidoc: --deep stands twice
+
+clidoc|man|--deep=x
+clidoc: no option --deep=x; is it --deep?
+
+clidoc|full|--deep
+clidoc: --deep is no option of full
+
+clidoc|html|--deep|--date=x
+clidoc: --deep is no option of html
+
+clidoc|man|--date
+clidoc: no value behind --date
+
+clidoc|--vendor=a|man|--vendor|b
+clidoc: --vendor stands twice
+
+clidoc|markdown|--date=x
+clidoc: --date is no option of markdown
+
+clidoc|usage|--vendor=x
+clidoc: --vendor is no option of usage
+
+clidoc|check|--date|x
+clidoc: --date is no option of check
+
 clidoc|all
 clidoc: all goes with --into FOLDER
 
@@ -81,7 +121,13 @@ clidoc|check|--into=a
 clidoc: --into is no option of check
 
 clidoc|--into=a|full
-clidoc: --into is no option of full";
+clidoc: --into is no option of full
+
+clidoc|all|--into=a|--deep
+clidoc: --deep is no option of all
+
+clidoc|all|--into=a|--date|x|--date|y
+clidoc: --date stands twice";
 
 // Whether a run on wrong words says what is wrong.
 fn is_wrong(global: Global, row: &str) -> bool {
@@ -105,11 +151,23 @@ const NESTED: &[u8] =
 // Words, on the next lines the page, and then a line of signs. Behind an empty page stands what is said.
 const RIGHT: &str = "clidoc|--width=100|full|-
 One
+
 Two
 
 Usage: app COMMAND ...
 
-Available commands:
+Commands:
+    remote, r
+
+====
+
+----
+clidoc|brief
+One
+
+Usage: app COMMAND ...
+
+Commands:
     remote, r
 
 ====
@@ -117,7 +175,7 @@ Available commands:
 ----
 clidoc|usage|--width|12
 app COMMAND
-...
+    ...
 
 ====
 
@@ -137,25 +195,172 @@ app remote COMMAND ...
 clidoc|--command=r|--command|add|full
 Adds one
 
-Usage: app remote add\u{20}
+Usage: app remote add
 
 ====
 
 ----
 clidoc|man|--command=r|--command=add
-.ie \\n(.g .ds Aq \\(aq
-.el .ds Aq '
-.TH app-remote-add 1 - - \"\"
+.TH app-remote-add 1 \"\" \"\" \"\"
 .SH NAME
-\\fRapp\\-remote\\-add \\- \\fP\\fRAdds one\\fP
+app\\-remote\\-add \\- Adds one
 .SH SYNOPSIS
-\\fBapp\\fP\\fR \\fP\\fBremote\\fP\\fR \\fP\\fBadd\\fP\\fR \\fP
-.SH SEE\\ ALSO
-\\fBapp\\-remote\\fP\\fR(1)\\fP
+.SY \"app remote add\"
+.YS
+.SH SEE ALSO
+\\fB\\%app\\-remote\\fP(1)
+
+====
+
+----
+clidoc|man|--deep
+.TH app 1 \"\" \"\" \"\"
+.SH NAME
+app \\- One
+.SH SYNOPSIS
+.SY app
+\\fICOMMAND\\fP\\~...\\&
+.YS
+.SH DESCRIPTION
+One
+.PP
+Two
+.SH COMMANDS
+.TP
+\\fBremote\\fP, \\fBr\\fP
+.SH SEE ALSO
+\\fB\\%app\\-remote\\fP(1)
+.SH app remote
+.SS SYNOPSIS
+.SY \"app remote\"
+\\fICOMMAND\\fP\\~...\\&
+.YS
+.SS COMMANDS
+.TP
+\\fBadd\\fP
+.SH app remote add
+.SS SYNOPSIS
+.SY \"app remote add\"
+.YS
+.SS DESCRIPTION
+Adds one
+
+====
+
+----
+clidoc|--date|2026-11-28|--vendor=Tide works|man|--command=r|--command=add
+.TH app-remote-add 1 2026-11-28 \"Tide works\" \"\"
+.SH NAME
+app\\-remote\\-add \\- Adds one
+.SH SYNOPSIS
+.SY \"app remote add\"
+.YS
+.SH SEE ALSO
+\\fB\\%app\\-remote\\fP(1)
+
+====
+
+----
+clidoc|markdown
+# app
+
+One
+
+Two
+
+```
+app COMMAND ...
+```
+
+## Commands
+
+- [`remote`](app-remote.md), `r`
+
+## See also
+
+[app-remote](app-remote.md)
+
 ====
 
 ----
 clidoc|check
+
+====
+
+----
+clidoc|check|-
+
+====
+
+----
+clidoc|--help
+Makes pages of the description of a command line.
+
+Usage: clidoc [--command=NAME]... [--deep] [--width=COLUMNS] [--into=FOLDER] [--date=DATE]
+              [--vendor=TEXT] FORM [FILE]
+
+The description is read from FILE, or else from standard input, in TOML, and the page is written to
+standard output. The program that is described may be written in any language.
+
+Arguments:
+    FORM                 What is made of the description.
+
+                         - usage: the usage alone.
+                         - full: the help page.
+                         - brief: the help page, with the first paragraph of each text.
+                         - man: a manual page.
+                         - markdown: a page in markdown.
+                         - html: one HTML page with all commands.
+                         - check: no page. It is only told whether FILE is a description.
+                         - all: the manual page and the page in markdown of each level, and the HTML
+                           page, as files of --into.
+
+    FILE                 Where the description stands; - is standard input
+
+Options:
+        --command=NAME   Show this command, by any of its names.
+
+                         It is given once for each level down. It goes with usage, full, brief, man
+                         and markdown.
+
+        --deep           Show the levels below, too, each behind the one above it.
+
+                         It goes with man and markdown.
+
+        --width=COLUMNS  Break lines at so many columns, and not at 100.
+
+                         It goes with usage, full and brief.
+
+        --into=FOLDER    Write all pages into this folder, which has to be there.
+
+                         It goes with all.
+
+        --date=DATE      Put this date on manual pages, and not that of the description.
+
+                         It goes with man and all.
+
+        --vendor=TEXT    Name this vendor on manual pages, and not that of the description.
+
+                         It goes with man and all.
+
+    -h, --help           Print this page
+    -V, --version        Print the version
+
+Notes:
+    The status is 0 if the page was written, 2 if the words are wrong, and 1 if anything else went
+    wrong, which a line on standard error tells.
+
+    The description of a program that greets people:
+
+        name = \"greet\"
+        about = \"Greets people.\"
+        [[option]]
+        short = \"l\"
+        long = \"loud\"
+        help = \"In capital letters\"
+        [[positional]]
+        value = \"NAME\"
+        help = \"Whom to greet\"
 
 ====
 
@@ -181,6 +386,16 @@ clidoc|--command|add|man
 
 ====
 clidoc: no command add in app
+----
+clidoc|markdown|--command|add
+
+====
+clidoc: no command add in app
+----
+clidoc|man|--date=a\u{7}
+
+====
+clidoc: no page: a control character or a noncharacter in a text
 ----
 clidoc|full|nowhere.toml
 
@@ -407,7 +622,7 @@ const FAULTY: &[Faulty] = &[
         FIRST,
         2,
         0,
-        "clidoc [--command=NAME]... [--width=COLUMNS] [--into=FOLDER] FORM [FILE]",
+        "clidoc [--command=NAME]... [--deep] [--width=COLUMNS] [--into=FOLDER] [--date=DATE] [--vendor=TEXT]\n       FORM [FILE]",
     ),
     (
         "clidoc|full",
@@ -464,6 +679,24 @@ const FAULTY: &[Faulty] = &[
         "clidoc: description: name is missing",
     ),
     (
+        "clidoc|usage|--command=x",
+        INPUT,
+        NEVER,
+        FIRST,
+        1,
+        0,
+        "clidoc: no command x in app",
+    ),
+    (
+        "clidoc|man|--vendor=\u{1}",
+        INPUT,
+        NEVER,
+        FIRST,
+        1,
+        0,
+        "clidoc: no page: a control character or a noncharacter in a text",
+    ),
+    (
         "clidoc|full",
         INPUT,
         NEVER,
@@ -506,7 +739,8 @@ fn tells_garbled_words<'a>(global: Global, words: &'a str, status: u8, line: &'a
     ends_with(global, &desk, status, 0, true)
 }
 
-// Of several faults the first is told: words, then reads, then the text, its TOML, its description, then writes.
+// Of several faults the first is told: words, then reads, then the text, its TOML, its description, its page, then
+// writes.
 #[test]
 fn tells_the_first_fault(rt: HostRuntime) {
     for row in FAULTY {

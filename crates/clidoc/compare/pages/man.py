@@ -98,14 +98,21 @@ def word(text, glyphs=GLYPHS):
     return argument(text, not text or " " in text, glyphs)
 
 
+def title(text):
+    """A title. Where blanks would not be kept, no line breaks at them."""
+    is_spaced = "  " not in text and text == text.strip(" ")
+    return escaped(text) if is_spaced else escaped(text).replace(" ", "\\~")
+
+
 def title_line(words):
-    """The words of a title line have their dashes as they are: a date has some."""
-    return " ".join([".TH", *[word(text, {**GLYPHS, "-": "-"}) for text in words]])
+    """The words of a title line have their dashes as they are: a date has some. groff takes `%` there for the number of the page."""
+    return " ".join([".TH", *[word(text, {**GLYPHS, "-": "-", "%": "\\N'37'"}) for text in words]])
 
 
-def guarded(line):
-    """A line that is no request. An apostrophe is written as a glyph, but some readers look no further."""
-    return "\\&" + line if line.startswith((".", GLYPHS["'"])) else line
+def guarded(line, is_code=False):
+    """A line that is no request, and keeps its blanks. An apostrophe is written as a glyph, but some readers look no further."""
+    front = "\\&" if line.startswith((".", GLYPHS["'"])) or not is_code and line[:1] in ("", " ") else ""
+    return front + line + ("\\&" if line.endswith(" ") else "")
 
 
 def shown(node, keeps_whole=False):
@@ -115,7 +122,7 @@ def shown(node, keeps_whole=False):
     if node.kind == "reference":
         return f"\\fB\\%{escaped(plain(node.inside))}\\fP({escaped(node.said['section'])})"
     text = plain(node.inside)
-    mark = "\\%" if keeps_whole and any(map(str.isalpha, text)) else ""
+    mark = "\\%" if keeps_whole and any(letter.isascii() and letter.isalpha() for letter in text) else ""
     return {
         "literal": f"\\fB{mark}{escaped(text)}\\fP",
         "value": f"\\fI{escaped(text)}\\fP",
@@ -131,7 +138,7 @@ def filled(nodes, keeps_whole=True):
 
 
 def code_lines(code):
-    return [".RS 4", ".EX", *[guarded(escaped(line)) for line in plain(code.inside).split("\n")], ".EE", ".RE"]
+    return [".RS 4", ".EX", *[guarded(escaped(line), True) for line in plain(code.inside).split("\n")], ".EE", ".RE"]
 
 
 def list_lines(items):
@@ -178,7 +185,7 @@ def usage_lines(usage):
 
 def section_lines(section, request=".SH"):
     heading = plain(section.child("heading").inside)
-    found, is_first = [f"{request} {argument(heading, '  ' in heading)}"], True
+    found, is_first = [f"{request} {title(heading)}"], True
     for part in section.inside[1:]:
         if is_a(part, "section"):
             found += section_lines(part, ".SS")

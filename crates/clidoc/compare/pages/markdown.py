@@ -9,7 +9,7 @@ import urllib.parse
 
 from pages.tree import element, is_a, joined, merged, plain
 
-ALWAYS = set("\\`*[]<")
+ALWAYS = set("\\`*[]<{")
 AT_FRONT = re.compile(r"[#+>=~-]|[0-9]{1,9}(?=[.)])")
 
 
@@ -120,7 +120,9 @@ def escapes(text, place, in_heading):
     if letter == "_":
         return not (before and is_letter(before) and behind and is_letter(behind))
     if letter == "&":
-        return behind == "#" or behind.isascii() and behind.isalpha()
+        return behind in ("", "#") or behind.isascii() and behind.isalpha()
+    if letter == "!":
+        return not behind
     return letter in ALWAYS or in_heading and letter == "#"
 
 

@@ -2,8 +2,8 @@
 
 use crate::beside::{is_beside, name_beside};
 use crate::faults::Fault;
+use crate::files::PageFile;
 use crate::program::Failure;
-use description::PageFile;
 use description::words::Shown;
 use std::alloc::{Allocator, Global};
 use std::fs::{Metadata, OpenFile, OpenOptions, Permissions};

@@ -6,8 +6,8 @@ use crate::stand_ins::folder::{Folder, Stands};
 use crate::stand_ins::lines::says;
 use crate::stand_ins::runs::Ends;
 use clidoc_engine::all::make_files;
-use clidoc_engine::files::check_names;
-use description::PageFile;
+use clidoc_engine::files::{PageFile, check_names};
+use clidoc_engine::words::TitleGiven;
 use linked_list_allocator::LocalHeap;
 use std::alloc::{AllocError, Global};
 use std::io::ErrorKind;
@@ -18,13 +18,15 @@ const WORDS: &str = "clidoc|all|--into|out";
 
 const INPUT: &[u8] = b"name = 'a'\n";
 
-const MANUAL: &str =
-    "write .ie \\n(.g .ds Aq \\(aq\n.el .ds Aq '\n.TH a 1 - - \"\"\n.SH SYNOPSIS\n\\fBa\\fP\\fR \\fP";
+const MANUAL: &str = "write .TH a 1 \"\" \"\" \"\"\n.SH NAME\na\n.SH SYNOPSIS\n.SY a\n.YS\n";
+
+const DATED_MANUAL: &str =
+    "write .TH a 1 2026-11-28 \"Tide works\" \"\"\n.SH NAME\na\n.SH SYNOPSIS\n.SY a\n.YS\n";
 
 const WEB: &str =
     "write <!DOCTYPE html><html lang=\"en\"><head><meta charset=\"utf-8\"><meta name=\"viewport\" content=\"width=device-width\"><title>a</title><style>body{font:1rem/1.5 sans-serif;max-width:50rem;margin:0 auto;padding:1rem;color:#1b1b1b;background:#fff;overflow-wrap:anywhere}a{color:#0645ad}pre{white-space:pre-wrap;padding:.5rem;background:#f2f2f2}dt{margin-top:.5rem}dt a{text-decoration:none}dt a:hover{text-decoration:underline}dd{margin-left:2rem}dd p{margin:.25rem 0}@media(prefers-color-scheme:dark){body{color:#e6e6e6;background:#161616}a{color:#8ab4f8}pre{background:#262626}}@media print{body{max-width:none;color:#000;background:#fff}a{color:#000}nav{display:none}pre{background:none}}</style></head><body><header><h1>a</h1></header><main><section id=\"a\"><h2>a</h2><pre>\n<code><strong>a</strong> </code></pre></section></main></body></html>";
 
-const MARKDOWN: &str = "write # a\n\n**Usage**: **`a`** \n";
+const MARKDOWN: &str = "write # a\n\n```\na\n```\n";
 
 // The calls that write three files. Before a page is written what stands in its place is looked at.
 const CALLS: &[&str] = &[
@@ -36,18 +38,44 @@ const CALLS: &[&str] = &[
     MANUAL,
     "keep file",
     "rename .a.1.00000000.new a.1",
-    "look a.html",
-    "draw",
-    "create .a.html.01010101.new",
-    WEB,
-    "keep file",
-    "rename .a.html.01010101.new a.html",
     "look a.md",
     "draw",
-    "create .a.md.02020202.new",
+    "create .a.md.01010101.new",
     MARKDOWN,
     "keep file",
-    "rename .a.md.02020202.new a.md",
+    "rename .a.md.01010101.new a.md",
+    "look a.html",
+    "draw",
+    "create .a.html.02020202.new",
+    WEB,
+    "keep file",
+    "rename .a.html.02020202.new a.html",
+    "open .",
+    "keep folder",
+];
+
+// The same, where the manual page has a date and a vendor.
+const DATED: &[&str] = &[
+    "enter out",
+    "list ./",
+    "look a.1",
+    "draw",
+    "create .a.1.00000000.new",
+    DATED_MANUAL,
+    "keep file",
+    "rename .a.1.00000000.new a.1",
+    "look a.md",
+    "draw",
+    "create .a.md.01010101.new",
+    MARKDOWN,
+    "keep file",
+    "rename .a.md.01010101.new a.md",
+    "look a.html",
+    "draw",
+    "create .a.html.02020202.new",
+    WEB,
+    "keep file",
+    "rename .a.html.02020202.new a.html",
     "open .",
     "keep folder",
 ];
@@ -63,20 +91,20 @@ const REPLACING: &[&str] = &[
     MANUAL,
     "keep file",
     "rename .a.1.00000000.new a.1",
-    "look a.html",
-    "draw",
-    "create .a.html.01010101.new",
-    "mode",
-    WEB,
-    "keep file",
-    "rename .a.html.01010101.new a.html",
     "look a.md",
     "draw",
-    "create .a.md.02020202.new",
+    "create .a.md.01010101.new",
     "mode",
     MARKDOWN,
     "keep file",
-    "rename .a.md.02020202.new a.md",
+    "rename .a.md.01010101.new a.md",
+    "look a.html",
+    "draw",
+    "create .a.html.02020202.new",
+    "mode",
+    WEB,
+    "keep file",
+    "rename .a.html.02020202.new a.html",
     "open .",
     "keep folder",
 ];
@@ -88,18 +116,18 @@ const OTHER: &[&str] = &[
     MANUAL,
     "keep file",
     "rename .a.1.01010101.new a.1",
-    "look a.html",
-    "draw",
-    "create .a.html.02020202.new",
-    WEB,
-    "keep file",
-    "rename .a.html.02020202.new a.html",
     "look a.md",
     "draw",
-    "create .a.md.03030303.new",
+    "create .a.md.02020202.new",
     MARKDOWN,
     "keep file",
-    "rename .a.md.03030303.new a.md",
+    "rename .a.md.02020202.new a.md",
+    "look a.html",
+    "draw",
+    "create .a.html.03030303.new",
+    WEB,
+    "keep file",
+    "rename .a.html.03030303.new a.html",
     "open .",
     "keep folder",
 ];
@@ -113,9 +141,9 @@ const FULL: ErrorKind = ErrorKind::StorageFull;
 
 const REMOVE_MANUAL: &[&str] = &["remove .a.1.00000000.new"];
 
-const REMOVE_WEB: &[&str] = &["remove .a.html.01010101.new"];
+const REMOVE_MARKDOWN: &[&str] = &["remove .a.md.01010101.new"];
 
-const REMOVE_MARKDOWN: &[&str] = &["remove .a.md.02020202.new"];
+const REMOVE_WEB: &[&str] = &["remove .a.html.02020202.new"];
 
 const FAILING: &[Failing] = &[
     (0, ErrorKind::NotFound, &[], 1, "clidoc: no folder out"),
@@ -133,14 +161,14 @@ const FAILING: &[Failing] = &[
     (5, FULL, REMOVE_MANUAL, 1, "clidoc: can't write out/a.1"),
     (6, FULL, REMOVE_MANUAL, 1, "clidoc: can't write out/a.1"),
     (7, FULL, REMOVE_MANUAL, 1, "clidoc: can't write out/a.1"),
-    (10, FULL, &[], 1, "clidoc: can't write out/a.html"),
-    (11, FULL, REMOVE_WEB, 1, "clidoc: can't write out/a.html"),
-    (12, FULL, REMOVE_WEB, 1, "clidoc: can't write out/a.html"),
-    (13, FULL, REMOVE_WEB, 1, "clidoc: can't write out/a.html"),
-    (16, FULL, &[], 1, "clidoc: can't write out/a.md"),
-    (17, FULL, REMOVE_MARKDOWN, 1, "clidoc: can't write out/a.md"),
-    (18, FULL, REMOVE_MARKDOWN, 1, "clidoc: can't write out/a.md"),
-    (19, FULL, REMOVE_MARKDOWN, 1, "clidoc: can't write out/a.md"),
+    (10, FULL, &[], 1, "clidoc: can't write out/a.md"),
+    (11, FULL, REMOVE_MARKDOWN, 1, "clidoc: can't write out/a.md"),
+    (12, FULL, REMOVE_MARKDOWN, 1, "clidoc: can't write out/a.md"),
+    (13, FULL, REMOVE_MARKDOWN, 1, "clidoc: can't write out/a.md"),
+    (16, FULL, &[], 1, "clidoc: can't write out/a.html"),
+    (17, FULL, REMOVE_WEB, 1, "clidoc: can't write out/a.html"),
+    (18, FULL, REMOVE_WEB, 1, "clidoc: can't write out/a.html"),
+    (19, FULL, REMOVE_WEB, 1, "clidoc: can't write out/a.html"),
     (20, ErrorKind::PermissionDenied, &[], 0, WRITTEN),
     (21, FULL, &[], 1, "clidoc: can't write out"),
     (21, ErrorKind::InvalidInput, &[], 0, WRITTEN),
@@ -164,9 +192,17 @@ fn writes_all(global: Global, folder: Folder, status: u8, line: &str) -> bool {
     ends_so(global, &folder, WORDS, INPUT, status, line)
 }
 
+// Whether the words write all into the folder by these calls.
+fn words_write(global: Global, words: &str, calls: &'static [&'static str]) -> bool {
+    ends_so(global, &Folder::new(calls), words, INPUT, 0, WRITTEN)
+}
+
 #[test]
 fn pages_are_written_into_a_folder(rt: HostRuntime) {
     assert!(rt; writes_all(rt.alloc(), Folder::new(CALLS), 0, WRITTEN));
+    assert!(rt; words_write(rt.alloc(), "clidoc|all|--into|out|-", CALLS));
+    let dated = "clidoc|--date=2026-11-28|all|--vendor|Tide works|--into|out";
+    assert!(rt; words_write(rt.alloc(), dated, DATED));
     for &(call, kind, then, status, line) in FAILING {
         let folder = Folder::new(CALLS).failing(call, kind, then);
         assert!(rt;
@@ -278,7 +314,11 @@ fn count_on(global: Global, budget: usize) -> Option<usize> {
         return None;
     };
     let mut reader = Watched::new(INPUT);
-    match make_files(&heap, global, &mut reader) {
+    let given = TitleGiven {
+        date: None,
+        vendor: None,
+    };
+    match make_files(&heap, global, given, &mut reader) {
         Ok(files) => Some(files.len()),
         Err(_) => None,
     }

@@ -7,7 +7,8 @@ ghost use Rattle.clidoc_engine.specs.Runs.{HasPage};
 use crate::engines::AMPLE;
 use clidoc_engine::engine::run_description;
 use clidoc_engine::places::{Place, place_behind};
-use clidoc_engine::words::{Console, ConsoleForm, Page};
+use clidoc_engine::words::{Console, ConsoleForm, Page, TitleGiven};
+use description_pages::Depth;
 use linked_list_allocator::LocalHeap;
 use std::alloc::Global;
 use watched::Watched;
@@ -29,7 +30,6 @@ pub enum Form {
     Full,
     Brief,
     Html,
-    Web,
     Markdown,
     Man,
 }
@@ -41,9 +41,22 @@ pub fn page_of(global: Global, form: Form) -> Page<'static, Global> {
         Form::Full => ConsoleForm::Full,
         Form::Brief => ConsoleForm::Brief,
         Form::Html => return Page::Html,
-        Form::Web => return Page::Web,
-        Form::Markdown => return Page::Markdown,
-        Form::Man => return Page::Man(Vec::new(global)),
+        Form::Markdown => {
+            return Page::Markdown {
+                commands: Vec::new(global),
+                depth: Depth::Alone,
+            };
+        }
+        Form::Man => {
+            return Page::Man {
+                commands: Vec::new(global),
+                depth: Depth::Alone,
+                title: TitleGiven {
+                    date: None,
+                    vendor: None,
+                },
+            };
+        }
     };
     Page::Console(Console {
         form,
@@ -54,7 +67,7 @@ pub fn page_of(global: Global, form: Form) -> Page<'static, Global> {
 
 /// The page of it on a console.
 pub const HELP: &[u8] =
-    b"Prints things\n\nUsage: app -v\n\nAvailable options:\n    -v, --verbose  Talk more\n";
+    b"Prints things\n\nUsage: app -v\n\nOptions:\n    -v, --verbose  Talk more\n";
 
 // The page in memory. The engine's promises over ends that tell their bytes say which page it is.
 fn page<'a>(

@@ -10,4 +10,6 @@ returns-clause-no_command g c =
     (record { table = table_view c.in_ok-table.table; toml = c.in_ok-table.ensures.ok; gives = c.in_ok-description.ensures.ok }) c.rendered-made.ensures.unmade
 
 pub returns-clause-no_page : goal.returns-clause-no_page
-returns-clause-no_page g c = not_made (page_said c.args.page.now) (description_said c.in_ok-description.description) c.rendered-made.result c.rendered-made.ensures.unmade
+returns-clause-no_page g c =
+    not_made (page_said c.args.page.now) c.args.text.now (description_said c.in_ok-description.description) c.rendered-made.result
+    (record { table = table_view c.in_ok-table.table; toml = c.in_ok-table.ensures.ok; gives = c.in_ok-description.ensures.ok }) c.rendered-made.ensures.unmade

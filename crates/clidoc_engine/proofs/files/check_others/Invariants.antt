@@ -1,6 +1,6 @@
 use Rattle.std.proofs.Common.{◌≡◌, drop, map}
 use Rattle.std.specs.List.{list_any}
-use Rattle.description.specs.View.{file_said}
+use Rattle.clidoc_engine.specs.Files.{file_said}
 use Rattle.clidoc_engine.specs.Files.{are_alike, names_of}
 use Rattle.clidoc_engine.proofs.files.check_others.Given as goal
 

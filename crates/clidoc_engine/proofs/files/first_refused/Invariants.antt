@@ -1,5 +1,5 @@
 use Rattle.std.proofs.Common.{◌≡◌, ◌≤◌, drop, length, map}
-use Rattle.description.specs.View.{file_said}
+use Rattle.clidoc_engine.specs.Files.{file_said}
 use Rattle.clidoc_engine.specs.Files.{are_file_names, is_first_name, names_of}
 use Rattle.clidoc_engine.proofs.FileNames.{Held, names_from}
 use Rattle.clidoc_engine.proofs.files.first_refused.Given as goal

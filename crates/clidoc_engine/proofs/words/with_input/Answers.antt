@@ -1,4 +1,5 @@
 use Rattle.std.proofs.Common.{◌⊎◌, ◌++◌, List, ℕ, Option, sym, ap, ◌∙◌, inr}
+use Rattle.command_pages.specs.Pages.{TitleGiven}
 use Rattle.clidoc_engine.specs.Chosen.{words_said}
 use Rattle.clidoc_engine.specs.Reading.{IsRefused, given_of}
 use Rattle.clidoc_engine.specs.Words.{Chooses, PageSaid, all, check, page}
@@ -16,7 +17,7 @@ returns-in_err-word-clause-no_check g c =
 pub returns-in_err-word-clause-no_all : goal.returns-in_err-word-clause-no_all
 returns-in_err-word-clause-no_all g c =
     let words = words_said c.args.words.now in
-    always c.from_residual-in_err-word.result (λ fault. IsRefused fault ⊎ ((folder : List ℕ) (file : Option (List ℕ)) → ¬ Chooses words (all folder file)))
+    always c.from_residual-in_err-word.result (λ fault. IsRefused fault ⊎ ((folder : List ℕ) (title : TitleGiven) (file : Option (List ℕ)) → ¬ Chooses words (all folder title file)))
     (λ fault. inr (no_all words (given_of c.in_ok-given.given) c.in_ok-given.ensures.ok
     (λ some word file e. c.in_err-word.ensures.err (λ none. some (sym (ap words_said c.deref.ensures.value) ∙ none)) word file
     (ap (λ ws. words_said ws ++ words_said c.deref-2.result.now) c.deref.ensures.value ∙ ap (λ ws. words_said c.in_ok-given.given.plain.items ++ words_said ws) c.deref-2.ensures.value ∙ e))))
@@ -32,7 +33,7 @@ returns-in_err-word-clause-no_page g c =
 pub returns-in_err-folder-clause-no_all : goal.returns-in_err-folder-clause-no_all
 returns-in_err-folder-clause-no_all g c =
     let words = words_said c.args.words.now in
-    always c.from_residual-in_err-folder.result (λ fault. IsRefused fault ⊎ ((folder : List ℕ) (file : Option (List ℕ)) → ¬ Chooses words (all folder file)))
+    always c.from_residual-in_err-folder.result (λ fault. IsRefused fault ⊎ ((folder : List ℕ) (title : TitleGiven) (file : Option (List ℕ)) → ¬ Chooses words (all folder title file)))
     (λ fault. inr (no_folder words (given_of c.in_ok-given.given) c.in_ok-given.ensures.ok c.in_err-folder.ensures.err))
 
 pub returns-clause-ok : goal.returns-clause-ok

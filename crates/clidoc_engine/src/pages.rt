@@ -1,0 +1,165 @@
+//! The pages of a description. What a page says is made in an arena, and goes with it.
+
+ghost use Rattle.std.specs.Prelude.{◌≡◌, IfErr, IfOk, Some, string_bytes};
+ghost use Rattle.description.specs.View.{description_said};
+ghost use Rattle.description_pages.specs.LevelsView.{subject_of};
+ghost use Rattle.command_pages.specs.Pages.{level_at};
+ghost use Rattle.command_pages.specs.View.{title_said};
+ghost use Rattle.clidoc_engine.specs.Chosen.{console_said, page_said};
+ghost use Rattle.clidoc_engine.specs.Chosen.{words_said as names_said};
+ghost use Rattle.clidoc_engine.specs.Rendering.{IsPage};
+ghost use Rattle.clidoc_engine.specs.Steps.{IsLost, IsNoCommand, IsUnmade};
+ghost use Rattle.clidoc_engine.specs.Words.{man, markdown};
+
+use crate::faults::Fault;
+use crate::words::{Console, Page, TitleGiven};
+use bumpalo::Bump;
+use command_pages::{
+    Depth, LevelSubject, application, console_page_of, manual_page_of, markdown_page_of,
+};
+use description::Description;
+use description_pages::subjects::enter;
+use std::alloc::{AllocError, Allocator, Global};
+
+/// A page of the description, made in an arena of its own.
+pub(crate) fn rendered<A: Allocator + Copy, B: Allocator>(
+    alloc: A,
+    global: Global,
+    page: &Page<'_, B>,
+    description: &Description<'_>,
+) -> Result<String<A>, Fault>
+    ensures page { IfOk result (λ made.
+        IsPage (page_said page.now) (description_said description.now) (string_bytes made)) }
+    ensures unmade { IfErr result (IsUnmade (page_said page.now) (description_said description.now)) }
+{
+    let arena = Bump::new(global);
+    rendered_in(alloc, &arena, global, page, description)
+}
+
+#[tactic(auto, using(crate::proofs::Led::web_unmade))]
+fn rendered_in<'p, 'a: 'p, A: Allocator + Copy, B: Allocator>(
+    alloc: A,
+    arena: &'p Bump,
+    global: Global,
+    page: &Page<'_, B>,
+    description: &'p Description<'a>,
+) -> Result<String<A>, Fault>
+    ensures page { IfOk result (λ made.
+        IsPage (page_said page.now) (description_said description.now) (string_bytes made)) }
+    ensures unmade { IfErr result (IsUnmade (page_said page.now) (description_said description.now)) }
+{
+    match page {
+        Page::Console(console) => on_console(alloc, arena, global, console, description),
+        Page::Html => Ok(description.page(alloc)?),
+        Page::Markdown { commands, depth } => {
+            in_markdown(alloc, arena, global, commands, *depth, description)
+        }
+        Page::Man {
+            commands,
+            depth,
+            title,
+        } => as_manual(alloc, arena, global, commands, *depth, *title, description),
+    }
+}
+
+// ---- levels
+
+// The level that commands lead to.
+#[tactic(auto, using(crate::proofs::Led::led_on, crate::proofs::Led::led_nowhere, crate::proofs::Led::lost))]
+fn level_at<'p, 'a: 'p>(
+    arena: &'p Bump,
+    global: Global,
+    commands: &[&str],
+    description: &'p Description<'a>,
+) -> Result<LevelSubject<'p, 'a, Global>, Fault>
+    ensures ok { IfOk result (λ level.
+        level_at (names_said commands.now) (description_said description.now) ≡ Some (subject_of level)) }
+    ensures lost { IfErr result (IsLost (names_said commands.now) (description_said description.now)) }
+{
+    let mut level = application(arena, description)?;
+    for command in commands {
+        match enter(arena, level, *command)? {
+            Some(found) => level = found,
+            None => return Err(no_command(global, *command, level.names)?),
+        }
+    }
+    Ok(level)
+}
+
+// The fault of a command that is not there.
+fn no_command(global: Global, command: &str, names: &[&str]) -> Result<Fault, AllocError>
+    ensures { IfOk result IsNoCommand }
+{
+    let path = names.join(global, " ")?;
+    let name = String::from_str(global, command)?;
+    Ok(Fault::NoCommand { name, path })
+}
+
+// ---- on the console
+
+#[tactic(auto, using(crate::proofs::Led::unwritten, crate::proofs::Led::lost_unmade, crate::proofs::Made::a_console_page))]
+fn on_console<'p, 'a: 'p, A: Allocator + Copy, B: Allocator>(
+    alloc: A,
+    arena: &'p Bump,
+    global: Global,
+    console: &Console<'_, B>,
+    description: &'p Description<'a>,
+) -> Result<String<A>, Fault>
+    ensures page { IfOk result (λ made.
+        IsPage (console_said console.now) (description_said description.now) (string_bytes made)) }
+    ensures unmade { IfErr result (IsUnmade (console_said console.now) (description_said description.now)) }
+{
+    let level = level_at(arena, global, &console.commands, description)?;
+    let page = console_page_of(
+        alloc,
+        arena,
+        console.form,
+        console.width,
+        &description.words,
+        level,
+    )?;
+    Ok(page)
+}
+
+// ---- manual pages
+
+#[tactic(auto, using(crate::proofs::Led::unwritten, crate::proofs::Led::lost_unmade, crate::proofs::Made::a_manual))]
+fn as_manual<'p, 'a: 'p, A: Allocator + Copy>(
+    alloc: A,
+    arena: &'p Bump,
+    global: Global,
+    commands: &[&str],
+    depth: Depth,
+    given: TitleGiven<'_>,
+    description: &'p Description<'a>,
+) -> Result<String<A>, Fault>
+    ensures page { IfOk result (λ made. IsPage (man (names_said commands.now) depth (title_said given.entry))
+        (description_said description.now) (string_bytes made)) }
+    ensures unmade { IfErr result (IsUnmade (man (names_said commands.now) depth (title_said given.entry))
+        (description_said description.now)) }
+{
+    let level = level_at(arena, global, commands, description)?;
+    let page = manual_page_of(alloc, arena, description, depth, given, level)?;
+    Ok(page)
+}
+
+// ---- markdown
+
+#[tactic(auto, using(crate::proofs::Led::unwritten, crate::proofs::Led::lost_unmade, crate::proofs::Made::a_markdown))]
+fn in_markdown<'p, 'a: 'p, A: Allocator + Copy>(
+    alloc: A,
+    arena: &'p Bump,
+    global: Global,
+    commands: &[&str],
+    depth: Depth,
+    description: &'p Description<'a>,
+) -> Result<String<A>, Fault>
+    ensures page { IfOk result (λ made. IsPage (markdown (names_said commands.now) depth)
+        (description_said description.now) (string_bytes made)) }
+    ensures unmade { IfErr result (IsUnmade (markdown (names_said commands.now) depth)
+        (description_said description.now)) }
+{
+    let level = level_at(arena, global, commands, description)?;
+    let page = markdown_page_of(alloc, arena, &description.words, depth, level)?;
+    Ok(page)
+}

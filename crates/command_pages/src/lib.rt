@@ -1,0 +1,16 @@
+//! The pages of the levels of a command line: of the application that a description describes, and of its commands.
+#![tactic(auto)]
+
+pub use console::console_page_of;
+pub use description_pages::{Depth, LevelSubject};
+pub use given::{ConsoleForm, TitleGiven};
+pub use levels::application;
+pub use manuals::manual_page_of;
+pub use markdown::markdown_page_of;
+pub use page_model::PageFault;
+
+pub mod console;
+pub mod given;
+pub mod levels;
+pub mod manuals;
+pub mod markdown;
