@@ -4,6 +4,7 @@ pub mod Texts
 pub mod Nodes
 pub mod Readings
 pub mod Settles
+pub mod White
 pub mod Pages
 pub mod Held
 pub mod Starts

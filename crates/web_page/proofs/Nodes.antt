@@ -26,6 +26,16 @@ or_swap a = grind arith
 
 -- ---- nodes behind nodes
 
+pub joined-none : (nodes : Nodes) → joined nodes none ≡ nodes
+joined-none none = refl
+joined-none (text bytes rest) = ap (text bytes) (joined-none rest)
+joined-none (element tag given content rest) = ap (element tag given content) (joined-none rest)
+
+pub joined-assoc : (nodes more last : Nodes) → joined (joined nodes more) last ≡ joined nodes (joined more last)
+joined-assoc none more last = refl
+joined-assoc (text bytes rest) more last = ap (text bytes) (joined-assoc rest more last)
+joined-assoc (element tag given content rest) more last = ap (element tag given content) (joined-assoc rest more last)
+
 pub last_child-joined : (before : Option Child) (nodes more : Nodes) → last_child before (joined nodes more) ≡ last_child (last_child before nodes) more
 last_child-joined before none more = refl
 last_child-joined before (text bytes rest) more = last_child-joined (Some Words) rest more

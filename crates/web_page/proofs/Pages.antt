@@ -2,15 +2,16 @@
 use Rattle.std.proofs.Common.{◌≡◌, ℕ, true, false, List, [], ◌∷◌, ◌++◌, refl, ◌∙◌, arith}
 use Rattle.std.specs.Prelude.{Some, None, codes}
 use Rattle.std.specs.List.{list_any, list_all}
-use Rattle.std.specs.Str.{IsUtf8, chars}
+use Rattle.std.specs.Str.{IsUtf8}
+use Rattle.std.proofs.lemmas.Bool.{and_from, and_parts}
 use Rattle.std.proofs.lemmas.Str.{is_utf8-from_IsUtf8}
 use Rattle.web_page.specs.Tree.{Attribute, Nodes, none, element}
-use Rattle.web_page.specs.Reader.{Draft, Frame, Opening, Reading, Content, Raw, RawSign, Value, are_kept, begin, is_kept, is_permitted, no_draft, read, reading, reading_of, settled}
-use Rattle.web_page.specs.Models.{IsPage, are_fit, are_in_order, is_ink, is_language, last_child, may_end}
-use Rattle.web_page.specs.Calls.{are_written, attribute, has_end_sign, new_page, text_element, whole_page, with_end_in, with_words}
+use Rattle.web_page.specs.Reader.{Draft, Frame, Opening, Reading, Content, Raw, RawSign, Value, are_kept, begin, is_kept, no_draft, read, reading, reading_of, settled}
+use Rattle.web_page.specs.Models.{IsPage, ReadsAs, are_fit, are_in_order, begins_with_encoding, empty_body, is_ink, is_language, last_child, may_end, page_of}
+use Rattle.web_page.specs.Calls.{are_written, attribute, has_end_sign, head_content, new_page, text_element, with_end_in, with_words}
 use Rattle.web_page.specs.Exact.{escaped, page_end, page_front}
 use Rattle.web_page.proofs.Nodes.{are_fit-with_words, are_in_order-with_words, are_kept-with_words, has_ink-with_words}
-use Rattle.web_page.proofs.Readings.{end_reads, run, run_then, style_reads, text_reads, value_reads}
+use Rattle.web_page.proofs.Readings.{end_reads, end_settles, run, run_then, style_reads, text_reads, value_reads}
 use Rattle.web_page.proofs.Settles.{settles}
 use Rattle.web_page.proofs.Texts.{IsClean, clean-append, clean-ascii, clean-escaped, clean-plain}
 use Rattle.web_page.specs.declared.elements.Tag.{Tag}
@@ -103,20 +104,40 @@ clean_front language title style a b c d e f =
 
 -- ---- the end
 
--- a body in a page
-abbrev pub body_draft : List ℕ → List ℕ → List ℕ → Nodes → Draft
-body_draft language title style nodes = record { open_elements = (new_page language title style).open_elements; nodes = nodes }
+-- a page whose body is open, with these nodes in it
+abbrev pub body_of : List ℕ → Nodes → Nodes → Draft
+body_of language head nodes = record { open_elements = (empty_body language head).open_elements; nodes = nodes }
 
-pub end_of_page : (language title style : List ℕ) (nodes : Nodes) → are_in_order Body None nodes ≡ true → are_kept nodes ≡ true
-    → run (reading Content (Some (body_draft language title style nodes))) page_end ≡ reading Content (Some (record { open_elements = []; nodes = whole_page (body_draft language title style nodes) }))
-end_of_page language title style nodes o k = grind (arith, run_then (reading Content (Some (body_draft language title style nodes))), end_reads, settles Body nodes o k, end_reads (html_frame language))
+end_of_page : (language : List ℕ) (head found nodes : Nodes) → settled Body found ≡ Some nodes
+    → run (reading Content (Some (body_of language head found))) page_end ≡ reading Content (Some (record { open_elements = []; nodes = page_of language head nodes }))
+end_of_page language head found nodes s = grind (arith, run_then (reading Content (Some (body_of language head found))), end_settles, end_reads (html_frame language))
 
-pub is_whole_text : (bytes : List ℕ) (language title style : List ℕ) (nodes : Nodes) → IsUtf8 bytes → list_all is_permitted (chars bytes) ≡ true
-    → reading_of bytes ≡ reading Content (Some (record { open_elements = []; nodes = whole_page (body_draft language title style nodes) }))
-    → read bytes ≡ Some (whole_page (body_draft language title style nodes))
+is_whole_text : (bytes language : List ℕ) (head nodes : Nodes) → IsClean bytes
+    → reading_of bytes ≡ reading Content (Some (record { open_elements = []; nodes = page_of language head nodes }))
+    → read bytes ≡ Some (page_of language head nodes)
 unfolding read
-is_whole_text bytes language title style nodes utf8 permitted reads = rw (is_utf8-from_IsUtf8 bytes utf8, permitted, reads) refl
+is_whole_text bytes language head nodes clean reads = rw (is_utf8-from_IsUtf8 bytes clean.utf8, clean.permitted, reads) refl
 
-pub is_page : (language title style : List ℕ) (nodes : Nodes) → is_language language ≡ true → list_any is_ink title ≡ true
-    → are_in_order Body None nodes ≡ true → are_fit false nodes ≡ true → may_end Body (last_child None nodes) ≡ true → IsPage (whole_page (body_draft language title style nodes))
-is_page language title style nodes is has ordered fit ends = grind (arith, title_in_order, are_fit-with_words, has_ink-with_words, style_in_order)
+is_page : (language : List ℕ) (head nodes : Nodes) → is_language language ≡ true → are_fit false (element Head [] head none) ≡ true → begins_with_encoding head ≡ true
+    → are_in_order Body None nodes ≡ true → are_fit false nodes ≡ true → may_end Body (last_child None nodes) ≡ true → IsPage (page_of language head nodes)
+is_page language head nodes is fit_head encoded ordered fit ends = grind (arith, and_parts, and_from)
+
+pub fit_head : (title style : List ℕ) → list_any is_ink title ≡ true → are_fit false (element Head [] (head_content title style) none) ≡ true
+fit_head title style has = grind (arith, title_in_order, are_fit-with_words, has_ink-with_words, style_in_order)
+
+-- what may be the content of a body
+pub record IsBodyContent (nodes : Nodes) : Type 0 where
+  pub ordered : are_in_order Body None nodes ≡ true
+  pub fit : are_fit false nodes ≡ true
+  pub ends : may_end Body (last_child None nodes) ≡ true
+  pub kept : are_kept nodes ≡ true
+
+-- a text that is read up to the end of the content of a body, which comes to these nodes, and the end of the page
+pub page_reads : (bytes language : List ℕ) (head found nodes : Nodes) → IsClean bytes → reading_of bytes ≡ reading Content (Some (body_of language head found)) → settled Body found ≡ Some nodes
+    → is_language language ≡ true → are_fit false (element Head [] head none) ≡ true → begins_with_encoding head ≡ true → IsBodyContent nodes → ReadsAs (bytes ++ page_end) (page_of language head nodes)
+unfolding reading_of
+page_reads bytes language head found nodes clean reads settles_so is fit_head encoded content = record {
+  reads = is_whole_text (bytes ++ page_end) language head nodes (clean-append bytes page_end clean (clean-ascii page_end refl))
+      (run_then begin (reading Content (Some (body_of language head found))) _ bytes page_end reads (end_of_page language head found nodes settles_so));
+  page = is_page language head nodes is fit_head encoded content.ordered content.fit content.ends;
+}

@@ -176,9 +176,13 @@ break_reads draft takes = rw takes refl
 
 -- ---- end tags
 
+pub end_settles : (frame : Frame) (frames : List Frame) (found nodes : Nodes) → settled frame.tag found ≡ Some nodes
+    → run (at_content (record { open_elements = frame ∷ frames; nodes = found })) (end_text frame.tag) ≡ at_content (with_end_in (frame ∷ frames) nodes)
+end_settles frame frames found nodes settles = grind (arith, same_name, run_then, name_behind_slash, name_is_name)
+
 pub end_reads : (frame : Frame) (frames : List Frame) (nodes : Nodes) → settled frame.tag nodes ≡ Some nodes
     → run (at_content (record { open_elements = frame ∷ frames; nodes = nodes })) (end_text frame.tag) ≡ at_content (with_end_in (frame ∷ frames) nodes)
-end_reads frame frames nodes settles = grind (arith, same_name, run_then, name_behind_slash, name_is_name)
+end_reads frame frames nodes settles = end_settles frame frames nodes nodes settles
 
 -- ---- a style
 

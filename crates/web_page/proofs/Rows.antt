@@ -1,5 +1,5 @@
 -- Pages that the reader reads, each with its tree, and texts that it refuses.
-use Rattle.std.specs.Prelude.{◌≡◌, ℕ, true, false, List, [], ◌∷◌, ◌++◌, Option, Some, None, codes}
+use Rattle.std.specs.Prelude.{◌≡◌, ℕ, Bool, true, false, List, [], ◌∷◌, ◌++◌, Option, Some, None, codes}
 use Rattle.std.specs.Str.{chars, is_utf8}
 use lib.Utf8.{encode}
 use Rattle.std.proofs.Common.{refl}
@@ -9,7 +9,7 @@ use Rattle.web_page.specs.declared.elements.Tag.TheVariants.{Html, Head, Meta, T
 use Rattle.web_page.specs.Reader.{read, reading_of}
 use Rattle.web_page.specs.Models.{are_fit, begins_with_encoding}
 use Rattle.web_page.specs.declared.elements.Level.TheVariants.{One, Two, Three, Four, Five, Six}
-use Rattle.web_page.specs.declared.elements.Element.TheVariants.{Header, Nav, Main, Section, Heading, P, Pre, Ul, Li, Dl, Dt, Dd, Code, Em}
+use Rattle.web_page.specs.declared.elements.Element.TheVariants.{Header, Nav, Main, Footer, Section, Heading, P, Pre, Ul, Li, Dl, Dt, Dd, Code, Em}
 
 -- an element without attributes
 abbrev plain : Tag → Nodes → Nodes → Nodes
@@ -69,8 +69,10 @@ reads_1 :
     × (main_of (codes "\n <p>a</p>\n\t<p>b</p> ") ≡ page (plain (Of P) (text (codes "a") none) (plain (Of P) (text (codes "b") none) none)))
     -- so are a carriage return and a form feed there
     × (main_of (13 ∷ 10 ∷ 12 ∷ [] ++ codes "<p>a</p>") ≡ paragraph (text (codes "a") none))
-    -- in lists, and in an item directly
-    × (main_of (codes "<ul> <li> <code>a</code> <ul><li></li></ul> </li> </ul>") ≡ page (plain (Of Ul) (plain (Of Li) (plain (Of Code) (text (codes "a") none) (plain (Of Ul) (plain (Of Li) none none) none)) none) none))
+    -- in lists
+    × (main_of (codes "<ul> <li></li>\n<li></li> </ul>") ≡ page (plain (Of Ul) (plain (Of Li) none (plain (Of Li) none none)) none))
+    -- in an item directly it is text, before a list too
+    × (main_of (codes "<ul><li> <code>a</code> <ul><li>b</li></ul>\n</li></ul>") ≡ page (plain (Of Ul) (plain (Of Li) (text (codes " ") (plain (Of Code) (text (codes "a") none) (text (codes " ") (plain (Of Ul) (plain (Of Li) (text (codes "b") none) none) (text (codes "\n") none))))) none) none))
     -- in a description with blocks
     × (main_of (codes "<dl><dt>t</dt> <dd> <p>a</p> </dd></dl>") ≡ page (plain (Of Dl) (plain (Of Dt) (text (codes "t") none) (plain (Of Dd) (plain (Of P) (text (codes "a") none) none) none)) none))
     -- in one without, it is text
@@ -79,14 +81,14 @@ reads_1 :
     × (main_of (codes "<dl><dt>t</dt><dd> </dd></dl>") ≡ page (plain (Of Dl) (plain (Of Dt) (text (codes "t") none) (plain (Of Dd) (text (codes " ") none) none)) none))
     -- the first newline in a pre is nothing
     × (main_of (codes "<pre>\na\n</pre>") ≡ page (plain (Of Pre) (text (codes "a\n") none) none))
-    -- and the second is text
-    × (main_of (codes "<pre>\n\na</pre>") ≡ page (plain (Of Pre) (text (codes "\na") none) none))
 unfolding read reading_of chars is_utf8 encode
 reads_1 = (refl, refl, refl, refl, refl, refl, refl, refl, refl, refl, refl, refl, refl, refl)
 
 reads_2 :
+    -- and the second is text
+    (main_of (codes "<pre>\n\na</pre>") ≡ page (plain (Of Pre) (text (codes "\na") none) none))
     -- a newline need not be there
-    (main_of (codes "<pre>a</pre><pre></pre>") ≡ page (plain (Of Pre) (text (codes "a") none) (plain (Of Pre) none none)))
+    × (main_of (codes "<pre>a</pre><pre></pre>") ≡ page (plain (Of Pre) (text (codes "a") none) (plain (Of Pre) none none)))
     -- a newline behind another tag in it is text
     × (main_of (codes "<pre><code>\na</code></pre>") ≡ page (plain (Of Pre) (plain (Of Code) (text (codes "\na") none) none) none))
     -- a br has no end
@@ -105,8 +107,10 @@ reads_2 :
     × (read (codes "<!DOCTYPE html>\n<html lang=\"en\"></html>\n") ≡ Some (element Html (attribute (codes "lang") (codes "en")) none none))
     -- in a text a form feed counts
     × (main_of (codes "<p>" ++ 12 ∷ [] ++ codes "</p>") ≡ paragraph (text (12 ∷ []) none))
+    -- behind main a footer, with white space between and in it
+    × (read (before_main ++ codes "</main>\n<footer> <p>a</p>\n</footer>\n</body></html>") ≡ Some (whole head (plain (Of Main) none (plain (Of Footer) (plain (Of P) (text (codes "a") none) none) none))))
 unfolding read reading_of chars is_utf8 encode
-reads_2 = (refl, refl, refl, refl, refl, refl, refl, refl, refl, refl)
+reads_2 = (refl, refl, refl, refl, refl, refl, refl, refl, refl, refl, refl, refl)
 
 -- ---- what is refused
 
@@ -155,8 +159,8 @@ refuses_2 :
     × (main_of (codes "<!-- a -->") ≡ None)
     -- a text between elements that stand by themselves
     × (main_of (codes "<p>a</p>b") ≡ None)
-    -- a text directly in an item
-    × (main_of (codes "<ul><li>a</li></ul>") ≡ None)
+    -- a text between items
+    × (main_of (codes "<ul><li>a</li>b</ul>") ≡ None)
     -- a text beside elements that stand by themselves
     × (main_of (codes "<dl><dt>t</dt><dd>a<p>b</p></dd></dl>") ≡ None)
     -- a control character
@@ -200,52 +204,100 @@ refuses_3 = (refl, refl, refl, refl, refl, refl, refl, refl, refl, refl)
 
 -- ---- what the models have and do not have
 
+-- whether a page is as the models have it whose body has this content
+abbrev fits_body : Nodes → Bool
+fits_body body = are_fit false (whole head body)
+
+-- and one with this in its main element
+abbrev fits_main : Nodes → Bool
+fits_main content = fits_body (plain (Of Main) content none)
+
+-- a list of one item with this in it
+abbrev item : Nodes → Nodes
+item content = plain (Of Ul) (plain (Of Li) content none) none
+
 models_1 :
     -- a page with a header and a nav
-    (are_fit false (whole head (plain (Of Header) (plain (Of (Heading One)) (text (codes "a") none) none) (plain (Of Nav) (plain (Of Ul) (plain (Of Li) (plain (Of Code) (text (codes "b") none) none) none) none) (plain (Of Main) none none)))) ≡ true)
+    (fits_body (plain (Of Header) (plain (Of (Heading One)) (text (codes "a") none) none) (plain (Of Nav) (item (plain (Of Code) (text (codes "b") none) none)) (plain (Of Main) none none))) ≡ true)
     -- two terms with two descriptions, and another
-    × (are_fit false (whole head (plain (Of Main) (plain (Of Dl) (plain (Of Dt) (text (codes "a") none) (plain (Of Dt) none (plain (Of Dd) none (plain (Of Dd) (plain (Of P) (text (codes "a") none) none) (plain (Of Dt) none (plain (Of Dd) (text (codes "b") none) none)))))) none) none)) ≡ true)
+    × (fits_main (plain (Of Dl) (plain (Of Dt) (text (codes "a") none) (plain (Of Dt) none (plain (Of Dd) none (plain (Of Dd) (plain (Of P) (text (codes "a") none) none) (plain (Of Dt) none (plain (Of Dd) (text (codes "b") none) none)))))) none) ≡ true)
     -- a section with an id
-    × (are_fit false (whole head (plain (Of Main) (element (Of Section) (attribute (codes "id") (codes "a")) none none) none)) ≡ true)
-    -- no main
-    × (are_fit false (whole head (plain (Of Header) none none)) ≡ false)
-    -- two of them
-    × (are_fit false (whole head (plain (Of Main) none (plain (Of Main) none none))) ≡ false)
-    -- a header behind main
-    × (are_fit false (whole head (plain (Of Main) none (plain (Of Header) none none))) ≡ false)
-    -- a paragraph in a paragraph
-    × (are_fit false (whole head (plain (Of Main) (plain (Of P) (plain (Of P) (text (codes "a") none) none) none) none)) ≡ false)
-    -- a text in the body
-    × (are_fit false (whole head (text (codes "a") (plain (Of Main) none none))) ≡ false)
-    -- a link in a link, at any depth
-    × (are_fit false (whole head (plain (Of Main) (plain (Of P) (element A (attribute (codes "href") []) (plain (Of Em) (element A (attribute (codes "href") []) (text (codes "a") none) none) none) none) none) none)) ≡ false)
-    -- a link without a target
-    × (are_fit false (whole head (plain (Of Main) (plain (Of P) (plain A (text (codes "a") none) none) none) none)) ≡ false)
-    -- an id with white space
-    × (are_fit false (whole head (plain (Of Main) (element (Of Section) (attribute (codes "id") (codes "a b")) none none) none)) ≡ false)
-    -- an empty id
-    × (are_fit false (whole head (plain (Of Main) (element (Of Section) (attribute (codes "id") []) none none) none)) ≡ false)
-    -- an id where there may be none
-    × (are_fit false (whole head (plain (Of Main) (element (Of P) (attribute (codes "id") (codes "a")) (text (codes "a") none) none) none)) ≡ false)
-    -- a list that ends with a term
-    × (are_fit false (whole head (plain (Of Main) (plain (Of Dl) (plain (Of Dt) (text (codes "a") none) none) none) none)) ≡ false)
-models_1 = (refl, refl, refl, refl, refl, refl, refl, refl, refl, refl, refl, refl, refl, refl)
+    × (fits_main (element (Of Section) (attribute (codes "id") (codes "a")) none none) ≡ true)
+    -- headings with ids
+    × (fits_main (element (Of (Heading One)) (attribute (codes "id") (codes "a")) (text (codes "a") none) (element (Of (Heading Six)) (attribute (codes "id") (codes "b")) (text (codes "b") none) none)) ≡ true)
+    -- a heading, and then a list, in a nav
+    × (fits_body (plain (Of Nav) (plain (Of (Heading Two)) (text (codes "a") none) (item (text (codes "b") none))) (plain (Of Main) none none)) ≡ true)
+    -- lists and preformatted text in a header and in a footer
+    × (fits_body (plain (Of Header) (item (text (codes "a") none)) (plain (Of Main) none (plain (Of Footer) (plain (Of Pre) none (item (text (codes "b") none))) none))) ≡ true)
+    -- a text, elements within a line and a break in an item, and then a list
+    × (fits_main (item (text (codes "a") (plain (Of Em) none (plain Br none (text (codes "b") (item (text (codes "c") none))))))) ≡ true)
+    -- a list alone in an item
+    × (fits_main (item (item (text (codes "a") none))) ≡ true)
+models_1 = (refl, refl, refl, refl, refl, refl, refl, refl)
 
 models_2 :
+    -- no main
+    (fits_body (plain (Of Header) none none) ≡ false)
+    -- two of them
+    × (fits_body (plain (Of Main) none (plain (Of Main) none none)) ≡ false)
+    -- a header behind main
+    × (fits_body (plain (Of Main) none (plain (Of Header) none none)) ≡ false)
+    -- a footer before main
+    × (fits_body (plain (Of Footer) none (plain (Of Main) none none)) ≡ false)
+    -- a footer alone
+    × (fits_body (plain (Of Footer) none none) ≡ false)
+    -- two of them
+    × (fits_body (plain (Of Main) none (plain (Of Footer) none (plain (Of Footer) none none))) ≡ false)
+    -- a nav behind the footer
+    × (fits_body (plain (Of Main) none (plain (Of Footer) none (plain (Of Nav) none none))) ≡ false)
+    -- a section in a footer
+    × (fits_body (plain (Of Main) none (plain (Of Footer) (plain (Of Section) none none) none)) ≡ false)
+    -- a footer in main
+    × (fits_main (plain (Of Footer) none none) ≡ false)
+    -- a paragraph in a paragraph
+    × (fits_main (plain (Of P) (plain (Of P) (text (codes "a") none) none) none) ≡ false)
+    -- a text in the body
+    × (fits_body (text (codes "a") (plain (Of Main) none none)) ≡ false)
+models_2 = (refl, refl, refl, refl, refl, refl, refl, refl, refl, refl, refl)
+
+models_3 :
+    -- a link in a link, at any depth
+    (fits_main (plain (Of P) (element A (attribute (codes "href") []) (plain (Of Em) (element A (attribute (codes "href") []) (text (codes "a") none) none) none) none) none) ≡ false)
+    -- a link without a target
+    × (fits_main (plain (Of P) (plain A (text (codes "a") none) none) none) ≡ false)
+    -- an id with white space
+    × (fits_main (element (Of Section) (attribute (codes "id") (codes "a b")) none none) ≡ false)
+    × (fits_main (element (Of (Heading Two)) (attribute (codes "id") (codes "a b")) (text (codes "a") none) none) ≡ false)
+    -- an empty id
+    × (fits_main (element (Of Section) (attribute (codes "id") []) none none) ≡ false)
+    × (fits_main (element (Of (Heading Two)) (attribute (codes "id") []) (text (codes "a") none) none) ≡ false)
+    -- an id where there may be none
+    × (fits_main (element (Of P) (attribute (codes "id") (codes "a")) (text (codes "a") none) none) ≡ false)
+    -- a list that ends with a term
+    × (fits_main (plain (Of Dl) (plain (Of Dt) (text (codes "a") none) none) none) ≡ false)
     -- one that begins with a description
-    (are_fit false (whole head (plain (Of Main) (plain (Of Dl) (plain (Of Dd) (text (codes "a") none) none) none) none)) ≡ false)
+    × (fits_main (plain (Of Dl) (plain (Of Dd) (text (codes "a") none) none) none) ≡ false)
     -- text and a paragraph in one description
-    × (are_fit false (whole head (plain (Of Main) (plain (Of Dl) (plain (Of Dt) none (plain (Of Dd) (plain (Of P) (text (codes "a") none) (plain (Of Em) none none)) none)) none) none)) ≡ false)
+    × (fits_main (plain (Of Dl) (plain (Of Dt) none (plain (Of Dd) (plain (Of P) (text (codes "a") none) (plain (Of Em) none none)) none)) none) ≡ false)
+models_3 = (refl, refl, refl, refl, refl, refl, refl, refl, refl, refl)
+
+models_4 :
     -- an element behind the list in an item
-    × (are_fit false (whole head (plain (Of Main) (plain (Of Ul) (plain (Of Li) (plain (Of Ul) (plain (Of Li) (plain (Of Em) (text (codes "a") none) none) none) (plain (Of Em) none none)) none) none) none)) ≡ false)
+    (fits_main (item (plain (Of Ul) (plain (Of Li) (plain (Of Em) (text (codes "a") none) none) none) (plain (Of Em) none none))) ≡ false)
+    -- a text there, also one of white space
+    × (fits_main (item (plain (Of Ul) (plain (Of Li) (text (codes "a") none) none) (text (codes " ") none))) ≡ false)
+    -- a second list there
+    × (fits_main (item (plain (Of Ul) (plain (Of Li) (text (codes "a") none) none) (item (text (codes "b") none)))) ≡ false)
+    -- a paragraph in an item
+    × (fits_main (item (plain (Of P) (text (codes "a") none) none)) ≡ false)
     -- a paragraph of white space
-    × (are_fit false (whole head (plain (Of Main) (plain (Of P) (text (codes " ") none) none) none)) ≡ false)
+    × (fits_main (plain (Of P) (text (codes " ") none) none) ≡ false)
     -- a list without ink
-    × (are_fit false (whole head (plain (Of Main) (plain (Of Ul) (plain (Of Li) none none) none) none)) ≡ false)
+    × (fits_main (item none) ≡ false)
     -- a paragraph in a list
-    × (are_fit false (whole head (plain (Of Main) (plain (Of Ul) (plain (Of P) (text (codes "a") none) none) none) none)) ≡ false)
+    × (fits_main (plain (Of Ul) (plain (Of P) (text (codes "a") none) none) none) ≡ false)
     -- the head says the encoding first, and one time
     × (begins_with_encoding head ≡ true)
     × (begins_with_encoding (plain Title none (charset none)) ≡ false)
     × (begins_with_encoding (charset (charset none)) ≡ false)
-models_2 = (refl, refl, refl, refl, refl, refl, refl, refl, refl)
+models_4 = (refl, refl, refl, refl, refl, refl, refl, refl, refl, refl)

@@ -8,7 +8,7 @@ use Rattle.web_page.specs.Models.{are_in_order, is_child, is_phrasing, may_hold}
 use Rattle.web_page.proofs.Readings.{each_tag}
 use Rattle.web_page.specs.declared.elements.Child.{Child}
 use Rattle.web_page.specs.declared.elements.Child.TheVariants.{Words, Inner}
-use Rattle.web_page.specs.declared.elements.Element.TheVariants.{Header, Nav, Main, Section, P, Pre, Ul, Li, Dl, Dd}
+use Rattle.web_page.specs.declared.elements.Element.TheVariants.{Header, Nav, Main, Footer, Section, P, Pre, Ul, Dl, Dd}
 use Rattle.web_page.specs.declared.elements.Tag.{Tag}
 use Rattle.web_page.specs.declared.elements.Tag.TheVariants.{Html, Head, Body, Of}
 
@@ -86,9 +86,9 @@ settles Body content o k = loose Body (λ before. refl) None content o
 settles (Of Header) content o k = loose (Of Header) (λ before. refl) None content o
 settles (Of Nav) content o k = loose (Of Nav) (λ before. refl) None content o
 settles (Of Main) content o k = loose (Of Main) (λ before. refl) None content o
+settles (Of Footer) content o k = loose (Of Footer) (λ before. refl) None content o
 settles (Of Section) content o k = loose (Of Section) (λ before. refl) None content o
 settles (Of Ul) content o k = loose (Of Ul) (λ before. refl) None content o
-settles (Of Li) content o k = loose (Of Li) (λ before. refl) None content o
 settles (Of Dl) content o k = loose (Of Dl) (λ before. refl) None content o
 settles (Of Dd) content o k = description content o k
 settles x content o k = tight content k

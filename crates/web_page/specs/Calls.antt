@@ -2,6 +2,7 @@
 use Rattle.std.specs.Prelude.{◌≡◌, ℕ, Bool, true, false, not, ◌&&◌, ◌||◌, ◌==◌, List, [], ◌∷◌, Option, Some, None, Result, Err, IfErr, fold, codes, alloc_error}
 use Rattle.std.specs.List.{list_any, list_all}
 use Rattle.std.specs.Str.{chars}
+use Rattle.std.specs.Result.{IsOk}
 use Rattle.web_page.specs.Tree.{Attribute, Nodes, none, element, is_tag}
 use Rattle.web_page.specs.Reader.{Frame, Draft, is_control, is_noncharacter, with_byte, with_element}
 use Rattle.web_page.specs.Models.{fits_attributes, has_ink, is_ink, is_language, last_child, may_end, may_hold, wants_ink}
@@ -149,3 +150,8 @@ finish_fault draft =
 abbrev pub FailsOnlyBy : {T : Type 0} → Option PageError → Result T PageError → Type 0
 FailsOnlyBy (Some fault) result = result ≡ Err fault
 FailsOnlyBy None result = IfErr result (λ error. error ≡ errors.Refused alloc_error)
+
+-- one that takes no memory fails with its fault where it has one, and else not
+abbrev pub FailsJustBy : {T : Type 0} → Option PageError → Result T PageError → Type 0
+FailsJustBy (Some fault) result = result ≡ Err fault
+FailsJustBy None result = IsOk result

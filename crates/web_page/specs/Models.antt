@@ -1,16 +1,16 @@
 -- What each element may hold, and with which attributes.
-use Rattle.std.specs.Prelude.{◌≡◌, ℕ, Bool, true, false, not, ◌&&◌, ◌||◌, ◌==◌, nat_le, List, [], ◌∷◌, Option, Some, None, is_none, length, codes}
+use Rattle.std.specs.Prelude.{◌≡◌, ℕ, Bool, true, false, not, ◌&&◌, ◌||◌, ◌==◌, nat_le, List, [], ◌∷◌, ◌++◌, Option, Some, None, is_none, length, codes}
 use Rattle.std.specs.List.{list_any, list_all}
 use Rattle.std.specs.Str.{bytes_eq}
 use Rattle.web_page.specs.Tree.{Attribute, Nodes, none, text, element, is_tag}
 use Rattle.web_page.specs.declared.elements.Tag.{Tag}
 use Rattle.web_page.specs.declared.elements.Tag.TheVariants.{Html, Head, Meta, Title, Style, Body, Br, A, Of}
-use Rattle.web_page.specs.Reader.{is_white, is_whole, read}
+use Rattle.web_page.specs.Reader.{Draft, Content, is_text, is_white, is_whole, read, reading, reading_of}
 use Rattle.web_page.specs.declared.elements.Element.{Element}
 use Rattle.web_page.specs.declared.elements.Child.{Child}
 use Rattle.web_page.specs.declared.elements.Child.TheVariants.{Words, Inner}
 use Rattle.web_page.specs.declared.elements.Level.TheVariants.{One}
-use Rattle.web_page.specs.declared.elements.Element.TheVariants.{Header, Nav, Main, Section, Heading, P, Pre, Ul, Li, Dl, Dt, Dd, Code, Strong, Em, Var}
+use Rattle.web_page.specs.declared.elements.Element.TheVariants.{Header, Nav, Main, Footer, Section, Heading, P, Pre, Ul, Li, Dl, Dt, Dd, Code, Strong, Em, Var}
 
 -- ---- what stands behind what
 
@@ -38,21 +38,20 @@ is_behind test (Some before) = test before
 
 -- whether a child may stand in an element of the body, behind this child or, at None, as the first one
 abbrev pub element_may_hold : Element → Option Child → Child → Bool
--- headings and paragraphs
-element_may_hold Header before child = is_child (Of (Heading One) ∷ Of P ∷ []) child
 -- headings, paragraphs, preformatted text, lists
+element_may_hold Header before child = is_flow child
 element_may_hold Nav before child = is_flow child
 element_may_hold Main before child = is_flow child || is_child (Of Section ∷ []) child
+element_may_hold Footer before child = is_flow child
 element_may_hold Section before child = is_flow child || is_child (Of Section ∷ []) child
 element_may_hold (Heading level) before child = is_phrasing child
 element_may_hold P before child = is_phrasing child
 element_may_hold Pre before child = is_phrasing child
 -- items
 element_may_hold Ul before child = is_child (Of Li ∷ []) child
--- elements within a line, and behind them at most one list
+-- what stands within a line, and behind it at most one list
 element_may_hold Li before child =
-    not (is_words child) && not (is_behind (is_child (Of Ul ∷ [])) before)
-    && (is_phrasing child || is_child (Of Ul ∷ []) child)
+    not (is_behind (is_child (Of Ul ∷ [])) before) && (is_phrasing child || is_child (Of Ul ∷ []) child)
 -- a term first, and then terms and descriptions
 element_may_hold Dl before child = is_child (Of Dt ∷ []) child || (is_child (Of Dd ∷ []) child && not (is_none before))
 element_may_hold Dt before child = is_phrasing child
@@ -79,11 +78,12 @@ may_hold Head before child =
 may_hold Meta before child = false
 may_hold Title before child = is_words child
 may_hold Style before child = is_words child
--- at most one header, then at most one nav, then one main
+-- at most one header, then at most one nav, then one main, then at most one footer
 may_hold Body before child =
     (is_child (Of Header ∷ []) child && is_none before)
     || (is_child (Of Nav ∷ []) child && (is_none before || is_behind (is_child (Of Header ∷ [])) before))
     || (is_child (Of Main ∷ []) child && (is_none before || is_behind (is_child (Of Header ∷ Of Nav ∷ [])) before))
+    || (is_child (Of Footer ∷ []) child && is_behind (is_child (Of Main ∷ [])) before)
 may_hold Br before child = false
 may_hold A before child = is_phrasing child
 may_hold (Of e) before child = element_may_hold e before child
@@ -92,7 +92,7 @@ may_hold (Of e) before child = element_may_hold e before child
 abbrev pub may_end : Tag → Option Child → Bool
 may_end Html last = is_behind (is_child (Body ∷ [])) last
 may_end Head last = is_behind (is_child (Style ∷ [])) last
-may_end Body last = is_behind (is_child (Of Main ∷ [])) last
+may_end Body last = is_behind (is_child (Of Main ∷ Of Footer ∷ [])) last
 may_end (Of Dl) last = is_behind (is_child (Of Dd ∷ [])) last
 may_end _ last = true
 
@@ -164,12 +164,13 @@ is_meta (first ∷ second ∷ []) =
     && bytes_eq second.name (codes "content") && bytes_eq second.value (codes "width=device-width")
 is_meta _ = false
 
--- an html element has its language, a link its target; a section and a term may have an id
+-- an html element has its language, a link its target; a section, a heading and a term may have an id
 abbrev pub fits_attributes : Tag → List Attribute → Bool
 fits_attributes Html attributes = is_lone (codes "lang") is_language attributes
 fits_attributes Meta attributes = is_meta attributes
 fits_attributes A attributes = is_lone (codes "href") (λ _. true) attributes
 fits_attributes (Of Section) attributes = is_empty_list attributes || is_lone (codes "id") is_id attributes
+fits_attributes (Of (Heading level)) attributes = is_empty_list attributes || is_lone (codes "id") is_id attributes
 fits_attributes (Of Dt) attributes = is_empty_list attributes || is_lone (codes "id") is_id attributes
 fits_attributes _ attributes = is_empty_list attributes
 
@@ -217,3 +218,38 @@ pub record IsPage (nodes : Nodes) : Type 0 where
 pub record ReadsAs (bytes : List ℕ) (nodes : Nodes) : Type 0 where
   pub reads : read bytes ≡ Some nodes
   pub page : IsPage nodes
+
+-- ---- the content of a body
+
+-- a page in this language, with this in its head and this in its body
+abbrev pub page_of : List ℕ → Nodes → Nodes → Nodes
+page_of language head content =
+    element Html (record { name = codes "lang"; value = language } ∷ [])
+    (element Head [] head (element Body [] content none)) none
+
+-- such a page whose body is open, and empty so far
+abbrev pub empty_body : List ℕ → Nodes → Draft
+empty_body language head = record {
+  open_elements =
+      record { tag = Body; attributes = []; before = element Head [] head none }
+      ∷ record { tag = Html; attributes = record { name = codes "lang"; value = language } ∷ []; before = none }
+      ∷ [];
+  nodes = none;
+}
+
+-- a text that is the front of a page, up to the content of the body: it is read as such a page so far
+pub record IsFront (front language : List ℕ) (head : Nodes) : Type 0 where
+  pub is_text : is_text front ≡ true
+  pub reads : reading_of front ≡ reading Content (Some (empty_body language head))
+  pub is_language : is_language language ≡ true
+  pub fit : are_fit false (element Head [] head none) ≡ true
+  pub encoded : begins_with_encoding head ≡ true
+
+-- A text that is the content of a body. Behind the front of a page, whatever its language and head are and however it is
+-- written, and before the end tags of the body and of html it reads as that page, with these nodes in its body; there may
+-- be white space before and behind it.
+abbrev pub ReadsInBody : List ℕ → Nodes → Type 0
+ReadsInBody bytes nodes =
+    (front language : List ℕ) (head : Nodes) → IsFront front language head
+    → (before behind : List ℕ) → list_all is_white before ≡ true → list_all is_white behind ≡ true
+    → ReadsAs (front ++ (before ++ (bytes ++ (behind ++ codes "</body></html>")))) (page_of language head nodes)

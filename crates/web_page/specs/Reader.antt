@@ -8,7 +8,7 @@ use Rattle.std.specs.Str.{chars, bytes_eq, is_utf8}
 use Rattle.web_page.specs.Tree.{Attribute, Nodes, none, text, element, name_of, tag_of, is_tag}
 use Rattle.web_page.specs.declared.elements.Tag.{Tag}
 use Rattle.web_page.specs.declared.elements.Tag.TheVariants.{Html, Head, Meta, Title, Style, Body, Br, Of}
-use Rattle.web_page.specs.declared.elements.Element.TheVariants.{Header, Nav, Main, Section, P, Pre, Ul, Li, Dl, Dd}
+use Rattle.web_page.specs.declared.elements.Element.TheVariants.{Header, Nav, Main, Footer, Section, P, Pre, Ul, Dl, Dd}
 
 -- ---- characters
 
@@ -27,6 +27,10 @@ is_noncharacter c = (nat_le 0xFDD0 c && nat_le c 0xFDEF) || nat_le 0xFFFE (c % 0
 -- a character that may stand in a page: no noncharacter, and no control character but white space
 abbrev pub is_permitted : ℕ → Bool
 is_permitted c = not (is_noncharacter c) && (is_white c || not (is_control c))
+
+-- UTF-8 of such characters
+abbrev pub is_text : List ℕ → Bool
+is_text bytes = is_utf8 bytes && list_all is_permitted (chars bytes)
 
 -- a byte that can be given back: no carriage return, which readers take for a newline
 abbrev pub is_kept : ℕ → Bool
@@ -105,7 +109,7 @@ has_block (element tag attributes content rest) = is_block tag || has_block rest
 -- whether white space directly in an element with this content is nothing
 abbrev pub is_loose : Tag → Nodes → Bool
 is_loose tag content =
-    list_any (is_tag tag) (Html ∷ Head ∷ Body ∷ Of Header ∷ Of Nav ∷ Of Main ∷ Of Section ∷ Of Ul ∷ Of Li ∷ Of Dl ∷ [])
+    list_any (is_tag tag) (Html ∷ Head ∷ Body ∷ Of Header ∷ Of Nav ∷ Of Main ∷ Of Footer ∷ Of Section ∷ Of Ul ∷ Of Dl ∷ [])
     || (is_tag (Of Dd) tag && has_block content)
 
 -- the elements alone, where each text is white space
@@ -366,5 +370,5 @@ tree_of _ _ = None
 -- element that stands where it may not.
 unfoldable pub read : List ℕ → Option Nodes
 read bytes =
-    if is_utf8 bytes && list_all is_permitted (chars bytes) then tree_of (reading_of bytes).mode (reading_of bytes).draft
+    if is_text bytes then tree_of (reading_of bytes).mode (reading_of bytes).draft
     else None

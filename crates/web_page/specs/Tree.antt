@@ -6,7 +6,7 @@ use Rattle.web_page.specs.declared.elements.Level.TheVariants.{One, Two, Three, 
 use Rattle.web_page.specs.declared.elements.Element.{Element}
 use Rattle.web_page.specs.declared.elements.Tag.{Tag}
 use Rattle.web_page.specs.declared.elements.Tag.TheVariants.{Html, Head, Meta, Title, Style, Body, Br, A, Of}
-use Rattle.web_page.specs.declared.elements.Element.TheVariants.{Header, Nav, Main, Section, Heading, P, Pre, Ul, Li, Dl, Dt, Dd, Code, Strong, Em, Var}
+use Rattle.web_page.specs.declared.elements.Element.TheVariants.{Header, Nav, Main, Footer, Section, Heading, P, Pre, Ul, Li, Dl, Dt, Dd, Code, Strong, Em, Var}
 
 pub record Attribute : Type 0 where
   pub name : List ℕ
@@ -33,6 +33,7 @@ abbrev pub element_name : Element → List ℕ
 element_name Header = codes "header"
 element_name Nav = codes "nav"
 element_name Main = codes "main"
+element_name Footer = codes "footer"
 element_name Section = codes "section"
 element_name (Heading level) = heading_name level
 element_name P = codes "p"
@@ -63,7 +64,7 @@ name_of (Of e) = element_name e
 abbrev pub tags : List Tag
 tags =
     Html ∷ Head ∷ Meta ∷ Title ∷ Style ∷ Body ∷ Br ∷ A
-    ∷ Of Header ∷ Of Nav ∷ Of Main ∷ Of Section
+    ∷ Of Header ∷ Of Nav ∷ Of Main ∷ Of Footer ∷ Of Section
     ∷ Of (Heading One) ∷ Of (Heading Two) ∷ Of (Heading Three) ∷ Of (Heading Four) ∷ Of (Heading Five) ∷ Of (Heading Six)
     ∷ Of P ∷ Of Pre ∷ Of Ul ∷ Of Li ∷ Of Dl ∷ Of Dt ∷ Of Dd
     ∷ Of Code ∷ Of Strong ∷ Of Em ∷ Of Var ∷ []
@@ -77,19 +78,20 @@ abbrev pub element_kind : Element → ℕ
 element_kind Header = 8
 element_kind Nav = 9
 element_kind Main = 10
-element_kind Section = 11
-element_kind (Heading level) = 12
-element_kind P = 13
-element_kind Pre = 14
-element_kind Ul = 15
-element_kind Li = 16
-element_kind Dl = 17
-element_kind Dt = 18
-element_kind Dd = 19
-element_kind Code = 20
-element_kind Strong = 21
-element_kind Em = 22
-element_kind Var = 23
+element_kind Footer = 11
+element_kind Section = 12
+element_kind (Heading level) = 13
+element_kind P = 14
+element_kind Pre = 15
+element_kind Ul = 16
+element_kind Li = 17
+element_kind Dl = 18
+element_kind Dt = 19
+element_kind Dd = 20
+element_kind Code = 21
+element_kind Strong = 22
+element_kind Em = 23
+element_kind Var = 24
 
 abbrev pub kind : Tag → ℕ
 kind Html = 0

@@ -1,10 +1,12 @@
 //! Laws of the definitions that the contracts cite. Each function is a law: it holds where the function is proved, and
 //! calling it does nothing.
 
-ghost use Rattle.std.specs.Prelude.{◌≡◌, ◌++◌, ◌∷◌, [], List, ℕ};
+ghost use Rattle.std.specs.Prelude.{◌≡◌, ◌++◌, ◌∷◌, [], List, ℕ, None};
+ghost use Rattle.std.specs.Str.{IsUtf8};
+ghost use Rattle.web_page.specs.Models.{IsFront};
 ghost use Rattle.web_page.specs.Reader.{Draft, joined};
 ghost use Rattle.web_page.specs.Tree.{Attribute, Nodes, element, none, text};
-ghost use Rattle.web_page.specs.Calls.{with_text, with_words};
+ghost use Rattle.web_page.specs.Calls.{head_content, page_fault, with_text, with_words};
 ghost use Rattle.web_page.specs.declared.elements.Tag.{Tag};
 
 /// A text that is added in two parts is one text, and an empty one is none.
@@ -23,4 +25,11 @@ pub fn texts_stay()
         → with_words (joined nodes (element tag given content none)) (b ∷ bytes)
         ≡ joined nodes (element tag given content (text (b ∷ bytes) none)) }
     ensures behind_text { (before bytes : List ℕ) → with_words (text before none) bytes ≡ text (before ++ bytes) none }
+{}
+
+/// Each page that `Page::new` can begin has a front, behind which the content of a body reads as what it is.
+#[tactic(auto, using(crate::proofs::Fronts::front_is))]
+pub fn pages_have_fronts()
+    ensures { (language title style : List ℕ) → IsUtf8 title → IsUtf8 style → page_fault language title style ≡ None
+        → (front : List ℕ) × IsFront front language (head_content title style) }
 {}

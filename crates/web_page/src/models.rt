@@ -3,7 +3,7 @@
 ghost use Rattle.std.specs.Prelude.{◌≡◌};
 ghost use Rattle.std.specs.List.{list_any};
 ghost use Rattle.web_page.specs.Tree.{is_tag};
-ghost use Rattle.web_page.specs.Models.{element_may_hold, is_behind, is_child, is_flow, is_phrasing, is_words};
+ghost use Rattle.web_page.specs.Models.{element_may_hold, is_behind, is_child, is_flow, is_ink, is_phrasing, is_words};
 ghost use Rattle.web_page.specs.Models.{may_end, may_hold, wants_ink};
 
 use crate::elements::{Child, Element, Level, Tag};
@@ -15,6 +15,8 @@ const HEADER: Tag = Tag::Of(Element::Header);
 const NAV: Tag = Tag::Of(Element::Nav);
 
 const MAIN: Tag = Tag::Of(Element::Main);
+
+const FOOTER: Tag = Tag::Of(Element::Footer);
 
 const SECTION: Tag = Tag::Of(Element::Section);
 
@@ -104,7 +106,7 @@ fn is_behind_phrasing(before: Option<Child>) -> bool
 fn may_item_hold(before: Option<Child>, child: Child) -> bool
     ensures { result ≡ element_may_hold Element.Li before child }
 {
-    !is_words(child) && !is_behind(&[UL], before) && (is_phrasing(child) || is_child(&[UL], child))
+    !is_behind(&[UL], before) && (is_phrasing(child) || is_child(&[UL], child))
 }
 
 fn may_description_hold(before: Option<Child>, child: Child) -> bool
@@ -118,9 +120,10 @@ fn may_element_hold(element: Element, before: Option<Child>, child: Child) -> bo
     ensures { result ≡ element_may_hold element before child }
 {
     match element {
-        Element::Header => is_child(&[HEADING, P], child),
+        Element::Header => is_flow(child),
         Element::Nav => is_flow(child),
         Element::Main => is_flow(child) || is_child(&[SECTION], child),
+        Element::Footer => is_flow(child),
         Element::Section => is_flow(child) || is_child(&[SECTION], child),
         Element::Heading(_) => is_phrasing(child),
         Element::P => is_phrasing(child),
@@ -158,6 +161,7 @@ fn may_body_hold(before: Option<Child>, child: Child) -> bool
     (is_child(&[HEADER], child) && before.is_none())
         || (is_child(&[NAV], child) && (before.is_none() || is_behind(&[HEADER], before)))
         || (is_child(&[MAIN], child) && (before.is_none() || is_behind(&[HEADER, NAV], before)))
+        || (is_child(&[FOOTER], child) && is_behind(&[MAIN], before))
 }
 
 /// Whether a child may stand in an element, behind this child or, at `None`, as the first one.
@@ -184,7 +188,7 @@ pub fn may_end(tag: Tag, last: Option<Child>) -> bool
     match tag {
         Tag::Html => is_behind(&[Tag::Body], last),
         Tag::Head => is_behind(&[Tag::Style], last),
-        Tag::Body => is_behind(&[MAIN], last),
+        Tag::Body => is_behind(&[MAIN, FOOTER], last),
         Tag::Of(Element::Dl) => is_behind(&[DD], last),
         _ => true,
     }
@@ -195,4 +199,18 @@ pub fn wants_ink(tag: Tag) -> bool
     ensures { result ≡ wants_ink tag }
 {
     is_one_of(tag, &[Tag::Title, HEADING, P, UL, DL])
+}
+
+/// A byte that is not white space of HTML.
+pub(crate) fn is_ink(byte: u8) -> bool
+    ensures { result ≡ is_ink byte }
+{
+    !matches!(byte, b'\t' | b'\n' | 12 | b'\r' | b' ')
+}
+
+/// Whether a text is more than white space of HTML: tabs, newlines, form feeds, carriage returns and blanks.
+pub fn has_ink(text: &str) -> bool
+    ensures { result ≡ list_any is_ink text.now }
+{
+    text.as_bytes().iter().any(|byte| is_ink(*byte))
 }

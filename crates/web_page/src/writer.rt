@@ -6,18 +6,18 @@ ghost use Rattle.std.specs.List.{list_any, list_all};
 ghost use Rattle.web_page.specs.Exact.{end_text, page_front, start_text};
 ghost use Rattle.web_page.specs.Reader.{with_element, with_start};
 ghost use Rattle.web_page.specs.Tree.{is_tag, none};
-ghost use Rattle.web_page.specs.Models.{ReadsAs, fits_attributes, is_id, is_ink, may_hold};
+ghost use Rattle.web_page.specs.Models.{ReadsAs, ReadsInBody, fits_attributes, is_id, is_ink, may_hold};
 ghost use Rattle.web_page.specs.Models.{is_language, is_language_byte};
-ghost use Rattle.web_page.specs.Calls.{FailsOnlyBy, are_written, attribute, child_fault, end_fault, finish_fault};
+ghost use Rattle.web_page.specs.Calls.{FailsJustBy, FailsOnlyBy, are_written, attribute, child_fault, end_fault};
 ghost use Rattle.web_page.specs.Calls.{has_end_sign, id_fault, is_link, is_written, link_fault, new_page, page_fault};
-ghost use Rattle.web_page.specs.Calls.{text_fault, whole_page, with_end, with_text};
+ghost use Rattle.web_page.specs.Calls.{finish_fault, text_fault, whole_page, with_end, with_text};
 ghost use Rattle.web_page.specs.Steps.Bytes.{is_written_byte};
 ghost use Rattle.web_page.specs.Steps.Open.{attributes_of, behind_child, behind_text, checked, ends, inked, may_give};
 ghost use Rattle.web_page.specs.Steps.Open.{opened};
 
 use crate::elements::{Child, Element, Tag};
 use crate::errors::PageError;
-use crate::models;
+use crate::models::{self, has_ink, is_ink};
 use crate::output::{Key, Piece, write, write_end, write_start};
 use std::alloc::{AllocError, Allocator, Global};
 use std::marker::Model;
@@ -36,6 +36,8 @@ struct Open {
 #[derive(Drop)]
 pub struct Page<A: Allocator = Global> {
     text: String<A>,
+    // Where in it the content of the body begins.
+    content_at: usize,
     innermost: Open,
     outer: Vec<Open, A>,
 }
@@ -52,25 +54,12 @@ impl<A: Allocator> Model for Page<A> {
 
     ghost view = { λ p. draft_of (string_bytes p.text) };
 
-    ghost invariant = { λ p. IsOngoing (string_bytes p.text) p.innermost (reverse p.outer.items) };
+    ghost invariant = { λ p. IsOngoing (string_bytes p.text) p.content_at p.innermost (reverse p.outer.items) };
 }
 
 // From the end of the start tag of html to the title.
 const HEAD: &str =
     "\"><head><meta charset=\"utf-8\"><meta name=\"viewport\" content=\"width=device-width\"><title>";
-
-// A byte that is not white space.
-fn is_ink(byte: u8) -> bool
-    ensures { result ≡ is_ink byte }
-{
-    !matches!(byte, b'\t' | b'\n' | 12 | b'\r' | b' ')
-}
-
-fn has_ink(text: &str) -> bool
-    ensures { result ≡ list_any is_ink text.now }
-{
-    text.as_bytes().iter().any(|byte| is_ink(*byte))
-}
 
 // A character that every reader gives back.
 fn is_written(character: char) -> bool
@@ -232,6 +221,7 @@ fn takes_id(element: Element, id: &str) -> bool
 {
     match element {
         Element::Section => is_id(id),
+        Element::Heading(_) => is_id(id),
         Element::Dt => is_id(id),
         _ => false,
     }
@@ -307,8 +297,10 @@ impl<A: Allocator> Page<A> {
     {
         check_page(language, title, style)?;
         let text = front(alloc, language, title, style)?;
+        let content_at = text.len();
         Ok(Page {
             text,
+            content_at,
             innermost: body(),
             outer: Vec::new(alloc),
         })
@@ -343,7 +335,7 @@ impl<A: Allocator> Page<A> {
         self.start_tag(Tag::Of(element), Key::Nothing, "")
     }
 
-    /// Starts a section or a term with an id.
+    /// Starts a section, a heading or a term with an id.
     ///
     /// `Id` comes where the element takes no id, or the id is empty or has white space, `Character` where it has a
     /// character that no reader gives back, and else the errors of `start`. After an error the page is as before.
@@ -465,6 +457,23 @@ impl<A: Allocator> Page<A> {
         }
         let mut text = self.text;
         write(&mut text, &[Piece::Plain("</body></html>")])?;
+        Ok(text)
+    }
+
+    /// The text of the content of the body alone, to be put into another page. Behind the front of any page, whatever
+    /// its language and its head are, and before the end of that page a reader of HTML reads it as what was said.
+    ///
+    /// `Misplaced` comes where an element of the body is open, or the body has no main element. The page is then given
+    /// up. No memory is taken.
+    pub fn finish_body(self) -> Result<String<A>, PageError>
+        ensures reads { IfOk result (λ text. ReadsInBody (string_bytes text) self.nodes) }
+        ensures fails { FailsJustBy (finish_fault self) result }
+    {
+        if !is_empty(&self.outer) || !may_end(self.innermost) {
+            return Err(PageError::Misplaced);
+        }
+        let mut text = self.text;
+        text.replace_range(..self.content_at, "")?;
         Ok(text)
     }
 }

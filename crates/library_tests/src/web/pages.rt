@@ -5,11 +5,11 @@ use std::alloc::Global;
 use std::process::Abort;
 use std::test::Fail;
 use web_page::Element::{
-    Code, Dd, Dl, Dt, Em, Header, Heading, Li, Main, Nav, P, Pre, Section, Ul,
+    Code, Dd, Dl, Dt, Em, Footer, Header, Heading, Li, Main, Nav, P, Pre, Section, Ul,
 };
 use web_page::{Level, Page, PageError};
 
-const ROWS: [(&[Step], &str); 8] = [
+const ROWS: [(&[Step], &str); 12] = [
     (&[Start(Main), End], "<main></main>"),
     (
         &[
@@ -117,10 +117,101 @@ const ROWS: [(&[Step], &str); 8] = [
         ],
         "<main><p><a href=\"#a:b&amp;&quot;é\">c</a></p></main>",
     ),
+    (
+        &[
+            Start(Main),
+            End,
+            Start(Footer),
+            Start(Heading(Level::Two)),
+            Text("f"),
+            End,
+            Start(Pre),
+            Text("p"),
+            End,
+            Start(Dl),
+            Start(Dt),
+            Text("t"),
+            End,
+            Start(Dd),
+            End,
+            End,
+            End,
+        ],
+        "<main></main><footer><h2>f</h2><pre>\np</pre><dl><dt>t</dt><dd></dd></dl></footer>",
+    ),
+    (
+        &[
+            Start(Header),
+            StartWithId(Heading(Level::One), "a"),
+            Text("A"),
+            End,
+            Start(Ul),
+            Start(Li),
+            Text("l"),
+            End,
+            End,
+            End,
+            Start(Nav),
+            Start(Heading(Level::Two)),
+            Text("N"),
+            End,
+            End,
+            Start(Main),
+            StartWithId(Heading(Level::Six), "b:::c"),
+            Text("B"),
+            End,
+            End,
+        ],
+        "<header><h1 id=\"a\">A</h1><ul><li>l</li></ul></header><nav><h2>N</h2></nav><main><h6 id=\"b:::c\">B</h6></main>",
+    ),
+    (
+        &[
+            Start(Main),
+            Start(Ul),
+            Start(Li),
+            Text(" a & "),
+            Start(Em),
+            Text("b"),
+            End,
+            LineBreak,
+            Text("c"),
+            Start(Ul),
+            Start(Li),
+            Text("d"),
+            End,
+            End,
+            End,
+            End,
+            End,
+        ],
+        "<main><ul><li> a &amp; <em>b</em><br>c<ul><li>d</li></ul></li></ul></main>",
+    ),
+    (
+        &[
+            Start(Main),
+            Start(Ul),
+            Start(Li),
+            End,
+            Start(Li),
+            Text("\n"),
+            Start(Ul),
+            Start(Li),
+            StartLink("a"),
+            Text("b"),
+            End,
+            Text(" "),
+            End,
+            End,
+            End,
+            End,
+            End,
+        ],
+        "<main><ul><li></li><li>\n<ul><li><a href=\"a\">b</a> </li></ul></li></ul></main>",
+    ),
 ];
 
 // Calls, and one behind them that has the fault.
-const FAULTS: [(&[Step], Step, PageError); 19] = [
+const FAULTS: [(&[Step], Step, PageError); 28] = [
     (&[], Text("a"), PageError::Misplaced),
     (&[Start(Header), End], Start(Header), PageError::Misplaced),
     (&[Start(Main), Start(P)], Start(P), PageError::Misplaced),
@@ -136,9 +227,35 @@ const FAULTS: [(&[Step], Step, PageError); 19] = [
         Start(P),
         PageError::Misplaced,
     ),
+    (&[], Start(Footer), PageError::Misplaced),
+    (&[Start(Header), End], Start(Footer), PageError::Misplaced),
+    (
+        &[Start(Main), End, Start(Footer), End],
+        Start(Footer),
+        PageError::Misplaced,
+    ),
+    (
+        &[Start(Main), End, Start(Footer)],
+        Start(Section),
+        PageError::Misplaced,
+    ),
     (
         &[Start(Main), Start(Ul), Start(Li)],
-        Text("a"),
+        Start(P),
+        PageError::Misplaced,
+    ),
+    (
+        &[
+            Start(Main),
+            Start(Ul),
+            Start(Li),
+            Start(Ul),
+            Start(Li),
+            Text("a"),
+            End,
+            End,
+        ],
+        Text(" "),
         PageError::Misplaced,
     ),
     (
@@ -176,6 +293,26 @@ const FAULTS: [(&[Step], Step, PageError); 19] = [
     ),
     (&[Start(Main)], StartWithId(Section, "a b"), PageError::Id),
     (&[Start(Main)], StartWithId(P, "a"), PageError::Id),
+    (
+        &[Start(Main)],
+        StartWithId(Heading(Level::Two), ""),
+        PageError::Id,
+    ),
+    (
+        &[Start(Main)],
+        StartWithId(Heading(Level::Two), "a\tb"),
+        PageError::Id,
+    ),
+    (
+        &[Start(Main)],
+        StartWithId(Heading(Level::Two), "\u{1}"),
+        PageError::Character,
+    ),
+    (
+        &[Start(Main), End, Start(Footer)],
+        StartWithId(Ul, "a"),
+        PageError::Id,
+    ),
 ];
 
 fn begun(alloc: Global, steps: &[Step]) -> Result<Page, PageError> {
@@ -192,6 +329,14 @@ fn pages_are_written_so(rt: HostRuntime) -> Result<(), Fail> {
         let page = begun(rt.alloc(), steps)?;
         let expected = format!(in rt.alloc(); "{FRONT}{body}{END}")?;
         assert_eq!(rt; page.finish()?.as_str(), expected.as_str());
+    }
+    Ok(())
+}
+
+#[test]
+fn a_body_alone_is_written_so(rt: HostRuntime) -> Result<(), Fail> {
+    for (steps, body) in ROWS {
+        assert_eq!(rt; begun(rt.alloc(), steps)?.finish_body()?.as_str(), body);
     }
     Ok(())
 }
@@ -222,5 +367,8 @@ fn a_page_needs_its_head_and_a_main(rt: HostRuntime) -> Result<(), Fail> {
     page.start(Main)?;
     assert!(rt; page.finish().err() == Some(PageError::Misplaced));
     assert!(rt; new(rt.alloc())?.finish().err() == Some(PageError::Misplaced));
+    assert!(rt; new(rt.alloc())?.finish_body().err() == Some(PageError::Misplaced));
+    let open = begun(rt.alloc(), &[Start(Main), End, Start(Footer)])?;
+    assert!(rt; open.finish_body().err() == Some(PageError::Misplaced));
     Ok(())
 }

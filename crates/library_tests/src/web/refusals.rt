@@ -7,8 +7,8 @@ use bumpalo::Bump;
 use std::alloc::{AllocError, Allocator};
 use std::process::Abort;
 use std::test::Fail;
-use web_page::Element::{Em, Main, P, Section};
-use web_page::{Page, PageError};
+use web_page::Element::{Em, Footer, Heading, Li, Main, P, Section, Ul};
+use web_page::{Level, Page, PageError};
 
 /// How many bytes an arena has: more than a page of these tests takes.
 const BYTES: usize = 8192;
@@ -23,7 +23,7 @@ struct Row {
     behind: &'static [Step],
 }
 
-const ROWS: [Row; 7] = [
+const ROWS: [Row; 10] = [
     Row {
         before: &[],
         call: Text("b & c"),
@@ -58,6 +58,21 @@ const ROWS: [Row; 7] = [
         before: &[End],
         call: StartWithId(Section, "b"),
         behind: &[End, End],
+    },
+    Row {
+        before: &[End],
+        call: StartWithId(Heading(Level::Two), "b"),
+        behind: &[Text("b"), End, End],
+    },
+    Row {
+        before: &[End, End],
+        call: Start(Footer),
+        behind: &[End],
+    },
+    Row {
+        before: &[End, Start(Ul), Start(Li)],
+        call: Text("b"),
+        behind: &[End, End, End],
     },
 ];
 
@@ -172,5 +187,25 @@ fn a_refused_end_gives_the_page_up(rt: HostRuntime) -> Result<(), Fail> {
         }
     }
     assert!(rt; refusals > 0 && refusals < LENGTHS);
+    Ok(())
+}
+
+#[test]
+fn a_body_alone_takes_no_memory(rt: HostRuntime) -> Result<(), Fail> {
+    let row = &ROWS[0];
+    for length in 0..LENGTHS {
+        let mut ample = begin(rt.alloc(), length, row)?;
+        let arena = roomy(&rt);
+        let mut page = begin(&arena, length, row)?;
+        for step in row.behind {
+            apply(&mut ample, *step)?;
+            apply(&mut page, *step)?;
+        }
+        let _rest = taken(&rt, &arena, 0);
+        assert!(rt;
+            page.finish_body()?.as_str() == ample.finish_body()?.as_str(),
+            "{length}"
+        );
+    }
     Ok(())
 }

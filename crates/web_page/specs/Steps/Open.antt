@@ -1,11 +1,11 @@
 -- What the code keeps of a page: of each open element its tag, the node that is last in it, whether it has ink, and
 -- whether it is in a link.
-use Rattle.std.specs.Prelude.{◌≡◌, ℕ, Bool, true, false, not, ◌||◌, List, [], ◌∷◌, ◌++◌, Option, Some, None, Result, Ok, Err, unwrap_or, ◌&&◌, codes}
+use Rattle.std.specs.Prelude.{◌≡◌, ℕ, length, fold, Bool, true, false, not, ◌||◌, List, [], ◌∷◌, ◌++◌, Option, Some, None, Result, Ok, Err, unwrap_or, ◌&&◌, codes}
 use Rattle.std.specs.List.{list_any, list_all}
-use Rattle.std.specs.Str.{chars}
-use Rattle.web_page.specs.Tree.{Attribute, Nodes, is_tag}
-use Rattle.web_page.specs.Reader.{Frame, Draft, Content, are_kept, is_permitted, no_draft, reading, reading_of}
-use Rattle.web_page.specs.Models.{are_fit, are_in_order, fits_attributes, has_ink, is_ink, is_language, last_child, may_end, wants_ink}
+use Rattle.std.specs.Str.{IsUtf8, chars}
+use Rattle.web_page.specs.Tree.{Attribute, Nodes, is_tag, none}
+use Rattle.web_page.specs.Reader.{Frame, Draft, Content, are_kept, is_permitted, joined, next, no_draft, reading, reading_of}
+use Rattle.web_page.specs.Models.{are_fit, are_in_order, empty_body, fits_attributes, has_ink, is_ink, is_language, last_child, may_end, wants_ink}
 use Rattle.web_page.specs.Calls.{are_written, attribute, is_in_link, may_stand_in, new_page}
 use Rattle.web_page.specs.declared.elements.Child.TheVariants.{Words, Inner}
 use Rattle.web_page.specs.declared.elements.Tag.{Tag}
@@ -44,12 +44,43 @@ AreOpen here (outer ∷ outers) (frame ∷ frames) nodes =
     × (may_stand_in frames frame.before (Inner frame.tag) ≡ true)
     × AreOpen outer outers frames frame.before
 
--- a text that reads as an open page
-pub record IsOngoing (bytes : List ℕ) (here : Open) (outers : List Open) : Type 0 where
+-- open elements in this body, behind these nodes, in place of the outermost two
+abbrev pub moved : Nodes → List Frame → List Frame → List Frame
+moved before body (frame ∷ outer ∷ outermost ∷ []) = record frame { before = joined before frame.before } ∷ body
+moved before body (frame ∷ outer ∷ outermost ∷ around ∷ frames) = frame ∷ moved before body (outer ∷ outermost ∷ around ∷ frames)
+moved before body frames = body
+
+-- the nodes in the innermost of them
+abbrev pub moved_nodes : Nodes → List Frame → Nodes → Nodes
+moved_nodes before (frame ∷ outer ∷ outermost ∷ frames) nodes = nodes
+moved_nodes before frames nodes = joined before nodes
+
+-- what is in the body so far, behind these nodes in the body of a page with another head
+abbrev pub in_page : List ℕ → Nodes → Nodes → Draft → Draft
+in_page language head before draft = record {
+  open_elements = moved before (empty_body language head).open_elements draft.open_elements;
+  nodes = moved_nodes before draft.open_elements draft.nodes;
+}
+
+-- behind so many bytes of a text stands what reads so in the body of each page
+pub record IsContent (bytes : List ℕ) (at : ℕ) (draft : Draft) : Type 0 where
+  pub front : List ℕ
+  pub content : List ℕ
+  pub split : bytes ≡ front ++ content
+  pub begins : length front ≡ at
+  pub utf8 : IsUtf8 content
+  pub permitted : list_all is_permitted (chars content) ≡ true
+  pub reads : (language : List ℕ) (head before : Nodes)
+      → fold next (reading Content (Some (record (empty_body language head) { nodes = joined before none }))) content
+      ≡ reading Content (Some (in_page language head before draft))
+
+-- a text that reads as an open page, with the content of its body behind so many bytes
+pub record IsOngoing (bytes : List ℕ) (at : ℕ) (here : Open) (outers : List Open) : Type 0 where
   pub draft : Draft
   pub reads : reading_of bytes ≡ reading Content (Some draft)
   pub permitted : list_all is_permitted (chars bytes) ≡ true
   pub are_open : AreOpen here outers draft.open_elements draft.nodes
+  pub content : IsContent bytes at draft
 
 -- the page that a text reads as so far
 abbrev pub draft_of : List ℕ → Draft

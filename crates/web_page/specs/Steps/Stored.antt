@@ -7,7 +7,7 @@ use base.Stored.{Gv, gnil, gnum, gcons}
 use Rattle.web_page.specs.Tree.{Attribute, Nodes, none, text, element, name_of, tag_of}
 use Rattle.web_page.specs.Reader.{Frame, Draft}
 use Rattle.web_page.specs.declared.elements.Level.TheVariants.{One, Two, Three, Four, Five, Six}
-use Rattle.web_page.specs.declared.elements.Element.TheVariants.{Header, Nav, Main, Section, Heading, P, Pre, Ul, Li, Dl, Dt, Dd, Code, Strong, Em, Var}
+use Rattle.web_page.specs.declared.elements.Element.TheVariants.{Header, Nav, Main, Footer, Section, Heading, P, Pre, Ul, Li, Dl, Dt, Dd, Code, Strong, Em, Var}
 use Rattle.web_page.specs.declared.elements.Tag.{Tag}
 use Rattle.web_page.specs.declared.elements.Tag.TheVariants.{Html, Head, Meta, Title, Style, Body, Br, A, Of}
 
@@ -24,6 +24,7 @@ named A = refl
 named (Of Header) = refl
 named (Of Nav) = refl
 named (Of Main) = refl
+named (Of Footer) = refl
 named (Of Section) = refl
 named (Of (Heading One)) = refl
 named (Of (Heading Two)) = refl

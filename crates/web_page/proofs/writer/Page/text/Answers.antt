@@ -3,10 +3,14 @@ use Rattle.std.specs.Prelude.{alloc_error}
 use Rattle.std.proofs.lemmas.Result.{err_from_is_err_and}
 use Rattle.std.proofs.lemmas.Str.{IsUtf8-string_bytes}
 use Rattle.web_page.specs.Exact.{escaped}
-use Rattle.web_page.proofs.Outcomes.{stands_now, texted, text_placed}
+use Rattle.web_page.proofs.Outcomes.{stands_now, texted, text_misplaced, text_placed}
 use Rattle.web_page.specs.declared.elements.Child.TheVariants.{Words}
 use Rattle.web_page.specs.declared.errors.PageError.TheVariants as errors
 use Rattle.web_page.proofs.writer.Page.text.Goals as goal
+
+pub returns-then-not-may_stand-clause-fails : goal.returns-then-not-may_stand-clause-fails
+returns-then-not-may_stand-clause-fails g c =
+    text_misplaced _ c.args.self.now c.args.text.now (sym c.are_written.ensures ∙ c.if-not-are_written.false) (sym (stands_now _ _ _ c.args.self.now Words c.self.invariant c.self.view_is) ∙ sym c.may_stand.ensures ∙ c.if-not-may_stand.true)
 
 pub returns-in_err-write-clause-fails : goal.returns-in_err-write-clause-fails
 returns-in_err-write-clause-fails g c =
