@@ -47,7 +47,7 @@ few =
     ∷ heading Section (codes "O")
     ∷ entries (record {
       word = [];
-      page = None;
+      target = None;
       terms = (literal (codes "-a") ∷ []) ∷ [];
       body = paragraph ((words (codes "p") ∷ []) ∷ []) ∷ bullets (((words (codes "i j") ∷ []) ∷ []) ∷ []) ∷ code (codes "\tc" ∷ [] ∷ codes "d" ∷ []) ∷ [];
     } ∷ [])
@@ -60,9 +60,9 @@ two =
     ∷ block (paragraph ((words (codes "aaa bbb") ∷ []) ∷ []))
     ∷ block (bullets (((words (codes "ccc ddd") ∷ []) ∷ []) ∷ []))
     ∷ heading Section (codes "O")
-    ∷ entries (record { word = []; page = None; terms = (literal (codes "--all-of-them") ∷ []) ∷ (literal (codes "--each-and-every") ∷ []) ∷ []; body = paragraph ((words (codes "x y") ∷ []) ∷ []) ∷ [] }
-    ∷ record { word = []; page = None; terms = (literal (codes "-b") ∷ []) ∷ []; body = paragraph ((words (codes "y") ∷ []) ∷ []) ∷ paragraph ((words (codes "z") ∷ []) ∷ []) ∷ [] }
-    ∷ record { word = []; page = None; terms = (literal (codes "--c") ∷ []) ∷ []; body = [] } ∷ [])
+    ∷ entries (record { word = []; target = None; terms = (literal (codes "--all-of-them") ∷ []) ∷ (literal (codes "--each-and-every") ∷ []) ∷ []; body = paragraph ((words (codes "x y") ∷ []) ∷ []) ∷ [] }
+    ∷ record { word = []; target = None; terms = (literal (codes "-b") ∷ []) ∷ []; body = paragraph ((words (codes "y") ∷ []) ∷ []) ∷ paragraph ((words (codes "z") ∷ []) ∷ []) ∷ [] }
+    ∷ record { word = []; target = None; terms = (literal (codes "--c") ∷ []) ∷ []; body = [] } ∷ [])
     ∷ []
 
 pub pages :

@@ -5,7 +5,7 @@ use Rattle.std.specs.List.{list_all}
 use Rattle.std.proofs.lemmas.Bool.{and_parts, ne_eqb}
 use Rattle.std.proofs.lemmas.List.Concat.{flat_map_single}
 use Rattle.page_model.specs.Content.{Line, BlockSaid, paragraph, code, bullets, EntrySaid, FormSaid}
-use Rattle.page_model.specs.Permitted.{are_permitted, has_permitted_content, is_permitted_block, is_permitted_byte, is_permitted_entry, is_permitted_form, is_permitted_line, is_permitted_page}
+use Rattle.page_model.specs.Permitted.{are_permitted, has_permitted_content, is_permitted_block, is_permitted_byte, is_permitted_entry, is_permitted_form, is_permitted_line, leads_to_permitted}
 use Rattle.page_model.specs.declared.parts.Rank.{Rank}
 use Rattle.page_model.specs.declared.parts.Rank.TheVariants.{Page, Section, Subsection}
 use Rattle.man_page.specs.Sheet.{Roman, Glyph, Kind, Plain, Tagged, Bulleted, Continued, Said, Heading, Paragraph, Example, Synopsis}
@@ -222,7 +222,7 @@ module _ (title : List (List Glyph)) where
     entry_comes : (entry : EntrySaid) (said : List Said) (stand : Stand) → is_permitted_entry entry ≡ true → is_open stand ≡ true
         → Comes (entry_text section entry) (here title said 0 stand) title (said ++ entry_kept section entry) 0
     entry_comes entry said stand h o =
-        let content = (and_parts (is_permitted_page entry.page) (has_permitted_content entry) h).1 in
+        let content = (and_parts (leads_to_permitted entry.target) (has_permitted_content entry) h).1 in
         let parts = and_parts (list_all is_permitted_line entry.terms) (list_all is_permitted_block entry.body) content in
         comes_front (asks (codes ".TP") (becomes Tag) refl (λ read. refl) (at title said 0 stand) o)
         (comes_front (input_leads (at title said 0 Tag) (terms_text section entry.terms) (terms_shown section entry.terms) (terms_bytes section permitted entry.terms parts.0) (terms_read section permitted entry.terms [] parts.0))

@@ -28,7 +28,7 @@ pub writes :
     × IsWrittenAs (heading Section (codes "A") ∷ block (paragraph ((words (codes ".a ") ∷ literal (codes "-b") ∷ []) ∷ (value (codes " c ") ∷ page (codes "p-q") ∷ []) ∷ [])) ∷ block (paragraph ([] ∷ [])) ∷ block (paragraph []) ∷ [])
     (codes ".SH A\n\\&.a \\fB\\%\\-b\\fP\n.br\n\\fI c \\fP\\fB\\%p\\-q\\fP(1)\n.PP\n\\&\n.PP\n")
     -- an entry with two terms, and code, items and a paragraph in its body; and one without anything
-    × IsWrittenAs (entries (record { word = []; page = None; terms = (literal (codes "-a") ∷ []) ∷ (literal (codes "--all") ∷ words (codes "=") ∷ value (codes "X") ∷ []) ∷ []; body = paragraph ((words (codes "p") ∷ []) ∷ (words (codes "q") ∷ []) ∷ []) ∷ code (codes ".x " ∷ [] ∷ codes "  y" ∷ []) ∷ bullets (((words (codes "i") ∷ []) ∷ []) ∷ []) ∷ paragraph ((link (codes "l") ∷ []) ∷ []) ∷ [] } ∷ record { word = []; page = None; terms = []; body = [] } ∷ []) ∷ [])
+    × IsWrittenAs (entries (record { word = []; target = None; terms = (literal (codes "-a") ∷ []) ∷ (literal (codes "--all") ∷ words (codes "=") ∷ value (codes "X") ∷ []) ∷ []; body = paragraph ((words (codes "p") ∷ []) ∷ (words (codes "q") ∷ []) ∷ []) ∷ code (codes ".x " ∷ [] ∷ codes "  y" ∷ []) ∷ bullets (((words (codes "i") ∷ []) ∷ []) ∷ []) ∷ paragraph ((link (codes "l") ∷ []) ∷ []) ∷ [] } ∷ record { word = []; target = None; terms = []; body = [] } ∷ []) ∷ [])
     (codes ".TP\n\\fB\\-a\\fP, \\fB\\-\\-all\\fP=\\fIX\\fP\np\n.br\nq\n.RS\n.PP\n.RS 4\n.EX\n\\&.x \\&\n\n  y\n.EE\n.RE\n.RE\n.RS\n.IP \\(bu 2\ni\n.RE\n.IP\nl\n.TP\n\\&\n")
     -- items, of which one has two lines and one has none; and code
     × IsWrittenAs (block (bullets (((words (codes "'i") ∷ []) ∷ (words (codes "k ") ∷ []) ∷ []) ∷ [] ∷ ((literal (codes "j") ∷ []) ∷ []) ∷ [])) ∷ block (code (codes "\t.%" ∷ [])) ∷ [])

@@ -4,8 +4,8 @@ use Rattle.std.specs.Prelude.{Option, Some, None, codes, fold, map, flat_map, �
 use Rattle.std.specs.List.{list_all}
 use Rattle.std.proofs.lemmas.Bool.{and_parts, and_from, eqb-true, eq-eqb, lt-ltb, le-leb, le-ltb}
 use Rattle.std.proofs.lemmas.List.Sums.{fold-append}
-use Rattle.page_model.specs.Content.{Line, BlockSaid, paragraph, code, bullets, EntrySaid}
-use Rattle.page_model.specs.Permitted.{has_permitted_content, is_permitted_block, is_permitted_byte, is_permitted_entry, is_permitted_line, is_permitted_page}
+use Rattle.page_model.specs.Content.{Line, BlockSaid, paragraph, code, bullets, EntrySaid, TargetSaid}
+use Rattle.page_model.specs.Permitted.{has_permitted_content, is_permitted_block, is_permitted_byte, is_permitted_entry, is_permitted_line, leads_to_permitted}
 use Rattle.page_model.specs.declared.parts.Rank.{Rank}
 use Rattle.page_model.specs.declared.parts.Rank.TheVariants.{Page, Section, Subsection}
 use Rattle.markdown_page.specs.Bytes.{graves, is_grave}
@@ -420,7 +420,7 @@ entry_parts said more stand o body glyphs p lines blocks h g =
     comes_front (item_lead 0 said more stand o body glyphs p lines h)
     (comes_to (append_assoc said first (flat_map (block_kept 1) blocks)) (out_of_item (behind_first (said ++ first) blocks g)))
 
-body_comes : (name : Option (List ℕ)) (terms : List Line) (body : List BlockSaid) (said : List Said) (more : ℕ) (stand : Stand) → list_all is_permitted_line terms ≡ true → list_all is_permitted_block body ≡ true → is_open stand ≡ true
+body_comes : (name : Option TargetSaid) (terms : List Line) (body : List BlockSaid) (said : List Said) (more : ℕ) (stand : Stand) → list_all is_permitted_line terms ≡ true → list_all is_permitted_block body ≡ true → is_open stand ≡ true
     → Comes (codes "- " ++ body_text (terms_text name terms) body) (on said more stand) 0 (said ++ Item 0 ∷ body_kept (terms_shown name terms) body)
 body_comes name terms [] said more stand h g o =
     subst (λ x. Comes (codes "- " ++ x) (on said more stand) 0 (said ++ Item 0 ∷ body_kept (terms_shown name terms) [])) (append-nil (lines_text 1 (terms_text name terms) []))
@@ -436,9 +436,9 @@ body_comes name terms (bullets items ∷ blocks) said more stand h g o = entry_p
 pub entry_comes : (entry : EntrySaid) (said : List Said) (more : ℕ) (stand : Stand) → is_permitted_entry entry ≡ true → is_open stand ≡ true
     → Comes (entry_text entry) (on said more stand) 0 (said ++ entry_kept entry)
 entry_comes entry said more stand h o =
-    let content = and_parts (is_permitted_page entry.page) (has_permitted_content entry) h in
+    let content = and_parts (leads_to_permitted entry.target) (has_permitted_content entry) h in
     let parts = and_parts (list_all is_permitted_line entry.terms) (list_all is_permitted_block entry.body) content.1 in
-    comes_front (empty_leads said more stand o) (body_comes entry.page entry.terms entry.body said more Between parts.0 parts.1 refl)
+    comes_front (empty_leads said more stand o) (body_comes entry.target entry.terms entry.body said more Between parts.0 parts.1 refl)
 
 -- ---- headings
 

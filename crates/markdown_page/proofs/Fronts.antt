@@ -3,12 +3,12 @@ use Rattle.std.proofs.Common.{◌≡◌, ℕ, ◌+◌, zero, suc, arith, Bool, t
 use Rattle.std.specs.Prelude.{Option, Some, None, map, flat_map, ◌==◌, nat_le}
 use Rattle.std.specs.List.{list_all, list_any}
 use Rattle.std.proofs.lemmas.Bool.{and_parts}
-use Rattle.page_model.specs.Content.{words, literal, value, link, page, Line}
+use Rattle.page_model.specs.Content.{words, literal, value, link, page, Line, TargetSaid}
 use Rattle.page_model.specs.Permitted.{are_permitted, is_permitted_line}
 use Rattle.markdown_page.specs.Bytes.{graves, holds_definition, is_grave}
 use Rattle.markdown_page.specs.Sheet.{Glyph}
-use Rattle.markdown_page.specs.Kept.{first_term, further_term, is_link, line_bytes, line_shown, piece_shown, plain, shown_byte, spanned, terms_shown}
-use Rattle.markdown_page.specs.Exact.{behind_literal, escaped, first_span, further_span, leading_span, leading_text, link_text, pieces_text, span_left, span_text, terms_text}
+use Rattle.markdown_page.specs.Kept.{first_term, further_term, is_link, line_bytes, line_shown, piece_shown, plain, shown_byte, spanned, target_address, terms_shown}
+use Rattle.markdown_page.specs.Exact.{behind_literal, escaped, first_span, further_span, leading_span, link_text, page_link, pieces_text, span_left, span_text, terms_text}
 use Rattle.markdown_page.specs.Reader.{code_glyph, is_fence}
 use Rattle.markdown_page.proofs.Bools.{all_both, and_right, bool_cases, not_true}
 use Rattle.markdown_page.proofs.Spans.{is_solid, span_form}
@@ -57,9 +57,9 @@ link_fence : (line : Line) → NoFence line → (text : List ℕ) (span : List �
 link_fence line later [] span solid = later span solid
 link_fence line later (b ∷ text) span solid = piece_fence span (link_text (b ∷ text)) (pieces_text [] line) solid (link_written (is_link (b ∷ text)) b text)
 
-page_fence : (line : Line) → NoFence line → (name : List ℕ) (span : List ℕ) → list_all is_solid span ≡ true → is_fence 0 (behind_literal span name (leading_text name (escaped false false name)) ++ pieces_text (span_left span name) line) ≡ false
+page_fence : (line : Line) → NoFence line → (name : List ℕ) (span : List ℕ) → list_all is_solid span ≡ true → is_fence 0 (behind_literal span name (page_link name) ++ pieces_text (span_left span name) line) ≡ false
 page_fence line later [] span solid = later span solid
-page_fence line later (b ∷ name) span solid = piece_fence span (leading_text (b ∷ name) (escaped false false (b ∷ name))) (pieces_text [] line) solid refl
+page_fence line later (b ∷ name) span solid = piece_fence span (page_link (b ∷ name)) (pieces_text [] line) solid refl
 
 span_alone_fence : (text : List ℕ) → list_all is_solid text ≡ true → is_fence 0 (span_text text) ≡ false
 span_alone_fence text solid = ap (is_fence 0) (sym (append-nil (span_text text))) ∙ span_fence text [] solid refl
@@ -82,11 +82,11 @@ leading_fence : (name text rest : List ℕ) → list_all is_solid (map shown_byt
 leading_fence name [] rest solid h = h
 leading_fence name (b ∷ text) rest solid h = elim (bool_cases (holds_definition (b ∷ text))) [ inl e ↦ rw e (span_fence (map shown_byte (b ∷ text)) rest solid h) | inr e ↦ rw e refl ]
 
-first_fence : (name : Option (List ℕ)) (term : Line) (rest : List ℕ) → is_permitted_line term ≡ true → is_fence 0 rest ≡ false → is_fence 0 (first_span name term ++ rest) ≡ false
+first_fence : (name : Option TargetSaid) (term : Line) (rest : List ℕ) → is_permitted_line term ≡ true → is_fence 0 rest ≡ false → is_fence 0 (first_span name term ++ rest) ≡ false
 first_fence None term rest h e = span_fence (map shown_byte (line_bytes term)) rest (solid_text (line_bytes term) (line_permitted term h)) e
-first_fence (Some name) term rest h e = leading_fence name (line_bytes term) rest (solid_text (line_bytes term) (line_permitted term h)) e
+first_fence (Some name) term rest h e = leading_fence (target_address name) (line_bytes term) rest (solid_text (line_bytes term) (line_permitted term h)) e
 
-pub terms_fence : (name : Option (List ℕ)) (terms : List Line) (rest : List ℕ) → list_all is_permitted_line terms ≡ true → is_fence 0 rest ≡ false → is_fence 0 (terms_text name terms ++ rest) ≡ false
+pub terms_fence : (name : Option TargetSaid) (terms : List Line) (rest : List ℕ) → list_all is_permitted_line terms ≡ true → is_fence 0 rest ≡ false → is_fence 0 (terms_text name terms ++ rest) ≡ false
 terms_fence name [] rest h e = e
 terms_fence name (term ∷ terms) rest h e =
     ap (is_fence 0) (append_assoc (first_span name term) (flat_map further_span terms) rest)
@@ -140,9 +140,9 @@ link_alike : (line : Line) → LinesAlike line → (text span : List ℕ) → Ar
 link_alike line later [] span = later span
 link_alike line later (b ∷ text) span = piece_alike line later span (link_text (b ∷ text)) (piece_shown (link (b ∷ text))) (link_shown_alike b text)
 
-page_alike : (line : Line) → LinesAlike line → (name span : List ℕ) → AreAlike (behind_literal span name (leading_text name (escaped false false name)) ++ pieces_text (span_left span name) line) (map code_glyph span ++ (piece_shown (page name) ++ line_shown line))
+page_alike : (line : Line) → LinesAlike line → (name span : List ℕ) → AreAlike (behind_literal span name (page_link name) ++ pieces_text (span_left span name) line) (map code_glyph span ++ (piece_shown (page name) ++ line_shown line))
 page_alike line later [] span = later span
-page_alike line later (b ∷ name) span = piece_alike line later span (leading_text (b ∷ name) (escaped false false (b ∷ name))) (piece_shown (page (b ∷ name))) refl
+page_alike line later (b ∷ name) span = piece_alike line later span (page_link (b ∷ name)) (piece_shown (page (b ∷ name))) refl
 
 pub pieces_alike : (line : Line) → LinesAlike line
 pieces_alike [] = λ span. subst (λ x. AreAlike (span_text span) x) (sym (append-nil (map code_glyph span))) (span_alike span)
@@ -152,11 +152,11 @@ pieces_alike (link text ∷ line) = link_alike line (pieces_alike line) text
 pieces_alike (page name ∷ line) = page_alike line (pieces_alike line) name
 pieces_alike (literal text ∷ line) = λ span. subst (λ x. AreAlike (pieces_text (span ++ map shown_byte text) line) x) (more_span span text (line_shown line)) (pieces_alike line (span ++ map shown_byte text))
 
-leading_alike : (name text : List ℕ) → AreAlike (leading_span name text) (first_term (Some name) text)
+leading_alike : (name : TargetSaid) (text : List ℕ) → AreAlike (leading_span (target_address name) text) (first_term (Some name) text)
 leading_alike name [] = elim (bool_cases (holds_definition [])) [ inl e ↦ refl | inr e ↦ refl ]
 leading_alike name (b ∷ text) = elim (bool_cases (holds_definition (b ∷ text))) [ inl e ↦ rw e refl | inr e ↦ rw e refl ]
 
-first_alike : (name : Option (List ℕ)) (term : Line) → AreAlike (first_span name term) (first_term name (line_bytes term))
+first_alike : (name : Option TargetSaid) (term : Line) → AreAlike (first_span name term) (first_term name (line_bytes term))
 first_alike None term = spanned_alike (line_bytes term)
 first_alike (Some name) term = leading_alike name (line_bytes term)
 
@@ -164,6 +164,6 @@ further_alike : (terms : List Line) → AreAlike (flat_map further_span terms) (
 further_alike [] = refl
 further_alike (term ∷ terms) = refl
 
-pub terms_alike : (name : Option (List ℕ)) (terms : List Line) → AreAlike (terms_text name terms) (terms_shown name terms)
+pub terms_alike : (name : Option TargetSaid) (terms : List Line) → AreAlike (terms_text name terms) (terms_shown name terms)
 terms_alike name [] = refl
 terms_alike name (term ∷ terms) = alike_both (first_span name term) (flat_map further_span terms) (first_term name (line_bytes term)) (flat_map further_term terms) (first_alike name term) (further_alike terms)

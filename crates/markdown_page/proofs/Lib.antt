@@ -1,6 +1,7 @@
 pub mod Bools
 pub mod Loops
 pub mod Links
+pub mod Slugs
 pub mod Fronted
 pub mod Parts
 pub mod Escapes

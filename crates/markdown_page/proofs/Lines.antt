@@ -4,7 +4,7 @@ use Rattle.std.specs.Prelude.{Option, Some, None, codes, map, ◌==◌, nat_le, 
 use Rattle.std.specs.List.{list_all, list_any}
 use Rattle.std.proofs.lemmas.Bool.{and_from, ne_eqb, eqb-true}
 use Rattle.std.proofs.Math.Bool.{and-true}
-use Rattle.page_model.specs.Content.{Line}
+use Rattle.page_model.specs.Content.{Line, TargetSaid}
 use Rattle.page_model.specs.Permitted.{is_permitted_byte, is_permitted_line}
 use Rattle.markdown_page.specs.Bytes.{graves, is_letter, holds_definition, is_digit, is_grave, is_word}
 use Rattle.markdown_page.specs.Sheet.{Glyph}
@@ -364,14 +364,14 @@ line_body line h = record {
   alike = pieces_alike line [];
 }
 
-pub terms_body : (name : Option (List ℕ)) (terms : List Line) → list_all is_permitted_line terms ≡ true → IsBody (terms_text name terms) (terms_shown name terms)
+pub terms_body : (name : Option TargetSaid) (terms : List Line) → list_all is_permitted_line terms ≡ true → IsBody (terms_text name terms) (terms_shown name terms)
 terms_body name terms h = record {
   reaches = terms_reach name terms h;
   fence = ap (is_fence 0) (sym (append-nil (terms_text name terms))) ∙ terms_fence name terms [] h refl;
   alike = terms_alike name terms;
 }
 
-pub dashed_body : (name : Option (List ℕ)) (terms : List Line) (line : Line) → list_all is_permitted_line terms ≡ true → is_permitted_line line ≡ true
+pub dashed_body : (name : Option TargetSaid) (terms : List Line) (line : Line) → list_all is_permitted_line terms ≡ true → is_permitted_line line ≡ true
     → IsBody (terms_text name terms ++ (dash ++ written line)) (terms_shown name terms ++ (plain dash ++ line_shown line))
 dashed_body name terms line h g = record {
   reaches = dashed_reaches (terms_text name terms) (written line) (terms_shown name terms) (line_shown line) (terms_reach name terms h) (pieces_reach line [] refl g);

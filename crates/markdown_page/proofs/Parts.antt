@@ -33,11 +33,11 @@ body_first terms (paragraph (line ∷ lines)) blocks = refl
 body_first terms (code lines) blocks = sym (append_assoc (lines_text 1 terms []) (block_text 1 (code lines)) (flat_map (block_text 1) blocks))
 body_first terms (bullets items) blocks = sym (append_assoc (lines_text 1 terms []) (block_text 1 (bullets items)) (flat_map (block_text 1) blocks))
 
--- a term that leads to a page, by what is shown of it
-pub leading_is : (name text : List ℕ) → shown_span name (map shown_byte text) ≡ leading_span name text
-leading_is name [] = refl
-leading_is name (b ∷ text) =
-    ap (λ (x : Bool). if x then span_text (map shown_byte (b ∷ text)) else leading_text name (span_text (map shown_byte (b ∷ text)))) (shown_definition (b ∷ text))
+-- a term that leads somewhere, by what is shown of it
+pub leading_is : (address text : List ℕ) → shown_span address (map shown_byte text) ≡ leading_span address text
+leading_is address [] = refl
+leading_is address (b ∷ text) =
+    ap (λ (x : Bool). if x then span_text (map shown_byte (b ∷ text)) else leading_text address (span_text (map shown_byte (b ∷ text)))) (shown_definition (b ∷ text))
 
 regroup : (a b c d e : List ℕ) → (((a ++ b) ++ c) ++ d) ++ e ≡ a ++ (b ++ (c ++ (d ++ e)))
 regroup a b c d e = simp append_assoc

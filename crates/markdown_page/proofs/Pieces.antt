@@ -6,12 +6,13 @@ use Rattle.std.specs.Str.{chars}
 use Rattle.std.proofs.lemmas.Bool.{and_parts, and_from, ne_eqb, eqb-true, le-ltb, ltb-true}
 use Rattle.std.proofs.Math.Bool.{and-true}
 use Rattle.std.proofs.lemmas.List.{map-append}
-use Rattle.page_model.specs.Content.{words, literal, value, link, page, Line}
+use Rattle.page_model.specs.Content.{words, literal, value, link, page, Line, TargetSaid, to_page, to_heading}
 use Rattle.page_model.specs.Permitted.{are_permitted, is_permitted, is_permitted_byte, is_permitted_line}
 use Rattle.markdown_page.specs.Bytes.{holds_definition, is_word}
 use Rattle.markdown_page.specs.Sheet.{Glyph}
-use Rattle.markdown_page.specs.Kept.{dash, encoded_byte, first_term, further_term, hex_digit, is_link, is_link_byte, is_unreserved, leading_to, line_bytes, line_shown, page_address, piece_shown, plain, shown_byte, spanned, terms_shown}
-use Rattle.markdown_page.specs.Exact.{auto_byte, auto_text, behind_literal, escaped, first_span, further_span, is_escaped, leading_span, leading_text, link_text, mark_if, pieces_text, span_left, span_text, term_span, terms_text}
+use Rattle.markdown_page.specs.Kept.{dash, encoded_byte, first_term, further_term, hex_digit, is_link, is_link_byte, is_unreserved, leading_to, line_bytes, line_shown, page_address, piece_shown, plain, shown_byte, spanned, target_address, terms_shown}
+use Rattle.markdown_page.specs.Slugs.{slug}
+use Rattle.markdown_page.specs.Exact.{auto_byte, auto_text, behind_literal, escaped, first_span, further_span, is_escaped, leading_span, leading_text, link_text, mark_if, page_link, pieces_text, span_left, span_text, term_span, terms_text}
 use Rattle.markdown_page.specs.Reader
 use Rattle.markdown_page.specs.Reader.{Address, Auto, Before, Bang, Mode, Other, Text, Word, code_glyph, end_of_line, is_address_byte, is_control, is_web_address, next_byte, plain_glyph}
 use Rattle.markdown_page.proofs.Bools.{all_both, bool_cases, not_false, not_true, or_cases, or_false, or_from}
@@ -136,7 +137,10 @@ unreserved_is b h = elim (bool_cases (is_word b)) [
   | inl w ↦ rw w refl
   | inr n ↦
       let other : (b == 45 || b == 46 || b == 95 || b == 126) ≡ true = rw n at h in
-      elim (bool_cases (b == 37)) [ inl e ↦ let is : b ≡ 37 = eqb-true b 37 e in rw is refl | inr e ↦ rw (n, e) other ]
+      elim (bool_cases (b == 35)) [
+        | inl e ↦ let is : b ≡ 35 = eqb-true b 35 e in rw is refl
+        | inr d ↦ elim (bool_cases (b == 37)) [ inl e ↦ let is : b ≡ 37 = eqb-true b 37 e in rw is refl | inr e ↦ rw (n, d, e) other ]
+      ]
 ]
 
 encoded_byte_is : (b : ℕ) → list_all is_address_byte (encoded_byte b) ≡ true
@@ -149,8 +153,12 @@ encoded_is : (name : List ℕ) → list_all is_address_byte (flat_map encoded_by
 encoded_is [] = refl
 encoded_is (b ∷ name) = all_both is_address_byte (encoded_byte b) (flat_map encoded_byte name) (encoded_byte_is b) (encoded_is name)
 
-address_is : (name : List ℕ) → list_all is_address_byte (page_address name) ≡ true
-address_is name = all_both is_address_byte (flat_map encoded_byte name) (codes ".md") (encoded_is name) refl
+page_is : (name : List ℕ) → list_all is_address_byte (page_address name) ≡ true
+page_is name = all_both is_address_byte (flat_map encoded_byte name) (codes ".md") (encoded_is name) refl
+
+target_is : (target : TargetSaid) → list_all is_address_byte (target_address target) ≡ true
+target_is (to_page name) = page_is name
+target_is (to_heading title) = all_both is_address_byte (codes "#") (flat_map encoded_byte (slug title)) refl (encoded_is (slug title))
 
 one_of : (P : ℕ → Type 0) (b c : ℕ) → P c → (b == c) ≡ true → P b
 one_of P b c known e = subst P (sym (eqb-true b c e)) known
@@ -158,15 +166,18 @@ one_of P b c known e = subst P (sym (eqb-true b c e)) known
 address_free : (b : ℕ) → is_address_byte b ≡ true → is_control b ≡ false
 address_free b h =
     let P : ℕ → Type 0 = λ c. is_control c ≡ false in
-    elim (or_cases (is_word b) (b == 37 || b == 45 || b == 46 || b == 95 || b == 126) h) [
+    elim (or_cases (is_word b) (b == 35 || b == 37 || b == 45 || b == 46 || b == 95 || b == 126) h) [
       | inl w ↦ word_control false None b w
-      | inr e ↦ elim (or_cases (b == 37 || b == 45 || b == 46 || b == 95) (b == 126) e) [
+      | inr e ↦ elim (or_cases (b == 35 || b == 37 || b == 45 || b == 46 || b == 95) (b == 126) e) [
         | inr x ↦ one_of P b 126 refl x
-        | inl y ↦ elim (or_cases (b == 37 || b == 45 || b == 46) (b == 95) y) [
+        | inl y ↦ elim (or_cases (b == 35 || b == 37 || b == 45 || b == 46) (b == 95) y) [
           | inr x ↦ one_of P b 95 refl x
-          | inl z ↦ elim (or_cases (b == 37 || b == 45) (b == 46) z) [
+          | inl z ↦ elim (or_cases (b == 35 || b == 37 || b == 45) (b == 46) z) [
             | inr x ↦ one_of P b 46 refl x
-            | inl v ↦ elim (or_cases (b == 37) (b == 45) v) [ inl x ↦ one_of P b 37 refl x | inr x ↦ one_of P b 45 refl x ]
+            | inl v ↦ elim (or_cases (b == 35 || b == 37) (b == 45) v) [
+              | inr x ↦ one_of P b 45 refl x
+              | inl u ↦ elim (or_cases (b == 35) (b == 37) u) [ inl x ↦ one_of P b 35 refl x | inr x ↦ one_of P b 37 refl x ]
+            ]
           ]
         ]
       ]
@@ -183,11 +194,11 @@ module _ (outside : List Glyph) (shown : List Glyph) where
       let step : next_byte false (at (Some outside) shown (Address address)) b ≡ at (Some outside) shown (Address (address ++ b ∷ [])) = rw (address_free b both.0, address_goes_on b both.0, both.0) refl in
       ap (λ x. run false x bytes) step ∙ address_read (address ++ b ∷ []) bytes both.1 ∙ ap (λ x. at (Some outside) shown (Address x)) (append_assoc address (b ∷ []) bytes)
 
-  address_ends : (name rest : List ℕ) (after : Before)
-      → finish false (at (Some outside) shown (Text after)) (codes "](" ++ (page_address name ++ (codes ")" ++ rest))) ≡ finish false (at None (outside ++ leading_to (page_address name) shown) (Text Other)) rest
-  address_ends name rest after =
-      ap end_of_line (run_both false (at (Some outside) shown (Address [])) (page_address name) (codes ")" ++ rest)
-      ∙ ap (λ x. run false x (codes ")" ++ rest)) (address_read [] (page_address name) (address_is name)))
+  address_ends : (address rest : List ℕ) (after : Before) → list_all is_address_byte address ≡ true
+      → finish false (at (Some outside) shown (Text after)) (codes "](" ++ (address ++ (codes ")" ++ rest))) ≡ finish false (at None (outside ++ leading_to address shown) (Text Other)) rest
+  address_ends address rest after h =
+      ap end_of_line (run_both false (at (Some outside) shown (Address [])) address (codes ")" ++ rest)
+      ∙ ap (λ x. run false x (codes ")" ++ rest)) (address_read [] address h))
 
 link_opens : (before : Before) (shown : List Glyph) (rest : List ℕ) → is_bang before ≡ false → finish false (at None shown (Text before)) (codes "[" ++ rest) ≡ finish false (at (Some shown) [] (Text Other)) rest
 link_opens Word shown rest calm = refl
@@ -197,16 +208,16 @@ link_opens Other shown rest calm = refl
 link_is : (text tail rest : List ℕ) (address : List ℕ) → (codes "[" ++ (text ++ (codes "](" ++ (address ++ codes ")")))) ++ rest ≡ codes "[" ++ (text ++ (codes "](" ++ (address ++ (codes ")" ++ rest))))
 link_is text tail rest address = ap (λ x. 91 ∷ x) (append_assoc text (codes "](" ++ (address ++ codes ")")) rest ∙ ap (λ x. text ++ (codes "](" ++ x)) (append_assoc address (codes ")") rest))
 
-pub link_ends : (name text : List ℕ) (before : Before) (shown glyphs : List Glyph) → is_bang before ≡ false → Reaches false (Some shown) text (at (Some shown) [] (Text Other)) glyphs
-    → Ends false None (leading_text name text) (at None shown (Text before)) (shown ++ leading_to (page_address name) glyphs)
-link_ends name text before shown glyphs calm p = record {
+pub link_ends : (address text : List ℕ) (before : Before) (shown glyphs : List Glyph) → list_all is_address_byte address ≡ true → is_bang before ≡ false → Reaches false (Some shown) text (at (Some shown) [] (Text Other)) glyphs
+    → Ends false None (leading_text address text) (at None shown (Text before)) (shown ++ leading_to address glyphs)
+link_ends address text before shown glyphs h calm p = record {
   after = Other;
   calm = refl;
   leads = λ rest.
-      ap (finish false (at None shown (Text before))) (link_is text [] rest (page_address name))
-      ∙ link_opens before shown (text ++ (codes "](" ++ (page_address name ++ (codes ")" ++ rest)))) calm
-      ∙ p.leads (codes "](" ++ (page_address name ++ (codes ")" ++ rest))) refl
-      ∙ address_ends shown glyphs name rest p.after;
+      ap (finish false (at None shown (Text before))) (link_is text [] rest address)
+      ∙ link_opens before shown (text ++ (codes "](" ++ (address ++ (codes ")" ++ rest)))) calm
+      ∙ p.leads (codes "](" ++ (address ++ (codes ")" ++ rest))) refl
+      ∙ address_ends shown glyphs address rest p.after h;
 }
 
 -- ---- pieces
@@ -265,8 +276,8 @@ link_piece text h before shown calm = elim (bool_cases (is_link text)) [
   | inr e ↦ rw e (words_end false None text before shown h calm)
 ]
 
-page_piece : (name : List ℕ) → list_all is_permitted_byte name ≡ true → LineEnds (leading_text name (escaped false false name)) (piece_shown (page name))
-page_piece name h before shown calm = link_ends name (escaped false false name) before shown (plain name) calm (ends_reach false (Some shown) (words_end false (Some shown) name Other [] h refl))
+page_piece : (name : List ℕ) → list_all is_permitted_byte name ≡ true → LineEnds (page_link name) (piece_shown (page name))
+page_piece name h before shown calm = link_ends (page_address name) (escaped false false name) before shown (plain name) (page_is name) calm (ends_reach false (Some shown) (words_end false (Some shown) name Other [] h refl))
 
 abbrev PiecesReach : List ℕ → Line → Type 0
 PiecesReach span line = LineReaches (pieces_text span line) (map code_glyph span ++ line_shown line)
@@ -283,9 +294,9 @@ link_then span [] line solid h later = later span solid
 link_then span (b ∷ text) line solid h later = piece_then span (link_text (b ∷ text)) (pieces_text [] line) (piece_shown (link (b ∷ text))) (line_shown line) solid (link_written (is_link (b ∷ text)) b text) (link_piece (b ∷ text) h) (later [] refl)
 
 page_then : (span name : List ℕ) (line : Line) → list_all is_solid span ≡ true → list_all is_permitted_byte name ≡ true → ((left : List ℕ) → list_all is_solid left ≡ true → PiecesReach left line)
-    → LineReaches (behind_literal span name (leading_text name (escaped false false name)) ++ pieces_text (span_left span name) line) (map code_glyph span ++ (piece_shown (page name) ++ line_shown line))
+    → LineReaches (behind_literal span name (page_link name) ++ pieces_text (span_left span name) line) (map code_glyph span ++ (piece_shown (page name) ++ line_shown line))
 page_then span [] line solid h later = later span solid
-page_then span (b ∷ name) line solid h later = piece_then span (leading_text (b ∷ name) (escaped false false (b ∷ name))) (pieces_text [] line) (piece_shown (page (b ∷ name))) (line_shown line) solid refl (page_piece (b ∷ name) h) (later [] refl)
+page_then span (b ∷ name) line solid h later = piece_then span (page_link (b ∷ name)) (pieces_text [] line) (piece_shown (page (b ∷ name))) (line_shown line) solid refl (page_piece (b ∷ name) h) (later [] refl)
 
 pub more_span : (span text : List ℕ) (glyphs : List Glyph) → map code_glyph (span ++ map shown_byte text) ++ glyphs ≡ map code_glyph span ++ (spanned text ++ glyphs)
 more_span span text glyphs =
@@ -340,17 +351,17 @@ shown_definition [] = refl
 shown_definition (b ∷ []) = refl
 shown_definition (b ∷ c ∷ text) = ap (λ (x : Bool). x || holds_definition (map shown_byte (c ∷ text))) (ap (λ (x : Bool). x && shown_byte c == 58) (shown_same b 93 refl refl refl) ∙ ap (λ (x : Bool). b == 93 && x) (shown_same c 58 refl refl refl)) ∙ ap (λ (x : Bool). (b == 93 && c == 58) || x) (shown_definition (c ∷ text))
 
-leading_reaches : (name text : List ℕ) → list_all is_permitted_byte text ≡ true → LineReaches (leading_span name text) (first_term (Some name) text)
-leading_reaches name [] h before shown calm = reaches_to false None (sym (append-nil shown)) (reaches_nothing false None before calm)
-leading_reaches name (b ∷ text) h before shown calm = elim (bool_cases (holds_definition (b ∷ text))) [
+leading_reaches : (target : TargetSaid) (text : List ℕ) → list_all is_permitted_byte text ≡ true → LineReaches (leading_span (target_address target) text) (first_term (Some target) text)
+leading_reaches target [] h before shown calm = reaches_to false None (sym (append-nil shown)) (reaches_nothing false None before calm)
+leading_reaches target (b ∷ text) h before shown calm = elim (bool_cases (holds_definition (b ∷ text))) [
   | inl e ↦ rw e (span_alone (b ∷ text) h before shown calm)
-  | inr e ↦ rw e (ends_reach false None (link_ends name (span_text (map shown_byte (b ∷ text))) before shown (spanned (b ∷ text)) calm
+  | inr e ↦ rw e (ends_reach false None (link_ends (target_address target) (span_text (map shown_byte (b ∷ text))) before shown (spanned (b ∷ text)) (target_is target) calm
       (reaches_to false (Some shown) (spanned_is (b ∷ text)) (span_reaches false (Some shown) (map shown_byte (b ∷ text)) Other [] refl (solid_text (b ∷ text) h) (shown_definition (b ∷ text) ∙ e)))))
 ]
 
-first_reaches : (name : Option (List ℕ)) (term : Line) → is_permitted_line term ≡ true → LineReaches (first_span name term) (first_term name (line_bytes term))
+first_reaches : (target : Option TargetSaid) (term : Line) → is_permitted_line term ≡ true → LineReaches (first_span target term) (first_term target (line_bytes term))
 first_reaches None term h = term_reaches term h
-first_reaches (Some name) term h = leading_reaches name (line_bytes term) (line_permitted term h)
+first_reaches (Some target) term h = leading_reaches target (line_bytes term) (line_permitted term h)
 
 comma_ends : LineEnds (codes ", ") (plain (codes ", "))
 comma_ends before shown calm = words_end false None (codes ", ") before shown refl calm
@@ -370,7 +381,7 @@ further_reach (term ∷ terms) h before shown calm =
     reaches_then false None (further_guarded terms) span
     (reaches_to false None (append_assoc shown (further_term term) (flat_map further_term terms)) (further_reach terms parts.1 span.after (shown ++ further_term term) span.calm))
 
-pub terms_reach : (name : Option (List ℕ)) (terms : List Line) → list_all is_permitted_line terms ≡ true → LineReaches (terms_text name terms) (terms_shown name terms)
+pub terms_reach : (name : Option TargetSaid) (terms : List Line) → list_all is_permitted_line terms ≡ true → LineReaches (terms_text name terms) (terms_shown name terms)
 terms_reach name [] h before shown calm = reaches_to false None (sym (append-nil shown)) (reaches_nothing false None before calm)
 terms_reach name (term ∷ terms) h before shown calm =
     let parts = and_parts (is_permitted_line term) (list_all is_permitted_line terms) h in

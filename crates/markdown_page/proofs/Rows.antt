@@ -1,7 +1,7 @@
 -- Pages, each with what is written for it and what that is read as, and texts that the reader takes or refuses.
 use Rattle.std.specs.Prelude.{◌≡◌, ℕ, List, [], ◌∷◌, ◌++◌, Option, Some, None, codes}
 use Rattle.std.proofs.Common.{refl}
-use Rattle.page_model.specs.Content.{words, literal, value, link, page, paragraph, code, bullets, heading, usage, block, entries, PartSaid}
+use Rattle.page_model.specs.Content.{words, literal, value, link, page, paragraph, code, bullets, to_page, heading, usage, block, entries, PartSaid}
 use Rattle.page_model.specs.declared.parts.Rank.TheVariants.{Section, Subsection}
 use Rattle.markdown_page.specs.Sheet.{Said, Item, Paragraph, Code}
 use Rattle.markdown_page.specs.Kept.{leading_to, page_kept, plain, spanned}
@@ -34,7 +34,7 @@ pub writes :
     × IsWrittenAs (block (paragraph ((link (codes "https://a.b/c?d=1&e=_*") ∷ words (codes " ") ∷ link (codes "https://a b") ∷ words (codes " ") ∷ link (codes "a_") ∷ page [] ∷ []) ∷ [])) ∷ [])
     (codes "\n<https://a.b/c?d=1&amp;e=_*> https://a b a\\_\n")
     -- an entry with two terms, and code, items and a paragraph in its body; one without anything; and links
-    × IsWrittenAs (entries (record { word = []; page = None; terms = (literal (codes "-a") ∷ []) ∷ (literal (codes "--all") ∷ words (codes "=") ∷ value (codes "X") ∷ []) ∷ []; body = paragraph ((words (codes "p") ∷ []) ∷ (words (codes "q") ∷ []) ∷ []) ∷ code (codes "x" ∷ [] ∷ codes "  ```` y" ∷ []) ∷ bullets (((words (codes "i") ∷ []) ∷ (words (codes "j") ∷ []) ∷ []) ∷ [] ∷ ((words (codes "k") ∷ []) ∷ []) ∷ []) ∷ paragraph ((words (codes "l") ∷ []) ∷ []) ∷ [] } ∷ record { word = []; page = None; terms = []; body = [] } ∷ record { word = []; page = Some (codes "t-s"); terms = (literal (codes "s") ∷ []) ∷ (literal (codes "x") ∷ []) ∷ []; body = [] } ∷ record { word = []; page = Some (codes "t-s"); terms = (literal (codes "]:") ∷ []) ∷ []; body = paragraph [] ∷ paragraph ((words (codes "l") ∷ []) ∷ []) ∷ [] } ∷ []) ∷ [])
+    × IsWrittenAs (entries (record { word = []; target = None; terms = (literal (codes "-a") ∷ []) ∷ (literal (codes "--all") ∷ words (codes "=") ∷ value (codes "X") ∷ []) ∷ []; body = paragraph ((words (codes "p") ∷ []) ∷ (words (codes "q") ∷ []) ∷ []) ∷ code (codes "x" ∷ [] ∷ codes "  ```` y" ∷ []) ∷ bullets (((words (codes "i") ∷ []) ∷ (words (codes "j") ∷ []) ∷ []) ∷ [] ∷ ((words (codes "k") ∷ []) ∷ []) ∷ []) ∷ paragraph ((words (codes "l") ∷ []) ∷ []) ∷ [] } ∷ record { word = []; target = None; terms = []; body = [] } ∷ record { word = []; target = Some (to_page (codes "t-s")); terms = (literal (codes "s") ∷ []) ∷ (literal (codes "x") ∷ []) ∷ []; body = [] } ∷ record { word = []; target = Some (to_page (codes "t-s")); terms = (literal (codes "]:") ∷ []) ∷ []; body = paragraph [] ∷ paragraph ((words (codes "l") ∷ []) ∷ []) ∷ [] } ∷ []) ∷ [])
     (codes "\n- `-a`, `--all=X`" ++ (32 ∷ 226 ∷ 128 ∷ 148 ∷ 32 ∷ codes "p\\\n  q\n\n  `````\n  x\n\n    ```` y\n  `````\n\n  - i\\\n    j\n  - k\n\n  l\n\n- &#32;\n\n- [`s`](t-s.md), `x`\n\n- `]:`\n\n  l\n"))
     -- lists that touch are one
     × IsWrittenAs (block (bullets (((words (codes "a") ∷ []) ∷ []) ∷ [])) ∷ block (bullets (((literal (codes "```") ∷ words (codes "b") ∷ []) ∷ []) ∷ [])) ∷ [])

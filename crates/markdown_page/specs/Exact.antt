@@ -3,9 +3,9 @@ use Rattle.std.specs.Prelude.{ℕ, zero, suc, max, Bool, true, false, not, ◌&&
 use Rattle.std.specs.List.{list_all}
 use Rattle.page_model.specs.declared.parts.Rank.{Rank}
 use Rattle.page_model.specs.declared.parts.Rank.TheVariants.{Page, Section, Subsection}
-use Rattle.page_model.specs.Content.{words, literal, value, link, page, Line, BlockSaid, paragraph, code, bullets, EntrySaid, PartSaid, heading, usage, block, entries}
+use Rattle.page_model.specs.Content.{words, literal, value, link, page, Line, BlockSaid, paragraph, code, bullets, TargetSaid, EntrySaid, PartSaid, heading, usage, block, entries}
 use Rattle.markdown_page.specs.Bytes.{grave, graves, has_run, holds_definition, is_blank, is_digit, is_letter, is_word}
-use Rattle.markdown_page.specs.Kept.{code_byte, dash, form_bytes, is_link, line_bytes, page_address, shown_byte}
+use Rattle.markdown_page.specs.Kept.{code_byte, dash, form_bytes, is_link, line_bytes, page_address, shown_byte, target_address}
 use Rattle.markdown_page.specs.Reader.{last_or, longest_run}
 
 -- ---- texts
@@ -78,9 +78,13 @@ auto_byte b = if b == 38 then codes "&amp;" else b ∷ []
 abbrev pub auto_text : List ℕ → List ℕ
 auto_text address = codes "<" ++ (flat_map auto_byte address ++ codes ">")
 
--- a text that leads to the page of a name
-abbrev pub leading_text : List ℕ → List ℕ → List ℕ
-leading_text name text = codes "[" ++ (text ++ (codes "](" ++ (page_address name ++ codes ")")))
+-- a text that leads to an address
+abbrev pub leading_text : (address text : List ℕ) → List ℕ
+leading_text address text = codes "[" ++ (text ++ (codes "](" ++ (address ++ codes ")")))
+
+-- a name that leads to its page
+abbrev pub page_link : List ℕ → List ℕ
+page_link name = leading_text (page_address name) (escaped false false name)
 
 -- ---- pieces
 
@@ -108,7 +112,7 @@ pieces_text span (value text ∷ line) =
 pieces_text span (link text ∷ line) =
     behind_literal span text (link_text text) ++ pieces_text (span_left span text) line
 pieces_text span (page name ∷ line) =
-    behind_literal span name (leading_text name (escaped false false name)) ++ pieces_text (span_left span name) line
+    behind_literal span name (page_link name) ++ pieces_text (span_left span name) line
 
 -- ---- lines
 
@@ -204,22 +208,22 @@ abbrev pub term_span : Line → List ℕ
 term_span term = span_text (map shown_byte (line_bytes term))
 
 -- a link without a text is nothing
-abbrev pub leading_span : List ℕ → List ℕ → List ℕ
-leading_span name [] = []
-leading_span name (b ∷ text) =
+abbrev pub leading_span : (address text : List ℕ) → List ℕ
+leading_span address [] = []
+leading_span address (b ∷ text) =
     if holds_definition (b ∷ text) then span_text (map shown_byte (b ∷ text))
-    else leading_text name (span_text (map shown_byte (b ∷ text)))
+    else leading_text address (span_text (map shown_byte (b ∷ text)))
 
-abbrev pub first_span : Option (List ℕ) → Line → List ℕ
+abbrev pub first_span : Option TargetSaid → Line → List ℕ
 first_span None term = term_span term
-first_span (Some name) term = leading_span name (line_bytes term)
+first_span (Some target) term = leading_span (target_address target) (line_bytes term)
 
 abbrev pub further_span : Line → List ℕ
 further_span term = codes ", " ++ term_span term
 
-abbrev pub terms_text : Option (List ℕ) → List Line → List ℕ
-terms_text name [] = []
-terms_text name (term ∷ terms) = first_span name term ++ flat_map further_span terms
+abbrev pub terms_text : Option TargetSaid → List Line → List ℕ
+terms_text target [] = []
+terms_text target (term ∷ terms) = first_span target term ++ flat_map further_span terms
 
 abbrev pub body_text : List ℕ → List BlockSaid → List ℕ
 body_text terms [] = lines_text 1 terms []
@@ -230,7 +234,7 @@ body_text terms (code lines ∷ blocks) = lines_text 1 terms [] ++ flat_map (blo
 body_text terms (bullets items ∷ blocks) = lines_text 1 terms [] ++ flat_map (block_text 1) (bullets items ∷ blocks)
 
 abbrev pub entry_text : EntrySaid → List ℕ
-entry_text entry = codes "\n- " ++ body_text (terms_text entry.page entry.terms) entry.body
+entry_text entry = codes "\n- " ++ body_text (terms_text entry.target entry.terms) entry.body
 
 -- ---- the page
 

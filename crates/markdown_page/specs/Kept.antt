@@ -3,8 +3,9 @@ use Rattle.std.specs.Prelude.{ℕ, suc, ◌/◌, ◌%◌, Bool, not, ◌&&◌, �
 use Rattle.std.specs.List.{list_all}
 use Rattle.page_model.specs.declared.parts.Rank.{Rank}
 use Rattle.page_model.specs.declared.parts.Rank.TheVariants.{Page, Section, Subsection}
-use Rattle.page_model.specs.Content.{Piece, words, literal, value, link, page, Line, BlockSaid, paragraph, code, bullets, EntrySaid, FormSaid, PartSaid, heading, usage, block, entries}
+use Rattle.page_model.specs.Content.{Piece, words, literal, value, link, page, Line, BlockSaid, paragraph, code, bullets, TargetSaid, to_page, to_heading, EntrySaid, FormSaid, PartSaid, heading, usage, block, entries}
 use Rattle.markdown_page.specs.Bytes.{begins_with, holds_definition, is_word}
+use Rattle.markdown_page.specs.Slugs.{slug}
 use Rattle.markdown_page.specs.Sheet.{Glyph, Said, Heading, Item, Paragraph, Code}
 
 -- a newline and a tab are a blank; in code that stands by itself a tab stays
@@ -50,6 +51,14 @@ encoded_byte b = if is_unreserved b then b ∷ [] else 37 ∷ hex_digit (b / 16)
 
 abbrev pub page_address : List ℕ → List ℕ
 page_address name = flat_map encoded_byte name ++ codes ".md"
+
+-- a heading of this page, by the id that sites give to it
+abbrev pub heading_address : List ℕ → List ℕ
+heading_address title = codes "#" ++ flat_map encoded_byte (slug title)
+
+abbrev pub target_address : TargetSaid → List ℕ
+target_address (to_page name) = page_address name
+target_address (to_heading title) = heading_address title
 
 -- ---- lines
 
@@ -99,18 +108,18 @@ block_kept level (bullets items) = flat_map (item_kept level) items
 
 -- ---- entries
 
--- a term is code; the first one leads to the page of the entry, unless it might define a link
-abbrev pub first_term : Option (List ℕ) → List ℕ → List Glyph
+-- a term is code; the first one leads where the entry does, unless it might define a link
+abbrev pub first_term : Option TargetSaid → List ℕ → List Glyph
 first_term None text = spanned text
-first_term (Some name) text =
-    if holds_definition text then spanned text else leading_to (page_address name) (spanned text)
+first_term (Some target) text =
+    if holds_definition text then spanned text else leading_to (target_address target) (spanned text)
 
 abbrev pub further_term : Line → List Glyph
 further_term term = plain (codes ", ") ++ spanned (line_bytes term)
 
-abbrev pub terms_shown : Option (List ℕ) → List Line → List Glyph
-terms_shown name [] = []
-terms_shown name (term ∷ terms) = first_term name (line_bytes term) ++ flat_map further_term terms
+abbrev pub terms_shown : Option TargetSaid → List Line → List Glyph
+terms_shown target [] = []
+terms_shown target (term ∷ terms) = first_term target (line_bytes term) ++ flat_map further_term terms
 
 -- a dash between blanks
 abbrev pub dash : List ℕ
@@ -127,7 +136,7 @@ body_kept terms (bullets items ∷ blocks) =
     Paragraph 1 (seen terms ∷ []) ∷ flat_map (block_kept 1) (bullets items ∷ blocks)
 
 abbrev pub entry_kept : EntrySaid → List Said
-entry_kept entry = Item 0 ∷ body_kept (terms_shown entry.page entry.terms) entry.body
+entry_kept entry = Item 0 ∷ body_kept (terms_shown entry.target entry.terms) entry.body
 
 -- ---- the page
 

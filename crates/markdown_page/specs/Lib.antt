@@ -1,5 +1,6 @@
 pub mod Bytes
 pub mod Sheet
+pub mod Slugs
 pub mod Reader
 pub mod Kept
 pub mod Exact

@@ -204,7 +204,7 @@ abbrev pub bracket_byte : Line → ℕ → Option Line
 bracket_byte line b = if b == 40 then with_mode line (Address []) else None
 
 abbrev pub is_address_byte : ℕ → Bool
-is_address_byte b = is_word b || (b == 37 || b == 45 || b == 46 || b == 95 || b == 126)
+is_address_byte b = is_word b || (b == 35 || b == 37 || b == 45 || b == 46 || b == 95 || b == 126)
 
 abbrev pub behind_link : Line → Option (List Glyph) → List ℕ → Option Line
 behind_link line None address = None

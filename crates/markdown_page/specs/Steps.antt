@@ -4,7 +4,7 @@ use Rattle.page_model.specs.Content.{Line, BlockSaid, paragraph, code, bullets, 
 use Rattle.markdown_page.specs.declared.replace.Place.{Place}
 use Rattle.markdown_page.specs.declared.replace.Place.TheVariants.{Autolink, Span, Code}
 use Rattle.markdown_page.specs.Bytes.{graves, holds_definition, is_digit}
-use Rattle.markdown_page.specs.Kept.{code_byte, dash, form_bytes, page_address, shown_byte}
+use Rattle.markdown_page.specs.Kept.{code_byte, dash, form_bytes, shown_byte}
 use Rattle.markdown_page.specs.Exact.{auto_byte, block_text, code_line, further_line, indent, leading_text, lines_text, mark_if, span_text, wants_mark, written}
 
 -- what stands for a byte of a text that is put there
@@ -14,8 +14,8 @@ place_byte Span b = shown_byte b ∷ []
 place_byte Code b = code_byte b ∷ []
 
 -- what stands behind the text of a link
-abbrev pub target_text : List ℕ → List ℕ
-target_text name = codes "](" ++ (page_address name ++ codes ")")
+abbrev pub behind_text : (address : List ℕ) → List ℕ
+behind_text address = codes "](" ++ (address ++ codes ")")
 
 -- how many digits a line begins with
 abbrev pub digits_of : List ℕ → ℕ
@@ -47,9 +47,9 @@ is_nothing [] = true
 is_nothing (b ∷ text) = false
 
 -- a term by the text that is shown of it
-abbrev pub shown_span : List ℕ → List ℕ → List ℕ
-shown_span name text =
-    if is_nothing text || holds_definition text then span_text text else leading_text name (span_text text)
+abbrev pub shown_span : (address text : List ℕ) → List ℕ
+shown_span address text =
+    if is_nothing text || holds_definition text then span_text text else leading_text address (span_text text)
 
 -- how far a line of code is indented: an empty one is not
 abbrev pub code_indent : ℕ → List ℕ → ℕ

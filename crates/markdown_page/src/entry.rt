@@ -1,11 +1,11 @@
 //! Entries of a list: the terms, and what is said of them.
 
 ghost use Rattle.std.specs.Prelude.{◌≡◌, ◌++◌, [], ◌||◌, flat_map, map, option_map, OnOk, string_bytes};
-ghost use Rattle.page_model.specs.View.{block_of, entry_of, line_of, piece_of};
+ghost use Rattle.page_model.specs.View.{block_of, entry_of, line_of, piece_of, target_of};
 ghost use Rattle.markdown_page.specs.Bytes.{holds_definition};
 ghost use Rattle.markdown_page.specs.Exact.{body_text, entry_text, first_span, further_span, lines_text, term_span};
 ghost use Rattle.markdown_page.specs.Exact.{terms_text};
-ghost use Rattle.markdown_page.specs.Kept.{line_bytes, piece_bytes, shown_byte};
+ghost use Rattle.markdown_page.specs.Kept.{line_bytes, piece_bytes, shown_byte, target_address};
 ghost use Rattle.markdown_page.specs.Steps.{first_block, first_text, is_nothing, shown_span};
 
 use crate::block::{Writer, begin_line, push_block, push_blocks, push_lines};
@@ -13,7 +13,7 @@ use crate::line::{LineText, push_line, push_open_span, push_pieces};
 use crate::link::push_target;
 use crate::replace::Place;
 use page_model::replaced::push_replaced;
-use page_model::{Block, Entry, Inline, Line};
+use page_model::{Block, Entry, Inline, Line, Target};
 use std::alloc::{AllocError, Allocator};
 
 /// The text of a piece.
@@ -75,10 +75,14 @@ fn is_unlinked(text: &str) -> bool
     text.is_empty() || holds_definition(text.as_bytes())
 }
 
-// Writes the span that is open as a link to the page of a name.
-fn push_leading<A: Allocator>(line: &mut LineText<A>, name: &str) -> Result<(), AllocError>
-    ensures written { OnOk result (string_bytes line.new.text
-        ≡ string_bytes line.old.text ++ shown_span name.now (string_bytes line.old.span)) }
+// Writes the span that is open as a link that leads there.
+fn push_leading<A: Allocator + Copy>(
+    alloc: A,
+    line: &mut LineText<A>,
+    target: Target<'_>,
+) -> Result<(), AllocError>
+    ensures written { OnOk result (string_bytes line.new.text ≡ string_bytes line.old.text
+        ++ shown_span (target_address (target_of target.entry)) (string_bytes line.old.span)) }
     ensures left { OnOk result (string_bytes line.new.span ≡ []) }
 {
     if is_unlinked(line.span.as_str()) {
@@ -86,23 +90,24 @@ fn push_leading<A: Allocator>(line: &mut LineText<A>, name: &str) -> Result<(), 
     }
     line.text.push_str("[")?;
     push_open_span(line)?;
-    push_target(&mut line.text, name)
+    push_target(alloc, &mut line.text, target)
 }
 
 #[tactic(auto, using(crate::proofs::Parts::leading_is))]
-fn push_first_term<A: Allocator>(
+fn push_first_term<A: Allocator + Copy>(
+    alloc: A,
     line: &mut LineText<A>,
-    page: Option<&str>,
+    target: Option<Target<'_>>,
     term: &[Inline<'_>],
 ) -> Result<(), AllocError>
     requires { string_bytes line.old.span ≡ [] }
     ensures written { OnOk result (string_bytes line.new.text ≡ string_bytes line.old.text
-        ++ first_span (option_map (λ name. name.now) page.entry) (line_of term.now)) }
+        ++ first_span (option_map target_of target.entry) (line_of term.now)) }
     ensures left { OnOk result (string_bytes line.new.span ≡ []) }
 {
     push_span_text(&mut line.span, term)?;
-    match page {
-        Some(name) => push_leading(line, name),
+    match target {
+        Some(target) => push_leading(alloc, line, target),
         None => push_open_span(line),
     }
 }
@@ -123,20 +128,21 @@ fn push_further_terms<A: Allocator, B: Allocator>(
     Ok(())
 }
 
-fn push_terms<A: Allocator, B: Allocator>(
+fn push_terms<A: Allocator + Copy, B: Allocator>(
+    alloc: A,
     line: &mut LineText<A>,
-    page: Option<&str>,
+    target: Option<Target<'_>>,
     terms: &[Line<'_, B>],
 ) -> Result<(), AllocError>
     requires { string_bytes line.old.span ≡ [] }
     ensures written { OnOk result (string_bytes line.new.text ≡ string_bytes line.old.text
-        ++ terms_text (option_map (λ name. name.now) page.entry) (map (λ term. line_of term.items) terms.now)) }
+        ++ terms_text (option_map target_of target.entry) (map (λ term. line_of term.items) terms.now)) }
     ensures left { OnOk result (string_bytes line.new.span ≡ []) }
 {
     let Some((first, rest)) = terms.split_first() else {
         return Ok(());
     };
-    push_first_term(line, page, first.as_slice())?;
+    push_first_term(alloc, line, target, first.as_slice())?;
     push_further_terms(line, rest)
 }
 
@@ -200,7 +206,8 @@ fn push_body<A: Allocator, B: Allocator>(
     push_blocks(writer, rest)
 }
 
-fn push_entry<A: Allocator, B: Allocator>(
+fn push_entry<A: Allocator + Copy, B: Allocator>(
+    alloc: A,
     writer: &mut Writer<A>,
     entry: &Entry<'_, B>,
 ) -> Result<(), AllocError>
@@ -209,12 +216,18 @@ fn push_entry<A: Allocator, B: Allocator>(
 {
     writer.page.push_str("\n- ")?;
     begin_line(&mut writer.line);
-    push_terms(&mut writer.line, entry.page, entry.terms.as_slice())?;
+    push_terms(
+        alloc,
+        &mut writer.line,
+        entry.target,
+        entry.terms.as_slice(),
+    )?;
     push_body(writer, entry.body.as_slice())
 }
 
 /// Writes the entries of a list.
-pub fn push_entries<A: Allocator, B: Allocator>(
+pub fn push_entries<A: Allocator + Copy, B: Allocator>(
+    alloc: A,
     writer: &mut Writer<A>,
     entries: &[Entry<'_, B>],
 ) -> Result<(), AllocError>
@@ -222,7 +235,7 @@ pub fn push_entries<A: Allocator, B: Allocator>(
         ≡ string_bytes writer.old.page ++ flat_map entry_text (map entry_of entries.now)) }
 {
     for entry in entries {
-        push_entry(writer, entry)?;
+        push_entry(alloc, writer, entry)?;
     }
     Ok(())
 }

@@ -12,4 +12,5 @@ mod line;
 mod link;
 pub mod page;
 mod replace;
+mod slug;
 mod span;

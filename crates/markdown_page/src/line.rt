@@ -4,7 +4,7 @@ ghost use Rattle.std.specs.Prelude.{◌≡◌, ◌++◌, ◌||◌, ◌==◌, [],
 ghost use Rattle.page_model.specs.Content.{Line};
 ghost use Rattle.page_model.specs.View.{line_of, piece_of};
 ghost use Rattle.markdown_page.specs.Exact.{behind_literal, escaped, framed, guarded, is_block_mark, kept_blank};
-ghost use Rattle.markdown_page.specs.Exact.{leading_text, line_text, link_text, mark_if, pieces_text, span_left};
+ghost use Rattle.markdown_page.specs.Exact.{line_text, link_text, mark_if, page_link, pieces_text, span_left};
 ghost use Rattle.markdown_page.specs.Exact.{span_text};
 ghost use Rattle.markdown_page.specs.Exact.{wants_mark, with_end, written};
 ghost use Rattle.markdown_page.specs.Reader.{begins_in_blank, ends_in_blank};
@@ -63,7 +63,7 @@ fn push_address<A: Allocator>(line: &mut LineText<A>, text: &str) -> Result<(), 
 fn push_name<A: Allocator>(line: &mut LineText<A>, name: &str) -> Result<(), AllocError>
     ensures written { OnOk result (string_bytes line.new.text ≡ string_bytes line.old.text
         ++ behind_literal (string_bytes line.old.span) name.now
-        (leading_text name.now (escaped false false name.now))) }
+        (page_link name.now)) }
     ensures left { OnOk result (string_bytes line.new.span ≡ span_left (string_bytes line.old.span) name.now) }
 {
     if name.is_empty() {

@@ -1,14 +1,18 @@
-//! Links to an address in the web, and to the page of a name.
+//! Links to an address in the web, to the page of a name, and to a heading.
 
 ghost use Rattle.std.specs.Prelude.{◌≡◌, ◌<◌, ◌++◌, ◌||◌, codes, false, flat_map, OnOk, string_bytes};
 ghost use Rattle.std.specs.List.{list_all};
+ghost use Rattle.page_model.specs.View.{target_of};
 ghost use Rattle.markdown_page.specs.Bytes.{begins_with};
-ghost use Rattle.markdown_page.specs.Exact.{auto_text, escaped, leading_text, link_text};
-ghost use Rattle.markdown_page.specs.Kept.{encoded_byte, hex_digit, is_link, is_link_byte, is_unreserved};
-ghost use Rattle.markdown_page.specs.Steps.{target_text};
+ghost use Rattle.markdown_page.specs.Exact.{auto_text, link_text, page_link};
+ghost use Rattle.markdown_page.specs.Kept.{encoded_byte, heading_address, hex_digit, is_link, is_link_byte};
+ghost use Rattle.markdown_page.specs.Kept.{is_unreserved, page_address, target_address};
+ghost use Rattle.markdown_page.specs.Steps.{behind_text};
 
 use crate::escape::{is_word, push_escaped};
 use crate::replace::Place;
+use crate::slug::slug;
+use page_model::Target;
 use page_model::replaced::push_replaced;
 use std::alloc::{AllocError, Allocator};
 
@@ -94,21 +98,59 @@ fn push_encoded<A: Allocator>(out: &mut String<A>, name: &str) -> Result<(), All
     Ok(())
 }
 
-/// Writes what stands behind the text of a link to the page of a name.
-pub fn push_target<A: Allocator>(out: &mut String<A>, name: &str) -> Result<(), AllocError>
-    ensures { OnOk result (string_bytes out.new ≡ string_bytes out.old ++ target_text name.now) }
+fn push_page_address<A: Allocator>(out: &mut String<A>, name: &str) -> Result<(), AllocError>
+    ensures { OnOk result (string_bytes out.new ≡ string_bytes out.old ++ page_address name.now) }
+{
+    push_encoded(out, name)?;
+    out.push_str(".md")
+}
+
+fn push_heading_address<A: Allocator + Copy>(
+    alloc: A,
+    out: &mut String<A>,
+    title: &str,
+) -> Result<(), AllocError>
+    ensures { OnOk result (string_bytes out.new ≡ string_bytes out.old ++ heading_address title.now) }
+{
+    let id = slug(alloc, title)?;
+    out.push_str("#")?;
+    push_encoded(out, id.as_str())
+}
+
+fn push_address<A: Allocator + Copy>(
+    alloc: A,
+    out: &mut String<A>,
+    target: Target<'_>,
+) -> Result<(), AllocError>
+    ensures { OnOk result (string_bytes out.new ≡ string_bytes out.old ++ target_address (target_of target.entry)) }
+{
+    match target {
+        Target::Page(name) => push_page_address(out, name),
+        Target::Heading(title) => push_heading_address(alloc, out, title),
+    }
+}
+
+/// Writes what stands behind the text of a link that leads there.
+pub fn push_target<A: Allocator + Copy>(
+    alloc: A,
+    out: &mut String<A>,
+    target: Target<'_>,
+) -> Result<(), AllocError>
+    ensures { OnOk result (string_bytes out.new
+        ≡ string_bytes out.old ++ behind_text (target_address (target_of target.entry))) }
 {
     out.push_str("](")?;
-    push_encoded(out, name)?;
-    out.push_str(".md)")
+    push_address(alloc, out, target)?;
+    out.push_str(")")
 }
 
 /// Writes a name as a link to its page.
 pub fn push_page<A: Allocator>(out: &mut String<A>, name: &str) -> Result<(), AllocError>
-    ensures { OnOk result (string_bytes out.new
-        ≡ string_bytes out.old ++ leading_text name.now (escaped false false name.now)) }
+    ensures { OnOk result (string_bytes out.new ≡ string_bytes out.old ++ page_link name.now) }
 {
     out.push_str("[")?;
     push_escaped(out, name, false)?;
-    push_target(out, name)
+    out.push_str("](")?;
+    push_page_address(out, name)?;
+    out.push_str(")")
 }

@@ -143,7 +143,8 @@ fn push_heading<A: Allocator>(
     writer.page.push_str("\n")
 }
 
-fn push_part<A: Allocator, B: Allocator>(
+fn push_part<A: Allocator + Copy, B: Allocator>(
+    alloc: A,
     writer: &mut Writer<A>,
     part: &Part<'_, B>,
 ) -> Result<(), AllocError>
@@ -154,11 +155,12 @@ fn push_part<A: Allocator, B: Allocator>(
         Part::Heading(rank, title) => push_heading(writer, *rank, title),
         Part::Usage(forms) => push_usage(writer, forms.as_slice()),
         Part::Block(block) => push_block(writer, block, 0),
-        Part::Entries(entries) => push_entries(writer, entries.as_slice()),
+        Part::Entries(entries) => push_entries(alloc, writer, entries.as_slice()),
     }
 }
 
-fn push_parts<A: Allocator, B: Allocator>(
+fn push_parts<A: Allocator + Copy, B: Allocator>(
+    alloc: A,
     writer: &mut Writer<A>,
     parts: &[Part<'_, B>],
 ) -> Result<(), AllocError>
@@ -166,7 +168,7 @@ fn push_parts<A: Allocator, B: Allocator>(
         ≡ string_bytes writer.old.page ++ flat_map part_text (map part_of parts.now)) }
 {
     for part in parts {
-        push_part(writer, part)?;
+        push_part(alloc, writer, part)?;
     }
     Ok(())
 }
@@ -195,7 +197,7 @@ fn write_page<A: Allocator + Copy, B: Allocator>(
     writer.page.push_str("# ")?;
     push_title(&mut writer, title)?;
     writer.page.push_str("\n")?;
-    push_parts(&mut writer, parts)?;
+    push_parts(alloc, &mut writer, parts)?;
     Ok(writer.page)
 }
 

@@ -18,10 +18,15 @@ pub data BlockSaid : Type 0 where
   code : List (List ℕ) → BlockSaid
   bullets : List (List Line) → BlockSaid
 
--- with what it is called, and the name of the page that it leads to
+-- to the page of a name, or to what stands under a title on the same page
+pub data TargetSaid : Type 0 where
+  to_page : List ℕ → TargetSaid
+  to_heading : List ℕ → TargetSaid
+
+-- with what it is called, and where it leads
 pub record EntrySaid : Type 0 where
   pub word : List ℕ
-  pub page : Option (List ℕ)
+  pub target : Option TargetSaid
   pub terms : List Line
   pub body : List BlockSaid
 
@@ -34,3 +39,13 @@ pub data PartSaid : Type 0 where
   usage : List FormSaid → PartSaid
   block : BlockSaid → PartSaid
   entries : List EntrySaid → PartSaid
+
+mutual
+  -- a level with those below it: what it is called on the whole page, and under the level above; what it is about; and what stands behind that
+  pub data ChapterSaid : Type 0 where
+    chapter : (title name : List ℕ) → (about : List BlockSaid) → List PartSaid → (below : ChaptersSaid) → ChapterSaid
+
+  -- levels, in order
+  pub data ChaptersSaid : Type 0 where
+    no_chapters : ChaptersSaid
+    chapters : ChapterSaid → ChaptersSaid → ChaptersSaid

@@ -2,7 +2,7 @@
 use Rattle.std.specs.Prelude.{ℕ, ◌%◌, Bool, true, not, ◌&&◌, ◌||◌, ◌==◌, nat_lt, nat_le, List, Option, Some, None}
 use Rattle.std.specs.List.{list_all}
 use Rattle.std.specs.Str.{chars}
-use Rattle.page_model.specs.Content.{Piece, words, literal, value, link, page, Line, BlockSaid, paragraph, code, bullets, EntrySaid, FormSaid, PartSaid, heading, usage, block, entries}
+use Rattle.page_model.specs.Content.{Piece, words, literal, value, link, page, Line, BlockSaid, paragraph, code, bullets, TargetSaid, to_page, to_heading, EntrySaid, FormSaid, PartSaid, heading, usage, block, entries}
 
 -- a noncharacter: U+FDD0 to U+FDEF, and the last two of each plane
 abbrev pub is_noncharacter : ℕ → Bool
@@ -37,15 +37,19 @@ is_permitted_block (paragraph lines) = list_all is_permitted_line lines
 is_permitted_block (code lines) = list_all are_permitted lines
 is_permitted_block (bullets items) = list_all (list_all is_permitted_line) items
 
-abbrev pub is_permitted_page : Option (List ℕ) → Bool
-is_permitted_page None = true
-is_permitted_page (Some name) = are_permitted name
+abbrev pub is_permitted_target : TargetSaid → Bool
+is_permitted_target (to_page name) = are_permitted name
+is_permitted_target (to_heading title) = are_permitted title
+
+abbrev pub leads_to_permitted : Option TargetSaid → Bool
+leads_to_permitted None = true
+leads_to_permitted (Some target) = is_permitted_target target
 
 abbrev pub has_permitted_content : EntrySaid → Bool
 has_permitted_content entry = list_all is_permitted_line entry.terms && list_all is_permitted_block entry.body
 
 abbrev pub is_permitted_entry : EntrySaid → Bool
-is_permitted_entry entry = is_permitted_page entry.page && has_permitted_content entry
+is_permitted_entry entry = leads_to_permitted entry.target && has_permitted_content entry
 
 abbrev pub is_permitted_form : FormSaid → Bool
 is_permitted_form form = are_permitted form.name && list_all is_permitted_line form.items

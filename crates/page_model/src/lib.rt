@@ -7,4 +7,4 @@ pub mod permitted;
 pub mod replaced;
 
 pub use fault::PageFault;
-pub use parts::{Block, Entry, Form, Inline, Line, Part, Rank};
+pub use parts::{Block, Chapter, Entry, Form, Inline, Line, Part, Rank, Target};

@@ -32,13 +32,22 @@ pub enum Block<'a, A: Allocator = Global> {
     List(Vec<Vec<Line<'a, A>, A>, A>),
 }
 
+/// Where an entry leads.
+#[derive(Clone, Copy, Debug)]
+pub enum Target<'a> {
+    /// To the page of this name.
+    Page(&'a str),
+    /// To what stands under this title on the same page.
+    Heading(&'a str),
+}
+
 /// An entry of a list: the ways to write what it is about, and what is said of it.
 #[derive(Debug, Drop)]
 pub struct Entry<'a, A: Allocator = Global> {
     /// What it is called where others refer to it.
     pub word: &'a str,
-    /// The name of the page of what it is about, where there is such a page.
-    pub page: Option<&'a str>,
+    /// Where what it is about is shown, if there is such a place.
+    pub target: Option<Target<'a>>,
     pub terms: Vec<Line<'a, A>, A>,
     pub body: Vec<Block<'a, A>, A>,
 }
@@ -65,4 +74,17 @@ pub enum Part<'a, A: Allocator = Global> {
     Usage(Vec<Form<'a, A>, A>),
     Block(Block<'a, A>),
     Entries(Vec<Entry<'a, A>, A>),
+}
+
+/// A level of a command line with those below it, where all of them stand on one page.
+#[derive(Debug, Drop)]
+pub struct Chapter<'a, A: Allocator = Global> {
+    /// What it is called on the whole page: `tide save`.
+    pub title: &'a str,
+    /// What it is called under the level above: `save`.
+    pub name: &'a str,
+    pub about: Vec<Block<'a, A>, A>,
+    /// What stands behind `about`.
+    pub parts: Vec<Part<'a, A>, A>,
+    pub below: Vec<Chapter<'a, A>, A>,
 }

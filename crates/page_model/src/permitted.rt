@@ -4,13 +4,14 @@
 ghost use Rattle.std.specs.Prelude.{◌≡◌, map, option_map};
 ghost use Rattle.std.specs.List.{list_all};
 ghost use Rattle.std.specs.Str.{chars};
-ghost use Rattle.page_model.specs.View.{block_of, entry_of, form_of, line_of, part_of, piece_of};
+ghost use Rattle.page_model.specs.View.{block_of, entry_of, form_of, line_of, part_of, piece_of, target_of};
 ghost use Rattle.page_model.specs.Permitted.{are_permitted, has_permitted_content, is_permitted, is_permitted_block};
 ghost use Rattle.page_model.specs.Permitted.{is_permitted_byte};
 ghost use Rattle.page_model.specs.Permitted.{is_permitted_entry, is_permitted_form};
-ghost use Rattle.page_model.specs.Permitted.{is_permitted_page, is_permitted_part, is_permitted_piece};
+ghost use Rattle.page_model.specs.Permitted.{is_permitted_part, is_permitted_piece, is_permitted_target};
+ghost use Rattle.page_model.specs.Permitted.{leads_to_permitted};
 
-use crate::parts::{Block, Entry, Form, Inline, Line, Part};
+use crate::parts::{Block, Entry, Form, Inline, Line, Part, Target};
 use std::alloc::Allocator;
 
 fn is_permitted_byte(byte: u8) -> bool
@@ -102,10 +103,19 @@ fn are_permitted_blocks<A: Allocator>(blocks: &[Block<'_, A>]) -> bool
     blocks.iter().all(|block| is_permitted_block(block))
 }
 
-fn is_permitted_page(page: Option<&str>) -> bool
-    ensures { result ≡ is_permitted_page (option_map (λ name. name.now) page.entry) }
+fn is_permitted_target(target: Target<'_>) -> bool
+    ensures { result ≡ is_permitted_target (target_of target.entry) }
 {
-    page.is_none_or(|name| are_permitted(name))
+    match target {
+        Target::Page(name) => are_permitted(name),
+        Target::Heading(title) => are_permitted(title),
+    }
+}
+
+fn leads_to_permitted(target: Option<Target<'_>>) -> bool
+    ensures { result ≡ leads_to_permitted (option_map target_of target.entry) }
+{
+    target.is_none_or(|target| is_permitted_target(target))
 }
 
 // Whether the terms and the body are permitted.
@@ -118,7 +128,7 @@ fn has_permitted_content<A: Allocator>(entry: &Entry<'_, A>) -> bool
 fn is_permitted_entry<A: Allocator>(entry: &Entry<'_, A>) -> bool
     ensures { result ≡ is_permitted_entry (entry_of entry.now) }
 {
-    is_permitted_page(entry.page) && has_permitted_content(entry)
+    leads_to_permitted(entry.target) && has_permitted_content(entry)
 }
 
 fn is_permitted_form<A: Allocator>(form: &Form<'_, A>) -> bool
