@@ -1,0 +1,12 @@
+pub mod Outcomes
+pub mod Joined
+pub mod Spelled
+pub mod Views
+pub mod Whole
+pub mod Among
+pub mod Attributes
+pub mod Carried
+pub mod IdForms
+pub mod Apart
+pub mod Links
+pub mod OwnIds
