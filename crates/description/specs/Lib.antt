@@ -1,14 +1,4 @@
 pub mod Content
-pub mod Subjects
 pub mod View
-pub mod Texts
-pub mod Chunks
-pub mod Topics
-pub mod Syntax
-pub mod Trees
-pub mod UsageLines
-pub mod Paragraphs
-pub mod Notes
-pub mod Described
-pub mod Faults
-pub mod WebPages
+pub mod Words
+pub mod Calls

@@ -1,14 +1,11 @@
 //! Whole command lines.
 ghost use Rattle.std.specs.Prelude.{◌≡◌, ◌++◌, ◌∷◌, [], None, Some, OnErr, OnOk, codes};
-ghost use Rattle.bpaf_help.specs.View.{section_name};
-ghost use Rattle.description.specs.View.{description_said};
-ghost use Rattle.description_parts.specs.View.{level_said, opt_said};
-ghost use Rattle.description_parts.specs.Words.{english, words_said};
+ghost use Rattle.description.specs.View.{description_said, level_said, opt_said};
+ghost use Rattle.description.specs.Words.{english, words_said};
 
-use bpaf_help::pages::Section;
-use description_parts::levels::Level;
-use description_parts::options::Opt;
-use description_parts::words::FixedWords;
+use crate::levels::Level;
+use crate::options::Opt;
+use crate::words::FixedWords;
 use std::alloc::{AllocError, Allocator, Global};
 
 /// A command line: its name, the words of the title line of its manual page, the language of its texts, the words that
@@ -17,7 +14,8 @@ use std::alloc::{AllocError, Allocator, Global};
 #[derive_where(Debug)]
 pub struct Description<'a, A: Allocator = Global> {
     pub name: &'static str,
-    pub section: Section<'a>,
+    /// The section of the manual, as `1` or `3p`.
+    pub section: &'a str,
     pub date: Option<&'a str>,
     pub vendor: Option<&'a str>,
     pub title: Option<&'a str>,
@@ -48,7 +46,7 @@ impl<'a, A: Allocator> Description<'a, A> {
     {
         Description {
             name,
-            section: Section::General,
+            section: "1",
             date: None,
             vendor: None,
             title: None,
@@ -60,9 +58,8 @@ impl<'a, A: Allocator> Description<'a, A> {
     }
 
     /// The command line in another section of the manual.
-    pub fn section(mut self, section: Section<'a>) -> Description<'a, A>
-        ensures { description_said result
-            ≡ record (description_said self.entry) { section = section_name section.entry } }
+    pub fn section(mut self, section: &'a str) -> Description<'a, A>
+        ensures { description_said result ≡ record (description_said self.entry) { section = section.now } }
     {
         self.section = section;
         self

@@ -1,25 +1,16 @@
-//! Descriptions of command lines as plain records, read from TOML, and the complete HTML page that is made of one.
+//! Descriptions of command lines, as plain records.
 #![tactic(auto)]
 
-mod chunks;
-pub mod decode;
 pub mod descriptions;
-mod footers;
-mod page;
-mod paragraphs;
-mod subjects;
-mod syntax;
-mod texts;
-mod trees;
-mod usage_lines;
+pub mod levels;
+pub mod options;
+pub mod positionals;
+pub mod topics;
 pub mod words;
 
-pub use bpaf_help::item::ShortLong;
-pub use bpaf_help::pages::Section;
-pub use decode::DescriptionError;
-pub use description_parts::{
-    Choice, Command, FixedWords, Group, Level, Opt, Positional, Spelling, Topic, levels, options,
-    positionals, topics,
-};
 pub use descriptions::Description;
-pub use web_page::PageError;
+pub use levels::{Command, Group, Level};
+pub use options::{Choice, Name, Opt, Spelling};
+pub use positionals::Positional;
+pub use topics::Topic;
+pub use words::FixedWords;

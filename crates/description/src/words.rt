@@ -1,51 +1,52 @@
-//! Words of others: how a line shows them, and which known word is near.
-ghost use Rattle.std.specs.Prelude.{Contains, IfOk, IfSome};
+//! The fixed words of a page.
+ghost use Rattle.std.specs.Prelude.{◌≡◌};
+ghost use Rattle.description.specs.Words.{english, words_said};
 
-use std::alloc::{AllocError, Allocator};
-use std::fmt;
-use std::fmt::Display;
-use strsim::osa_distance;
-
-/// A word, as it stands; or as `{:?}` has it, where it holds a control character, so that what shows it stays one
-/// line and no control character reaches a terminal.
-#[derive(Clone, Copy)]
-pub struct Shown<'w>(pub &'w str);
-
-impl Display for Shown<'_> {
-    fn fmt<W: fmt::Write>(&self, f: &mut fmt::Formatter<W>) -> fmt::Result {
-        let Shown(word) = self;
-        if word.chars().any(|character| character.is_control()) {
-            write!(f, "{word:?}")
-        } else {
-            f.write_str(*word)
-        }
-    }
+/// The words that stand on each page, so that a page is in one language. Each is a title: it has no blanks at its ends
+/// and no colon at its end.
+#[derive(Clone, Copy, Debug)]
+pub struct FixedWords<'a> {
+    pub usage: &'a str,
+    pub arguments: &'a str,
+    pub options: &'a str,
+    pub commands: &'a str,
+    /// What stands above the places of a page.
+    pub contents: &'a str,
+    /// What stands above the footer.
+    pub notes: &'a str,
+    pub default: &'a str,
+    pub possible_values: &'a str,
+    pub env: &'a str,
+    pub aliases: &'a str,
+    /// What stands for a command in a usage.
+    pub command: &'a str,
+    pub name: &'a str,
+    pub synopsis: &'a str,
+    pub description: &'a str,
+    pub see_also: &'a str,
 }
 
-// A word of more bytes is near none of the known ones, whatever they are.
-const LONGEST: usize = 32;
-
-/// The known word, the first of some, that takes the fewest edits: at most two, and fewer than half as many as the
-/// word has letters. Two neighbours that change places are one edit. A word of over 32 bytes is near none.
-/// `AllocError` where an allocation failed.
-pub fn nearest<A: Allocator + Copy>(
-    alloc: A,
-    word: &str,
-    known: &[&'static str],
-) -> Result<Option<&'static str>, AllocError>
-    ensures { IfOk result (λ near. IfSome near (λ one. Contains known.now one)) }
-{
-    if word.len() > LONGEST {
-        return Ok(None);
-    }
-    let mut bound = word.chars().count().div_ceil(2).min(3);
-    let mut near = None;
-    for candidate in known {
-        let edits = osa_distance(alloc, word, *candidate)?;
-        if edits < bound {
-            bound = edits;
-            near = Some(*candidate);
+impl FixedWords<'static> {
+    /// Those of a page in English.
+    pub fn english() -> FixedWords<'static>
+        ensures { words_said result ≡ english }
+    {
+        FixedWords {
+            usage: "Usage",
+            arguments: "Arguments",
+            options: "Options",
+            commands: "Commands",
+            contents: "Contents",
+            notes: "Notes",
+            default: "default",
+            possible_values: "possible values",
+            env: "env",
+            aliases: "aliases",
+            command: "COMMAND",
+            name: "Name",
+            synopsis: "Synopsis",
+            description: "Description",
+            see_also: "See also",
         }
     }
-    Ok(near)
 }

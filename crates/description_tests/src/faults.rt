@@ -104,7 +104,7 @@ short = 'b'
 
 name = 'a'
 about = "a\n\tb"
-=> a
+=> read
 
 name = 'a'
 about = "\u202e\u00a0\ufdcf\ufdf0\ufffd\u0085"
@@ -142,7 +142,7 @@ value = "\ufffe"
 name = 'a'
 [[positional]]
 value = 'A "B\'
-=> a <A "B\>
+=> read
 
 name = 'a'
 date = "a\nb"
@@ -172,7 +172,7 @@ name = 'a'
 title = ''
 vendor = "a's"
 date = ''
-=> a
+=> read
 
 name = 'a'
 [[group]]
@@ -220,7 +220,7 @@ name = 'a'
 title = 'T :'
 [[group.option]]
 short = 'b'
-=> a [-b]
+=> read
 
 name = 'a'
 [[group]]
@@ -238,11 +238,11 @@ title = 1
 
 name = 'a'
 date = 2026-11-26
-=> a
+=> read
 
 name = 'a'
 language = 'pt-BR'
-=> a
+=> read
 
 name = 'a'
 language = ''
@@ -278,13 +278,13 @@ about = 1
 
 pub const SECTIONS: &str = r#"
 section = 0
-=> a
+=> read
 
 section = 1
-=> a
+=> read
 
 section = 9
-=> a
+=> read
 
 section = 10
 => description: section is no number from 0 to 9
@@ -299,16 +299,16 @@ section = true
 => description: section is no text and no number
 
 section = '1'
-=> a
+=> read
 
 section = '3posix2X'
-=> a
+=> read
 
 section = 'n'
-=> a
+=> read
 
 section = 'lx'
-=> a
+=> read
 
 section = ''
 => description: section is no section of a manual
@@ -337,7 +337,7 @@ name = 'a'
 [[topic]]
 title = 'T'
 text = 't'
-=> a
+=> read
 
 name = 'a'
 [[topic]]
@@ -392,7 +392,7 @@ name = 'a'
 [[topic]]
 title = 'T'
 text = "\n\t"
-=> a
+=> read
 
 name = 'a'
 [[topic]]
@@ -462,10 +462,10 @@ name = 'a"'
 => description: name holds a double quote
 
 name = '-a'
-=> -a
+=> read
 
 name = "a's"
-=> a's
+=> read
 
 name = 'a'
 [[command]]
@@ -495,7 +495,7 @@ name = 'b"'
 name = 'a'
 [[command]]
 name = 'b-'
-=> a COMMAND ...
+=> read
 
 name = 'a'
 [[command]]
@@ -543,7 +543,7 @@ long = 'b c'
 name = 'a'
 [[option]]
 long = 'b\"'
-=> a [--b\"]
+=> read
 
 name = 'a'
 [[option]]
@@ -583,7 +583,7 @@ short = 1
 name = 'a'
 [[option]]
 short = '\'
-=> a [-\]
+=> read
 
 name = 'a'
 [[option]]
@@ -607,7 +607,7 @@ name = 'a'
 [[option]]
 short = 'b'
 env = '-\'
-=> a [-b]
+=> read
 
 name = 'a'
 [[option]]
@@ -718,7 +718,7 @@ name = 'a'
 [[command]]
 name = 'b'
 short = 'b'
-=> a COMMAND ...
+=> read
 
 name = 'a'
 [[command]]
@@ -726,7 +726,7 @@ name = 'b'
 short = 'x'
 [[command.command]]
 name = 'x'
-=> a COMMAND ...
+=> read
 "#;
 
 pub const KEYS: &str = r#"
@@ -802,13 +802,13 @@ pub const SAID: &str = r#"
 long = 'b'
 value = 'V'
 default = 'x'
-=> a [--b=V]
+=> read
 
 [[option]]
 long = 'b'
 value = 'V'
 default = 12
-=> a [--b=V]
+=> read
 
 [[option]]
 long = 'b'
@@ -850,7 +850,7 @@ value = 'V'
 default = 'x'
 required = false
 repeated = true
-=> a [--b=V]...
+=> read
 
 [[option]]
 long = 'b'
@@ -862,13 +862,13 @@ required = 1
 [[positional]]
 value = 'V'
 default = 'x'
-=> a [V]
+=> read
 
 [[positional]]
 value = 'V'
 default = 'x'
 required = false
-=> a [V]
+=> read
 
 [[positional]]
 value = 'V'
@@ -879,7 +879,7 @@ required = true
 [[positional]]
 value = 'V'
 values = ['x']
-=> a V
+=> read
 
 [[option]]
 long = 'b'
@@ -903,7 +903,7 @@ default = "\ufffe"
 long = 'b'
 value = 'V'
 default = ''
-=> a [--b=V]
+=> read
 
 [[option]]
 long = 'b'
@@ -982,7 +982,7 @@ aliases = ['c"']
 [[command]]
 name = 'b'
 aliases = ['c', 'c', 'b']
-=> a COMMAND ...
+=> read
 "#;
 
 // The table of fixed words.
@@ -1059,5 +1059,5 @@ help_option = 1
 => description: words is no table
 
 [words]
-=> a
+=> read
 "#;

@@ -1,60 +1,47 @@
-//! What the keys `hidden`, `aliases`, `default`, `values` and `words` say.
+//! What the keys of tables say, read into a level and its fixed words.
 use crate::forms::Form;
 use crate::reading::Row;
 
-// Something hidden of each kind, beside something that is not.
-const HIDDEN: &str =
-    "name = 'a'\n[[option]]\nshort = 'b'\n[[option]]\nshort = 'c'\nhidden = true\nrequired = true\nrepeated = true\n[[choice]]\nrequired = true\n[[choice.option]]\nshort = 'd'\n[[choice.option]]\nshort = 'e'\nhidden = true\n[[group]]\ntitle = 'F'\n[[group.option]]\nshort = 'f'\nhidden = true\n[[group.positional]]\nvalue = 'G'\nhelp = 'g'\nstrict = true\nhidden = true\n[[group.command]]\nname = 'h'\nabout = 'H.'\nhidden = true\n[[group]]\ntitle = 'I'\n[[group.command]]\nname = 'i'\nhidden = false\n[[command]]\nname = 'j'\n[[command.command]]\nname = 'k'\nhidden = true\n";
-
-pub const HIDDEN_ROWS: &[Row<'static>] = &[
-    (HIDDEN, Form::Usage, "a [-b] -d COMMAND ..."),
+pub const LEVEL_ROWS: &[Row<'static>] = &[
+    // What holds where nothing is said.
     (
-        HIDDEN,
-        Form::Web("</pre>", "</section>"),
-        "<h3>I</h3><dl><dt><a href=\"#a:i\"><code>i</code></a></dt><dd></dd></dl><h3>Available options</h3><dl><dt id=\"a::b\"><a href=\"#a::b\"><code>-b</code></a></dt><dd></dd><dt id=\"a::d\"><a href=\"#a::d\"><code>-d</code></a></dt><dd></dd></dl><h3>Available commands</h3><dl><dt><a href=\"#a:j\"><code>j</code></a></dt><dd></dd></dl>",
+        "name = 'a'\n",
+        Form::Level,
+        "Level { about: None, header: None, footer: None, usage: None, command_required: true, options: [], choices: [], groups: [], positionals: [], commands: [], topics: [] }",
     ),
-    // What is hidden has no section, and no link leads there.
+    // Each text, and a topic.
     (
-        HIDDEN,
-        Form::Web("<nav>", "</nav>"),
-        "<ul><li><a href=\"#a\">a</a><ul><li><a href=\"#a:i\">i</a></li><li><a href=\"#a:j\">j</a></li></ul></li></ul>",
-    ),
-    (
-        HIDDEN,
-        Form::Web("<section id=\"a:j\">", ""),
-        "<h2>a j</h2><pre>\n<code><strong>a</strong> <strong>j</strong> </code></pre></section></main></body></html>",
+        "name = 'a'\nabout = 'A'\nheader = 'H'\nfooter = 'F'\nusage = 'U'\ncommand_required = false\n[[topic]]\ntitle = 'T'\ntext = 'Text'\n",
+        Form::Level,
+        "Level { about: Some(\"A\"), header: Some(\"H\"), footer: Some(\"F\"), usage: Some(\"U\"), command_required: false, options: [], choices: [], groups: [], positionals: [], commands: [], topics: [Topic { title: \"T\", text: \"Text\" }] }",
     ),
 ];
 
-const ALIASES: &str =
-    "name = 'a'\n[[command]]\nname = 'remove'\nshort = 'r'\naliases = ['rm', 'r', 'remove', 'delete']\nhelp = 'Removes.'\n[[group]]\ntitle = 'G'\n[[group.command]]\nname = 'list'\naliases = ['ls']\nhidden = true\n";
+pub const OPTION_ROWS: &[Row<'static>] = &[
+    // The three forms of names, and a syntax.
+    (
+        "name = 'a'\n[[option]]\nshort = 'b'\nrequired = true\nrepeated = true\nhidden = true\n[[option]]\nlong = 'color'\nvalue = 'WHEN'\ndefault = 'auto'\nvalues = ['never', 'auto']\nhelp = 'H'\nenv = 'E'\n[[option]]\nsyntax = '-n, --line'\n",
+        Form::Level,
+        "Level { about: None, header: None, footer: None, usage: None, command_required: true, options: [Opt { spelling: Names(Short('b')), value: None, default: None, values: None, help: None, env: None, required: true, repeated: true, hidden: true }, Opt { spelling: Names(Long(\"color\")), value: Some(\"WHEN\"), default: Some(\"auto\"), values: Some(\"never, auto\"), help: Some(\"H\"), env: Some(\"E\"), required: false, repeated: false, hidden: false }, Opt { spelling: Syntax(\"-n, --line\"), value: None, default: None, values: None, help: None, env: None, required: false, repeated: false, hidden: false }], choices: [], groups: [], positionals: [], commands: [], topics: [] }",
+    ),
+    (
+        "name = 'a'\n[[choice]]\nrequired = true\n[[choice.option]]\nshort = 'd'\nlong = 'dd'\n",
+        Form::Level,
+        "Level { about: None, header: None, footer: None, usage: None, command_required: true, options: [], choices: [Choice { options: [Opt { spelling: Names(Both('d', \"dd\")), value: None, default: None, values: None, help: None, env: None, required: false, repeated: false, hidden: false }], required: true }], groups: [], positionals: [], commands: [], topics: [] }",
+    ),
+];
 
-pub const ALIASES_ROWS: &[Row<'static>] = &[(
-    ALIASES,
-    Form::Web("</pre>", "</section>"),
-    "<h3>Available commands</h3><dl><dt><a href=\"#a:remove\"><code>remove</code>, <code>r</code></a></dt><dd><p>Removes.</p><p>[aliases: rm, r, remove, delete]</p></dd></dl>",
+pub const VALUE_ROWS: &[Row<'static>] = &[(
+    "name = 'a'\n[[positional]]\nvalue = 'F'\ndefault = -4\nhelp = \"Read\\nit\"\n[[positional]]\nvalue = 'G'\nvalues = ['x']\nrepeated = true\nstrict = true\nhidden = true\n",
+    Form::Level,
+    "Level { about: None, header: None, footer: None, usage: None, command_required: true, options: [], choices: [], groups: [], positionals: [Positional { value: \"F\", default: Some(\"-4\"), values: None, help: Some(\"Read\\nit\"), required: false, repeated: false, strict: false, hidden: false }, Positional { value: \"G\", default: None, values: Some(\"x\"), help: None, required: true, repeated: true, strict: true, hidden: true }], commands: [], topics: [] }",
 )];
 
-const VALUES: &str =
-    "name = 'a'\n[[option]]\nlong = 'color'\nvalue = 'WHEN'\ndefault = 'auto'\nvalues = ['never', 'auto', 'always']\nhelp = \"When to colour.\\n\\nMore.  \\n\"\n[[option]]\nlong = 'jobs'\nvalue = 'N'\ndefault = -4\n[[positional]]\nvalue = 'FILE'\ndefault = ''\nhelp = \"Read\\nit\"\n[[positional]]\nvalue = 'G'\nrequired = false\nvalues = ['x']\nhelp = ' '\n";
-
-pub const VALUES_ROWS: &[Row<'static>] = &[
-    (
-        VALUES,
-        Form::Usage,
-        "a [--color=WHEN] [--jobs=N] [FILE] [G]",
-    ),
-    (
-        VALUES,
-        Form::Web("</pre>", "</section>"),
-        "<h3>Available positional items</h3><dl><dt id=\"a::FILE\"><a href=\"#a::FILE\"><var>FILE</var></a></dt><dd><p>Read\nit</p><p>[default: ]</p></dd><dt id=\"a::G\"><a href=\"#a::G\"><var>G</var></a></dt><dd><p>[possible values: x]</p></dd></dl><h3>Available options</h3><dl><dt id=\"a::color\"><a href=\"#a::color\"><code>--color</code>=<var>WHEN</var></a></dt><dd><p>When to colour.</p><p>More.  </p><p>[default: auto]</p><p>[possible values: never, auto, always]</p></dd><dt id=\"a::jobs\"><a href=\"#a::jobs\"><code>--jobs</code>=<var>N</var></a></dt><dd><p>[default: -4]</p></dd></dl>",
-    ),
-    (
-        "name = 'a'\n[[help_option]]\nlong = 'help'\nvalue = 'HOW'\ndefault = 'short'\n[[choice]]\n[[choice.option]]\nlong = 'to'\nvalue = 'X'\nvalues = ['1', '2']\n",
-        Form::Web("</pre>", "</section>"),
-        "<h3>Available options</h3><dl><dt id=\"a::to\"><a href=\"#a::to\"><code>--to</code>=<var>X</var></a></dt><dd><p>[possible values: 1, 2]</p></dd><dt id=\"a::help\"><a href=\"#a::help\"><code>--help</code>=<var>HOW</var></a></dt><dd><p>[default: short]</p></dd></dl>",
-    ),
-];
+pub const COMMAND_ROWS: &[Row<'static>] = &[(
+    "name = 'a'\n[[group]]\ntitle = 'G'\n[[group.command]]\nname = 'remove'\nshort = 'r'\naliases = ['rm', 'r']\nhelp = 'H'\nhidden = true\nabout = 'A'\n",
+    Form::Level,
+    "Level { about: None, header: None, footer: None, usage: None, command_required: true, options: [], choices: [], groups: [Group { title: \"G\", options: [], choices: [], positionals: [], commands: [Command { name: \"remove\", short: Some('r'), aliases: [\"rm\", \"r\"], help: Some(\"H\"), hidden: true, level: Level { about: Some(\"A\"), header: None, footer: None, usage: None, command_required: true, options: [], choices: [], groups: [], positionals: [], commands: [], topics: [] } }] }], positionals: [], commands: [], topics: [] }",
+)];
 
 // Each word, some with a colon, which is left out.
 const WORDS: &str =

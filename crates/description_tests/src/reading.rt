@@ -1,33 +1,28 @@
-//! Descriptions that are read from TOML, and what is made of them, with ample memory or with each growth refused in turn:
-//! budgets rise from nothing, and each refuses the first growth that does not fit, until the call succeeds. Tables and
-//! names stand in other memory.
+//! Descriptions that are read from TOML, with ample memory or with each growth refused in turn: budgets rise from
+//! nothing, and each refuses the first growth that does not fit, until the call succeeds. Tables, names and what is shown
+//! stand in other memory.
 use crate::forms::{Form, made};
-use description::{Description, DescriptionError};
+use description_toml::{DescriptionError, description_from_table};
 use lasting_names::Names;
 use linked_list_allocator::LocalHeap;
 use std::alloc::{Allocator, Global};
 use std::process::Abort;
 use toml::Table;
 
-/// A text, and what is made of what it describes, or the fault of the text.
+/// A text, and what is shown of what it describes, or the fault of the text.
 pub type Row<'a> = (&'a str, Form, &'a str);
 
 fn table(rt: &impl Abort, out: Global, text: &str) -> Table {
     toml::table_from_str(out, text).ok().expect(rt, "a table")
 }
 
-fn copied<B: Allocator>(rt: &impl Abort, out: Global, text: Option<String<B>>) -> Option<String> {
-    match text {
-        Some(text) => {
-            let copy = String::from_str(out, text.as_str()).expect(rt, "a text");
-            drop(text);
-            Some(copy)
-        }
-        None => None,
-    }
+fn copied<B: Allocator>(rt: &impl Abort, out: Global, text: String<B>) -> String {
+    let copy = String::from_str(out, text.as_str()).expect(rt, "a text");
+    drop(text);
+    copy
 }
 
-// What is made of the description that a table gives, or its fault. None where a growth of reading is refused.
+// What is shown of the description that a table gives, or its fault. None where a growth of reading is refused.
 fn said<A: Allocator + Copy>(
     rt: &impl Abort,
     out: Global,
@@ -36,18 +31,18 @@ fn said<A: Allocator + Copy>(
     &(_, form, _): &Row<'_>,
 ) -> Option<String> {
     let mut names = Names::new(out);
-    match Description::from_table(alloc, &mut names, table) {
+    match description_from_table(alloc, &mut names, table) {
         Ok(app) => {
             let text = made(out, &app, form).expect(rt, "a text");
             drop(app);
             Some(text)
         }
-        Err(DescriptionError::Content(line)) => copied(rt, out, Some(line)),
+        Err(DescriptionError::Content(line)) => Some(copied(rt, out, line)),
         Err(DescriptionError::Memory(_)) => None,
     }
 }
 
-/// What is made of the description that a text gives, or its fault.
+/// What is shown of the description that a text gives, or its fault.
 pub fn told(rt: &impl Abort, out: Global, row: &Row<'_>) -> String {
     let table = table(rt, out, row.0);
     let told = said(rt, out, out, &table, row).expect(rt, "a text");
@@ -55,7 +50,7 @@ pub fn told(rt: &impl Abort, out: Global, row: &Row<'_>) -> String {
     told
 }
 
-/// Whether this is made of the description that a text gives, or is its fault.
+/// Whether this is shown of the description that a text gives, or is its fault.
 pub fn says(rt: &impl Abort, out: Global, row: &Row<'_>) -> bool {
     let told = told(rt, out, row);
     let is_that = told.as_str() == row.2;
@@ -63,26 +58,16 @@ pub fn says(rt: &impl Abort, out: Global, row: &Row<'_>) -> bool {
     is_that
 }
 
-// What growths are refused in: the reading of a table, or what is made of a description.
-#[derive(Clone, Copy)]
-enum Work<'a, 'd> {
-    Reading(&'a Table),
-    Making(&'a Description<'d>),
-}
-
-// What comes of it on so much memory. None where a growth is refused.
+// What comes of a table on so much memory. None where a growth is refused.
 fn told_on(
     rt: &impl Abort,
     out: Global,
     budget: usize,
-    work: Work<'_, '_>,
+    table: &Table,
     row: &Row<'_>,
 ) -> Option<String> {
     let heap = LocalHeap::new(out, budget).expect(rt, "a heap");
-    let told = match work {
-        Work::Reading(table) => said(rt, out, &heap, table, row),
-        Work::Making(app) => copied(rt, out, made(&heap, app, row.1).ok()),
-    };
+    let told = said(rt, out, &heap, table, row);
     drop(heap);
     told
 }
@@ -92,10 +77,10 @@ fn is_told_on(
     rt: &impl Abort,
     out: Global,
     budget: usize,
-    work: Work<'_, '_>,
+    table: &Table,
     row: &Row<'_>,
 ) -> Option<bool> {
-    match told_on(rt, out, budget, work, row) {
+    match told_on(rt, out, budget, table, row) {
         Some(text) => {
             let is_that = text.as_str() == row.2;
             drop(text);
@@ -106,47 +91,20 @@ fn is_told_on(
 }
 
 // Whether some budget is refused, and with the first that is not that comes of it which should.
-fn is_told_with_more(rt: &impl Abort, out: Global, work: Work<'_, '_>, row: &Row<'_>) -> bool {
+fn is_told_with_more(rt: &impl Abort, out: Global, table: &Table, row: &Row<'_>) -> bool {
     for budget in 0..4096usize {
-        if let Some(is_that) = is_told_on(rt, out, budget * 16, work, row) {
+        if let Some(is_that) = is_told_on(rt, out, budget * 16, table, row) {
             return is_that && budget > 0;
         }
     }
     false
 }
 
-/// Whether the reading of a row's text takes memory, and with the first budget that is not refused that comes of it which
-/// should.
+/// Whether the reading of a row's text takes memory, and with the first budget that is not refused that comes of it
+/// which should.
 pub fn is_read_with_more(rt: &impl Abort, out: Global, row: &Row<'_>) -> bool {
     let table = table(rt, out, row.0);
-    let is_read = is_told_with_more(rt, out, Work::Reading(&table), row);
+    let is_read = is_told_with_more(rt, out, &table, row);
     drop(table);
     is_read
-}
-
-// The same of what is made of a description, compared with what is made with ample memory.
-fn is_made_over(
-    rt: &impl Abort,
-    out: Global,
-    app: &Description<'_>,
-    &(text, form, _): &Row<'_>,
-) -> bool {
-    let want = made(out, app, form).expect(rt, "a text");
-    let row = (text, form, want.as_str());
-    let is_made = is_told_with_more(rt, out, Work::Making(app), &row);
-    drop(want);
-    is_made
-}
-
-/// Whether the form of a row takes memory, and is with the first budget that is not refused what it is with ample memory.
-pub fn is_made_with_more(rt: &impl Abort, out: Global, row: &Row<'_>) -> bool {
-    let table = table(rt, out, row.0);
-    let mut names = Names::new(out);
-    let app = Description::from_table(out, &mut names, &table)
-        .ok()
-        .expect(rt, "a description");
-    let is_made = is_made_over(rt, out, &app, row);
-    drop(app);
-    drop(table);
-    is_made
 }

@@ -1,43 +1,41 @@
 //! Each growth refused in turn. Each refusal leaves what was lent as it was, and the answer at the end is that of ample
 //! memory.
 use crate::forms::Form;
-use crate::reading::{Row, is_made_with_more, is_read_with_more};
-use crate::web_pages;
+use crate::reading::{Row, is_read_with_more};
 use description::{Choice, Command, Description, Group, Level, Opt, Positional, Topic};
 use linked_list_allocator::LocalHeap;
 use std::alloc::{AllocError, Global};
 use std::process::Abort;
 
-// Of what is read stands the usage line.
 const TABLES: &[Row<'static>] = &[
     // A description with a table of each kind.
     (
         "name = 'app'\ndate = 2026-11-23\n[[help_option]]\nshort = 'h'\n[[option]]\nlong = 'output'\nvalue = 'FILE'\nenv = 'OUT'\n[[option]]\nsyntax = '-s, --[no-]save[=(A|B)]'\nenv = 'SAVE'\n[[choice]]\n[[choice.option]]\nshort = 'a'\n[[choice.option]]\nshort = 'b'\n[[group]]\ntitle = 'More'\n[[group.option]]\nshort = 'm'\nvalue = 'M'\nvalues = ['a', 'b']\nrepeated = true\n[[positional]]\nvalue = 'INPUT'\ndefault = 7\n[[command]]\nname = 'run'\naliases = ['go']\n[[command.option]]\nshort = 'n'\n[[command.topic]]\ntitle = 'Files'\ntext = 'None'\n",
-        Form::Usage,
-        "app [--output=FILE] [--[no-]save[=(A|B)]] [-a | -b] [-m=M]... [INPUT] COMMAND ...",
+        Form::Read,
+        "read",
     ),
     // No description.
     (
         "name = 'app'\n[[command]]\nname = 'run'\n[[command.option]]\nshort = 'n'\n[[command.option]]\nlong = 'x y'\n",
-        Form::Usage,
+        Form::Read,
         "command 1, option 2: long holds a blank",
     ),
     // None, since a fixed word is no title.
     (
         "name = 'app'\n[words]\nnotes = 'Remarks '\n",
-        Form::Usage,
+        Form::Read,
         "words: notes ends with a blank",
     ),
     // None, since a name of a syntax is taken.
     (
         "name = 'app'\n[[option]]\nsyntax = '-o, --[no-]x'\n[[option]]\nlong = 'x'\n",
-        Form::Usage,
+        Form::Read,
         "description: --x is taken",
     ),
     // None either, since a key is not known, and the known one is near.
     (
         "name = 'app'\n[[option]]\nlnog = 'x'\n",
-        Form::Usage,
+        Form::Read,
         "option 1: no key lnog is known here; is it long?",
     ),
 ];
@@ -47,20 +45,6 @@ fn a_refused_table_is_read_with_more(rt: HostRuntime) {
     for row in TABLES {
         assert!(rt; is_read_with_more(&rt, rt.alloc(), row), "{}", row.2);
     }
-}
-
-// A row has its name in place of what is made.
-fn check_made(rt: &impl Abort, out: Global, rows: &[Row<'_>]) {
-    for row in rows {
-        assert!(rt; is_made_with_more(rt, out, row), "{}", row.2);
-    }
-}
-
-const WEB: &[Row<'static>] = &[(web_pages::APP, Form::Web("", ""), "page")];
-
-#[test]
-fn a_refused_web_page_is_made_with_more(rt: HostRuntime) {
-    check_made(&rt, rt.alloc(), WEB);
 }
 
 /// What is put into a level, a group, or the one list of a choice, a description or a command.

@@ -1,126 +1,6 @@
-//! Options that are written by a syntax: their usage lines and faults, and what stands in the list.
-use crate::forms::Form;
-use crate::reading::Row;
+//! Options that are written by a syntax: their faults, and names that are taken.
 
-// The piece that a usage line shows, and the round brackets around one with a bar.
-pub const PIECES: &str = r#"
-[[option]]
-syntax = '--color[=WHEN]'
-=> a [--color[=WHEN]]
-
-[[option]]
-syntax = '-o FILE'
-=> a [-o FILE]
-
-[[option]]
-syntax = '-o, --output=FILE'
-=> a [--output=FILE]
-
-[[option]]
-syntax = '-n, --line'
-=> a [-n]
-
-[[option]]
-syntax = '-n, --line, --number'
-=> a [-n]
-
-[[option]]
-syntax = '-n,--line  ,  --number N'
-=> a [--number N]
-
-[[option]]
-syntax = '-e, --[no-]edit'
-=> a [--[no-]edit]
-
-[[option]]
-syntax = 'if=FILE'
-=> a [if=FILE]
-
-[[option]]
-syntax = 'FILE'
-=> a [FILE]
-
-[[option]]
-syntax = ' -o FILE '
-=> a [-o FILE]
-
-[[option]]
-syntax = '-x[A,B], -y Z'
-=> a [-x[A,B]]
-
-[[option]]
-syntax = '-x, {-y,<Z>}'
-=> a [{-y,<Z>}]
-
-[[option]]
-syntax = '-o FILE'
-required = true
-=> a -o FILE
-
-[[option]]
-syntax = '-o FILE'
-repeated = true
-=> a [-o FILE]...
-
-[[option]]
-syntax = '-o FILE'
-required = true
-repeated = true
-=> a -o FILE...
-
-[[option]]
-syntax = '-a | -b'
-=> a [-a | -b]
-
-[[option]]
-syntax = '-a | -b'
-required = true
-=> a (-a | -b)
-
-[[option]]
-syntax = '-a|-b'
-repeated = true
-=> a [(-a|-b)]...
-
-[[option]]
-syntax = '-a|-b'
-required = true
-repeated = true
-=> a (-a|-b)...
-
-[[option]]
-syntax = '[-a | -b]'
-required = true
-=> a [-a | -b]
-
-[[option]]
-syntax = '-c, [-a | -b]|X'
-required = true
-=> a ([-a | -b]|X)
-
-[[option]]
-syntax = '-a X, -b | -c'
-required = true
-=> a -a X
-
-# An option of a choice is not wrapped.
-[[choice]]
-[[choice.option]]
-syntax = '-a | -b'
-[[choice.option]]
-short = 'c'
-=> a [-a | -b | -c]
-
-[[help_option]]
-syntax = '-h | -?'
-=> a
-
-[[option]]
-syntax = '-o FILE'
-hidden = true
-=> a
-"#;
-
+// What is told of a syntax, and syntaxes that are read.
 pub const FAULTS: &str = r#"
 [[option]]
 syntax = '-v'
@@ -178,7 +58,7 @@ syntax = '-a, , -b'
 
 [[option]]
 syntax = '-a[,]'
-=> a [-a[,]]
+=> read
 
 [[option]]
 syntax = '-a[X'
@@ -202,7 +82,7 @@ syntax = '-a ]X['
 
 [[option]]
 syntax = '-a ([{<X>}])'
-=> a [-a ([{<X>}])]
+=> read
 
 [[option]]
 syntax = "-a\tX"
@@ -234,12 +114,12 @@ value = ''
 [[option]]
 syntax = '-a X'
 default = 'x'
-=> a [-a X]
+=> read
 
 [[option]]
 syntax = '-a X'
 values = ['x']
-=> a [-a X]
+=> read
 
 [[option]]
 syntax = '-a X'
@@ -281,7 +161,7 @@ syntax = '--[no-]edit'
 syntax = '--[no-]edit'
 [[option]]
 long = 'no-edit'
-=> a [--[no-]edit] [--no-edit]
+=> read
 
 [[option]]
 syntax = '-vf'
@@ -289,7 +169,7 @@ syntax = '-vf'
 syntax = '--vf'
 [[option]]
 short = 'v'
-=> a [-vf] [--vf] [-v]
+=> read
 
 [[option]]
 syntax = '-vf'
@@ -300,7 +180,7 @@ syntax = 'X|-vf'
 # One may stand twice in one syntax, and what stands in brackets does not count.
 [[option]]
 syntax = '-v | -v N'
-=> a [-v | -v N]
+=> read
 
 [[option]]
 syntax = '-a [-b] (-c)'
@@ -308,7 +188,7 @@ syntax = '-a [-b] (-c)'
 syntax = '-b {-a}'
 [[option]]
 short = 'c'
-=> a [-a [-b] (-c)] [-b {-a}] [-c]
+=> read
 
 # Directly behind another byte stands no name.
 [[option]]
@@ -317,7 +197,7 @@ syntax = 'x-a'
 syntax = 'y=-a'
 [[option]]
 short = 'a'
-=> a [x-a] [y=-a] [-a]
+=> read
 
 [[group]]
 title = 'G'
@@ -329,26 +209,3 @@ syntax = '-a X'
 hidden = true
 => description: -a is taken
 "#;
-
-const LIST: &str =
-    "name = 'a'\n[[option]]\nsyntax = '--color[=WHEN]'\nhelp = \"When to colour.\\n\\nMore.\"\nenv = 'COLOR'\nvalues = ['never', 'always']\ndefault = 'never'\n[[option]]\nsyntax = '-n, --line, --number'\n[[option]]\nsyntax = '--[no-]edit'\nenv = 'EDIT'\n";
-
-pub const LIST_ROWS: &[Row<'static>] = &[
-    (LIST, Form::Usage, "a [--color[=WHEN]] [-n] [--[no-]edit]"),
-    (
-        LIST,
-        Form::Web("<dl>", "</dl>"),
-        "<dt id=\"a::--color.5b.3dWHEN.5d\"><a href=\"#a::--color.5b.3dWHEN.5d\"><code>--color</code>[=<var>WHEN</var>]</a></dt><dd><p>When to colour.</p><p>More.</p><p>[default: never]</p><p>[possible values: never, always]</p><p>[env: COLOR]</p></dd><dt id=\"a::-n.2c.20--line.2c.20--number\"><a href=\"#a::-n.2c.20--line.2c.20--number\"><code>-n</code>, <code>--line</code>, <code>--number</code></a></dt><dd></dd><dt id=\"a::--.5bno-.5dedit\"><a href=\"#a::--.5bno-.5dedit\">--[no-]<code>edit</code></a></dt><dd><p>[env: EDIT]</p></dd>",
-    ),
-    // Which texts are names, and which stand for a value.
-    (
-        "name = 'a'\n[[option]]\nsyntax = '--[no-]edit[=HOW|x-Y]'\n",
-        Form::Web("<dl><dt ", "</a></dt>"),
-        "id=\"a::--.5bno-.5dedit.5b.3dHOW.7cx-Y.5d\"><a href=\"#a::--.5bno-.5dedit.5b.3dHOW.7cx-Y.5d\">--[no-]<code>edit</code>[=<var>HOW</var>|x-Y]",
-    ),
-    (
-        "name = 'a'\n[[option]]\nsyntax = '--to=TO-2,-to T_o é.X'\n",
-        Form::Web("<dl><dt ", "</a></dt>"),
-        "id=\"a::--to.3dTO-2.2c-to.20T_o.20.c3.a9.2eX\"><a href=\"#a::--to.3dTO-2.2c-to.20T_o.20.c3.a9.2eX\"><code>--to</code>=<var>TO-2</var>,<code>-to</code> T_o é.<var>X</var>",
-    ),
-];

@@ -1,8 +1,7 @@
-//! The tables of rows with ample memory, each with what it shows. A test goes through a few tables of pages: one over
-//! all is too much for the prover, which has each row of them as a value of its own. A table of faults is one text.
+//! The tables of rows with ample memory, each with what it shows. A table of faults is one text.
 use crate::forms::Form;
 use crate::reading::{Row, says, told};
-use crate::{faults, keys, rows, syntaxes, web_pages};
+use crate::{faults, keys, syntaxes};
 use std::alloc::Global;
 use std::process::Abort;
 
@@ -15,55 +14,22 @@ fn check(rt: &impl Abort, out: Global, name: &str, rows: &[Row<'_>]) {
 }
 
 const KEYS: &[Table] = &[
-    ("what is hidden is on no page", keys::HIDDEN_ROWS),
-    ("other names are noted", keys::ALIASES_ROWS),
-    ("what is said of values is noted", keys::VALUES_ROWS),
+    ("texts of a level are read", keys::LEVEL_ROWS),
+    ("options are read", keys::OPTION_ROWS),
+    ("values are read", keys::VALUE_ROWS),
+    ("commands are read", keys::COMMAND_ROWS),
     ("fixed words are read", keys::WORDS_ROWS),
 ];
 
 #[test]
-fn keys_are_shown(rt: HostRuntime) {
+fn keys_are_read(rt: HostRuntime) {
     for &(name, rows) in KEYS {
         check(&rt, rt.alloc(), name, rows);
     }
 }
 
-const USAGES: &[Table] = &[
-    ("options", rows::OPTIONS),
-    ("positional values", rows::VALUES),
-    ("commands, and kinds in their order", rows::KINDS),
-    ("groups", rows::GROUPS),
-    ("a syntax stands in the list", syntaxes::LIST_ROWS),
-];
-
-#[test]
-fn usages_and_lists_are_shown(rt: HostRuntime) {
-    for &(name, rows) in USAGES {
-        check(&rt, rt.alloc(), name, rows);
-    }
-}
-
-const WEB_PAGES: &[Table] = &[
-    ("the complete page is that of the rules", web_pages::PAGE),
-    ("texts of the complete page", web_pages::TEXTS),
-    ("code in the header has lines of its own", web_pages::ABOUTS),
-    ("terms of syntaxes", web_pages::SYNTAXES),
-    ("entries of one key are shown once", web_pages::ONE_KEY),
-    (
-        "the complete page has its language",
-        web_pages::IN_PORTUGUESE,
-    ),
-];
-
-#[test]
-fn web_pages_are_shown(rt: HostRuntime) {
-    for &(name, rows) in WEB_PAGES {
-        check(&rt, rt.alloc(), name, rows);
-    }
-}
-
 // The rows of a table of faults stand behind one head, with an empty line between them. A row is a text, and behind
-// `=> ` the usage line of what it describes, or its fault.
+// `=> ` its fault, or `read`.
 type Faults = (&'static str, &'static str, &'static str);
 
 const NAME: &str = "name = 'a'\n";
@@ -71,7 +37,7 @@ const NAME: &str = "name = 'a'\n";
 fn is_told(rt: &impl Abort, out: Global, head: &str, row: &str) -> bool {
     let (text, want) = row.split_once("=> ").expect(rt, "what is told");
     let whole = format!(in out; "{head}{text}").expect(rt, "a text");
-    let told = told(rt, out, &(whole.as_str(), Form::Usage, want));
+    let told = told(rt, out, &(whole.as_str(), Form::Read, want));
     drop(whole);
     let is_that = told.as_str().trim_end() == want;
     drop(told);
@@ -94,7 +60,6 @@ const FAULTS: &[Faults] = &[
     ("words of commands are taken once", "", faults::TAKEN),
     ("what is said stands where it may", NAME, faults::SAID),
     ("names of a syntax are taken once", NAME, syntaxes::TAKEN),
-    ("a usage line shows one piece", NAME, syntaxes::PIECES),
     ("what is no syntax is told", NAME, syntaxes::FAULTS),
     ("fixed words are titles", NAME, faults::WORDS),
 ];

@@ -1,9 +1,0 @@
-use Rattle.std.proofs.Common.{map}
-use Rattle.description.specs.Described.{choice_from}
-use Rattle.description.specs.Described.Values.{in_table}
-use Rattle.description_parts.specs.View.{choice_said}
-use Rattle.description.proofs.Tables.{ReadSoFar}
-use Rattle.description.proofs.decode.options.choices_in.Given as goal
-
-abbrev pub invariant-loop-item : goal.invariant-loop-item
-invariant-loop-item g l = ReadSoFar (in_table choice_from) l.items (map choice_said l.choices.items) l.item-index

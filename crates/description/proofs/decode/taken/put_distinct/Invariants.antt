@@ -1,6 +1,0 @@
-use Rattle.description.specs.Described.Steps.{words_of}
-use Rattle.description.proofs.Distinct.{Kept}
-use Rattle.description.proofs.decode.taken.put_distinct.Given as goal
-
-abbrev pub invariant-loop-text : goal.invariant-loop-text
-invariant-loop-text g l = Kept (words_of l.fn.words.items) (words_of l.words.items) l.seen.keys l.texts l.text-index

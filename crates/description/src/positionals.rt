@@ -1,0 +1,106 @@
+//! Values that are taken by their place.
+ghost use Rattle.std.specs.Prelude.{◌≡◌, Some, None, true, false};
+ghost use Rattle.description.specs.View.{positional_said};
+
+/// A value that is taken by its place. It has to be given if it is `required`, many of it are taken if it is
+/// `repeated`, and it stands behind `--` if it is `strict`.
+#[derive(Clone, Copy, Debug)]
+pub struct Positional<'a> {
+    /// What the value is called, as `FILE`.
+    pub value: &'static str,
+    /// What holds where it is not given.
+    pub default: Option<&'a str>,
+    /// The values that it may have, as the help shows them: `never, auto, always`.
+    pub values: Option<&'a str>,
+    pub help: Option<&'a str>,
+    pub required: bool,
+    pub repeated: bool,
+    pub strict: bool,
+    /// Whether no page shows it.
+    pub hidden: bool,
+}
+
+impl<'a> Positional<'a> {
+    /// A value that has to be given, once.
+    pub fn new(value: &'static str) -> Positional<'a>
+        ensures { positional_said result
+            ≡ record {
+              value = value.now;
+              default = None;
+              values = None;
+              help = None;
+              required = true;
+              repeated = false;
+              strict = false;
+              hidden = false;
+            } }
+    {
+        Positional {
+            value,
+            default: None,
+            values: None,
+            help: None,
+            required: true,
+            repeated: false,
+            strict: false,
+            hidden: false,
+        }
+    }
+
+    /// The value with what holds where it is not given, and as one that may be left out.
+    pub fn default(mut self, default: &'a str) -> Positional<'a>
+        ensures { positional_said result
+            ≡ record (positional_said self.entry) { default = Some default.now; required = false } }
+    {
+        self.default = Some(default);
+        self.optional()
+    }
+
+    /// The value with the values that it may have, as the help shows them: `never, auto, always`.
+    pub fn values(mut self, values: &'a str) -> Positional<'a>
+        ensures { positional_said result ≡ record (positional_said self.entry) { values = Some values.now } }
+    {
+        self.values = Some(values);
+        self
+    }
+
+    /// The value with a help text.
+    pub fn help(mut self, help: &'a str) -> Positional<'a>
+        ensures { positional_said result ≡ record (positional_said self.entry) { help = Some help.now } }
+    {
+        self.help = Some(help);
+        self
+    }
+
+    /// The value as one that may be left out.
+    pub fn optional(mut self) -> Positional<'a>
+        ensures { positional_said result ≡ record (positional_said self.entry) { required = false } }
+    {
+        self.required = false;
+        self
+    }
+
+    /// The value as one of which many are taken.
+    pub fn repeated(mut self) -> Positional<'a>
+        ensures { positional_said result ≡ record (positional_said self.entry) { repeated = true } }
+    {
+        self.repeated = true;
+        self
+    }
+
+    /// The value as one that stands behind `--`.
+    pub fn strict(mut self) -> Positional<'a>
+        ensures { positional_said result ≡ record (positional_said self.entry) { strict = true } }
+    {
+        self.strict = true;
+        self
+    }
+
+    /// The value as one that no page shows.
+    pub fn hidden(mut self) -> Positional<'a>
+        ensures { positional_said result ≡ record (positional_said self.entry) { hidden = true } }
+    {
+        self.hidden = true;
+        self
+    }
+}

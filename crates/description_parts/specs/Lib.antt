@@ -1,4 +1,0 @@
-pub mod Content
-pub mod View
-pub mod Words
-pub mod Calls

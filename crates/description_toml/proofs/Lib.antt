@@ -1,0 +1,13 @@
+pub mod Each
+pub mod Reading
+pub mod Tables
+pub mod Depths
+pub mod Ordered
+pub mod Distinct
+pub mod Refused
+pub mod Titles
+pub mod Gives
+pub mod Listed
+pub mod Stretches
+pub mod Pieces
+pub mod Trimmed

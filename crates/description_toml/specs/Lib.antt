@@ -1,0 +1,4 @@
+pub mod Margins
+pub mod Syntax
+pub mod Described
+pub mod Faults

@@ -1,0 +1,217 @@
+//! Descriptions that are read from the data of a TOML text.
+ghost use Rattle.std.specs.Prelude.{◌≡◌, Some, None, IfOk, IfErr, codes};
+ghost use Rattle.description.specs.View.{text_of, description_said};
+ghost use Rattle.toml.specs.View.{table_view};
+ghost use Rattle.toml_datetime.specs.Text.{date_text};
+ghost use Rattle.description_toml.specs.Described.{commands_at, described, description_head, each_command};
+ghost use Rattle.description_toml.specs.Described.{each_group, groups_at, language_from, section_from, title_words};
+ghost use Rattle.description_toml.specs.Described.Steps.{description_head_seen, words_seen};
+ghost use Rattle.description_toml.specs.Described.Values.{as_date, optional_at, text_of_date};
+ghost use Rattle.description_toml.specs.Faults.{IsMemory, Reads};
+
+mod faults;
+mod fixed;
+mod levels;
+mod options;
+mod taken;
+mod texts;
+mod topics;
+mod values;
+
+use description::Description;
+pub use faults::DescriptionError;
+use faults::{Fault, Way};
+use fixed::fixed_in;
+use lasting_names::Names;
+use levels::{Outline, level_of, outline_from};
+use options::help_options_in;
+use std::alloc::{AllocError, Allocator};
+use texts::{Kind, checked};
+use toml::value::{Date, Datetime};
+use toml::{Table, Value};
+use values::{check_keys, required_word_at, section_at, table_at, tables_at, text_at, value_at};
+
+const DESCRIPTION_KEYS: [&str; 19] = [
+    "name",
+    "section",
+    "date",
+    "vendor",
+    "title",
+    "language",
+    "words",
+    "help_option",
+    "about",
+    "header",
+    "footer",
+    "usage",
+    "command_required",
+    "option",
+    "choice",
+    "group",
+    "positional",
+    "command",
+    "topic",
+];
+
+/// The description that the table of a TOML text gives (`docs/description.md`). Its texts are those of the
+/// table; its names, its words for values and a TOML date are kept in `names` for good, also those that were
+/// read before an error.
+///
+/// `Memory` says that an allocation failed, and nothing of the table. While memory lasts, `Content` comes
+/// exactly where the table is no description, and tells where the first fault is: in a table first a key that
+/// is not known, then its keys in the order of `docs/description.md`, then a name that is taken, then the
+/// tables inside it.
+pub fn description_from_table<'a, A: Allocator + Copy>(
+    alloc: A,
+    names: &mut Names,
+    table: &'a Table,
+) -> Result<Description<'a, A>, DescriptionError<A>>
+    ensures ok { IfOk result (λ d. described (table_view table.now) ≡ Some (description_said d)) }
+    ensures refused { IfErr result (λ e. ¬ IsMemory e → described (table_view table.now) ≡ None) }
+{
+    let mut way = Way::new(alloc);
+    match description_of(&mut way, names, table) {
+        Ok(description) => Ok(description),
+        Err(fault) => Err(way.told(fault)),
+    }
+}
+// What the table says, or its first fault, with the way to it.
+#[tactic(auto, unfolding(crate::specs::Described::described))]
+fn description_of<'a, A: Allocator + Copy>(
+    way: &mut Way<A>,
+    names: &mut Names,
+    table: &'a Table,
+) -> Result<Description<'a, A>, Fault<'a>>
+    ensures { Reads (described (table_view table.now)) (λ d. description_said d) result }
+{
+    let head = description_head(way.alloc(), names, table)?;
+    let words = fixed_in(way, head.fixed)?;
+    let help_options = help_options_in(way, names, head.help_options)?;
+    let level = level_of(way, names, head.outline)?;
+    Ok(Description {
+        name: head.name,
+        section: head.words.section,
+        date: head.words.date,
+        vendor: head.words.vendor,
+        title: head.words.title,
+        language: head.language,
+        words,
+        help_options,
+        level,
+    })
+}
+
+// The words of the title line.
+#[derive(Clone, Copy)]
+struct TitleWords<'a> {
+    section: &'a str,
+    date: Option<&'a str>,
+    vendor: Option<&'a str>,
+    title: Option<&'a str>,
+}
+
+// What a description says of itself, with the tables in it still to be read.
+#[derive(Clone, Copy)]
+struct DescriptionHead<'a> {
+    name: &'static str,
+    words: TitleWords<'a>,
+    language: &'a str,
+    fixed: Option<&'a Table>,
+    help_options: &'a [Value],
+    outline: Outline<'a>,
+}
+
+#[tactic(auto, unfolding(crate::specs::Described::title_words))]
+fn title_words<'a, A: Allocator + Copy>(
+    alloc: A,
+    names: &mut Names,
+    table: &'a Table,
+) -> Result<TitleWords<'a>, Fault<'a>>
+    ensures { Reads (title_words (table_view table.now)) (λ words. words_seen words) result }
+{
+    let section = section_of(section_at(table, "section")?);
+    let date = date_at(alloc, names, table)?;
+    let vendor = text_at(table, "vendor", Kind::Title)?;
+    let title = text_at(table, "title", Kind::Title)?;
+    Ok(TitleWords {
+        section,
+        date,
+        vendor,
+        title,
+    })
+}
+
+#[tactic(auto, unfolding(crate::specs::Described::description_head))]
+fn description_head<'a, A: Allocator + Copy>(
+    alloc: A,
+    names: &mut Names,
+    table: &'a Table,
+) -> Result<DescriptionHead<'a>, Fault<'a>>
+    ensures head { Reads (description_head (table_view table.now)) (λ head. description_head_seen head) result }
+    ensures groups { IfOk result (λ head. groups_at (codes "group") (table_view table.now)
+        ≡ each_group (description_head_seen head).outline.lists.groups) }
+    ensures commands { IfOk result (λ head. commands_at (codes "command") (table_view table.now)
+        ≡ each_command (description_head_seen head).outline.lists.commands) }
+{
+    check_keys(table, &DESCRIPTION_KEYS)?;
+    Ok(DescriptionHead {
+        name: required_word_at(names, table, "name", Kind::Program)?,
+        words: title_words(alloc, names, table)?,
+        language: language_of(text_at(table, "language", Kind::Language)?),
+        fixed: table_at(table, "words")?,
+        help_options: tables_at(table, "help_option")?,
+        outline: outline_from(alloc, table)?,
+    })
+}
+
+// The first section where none is named.
+fn section_of(name: Option<&str>) -> &str
+    ensures { result.now ≡ section_from (text_of name.entry) }
+{
+    match name {
+        None => "1",
+        Some(name) => name,
+    }
+}
+
+// English where none is named.
+fn language_of(tag: Option<&str>) -> &str
+    ensures { result.now ≡ language_from (text_of tag.entry) }
+{
+    match tag {
+        None => "en",
+        Some(tag) => tag,
+    }
+}
+
+// The date, as a text or as a TOML date, whose text is kept with the names.
+fn date_at<'a, A: Allocator + Copy>(
+    alloc: A,
+    names: &mut Names,
+    table: &'a Table,
+) -> Result<Option<&'a str>, Fault<'a>>
+    ensures { Reads (optional_at as_date (codes "date") (table_view table.now)) (λ date. text_of date) result }
+{
+    match value_at(table, "date") {
+        None => Ok(None),
+        Some(Value::String(text)) => Ok(Some(checked(text.as_str(), "date", Kind::Title)?)),
+        Some(
+            Value::Datetime(
+                Datetime {
+                    date: Some(day),
+                    time: None,
+                    offset: None,
+                },
+            ),
+        ) => Ok(Some(day_of(alloc, names, *day)?)),
+        Some(_) => Err(Fault::at("date", " is no text and no date")),
+    }
+}
+
+// The text of a day, kept with the names.
+fn day_of<A: Allocator>(alloc: A, names: &mut Names, day: Date) -> Result<&'static str, AllocError>
+    ensures { IfOk result (λ text. text.now ≡ date_text day) }
+{
+    let text = format!(in alloc; "{day}")?;
+    names.get(&text)
+}

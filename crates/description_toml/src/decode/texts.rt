@@ -1,0 +1,330 @@
+//! The kinds of texts, and why one is none of its kind.
+ghost use Rattle.std.specs.Prelude.{◌≡◌, ◌&&◌, chars, is_none, not};
+ghost use Rattle.std.specs.Char.{is_ascii_alphanumeric, is_whitespace};
+ghost use Rattle.std.specs.List.{list_all};
+ghost use Rattle.description_toml.specs.Described.Kinds.{allows, has_form, is_of};
+ghost use Rattle.description_toml.specs.Described.Texts.{begins, begins_a_section, ends, has_blank_end, if_passes};
+ghost use Rattle.description_toml.specs.Described.Texts.{is_dash, is_empty_text, is_language_byte, is_line_character};
+ghost use Rattle.description_toml.specs.Described.Texts.{is_name_character, is_noncharacter, is_read_once, is_short};
+ghost use Rattle.description_toml.specs.Described.Texts.{is_text_character, without_colon};
+ghost use Rattle.description_toml.specs.Faults.{Reads};
+
+use super::faults::Fault;
+
+/// What a text at a key is, which decides what it may hold.
+#[derive(Clone, Copy)]
+pub enum Kind {
+    /// Lines.
+    Text,
+    /// Lines, of which there is something.
+    Body,
+    /// One line, which may be empty.
+    Line,
+    /// The word for a value.
+    Value,
+    /// A word of the title line of a manual page.
+    Title,
+    /// A title on a page: of a group or of a topic, or a fixed word.
+    Heading,
+    /// A section of the manual.
+    Section,
+    /// The tag of a language.
+    Language,
+    /// The name of an environment variable.
+    Name,
+    /// The long name of an option.
+    Long,
+    /// The name of a program.
+    Program,
+    /// The name of a command.
+    Command,
+}
+
+// Why a character or a text is refused, as it is said behind the key; nothing where it is not refused.
+type Refusal = Option<&'static str>;
+
+fn is_noncharacter(character: char) -> bool
+    ensures { result ≡ is_noncharacter character }
+{
+    let code = character as u32;
+    (0xFDD0 <= code && code <= 0xFDEF) || 0xFFFD < code % 0x1_0000
+}
+
+fn refused_on_a_line(character: char) -> Refusal
+    ensures { is_none result ≡ is_line_character character }
+{
+    if character.is_control() {
+        Some(" holds a control character")
+    } else if is_noncharacter(character) {
+        Some(" holds a noncharacter")
+    } else {
+        None
+    }
+}
+
+fn refused_in_a_text(character: char) -> Refusal
+    ensures { is_none result ≡ is_text_character character }
+{
+    if character == '\n' || character == '\t' {
+        None
+    } else {
+        refused_on_a_line(character)
+    }
+}
+
+fn refused_in_a_name(character: char) -> Refusal
+    ensures { is_none result ≡ is_name_character character }
+{
+    if character.is_whitespace() {
+        Some(" holds a blank")
+    } else if character == '=' {
+        Some(" holds =")
+    } else {
+        refused_on_a_line(character)
+    }
+}
+
+/// Why a character is no short name.
+pub fn refused_as_short(character: char) -> Refusal
+    ensures { is_none result ≡ is_short character }
+{
+    if character == '-' {
+        Some(" begins with -")
+    } else {
+        refused_in_a_name(character)
+    }
+}
+
+fn refused_if_empty(text: &str) -> Refusal
+    ensures { is_none result ≡ not (is_empty_text text.now) }
+{
+    if text.is_empty() {
+        Some(" is empty")
+    } else {
+        None
+    }
+}
+
+fn refused_with_a_dash(text: &str) -> Refusal
+    ensures { is_none result ≡ not (is_empty_text text.now) && not (begins is_dash text.now) }
+{
+    match text.as_bytes().first() {
+        None => Some(" is empty"),
+        Some(first) => {
+            if *first == b'-' {
+                Some(" begins with -")
+            } else {
+                None
+            }
+        }
+    }
+}
+
+fn begins_with_a_blank(text: &str) -> bool
+    ensures { result ≡ begins is_whitespace (chars text.now) }
+{
+    match text.chars().next() {
+        None => false,
+        Some(first) => first.is_whitespace(),
+    }
+}
+
+fn ends_with_a_blank(text: &str) -> bool
+    ensures { result ≡ ends is_whitespace (chars text.now) }
+{
+    let mut is_blank = false;
+    for character in text.chars() {
+        is_blank = character.is_whitespace();
+    }
+    is_blank
+}
+
+/// A title without the colon at its end.
+pub fn without_colon(title: &str) -> &str
+    ensures { result.now ≡ without_colon title.now }
+{
+    match title.strip_suffix(':') {
+        None => title,
+        Some(rest) => rest,
+    }
+}
+
+fn refused_as_heading(text: &str) -> Refusal
+    ensures { is_none result ≡ not (has_blank_end text.now) && not (is_empty_text (without_colon text.now)) }
+{
+    if without_colon(text).is_empty() {
+        Some(" is empty")
+    } else if begins_with_a_blank(text) {
+        Some(" begins with a blank")
+    } else if ends_with_a_blank(text) {
+        Some(" ends with a blank")
+    } else {
+        None
+    }
+}
+
+fn begins_a_section(byte: u8) -> bool
+    ensures { result ≡ begins_a_section byte }
+{
+    byte.is_ascii_digit() || byte == b'n' || byte == b'l'
+}
+
+fn are_alphanumeric(bytes: &[u8]) -> bool
+    ensures { result ≡ list_all is_ascii_alphanumeric bytes.now }
+{
+    for byte in bytes {
+        if !byte.is_ascii_alphanumeric() {
+            return false;
+        }
+    }
+    true
+}
+
+fn begins_as_a_section(bytes: &[u8]) -> bool
+    ensures { result ≡ begins begins_a_section bytes.now }
+{
+    match bytes.first() {
+        None => false,
+        Some(first) => begins_a_section(*first),
+    }
+}
+
+fn refused_as_section(text: &str) -> Refusal
+    ensures { is_none result ≡ list_all is_ascii_alphanumeric text.now && begins begins_a_section text.now }
+{
+    if are_alphanumeric(text.as_bytes()) && begins_as_a_section(text.as_bytes()) {
+        None
+    } else {
+        Some(" is no section of a manual")
+    }
+}
+
+fn is_language_byte(byte: u8) -> bool
+    ensures { result ≡ is_language_byte byte }
+{
+    byte.is_ascii_alphanumeric() || byte == b'-'
+}
+
+fn are_language_bytes(text: &str) -> bool
+    ensures { result ≡ list_all is_language_byte text.now }
+{
+    text.as_bytes().iter().all(|byte| is_language_byte(*byte))
+}
+
+fn refused_as_language(text: &str) -> Refusal
+    ensures { is_none result ≡ not (is_empty_text text.now) && list_all is_language_byte text.now }
+{
+    if !text.is_empty() && are_language_bytes(text) {
+        None
+    } else {
+        Some(" is no tag of a language")
+    }
+}
+
+// A macro of roff reads its arguments twice: a backslash would begin an escape there, and a quote end the argument.
+fn refused_by_roff(bytes: &[u8]) -> Refusal
+    ensures { is_none result ≡ list_all is_read_once bytes.now }
+{
+    for byte in bytes {
+        if *byte == b'\\' {
+            return Some(" holds a backslash");
+        }
+        if *byte == b'"' {
+            return Some(" holds a double quote");
+        }
+    }
+    None
+}
+
+fn first_of(first: Refusal, second: Refusal) -> Refusal
+    ensures { is_none result ≡ is_none first.entry && is_none second.entry }
+{
+    match first {
+        None => second,
+        refused => refused,
+    }
+}
+
+impl Kind {
+    fn refuses(self, character: char) -> Refusal
+        ensures { is_none result ≡ allows self character }
+    {
+        match self {
+            Kind::Text | Kind::Body => refused_in_a_text(character),
+            Kind::Line
+            | Kind::Value
+            | Kind::Title
+            | Kind::Heading
+            | Kind::Section
+            | Kind::Language => refused_on_a_line(character),
+            Kind::Name | Kind::Long | Kind::Program | Kind::Command => {
+                refused_in_a_name(character)
+            }
+        }
+    }
+
+    fn refuses_form(self, text: &str) -> Refusal
+        ensures { is_none result ≡ has_form self text.now }
+    {
+        match self {
+            Kind::Text | Kind::Line => None,
+            Kind::Title => refused_by_roff(text.as_bytes()),
+            Kind::Heading => first_of(refused_by_roff(text.as_bytes()), refused_as_heading(text)),
+            Kind::Section => refused_as_section(text),
+            Kind::Language => refused_as_language(text),
+            Kind::Body | Kind::Value | Kind::Name => refused_if_empty(text),
+            Kind::Program => first_of(refused_if_empty(text), refused_by_roff(text.as_bytes())),
+            Kind::Long => refused_with_a_dash(text),
+            Kind::Command => first_of(refused_with_a_dash(text), refused_by_roff(text.as_bytes())),
+        }
+    }
+
+    // The first character that is refused decides.
+    fn refuses_characters(self, text: &str) -> Refusal
+        ensures { is_none result ≡ list_all (allows self) (chars text.now) }
+    {
+        for character in text.chars() {
+            let refused = self.refuses(character);
+            if refused.is_some() {
+                return refused;
+            }
+        }
+        None
+    }
+
+    fn refuses_text(self, text: &str) -> Refusal
+        ensures { is_none result ≡ is_of self text.now }
+    {
+        match self.refuses_characters(text) {
+            None => self.refuses_form(text),
+            refused => refused,
+        }
+    }
+}
+
+/// The text that stands at a key, if it is of this kind.
+pub fn checked<'a>(text: &'a str, key: &'static str, kind: Kind) -> Result<&'a str, Fault<'a>>
+    ensures { Reads (if_passes (is_of kind) text.now) (λ text. text.now) result }
+{
+    match kind.refuses_text(text) {
+        None => Ok(text),
+        Some(after) => Err(Fault::at(key, after)),
+    }
+}
+
+/// A text that stands in the array at a key, if it is of this kind.
+pub fn checked_in<'a>(text: &'a str, key: &'static str, kind: Kind) -> Result<&'a str, Fault<'a>>
+    ensures { Reads (if_passes (is_of kind) text.now) (λ text. text.now) result }
+{
+    match kind.refuses_text(text) {
+        None => Ok(text),
+        Some(after) => Err(Fault::at(
+            key,
+            if text.is_empty() {
+                " holds an empty text"
+            } else {
+                after
+            },
+        )),
+    }
+}

@@ -1,0 +1,9 @@
+//! Descriptions of command lines that are read from TOML.
+#![tactic(auto)]
+
+pub mod decode;
+mod margins;
+mod syntax;
+pub mod words;
+
+pub use decode::{DescriptionError, description_from_table};
