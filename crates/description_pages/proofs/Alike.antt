@@ -1,6 +1,6 @@
 -- Keys are compared by what they say.
 use Rattle.std.proofs.Common.{◌≡◌, refl, Some, None}
-use Rattle.bpaf_meta.specs.declared.item.ShortLong.TheVariants as name
+use Rattle.description.specs.declared.options.Name.TheVariants as name
 use Rattle.description_pages.specs.Keys.{key_said, same_key}
 use Rattle.description_pages.specs.declared.keys.EntryKey.{EntryKey}
 use Rattle.description_pages.specs.declared.keys.EntryKey.TheVariants as key

@@ -6,14 +6,14 @@ use Rattle.std.proofs.lemmas.List.Concat.{flat_map-append}
 use Rattle.std.proofs.lemmas.List.Elements.{filter-append}
 use Rattle.std.proofs.lemmas.List.Folds.{list_any-append, list_any_at}
 use Rattle.page_model.specs.Content.{Line}
-use Rattle.description_parts.specs.Content.{PositionalSaid, GroupSaid, CommandSaid}
-use Rattle.description_parts.specs.View.{opt_said, choice_said, positional_said, group_said, command_said, level_said, groups_in, commands_in}
-use Rattle.description_parts.specs.declared.options.Choice.{Choice}
-use Rattle.description_parts.specs.declared.options.Opt.{Opt}
-use Rattle.description_parts.specs.declared.levels.Level.{Level, out-Level}
-use Rattle.description_parts.specs.declared.levels.Group.{Group, out-Group}
-use Rattle.description_parts.specs.declared.levels.Command.{Command, out-Command}
-use Rattle.description_parts.proofs.Views.{open-Level, open-Group, open-Command}
+use Rattle.description.specs.Content.{PositionalSaid, GroupSaid, CommandSaid}
+use Rattle.description.specs.View.{opt_said, choice_said, positional_said, group_said, command_said, level_said, groups_in, commands_in}
+use Rattle.description.specs.declared.options.Choice.{Choice}
+use Rattle.description.specs.declared.options.Opt.{Opt}
+use Rattle.description.specs.declared.levels.Level.{Level, out-Level}
+use Rattle.description.specs.declared.levels.Group.{Group, out-Group}
+use Rattle.description.specs.declared.levels.Command.{Command, out-Command}
+use Rattle.description.proofs.Views.{open-Level, open-Group, open-Command}
 use Rattle.description_pages.specs.Usage.{choice_items, command_list, group_items, group_list, group_positionals, group_shows_command, is_shown_command, level_positionals, level_shows_command, named_items, option_items, shown_positionals}
 
 -- ---- an item that passes a test

@@ -3,10 +3,10 @@ use Rattle.std.specs.Prelude.{false, not, flat_map, if◌then◌else◌}
 use Rattle.std.proofs.Common.{◌≡◌, List, [], ◌∷◌, ◌++◌, map, refl, sym, ap, ◌∙◌, append_assoc, arith}
 use Rattle.std.proofs.lemmas.Grind.{flat_map-append}
 use Rattle.std.proofs.lemmas.List.{map-append}
-use Rattle.description_parts.specs.Content.{LevelSaid, level, GroupsSaid, no_groups, groups, group, CommandsSaid, no_commands, commands, CommandSaid, command}
-use Rattle.description_parts.specs.View.{command_said, level_said}
-use Rattle.description_parts.specs.declared.levels.Command.{Command, out-Command}
-use Rattle.description_parts.proofs.Views.{open-Command}
+use Rattle.description.specs.Content.{LevelSaid, level, GroupsSaid, no_groups, groups, group, CommandsSaid, no_commands, commands, CommandSaid, command}
+use Rattle.description.specs.View.{command_said, level_said}
+use Rattle.description.specs.declared.levels.Command.{Command, out-Command}
+use Rattle.description.proofs.Views.{open-Command}
 use Rattle.description_pages.specs.Levels.{SubjectSaid}
 use Rattle.description_pages.specs.Subjects.{EachCommandIsThere, all_from, below, below_commands, below_groups, below_level, commands_on, from_command, grouped, is_shown, listed, shown_from}
 

@@ -27,4 +27,6 @@ pub mod Merged
 pub mod PageNames
 pub mod Shortened
 pub mod Below
+pub mod Unled
 pub mod Media
+pub mod ChapterParts

@@ -15,8 +15,10 @@ use Rattle.description_pages.specs.Summaries.{summary_of}
 use Rattle.description_pages.specs.Topics.{merged}
 use Rattle.description_pages.specs.declared.arranged.Case.{Case}
 use Rattle.description_pages.specs.declared.arranged.Case.TheVariants.{AsSaid, Capitals}
+use Rattle.description_pages.specs.declared.levels.Depth.TheVariants.{Alone, Deep}
 use Rattle.description_pages.specs.declared.sections.Detail.TheVariants.{Full}
-use Rattle.description_parts.specs.Words.{WordsSaid}
+use Rattle.description_pages.proofs.Unled.{depths_same}
+use Rattle.description.specs.Words.{WordsSaid}
 
 -- ---- parts without lists
 
@@ -76,10 +78,11 @@ of_manual rank fixed said =
 pub media_list_the_same : MediaListTheSame
 media_list_the_same fixed subject = (
   behind_none (name_parts fixed subject)
-      (manual_order Section fixed (without_summary (summary_of subject) (with_references (page_of fixed Full subject)))) (lists_of (page_of fixed Full subject)) refl
-      (of_manual Section fixed (without_summary (summary_of subject) (with_references (page_of fixed Full subject)))),
-  of_manual Subsection fixed (page_of fixed Full subject),
-  of_order Section fixed (with_references (page_of fixed Full subject)),
-  of_order Subsection fixed (page_of fixed Full subject),
-  λ detail. of_order Section fixed (page_of fixed detail subject),
+      (manual_order Section fixed (without_summary (summary_of subject) (with_references (page_of fixed Full Alone subject)))) (lists_of (page_of fixed Full Alone subject)) refl
+      (of_manual Section fixed (without_summary (summary_of subject) (with_references (page_of fixed Full Alone subject)))),
+  of_manual Subsection fixed (page_of fixed Full Alone subject),
+  λ depth. of_order Section fixed (with_references (page_of fixed Full depth subject)) ∙ depths_same fixed Full depth Alone subject,
+  of_order Subsection fixed (page_of fixed Full Deep subject) ∙ depths_same fixed Full Deep Alone subject,
+  of_order Section fixed (record (page_of fixed Full Deep subject) { about = [] }) ∙ depths_same fixed Full Deep Alone subject,
+  λ detail. of_order Section fixed (page_of fixed detail Alone subject),
 )

@@ -5,13 +5,12 @@ use Rattle.std.proofs.lemmas.List.{drop_all, drop_more}
 use Rattle.std.specs.List.{find}
 use Rattle.std.specs.Option.{option_or}
 use Rattle.std.proofs.lemmas.List.Folds.{find-append}
-use Rattle.bpaf_meta.specs.View.{text_of}
-use Rattle.description_parts.specs.Content.{CommandSaid}
-use Rattle.description_parts.specs.View.{command_said, commands_in, groups_said, level_said}
-use Rattle.description_parts.specs.declared.levels.Level.{Level, out-Level}
-use Rattle.description_parts.specs.declared.levels.Group.{Group, out-Group}
-use Rattle.description_parts.specs.declared.levels.Command.{Command, out-Command}
-use Rattle.description_parts.proofs.Views.{open-Level, open-Group, open-Command}
+use Rattle.description.specs.View.{text_of, command_said, commands_in, groups_said, level_said}
+use Rattle.description.specs.Content.{CommandSaid}
+use Rattle.description.specs.declared.levels.Level.{Level, out-Level}
+use Rattle.description.specs.declared.levels.Group.{Group, out-Group}
+use Rattle.description.specs.declared.levels.Command.{Command, out-Command}
+use Rattle.description.proofs.Views.{open-Level, open-Group, open-Command}
 use Rattle.description_pages.specs.Levels.{SubjectSaid}
 use Rattle.description_pages.specs.Subjects.{below, commands_on, grouped, listed}
 

@@ -2,11 +2,11 @@
 use Rattle.std.proofs.Common.{◌≡◌, ℕ, ◌-◌, ◌≤◌, List, [], ◌∷◌, ◌++◌, length, take, map, ap, ◌∙◌, sym, arith, append_assoc}
 use Rattle.std.proofs.lemmas.Bool.{lt-ltb}
 use Rattle.std.proofs.lemmas.List.{length-map, map-append, take-map}
-use Rattle.description_parts.specs.View.{commands_said, group_said, groups_said, level_said}
-use Rattle.description_parts.specs.declared.levels.Level.{Level, out-Level}
-use Rattle.description_parts.specs.declared.levels.Command.{Command}
-use Rattle.description_parts.specs.declared.levels.Group.{Group, out-Group}
-use Rattle.description_parts.proofs.Views.{open-Group, open-Level}
+use Rattle.description.specs.View.{commands_said, group_said, groups_said, level_said}
+use Rattle.description.specs.declared.levels.Level.{Level, out-Level}
+use Rattle.description.specs.declared.levels.Command.{Command}
+use Rattle.description.specs.declared.levels.Group.{Group, out-Group}
+use Rattle.description.proofs.Views.{open-Group, open-Level}
 use Rattle.description_pages.specs.Levels.{commands_in, commands_of, grouped_below, neighbours, page_above, pages_below}
 use Rattle.description_pages.specs.Sections.{groups_of, page_name}
 

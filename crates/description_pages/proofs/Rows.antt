@@ -7,14 +7,13 @@ use Rattle.std.specs.Str.{chars}
 use Rattle.ucd_table.specs.Rows.{in_ranges}
 use Rattle.ucd_derived.specs.UppercaseRanges.{uppercase_ranges}
 use Rattle.unicode.specs.Binary.{is_uppercase}
-use Rattle.page_model.specs.Content.{Piece, words, literal, value, Line, BlockSaid, paragraph, code, bullets, EntrySaid, FormSaid}
-use Rattle.bpaf_meta.specs.Content.{short, long, both}
-use Rattle.description_parts.specs.Content.{TextsSaid, level, no_groups, groups, group, no_commands, commands, command, named, syntax}
+use Rattle.page_model.specs.Content.{Piece, words, literal, value, Line, BlockSaid, paragraph, code, bullets, to_page, EntrySaid, FormSaid}
+use Rattle.description.specs.Content.{short, long, both, TextsSaid, level, no_groups, groups, group, no_commands, commands, command, named, syntax}
 use Rattle.description_pages.specs.Forms.{text_forms}
 use Rattle.description_pages.specs.Entries.{command_entry, option_entry, positional_entry}
 use Rattle.description_pages.specs.Syntax.{syntax_terms, syntax_word}
 use Rattle.description_pages.specs.Usage.{usage_items}
-use Rattle.description_parts.specs.Words.{WordsSaid, english}
+use Rattle.description.specs.Words.{WordsSaid, english}
 
 -- words that are neighbours, as one
 abbrev onto_pieces : Piece → Line → Line
@@ -31,7 +30,7 @@ shown_block (code lines) = code lines
 shown_block (bullets items) = bullets (map (map shown_pieces) items)
 
 abbrev shown_entry : EntrySaid → EntrySaid
-shown_entry entry = record { word = entry.word; page = entry.page; terms = map shown_pieces entry.terms; body = map shown_block entry.body }
+shown_entry entry = record { word = entry.word; target = entry.target; terms = map shown_pieces entry.terms; body = map shown_block entry.body }
 
 abbrev shown_form : FormSaid → FormSaid
 shown_form form = record { name = form.name; items = map shown_pieces form.items }
@@ -72,28 +71,28 @@ syntax_words = (refl, refl, refl, refl, refl, refl, refl, refl, refl, refl)
 
 -- entries of options
 pub options :
-    (shown_entry (option_entry english (record { spelling = named (both 115 (codes "store")); value = (Some (codes "FOLDER")); default = (Some (codes "~/.tide")); values = None; help = None; env = (Some (codes "TIDE_STORE")); required = false; repeated = false; hidden = false }) (paragraph ((words (codes "Where snapshots are kept") ∷ []) ∷ []) ∷ [])) ≡ record { word = codes "store"; page = None; terms = ((literal (codes "-s") ∷ []) ∷ (literal (codes "--store") ∷ words (codes "=") ∷ value (codes "FOLDER") ∷ []) ∷ []); body = (paragraph ((words (codes "Where snapshots are kept [env: TIDE_STORE] [default: ~/.tide]") ∷ []) ∷ []) ∷ []) })
-    × (shown_entry (option_entry english (record { spelling = named (short 110); value = (Some (codes "COUNT")); default = None; values = None; help = None; env = None; required = false; repeated = false; hidden = false }) (paragraph ((words (codes "a") ∷ []) ∷ (words (codes "b") ∷ []) ∷ []) ∷ [])) ≡ record { word = (110 ∷ []); page = None; terms = ((literal (codes "-n") ∷ words (codes " ") ∷ value (codes "COUNT") ∷ []) ∷ []); body = (paragraph ((words (codes "a") ∷ []) ∷ (words (codes "b") ∷ []) ∷ []) ∷ []) })
-    × (shown_entry (option_entry english (record { spelling = named (long (codes "who")); value = (Some (codes "a b")); default = None; values = (Some (codes "never, auto")); help = None; env = None; required = false; repeated = false; hidden = false }) []) ≡ record { word = codes "who"; page = None; terms = ((literal (codes "--who") ∷ words (codes "=") ∷ value (codes "<a b>") ∷ []) ∷ []); body = (paragraph ((words (codes "[possible values: never, auto]") ∷ []) ∷ []) ∷ []) })
-    × (shown_entry (option_entry english (record { spelling = named (short 233); value = None; default = (Some (codes "x")); values = None; help = None; env = None; required = false; repeated = false; hidden = false }) (bullets (((words (codes "a") ∷ []) ∷ []) ∷ ((words (codes "b") ∷ []) ∷ []) ∷ []) ∷ [])) ≡ record { word = (195 ∷ 169 ∷ []); page = None; terms = ((literal ((45 ∷ 195 ∷ 169 ∷ [])) ∷ []) ∷ []); body = (bullets (((words (codes "a") ∷ []) ∷ []) ∷ ((words (codes "b") ∷ []) ∷ []) ∷ []) ∷ paragraph ((words (codes "[default: x]") ∷ []) ∷ []) ∷ []) })
-    × (shown_entry (option_entry english (record { spelling = named (long (codes "x")); value = None; default = None; values = None; help = None; env = (Some (codes "E")); required = false; repeated = false; hidden = false }) (paragraph ((words (codes "one") ∷ []) ∷ []) ∷ paragraph ((words (codes "two") ∷ []) ∷ []) ∷ [])) ≡ record { word = codes "x"; page = None; terms = ((literal (codes "--x") ∷ []) ∷ []); body = (paragraph ((words (codes "one") ∷ []) ∷ []) ∷ paragraph ((words (codes "two") ∷ []) ∷ []) ∷ paragraph ((words (codes "[env: E]") ∷ []) ∷ []) ∷ []) })
-    × (shown_entry (option_entry english (record { spelling = syntax (codes "-a, --all[=N]"); value = None; default = None; values = None; help = None; env = (Some (codes "E")); required = false; repeated = false; hidden = false }) (code (codes "code" ∷ []) ∷ [])) ≡ record { word = codes "a"; page = None; terms = ((literal (codes "-a") ∷ []) ∷ (literal (codes "--all") ∷ words (codes "[=") ∷ value (codes "N") ∷ words (codes "]") ∷ []) ∷ []); body = (code (codes "code" ∷ []) ∷ paragraph ((words (codes "[env: E]") ∷ []) ∷ []) ∷ []) })
-    × (shown_entry (option_entry english (record { spelling = named (both 118 (codes "verbose")); value = None; default = None; values = None; help = None; env = None; required = false; repeated = false; hidden = false }) []) ≡ record { word = codes "verbose"; page = None; terms = ((literal (codes "-v") ∷ []) ∷ (literal (codes "--verbose") ∷ []) ∷ []); body = [] })
+    (shown_entry (option_entry english (record { spelling = named (both 115 (codes "store")); value = (Some (codes "FOLDER")); default = (Some (codes "~/.tide")); values = None; help = None; env = (Some (codes "TIDE_STORE")); required = false; repeated = false; hidden = false }) (paragraph ((words (codes "Where snapshots are kept") ∷ []) ∷ []) ∷ [])) ≡ record { word = codes "store"; target = None; terms = ((literal (codes "-s") ∷ []) ∷ (literal (codes "--store") ∷ words (codes "=") ∷ value (codes "FOLDER") ∷ []) ∷ []); body = (paragraph ((words (codes "Where snapshots are kept [env: TIDE_STORE] [default: ~/.tide]") ∷ []) ∷ []) ∷ []) })
+    × (shown_entry (option_entry english (record { spelling = named (short 110); value = (Some (codes "COUNT")); default = None; values = None; help = None; env = None; required = false; repeated = false; hidden = false }) (paragraph ((words (codes "a") ∷ []) ∷ (words (codes "b") ∷ []) ∷ []) ∷ [])) ≡ record { word = (110 ∷ []); target = None; terms = ((literal (codes "-n") ∷ words (codes " ") ∷ value (codes "COUNT") ∷ []) ∷ []); body = (paragraph ((words (codes "a") ∷ []) ∷ (words (codes "b") ∷ []) ∷ []) ∷ []) })
+    × (shown_entry (option_entry english (record { spelling = named (long (codes "who")); value = (Some (codes "a b")); default = None; values = (Some (codes "never, auto")); help = None; env = None; required = false; repeated = false; hidden = false }) []) ≡ record { word = codes "who"; target = None; terms = ((literal (codes "--who") ∷ words (codes "=") ∷ value (codes "<a b>") ∷ []) ∷ []); body = (paragraph ((words (codes "[possible values: never, auto]") ∷ []) ∷ []) ∷ []) })
+    × (shown_entry (option_entry english (record { spelling = named (short 233); value = None; default = (Some (codes "x")); values = None; help = None; env = None; required = false; repeated = false; hidden = false }) (bullets (((words (codes "a") ∷ []) ∷ []) ∷ ((words (codes "b") ∷ []) ∷ []) ∷ []) ∷ [])) ≡ record { word = (195 ∷ 169 ∷ []); target = None; terms = ((literal ((45 ∷ 195 ∷ 169 ∷ [])) ∷ []) ∷ []); body = (bullets (((words (codes "a") ∷ []) ∷ []) ∷ ((words (codes "b") ∷ []) ∷ []) ∷ []) ∷ paragraph ((words (codes "[default: x]") ∷ []) ∷ []) ∷ []) })
+    × (shown_entry (option_entry english (record { spelling = named (long (codes "x")); value = None; default = None; values = None; help = None; env = (Some (codes "E")); required = false; repeated = false; hidden = false }) (paragraph ((words (codes "one") ∷ []) ∷ []) ∷ paragraph ((words (codes "two") ∷ []) ∷ []) ∷ [])) ≡ record { word = codes "x"; target = None; terms = ((literal (codes "--x") ∷ []) ∷ []); body = (paragraph ((words (codes "one") ∷ []) ∷ []) ∷ paragraph ((words (codes "two") ∷ []) ∷ []) ∷ paragraph ((words (codes "[env: E]") ∷ []) ∷ []) ∷ []) })
+    × (shown_entry (option_entry english (record { spelling = syntax (codes "-a, --all[=N]"); value = None; default = None; values = None; help = None; env = (Some (codes "E")); required = false; repeated = false; hidden = false }) (code (codes "code" ∷ []) ∷ [])) ≡ record { word = codes "a"; target = None; terms = ((literal (codes "-a") ∷ []) ∷ (literal (codes "--all") ∷ words (codes "[=") ∷ value (codes "N") ∷ words (codes "]") ∷ []) ∷ []); body = (code (codes "code" ∷ []) ∷ paragraph ((words (codes "[env: E]") ∷ []) ∷ []) ∷ []) })
+    × (shown_entry (option_entry english (record { spelling = named (both 118 (codes "verbose")); value = None; default = None; values = None; help = None; env = None; required = false; repeated = false; hidden = false }) []) ≡ record { word = codes "verbose"; target = None; terms = ((literal (codes "-v") ∷ []) ∷ (literal (codes "--verbose") ∷ []) ∷ []); body = [] })
 unfolding is_uppercase chars in_ranges uppercase_ranges encode
 options = (refl, refl, refl, refl, refl, refl, refl)
 
 -- entries of positional values
 pub positionals :
     (option_map shown_entry (positional_entry english (record { value = codes "FILE"; default = None; values = None; help = None; required = true; repeated = false; strict = false; hidden = false }) []) ≡ None)
-    × (option_map shown_entry (positional_entry english (record { value = codes "file"; default = None; values = None; help = None; required = true; repeated = false; strict = false; hidden = false }) (paragraph ((words (codes "a") ∷ []) ∷ []) ∷ [])) ≡ Some (record { word = codes "file"; page = None; terms = ((value (codes "<file>") ∷ []) ∷ []); body = (paragraph ((words (codes "a") ∷ []) ∷ []) ∷ []) }))
-    × (option_map shown_entry (positional_entry english (record { value = codes "N"; default = (Some (codes "1")); values = None; help = None; required = false; repeated = false; strict = false; hidden = false }) []) ≡ Some (record { word = codes "N"; page = None; terms = ((value (codes "N") ∷ []) ∷ []); body = (paragraph ((words (codes "[default: 1]") ∷ []) ∷ []) ∷ []) }))
+    × (option_map shown_entry (positional_entry english (record { value = codes "file"; default = None; values = None; help = None; required = true; repeated = false; strict = false; hidden = false }) (paragraph ((words (codes "a") ∷ []) ∷ []) ∷ [])) ≡ Some (record { word = codes "<file>"; target = None; terms = ((value (codes "<file>") ∷ []) ∷ []); body = (paragraph ((words (codes "a") ∷ []) ∷ []) ∷ []) }))
+    × (option_map shown_entry (positional_entry english (record { value = codes "N"; default = (Some (codes "1")); values = None; help = None; required = false; repeated = false; strict = false; hidden = false }) []) ≡ Some (record { word = codes "N"; target = None; terms = ((value (codes "N") ∷ []) ∷ []); body = (paragraph ((words (codes "[default: 1]") ∷ []) ∷ []) ∷ []) }))
 unfolding is_uppercase chars in_ranges uppercase_ranges encode
 positionals = (refl, refl, refl)
 
 -- entries of commands
 pub command_rows :
-    (shown_entry (command_entry english (codes "p") (command (record { name = codes "list"; initial = (Some 108); aliases = (codes "ls" ∷ codes "dir" ∷ []); hidden = false }) None (level no_texts true [] [] no_groups [] no_commands)) (paragraph ((words (codes "List") ∷ []) ∷ []) ∷ [])) ≡ record { word = codes "list"; page = Some (codes "p"); terms = ((literal (codes "list") ∷ []) ∷ (literal (codes "l") ∷ []) ∷ []); body = (paragraph ((words (codes "List [aliases: ls, dir]") ∷ []) ∷ []) ∷ []) })
-    × (shown_entry (command_entry english (codes "p") (command (record { name = codes "x"; initial = None; aliases = []; hidden = false }) None (level no_texts true [] [] no_groups [] no_commands)) []) ≡ record { word = codes "x"; page = Some (codes "p"); terms = ((literal (codes "x") ∷ []) ∷ []); body = [] })
+    (shown_entry (command_entry english (to_page (codes "p")) (command (record { name = codes "list"; initial = (Some 108); aliases = (codes "ls" ∷ codes "dir" ∷ []); hidden = false }) None (level no_texts true [] [] no_groups [] no_commands)) (paragraph ((words (codes "List") ∷ []) ∷ []) ∷ [])) ≡ record { word = codes "list"; target = Some (to_page (codes "p")); terms = ((literal (codes "list") ∷ []) ∷ (literal (codes "l") ∷ []) ∷ []); body = (paragraph ((words (codes "List [aliases: ls, dir]") ∷ []) ∷ []) ∷ []) })
+    × (shown_entry (command_entry english (to_page (codes "p")) (command (record { name = codes "x"; initial = None; aliases = []; hidden = false }) None (level no_texts true [] [] no_groups [] no_commands)) []) ≡ record { word = codes "x"; target = Some (to_page (codes "p")); terms = ((literal (codes "x") ∷ []) ∷ []); body = [] })
 unfolding is_uppercase chars in_ranges uppercase_ranges encode
 command_rows = (refl, refl)
 

@@ -7,7 +7,7 @@ use Rattle.description_pages.specs.Levels.{PageSaid}
 use Rattle.description_pages.specs.Sections.{BodySaid, listed, told, SectionSaid}
 use Rattle.description_pages.specs.declared.arranged.Case.{Case}
 use Rattle.description_pages.specs.declared.arranged.Case.TheVariants.{Capitals, AsSaid}
-use Rattle.description_parts.specs.Words.{WordsSaid}
+use Rattle.description.specs.Words.{WordsSaid}
 
 -- ---- titles
 

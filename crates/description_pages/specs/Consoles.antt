@@ -7,11 +7,12 @@ use Rattle.description_pages.specs.Arranged.{in_order}
 use Rattle.description_pages.specs.Forms.{usage_forms}
 use Rattle.description_pages.specs.Levels.{SubjectSaid, page_of}
 use Rattle.description_pages.specs.Sections.{joined_names}
+use Rattle.description_pages.specs.declared.levels.Depth.TheVariants.{Alone}
 use Rattle.description_pages.specs.declared.sections.Detail.{Detail}
-use Rattle.description_parts.specs.Words.{WordsSaid}
+use Rattle.description.specs.Words.{WordsSaid}
 
 abbrev pub console_of : WordsSaid → Detail → SubjectSaid → List PartSaid
-console_of fixed detail subject = in_order Section fixed (page_of fixed detail subject)
+console_of fixed detail subject = in_order Section fixed (page_of fixed detail Alone subject)
 
 -- the names that lead there, with a blank between two, and what stands behind them
 abbrev pub usage_of : WordsSaid → SubjectSaid → List FormSaid

@@ -1,17 +1,16 @@
 -- The entries of the lists of a level: the ways to write what each is about, and what is said of it.
 use Rattle.std.specs.Prelude.{ℕ, List, [], ◌∷◌, ◌++◌, codes, encode_utf8, map, Option, Some, None}
-use Rattle.page_model.specs.Content.{words, literal, Line, BlockSaid, paragraph, EntrySaid}
-use Rattle.bpaf_meta.specs.Content.{Name, short, long, both}
-use Rattle.description_parts.specs.Content.{SpellingSaid, named, syntax, OptSaid, PositionalSaid, CommandNames, CommandSaid, command}
+use Rattle.page_model.specs.Content.{words, literal, Line, BlockSaid, paragraph, TargetSaid, EntrySaid}
+use Rattle.description.specs.Content.{NameSaid, short, long, both, SpellingSaid, named, syntax, OptSaid, PositionalSaid, CommandNames, CommandSaid, command}
 use Rattle.description_pages.specs.Lines.{joined}
-use Rattle.description_pages.specs.Names.{value_piece, short_line, long_line}
+use Rattle.description_pages.specs.Names.{shown_value, value_piece, short_line, long_line}
 use Rattle.description_pages.specs.Syntax.{syntax_terms, syntax_word}
-use Rattle.description_parts.specs.Words.{WordsSaid}
+use Rattle.description.specs.Words.{WordsSaid}
 
 -- ---- terms
 
 -- each name, and the word for the value behind the last
-abbrev pub named_terms : Name → (value : Option (List ℕ)) → List Line
+abbrev pub named_terms : NameSaid → (value : Option (List ℕ)) → List Line
 named_terms (short c) value = short_line c value ∷ []
 named_terms (long name) value = long_line name value ∷ []
 named_terms (both c name) value = short_line c None ∷ long_line name value ∷ []
@@ -79,7 +78,7 @@ body (first ∷ others) help = noted_body (joined (codes " ") (first ∷ others)
 -- ---- what entries are called
 
 -- the long name where there is one, else the short one
-abbrev pub named_word : Name → List ℕ
+abbrev pub named_word : NameSaid → List ℕ
 named_word (short c) = encode_utf8 c
 named_word (long name) = name
 named_word (both c name) = name
@@ -92,19 +91,19 @@ option_word (syntax text) = syntax_word text
 -- ---- entries, of the blocks of a help
 
 abbrev pub option_entry : WordsSaid → OptSaid → (help : List BlockSaid) → EntrySaid
-option_entry fixed o help = record { word = option_word o.spelling; page = None; terms = option_terms o; body = body (option_notes fixed o) help }
+option_entry fixed o help = record { word = option_word o.spelling; target = None; terms = option_terms o; body = body (option_notes fixed o) help }
 
--- a positional value of which nothing is said is no entry
+-- A positional value of which nothing is said is no entry. It is called as it is shown.
 abbrev pub entry_if_said : (word : List ℕ) → (terms : List Line) → (body : List BlockSaid) → Option EntrySaid
 entry_if_said word terms [] = None
-entry_if_said word terms (first ∷ others) = Some (record { word = word; page = None; terms = terms; body = first ∷ others })
+entry_if_said word terms (first ∷ others) = Some (record { word = word; target = None; terms = terms; body = first ∷ others })
 
 abbrev pub positional_entry : WordsSaid → PositionalSaid → (help : List BlockSaid) → Option EntrySaid
-positional_entry fixed p help = entry_if_said p.value (positional_terms p) (body (positional_notes fixed p) help)
+positional_entry fixed p help = entry_if_said (shown_value p.value) (positional_terms p) (body (positional_notes fixed p) help)
 
--- with the name of the page of the command
-abbrev pub named_entry : WordsSaid → (page : List ℕ) → CommandNames → (help : List BlockSaid) → EntrySaid
-named_entry fixed page names help = record { word = names.name; page = Some page; terms = command_terms names; body = body (command_notes fixed names) help }
+-- with where the command is shown
+abbrev pub named_entry : WordsSaid → TargetSaid → CommandNames → (help : List BlockSaid) → EntrySaid
+named_entry fixed target names help = record { word = names.name; target = Some target; terms = command_terms names; body = body (command_notes fixed names) help }
 
-abbrev pub command_entry : WordsSaid → (page : List ℕ) → CommandSaid → (help : List BlockSaid) → EntrySaid
-command_entry fixed page (command names text below) help = named_entry fixed page names help
+abbrev pub command_entry : WordsSaid → TargetSaid → CommandSaid → (help : List BlockSaid) → EntrySaid
+command_entry fixed target (command names text below) help = named_entry fixed target names help

@@ -4,9 +4,9 @@ use Rattle.std.specs.List.{list_all, slice_split}
 use Rattle.page_model.specs.Content.{Piece, words, literal, value, link, page, Line, FormSaid}
 use Rattle.description_pages.specs.Margins.{without_front, without_margins}
 use Rattle.description_pages.specs.Syntax.{begins, is_closing, is_opening, parts, syntax_line}
-use Rattle.description_parts.specs.Content.{LevelSaid, level}
+use Rattle.description.specs.Content.{LevelSaid, level}
 use Rattle.description_pages.specs.Usage.{usage_items}
-use Rattle.description_parts.specs.Words.{WordsSaid}
+use Rattle.description.specs.Words.{WordsSaid}
 
 -- ---- brackets in no pair
 

@@ -2,21 +2,20 @@
 use Rattle.std.specs.Prelude.{ℕ, List, map, ◌==◌, bytes_eq, Bool, true, false, ◌&&◌, Option, Some, None}
 use Rattle.std.specs.Option.{option_map}
 use Rattle.page_model.specs.Content.{EntrySaid}
-use Rattle.bpaf_meta.specs.Content.{Name, short, long, both}
-use Rattle.bpaf_meta.specs.View.{name_of}
-use Rattle.description_parts.specs.Content.{SpellingSaid, named, syntax, OptSaid, PositionalSaid, CommandSaid, command}
+use Rattle.description.specs.Content.{NameSaid, short, long, both, SpellingSaid, named, syntax, OptSaid, PositionalSaid, CommandSaid, command}
+use Rattle.description.specs.View.{name_said}
 use Rattle.description_pages.specs.Once.{each_once}
 use Rattle.description_pages.specs.declared.keys.EntryKey.{EntryKey}
 use Rattle.description_pages.specs.declared.keys.EntryKey.TheVariants as key
 
 pub data KeySaid : Type 0 where
-  by_names : Name → (value : Option (List ℕ)) → KeySaid
+  by_names : NameSaid → (value : Option (List ℕ)) → KeySaid
   by_syntax : List ℕ → KeySaid
   by_word : List ℕ → KeySaid
   by_command : List ℕ → KeySaid
 
 abbrev pub key_said : EntryKey → KeySaid
-key_said (key.Names name value) = by_names (name_of name) (option_map (λ word. word.now) value)
+key_said (key.Names name value) = by_names (name_said name) (option_map (λ word. word.now) value)
 key_said (key.Syntax text) = by_syntax text.now
 key_said (key.Word word) = by_word word.now
 key_said (key.Command name) = by_command name.now
@@ -38,7 +37,7 @@ command_key (command names help below) = by_command names.name
 
 -- ---- when two are the same
 
-abbrev pub same_name : Name → Name → Bool
+abbrev pub same_name : NameSaid → NameSaid → Bool
 same_name (short c) (short d) = c == d
 same_name (long name) (long other) = bytes_eq name other
 same_name (both c name) (both d other) = c == d && bytes_eq name other

@@ -2,11 +2,12 @@
 -- them.
 use Rattle.std.specs.Prelude.{ℕ, ◌-◌, List, [], ◌∷◌, ◌++◌, codes, length, take, nat_lt, Option, if◌then◌else◌}
 use Rattle.page_model.specs.Content.{BlockSaid, FormSaid}
-use Rattle.description_parts.specs.Content.{OptSaid, TextsSaid, LevelSaid, level, GroupsSaid, no_groups, groups, GroupSaid, group, CommandsSaid, no_commands, commands, CommandSaid, command}
+use Rattle.description.specs.Content.{OptSaid, TextsSaid, LevelSaid, level, GroupsSaid, no_groups, groups, GroupSaid, group, CommandsSaid, no_commands, commands, CommandSaid, command}
 use Rattle.description_pages.specs.Sections.{SectionSaid, given_blocks, groups_of, joined_names, list_sections, page_name, text_section}
 use Rattle.description_pages.specs.Topics.{merged, own_sections, placed_blocks}
 use Rattle.description_pages.specs.Forms.{usage_forms}
-use Rattle.description_parts.specs.Words.{WordsSaid}
+use Rattle.description.specs.Words.{WordsSaid}
+use Rattle.description_pages.specs.declared.levels.Depth.{Depth}
 use Rattle.description_pages.specs.declared.sections.Detail.{Detail}
 use Rattle.description_pages.specs.declared.topics.Place.TheVariants.{Notes, References}
 
@@ -67,18 +68,18 @@ abbrev pub notes_of : WordsSaid → Detail → TextsSaid → List SectionSaid
 notes_of fixed detail texts =
     text_section fixed.notes (merged (placed_blocks fixed detail Notes texts.topics ++ given_blocks detail texts.footer))
 
-abbrev pub sections_of : WordsSaid → Detail → (names : List (List ℕ)) → (help_options : List OptSaid) → LevelSaid → List SectionSaid
-sections_of fixed detail names help_options l =
-    list_sections fixed detail names help_options l
+abbrev pub sections_of : WordsSaid → Detail → Depth → (names : List (List ℕ)) → (help_options : List OptSaid) → LevelSaid → List SectionSaid
+sections_of fixed detail depth names help_options l =
+    list_sections fixed detail depth names help_options l
     ++ (own_sections fixed detail (texts_of l).topics ++ notes_of fixed detail (texts_of l))
 
-abbrev pub page_of : WordsSaid → Detail → SubjectSaid → PageSaid
-page_of fixed detail subject = record {
+abbrev pub page_of : WordsSaid → Detail → Depth → SubjectSaid → PageSaid
+page_of fixed detail depth subject = record {
   title = joined_names (codes " ") subject.names;
   about = given_blocks detail (texts_of subject.level).about;
   usage = usage_forms fixed (joined_names (codes " ") subject.names) subject.level;
   header = given_blocks detail (texts_of subject.level).header;
-  sections = sections_of fixed detail subject.names subject.help_options subject.level;
+  sections = sections_of fixed detail depth subject.names subject.help_options subject.level;
   see_also = merged (placed_blocks fixed detail References (texts_of subject.level).topics);
   references = neighbours subject.names subject.level;
 }

@@ -1,7 +1,7 @@
 -- What the page of a level says, as a value.
 use Rattle.std.specs.Prelude.{map, option_map}
 use Rattle.page_model.specs.View.{block_of, form_of}
-use Rattle.description_parts.specs.View.{level_said, opt_said}
+use Rattle.description.specs.View.{level_said, opt_said}
 use Rattle.description_pages.specs.Levels.{PageSaid, SubjectSaid}
 use Rattle.description_pages.specs.Sections.{section_of}
 use Rattle.description_pages.specs.declared.levels.LevelPage.{LevelPage}

@@ -18,6 +18,7 @@ pub mod Topics
 pub mod Levels
 pub mod LevelsView
 pub mod Subjects
+pub mod Chapters
 pub mod Arranged
 pub mod References
 pub mod Summaries

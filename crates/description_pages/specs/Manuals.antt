@@ -10,8 +10,9 @@ use Rattle.description_pages.specs.Sections.{page_name}
 use Rattle.description_pages.specs.Summaries.{is_summary, summary_of}
 use Rattle.description_pages.specs.Topics.{merged}
 use Rattle.description_pages.specs.declared.arranged.Case.TheVariants.{Capitals}
+use Rattle.description_pages.specs.declared.levels.Depth.TheVariants.{Alone}
 use Rattle.description_pages.specs.declared.sections.Detail.TheVariants.{Full}
-use Rattle.description_parts.specs.Words.{WordsSaid}
+use Rattle.description.specs.Words.{WordsSaid}
 
 -- ---- NAME
 
@@ -42,10 +43,10 @@ manual_order rank fixed said =
 abbrev pub manual_of : WordsSaid → SubjectSaid → List PartSaid
 manual_of fixed subject =
     name_parts fixed subject
-    ++ manual_order Section fixed (without_summary (summary_of subject) (with_references (page_of fixed Full subject)))
+    ++ manual_order Section fixed (without_summary (summary_of subject) (with_references (page_of fixed Full Alone subject)))
 
 -- A level that stands behind another on its page: its names, and all else one rank lower, without NAME and references. Of
 -- SEE ALSO stay the topics that have its title.
 abbrev pub manual_below : WordsSaid → SubjectSaid → List PartSaid
 manual_below fixed subject =
-    heading Page (page_of fixed Full subject).title ∷ manual_order Subsection fixed (page_of fixed Full subject)
+    heading Page (page_of fixed Full Alone subject).title ∷ manual_order Subsection fixed (page_of fixed Full Alone subject)

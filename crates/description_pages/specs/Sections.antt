@@ -1,13 +1,15 @@
 -- The lists of a level: entries, each list under its title.
 use Rattle.std.specs.Prelude.{ℕ, List, [], ◌∷◌, ◌++◌, ◌==◌, map, flat_map, codes, if◌then◌else◌, Option, Some, None}
 use Rattle.std.specs.List.{join_by}
-use Rattle.page_model.specs.Content.{BlockSaid, EntrySaid}
-use Rattle.description_parts.specs.Content.{OptSaid, ChoiceSaid, PositionalSaid, LevelSaid, level, GroupsSaid, no_groups, groups, GroupSaid, group, CommandsSaid, no_commands, commands, CommandSaid, command}
+use Rattle.page_model.specs.Content.{BlockSaid, EntrySaid, TargetSaid, to_page, to_heading}
+use Rattle.description.specs.Content.{OptSaid, ChoiceSaid, PositionalSaid, LevelSaid, level, GroupsSaid, no_groups, groups, GroupSaid, group, CommandsSaid, no_commands, commands, CommandSaid, command}
 use Rattle.description_pages.specs.Entries.{command_entry, option_entry, positional_entry}
 use Rattle.description_pages.specs.Keys.{KeySaid, RowSaid, command_key, entries_once, option_key, positional_key}
 use Rattle.description_pages.specs.Texts.{text_blocks}
-use Rattle.description_parts.specs.Words.{WordsSaid}
+use Rattle.description.specs.Words.{WordsSaid}
 use Rattle.page_model.specs.View.{block_of, entry_of}
+use Rattle.description_pages.specs.declared.levels.Depth.{Depth}
+use Rattle.description_pages.specs.declared.levels.Depth.TheVariants.{Alone, Deep}
 use Rattle.description_pages.specs.declared.sections.Body.{Body}
 use Rattle.description_pages.specs.declared.sections.Body.TheVariants.{Listed, Told}
 use Rattle.description_pages.specs.declared.sections.Detail.{Detail}
@@ -91,37 +93,44 @@ joined_names between names = join_by (λ name. name) between names
 abbrev pub page_name : List (List ℕ) → List ℕ
 page_name = joined_names (codes "-")
 
-abbrev pub command_rows_of : WordsSaid → Detail → (names : List (List ℕ)) → CommandSaid → List RowSaid
-command_rows_of fixed detail names (command called help below) =
+-- where the entry of a command leads, by the names that lead to it: to its page, or to its heading where all levels
+-- stand on one page
+abbrev pub command_target : Depth → List (List ℕ) → TargetSaid
+command_target Alone names = to_page (page_name names)
+command_target Deep names = to_heading (joined_names (codes " ") names)
+
+abbrev pub command_rows_of : WordsSaid → Detail → Depth → (names : List (List ℕ)) → CommandSaid → List RowSaid
+command_rows_of fixed detail depth names (command called help below) =
     if called.hidden then []
     else record {
       key = command_key (command called help below);
-      entry = command_entry fixed (page_name (names ++ called.name ∷ [])) (command called help below) (given_blocks detail help);
+      entry = command_entry fixed (command_target depth (names ++ called.name ∷ [])) (command called help below)
+          (given_blocks detail help);
     } ∷ []
 
-abbrev pub command_rows : WordsSaid → Detail → (names : List (List ℕ)) → CommandsSaid → List RowSaid
-command_rows fixed detail names no_commands = []
-command_rows fixed detail names (commands first others) =
-    command_rows_of fixed detail names first ++ command_rows fixed detail names others
+abbrev pub command_rows : WordsSaid → Detail → Depth → (names : List (List ℕ)) → CommandsSaid → List RowSaid
+command_rows fixed detail depth names no_commands = []
+command_rows fixed detail depth names (commands first others) =
+    command_rows_of fixed detail depth names first ++ command_rows fixed detail depth names others
 
 -- a group is one list: its options, choices, values and commands
-abbrev pub group_rows : WordsSaid → Detail → (names : List (List ℕ)) → GroupSaid → List RowSaid
-group_rows fixed detail names (group title options choices values below) =
+abbrev pub group_rows : WordsSaid → Detail → Depth → (names : List (List ℕ)) → GroupSaid → List RowSaid
+group_rows fixed detail depth names (group title options choices values below) =
     option_rows fixed detail options
     ++ (choice_rows fixed detail choices
     ++ (value_rows fixed detail values
-    ++ command_rows fixed detail names below))
+    ++ command_rows fixed detail depth names below))
 
 abbrev pub group_title : GroupSaid → List ℕ
 group_title (group title options choices values below) = without_colon title
 
-abbrev pub group_section : WordsSaid → Detail → (names : List (List ℕ)) → GroupSaid → List SectionSaid
-group_section fixed detail names g = list_section (group_title g) (entries_once (group_rows fixed detail names g))
+abbrev pub group_section : WordsSaid → Detail → Depth → (names : List (List ℕ)) → GroupSaid → List SectionSaid
+group_section fixed detail depth names g = list_section (group_title g) (entries_once (group_rows fixed detail depth names g))
 
-abbrev pub group_sections : WordsSaid → Detail → (names : List (List ℕ)) → GroupsSaid → List SectionSaid
-group_sections fixed detail names no_groups = []
-group_sections fixed detail names (groups first others) =
-    group_section fixed detail names first ++ group_sections fixed detail names others
+abbrev pub group_sections : WordsSaid → Detail → Depth → (names : List (List ℕ)) → GroupsSaid → List SectionSaid
+group_sections fixed detail depth names no_groups = []
+group_sections fixed detail depth names (groups first others) =
+    group_section fixed detail depth names first ++ group_sections fixed detail depth names others
 
 -- what is in no group
 abbrev pub argument_section : WordsSaid → Detail → LevelSaid → List SectionSaid
@@ -133,20 +142,20 @@ option_section fixed detail help_options (level texts required options choices b
     list_section fixed.options (entries_once (option_rows fixed detail options
     ++ (choice_rows fixed detail choices ++ option_rows fixed detail help_options)))
 
-abbrev pub command_section : WordsSaid → Detail → (names : List (List ℕ)) → LevelSaid → List SectionSaid
-command_section fixed detail names (level texts required options choices below values subcommands) =
-    list_section fixed.commands (entries_once (command_rows fixed detail names subcommands))
+abbrev pub command_section : WordsSaid → Detail → Depth → (names : List (List ℕ)) → LevelSaid → List SectionSaid
+command_section fixed detail depth names (level texts required options choices below values subcommands) =
+    list_section fixed.commands (entries_once (command_rows fixed detail depth names subcommands))
 
 abbrev pub groups_of : LevelSaid → GroupsSaid
 groups_of (level texts required options choices below values subcommands) = below
 
 -- arguments, each group, options with those that ask for help, and commands
-abbrev pub list_sections : WordsSaid → Detail → (names : List (List ℕ)) → (help_options : List OptSaid) → LevelSaid → List SectionSaid
-list_sections fixed detail names help_options l =
+abbrev pub list_sections : WordsSaid → Detail → Depth → (names : List (List ℕ)) → (help_options : List OptSaid) → LevelSaid → List SectionSaid
+list_sections fixed detail depth names help_options l =
     argument_section fixed detail l
-    ++ (group_sections fixed detail names (groups_of l)
+    ++ (group_sections fixed detail depth names (groups_of l)
     ++ (option_section fixed detail help_options l
-    ++ command_section fixed detail names l))
+    ++ command_section fixed detail depth names l))
 
 -- ---- what a value says
 

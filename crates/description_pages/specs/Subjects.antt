@@ -2,7 +2,7 @@
 use Rattle.std.specs.Prelude.{◌≡◌, ℕ, List, [], ◌∷◌, ◌++◌, flat_map, Bool, not, if◌then◌else◌, Option, Some, option_map, option_and_then, option_to_list, bytes_eq}
 use Rattle.std.specs.List.{find, list_any}
 use Rattle.std.specs.Char.{encode_utf8}
-use Rattle.description_parts.specs.Content.{LevelSaid, level, GroupsSaid, no_groups, groups, GroupSaid, group, CommandsSaid, no_commands, commands, CommandSaid, command}
+use Rattle.description.specs.Content.{LevelSaid, level, GroupsSaid, no_groups, groups, GroupSaid, group, CommandsSaid, no_commands, commands, CommandSaid, command}
 use Rattle.description_pages.specs.Levels.{SubjectSaid, commands_in, commands_of}
 use Rattle.description_pages.specs.Sections.{groups_of}
 

@@ -3,10 +3,10 @@ use Rattle.std.specs.Prelude.{ℕ, List, [], ◌∷◌, ◌++◌, flat_map, fold
 use Rattle.std.specs.Str.{bytes_eq}
 use Rattle.std.specs.StrCase.Upper.{str_to_uppercase}
 use Rattle.page_model.specs.Content.{BlockSaid, paragraph, code, bullets}
-use Rattle.description_parts.specs.Content.{TopicSaid}
+use Rattle.description.specs.Content.{TopicSaid}
 use Rattle.description_pages.specs.Sections.{SectionSaid, shown_blocks, text_section, without_colon}
 use Rattle.description_pages.specs.Texts.{text_blocks}
-use Rattle.description_parts.specs.Words.{WordsSaid}
+use Rattle.description.specs.Words.{WordsSaid}
 use Rattle.description_pages.specs.declared.sections.Detail.{Detail}
 use Rattle.description_pages.specs.declared.topics.Place.{Place}
 use Rattle.description_pages.specs.declared.topics.Place.TheVariants.{Own, Notes, References}

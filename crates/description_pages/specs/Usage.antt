@@ -2,12 +2,11 @@
 use Rattle.std.specs.Prelude.{ℕ, List, [], ◌∷◌, ◌++◌, codes, filter, flat_map, map, Bool, true, false, not, ◌&&◌, ◌||◌, if◌then◌else◌, Option}
 use Rattle.std.specs.List.{list_any}
 use Rattle.page_model.specs.Content.{words, literal, value, Line}
-use Rattle.bpaf_meta.specs.Content.{Name, short, long, both}
-use Rattle.description_parts.specs.Content.{SpellingSaid, named, syntax, OptSaid, ChoiceSaid, PositionalSaid, LevelSaid, level, GroupsSaid, no_groups, groups, GroupSaid, group, CommandsSaid, no_commands, commands, CommandSaid, command}
+use Rattle.description.specs.Content.{NameSaid, short, long, both, SpellingSaid, named, syntax, OptSaid, ChoiceSaid, PositionalSaid, LevelSaid, level, GroupsSaid, no_groups, groups, GroupSaid, group, CommandsSaid, no_commands, commands, CommandSaid, command}
 use Rattle.description_pages.specs.Lines.{joined}
 use Rattle.description_pages.specs.Names.{value_piece, short_line, long_line}
 use Rattle.description_pages.specs.Syntax.{has_bar, shown_line, shown_way}
-use Rattle.description_parts.specs.Words.{WordsSaid}
+use Rattle.description.specs.Words.{WordsSaid}
 
 -- ---- brackets
 
@@ -30,7 +29,7 @@ enclosed true repeated false inside = inside
 -- ---- options
 
 -- by its short name where it has one
-abbrev pub called_name : Name → (value : Option (List ℕ)) → Line
+abbrev pub called_name : NameSaid → (value : Option (List ℕ)) → Line
 called_name (short c) word = short_line c word
 called_name (long name) word = long_line name word
 called_name (both c name) word = short_line c word

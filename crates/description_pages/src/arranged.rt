@@ -6,13 +6,13 @@ ghost use Rattle.description_pages.specs.Arranged.{body_parts, heading_in, in_or
 ghost use Rattle.description_pages.specs.Arranged.{titled_parts, usage_parts};
 ghost use Rattle.description_pages.specs.LevelsView.{level_page_of};
 ghost use Rattle.description_pages.specs.Sections.{body_of, section_of};
-ghost use Rattle.description_parts.specs.Words.{words_said};
+ghost use Rattle.description.specs.Words.{words_said};
 
 use crate::entries::ArenaBlocks;
 use crate::levels::LevelPage;
 use crate::sections::{ArenaSections, Body, Section};
 use bumpalo::Bump;
-use description_parts::FixedWords;
+use description::FixedWords;
 use page_model::{Form, Part, Rank};
 use std::alloc::{AllocError, Global};
 

@@ -3,15 +3,15 @@ ghost use Rattle.std.specs.Prelude.{◌≡◌, map, IfOk};
 ghost use Rattle.page_model.specs.View.{form_of, part_of};
 ghost use Rattle.description_pages.specs.Consoles.{console_of, usage_of};
 ghost use Rattle.description_pages.specs.LevelsView.{subject_of};
-ghost use Rattle.description_parts.specs.Words.{words_said};
+ghost use Rattle.description.specs.Words.{words_said};
 
 use crate::arranged::{ArenaParts, push_in_order};
 use crate::forms::usage_forms;
-use crate::levels::{LevelSubject, level_page};
+use crate::levels::{Depth, LevelSubject, level_page};
 use crate::neighbours::joined_names;
 use crate::sections::Detail;
 use bumpalo::Bump;
-use description_parts::FixedWords;
+use description::FixedWords;
 use page_model::{Form, Rank};
 use std::alloc::{AllocError, Allocator};
 
@@ -26,7 +26,7 @@ pub fn console<'p, 'a: 'p, C: Allocator>(
     ensures { IfOk result (λ parts. map part_of parts.items
         ≡ console_of (words_said words.now) detail (subject_of subject.entry)) }
 {
-    let page = level_page(arena, words, detail, subject)?;
+    let page = level_page(arena, words, detail, Depth::Alone, subject)?;
     let mut parts: ArenaParts<'p> = Vec::new(arena);
     push_in_order(arena, words, Rank::Section, &mut parts, page)?;
     Ok(parts)

@@ -2,22 +2,20 @@
 ghost use Rattle.std.specs.Prelude.{◌≡◌, ◌++◌, ◌∷◌, [], map, IfOk, OnOk};
 ghost use Rattle.std.specs.Option.{option_map};
 ghost use Rattle.page_model.specs.Content.{literal, paragraph, words};
-ghost use Rattle.page_model.specs.View.{block_of, entry_of, line_of};
-ghost use Rattle.bpaf_meta.specs.View.{name_of};
-ghost use Rattle.description_parts.specs.View.{command_said, opt_said, positional_said};
+ghost use Rattle.page_model.specs.View.{block_of, entry_of, line_of, target_of};
+ghost use Rattle.description.specs.View.{name_said, command_said, opt_said, positional_said};
 ghost use Rattle.description_pages.specs.Entries.{alias_notes, behind_lines, body, command_entry, command_terms};
 ghost use Rattle.description_pages.specs.Entries.{initial_terms, named_entry, named_terms, named_word, note, noted, noted_body};
 ghost use Rattle.description_pages.specs.Entries.{option_entry, option_notes, option_terms, option_word, positional_entry};
 ghost use Rattle.description_pages.specs.Entries.{positional_notes, positional_terms};
-ghost use Rattle.description_parts.specs.Words.{words_said};
+ghost use Rattle.description.specs.Words.{words_said};
 
 use crate::lines::{joined, one};
-use crate::names::{ArenaLine, character_text, long_line, short_line, value_piece};
+use crate::names::{ArenaLine, character_text, long_line, short_line, shown_value, value_piece};
 use crate::syntax::{syntax_terms, syntax_word};
-use bpaf_meta::item::ShortLong;
 use bumpalo::Bump;
-use description_parts::{Command, FixedWords, Opt, Positional, Spelling};
-use page_model::{Block, Entry, Inline, Line};
+use description::{Command, FixedWords, Name, Opt, Positional, Spelling};
+use page_model::{Block, Entry, Inline, Line, Target};
 use std::alloc::{AllocError, Allocator};
 
 /// Lines in an arena.
@@ -33,16 +31,16 @@ pub type ArenaEntry<'p, A> = Entry<'p, &'p Bump<A>>;
 
 fn named_terms<'p, A: Allocator>(
     arena: &'p Bump<A>,
-    name: ShortLong,
+    name: Name,
     value: Option<&'p str>,
 ) -> Result<ArenaLines<'p, A>, AllocError>
     ensures { IfOk result (λ terms. map (λ term. line_of term.items) terms.items
-        ≡ named_terms (name_of name) (option_map (λ word. word.now) value.entry)) }
+        ≡ named_terms (name_said name) (option_map (λ word. word.now) value.entry)) }
 {
     match name {
-        ShortLong::Short(short) => Ok(vec![in arena; short_line(arena, short, value)?]?),
-        ShortLong::Long(long) => Ok(vec![in arena; long_line(arena, long, value)?]?),
-        ShortLong::Both(short, long) => {
+        Name::Short(short) => Ok(vec![in arena; short_line(arena, short, value)?]?),
+        Name::Long(long) => Ok(vec![in arena; long_line(arena, long, value)?]?),
+        Name::Both(short, long) => {
             let first = short_line(arena, short, None)?;
             Ok(vec![in arena; first, long_line(arena, long, value)?]?)
         }
@@ -293,12 +291,12 @@ fn body<'a, A: Allocator + Copy>(
 
 // ---- what entries are called
 
-fn named_word<'p, A: Allocator>(arena: &'p Bump<A>, name: ShortLong) -> Result<&'p str, AllocError>
-    ensures { IfOk result (λ word. word.now ≡ named_word (name_of name)) }
+fn named_word<'p, A: Allocator>(arena: &'p Bump<A>, name: Name) -> Result<&'p str, AllocError>
+    ensures { IfOk result (λ word. word.now ≡ named_word (name_said name)) }
 {
     match name {
-        ShortLong::Short(short) => character_text(arena, short),
-        ShortLong::Long(long) | ShortLong::Both(_, long) => Ok(long),
+        Name::Short(short) => character_text(arena, short),
+        Name::Long(long) | Name::Both(_, long) => Ok(long),
     }
 }
 
@@ -329,7 +327,7 @@ pub fn option_entry<'p, A: Allocator>(
     let notes = option_notes(arena, words, option)?;
     Ok(Entry {
         word: option_word(arena, option)?,
-        page: None,
+        target: None,
         terms: option_terms(arena, option)?,
         body: body(arena, help, notes.as_slice())?,
     })
@@ -351,22 +349,22 @@ pub fn positional_entry<'p, A: Allocator>(
         return Ok(None);
     }
     Ok(Some(Entry {
-        word: positional.value,
-        page: None,
+        word: shown_value(arena, positional.value)?,
+        target: None,
         terms: positional_terms(arena, positional)?,
         body,
     }))
 }
 
-/// The entry of a command, with the name of its page and the blocks of its help.
+/// The entry of a command, with where it is shown and the blocks of its help.
 pub fn command_entry<'p, 'a: 'p, A: Allocator, B: Allocator>(
     arena: &'p Bump<A>,
     words: &FixedWords<'p>,
-    page: &'p str,
+    target: Target<'p>,
     command: &Command<'a, B>,
     help: ArenaBlocks<'p, A>,
 ) -> Result<ArenaEntry<'p, A>, AllocError>
-    ensures { IfOk result (λ entry. entry_of entry ≡ command_entry (words_said words.now) page.now
+    ensures { IfOk result (λ entry. entry_of entry ≡ command_entry (words_said words.now) (target_of target.entry)
         (command_said command.now) (map block_of help.entry.items)) }
 {
     let mut terms = one(arena, literal_line(arena, command.name)?)?;
@@ -375,7 +373,7 @@ pub fn command_entry<'p, 'a: 'p, A: Allocator, B: Allocator>(
     push_aliases(arena, &mut notes, words.aliases, command.aliases.as_slice())?;
     Ok(Entry {
         word: command.name,
-        page: Some(page),
+        target: Some(target),
         terms,
         body: body(arena, help, notes.as_slice())?,
     })

@@ -1,22 +1,21 @@
 //! What tells an entry apart in a list, and each entry once.
 ghost use Rattle.std.specs.Prelude.{◌≡◌, IfOk, map};
 ghost use Rattle.page_model.specs.View.{entry_of};
-ghost use Rattle.description_parts.specs.View.{command_said, opt_said, positional_said};
+ghost use Rattle.description.specs.View.{command_said, opt_said, positional_said};
 ghost use Rattle.description_pages.specs.Keys.{command_key, entries_once, key_said, option_key, positional_key};
 ghost use Rattle.description_pages.specs.Rows.{row_said};
 
 use crate::entries::ArenaEntry;
 use crate::once::{Keyed, each_once};
-use bpaf_meta::item::ShortLong;
 use bumpalo::Bump;
-use description_parts::{Command, Opt, Positional, Spelling};
+use description::{Command, Name, Opt, Positional, Spelling};
 use std::alloc::{AllocError, Allocator};
 
 /// What tells an entry apart in a list.
 #[derive(Clone, Copy, Debug, PartialEq, Eq, PartialOrd, Ord)]
 pub enum EntryKey<'a> {
     /// The names of an option, and the word for its value.
-    Names(ShortLong, Option<&'a str>),
+    Names(Name, Option<&'a str>),
     /// All of an option.
     Syntax(&'a str),
     /// The word for a positional value.

@@ -1,4 +1,5 @@
 //! Laws of the definitions that the contracts cite: nothing to call, but statements that the check proves.
+ghost use Rattle.description_pages.specs.Chapters.{EachLevelHasItsChapter};
 ghost use Rattle.description_pages.specs.Media.{MediaListTheSame};
 ghost use Rattle.description_pages.specs.Subjects.{EachCommandIsThere};
 
@@ -8,8 +9,13 @@ pub fn each_command_is_there()
     ensures { EachCommandIsThere }
 {}
 
-/// A level shows the same lists of entries in all media, and no others, in one order, on a page of its own and behind
-/// another level.
+/// Each level from one on that no page has to hide has its chapter, in the order of `all_from`, and there is no other.
+pub fn each_level_has_its_chapter()
+    ensures { EachLevelHasItsChapter }
+{}
+
+/// A level shows the same lists of entries in all media, and no others, in one order, on a page of its own, behind
+/// another level and as a chapter.
 pub fn media_list_the_same()
     ensures { MediaListTheSame }
 {}

@@ -1,17 +1,17 @@
 //! The page of a level, before a medium arranges it.
 ghost use Rattle.std.specs.Prelude.{◌≡◌, ◌++◌, map, IfOk, OnOk};
-ghost use Rattle.description_parts.specs.View.{level_said, opt_said};
+ghost use Rattle.description.specs.View.{level_said, opt_said};
 ghost use Rattle.description_pages.specs.Levels.{notes_of, page_of, sections_of, texts_of};
 ghost use Rattle.description_pages.specs.LevelsView.{level_page_of, subject_of};
 ghost use Rattle.description_pages.specs.Sections.{section_of};
-ghost use Rattle.description_parts.specs.Words.{words_said};
+ghost use Rattle.description.specs.Words.{words_said};
 
 use crate::forms::usage_forms;
 use crate::neighbours::{joined_names, neighbours};
 use crate::sections::{ArenaSections, Detail, Making, Section, given_blocks, push_lists};
 use crate::topics::{Place, placed_blocks, push_blocks, push_text_section, push_topics};
 use bumpalo::Bump;
-use description_parts::{FixedWords, Level, Opt};
+use description::{FixedWords, Level, Opt};
 use page_model::{Block, Form};
 use std::alloc::{AllocError, Allocator};
 
@@ -56,8 +56,9 @@ fn sections<'p, 'a: 'p, C: Allocator>(
     subject: LevelSubject<'p, 'a, C>,
 ) -> Result<ArenaSections<'p>, AllocError>
     ensures { IfOk result (λ sections. map section_of sections.items ≡ sections_of
-        (words_said making.entry.words.now) making.entry.detail (map (λ name. name.now) making.entry.names.now)
-        (map opt_said subject.entry.help_options.now) (level_said subject.entry.level.now)) }
+        (words_said making.entry.words.now) making.entry.detail making.entry.depth
+        (map (λ name. name.now) making.entry.names.now) (map opt_said subject.entry.help_options.now)
+        (level_said subject.entry.level.now)) }
 {
     let mut sections: ArenaSections<'p> = Vec::new(making.arena);
     push_lists(making, &mut sections, subject.level, subject.help_options)?;
@@ -82,21 +83,24 @@ fn push_notes<'p, 'a: 'p, C: Allocator>(
     push_text_section(sections, making.words.notes, blocks)
 }
 
-/// The page of a level, made in an arena: each text in full, or its first block. An error comes only where an
+/// The page of a level, made in an arena: each text in full, or its first block. Where the levels below stand on the
+/// same page, entries of commands lead to their headings, and else to their pages. An error comes only where an
 /// allocation failed.
 pub fn level_page<'p, 'a: 'p, C: Allocator>(
     arena: &'p Bump,
     words: &'p FixedWords<'p>,
     detail: Detail,
+    depth: Depth,
     subject: LevelSubject<'p, 'a, C>,
 ) -> Result<LevelPage<'p, &'p Bump>, AllocError>
     ensures { IfOk result (λ page. level_page_of page
-        ≡ page_of (words_said words.now) detail (subject_of subject.entry)) }
+        ≡ page_of (words_said words.now) detail depth (subject_of subject.entry)) }
 {
     let making = Making {
         arena,
         words,
         detail,
+        depth,
         names: subject.names,
     };
     let level = subject.level;

@@ -2,6 +2,7 @@
 #![tactic(auto)]
 
 mod arranged;
+pub mod chapters;
 pub mod consoles;
 mod entries;
 mod forms;

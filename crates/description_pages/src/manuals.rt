@@ -8,20 +8,20 @@ ghost use Rattle.description_pages.specs.Manuals.{manual_below, manual_of, manua
 ghost use Rattle.description_pages.specs.Topics.{merged};
 ghost use Rattle.description_pages.specs.declared.arranged.Case.TheVariants as Case;
 ghost use Rattle.page_model.specs.declared.parts.Rank.TheVariants as Rank;
-ghost use Rattle.description_parts.specs.Words.{words_said};
+ghost use Rattle.description.specs.Words.{words_said};
 
 use crate::arranged::{
     ArenaParts, Case, Titles, push_heading, push_titled, push_titled_parts, push_titled_usage,
 };
 use crate::entries::ArenaBlocks;
-use crate::levels::{LevelPage, LevelSubject, level_page};
+use crate::levels::{Depth, LevelPage, LevelSubject, level_page};
 use crate::neighbours::joined_names;
 use crate::references::with_references;
 use crate::sections::{Detail, given_blocks};
 use crate::summaries::{is_summary, summary};
 use crate::topics::push_blocks;
 use bumpalo::Bump;
-use description_parts::FixedWords;
+use description::FixedWords;
 use page_model::{Block, Inline, Line, Part, Rank};
 use std::alloc::{AllocError, Allocator, Global};
 
@@ -134,7 +134,7 @@ pub fn manual<'p, 'a: 'p, C: Allocator>(
     ensures { IfOk result (λ parts. map part_of parts.items
         ≡ manual_of (words_said words.now) (subject_of subject.entry)) }
 {
-    let page = level_page(arena, words, Detail::Full, subject)?;
+    let page = level_page(arena, words, Detail::Full, Depth::Alone, subject)?;
     let help = given_blocks(arena, Detail::Full, subject.help)?;
     let summary = summary(arena, help.as_slice(), page.about.as_slice())?;
     let name = joined_names(arena, subject.names, "-")?;
@@ -158,7 +158,7 @@ pub fn push_manual_below<'p, 'a: 'p, C: Allocator>(
     ensures { OnOk result (map part_of parts.new.items ≡ map part_of parts.old.items
         ++ manual_below (words_said words.now) (subject_of subject.entry)) }
 {
-    let page = level_page(arena, words, Detail::Full, subject)?;
+    let page = level_page(arena, words, Detail::Full, Depth::Alone, subject)?;
     parts.push(Part::Heading(Rank::Page, page.title))?;
     push_manual_order(arena, words, Rank::Subsection, parts, page)
 }

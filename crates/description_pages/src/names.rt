@@ -4,7 +4,7 @@ ghost use Rattle.std.specs.List.{list_all};
 ghost use Rattle.std.specs.Option.{option_map};
 ghost use Rattle.page_model.specs.View.{line_of, piece_of};
 ghost use Rattle.description_pages.specs.Names.{is_bare, is_bare_character, long_line, long_piece, short_line};
-ghost use Rattle.description_pages.specs.Names.{short_piece, value_behind, value_piece};
+ghost use Rattle.description_pages.specs.Names.{short_piece, shown_value, value_behind, value_piece};
 
 use bumpalo::Bump;
 use page_model::{Inline, Line};
@@ -66,19 +66,29 @@ fn long_piece<'p, A: Allocator>(arena: &'p Bump<A>, long: &str) -> Result<Inline
     Ok(Inline::Literal(joined(arena, "--", long, "")?))
 }
 
-/// The word for a value: as it is, where all its characters are Uppercase ones, ASCII digits, `-` and `_`, and else
-/// between `<` and `>`.
+/// The word for a value as it is shown: as it is, where all its characters are Uppercase ones, ASCII digits, `-` and
+/// `_`, and else between `<` and `>`.
+pub fn shown_value<'p, A: Allocator>(
+    arena: &'p Bump<A>,
+    word: &'p str,
+) -> Result<&'p str, AllocError>
+    ensures { IfOk result (λ shown. shown.now ≡ shown_value word.now) }
+{
+    if is_bare(word) {
+        Ok(word)
+    } else {
+        joined(arena, "<", word, ">")
+    }
+}
+
+/// That word.
 pub fn value_piece<'p, A: Allocator>(
     arena: &'p Bump<A>,
     word: &'p str,
 ) -> Result<Inline<'p>, AllocError>
     ensures { IfOk result (λ piece. piece_of piece ≡ value_piece word.now) }
 {
-    if is_bare(word) {
-        Ok(Inline::Value(word))
-    } else {
-        Ok(Inline::Value(joined(arena, "<", word, ">")?))
-    }
+    Ok(Inline::Value(shown_value(arena, word)?))
 }
 
 fn push_value<'p, A: Allocator>(

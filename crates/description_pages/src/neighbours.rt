@@ -1,12 +1,12 @@
 //! The names of pages, and which stand directly above and below a level.
 ghost use Rattle.std.specs.Prelude.{◌≡◌, ◌++◌, ◌∷◌, [], map, IfOk, OnOk};
-ghost use Rattle.description_parts.specs.View.{command_said, commands_said, group_said, groups_said, level_said};
+ghost use Rattle.description.specs.View.{command_said, commands_said, group_said, groups_said, level_said};
 ghost use Rattle.description_pages.specs.Levels.{commands_in, grouped_below, neighbours, page_above, page_below};
 ghost use Rattle.description_pages.specs.Levels.{pages_below};
-ghost use Rattle.description_pages.specs.Sections.{joined_names, page_name};
+ghost use Rattle.description_pages.specs.Sections.{joined_names};
 
 use bumpalo::Bump;
-use description_parts::{Command, Group, Level};
+use description::{Command, Group, Level};
 use std::alloc::{AllocError, Allocator};
 
 /// Names in an arena.
@@ -24,18 +24,20 @@ pub fn joined_names<'p, A: Allocator>(
     arena.try_alloc_str(whole.as_str())
 }
 
-/// The name of the page of a command of the level that these names lead to.
-pub fn page_name_below<'p, A: Allocator>(
+/// The names that lead to a command of the level that these names lead to, with a text between two.
+pub fn names_below<'p, A: Allocator>(
     arena: &'p Bump<A>,
     names: &[&str],
     command: &str,
+    between: &str,
 ) -> Result<&'p str, AllocError>
-    ensures { IfOk result (λ name. name.now ≡ page_name (map (λ name. name.now) names.now ++ command.now ∷ [])) }
+    ensures { IfOk result (λ whole. whole.now
+        ≡ joined_names between.now (map (λ name. name.now) names.now ++ command.now ∷ [])) }
 {
     let mut path: Vec<&str, &'p Bump<A>> = Vec::new(arena);
     path.extend_from_slice(names)?;
     path.push(command)?;
-    joined_names(arena, path.as_slice(), "-")
+    joined_names(arena, path.as_slice(), between)
 }
 
 fn push_above<'p, A: Allocator>(
@@ -65,7 +67,7 @@ fn push_command<'p, A: Allocator, C: Allocator>(
     if command.hidden {
         return Ok(());
     }
-    pages.push(page_name_below(arena, names, command.name)?)?;
+    pages.push(names_below(arena, names, command.name, "-")?)?;
     Ok(())
 }
 

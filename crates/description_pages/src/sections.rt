@@ -1,28 +1,30 @@
 //! The sections of a level: lists of entries, each under its title.
 ghost use Rattle.std.specs.Prelude.{◌≡◌, ◌<◌, ◌++◌, ◌∷◌, [], flat_map, map, IfOk, OnOk};
 ghost use Rattle.std.specs.Option.{option_map};
-ghost use Rattle.page_model.specs.View.{block_of};
-ghost use Rattle.description_parts.specs.View.{choice_said, command_said, commands_said, group_said, groups_said};
-ghost use Rattle.description_parts.specs.View.{level_said, opt_said, positional_said};
+ghost use Rattle.page_model.specs.View.{block_of, target_of};
+ghost use Rattle.description.specs.View.{choice_said, command_said, commands_said, group_said, groups_said};
+ghost use Rattle.description.specs.View.{level_said, opt_said, positional_said};
 ghost use Rattle.description_pages.specs.Keys.{entries_once};
 ghost use Rattle.description_pages.specs.Rows.{row_said};
 ghost use Rattle.description_pages.specs.Texts.{text_blocks};
 ghost use Rattle.description_pages.specs.Sections.{argument_section, choice_rows, command_rows};
-ghost use Rattle.description_pages.specs.Sections.{command_rows_of, command_section, given_blocks, group_section};
+ghost use Rattle.description_pages.specs.Sections.{command_rows_of, command_section, command_target, given_blocks};
+ghost use Rattle.description_pages.specs.Sections.{group_section};
 ghost use Rattle.description_pages.specs.Sections.{group_sections, joined_names, list_section, list_sections};
 ghost use Rattle.description_pages.specs.Sections.{option_rows, option_rows_of, option_section, page_name};
 ghost use Rattle.description_pages.specs.Sections.{section_of, shown_blocks, value_rows, value_rows_of};
 ghost use Rattle.description_pages.specs.Sections.{without_colon, without_last};
-ghost use Rattle.description_parts.specs.Words.{words_said};
+ghost use Rattle.description.specs.Words.{words_said};
 
 use crate::entries::{ArenaBlocks, command_entry, option_entry, positional_entry};
 use crate::keys::{Row, command_key, entries_once, option_key, positional_key};
-use crate::neighbours::page_name_below;
+use crate::levels::Depth;
+use crate::neighbours::names_below;
 use crate::once::Keyed;
 use crate::texts::blocks;
 use bumpalo::Bump;
-use description_parts::{Choice, Command, FixedWords, Group, Level, Opt, Positional};
-use page_model::{Block, Entry};
+use description::{Choice, Command, FixedWords, Group, Level, Opt, Positional};
+use page_model::{Block, Entry, Target};
 use std::alloc::{AllocError, Allocator, Global};
 
 /// How much of each text is shown: all of it, or its first block.
@@ -61,6 +63,8 @@ pub struct Making<'p> {
     pub arena: &'p Bump,
     pub words: &'p FixedWords<'p>,
     pub detail: Detail,
+    /// What stands on the page.
+    pub depth: Depth,
     /// The names that lead to the level.
     pub names: &'p [&'p str],
 }
@@ -195,6 +199,18 @@ fn push_values<'p>(
     Ok(())
 }
 
+// Where the entry of a command leads.
+fn command_target<'p>(making: Making<'p>, command: &str) -> Result<Target<'p>, AllocError>
+    ensures { IfOk result (λ target. target_of target ≡ command_target making.entry.depth
+        (map (λ name. name.now) making.entry.names.now ++ command.now ∷ [])) }
+{
+    let (arena, names) = (making.arena, making.names);
+    match making.depth {
+        Depth::Alone => Ok(Target::Page(names_below(arena, names, command, "-")?)),
+        Depth::Deep => Ok(Target::Heading(names_below(arena, names, command, " ")?)),
+    }
+}
+
 fn push_command<'p, 'a: 'p, C: Allocator>(
     making: Making<'p>,
     rows: &mut ArenaRows<'p>,
@@ -202,16 +218,16 @@ fn push_command<'p, 'a: 'p, C: Allocator>(
 ) -> Result<(), AllocError>
     ensures { OnOk result (map row_said rows.new.items ≡ map row_said rows.old.items
         ++ command_rows_of (words_said making.entry.words.now) making.entry.detail
-        (map (λ name. name.now) making.entry.names.now) (command_said command.now)) }
+        making.entry.depth (map (λ name. name.now) making.entry.names.now) (command_said command.now)) }
 {
     if command.hidden {
         return Ok(());
     }
-    let page = page_name_below(making.arena, making.names, command.name)?;
+    let target = command_target(making, command.name)?;
     let help = given_blocks(making.arena, making.detail, command.help)?;
     rows.push(Keyed {
         key: command_key(command),
-        item: command_entry(making.arena, making.words, page, command, help)?,
+        item: command_entry(making.arena, making.words, target, command, help)?,
     })?;
     Ok(())
 }
@@ -223,7 +239,7 @@ fn push_commands<'p, 'a: 'p, C: Allocator>(
 ) -> Result<(), AllocError>
     ensures { OnOk result (map row_said rows.new.items ≡ map row_said rows.old.items
         ++ command_rows (words_said making.entry.words.now) making.entry.detail
-        (map (λ name. name.now) making.entry.names.now) (commands_said commands.now)) }
+        making.entry.depth (map (λ name. name.now) making.entry.names.now) (commands_said commands.now)) }
 {
     for command in commands {
         push_command(making, rows, command)?;
@@ -259,7 +275,7 @@ fn push_group<'p, 'a: 'p, C: Allocator>(
 ) -> Result<(), AllocError>
     ensures { OnOk result (map section_of sections.new.items ≡ map section_of sections.old.items
         ++ group_section (words_said making.entry.words.now) making.entry.detail
-        (map (λ name. name.now) making.entry.names.now) (group_said group.now)) }
+        making.entry.depth (map (λ name. name.now) making.entry.names.now) (group_said group.now)) }
 {
     let mut rows: ArenaRows<'p> = Vec::new(making.arena);
     push_options(making, &mut rows, group.options.as_slice())?;
@@ -276,7 +292,7 @@ fn push_groups<'p, 'a: 'p, C: Allocator>(
 ) -> Result<(), AllocError>
     ensures { OnOk result (map section_of sections.new.items ≡ map section_of sections.old.items
         ++ group_sections (words_said making.entry.words.now) making.entry.detail
-        (map (λ name. name.now) making.entry.names.now) (groups_said groups.now)) }
+        making.entry.depth (map (λ name. name.now) making.entry.names.now) (groups_said groups.now)) }
 {
     for group in groups {
         push_group(making, sections, group)?;
@@ -322,7 +338,7 @@ fn push_own_commands<'p, 'a: 'p, C: Allocator>(
 ) -> Result<(), AllocError>
     ensures { OnOk result (map section_of sections.new.items ≡ map section_of sections.old.items
         ++ command_section (words_said making.entry.words.now) making.entry.detail
-        (map (λ name. name.now) making.entry.names.now) (level_said level.now)) }
+        making.entry.depth (map (λ name. name.now) making.entry.names.now) (level_said level.now)) }
 {
     let mut rows: ArenaRows<'p> = Vec::new(making.arena);
     push_commands(making, &mut rows, level.commands.as_slice())?;
@@ -338,7 +354,8 @@ pub fn push_lists<'p, 'a: 'p, C: Allocator>(
 ) -> Result<(), AllocError>
     ensures { OnOk result (map section_of sections.new.items ≡ map section_of sections.old.items
         ++ list_sections (words_said making.entry.words.now) making.entry.detail
-        (map (λ name. name.now) making.entry.names.now) (map opt_said help_options.now) (level_said level.now)) }
+        making.entry.depth (map (λ name. name.now) making.entry.names.now) (map opt_said help_options.now)
+        (level_said level.now)) }
 {
     push_arguments(making, sections, level)?;
     push_groups(making, sections, level.groups.as_slice())?;

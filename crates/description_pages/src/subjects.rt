@@ -2,7 +2,7 @@
 ghost use Rattle.std.specs.Prelude.{◌≡◌, ◌++◌, ◌∷◌, [], codes, map, IfOk, OnOk, bytes_eq};
 ghost use Rattle.std.specs.List.{find, list_any};
 ghost use Rattle.std.specs.Option.{option_map};
-ghost use Rattle.description_parts.specs.View.{command_said, commands_said, group_said, groups_said, level_said};
+ghost use Rattle.description.specs.View.{command_said, commands_said, group_said, groups_said, level_said};
 ghost use Rattle.description_pages.specs.LevelsView.{subject_of};
 ghost use Rattle.description_pages.specs.Sections.{joined_names, page_name};
 ghost use Rattle.description_pages.specs.Subjects.{all_from, below, below_commands, below_group, below_groups};
@@ -13,7 +13,7 @@ use crate::levels::LevelSubject;
 use crate::neighbours::joined_names;
 use bumpalo::Bump;
 use bumpalo::collections::into_bump_slice;
-use description_parts::{Command, Group, Level};
+use description::{Command, Group, Level};
 use std::alloc::{AllocError, Allocator};
 
 /// Levels in an arena.
@@ -69,8 +69,8 @@ fn names_below<'p>(
     Ok(into_bump_slice(path))
 }
 
-// A command of a level, as a level.
-fn below<'p, 'a: 'p, C: Allocator>(
+/// A command of a level, as a level. An error comes only where an allocation failed.
+pub fn below<'p, 'a: 'p, C: Allocator>(
     arena: &'p Bump,
     above: LevelSubject<'p, 'a, C>,
     command: &'p Command<'a, C>,

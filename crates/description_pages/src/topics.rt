@@ -2,16 +2,16 @@
 ghost use Rattle.std.specs.Prelude.{◌≡◌, ◌++◌, flat_map, fold, map, IfOk, OnOk};
 ghost use Rattle.page_model.specs.View.{block_of};
 ghost use Rattle.page_model.specs.declared.parts.Block.TheVariants.{List};
-ghost use Rattle.description_parts.specs.View.{topic_said};
+ghost use Rattle.description.specs.View.{topic_said};
 ghost use Rattle.description_pages.specs.Sections.{section_of, text_section};
 ghost use Rattle.description_pages.specs.Topics.{and_block, merged, own_section, own_sections, place_of};
 ghost use Rattle.description_pages.specs.Topics.{placed_blocks, placed_of, same_title, together};
-ghost use Rattle.description_parts.specs.Words.{words_said};
+ghost use Rattle.description.specs.Words.{words_said};
 
 use crate::entries::ArenaBlocks;
 use crate::sections::{ArenaSections, Body, Making, Section, shown_blocks, without_colon};
 use bumpalo::Bump;
-use description_parts::Topic;
+use description::Topic;
 use page_model::{Block, Line};
 use std::alloc::{AllocError, Allocator, Global};
 

@@ -5,24 +5,22 @@ ghost use Rattle.std.specs.List.{list_any};
 ghost use Rattle.std.specs.Option.{option_map};
 ghost use Rattle.page_model.specs.Content.{words};
 ghost use Rattle.page_model.specs.View.{line_of};
-ghost use Rattle.bpaf_meta.specs.View.{name_of};
-ghost use Rattle.description_parts.specs.View.{choice_said, command_said, group_said, level_said, opt_said};
-ghost use Rattle.description_parts.specs.View.{positional_said, spelling_said};
+ghost use Rattle.description.specs.View.{name_said, choice_said, command_said, group_said, level_said, opt_said};
+ghost use Rattle.description.specs.View.{positional_said, spelling_said};
 ghost use Rattle.description_pages.specs.Usage.{called, called_name, choice_items, command_items, dots, dots_line};
 ghost use Rattle.description_pages.specs.Usage.{enclosed, group_items, group_positionals, group_shows_command};
 ghost use Rattle.description_pages.specs.Usage.{is_barred, is_shown_command, level_positionals};
 ghost use Rattle.description_pages.specs.Usage.{level_shows_command, member_items, named_items, option_item};
 ghost use Rattle.description_pages.specs.Usage.{option_items, plain_item, positionals_behind, shown_options};
 ghost use Rattle.description_pages.specs.Usage.{shown_positionals, strict_item, strict_value, usage_items};
-ghost use Rattle.description_parts.specs.Words.{words_said};
+ghost use Rattle.description.specs.Words.{words_said};
 
 use crate::entries::ArenaLines;
 use crate::lines::{joined, one};
 use crate::names::{ArenaLine, long_line, short_line, value_piece};
 use crate::syntax::{has_bar, push_syntax, shown_way};
-use bpaf_meta::item::ShortLong;
 use bumpalo::Bump;
-use description_parts::{Choice, Command, FixedWords, Group, Level, Opt, Positional, Spelling};
+use description::{Choice, Command, FixedWords, Group, Level, Name, Opt, Positional, Spelling};
 use page_model::{Inline, Line};
 use std::alloc::{AllocError, Allocator};
 
@@ -90,15 +88,15 @@ fn enclosed<'a, A: Allocator>(
 
 fn called_name<'p, A: Allocator>(
     arena: &'p Bump<A>,
-    name: ShortLong,
+    name: Name,
     value: Option<&'p str>,
 ) -> Result<ArenaLine<'p, A>, AllocError>
     ensures { IfOk result (λ line. line_of line.items
-        ≡ called_name (name_of name) (option_map (λ word. word.now) value.entry)) }
+        ≡ called_name (name_said name) (option_map (λ word. word.now) value.entry)) }
 {
     match name {
-        ShortLong::Short(short) | ShortLong::Both(short, _) => short_line(arena, short, value),
-        ShortLong::Long(long) => long_line(arena, long, value),
+        Name::Short(short) | Name::Both(short, _) => short_line(arena, short, value),
+        Name::Long(long) => long_line(arena, long, value),
     }
 }
 

@@ -1,7 +1,7 @@
 use Rattle.std.proofs.Common.{◌≡◌, flat_map, map, take}
 use Rattle.page_model.specs.View.{form_of}
 use Rattle.description_pages.specs.Forms.{line_forms}
-use Rattle.description_parts.specs.Words.{words_said}
+use Rattle.description.specs.Words.{words_said}
 use Rattle.description_pages.proofs.forms.text_forms.Given as goal
 
 abbrev pub invariant-loop-line : goal.invariant-loop-line

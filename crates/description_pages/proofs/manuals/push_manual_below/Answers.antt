@@ -5,7 +5,7 @@ use Rattle.page_model.specs.View.{part_of}
 use Rattle.page_model.specs.declared.parts.Rank.TheVariants.{Subsection}
 use Rattle.description_pages.specs.LevelsView.{level_page_of}
 use Rattle.description_pages.specs.Manuals.{manual_order}
-use Rattle.description_parts.specs.Words.{words_said}
+use Rattle.description.specs.Words.{words_said}
 use Rattle.description_pages.proofs.Below.{below_put}
 use Rattle.description_pages.proofs.manuals.push_manual_below.Goals as goal
 

@@ -1,5 +1,5 @@
 use Rattle.std.proofs.Common.{◌≡◌, ◌++◌, drop, map}
-use Rattle.description_parts.specs.View.{commands_said}
+use Rattle.description.specs.View.{commands_said}
 use Rattle.description_pages.specs.Levels.{pages_below}
 use Rattle.description_pages.proofs.neighbours.push_commands.Given as goal
 

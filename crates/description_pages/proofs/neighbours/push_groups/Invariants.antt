@@ -1,5 +1,5 @@
 use Rattle.std.proofs.Common.{◌≡◌, ◌++◌, drop, map}
-use Rattle.description_parts.specs.View.{groups_said}
+use Rattle.description.specs.View.{groups_said}
 use Rattle.description_pages.specs.Levels.{grouped_below}
 use Rattle.description_pages.proofs.neighbours.push_groups.Given as goal
 

@@ -1,8 +1,8 @@
 use Rattle.std.proofs.Common.{◌≡◌, ◌++◌, drop, map}
 use Rattle.description_pages.specs.Rows.{row_said}
-use Rattle.description_parts.specs.View.{positional_said}
+use Rattle.description.specs.View.{positional_said}
 use Rattle.description_pages.specs.Sections.{value_rows}
-use Rattle.description_parts.specs.Words.{words_said}
+use Rattle.description.specs.Words.{words_said}
 use Rattle.description_pages.proofs.sections.push_values.Given as goal
 
 abbrev pub invariant-loop-value : goal.invariant-loop-value

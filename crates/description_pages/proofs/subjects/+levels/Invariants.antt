@@ -1,5 +1,5 @@
 use Rattle.std.proofs.Common.{◌≡◌, ◌++◌, drop, map}
-use Rattle.description_parts.specs.View.{commands_said, groups_said}
+use Rattle.description.specs.View.{commands_said, groups_said}
 use Rattle.description_pages.specs.LevelsView.{subject_of}
 use Rattle.description_pages.specs.Subjects.{below_commands, below_groups}
 use Rattle.description_pages.proofs.subjects.+levels.Given as goal

@@ -2,7 +2,7 @@ use Rattle.std.proofs.Common.{◌+◌, drop, map, sym, ap, ◌∙◌}
 use Rattle.std.specs.List.{find}
 use Rattle.std.specs.Option.{option_map, option_or}
 use Rattle.description_pages.specs.Subjects.{grouped, is_named}
-use Rattle.description_parts.specs.View.{command_said, groups_said}
+use Rattle.description.specs.View.{command_said, groups_said}
 use Rattle.description_pages.proofs.Named.{in_group}
 use Rattle.description_pages.proofs.subjects.grouped_command.Goals as goal
 

@@ -1,6 +1,6 @@
 use Rattle.std.proofs.Common.{◌≡◌, drop}
 use Rattle.std.specs.List.{find}
-use Rattle.description_parts.specs.View.{groups_said}
+use Rattle.description.specs.View.{groups_said}
 use Rattle.description_pages.specs.Subjects.{grouped, is_named}
 use Rattle.description_pages.proofs.subjects.grouped_command.Given as goal
 

@@ -1,6 +1,6 @@
 use Rattle.std.proofs.Common.{◌≡◌, drop, map}
 use Rattle.std.specs.List.{find}
-use Rattle.description_parts.specs.View.{command_said}
+use Rattle.description.specs.View.{command_said}
 use Rattle.description_pages.specs.Subjects.{is_named}
 use Rattle.description_pages.proofs.subjects.listed_command.Given as goal
 

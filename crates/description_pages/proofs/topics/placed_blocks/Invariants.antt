@@ -1,9 +1,9 @@
 use Rattle.std.proofs.Common.{◌≡◌, [], drop, map}
 use Rattle.std.specs.Prelude.{fold}
 use Rattle.page_model.specs.View.{block_of}
-use Rattle.description_parts.specs.View.{topic_said}
+use Rattle.description.specs.View.{topic_said}
 use Rattle.description_pages.specs.Topics.{and_block, placed_blocks}
-use Rattle.description_parts.specs.Words.{words_said}
+use Rattle.description.specs.Words.{words_said}
 use Rattle.description_pages.proofs.topics.placed_blocks.Given as goal
 
 abbrev pub invariant-loop-topic : goal.invariant-loop-topic

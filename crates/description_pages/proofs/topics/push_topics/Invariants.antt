@@ -1,8 +1,8 @@
 use Rattle.std.proofs.Common.{◌≡◌, ◌++◌, drop, map}
-use Rattle.description_parts.specs.View.{topic_said}
+use Rattle.description.specs.View.{topic_said}
 use Rattle.description_pages.specs.Sections.{section_of}
 use Rattle.description_pages.specs.Topics.{own_sections}
-use Rattle.description_parts.specs.Words.{words_said}
+use Rattle.description.specs.Words.{words_said}
 use Rattle.description_pages.proofs.topics.push_topics.Given as goal
 
 abbrev pub invariant-loop-topic : goal.invariant-loop-topic

@@ -1,6 +1,6 @@
 use Rattle.std.proofs.Common.{◌≡◌, map, take}
 use Rattle.page_model.specs.View.{line_of}
-use Rattle.description_parts.specs.View.{opt_said}
+use Rattle.description.specs.View.{opt_said}
 use Rattle.description_pages.specs.Usage.{called}
 use Rattle.description_pages.proofs.usage.called_lines.Given as goal
 

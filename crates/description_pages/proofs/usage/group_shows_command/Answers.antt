@@ -1,6 +1,6 @@
 use Rattle.std.proofs.Common.{ap, map, sym, ◌∙◌}
 use Rattle.std.specs.List.{list_any}
-use Rattle.description_parts.specs.View.{command_said, group_said}
+use Rattle.description.specs.View.{command_said, group_said}
 use Rattle.description_pages.specs.Usage.{group_shows_command, is_shown_command}
 use Rattle.description_pages.proofs.LevelParts.{group_commands_there, none_yet, one_passes}
 use Rattle.description_pages.proofs.usage.group_shows_command.Goals as goal

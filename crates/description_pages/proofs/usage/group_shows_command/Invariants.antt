@@ -1,6 +1,6 @@
 use Rattle.std.proofs.Common.{◌≡◌, map, take, false}
 use Rattle.std.specs.List.{list_any}
-use Rattle.description_parts.specs.View.{group_said}
+use Rattle.description.specs.View.{group_said}
 use Rattle.description_pages.specs.Usage.{group_shows_command}
 use Rattle.description_pages.proofs.usage.group_shows_command.Given as goal
 

@@ -1,5 +1,5 @@
 use Rattle.std.proofs.Common.{◌≡◌, ◌++◌, flat_map, map, take}
-use Rattle.description_parts.specs.View.{group_said, positional_said}
+use Rattle.description.specs.View.{group_said, positional_said}
 use Rattle.description_pages.specs.Usage.{group_positionals, shown_positionals}
 use Rattle.description_pages.proofs.usage.push_group_positionals.Given as goal
 

@@ -1,6 +1,6 @@
 use Rattle.std.proofs.Common.{◌≡◌, ◌++◌, flat_map, map, take}
 use Rattle.page_model.specs.View.{line_of}
-use Rattle.description_parts.specs.View.{group_said}
+use Rattle.description.specs.View.{group_said}
 use Rattle.description_pages.specs.Usage.{group_items}
 use Rattle.description_pages.proofs.usage.push_groups.Given as goal
 

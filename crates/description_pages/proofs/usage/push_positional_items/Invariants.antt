@@ -1,7 +1,7 @@
 use Rattle.std.proofs.Common.{◌≡◌, ◌++◌, [], drop, map, take}
 use Rattle.std.specs.List.{list_any}
 use Rattle.page_model.specs.View.{line_of}
-use Rattle.description_parts.specs.View.{positional_said}
+use Rattle.description.specs.View.{positional_said}
 use Rattle.description_pages.specs.Usage.{positionals_behind}
 use Rattle.description_pages.proofs.usage.push_positional_items.Given as goal
 

@@ -1,5 +1,5 @@
 use Rattle.std.proofs.Common.{◌≡◌, ◌++◌, map, take}
-use Rattle.description_parts.specs.View.{positional_said}
+use Rattle.description.specs.View.{positional_said}
 use Rattle.description_pages.specs.Usage.{shown_positionals}
 use Rattle.description_pages.proofs.usage.push_positionals.Given as goal
 

@@ -1,5 +1,5 @@
 use Rattle.std.proofs.Common.{◌≡◌, map, take}
-use Rattle.description_parts.specs.View.{opt_said}
+use Rattle.description.specs.View.{opt_said}
 use Rattle.description_pages.specs.Usage.{shown_options}
 use Rattle.description_pages.proofs.usage.shown_options.Given as goal
 

@@ -1,8 +1,8 @@
 use Rattle.std.proofs.Common.{ap, map, not, sym, ◌∙◌, ◌++◌}
 use Rattle.std.specs.Prelude.{flat_map}
 use Rattle.std.proofs.lemmas.List.Elements.{filter-append}
-use Rattle.description_parts.specs.View.{group_said, positional_said}
-use Rattle.description_parts.specs.declared.levels.Level.{out-Level}
+use Rattle.description.specs.View.{group_said, positional_said}
+use Rattle.description.specs.declared.levels.Level.{out-Level}
 use Rattle.description_pages.specs.Usage.{group_positionals, shown_positionals}
 use Rattle.description_pages.proofs.LevelParts.{level_groups, positionals_there}
 use Rattle.description_pages.proofs.usage.shown_positionals.Goals as goal

@@ -1,5 +1,5 @@
 use Rattle.std.proofs.Common.{ap, not, sym, ◌∙◌}
-use Rattle.description_parts.specs.View.{command_said}
+use Rattle.description.specs.View.{command_said}
 use Rattle.description_pages.specs.Usage.{is_shown_command}
 use Rattle.description_pages.proofs.LevelParts.{none_yet, one_passes, shown_there}
 use Rattle.description_pages.proofs.usage.shows_command.Goals as goal

@@ -1,6 +1,6 @@
 use Rattle.std.proofs.Common.{◌≡◌, map, take, false}
 use Rattle.std.specs.List.{list_any}
-use Rattle.description_parts.specs.View.{command_said}
+use Rattle.description.specs.View.{command_said}
 use Rattle.description_pages.specs.Usage.{is_shown_command}
 use Rattle.description_pages.proofs.usage.shows_command.Given as goal
 
