@@ -1,5 +1,9 @@
 -- Why a page is not made.
-use Rattle.std.proofs.Common.{◌≡◌, inl, inr, arith, Option, Some, None, Result, Ok, Err}
+use Rattle.std.proofs.Common.{◌≡◌, ◌⊎◌, inl, inr, arith, IfErr, Option, Some, None, Result, Ok, Err}
+use Rattle.std.specs.Prelude.{alloc_error}
+use Rattle.web_page.specs.declared.errors.PageError.{PageError}
+use Rattle.web_page.specs.declared.errors.PageError.TheVariants.{Refused}
+use Rattle.html_page.specs.Promises as html
 use Rattle.page_model.specs.Faults.{FailsOnlyBy}
 use Rattle.page_model.specs.declared.fault.PageFault.{PageFault}
 use Rattle.command_pages.specs.Pages.{FailsBy}
@@ -9,3 +13,8 @@ pub failing : {T : Type 0} (fault : Option PageFault) (result : Result T PageFau
 failing fault (Ok t) fails = tt
 failing None (Err error) fails = inl fails
 failing (Some f) (Err error) fails = grind (fails, arith)
+
+-- a page in HTML that fails as it says
+pub failing_html : {T : Type 0} (fault : Option PageError) (result : Result T PageError) → html.FailsBy fault result → IfErr result (λ error. (error ≡ Refused alloc_error) ⊎ (fault ≡ Some error))
+failing_html fault (Ok t) fails = tt
+failing_html fault (Err error) fails = fails

@@ -1,3 +1,4 @@
 pub mod Pages
+pub mod Html
 pub mod Readings
 pub mod View

@@ -23,13 +23,13 @@ use Rattle.description_pages.specs.Subjects.{led_to, subjects_below}
 use Rattle.description_pages.specs.declared.levels.Depth.{Depth}
 use Rattle.description_pages.specs.declared.levels.Depth.TheVariants.{Alone, Deep}
 use Rattle.description_pages.specs.declared.sections.Detail.TheVariants as Detail
-use Rattle.description_parts.specs.Words.{WordsSaid}
+use Rattle.description.specs.Words.{WordsSaid}
 use Rattle.command_pages.specs.declared.given.ConsoleForm.{ConsoleForm}
 use Rattle.command_pages.specs.declared.given.ConsoleForm.TheVariants.{Usage, Full, Brief}
 
 -- ---- what is given
 
--- the words of the title line of a manual page that take the place of the description's
+-- the words of the title line of a manual page, and of the foot of a page in HTML, that take the place of the description's
 pub record TitleGiven : Type 0 where
   pub date : Option (List ℕ)
   pub vendor : Option (List ℕ)
@@ -92,8 +92,8 @@ abbrev pub title_of : SubjectSaid → List ℕ
 title_of s = joined_names (codes " ") s.names
 
 abbrev pub markdown_parts : Depth → WordsSaid → SubjectSaid → List PartSaid
-markdown_parts Alone fixed s = markdown_of fixed s
-markdown_parts Deep fixed s = markdown_of fixed s ++ flat_map (markdown_below fixed) (subjects_below s)
+markdown_parts Alone fixed s = markdown_of fixed Alone s
+markdown_parts Deep fixed s = markdown_of fixed Deep s ++ flat_map (markdown_below fixed) (subjects_below s)
 
 abbrev pub markdown_page : Depth → WordsSaid → SubjectSaid → List ℕ
 markdown_page depth fixed s = markdown_text (title_of s) (markdown_parts depth fixed s)

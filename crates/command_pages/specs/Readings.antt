@@ -7,7 +7,7 @@ use Rattle.markdown_page.specs.Promises.{ReadsAs as ReadsAsMarkdown}
 use Rattle.description.specs.Content.{DescriptionSaid}
 use Rattle.description_pages.specs.Levels.{SubjectSaid}
 use Rattle.description_pages.specs.declared.levels.Depth.{Depth}
-use Rattle.description_parts.specs.Words.{WordsSaid}
+use Rattle.description.specs.Words.{WordsSaid}
 use Rattle.command_pages.specs.Pages.{TitleGiven, manual_parts, markdown_parts, title_line, title_of}
 
 -- a reader of man(7) reads the bytes, whole, as what the page says

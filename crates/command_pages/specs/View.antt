@@ -1,5 +1,5 @@
 -- What is given for a title line.
-use Rattle.bpaf_meta.specs.View.{text_of}
+use Rattle.description.specs.View.{text_of}
 use Rattle.command_pages.specs.Pages.{TitleGiven}
 use Rattle.command_pages.specs.declared.given.TitleGiven as of_title
 

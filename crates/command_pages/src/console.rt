@@ -2,16 +2,16 @@
 
 ghost use Rattle.std.specs.Prelude.{◌≡◌, IfOk, string_bytes};
 ghost use Rattle.description_pages.specs.LevelsView.{subject_of};
-ghost use Rattle.description_parts.specs.Words.{words_said};
+ghost use Rattle.description.specs.Words.{words_said};
 ghost use Rattle.command_pages.specs.Pages.{FailsBy, console_page, console_page_fault};
 
 use crate::given::ConsoleForm;
 use bumpalo::Bump;
 use console_page::{console_page, console_usage};
+use description::FixedWords;
 use description_pages::Detail;
 use description_pages::consoles::{console, usage};
 use description_pages::levels::LevelSubject;
-use description_parts::FixedWords;
 use page_model::PageFault;
 use std::alloc::{Allocator, Global};
 

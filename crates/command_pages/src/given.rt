@@ -1,5 +1,12 @@
 //! What is asked for.
 
+ghost use Rattle.std.specs.Prelude.{◌≡◌, [], IfOk, unwrap_or};
+ghost use Rattle.std.specs.Option.{option_or};
+ghost use Rattle.description.specs.View.{text_of};
+
+use bumpalo::Bump;
+use std::alloc::AllocError;
+
 /// A page on a console.
 #[derive(Clone, Copy, Debug, PartialEq, Eq)]
 pub enum ConsoleForm {
@@ -11,9 +18,25 @@ pub enum ConsoleForm {
     Brief,
 }
 
-/// The words of the title line of a manual page that take the place of the description's.
+/// The words of the title line of a manual page, and of the foot of a page in HTML, that take the place of the
+/// description's.
 #[derive(Clone, Copy, Debug)]
 pub struct TitleGiven<'a> {
     pub date: Option<&'a str>,
     pub vendor: Option<&'a str>,
+}
+
+/// What is given, or else what is said; nothing is the empty text.
+pub(crate) fn word_of<'p, 'a: 'p>(
+    arena: &'p Bump,
+    given: Option<&str>,
+    said: Option<&'a str>,
+) -> Result<&'p str, AllocError>
+    ensures { IfOk result (λ word. word.now ≡ unwrap_or (option_or (text_of given.entry) (text_of said.entry)) []) }
+{
+    match (given, said) {
+        (Some(word), _) => arena.try_alloc_str(word),
+        (None, Some(word)) => Ok(word),
+        (None, None) => Ok(""),
+    }
 }

@@ -1,27 +1,24 @@
 //! Manual pages.
 
-ghost use Rattle.std.specs.Prelude.{◌≡◌, ◌++◌, [], IfOk, OnOk, flat_map, map, string_bytes, unwrap_or};
-ghost use Rattle.std.specs.Option.{option_or};
-ghost use Rattle.bpaf_meta.specs.View.{text_of};
+ghost use Rattle.std.specs.Prelude.{◌≡◌, ◌++◌, IfOk, OnOk, flat_map, map, string_bytes};
 ghost use Rattle.page_model.specs.View.{part_of};
 ghost use Rattle.man_page.specs.View.{title_of};
 ghost use Rattle.description.specs.View.{description_said};
 ghost use Rattle.description_pages.specs.LevelsView.{subject_of};
 ghost use Rattle.description_pages.specs.Manuals.{manual_below};
 ghost use Rattle.description_pages.specs.Subjects.{subjects_below};
-ghost use Rattle.description_parts.specs.Words.{words_said};
+ghost use Rattle.description.specs.Words.{words_said};
 ghost use Rattle.command_pages.specs.Pages.{FailsBy, manual_page, manual_page_fault, manual_parts, title_line};
 ghost use Rattle.command_pages.specs.Readings.{IsManualOf};
 ghost use Rattle.command_pages.specs.View.{title_said};
 
-use crate::given::TitleGiven;
+use crate::given::{TitleGiven, word_of};
 use bumpalo::Bump;
-use description::Description;
+use description::{Description, FixedWords};
 use description_pages::levels::LevelSubject;
 use description_pages::manuals::{manual, push_manual_below};
 use description_pages::subjects::{all_below, page_name};
 use description_pages::{ArenaParts, Depth};
-use description_parts::FixedWords;
 use man_page::{TitleLine, manual_page};
 use page_model::PageFault;
 use std::alloc::{AllocError, Allocator, Global};
@@ -60,26 +57,11 @@ fn title_line<'p, 'a: 'p>(
     let title: Option<&'p str> = description.title;
     Ok(TitleLine {
         name: page_name(arena, level.names)?,
-        section: description.section.as_str(),
+        section: description.section,
         date: word_of(arena, given.date, description.date)?,
         vendor: word_of(arena, given.vendor, description.vendor)?,
         title: title.unwrap_or(""),
     })
-}
-
-// What is given, or else what is said; nothing is the empty text.
-fn word_of<'p, 'a: 'p>(
-    arena: &'p Bump,
-    given: Option<&str>,
-    said: Option<&'a str>,
-) -> Result<&'p str, AllocError>
-    ensures { IfOk result (λ word. word.now ≡ unwrap_or (option_or (text_of given.entry) (text_of said.entry)) []) }
-{
-    match (given, said) {
-        (Some(word), _) => arena.try_alloc_str(word),
-        (None, Some(word)) => Ok(word),
-        (None, None) => Ok(""),
-    }
 }
 
 fn manual_parts<'p, 'a: 'p>(

@@ -5,16 +5,16 @@ ghost use Rattle.page_model.specs.View.{part_of};
 ghost use Rattle.description_pages.specs.LevelsView.{subject_of};
 ghost use Rattle.description_pages.specs.Markdowns.{markdown_below};
 ghost use Rattle.description_pages.specs.Subjects.{subjects_below};
-ghost use Rattle.description_parts.specs.Words.{words_said};
+ghost use Rattle.description.specs.Words.{words_said};
 ghost use Rattle.command_pages.specs.Pages.{FailsBy, markdown_page, markdown_page_fault, markdown_parts};
 ghost use Rattle.command_pages.specs.Readings.{IsMarkdownOf};
 
 use bumpalo::Bump;
+use description::FixedWords;
 use description_pages::levels::LevelSubject;
 use description_pages::markdowns::{markdown, push_markdown_below};
 use description_pages::subjects::{all_below, title};
 use description_pages::{ArenaParts, Depth};
-use description_parts::FixedWords;
 use markdown_page::markdown_page;
 use page_model::PageFault;
 use std::alloc::{AllocError, Allocator, Global};
@@ -48,7 +48,7 @@ fn markdown_parts<'p, 'a: 'p>(
     ensures { IfOk result (λ parts. map part_of parts.items
         ≡ markdown_parts depth (words_said words.now) (subject_of level.entry)) }
 {
-    let mut parts = markdown(arena, words, level)?;
+    let mut parts = markdown(arena, words, depth, level)?;
     if depth == Depth::Deep {
         push_markdowns_below(arena, words, &mut parts, level)?;
     }

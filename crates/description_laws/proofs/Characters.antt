@@ -12,9 +12,8 @@ use Rattle.std.proofs.lemmas.List.Folds.{list_all-append}
 use Rattle.std.proofs.lemmas.Str.{chars-IsAscii}
 use Rattle.toml_datetime.specs.Text.{two_wide, date_text}
 use Rattle.toml_datetime.specs.declared.datetime.Date.{Date}
-use Rattle.description.specs.Described.Texts.{has_blank_end, without_colon, begins, is_body, is_dash, is_empty_text, is_text, is_value, is_title, is_heading, is_section, is_name, is_long, is_program_name, is_command_name, is_line_character, is_name_character, is_read_once, is_short, is_text_character, is_line, is_language_tag}
-use Rattle.web_page.specs.Models.{is_language}
-use Rattle.description.proofs.Each.{Each}
+use Rattle.description_toml.specs.Described.Texts.{has_blank_end, without_colon, begins, is_body, is_dash, is_empty_text, is_text, is_value, is_title, is_heading, is_section, is_name, is_long, is_program_name, is_command_name, is_line_character, is_name_character, is_read_once, is_short, is_text_character, is_line, is_language_byte, is_language_tag}
+use Rattle.description_toml.proofs.Each.{Each}
 
 -- each of the characters may stand in a text
 abbrev pub Plain : List ℕ → Type 0
@@ -93,7 +92,7 @@ pub section_plain : (text : List ℕ) → is_section text ≡ true → PlainText
 section_plain text h = grind (arith, and_parts, weaker, line)
 
 pub language_plain : (text : List ℕ) → is_language_tag text ≡ true → PlainText text
-language_plain text h = let both = and_parts (list_all is_line_character (chars text)) (is_language text) h in weaker is_line_character is_text_character line (chars text) both.0
+language_plain text h = let both = and_parts (list_all is_line_character (chars text)) (not (is_empty_text text) && list_all is_language_byte text) h in weaker is_line_character is_text_character line (chars text) both.0
 
 english : IsAscii (codes "en")
 english h0 = grind arith

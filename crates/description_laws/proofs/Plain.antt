@@ -3,22 +3,19 @@ use Rattle.std.proofs.lemmas.Grind.{common_steps}
 use Rattle.std.proofs.Common.{ℕ, List, [], ◌++◌, Bool, true, false, Option, Some, refl, codes, arith}
 use Rattle.std.specs.Prelude.{flat_map}
 use Rattle.std.specs.Str.{chars}
-use Rattle.bpaf_meta.specs.Content.{Name}
 use Rattle.toml.specs.Data.{Members}
-use Rattle.description_parts.specs.Words.{WordsSaid, english}
-use Rattle.description_parts.specs.Content.{SpellingSaid, OptSaid, ChoiceSaid, PositionalSaid, TopicSaid, TextsSaid, LevelSaid, GroupsSaid, GroupSaid, CommandsSaid, CommandSaid}
-use Rattle.description.specs.Content.{DescriptionSaid, TitleWords}
-use Rattle.description.specs.Described.{alternative_keys, choice_from, choice_keys, command_head, command_keys, command_of, CommandHead, commands_at, described, description_head, description_keys, description_of, DescriptionHead, group_of, GroupHead, groups_at, level_of, lists_from, name_from, option_from, option_keys, option_spelling, Outline, outline_from, positional_from, texts_from, title_words, topic_from, topic_keys, help_option_keys, fixed_in, is_syntax, spelling_from, unless_there, option_texts, option_value, positional_texts, required_beside, ValueSaid, language_from}
-use Rattle.description.specs.Described.Taken.{has_distinct_names}
-use Rattle.description.specs.Described.Texts.{as_body, as_command_name, as_heading, as_long, as_name, as_program_name, as_text, as_value, is_body, is_command_name, is_heading, is_long, is_name, is_program_name, is_text, is_value, if_passes, is_line, as_language, is_language_tag}
-use Rattle.description.specs.Described.Values.{as_short, each_table, flag_at, if_short, is_empty, optional_at, required_at, table_at, tables_at, as_default, as_syntax, as_texts, as_values, default_text, words_at}
+use Rattle.description.specs.Words.{WordsSaid, english}
+use Rattle.description.specs.Content.{NameSaid, SpellingSaid, OptSaid, ChoiceSaid, PositionalSaid, TopicSaid, TextsSaid, LevelSaid, GroupsSaid, GroupSaid, CommandsSaid, CommandSaid, DescriptionSaid}
+use Rattle.description_toml.specs.Described.{alternative_keys, choice_from, choice_keys, command_head, command_keys, command_of, CommandHead, commands_at, described, description_head, description_keys, description_of, DescriptionHead, group_of, GroupHead, groups_at, level_of, lists_from, name_from, option_from, option_keys, option_spelling, Outline, outline_from, positional_from, texts_from, title_words, topic_from, topic_keys, help_option_keys, fixed_in, is_syntax, spelling_from, unless_there, option_texts, option_value, positional_texts, required_beside, ValueSaid, language_from, TitleWords}
+use Rattle.description_toml.specs.Described.Taken.{has_distinct_names}
+use Rattle.description_toml.specs.Described.Texts.{as_body, as_command_name, as_heading, as_long, as_name, as_program_name, as_text, as_value, is_body, is_command_name, is_heading, is_long, is_name, is_program_name, is_text, is_value, if_passes, is_line, as_language, is_language_tag}
+use Rattle.description_toml.specs.Described.Values.{as_short, each_table, flag_at, if_short, is_empty, optional_at, required_at, table_at, tables_at, as_default, as_syntax, as_texts, as_values, default_text, listed_texts, words_at}
 use Rattle.description_laws.specs.Plain.{each_word, characters_of, choice_characters, command_characters, commands_characters, description_characters, group_characters, groups_characters, initial_characters, level_characters, name_characters, option_characters, spelling_characters, positional_characters, texts_characters, topic_characters, TextsArePlain}
 use Rattle.description_laws.proofs.Characters.{body_plain, colon_plain, command_plain, day_plain, digit_plain, english_plain, heading_plain, language_plain, long_plain, name_plain, Plain, plain_append, plain_cons, plain_each, PlainCharacter, PlainText, program_plain, section_plain, short_plain, title_plain, value_plain, line_plain}
-use Rattle.description.specs.Notes.{listed_texts}
-use Rattle.description.specs.Syntax.{is_well_formed}
+use Rattle.description_toml.specs.Syntax.{is_well_formed}
 use Rattle.description_laws.proofs.Readers.{Holding, WordsAre, commands_hold, fixed_hold, group_title, groups_hold, words_there}
-use Rattle.description.proofs.Each.{Each}
-use Rattle.description.proofs.Gives.{given, Gives, gives_each, gives_if, gives_map, gives_optional, gives_passing, gives_required, gives_text, gives_then, gives_unless, gives_whatever, gives_with_only, gives_words, Whatever}
+use Rattle.description_toml.proofs.Each.{Each}
+use Rattle.description_toml.proofs.Gives.{given, Gives, gives_each, gives_if, gives_map, gives_optional, gives_passing, gives_required, gives_text, gives_then, gives_unless, gives_whatever, gives_with_only, gives_words, Whatever}
 
 -- ---- texts and names at a key
 
@@ -42,7 +39,7 @@ short_there = grind (arith, gives_optional, gives_then, gives_whatever, short_in
 
 -- ---- options, choices, positional values and topics
 
-abbrev PlainName : Name → Type 0
+abbrev PlainName : NameSaid → Type 0
 PlainName n = Plain (name_characters n)
 
 abbrev PlainOpt : OptSaid → Type 0

@@ -9,18 +9,17 @@ use Rattle.std.proofs.lemmas.Bool.Decides.{nat_tests}
 use Rattle.std.proofs.lemmas.List.Folds.{list_all-append}
 use Rattle.toml.specs.Data.{Members}
 use Rattle.toml_datetime.specs.Text.{date_text}
-use Rattle.description_parts.specs.Words.{WordsSaid, english}
-use Rattle.description_parts.specs.Content.{OptSaid, TopicSaid, LevelSaid, GroupsSaid, GroupSaid, CommandsSaid, CommandSaid}
-use Rattle.description.specs.Content.{TitleWords}
-use Rattle.description.specs.Described.{choice_from, command_head, command_keys, command_of, CommandHead, commands_at, described, description_head, description_keys, description_of, DescriptionHead, fixed_in, group_head, group_of, GroupHead, groups_at, level_of, option_from, Outline, outline_from, positional_from, title_words, topic_from, help_option_keys, option_keys}
-use Rattle.description.specs.Described.Texts.{as_command_name, as_program_name, as_text, has_blank_end, is_command_name, is_empty_text, without_colon, is_heading, is_line_character, is_long, is_name, is_program_name, is_read_once, is_section, is_title, as_language}
-use Rattle.description.specs.Described.Values.{as_short, each_table, optional_at, required_at, table_at, tables_at, flag_at, words_at}
+use Rattle.description.specs.Words.{WordsSaid, english}
+use Rattle.description.specs.Content.{OptSaid, TopicSaid, LevelSaid, GroupsSaid, GroupSaid, CommandsSaid, CommandSaid}
+use Rattle.description_toml.specs.Described.{choice_from, command_head, command_keys, command_of, CommandHead, commands_at, described, description_head, description_keys, description_of, DescriptionHead, fixed_in, group_head, group_of, GroupHead, groups_at, level_of, option_from, Outline, outline_from, positional_from, title_words, topic_from, help_option_keys, option_keys, TitleWords}
+use Rattle.description_toml.specs.Described.Texts.{as_command_name, as_program_name, as_text, has_blank_end, is_command_name, is_empty_text, without_colon, is_heading, is_line_character, is_long, is_name, is_program_name, is_read_once, is_section, is_title, as_language}
+use Rattle.description_toml.specs.Described.Values.{as_short, each_table, optional_at, required_at, table_at, tables_at, flag_at, words_at}
 use Rattle.description_laws.specs.Plain.{each_word}
 use Rattle.description_laws.specs.ReadOnce.{IsReadOnce, TitlesAreReadOnce, command_headings, commands_headings, given, group_headings, groups_headings, level_headings}
 use Rattle.description_laws.proofs.Characters.{date_bytes, Dates, digit_bytes, is_date_byte, weaker}
 use Rattle.description_laws.proofs.Readers.{Holding, WordsAre, commands_hold, fixed_hold, group_title, groups_hold, words_there}
-use Rattle.description.proofs.Each.{Each}
-use Rattle.description.proofs.Gives.{given as given_there, Gives, gives_each, gives_map, gives_required, gives_text, gives_then, gives_whatever, gives_with_only, Whatever, gives_words}
+use Rattle.description_toml.proofs.Each.{Each}
+use Rattle.description_toml.proofs.Gives.{given as given_there, Gives, gives_each, gives_map, gives_required, gives_text, gives_then, gives_whatever, gives_with_only, Whatever, gives_words}
 
 -- ---- texts
 

@@ -8,16 +8,15 @@ use Rattle.toml_datetime.specs.Text.{date_text}
 use Rattle.toml_datetime.specs.declared.datetime.Date.{Date}
 use Rattle.toml_datetime.specs.declared.datetime.Time.{Time}
 use Rattle.toml_datetime.specs.declared.datetime.Offset.{Offset}
-use Rattle.description_parts.specs.Words.{WordsSaid, english}
-use Rattle.description_parts.specs.Content.{GroupsSaid, no_groups, groups, GroupSaid, CommandsSaid, no_commands, commands, CommandSaid}
-use Rattle.description.specs.Content.{TitleWords}
-use Rattle.description.specs.Described.{as_command, as_commands, as_group, as_groups, command_head, command_of, commands_at, each_command, each_group, fixed_at, fixed_from, fixed_in, fixed_keys, group_head, GroupHead, group_of, groups_at, section_from, title_words, with_manual_titles, with_titles, with_words_of_notes}
-use Rattle.description.specs.Described.Taken.{tables_in, tables_of, tables_under}
-use Rattle.description.specs.Described.Texts.{as_heading, as_title, is_heading, is_section, is_title, without_colon}
-use Rattle.description.specs.Described.Values.{as_date, as_section, day_text, digit_text, optional_at}
+use Rattle.description.specs.Words.{WordsSaid, english}
+use Rattle.description.specs.Content.{GroupsSaid, no_groups, groups, GroupSaid, CommandsSaid, no_commands, commands, CommandSaid}
+use Rattle.description_toml.specs.Described.{as_command, as_commands, as_group, as_groups, command_head, command_of, commands_at, each_command, each_group, fixed_at, fixed_from, fixed_in, fixed_keys, group_head, GroupHead, group_of, groups_at, section_from, title_words, with_manual_titles, with_titles, with_words_of_notes, TitleWords}
+use Rattle.description_toml.specs.Described.Taken.{tables_in, tables_of, tables_under}
+use Rattle.description_toml.specs.Described.Texts.{as_heading, as_title, is_heading, is_section, is_title, without_colon}
+use Rattle.description_toml.specs.Described.Values.{as_date, as_section, day_text, digit_text, optional_at}
 use Rattle.description_laws.specs.Plain.{each_word}
-use Rattle.description.proofs.Each.{Each}
-use Rattle.description.proofs.Gives.{found, Gives, gives_if, gives_map, gives_optional, gives_passing, gives_required, gives_text, gives_then, gives_whatever, gives_with_only}
+use Rattle.description_toml.proofs.Each.{Each}
+use Rattle.description_toml.proofs.Gives.{found, Gives, gives_if, gives_map, gives_optional, gives_passing, gives_required, gives_text, gives_then, gives_whatever, gives_with_only}
 
 -- ---- the words of a title line, and the title of a group
 

@@ -1,3 +1,3 @@
+pub mod HtmlPages
 pub mod Plain
 pub mod ReadOnce
-pub mod Sections

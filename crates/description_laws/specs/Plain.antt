@@ -1,13 +1,11 @@
 -- The characters that a description says, in its texts and its names.
 use Rattle.std.specs.Prelude.{◌≡◌, chars, ℕ, List, [], ◌∷◌, ◌++◌, flat_map, true, Option, Some, None}
 use Rattle.std.specs.List.{list_all}
-use Rattle.bpaf_meta.specs.Content.{Name, short, long, both}
 use Rattle.toml.specs.Data.{Members}
-use Rattle.description_parts.specs.Words.{WordsSaid}
-use Rattle.description_parts.specs.Content.{SpellingSaid, named, syntax, OptSaid, ChoiceSaid, PositionalSaid, TopicSaid, TextsSaid, LevelSaid, level, GroupsSaid, no_groups, groups, GroupSaid, group, CommandsSaid, no_commands, commands, CommandSaid, command}
-use Rattle.description.specs.Content.{DescriptionSaid}
-use Rattle.description.specs.Described.{described}
-use Rattle.description.specs.Described.Texts.{is_text_character}
+use Rattle.description.specs.Words.{WordsSaid}
+use Rattle.description.specs.Content.{NameSaid, short, long, both, SpellingSaid, named, syntax, OptSaid, ChoiceSaid, PositionalSaid, TopicSaid, TextsSaid, LevelSaid, level, GroupsSaid, no_groups, groups, GroupSaid, group, CommandsSaid, no_commands, commands, CommandSaid, command, DescriptionSaid}
+use Rattle.description_toml.specs.Described.{described}
+use Rattle.description_toml.specs.Described.Texts.{is_text_character}
 
 -- ---- the parts of a level
 
@@ -19,7 +17,7 @@ abbrev pub initial_characters : Option ℕ → List ℕ
 initial_characters None = []
 initial_characters (Some c) = c ∷ []
 
-abbrev pub name_characters : Name → List ℕ
+abbrev pub name_characters : NameSaid → List ℕ
 name_characters (short c) = c ∷ []
 name_characters (long text) = chars text
 name_characters (both c text) = c ∷ chars text

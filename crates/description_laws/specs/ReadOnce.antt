@@ -2,10 +2,9 @@
 use Rattle.std.specs.Prelude.{◌≡◌, ℕ, List, [], ◌++◌, flat_map, true, Option, Some, None}
 use Rattle.std.specs.List.{list_all}
 use Rattle.toml.specs.Data.{Members}
-use Rattle.description_parts.specs.Content.{LevelSaid, level, GroupsSaid, no_groups, groups, GroupSaid, group, CommandsSaid, no_commands, commands, CommandSaid, command}
-use Rattle.description.specs.Content.{DescriptionSaid}
-use Rattle.description.specs.Described.{described}
-use Rattle.description.specs.Described.Texts.{is_read_once}
+use Rattle.description.specs.Content.{LevelSaid, level, GroupsSaid, no_groups, groups, GroupSaid, group, CommandsSaid, no_commands, commands, CommandSaid, command, DescriptionSaid}
+use Rattle.description_toml.specs.Described.{described}
+use Rattle.description_toml.specs.Described.Texts.{is_read_once}
 use Rattle.description_laws.specs.Plain.{each_word}
 
 abbrev pub given : Option (List ℕ) → List ℕ

@@ -112,7 +112,7 @@ greet [-l] [COMMAND ...]
 
 ## Commands
 
-- [`bye`](greet-bye.md) — Say goodbye
+- [`bye`](#greet-bye) — Say goodbye
 
 ## See also
 

@@ -5,18 +5,20 @@ use crate::refusals::{BYTES, STEP, roomy, taken};
 use crate::{markdown_tide, markdown_tide_save, tide, tide_save};
 use bumpalo::Bump;
 use console_page::{console_page, console_usage};
-use description_pages::{Detail, LevelSubject, consoles, manuals, markdowns};
-use description_parts::{Choice, Command, FixedWords, Level, Opt, Positional, Topic};
+use description::{Choice, Command, FixedWords, Level, Opt, Positional, Topic};
+use description_pages::{Depth, Detail, LevelSubject, consoles, manuals, markdowns};
 use man_page::{PageFault, manual_page};
 use markdown_page::markdown_page;
 use std::alloc::{AllocError, Global};
 use std::process::Abort;
 
-const ABOUT: &str = "\
+pub const ABOUT: &str = "\
 Keeps snapshots of folders.
 
 A snapshot holds each file once, however often it was saved. How it works
 is told at <https://tide.example/store>.";
+
+pub const FOOTER: &str = "A store can be read by every version from 1.4 on.";
 
 const ABOUT_SAVE: &str = "\
 Saves folders as a new snapshot.
@@ -51,8 +53,8 @@ const STATUSES: &str = "\
 
 // ---- the records of a program
 
-// The options of the program.
-fn push_options<'p>(level: &mut Level<'p>) -> Result<(), AllocError> {
+/// The options of the program.
+pub fn push_options<'p>(level: &mut Level<'p>) -> Result<(), AllocError> {
     level.option(
         Opt::flag('s', "store")
             .value("FOLDER")
@@ -69,7 +71,7 @@ fn push_options<'p>(level: &mut Level<'p>) -> Result<(), AllocError> {
     )
 }
 
-fn list_command<'p>(alloc: Global) -> Result<Command<'p>, AllocError> {
+pub fn list_command<'p>(alloc: Global) -> Result<Command<'p>, AllocError> {
     let mut list: Command<'p> = Command::new("list", Level::new(alloc))
         .short('l')
         .help("List snapshots, the newest first");
@@ -88,9 +90,7 @@ fn push_commands<'p>(alloc: Global, level: &mut Level<'p>) -> Result<(), AllocEr
 }
 
 fn tide_level<'p>(alloc: Global) -> Result<Level<'p>, AllocError> {
-    let mut level: Level<'p> = Level::new(alloc)
-        .about(ABOUT)
-        .footer("A store can be read by every version from 1.4 on.");
+    let mut level: Level<'p> = Level::new(alloc).about(ABOUT).footer(FOOTER);
     push_options(&mut level)?;
     push_commands(alloc, &mut level)?;
     Ok(level)
@@ -118,7 +118,7 @@ fn push_save_options<'p>(alloc: Global, level: &mut Level<'p>) -> Result<(), All
     level.choice(speeds(alloc)?)
 }
 
-fn save_level<'p>(alloc: Global) -> Result<Level<'p>, AllocError> {
+pub fn save_level<'p>(alloc: Global) -> Result<Level<'p>, AllocError> {
     let mut level: Level<'p> = Level::new(alloc).about(ABOUT_SAVE);
     push_save_options(alloc, &mut level)?;
     level.positional(Positional::new("FOLDER").repeated().help("What to save"))?;
@@ -145,7 +145,7 @@ fn lists_level<'p>(alloc: Global) -> Level<'p> {
     Level::new(alloc).about("- a").header("- b")
 }
 
-fn help_option() -> Opt<'static> {
+pub fn help_option() -> Opt<'static> {
     Opt::flag('h', "help").help("Print this page")
 }
 
@@ -281,7 +281,12 @@ fn markdown_of<'p>(
     let Some((first, below)) = subjects.split_first() else {
         return Ok(String::new(arena));
     };
-    let mut parts = markdowns::markdown(arena, words, *first)?;
+    let depth = if below.is_empty() {
+        Depth::Alone
+    } else {
+        Depth::Deep
+    };
+    let mut parts = markdowns::markdown(arena, words, depth, *first)?;
     for subject in below {
         markdowns::push_markdown_below(arena, words, &mut parts, *subject)?;
     }
@@ -515,9 +520,9 @@ p COMMAND ...
 
 ## Commands
 
-- [`c`](p-c.md) — Does one
+- [`c`](#p-c) — Does one
 
-- [`d`](p-d.md)
+- [`d`](#p-d)
 
 ## See also
 

@@ -1,15 +1,21 @@
-//! Tests of `man_page`, `markdown_page` and `console_page`, over pages of `page_model`: whole pages, what stands for each
-//! text, which texts a page may have, and each growth refused in turn; and of `description_pages`: texts with their
-//! blocks, a level from its records to its manual page, which words lead to a level; and of
+//! Tests of `man_page`, `markdown_page` and `console_page`, over pages of `page_model`: whole pages, what stands for
+//! each text, which texts a page may have, and each growth refused in turn; and of `description_pages`: texts with their
+//! blocks, a level from its records to its manual page, which words lead to a level, all levels as a tree; and of
 //! `command_pages`: the pages of a command line.
 #![tactic(auto)]
 
 #[cfg(test)]
 mod blocks;
 #[cfg(test)]
+mod chapters;
+#[cfg(test)]
 mod commands;
 #[cfg(test)]
 mod console;
+#[cfg(test)]
+mod html;
+#[cfg(test)]
+mod html_written;
 #[cfg(test)]
 mod levels;
 #[cfg(test)]

@@ -3,7 +3,7 @@ use crate::refusals::{BYTES, STEP, roomy, taken};
 use crate::said::{Said, parts};
 use crate::{markdown_tide, markdown_tide_save};
 use markdown_page::{PageFault, markdown_page};
-use page_model::{Block, Entry, Inline, Line, Part, Rank};
+use page_model::{Block, Entry, Inline, Line, Part, Rank, Target};
 use std::alloc::{AllocError, Global};
 use std::process::Abort;
 
@@ -88,15 +88,67 @@ fn pieces_are_written_so(rt: HostRuntime) {
     }
 }
 
-fn leading(alloc: Global, name: &'static str) -> Result<Part<'static>, AllocError> {
+// An entry with this term, which leads there.
+fn leading(
+    alloc: Global,
+    target: Target<'static>,
+    term: Inline<'static>,
+) -> Result<Part<'static>, AllocError> {
     let mut entries = Vec::new(alloc);
     entries.push(Entry {
         word: "",
-        page: Some(name),
-        terms: Vec::new(alloc),
+        target: Some(target),
+        terms: one_line(alloc, term)?,
         body: Vec::new(alloc),
     })?;
     Ok(Part::Entries(entries))
+}
+
+fn one_entry(
+    alloc: Global,
+    target: Target<'static>,
+    term: Inline<'static>,
+) -> Result<String, PageFault> {
+    let parts = [leading(alloc, target, term)?];
+    markdown_page(alloc, "t", &parts)
+}
+
+// Where an entry leads, each with what the entry is written as.
+const LED: &[(Target<'static>, &str)] = &[
+    (Target::Page("t-a"), "[`a`](t-a.md)"),
+    (Target::Page("t a"), "[`a`](t%20a.md)"),
+    (Target::Heading("t a"), "[`a`](#t-a)"),
+    (Target::Heading("T A-b_c"), "[`a`](#t-a-b_c)"),
+    (Target::Heading(" t\ta\n"), "[`a`](#-t-a-)"),
+    (Target::Heading("t.a (b)!"), "[`a`](#ta-b)"),
+    (Target::Heading("t 1\u{b2}"), "[`a`](#t-1%C2%B2)"),
+    (
+        Target::Heading("\u{c9}T\u{c9} e\u{301}"),
+        "[`a`](#%C3%A9t%C3%A9-e%CC%81)",
+    ),
+    (
+        Target::Heading("\u{39f}\u{394}\u{39f}\u{3a3}"),
+        "[`a`](#%CE%BF%CE%B4%CE%BF%CF%82)",
+    ),
+    (Target::Heading("\u{24b6}\u{203f}\u{200d}a"), "[`a`](#a)"),
+    (Target::Heading(""), "[`a`](#)"),
+];
+
+#[test]
+fn entries_lead_there(rt: HostRuntime) {
+    for (target, written) in LED {
+        let page = one_entry(rt.alloc(), *target, Inline::Literal("a")).expect(&rt, "a page");
+        let text = page.as_str();
+        let want = format!(in rt.alloc(); "# t\n\n- {written}\n").expect(&rt, "a text");
+        assert!(rt; text == want.as_str(), "{text}");
+    }
+}
+
+#[test]
+fn a_term_that_may_define_a_link_leads_nowhere(rt: HostRuntime) {
+    let page = one_entry(rt.alloc(), Target::Heading("t a"), Inline::Literal("]:"));
+    let page = page.expect(&rt, "a page");
+    assert!(rt; page.as_str() == "# t\n\n- `]:`\n");
 }
 
 fn fault_of(alloc: Global, title: &str, part: Part<'static>) -> Option<PageFault> {
@@ -112,8 +164,10 @@ fn other_texts_are_refused(rt: HostRuntime) {
     assert!(rt; fault_of(alloc, "a", Part::Heading(Rank::Subsection, "\u{fdd0}")) == fault);
     let code = vec![in alloc; "\u{fffe}"].expect(&rt, "code");
     assert!(rt; fault_of(alloc, "a", Part::Block(Block::Code(code))) == fault);
-    let entry = leading(alloc, "\u{9b}").expect(&rt, "an entry");
-    assert!(rt; fault_of(alloc, "a", entry) == fault);
+    for target in [Target::Page("\u{9b}"), Target::Heading("\u{9b}")] {
+        let entry = leading(alloc, target, Inline::Words("b")).expect(&rt, "an entry");
+        assert!(rt; fault_of(alloc, "a", entry) == fault);
+    }
     assert!(rt; one_paragraph(alloc, Inline::Words("\u{7f}")).err() == fault);
 }
 

@@ -1,5 +1,5 @@
 //! What pages say, as constants, and the parts that are made of them.
-use page_model::{Block, Entry, Form, Inline, Line, Part, Rank};
+use page_model::{Block, Entry, Form, Inline, Line, Part, Rank, Target};
 use std::alloc::{AllocError, Global};
 
 /// Lines, each of pieces.
@@ -80,12 +80,12 @@ fn blocks(alloc: Global, said: &[Shown]) -> Result<Vec<Block<'static>>, AllocErr
 
 fn entry(
     alloc: Global,
-    page: Option<&'static str>,
+    target: Option<Target<'static>>,
     said: &Item,
 ) -> Result<Entry<'static>, AllocError> {
     Ok(Entry {
         word: "",
-        page,
+        target,
         terms: lines(alloc, said.0)?,
         body: blocks(alloc, said.1)?,
     })
@@ -102,7 +102,7 @@ fn entries(alloc: Global, said: &[Item]) -> Result<Vec<Entry<'static>>, AllocErr
 fn leading_entries(alloc: Global, said: &[Leading]) -> Result<Vec<Entry<'static>>, AllocError> {
     let mut entries = Vec::new(alloc);
     for leading in said {
-        entries.push(entry(alloc, Some(leading.0), &leading.1)?)?;
+        entries.push(entry(alloc, Some(Target::Page(leading.0)), &leading.1)?)?;
     }
     Ok(entries)
 }

@@ -1,9 +1,9 @@
 //! Which words lead to a level, and the names of all levels below one; and each growth refused in turn.
 use crate::refusals::{BYTES, STEP, roomy, taken};
 use bumpalo::Bump;
+use description::{Command, Group, Level};
 use description_pages::levels::LevelSubject;
 use description_pages::subjects::{all_below, all_from, enter, page_name, title};
-use description_parts::{Command, Group, Level};
 use std::alloc::{AllocError, Global};
 use std::process::Abort;
 
@@ -27,8 +27,8 @@ const ENTERED: &[(&str, Option<&str>)] = &[
     ("", None),
 ];
 
-// All levels that are not hidden, in order.
-const TITLES: &[&str] = &[
+/// All levels that are not hidden, in order.
+pub const TITLES: &[&str] = &[
     "tide",
     "tide store",
     "tide store check",
@@ -82,8 +82,8 @@ fn top<'p>(alloc: Global) -> Result<Level<'p>, AllocError> {
     Ok(level)
 }
 
-// A level under the name of the program, in an arena.
-fn tide_in<'p>(
+/// A level under these names, in an arena.
+pub fn tide_in<'p>(
     store: &'p Bump,
     level: Level<'p>,
     names: &[&'p str],
@@ -99,7 +99,11 @@ fn tide_in<'p>(
     })
 }
 
-fn tide<'p>(alloc: Global, store: &'p Bump) -> Result<LevelSubject<'p, 'p, Global>, AllocError> {
+/// The level that `TITLES` are of.
+pub fn tide<'p>(
+    alloc: Global,
+    store: &'p Bump,
+) -> Result<LevelSubject<'p, 'p, Global>, AllocError> {
     tide_in(store, top(alloc)?, &["tide"])
 }
 

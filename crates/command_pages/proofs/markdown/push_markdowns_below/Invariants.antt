@@ -3,7 +3,7 @@ use Rattle.page_model.specs.View.{part_of}
 use Rattle.description_pages.specs.LevelsView.{subject_of}
 use Rattle.description_pages.specs.Markdowns.{markdown_below}
 use Rattle.description_pages.specs.Subjects.{subjects_below}
-use Rattle.description_parts.specs.Words.{words_said}
+use Rattle.description.specs.Words.{words_said}
 use Rattle.command_pages.proofs.markdown.push_markdowns_below.Given as goal
 
 abbrev pub invariant-loop-below : goal.invariant-loop-below
