@@ -91,7 +91,7 @@ def public_calls(library):
                 continue
             if not match[1]:
                 if public or match[2] in handed:
-                    yield f"{library}::{path[0]}::{match[2]}"
+                    yield "::".join([library, *path[:1], match[2]])
                 continue
             owner = re.findall(r"(?m)^impl(?:<.*?>)? (?:[\w:<>', ]* for )?(\w+)", text[: match.start()])[-1]
             if owner in types:

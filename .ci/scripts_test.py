@@ -271,7 +271,7 @@ class Tests(OverStandIn):
         (self.folder / "crates.txt").write_text("clidoc:\n")
         self.stand_in("rt", self.CASES % ("man", "ended status=1 runners=1"))
         status, told, _ = self.call(self.folder / "test")
-        self.assertEqual((status, told.splitlines()[-1]), (1, "19 passed, 2 failed"))
+        self.assertEqual((status, told.splitlines()[-1]), (1, "21 passed, 2 failed"))
         self.assertIn("it fails: one-man\n    it fails: two-man\n", told)
 
     def test_ends_hints_and_nothing_else(self):
@@ -309,7 +309,7 @@ class Install(OverStandIn):
         status, told, _ = self.install()
         self.assertEqual(status, 0)
         proved = (self.ours / "crates" / "proved").read_text().split()
-        for below, above in (("bpaf_roff", "bpaf_doc"), ("web_page", "description"), ("watched", "clidoc_engine"), ("clidoc_engine", "clidoc")):
+        for below, above in (("bpaf_roff", "bpaf_doc"), ("description", "description_toml"), ("watched", "clidoc_engine"), ("clidoc_engine", "clidoc")):
             self.assertLess(proved.index(below), proved.index(above))
         self.assertNotIn("replay", proved)
         self.assertIn(f"0:00 at {proved[1]}, 2 of {len(proved)} crates\n", told)

@@ -1,10 +1,6 @@
-//! A command line that describes itself, and its page.
+//! A command line that describes itself.
 
-ghost use Rattle.std.specs.Prelude.{IfOk, string_bytes};
-ghost use Rattle.description.specs.View.{description_said};
-ghost use Rattle.description.specs.WebPages.{IsWebPageOf};
-
-use description::{Command, Description, Group, Level, Opt, PageError};
+use description::{Command, Description, Group, Level, Opt};
 use std::alloc::{AllocError, Global};
 
 /// A command line with options, a group and two commands.
@@ -19,11 +15,4 @@ pub fn describe(alloc: Global) -> Result<Description<'static>, AllocError> {
     level.command(Command::new("run", run).help("Run a thing"))?;
     level.command(Command::new("stop", Level::new(alloc)).short('s'))?;
     Ok(Description::new(alloc, "app", level))
-}
-
-/// The complete HTML page of a command line.
-pub fn page_of(alloc: Global, app: &Description<'_>) -> Result<String, PageError>
-    ensures { IfOk result (λ page. IsWebPageOf (description_said app.now) (string_bytes page)) }
-{
-    app.page(alloc)
 }

@@ -3,15 +3,15 @@
 ghost use Rattle.std.specs.Prelude.{◌≡◌, IfOk, string_bytes};
 ghost use Rattle.description_pages.specs.LevelsView.{subject_of};
 ghost use Rattle.description_pages.specs.Manuals.{manual_of};
-ghost use Rattle.description_parts.specs.Words.{words_said};
+ghost use Rattle.description.specs.Words.{words_said};
 ghost use Rattle.man_page.specs.Kept.{page_kept};
 ghost use Rattle.man_page.specs.Promises.{ReadsAs};
 ghost use Rattle.man_page.specs.View.{title_of};
 
 use bumpalo::Bump;
+use description::FixedWords;
 use description_pages::LevelSubject;
 use description_pages::manuals::manual;
-use description_parts::FixedWords;
 use man_page::{PageFault, TitleLine, manual_page};
 use std::alloc::Global;
 

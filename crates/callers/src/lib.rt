@@ -15,7 +15,12 @@ pub mod usage;
 
 // description
 pub mod describing;
+
+// description_toml
 pub mod reading;
+
+// keyed
+pub mod places;
 
 // description_pages
 pub mod level_manual;
@@ -40,3 +45,6 @@ pub mod markdown;
 
 // console_page
 pub mod terminal;
+
+// html_page
+pub mod html;

@@ -1,9 +1,9 @@
 //! A name that lasts, of a text that does not.
 
 ghost use Rattle.std.specs.Prelude.{◌≡◌, IfOk};
-ghost use Rattle.bpaf_meta.specs.Content.{long};
-ghost use Rattle.description_parts.specs.Calls.{plain_option};
-ghost use Rattle.description_parts.specs.View.{opt_said};
+ghost use Rattle.description.specs.Content.{long};
+ghost use Rattle.description.specs.Calls.{plain_option};
+ghost use Rattle.description.specs.View.{opt_said};
 
 use description::Opt;
 use lasting_names::Names;

@@ -26,7 +26,7 @@ from page_of import text_of
 
 CLIDOC = pathlib.Path(__file__).resolve().parent.parent / "out" / "clidoc"
 WIDTHS = [5, 7, 20, 40, 72, 79, 80, 100, 101, 120, 1000, 2**64 - 1]
-FORMS = ["usage", "full", "brief", "man", "markdown"]
+FORMS = ["usage", "full", "brief", "man", "markdown", "html"]
 TITLES = ["November 2026", "2026-11-23", "", "a-b 'c'", "日本", "a\\b \"c\""]
 
 
@@ -52,7 +52,7 @@ def way(table, chances):
 
 
 def pages(cases, seed):
-    """What is given, the words, and what should come out."""
+    """What is given, the words, and what should come out. Under HTML stand the words of the title line too."""
     chances = random.Random(seed)
     for top, text in cases:
         given = way(top, chances)
@@ -61,10 +61,11 @@ def pages(cases, seed):
             if form in ("usage", "full", "brief"):
                 how["width"] = chances.choice(WIDTHS)
                 words.append(f"--width={how['width']}")
-            elif form == "man" and chances.random() < 0.5:
-                how["deep"] = True
-                words.append("--deep")
-            for key in ["date", "vendor"] if form == "man" else []:
+            flag = {"man": "deep", "markdown": "deep", "html": "fragment"}.get(form)
+            if flag and chances.random() < 0.5:
+                how[flag] = True
+                words.append(f"--{flag}")
+            for key in ["date", "vendor"] if form in ("man", "html") else []:
                 if chances.random() < 0.3:
                     table[key] = chances.choice(TITLES)
                     words += [f"--{key}", table[key]]

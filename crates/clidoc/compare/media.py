@@ -10,8 +10,9 @@ each page with those below it.
   a date, and of what is wider than a line; `lexgrog` reads one that has a summary; and the text that `groff` shows
   holds each word of the page in order.
 - A page in markdown is read by `markdown_reader` and by `cmark`, which both give what `markdown` keeps.
-- A page in HTML is parsed by `html5lib` in its strict mode as the tree that it was written from; `tidy` warns of
-  empty elements alone; no id stands twice, and each link to a place on the page leads there.
+- A page in HTML is parsed by `html5lib` in its strict mode as the tree that it was written from, and so is what
+  stands in its body alone; `tidy` warns of empty elements alone; no id stands twice, each link shows something and
+  leads to a place on the page, there is one `main`, and no heading skips a rank.
 - On the console no part of a usage that fits is broken at 40, 80 and 120 columns, and no line is wider than the width
   but by a word of its own.
 

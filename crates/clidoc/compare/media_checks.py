@@ -164,6 +164,7 @@ def html_faults(page):
         if not line.endswith(("Warning: trimming empty <dd>", "Warning: trimming empty <code>")):
             yield f"tidy: {line}"
     yield from link_faults(list(every(wanted)))
+    yield from heading_faults(list(every(wanted)))
 
 
 def every(node):
@@ -174,6 +175,7 @@ def every(node):
 
 
 def link_faults(nodes):
+    """An id that stands twice, a link that shows nothing, or one to a place that is not on the page."""
     ids = [node.said["id"] for node in nodes if "id" in node.said]
     for each in sorted({each for each in ids if ids.count(each) > 1}):
         yield f"two elements have the id {each}"
@@ -181,6 +183,18 @@ def link_faults(nodes):
         address = node.said.get("href", "")
         if address.startswith("#") and address[1:] not in ids:
             yield f"nothing has the id {address}"
+        if address and not plain(node.inside).strip():
+            yield f"a link to {address} shows nothing"
+
+
+def heading_faults(nodes):
+    """A rank that is passed over, or not one `main`. Where a page has a usage alone, its title stands behind the name."""
+    if len([node for node in nodes if node.kind == "main"]) != 1:
+        yield "there is not one main"
+    ranks = [0] + [int(node.kind[1]) for node in nodes if re.fullmatch("h[1-6]", node.kind)]
+    for above, below in zip(ranks, ranks[1:]):
+        if below > above + 1 and ranks != [0, 1, 3]:
+            yield f"h{below} stands behind h{above}"
 
 
 def console_faults(page, width):

@@ -168,6 +168,29 @@ def with_words(top, chances):
         }
 
 
+def twin(table, chances):
+    """An entry with the names and the value of another, which says the same, or something else."""
+    other = {key: each for key, each in table.items() if key not in ["required", "hidden"]}
+    key = chances.choice(["help", "env" if {"short", "long", "syntax"} & set(other) else "help", "default", None])
+    if key in other:
+        del other[key]
+    elif key == "help" or key and "value" in other:
+        other[key] = "OTHER"
+    return other
+
+
+def with_twins(top, chances):
+    """Adds entries like others, of which a list shows the first."""
+    for table in list(levels.tables(top)):
+        if table.get("positional") and chances.random() < 0.2:
+            table["positional"].append(twin(chances.choice(table["positional"]), chances))
+        if table.get("option") and chances.random() < 0.2:
+            top.setdefault("help_option", []).append(twin(chances.choice(table["option"]), chances))
+        if table.get("command") and chances.random() < 0.1:
+            command = chances.choice(table["command"])
+            table.setdefault("positional", []).append({"value": command["name"], "help": command.get("help", "x")})
+
+
 def cases(count, seed):
     """What each description is called, and its data."""
     for file in sorted(EXAMPLES.glob("*.toml")):
@@ -177,6 +200,7 @@ def cases(count, seed):
         top = describing.Describer(chances).description()
         if chances.random() < 0.6:
             top["language"] = chances.choice(LANGUAGES)
+        with_twins(top, chances)
         with_words(top, chances)
         with_hostile(top, chances)
         tidied(top)

@@ -24,38 +24,38 @@ at_most_two word file = grind arith
 no_names : (words : List (List ℕ)) (g h : Given) → given_in words ≡ Some g → NamesNothing g → (word : List ℕ) (file : Option (List ℕ)) → ¬ Names words word file h
 no_names words g h e none word file n = grind arith
 
-pub no_check : (words : List (List ℕ)) (g : Given) → given_in words ≡ Some g → NamesNothing g → (file : Option (List ℕ)) → ¬ Chooses words (check file)
-no_check words g e none file h = no_names words g h.0 e none (codes "check") file h.1
+pub no_check : (terminal : ℕ) (words : List (List ℕ)) (g : Given) → given_in words ≡ Some g → NamesNothing g → (file : Option (List ℕ)) → ¬ Chooses terminal words (check file)
+no_check terminal words g e none file h = no_names words g h.0 e none (codes "check") file h.1
 
-pub no_all : (words : List (List ℕ)) (g : Given) → given_in words ≡ Some g → NamesNothing g → (folder : List ℕ) (title : TitleGiven) (file : Option (List ℕ)) → ¬ Chooses words (all folder title file)
-no_all words g e none folder title file h = no_names words g h.0 e none (codes "all") file h.1
+pub no_all : (terminal : ℕ) (words : List (List ℕ)) (g : Given) → given_in words ≡ Some g → NamesNothing g → (folder : List ℕ) (title : TitleGiven) (file : Option (List ℕ)) → ¬ Chooses terminal words (all folder title file)
+no_all terminal words g e none folder title file h = no_names words g h.0 e none (codes "all") file h.1
 
 -- where other options stand there than one folder and the words of title lines
-pub no_folder : (words : List (List ℕ)) (g : Given) → given_in words ≡ Some g → ((folder : List ℕ) (title : TitleGiven) → ¬ (HasNoLevel g × IsTitle g title × (g.folders ≡ folder ∷ [])))
-    → (folder : List ℕ) (title : TitleGiven) (file : Option (List ℕ)) → ¬ Chooses words (all folder title file)
-no_folder words g e none folder title file h = grind arith
+pub no_folder : (terminal : ℕ) (words : List (List ℕ)) (g : Given) → given_in words ≡ Some g → ((folder : List ℕ) (title : TitleGiven) → ¬ (HasNoLevel g × IsTitle g title × (g.folders ≡ folder ∷ [])))
+    → (folder : List ℕ) (title : TitleGiven) (file : Option (List ℕ)) → ¬ Chooses terminal words (all folder title file)
+no_folder terminal words g e none folder title file h = grind arith
 
-pub no_page : (words : List (List ℕ)) (g : Given) → given_in words ≡ Some g → NamesNothing g → (p : PageSaid) (file : Option (List ℕ)) → ¬ Chooses words (page p file)
-no_page words g e none p file h = no_names words g h.1 e none h.0 file h.2
+pub no_page : (terminal : ℕ) (words : List (List ℕ)) (g : Given) → given_in words ≡ Some g → NamesNothing g → (p : PageSaid) (file : Option (List ℕ)) → ¬ Chooses terminal words (page p file)
+no_page terminal words g e none p file h = no_names words g h.1 e none h.0 file h.2
 
 -- what holds of each fault
 pub always : {T : Type 0} (r : Result T WordFault) (P : WordFault → Type 0) → ((fault : WordFault) → P fault) → IfErr r P
 always r P h2 = grind arith
 
-nothing : (words : List (List ℕ)) → ((file : Option (List ℕ)) → ¬ Chooses words (check file)) → ((folder : List ℕ) (title : TitleGiven) (file : Option (List ℕ)) → ¬ Chooses words (all folder title file)) → ((p : PageSaid) (file : Option (List ℕ)) → ¬ Chooses words (page p file)) → ¬ Chooses words help → ¬ Chooses words version → (choice : ChoiceSaid) → ¬ Chooses words choice
-nothing words c a p h v (page q file) = p q file
-nothing words c a p h v (check file) = c file
-nothing words c a p h v (all folder title file) = a folder title file
-nothing words c a p h v help = h
-nothing words c a p h v version = v
+nothing : (terminal : ℕ) (words : List (List ℕ)) → ((file : Option (List ℕ)) → ¬ Chooses terminal words (check file)) → ((folder : List ℕ) (title : TitleGiven) (file : Option (List ℕ)) → ¬ Chooses terminal words (all folder title file)) → ((p : PageSaid) (file : Option (List ℕ)) → ¬ Chooses terminal words (page p file)) → ¬ Chooses terminal words help → ¬ Chooses terminal words version → (choice : ChoiceSaid) → ¬ Chooses terminal words choice
+nothing terminal words c a p h v (page q file) = p q file
+nothing terminal words c a p h v (check file) = c file
+nothing terminal words c a p h v (all folder title file) = a folder title file
+nothing terminal words c a p h v help = h
+nothing terminal words c a p h v version = v
 
 -- where the words choose no page and no check, and do not ask for all or for the program itself, they choose nothing
-pub no_choice : {T : Type 0} (words : List (List ℕ)) (r : Result T WordFault) → IfErr r (λ fault. IsRefused fault ⊎ ((file : Option (List ℕ)) → ¬ Chooses words (check file)))
-    → IfErr r (λ fault. IsRefused fault ⊎ ((folder : List ℕ) (title : TitleGiven) (file : Option (List ℕ)) → ¬ Chooses words (all folder title file)))
-    → IfErr r (λ fault. IsRefused fault ⊎ ((p : PageSaid) (file : Option (List ℕ)) → ¬ Chooses words (page p file))) → is_one_of words (codes "--help") (codes "-h") ≡ false → is_one_of words (codes "--version") (codes "-V") ≡ false
-    → IfErr r (λ fault. IsRefused fault ⊎ ((choice : ChoiceSaid) → ¬ Chooses words choice))
-no_choice words (Ok t) c a p h v = tt
-no_choice words (Err f) c a p h v = grind (arith, nothing, false≢true)
+pub no_choice : {T : Type 0} (terminal : ℕ) (words : List (List ℕ)) (r : Result T WordFault) → IfErr r (λ fault. IsRefused fault ⊎ ((file : Option (List ℕ)) → ¬ Chooses terminal words (check file)))
+    → IfErr r (λ fault. IsRefused fault ⊎ ((folder : List ℕ) (title : TitleGiven) (file : Option (List ℕ)) → ¬ Chooses terminal words (all folder title file)))
+    → IfErr r (λ fault. IsRefused fault ⊎ ((p : PageSaid) (file : Option (List ℕ)) → ¬ Chooses terminal words (page p file))) → is_one_of words (codes "--help") (codes "-h") ≡ false → is_one_of words (codes "--version") (codes "-V") ≡ false
+    → IfErr r (λ fault. IsRefused fault ⊎ ((choice : ChoiceSaid) → ¬ Chooses terminal words choice))
+no_choice terminal words (Ok t) c a p h v = tt
+no_choice terminal words (Err f) c a p h v = grind (arith, nothing, false≢true)
 
 pub one_word : (words : List (Bor (List ℕ))) (d : Bor (List ℕ)) (long short : List ℕ) → 1 ≤ length words → length words < 2 → is_one_of (words_said words) long short ≡ (bytes_eq (get_or words 0 d).now long || bytes_eq (get_or words 0 d).now short)
 one_word [] d long short some few = absurd (omega arith)

@@ -5,8 +5,8 @@ use Rattle.std.specs.Borrow.{Bor}
 use Rattle.page_model.specs.declared.fault.PageFault.{PageFault}
 use Rattle.page_model.specs.declared.fault.PageFault.TheVariants as writing
 use Rattle.web_page.specs.declared.errors.PageError.{PageError}
-use Rattle.description.specs.Content.{DescriptionSaid}
-use Rattle.description_parts.specs.Content.{CommandSaid}
+use Rattle.web_page.specs.declared.errors.PageError.TheVariants as making
+use Rattle.description.specs.Content.{DescriptionSaid, CommandSaid}
 use Rattle.description_pages.specs.Levels.{SubjectSaid}
 use Rattle.description_pages.specs.LevelsView.{subject_of}
 use Rattle.description_pages.specs.Subjects.{below, command_named, led_to}
@@ -19,7 +19,7 @@ use Rattle.command_pages.specs.Pages.{level_at}
 use Rattle.clidoc_engine.specs.Rendering.{IsUnwritable}
 use Rattle.clidoc_engine.specs.Runs.{HasNoCommand, HasUnwritablePage}
 use Rattle.clidoc_engine.specs.Steps.{IsLost, IsNoCommand, IsUnmade}
-use Rattle.clidoc_engine.specs.Words.{PageSaid, html}
+use Rattle.clidoc_engine.specs.Words.{PageSaid}
 use Rattle.clidoc_engine.proofs.Gathered.{next_word}
 
 then_below : (words : List (List ℕ)) (s t : SubjectSaid) (o : Option CommandSaid) → Some t ≡ option_map (below s) o → led_to words t ≡ option_and_then (λ m. led_to words (below s m)) o
@@ -51,10 +51,14 @@ lost_unmade p d fault h3 = grind arith
 pub unmade : {T : Type 0} (p : PageSaid) (d : DescriptionSaid) (r : Result T Fault) → IfErr r (IsLost (commands_of p) d) → IfErr r (IsUnmade p d)
 unmade p d r h3 = grind (arith, lost_unmade)
 
-pub web_unmade : (d : DescriptionSaid) (error : PageError) → IsUnmade html d (fault_of_page error)
-web_unmade d error = grind arith
+unwritten_as : (p : PageSaid) (d : DescriptionSaid) (fault : Option PageError) (error : PageError) → (error ≡ making.Refused alloc_error) ⊎ (fault ≡ Some error) → ¬ (error ≡ making.Refused alloc_error) → (fault ≡ Some error → IsUnwritable p d error) → IsUnwritable p d error
+unwritten_as p d fault error (inl refused) other unwritable = absurd (other refused)
+unwritten_as p d fault error (inr same) other unwritable = unwritable same
 
-pub unwritten : (p : PageSaid) (d : DescriptionSaid) (fault : Option PageFault) (error : PageFault) → (error ≡ writing.Refused alloc_error) ⊎ (fault ≡ Some error) → (fault ≡ Some writing.Character → IsUnwritable p d) → IsUnmade p d (fault_of_medium error)
+pub unwritten_html : (p : PageSaid) (d : DescriptionSaid) (fault : Option PageError) (error : PageError) → (error ≡ making.Refused alloc_error) ⊎ (fault ≡ Some error) → (fault ≡ Some error → IsUnwritable p d error) → IsUnmade p d (fault_of_page error)
+unwritten_html p d fault error fails unwritable = grind (arith, unwritten_as)
+
+pub unwritten : (p : PageSaid) (d : DescriptionSaid) (fault : Option PageFault) (error : PageFault) → (error ≡ writing.Refused alloc_error) ⊎ (fault ≡ Some error) → (fault ≡ Some writing.Character → IsUnwritable p d making.Character) → IsUnmade p d (fault_of_medium error)
 unwritten p d fault (writing.Refused e) fails unwritable = tt
 unwritten p d fault writing.Character (inl refused) unwritable = grind (refused, arith)
 unwritten p d fault writing.Character (inr same) unwritable = unwritable same
@@ -65,8 +69,8 @@ lost_command p text d fault h4 h5 = grind arith
 pub lost_page : {T : Type 0} (p : PageSaid) (text : List ℕ) (d : DescriptionSaid) (r : Result T Fault) → Describes text d → IfErr r (IsUnmade p d) → IfErr r (λ fault. IfNoCommand fault (HasNoCommand p text))
 lost_page p text d r h4 h5 = grind (arith, lost_command)
 
-no_page : (p : PageSaid) (text : List ℕ) (d : DescriptionSaid) (fault : Fault) → Describes text d → IsUnmade p d fault → IfNoPage fault (HasUnwritablePage p text)
+no_page : (p : PageSaid) (text : List ℕ) (d : DescriptionSaid) (fault : Fault) → Describes text d → IsUnmade p d fault → IfNoPage fault (λ error. HasUnwritablePage p error text)
 no_page p text d fault h4 h5 = grind arith
 
-pub not_made : {T : Type 0} (p : PageSaid) (text : List ℕ) (d : DescriptionSaid) (r : Result T Fault) → Describes text d → IfErr r (IsUnmade p d) → IfErr r (λ fault. IfNoPage fault (HasUnwritablePage p text))
+pub not_made : {T : Type 0} (p : PageSaid) (text : List ℕ) (d : DescriptionSaid) (r : Result T Fault) → Describes text d → IfErr r (IsUnmade p d) → IfErr r (λ fault. IfNoPage fault (λ error. HasUnwritablePage p error text))
 not_made p text d r h4 h5 = grind (arith, no_page)

@@ -7,9 +7,11 @@ use Rattle.description_pages.specs.Levels.{SubjectSaid}
 use Rattle.description_pages.specs.declared.levels.Depth.{Depth}
 use Rattle.command_pages.specs.declared.given.ConsoleForm.{ConsoleForm}
 use Rattle.command_pages.specs.Pages.{TitleGiven, console_page, level_at, manual_page, markdown_page}
+use Rattle.html_page.specs.declared.frame.Extent.{Extent}
+use Rattle.command_pages.specs.Html.{IsHtmlOf}
 use Rattle.command_pages.specs.Readings.{IsManualOf, IsMarkdownOf}
 use Rattle.clidoc_engine.specs.Rendering.{IsExact, IsPage, IsRendering}
-use Rattle.clidoc_engine.specs.Words.{PageSaid, console, man, markdown}
+use Rattle.clidoc_engine.specs.Words.{PageSaid, console, html, man, markdown}
 
 -- what a medium answers is a page, if both are said of it
 pub a_page : {A : Type 0} (p : PageSaid) (d : DescriptionSaid) (text : String A) → IsRendering p d (string_bytes text) → IsExact p d (string_bytes text) → IsPage p d (string_bytes text)
@@ -18,6 +20,9 @@ a_page p d text rendering exact = record { utf8 = IsUtf8-string_bytes text; rend
 module _ {A : Type 0} (commands : List (List ℕ)) (d : DescriptionSaid) (s : SubjectSaid) (text : String A) (led : level_at commands d ≡ Some s) where
   pub a_console_page : (form : ConsoleForm) (width : ℕ) → string_bytes text ≡ console_page form width d.words s → IsPage (console form commands width) d (string_bytes text)
   a_console_page form width exact = a_page (console form commands width) d text tt (ap (option_map (console_page form width d.words)) led ∙ ap Some (sym exact))
+
+  pub an_html_page : (extent : Extent) (given : TitleGiven) → IsHtmlOf d extent given s (string_bytes text) → IsPage (html extent commands given) d (string_bytes text)
+  an_html_page extent given reads = a_page (html extent commands given) d text (s, led, reads) tt
 
   pub a_manual : (depth : Depth) (given : TitleGiven) → IsManualOf d depth given s (string_bytes text) → string_bytes text ≡ manual_page d depth given s → IsPage (man commands depth given) d (string_bytes text)
   a_manual depth given reads exact = a_page (man commands depth given) d text (s, led, reads) (ap (option_map (manual_page d depth given)) led ∙ ap Some (sym exact))

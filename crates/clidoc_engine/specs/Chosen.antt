@@ -1,7 +1,7 @@
 -- What the types of words say.
 use Rattle.std.specs.Prelude.{ℕ, List, [], map}
 use Rattle.std.specs.Borrow.{Bor}
-use Rattle.bpaf_meta.specs.View.{text_of}
+use Rattle.description.specs.View.{text_of}
 use Rattle.command_pages.specs.View.{title_said}
 use Rattle.clidoc_engine.specs.declared.words.Console.{Console}
 use Rattle.clidoc_engine.specs.declared.words.Page.{Page}
@@ -18,7 +18,7 @@ console_said c = console c.form (words_said c.commands.items) c.width
 
 abbrev pub page_said : {A : Type 0} → Page A → PageSaid
 page_said (of_page.Console c) = console_said c
-page_said of_page.Html = html
+page_said (of_page.Html extent commands title) = html extent (words_said commands.items) (title_said title)
 page_said (of_page.Markdown commands depth) = markdown (words_said commands.items) depth
 page_said (of_page.Man commands depth title) = man (words_said commands.items) depth (title_said title)
 
@@ -32,6 +32,6 @@ choice_said of_choice.Version = version
 -- the commands that lead to what a page shows
 abbrev pub commands_of : PageSaid → List (List ℕ)
 commands_of (console form commands width) = commands
-commands_of html = []
+commands_of (html extent commands title) = commands
 commands_of (markdown commands depth) = commands
 commands_of (man commands depth title) = commands

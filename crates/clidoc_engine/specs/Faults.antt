@@ -4,8 +4,8 @@ use Rattle.std.specs.declared.alloc.Global.{Global}
 use Rattle.toml.specs.declared.de.error.Error.{Error}
 use Rattle.watched.specs.declared.ReadError.{ReadError}
 use Rattle.watched.specs.declared.ReadError.TheVariants as reading
-use Rattle.description.specs.declared.decode.faults.DescriptionError.{DescriptionError}
-use Rattle.description.specs.declared.decode.faults.DescriptionError.TheVariants as describing
+use Rattle.description_toml.specs.declared.decode.faults.DescriptionError.{DescriptionError}
+use Rattle.description_toml.specs.declared.decode.faults.DescriptionError.TheVariants as describing
 use Rattle.web_page.specs.declared.errors.PageError.{PageError}
 use Rattle.web_page.specs.declared.errors.PageError.TheVariants as making
 use Rattle.page_model.specs.declared.fault.PageFault.{PageFault}
@@ -70,9 +70,9 @@ IfNoCommand Read P = ⊤
 IfNoCommand Write P = ⊤
 IfNoCommand Memory P = ⊤
 
--- where a fault says that a page is not written, this holds
-abbrev pub IfNoPage : Fault → Type 0 → Type 0
-IfNoPage (NoPage error) P = P
+-- where a fault says that a page is not written, this holds of why
+abbrev pub IfNoPage : Fault → (PageError → Type 0) → Type 0
+IfNoPage (NoPage error) P = P error
 IfNoPage (NoCommand name path) P = ⊤
 IfNoPage (NotDescription text) P = ⊤
 IfNoPage NotUtf8 P = ⊤

@@ -3,11 +3,12 @@ use Rattle.std.specs.Prelude.{codes, ◌≡◌, ℕ, ⊤, string_bytes, ◌==◌
 use Rattle.std.specs.Char.{to_ascii_lowercase}
 use Rattle.std.specs.List.{list_any}
 use Rattle.description.specs.Content.{DescriptionSaid}
-use Rattle.description.specs.WebPages.{IsWebPageOf}
+use Rattle.html_page.specs.declared.frame.Extent.TheVariants.{Page}
 use Rattle.description_pages.specs.Levels.{SubjectSaid}
 use Rattle.description_pages.specs.Sections.{page_name}
 use Rattle.description_pages.specs.Subjects.{all_from}
 use Rattle.description_pages.specs.declared.levels.Depth.TheVariants.{Alone}
+use Rattle.command_pages.specs.Html.{IsHtmlOf}
 use Rattle.command_pages.specs.Readings.{IsManualOf, IsMarkdownOf}
 use Rattle.clidoc_engine.specs.declared.files.PageFile.{PageFile}
 use Rattle.clidoc_engine.specs.Inputs.{Describes}
@@ -43,16 +44,16 @@ AreAllRead d given [] = ⊤
 AreAllRead d given (s ∷ others) = AreRead d given s × AreAllRead d given others
 
 -- the complete HTML page of all: a text that a reader of HTML reads as its tree
-pub record IsWebFile (d : DescriptionSaid) (file : FileSaid) : Type 0 where
+pub record IsWebFile (d : DescriptionSaid) (given : TitleGiven) (file : FileSaid) : Type 0 where
   pub name : file.name ≡ d.name ++ codes ".html"
-  pub read : IsWebPageOf d file.page
+  pub read : IsHtmlOf d Page given (application d) file.page
 
 -- the pages of each level, and behind them that of all
 pub record AreFiles (d : DescriptionSaid) (given : TitleGiven) (files : List FileSaid) : Type 0 where
   pub web : FileSaid
   pub exact : files ≡ flat_map (level_files d given) (all_from (application d)) ++ web ∷ []
   pub levels : AreAllRead d given (all_from (application d))
-  pub page : IsWebFile d web
+  pub page : IsWebFile d given web
 
 -- the text gives a description, whose files these are
 pub record HasFiles (text : List ℕ) (given : TitleGiven) (files : List FileSaid) : Type 0 where

@@ -5,7 +5,7 @@ use Rattle.toml.specs.Errors.{IsMemory, IsWithin, span_start}
 use Rattle.toml.specs.Parse.{parse_document}
 use Rattle.toml.specs.declared.de.error.Error.{Error}
 use Rattle.description.specs.Content.{DescriptionSaid}
-use Rattle.description.specs.Described.{described}
+use Rattle.description_toml.specs.Described.{described}
 use Rattle.clidoc_engine.specs.declared.places.Place.{Place}
 use Rattle.clidoc_engine.specs.Newlines.{without_returns}
 use Rattle.clidoc_engine.specs.Places.{column_behind, line_behind}

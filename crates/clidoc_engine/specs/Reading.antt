@@ -8,7 +8,7 @@ use Rattle.clidoc_engine.specs.declared.reading.WordFault.TheVariants.{NoForm, N
 use Rattle.clidoc_engine.specs.Chosen.{words_said}
 use Rattle.clidoc_engine.specs.declared.reading.Next.{Next}
 use Rattle.clidoc_engine.specs.declared.reading.Next.TheVariants.{Any, Value, File}
-use Rattle.clidoc_engine.specs.Words.{Given, Kind, dashes, plain, deep, apart, joined, unknown, given_in, only_files, valued_in}
+use Rattle.clidoc_engine.specs.Words.{Given, Kind, dashes, plain, deep, fragment, apart, joined, unknown, given_in, only_files, valued_in}
 
 abbrev pub given_of : {A : Type 0} → of_given.Given A → Given
 given_of g = record {
@@ -19,6 +19,7 @@ given_of g = record {
   dates = words_said g.dates.items;
   vendors = words_said g.vendors.items;
   deeps = words_said g.deeps.items;
+  fragments = words_said g.fragments.items;
   files = words_said g.files.items;
 }
 
@@ -26,6 +27,7 @@ abbrev pub kind_said : of_kind.Kind → Kind
 kind_said kinds.Dashes = dashes
 kind_said kinds.Plain = plain
 kind_said kinds.Deep = deep
+kind_said kinds.Fragment = fragment
 kind_said (kinds.Apart o) = apart o
 kind_said (kinds.Joined o value) = joined o value.now
 kind_said kinds.Unknown = unknown
@@ -54,6 +56,7 @@ together g h = record {
   dates = g.dates ++ h.dates;
   vendors = g.vendors ++ h.vendors;
   deeps = g.deeps ++ h.deeps;
+  fragments = g.fragments ++ h.fragments;
   files = g.files ++ h.files;
 }
 

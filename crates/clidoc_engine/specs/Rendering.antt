@@ -1,13 +1,15 @@
 -- What is promised of a page of a description.
 use Rattle.std.specs.Prelude.{◌≡◌, ℕ, ⊤, List, IsUtf8, Option, Some, option_map}
+use Rattle.web_page.specs.declared.errors.PageError.{PageError}
+use Rattle.web_page.specs.declared.errors.PageError.TheVariants as making
 use Rattle.page_model.specs.declared.fault.PageFault.{PageFault}
 use Rattle.page_model.specs.declared.fault.PageFault.TheVariants.{Character}
 use Rattle.description.specs.Content.{DescriptionSaid}
-use Rattle.description.specs.WebPages.{IsWebPageOf}
 use Rattle.description_pages.specs.Levels.{SubjectSaid}
 use Rattle.description_pages.specs.declared.levels.Depth.{Depth}
-use Rattle.description_parts.specs.Words.{WordsSaid}
+use Rattle.description.specs.Words.{WordsSaid}
 use Rattle.command_pages.specs.Pages.{console_page, console_page_fault, level_at, manual_page, manual_page_fault, markdown_page, markdown_page_fault}
+use Rattle.command_pages.specs.Html.{IsHtmlOf, html_page_fault}
 use Rattle.command_pages.specs.Readings.{IsManualOf, IsMarkdownOf}
 use Rattle.clidoc_engine.specs.Words.{PageSaid, console, html, markdown, man}
 
@@ -20,14 +22,14 @@ AtLevel commands d P = (s : SubjectSaid) × (level_at commands d ≡ Some s) × 
 -- What a reader of the page's medium reads in the bytes: what the page says. None reads a page on a console.
 abbrev pub IsRendering : PageSaid → DescriptionSaid → List ℕ → Type 0
 IsRendering (console form commands width) d output = ⊤
-IsRendering html d output = IsWebPageOf d output
+IsRendering (html extent commands given) d output = AtLevel commands d (λ s. IsHtmlOf d extent given s output)
 IsRendering (markdown commands depth) d output = AtLevel commands d (λ s. IsMarkdownOf depth d.words s output)
 IsRendering (man commands depth given) d output = AtLevel commands d (λ s. IsManualOf d depth given s output)
 
--- exactly these bytes. Of the complete HTML page the tree says all but how it is spelled.
+-- exactly these bytes. Of a page in HTML its tree says all but how it is spelled.
 abbrev pub IsExact : PageSaid → DescriptionSaid → List ℕ → Type 0
 IsExact (console form commands width) d output = option_map (console_page form width d.words) (level_at commands d) ≡ Some output
-IsExact html d output = ⊤
+IsExact (html extent commands given) d output = ⊤
 IsExact (markdown commands depth) d output = option_map (markdown_page depth d.words) (level_at commands d) ≡ Some output
 IsExact (man commands depth given) d output = option_map (manual_page d depth given) (level_at commands d) ≡ Some output
 
@@ -39,9 +41,13 @@ pub record IsPage (p : PageSaid) (d : DescriptionSaid) (output : List ℕ) : Typ
 
 -- ---- when there is none
 
--- The page has a text that no reader would give back, and its medium does not write it. Why the complete HTML page cannot be made is only told.
-abbrev pub IsUnwritable : PageSaid → DescriptionSaid → Type 0
-IsUnwritable (console form commands width) d = AtLevel commands d (λ s. console_page_fault form d.words s ≡ Some Character)
-IsUnwritable html d = ⊤
-IsUnwritable (markdown commands depth) d = AtLevel commands d (λ s. markdown_page_fault depth d.words s ≡ Some Character)
-IsUnwritable (man commands depth given) d = AtLevel commands d (λ s. manual_page_fault d depth given s ≡ Some Character)
+-- a text that no reader would give back, which media but HTML do not write
+abbrev pub HasCharacter : Option PageFault → PageError → Type 0
+HasCharacter fault error = (fault ≡ Some Character) × (error ≡ making.Character)
+
+-- The page of what the commands lead to is not written, and this says why. Of a page in HTML it is the first thing that no such page has.
+abbrev pub IsUnwritable : PageSaid → DescriptionSaid → PageError → Type 0
+IsUnwritable (console form commands width) d error = AtLevel commands d (λ s. HasCharacter (console_page_fault form d.words s) error)
+IsUnwritable (html extent commands given) d error = AtLevel commands d (λ s. html_page_fault d given s ≡ Some error)
+IsUnwritable (markdown commands depth) d error = AtLevel commands d (λ s. HasCharacter (markdown_page_fault depth d.words s) error)
+IsUnwritable (man commands depth given) d error = AtLevel commands d (λ s. HasCharacter (manual_page_fault d depth given s) error)

@@ -2,6 +2,7 @@
 use Rattle.std.specs.Prelude.{◌≡◌, ℕ, List, Option, None}
 use Rattle.std.specs.Io.KnownBytes.{Appends}
 use Rattle.watched.specs.Watched.{AppendsPart}
+use Rattle.web_page.specs.declared.errors.PageError.{PageError}
 use Rattle.description.specs.Content.{DescriptionSaid}
 use Rattle.clidoc_engine.specs.Chosen.{commands_of}
 use Rattle.clidoc_engine.specs.Inputs.{Describes}
@@ -37,8 +38,8 @@ pub record HasNoCommand (p : PageSaid) (text : List ℕ) : Type 0 where
   pub described : Describes text description
   pub nowhere : level_at (commands_of p) description ≡ None
 
--- the text gives a description, of which the page is not written
-pub record HasUnwritablePage (p : PageSaid) (text : List ℕ) : Type 0 where
+-- the text gives a description, of which the page is not written, and this says why
+pub record HasUnwritablePage (p : PageSaid) (error : PageError) (text : List ℕ) : Type 0 where
   pub description : DescriptionSaid
   pub described : Describes text description
-  pub unwritable : IsUnwritable p description
+  pub unwritable : IsUnwritable p description error

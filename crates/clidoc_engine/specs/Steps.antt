@@ -45,7 +45,7 @@ IsLost commands d Write = ⊥
 -- the fault says that the commands of the page lead nowhere, or that it is not written; or that an allocation failed
 abbrev pub IsUnmade : PageSaid → DescriptionSaid → Fault → Type 0
 IsUnmade p d (NoCommand name path) = level_at (commands_of p) d ≡ None
-IsUnmade p d (NoPage error) = IsUnwritable p d
+IsUnmade p d (NoPage error) = IsUnwritable p d error
 IsUnmade p d Memory = ⊤
 IsUnmade p d NotUtf8 = ⊥
 IsUnmade p d (NotToml place error) = ⊥

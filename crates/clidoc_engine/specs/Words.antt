@@ -1,8 +1,10 @@
 -- Which words choose what.
-use Rattle.std.specs.Prelude.{codes, ℕ, ◌≡◌, ◌≢◌, ◌^◌, ◌<◌, ◌==◌, ◌||◌, List, [], ◌∷◌, ◌++◌, Bool, true, false, not, if◌then◌else◌, Option, Some, None, option_map, option_to_list, bytes_eq, slice_index}
+use Rattle.std.specs.Prelude.{codes, ℕ, ◌≡◌, ◌≢◌, ◌⊎◌, ◌^◌, ◌<◌, ◌≤◌, ◌==◌, ◌||◌, List, [], ◌∷◌, ◌++◌, Bool, true, false, not, if◌then◌else◌, Option, Some, None, option_map, option_to_list, bytes_eq, slice_index}
 use Rattle.std.specs.Str.Parse.{IsNumeral, digits_value}
 use Rattle.description_pages.specs.declared.levels.Depth.{Depth}
 use Rattle.description_pages.specs.declared.levels.Depth.TheVariants.{Alone, Deep}
+use Rattle.html_page.specs.declared.frame.Extent.{Extent}
+use Rattle.html_page.specs.declared.frame.Extent.TheVariants.{Page, Fragment}
 use Rattle.command_pages.specs.Pages.{TitleGiven}
 use Rattle.command_pages.specs.declared.given.ConsoleForm.{ConsoleForm}
 use Rattle.command_pages.specs.declared.given.ConsoleForm.TheVariants.{Usage, Full, Brief}
@@ -11,11 +13,11 @@ use Rattle.clidoc_engine.specs.declared.reading.Valued.TheVariants.{Command, Wid
 
 -- ---- what is chosen
 
--- a page of what some commands lead to: on the console, of a width; in markdown, or as a manual page, of that level alone, or of those below it
--- too. Or the HTML page of all.
+-- a page of what some commands lead to: on the console, of a width; in HTML, of that level and of those below it, complete or what stands in its
+-- body; in markdown, or as a manual page, of that level alone, or of those below it too
 pub data PageSaid : Type 0 where
   console : ConsoleForm → (commands : List (List ℕ)) → (width : ℕ) → PageSaid
-  html : PageSaid
+  html : Extent → (commands : List (List ℕ)) → TitleGiven → PageSaid
   markdown : (commands : List (List ℕ)) → Depth → PageSaid
   man : (commands : List (List ℕ)) → Depth → TitleGiven → PageSaid
 
@@ -28,7 +30,7 @@ pub data ChoiceSaid : Type 0 where
 
 -- ---- what each word gives
 
--- the words that stand for themselves, the values of each option, each `--deep`, and the words behind `--`, in order
+-- the words that stand for themselves, the values of each option, each `--deep` and `--fragment`, and the words behind `--`, in order
 pub record Given : Type 0 where
   pub plain : List (List ℕ)
   pub commands : List (List ℕ)
@@ -37,16 +39,20 @@ pub record Given : Type 0 where
   pub dates : List (List ℕ)
   pub vendors : List (List ℕ)
   pub deeps : List (List ℕ)
+  pub fragments : List (List ℕ)
   pub files : List (List ℕ)
 
 abbrev pub only_files : List (List ℕ) → Given
-only_files words = record { plain = []; commands = []; widths = []; folders = []; dates = []; vendors = []; deeps = []; files = words }
+only_files words = record { plain = []; commands = []; widths = []; folders = []; dates = []; vendors = []; deeps = []; fragments = []; files = words }
 
 abbrev pub with_plain : List ℕ → Given → Given
 with_plain word g = record g { plain = word ∷ g.plain }
 
 abbrev pub with_deep : List ℕ → Given → Given
 with_deep word g = record g { deeps = word ∷ g.deeps }
+
+abbrev pub with_fragment : List ℕ → Given → Given
+with_fragment word g = record g { fragments = word ∷ g.fragments }
 
 abbrev pub with_value : Valued → List ℕ → Given → Given
 with_value Command value g = record g { commands = value ∷ g.commands }
@@ -66,6 +72,7 @@ pub data Kind : Type 0 where
   dashes : Kind
   plain : Kind
   deep : Kind
+  fragment : Kind
   apart : Valued → Kind
   joined : Valued → (value : List ℕ) → Kind
   unknown : Kind
@@ -90,12 +97,13 @@ abbrev pub other_kind : List ℕ → Kind
 other_kind word =
     if bytes_eq word (codes "-") || not (slice_index word 0 == 45) then plain else joined_kind (Command ∷ Width ∷ Into ∷ Date ∷ Vendor ∷ []) word
 
--- a word that begins with `-` is `--`, or `-` alone, or `--deep`, or an option with a value, which stands behind `=` or is the next word, whatever
+-- a word that begins with `-` is `--`, or `-` alone, or `--deep`, or `--fragment`, or an option with a value, which stands behind `=` or is the next word, whatever
 -- that is; any other such word is unknown
 abbrev pub kind_of : List ℕ → Kind
 kind_of word =
     if bytes_eq word (codes "--") then dashes else
     if bytes_eq word (codes "--deep") then deep else
+    if bytes_eq word (codes "--fragment") then fragment else
     if bytes_eq word (option_word Command) then apart Command else
     if bytes_eq word (option_word Width) then apart Width else
     if bytes_eq word (option_word Into) then apart Into else
@@ -108,6 +116,7 @@ abbrev pub given_by : Kind → (word : List ℕ) → (words : List (List ℕ)) �
 given_by dashes word words others with_next = Some (only_files words)
 given_by plain word words others with_next = option_map (with_plain word) others
 given_by deep word words others with_next = option_map (with_deep word) others
+given_by fragment word words others with_next = option_map (with_fragment word) others
 given_by (joined o value) word words others with_next = option_map (with_value o value) others
 given_by (apart o) word words others with_next = with_next o
 given_by unknown word words others with_next = None
@@ -137,17 +146,32 @@ pub record IsColumns (text : List ℕ) (n : ℕ) : Type 0 where
   pub some : 0 < n
   pub fits : n < 2 ^ 64
 
--- at most one width, and 100 columns where there is none
-abbrev pub IsWidth : List (List ℕ) → ℕ → Type 0
-IsWidth [] n = n ≡ 100
-IsWidth (text ∷ []) n = IsColumns text n
-IsWidth (text ∷ other ∷ texts) n = ⊥
+-- what the environment says of a terminal is a number of columns from 20 on
+abbrev pub SaysColumns : (said : Option (List ℕ)) → ℕ → Type 0
+SaysColumns None n = ⊥
+SaysColumns (Some text) n = IsColumns text n × (20 ≤ n)
+
+-- so many columns the terminal has then, and else 100
+abbrev pub IsTerminalWidth : (said : Option (List ℕ)) → ℕ → Type 0
+IsTerminalWidth said n = SaysColumns said n ⊎ (((m : ℕ) → ¬ SaysColumns said m) × (n ≡ 100))
+
+-- at most one width, and where there is none that of the terminal
+abbrev pub IsWidth : (terminal : ℕ) → List (List ℕ) → ℕ → Type 0
+IsWidth terminal [] n = n ≡ terminal
+IsWidth terminal (text ∷ []) n = IsColumns text n
+IsWidth terminal (text ∷ other ∷ texts) n = ⊥
 
 -- the level alone, and those below it too where one word says so
 abbrev pub IsDepth : (deeps : List (List ℕ)) → Depth → Type 0
 IsDepth [] depth = depth ≡ Alone
 IsDepth (word ∷ []) depth = depth ≡ Deep
 IsDepth (word ∷ other ∷ words) depth = ⊥
+
+-- the complete page, and what stands in its body where one word says so
+abbrev pub IsExtent : (fragments : List (List ℕ)) → Extent → Type 0
+IsExtent [] extent = extent ≡ Page
+IsExtent (word ∷ []) extent = extent ≡ Fragment
+IsExtent (word ∷ other ∷ words) extent = ⊥
 
 -- at most one date, and one vendor
 abbrev pub IsTitle : Given → TitleGiven → Type 0
@@ -158,14 +182,18 @@ HasNoTitle g = (g.dates ≡ []) × (g.vendors ≡ [])
 
 -- no word says which level, or how it is shown
 abbrev pub HasNoLevel : Given → Type 0
-HasNoLevel g = (g.commands ≡ []) × (g.widths ≡ []) × (g.deeps ≡ [])
+HasNoLevel g = (g.commands ≡ []) × (g.widths ≡ []) × (g.deeps ≡ []) × (g.fragments ≡ [])
 
 -- the word, and the options that stand with it, name this page
-abbrev pub NamesPage : (word : List ℕ) → Given → PageSaid → Type 0
-NamesPage word g (console form commands width) = (word ≡ form_word form) × (commands ≡ g.commands) × IsWidth g.widths width × (g.deeps ≡ []) × HasNoTitle g
-NamesPage word g html = (word ≡ codes "html") × HasNoLevel g × HasNoTitle g
-NamesPage word g (markdown commands depth) = (word ≡ codes "markdown") × (commands ≡ g.commands) × (g.widths ≡ []) × IsDepth g.deeps depth × HasNoTitle g
-NamesPage word g (man commands depth title) = (word ≡ codes "man") × (commands ≡ g.commands) × (g.widths ≡ []) × IsDepth g.deeps depth × IsTitle g title
+abbrev pub NamesPage : (terminal : ℕ) → (word : List ℕ) → Given → PageSaid → Type 0
+NamesPage terminal word g (console form commands width) =
+    (word ≡ form_word form) × (commands ≡ g.commands) × IsWidth terminal g.widths width × (g.deeps ≡ []) × (g.fragments ≡ []) × HasNoTitle g
+NamesPage terminal word g (html extent commands title) =
+    (word ≡ codes "html") × (commands ≡ g.commands) × (g.widths ≡ []) × (g.deeps ≡ []) × IsExtent g.fragments extent × IsTitle g title
+NamesPage terminal word g (markdown commands depth) =
+    (word ≡ codes "markdown") × (commands ≡ g.commands) × (g.widths ≡ []) × IsDepth g.deeps depth × (g.fragments ≡ []) × HasNoTitle g
+NamesPage terminal word g (man commands depth title) =
+    (word ≡ codes "man") × (commands ≡ g.commands) × (g.widths ≡ []) × IsDepth g.deeps depth × (g.fragments ≡ []) × IsTitle g title
 
 -- the first word that stands for itself, and the one file, if there is one: a second such word, or one behind `--`
 pub record Names (words : List (List ℕ)) (word : List ℕ) (file : Option (List ℕ)) (g : Given) : Type 0 where
@@ -178,9 +206,10 @@ abbrev pub is_one_of : (words : List (List ℕ)) → (long short : List ℕ) →
 is_one_of (word ∷ []) long short = bytes_eq word long || bytes_eq word short
 is_one_of words long short = false
 
-abbrev pub Chooses : (words : List (List ℕ)) → ChoiceSaid → Type 0
-Chooses words (page p file) = (word : List ℕ) × (g : Given) × Names words word file g × NamesPage word g p × (g.folders ≡ [])
-Chooses words (check file) = (g : Given) × Names words (codes "check") file g × HasNoLevel g × HasNoTitle g × (g.folders ≡ [])
-Chooses words (all folder title file) = (g : Given) × Names words (codes "all") file g × HasNoLevel g × IsTitle g title × (g.folders ≡ folder ∷ [])
-Chooses words help = is_one_of words (codes "--help") (codes "-h") ≡ true
-Chooses words version = is_one_of words (codes "--version") (codes "-V") ≡ true
+-- on a terminal of so many columns
+abbrev pub Chooses : (terminal : ℕ) → (words : List (List ℕ)) → ChoiceSaid → Type 0
+Chooses terminal words (page p file) = (word : List ℕ) × (g : Given) × Names words word file g × NamesPage terminal word g p × (g.folders ≡ [])
+Chooses terminal words (check file) = (g : Given) × Names words (codes "check") file g × HasNoLevel g × HasNoTitle g × (g.folders ≡ [])
+Chooses terminal words (all folder title file) = (g : Given) × Names words (codes "all") file g × HasNoLevel g × IsTitle g title × (g.folders ≡ folder ∷ [])
+Chooses terminal words help = is_one_of words (codes "--help") (codes "-h") ≡ true
+Chooses terminal words version = is_one_of words (codes "--version") (codes "-V") ≡ true

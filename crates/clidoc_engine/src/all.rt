@@ -21,19 +21,21 @@ use crate::faults::Fault;
 use crate::files::PageFile;
 use crate::words::TitleGiven;
 use bumpalo::Bump;
-use command_pages::{application, manual_page_of, markdown_page_of};
+use command_pages::{Extent, application, html_page_of, manual_page_of, markdown_page_of};
 use description::Description;
 use description_pages::Depth;
 use description_pages::levels::LevelSubject;
 use description_pages::subjects::{all_from, page_name};
+use description_toml::description_from_table;
 use lasting_names::Names;
 use std::alloc::{AllocError, Allocator, Global};
 use watched::{Source, Watched};
 
 /// Reads all that the reader has left, as a description in TOML, and makes all pages of it: of each level, each before
 /// those below it, the manual page and the page in markdown, and last the complete HTML page. In the title lines of the
-/// manual pages stand the words that are given. Its faults are those of `run_description` that come of reading, and
-/// they come where those do, and `NoPage`, where a word or a text cannot stand in a page.
+/// manual pages and at the foot of the HTML page stand the words that are given. Its faults are those of
+/// `run_description` that come of reading, and they come where those do, and `NoPage`, where a word or a text cannot
+/// stand in a page.
 pub fn make_files<A: Allocator + Copy, R: Source>(
     alloc: A,
     global: Global,
@@ -87,7 +89,7 @@ fn files_in<A: Allocator + Copy>(
 {
     let table = table_of(global, text)?;
     let mut names = Names::new(global);
-    let description = Description::from_table(global, &mut names, &table)?;
+    let description = description_from_table(global, &mut names, &table)?;
     let files = files_of(alloc, global, given, &description);
     drop(description);
     files
@@ -105,7 +107,7 @@ fn files_of<A: Allocator + Copy>(
 {
     let mut files = Vec::new(alloc);
     push_levels(alloc, global, &given, &mut files, description)?;
-    put(&mut files, web_file(alloc, description)?)?;
+    put(&mut files, web_file(alloc, global, given, description)?)?;
     Ok(files)
 }
 
@@ -213,7 +215,7 @@ fn manual_file_in<'p, 'a: 'p, A: Allocator + Copy>(
     let page = manual_page_of(alloc, arena, description, Depth::Alone, *given, level)?;
     let mut name = String::from_str(alloc, page_name(arena, level.names)?)?;
     name.push('.')?;
-    name.push_str(description.section.as_str())?;
+    name.push_str(description.section)?;
     Ok(PageFile { name, page })
 }
 
@@ -252,14 +254,33 @@ fn markdown_file_in<'p, 'a: 'p, A: Allocator + Copy>(
     Ok(PageFile { name, page })
 }
 
+// The complete HTML page, made in an arena of its own.
 fn web_file<A: Allocator + Copy>(
     alloc: A,
+    global: Global,
+    given: TitleGiven<'_>,
     description: &Description<'_>,
 ) -> Result<PageFile<A>, Fault>
-    ensures ok { IfOk result (λ file. IsWebFile (description_said description.now) (file_said file)) }
+    ensures ok { IfOk result (λ file.
+        IsWebFile (description_said description.now) (title_said given.entry) (file_said file)) }
     ensures fault { IfErr result IsOfPages }
 {
-    let page = description.page(alloc)?;
+    let arena = Bump::new(global);
+    web_file_in(alloc, &arena, given, description)
+}
+
+fn web_file_in<'p, 'a: 'p, A: Allocator + Copy>(
+    alloc: A,
+    arena: &'p Bump,
+    given: TitleGiven<'_>,
+    description: &'p Description<'a>,
+) -> Result<PageFile<A>, Fault>
+    ensures ok { IfOk result (λ file.
+        IsWebFile (description_said description.now) (title_said given.entry) (file_said file)) }
+    ensures fault { IfErr result IsOfPages }
+{
+    let level = application(arena, description)?;
+    let page = html_page_of(alloc, arena, description, Extent::Page, given, level)?;
     let mut name = String::from_str(alloc, description.name)?;
     name.push_str(".html")?;
     Ok(PageFile { name, page })

@@ -19,7 +19,7 @@ use crate::newlines::without_returns;
 use crate::pages::rendered;
 use crate::places::place_behind;
 use crate::words::Page;
-use description::Description;
+use description_toml::description_from_table;
 use lasting_names::Names;
 use std::alloc::{Allocator, Global};
 use toml::Table;
@@ -35,8 +35,8 @@ use watched::{Sink, Source, Watched};
 /// where the writer's is, since its last write failed or took none, and the faults of the input only where
 /// all was read: `NotUtf8` where it is no text, `NotToml` where it is no TOML, `NotDescription` where its data is
 /// no description, `NoCommand` where the commands of the page lead nowhere, and `NoPage` where a text of the page has a
-/// control character but newline and tab, or a noncharacter, or it is the complete HTML page, in which a name or a text
-/// cannot stand. `Memory` comes only where an allocation failed, which no clause can say.
+/// control character but newline and tab, or a noncharacter, or it is a page in HTML, in which a name or a text cannot
+/// stand. `Memory` comes only where an allocation failed, which no clause can say.
 pub fn run_description<A: Allocator + Copy, B: Allocator, R: Source, W: Sink>(
     alloc: A,
     global: Global,
@@ -71,8 +71,8 @@ pub fn run_description<A: Allocator + Copy, B: Allocator, R: Source, W: Sink>(
         GivesText R.reads reader.old.end reader.new.end IsNoDescription)) }
     ensures no_command { IfErr result (λ fault. IfNoCommand fault (
         GivesText R.reads reader.old.end reader.new.end (HasNoCommand (page_said page.now)))) }
-    ensures no_page { IfErr result (λ fault. IfNoPage fault (
-        GivesText R.reads reader.old.end reader.new.end (HasUnwritablePage (page_said page.now)))) }
+    ensures no_page { IfErr result (λ fault. IfNoPage fault (λ error.
+        GivesText R.reads reader.old.end reader.new.end (HasUnwritablePage (page_said page.now) error))) }
 
     // Over streams that tell their bytes: which are read and written.
     ensures ok { OnOk result (
@@ -91,9 +91,9 @@ pub fn run_description<A: Allocator + Copy, B: Allocator, R: Source, W: Sink>(
     ensures lost_command { IfErr result (λ fault. IfNoCommand fault (
         ReadsText (R.remaining reader.old.end) (R.remaining reader.new.end)
         (HasNoCommand (page_said page.now)))) }
-    ensures unwritable { IfErr result (λ fault. IfNoPage fault (
+    ensures unwritable { IfErr result (λ fault. IfNoPage fault (λ error.
         ReadsText (R.remaining reader.old.end) (R.remaining reader.new.end)
-        (HasUnwritablePage (page_said page.now)))) }
+        (HasUnwritablePage (page_said page.now) error))) }
 {
     let input = reader.read_text(alloc)?;
     let text = page_of(alloc, global, page, input.as_str())?;
@@ -147,7 +147,7 @@ fn judge(global: Global, text: &str) -> Result<(), Fault>
 {
     let data = table_of(global, text)?;
     let mut kept = Names::new(global);
-    let description = Description::from_table(global, &mut kept, &data)?;
+    let description = description_from_table(global, &mut kept, &data)?;
     drop(description);
     Ok(())
 }
@@ -167,11 +167,11 @@ pub(crate) fn page_of<A: Allocator + Copy, B: Allocator>(
     ensures no_command { IfErr result (λ fault.
         IfNoCommand fault (HasNoCommand (page_said page.now) text.now)) }
     ensures no_page { IfErr result (λ fault.
-        IfNoPage fault (HasUnwritablePage (page_said page.now) text.now)) }
+        IfNoPage fault (λ error. HasUnwritablePage (page_said page.now) error text.now)) }
 {
     let table = table_of(global, text)?;
     let mut names = Names::new(global);
-    let description = Description::from_table(global, &mut names, &table)?;
+    let description = description_from_table(global, &mut names, &table)?;
     let made = rendered(alloc, global, page, &description);
     drop(description);
     made

@@ -4,8 +4,9 @@ ghost use Rattle.std.specs.Prelude.{◌≡◌};
 ghost use Rattle.clidoc_engine.specs.declared.faults.Fault.TheVariants.{Memory};
 
 use crate::places::Place;
-use description::words::Shown;
-use description::{DescriptionError, PageError};
+use command_pages::PageError;
+use description_toml::DescriptionError;
+use description_toml::words::Shown;
 use page_model::PageFault;
 use std::alloc::AllocError;
 use thiserror::Error;

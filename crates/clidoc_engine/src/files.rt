@@ -5,7 +5,7 @@ ghost use Rattle.std.specs.List.{list_any};
 ghost use Rattle.clidoc_engine.specs.Files.{are_alike, are_file_names, file_said, is_file_name, is_first_name};
 ghost use Rattle.clidoc_engine.specs.Files.{names_of};
 
-use description::words::Shown;
+use description_toml::words::Shown;
 use std::alloc::{AllocError, Allocator, Global};
 use std::collections::BTreeSet;
 use thiserror::Error;

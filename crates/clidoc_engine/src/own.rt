@@ -41,7 +41,7 @@ value = "NAME"
 help = """
 Show this command, by any of its names.
 
-It is given once for each level down. It goes with `usage`, `full`, `brief`, `man` and `markdown`."""
+It is given once for each level down. It goes with `usage`, `full`, `brief`, `man`, `markdown` and `html`."""
 repeated = true
 
 [[option]]
@@ -55,9 +55,18 @@ It goes with `man` and `markdown`."""
 long = "width"
 value = "COLUMNS"
 help = """
-Break lines at so many columns, and not at 100.
+Break lines at so many columns.
 
-It goes with `usage`, `full` and `brief`."""
+The environment variable counts where it is a number from 20 on. It goes with `usage`, `full` and `brief`."""
+env = "COLUMNS"
+default = 100
+
+[[option]]
+long = "fragment"
+help = """
+Write what stands in the body of the page alone, to be put into another page.
+
+It goes with `html`."""
 
 [[option]]
 long = "into"
@@ -71,17 +80,17 @@ It goes with `all`."""
 long = "date"
 value = "DATE"
 help = """
-Put this date on manual pages, and not that of the description.
+Put this date on manual and HTML pages, and not that of the description.
 
-It goes with `man` and `all`."""
+It goes with `man`, `html` and `all`."""
 
 [[option]]
 long = "vendor"
 value = "TEXT"
 help = """
-Name this vendor on manual pages, and not that of the description.
+Name this vendor on manual and HTML pages, and not that of the description.
 
-It goes with `man` and `all`."""
+It goes with `man`, `html` and `all`."""
 
 [[positional]]
 value = "FORM"
@@ -93,7 +102,7 @@ What is made of the description.
 - `brief`: the help page, with the first paragraph of each text.
 - `man`: a manual page.
 - `markdown`: a page in markdown.
-- `html`: one HTML page with all commands.
+- `html`: an HTML page with all commands below.
 - `check`: no page. It is only told whether FILE is a description.
 - `all`: the manual page and the page in markdown of each level, and the HTML page, as files of `--into`."""
 
@@ -101,4 +110,28 @@ What is made of the description.
 value = "FILE"
 help = "Where the description stands; `-` is standard input"
 required = false
+
+[[topic]]
+title = "Examples"
+text = """
+On the terminal, of the description in `greet.toml`:
+
+    clidoc usage greet.toml
+    clidoc full --width=80 greet.toml
+    clidoc brief greet.toml
+
+The manual page of a command, and one page in markdown of all levels:
+
+    clidoc man --command=add --date=2026-11-28 greet.toml
+    clidoc markdown --deep greet.toml
+
+A web page, and what stands in its body alone:
+
+    clidoc html greet.toml > greet.html
+    clidoc html --fragment greet.toml
+
+Whether it is a description, and all pages at once:
+
+    clidoc check greet.toml
+    clidoc all --into=pages greet.toml"""
 "#;

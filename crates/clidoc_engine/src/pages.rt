@@ -9,13 +9,14 @@ ghost use Rattle.clidoc_engine.specs.Chosen.{console_said, page_said};
 ghost use Rattle.clidoc_engine.specs.Chosen.{words_said as names_said};
 ghost use Rattle.clidoc_engine.specs.Rendering.{IsPage};
 ghost use Rattle.clidoc_engine.specs.Steps.{IsLost, IsNoCommand, IsUnmade};
-ghost use Rattle.clidoc_engine.specs.Words.{man, markdown};
+ghost use Rattle.clidoc_engine.specs.Words.{html, man, markdown};
 
 use crate::faults::Fault;
 use crate::words::{Console, Page, TitleGiven};
 use bumpalo::Bump;
 use command_pages::{
-    Depth, LevelSubject, application, console_page_of, manual_page_of, markdown_page_of,
+    Depth, Extent, LevelSubject, application, console_page_of, html_page_of, manual_page_of,
+    markdown_page_of,
 };
 use description::Description;
 use description_pages::subjects::enter;
@@ -36,7 +37,6 @@ pub(crate) fn rendered<A: Allocator + Copy, B: Allocator>(
     rendered_in(alloc, &arena, global, page, description)
 }
 
-#[tactic(auto, using(crate::proofs::Led::web_unmade))]
 fn rendered_in<'p, 'a: 'p, A: Allocator + Copy, B: Allocator>(
     alloc: A,
     arena: &'p Bump,
@@ -50,7 +50,11 @@ fn rendered_in<'p, 'a: 'p, A: Allocator + Copy, B: Allocator>(
 {
     match page {
         Page::Console(console) => on_console(alloc, arena, global, console, description),
-        Page::Html => Ok(description.page(alloc)?),
+        Page::Html {
+            extent,
+            commands,
+            title,
+        } => in_html(alloc, arena, global, *extent, commands, *title, description),
         Page::Markdown { commands, depth } => {
             in_markdown(alloc, arena, global, commands, *depth, description)
         }
@@ -118,6 +122,28 @@ fn on_console<'p, 'a: 'p, A: Allocator + Copy, B: Allocator>(
         &description.words,
         level,
     )?;
+    Ok(page)
+}
+
+// ---- HTML
+
+#[tactic(auto, using(crate::proofs::Led::unwritten_html, crate::proofs::Led::lost_unmade, crate::proofs::Made::an_html_page))]
+fn in_html<'p, 'a: 'p, A: Allocator + Copy>(
+    alloc: A,
+    arena: &'p Bump,
+    global: Global,
+    extent: Extent,
+    commands: &[&str],
+    given: TitleGiven<'_>,
+    description: &'p Description<'a>,
+) -> Result<String<A>, Fault>
+    ensures page { IfOk result (λ made. IsPage (html extent (names_said commands.now) (title_said given.entry))
+        (description_said description.now) (string_bytes made)) }
+    ensures unmade { IfErr result (IsUnmade (html extent (names_said commands.now) (title_said given.entry))
+        (description_said description.now)) }
+{
+    let level = level_at(arena, global, commands, description)?;
+    let page = html_page_of(alloc, arena, description, extent, given, level)?;
     Ok(page)
 }
 

@@ -9,16 +9,17 @@ use crate::faults::Fault;
 use crate::files::check_names;
 use crate::own::{DESCRIPTION, VERSION};
 use crate::reading::WordFault;
-use crate::words::{Choice, Console, ConsoleForm, Page, TitleGiven, WIDTH, choose};
+use crate::words::{Choice, Console, ConsoleForm, Page, TitleGiven, choose, terminal_width};
 use crate::wrong::line_of;
-use description::words::Shown;
+use description_toml::words::Shown;
 use folder::{enter, tell_left, write_files};
 use std::alloc::{AllocError, Global};
+use std::env::VarError;
 use std::io::{ErrorKind, Read};
 use std::process::ExitCode;
 use std::random::RandomSource;
 use std::rt::{Env, Files};
-use std::{fs, io};
+use std::{env, fs, io};
 use thiserror::Error;
 use watched::Watched;
 pub use watched::program::WRONG_WORDS;
@@ -104,21 +105,31 @@ fn follow<R: Alloc + Env + Files + Input + Print + Eprint + RandomSource>(
 where
     R::A: Copy,
 {
+    let terminal = terminal(rt)?;
     if words.is_empty() {
-        return usage(rt, global);
+        return usage(rt, global, terminal);
     }
-    match choose(global, words) {
+    match choose(global, terminal, words) {
         Ok(choice) => {
-            perform(rt, global, &choice)?;
+            perform(rt, global, terminal, &choice)?;
             Ok(ExitCode::SUCCESS)
         }
         Err(fault) => refuse(rt, global, &fault),
     }
 }
 
+// The columns of the terminal. What is no text says none.
+fn terminal<R: Alloc + Env>(rt: &R) -> Result<usize, Failure> {
+    match env::var(rt, "COLUMNS") {
+        Ok(said) => Ok(terminal_width(Some(said.as_str()))),
+        Err(VarError::OutOfMemory) => Err(Failure::Fault(Fault::Memory)),
+        Err(_) => Ok(terminal_width(None)),
+    }
+}
+
 // Says how it is used, where there are no words.
-fn usage<R: Alloc + Eprint>(rt: &R, global: Global) -> Result<ExitCode, Failure> {
-    let page = own_page(global, ConsoleForm::Usage);
+fn usage<R: Alloc + Eprint>(rt: &R, global: Global, terminal: usize) -> Result<ExitCode, Failure> {
+    let page = own_page(global, ConsoleForm::Usage, terminal);
     let line = page_of(global, global, &page, DESCRIPTION);
     drop(page);
     Ok(expecting(rt, line?.trim_end()))
@@ -140,6 +151,7 @@ fn refuse<R: Alloc + Eprint>(
 fn perform<R: Alloc + Env + Files + Input + Print + Eprint + RandomSource>(
     rt: &R,
     global: Global,
+    terminal: usize,
     choice: &Choice<'_, Global>,
 ) -> Result<(), Failure>
 where
@@ -163,7 +175,7 @@ where
             file: Some(file),
         } => write_all(rt, global, *folder, *title, opened(rt, global, *file)?),
         Choice::Help => {
-            let page = own_page(global, ConsoleForm::Full);
+            let page = own_page(global, ConsoleForm::Full, terminal);
             let written = write_page(rt, global, &page, DESCRIPTION.as_bytes());
             drop(page);
             written
@@ -247,11 +259,11 @@ where
 }
 
 // A page of the program itself.
-fn own_page(global: Global, form: ConsoleForm) -> Page<'static, Global> {
+fn own_page(global: Global, form: ConsoleForm, width: usize) -> Page<'static, Global> {
     Page::Console(Console {
         form,
         commands: Vec::new(global),
-        width: WIDTH,
+        width,
     })
 }
 

@@ -30,6 +30,8 @@ pub enum Valued {
 pub enum WordOption {
     /// `--deep`
     Deep,
+    /// `--fragment`
+    Fragment,
     Valued(Valued),
 }
 
@@ -68,8 +70,8 @@ impl<'w> From<AllocError> for WordFault<'w> {
     }
 }
 
-/// What words give: those that stand for themselves, the values of each option, each `--deep`, and those behind `--`, in
-/// order.
+/// What words give: those that stand for themselves, the values of each option, each `--deep` and `--fragment`, and
+/// those behind `--`, in order.
 #[derive(Drop)]
 pub(crate) struct Given<'w, A: Allocator> {
     pub plain: Vec<&'w str, A>,
@@ -79,6 +81,7 @@ pub(crate) struct Given<'w, A: Allocator> {
     pub dates: Vec<&'w str, A>,
     pub vendors: Vec<&'w str, A>,
     pub deeps: Vec<&'w str, A>,
+    pub fragments: Vec<&'w str, A>,
     pub files: Vec<&'w str, A>,
 }
 
@@ -101,6 +104,8 @@ pub(crate) enum Kind<'w> {
     Plain,
     /// `--deep`
     Deep,
+    /// `--fragment`
+    Fragment,
     /// An option, whose value is the next word.
     Apart(Valued),
     /// An option with its value.
@@ -125,6 +130,7 @@ pub(crate) fn given_in<'w, A: Allocator + Copy>(
         dates: Vec::new(alloc),
         vendors: Vec::new(alloc),
         deeps: Vec::new(alloc),
+        fragments: Vec::new(alloc),
         files: Vec::new(alloc),
     };
     let mut next = Next::Any;
@@ -173,6 +179,7 @@ fn put_any<'w, A: Allocator>(given: &mut Given<'w, A>, word: &'w str) -> Result<
         Kind::Dashes => return Ok(Next::File),
         Kind::Plain => put(&mut given.plain, word)?,
         Kind::Deep => put(&mut given.deeps, word)?,
+        Kind::Fragment => put(&mut given.fragments, word)?,
         Kind::Joined(option, value) => put_value(given, option, value)?,
         Kind::Apart(option) => return Ok(Next::Value(option)),
         Kind::Unknown => return Err(unknown(word)),
@@ -224,6 +231,7 @@ fn kind_of(word: &str) -> Kind<'_>
         "--date" => Kind::Apart(Valued::Date),
         "--vendor" => Kind::Apart(Valued::Vendor),
         "--deep" => Kind::Deep,
+        "--fragment" => Kind::Fragment,
         "-" => Kind::Plain,
         _ => other_kind(word),
     }

@@ -1,21 +1,25 @@
 //! What the words after the program's name choose.
 
-ghost use Rattle.std.specs.Prelude.{◌≡◌, ◌≢◌, ◌⊎◌, ◌++◌, ◌∷◌, [], IfErr, IfOk, codes, option_to_list};
-ghost use Rattle.bpaf_meta.specs.View.{text_of};
+ghost use Rattle.std.specs.Prelude.{◌≡◌, ◌≢◌, ◌⊎◌, ◌++◌, ◌∷◌, [], IfErr, IfOk, Some, codes, option_to_list};
+ghost use Rattle.description.specs.View.{text_of};
 ghost use Rattle.command_pages.specs.View.{title_said};
 ghost use Rattle.clidoc_engine.specs.Chosen.{choice_said, page_said, words_said};
 ghost use Rattle.clidoc_engine.specs.Reading.{IsRefused, given_of};
 ghost use Rattle.clidoc_engine.specs.Words.{ChoiceSaid, Chooses, HasNoLevel, HasNoTitle, IsColumns, IsDepth};
-ghost use Rattle.clidoc_engine.specs.Words.{IsTitle, IsWidth, NamesPage, PageSaid, all, check, form_word};
+ghost use Rattle.clidoc_engine.specs.Words.{IsExtent, IsTerminalWidth, IsTitle, IsWidth, NamesPage, PageSaid};
+ghost use Rattle.clidoc_engine.specs.Words.{all, check, form_word};
 ghost use Rattle.clidoc_engine.specs.Words.{is_one_of, page};
 
 use crate::reading::{Given, Valued, WordFault, WordOption, given_in};
-pub use command_pages::{ConsoleForm, TitleGiven};
+pub use command_pages::{ConsoleForm, Extent, TitleGiven};
 use description_pages::Depth;
 use std::alloc::Allocator;
 
-/// The columns of a line where no width is given.
-pub const WIDTH: usize = 100;
+// The columns of a terminal of which nothing is said.
+const WIDTH: usize = 100;
+
+// The fewest columns that are taken for those of a terminal.
+const LEAST_WIDTH: usize = 20;
 
 /// A page on a console.
 #[derive(Drop)]
@@ -31,8 +35,12 @@ pub struct Console<'w, A: Allocator> {
 #[derive(Drop)]
 pub enum Page<'w, A: Allocator> {
     Console(Console<'w, A>),
-    /// The complete HTML page of all.
-    Html,
+    /// The page in HTML of a level and of those below it.
+    Html {
+        extent: Extent,
+        commands: Vec<&'w str, A>,
+        title: TitleGiven<'w>,
+    },
     Markdown {
         commands: Vec<&'w str, A>,
         depth: Depth,
@@ -64,15 +72,34 @@ pub enum Choice<'w, A: Allocator> {
     Version,
 }
 
-/// What the words after the program's name choose: `docs/description.md` has the forms. An error where they
-/// choose nothing, or an allocation failed.
+/// The columns of the terminal, of which the environment says this: the number that it says, where that is one from 20
+/// on, and else 100.
+pub fn terminal_width(said: Option<&str>) -> usize
+    ensures { IsTerminalWidth (text_of said.entry) result }
+{
+    match said {
+        Some(text) => width_said(text),
+        None => WIDTH,
+    }
+}
+
+fn width_said(text: &str) -> usize
+    ensures { IsTerminalWidth (Some text.now) result }
+{
+    let count = columns(text).unwrap_or(0);
+    if count < LEAST_WIDTH { WIDTH } else { count }
+}
+
+/// What the words after the program's name choose, on a terminal of so many columns: `docs/description.md` has the
+/// forms. An error where they choose nothing, or an allocation failed.
 pub fn choose<'w, A: Allocator + Copy>(
     alloc: A,
+    terminal: usize,
     words: &[&'w str],
 ) -> Result<Choice<'w, A>, WordFault<'w>>
-    ensures ok { IfOk result (λ choice. Chooses (words_said words.now) (choice_said choice)) }
+    ensures ok { IfOk result (λ choice. Chooses terminal (words_said words.now) (choice_said choice)) }
     ensures err { IfErr result (λ fault. IsRefused fault ⊎ ((choice : ChoiceSaid)
-        → ¬ Chooses (words_said words.now) choice)) }
+        → ¬ Chooses terminal (words_said words.now) choice)) }
 {
     if is_one_of(words, "--help", "-h") {
         return Ok(Choice::Help);
@@ -80,7 +107,7 @@ pub fn choose<'w, A: Allocator + Copy>(
     if is_one_of(words, "--version", "-V") {
         return Ok(Choice::Version);
     }
-    with_input(alloc, words)
+    with_input(alloc, terminal, words)
 }
 
 // Whether there is one word, and it is one of these.
@@ -97,15 +124,16 @@ fn is_one_of(words: &[&str], long: &str, short: &str) -> bool
 // What words choose that stand for pages, or for the judging of a description.
 fn with_input<'w, A: Allocator + Copy>(
     alloc: A,
+    terminal: usize,
     words: &[&'w str],
 ) -> Result<Choice<'w, A>, WordFault<'w>>
-    ensures ok { IfOk result (λ choice. Chooses (words_said words.now) (choice_said choice)) }
+    ensures ok { IfOk result (λ choice. Chooses terminal (words_said words.now) (choice_said choice)) }
     ensures no_check { IfErr result (λ fault. IsRefused fault ⊎ ((file : _)
-        → ¬ Chooses (words_said words.now) (check file))) }
+        → ¬ Chooses terminal (words_said words.now) (check file))) }
     ensures no_all { IfErr result (λ fault. IsRefused fault ⊎ ((folder title file : _)
-        → ¬ Chooses (words_said words.now) (all folder title file))) }
+        → ¬ Chooses terminal (words_said words.now) (all folder title file))) }
     ensures no_page { IfErr result (λ fault. IsRefused fault ⊎ ((p file : _)
-        → ¬ Chooses (words_said words.now) (page p file))) }
+        → ¬ Chooses terminal (words_said words.now) (page p file))) }
 {
     let given = given_in(alloc, words)?;
     let (word, file) = names(&given.plain, &given.files)?;
@@ -121,7 +149,7 @@ fn with_input<'w, A: Allocator + Copy>(
             file,
         });
     }
-    Ok(Choice::Page(page_alone(word, given)?, file))
+    Ok(Choice::Page(page_alone(terminal, word, given)?, file))
 }
 
 // The first of the plain words, and the file, if there is one: the second of them or one behind `--`.
@@ -189,16 +217,17 @@ fn one_folder<'w>(folders: &[&'w str]) -> Result<&'w str, WordFault<'w>>
 
 // The page that the word names with the values of options. A folder is refused.
 fn page_alone<'w, A: Allocator>(
+    terminal: usize,
     word: &'w str,
     given: Given<'w, A>,
 ) -> Result<Page<'w, A>, WordFault<'w>>
-    ensures ok { IfOk result (λ page. NamesPage word.now (given_of given.entry) (page_said page)
+    ensures ok { IfOk result (λ page. NamesPage terminal word.now (given_of given.entry) (page_said page)
         × ((given_of given.entry).folders ≡ [])) }
     ensures err { IfErr result (λ _. (p : PageSaid)
-        → ¬ (NamesPage word.now (given_of given.entry) p × ((given_of given.entry).folders ≡ []))) }
+        → ¬ (NamesPage terminal word.now (given_of given.entry) p × ((given_of given.entry).folders ≡ []))) }
 {
     let folders = check_no_folder(&given, word);
-    let page = page_named(word, given)?;
+    let page = page_named(terminal, word, given)?;
     match folders {
         Ok(()) => Ok(page),
         Err(fault) => {
@@ -210,17 +239,18 @@ fn page_alone<'w, A: Allocator>(
 
 // The page that the word names with the values of options but the folder.
 fn page_named<'w, A: Allocator>(
+    terminal: usize,
     word: &'w str,
     given: Given<'w, A>,
 ) -> Result<Page<'w, A>, WordFault<'w>>
-    ensures ok { IfOk result (λ page. NamesPage word.now (given_of given.entry) (page_said page)) }
-    ensures err { IfErr result (λ _. (p : PageSaid) → ¬ NamesPage word.now (given_of given.entry) p) }
+    ensures ok { IfOk result (λ page. NamesPage terminal word.now (given_of given.entry) (page_said page)) }
+    ensures err { IfErr result (λ _. (p : PageSaid) → ¬ NamesPage terminal word.now (given_of given.entry) p) }
 {
     match word {
-        "usage" => on_console(ConsoleForm::Usage, given, word),
-        "full" => on_console(ConsoleForm::Full, given, word),
-        "brief" => on_console(ConsoleForm::Brief, given, word),
-        "html" => whole(given, word),
+        "usage" => on_console(ConsoleForm::Usage, terminal, given, word),
+        "full" => on_console(ConsoleForm::Full, terminal, given, word),
+        "brief" => on_console(ConsoleForm::Brief, terminal, given, word),
+        "html" => html(given, word),
         "markdown" => markdown(given, word),
         "man" => manual(given, word),
         _ => {
@@ -230,26 +260,37 @@ fn page_named<'w, A: Allocator>(
     }
 }
 
-// The page of all, which takes no options.
-fn whole<'w, A: Allocator>(given: Given<'w, A>, word: &'w str) -> Result<Page<'w, A>, WordFault<'w>>
-    ensures ok { IfOk result (λ page. NamesPage (codes "html") (given_of given.entry) (page_said page)) }
-    ensures err { IfErr result (λ _. ¬ (HasNoLevel (given_of given.entry) × HasNoTitle (given_of given.entry))) }
+fn html<'w, A: Allocator>(given: Given<'w, A>, word: &'w str) -> Result<Page<'w, A>, WordFault<'w>>
+    ensures ok { (terminal : _) → IfOk result (λ page.
+        NamesPage terminal (codes "html") (given_of given.entry) (page_said page)) }
+    ensures err { IfErr result (λ _. (extent title : _) → ¬ (((given_of given.entry).widths ≡ [])
+        × ((given_of given.entry).deeps ≡ []) × IsExtent (given_of given.entry).fragments extent
+        × IsTitle (given_of given.entry) title)) }
 {
-    check_no_level(&given, word)?;
-    check_no_title(&given, word)?;
-    Ok(Page::Html)
+    check_no_width(&given, word)?;
+    check_no_deep(&given, word)?;
+    let extent = extent_of(&given.fragments)?;
+    let title = title_of(&given)?;
+    Ok(Page::Html {
+        extent,
+        commands: given.commands,
+        title,
+    })
 }
 
 fn markdown<'w, A: Allocator>(
     given: Given<'w, A>,
     word: &'w str,
 ) -> Result<Page<'w, A>, WordFault<'w>>
-    ensures ok { IfOk result (λ page. NamesPage (codes "markdown") (given_of given.entry) (page_said page)) }
+    ensures ok { (terminal : _) → IfOk result (λ page.
+        NamesPage terminal (codes "markdown") (given_of given.entry) (page_said page)) }
     ensures err { IfErr result (λ _. (depth : _) → ¬ (((given_of given.entry).widths ≡ [])
-        × IsDepth (given_of given.entry).deeps depth × HasNoTitle (given_of given.entry))) }
+        × IsDepth (given_of given.entry).deeps depth × ((given_of given.entry).fragments ≡ [])
+        × HasNoTitle (given_of given.entry))) }
 {
     check_no_width(&given, word)?;
     let depth = depth_of(&given.deeps)?;
+    check_no_fragment(&given, word)?;
     check_no_title(&given, word)?;
     Ok(Page::Markdown {
         commands: given.commands,
@@ -261,12 +302,15 @@ fn manual<'w, A: Allocator>(
     given: Given<'w, A>,
     word: &'w str,
 ) -> Result<Page<'w, A>, WordFault<'w>>
-    ensures ok { IfOk result (λ page. NamesPage (codes "man") (given_of given.entry) (page_said page)) }
+    ensures ok { (terminal : _) → IfOk result (λ page.
+        NamesPage terminal (codes "man") (given_of given.entry) (page_said page)) }
     ensures err { IfErr result (λ _. (depth title : _) → ¬ (((given_of given.entry).widths ≡ [])
-        × IsDepth (given_of given.entry).deeps depth × IsTitle (given_of given.entry) title)) }
+        × IsDepth (given_of given.entry).deeps depth × ((given_of given.entry).fragments ≡ [])
+        × IsTitle (given_of given.entry) title)) }
 {
     check_no_width(&given, word)?;
     let depth = depth_of(&given.deeps)?;
+    check_no_fragment(&given, word)?;
     let title = title_of(&given)?;
     Ok(Page::Man {
         commands: given.commands,
@@ -277,15 +321,18 @@ fn manual<'w, A: Allocator>(
 
 fn on_console<'w, A: Allocator>(
     form: ConsoleForm,
+    terminal: usize,
     given: Given<'w, A>,
     word: &'w str,
 ) -> Result<Page<'w, A>, WordFault<'w>>
-    ensures ok { IfOk result (λ page. NamesPage (form_word form) (given_of given.entry) (page_said page)) }
-    ensures err { IfErr result (λ _. (n : _) → ¬ (IsWidth (given_of given.entry).widths n
-        × ((given_of given.entry).deeps ≡ []) × HasNoTitle (given_of given.entry))) }
+    ensures ok { IfOk result (λ page. NamesPage terminal (form_word form) (given_of given.entry) (page_said page)) }
+    ensures err { IfErr result (λ _. (n : _) → ¬ (IsWidth terminal (given_of given.entry).widths n
+        × ((given_of given.entry).deeps ≡ []) × ((given_of given.entry).fragments ≡ [])
+        × HasNoTitle (given_of given.entry))) }
 {
-    let width = width_of(&given.widths)?;
+    let width = width_of(terminal, &given.widths)?;
     check_no_deep(&given, word)?;
+    check_no_fragment(&given, word)?;
     check_no_title(&given, word)?;
     Ok(Page::Console(Console {
         form,
@@ -303,6 +350,18 @@ fn depth_of<'w>(deeps: &[&'w str]) -> Result<Depth, WordFault<'w>>
         [] => Ok(Depth::Alone),
         [_] => Ok(Depth::Deep),
         _ => Err(WordFault::Twice(WordOption::Deep)),
+    }
+}
+
+// How much of the page is made.
+fn extent_of<'w>(fragments: &[&'w str]) -> Result<Extent, WordFault<'w>>
+    ensures ok { IfOk result (λ extent. IsExtent (words_said fragments.now) extent) }
+    ensures err { IfErr result (λ _. (extent : _) → ¬ IsExtent (words_said fragments.now) extent) }
+{
+    match fragments {
+        [] => Ok(Extent::Page),
+        [_] => Ok(Extent::Fragment),
+        _ => Err(WordFault::Twice(WordOption::Fragment)),
     }
 }
 
@@ -327,12 +386,12 @@ fn at_most_one<'w>(values: &[&'w str], option: Valued) -> Result<Option<&'w str>
     }
 }
 
-fn width_of<'w>(texts: &[&'w str]) -> Result<usize, WordFault<'w>>
-    ensures ok { IfOk result (λ n. IsWidth (words_said texts.now) n) }
-    ensures err { IfErr result (λ _. (n : _) → ¬ IsWidth (words_said texts.now) n) }
+fn width_of<'w>(terminal: usize, texts: &[&'w str]) -> Result<usize, WordFault<'w>>
+    ensures ok { IfOk result (λ n. IsWidth terminal (words_said texts.now) n) }
+    ensures err { IfErr result (λ _. (n : _) → ¬ IsWidth terminal (words_said texts.now) n) }
 {
     match texts {
-        [] => Ok(WIDTH),
+        [] => Ok(terminal),
         [text] => columns(text),
         _ => Err(WordFault::Twice(WordOption::Valued(Valued::Width))),
     }
@@ -361,7 +420,8 @@ fn check_no_level<'w, A: Allocator>(
 {
     check_none(&given.commands, WordOption::Valued(Valued::Command), word)?;
     check_no_width(given, word)?;
-    check_no_deep(given, word)
+    check_no_deep(given, word)?;
+    check_no_fragment(given, word)
 }
 
 fn check_no_title<'w, A: Allocator>(
@@ -390,6 +450,16 @@ fn check_no_deep<'w, A: Allocator>(given: &Given<'w, A>, word: &'w str) -> Resul
     ensures err { IfErr result (λ _. (given_of given.now).deeps ≢ []) }
 {
     check_none(&given.deeps, WordOption::Deep, word)
+}
+
+fn check_no_fragment<'w, A: Allocator>(
+    given: &Given<'w, A>,
+    word: &'w str,
+) -> Result<(), WordFault<'w>>
+    ensures ok { IfOk result (λ _. (given_of given.now).fragments ≡ []) }
+    ensures err { IfErr result (λ _. (given_of given.now).fragments ≢ []) }
+{
+    check_none(&given.fragments, WordOption::Fragment, word)
 }
 
 fn check_no_folder<'w, A: Allocator>(

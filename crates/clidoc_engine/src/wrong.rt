@@ -1,7 +1,7 @@
 //! What is said of words that choose nothing.
 
 use crate::reading::{Valued, WordFault, WordOption};
-use description::words::{Shown, nearest};
+use description_toml::words::{Shown, nearest};
 use std::alloc::{AllocError, Global};
 use std::fmt::Write;
 
@@ -9,10 +9,11 @@ const FORMS: [&str; 8] = [
     "usage", "full", "brief", "man", "markdown", "html", "check", "all",
 ];
 
-const OPTIONS: [&str; 8] = [
+const OPTIONS: [&str; 9] = [
     "--command",
     "--deep",
     "--width",
+    "--fragment",
     "--into",
     "--date",
     "--vendor",
@@ -37,6 +38,7 @@ pub fn line_of(global: Global, fault: &WordFault<'_>) -> Result<String, AllocErr
         WordFault::NotWith { option, word } => {
             put(&mut line, word_of(*option), " is no option of ")?;
             line.push_str(*word)?;
+            put_all(&mut line, "; it goes with ", forms_of(*option))?;
         }
         WordFault::Refused(_) => put(&mut line, "no memory", "")?,
     }
@@ -47,6 +49,7 @@ pub fn line_of(global: Global, fault: &WordFault<'_>) -> Result<String, AllocErr
 fn word_of(option: WordOption) -> &'static str {
     match option {
         WordOption::Deep => "--deep",
+        WordOption::Fragment => "--fragment",
         WordOption::Valued(option) => valued_word(option),
     }
 }
@@ -58,6 +61,20 @@ fn valued_word(option: Valued) -> &'static str {
         Valued::Into => "--into",
         Valued::Date => "--date",
         Valued::Vendor => "--vendor",
+    }
+}
+
+// The forms that take the option.
+fn forms_of(option: WordOption) -> &'static [&'static str] {
+    match option {
+        WordOption::Deep => &["man", "markdown"],
+        WordOption::Fragment => &["html"],
+        WordOption::Valued(Valued::Command) => {
+            &["usage", "full", "brief", "man", "markdown", "html"]
+        }
+        WordOption::Valued(Valued::Width) => &["usage", "full", "brief"],
+        WordOption::Valued(Valued::Into) => &["all"],
+        WordOption::Valued(Valued::Date | Valued::Vendor) => &["man", "html", "all"],
     }
 }
 

@@ -55,6 +55,12 @@ const MAN: Frame = (
     ".TH app 1 \"\" \"\" \"\"\n.SH NAME\napp \\- @\n.SH SYNOPSIS\n.SY app\n.YS\n",
 );
 
+const HTML: Frame = (
+    Asked::Clidoc(Form::Fragment),
+    "name = \"app\"\nabout = \"@\"\n",
+    "<header><h1>app</h1><p>@</p></header><main><section id=\"app\"><h3>Usage</h3><pre>\n<code><strong>app</strong></code></pre></section></main>",
+);
+
 // Around a help text whose lines stand below one another.
 const FULL_HELP: Frame = (
     Asked::Clidoc(Form::Full),
@@ -68,7 +74,7 @@ const BRIEF_HELP: Frame = (
     "Usage: app [--verbose-as-can]\n\nOptions:\n        --verbose-as-can  a@\n",
 );
 
-const FRAMES: &[Frame] = &[NAME, FULL, BRIEF, MARKDOWN, MAN];
+const FRAMES: &[Frame] = &[NAME, FULL, BRIEF, MARKDOWN, MAN, HTML];
 
 // Whether the page of each form comes through drawn ends, with words of these sizes by turns.
 fn each_form_comes_through(global: Global, draws: &mut Draws, sizes: [usize; 2]) -> bool {
@@ -142,6 +148,7 @@ const PIECES: &[(&Frame, &str, &str)] = &[
     (&BRIEF_HELP, "\n a", "\n                          a"),
     (&MARKDOWN, "*", "\\*"),
     (&MAN, "'", "\\(aq"),
+    (&HTML, "&", "&amp;"),
 ];
 
 /// Pushes a word between these two.

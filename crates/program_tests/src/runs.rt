@@ -9,8 +9,8 @@ use std::alloc::Global;
 
 // Wrong words with bars between them, and on the next line what says so. Behind each row stands an empty line.
 const WRONG: &str = "clidoc
-clidoc [--command=NAME]... [--deep] [--width=COLUMNS] [--into=FOLDER] [--date=DATE] [--vendor=TEXT]
-       FORM [FILE]
+clidoc [--command=NAME]... [--deep] [--width=COLUMNS] [--fragment] [--into=FOLDER] [--date=DATE]
+       [--vendor=TEXT] FORM [FILE]
 
 clidoc|--width=3
 clidoc: no form; forms are usage, full, brief, man, markdown, html, check and all
@@ -49,7 +49,7 @@ clidoc|full|--widht=80
 clidoc: no option --widht=80; is it --width?
 
 clidoc|full|-x
-clidoc: no option -x; options are --command, --deep, --width, --into, --date, --vendor, --help and --version
+clidoc: no option -x; options are --command, --deep, --width, --fragment, --into, --date, --vendor, --help and --version
 
 clidoc|full|--width|0
 clidoc: no number of columns: 0
@@ -64,13 +64,40 @@ clidoc|full|--command
 clidoc: no value behind --command
 
 clidoc|man|--width=3|--command=x
-clidoc: --width is no option of man
+clidoc: --width is no option of man; it goes with usage, full and brief
 
-clidoc|html|--command=x
-clidoc: --command is no option of html
+clidoc|check|--command=x
+clidoc: --command is no option of check; it goes with usage, full, brief, man, markdown and html
+
+clidoc|html|--width=3
+clidoc: --width is no option of html; it goes with usage, full and brief
+
+clidoc|man|--fragment
+clidoc: --fragment is no option of man; it goes with html
+
+clidoc|--fragment|markdown|--deep
+clidoc: --fragment is no option of markdown; it goes with html
+
+clidoc|full|--fragment
+clidoc: --fragment is no option of full; it goes with html
+
+clidoc|check|--fragment
+clidoc: --fragment is no option of check; it goes with html
+
+clidoc|all|--into=a|--fragment
+clidoc: --fragment is no option of all; it goes with html
+
+clidoc|html|--fragment|--fragment
+clidoc: --fragment stands twice
+
+clidoc|html|--fragment=x
+clidoc: no option --fragment=x; is it --fragment?
+
+clidoc|html|--vendor=a|--vendor=b
+clidoc: --vendor stands twice
 
 clidoc|check|--width|3
-clidoc: --width is no option of check
+clidoc: --width is no option of check; it goes with usage, full and brief
 
 clidoc|full|--help
 clidoc: other words stand beside --help
@@ -88,10 +115,10 @@ clidoc|man|--deep=x
 clidoc: no option --deep=x; is it --deep?
 
 clidoc|full|--deep
-clidoc: --deep is no option of full
+clidoc: --deep is no option of full; it goes with man and markdown
 
 clidoc|html|--deep|--date=x
-clidoc: --deep is no option of html
+clidoc: --deep is no option of html; it goes with man and markdown
 
 clidoc|man|--date
 clidoc: no value behind --date
@@ -100,13 +127,13 @@ clidoc|--vendor=a|man|--vendor|b
 clidoc: --vendor stands twice
 
 clidoc|markdown|--date=x
-clidoc: --date is no option of markdown
+clidoc: --date is no option of markdown; it goes with man, html and all
 
 clidoc|usage|--vendor=x
-clidoc: --vendor is no option of usage
+clidoc: --vendor is no option of usage; it goes with man, html and all
 
 clidoc|check|--date|x
-clidoc: --date is no option of check
+clidoc: --date is no option of check; it goes with man, html and all
 
 clidoc|all
 clidoc: all goes with --into FOLDER
@@ -115,16 +142,16 @@ clidoc|--into=a|all|--into|b
 clidoc: --into stands twice
 
 clidoc|all|--into=a|--width=3
-clidoc: --width is no option of all
+clidoc: --width is no option of all; it goes with usage, full and brief
 
 clidoc|check|--into=a
-clidoc: --into is no option of check
+clidoc: --into is no option of check; it goes with all
 
 clidoc|--into=a|full
-clidoc: --into is no option of full
+clidoc: --into is no option of full; it goes with all
 
 clidoc|all|--into=a|--deep
-clidoc: --deep is no option of all
+clidoc: --deep is no option of all; it goes with man and markdown
 
 clidoc|all|--into=a|--date|x|--date|y
 clidoc: --date stands twice";
@@ -283,6 +310,19 @@ app COMMAND ...
 ====
 
 ----
+clidoc|html|--fragment|--command=r
+<header><h1>app remote</h1></header><nav><h2>Contents</h2><ul><li><a href=\"#app:remote\">remote</a><ul><li><a href=\"#app:remote:::Commands\">Commands</a></li><li><a href=\"#app:remote:add\">add</a></li></ul></li></ul></nav><main><section id=\"app:remote\"><h2>app remote</h2><h3>Usage</h3><pre>
+<code><strong>app remote</strong></code> <code><var>COMMAND</var> ...</code></pre><h3 id=\"app:remote:::Commands\">Commands</h3><dl><dt><a href=\"#app:remote:add\"><code>add</code></a></dt><dd></dd></dl></section><section id=\"app:remote:add\"><h2>app remote add</h2><p>Adds one</p><h3>Usage</h3><pre>
+<code><strong>app remote add</strong></code></pre></section></main>
+====
+
+----
+clidoc|--vendor|Tide works|html|--fragment|--command=r|--command=add|--date=2026-11-28
+<header><h1>app remote add</h1><p>Adds one</p></header><main><section id=\"app:remote:add\"><h3>Usage</h3><pre>
+<code><strong>app remote add</strong></code></pre></section></main><footer><p>Tide works, 2026-11-28</p></footer>
+====
+
+----
 clidoc|check
 
 ====
@@ -296,8 +336,8 @@ clidoc|check|-
 clidoc|--help
 Makes pages of the description of a command line.
 
-Usage: clidoc [--command=NAME]... [--deep] [--width=COLUMNS] [--into=FOLDER] [--date=DATE]
-              [--vendor=TEXT] FORM [FILE]
+Usage: clidoc [--command=NAME]... [--deep] [--width=COLUMNS] [--fragment] [--into=FOLDER]
+              [--date=DATE] [--vendor=TEXT] FORM [FILE]
 
 The description is read from FILE, or else from standard input, in TOML, and the page is written to
 standard output. The program that is described may be written in any language.
@@ -310,7 +350,7 @@ Arguments:
                          - brief: the help page, with the first paragraph of each text.
                          - man: a manual page.
                          - markdown: a page in markdown.
-                         - html: one HTML page with all commands.
+                         - html: an HTML page with all commands below.
                          - check: no page. It is only told whether FILE is a description.
                          - all: the manual page and the page in markdown of each level, and the HTML
                            page, as files of --into.
@@ -320,31 +360,61 @@ Arguments:
 Options:
         --command=NAME   Show this command, by any of its names.
 
-                         It is given once for each level down. It goes with usage, full, brief, man
-                         and markdown.
+                         It is given once for each level down. It goes with usage, full, brief, man,
+                         markdown and html.
 
         --deep           Show the levels below, too, each behind the one above it.
 
                          It goes with man and markdown.
 
-        --width=COLUMNS  Break lines at so many columns, and not at 100.
+        --width=COLUMNS  Break lines at so many columns.
 
-                         It goes with usage, full and brief.
+                         The environment variable counts where it is a number from 20 on. It goes
+                         with usage, full and brief.
+
+                         [env: COLUMNS] [default: 100]
+
+        --fragment       Write what stands in the body of the page alone, to be put into another
+                         page.
+
+                         It goes with html.
 
         --into=FOLDER    Write all pages into this folder, which has to be there.
 
                          It goes with all.
 
-        --date=DATE      Put this date on manual pages, and not that of the description.
+        --date=DATE      Put this date on manual and HTML pages, and not that of the description.
 
-                         It goes with man and all.
+                         It goes with man, html and all.
 
-        --vendor=TEXT    Name this vendor on manual pages, and not that of the description.
+        --vendor=TEXT    Name this vendor on manual and HTML pages, and not that of the description.
 
-                         It goes with man and all.
+                         It goes with man, html and all.
 
     -h, --help           Print this page
     -V, --version        Print the version
+
+Examples:
+    On the terminal, of the description in greet.toml:
+
+        clidoc usage greet.toml
+        clidoc full --width=80 greet.toml
+        clidoc brief greet.toml
+
+    The manual page of a command, and one page in markdown of all levels:
+
+        clidoc man --command=add --date=2026-11-28 greet.toml
+        clidoc markdown --deep greet.toml
+
+    A web page, and what stands in its body alone:
+
+        clidoc html greet.toml > greet.html
+        clidoc html --fragment greet.toml
+
+    Whether it is a description, and all pages at once:
+
+        clidoc check greet.toml
+        clidoc all --into=pages greet.toml
 
 Notes:
     The status is 0 if the page was written, 2 if the words are wrong, and 1 if anything else went
@@ -397,6 +467,16 @@ clidoc|man|--date=a\u{7}
 ====
 clidoc: no page: a control character or a noncharacter in a text
 ----
+clidoc|html|--command|add
+
+====
+clidoc: no command add in app
+----
+clidoc|html|--vendor=a\u{7}
+
+====
+clidoc: no page: a control character or a noncharacter in a text
+----
 clidoc|full|nowhere.toml
 
 ====
@@ -405,7 +485,12 @@ clidoc: can't open nowhere.toml
 clidoc|check|--|-\u{7}
 
 ====
-clidoc: can't open \"-\\u{7}\"";
+clidoc: can't open \"-\\u{7}\"
+----
+clidoc|check|a\u{9b}b
+
+====
+clidoc: can't open \"a\\u{9b}b\"";
 
 // Whether a run on words writes the page, or says the line and fails.
 fn is_right(global: Global, row: &str) -> bool {
@@ -426,6 +511,57 @@ fn does_what_is_chosen(rt: HostRuntime) {
     for row in RIGHT.split("\n----\n") {
         assert!(rt; is_right(rt.alloc(), row), "{row}");
     }
+}
+
+// What COLUMNS says, words, and the page.
+type Terminal = (&'static [u8], &'static str, &'static [u8]);
+
+const WIDE: &[u8] = b"app [--abcdefgh] [-v]\n";
+
+const NARROW: &[u8] = b"app [--abcdefgh]\n    [-v]\n";
+
+const TERMINALS: &[Terminal] = &[
+    (b"20", "clidoc|usage", NARROW),
+    (b"0020", "clidoc|usage", NARROW),
+    (b"21", "clidoc|usage", WIDE),
+    (b"18446744073709551615", "clidoc|usage", WIDE),
+    (b"20", "clidoc|usage|--width=100", WIDE),
+    (b"200", "clidoc|--width|20|usage", NARROW),
+    (b"19", "clidoc|usage", WIDE),
+    (b"0", "clidoc|usage", WIDE),
+    (b"", "clidoc|usage", WIDE),
+    (b"+20", "clidoc|usage", WIDE),
+    (b"-20", "clidoc|usage", WIDE),
+    (b" 20", "clidoc|usage", WIDE),
+    (b"20x", "clidoc|usage", WIDE),
+    (b"20\xff", "clidoc|usage", WIDE),
+    (b"18446744073709551636", "clidoc|usage", WIDE),
+];
+
+// Whether a run where the environment says these columns writes the page.
+fn fits(global: Global, &(columns, words, page): &Terminal) -> bool {
+    let input = b"name = 'app'\n[[option]]\nlong = 'abcdefgh'\n[[option]]\nshort = 'v'\n";
+    let desk = Desk::new(global, words, Ends::new(input, page), "").on_terminal(columns);
+    ends_with(global, &desk, 0, page.len(), false)
+}
+
+// Whether it says how it is used on a terminal of 40 columns.
+fn usage_fits(global: Global) -> bool {
+    let desk = Desk::new(global, "clidoc", Ends::new(b"", b""), NARROW_USAGE).on_terminal(b"40");
+    ends_with(global, &desk, 2, 0, true)
+}
+
+const NARROW_USAGE: &str = "clidoc [--command=NAME]... [--deep]
+       [--width=COLUMNS] [--fragment]
+       [--into=FOLDER] [--date=DATE]
+       [--vendor=TEXT] FORM [FILE]";
+
+#[test]
+fn the_environment_says_the_columns(rt: HostRuntime) {
+    for row in TERMINALS {
+        assert!(rt; fits(rt.alloc(), row), "{} {:?}", row.1, row.0);
+    }
+    assert!(rt; usage_fits(rt.alloc()));
 }
 
 // Words and an input, the status, what is written, and the line on standard error.
@@ -622,7 +758,7 @@ const FAULTY: &[Faulty] = &[
         FIRST,
         2,
         0,
-        "clidoc [--command=NAME]... [--deep] [--width=COLUMNS] [--into=FOLDER] [--date=DATE] [--vendor=TEXT]\n       FORM [FILE]",
+        "clidoc [--command=NAME]... [--deep] [--width=COLUMNS] [--fragment] [--into=FOLDER] [--date=DATE]\n       [--vendor=TEXT] FORM [FILE]",
     ),
     (
         "clidoc|full",

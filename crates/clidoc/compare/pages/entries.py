@@ -41,7 +41,7 @@ def option_word(option):
     """What an option is called in an id: without dashes, where it has a name."""
     if "syntax" in option:
         first = next(iter(syntaxes.names(option["syntax"])), None)
-        return option["syntax"] if first is None else first[2 if first.startswith("--") else 1 :]
+        return option["syntax"] if first is None else first.lstrip("-")
     return option.get("long", option.get("short"))
 
 

@@ -3,7 +3,9 @@ import re
 
 from pages.tree import element
 
-ESCAPE = re.compile(r"\\(?:\((?P<glyph>..)|f(?P<font>[BIP])|(?P<one>[-e&%~]))|(?P<letter>[^\\])", re.DOTALL)
+ESCAPE = re.compile(
+    r"\\(?:\((?P<glyph>..)|N'(?P<code>37)'|f(?P<font>[BIP])|(?P<one>[-e&%~]))|(?P<letter>[^\\])", re.DOTALL
+)
 GLYPHS = {"aq": "'", "ga": "`", "ha": "^", "ti": "~", "dq": '"', "bu": "\u2022"}
 ONES = {"-": "-", "e": "\\", "&": "", "%": "", "~": " "}
 FONTS = {"B": "literal", "I": "value"}
@@ -59,6 +61,12 @@ def letters(text):
     return "".join(parts)
 
 
+def letter_of(match):
+    if match["code"]:
+        return chr(int(match["code"]))
+    return match["letter"] or (GLYPHS[match["glyph"]] if match["glyph"] else ONES[match["one"]])
+
+
 def within(text):
     """What stands within a line: texts, and what is bold or italic."""
     font, inside, at = None, [], 0
@@ -74,7 +82,7 @@ def within(text):
         elif match["font"]:
             font = FONTS[match["font"]]
         else:
-            letter = match["letter"] or (GLYPHS[match["glyph"]] if match["glyph"] else ONES[match["one"]])
+            letter = letter_of(match)
             if font:
                 inside.append(letter)
             else:

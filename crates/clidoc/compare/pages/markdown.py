@@ -47,7 +47,7 @@ def entry_blocks(entry, links):
     the front of a line that would be the definition of a link."""
     terms = [[element("literal", plain(term.inside))] for term in entry.children("term")]
     if "to" in entry.said and "]:" not in entry.said["to"][-1]:
-        terms[0] = [element("link", *terms[0], address=links.address(entry.said["to"]))]
+        terms[0] = [element("link", *terms[0], address=links.of_entry(entry.said["to"]))]
     line, blocks = joined(terms, ", "), entry.child("body").inside
     if blocks and is_a(blocks[0], "paragraph"):
         line, blocks = [*line, " \u2014 ", *blocks[0].inside], blocks[1:]
@@ -55,21 +55,16 @@ def entry_blocks(entry, links):
 
 
 class Links:
-    """Where links to levels lead: to headings of this page, or to the pages beside it."""
+    """Where links to levels lead: those of entries to headings of this page or to the pages beside it, and others to these."""
 
     def __init__(self, page):
-        self.slugs, taken = {}, {}
-        for level in page.inside:
-            headings = [level.child("heading"), *[section.child("heading") for section in level.children("section")]]
-            for heading, names in zip(headings, [level.said["names"], *[None] * len(headings)]):
-                slug = slug_of(plain(heading.inside))
-                taken[slug] = taken.get(slug, -1) + 1
-                if names and level is not page.inside[0]:
-                    self.slugs[tuple(names)] = f"{slug}-{taken[slug]}" if taken[slug] else slug
+        self.below = [level.said["names"] for level in page.inside[1:]]
 
-    def address(self, names):
-        slug = self.slugs.get(tuple(names))
-        return encoded("-".join(names)) + ".md" if slug is None else "#" + encoded(slug)
+    def of_entry(self, names):
+        return "#" + encoded(slug_of(" ".join(names))) if names in self.below else self.of_page(names)
+
+    def of_page(self, names):
+        return encoded("-".join(names)) + ".md"
 
     def resolved(self, node):
         """A node with links for its references."""
@@ -77,7 +72,7 @@ class Links:
             return node
         inside = map(self.resolved, node.inside)
         if node.kind == "reference":
-            return element("link", *inside, address=self.address(node.said["to"]))
+            return element("link", *inside, address=self.of_page(node.said["to"]))
         return element(node.kind, *inside, **node.said)
 
 

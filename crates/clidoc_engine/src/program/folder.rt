@@ -4,7 +4,7 @@ use crate::beside::{is_beside, name_beside};
 use crate::faults::Fault;
 use crate::files::PageFile;
 use crate::program::Failure;
-use description::words::Shown;
+use description_toml::words::Shown;
 use std::alloc::{Allocator, Global};
 use std::fs::{Metadata, OpenFile, OpenOptions, Permissions};
 use std::io::{ErrorKind, Write};

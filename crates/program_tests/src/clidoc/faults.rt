@@ -68,6 +68,14 @@ long = 'v'
 help = 1
 
 ----
+clidoc: option 1: hidden is neither true nor false
+name = 'app'
+[[option]]
+long = 'v'
+env = 1
+hidden = 1
+
+----
 clidoc: description: --v is taken
 name = 'app'
 [[option]]

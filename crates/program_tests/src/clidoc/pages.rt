@@ -7,7 +7,7 @@ ghost use Rattle.clidoc_engine.specs.Runs.{HasPage};
 use crate::engines::AMPLE;
 use clidoc_engine::engine::run_description;
 use clidoc_engine::places::{Place, place_behind};
-use clidoc_engine::words::{Console, ConsoleForm, Page, TitleGiven};
+use clidoc_engine::words::{Console, ConsoleForm, Extent, Page, TitleGiven};
 use description_pages::Depth;
 use linked_list_allocator::LocalHeap;
 use std::alloc::Global;
@@ -30,8 +30,23 @@ pub enum Form {
     Full,
     Brief,
     Html,
+    Fragment,
     Markdown,
     Man,
+}
+
+// No words for a title line.
+const NOTHING_GIVEN: TitleGiven<'static> = TitleGiven {
+    date: None,
+    vendor: None,
+};
+
+fn html(global: Global, extent: Extent) -> Page<'static, Global> {
+    Page::Html {
+        extent,
+        commands: Vec::new(global),
+        title: NOTHING_GIVEN,
+    }
 }
 
 /// The page, of 100 columns where it has any.
@@ -40,7 +55,8 @@ pub fn page_of(global: Global, form: Form) -> Page<'static, Global> {
         Form::Usage => ConsoleForm::Usage,
         Form::Full => ConsoleForm::Full,
         Form::Brief => ConsoleForm::Brief,
-        Form::Html => return Page::Html,
+        Form::Html => return html(global, Extent::Page),
+        Form::Fragment => return html(global, Extent::Fragment),
         Form::Markdown => {
             return Page::Markdown {
                 commands: Vec::new(global),
@@ -51,10 +67,7 @@ pub fn page_of(global: Global, form: Form) -> Page<'static, Global> {
             return Page::Man {
                 commands: Vec::new(global),
                 depth: Depth::Alone,
-                title: TitleGiven {
-                    date: None,
-                    vendor: None,
-                },
+                title: NOTHING_GIVEN,
             };
         }
     };

@@ -1,6 +1,6 @@
 //! What words choose, with each growth refused in turn. Which words choose what is said by a clause of `choose`.
 use clidoc_engine::reading::WordFault;
-use clidoc_engine::words::{Choice, ConsoleForm, Page, choose};
+use clidoc_engine::words::{Choice, ConsoleForm, Extent, Page, choose};
 use linked_list_allocator::LocalHeap;
 use std::alloc::{Allocator, Global};
 
@@ -14,6 +14,16 @@ const WORDS: &[&str] = &[
     "c",
 ];
 
+const HTML_WORDS: &[&str] = &[
+    "--fragment",
+    "html",
+    "--vendor=v",
+    "c",
+    "--date",
+    "d",
+    "--command=a",
+];
+
 fn is_that<A: Allocator>(choice: &Choice<'_, A>) -> bool {
     match choice {
         Choice::Page(Page::Console(console), Some("c")) => {
@@ -25,22 +35,40 @@ fn is_that<A: Allocator>(choice: &Choice<'_, A>) -> bool {
     }
 }
 
+fn is_fragment<A: Allocator>(choice: &Choice<'_, A>) -> bool {
+    match choice {
+        Choice::Page(
+            Page::Html {
+                extent: Extent::Fragment,
+                commands,
+                title,
+            },
+            Some("c"),
+        ) => {
+            title.date == Some("d")
+                && title.vendor == Some("v")
+                && commands.as_slice() == ["a"].as_slice()
+        }
+        _ => false,
+    }
+}
+
 // Whether the words choose what they say, on so much memory. None where a growth is refused.
-fn chosen(global: Global, budget: usize) -> Option<bool> {
+fn chosen(global: Global, budget: usize, words: &[&str]) -> Option<bool> {
     let Ok(heap) = LocalHeap::new(global, budget) else {
         return Some(false);
     };
-    match choose(&heap, WORDS) {
-        Ok(choice) => Some(is_that(&choice)),
+    match choose(&heap, 100, words) {
+        Ok(choice) => Some(is_that(&choice) || is_fragment(&choice)),
         Err(WordFault::Refused(_)) => None,
         Err(_) => Some(false),
     }
 }
 
 // Whether they choose nothing until the memory is ample, and some memory is not.
-fn chooses_when_ample(global: Global) -> bool {
+fn chooses_when_ample(global: Global, words: &[&str]) -> bool {
     for budget in 0..4096usize {
-        if let Some(is_that) = chosen(global, budget * 16) {
+        if let Some(is_that) = chosen(global, budget * 16, words) {
             return is_that && budget > 0;
         }
     }
@@ -49,5 +77,6 @@ fn chooses_when_ample(global: Global) -> bool {
 
 #[test]
 fn a_refused_growth_chooses_nothing(rt: HostRuntime) {
-    assert!(rt; chooses_when_ample(rt.alloc()));
+    assert!(rt; chooses_when_ample(rt.alloc(), WORDS));
+    assert!(rt; chooses_when_ample(rt.alloc(), HTML_WORDS));
 }

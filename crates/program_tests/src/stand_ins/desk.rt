@@ -26,6 +26,7 @@ pub struct Desk<'a> {
     global: Global,
     pub words: &'a str,
     garbles_words: bool,
+    columns: Option<&'a [u8]>,
     input: ScriptedReader<'a>,
     output: Cell<ScriptedWriter<'a>>,
     said: Cell<Line<'a>>,
@@ -40,6 +41,7 @@ impl<'a> Desk<'a> {
             global,
             words,
             garbles_words: false,
+            columns: None,
             input: ends.reader(),
             output: Cell::new(ends.writer()),
             said: Cell::new(Line::new(line)),
@@ -59,6 +61,12 @@ impl<'a> Desk<'a> {
         self
     }
 
+    /// The same, with an environment whose variable COLUMNS has these bytes.
+    pub fn on_terminal(mut self, columns: &'a [u8]) -> Desk<'a> {
+        self.columns = Some(columns);
+        self
+    }
+
     /// Whether so many bytes of the page were written, and nothing else, and the line where it should be, else nothing.
     pub fn has_printed(&self, count: usize, says: bool) -> bool {
         let calls = self.output.get().calls;
@@ -71,6 +79,17 @@ impl<'a> Desk<'a> {
                 said.is_untouched()
             }
     }
+}
+
+// Puts bytes at the front of room for one more than they are.
+fn put_into(buf: &mut [u8], bytes: &[u8]) -> Result<usize, FillError>
+    ensures bound { WritesAtMost result buf.new }
+{
+    if buf.len() <= bytes.len() {
+        return Err(FillError::TooLong);
+    }
+    buf[..bytes.len()].copy_from_slice(bytes);
+    Ok(bytes.len())
 }
 
 impl Env for Desk<'_> {
@@ -98,8 +117,11 @@ impl Env for Desk<'_> {
         Ok(bytes.len() + 1)
     }
 
-    fn var(&self, _name: &str, _buf: &mut [u8]) -> Result<usize, FillError> {
-        Err(FillError::NotPresent)
+    fn var(&self, name: &str, buf: &mut [u8]) -> Result<usize, FillError> {
+        match self.columns {
+            Some(columns) if name == "COLUMNS" => put_into(buf, columns),
+            _ => Err(FillError::NotPresent),
+        }
     }
 
     fn var_at(&self, _i: usize, _buf: &mut [u8]) -> Result<usize, FillError> {

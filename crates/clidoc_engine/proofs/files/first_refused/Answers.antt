@@ -1,6 +1,6 @@
 use Rattle.std.proofs.Common.{◌≡◌, ◌+◌, ◌-◌, ◌<◌, ◌&&◌, not, length, get_or, ap, arith, refl, string_bytes, subst, sym, ◌∙◌}
 use Rattle.clidoc_engine.specs.Files.{are_file_names, is_file_name, is_first_name}
-use Rattle.description.proofs.Ordered.{text_added, text_updated}
+use Rattle.description_toml.proofs.Ordered.{text_added, text_updated}
 use Rattle.clidoc_engine.proofs.FileNames.{Held, alone_is, held_more, names_from, passed_here, refused_here, small}
 use Rattle.clidoc_engine.proofs.files.first_refused.Goals as goal
 

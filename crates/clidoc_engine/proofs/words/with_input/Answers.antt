@@ -9,32 +9,32 @@ use Rattle.clidoc_engine.proofs.words.with_input.Goals as goal
 pub returns-in_err-word-clause-no_check : goal.returns-in_err-word-clause-no_check
 returns-in_err-word-clause-no_check g c =
     let words = words_said c.args.words.now in
-    always c.from_residual-in_err-word.result (λ fault. IsRefused fault ⊎ ((file : Option (List ℕ)) → ¬ Chooses words (check file)))
-    (λ fault. inr (no_check words (given_of c.in_ok-given.given) c.in_ok-given.ensures.ok
+    always c.from_residual-in_err-word.result (λ fault. IsRefused fault ⊎ ((file : Option (List ℕ)) → ¬ Chooses c.args.terminal words (check file)))
+    (λ fault. inr (no_check c.args.terminal words (given_of c.in_ok-given.given) c.in_ok-given.ensures.ok
     (λ some word file e. c.in_err-word.ensures.err (λ none. some (sym (ap words_said c.deref.ensures.value) ∙ none)) word file
     (ap (λ ws. words_said ws ++ words_said c.deref-2.result.now) c.deref.ensures.value ∙ ap (λ ws. words_said c.in_ok-given.given.plain.items ++ words_said ws) c.deref-2.ensures.value ∙ e))))
 
 pub returns-in_err-word-clause-no_all : goal.returns-in_err-word-clause-no_all
 returns-in_err-word-clause-no_all g c =
     let words = words_said c.args.words.now in
-    always c.from_residual-in_err-word.result (λ fault. IsRefused fault ⊎ ((folder : List ℕ) (title : TitleGiven) (file : Option (List ℕ)) → ¬ Chooses words (all folder title file)))
-    (λ fault. inr (no_all words (given_of c.in_ok-given.given) c.in_ok-given.ensures.ok
+    always c.from_residual-in_err-word.result (λ fault. IsRefused fault ⊎ ((folder : List ℕ) (title : TitleGiven) (file : Option (List ℕ)) → ¬ Chooses c.args.terminal words (all folder title file)))
+    (λ fault. inr (no_all c.args.terminal words (given_of c.in_ok-given.given) c.in_ok-given.ensures.ok
     (λ some word file e. c.in_err-word.ensures.err (λ none. some (sym (ap words_said c.deref.ensures.value) ∙ none)) word file
     (ap (λ ws. words_said ws ++ words_said c.deref-2.result.now) c.deref.ensures.value ∙ ap (λ ws. words_said c.in_ok-given.given.plain.items ++ words_said ws) c.deref-2.ensures.value ∙ e))))
 
 pub returns-in_err-word-clause-no_page : goal.returns-in_err-word-clause-no_page
 returns-in_err-word-clause-no_page g c =
     let words = words_said c.args.words.now in
-    always c.from_residual-in_err-word.result (λ fault. IsRefused fault ⊎ ((p : PageSaid) (file : Option (List ℕ)) → ¬ Chooses words (page p file)))
-    (λ fault. inr (no_page words (given_of c.in_ok-given.given) c.in_ok-given.ensures.ok
+    always c.from_residual-in_err-word.result (λ fault. IsRefused fault ⊎ ((p : PageSaid) (file : Option (List ℕ)) → ¬ Chooses c.args.terminal words (page p file)))
+    (λ fault. inr (no_page c.args.terminal words (given_of c.in_ok-given.given) c.in_ok-given.ensures.ok
     (λ some word file e. c.in_err-word.ensures.err (λ none. some (sym (ap words_said c.deref.ensures.value) ∙ none)) word file
     (ap (λ ws. words_said ws ++ words_said c.deref-2.result.now) c.deref.ensures.value ∙ ap (λ ws. words_said c.in_ok-given.given.plain.items ++ words_said ws) c.deref-2.ensures.value ∙ e))))
 
 pub returns-in_err-folder-clause-no_all : goal.returns-in_err-folder-clause-no_all
 returns-in_err-folder-clause-no_all g c =
     let words = words_said c.args.words.now in
-    always c.from_residual-in_err-folder.result (λ fault. IsRefused fault ⊎ ((folder : List ℕ) (title : TitleGiven) (file : Option (List ℕ)) → ¬ Chooses words (all folder title file)))
-    (λ fault. inr (no_folder words (given_of c.in_ok-given.given) c.in_ok-given.ensures.ok c.in_err-folder.ensures.err))
+    always c.from_residual-in_err-folder.result (λ fault. IsRefused fault ⊎ ((folder : List ℕ) (title : TitleGiven) (file : Option (List ℕ)) → ¬ Chooses c.args.terminal words (all folder title file)))
+    (λ fault. inr (no_folder c.args.terminal words (given_of c.in_ok-given.given) c.in_ok-given.ensures.ok c.in_err-folder.ensures.err))
 
 pub returns-clause-ok : goal.returns-clause-ok
 returns-clause-ok g c = (
