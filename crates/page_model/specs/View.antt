@@ -1,5 +1,6 @@
 -- What the parts of a page say.
-use Rattle.std.specs.Prelude.{List, [], ◌∷◌, map, option_map}
+use Rattle.std.specs.Prelude.{ℕ, List, [], ◌∷◌, map, Option, option_map}
+use Rattle.std.specs.Borrow.{Bor}
 use Rattle.page_model.specs.Content.{Piece, words, literal, value, link, page, Line, BlockSaid, paragraph, code, bullets, TargetSaid, to_page, to_heading, EntrySaid, FormSaid, PartSaid, heading, usage, block, entries, ChapterSaid, chapter, ChaptersSaid, no_chapters, chapters}
 use Rattle.page_model.specs.declared.parts.Inline.{Inline}
 use Rattle.page_model.specs.declared.parts.Inline.TheVariants as inline
@@ -64,3 +65,7 @@ chapter_step level =
 
 abbrev pub chapter_of : {A : Type 0} → Chapter A → ChapterSaid
 chapter_of {A} = fold-Chapter A ChapterSaid chapter_step
+
+-- a text that is there, or none
+abbrev pub text_of : Option (Bor (List ℕ)) → Option (List ℕ)
+text_of = option_map (λ text. text.now)

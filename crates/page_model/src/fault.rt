@@ -9,7 +9,7 @@ use thiserror::Error;
 /// Why a page cannot be written, in any medium.
 #[derive(Clone, Copy, Debug, PartialEq, Eq, Error)]
 pub enum PageFault {
-    /// A text has a noncharacter in it, or a control character but newline and tab.
+    /// A text has a noncharacter in it, or a control character but newline and tab: that which `permitted` finds first.
     #[error("a control character or a noncharacter in a text")]
     Character,
     /// An allocation failed.

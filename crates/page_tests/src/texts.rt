@@ -1,6 +1,7 @@
 //! Rows: what stands for a text, and which texts no page may have.
 use man_page::{PageFault, TitleLine, manual_page};
-use page_model::{Block, Form, Inline, Line, Part, Rank};
+use page_model::permitted::{refused_in_chapter, refused_in_forms, refused_in_parts};
+use page_model::{Block, Chapter, Form, Inline, Line, Part, Rank};
 use std::alloc::{AllocError, Global};
 use std::process::Abort;
 use std::test::Fail;
@@ -159,6 +160,67 @@ fn controls_and_noncharacters_are_refused(rt: HostRuntime) {
     for &(place, text) in REFUSED {
         let fault = page(rt.alloc(), place, text).err();
         assert!(rt; fault == Some(PageFault::Character), "{place:?} {text:?}");
+    }
+}
+
+#[test]
+fn the_first_text_that_is_refused_is_told(rt: HostRuntime) {
+    for &(place, text) in REFUSED {
+        let parts = parts(rt.alloc(), place, text).expect(&rt, "parts");
+        let told = refused_in_parts(parts.as_slice());
+        let want = if matches!(place, Place::Title) {
+            None
+        } else {
+            Some(text)
+        };
+        assert!(rt; told == want, "{place:?} {text:?}");
+    }
+}
+
+#[test]
+fn a_usage_tells_its_first_refused_text(rt: HostRuntime) {
+    let items = lines(rt.alloc(), "\u{9b}").expect(&rt, "lines");
+    let forms = vec![in rt.alloc(); Form { name: "a", items }].expect(&rt, "forms");
+    assert!(rt; refused_in_forms(forms.as_slice()) == Some("\u{9b}"));
+    assert!(rt; refused_in_forms(&[] as &[Form]).is_none());
+}
+
+// A level called by these names, with a heading, and one below it that is called so.
+fn chapter<'t>(
+    alloc: Global,
+    names: (&'t str, &'t str),
+    heading: &'t str,
+    below: &'t str,
+) -> Result<Chapter<'t>, AllocError> {
+    let lower = Chapter {
+        title: "c",
+        name: below,
+        about: Vec::new(alloc),
+        parts: Vec::new(alloc),
+        below: Vec::new(alloc),
+    };
+    Ok(Chapter {
+        title: names.0,
+        name: names.1,
+        about: Vec::new(alloc),
+        parts: vec![in alloc; Part::Heading(Rank::Section, heading)]?,
+        below: vec![in alloc; lower]?,
+    })
+}
+
+#[test]
+fn a_level_tells_its_first_refused_text(rt: HostRuntime) {
+    for (names, heading, below, want) in [
+        (("\u{1}", "\u{2}"), "\u{3}", "\u{4}", Some("\u{1}")),
+        (("a", "\u{2}"), "\u{3}", "\u{4}", Some("\u{2}")),
+        (("a", "b"), "\u{3}", "\u{4}", Some("\u{3}")),
+        (("a", "b"), "c", "\u{4}", Some("\u{4}")),
+        (("a", "b"), "c", "d", None),
+    ] {
+        let chapter = chapter(rt.alloc(), names, heading, below).expect(&rt, "a level");
+        let told = refused_in_chapter(&chapter);
+        assert!(rt; told == want, "{want:?}");
+        drop(chapter);
     }
 }
 
