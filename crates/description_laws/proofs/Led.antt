@@ -8,10 +8,10 @@ use Rattle.html_page.proofs.Among.{Among, Each, among_left, among_right, each_ap
 use Rattle.description.specs.Content.{OptSaid, ChoiceSaid, PositionalSaid, TopicSaid, LevelSaid, level, GroupsSaid, no_groups, groups, GroupSaid, group, CommandsSaid, no_commands, commands, CommandSaid, command}
 use Rattle.description.specs.Words.{WordsSaid}
 use Rattle.description_pages.specs.Arranged.{body_parts, section_parts, titled, usage_parts}
-use Rattle.description_pages.specs.Entries.{body, command_entry, entry_if_said, positional_notes, positional_terms}
+use Rattle.description_usage.specs.Entries.{body, command_entry, entry_if_said, positional_notes, positional_terms}
 use Rattle.description_pages.specs.Keys.{KeySaid, RowSaid, command_key, entries_once, same_key}
 use Rattle.description_pages.specs.Levels.{PageSaid, SubjectSaid, page_of, sections_of, texts_of}
-use Rattle.description_pages.specs.Names.{shown_value}
+use Rattle.description_usage.specs.Names.{shown_value}
 use Rattle.description_pages.specs.Once.{if_new, new_behind}
 use Rattle.description_pages.specs.Sections.{BodySaid, listed, told, SectionSaid, argument_section, choice_rows, command_rows, command_rows_of, given_blocks, group_rows, group_section, group_sections, joined_names, list_section, list_sections, option_rows, option_rows_of, option_section, row_if, text_section, value_rows, value_rows_of}
 use Rattle.description_pages.specs.Subjects.{below, below_commands, below_group, below_groups, below_level, from_command}

@@ -7,7 +7,7 @@ use Rattle.std.specs.Cmp.{IsEquivalence}
 use Rattle.std.proofs.lemmas.List.{map-append}
 use Rattle.std.proofs.lemmas.List.Folds.{list_any-append}
 use Rattle.description_pages.specs.Once.{each_once, HasSeen, if_new, new_behind}
-use Rattle.description_pages.proofs.LevelParts.{any_seen}
+use Rattle.description_usage.proofs.LevelParts.{any_seen}
 
 -- ---- a key that is seen
 

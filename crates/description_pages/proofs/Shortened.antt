@@ -3,7 +3,7 @@ use Rattle.std.proofs.Common.{◌≡◌, ◌≢◌, suc, Bool, true, false, ◌&
 use Rattle.std.proofs.lemmas.List.{map-append}
 use Rattle.std.specs.Option.{option_or}
 use Rattle.page_model.specs.Content.{Piece, Line, BlockSaid, paragraph, code, bullets}
-use Rattle.description_pages.specs.Texts.{first_paragraph}
+use Rattle.description_texts.specs.Texts.{first_paragraph}
 use Rattle.description_pages.specs.Summaries.{same_line, same_piece, without_stop}
 
 pub first_else : (help about : List BlockSaid) → first_paragraph (help ++ about) ≡ option_or (first_paragraph help) (first_paragraph about)

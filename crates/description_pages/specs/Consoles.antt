@@ -4,7 +4,7 @@ use Rattle.std.specs.Prelude.{List, codes}
 use Rattle.page_model.specs.Content.{FormSaid, PartSaid}
 use Rattle.page_model.specs.declared.parts.Rank.TheVariants.{Section}
 use Rattle.description_pages.specs.Arranged.{in_order}
-use Rattle.description_pages.specs.Forms.{usage_forms}
+use Rattle.description_usage.specs.Forms.{usage_forms}
 use Rattle.description_pages.specs.Levels.{SubjectSaid, page_of}
 use Rattle.description_pages.specs.Sections.{joined_names}
 use Rattle.description_pages.specs.declared.levels.Depth.TheVariants.{Alone}

@@ -5,7 +5,7 @@ use Rattle.page_model.specs.Content.{BlockSaid, FormSaid}
 use Rattle.description.specs.Content.{OptSaid, TextsSaid, LevelSaid, level, GroupsSaid, no_groups, groups, GroupSaid, group, CommandsSaid, no_commands, commands, CommandSaid, command}
 use Rattle.description_pages.specs.Sections.{SectionSaid, given_blocks, groups_of, joined_names, list_sections, page_name, text_section}
 use Rattle.description_pages.specs.Topics.{merged, own_sections, placed_blocks}
-use Rattle.description_pages.specs.Forms.{usage_forms}
+use Rattle.description_usage.specs.Forms.{usage_forms}
 use Rattle.description.specs.Words.{WordsSaid}
 use Rattle.description_pages.specs.declared.levels.Depth.{Depth}
 use Rattle.description_pages.specs.declared.sections.Detail.{Detail}

@@ -2,7 +2,7 @@
 use Rattle.std.specs.Prelude.{ℕ, List, [], ◌∷◌, ◌++◌, codes, map}
 use Rattle.page_model.specs.Content.{page, BlockSaid, paragraph}
 use Rattle.description_pages.specs.Levels.{PageSaid}
-use Rattle.description_pages.specs.Lines.{joined}
+use Rattle.description_usage.specs.Lines.{joined}
 
 -- a paragraph, with a comma and a blank between two
 abbrev pub reference_blocks : (names : List (List ℕ)) → List BlockSaid

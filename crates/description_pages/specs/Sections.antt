@@ -3,9 +3,9 @@ use Rattle.std.specs.Prelude.{ℕ, List, [], ◌∷◌, ◌++◌, ◌==◌, map,
 use Rattle.std.specs.List.{join_by}
 use Rattle.page_model.specs.Content.{BlockSaid, EntrySaid, TargetSaid, to_page, to_heading}
 use Rattle.description.specs.Content.{OptSaid, ChoiceSaid, PositionalSaid, LevelSaid, level, GroupsSaid, no_groups, groups, GroupSaid, group, CommandsSaid, no_commands, commands, CommandSaid, command}
-use Rattle.description_pages.specs.Entries.{command_entry, option_entry, positional_entry}
+use Rattle.description_usage.specs.Entries.{command_entry, option_entry, positional_entry}
 use Rattle.description_pages.specs.Keys.{KeySaid, RowSaid, command_key, entries_once, option_key, positional_key}
-use Rattle.description_pages.specs.Texts.{text_blocks}
+use Rattle.description_texts.specs.Texts.{text_blocks}
 use Rattle.description.specs.Words.{WordsSaid}
 use Rattle.page_model.specs.View.{block_of, entry_of}
 use Rattle.description_pages.specs.declared.levels.Depth.{Depth}

@@ -3,10 +3,10 @@ use Rattle.std.specs.Prelude.{List, [], ◌∷◌, ◌++◌, codes, Bool, true, 
 use Rattle.std.specs.Str.{bytes_eq}
 use Rattle.page_model.specs.Content.{Piece, words, literal, value, link, page, Line, BlockSaid, paragraph, code, bullets}
 use Rattle.description_pages.specs.Levels.{SubjectSaid, texts_of}
-use Rattle.description_pages.specs.Lines.{joined}
+use Rattle.description_usage.specs.Lines.{joined}
 use Rattle.description_pages.specs.Sections.{given_blocks, without_last}
-use Rattle.description_pages.specs.Texts.{first_paragraph}
-use Rattle.description_pages.specs.TextsInside.{gathered, some_words}
+use Rattle.description_texts.specs.Texts.{first_paragraph}
+use Rattle.description_texts.specs.TextsInside.{gathered, some_words}
 use Rattle.description_pages.specs.declared.sections.Detail.TheVariants.{Full}
 
 -- a line without the full stop at its end, and the blank before that

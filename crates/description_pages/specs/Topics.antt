@@ -5,7 +5,7 @@ use Rattle.std.specs.StrCase.Upper.{str_to_uppercase}
 use Rattle.page_model.specs.Content.{BlockSaid, paragraph, code, bullets}
 use Rattle.description.specs.Content.{TopicSaid}
 use Rattle.description_pages.specs.Sections.{SectionSaid, shown_blocks, text_section, without_colon}
-use Rattle.description_pages.specs.Texts.{text_blocks}
+use Rattle.description_texts.specs.Texts.{text_blocks}
 use Rattle.description.specs.Words.{WordsSaid}
 use Rattle.description_pages.specs.declared.sections.Detail.{Detail}
 use Rattle.description_pages.specs.declared.topics.Place.{Place}

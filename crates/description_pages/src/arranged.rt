@@ -8,11 +8,11 @@ ghost use Rattle.description_pages.specs.LevelsView.{level_page_of};
 ghost use Rattle.description_pages.specs.Sections.{body_of, section_of};
 ghost use Rattle.description.specs.Words.{words_said};
 
-use crate::entries::ArenaBlocks;
 use crate::levels::LevelPage;
 use crate::sections::{ArenaSections, Body, Section};
 use bumpalo::Bump;
 use description::FixedWords;
+use description_usage::ArenaBlocks;
 use page_model::{Form, Part, Rank};
 use std::alloc::{AllocError, Global};
 

@@ -6,12 +6,12 @@ ghost use Rattle.description_pages.specs.LevelsView.{subject_of};
 ghost use Rattle.description.specs.Words.{words_said};
 
 use crate::arranged::{ArenaParts, push_in_order};
-use crate::forms::usage_forms;
 use crate::levels::{Depth, LevelSubject, level_page};
 use crate::neighbours::joined_names;
 use crate::sections::Detail;
 use bumpalo::Bump;
 use description::FixedWords;
+use description_usage::usage_forms;
 use page_model::{Form, Rank};
 use std::alloc::{AllocError, Allocator};
 

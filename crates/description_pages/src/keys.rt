@@ -5,10 +5,10 @@ ghost use Rattle.description.specs.View.{command_said, opt_said, positional_said
 ghost use Rattle.description_pages.specs.Keys.{command_key, entries_once, key_said, option_key, positional_key};
 ghost use Rattle.description_pages.specs.Rows.{row_said};
 
-use crate::entries::ArenaEntry;
 use crate::once::{Keyed, each_once};
 use bumpalo::Bump;
 use description::{Command, Name, Opt, Positional, Spelling};
+use description_usage::ArenaEntry;
 use std::alloc::{AllocError, Allocator};
 
 /// What tells an entry apart in a list.

@@ -6,12 +6,12 @@ ghost use Rattle.description_pages.specs.LevelsView.{level_page_of, subject_of};
 ghost use Rattle.description_pages.specs.Sections.{section_of};
 ghost use Rattle.description.specs.Words.{words_said};
 
-use crate::forms::usage_forms;
 use crate::neighbours::{joined_names, neighbours};
 use crate::sections::{ArenaSections, Detail, Making, Section, given_blocks, push_lists};
 use crate::topics::{Place, placed_blocks, push_blocks, push_text_section, push_topics};
 use bumpalo::Bump;
 use description::{FixedWords, Level, Opt};
+use description_usage::usage_forms;
 use page_model::{Block, Form};
 use std::alloc::{AllocError, Allocator};
 

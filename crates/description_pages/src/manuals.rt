@@ -13,7 +13,6 @@ ghost use Rattle.description.specs.Words.{words_said};
 use crate::arranged::{
     ArenaParts, Case, Titles, push_heading, push_titled, push_titled_parts, push_titled_usage,
 };
-use crate::entries::ArenaBlocks;
 use crate::levels::{Depth, LevelPage, LevelSubject, level_page};
 use crate::neighbours::joined_names;
 use crate::references::with_references;
@@ -22,6 +21,7 @@ use crate::summaries::{is_summary, summary};
 use crate::topics::push_blocks;
 use bumpalo::Bump;
 use description::FixedWords;
+use description_usage::ArenaBlocks;
 use page_model::{Block, Inline, Line, Part, Rank};
 use std::alloc::{AllocError, Allocator, Global};
 

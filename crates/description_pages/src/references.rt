@@ -4,10 +4,9 @@ ghost use Rattle.page_model.specs.View.{block_of};
 ghost use Rattle.description_pages.specs.LevelsView.{level_page_of};
 ghost use Rattle.description_pages.specs.References.{reference_blocks, with_references};
 
-use crate::entries::ArenaBlocks;
 use crate::levels::LevelPage;
-use crate::lines::joined;
 use bumpalo::Bump;
+use description_usage::{ArenaBlocks, joined};
 use page_model::{Block, Inline, Line};
 use std::alloc::{AllocError, Global};
 

@@ -6,7 +6,7 @@ ghost use Rattle.description.specs.View.{choice_said, command_said, commands_sai
 ghost use Rattle.description.specs.View.{level_said, opt_said, positional_said};
 ghost use Rattle.description_pages.specs.Keys.{entries_once};
 ghost use Rattle.description_pages.specs.Rows.{row_said};
-ghost use Rattle.description_pages.specs.Texts.{text_blocks};
+ghost use Rattle.description_texts.specs.Texts.{text_blocks};
 ghost use Rattle.description_pages.specs.Sections.{argument_section, choice_rows, command_rows};
 ghost use Rattle.description_pages.specs.Sections.{command_rows_of, command_section, command_target, given_blocks};
 ghost use Rattle.description_pages.specs.Sections.{group_section};
@@ -16,14 +16,14 @@ ghost use Rattle.description_pages.specs.Sections.{section_of, shown_blocks, val
 ghost use Rattle.description_pages.specs.Sections.{without_colon, without_last};
 ghost use Rattle.description.specs.Words.{words_said};
 
-use crate::entries::{ArenaBlocks, command_entry, option_entry, positional_entry};
 use crate::keys::{Row, command_key, entries_once, option_key, positional_key};
 use crate::levels::Depth;
 use crate::neighbours::names_below;
 use crate::once::Keyed;
-use crate::texts::blocks;
 use bumpalo::Bump;
 use description::{Choice, Command, FixedWords, Group, Level, Opt, Positional};
+use description_texts::blocks;
+use description_usage::{ArenaBlocks, command_entry, option_entry, positional_entry};
 use page_model::{Block, Entry, Target};
 use std::alloc::{AllocError, Allocator, Global};
 

@@ -3,13 +3,12 @@ ghost use Rattle.std.specs.Prelude.{◌≡◌, ◌++◌, ◌∷◌, [], map, IfO
 ghost use Rattle.page_model.specs.View.{block_of, line_of, piece_of};
 ghost use Rattle.description_pages.specs.Sections.{without_last};
 ghost use Rattle.description_pages.specs.Summaries.{is_summary, one_line, same_line, same_piece, summary, without_stop};
-ghost use Rattle.description_pages.specs.Texts.{first_paragraph};
+ghost use Rattle.description_texts.specs.Texts.{first_paragraph};
 
-use crate::lines::joined;
 use crate::sections::without_last;
-use crate::texts::first_paragraph;
-use crate::texts::pieces::{gathered, push_some};
 use bumpalo::Bump;
+use description_texts::{first_paragraph, gathered, push_some};
+use description_usage::joined;
 use page_model::{Block, Inline, Line};
 use std::alloc::{AllocError, Allocator};
 

@@ -8,10 +8,10 @@ ghost use Rattle.description_pages.specs.Topics.{and_block, merged, own_section,
 ghost use Rattle.description_pages.specs.Topics.{placed_blocks, placed_of, same_title, together};
 ghost use Rattle.description.specs.Words.{words_said};
 
-use crate::entries::ArenaBlocks;
 use crate::sections::{ArenaSections, Body, Making, Section, shown_blocks, without_colon};
 use bumpalo::Bump;
 use description::Topic;
+use description_usage::ArenaBlocks;
 use page_model::{Block, Line};
 use std::alloc::{AllocError, Allocator, Global};
 

@@ -2,7 +2,7 @@
 use crate::refusals::{BYTES, STEP, roomy, taken};
 use crate::said::{Lines, Shown};
 use bumpalo::Bump;
-use description_pages::texts::{blocks, first_paragraph, is_empty};
+use description_texts::{blocks, first_paragraph, is_empty};
 use page_model::{Block, Inline, Line};
 use std::alloc::{AllocError, Global};
 use std::process::Abort;

@@ -1,7 +1,7 @@
 //! Tests of `man_page`, `markdown_page` and `console_page`, over pages of `page_model`: whole pages, what stands for
-//! each text, which texts a page may have, and each growth refused in turn; and of `description_pages`: texts with their
-//! blocks, a level from its records to its manual page, which words lead to a level, all levels as a tree; and of
-//! `command_pages`: the pages of a command line.
+//! each text, which texts a page may have, and each growth refused in turn; of `description_texts`: texts with their
+//! blocks; of `description_pages`: a level from its records to its manual page, which words lead to a level, all
+//! levels as a tree; and of `command_pages`: the pages of a command line.
 #![tactic(auto)]
 
 #[cfg(test)]

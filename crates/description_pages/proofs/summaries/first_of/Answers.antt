@@ -1,7 +1,7 @@
 use Rattle.std.proofs.Common.{◌≡◌, ◌∙◌, Some, None, ap, map, subst, sym, MatchOption}
 use Rattle.std.specs.Option.{option_or}
 use Rattle.page_model.specs.View.{block_of, line_of}
-use Rattle.description_pages.specs.Texts.{first_paragraph}
+use Rattle.description_texts.specs.Texts.{first_paragraph}
 use Rattle.description_pages.proofs.Shortened.{first_else}
 use Rattle.description_pages.proofs.summaries.first_of.Goals as goal
 

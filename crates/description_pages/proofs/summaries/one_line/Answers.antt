@@ -1,7 +1,7 @@
 use Rattle.std.proofs.Common.{◌≡◌, [], ◌-◌, take, ap, ◌∙◌}
 use Rattle.page_model.specs.View.{line_of, piece_of}
 use Rattle.description_pages.specs.Summaries.{without_stop}
-use Rattle.description_pages.specs.TextsInside.{gathered}
+use Rattle.description_texts.specs.TextsInside.{gathered}
 use Rattle.description_pages.proofs.Shortened.{none_taken, stop_taken}
 use Rattle.description_pages.proofs.summaries.one_line.Goals as goal
 use Rattle.description_pages.proofs.summaries.one_line.Goals.{in-Some+in_ok-push_last, in_default}

@@ -1,6 +1,0 @@
-use Rattle.std.proofs.Common.{◌≡◌, ◌++◌, map, take, drop}
-use Rattle.description_pages.specs.TextsInside.{links, word}
-use Rattle.description_pages.proofs.texts.links.first_link.Given as goal
-
-abbrev pub invariant-loop-at : goal.invariant-loop-at
-invariant-loop-at l = links l.text ≡ map word (take l.at l.text) ++ links (drop l.at l.text)

@@ -1,0 +1,9 @@
+pub mod TextsBounds
+pub mod TextsCuts
+pub mod TextsEmpty
+pub mod TextsLines
+pub mod TextsLinks
+pub mod TextsLiterals
+pub mod TextsPieces
+pub mod TextsSpaces
+pub mod TextsRows

@@ -1,0 +1,4 @@
+pub mod TextsCut
+pub mod TextsInside
+pub mod Texts
+pub mod TextsView

@@ -1,0 +1,40 @@
+-- What the steps of the code say.
+use Rattle.std.specs.Prelude.{◌≡◌, ℕ, ◌+◌, ◌<◌, length, slice_index, Bool, false, not, ◌&&◌, ◌||◌, if◌then◌else◌, List, [], ◌∷◌, ◌++◌, flat_map}
+use Rattle.std.specs.List.{list_all}
+use Rattle.page_model.specs.Content.{BlockSaid}
+use Rattle.page_model.specs.View.{line_of}
+use Rattle.description_texts.specs.Texts.{begins_fence, block_said, is_fence}
+use Rattle.description_texts.specs.TextsInside.{Draft, begins_quote, is_white, lone_parts}
+use Rattle.description_texts.specs.declared.texts.pieces.Pieces.{Pieces}
+
+-- pieces that are gathered, and the words behind them
+abbrev pub draft_of : {A : Type 0} → Pieces A → Draft
+draft_of gathering = record {
+  pieces = line_of gathering.pieces.items;
+  words = flat_map (λ text. text.now) gathering.words.items;
+}
+
+-- a text that is cut at its first backquote that stands beside no other one
+pub record IsLoneCut (text before behind : List ℕ) : Type 0 where
+  pub parts : lone_parts text ≡ before ∷ lone_parts behind
+  pub apart : begins_quote behind ≡ false
+  pub whole : text ≡ before ++ 96 ∷ behind
+
+-- a link in a text, by the place where it begins and the length of its address
+pub record IsLinkAt (text : List ℕ) (at len : ℕ) : Type 0 where
+  pub opens : slice_index text at ≡ 60
+  pub closes : slice_index text (at + 1 + len) ≡ 62
+  pub within : at + 1 + len < length text
+
+-- what is said of the lines of a block
+abbrev pub own_said : List (List ℕ) → List BlockSaid
+own_said [] = []
+own_said (first ∷ more) = block_said first more
+
+-- whether a line belongs to no block, in a fence above which there are no lines or not
+abbrev pub says_nothing : (in_fence : Bool) → List ℕ → Bool
+says_nothing in_fence line = if in_fence then begins_fence line else (list_all is_white line || is_fence line)
+
+-- and whether the next one stands in such a fence
+abbrev pub opens : (in_fence : Bool) → List ℕ → Bool
+opens in_fence line = not in_fence && is_fence line

@@ -1,0 +1,10 @@
+pub mod Margins
+pub mod Stretches
+pub mod Dashes
+pub mod Parts
+pub mod Behind
+pub mod LevelParts
+pub mod Rows
+pub mod Restored
+pub mod Shaped
+pub mod Letters

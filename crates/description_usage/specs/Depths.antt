@@ -1,0 +1,11 @@
+-- What the code knows of a byte, by how many brackets are open around it.
+use Rattle.std.specs.Prelude.{ℕ, ◌==◌, nat_lt, Bool, ◌&&◌, if◌then◌else◌}
+use Rattle.description_usage.specs.Forms.{stand_in}
+use Rattle.description_usage.specs.Syntax.{is_closing, is_opening}
+
+-- how many are open before a byte and behind it, and the fewest behind a later one
+abbrev pub is_lone_at : ℕ → (before behind lowest : ℕ) → Bool
+is_lone_at b before behind lowest = if is_opening b then nat_lt before lowest else is_closing b && behind == before
+
+abbrev pub shaped_byte : ℕ → (before behind lowest : ℕ) → ℕ
+shaped_byte b before behind lowest = if is_lone_at b before behind lowest then stand_in b else b
