@@ -4,47 +4,47 @@
 pub const TEXTS: &str = r#"
 name = 'a'
 about = "\u0000"
-=> description: about holds a control character
+=> about holds a control character
 
 name = 'a'
 header = "a\u001b[1mb"
-=> description: header holds a control character
+=> header holds a control character
 
 name = 'a'
 footer = "a\rb"
-=> description: footer holds a control character
+=> footer holds a control character
 
 name = 'a'
 usage = "\u007f"
-=> description: usage holds a control character
+=> usage holds a control character
 
 name = 'a'
 about = "\u009f"
-=> description: about holds a control character
+=> about holds a control character
 
 name = 'a'
 about = "\ufdd0"
-=> description: about holds a noncharacter
+=> about holds a noncharacter
 
 name = 'a'
 about = "\ufdef"
-=> description: about holds a noncharacter
+=> about holds a noncharacter
 
 name = 'a'
 about = "\ufffe"
-=> description: about holds a noncharacter
+=> about holds a noncharacter
 
 name = 'a'
 about = "\uffff"
-=> description: about holds a noncharacter
+=> about holds a noncharacter
 
 name = 'a'
 about = "\U0010fffe"
-=> description: about holds a noncharacter
+=> about holds a noncharacter
 
 name = 'a'
 about = "\U0001ffff"
-=> description: about holds a noncharacter
+=> about holds a noncharacter
 
 name = 'a'
 [[option]]
@@ -52,47 +52,49 @@ short = 'a'
 [[option]]
 short = 'b'
 help = "\u0007"
-=> option 2: help holds a control character
+=> option 2 (-b): help holds a control character
 
 name = 'a'
 [[help_option]]
 short = 'a'
 help = "\u0007"
-=> help_option 1: help holds a control character
+=> help_option 1 (-a): help holds a control character
 
 name = 'a'
 [[choice]]
 [[choice.option]]
 short = 'b'
 help = "\u0007"
-=> choice 1, option 1: help holds a control character
+=> choice 1, option 1 (-b): help holds a control character
 
 name = 'a'
 [[positional]]
 value = 'A'
 help = "\u0007"
-=> positional 1: help holds a control character
+=> positional 1 (A): help holds a control character
 
 name = 'a'
 [[command]]
 name = 'b'
 help = "\u0007"
-=> command 1: help holds a control character
+=> command 1 (b): help holds a control character
 
-# The first key at fault, in the order of keys; in a text the first character.
+# Each key at fault, in the order of keys; of a text the first character.
 name = 'a'
 usage = "\u0007"
 about = "\uffff\u0007"
-=> description: about holds a noncharacter
+=> about holds a noncharacter
+usage holds a control character
 
-# A name that is taken is told behind the keys of its level, and before the tables inside.
+# A name that stands twice is told behind the keys of its level, and before the tables inside.
 name = 'a'
 about = "\u0007"
 [[option]]
 short = 'b'
 [[option]]
 short = 'b'
-=> description: about holds a control character
+=> about holds a control character
+option 2 (-b): -b is an option already
 
 name = 'a'
 [[option]]
@@ -100,7 +102,8 @@ short = 'b'
 help = "\u0007"
 [[option]]
 short = 'b'
-=> description: -b is taken
+=> option 2 (-b): -b is an option already
+option 1 (-b): help holds a control character
 
 name = 'a'
 about = "a\n\tb"
@@ -108,7 +111,7 @@ about = "a\n\tb"
 
 name = 'a'
 about = "\u202e\u00a0\ufdcf\ufdf0\ufffd\u0085"
-=> description: about holds a control character
+=> about holds a control character
 "#;
 
 pub const LINES: &str = r#"
@@ -116,18 +119,18 @@ name = 'a'
 [[option]]
 short = 'b'
 value = ''
-=> option 1: value is empty
+=> option 1 (-b): value is empty
 
 name = 'a'
 [[option]]
 short = 'b'
 value = "A\tB"
-=> option 1: value holds a control character
+=> option 1 (-b): value holds a control character
 
 name = 'a'
 [[positional]]
 value = "A\nB"
-=> positional 1: value holds a control character
+=> positional 1 ("A\nB"): value holds a control character
 
 name = 'a'
 [[positional]]
@@ -137,7 +140,7 @@ value = ''
 name = 'a'
 [[positional]]
 value = "\ufffe"
-=> positional 1: value holds a noncharacter
+=> positional 1 (￾): value holds a noncharacter
 
 name = 'a'
 [[positional]]
@@ -146,27 +149,27 @@ value = 'A "B\'
 
 name = 'a'
 date = "a\nb"
-=> description: date holds a control character
+=> date holds a control character
 
 name = 'a'
 date = 'a\b'
-=> description: date holds a backslash
+=> date holds a backslash
 
 name = 'a'
 vendor = 'a "b"'
-=> description: vendor holds a double quote
+=> vendor holds a double quote
 
 name = 'a'
 vendor = "a\tb"
-=> description: vendor holds a control character
+=> vendor holds a control character
 
 name = 'a'
 title = '\V[HOME]'
-=> description: title holds a backslash
+=> title holds a backslash
 
 name = 'a'
 title = "\uffff"
-=> description: title holds a noncharacter
+=> title holds a noncharacter
 
 name = 'a'
 title = ''
@@ -177,42 +180,50 @@ date = ''
 name = 'a'
 [[group]]
 title = "a\nb"
-=> group 1: title holds a control character
+=> group 1 ("a\nb"): title holds a control character
+group 1 ("a\nb"): option, choice, positional or command is missing
 
 name = 'a'
 [[group]]
 title = 'a\b'
-=> group 1: title holds a backslash
+=> group 1 (a\b): title holds a backslash
+group 1 (a\b): option, choice, positional or command is missing
 
 name = 'a'
 [[group]]
 title = '"'
-=> group 1: title holds a double quote
+=> group 1 ("): title holds a double quote
+group 1 ("): option, choice, positional or command is missing
 
 name = 'a'
 [[group]]
 title = ''
 => group 1: title is empty
+group 1: option, choice, positional or command is missing
 
 name = 'a'
 [[group]]
 title = ':'
-=> group 1: title is empty
+=> group 1 (:): title is empty
+group 1 (:): option, choice, positional or command is missing
 
 name = 'a'
 [[group]]
 title = " \u00a0\u3000"
-=> group 1: title begins with a blank
+=> group 1 (  　): title begins with a blank
+group 1 (  　): option, choice, positional or command is missing
 
 name = 'a'
 [[group]]
 title = "\u3000T"
-=> group 1: title begins with a blank
+=> group 1 (　T): title begins with a blank
+group 1 (　T): option, choice, positional or command is missing
 
 name = 'a'
 [[group]]
 title = "T\u00a0"
-=> group 1: title ends with a blank
+=> group 1 (T ): title ends with a blank
+group 1 (T ): option, choice, positional or command is missing
 
 # A blank before the colon stands at no end.
 name = 'a'
@@ -225,16 +236,18 @@ short = 'b'
 name = 'a'
 [[group]]
 title = 'G'
-=> group 1: option, choice, positional or command is missing
+=> group 1 (G): option, choice, positional or command is missing
 
 name = 'a'
 [[group]]
 => group 1: title is missing
+group 1: option, choice, positional or command is missing
 
 name = 'a'
 [[group]]
 title = 1
 => group 1: title is no text
+group 1: option, choice, positional or command is missing
 
 name = 'a'
 date = 2026-11-26
@@ -246,34 +259,37 @@ language = 'pt-BR'
 
 name = 'a'
 language = ''
-=> description: language is no tag of a language
+=> language is no tag of a language
 
 name = 'a'
 language = 'e n'
-=> description: language is no tag of a language
+=> language is no tag of a language
 
 name = 'a'
 language = "\u00e9"
-=> description: language is no tag of a language
+=> language is no tag of a language
 
 name = 'a'
 language = "e\nn"
-=> description: language holds a control character
+=> language holds a control character
 
 name = 'a'
 language = 1
-=> description: language is no text
+=> language is no text
 
 name = 'a'
 title = 1
 language = 1
 about = 1
-=> description: title is no text
+=> title is no text
+language is no text
+about is no text
 
 name = 'a'
 language = 1
 about = 1
-=> description: language is no text
+=> language is no text
+about is no text
 "#;
 
 pub const SECTIONS: &str = r#"
@@ -287,16 +303,16 @@ section = 9
 => read
 
 section = 10
-=> description: section is no number from 0 to 9
+=> section is no number from 0 to 9
 
 section = -1
-=> description: section is no number from 0 to 9
+=> section is no number from 0 to 9
 
 section = 1.0
-=> description: section is no text and no number
+=> section is no text and no number
 
 section = true
-=> description: section is no text and no number
+=> section is no text and no number
 
 section = '1'
 => read
@@ -311,25 +327,25 @@ section = 'lx'
 => read
 
 section = ''
-=> description: section is no section of a manual
+=> section is no section of a manual
 
 section = 'm'
-=> description: section is no section of a manual
+=> section is no section of a manual
 
 section = 'N'
-=> description: section is no section of a manual
+=> section is no section of a manual
 
 section = '1 '
-=> description: section is no section of a manual
+=> section is no section of a manual
 
 section = '1é'
-=> description: section is no section of a manual
+=> section is no section of a manual
 
 section = "1\n"
-=> description: section holds a control character
+=> section holds a control character
 
 section = '1\'
-=> description: section is no section of a manual
+=> section is no section of a manual
 "#;
 
 pub const TOPICS: &str = r#"
@@ -350,43 +366,43 @@ title = 'T'
 text = 't'
 [[topic]]
 title = 'T'
-=> topic 2: text is missing
+=> topic 2 (T): text is missing
 
 name = 'a'
 [[topic]]
 title = " \u00a0"
 text = 't'
-=> topic 1: title begins with a blank
+=> topic 1 (  ): title begins with a blank
 
 name = 'a'
 [[topic]]
 title = "T\n"
 text = 't'
-=> topic 1: title holds a control character
+=> topic 1 ("T\n"): title holds a control character
 
 name = 'a'
 [[topic]]
 title = 'a\b'
 text = 't'
-=> topic 1: title holds a backslash
+=> topic 1 (a\b): title holds a backslash
 
 name = 'a'
 [[topic]]
 title = '"'
 text = 't'
-=> topic 1: title holds a double quote
+=> topic 1 ("): title holds a double quote
 
 name = 'a'
 [[topic]]
 title = 'T'
 text = ''
-=> topic 1: text is empty
+=> topic 1 (T): text is empty
 
 name = 'a'
 [[topic]]
 title = 'T'
 text = "\u001b"
-=> topic 1: text holds a control character
+=> topic 1 (T): text holds a control character
 
 name = 'a'
 [[topic]]
@@ -399,10 +415,11 @@ name = 'a'
 titel = 'T'
 text = 't'
 => topic 1: no key titel is known here; is it title?
+topic 1: title is missing
 
 name = 'a'
 topic = 1
-=> description: topic is no array of tables
+=> topic is no array of tables
 
 # Topics are told behind all else of their level.
 name = 'a'
@@ -412,7 +429,9 @@ title = 'T'
 name = 'b'
 [[command.topic]]
 title = ''
-=> command 1, topic 1: title is empty
+=> command 1 (b), topic 1: title is empty
+command 1 (b), topic 1: text is missing
+topic 1 (T): text is missing
 
 name = 'a'
 [[topic]]
@@ -421,7 +440,8 @@ title = 'T'
 short = 'b'
 [[option]]
 short = 'b'
-=> description: -b is taken
+=> option 2 (-b): -b is an option already
+topic 1 (T): text is missing
 
 # A group has none.
 name = 'a'
@@ -430,36 +450,37 @@ title = 'G'
 [[group.topic]]
 title = 'T'
 text = 't'
-=> group 1: no key topic is known here
+=> group 1 (G): no key topic is known here; keys are title, option, choice, positional and command
+group 1 (G): option, choice, positional or command is missing
 "#;
 
 pub const NAMES: &str = r#"
 name = ''
-=> description: name is empty
+=> name is empty
 
 name = 'a b'
-=> description: name holds a blank
+=> name holds a blank
 
 name = "a\tb"
-=> description: name holds a blank
+=> name holds a blank
 
 name = "a\u00a0"
-=> description: name holds a blank
+=> name holds a blank
 
 name = "a\u0007"
-=> description: name holds a control character
+=> name holds a control character
 
 name = 'a='
-=> description: name holds =
+=> name holds =
 
 name = "a\ufffe"
-=> description: name holds a noncharacter
+=> name holds a noncharacter
 
 name = 'a\'
-=> description: name holds a backslash
+=> name holds a backslash
 
 name = 'a"'
-=> description: name holds a double quote
+=> name holds a double quote
 
 name = '-a'
 => read
@@ -475,22 +496,22 @@ name = ''
 name = 'a'
 [[command]]
 name = '-b'
-=> command 1: name begins with -
+=> command 1 (-b): name begins with -
 
 name = 'a'
 [[command]]
 name = 'b='
-=> command 1: name holds =
+=> command 1 (b=): name holds =
 
 name = 'a'
 [[command]]
 name = 'b\'
-=> command 1: name holds a backslash
+=> command 1 (b\): name holds a backslash
 
 name = 'a'
 [[command]]
 name = 'b"'
-=> command 1: name holds a double quote
+=> command 1 (b"): name holds a double quote
 
 name = 'a'
 [[command]]
@@ -501,19 +522,19 @@ name = 'a'
 [[command]]
 name = 'b'
 short = '-'
-=> command 1: short begins with -
+=> command 1 (b): short begins with -
 
 name = 'a'
 [[command]]
 name = 'b'
 short = "\uffff"
-=> command 1: short holds a noncharacter
+=> command 1 (b): short holds a noncharacter
 
 name = 'a'
 [[command]]
 name = 'b'
 short = 'bb'
-=> command 1: short is not one character
+=> command 1 (b): short is not one character
 
 name = 'a'
 [[option]]
@@ -523,22 +544,22 @@ long = ''
 name = 'a'
 [[option]]
 long = '-'
-=> option 1: long begins with -
+=> option 1 (-): long begins with -; write it without dashes
 
 name = 'a'
 [[option]]
 long = '--b'
-=> option 1: long begins with -
+=> option 1 (--b): long begins with -; write it without dashes
 
 name = 'a'
 [[option]]
 long = '-b='
-=> option 1: long holds =
+=> option 1 (-b=): long holds =
 
 name = 'a'
 [[option]]
 long = 'b c'
-=> option 1: long holds a blank
+=> option 1 (--b c): long holds a blank
 
 name = 'a'
 [[option]]
@@ -548,27 +569,27 @@ long = 'b\"'
 name = 'a'
 [[option]]
 short = '-'
-=> option 1: short begins with -
+=> option 1 (-): short begins with -
 
 name = 'a'
 [[option]]
 short = '='
-=> option 1: short holds =
+=> option 1 (-=): short holds =
 
 name = 'a'
 [[option]]
 short = ' '
-=> option 1: short holds a blank
+=> option 1 (- ): short holds a blank
 
 name = 'a'
 [[option]]
 short = "\u0007"
-=> option 1: short holds a control character
+=> option 1 (-"\u{7}"): short holds a control character
 
 name = 'a'
 [[option]]
 short = "\ufdd1"
-=> option 1: short holds a noncharacter
+=> option 1 (-﷑): short holds a noncharacter
 
 name = 'a'
 [[option]]
@@ -589,19 +610,19 @@ name = 'a'
 [[option]]
 short = 'b'
 env = ''
-=> option 1: env is empty
+=> option 1 (-b): env is empty
 
 name = 'a'
 [[option]]
 short = 'b'
 env = 'A='
-=> option 1: env holds =
+=> option 1 (-b): env holds =
 
 name = 'a'
 [[option]]
 short = 'b'
 env = "\ufffe"
-=> option 1: env holds a noncharacter
+=> option 1 (-b): env holds a noncharacter
 
 name = 'a'
 [[option]]
@@ -613,10 +634,10 @@ name = 'a'
 [[option]]
 short = 'b'
 env = 1
-=> option 1: env is no text
+=> option 1 (-b): env is no text
 
 name = 1
-=> description: name is no text
+=> name is no text
 "#;
 
 pub const TAKEN: &str = r#"
@@ -627,7 +648,7 @@ name = 'b'
 [[command]]
 name = 'c'
 short = 'b'
-=> description: command b is taken
+=> command 2 (c): b is a command already
 
 name = 'a'
 [[command]]
@@ -635,7 +656,7 @@ name = 'c'
 short = 'b'
 [[command]]
 name = 'b'
-=> description: command b is taken
+=> command 2 (b): b is a name of a command already
 
 name = 'a'
 [[command]]
@@ -644,7 +665,7 @@ short = 'x'
 [[command]]
 name = 'c'
 short = 'x'
-=> description: command x is taken
+=> command 2 (c): x is a name of a command already
 
 name = 'a'
 [[command]]
@@ -655,7 +676,7 @@ title = 'G'
 [[group.command]]
 name = 'c'
 short = 'x'
-=> description: command x is taken
+=> group 1 (G), command 1 (c): x is a name of a command already
 
 name = 'a'
 [[command]]
@@ -665,7 +686,7 @@ name = 'b'
 [[command.command]]
 name = 'c'
 short = 'b'
-=> command 1: command b is taken
+=> command 1 (r), command 2 (c): b is a command already
 
 name = 'a'
 [[command]]
@@ -673,7 +694,7 @@ name = 'b'
 aliases = ['c']
 [[command]]
 name = 'c'
-=> description: command c is taken
+=> command 2 (c): c is a name of a command already
 
 name = 'a'
 [[command]]
@@ -682,7 +703,7 @@ short = 'c'
 [[command]]
 name = 'd'
 aliases = ['e', 'c']
-=> description: command c is taken
+=> command 2 (d): c is a name of a command already
 
 name = 'a'
 [[command]]
@@ -693,7 +714,7 @@ title = 'G'
 [[group.command]]
 name = 'd'
 aliases = ['c']
-=> description: command c is taken
+=> group 1 (G), command 1 (d): c is a name of a command already
 
 # Also where one of the two is hidden.
 name = 'a'
@@ -702,7 +723,7 @@ name = 'b'
 hidden = true
 [[command]]
 name = 'b'
-=> description: command b is taken
+=> command 2 (b): b is a command already
 
 name = 'a'
 [[option]]
@@ -711,7 +732,7 @@ short = 'b'
 [[choice.option]]
 short = 'b'
 hidden = true
-=> description: -b is taken
+=> choice 1, option 1 (-b): -b is an option already
 
 # Its own name it may be, and a word of another level.
 name = 'a'
@@ -733,67 +754,76 @@ pub const KEYS: &str = r#"
 [[option]]
 lnog = 1
 => option 1: no key lnog is known here; is it long?
+option 1: short, long or syntax is missing
 
 [[option]]
 Long = 1
 => option 1: no key Long is known here; is it long?
+option 1: short, long or syntax is missing
 
 [[option]]
 long_name = 1
-=> option 1: no key long_name is known here
+=> option 1: no key long_name is known here; keys are short, long, syntax, value, default, values, help, hidden, env, required and repeated
+option 1: short, long or syntax is missing
 
 [[option]]
 hlp = 1
 => option 1: no key hlp is known here; is it help?
+option 1: short, long or syntax is missing
 
 [[option]]
 ev = 1
-=> option 1: no key ev is known here
+=> option 1: no key ev is known here; keys are short, long, syntax, value, default, values, help, hidden, env, required and repeated
+option 1: short, long or syntax is missing
 
 [[option]]
 requird = 1
 => option 1: no key requird is known here; is it required?
+option 1: short, long or syntax is missing
 
 [[choice]]
 [[choice.option]]
 required = 1
-=> choice 1, option 1: no key required is known here
+=> choice 1, option 1: no key required is known here; keys are short, long, syntax, value, default, values, help, hidden and env
+choice 1, option 1: short, long or syntax is missing
 
 [[option]]
 short = 'b'
 hidden = 1
-=> option 1: hidden is neither true nor false
+=> option 1 (-b): hidden is neither true nor false
 
 [[help_option]]
 short = 'b'
 hidden = true
-=> help_option 1: no key hidden is known here
+=> help_option 1 (-b): no key hidden is known here; keys are short, long, syntax, value, default, values, help, env, required and repeated
 
 [[command]]
 sort = 'a'
 => command 1: no key sort is known here; is it short?
+command 1: name is missing
 
 nmae = 1
-=> description: no key nmae is known here; is it name?
+=> no key nmae is known here; is it name?
 
 optoin = 1
-=> description: no key optoin is known here; is it option?
+=> no key optoin is known here; is it option?
 
 help_options = 1
-=> description: no key help_options is known here; is it help_option?
+=> no key help_options is known here; is it help_option?
 
 [[option]]
 defualt = 1
 => option 1: no key defualt is known here; is it default?
+option 1: short, long or syntax is missing
 
 x = 1
-=> description: no key x is known here
+=> no key x is known here; keys are name, section, date, vendor, title, language, words, help_option, about, header, footer, usage, command_required, option, choice, group, positional, command and topic
 
 '' = 1
-=> description: no key  is known here
+=> no key '' is known here; keys are name, section, date, vendor, title, language, words, help_option, about, header, footer, usage, command_required, option, choice, group, positional, command and topic
 
 aaaaaaaaaaaaaaaaaaaaaaaaaaaaaaaaa = 1
-=> description: no key aaaaaaaaaaaaaaaaaaaaaaaaaaaaaaaaa is known here
+=> no key aaaaaaaaaaaaaaaaaaaaaaaaaaaaaaaaa is known here; keys are name, section, date, vendor, title, language, words, help_option, about, header, footer, usage, command_required, option, choice, group, positional, command and topic
 "#;
 
 // Keys that say something of values, and other names of commands.
@@ -813,36 +843,37 @@ default = 12
 [[option]]
 long = 'b'
 default = 'x'
-=> option 1: default stands beside no value and no syntax
+=> option 1 (--b): default stands beside no value and no syntax
 
 [[option]]
 long = 'b'
 values = ['x']
-=> option 1: values stands beside no value and no syntax
+=> option 1 (--b): values stands beside no value and no syntax
 
 [[option]]
 long = 'b'
 values = []
 default = 'x'
-=> option 1: default stands beside no value and no syntax
+=> option 1 (--b): default stands beside no value and no syntax
+option 1 (--b): values is empty
 
 [[choice]]
 [[choice.option]]
 long = 'b'
 default = 'x'
-=> choice 1, option 1: default stands beside no value and no syntax
+=> choice 1, option 1 (--b): default stands beside no value and no syntax
 
 [[help_option]]
 long = 'b'
 values = ['x']
-=> help_option 1: values stands beside no value and no syntax
+=> help_option 1 (--b): values stands beside no value and no syntax
 
 [[option]]
 long = 'b'
 value = 'V'
 default = 'x'
 required = true
-=> option 1: required is true beside a default
+=> option 1 (--b): required is true beside a default
 
 [[option]]
 long = 'b'
@@ -857,7 +888,7 @@ long = 'b'
 value = 'V'
 default = 'x'
 required = 1
-=> option 1: required is neither true nor false
+=> option 1 (--b): required is neither true nor false
 
 [[positional]]
 value = 'V'
@@ -874,7 +905,7 @@ required = false
 value = 'V'
 default = 'x'
 required = true
-=> positional 1: required is true beside a default
+=> positional 1 (V): required is true beside a default
 
 [[positional]]
 value = 'V'
@@ -885,19 +916,19 @@ values = ['x']
 long = 'b'
 value = 'V'
 default = 1.0
-=> option 1: default is no text and no whole number
+=> option 1 (--b): default is no text and no whole number
 
 [[option]]
 long = 'b'
 value = 'V'
 default = "a\tb"
-=> option 1: default holds a control character
+=> option 1 (--b): default holds a control character
 
 [[option]]
 long = 'b'
 value = 'V'
 default = "\ufffe"
-=> option 1: default holds a noncharacter
+=> option 1 (--b): default holds a noncharacter
 
 [[option]]
 long = 'b'
@@ -909,75 +940,75 @@ default = ''
 long = 'b'
 value = 'V'
 values = []
-=> option 1: values is empty
+=> option 1 (--b): values is empty
 
 [[option]]
 long = 'b'
 value = 'V'
 values = ['x', '']
-=> option 1: values holds an empty text
+=> option 1 (--b): values holds an empty text
 
 [[option]]
 long = 'b'
 value = 'V'
 values = ['x', 1]
-=> option 1: values is no array of texts
+=> option 1 (--b): values is no array of texts
 
 [[option]]
 long = 'b'
 value = 'V'
 values = 'x'
-=> option 1: values is no array of texts
+=> option 1 (--b): values is no array of texts
 
 [[positional]]
 value = 'V'
 values = ["a\nb"]
-=> positional 1: values holds a control character
+=> positional 1 (V): values holds a control character
 
 [[command]]
 name = 'b'
 aliases = []
-=> command 1: aliases is empty
+=> command 1 (b): aliases is empty
 
 [[command]]
 name = 'b'
 aliases = 'c'
-=> command 1: aliases is no array of texts
+=> command 1 (b): aliases is no array of texts
 
 [[command]]
 name = 'b'
 aliases = ['c', 1]
-=> command 1: aliases is no array of texts
+=> command 1 (b): aliases is no array of texts
 
 [[command]]
 name = 'b'
 aliases = ['c', '']
-=> command 1: aliases holds an empty text
+=> command 1 (b): aliases holds an empty text
 
 [[command]]
 name = 'b'
 aliases = ['c d']
-=> command 1: aliases holds a blank
+=> command 1 (b): aliases holds a blank
 
 [[command]]
 name = 'b'
 aliases = ['c=']
-=> command 1: aliases holds =
+=> command 1 (b): aliases holds =
 
 [[command]]
 name = 'b'
 aliases = ['-c']
-=> command 1: aliases begins with -
+=> command 1 (b): aliases begins with -
 
 [[command]]
 name = 'b'
 aliases = ['c\']
-=> command 1: aliases holds a backslash
+=> command 1 (b): aliases holds a backslash
 
 [[command]]
 name = 'b'
 aliases = ['c"']
-=> command 1: aliases holds a double quote
+=> command 1 (b): aliases holds a double quote
 
 [[command]]
 name = 'b'
@@ -988,11 +1019,11 @@ aliases = ['c', 'c', 'b']
 // The table of fixed words.
 pub const WORDS: &str = r#"
 words = 1
-=> description: words is no table
+=> words is no table
 
 [[words]]
 usage = 'U'
-=> description: words is no table
+=> words is no table
 
 [words]
 usgae = 'U'
@@ -1000,7 +1031,7 @@ usgae = 'U'
 
 [words]
 title = 'T'
-=> words: no key title is known here
+=> words: no key title is known here; a key of the top stands before the first table
 
 [words]
 usage = 1
@@ -1038,26 +1069,421 @@ possible_values = 'a\b'
 env = '"'
 => words: env holds a double quote
 
-# Of two the first in the order of the words is told, behind the keys of the description.
+# They are told in the order of the words, behind the keys of the description.
 [words]
 see_also = ''
 aliases = ''
 => words: aliases is empty
+words: see_also is empty
 
 [words]
 name = ''
 [[option]]
 short = 1
 => words: name is empty
+option 1: short is no text
 
 language = 1
 words = 1
-=> description: language is no text
+=> language is no text
+words is no table
 
 words = 1
 help_option = 1
-=> description: words is no table
+=> words is no table
+help_option is no array of tables
 
 [words]
 => read
+"#;
+
+// Words that say what is meant.
+pub const MEANT: &str = r#"
+description = 'A'
+=> no key description is known here; it is called about
+
+version = '1'
+=> no key version is known here; it is called vendor
+
+epilog = 'A'
+=> no key epilog is known here; it is called footer
+
+arg = 'A'
+=> no key arg is known here; it is called positional
+
+[[subcommand]]
+name = 'b'
+=> no key subcommand is known here; it is called command
+
+# Where a table has no such key, a near one counts.
+choices = ['x']
+=> no key choices is known here; is it choice?
+
+[[option]]
+short = 'b'
+metavar = 'X'
+=> option 1 (-b): no key metavar is known here; it is called value
+
+[[option]]
+short = 'b'
+choices = ['x']
+description = 'x'
+flags = '-b'
+type = 'int'
+=> option 1 (-b): no key choices is known here; it is called values
+option 1 (-b): no key description is known here; it is called help
+option 1 (-b): no key flags is known here; it is called syntax
+option 1 (-b): no key type is known here; it is called value
+
+[[command]]
+name = 'b'
+alias = 'c'
+subcommands = 1
+summary = 'x'
+=> command 1 (b): no key alias is known here; it is called aliases
+command 1 (b): no key subcommands is known here; it is called command
+command 1 (b): no key summary is known here; it is called about
+
+# A key of the top that stands below a table.
+[[option]]
+short = 'b'
+about = 'A'
+=> option 1 (-b): no key about is known here; a key of the top stands before the first table
+
+# One that is near another of its table, or that is the array of a table, is no such key.
+[[option]]
+short = 'b'
+positional = 1
+=> option 1 (-b): no key positional is known here; keys are short, long, syntax, value, default, values, help, hidden, env, required and repeated
+
+[[topic]]
+title = 'T'
+text = 't'
+language = 'en'
+=> topic 1 (T): no key language is known here; a key of the top stands before the first table
+
+# One table where an array is wanted, and something else.
+[option]
+short = 1
+=> option is no array of tables; write [[option]]
+
+option = 1
+=> option is no array of tables
+
+[[command]]
+name = 'b'
+[command.option]
+short = 'x'
+=> command 1 (b): option is no array of tables; write [[command.option]]
+
+[[group]]
+title = 'G'
+[[group.command]]
+name = 'b'
+[group.command.group]
+=> group 1 (G), command 1 (b): group is no array of tables; write [[group.command.group]]
+
+[[choice]]
+[choice.option]
+short = 'b'
+=> choice 1: option is no array of tables; write [[choice.option]]
+
+[[option]]
+long = '--all'
+=> option 1 (--all): long begins with -; write it without dashes
+
+[[option]]
+short = '-a'
+=> option 1 (-a): short begins with -; write it without dashes
+
+[[command]]
+name = 'b'
+short = '-a'
+=> command 1 (b): short begins with -; write it without dashes
+
+# A long word is cut, and no control character is shown.
+aaaaaaaaaabbbbbbbbbbccccccccccddddddddddeeeeeeeeeeffffffffffg = 1
+=> no key aaaaaaaaaabbbbbbbbbbccccccccccddddddddddeeeeeeeeeeffffffffff.. is known here; keys are name, section, date, vendor, title, language, words, help_option, about, header, footer, usage, command_required, option, choice, group, positional, command and topic
+
+"aaaaaaaaaabbbbbbbbbbccccccccccddddddddddeeeeeeeeeefffffffff\u00e9" = 1
+=> no key aaaaaaaaaabbbbbbbbbbccccccccccddddddddddeeeeeeeeeefffffffffé is known here; keys are name, section, date, vendor, title, language, words, help_option, about, header, footer, usage, command_required, option, choice, group, positional, command and topic
+
+[words]
+"\u001b[m" = 1
+=> words: no key "\u{1b}[m" is known here; keys are usage, arguments, options, commands, contents, notes, default, possible_values, env, aliases, command, name, synopsis, description and see_also
+"#;
+
+// Several faults of one table, and of tables inside one that is refused.
+pub const SEVERAL: &str = r#"
+# Each unknown key, then each key that is wrong or missing.
+title = 1
+zzz = 1
+yyy = 1
+[[option]]
+=> no key yyy is known here; keys are name, section, date, vendor, title, language, words, help_option, about, header, footer, usage, command_required, option, choice, group, positional, command and topic
+no key zzz is known here; keys are name, section, date, vendor, title, language, words, help_option, about, header, footer, usage, command_required, option, choice, group, positional, command and topic
+name is missing
+title is no text
+option 1: short, long or syntax is missing
+
+name = 'a'
+section = 10
+date = 1
+vendor = 1
+title = 1
+language = ''
+words = 1
+help_option = 1
+about = 1
+header = 1
+footer = 1
+usage = 1
+command_required = 1
+option = 1
+choice = 1
+group = 1
+positional = 1
+command = 1
+topic = 1
+=> section is no number from 0 to 9
+date is no text and no date
+vendor is no text
+title is no text
+language is no tag of a language
+words is no table
+help_option is no array of tables
+about is no text
+header is no text
+footer is no text
+usage is no text
+command_required is neither true nor false
+option is no array of tables
+choice is no array of tables
+group is no array of tables
+positional is no array of tables
+command is no array of tables
+topic is no array of tables
+
+name = 'a'
+[[option]]
+short = 1
+long = 1
+syntax = 1
+value = 1
+default = true
+values = 1
+help = 1
+hidden = 1
+env = 1
+required = 1
+repeated = 1
+=> option 1: short is no text
+option 1: long is no text
+option 1: syntax is no text
+option 1: value is no text
+option 1: default is no text and no whole number
+option 1: values is no array of texts
+option 1: help is no text
+option 1: hidden is neither true nor false
+option 1: env is no text
+option 1: required is neither true nor false
+option 1: repeated is neither true nor false
+
+name = 'a'
+[[positional]]
+default = true
+values = 1
+help = 1
+hidden = 1
+required = 1
+repeated = 1
+strict = 1
+=> positional 1: value is missing
+positional 1: default is no text and no whole number
+positional 1: values is no array of texts
+positional 1: help is no text
+positional 1: hidden is neither true nor false
+positional 1: required is neither true nor false
+positional 1: repeated is neither true nor false
+positional 1: strict is neither true nor false
+
+name = 'a'
+[[command]]
+short = 1
+help = 1
+hidden = 1
+aliases = 1
+about = 1
+[[command.option]]
+short = 1
+[[command.command]]
+[[command.command.topic]]
+title = 'T'
+=> command 1: name is missing
+command 1: short is no text
+command 1: help is no text
+command 1: hidden is neither true nor false
+command 1: aliases is no array of texts
+command 1: about is no text
+command 1, option 1: short is no text
+command 1, command 1: name is missing
+command 1, command 1, topic 1 (T): text is missing
+
+# Behind a table that is refused the next ones are read, of each kind.
+name = 'a'
+[[help_option]]
+[[help_option]]
+[[choice]]
+[[choice]]
+[[group]]
+title = 'G'
+[[group.option]]
+[[group.positional]]
+[[group.choice]]
+[[group.command]]
+[[group]]
+[[group.option]]
+[[positional]]
+[[topic]]
+text = 't'
+=> help_option 1: short, long or syntax is missing
+help_option 2: short, long or syntax is missing
+choice 1: option is missing
+choice 2: option is missing
+group 1 (G), option 1: short, long or syntax is missing
+group 1 (G), choice 1: option is missing
+group 1 (G), positional 1: value is missing
+group 1 (G), command 1: name is missing
+group 2: title is missing
+group 2, option 1: short, long or syntax is missing
+positional 1: value is missing
+topic 1: title is missing
+
+name = 'a'
+[words]
+usage = ''
+notes = 1
+aliases = 1
+name = 1
+=> words: usage is empty
+words: notes is no text
+words: aliases is no text
+words: name is no text
+
+# The tables of a description whose own keys are refused are read, its fixed words too.
+[words]
+usage = ''
+[[help_option]]
+[[option]]
+=> name is missing
+words: usage is empty
+help_option 1: short, long or syntax is missing
+option 1: short, long or syntax is missing
+
+# In a choice whose other keys are refused the options are read, and in one without options there is nothing to read.
+name = 'a'
+[[choice]]
+required = 1
+zzz = 1
+[[choice.option]]
+=> choice 1: no key zzz is known here; keys are option and required
+choice 1: required is neither true nor false
+choice 1, option 1: short, long or syntax is missing
+
+# Of what stands in a table of the wrong kind nothing is told, and of a key one fault.
+name = 'a'
+[[group]]
+title = 'G'
+topic = 1
+[group.option]
+long = 1
+=> group 1 (G): no key topic is known here; keys are title, option, choice, positional and command
+group 1 (G): option is no array of tables; write [[group.option]]
+
+# Each name that stands twice, of options and then of commands.
+name = 'a'
+[[option]]
+long = 'b'
+short = 'b'
+[[option]]
+syntax = '-b, --b'
+[[option]]
+long = 'b'
+[[command]]
+name = 'c'
+aliases = ['d']
+[[command]]
+name = 'c'
+aliases = ['d']
+=> option 2 (-b, --b): -b is an option already
+option 2 (-b, --b): --b is an option already
+option 3 (--b): --b is an option already
+command 2 (c): c is a command already
+command 2 (c): d is a name of a command already
+
+# A name that is refused stands nowhere.
+name = 'a'
+[[option]]
+long = '-b'
+[[option]]
+long = '-b'
+[[option]]
+syntax = '--c['
+[[option]]
+long = 'c'
+[[command]]
+name = 'dd'
+[[command]]
+name = 'e'
+short = 'dd'
+=> option 1 (-b): long begins with -; write it without dashes
+option 2 (-b): long begins with -; write it without dashes
+option 3 (--c[): syntax holds a bracket that is in no pair
+command 2 (e): short is not one character
+
+# The first 20 are told, and how many more there are.
+name = 'a'
+[[option]]
+[[option]]
+[[option]]
+[[option]]
+[[option]]
+[[option]]
+[[option]]
+[[option]]
+[[option]]
+[[option]]
+[[option]]
+[[option]]
+[[option]]
+[[option]]
+[[option]]
+[[option]]
+[[option]]
+[[option]]
+[[option]]
+[[option]]
+[[option]]
+[[option]]
+=> option 1: short, long or syntax is missing
+option 2: short, long or syntax is missing
+option 3: short, long or syntax is missing
+option 4: short, long or syntax is missing
+option 5: short, long or syntax is missing
+option 6: short, long or syntax is missing
+option 7: short, long or syntax is missing
+option 8: short, long or syntax is missing
+option 9: short, long or syntax is missing
+option 10: short, long or syntax is missing
+option 11: short, long or syntax is missing
+option 12: short, long or syntax is missing
+option 13: short, long or syntax is missing
+option 14: short, long or syntax is missing
+option 15: short, long or syntax is missing
+option 16: short, long or syntax is missing
+option 17: short, long or syntax is missing
+option 18: short, long or syntax is missing
+option 19: short, long or syntax is missing
+option 20: short, long or syntax is missing
+and 2 more
 "#;

@@ -13,6 +13,8 @@ mod forms;
 #[cfg(test)]
 mod keys;
 #[cfg(test)]
+mod paths;
+#[cfg(test)]
 mod places;
 #[cfg(test)]
 mod reading;

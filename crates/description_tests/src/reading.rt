@@ -2,7 +2,7 @@
 //! nothing, and each refuses the first growth that does not fit, until the call succeeds. Tables, names and what is shown
 //! stand in other memory.
 use crate::forms::{Form, made};
-use description_toml::{DescriptionError, description_from_table};
+use description_toml::{DescriptionError, Faults, description_from_table};
 use lasting_names::Names;
 use linked_list_allocator::LocalHeap;
 use std::alloc::{Allocator, Global};
@@ -16,10 +16,9 @@ fn table(rt: &impl Abort, out: Global, text: &str) -> Table {
     toml::table_from_str(out, text).ok().expect(rt, "a table")
 }
 
-fn copied<B: Allocator>(rt: &impl Abort, out: Global, text: String<B>) -> String {
-    let copy = String::from_str(out, text.as_str()).expect(rt, "a text");
-    drop(text);
-    copy
+// What is told, a line a fault.
+fn lines<A: Allocator>(rt: &impl Abort, out: Global, faults: &Faults<'_, A>) -> String {
+    format!(in out; "{faults}").expect(rt, "a text")
 }
 
 // What is shown of the description that a table gives, or its fault. None where a growth of reading is refused.
@@ -37,7 +36,7 @@ fn said<A: Allocator + Copy>(
             drop(app);
             Some(text)
         }
-        Err(DescriptionError::Content(line)) => Some(copied(rt, out, line)),
+        Err(DescriptionError::Content(faults)) => Some(lines(rt, out, &faults)),
         Err(DescriptionError::Memory(_)) => None,
     }
 }

@@ -18,7 +18,7 @@ const TABLES: &[Row<'static>] = &[
     (
         "name = 'app'\n[[command]]\nname = 'run'\n[[command.option]]\nshort = 'n'\n[[command.option]]\nlong = 'x y'\n",
         Form::Read,
-        "command 1, option 2: long holds a blank",
+        "command 1 (run), option 2 (--x y): long holds a blank",
     ),
     // None, since a fixed word is no title.
     (
@@ -26,17 +26,23 @@ const TABLES: &[Row<'static>] = &[
         Form::Read,
         "words: notes ends with a blank",
     ),
-    // None, since a name of a syntax is taken.
+    // None, since a name of a syntax stands twice.
     (
         "name = 'app'\n[[option]]\nsyntax = '-o, --[no-]x'\n[[option]]\nlong = 'x'\n",
         Form::Read,
-        "description: --x is taken",
+        "option 2 (--x): --x is an option already",
     ),
     // None either, since a key is not known, and the known one is near.
     (
         "name = 'app'\n[[option]]\nlnog = 'x'\n",
         Form::Read,
-        "option 1: no key lnog is known here; is it long?",
+        "option 1: no key lnog is known here; is it long?\noption 1: short, long or syntax is missing",
+    ),
+    // None either, since tables of each kind have faults, which are all told.
+    (
+        "section = 10\n[words]\nusage = 1\n[[help_option]]\n[[choice]]\n[[group]]\n[[group.option]]\n[[positional]]\n[[command]]\nname = 'x'\nshort = 'y'\n[[command.topic]]\n[[command]]\nname = 'x'\naliases = ['y']\n",
+        Form::Read,
+        "name is missing\nsection is no number from 0 to 9\ncommand 2 (x): x is a command already\ncommand 2 (x): y is a name of a command already\nwords: usage is no text\nhelp_option 1: short, long or syntax is missing\nchoice 1: option is missing\ngroup 1: title is missing\ngroup 1, option 1: short, long or syntax is missing\npositional 1: value is missing\ncommand 1 (x), topic 1: title is missing\ncommand 1 (x), topic 1: text is missing",
     ),
 ];
 

@@ -5,24 +5,24 @@ pub const FAULTS: &str = r#"
 [[option]]
 syntax = '-v'
 short = 'v'
-=> option 1: syntax stands beside short
+=> option 1 (-v): syntax stands beside short
 
 [[option]]
 syntax = '-v'
 long = 'verbose'
-=> option 1: syntax stands beside long
+=> option 1 (--verbose): syntax stands beside long
 
 [[option]]
 syntax = '-v'
 short = 'v'
 long = 'verbose'
-=> option 1: syntax stands beside short
+=> option 1 (--verbose): syntax stands beside short
 
 [[choice]]
 [[choice.option]]
 syntax = '-o'
 value = 'FILE'
-=> choice 1, option 1: syntax stands beside value
+=> choice 1, option 1 (-o): syntax stands beside value
 
 [[option]]
 help = 'x'
@@ -38,23 +38,23 @@ syntax = ''
 
 [[option]]
 syntax = ' '
-=> option 1: syntax holds an empty piece
+=> option 1 ( ): syntax holds an empty piece
 
 [[option]]
 syntax = '-a,'
-=> option 1: syntax holds an empty piece
+=> option 1 (-a,): syntax holds an empty piece
 
 [[option]]
 syntax = ', -a'
-=> option 1: syntax holds an empty piece
+=> option 1 (, -a): syntax holds an empty piece
 
 [[option]]
 syntax = '-a,, -b'
-=> option 1: syntax holds an empty piece
+=> option 1 (-a,, -b): syntax holds an empty piece
 
 [[option]]
 syntax = '-a, , -b'
-=> option 1: syntax holds an empty piece
+=> option 1 (-a, , -b): syntax holds an empty piece
 
 [[option]]
 syntax = '-a[,]'
@@ -62,23 +62,23 @@ syntax = '-a[,]'
 
 [[option]]
 syntax = '-a[X'
-=> option 1: syntax holds a bracket that is in no pair
+=> option 1 (-a[X): syntax holds a bracket that is in no pair
 
 [[option]]
 syntax = '-a X]'
-=> option 1: syntax holds a bracket that is in no pair
+=> option 1 (-a X]): syntax holds a bracket that is in no pair
 
 [[option]]
 syntax = '-a[X)'
-=> option 1: syntax holds a bracket that is in no pair
+=> option 1 (-a[X)): syntax holds a bracket that is in no pair
 
 [[option]]
 syntax = '-a ([)]'
-=> option 1: syntax holds a bracket that is in no pair
+=> option 1 (-a ([)]): syntax holds a bracket that is in no pair
 
 [[option]]
 syntax = '-a ]X['
-=> option 1: syntax holds a bracket that is in no pair
+=> option 1 (-a ]X[): syntax holds a bracket that is in no pair
 
 [[option]]
 syntax = '-a ([{<X>}])'
@@ -86,30 +86,32 @@ syntax = '-a ([{<X>}])'
 
 [[option]]
 syntax = "-a\tX"
-=> option 1: syntax holds a control character
+=> option 1 ("-a\tX"): syntax holds a control character
 
 [[option]]
 syntax = "-a\nX"
-=> option 1: syntax holds a control character
+=> option 1 ("-a\nX"): syntax holds a control character
 
 [[option]]
 syntax = "-a\u001b[m"
-=> option 1: syntax holds a control character
+=> option 1 ("-a\u{1b}[m"): syntax holds a control character
 
 [[help_option]]
 syntax = "-a\uffff"
-=> help_option 1: syntax holds a noncharacter
+=> help_option 1 (-a￿): syntax holds a noncharacter
 
 # In the order of keys `syntax` stands between `long` and `value`.
 [[option]]
 syntax = ''
 long = ''
 => option 1: long is empty
+option 1: syntax is empty
 
 [[option]]
 syntax = ''
 value = ''
 => option 1: syntax is empty
+option 1: value is empty
 
 [[option]]
 syntax = '-a X'
@@ -125,16 +127,17 @@ values = ['x']
 syntax = '-a X'
 default = 'x'
 required = true
-=> option 1: required is true beside a default
+=> option 1 (-a X): required is true beside a default
 
 [[option]]
 syntx = '-a'
 => option 1: no key syntx is known here; is it syntax?
+option 1: short, long or syntax is missing
 
 [[positional]]
 value = 'V'
 syntax = 'V'
-=> positional 1: no key syntax is known here
+=> positional 1 (V): no key syntax is known here; keys are value, default, values, help, hidden, required, repeated and strict
 "#;
 
 // Names that are taken, and names that are not.
@@ -143,19 +146,19 @@ pub const TAKEN: &str = r#"
 syntax = '-v, --verbose'
 [[option]]
 short = 'v'
-=> description: -v is taken
+=> option 2 (-v): -v is an option already
 
 [[option]]
 long = 'verbose'
 [[option]]
 syntax = '-v, --verbose=N'
-=> description: --verbose is taken
+=> option 2 (-v, --verbose=N): --verbose is an option already
 
 [[option]]
 long = 'edit'
 [[option]]
 syntax = '--[no-]edit'
-=> description: --edit is taken
+=> option 2 (--[no-]edit): --edit is an option already
 
 [[option]]
 syntax = '--[no-]edit'
@@ -175,7 +178,7 @@ short = 'v'
 syntax = '-vf'
 [[option]]
 syntax = 'X|-vf'
-=> description: -vf is taken
+=> option 2 (X|-vf): -vf is an option already
 
 # One may stand twice in one syntax, and what stands in brackets does not count.
 [[option]]
@@ -207,5 +210,5 @@ syntax = '-a'
 [[group.option]]
 syntax = '-a X'
 hidden = true
-=> description: -a is taken
+=> group 1 (G), choice 1, option 1 (-a): -a is an option already
 "#;

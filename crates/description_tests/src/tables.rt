@@ -62,6 +62,8 @@ const FAULTS: &[Faults] = &[
     ("names of a syntax are taken once", NAME, syntaxes::TAKEN),
     ("what is no syntax is told", NAME, syntaxes::FAULTS),
     ("fixed words are titles", NAME, faults::WORDS),
+    ("what is meant is said", NAME, faults::MEANT),
+    ("each fault is told", "", faults::SEVERAL),
 ];
 
 #[test]

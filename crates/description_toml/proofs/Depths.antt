@@ -7,7 +7,7 @@ use Rattle.toml.specs.Data.{Data, array, table, as_array, as_table, depth, items
 use Rattle.toml.specs.View.{items_view, view}
 use Rattle.toml.specs.declared.value.Value.{Value}
 use Rattle.description.specs.Content.{CommandsSaid, GroupsSaid, no_commands, no_groups}
-use Rattle.description_toml.specs.Described.{as_command, as_commands, as_group, as_groups, commands_at, each_command, each_group, groups_at}
+use Rattle.description_toml.specs.Described.{as_commands, as_groups, commands_at, each_command, each_group, groups_at}
 use Rattle.description_toml.specs.Described.Values.{all_tables, are_tables, tables_at, value_or}
 
 pub item_depth : (vs : List Value) (i : ℕ) (d : Value) → i < length vs → depth (view (get_or vs i d)) ≤ items_depth (items_view vs)
@@ -75,9 +75,3 @@ is_table d ms h2 = grind arith
 
 pub table_depth : (d : Data) (ms : Members) → as_table d ≡ Some ms → depth d ≡ suc (members_depth ms)
 table_depth d ms h = ap depth (is_table d ms h)
-
-pub no_command : (d : Data) → as_table d ≡ None → as_command d ≡ None
-no_command d h1 = grind arith
-
-pub no_group : (d : Data) → as_table d ≡ None → as_group d ≡ None
-no_group d h1 = grind arith

@@ -1,14 +1,14 @@
 -- What the readers of values at keys find.
-use Rattle.std.proofs.Common.{◌≡◌, ◌==◌, ℕ, true, false, length, arith, List, [], ◌∷◌, ◌++◌, Option, Some, None, refl}
+use Rattle.std.proofs.Common.{◌≡◌, ◌==◌, ℕ, Bool, true, false, length, arith, List, [], ◌∷◌, ◌++◌, Option, Some, None, refl}
 use Rattle.std.proofs.lemmas.Bool.Decides.{nat_tests}
 use Rattle.std.proofs.Math.Utf8.{encode}
 use Rattle.std.proofs.lemmas.Str.{chars_past_char}
-use Rattle.std.specs.Prelude.{IsErrAnd, Result, IsUtf8, MatchOption, chars, is_some, slice_get}
+use Rattle.std.specs.Prelude.{IsErrAnd, Result, Ok, Err, IsUtf8, MatchOption, chars, is_some, slice_get}
 use Rattle.toml.specs.View.{items_view}
 use Rattle.toml.specs.declared.value.Value.{Value}
 use Rattle.description_toml.specs.Described.Values.{is_empty, only_character}
 use Rattle.description_toml.specs.Faults.{IsRefusal, Reads}
-use Rattle.description_toml.specs.declared.decode.faults.Fault.{Fault}
+use Rattle.description_toml.specs.declared.decode.teller.Refused.{Refused}
 
 -- a first character, and one behind it
 first_alone : (cs : List ℕ) (c : ℕ) (second : Option ℕ) → second ≡ slice_get cs 0 → is_some second ≡ false → Some c ≡ only_character (c ∷ cs)
@@ -32,6 +32,15 @@ pub no_items_there : (vs : List Value) → (length vs == 0) ≡ is_empty (items_
 no_items_there [] = refl
 no_items_there (v ∷ vs) = grind (arith, nat_tests)
 
--- a fault that is passed on as it came
-pub passed_on : {T X : Type 0} (there : Option X) (said : T → X) (r : Result T Fault) (e : Fault) → IsErrAnd r (λ f. f ≡ e) → (¬ IsRefusal e → there ≡ None) → Reads there said r
+-- an error that is passed on as it came
+pub passed_on : {T X : Type 0} (there : Option X) (said : T → X) (r : Result T Refused) (e : Refused) → IsErrAnd r (λ f. f ≡ e) → (¬ IsRefusal e → there ≡ None) → Reads there said r
 passed_on there said r e h4 h5 = grind arith
+
+-- keys so far: all are known where those that follow are, or one is not
+abbrev pub KnownSoFar : {T : Type 0} → (rest all : Bool) → Result T Refused → Type 0
+KnownSoFar rest all (Ok t) = rest ≡ all
+KnownSoFar rest all (Err e) = all ≡ false
+
+pub unknown_seen : {T : Type 0} (rest all : Bool) (r : Result T Refused) → KnownSoFar rest all r → rest ≡ false → all ≡ false
+unknown_seen rest all (Ok t) h e = grind arith
+unknown_seen rest all (Err f) h e = h

@@ -1,7 +1,7 @@
 -- Items that are read one after another.
 use Rattle.std.proofs.Common.{◌≡◌, ℕ, ◌+◌, ◌<◌, ◌≤◌, List, [], ◌∷◌, ◌++◌, length, drop, get_or, map, Option, Some, None, option_map, refl, sym, ap, ◌∙◌, append_assoc, append-nil, arith}
 use Rattle.std.proofs.lemmas.List.{drop_all, map-append}
-use Rattle.std.specs.Prelude.{option_and_then}
+use Rattle.std.specs.Prelude.{option_and_then, Result, Ok, Err}
 use Rattle.toml.proofs.Views.{items_view-drop}
 use Rattle.toml.specs.Data.{Data}
 use Rattle.toml.specs.View.{items_view, view}
@@ -10,6 +10,8 @@ use Rattle.description.specs.Content.{CommandSaid, CommandsSaid, no_commands, co
 use Rattle.description_toml.specs.Described.{as_command, as_group, each_command, each_group}
 use Rattle.description_toml.specs.Described.Values.{each_item}
 use Rattle.description.specs.View.{commands_in, groups_in}
+use Rattle.description_toml.specs.Faults.{IsRefusal, Joins, Reads}
+use Rattle.description_toml.specs.declared.decode.teller.Refused.{Refused}
 
 -- after the first items, which gave xs
 abbrev pub ReadSoFar : {X : Type 0} → (Data → Option X) → List Value → List X → ℕ → Type 0
@@ -41,6 +43,26 @@ module _ {T X : Type 0} (read : Data → Option X) (said : T → X) (vs : List V
 
   pub items_read : length vs ≤ i → ReadSoFar read vs (map said ts) i → each_item read (items_view vs) ≡ Some (map said ts)
   items_read h s = s ∙ ap (λ us. option_map (λ rest. map said ts ++ rest) (each_item read (items_view us))) (drop_all i vs h) ∙ ap Some (append-nil (map said ts))
+
+-- ---- such a loop that reads on behind an item that is refused
+
+abbrev pub ListSoFar : {L T X : Type 0} → (Data → Option X) → (T → X) → (L → List T) → List Value → Result L Refused → ℕ → Type 0
+ListSoFar read said items vs (Ok list) i = ReadSoFar read vs (map said (items list)) i
+ListSoFar read said items vs (Err e) i = ¬ IsRefusal e → each_item read (items_view vs) ≡ None
+
+module _ {L T X : Type 0} (read : Data → Option X) (said : T → X) (items : L → List T) (vs : List Value) (i : ℕ) where
+  pub item_joined : (list : Result L Refused) (one : Result T Refused) (joined : Result L Refused) {d : Value} → i < length vs → d ≡ get_or vs i d → ListSoFar read said items vs list i → Reads (read (view d)) said one → Joins items list one joined
+      → ListSoFar read said items vs joined (i + 1)
+  item_joined (Ok l) (Ok t) (Ok m) h at s e j = item_read read said vs (items l) i t h at s e j
+  item_joined (Ok l) (Ok t) (Err f) h at s e j = λ n. absurd (n j)
+  item_joined (Ok l) (Err e) (Ok m) h at s r j = absurd j
+  item_joined (Ok l) (Err e) (Err f) h at s r j = λ n. item_faulty read said vs (items l) i h at s (r (j n))
+  item_joined (Err e) one (Ok m) h at s r j = absurd j
+  item_joined (Err e) one (Err f) h at s r j = λ n. s (j n)
+
+  pub items_joined : (list : Result L Refused) → length vs ≤ i → ListSoFar read said items vs list i → Reads (each_item read (items_view vs)) (λ l. map said (items l)) list
+  items_joined (Ok l) h s = items_read read said vs (items l) i h s
+  items_joined (Err e) h s = s
 
 -- ---- commands and groups
 
@@ -105,3 +127,41 @@ group_faulty vs gs i d h s e = group_item vs gs i d h s ∙ rw e refl
 
 pub groups_read : (vs : List Value) (gs : List GroupSaid) (i : ℕ) → GroupsSoFar vs gs i → drop i vs ≡ [] → each_group (items_view vs) ≡ Some (groups_in gs)
 groups_read vs gs i s e = s ∙ ap (λ us. option_map (groups_before gs) (each_group (items_view us))) e ∙ ap Some (groups_all gs)
+
+-- ---- loops over commands and groups that read on behind one that is refused
+
+abbrev pub CommandListSoFar : {L T : Type 0} → (T → CommandSaid) → (L → List T) → List Value → Result L Refused → ℕ → Type 0
+CommandListSoFar said items vs (Ok list) i = CommandsSoFar vs (map said (items list)) i
+CommandListSoFar said items vs (Err e) i = ¬ IsRefusal e → each_command (items_view vs) ≡ None
+
+abbrev pub GroupListSoFar : {L T : Type 0} → (T → GroupSaid) → (L → List T) → List Value → Result L Refused → ℕ → Type 0
+GroupListSoFar said items vs (Ok list) i = GroupsSoFar vs (map said (items list)) i
+GroupListSoFar said items vs (Err e) i = ¬ IsRefusal e → each_group (items_view vs) ≡ None
+
+module _ {L T : Type 0} (said : T → CommandSaid) (items : L → List T) (vs : List Value) (i : ℕ) where
+  pub command_joined : (list : Result L Refused) (one : Result T Refused) (joined : Result L Refused) {d : Value} → i < length vs → d ≡ get_or vs i d → CommandListSoFar said items vs list i → Reads (as_command (view d)) said one → Joins items list one joined
+      → CommandListSoFar said items vs joined (i + 1)
+  command_joined (Ok l) (Ok t) (Ok m) {d} h at s e j = command_read vs (map said (items l)) (map said (items m)) (said t) i d h s (ap (λ v. as_command (view v)) (sym at) ∙ e) (ap (map said) j ∙ map-append said (items l) (t ∷ []))
+  command_joined (Ok l) (Ok t) (Err f) h at s e j = λ n. absurd (n j)
+  command_joined (Ok l) (Err e) (Ok m) h at s r j = absurd j
+  command_joined (Ok l) (Err e) (Err f) {d} h at s r j = λ n. command_faulty vs (map said (items l)) i d h s (ap (λ v. as_command (view v)) (sym at) ∙ r (j n))
+  command_joined (Err e) one (Ok m) h at s r j = absurd j
+  command_joined (Err e) one (Err f) h at s r j = λ n. s (j n)
+
+  pub commands_joined : (list : Result L Refused) → length vs ≤ i → CommandListSoFar said items vs list i → Reads (each_command (items_view vs)) (λ l. commands_in (map said (items l))) list
+  commands_joined (Ok l) h s = commands_read vs (map said (items l)) i s (drop_all i vs h)
+  commands_joined (Err e) h s = s
+
+module _ {L T : Type 0} (said : T → GroupSaid) (items : L → List T) (vs : List Value) (i : ℕ) where
+  pub group_joined : (list : Result L Refused) (one : Result T Refused) (joined : Result L Refused) {d : Value} → i < length vs → d ≡ get_or vs i d → GroupListSoFar said items vs list i → Reads (as_group (view d)) said one → Joins items list one joined
+      → GroupListSoFar said items vs joined (i + 1)
+  group_joined (Ok l) (Ok t) (Ok m) {d} h at s e j = group_read vs (map said (items l)) (map said (items m)) (said t) i d h s (ap (λ v. as_group (view v)) (sym at) ∙ e) (ap (map said) j ∙ map-append said (items l) (t ∷ []))
+  group_joined (Ok l) (Ok t) (Err f) h at s e j = λ n. absurd (n j)
+  group_joined (Ok l) (Err e) (Ok m) h at s r j = absurd j
+  group_joined (Ok l) (Err e) (Err f) {d} h at s r j = λ n. group_faulty vs (map said (items l)) i d h s (ap (λ v. as_group (view v)) (sym at) ∙ r (j n))
+  group_joined (Err e) one (Ok m) h at s r j = absurd j
+  group_joined (Err e) one (Err f) h at s r j = λ n. s (j n)
+
+  pub groups_joined : (list : Result L Refused) → length vs ≤ i → GroupListSoFar said items vs list i → Reads (each_group (items_view vs)) (λ l. groups_in (map said (items l))) list
+  groups_joined (Ok l) h s = groups_read vs (map said (items l)) i s (drop_all i vs h)
+  groups_joined (Err e) h s = s

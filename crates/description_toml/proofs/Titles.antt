@@ -1,8 +1,8 @@
 -- Titles: the colon and the blanks at their ends.
-use Rattle.std.proofs.Common.{◌≡◌, ◌≢◌, ℕ, List, [], ◌∷◌, ◌++◌, length, Bool, false, refl, sym, ap, ◌∙◌, if◌then◌else◌, arith, chars}
+use Rattle.std.proofs.Common.{◌≡◌, ◌≢◌, ℕ, List, [], ◌∷◌, ◌++◌, Bool, false, refl, sym, ap, ◌∙◌, if◌then◌else◌, chars}
 use Rattle.std.proofs.Math.Utf8.{encode}
 use Rattle.std.proofs.lemmas.Bool.{ne_eqb}
-use Rattle.std.proofs.lemmas.Str.{chars_past_char, chars-nil}
+use Rattle.std.proofs.lemmas.Str.{chars_past_char}
 use Rattle.std.specs.Prelude.{IsUtf8}
 use Rattle.description_toml.specs.Described.Texts.{ends, without_colon}
 

@@ -13,23 +13,30 @@ mod faults;
 mod fixed;
 mod levels;
 mod options;
+mod places;
 mod taken;
+mod teller;
 mod texts;
 mod topics;
+mod twice;
+mod unknown;
 mod values;
 
 use description::Description;
-pub use faults::DescriptionError;
-use faults::{Fault, Way};
+pub use faults::{DescriptionError, Fault, Faults};
 use fixed::fixed_in;
 use lasting_names::Names;
-use levels::{Outline, level_of, outline_from};
+use levels::{Outline, level_of, outline_from, read_level_on};
 use options::help_options_in;
-use std::alloc::{AllocError, Allocator};
+use std::alloc::Allocator;
+use teller::{Refused, Teller};
 use texts::{Kind, checked};
 use toml::value::{Date, Datetime};
 use toml::{Table, Value};
-use values::{check_keys, required_word_at, section_at, table_at, tables_at, text_at, value_at};
+use values::{
+    check_keys, lasting, required_word_at, section_at, table_at, table_there, tables_at,
+    tables_there, text_at, value_at,
+};
 
 const DESCRIPTION_KEYS: [&str; 19] = [
     "name",
@@ -58,36 +65,42 @@ const DESCRIPTION_KEYS: [&str; 19] = [
 /// read before an error.
 ///
 /// `Memory` says that an allocation failed, and nothing of the table. While memory lasts, `Content` comes
-/// exactly where the table is no description, and tells where the first fault is: in a table first a key that
-/// is not known, then its keys in the order of `docs/description.md`, then a name that is taken, then the
-/// tables inside it.
+/// exactly where the table is no description, and tells what is wrong in the order in which the table is read: of
+/// a table first the keys that are not known, then its keys in the order of `docs/description.md`, then the names
+/// that stand twice, then the tables inside it. Of what stands inside a table of the wrong kind it tells nothing.
 pub fn description_from_table<'a, A: Allocator + Copy>(
     alloc: A,
     names: &mut Names,
     table: &'a Table,
-) -> Result<Description<'a, A>, DescriptionError<A>>
+) -> Result<Description<'a, A>, DescriptionError<'a, A>>
     ensures ok { IfOk result (λ d. described (table_view table.now) ≡ Some (description_said d)) }
     ensures refused { IfErr result (λ e. ¬ IsMemory e → described (table_view table.now) ≡ None) }
 {
-    let mut way = Way::new(alloc);
-    match description_of(&mut way, names, table) {
+    let mut teller = Teller::new(alloc);
+    match description_of(&mut teller, names, table) {
         Ok(description) => Ok(description),
-        Err(fault) => Err(way.told(fault)),
+        Err(refused) => Err(teller.error(refused)),
     }
 }
-// What the table says, or its first fault, with the way to it.
+
 #[tactic(auto, unfolding(crate::specs::Described::described))]
 fn description_of<'a, A: Allocator + Copy>(
-    way: &mut Way<A>,
+    teller: &mut Teller<'a, A>,
     names: &mut Names,
     table: &'a Table,
-) -> Result<Description<'a, A>, Fault<'a>>
+) -> Result<Description<'a, A>, Refused>
     ensures { Reads (described (table_view table.now)) (λ d. description_said d) result }
 {
-    let head = description_head(way.alloc(), names, table)?;
-    let words = fixed_in(way, head.fixed)?;
-    let help_options = help_options_in(way, names, head.help_options)?;
-    let level = level_of(way, names, head.outline)?;
+    let head = match description_head(teller, names, table) {
+        Ok(head) => head,
+        Err(refused) => {
+            read_tables_on(teller, names, table);
+            return Err(refused);
+        }
+    };
+    let words = fixed_in(teller, head.fixed);
+    let help_options = help_options_in(teller, names, head.help_options);
+    let level = level_of(teller, names, head.outline);
     Ok(Description {
         name: head.name,
         section: head.words.section,
@@ -95,10 +108,21 @@ fn description_of<'a, A: Allocator + Copy>(
         vendor: head.words.vendor,
         title: head.words.title,
         language: head.language,
-        words,
-        help_options,
-        level,
+        words: words?,
+        help_options: help_options?,
+        level: level?,
     })
+}
+
+// Reads the tables of a description whose own keys were refused, to tell of them.
+fn read_tables_on<'a, A: Allocator + Copy>(
+    teller: &mut Teller<'a, A>,
+    names: &mut Names,
+    table: &'a Table,
+) {
+    drop(fixed_in(teller, table_there(table, "words")));
+    drop(help_options_in(teller, names, tables_there(table, "help_option")));
+    read_level_on(teller, names, table);
 }
 
 // The words of the title line.
@@ -123,44 +147,51 @@ struct DescriptionHead<'a> {
 
 #[tactic(auto, unfolding(crate::specs::Described::title_words))]
 fn title_words<'a, A: Allocator + Copy>(
-    alloc: A,
+    teller: &mut Teller<'a, A>,
     names: &mut Names,
     table: &'a Table,
-) -> Result<TitleWords<'a>, Fault<'a>>
+) -> Result<TitleWords<'a>, Refused>
     ensures { Reads (title_words (table_view table.now)) (λ words. words_seen words) result }
 {
-    let section = section_of(section_at(table, "section")?);
-    let date = date_at(alloc, names, table)?;
-    let vendor = text_at(table, "vendor", Kind::Title)?;
-    let title = text_at(table, "title", Kind::Title)?;
+    let section = section_at(teller, table, "section");
+    let date = date_at(teller, names, table);
+    let vendor = text_at(teller, table, "vendor", Kind::Title);
+    let title = text_at(teller, table, "title", Kind::Title);
     Ok(TitleWords {
-        section,
-        date,
-        vendor,
-        title,
+        section: section_of(section?),
+        date: date?,
+        vendor: vendor?,
+        title: title?,
     })
 }
 
 #[tactic(auto, unfolding(crate::specs::Described::description_head))]
 fn description_head<'a, A: Allocator + Copy>(
-    alloc: A,
+    teller: &mut Teller<'a, A>,
     names: &mut Names,
     table: &'a Table,
-) -> Result<DescriptionHead<'a>, Fault<'a>>
+) -> Result<DescriptionHead<'a>, Refused>
     ensures head { Reads (description_head (table_view table.now)) (λ head. description_head_seen head) result }
     ensures groups { IfOk result (λ head. groups_at (codes "group") (table_view table.now)
         ≡ each_group (description_head_seen head).outline.lists.groups) }
     ensures commands { IfOk result (λ head. commands_at (codes "command") (table_view table.now)
         ≡ each_command (description_head_seen head).outline.lists.commands) }
 {
-    check_keys(table, &DESCRIPTION_KEYS)?;
+    let are_known = check_keys(teller, table, &DESCRIPTION_KEYS);
+    let name = required_word_at(teller, names, table, "name", Kind::Program);
+    let words = title_words(teller, names, table);
+    let language = text_at(teller, table, "language", Kind::Language);
+    let fixed = table_at(teller, table, "words");
+    let help_options = tables_at(teller, table, "help_option");
+    let outline = outline_from(teller, table);
+    are_known?;
     Ok(DescriptionHead {
-        name: required_word_at(names, table, "name", Kind::Program)?,
-        words: title_words(alloc, names, table)?,
-        language: language_of(text_at(table, "language", Kind::Language)?),
-        fixed: table_at(table, "words")?,
-        help_options: tables_at(table, "help_option")?,
-        outline: outline_from(alloc, table)?,
+        name: name?,
+        words: words?,
+        language: language_of(language?),
+        fixed: fixed?,
+        help_options: help_options?,
+        outline: outline?,
     })
 }
 
@@ -186,15 +217,15 @@ fn language_of(tag: Option<&str>) -> &str
 
 // The date, as a text or as a TOML date, whose text is kept with the names.
 fn date_at<'a, A: Allocator + Copy>(
-    alloc: A,
+    teller: &mut Teller<'a, A>,
     names: &mut Names,
     table: &'a Table,
-) -> Result<Option<&'a str>, Fault<'a>>
+) -> Result<Option<&'a str>, Refused>
     ensures { Reads (optional_at as_date (codes "date") (table_view table.now)) (λ date. text_of date) result }
 {
     match value_at(table, "date") {
         None => Ok(None),
-        Some(Value::String(text)) => Ok(Some(checked(text.as_str(), "date", Kind::Title)?)),
+        Some(Value::String(text)) => Ok(Some(checked(teller, text.as_str(), "date", Kind::Title)?)),
         Some(
             Value::Datetime(
                 Datetime {
@@ -203,15 +234,21 @@ fn date_at<'a, A: Allocator + Copy>(
                     offset: None,
                 },
             ),
-        ) => Ok(Some(day_of(alloc, names, *day)?)),
-        Some(_) => Err(Fault::at("date", " is no text and no date")),
+        ) => Ok(Some(day_of(teller, names, *day)?)),
+        Some(_) => Err(teller.tell("date", " is no text and no date")),
     }
 }
 
 // The text of a day, kept with the names.
-fn day_of<A: Allocator>(alloc: A, names: &mut Names, day: Date) -> Result<&'static str, AllocError>
-    ensures { IfOk result (λ text. text.now ≡ date_text day) }
+fn day_of<'a, A: Allocator + Copy>(
+    teller: &mut Teller<'a, A>,
+    names: &mut Names,
+    day: Date,
+) -> Result<&'static str, Refused>
+    ensures { Reads (Some (date_text day)) (λ text. text.now) result }
 {
-    let text = format!(in alloc; "{day}")?;
-    names.get(&text)
+    match format!(in teller.alloc(); "{day}") {
+        Ok(text) => lasting(teller, names, &text),
+        Err(_) => Err(teller.out_of_memory()),
+    }
 }

@@ -6,4 +6,4 @@ mod margins;
 mod syntax;
 pub mod words;
 
-pub use decode::{DescriptionError, description_from_table};
+pub use decode::{DescriptionError, Fault, Faults, description_from_table};

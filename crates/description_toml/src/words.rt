@@ -22,6 +22,33 @@ impl Display for Shown<'_> {
     }
 }
 
+// So many characters of a word are shown where it is to be brief.
+const BRIEF: usize = 60;
+
+/// A word as `Shown` has it: of more than 60 characters the first 60, with `..` behind them, and of none two quotes.
+#[derive(Clone, Copy)]
+pub struct Brief<'w>(pub &'w str);
+
+impl Display for Brief<'_> {
+    fn fmt<W: fmt::Write>(&self, f: &mut fmt::Formatter<W>) -> fmt::Result {
+        let Brief(word) = self;
+        if word.is_empty() {
+            return f.write_str("''");
+        }
+        match front(*word) {
+            Some(front) => write!(f, "{}..", Shown(front)),
+            None => write!(f, "{}", Shown(*word)),
+        }
+    }
+}
+
+// The first characters of a word that has more.
+fn front(word: &str) -> Option<&str> {
+    let (end, _) = word.char_indices().nth(BRIEF)?;
+    let (front, _) = word.split_at_checked(end)?;
+    Some(front)
+}
+
 // A word of more bytes is near none of the known ones, whatever they are.
 const LONGEST: usize = 32;
 

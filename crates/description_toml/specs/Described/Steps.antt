@@ -1,15 +1,16 @@
 -- What the lists that the decoder goes over say.
-use Rattle.std.specs.Prelude.{ℕ, [], List, map, Option, option_map, String}
+use Rattle.std.specs.Prelude.{ℕ, [], List, map, Option, Some, None, option_map, if◌then◌else◌, String}
 use Rattle.std.specs.Borrow.{Bor}
 use Rattle.std.specs.BTreeMap.{BTreeMap}
 use Rattle.std.specs.declared.alloc.Global.{Global}
 use Rattle.std.specs.Prelude.{max}
-use Rattle.toml.specs.Data.{Members, items_depth}
+use Rattle.toml.specs.Data.{Items, Members, items_depth}
 use Rattle.toml.specs.View.{items_view, table_view}
 use Rattle.toml.specs.declared.value.Value.{Value}
 use Rattle.description.specs.View.{text_of}
 use Rattle.description.specs.Content.{TextsSaid}
 use Rattle.description_toml.specs.Described.{CommandHead, DescriptionHead, GroupHead, Lists, Outline, TitleWords, ValueSaid}
+use Rattle.description_toml.specs.Described.Values.{is_empty}
 use Rattle.description_toml.specs.declared.decode.options.ValueTexts.{ValueTexts}
 use Rattle.description_toml.specs.declared.decode.levels.Texts.{Texts}
 use Rattle.description_toml.specs.declared.decode.levels.Lists.{Lists as Code}
@@ -56,3 +57,7 @@ description_head_seen d = record { name = d.name.now; words = words_seen d.words
 -- how deep the groups and the commands in the arrays of a level lie
 abbrev pub lists_depth : Lists → ℕ
 lists_depth l = max (items_depth l.groups) (items_depth l.commands)
+
+-- the tables of an array, at least one
+abbrev pub some_tables : Items → Option Items
+some_tables ds = if is_empty ds then None else Some ds

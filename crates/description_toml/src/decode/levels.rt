@@ -7,17 +7,17 @@ ghost use Rattle.description_toml.specs.Described.{each_group, group_head, group
 ghost use Rattle.description_toml.specs.Described.{lists_from, outline_from, texts_from};
 ghost use Rattle.description_toml.specs.Described.Steps.{command_head_seen, group_head_seen, lists_depth};
 ghost use Rattle.description_toml.specs.Described.Steps.{lists_seen, outline_seen, texts_seen};
-ghost use Rattle.description_toml.specs.Faults.{Reads};
+ghost use Rattle.description_toml.specs.Faults.{Reads, Sees};
 ghost use Rattle.description.specs.View.{command_said, commands_said, group_said, groups_said, level_said};
 
-use super::faults::{Fault, Way};
 use super::options::{choices_in, options_in, positionals_in};
 use super::taken::check_names;
+use super::teller::{Refused, Teller};
 use super::texts::Kind;
 use super::topics::topics_in;
 use super::values::{
-    check_keys, flag_at, is_empty, push, required_text_at, required_word_at, short_at, table_of,
-    tables_at, text_at, words_at,
+    check_keys, flag_at, is_empty, required_text_at, required_word_at, short_at, table_of,
+    tables_at, tables_there, text_at, words_at,
 };
 use description::levels::{Command, Group, Level};
 use lasting_names::Names;
@@ -92,19 +92,29 @@ pub struct CommandHead<'a, A: Allocator> {
 }
 
 #[tactic(auto, unfolding(crate::specs::Described::texts_from))]
-fn texts_from<'a>(table: &'a Table) -> Result<Texts<'a>, Fault<'a>>
+fn texts_from<'a, A: Allocator + Copy>(
+    teller: &mut Teller<'a, A>,
+    table: &'a Table,
+) -> Result<Texts<'a>, Refused>
     ensures { Reads (texts_from (table_view table.now)) (λ texts. texts_seen texts) result }
 {
+    let about = text_at(teller, table, "about", Kind::Text);
+    let header = text_at(teller, table, "header", Kind::Text);
+    let footer = text_at(teller, table, "footer", Kind::Text);
+    let usage = text_at(teller, table, "usage", Kind::Text);
     Ok(Texts {
-        about: text_at(table, "about", Kind::Text)?,
-        header: text_at(table, "header", Kind::Text)?,
-        footer: text_at(table, "footer", Kind::Text)?,
-        usage: text_at(table, "usage", Kind::Text)?,
+        about: about?,
+        header: header?,
+        footer: footer?,
+        usage: usage?,
     })
 }
 
 #[tactic(auto, using(crate::proofs::Depths::tables_groups, crate::proofs::Depths::tables_commands, crate::proofs::Depths::tables_depth), unfolding(crate::specs::Described::lists_from))]
-fn lists_from<'a>(table: &'a Table) -> Result<Lists<'a>, Fault<'a>>
+fn lists_from<'a, A: Allocator + Copy>(
+    teller: &mut Teller<'a, A>,
+    table: &'a Table,
+) -> Result<Lists<'a>, Refused>
     ensures lists { Reads (lists_from (table_view table.now)) (λ lists. lists_seen lists) result }
     ensures groups { IfOk result (λ lists. groups_at (codes "group") (table_view table.now)
         ≡ each_group (lists_seen lists).groups) }
@@ -112,22 +122,56 @@ fn lists_from<'a>(table: &'a Table) -> Result<Lists<'a>, Fault<'a>>
         ≡ each_command (lists_seen lists).commands) }
     ensures depth { IfOk result (λ lists. lists_depth (lists_seen lists) ≤ members_depth (table_view table.now)) }
 {
+    let options = tables_at(teller, table, "option");
+    let choices = tables_at(teller, table, "choice");
+    let groups = tables_at(teller, table, "group");
+    let positionals = tables_at(teller, table, "positional");
+    let commands = tables_at(teller, table, "command");
+    let topics = tables_at(teller, table, "topic");
     Ok(Lists {
-        options: tables_at(table, "option")?,
-        choices: tables_at(table, "choice")?,
-        groups: tables_at(table, "group")?,
-        positionals: tables_at(table, "positional")?,
-        commands: tables_at(table, "command")?,
-        topics: tables_at(table, "topic")?,
+        options: options?,
+        choices: choices?,
+        groups: groups?,
+        positionals: positionals?,
+        commands: commands?,
+        topics: topics?,
     })
+}
+
+// The arrays of tables of a level that was refused, to tell of what is inside.
+fn lists_there(table: &Table) -> Lists<'_>
+    ensures { lists_depth (lists_seen result) ≤ members_depth (table_view table.now) }
+{
+    Lists {
+        options: tables_there(table, "option"),
+        choices: tables_there(table, "choice"),
+        groups: tables_there(table, "group"),
+        positionals: tables_there(table, "positional"),
+        commands: tables_there(table, "command"),
+        topics: tables_there(table, "topic"),
+    }
+}
+
+// Those of a group.
+fn group_lists_there(table: &Table) -> Lists<'_>
+    ensures { lists_depth (lists_seen result) ≤ members_depth (table_view table.now) }
+{
+    Lists {
+        options: tables_there(table, "option"),
+        choices: tables_there(table, "choice"),
+        groups: &[],
+        positionals: tables_there(table, "positional"),
+        commands: tables_there(table, "command"),
+        topics: &[],
+    }
 }
 
 /// What the table of a level says of it.
 #[tactic(auto, unfolding(crate::specs::Described::outline_from))]
 pub fn outline_from<'a, A: Allocator + Copy>(
-    alloc: A,
+    teller: &mut Teller<'a, A>,
     table: &'a Table,
-) -> Result<Outline<'a>, Fault<'a>>
+) -> Result<Outline<'a>, Refused>
     ensures outline { Reads (outline_from (table_view table.now)) (λ outline. outline_seen outline) result }
     ensures groups { IfOk result (λ outline. groups_at (codes "group") (table_view table.now)
         ≡ each_group ((outline_seen outline).lists).groups) }
@@ -136,15 +180,17 @@ pub fn outline_from<'a, A: Allocator + Copy>(
     ensures depth { IfOk result (λ outline.
         lists_depth ((outline_seen outline).lists) ≤ members_depth (table_view table.now)) }
 {
-    let texts = texts_from(table)?;
-    let command_required = flag_at(table, "command_required", true)?;
-    let lists = lists_from(table)?;
-    check_names(alloc, table)?;
-    Ok(Outline {
-        texts,
-        command_required,
-        lists,
-    })
+    let texts = texts_from(teller, table);
+    let command_required = flag_at(teller, table, "command_required", true);
+    let lists = lists_from(teller, table);
+    let are_distinct = check_names(teller, table);
+    let outline = Outline {
+        texts: texts?,
+        command_required: command_required?,
+        lists: lists?,
+    };
+    are_distinct?;
+    Ok(outline)
 }
 
 fn has_members(lists: &Lists<'_>) -> bool
@@ -159,10 +205,10 @@ fn has_members(lists: &Lists<'_>) -> bool
 /// The level of an outline, with the tables in it.
 #[cycle(decode)]
 pub fn level_of<'a, A: Allocator + Copy>(
-    way: &mut Way<A>,
+    teller: &mut Teller<'a, A>,
     names: &mut Names,
     outline: Outline<'a>,
-) -> Result<Level<'a, A>, Fault<'a>>
+) -> Result<Level<'a, A>, Refused>
     ensures { Reads (level_of (each_group (outline_seen outline.entry).lists.groups)
         (each_command (outline_seen outline.entry).lists.commands) (outline_seen outline.entry)) (λ l.
         level_said l) result }
@@ -172,33 +218,57 @@ pub fn level_of<'a, A: Allocator + Copy>(
         command_required,
         lists,
     } = outline;
-    let options = options_in(way, names, lists.options)?;
-    let choices = choices_in(way, names, lists.choices)?;
-    let groups = groups_in(way, names, lists.groups)?;
-    let positionals = positionals_in(way, names, lists.positionals)?;
-    let commands = commands_in(way, names, lists.commands)?;
-    let topics = topics_in(way, lists.topics)?;
+    let options = options_in(teller, names, lists.options);
+    let choices = choices_in(teller, names, lists.choices);
+    let groups = groups_in(teller, names, lists.groups);
+    let positionals = positionals_in(teller, names, lists.positionals);
+    let commands = commands_in(teller, names, lists.commands);
+    let topics = topics_in(teller, lists.topics);
     Ok(Level {
         about: texts.about,
         header: texts.header,
         footer: texts.footer,
         usage: texts.usage,
         command_required,
-        options,
-        choices,
-        groups,
-        positionals,
-        commands,
-        topics,
+        options: options?,
+        choices: choices?,
+        groups: groups?,
+        positionals: positionals?,
+        commands: commands?,
+        topics: topics?,
     })
+}
+
+// Reads the tables in a table that was refused, to tell of them.
+#[cycle(decode)]
+fn read_on<'a, A: Allocator + Copy>(
+    teller: &mut Teller<'a, A>,
+    names: &mut Names,
+    lists: Lists<'a>,
+) {
+    drop(options_in(teller, names, lists.options));
+    drop(choices_in(teller, names, lists.choices));
+    drop(groups_in(teller, names, lists.groups));
+    drop(positionals_in(teller, names, lists.positionals));
+    drop(commands_in(teller, names, lists.commands));
+    drop(topics_in(teller, lists.topics));
+}
+
+/// Reads the tables in the table of a level that was refused, to tell of them.
+pub fn read_level_on<'a, A: Allocator + Copy>(
+    teller: &mut Teller<'a, A>,
+    names: &mut Names,
+    table: &'a Table,
+) {
+    read_on(teller, names, lists_there(table));
 }
 
 #[tactic(auto, unfolding(crate::specs::Described::command_head))]
 fn command_head<'a, A: Allocator + Copy>(
-    alloc: A,
+    teller: &mut Teller<'a, A>,
     names: &mut Names,
     table: &'a Table,
-) -> Result<CommandHead<'a, A>, Fault<'a>>
+) -> Result<CommandHead<'a, A>, Refused>
     ensures head { Reads (command_head (table_view table.now)) (λ head. command_head_seen head) result }
     ensures groups { IfOk result (λ head. groups_at (codes "group") (table_view table.now)
         ≡ each_group ((command_head_seen head).outline.lists).groups) }
@@ -207,26 +277,40 @@ fn command_head<'a, A: Allocator + Copy>(
     ensures depth { IfOk result (λ head.
         lists_depth ((command_head_seen head).outline.lists) ≤ members_depth (table_view table.now)) }
 {
-    check_keys(table, &COMMAND_KEYS)?;
+    let are_known = check_keys(teller, table, &COMMAND_KEYS);
+    let name = required_word_at(teller, names, table, "name", Kind::Command);
+    let short = short_at(teller, table, "short");
+    let help = text_at(teller, table, "help", Kind::Text);
+    let hidden = flag_at(teller, table, "hidden", false);
+    let aliases = words_at(teller, names, table, "aliases", Kind::Command);
+    let outline = outline_from(teller, table);
+    are_known?;
     Ok(CommandHead {
-        name: required_word_at(names, table, "name", Kind::Command)?,
-        short: short_at(table, "short")?,
-        help: text_at(table, "help", Kind::Text)?,
-        hidden: flag_at(table, "hidden", false)?,
-        aliases: words_at(alloc, names, table, "aliases", Kind::Command)?,
-        outline: outline_from(alloc, table)?,
+        name: name?,
+        short: short?,
+        help: help?,
+        hidden: hidden?,
+        aliases: aliases?,
+        outline: outline?,
     })
 }
 
 #[cycle(decode)]
 fn command_from<'a, A: Allocator + Copy>(
-    way: &mut Way<A>,
+    teller: &mut Teller<'a, A>,
     names: &mut Names,
     item: &'a Value,
-) -> Result<Command<'a, A>, Fault<'a>>
+) -> Result<Command<'a, A>, Refused>
     ensures { Reads (as_command (view item.now)) (λ c. command_said c) result }
 {
-    let table = table_of(item)?;
+    let table = table_of(teller, item)?;
+    let head = match command_head(teller, names, table) {
+        Ok(head) => head,
+        Err(refused) => {
+            read_on(teller, names, lists_there(table));
+            return Err(refused);
+        }
+    };
     let CommandHead {
         name,
         short,
@@ -234,8 +318,8 @@ fn command_from<'a, A: Allocator + Copy>(
         hidden,
         aliases,
         outline,
-    } = command_head(way.alloc(), names, table)?;
-    let level = level_of(way, names, outline)?;
+    } = head;
+    let level = level_of(teller, names, outline)?;
     Ok(Command {
         name,
         short,
@@ -248,24 +332,27 @@ fn command_from<'a, A: Allocator + Copy>(
 
 #[cycle(decode)]
 fn commands_in<'a, A: Allocator + Copy>(
-    way: &mut Way<A>,
+    teller: &mut Teller<'a, A>,
     names: &mut Names,
     items: &'a [Value],
-) -> Result<Vec<Command<'a, A>, A>, Fault<'a>>
+) -> Result<Vec<Command<'a, A>, A>, Refused>
     ensures { Reads (each_command (items_view items.now)) (λ commands. commands_said commands.items) result }
 {
-    let mut commands = Vec::new(way.alloc());
+    teller.enter("command", items)?;
+    let mut commands = Ok(Vec::new(teller.alloc()));
     for item in items {
-        match command_from(way, names, item) {
-            Ok(one) => push(&mut commands, one)?,
-            Err(fault) => return Err(way.outwards("command", commands.len(), fault)),
-        }
+        let command = command_from(teller, names, item);
+        commands = teller.joined(commands, command);
     }
-    Ok(commands)
+    teller.leave();
+    commands
 }
 
 #[tactic(auto, unfolding(crate::specs::Described::group_head))]
-fn group_head<'a>(table: &'a Table) -> Result<GroupHead<'a>, Fault<'a>>
+fn group_head<'a, A: Allocator + Copy>(
+    teller: &mut Teller<'a, A>,
+    table: &'a Table,
+) -> Result<GroupHead<'a>, Refused>
     ensures head { Reads (group_head (table_view table.now)) (λ head. group_head_seen head) result }
     ensures groups { IfOk result (λ head. groups_at (codes "group") (table_view table.now)
         ≡ each_group ((group_head_seen head).lists).groups) }
@@ -274,49 +361,72 @@ fn group_head<'a>(table: &'a Table) -> Result<GroupHead<'a>, Fault<'a>>
     ensures depth { IfOk result (λ head.
         lists_depth ((group_head_seen head).lists) ≤ members_depth (table_view table.now)) }
 {
-    check_keys(table, &GROUP_KEYS)?;
-    let title = required_text_at(table, "title", Kind::Heading)?;
-    let lists = lists_from(table)?;
-    if has_members(&lists) {
-        Ok(GroupHead { title, lists })
+    let are_known = check_keys(teller, table, &GROUP_KEYS);
+    let title = required_text_at(teller, table, "title", Kind::Heading);
+    let lists = lists_from(teller, table)?;
+    let have_members = check_members(teller, &lists);
+    are_known?;
+    let title = title?;
+    have_members?;
+    Ok(GroupHead { title, lists })
+}
+
+fn check_members<'a, A: Allocator + Copy>(
+    teller: &mut Teller<'a, A>,
+    lists: &Lists<'_>,
+) -> Result<(), Refused>
+    ensures { Sees (has_members (lists_seen lists.now)) result }
+{
+    if has_members(lists) {
+        Ok(())
     } else {
-        Err(Fault::at("option, choice, positional or command", " is missing"))
+        Err(teller.tell_missing("option, choice, positional or command"))
     }
 }
 
 #[cycle(decode)]
 fn group_from<'a, A: Allocator + Copy>(
-    way: &mut Way<A>,
+    teller: &mut Teller<'a, A>,
     names: &mut Names,
     item: &'a Value,
-) -> Result<Group<'a, A>, Fault<'a>>
+) -> Result<Group<'a, A>, Refused>
     ensures { Reads (as_group (view item.now)) (λ g. group_said g) result }
 {
-    let table = table_of(item)?;
-    let GroupHead { title, lists } = group_head(table)?;
+    let table = table_of(teller, item)?;
+    let GroupHead { title, lists } = match group_head(teller, table) {
+        Ok(head) => head,
+        Err(refused) => {
+            read_on(teller, names, group_lists_there(table));
+            return Err(refused);
+        }
+    };
+    let options = options_in(teller, names, lists.options);
+    let choices = choices_in(teller, names, lists.choices);
+    let positionals = positionals_in(teller, names, lists.positionals);
+    let commands = commands_in(teller, names, lists.commands);
     Ok(Group {
         title,
-        options: options_in(way, names, lists.options)?,
-        choices: choices_in(way, names, lists.choices)?,
-        positionals: positionals_in(way, names, lists.positionals)?,
-        commands: commands_in(way, names, lists.commands)?,
+        options: options?,
+        choices: choices?,
+        positionals: positionals?,
+        commands: commands?,
     })
 }
 
 #[cycle(decode)]
 fn groups_in<'a, A: Allocator + Copy>(
-    way: &mut Way<A>,
+    teller: &mut Teller<'a, A>,
     names: &mut Names,
     items: &'a [Value],
-) -> Result<Vec<Group<'a, A>, A>, Fault<'a>>
+) -> Result<Vec<Group<'a, A>, A>, Refused>
     ensures { Reads (each_group (items_view items.now)) (λ groups. groups_said groups.items) result }
 {
-    let mut groups = Vec::new(way.alloc());
+    teller.enter("group", items)?;
+    let mut groups = Ok(Vec::new(teller.alloc()));
     for item in items {
-        match group_from(way, names, item) {
-            Ok(one) => push(&mut groups, one)?,
-            Err(fault) => return Err(way.outwards("group", groups.len(), fault)),
-        }
+        let group = group_from(teller, names, item);
+        groups = teller.joined(groups, group);
     }
-    Ok(groups)
+    teller.leave();
+    groups
 }

@@ -1,5 +1,5 @@
 //! Options, choices and positional values, each from its table.
-ghost use Rattle.std.specs.Prelude.{◌≡◌, map, option_and_then};
+ghost use Rattle.std.specs.Prelude.{◌≡◌, IfOk, codes, map, option_and_then};
 ghost use Rattle.description.specs.View.{text_of, choice_said, opt_said, positional_said, spelling_said};
 ghost use Rattle.toml.specs.Data.{as_table};
 ghost use Rattle.toml.specs.View.{items_view, table_view, view};
@@ -7,15 +7,16 @@ ghost use Rattle.description_toml.specs.Described.{choice_from, help_option_keys
 ghost use Rattle.description_toml.specs.Described.{is_flag, is_syntax, option_of, option_spelling, option_texts};
 ghost use Rattle.description_toml.specs.Described.{option_value, spelling_from, unless_there, positional_from};
 ghost use Rattle.description_toml.specs.Described.{positional_of, positional_texts, required_beside};
-ghost use Rattle.description_toml.specs.Described.Steps.{value_texts_seen, words_of};
-ghost use Rattle.description_toml.specs.Described.Values.{each_table};
+ghost use Rattle.description_toml.specs.Described.Steps.{some_tables, value_texts_seen, words_of};
+ghost use Rattle.description_toml.specs.Described.Texts.{as_value};
+ghost use Rattle.description_toml.specs.Described.Values.{as_default, as_values, each_table, optional_at, tables_at};
 ghost use Rattle.description_toml.specs.Faults.{Reads};
 
-use super::faults::{Fault, Way};
+use super::teller::{Refused, Teller};
 use super::texts::Kind;
 use super::values::{
-    check_keys, default_at, flag_at, is_empty, push, required_word_at, short_at, syntax_at,
-    table_of, tables_at, text_at, values_at, word_at,
+    check_keys, default_at, flag_at, is_empty, required_word_at, short_at, syntax_at, table_of,
+    tables_at, text_at, value_at, values_at, word_at,
 };
 use description::options::{Choice, Name, Opt, Spelling};
 use description::positionals::Positional;
@@ -43,34 +44,35 @@ const POSITIONAL_KEYS: [&str; 8] = [
 ];
 
 fn option_spelling<'a, A: Allocator + Copy>(
-    alloc: A,
+    teller: &mut Teller<'a, A>,
     names: &mut Names,
     table: &'a Table,
-) -> Result<Spelling<'a>, Fault<'a>>
+) -> Result<Spelling<'a>, Refused>
     ensures { Reads (option_spelling (table_view table.now)) (λ spelling. spelling_said spelling) result }
 {
-    let short = short_at(table, "short")?;
-    let long = word_at(names, table, "long", Kind::Long)?;
-    let syntax = syntax_at(alloc, table)?;
-    spelling_from(short, long, syntax)
+    let short = short_at(teller, table, "short");
+    let long = word_at(teller, names, table, "long", Kind::Long);
+    let syntax = syntax_at(teller, table);
+    spelling_from(teller, short?, long?, syntax?)
 }
 
-fn spelling_from<'a>(
+fn spelling_from<'a, A: Allocator + Copy>(
+    teller: &mut Teller<'a, A>,
     short: Option<char>,
     long: Option<&'static str>,
     syntax: Option<&'a str>,
-) -> Result<Spelling<'a>, Fault<'a>>
+) -> Result<Spelling<'a>, Refused>
     ensures { Reads (spelling_from short (text_of long.entry) (text_of syntax.entry))
         (λ spelling. spelling_said spelling) result }
 {
     match (short, long, syntax) {
-        (None, None, None) => Err(Fault::at("short, long or syntax", " is missing")),
+        (None, None, None) => { Err(teller.tell_missing("short, long or syntax")) },
         (Some(short), None, None) => Ok(Spelling::Names(Name::Short(short))),
         (None, Some(long), None) => Ok(Spelling::Names(Name::Long(long))),
         (Some(short), Some(long), None) => Ok(Spelling::Names(Name::Both(short, long))),
         (None, None, Some(text)) => Ok(Spelling::Syntax(text)),
-        (None, Some(_), Some(_)) => Err(Fault::at("syntax", " stands beside long")),
-        (Some(_), _, Some(_)) => Err(Fault::at("syntax", " stands beside short")),
+        (None, Some(_), Some(_)) => Err(teller.tell("syntax", " stands beside long")),
+        (Some(_), _, Some(_)) => Err(teller.tell("syntax", " stands beside short")),
     }
 }
 
@@ -83,6 +85,16 @@ fn is_syntax(spelling: Spelling<'_>) -> bool
     }
 }
 
+// Whether an option has a syntax. Of one that is spelled wrong it is whether the key is there.
+fn has_syntax(spelling: Result<Spelling<'_>, Refused>, table: &Table) -> bool
+    ensures { IfOk spelling.entry (λ spelling. result ≡ is_syntax (spelling_said spelling)) }
+{
+    match spelling {
+        Ok(spelling) => is_syntax(spelling),
+        Err(_) => value_at(table, "syntax").is_some(),
+    }
+}
+
 // What is said of the value of an option.
 #[derive(Clone, Copy)]
 struct ValueTexts<'a> {
@@ -91,26 +103,63 @@ struct ValueTexts<'a> {
     values: Option<&'a str>,
 }
 
-#[tactic(auto, unfolding(crate::specs::Described::option_value))]
-fn option_value<'a, A: Allocator + Copy>(
-    alloc: A,
+// The word for a value, which stands beside no syntax.
+fn value_beside<'a, A: Allocator + Copy>(
+    teller: &mut Teller<'a, A>,
     names: &mut Names,
     table: &'a Table,
     is_syntax: bool,
-) -> Result<ValueTexts<'a>, Fault<'a>>
+) -> Result<Option<&'static str>, Refused>
+    ensures { Reads (option_and_then (unless_there is_syntax) (optional_at as_value (codes "value")
+        (table_view table.now))) (λ text. text_of text) result }
+{
+    let value = word_at(teller, names, table, "value", Kind::Value)?;
+    unless_there(teller, is_syntax, value, "syntax", " stands beside value")
+}
+
+fn default_beside<'a, A: Allocator + Copy>(
+    teller: &mut Teller<'a, A>,
+    names: &mut Names,
+    table: &'a Table,
+    is_flag: bool,
+) -> Result<Option<&'a str>, Refused>
+    ensures { Reads (option_and_then (unless_there is_flag) (optional_at as_default (codes "default")
+        (table_view table.now))) (λ text. text_of text) result }
+{
+    let default = default_at(teller, names, table)?;
+    unless_there(teller, is_flag, default, "default", BESIDE_NONE)
+}
+
+fn values_beside<'a, A: Allocator + Copy>(
+    teller: &mut Teller<'a, A>,
+    names: &mut Names,
+    table: &'a Table,
+    is_flag: bool,
+) -> Result<Option<&'static str>, Refused>
+    ensures { Reads (option_and_then (unless_there is_flag) (optional_at as_values (codes "values")
+        (table_view table.now))) (λ text. text_of text) result }
+{
+    let values = values_at(teller, names, table)?;
+    unless_there(teller, is_flag, values, "values", BESIDE_NONE)
+}
+
+#[tactic(auto, unfolding(crate::specs::Described::option_value))]
+fn option_value<'a, A: Allocator + Copy>(
+    teller: &mut Teller<'a, A>,
+    names: &mut Names,
+    table: &'a Table,
+    is_syntax: bool,
+) -> Result<ValueTexts<'a>, Refused>
     ensures { Reads (option_value is_syntax (table_view table.now)) (λ texts. value_texts_seen texts) result }
 {
-    let value = word_at(names, table, "value", Kind::Value)?;
-    let value = unless_there(is_syntax, value, "syntax", " stands beside value")?;
-    let is_flag = is_flag(is_syntax, value);
-    let default = default_at(alloc, names, table)?;
-    let default = unless_there(is_flag, default, "default", BESIDE_NONE)?;
-    let values = values_at(alloc, names, table)?;
-    let values = unless_there(is_flag, values, "values", BESIDE_NONE)?;
+    let value = value_beside(teller, names, table, is_syntax);
+    let is_flag = seems_flag(is_syntax, value);
+    let default = default_beside(teller, names, table, is_flag);
+    let values = values_beside(teller, names, table, is_flag);
     Ok(ValueTexts {
-        value,
-        default,
-        values,
+        value: value?,
+        default: default?,
+        values: values?,
     })
 }
 
@@ -123,17 +172,28 @@ fn is_flag(is_syntax: bool, value: Option<&str>) -> bool
     !(is_syntax || value.is_some())
 }
 
+// Whether nothing can be said of the value. Where the word for it is wrong, something can.
+fn seems_flag(is_syntax: bool, value: Result<Option<&str>, Refused>) -> bool
+    ensures { IfOk value.entry (λ value. result ≡ is_flag is_syntax (text_of value)) }
+{
+    match value {
+        Ok(value) => is_flag(is_syntax, value),
+        Err(_) => false,
+    }
+}
+
 // A text, which is refused where something else is there.
-fn unless_there<'t, 'a>(
+fn unless_there<'a, 't, A: Allocator + Copy>(
+    teller: &mut Teller<'a, A>,
     is_other_there: bool,
     text: Option<&'t str>,
     key: &'static str,
     after: &'static str,
-) -> Result<Option<&'t str>, Fault<'a>>
+) -> Result<Option<&'t str>, Refused>
     ensures { Reads (unless_there is_other_there (text_of text.entry)) (λ text. text_of text) result }
 {
     if is_other_there && text.is_some() {
-        Err(Fault::at(key, after))
+        Err(teller.tell(key, after))
     } else {
         Ok(text)
     }
@@ -141,236 +201,287 @@ fn unless_there<'t, 'a>(
 
 // All of an option but whether it is required and repeated.
 fn option_texts<'a, A: Allocator + Copy>(
-    alloc: A,
+    teller: &mut Teller<'a, A>,
     names: &mut Names,
     table: &'a Table,
-) -> Result<Opt<'a>, Fault<'a>>
+) -> Result<Opt<'a>, Refused>
     ensures { Reads (option_texts (table_view table.now)) (λ option. opt_said option) result }
 {
-    let spelling = option_spelling(alloc, names, table)?;
+    let spelling = option_spelling(teller, names, table);
+    let texts = option_value(teller, names, table, has_syntax(spelling, table));
+    let help = text_at(teller, table, "help", Kind::Text);
+    let hidden = flag_at(teller, table, "hidden", false);
+    let env = word_at(teller, names, table, "env", Kind::Name);
+    let spelling = spelling?;
     let ValueTexts {
         value,
         default,
         values,
-    } = option_value(alloc, names, table, is_syntax(spelling))?;
-    let help = text_at(table, "help", Kind::Text)?;
-    let hidden = flag_at(table, "hidden", false)?;
-    let env = word_at(names, table, "env", Kind::Name)?;
+    } = texts?;
     Ok(Opt {
         spelling,
         value,
         default,
         values,
-        help,
-        env,
+        help: help?,
+        env: env?,
         required: false,
         repeated: false,
-        hidden,
+        hidden: hidden?,
     })
 }
 
 // Whether something has to be given, which may be left out where it has a default.
-fn required_beside<'a>(
+fn required_beside<'a, A: Allocator + Copy>(
+    teller: &mut Teller<'a, A>,
     default: Option<&str>,
     left_out: bool,
     table: &'a Table,
-) -> Result<bool, Fault<'a>>
+) -> Result<bool, Refused>
     ensures { Reads (required_beside (text_of default.entry) left_out (table_view table.now))
         (λ required. required) result }
 {
     if default.is_none() {
-        return flag_at(table, "required", left_out);
+        return flag_at(teller, table, "required", left_out);
     }
-    if flag_at(table, "required", false)? {
-        Err(Fault::at("required", " is true beside a default"))
+    if flag_at(teller, table, "required", false)? {
+        Err(teller.tell("required", " is true beside a default"))
     } else {
         Ok(false)
     }
 }
 
+// The default of an option, and none of one that was refused.
+fn option_default<'a>(option: Result<Opt<'a>, Refused>) -> Option<&'a str>
+    ensures { IfOk option.entry (λ option. result ≡ option.default) }
+{
+    match option {
+        Ok(option) => option.default,
+        Err(_) => None,
+    }
+}
+
 fn option_of<'a, A: Allocator + Copy>(
-    alloc: A,
+    teller: &mut Teller<'a, A>,
     names: &mut Names,
     table: &'a Table,
-) -> Result<Opt<'a>, Fault<'a>>
+) -> Result<Opt<'a>, Refused>
     ensures { Reads (option_of (table_view table.now)) (λ option. opt_said option) result }
 {
-    let option = option_texts(alloc, names, table)?;
-    let required = required_beside(option.default, false, table)?;
-    let repeated = flag_at(table, "repeated", false)?;
+    let option = option_texts(teller, names, table);
+    let required = required_beside(teller, option_default(option), false, table);
+    let repeated = flag_at(teller, table, "repeated", false);
+    let option = option?;
     Ok(Opt {
-        required,
-        repeated,
+        required: required?,
+        repeated: repeated?,
         ..option
     })
 }
 
 #[tactic(auto, unfolding(crate::specs::Described::option_from))]
 fn option_from<'a, A: Allocator + Copy>(
-    alloc: A,
+    teller: &mut Teller<'a, A>,
     names: &mut Names,
     item: &'a Value,
     keys: &'static [&'static str],
-) -> Result<Opt<'a>, Fault<'a>>
+) -> Result<Opt<'a>, Refused>
     ensures { Reads (option_and_then (option_from (words_of keys.now)) (as_table (view item.now)))
         (λ option. opt_said option) result }
 {
-    let table = table_of(item)?;
-    check_keys(table, keys)?;
-    option_of(alloc, names, table)
+    let table = table_of(teller, item)?;
+    let are_known = check_keys(teller, table, keys);
+    let option = option_of(teller, names, table);
+    are_known?;
+    option
 }
 
 // Options of the kind of table that has these keys.
 fn options_with<'a, A: Allocator + Copy>(
-    way: &mut Way<A>,
+    teller: &mut Teller<'a, A>,
     names: &mut Names,
     items: &'a [Value],
     kind: &'static str,
     keys: &'static [&'static str],
-) -> Result<Vec<Opt<'a>, A>, Fault<'a>>
+) -> Result<Vec<Opt<'a>, A>, Refused>
     ensures { Reads (each_table (option_from (words_of keys.now)) (items_view items.now))
         (λ options. map opt_said options.items) result }
 {
-    let mut options = Vec::new(way.alloc());
+    teller.enter(kind, items)?;
+    let mut options = Ok(Vec::new(teller.alloc()));
     for item in items {
-        match option_from(way.alloc(), names, item, keys) {
-            Ok(one) => push(&mut options, one)?,
-            Err(fault) => return Err(way.outwards(kind, options.len(), fault)),
-        }
+        let option = option_from(teller, names, item, keys);
+        options = teller.joined(options, option);
     }
-    Ok(options)
+    teller.leave();
+    options
 }
 
 /// Options, each from its table.
 pub fn options_in<'a, A: Allocator + Copy>(
-    way: &mut Way<A>,
+    teller: &mut Teller<'a, A>,
     names: &mut Names,
     items: &'a [Value],
-) -> Result<Vec<Opt<'a>, A>, Fault<'a>>
+) -> Result<Vec<Opt<'a>, A>, Refused>
     ensures { Reads (each_table (option_from option_keys) (items_view items.now))
         (λ options. map opt_said options.items) result }
 {
-    options_with(way, names, items, "option", &OPTION_KEYS)
+    options_with(teller, names, items, "option", &OPTION_KEYS)
 }
 
 /// Options that ask for help, each from its table.
 pub fn help_options_in<'a, A: Allocator + Copy>(
-    way: &mut Way<A>,
+    teller: &mut Teller<'a, A>,
     names: &mut Names,
     items: &'a [Value],
-) -> Result<Vec<Opt<'a>, A>, Fault<'a>>
+) -> Result<Vec<Opt<'a>, A>, Refused>
     ensures { Reads (each_table (option_from help_option_keys) (items_view items.now))
         (λ options. map opt_said options.items) result }
 {
-    options_with(way, names, items, "help_option", &HELP_OPTION_KEYS)
+    options_with(teller, names, items, "help_option", &HELP_OPTION_KEYS)
+}
+
+// The tables of the options of a choice, of which there is one.
+fn alternatives_at<'a, A: Allocator + Copy>(
+    teller: &mut Teller<'a, A>,
+    table: &'a Table,
+) -> Result<&'a [Value], Refused>
+    ensures { Reads (option_and_then some_tables (tables_at (codes "option") (table_view table.now)))
+        (λ items. items_view items.now) result }
+{
+    let items = tables_at(teller, table, "option")?;
+    if is_empty(items) {
+        Err(teller.tell_missing("option"))
+    } else {
+        Ok(items)
+    }
 }
 
 #[tactic(auto, unfolding(crate::specs::Described::choice_from))]
 fn choice_from<'a, A: Allocator + Copy>(
-    way: &mut Way<A>,
+    teller: &mut Teller<'a, A>,
     names: &mut Names,
     item: &'a Value,
-) -> Result<Choice<'a, A>, Fault<'a>>
+) -> Result<Choice<'a, A>, Refused>
     ensures { Reads (option_and_then choice_from (as_table (view item.now))) (λ choice. choice_said choice) result }
 {
-    let table = table_of(item)?;
-    check_keys(table, &CHOICE_KEYS)?;
-    let items = tables_at(table, "option")?;
-    if is_empty(items) {
-        return Err(Fault::at("option", " is missing"));
-    }
-    let required = flag_at(table, "required", false)?;
-    let options = options_with(way, names, items, "option", &ALTERNATIVE_KEYS)?;
-    Ok(Choice { options, required })
+    let table = table_of(teller, item)?;
+    let are_known = check_keys(teller, table, &CHOICE_KEYS);
+    let items = alternatives_at(teller, table);
+    let required = flag_at(teller, table, "required", false);
+    let options = options_with(teller, names, items?, "option", &ALTERNATIVE_KEYS);
+    are_known?;
+    Ok(Choice {
+        options: options?,
+        required: required?,
+    })
 }
 
 /// Choices, each from its table.
 pub fn choices_in<'a, A: Allocator + Copy>(
-    way: &mut Way<A>,
+    teller: &mut Teller<'a, A>,
     names: &mut Names,
     items: &'a [Value],
-) -> Result<Vec<Choice<'a, A>, A>, Fault<'a>>
+) -> Result<Vec<Choice<'a, A>, A>, Refused>
     ensures { Reads (each_table choice_from (items_view items.now)) (λ choices. map choice_said choices.items)
         result }
 {
-    let mut choices = Vec::new(way.alloc());
+    teller.enter("choice", items)?;
+    let mut choices = Ok(Vec::new(teller.alloc()));
     for item in items {
-        match choice_from(way, names, item) {
-            Ok(one) => push(&mut choices, one)?,
-            Err(fault) => return Err(way.outwards("choice", choices.len(), fault)),
-        }
+        let choice = choice_from(teller, names, item);
+        choices = teller.joined(choices, choice);
     }
-    Ok(choices)
+    teller.leave();
+    choices
 }
 
 #[tactic(auto, unfolding(crate::specs::Described::positional_from))]
 fn positional_from<'a, A: Allocator + Copy>(
-    alloc: A,
+    teller: &mut Teller<'a, A>,
     names: &mut Names,
     item: &'a Value,
-) -> Result<Positional<'a>, Fault<'a>>
+) -> Result<Positional<'a>, Refused>
     ensures { Reads (option_and_then positional_from (as_table (view item.now))) (λ positional.
         positional_said positional) result }
 {
-    let table = table_of(item)?;
-    check_keys(table, &POSITIONAL_KEYS)?;
-    positional_of(alloc, names, table)
+    let table = table_of(teller, item)?;
+    let are_known = check_keys(teller, table, &POSITIONAL_KEYS);
+    let positional = positional_of(teller, names, table);
+    are_known?;
+    positional
 }
 
 // All of a positional value but whether it is required, repeated and strict.
 fn positional_texts<'a, A: Allocator + Copy>(
-    alloc: A,
+    teller: &mut Teller<'a, A>,
     names: &mut Names,
     table: &'a Table,
-) -> Result<Positional<'a>, Fault<'a>>
+) -> Result<Positional<'a>, Refused>
     ensures { Reads (positional_texts (table_view table.now)) (λ positional. positional_said positional) result }
 {
+    let value = required_word_at(teller, names, table, "value", Kind::Value);
+    let default = default_at(teller, names, table);
+    let values = values_at(teller, names, table);
+    let help = text_at(teller, table, "help", Kind::Text);
+    let hidden = flag_at(teller, table, "hidden", false);
     Ok(Positional {
-        value: required_word_at(names, table, "value", Kind::Value)?,
-        default: default_at(alloc, names, table)?,
-        values: values_at(alloc, names, table)?,
-        help: text_at(table, "help", Kind::Text)?,
-        hidden: flag_at(table, "hidden", false)?,
+        value: value?,
+        default: default?,
+        values: values?,
+        help: help?,
+        hidden: hidden?,
         required: true,
         repeated: false,
         strict: false,
     })
 }
 
+// The default of a positional value, and none of one that was refused.
+fn positional_default<'a>(positional: Result<Positional<'a>, Refused>) -> Option<&'a str>
+    ensures { IfOk positional.entry (λ positional. result ≡ positional.default) }
+{
+    match positional {
+        Ok(positional) => positional.default,
+        Err(_) => None,
+    }
+}
+
 fn positional_of<'a, A: Allocator + Copy>(
-    alloc: A,
+    teller: &mut Teller<'a, A>,
     names: &mut Names,
     table: &'a Table,
-) -> Result<Positional<'a>, Fault<'a>>
+) -> Result<Positional<'a>, Refused>
     ensures { Reads (positional_of (table_view table.now)) (λ positional. positional_said positional) result }
 {
-    let positional = positional_texts(alloc, names, table)?;
-    let required = required_beside(positional.default, true, table)?;
-    let repeated = flag_at(table, "repeated", false)?;
-    let strict = flag_at(table, "strict", false)?;
+    let positional = positional_texts(teller, names, table);
+    let required = required_beside(teller, positional_default(positional), true, table);
+    let repeated = flag_at(teller, table, "repeated", false);
+    let strict = flag_at(teller, table, "strict", false);
+    let positional = positional?;
     Ok(Positional {
-        required,
-        repeated,
-        strict,
+        required: required?,
+        repeated: repeated?,
+        strict: strict?,
         ..positional
     })
 }
 
 /// Positional values, each from its table.
 pub fn positionals_in<'a, A: Allocator + Copy>(
-    way: &mut Way<A>,
+    teller: &mut Teller<'a, A>,
     names: &mut Names,
     items: &'a [Value],
-) -> Result<Vec<Positional<'a>, A>, Fault<'a>>
+) -> Result<Vec<Positional<'a>, A>, Refused>
     ensures { Reads (each_table positional_from (items_view items.now))
         (λ positionals. map positional_said positionals.items) result }
 {
-    let mut positionals = Vec::new(way.alloc());
+    teller.enter("positional", items)?;
+    let mut positionals = Ok(Vec::new(teller.alloc()));
     for item in items {
-        match positional_from(way.alloc(), names, item) {
-            Ok(one) => push(&mut positionals, one)?,
-            Err(fault) => return Err(way.outwards("positional", positionals.len(), fault)),
-        }
+        let positional = positional_from(teller, names, item);
+        positionals = teller.joined(positionals, positional);
     }
-    Ok(positionals)
+    teller.leave();
+    positionals
 }

@@ -1,5 +1,5 @@
 //! Names that stand twice on a level.
-ghost use Rattle.std.specs.Prelude.{◌≡◌, ◌++◌, codes, IfOk, OnOk, flat_map, is_none, option_to_list, true, false};
+ghost use Rattle.std.specs.Prelude.{◌≡◌, ◌&&◌, ◌++◌, codes, IfOk, OnOk, flat_map, option_to_list, true, false};
 ghost use Rattle.toml.specs.Data.{as_str, as_table};
 ghost use Rattle.toml.specs.View.{items_view, table_view, view};
 ghost use Rattle.description.specs.View.{text_of};
@@ -11,7 +11,8 @@ ghost use Rattle.description_toml.specs.Syntax.{syntax_names};
 ghost use Rattle.description_toml.specs.Described.Steps.{views_of, words_of};
 ghost use Rattle.description_toml.specs.Faults.{Sees};
 
-use super::faults::Fault;
+use super::teller::{Refused, Teller};
+use super::twice::{tell_commands, tell_options};
 use super::values::value_at;
 use crate::syntax::put_names;
 use std::alloc::{AllocError, Allocator};
@@ -20,71 +21,110 @@ use toml::{Table, Value};
 
 /// Refuses a level on which two options share a name, which may stand in a syntax, or two commands a name, a short
 /// name or another one. It looks at the names alone, since what stands inside the tables is read later.
-pub fn check_names<'a, A: Allocator + Copy>(alloc: A, table: &'a Table) -> Result<(), Fault<'a>>
+pub fn check_names<'a, A: Allocator + Copy>(
+    teller: &mut Teller<'a, A>,
+    table: &'a Table,
+) -> Result<(), Refused>
     ensures { Sees (has_distinct_names (table_view table.now)) result }
+{
+    let Ok(distinct) = distinct_in(teller.alloc(), table) else {
+        return Err(teller.out_of_memory());
+    };
+    if distinct.are_all() {
+        return Ok(());
+    }
+    tell_twice(teller, table, distinct)?;
+    Err(Refused::Told)
+}
+
+fn tell_twice<'a, A: Allocator + Copy>(
+    teller: &mut Teller<'a, A>,
+    table: &'a Table,
+    distinct: Distinct,
+) -> Result<(), Refused> {
+    if !distinct.behind_one_dash {
+        tell_options(teller, table, false)?;
+    }
+    if !distinct.behind_two_dashes {
+        tell_options(teller, table, true)?;
+    }
+    if distinct.commands {
+        Ok(())
+    } else {
+        tell_commands(teller, table)
+    }
+}
+
+// Which names of a level stand once each.
+#[derive(Clone, Copy)]
+struct Distinct {
+    behind_one_dash: bool,
+    behind_two_dashes: bool,
+    commands: bool,
+}
+
+impl Distinct {
+    fn are_all(&self) -> bool
+        ensures { result ≡ self.now.behind_one_dash && (self.now.behind_two_dashes && self.now.commands) }
+    {
+        self.behind_one_dash && self.behind_two_dashes && self.commands
+    }
+}
+
+fn distinct_in<'a, A: Allocator + Copy>(alloc: A, table: &'a Table) -> Result<Distinct, AllocError>
+    ensures one { IfOk result (λ d. d.behind_one_dash
+        ≡ are_distinct (flat_map (option_names false) (level_options (table_view table.now)))) }
+    ensures two { IfOk result (λ d. d.behind_two_dashes
+        ≡ are_distinct (flat_map (option_names true) (level_options (table_view table.now)))) }
+    ensures commands { IfOk result (λ d. d.commands
+        ≡ are_distinct (flat_map command_words (level_commands (table_view table.now)))) }
 {
     let mut options = Vec::new(alloc);
     put_level_options(&mut options, table, alloc)?;
-    check_options(alloc, &options, false)?;
-    check_options(alloc, &options, true)?;
-    check_commands(alloc, table)
+    Ok(Distinct {
+        behind_one_dash: are_options_distinct(alloc, &options, false)?,
+        behind_two_dashes: are_options_distinct(alloc, &options, true)?,
+        commands: are_commands_distinct(alloc, table)?,
+    })
 }
 
 // A word of a command may be another word of its own, but none of another command.
-fn check_commands<'a, A: Allocator + Copy>(alloc: A, table: &'a Table) -> Result<(), Fault<'a>>
-    ensures { Sees (are_distinct (flat_map command_words (level_commands (table_view table.now)))) result }
+fn are_commands_distinct<'a, A: Allocator + Copy>(
+    alloc: A,
+    table: &'a Table,
+) -> Result<bool, AllocError>
+    ensures { IfOk result (λ b. b ≡ are_distinct (flat_map command_words (level_commands (table_view table.now)))) }
 {
     let mut commands = Vec::new(alloc);
     put_level_commands(&mut commands, table, alloc)?;
     let mut words = Vec::new(alloc);
     put_command_words(&mut words, &commands, alloc)?;
-    check_distinct(alloc, &words, "command ")
+    are_distinct(alloc, &words)
 }
 
 // Of the names of options those that begin with two dashes, or those that begin with one.
-fn check_options<'a, A: Allocator + Copy>(
+fn are_options_distinct<'a, A: Allocator + Copy>(
     alloc: A,
     options: &[&'a Table],
     are_two: bool,
-) -> Result<(), Fault<'a>>
-    ensures { Sees (are_distinct (flat_map (option_names are_two) (views_of options.now))) result }
+) -> Result<bool, AllocError>
+    ensures { IfOk result (λ b. b ≡ are_distinct (flat_map (option_names are_two) (views_of options.now))) }
 {
     let mut names = Vec::new(alloc);
     put_option_names(&mut names, options, are_two, alloc)?;
-    check_distinct(alloc, &names, if are_two { "--" } else { "-" })
+    are_distinct(alloc, &names)
 }
 
-fn check_distinct<'a, A: Allocator + Copy>(
-    alloc: A,
-    texts: &[&'a str],
-    prefix: &'static str,
-) -> Result<(), Fault<'a>>
-    ensures { Sees (are_distinct (words_of texts.now)) result }
-{
-    match first_repeated(alloc, texts)? {
-        None => Ok(()),
-        Some(text) => Err(Fault::Content {
-            before: prefix,
-            name: text,
-            after: " is taken",
-        }),
-    }
-}
-
-// The first text that stood before.
-fn first_repeated<'a, A: Allocator + Copy>(
-    alloc: A,
-    texts: &[&'a str],
-) -> Result<Option<&'a str>, AllocError>
-    ensures { IfOk result (λ repeated. is_none repeated ≡ are_distinct (words_of texts.now)) }
+fn are_distinct<A: Allocator + Copy>(alloc: A, texts: &[&str]) -> Result<bool, AllocError>
+    ensures { IfOk result (λ b. b ≡ are_distinct (words_of texts.now)) }
 {
     let mut seen = BTreeSet::new(alloc);
     for text in texts {
         if !seen.insert(*text)? {
-            return Ok(Some(*text));
+            return Ok(false);
         }
     }
-    Ok(None)
+    Ok(true)
 }
 
 // Each `put` appends; after `AllocError` some may stand there.
@@ -104,7 +144,7 @@ fn put_option_names<'a, A: Allocator + Copy>(
     Ok(())
 }
 
-fn put_names_of<'a, A: Allocator + Copy>(
+pub fn put_names_of<'a, A: Allocator + Copy>(
     names: &mut Vec<&'a str, A>,
     option: &'a Table,
     are_two: bool,
@@ -151,7 +191,7 @@ fn put_command_words<'a, A: Allocator + Copy>(
     Ok(())
 }
 
-fn put_words_of<'a, A: Allocator + Copy>(
+pub fn put_words_of<'a, A: Allocator + Copy>(
     words: &mut Vec<&'a str, A>,
     command: &'a Table,
     alloc: A,
@@ -219,7 +259,7 @@ fn text_in(item: &Value) -> Option<&str>
     }
 }
 
-fn text_under<'a>(table: &'a Table, key: &str) -> Option<&'a str>
+pub fn text_under<'a>(table: &'a Table, key: &str) -> Option<&'a str>
     ensures { text_of result ≡ text_under key.now (table_view table.now) }
 {
     match value_at(table, key) {

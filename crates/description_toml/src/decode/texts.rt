@@ -9,7 +9,8 @@ ghost use Rattle.description_toml.specs.Described.Texts.{is_name_character, is_n
 ghost use Rattle.description_toml.specs.Described.Texts.{is_text_character, without_colon};
 ghost use Rattle.description_toml.specs.Faults.{Reads};
 
-use super::faults::Fault;
+use super::teller::{Refused, Teller};
+use std::alloc::Allocator;
 
 /// What a text at a key is, which decides what it may hold.
 #[derive(Clone, Copy)]
@@ -40,8 +41,8 @@ pub enum Kind {
     Command,
 }
 
-// Why a character or a text is refused, as it is said behind the key; nothing where it is not refused.
-type Refusal = Option<&'static str>;
+/// Why a character or a text is refused, as it is said behind the key; nothing where it is not refused.
+pub type Refusal = Option<&'static str>;
 
 fn is_noncharacter(character: char) -> bool
     ensures { result ≡ is_noncharacter character }
@@ -105,18 +106,24 @@ fn refused_if_empty(text: &str) -> Refusal
     }
 }
 
-fn refused_with_a_dash(text: &str) -> Refusal
+const WITHOUT_DASHES: &str = " begins with -; write it without dashes";
+
+/// Why a text that is not one character is no short name.
+pub fn refused_as_character(text: &str) -> &'static str {
+    if text.as_bytes().first() == Some(&b'-') {
+        WITHOUT_DASHES
+    } else {
+        " is not one character"
+    }
+}
+
+// `told` is said of a dash.
+fn refused_with_a_dash(text: &str, told: &'static str) -> Refusal
     ensures { is_none result ≡ not (is_empty_text text.now) && not (begins is_dash text.now) }
 {
     match text.as_bytes().first() {
         None => Some(" is empty"),
-        Some(first) => {
-            if *first == b'-' {
-                Some(" begins with -")
-            } else {
-                None
-            }
-        }
+        Some(first) => { if *first == b'-' { Some(told) } else { None } }
     }
 }
 
@@ -274,8 +281,11 @@ impl Kind {
             Kind::Language => refused_as_language(text),
             Kind::Body | Kind::Value | Kind::Name => refused_if_empty(text),
             Kind::Program => first_of(refused_if_empty(text), refused_by_roff(text.as_bytes())),
-            Kind::Long => refused_with_a_dash(text),
-            Kind::Command => first_of(refused_with_a_dash(text), refused_by_roff(text.as_bytes())),
+            Kind::Long => refused_with_a_dash(text, WITHOUT_DASHES),
+            Kind::Command => first_of(
+                refused_with_a_dash(text, " begins with -"),
+                refused_by_roff(text.as_bytes()),
+            ),
         }
     }
 
@@ -292,7 +302,8 @@ impl Kind {
         None
     }
 
-    fn refuses_text(self, text: &str) -> Refusal
+    /// Why a text is none of this kind.
+    pub fn refuses_text(self, text: &str) -> Refusal
         ensures { is_none result ≡ is_of self text.now }
     {
         match self.refuses_characters(text) {
@@ -303,22 +314,32 @@ impl Kind {
 }
 
 /// The text that stands at a key, if it is of this kind.
-pub fn checked<'a>(text: &'a str, key: &'static str, kind: Kind) -> Result<&'a str, Fault<'a>>
+pub fn checked<'a, 't, A: Allocator + Copy>(
+    teller: &mut Teller<'a, A>,
+    text: &'t str,
+    key: &'static str,
+    kind: Kind,
+) -> Result<&'t str, Refused>
     ensures { Reads (if_passes (is_of kind) text.now) (λ text. text.now) result }
 {
     match kind.refuses_text(text) {
         None => Ok(text),
-        Some(after) => Err(Fault::at(key, after)),
+        Some(after) => Err(teller.tell(key, after)),
     }
 }
 
 /// A text that stands in the array at a key, if it is of this kind.
-pub fn checked_in<'a>(text: &'a str, key: &'static str, kind: Kind) -> Result<&'a str, Fault<'a>>
+pub fn checked_in<'a, 't, A: Allocator + Copy>(
+    teller: &mut Teller<'a, A>,
+    text: &'t str,
+    key: &'static str,
+    kind: Kind,
+) -> Result<&'t str, Refused>
     ensures { Reads (if_passes (is_of kind) text.now) (λ text. text.now) result }
 {
     match kind.refuses_text(text) {
         None => Ok(text),
-        Some(after) => Err(Fault::at(
+        Some(after) => Err(teller.tell(
             key,
             if text.is_empty() {
                 " holds an empty text"

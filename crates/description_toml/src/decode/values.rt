@@ -1,59 +1,73 @@
 //! What stands at a key of a table.
-ghost use Rattle.std.specs.Prelude.{◌≡◌, codes, IfOk, option_and_then, option_map, chars, bytes_eq, OnOk, [], ◌∷◌};
-ghost use Rattle.std.specs.Prelude.{◌++◌};
+ghost use Rattle.std.specs.Prelude.{◌≡◌, codes, IfErr, Some, option_and_then, option_map, chars, bytes_eq};
+ghost use Rattle.std.specs.Prelude.{OnOk, [], ◌∷◌};
+ghost use Rattle.std.specs.Prelude.{◌++◌, ◌≤◌};
 ghost use Rattle.std.specs.Fmt.{signed_decimal};
 ghost use Rattle.std.specs.List.{list_any};
 ghost use Rattle.description.specs.View.{text_of};
-ghost use Rattle.toml.specs.Data.{as_table, get_member};
+ghost use Rattle.toml.specs.Data.{as_table, get_member, items_depth, members_depth};
 ghost use Rattle.toml.specs.View.{items_view, table_view, view};
 ghost use Rattle.description_toml.specs.Described.Kinds.{as_kind};
 ghost use Rattle.description_toml.specs.Described.Values.{are_tables, as_default, as_section, as_short, as_texts};
 ghost use Rattle.description_toml.specs.Described.Texts.{if_passes, is_value};
-ghost use Rattle.description_toml.specs.Described.Values.{as_syntax, as_values, digit_text};
+ghost use Rattle.description_toml.specs.Described.Values.{as_syntax, as_values, digit_text, listed_texts};
 ghost use Rattle.description_toml.specs.Described.Values.{each_item, is_empty, words_at, flag_at, has_only};
 ghost use Rattle.description_toml.specs.Described.Values.{if_short, optional_at, required_at, only_character};
 ghost use Rattle.description_toml.specs.Described.Values.{table_at, tables_at};
 ghost use Rattle.description_toml.specs.Described.Steps.{member_view, words_of};
 ghost use Rattle.description_toml.specs.Syntax.{is_well_formed};
-ghost use Rattle.description_toml.specs.Faults.{Reads, Sees};
+ghost use Rattle.description_toml.specs.Faults.{IsRefusal, Reads, Sees};
 
-use super::faults::Fault;
-use super::texts::{Kind, checked, checked_in, refused_as_short};
+use super::teller::{Refused, Teller};
+use super::texts::{Kind, checked, checked_in, refused_as_character, refused_as_short};
 use crate::syntax::{are_paired, are_pieces_full};
 use lasting_names::Names;
-use std::alloc::{AllocError, Allocator};
+use std::alloc::Allocator;
 use toml::{Table, Value};
 
 /// The table that a value has to be.
-pub fn table_of<'a>(value: &'a Value) -> Result<&'a Table, Fault<'a>>
-    ensures { Reads (as_table (view value.now)) (λ table. table_view table.now) result }
-{
-    table_in(value, "this")
-}
-
-// The table that stands at a key.
-fn table_in<'a>(value: &'a Value, key: &'static str) -> Result<&'a Table, Fault<'a>>
+pub fn table_of<'a, A: Allocator + Copy>(
+    teller: &mut Teller<'a, A>,
+    value: &'a Value,
+) -> Result<&'a Table, Refused>
     ensures { Reads (as_table (view value.now)) (λ table. table_view table.now) result }
 {
     match value {
         Value::Table(table) => Ok(table),
-        _ => Err(Fault::at(key, " is no table")),
+        _ => Err(teller.tell_missing("a table")),
     }
 }
 
-/// Refuses a table that has a key which is none of these.
-pub fn check_keys<'a>(table: &'a Table, keys: &'static [&'static str]) -> Result<(), Fault<'a>>
+// The table that stands at a key.
+fn table_in<'a, A: Allocator + Copy>(
+    teller: &mut Teller<'a, A>,
+    value: &'a Value,
+    key: &'static str,
+) -> Result<&'a Table, Refused>
+    ensures { Reads (as_table (view value.now)) (λ table. table_view table.now) result }
+{
+    match value {
+        Value::Table(table) => Ok(table),
+        _ => Err(teller.tell(key, " is no table")),
+    }
+}
+
+/// Refuses a table that has a key which is none of these, and tells of each.
+#[tactic(auto, using(crate::proofs::Reading::unknown_seen))]
+pub fn check_keys<'a, A: Allocator + Copy>(
+    teller: &mut Teller<'a, A>,
+    table: &'a Table,
+    keys: &'static [&'static str],
+) -> Result<(), Refused>
     ensures { Sees (has_only (words_of keys.now) (table_view table.now)) result }
 {
+    let mut are_known = Ok(());
     for (key, _) in table.iter() {
         if !is_known(key.as_str(), keys) {
-            return Err(Fault::Unknown {
-                key: key.as_str(),
-                known: keys,
-            });
+            are_known = Err(teller.tell_unknown(key.as_str(), keys));
         }
     }
-    Ok(())
+    are_known
 }
 
 fn is_known(key: &str, keys: &[&str]) -> bool
@@ -75,229 +89,290 @@ pub fn value_at<'a>(table: &'a Table, key: &str) -> Option<&'a Value>
 }
 
 /// The text of a kind at a key.
-pub fn text_at<'a>(
+pub fn text_at<'a, A: Allocator + Copy>(
+    teller: &mut Teller<'a, A>,
     table: &'a Table,
     key: &'static str,
     kind: Kind,
-) -> Result<Option<&'a str>, Fault<'a>>
+) -> Result<Option<&'a str>, Refused>
     ensures { Reads (optional_at (as_kind kind) key.now (table_view table.now)) (λ text. text_of text) result }
 {
     match value_at(table, key) {
         None => Ok(None),
-        Some(Value::String(text)) => Ok(Some(checked(text.as_str(), key, kind)?)),
-        Some(_) => Err(Fault::at(key, " is no text")),
+        Some(Value::String(text)) => Ok(Some(checked(teller, text.as_str(), key, kind)?)),
+        Some(_) => Err(teller.tell(key, " is no text")),
     }
 }
 
 /// The text of a kind at a key that may not be left out.
-pub fn required_text_at<'a>(
+pub fn required_text_at<'a, A: Allocator + Copy>(
+    teller: &mut Teller<'a, A>,
     table: &'a Table,
     key: &'static str,
     kind: Kind,
-) -> Result<&'a str, Fault<'a>>
+) -> Result<&'a str, Refused>
     ensures { Reads (required_at (as_kind kind) key.now (table_view table.now)) (λ text. text.now) result }
 {
-    match text_at(table, key, kind)? {
+    match text_at(teller, table, key, kind)? {
         Some(text) => Ok(text),
-        None => Err(Fault::at(key, " is missing")),
+        None => Err(teller.tell_missing(key)),
     }
 }
 
 /// The text of a kind at a key, as one that lasts.
-pub fn word_at<'a>(
+pub fn word_at<'a, A: Allocator + Copy>(
+    teller: &mut Teller<'a, A>,
     names: &mut Names,
     table: &'a Table,
     key: &'static str,
     kind: Kind,
-) -> Result<Option<&'static str>, Fault<'a>>
+) -> Result<Option<&'static str>, Refused>
     ensures { Reads (optional_at (as_kind kind) key.now (table_view table.now)) (λ word. text_of word) result }
 {
-    match text_at(table, key, kind)? {
-        Some(text) => Ok(Some(names.get(text)?)),
+    match text_at(teller, table, key, kind)? {
+        Some(text) => Ok(Some(lasting(teller, names, text)?)),
         None => Ok(None),
     }
 }
 
 /// The text of a kind at a key that may not be left out, as one that lasts.
-pub fn required_word_at<'a>(
+pub fn required_word_at<'a, A: Allocator + Copy>(
+    teller: &mut Teller<'a, A>,
     names: &mut Names,
     table: &'a Table,
     key: &'static str,
     kind: Kind,
-) -> Result<&'static str, Fault<'a>>
+) -> Result<&'static str, Refused>
     ensures { Reads (required_at (as_kind kind) key.now (table_view table.now)) (λ word. word.now) result }
 {
-    match word_at(names, table, key, kind)? {
+    match word_at(teller, names, table, key, kind)? {
         Some(word) => Ok(word),
-        None => Err(Fault::at(key, " is missing")),
+        None => Err(teller.tell_missing(key)),
     }
 }
 
 /// The texts of a kind in the array at a key, at least one, as ones that last. None where the array is left out.
 pub fn words_at<'a, A: Allocator + Copy>(
-    alloc: A,
+    teller: &mut Teller<'a, A>,
     names: &mut Names,
     table: &'a Table,
     key: &'static str,
     kind: Kind,
-) -> Result<Vec<&'static str, A>, Fault<'a>>
+) -> Result<Vec<&'static str, A>, Refused>
     ensures { Reads (words_at (as_kind kind) key.now (table_view table.now)) (λ words. words_of words.items) result }
 {
     match value_at(table, key) {
-        None => Ok(Vec::new(alloc)),
-        Some(value) => words_of_value(alloc, names, value, key, kind),
+        None => Ok(Vec::new(teller.alloc())),
+        Some(value) => words_of_value(teller, names, value, key, kind),
     }
 }
 
 fn words_of_value<'a, A: Allocator + Copy>(
-    alloc: A,
+    teller: &mut Teller<'a, A>,
     names: &mut Names,
     value: &'a Value,
     key: &'static str,
     kind: Kind,
-) -> Result<Vec<&'static str, A>, Fault<'a>>
+) -> Result<Vec<&'static str, A>, Refused>
     ensures { Reads (as_texts (as_kind kind) (view value.now)) (λ words. words_of words.items) result }
 {
     let Value::Array(items) = value else {
-        return Err(Fault::at(key, " is no array of texts"));
+        return Err(teller.tell(key, " is no array of texts"));
     };
     if is_empty(items) {
-        return Err(Fault::at(key, " is empty"));
+        return Err(teller.tell(key, " is empty"));
     }
-    words_in(alloc, names, items, key, kind)
+    words_in(teller, names, items, key, kind)
 }
 
 fn words_in<'a, A: Allocator + Copy>(
-    alloc: A,
+    teller: &mut Teller<'a, A>,
     names: &mut Names,
     items: &'a [Value],
     key: &'static str,
     kind: Kind,
-) -> Result<Vec<&'static str, A>, Fault<'a>>
+) -> Result<Vec<&'static str, A>, Refused>
     ensures { Reads (each_item (as_kind kind) (items_view items.now)) (λ words. words_of words.items) result }
 {
-    let mut words = Vec::new(alloc);
+    let mut words = Vec::new(teller.alloc());
     for item in items {
-        push(&mut words, word_in(names, item, key, kind)?)?;
+        let word = word_in(teller, names, item, key, kind)?;
+        push(teller, &mut words, word)?;
     }
     Ok(words)
 }
 
-fn word_in<'a>(
+fn word_in<'a, A: Allocator + Copy>(
+    teller: &mut Teller<'a, A>,
     names: &mut Names,
     item: &'a Value,
     key: &'static str,
     kind: Kind,
-) -> Result<&'static str, Fault<'a>>
+) -> Result<&'static str, Refused>
     ensures { Reads (as_kind kind (view item.now)) (λ word. word.now) result }
 {
     match item {
-        Value::String(text) => Ok(names.get(checked_in(text.as_str(), key, kind)?)?),
-        _ => Err(Fault::at(key, " is no array of texts")),
+        Value::String(text) => {
+            let text = checked_in(teller, text.as_str(), key, kind)?;
+            lasting(teller, names, text)
+        }
+        _ => Err(teller.tell(key, " is no array of texts")),
     }
 }
 
 /// What holds where a value is not given, at the key `default`, as a text or as a whole number. The text of a number
 /// lasts.
 pub fn default_at<'a, A: Allocator + Copy>(
-    alloc: A,
+    teller: &mut Teller<'a, A>,
     names: &mut Names,
     table: &'a Table,
-) -> Result<Option<&'a str>, Fault<'a>>
+) -> Result<Option<&'a str>, Refused>
     ensures { Reads (optional_at as_default (codes "default") (table_view table.now)) (λ text. text_of text) result }
 {
     match value_at(table, "default") {
         None => Ok(None),
-        Some(Value::String(text)) => Ok(Some(checked(text.as_str(), "default", Kind::Line)?)),
+        Some(Value::String(text)) => Ok(Some(checked(
+            teller,
+            text.as_str(),
+            "default",
+            Kind::Line,
+        )?)),
         Some(Value::Integer(number)) => {
-            let text = number_text(alloc, names, *number)?;
-            Ok(Some(checked(text, "default", Kind::Line)?))
+            let text = number_text(teller, names, *number)?;
+            Ok(Some(checked(teller, text, "default", Kind::Line)?))
         }
-        Some(_) => Err(Fault::at("default", " is no text and no whole number")),
+        Some(_) => Err(teller.tell("default", " is no text and no whole number")),
     }
 }
 
-fn number_text<A: Allocator>(
-    alloc: A,
+fn number_text<'a, A: Allocator + Copy>(
+    teller: &mut Teller<'a, A>,
     names: &mut Names,
     number: i64,
-) -> Result<&'static str, AllocError>
-    ensures { IfOk result (λ text. text.now ≡ signed_decimal number) }
+) -> Result<&'static str, Refused>
+    ensures { Reads (Some (signed_decimal number)) (λ text. text.now) result }
 {
-    let text = format!(in alloc; "{number}")?;
-    names.get(&text)
+    match format!(in teller.alloc(); "{number}") {
+        Ok(text) => lasting(teller, names, &text),
+        Err(_) => Err(teller.out_of_memory()),
+    }
+}
+
+/// The text, as one that lasts.
+pub fn lasting<'a, A: Allocator + Copy>(
+    teller: &mut Teller<'a, A>,
+    names: &mut Names,
+    text: &str,
+) -> Result<&'static str, Refused>
+    ensures { Reads (Some text.now) (λ word. word.now) result }
+{
+    match names.get(text) {
+        Ok(word) => Ok(word),
+        Err(_) => Err(teller.out_of_memory()),
+    }
 }
 
 /// The values that there may be, at the key `values`, as one text that lasts.
 pub fn values_at<'a, A: Allocator + Copy>(
-    alloc: A,
+    teller: &mut Teller<'a, A>,
     names: &mut Names,
     table: &'a Table,
-) -> Result<Option<&'static str>, Fault<'a>>
+) -> Result<Option<&'static str>, Refused>
     ensures { Reads (optional_at as_values (codes "values") (table_view table.now)) (λ text. text_of text) result }
 {
     match value_at(table, "values") {
         None => Ok(None),
-        Some(value) => Ok(Some(values_in(alloc, names, value)?)),
+        Some(value) => Ok(Some(values_in(teller, names, value)?)),
     }
 }
 
 fn values_in<'a, A: Allocator + Copy>(
-    alloc: A,
+    teller: &mut Teller<'a, A>,
     names: &mut Names,
     value: &'a Value,
-) -> Result<&'static str, Fault<'a>>
+) -> Result<&'static str, Refused>
     ensures { Reads (as_values (view value.now)) (λ text. text.now) result }
 {
-    let words = words_of_value(alloc, names, value, "values", Kind::Value)?;
-    let listed = words.join(alloc, ", ")?;
-    checked(names.get(&listed)?, "values", Kind::Value)
+    let words = words_of_value(teller, names, value, "values", Kind::Value)?;
+    let listed = listed_text(teller, names, &words)?;
+    checked(teller, listed, "values", Kind::Value)
+}
+
+// The texts with a comma and a blank between each two, as one that lasts.
+fn listed_text<'a, A: Allocator + Copy>(
+    teller: &mut Teller<'a, A>,
+    names: &mut Names,
+    words: &[&'static str],
+) -> Result<&'static str, Refused>
+    ensures { Reads (Some (listed_texts (words_of words.now))) (λ text. text.now) result }
+{
+    match words.join(teller.alloc(), ", ") {
+        Ok(listed) => lasting(teller, names, &listed),
+        Err(_) => Err(teller.out_of_memory()),
+    }
 }
 
 /// How an option is written, at the key `syntax`.
-pub fn syntax_at<'a, A: Allocator>(alloc: A, table: &'a Table) -> Result<Option<&'a str>, Fault<'a>>
+pub fn syntax_at<'a, A: Allocator + Copy>(
+    teller: &mut Teller<'a, A>,
+    table: &'a Table,
+) -> Result<Option<&'a str>, Refused>
     ensures { Reads (optional_at as_syntax (codes "syntax") (table_view table.now)) (λ text. text_of text) result }
 {
     match value_at(table, "syntax") {
         None => Ok(None),
-        Some(Value::String(text)) => Ok(Some(syntax_in(alloc, text.as_str())?)),
-        Some(_) => Err(Fault::at("syntax", " is no text")),
+        Some(Value::String(text)) => Ok(Some(syntax_in(teller, text.as_str())?)),
+        Some(_) => Err(teller.tell("syntax", " is no text")),
     }
 }
 
-fn syntax_in<'a, A: Allocator>(alloc: A, text: &'a str) -> Result<&'a str, Fault<'a>>
+fn syntax_in<'a, A: Allocator + Copy>(
+    teller: &mut Teller<'a, A>,
+    text: &'a str,
+) -> Result<&'a str, Refused>
     ensures { Reads (option_and_then (if_passes is_well_formed) (if_passes is_value text.now)) (λ text. text.now)
         result }
 {
-    let text = checked(text, "syntax", Kind::Value)?;
-    well_formed(alloc, text)
+    let text = checked(teller, text, "syntax", Kind::Value)?;
+    well_formed(teller, text)
 }
 
-fn well_formed<'a, A: Allocator>(alloc: A, text: &'a str) -> Result<&'a str, Fault<'a>>
+fn well_formed<'a, A: Allocator + Copy>(
+    teller: &mut Teller<'a, A>,
+    text: &'a str,
+) -> Result<&'a str, Refused>
     ensures { Reads (if_passes is_well_formed text.now) (λ text. text.now) result }
 {
-    if !are_paired(alloc, text)? {
-        return Err(Fault::at("syntax", " holds a bracket that is in no pair"));
+    let Ok(are_paired) = are_paired(teller.alloc(), text) else {
+        return Err(teller.out_of_memory());
+    };
+    if !are_paired {
+        return Err(teller.tell("syntax", " holds a bracket that is in no pair"));
     }
     if !are_pieces_full(text) {
-        return Err(Fault::at("syntax", " holds an empty piece"));
+        return Err(teller.tell("syntax", " holds an empty piece"));
     }
     Ok(text)
 }
 
 /// The flag at a key.
-pub fn flag_at<'a>(table: &'a Table, key: &'static str, default: bool) -> Result<bool, Fault<'a>>
+pub fn flag_at<'a, A: Allocator + Copy>(
+    teller: &mut Teller<'a, A>,
+    table: &'a Table,
+    key: &'static str,
+    default: bool,
+) -> Result<bool, Refused>
     ensures { Reads (flag_at default key.now (table_view table.now)) (λ flag. flag) result }
 {
     match value_at(table, key) {
         None => Ok(default),
         Some(Value::Boolean(flag)) => Ok(*flag),
-        Some(_) => Err(Fault::at(key, " is neither true nor false")),
+        Some(_) => Err(teller.tell(key, " is neither true nor false")),
     }
 }
 
 // The character of a text that has one.
-fn only_character(text: &str) -> Option<char>
+pub fn only_character(text: &str) -> Option<char>
     ensures { result ≡ only_character (chars text.now) }
 {
     let mut characters = text.chars();
@@ -310,40 +385,52 @@ fn only_character(text: &str) -> Option<char>
 }
 
 /// The short name at a key.
-pub fn short_at<'a>(table: &'a Table, key: &'static str) -> Result<Option<char>, Fault<'a>>
+pub fn short_at<'a, A: Allocator + Copy>(
+    teller: &mut Teller<'a, A>,
+    table: &'a Table,
+    key: &'static str,
+) -> Result<Option<char>, Refused>
     ensures { Reads (optional_at as_short key.now (table_view table.now)) (λ short. short) result }
 {
     match value_at(table, key) {
         None => Ok(None),
-        Some(Value::String(text)) => Ok(Some(short_in(text.as_str(), key)?)),
-        Some(_) => Err(Fault::at(key, " is no text")),
+        Some(Value::String(text)) => Ok(Some(short_in(teller, text.as_str(), key)?)),
+        Some(_) => Err(teller.tell(key, " is no text")),
     }
 }
 
-fn short_in<'a>(text: &str, key: &'static str) -> Result<char, Fault<'a>>
+fn short_in<'a, A: Allocator + Copy>(
+    teller: &mut Teller<'a, A>,
+    text: &str,
+    key: &'static str,
+) -> Result<char, Refused>
     ensures { Reads (option_and_then if_short (only_character (chars text.now))) (λ short. short) result }
 {
     let Some(short) = only_character(text) else {
-        return Err(Fault::at(key, " is not one character"));
+        return Err(teller.tell(key, refused_as_character(text)));
     };
     match refused_as_short(short) {
         None => Ok(short),
-        Some(after) => Err(Fault::at(key, after)),
+        Some(after) => Err(teller.tell(key, after)),
     }
 }
 
 /// The section of the manual at a key, as a text or as a number of one digit.
-pub fn section_at<'a>(table: &'a Table, key: &'static str) -> Result<Option<&'a str>, Fault<'a>>
+pub fn section_at<'a, A: Allocator + Copy>(
+    teller: &mut Teller<'a, A>,
+    table: &'a Table,
+    key: &'static str,
+) -> Result<Option<&'a str>, Refused>
     ensures { Reads (optional_at as_section key.now (table_view table.now)) (λ section. text_of section) result }
 {
     match value_at(table, key) {
         None => Ok(None),
-        Some(Value::String(text)) => Ok(Some(checked(text.as_str(), key, Kind::Section)?)),
+        Some(Value::String(text)) => Ok(Some(checked(teller, text.as_str(), key, Kind::Section)?)),
         Some(Value::Integer(number)) => match digit_text(*number) {
-            None => Err(Fault::at(key, " is no number from 0 to 9")),
+            None => Err(teller.tell(key, " is no number from 0 to 9")),
             digit => Ok(digit),
         },
-        Some(_) => Err(Fault::at(key, " is no text and no number")),
+        Some(_) => Err(teller.tell(key, " is no text and no number")),
     }
 }
 
@@ -367,23 +454,60 @@ fn digit_text(number: i64) -> Option<&'static str>
 }
 
 /// The table at a key.
-pub fn table_at<'a>(table: &'a Table, key: &'static str) -> Result<Option<&'a Table>, Fault<'a>>
+pub fn table_at<'a, A: Allocator + Copy>(
+    teller: &mut Teller<'a, A>,
+    table: &'a Table,
+    key: &'static str,
+) -> Result<Option<&'a Table>, Refused>
     ensures { Reads (table_at key.now (table_view table.now)) (λ inner. member_view inner) result }
 {
     match value_at(table, key) {
         None => Ok(None),
-        Some(value) => Ok(Some(table_in(value, key)?)),
+        Some(value) => Ok(Some(table_in(teller, value, key)?)),
     }
 }
 
 /// The tables of the array at a key.
-pub fn tables_at<'a>(table: &'a Table, key: &'static str) -> Result<&'a [Value], Fault<'a>>
+pub fn tables_at<'a, A: Allocator + Copy>(
+    teller: &mut Teller<'a, A>,
+    table: &'a Table,
+    key: &'static str,
+) -> Result<&'a [Value], Refused>
     ensures { Reads (tables_at key.now (table_view table.now)) (λ tables. items_view tables.now) result }
 {
+    match tables_found(table, key) {
+        Some(tables) => Ok(tables),
+        None => Err(teller.tell_no_tables(key, table_there(table, key).is_some())),
+    }
+}
+
+// None where something else is there.
+fn tables_found<'a>(table: &'a Table, key: &str) -> Option<&'a [Value]>
+    ensures { option_map (λ tables. items_view tables.now) result ≡ tables_at key.now (table_view table.now) }
+{
     match value_at(table, key) {
-        None => Ok(&[]),
-        Some(Value::Array(items)) if are_tables(items) => Ok(items),
-        Some(_) => Err(Fault::at(key, " is no array of tables")),
+        None => Some(&[]),
+        Some(Value::Array(items)) if are_tables(items) => Some(items),
+        Some(_) => None,
+    }
+}
+
+/// The tables of the array at a key, and none where something else is there.
+#[tactic(auto, using(crate::proofs::Depths::tables_depth))]
+pub fn tables_there<'a>(table: &'a Table, key: &str) -> &'a [Value]
+    ensures { items_depth (items_view result.now) ≤ members_depth (table_view table.now) }
+{
+    match tables_found(table, key) {
+        Some(tables) => tables,
+        None => &[],
+    }
+}
+
+/// The table at a key, and none where none is there.
+pub fn table_there<'a>(table: &'a Table, key: &str) -> Option<&'a Table> {
+    match value_at(table, key) {
+        Some(Value::Table(inner)) => Some(inner),
+        _ => None,
     }
 }
 
@@ -407,9 +531,16 @@ pub fn is_empty(items: &[Value]) -> bool
 }
 
 /// Puts one more last.
-pub fn push<T: Drop, A: Allocator>(list: &mut Vec<T, A>, one: T) -> Result<(), AllocError>
-    ensures { OnOk result (list.new.items ≡ list.old.items ++ one ∷ []) }
+pub fn push<'a, T: Drop, A: Allocator + Copy>(
+    teller: &mut Teller<'a, A>,
+    list: &mut Vec<T, A>,
+    one: T,
+) -> Result<(), Refused>
+    ensures put { OnOk result (list.new.items ≡ list.old.items ++ one ∷ []) }
+    ensures refused { IfErr result (λ refused. IsRefusal refused) }
 {
-    list.push(one)?;
-    Ok(())
+    match list.push(one) {
+        Ok(_) => Ok(()),
+        Err(_) => Err(teller.out_of_memory()),
+    }
 }

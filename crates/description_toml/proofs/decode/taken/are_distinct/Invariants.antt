@@ -3,7 +3,7 @@ use Rattle.std.specs.Prelude.{bytes_eq}
 use Rattle.std.specs.List.{list_any}
 use Rattle.description_toml.specs.Described.Steps.{words_of}
 use Rattle.description_toml.specs.Described.Taken.{are_distinct}
-use Rattle.description_toml.proofs.decode.taken.first_repeated.Given as goal
+use Rattle.description_toml.proofs.decode.taken.are_distinct.Given as goal
 
 abbrev pub invariant-loop-text : goal.invariant-loop-text
 invariant-loop-text g l =
