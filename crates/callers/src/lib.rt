@@ -22,6 +22,15 @@ pub mod reading;
 // keyed
 pub mod places;
 
+// description_texts
+pub mod text_entry;
+
+// description_usage
+pub mod level_usage;
+
+// description_hints
+pub mod hints;
+
 // description_pages
 pub mod level_manual;
 

@@ -1,0 +1,3 @@
+mod Bounds
+mod Levels
+mod Words

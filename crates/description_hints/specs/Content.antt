@@ -1,0 +1,38 @@
+-- What a hint says, what it is about, and the way there, with no memory in it: names and texts are bytes.
+use Rattle.std.specs.Prelude.{ℕ, List, Bool, Option}
+use Rattle.description.specs.Content.{OptSaid}
+
+-- a step of a way: to what a key names, or to the table of this number in a list, counted from 0
+pub data StepSaid : Type 0 where
+  key : List ℕ → StepSaid
+  index : ℕ → StepSaid
+
+abbrev pub Path : Type 0
+Path = List StepSaid
+
+-- what may be better said
+pub data HintSaid : Type 0 where
+  no_help : HintSaid
+  nothing_said : HintSaid
+  no_about : HintSaid
+  two_sentences : HintSaid
+  wide_summary : (columns : ℕ) → HintSaid
+  no_such_option : (text : List ℕ) → HintSaid
+  plain_link : (address : List ℕ) → HintSaid
+
+-- a hint, and the way to what it is about
+pub record WarningSaid : Type 0 where
+  pub path : Path
+  pub hint : HintSaid
+
+-- a part of a description that hints may be about
+pub data PartSaid : Type 0 where
+  application_part : (about : Option (List ℕ)) → PartSaid
+  option_part : OptSaid → PartSaid
+  command_part : (hidden : Bool) → (help about : Option (List ℕ)) → PartSaid
+  text_part : List ℕ → PartSaid
+
+-- such a part, and the way to it
+pub record SiteSaid : Type 0 where
+  pub path : Path
+  pub part : PartSaid

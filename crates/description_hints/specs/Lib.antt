@@ -1,0 +1,6 @@
+pub mod Content
+pub mod View
+pub mod Sites
+pub mod Texts
+pub mod Names
+pub mod Hints

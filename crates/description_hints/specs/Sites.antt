@@ -1,0 +1,102 @@
+-- The parts of a description that hints may be about, each with the way to it, as its table stands in TOML.
+use Rattle.std.specs.Prelude.{ℕ, ◌+◌, List, [], ◌∷◌, ◌++◌, codes, Option, Some, None, map}
+use Rattle.description.specs.Content.{OptSaid, ChoiceSaid, PositionalSaid, TopicSaid, TextsSaid, LevelSaid, level, GroupsSaid, no_groups, groups, GroupSaid, group, CommandsSaid, no_commands, commands, CommandSaid, command, DescriptionSaid}
+use Rattle.description_hints.specs.Content.{key, index, Path, PartSaid, application_part, option_part, command_part, text_part, SiteSaid}
+
+-- what comes of each of a list, by its number, one behind the other
+abbrev pub numbered : {A B : Type 0} → (ℕ → A → List B) → ℕ → List A → List B
+numbered f n [] = []
+numbered f n (x ∷ xs) = f n x ++ numbered f (n + 1) xs
+
+-- ---- ways
+
+-- to what a key of a table names
+abbrev pub under : Path → (name : List ℕ) → Path
+under path name = path ++ key name ∷ []
+
+-- to a table of the list that a key names
+abbrev pub table_in : Path → (list : List ℕ) → (n : ℕ) → Path
+table_in path list n = path ++ key list ∷ index n ∷ []
+
+abbrev pub site : Path → PartSaid → SiteSaid
+site path part = record { path = path; part = part }
+
+-- ---- texts
+
+-- the text of a key, if there is one
+abbrev pub text_sites : Path → (name : List ℕ) → Option (List ℕ) → List SiteSaid
+text_sites path name None = []
+text_sites path name (Some words) = site (under path name) (text_part words) ∷ []
+
+abbrev pub topic_sites : Path → ℕ → TopicSaid → List SiteSaid
+topic_sites path n topic = text_sites (table_in path (codes "topic") n) (codes "text") (Some topic.text)
+
+abbrev pub topics_sites : Path → List TopicSaid → List SiteSaid
+topics_sites path topics = numbered (topic_sites path) 0 topics
+
+-- the texts of a level but those of topics, and but `usage`, which has a grammar of its own
+abbrev pub texts_sites : Path → TextsSaid → List SiteSaid
+texts_sites path texts =
+    text_sites path (codes "about") texts.about ++ text_sites path (codes "header") texts.header
+    ++ text_sites path (codes "footer") texts.footer
+
+abbrev pub own_texts : Path → LevelSaid → List SiteSaid
+own_texts path (level texts required options choices gs positionals subcommands) = texts_sites path texts
+
+-- ---- what a level has
+
+-- an option, and its help
+abbrev pub option_sites : Path → OptSaid → List SiteSaid
+option_sites path o = site path (option_part o) ∷ text_sites path (codes "help") o.help
+
+abbrev pub listed_option : Path → (list : List ℕ) → ℕ → OptSaid → List SiteSaid
+listed_option path list n o = option_sites (table_in path list n) o
+
+abbrev pub options_sites : Path → (list : List ℕ) → List OptSaid → List SiteSaid
+options_sites path list options = numbered (listed_option path list) 0 options
+
+abbrev pub choice_sites : Path → ℕ → ChoiceSaid → List SiteSaid
+choice_sites path n choice = options_sites (table_in path (codes "choice") n) (codes "option") choice.options
+
+abbrev pub choices_sites : Path → List ChoiceSaid → List SiteSaid
+choices_sites path choices = numbered (choice_sites path) 0 choices
+
+abbrev pub positional_sites : Path → ℕ → PositionalSaid → List SiteSaid
+positional_sites path n positional = text_sites (table_in path (codes "positional") n) (codes "help") positional.help
+
+abbrev pub positionals_sites : Path → List PositionalSaid → List SiteSaid
+positionals_sites path positionals = numbered (positional_sites path) 0 positionals
+
+-- what is said about a level
+abbrev pub about_of : LevelSaid → Option (List ℕ)
+about_of (level texts required options choices gs positionals subcommands) = texts.about
+
+abbrev mutual
+  -- the texts of a level, and then its lists in the order of the table of keys
+  pub level_sites : Path → LevelSaid → List SiteSaid
+  level_sites path (level texts required options choices gs positionals subcommands) =
+      texts_sites path texts ++ options_sites path (codes "option") options ++ choices_sites path choices
+      ++ groups_sites path 0 gs ++ positionals_sites path positionals ++ commands_sites path 0 subcommands
+      ++ topics_sites path texts.topics
+
+  pub groups_sites : Path → ℕ → GroupsSaid → List SiteSaid
+  groups_sites path n no_groups = []
+  groups_sites path n (groups first others) = group_sites (table_in path (codes "group") n) first ++ groups_sites path (n + 1) others
+
+  pub group_sites : Path → GroupSaid → List SiteSaid
+  group_sites path (group title options choices positionals subcommands) =
+      options_sites path (codes "option") options ++ choices_sites path choices
+      ++ positionals_sites path positionals ++ commands_sites path 0 subcommands
+
+  pub commands_sites : Path → ℕ → CommandsSaid → List SiteSaid
+  commands_sites path n no_commands = []
+  commands_sites path n (commands first others) = command_sites (table_in path (codes "command") n) first ++ commands_sites path (n + 1) others
+
+  -- a command, its help, and what its level has
+  pub command_sites : Path → CommandSaid → List SiteSaid
+  command_sites path (command names help l) =
+      site path (command_part names.hidden help (about_of l)) ∷ text_sites path (codes "help") help ++ level_sites path l
+
+-- the application, the options that ask for help, and what the top level has
+abbrev pub sites : DescriptionSaid → List SiteSaid
+sites d = site [] (application_part (about_of d.level)) ∷ options_sites [] (codes "help_option") d.help_options ++ level_sites [] d.level

@@ -1,0 +1,13 @@
+//! What a description that is correct would better say.
+#![tactic(auto)]
+
+pub mod hints;
+mod known;
+mod pieces;
+mod rules;
+mod sites;
+mod texts;
+pub mod warnings;
+
+pub use hints::{Hint, Warning};
+pub use warnings::warnings_of;

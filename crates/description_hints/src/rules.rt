@@ -1,0 +1,240 @@
+//! What hints there are about a part of a description.
+ghost use Rattle.std.specs.Prelude.{◌≡◌, ◌++◌, map, flat_map, IfOk, None, OnOk};
+ghost use Rattle.page_model.specs.View.{block_of, line_of, piece_of};
+ghost use Rattle.description.specs.View.{opt_said, text_of};
+ghost use Rattle.description_hints.specs.Hints.{about_path, application_warnings, command_warnings, hint_if};
+ghost use Rattle.description_hints.specs.Hints.{is_missing, is_plain, option_hints, part_warnings, piece_hints};
+ghost use Rattle.description_hints.specs.Hints.{summary_hints, summary_warnings, text_hints};
+ghost use Rattle.description_hints.specs.Texts.{blocks_of};
+ghost use Rattle.description_hints.specs.View.{hint_said, holds, part_said, path_said, warning_said};
+
+use crate::hints::{Hint, Warning};
+use crate::known::Known;
+use crate::pieces::pieces_of;
+use crate::sites::{Part, under};
+use crate::texts::{has_turn, paragraph_text};
+use bumpalo::Bump;
+use description::Opt;
+use description_texts::{blocks, first_paragraph, is_empty};
+use keyed::Step;
+use page_model::{Block, Inline, Line};
+use std::alloc::AllocError;
+use unicode_width::UnicodeWidthStr;
+
+/// Hints in an arena.
+pub type Warnings<'p> = Vec<Warning<'p>, &'p Bump>;
+
+fn push_if<'p>(
+    found: &mut Warnings<'p>,
+    path: &'p [Step<'p>],
+    is_so: bool,
+    hint: Hint<'p>,
+) -> Result<(), AllocError>
+    ensures { OnOk result (map warning_said found.new.items ≡ map warning_said found.old.items
+        ++ about_path (path_said path.now) (hint_if is_so (hint_said hint.entry))) }
+{
+    if is_so {
+        found.push(Warning { path, hint })?;
+    }
+    Ok(())
+}
+
+// ---- what is not said
+
+fn is_missing(text: Option<&str>) -> bool
+    ensures { result ≡ is_missing (text_of text.entry) }
+{
+    match text {
+        Some(text) => is_empty(text),
+        None => true,
+    }
+}
+
+// ---- summaries
+
+fn blocks_of<'p>(
+    arena: &'p Bump,
+    text: Option<&'p str>,
+) -> Result<Vec<Block<'p, &'p Bump>, &'p Bump>, AllocError>
+    ensures { IfOk result (λ found. map block_of found.items ≡ blocks_of (text_of text.entry)) }
+{
+    match text {
+        Some(text) => blocks(arena, text),
+        None => Ok(Vec::new(arena)),
+    }
+}
+
+fn push_summary<'p>(
+    arena: &'p Bump,
+    found: &mut Warnings<'p>,
+    path: &'p [Step<'p>],
+    lines: &[Line<'p, &'p Bump>],
+) -> Result<(), AllocError>
+    ensures { OnOk result (map warning_said found.new.items ≡ map warning_said found.old.items
+        ++ about_path (path_said path.now) (summary_hints (map (λ line. line_of line.items) lines.now))) }
+{
+    let text = paragraph_text(arena, lines)?;
+    if has_turn(text.as_bytes()) {
+        return push_if(found, path, true, Hint::TwoSentences);
+    }
+    let columns = text.width();
+    push_if(found, path, columns > 80, Hint::WideSummary(columns))
+}
+
+fn push_about<'p>(
+    arena: &'p Bump,
+    found: &mut Warnings<'p>,
+    path: &'p [Step<'p>],
+    about: Option<&'p str>,
+) -> Result<(), AllocError>
+    ensures { OnOk result (map warning_said found.new.items ≡ map warning_said found.old.items
+        ++ summary_warnings (path_said path.now) None (text_of about.entry)) }
+{
+    let blocks = blocks_of(arena, about)?;
+    match first_paragraph(blocks.as_slice()) {
+        Some(lines) => push_summary(arena, found, under(arena, path, "about")?, lines.as_slice()),
+        None => Ok(()),
+    }
+}
+
+fn push_summary_of<'p>(
+    arena: &'p Bump,
+    found: &mut Warnings<'p>,
+    path: &'p [Step<'p>],
+    help: Option<&'p str>,
+    about: Option<&'p str>,
+) -> Result<(), AllocError>
+    ensures { OnOk result (map warning_said found.new.items ≡ map warning_said found.old.items
+        ++ summary_warnings (path_said path.now) (text_of help.entry) (text_of about.entry)) }
+{
+    let blocks = blocks_of(arena, help)?;
+    match first_paragraph(blocks.as_slice()) {
+        Some(lines) => push_summary(arena, found, under(arena, path, "help")?, lines.as_slice()),
+        None => push_about(arena, found, path, about),
+    }
+}
+
+// ---- what texts say
+
+fn is_plain(address: &[u8]) -> bool
+    ensures { result ≡ is_plain address.now }
+{
+    address.starts_with(b"http://")
+        && !(address.starts_with(b"http://localhost") || address.starts_with(b"http://127."))
+}
+
+fn push_piece<'p>(
+    found: &mut Warnings<'p>,
+    known: &Known<'p>,
+    path: &'p [Step<'p>],
+    piece: Inline<'p>,
+) -> Result<(), AllocError>
+    ensures { OnOk result (map warning_said found.new.items ≡ map warning_said found.old.items
+        ++ about_path (path_said path.now) (piece_hints (holds known.now) (piece_of piece.entry))) }
+{
+    match piece {
+        Inline::Literal(text) => {
+            let is_no_option = known.is_no_option(text.as_bytes());
+            push_if(found, path, is_no_option, Hint::NoSuchOption(text))
+        }
+        Inline::Link(address) => {
+            let is_plain = is_plain(address.as_bytes());
+            push_if(found, path, is_plain, Hint::PlainLink(address))
+        }
+        Inline::Words(_) | Inline::Value(_) | Inline::Page(_) => Ok(()),
+    }
+}
+
+fn push_pieces<'p>(
+    found: &mut Warnings<'p>,
+    known: &Known<'p>,
+    path: &'p [Step<'p>],
+    pieces: &[Inline<'p>],
+) -> Result<(), AllocError>
+    ensures { OnOk result (map warning_said found.new.items ≡ map warning_said found.old.items
+        ++ about_path (path_said path.now) (flat_map (piece_hints (holds known.now)) (line_of pieces.now))) }
+{
+    for piece in pieces {
+        push_piece(found, known, path, *piece)?;
+    }
+    Ok(())
+}
+
+fn push_text<'p>(
+    arena: &'p Bump,
+    found: &mut Warnings<'p>,
+    known: &Known<'p>,
+    path: &'p [Step<'p>],
+    text: &'p str,
+) -> Result<(), AllocError>
+    ensures { OnOk result (map warning_said found.new.items ≡ map warning_said found.old.items
+        ++ about_path (path_said path.now) (text_hints (holds known.now) text.now)) }
+{
+    let blocks = blocks(arena, text)?;
+    let pieces = pieces_of(arena, blocks.as_slice())?;
+    push_pieces(found, known, path, pieces.as_slice())
+}
+
+// ---- all of them
+
+fn push_application<'p>(
+    arena: &'p Bump,
+    found: &mut Warnings<'p>,
+    path: &'p [Step<'p>],
+    about: Option<&'p str>,
+) -> Result<(), AllocError>
+    ensures { OnOk result (map warning_said found.new.items ≡ map warning_said found.old.items
+        ++ application_warnings (path_said path.now) (text_of about.entry)) }
+{
+    push_if(found, path, is_missing(about), Hint::NoAbout)?;
+    push_about(arena, found, path, about)
+}
+
+fn push_option<'p>(
+    found: &mut Warnings<'p>,
+    path: &'p [Step<'p>],
+    option: &Opt<'p>,
+) -> Result<(), AllocError>
+    ensures { OnOk result (map warning_said found.new.items ≡ map warning_said found.old.items
+        ++ about_path (path_said path.now) (option_hints (opt_said option.now))) }
+{
+    let is_missing = !option.hidden && is_missing(option.help);
+    push_if(found, path, is_missing, Hint::NoHelp)
+}
+
+fn push_command<'p>(
+    arena: &'p Bump,
+    found: &mut Warnings<'p>,
+    path: &'p [Step<'p>],
+    is_hidden: bool,
+    help: Option<&'p str>,
+    about: Option<&'p str>,
+) -> Result<(), AllocError>
+    ensures { OnOk result (map warning_said found.new.items ≡ map warning_said found.old.items
+        ++ command_warnings (path_said path.now) is_hidden (text_of help.entry) (text_of about.entry)) }
+{
+    let is_missing = !is_hidden && is_missing(help) && is_missing(about);
+    push_if(found, path, is_missing, Hint::NothingSaid)?;
+    push_summary_of(arena, found, path, help, about)
+}
+
+/// Puts the hints about a part. An error comes only where an allocation failed.
+pub fn push_part<'p>(
+    arena: &'p Bump,
+    found: &mut Warnings<'p>,
+    known: &Known<'p>,
+    path: &'p [Step<'p>],
+    part: Part<'p>,
+) -> Result<(), AllocError>
+    ensures { OnOk result (map warning_said found.new.items ≡ map warning_said found.old.items
+        ++ part_warnings (holds known.now) (path_said path.now) (part_said part.entry)) }
+{
+    match part {
+        Part::Application(about) => push_application(arena, found, path, about),
+        Part::Option(option) => push_option(found, path, &option),
+        Part::Command(is_hidden, help, about) => {
+            push_command(arena, found, path, is_hidden, help, about)
+        }
+        Part::Text(text) => push_text(arena, found, known, path, text),
+    }
+}

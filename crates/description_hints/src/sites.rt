@@ -1,0 +1,299 @@
+//! The parts of a description that hints may be about, each with the way to it.
+ghost use Rattle.std.specs.Prelude.{◌≡◌, ◌++◌, ◌∷◌, [], codes, map, IfOk, OnOk};
+ghost use Rattle.description.specs.View.{choice_said, command_said, commands_said, description_said, group_said};
+ghost use Rattle.description.specs.View.{groups_said, level_said, opt_said, positional_said, text_of, topic_said};
+ghost use Rattle.description_hints.specs.Content.{index, key};
+ghost use Rattle.description_hints.specs.Sites.{choice_sites, choices_sites, command_sites, commands_sites};
+ghost use Rattle.description_hints.specs.Sites.{group_sites, groups_sites, level_sites, option_sites, options_sites};
+ghost use Rattle.description_hints.specs.Sites.{positional_sites, positionals_sites, sites, table_in, text_sites, topics_sites, under};
+ghost use Rattle.description_hints.specs.Sites.{own_texts};
+ghost use Rattle.description_hints.specs.View.{part_said, path_said, site_said};
+
+use bumpalo::Bump;
+use bumpalo::collections::into_bump_slice;
+use description::{Choice, Command, Description, Group, Level, Opt, Positional, Topic};
+use keyed::Step;
+use std::alloc::{AllocError, Allocator};
+
+/// A part of a description that hints may be about.
+#[derive(Clone, Copy)]
+pub enum Part<'p> {
+    /// The application, by what is said about it.
+    Application(Option<&'p str>),
+    Option(Opt<'p>),
+    /// A command, by whether it is hidden, its help, and what is said about it.
+    Command(bool, Option<&'p str>, Option<&'p str>),
+    Text(&'p str),
+}
+
+/// Such a part, and the way to it.
+#[derive(Clone, Copy)]
+pub struct Site<'p> {
+    pub path: &'p [Step<'p>],
+    pub part: Part<'p>,
+}
+
+/// Such parts in an arena.
+pub type Sites<'p> = Vec<Site<'p>, &'p Bump>;
+
+// ---- ways
+
+/// The way to what a key of a table names.
+pub fn under<'p>(
+    arena: &'p Bump,
+    path: &[Step<'p>],
+    name: &'static str,
+) -> Result<&'p [Step<'p>], AllocError>
+    ensures { IfOk result (λ way. path_said way.now ≡ under (path_said path.now) name.now) }
+{
+    let mut way: Vec<Step<'p>, &'p Bump> = Vec::new(arena);
+    way.extend_from_slice(path)?;
+    way.push(Step::Key(name))?;
+    Ok(into_bump_slice(way))
+}
+
+fn table_in<'p>(
+    arena: &'p Bump,
+    path: &[Step<'p>],
+    list: &'static str,
+    at: usize,
+) -> Result<&'p [Step<'p>], AllocError>
+    ensures { IfOk result (λ way. path_said way.now ≡ table_in (path_said path.now) list.now at) }
+{
+    let mut way: Vec<Step<'p>, &'p Bump> = Vec::new(arena);
+    way.extend_from_slice(path)?;
+    way.push(Step::Key(list))?;
+    way.push(Step::Index(at))?;
+    Ok(into_bump_slice(way))
+}
+
+// ---- texts
+
+fn push_text<'p>(
+    arena: &'p Bump,
+    sites: &mut Sites<'p>,
+    path: &[Step<'p>],
+    name: &'static str,
+    text: Option<&'p str>,
+) -> Result<(), AllocError>
+    ensures { OnOk result (map site_said sites.new.items
+        ≡ map site_said sites.old.items ++ text_sites (path_said path.now) name.now (text_of text.entry)) }
+{
+    if let Some(text) = text {
+        let path = under(arena, path, name)?;
+        let part = Part::Text(text);
+        sites.push(Site { path, part })?;
+    }
+    Ok(())
+}
+
+// The texts of a level but those of topics.
+fn push_own_texts<'p, 'a: 'p, C: Allocator>(
+    arena: &'p Bump,
+    sites: &mut Sites<'p>,
+    path: &[Step<'p>],
+    level: &'p Level<'a, C>,
+) -> Result<(), AllocError>
+    ensures { OnOk result (map site_said sites.new.items
+        ≡ map site_said sites.old.items ++ own_texts (path_said path.now) (level_said level.now)) }
+{
+    push_text(arena, sites, path, "about", level.about)?;
+    push_text(arena, sites, path, "header", level.header)?;
+    push_text(arena, sites, path, "footer", level.footer)
+}
+
+fn push_topics<'p>(
+    arena: &'p Bump,
+    sites: &mut Sites<'p>,
+    path: &[Step<'p>],
+    topics: &[Topic<'p>],
+) -> Result<(), AllocError>
+    ensures { OnOk result (map site_said sites.new.items
+        ≡ map site_said sites.old.items ++ topics_sites (path_said path.now) (map topic_said topics.now)) }
+{
+    for (at, topic) in topics.iter().enumerate() {
+        let path = table_in(arena, path, "topic", at)?;
+        push_text(arena, sites, path, "text", Some(topic.text))?;
+    }
+    Ok(())
+}
+
+// ---- what a level has
+
+fn push_option<'p>(
+    arena: &'p Bump,
+    sites: &mut Sites<'p>,
+    path: &'p [Step<'p>],
+    option: &Opt<'p>,
+) -> Result<(), AllocError>
+    ensures { OnOk result (map site_said sites.new.items
+        ≡ map site_said sites.old.items ++ option_sites (path_said path.now) (opt_said option.now)) }
+{
+    let part = Part::Option(*option);
+    sites.push(Site { path, part })?;
+    push_text(arena, sites, path, "help", option.help)
+}
+
+fn push_options<'p>(
+    arena: &'p Bump,
+    sites: &mut Sites<'p>,
+    path: &[Step<'p>],
+    list: &'static str,
+    options: &[Opt<'p>],
+) -> Result<(), AllocError>
+    ensures { OnOk result (map site_said sites.new.items ≡ map site_said sites.old.items
+        ++ options_sites (path_said path.now) list.now (map opt_said options.now)) }
+{
+    for (at, option) in options.iter().enumerate() {
+        let path = table_in(arena, path, list, at)?;
+        push_option(arena, sites, path, option)?;
+    }
+    Ok(())
+}
+
+fn push_choices<'p, 'a: 'p, C: Allocator>(
+    arena: &'p Bump,
+    sites: &mut Sites<'p>,
+    path: &[Step<'p>],
+    choices: &'p [Choice<'a, C>],
+) -> Result<(), AllocError>
+    ensures { OnOk result (map site_said sites.new.items
+        ≡ map site_said sites.old.items ++ choices_sites (path_said path.now) (map choice_said choices.now)) }
+{
+    for (at, choice) in choices.iter().enumerate() {
+        let path = table_in(arena, path, "choice", at)?;
+        push_options(arena, sites, path, "option", choice.options.as_slice())?;
+    }
+    Ok(())
+}
+
+fn push_positional<'p>(
+    arena: &'p Bump,
+    sites: &mut Sites<'p>,
+    path: &[Step<'p>],
+    at: usize,
+    positional: &Positional<'p>,
+) -> Result<(), AllocError>
+    ensures { OnOk result (map site_said sites.new.items ≡ map site_said sites.old.items
+        ++ positional_sites (path_said path.now) at (positional_said positional.now)) }
+{
+    let path = table_in(arena, path, "positional", at)?;
+    push_text(arena, sites, path, "help", positional.help)
+}
+
+fn push_positionals<'p>(
+    arena: &'p Bump,
+    sites: &mut Sites<'p>,
+    path: &[Step<'p>],
+    positionals: &[Positional<'p>],
+) -> Result<(), AllocError>
+    ensures { OnOk result (map site_said sites.new.items ≡ map site_said sites.old.items
+        ++ positionals_sites (path_said path.now) (map positional_said positionals.now)) }
+{
+    for (at, positional) in positionals.iter().enumerate() {
+        push_positional(arena, sites, path, at, positional)?;
+    }
+    Ok(())
+}
+
+#[cycle(sites)]
+fn push_level<'p, 'a: 'p, C: Allocator>(
+    arena: &'p Bump,
+    sites: &mut Sites<'p>,
+    path: &'p [Step<'p>],
+    level: &'p Level<'a, C>,
+) -> Result<(), AllocError>
+    ensures { OnOk result (map site_said sites.new.items
+        ≡ map site_said sites.old.items ++ level_sites (path_said path.now) (level_said level.now)) }
+{
+    push_own_texts(arena, sites, path, level)?;
+    push_options(arena, sites, path, "option", level.options.as_slice())?;
+    push_choices(arena, sites, path, level.choices.as_slice())?;
+    push_groups(arena, sites, path, &level.groups)?;
+    push_positionals(arena, sites, path, level.positionals.as_slice())?;
+    push_commands(arena, sites, path, &level.commands)?;
+    push_topics(arena, sites, path, level.topics.as_slice())
+}
+
+#[cycle(sites)]
+fn push_groups<'p, 'a: 'p, C: Allocator>(
+    arena: &'p Bump,
+    sites: &mut Sites<'p>,
+    path: &'p [Step<'p>],
+    groups: &'p Vec<Group<'a, C>, C>,
+) -> Result<(), AllocError>
+    ensures { OnOk result (map site_said sites.new.items
+        ≡ map site_said sites.old.items ++ groups_sites (path_said path.now) 0 (groups_said groups.now.items)) }
+{
+    for (at, group) in groups.iter().enumerate() {
+        let path = table_in(arena, path, "group", at)?;
+        push_group(arena, sites, path, group)?;
+    }
+    Ok(())
+}
+
+#[cycle(sites)]
+fn push_group<'p, 'a: 'p, C: Allocator>(
+    arena: &'p Bump,
+    sites: &mut Sites<'p>,
+    path: &'p [Step<'p>],
+    group: &'p Group<'a, C>,
+) -> Result<(), AllocError>
+    ensures { OnOk result (map site_said sites.new.items
+        ≡ map site_said sites.old.items ++ group_sites (path_said path.now) (group_said group.now)) }
+{
+    push_options(arena, sites, path, "option", group.options.as_slice())?;
+    push_choices(arena, sites, path, group.choices.as_slice())?;
+    push_positionals(arena, sites, path, group.positionals.as_slice())?;
+    push_commands(arena, sites, path, &group.commands)
+}
+
+#[cycle(sites)]
+fn push_commands<'p, 'a: 'p, C: Allocator>(
+    arena: &'p Bump,
+    sites: &mut Sites<'p>,
+    path: &'p [Step<'p>],
+    commands: &'p Vec<Command<'a, C>, C>,
+) -> Result<(), AllocError>
+    ensures { OnOk result (map site_said sites.new.items ≡ map site_said sites.old.items
+        ++ commands_sites (path_said path.now) 0 (commands_said commands.now.items)) }
+{
+    for (at, command) in commands.iter().enumerate() {
+        let path = table_in(arena, path, "command", at)?;
+        push_command(arena, sites, path, command)?;
+    }
+    Ok(())
+}
+
+#[cycle(sites)]
+fn push_command<'p, 'a: 'p, C: Allocator>(
+    arena: &'p Bump,
+    sites: &mut Sites<'p>,
+    path: &'p [Step<'p>],
+    command: &'p Command<'a, C>,
+) -> Result<(), AllocError>
+    ensures { OnOk result (map site_said sites.new.items
+        ≡ map site_said sites.old.items ++ command_sites (path_said path.now) (command_said command.now)) }
+{
+    let part = Part::Command(command.hidden, command.help, command.level.about);
+    sites.push(Site { path, part })?;
+    push_text(arena, sites, path, "help", command.help)?;
+    push_level(arena, sites, path, &command.level)
+}
+
+/// The parts of a description that hints may be about. An error comes only where an allocation failed.
+pub fn sites<'p, 'a: 'p, C: Allocator>(
+    arena: &'p Bump,
+    description: &'p Description<'a, C>,
+) -> Result<Sites<'p>, AllocError>
+    ensures { IfOk result (λ found. map site_said found.items ≡ sites (description_said description.now)) }
+{
+    let mut found: Sites<'p> = Vec::new(arena);
+    let path: &'p [Step<'p>] = into_bump_slice(Vec::new(arena));
+    let part = Part::Application(description.level.about);
+    found.push(Site { path, part })?;
+    let help_options = description.help_options.as_slice();
+    push_options(arena, &mut found, path, "help_option", help_options)?;
+    push_level(arena, &mut found, path, &description.level)?;
+    Ok(found)
+}

@@ -1,0 +1,95 @@
+//! Rows: descriptions behind a head, each with its hints.
+use crate::reading::Row;
+
+/// What is not said, of options and commands that are shown.
+pub const NOTHING_SAID: &[Row<'static>] = &[
+    ("name = 'a'\n", "- no about says what the program does\n"),
+    (
+        "name = 'a'\nabout = \"\"\"\n\n```\n```\n\"\"\"\n",
+        "- no about says what the program does\n",
+    ),
+    (
+        "name = 'a'\nabout = 'A'\n[[option]]\nlong = 'x'\n[[option]]\nlong = 'y'\nhelp = ' '\n[[option]]\nlong = 'z'\nhelp = 'Z'\n[[option]]\nlong = 'h'\nhidden = true\n",
+        "option 0 - no help says what the option does\noption 1 - no help says what the option does\n",
+    ),
+    (
+        "name = 'a'\nabout = 'A'\n[[command]]\nname = 'x'\n[[command]]\nname = 'y'\nhelp = 'Y'\n[[command]]\nname = 'z'\nabout = 'Z'\n[[command]]\nname = 'h'\nhidden = true\n",
+        "command 0 - neither help nor about says what the command does\n",
+    ),
+    // A positional value needs no help, and what stands below a hidden command has pages.
+    (
+        "name = 'a'\nabout = 'A'\n[[positional]]\nvalue = 'P'\n[[command]]\nname = 'h'\nhidden = true\n[[command.option]]\nshort = 'x'\n",
+        "command 0 option 0 - no help says what the option does\n",
+    ),
+];
+
+/// The first paragraph of the help of a command, or else of what is said about it.
+pub const SUMMARIES: &[Row<'static>] = &[
+    // Of 80 columns, and of 81.
+    (
+        "name = 'a'\nabout = '12345678901234567890123456789012345678901234567890123456789012345678901234567890'\n",
+        "",
+    ),
+    (
+        "name = 'a'\nabout = '123456789012345678901234567890123456789012345678901234567890123456789012345678901'\n",
+        "about - the first paragraph is the summary, and has 81 columns, over 80\n",
+    ),
+    // Lines are joined, and wide letters take two columns.
+    (
+        "name = 'a'\nabout = \"\"\"\n漢漢漢漢漢漢漢漢漢漢漢漢漢漢漢漢漢漢漢漢\n漢漢漢漢漢漢漢漢漢漢漢漢漢漢漢漢漢漢漢漢\n\nMore\"\"\"\n",
+        "about - the first paragraph is the summary, and has 81 columns, over 80\n",
+    ),
+    (
+        "name = 'a'\nabout = 'It copies. It moves.'\n",
+        "about - the first paragraph is the summary, and has more than one sentence\n",
+    ),
+    (
+        "name = 'a'\nabout = \"\"\"\nIt copies.\n\nIt moves. It goes.\"\"\"\n",
+        "",
+    ),
+    (
+        "name = 'a'\nabout = 'Of e.g. Linux, version 2. X and so on. all of it.Yes'\n",
+        "",
+    ),
+    // The help of a command comes first, and a list is no paragraph.
+    (
+        "name = 'a'\nabout = 'A'\n[[command]]\nname = 'x'\nhelp = 'It copies. It moves.'\nabout = 'Two again. It is so'\n[[command]]\nname = 'y'\nhelp = '- It copies. It moves.'\nabout = 'This one. It is so'\n",
+        "command 0 help - the first paragraph is the summary, and has more than one sentence\ncommand 1 about - the first paragraph is the summary, and has more than one sentence\n",
+    ),
+];
+
+/// Links, in each kind of block.
+pub const LINKS: &[Row<'static>] = &[
+    (
+        "name = 'a'\nabout = 'See <http://a.b> and <https://a.b>, not http://a.b'\nheader = '- <http://c.d/e>'\nfooter = '    <http://c.d>'\n",
+        "about - the link http://a.b is not https\nheader - the link http://c.d/e is not https\n",
+    ),
+    (
+        "name = 'a'\nabout = '<http://localhost:80/> <http://127.0.0.1/>'\n",
+        "",
+    ),
+];
+
+/// Literals that look like an option.
+pub const LITERALS: &[Row<'static>] = &[
+    (
+        "name = 'a'\nabout = '`--nope`, `-y`, `--nope=1`, `--Long`'\n[[option]]\nshort = 'x'\nlong = 'long'\nhelp = 'X'\n",
+        "about - no option is called --nope\nabout - no option is called -y\nabout - no option is called --nope=1\nabout - no option is called --Long\n",
+    ),
+    // Those of all levels are known, hidden ones and those that ask for help too, and what a syntax has.
+    (
+        "name = 'a'\nabout = '`-x`, `--long=1`, `--help`, `--below`, `--hid`, `-s`, `--many`, `--edit`, `--no-edit`, `--no-long`'\n[[help_option]]\nlong = 'help'\nhelp = 'H'\n[[option]]\nshort = 'x'\nlong = 'long'\nhelp = 'X'\n[[option]]\nsyntax = '-s, --many=[N]'\nhelp = 'S'\n[[option]]\nsyntax = '--[no-]edit'\nhelp = 'E'\n[[option]]\nlong = 'hid'\nhidden = true\n[[command]]\nname = 'c'\nhelp = 'C'\n[[command.option]]\nlong = 'below'\nhelp = 'B'\n",
+        "",
+    ),
+    // No option alone.
+    (
+        "name = 'a'\nabout = '`ls -l`, `-1`, `-`, `--`, `-ab`, `---x`, `--1`, `--x y`, `a --x`, -y'\n",
+        "",
+    ),
+];
+
+/// Ways, and their order.
+pub const WAYS: &[Row<'static>] = &[(
+    "name = 'a'\nabout = '`-n`'\nheader = '`-n`'\nfooter = '`-n`'\n[[help_option]]\nshort = 'h'\nhelp = '`-n`'\n[[option]]\nshort = 'o'\nhelp = '`-n`'\n[[choice]]\n[[choice.option]]\nshort = 'c'\nhelp = '`-n`'\n[[group]]\ntitle = 'G'\n[[group.option]]\nshort = 'g'\nhelp = '`-n`'\n[[group.choice]]\n[[group.choice.option]]\nshort = 'd'\nhelp = '`-n`'\n[[group.positional]]\nvalue = 'V'\nhelp = '`-n`'\n[[group.command]]\nname = 'e'\nhelp = '`-n`'\n[[positional]]\nvalue = 'P'\nhelp = '`-n`'\n[[command]]\nname = 'f'\nhelp = '`-n`'\nabout = '`-n`'\n[[topic]]\ntitle = 'S'\ntext = 'None'\n[[topic]]\ntitle = 'T'\ntext = '`-n`'\n",
+    "help_option 0 help - no option is called -n\nabout - no option is called -n\nheader - no option is called -n\nfooter - no option is called -n\noption 0 help - no option is called -n\nchoice 0 option 0 help - no option is called -n\ngroup 0 option 0 help - no option is called -n\ngroup 0 choice 0 option 0 help - no option is called -n\ngroup 0 positional 0 help - no option is called -n\ngroup 0 command 0 help - no option is called -n\npositional 0 help - no option is called -n\ncommand 0 help - no option is called -n\ncommand 0 about - no option is called -n\ntopic 1 text - no option is called -n\n",
+)];

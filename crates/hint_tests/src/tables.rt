@@ -1,0 +1,22 @@
+//! The tables of rows with ample memory, each with what it shows.
+use crate::reading::{Row, is_said};
+use crate::rows;
+
+type Table = (&'static str, &'static [Row<'static>]);
+
+const TABLES: &[Table] = &[
+    ("what is not said is told", rows::NOTHING_SAID),
+    ("a summary is one short sentence", rows::SUMMARIES),
+    ("links without https are told", rows::LINKS),
+    ("literals that are no option are told", rows::LITERALS),
+    ("hints have their ways, in order", rows::WAYS),
+];
+
+#[test]
+fn hints_are_found(rt: HostRuntime) {
+    for &(name, rows) in TABLES {
+        for row in rows {
+            assert!(rt; is_said(&rt, rt.alloc(), row), "{name}: {}", row.0);
+        }
+    }
+}
